@@ -8,6 +8,7 @@ ghost use Rattle.desk_model.specs.Name.{IsPlanName, is_name_byte as is_name_byte
 
 use std::cmp::Ordering;
 use std::marker::Model;
+use std::str::from_utf8;
 
 const MAX_LEN: usize = 64;
 
@@ -89,6 +90,16 @@ impl PlanName {
         ensures short { length self.now ≤ 64 }
     {
         &self.bytes[..self.len]
+    }
+
+    /// The name as text.
+    pub fn as_str(&self) -> &str
+        ensures { result.now ≡ self.now }
+    {
+        match from_utf8(self.as_slice()) {
+            Ok(text) => text,
+            Err(_) => unreachable!(),
+        }
     }
 }
 
