@@ -1,0 +1,2 @@
+mod FieldLemmas
+mod SendLemmas
