@@ -1,2 +1,3 @@
 mod FieldLemmas
 mod SendLemmas
+mod InboxLemmas

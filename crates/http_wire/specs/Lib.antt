@@ -1,5 +1,7 @@
 pub mod Turns
 pub mod Sends
+pub mod Budget
 pub mod Lines
 pub mod Front
 pub mod Law
+pub mod Body

@@ -4,9 +4,9 @@ use Rattle.std.specs.Io.KnownBytes.{Consumes, Keeps, IsAtEnd}
 use Rattle.http_wire.specs.declared.source.Turn.{Turn}
 use Rattle.http_wire.specs.declared.source.Turn.TheVariants.{Read, Interrupted, Failed}
 
--- the count n after k more, which stays at the greatest number of 64 bits
+-- the count n after k more, as far as 64 bits go
 abbrev pub counted : ℕ → ℕ → ℕ
-counted n k = min (n + k) (2 ^ 64 - 1)
+counted n k = n + min k (2 ^ 64 - 1 - n)
 
 -- the bytes that came leave the reader; none come only at the end or where there is no room
 abbrev pub TurnConsumes : Option (List ℕ) → Option (List ℕ) → Turn → List ℕ → Type 0

@@ -3,5 +3,6 @@
 
 pub mod fault;
 pub mod head;
+pub mod inbox;
 pub mod sink;
 pub mod source;
