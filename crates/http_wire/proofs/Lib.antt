@@ -1,3 +1,6 @@
 mod FieldLemmas
 mod SendLemmas
 mod InboxLemmas
+mod LineLemmas
+mod TargetLemmas
+mod FrontLemmas

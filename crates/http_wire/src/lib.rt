@@ -4,5 +4,7 @@
 pub mod fault;
 pub mod head;
 pub mod inbox;
+pub mod law;
+pub mod look;
 pub mod sink;
 pub mod source;
