@@ -4,3 +4,4 @@ mod InboxLemmas
 mod LineLemmas
 mod TargetLemmas
 mod FrontLemmas
+mod LookLemmas

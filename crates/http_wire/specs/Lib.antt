@@ -6,3 +6,4 @@ pub mod InTarget
 pub mod Front
 pub mod Law
 pub mod Body
+pub mod Look
