@@ -5,3 +5,4 @@ mod LineLemmas
 mod TargetLemmas
 mod FrontLemmas
 mod LookLemmas
+mod BodyLemmas

@@ -1,5 +1,5 @@
 -- What filling a buffer and reading a body give.
-use Rattle.std.specs.Prelude.{◌≡◌, ℕ, ◌<◌, ◌≤◌, Bool, true, false, List, [], ◌++◌, length, Option, Result, Ok, Err, ⊤}
+use Rattle.std.specs.Prelude.{◌≡◌, ℕ, ◌+◌, ◌<◌, ◌≤◌, Bool, true, false, List, [], ◌++◌, length, take, drop, Option, Some, None, Result, Ok, Err, ⊤}
 use Rattle.std.specs.Io.KnownBytes.{Consumes, IsAtEnd}
 use Rattle.http_wire.specs.declared.fault.WireFault.{WireFault}
 use Rattle.http_wire.specs.declared.fault.WireFault.TheVariants as fault
@@ -9,6 +9,12 @@ abbrev pub Fills : Option (List ℕ) → Option (List ℕ) → List ℕ → List
 Fills before after old new (Ok true) = Consumes before after [] × IsAtEnd after × (new ≡ old)
 Fills before after old new (Ok false) = (more : List ℕ) × Consumes before after more × (new ≡ old ++ more) × (length more ≤ 65536)
 Fills before after old new (Err e) = Consumes before after [] × (new ≡ old)
+
+-- the first filled bytes stay, and k bytes come after them; none is the end
+abbrev pub PieceCame : Option (List ℕ) → Option (List ℕ) → List ℕ → List ℕ → ℕ → Result (Option ℕ) WireFault → Type 0
+PieceCame before after old new filled (Ok (Some k)) = (filled + k ≤ length new) × (take filled new ≡ take filled old) × Consumes before after (take k (drop filled new))
+PieceCame before after old new filled (Ok None) = Consumes before after [] × IsAtEnd after
+PieceCame before after old new filled (Err e) = Consumes before after []
 
 -- the body of n bytes stands at the front of the input, and rest follows; or the input is shorter
 abbrev pub BodyCame : List ℕ → ℕ → Result Bool WireFault → List ℕ → List ℕ → Type 0

@@ -1,6 +1,7 @@
 //! HTTP/1.1 on the wire (RFC 9112): the requests that a stream of bytes holds, and the bytes of an answer.
 #![tactic(auto)]
 
+pub mod body;
 pub mod fault;
 pub mod head;
 pub mod inbox;
