@@ -6,3 +6,5 @@ mod TargetLemmas
 mod FrontLemmas
 mod LookLemmas
 mod BodyLemmas
+mod RequestLemmas
+mod ReadingLemmas

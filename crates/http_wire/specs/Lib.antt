@@ -7,3 +7,4 @@ pub mod Front
 pub mod Law
 pub mod Body
 pub mod Look
+pub mod Incoming

@@ -10,7 +10,7 @@ use Rattle.http_wire.specs.declared.fault.WireFault.TheVariants as fault
 use Rattle.http_wire.specs.declared.look.Head.{Head}
 use Rattle.http_wire.specs.declared.look.Look.{Look}
 use Rattle.http_wire.specs.declared.look.Look.TheVariants.{Found, Refused, Wanting}
-use Rattle.http_wire.specs.Front.{HasHead, HasFault, IsIncomplete, judged_head}
+use Rattle.http_wire.specs.Front.{HasHead, HasFault, IsOpen, judged_head}
 
 -- the head that the parser's spans tell stands at the front of bytes, and part is as much of them as was read
 pub record IsParsed (bytes part : List ℕ) (headers : List HeaderSpan) (s : RequestSpans) : Type 0 where
@@ -41,12 +41,12 @@ pub record IsFound (bytes : List ℕ) (found : Head) : Type 0 where
 abbrev pub Sees : List ℕ → Look → Type 0
 Sees bytes (Found found) = IsFound bytes found
 Sees bytes (Refused fault) = HasFault bytes fault
-Sees bytes Wanting = IsIncomplete bytes
+Sees bytes Wanting = IsOpen bytes
 
 -- what is known of the bytes once reading a head has ended so
 abbrev pub SeesFront : List ℕ → Result Look WireFault → Type 0
 SeesFront bytes (Ok look) = Sees bytes look
-SeesFront bytes (Err e) = IsIncomplete bytes
+SeesFront bytes (Err e) = IsOpen bytes
 
 -- more bytes are wanted in vain only at the reader's end
 abbrev pub WantsAtEnd : Option (List ℕ) → Result Look WireFault → Type 0

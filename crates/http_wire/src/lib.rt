@@ -7,5 +7,6 @@ pub mod head;
 pub mod inbox;
 pub mod law;
 pub mod look;
+pub mod request;
 pub mod sink;
 pub mod source;
