@@ -8,3 +8,5 @@ pub mod Law
 pub mod Body
 pub mod Look
 pub mod Incoming
+pub mod Phrases
+pub mod Answer

@@ -8,5 +8,6 @@ pub mod inbox;
 pub mod law;
 pub mod look;
 pub mod request;
+pub mod response;
 pub mod sink;
 pub mod source;
