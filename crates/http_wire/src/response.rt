@@ -146,3 +146,55 @@ fn put_end(bytes: &mut Vec<u8>, closes: bool)
         put(bytes, b"\r\n");
     }
 }
+
+/// The head, in place of what the buffer held.
+fn put_head(bytes: &mut Vec<u8>, response: &Response<'_>)
+    requires room { 16384 ≤ vec_capacity bytes.old }
+    requires short { allowed_len (allowed response.now) ≤ 64 }
+    ensures items { bytes.new.items ≡ head_text response.now.status response.now.kind (allowed response.now) response.now.closes (length response.now.body.now) }
+    ensures len { vec_len bytes.new ≤ 500 }
+    ensures room { 16384 ≤ vec_capacity bytes.new }
+{
+    bytes.clear();
+    put_status(bytes, response.status);
+    put_type(bytes, response.kind);
+    put_length(bytes, response.body.len());
+    put_allow(bytes, response.allow);
+    put_end(bytes, response.closes);
+}
+
+/// Writes an answer, and takes no memory for it. Its head, with as much of its body as has room, is built before the first
+/// byte is written.
+pub fn write_response<W: Sink>(
+    writer: &mut W,
+    outbox: &mut Outbox,
+    response: &Response<'_>,
+) -> Result<(), WriteFault>
+    requires { allowed_len (allowed response.now) ≤ 64 }
+    ensures bytes { Sends (W.contents writer.old) (W.contents writer.new) result (response_text response.now) }
+    ensures failures { W.failures writer.new ≡ failures_with (W.failures writer.old) result }
+{
+    let body = response.body;
+    let bytes = &mut outbox.bytes;
+    put_head(bytes, response);
+    let fits = body.len().min(OUTBOX_LEN - bytes.len());
+    put(bytes, &body[..fits]);
+    let Ok(()) = writer.send(bytes.as_slice()) else {
+        return Err(WriteFault);
+    };
+    if fits == body.len() {
+        return Ok(());
+    }
+    writer.send(&body[fits..])
+}
+
+/// The answer where memory is wanting, which closes the connection.
+pub const MEMORY_ANSWER: &[u8] = b"HTTP/1.1 503 Service Unavailable\r\nContent-Type: application/json\r\nContent-Length: 18\r\nConnection: close\r\n\r\n{\"error\":\"Memory\"}";
+
+/// Writes that memory is wanting.
+pub fn write_memory<W: Sink>(writer: &mut W) -> Result<(), WriteFault>
+    ensures bytes { Sends (W.contents writer.old) (W.contents writer.new) result memory_text }
+    ensures failures { W.failures writer.new ≡ failures_with (W.failures writer.old) result }
+{
+    writer.send(MEMORY_ANSWER)
+}
