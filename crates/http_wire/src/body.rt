@@ -84,7 +84,7 @@ fn read_more<R: Source>(
 }
 
 /// Reads a body of n bytes: what has come of it, and the rest from the reader. Answers whether all of it came.
-pub(crate) fn read_body<R: Source>(
+pub fn read_body<R: Source>(
     reader: &mut R,
     inbox: &mut Inbox,
     turns: &mut u64,

@@ -1,12 +1,12 @@
 //! HTTP/1.1 on the wire (RFC 9112): the requests that a stream of bytes holds, and the bytes of an answer.
 #![tactic(auto)]
 
-pub mod body;
+mod body;
 pub mod fault;
-pub mod head;
+mod head;
 pub mod inbox;
 pub mod law;
-pub mod look;
+mod look;
 pub mod request;
 pub mod response;
 pub mod sink;
