@@ -43,7 +43,6 @@ single_length [] v one e = absurd (omega arith)
 single_length (x ∷ y ∷ more) v one e = absurd (omega arith)
 single_length (x ∷ []) v one e = let same : x ≡ v = cc in ap length_of same
 
-
 -- with no coding, one length decides
 pub framed_single : (codings lengths : List (List ℕ)) (v : List ℕ) → length codings ≡ 0 → length lengths ≡ 1 → slice_get lengths 0 ≡ Some v → framing_of codings lengths ≡ length_of v
 framed_single [] lengths v none one e = single_length lengths v one e

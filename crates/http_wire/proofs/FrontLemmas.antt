@@ -99,6 +99,7 @@ bytes_or_open input f x o = decide (bytes_are input f x)
     long : IsTooLong input ⊎ HasTooManyLines input → ⊥
     long (inl z) = omega (arith, z.long, o.short)
     long (inr z) = omega (arith, z.lines, o.few)
+
     decide : ((f ≡ BadHead) × IsNoHead input) ⊎ ((f ≡ HeadTooLarge) × (IsTooLong input ⊎ HasTooManyLines input)) → ⊥
     decide (inl y) = no_head_not_open input y.1 o.goes_on
     decide (inr y) = long y.1
@@ -126,6 +127,7 @@ bytes_fault input f g x y = decide (bytes_are input f x) (bytes_are input g y)
   where
     Kind : Fault → Type 0
     Kind e = ((e ≡ BadHead) × IsNoHead input) ⊎ ((e ≡ HeadTooLarge) × (IsTooLong input ⊎ HasTooManyLines input))
+
     decide : ((f ≡ BadHead) × IsNoHead input) ⊎ ((f ≡ HeadTooLarge) × (IsTooLong input ⊎ HasTooManyLines input))
         → ((g ≡ BadHead) × IsNoHead input) ⊎ ((g ≡ HeadTooLarge) × (IsTooLong input ⊎ HasTooManyLines input)) → (f ≡ g) ⊎ HasTooManyLines input
     decide (inl a) (inl b) = inl (a.0 ∙ sym b.0)

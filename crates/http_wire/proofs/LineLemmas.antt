@@ -60,8 +60,15 @@ started h text = print_blank h.blank ++ (h.method ++ 32 ∷ (h.target ++ 32 ∷ 
 line_feeds_started : (m t v e text : List ℕ) → line_feeds m ≡ 0 → line_feeds t ≡ 0 → line_feeds v ≡ 0 → line_feeds e ≡ 1
     → line_feeds (m ++ 32 ∷ (t ++ 32 ∷ (v ++ (e ++ text)))) ≡ 1 + line_feeds text
 line_feeds_started m t v e text hm ht hv he =
-    omega (arith, feeds-append m (32 ∷ (t ++ 32 ∷ (v ++ (e ++ text)))), other_feeds 32 (t ++ 32 ∷ (v ++ (e ++ text))) (omega arith), feeds-append t (32 ∷ (v ++ (e ++ text))),
-    other_feeds 32 (v ++ (e ++ text)) (omega arith), feeds-append v (e ++ text), feeds-append e text)
+    omega (
+      arith,
+      feeds-append m (32 ∷ (t ++ 32 ∷ (v ++ (e ++ text)))),
+      other_feeds 32 (t ++ 32 ∷ (v ++ (e ++ text))) (omega arith),
+      feeds-append t (32 ∷ (v ++ (e ++ text))),
+      other_feeds 32 (v ++ (e ++ text)) (omega arith),
+      feeds-append v (e ++ text),
+      feeds-append e text,
+    )
 
 started_blank : (ends : List LineEnd) (m after text : List ℕ) → 0 < length m → AllPass is_token_byte m → line_feeds (m ++ after) ≡ 1 + line_feeds text → lines_come (print_blank ends ++ (m ++ after)) ≡ 1 + line_feeds text
 started_blank ends [] after text some all e = absurd (omega arith)
@@ -108,10 +115,11 @@ pub cut_head : (h : RequestHead) → IsRequestHead h → (front : List ℕ) × (
 cut_head h ok =
     let fields = flat_map print_field h.fields in
     let rest = fields ++ before_feed h.last in
-    let parts : print_section h.fields h.last ++ [] ≡ rest ++ 10 ∷ [] = append-nil (fields ++ print_end h.last) ∙ ap (λ (xs : List ℕ). fields ++ xs) (before_feed_is h.last) ∙ sym (append_assoc fields (before_feed h.last) (10 ∷ [])) in
-    (started h rest,
-    sym (append-nil (print_request h)) ∙ print_request-append h [] ∙ ap (started h) parts ∙ started-append h rest (10 ∷ []),
-    started_lines h rest ok ∙ omega (arith, feeds-append fields (before_feed h.last), fields_feeds h.fields ok.fields, before_feed_feeds h.last))
+    let parts : print_section h.fields h.last ++ [] ≡ rest ++ 10 ∷ [] = append-nil (fields ++ print_end h.last) ∙ ap (λ (xs : List ℕ). fields ++ xs) (before_feed_is h.last) ∙ sym (append_assoc fields (before_feed h.last) (10 ∷ [])) in (
+      started h rest,
+      sym (append-nil (print_request h)) ∙ print_request-append h [] ∙ ap (started h) parts ∙ started-append h rest (10 ∷ []),
+      started_lines h rest ok ∙ omega (arith, feeds-append fields (before_feed h.last), fields_feeds h.fields ok.fields, before_feed_feeds h.last),
+    )
 
 -- a front has no more lines
 feeds_take : (k : ℕ) (xs : List ℕ) → line_feeds (take k xs) ≤ line_feeds xs

@@ -31,6 +31,7 @@ take_min k xs n e = ⊎_elim below above (cases_lt (length xs) k)
   where
     below : length xs < k → take n xs ≡ take k xs
     below h = ap (λ m. take m xs) (omega (arith, e)) ∙ take-length xs ∙ sym (take_all k xs (omega arith))
+
     above : k ≤ length xs → take n xs ≡ take k xs
     above h = ap (λ m. take m xs) (omega (arith, e))
 
@@ -102,6 +103,7 @@ overflows_at part none many more h rest reads = ⊎_elim short long (cases_lt (l
         let whole : length (print_request h) ≡ length part + n = omega arith in
         let is_front : print_request h ≡ part ++ take n more = sym (take-append_seam (print_request h) rest) ∙ ap (take (length (print_request h))) (sym reads.1) ∙ ap (λ k. take k (part ++ more)) whole ∙ take-append-add part more n in
         omega (arith, many, front_lines h part (take n more) reads.0 lt is_front)
+
     long : length (print_request h) ≤ length part → 64 < length h.fields
     long le =
         let front : take (length (print_request h)) part ≡ print_request h = sym (take-append-le (length (print_request h)) part more le) ∙ ap (take (length (print_request h))) reads.1 ∙ take-append_seam (print_request h) rest in

@@ -11,3 +11,5 @@ pub mod request;
 pub mod response;
 pub mod sink;
 pub mod source;
+#[cfg(test)]
+mod tests;

@@ -189,7 +189,8 @@ pub fn write_response<W: Sink>(
 }
 
 /// The answer where memory is wanting, which closes the connection.
-pub const MEMORY_ANSWER: &[u8] = b"HTTP/1.1 503 Service Unavailable\r\nContent-Type: application/json\r\nContent-Length: 18\r\nConnection: close\r\n\r\n{\"error\":\"Memory\"}";
+pub const MEMORY_ANSWER: &[u8] =
+    b"HTTP/1.1 503 Service Unavailable\r\nContent-Type: application/json\r\nContent-Length: 18\r\nConnection: close\r\n\r\n{\"error\":\"Memory\"}";
 
 /// Writes that memory is wanting.
 pub fn write_memory<W: Sink>(writer: &mut W) -> Result<(), WriteFault>

@@ -26,6 +26,7 @@ pub trait Sink {
 pub const INTERRUPTIONS: u64 = 4_294_967_296;
 
 /// Any writer, with a count of its failures. It is not flushed.
+#[derive(Drop)]
 pub struct WriteSink<W> {
     writer: W,
     failures: u64,

@@ -32,6 +32,7 @@ pub trait Source {
 }
 
 /// Any reader, with a count of its turns and failures.
+#[derive(Drop)]
 pub struct ReadSource<R> {
     reader: R,
     failures: u64,

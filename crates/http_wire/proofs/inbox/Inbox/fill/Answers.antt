@@ -24,7 +24,8 @@ returns-in-Interrupted-clause-bytes g c =
 
 pub returns-in-Failed-clause-bytes : goal.returns-in-Failed-clause-bytes
 returns-in-Failed-clause-bytes g c =
-    let a = c.self.inside in
-    (Consumes-kept_nil _ _ c.in-Failed.ensures.bytes,
-    ap (λ (xs : List ℕ). slice_range xs a.start a.end) (with_items_is a.bytes c.turn_at.new.buf (search (rules, places)))
-    ∙ part_kept a.bytes.items c.turn_at.new.buf a.start a.end (c.turn_at.ensures.front ∙ ap (take a.end) c.as_mut_slice.ensures.value) ∙ c.self.view_is)
+    let a = c.self.inside in (
+      Consumes-kept_nil _ _ c.in-Failed.ensures.bytes,
+      ap (λ (xs : List ℕ). slice_range xs a.start a.end) (with_items_is a.bytes c.turn_at.new.buf (search (rules, places)))
+          ∙ part_kept a.bytes.items c.turn_at.new.buf a.start a.end (c.turn_at.ensures.front ∙ ap (take a.end) c.as_mut_slice.ensures.value) ∙ c.self.view_is,
+    )
