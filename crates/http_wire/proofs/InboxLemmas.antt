@@ -1,5 +1,5 @@
 -- The part of a buffer that has come.
-use Rattle.std.proofs.Common.{◌≡◌, ℕ, ◌+◌, ◌-◌, ◌<◌, ◌≤◌, ◌==◌, Bool, true, false, Ok, List, [], ◌++◌, length, take, drop, length-take, Option, sym, ap, subst, ◌∙◌, arith, length-take-le, length-drop, length-append}
+use Rattle.std.proofs.Common.{◌≡◌, ℕ, ◌+◌, ◌-◌, ◌<◌, ◌≤◌, ◌==◌, Bool, true, false, Ok, List, [], ◌++◌, length, take, drop, length-take, Option, sym, ap, subst, ◌∙◌, arith, length-take-le, length-drop}
 use Rattle.std.proofs.Math.Seq.{take-add}
 use Rattle.std.proofs.lemmas.Slice.{between_is}
 use Rattle.std.proofs.lemmas.List.{append-nil, drop-drop}

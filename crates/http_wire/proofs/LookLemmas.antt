@@ -1,16 +1,16 @@
 -- What the parser answers on the first bytes holds of all bytes.
-use Rattle.std.proofs.Common.{◌≡◌, ◌⊎◌, ℕ, ◌+◌, ◌-◌, ◌<◌, ◌≤◌, min, List, [], ◌∷◌, ◌++◌, map, length, take, drop, Result, Ok, Err, refl, sym, ap, subst, ◌∙◌, arith, inl, inr, ⊎_elim, take_all, append_assoc, append-nil, take-append-drop, length-take-le, length-take, length-drop, length-append, All}
+use Rattle.std.proofs.Common.{◌≡◌, ℕ, ◌+◌, ◌-◌, ◌<◌, ◌≤◌, min, List, [], ◌∷◌, ◌++◌, length, take, drop, sym, ap, ◌∙◌, arith, ⊎_elim, take_all, append_assoc, append-nil, take-append-drop, length-take-le, length-take, length-append}
 use Rattle.std.proofs.lemmas.Bool.{cases_lt}
 use Rattle.std.proofs.lemmas.List.{length-map, take-append-le}
 use Rattle.std.proofs.lemmas.Slice.{between_is}
 use Rattle.std.proofs.Math.Seq.{drop-append_seam, take-append_seam, take-append-add, take-length}
 use lib.Seq.{take-take}
-use Rattle.httparse.specs.Grammar.{RequestHead, IsRequestHead, ReadsRequest, HasNoRequest, print_request}
-use Rattle.httparse.specs.Spans.{header_bytes, name_and_value, span_bytes, IsRequestAt, IsRequestWithin, IsHeaderWithin, RequestOverflows, RequestExceeds}
+use Rattle.httparse.specs.Grammar.{RequestHead, IsRequestHead, HasNoRequest, print_request}
+use Rattle.httparse.specs.Spans.{header_bytes, name_and_value, span_bytes, IsRequestAt, IsRequestWithin, RequestOverflows, RequestExceeds}
 use Rattle.httparse.specs.declared.spans.Span.{Span}
 use Rattle.httparse.specs.declared.spans.HeaderSpan.{HeaderSpan}
 use Rattle.httparse.specs.declared.spans.RequestSpans.{RequestSpans}
-use Rattle.http_wire.specs.Front.{HasHead, window}
+use Rattle.http_wire.specs.Front.{window}
 use Rattle.http_wire.specs.Lines.{lines_come}
 use Rattle.http_wire.specs.Look.{IsParsed}
 use Rattle.http_wire.proofs.LineLemmas.{head_lines, cut_head, lines_take, lines_push}

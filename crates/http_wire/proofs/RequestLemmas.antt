@@ -1,6 +1,5 @@
 -- A head that has come, and then its body.
-use Rattle.std.proofs.Common.{◌≡◌, ◌⊎◌, ℕ, ◌+◌, ◌<◌, ◌≤◌, Bool, true, false, cond, List, [], ◌++◌, length, drop, Option, Result, Ok, Err, refl, sym, ap, subst, ◌∙◌, arith, inl, inr}
-use Rattle.std.specs.Io.KnownBytes.{Consumes, IsAtEnd}
+use Rattle.std.proofs.Common.{◌≡◌, ℕ, ◌<◌, Bool, true, false, cond, List, ◌++◌, length, drop, Result, Ok, Err, refl, sym, ap, subst, ◌∙◌, inr}
 use Rattle.httparse.specs.Grammar.{RequestHead}
 use Rattle.httparse.specs.Spans.{span_bytes}
 use Rattle.httparse.proofs.GrammarLemmas.{ReadsRequest-append}
@@ -10,10 +9,9 @@ use Rattle.http_wire.specs.declared.fault.WireFault.TheVariants as fault
 use Rattle.http_wire.specs.declared.look.Head.{Head}
 use Rattle.http_wire.specs.declared.request.Incoming.TheVariants as came
 use Rattle.http_wire.specs.declared.request.Request.{Request}
-use Rattle.http_wire.specs.Body.{BodyCame, LacksAtEnd}
-use Rattle.http_wire.specs.Budget.{failures_of}
-use Rattle.http_wire.specs.Front.{HasHead, HasMessage, LacksBody, IsIncomplete, is_target}
-use Rattle.http_wire.specs.Incoming.{ReadsFront, EndsAt, TakesSome, finished}
+use Rattle.http_wire.specs.Body.{BodyCame}
+use Rattle.http_wire.specs.Front.{HasHead, HasMessage, IsIncomplete, is_target}
+use Rattle.http_wire.specs.Incoming.{ReadsFront, finished}
 use Rattle.http_wire.specs.Look.{IsFound}
 
 head_before : (input : List ℕ) (h : RequestHead) (rest more : List ℕ) → HasHead input h rest → HasHead (input ++ more) h (rest ++ more)

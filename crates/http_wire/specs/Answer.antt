@@ -1,5 +1,5 @@
 -- The bytes of an answer (RFC 9112, section 4).
-use Rattle.std.specs.Prelude.{◌≡◌, ℕ, Bool, true, false, List, [], ◌∷◌, ◌++◌, length, Option, Some, None, codes, decimal, option_map}
+use Rattle.std.specs.Prelude.{ℕ, Bool, true, false, List, [], ◌∷◌, ◌++◌, length, Option, Some, None, codes, decimal, option_map}
 use Rattle.http.specs.StatusCode.{code_digits}
 use Rattle.http_wire.specs.Phrases.{phrase_of}
 use Rattle.http_wire.specs.declared.response.ContentType.{ContentType}

@@ -1,4 +1,4 @@
-use Rattle.std.proofs.Common.{◌≡◌, ◌≤◌, ◌∙◌, length, vec_len, rules, arith}
+use Rattle.std.proofs.Common.{◌≡◌, ◌∙◌, length, vec_len, rules, arith}
 use Rattle.std.proofs.lemmas.List.{places}
 use Rattle.http_wire.proofs.BodyLemmas.{spends_more, body_grown}
 use Rattle.http_wire.proofs.body.read_more.Goals as goal

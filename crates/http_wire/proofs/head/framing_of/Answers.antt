@@ -1,4 +1,4 @@
-use Rattle.std.proofs.Common.{◌≡◌, ◌∙◌, sym, arith}
+use Rattle.std.proofs.Common.{◌∙◌, sym, arith}
 use Rattle.http_wire.proofs.FieldLemmas.{framed_single}
 use Rattle.http_wire.proofs.head.framing_of.Goals as goal
 

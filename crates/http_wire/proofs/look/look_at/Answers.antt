@@ -1,4 +1,4 @@
-use Rattle.std.proofs.Common.{◌≡◌, ◌≤◌, inl, inr, subst, refl, arith}
+use Rattle.std.proofs.Common.{◌≤◌, inl, inr, subst, refl, arith}
 use Rattle.httparse.specs.Spans.{RequestOverflows}
 use Rattle.http_wire.specs.Lines.{lines_come}
 use Rattle.http_wire.proofs.LookLemmas.{window_is, parsed_at, exceeds_lines}

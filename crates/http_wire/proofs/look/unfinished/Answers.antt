@@ -1,4 +1,4 @@
-use Rattle.std.proofs.Common.{◌≡◌, ◌≤◌, inl, inr, subst, sym, arith}
+use Rattle.std.proofs.Common.{◌≤◌, inl, inr, subst, arith}
 use Rattle.httparse.specs.Grammar.{HasNoRequest, MayBecomeRequest}
 use Rattle.httparse.specs.Spans.{RequestOverflows}
 use Rattle.http_wire.specs.Lines.{lines_come}
@@ -7,7 +7,7 @@ use Rattle.http_wire.proofs.look.unfinished.Goals as goal
 
 pub returns-then-bytes-ge-HEAD_LIMIT : goal.returns-then-bytes-ge-HEAD_LIMIT
 returns-then-bytes-ge-HEAD_LIMIT c = inl (inl (record {
-  long = c.if-bytes-ge-HEAD_LIMIT.true;
+  long = omega (arith, c.if-bytes-ge-HEAD_LIMIT.true);
   none = subst HasNoRequest c.requires.part_is c.requires.none;
   goes_on = subst MayBecomeRequest c.requires.part_is c.requires.goes_on;
 }))

@@ -1,4 +1,4 @@
-use Rattle.std.proofs.Common.{◌≡◌, ◌<◌, ◌∙◌, length, subst}
+use Rattle.std.proofs.Common.{◌<◌, ◌∙◌, length, subst}
 use Rattle.http_wire.proofs.BodyLemmas.{spends_more}
 use Rattle.http_wire.proofs.ReadingLemmas.{filled_on, filled_less}
 use Rattle.http_wire.proofs.request.read_head.Goals as goal

@@ -1,4 +1,3 @@
-use Rattle.std.proofs.Common.{List, ℕ}
 use Rattle.http_wire.specs.Incoming.{ReadsFront}
 use Rattle.http_wire.proofs.ReadingLemmas.{goes_on}
 use Rattle.http_wire.proofs.request.read_request.Goals as goal

@@ -1,4 +1,4 @@
-use Rattle.std.proofs.Common.{◌≡◌, List, ℕ, ◌++◌, ◌∙◌, ap, sym, subst}
+use Rattle.std.proofs.Common.{List, ℕ, ◌++◌, ◌∙◌, ap, sym, subst}
 use Rattle.httparse.specs.Spans.{span_bytes}
 use Rattle.http_wire.specs.Body.{BodyCame}
 use Rattle.http_wire.specs.Incoming.{ReadsFront}

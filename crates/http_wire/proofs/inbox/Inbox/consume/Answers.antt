@@ -1,4 +1,4 @@
-use Rattle.std.proofs.Common.{◌≡◌, ◌+◌, ◌-◌, drop, ap, ◌∙◌}
+use Rattle.std.proofs.Common.{◌+◌, ◌-◌, drop, ap, ◌∙◌}
 use Rattle.std.proofs.lemmas.Slice.{between_from_start}
 use Rattle.http_wire.proofs.InboxLemmas.{part_rest}
 use Rattle.http_wire.proofs.inbox.Inbox.consume.Goals as goal

@@ -1,4 +1,4 @@
-use Rattle.std.proofs.Common.{◌≡◌, ◌+◌, ◌-◌, ◌<◌, ◌≤◌, List, ℕ, ◌++◌, take, drop, length, ap, sym, ◌∙◌, rules, arith, refl, length-drop}
+use Rattle.std.proofs.Common.{◌+◌, ◌<◌, List, ℕ, ◌++◌, take, drop, ap, ◌∙◌, rules, arith, refl, length-drop}
 use Rattle.std.proofs.lemmas.List.{with_items_is, places}
 use Rattle.std.specs.List.{slice_range}
 use Rattle.http_wire.proofs.InboxLemmas.{part_filled, part_kept, part_room, Consumes-kept_nil, read_fills, interrupted_fills}
