@@ -8,3 +8,4 @@ mod LookLemmas
 mod BodyLemmas
 mod RequestLemmas
 mod ReadingLemmas
+mod WorkedLemmas
