@@ -121,20 +121,20 @@ request_or_fault input h b r f y (inr (inr x)) =
     let bad = x.bad in
     cc
 
-bytes_fault : (input : List ℕ) (f g : Fault) → RefusesBytes input f → RefusesBytes input g → (f ≡ g) ⊎ HasTooManyLines input
+bytes_fault : (input : List ℕ) (f g : Fault) → RefusesBytes input f → RefusesBytes input g → (f ≡ g) ⊎ (HasTooManyLines input × IsNoHead input)
 bytes_fault input f g x y = decide (bytes_are input f x) (bytes_are input g y)
   where
     Kind : Fault → Type 0
     Kind e = ((e ≡ BadHead) × IsNoHead input) ⊎ ((e ≡ HeadTooLarge) × (IsTooLong input ⊎ HasTooManyLines input))
 
     decide : ((f ≡ BadHead) × IsNoHead input) ⊎ ((f ≡ HeadTooLarge) × (IsTooLong input ⊎ HasTooManyLines input))
-        → ((g ≡ BadHead) × IsNoHead input) ⊎ ((g ≡ HeadTooLarge) × (IsTooLong input ⊎ HasTooManyLines input)) → (f ≡ g) ⊎ HasTooManyLines input
+        → ((g ≡ BadHead) × IsNoHead input) ⊎ ((g ≡ HeadTooLarge) × (IsTooLong input ⊎ HasTooManyLines input)) → (f ≡ g) ⊎ (HasTooManyLines input × IsNoHead input)
     decide (inl a) (inl b) = inl (a.0 ∙ sym b.0)
     decide (inr a) (inr b) = inl (a.0 ∙ sym b.0)
     decide (inl a) (inr (e, inl b)) = absurd (no_head_not_open input a.1 b.goes_on)
-    decide (inl a) (inr (e, inr b)) = inr b
+    decide (inl a) (inr (e, inr b)) = inr (b, a.1)
     decide (inr (e, inl a)) (inl b) = absurd (no_head_not_open input b.1 a.goes_on)
-    decide (inr (e, inr a)) (inl b) = inr a
+    decide (inr (e, inr a)) (inl b) = inr (a, b.1)
 
 bytes_or_head : (input : List ℕ) (f g : Fault) → RefusesBytes input f → RefusesHead input g ⊎ RefusesTarget input g → ⊥
 bytes_or_head input f g x (inl y) = bytes_no_head input f y.head y.rest x y.stands
@@ -144,7 +144,7 @@ head_or_target : (input : List ℕ) (f g : Fault) → RefusesHead input f → Re
 head_or_target input f g x y =
     ok_not_err f (length y.body) y.head x.head (same_head input y.head x.head (y.body ++ y.rest) x.rest y.message.head x.stands).0 y.message.fits x.judges
 
-one_fault : (input : List ℕ) (f g : Fault) → HasFault input f → HasFault input g → (f ≡ g) ⊎ HasTooManyLines input
+one_fault : (input : List ℕ) (f g : Fault) → HasFault input f → HasFault input g → (f ≡ g) ⊎ (HasTooManyLines input × IsNoHead input)
 one_fault input f g (inl x) (inl y) = bytes_fault input f g x y
 one_fault input f g (inl x) (inr y) = absurd (bytes_or_head input f g x y)
 one_fault input f g (inr x) (inl y) = absurd (bytes_or_head input g f y x)

@@ -84,8 +84,11 @@ coded_refused = record {
   head = head (codes "PUT") (codes "/plans/a") (host ∷ length_field ∷ coding_field ∷ []);
   rest = [];
   stands = record {
-    reads = (fields_ok (codes "/plans/a") (host ∷ length_field ∷ coding_field ∷ []) (codes "PUT") refl refl (omega arith) (omega arith) (codes "/plans/a", (refl, refl))
-        (All-cons IsField host (length_field ∷ coding_field ∷ []) host_ok (All-cons IsField length_field (coding_field ∷ []) length_ok (All-cons IsField coding_field [] coding_ok (All-nil IsField)))), refl);
+    reads = (
+      fields_ok (codes "/plans/a") (host ∷ length_field ∷ coding_field ∷ []) (codes "PUT") refl refl (omega arith) (omega arith) (codes "/plans/a", (refl, refl))
+          (All-cons IsField host (length_field ∷ coding_field ∷ []) host_ok (All-cons IsField length_field (coding_field ∷ []) length_ok (All-cons IsField coding_field [] coding_ok (All-nil IsField)))),
+      refl,
+    );
     short = omega arith;
     few = omega arith;
   };

@@ -56,6 +56,7 @@ impl Inbox {
         })
     }
 
+    /// The bytes that have come.
     pub fn as_slice(&self) -> &[u8]
         ensures { result.now ≡ self.now }
     {

@@ -12,7 +12,9 @@ use std::alloc::{AllocError, Global};
 /// The media type of a body.
 #[derive(Clone, Copy, Debug, PartialEq, Eq)]
 pub enum ContentType {
+    /// `application/json`
     Json,
+    /// `text/plain`
     PlainText,
 }
 
@@ -39,6 +41,7 @@ pub struct Outbox {
 }
 
 impl Outbox {
+    /// An empty one, with all the room that it ever takes.
     pub fn new(alloc: Global) -> Result<Outbox, AllocError> {
         Ok(Outbox {
             bytes: Vec::with_capacity(alloc, OUTBOX_LEN)?,

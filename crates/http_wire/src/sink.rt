@@ -22,8 +22,8 @@ pub trait Sink {
         ensures failed { failures self.new ≡ failures_with (failures self.old) result };
 }
 
-/// How often an interrupted write is tried again.
-pub const INTERRUPTIONS: u64 = 4_294_967_296;
+/// How often an interrupted write is tried again for one answer.
+const INTERRUPTIONS: u64 = 4_294_967_296;
 
 /// Any writer, with a count of its failures. It is not flushed.
 #[derive(Drop)]
@@ -33,6 +33,7 @@ pub struct WriteSink<W> {
 }
 
 impl<W: Write> WriteSink<W> {
+    /// The writer, whose failures are counted from now on.
     pub fn new(writer: W) -> WriteSink<W>
         ensures bytes { ⟦<WriteSink<W> as Sink>⟧.contents result ≡ W.contents writer }
         ensures failures { ⟦<WriteSink<W> as Sink>⟧.failures result ≡ 0 }

@@ -9,7 +9,9 @@ use std::io::{ErrorKind, Read};
 pub enum Turn {
     /// So many bytes, which is none at the end of the input.
     Read(usize),
+    /// No byte came, and another turn may bring some.
     Interrupted,
+    /// The reader failed, and no byte came.
     Failed,
 }
 
@@ -40,6 +42,7 @@ pub struct ReadSource<R> {
 }
 
 impl<R: Read> ReadSource<R> {
+    /// The reader, whose turns and failures are counted from now on.
     pub fn new(reader: R) -> ReadSource<R>
         ensures bytes { ⟦<ReadSource<R> as Source>⟧.remaining result ≡ R.remaining reader }
         ensures failures { ⟦<ReadSource<R> as Source>⟧.failures result ≡ 0 }

@@ -88,76 +88,78 @@ fn read_stream(
     Ok(stream)
 }
 
+/// Inputs, the number of their requests, and their fault.
+const HEADS: [(&[u8], u64, Option<Fault>); 17] = [
+    (b"GET /plans HTTP/1.1\r\nHost: d\r\n\r\n", 1, None),
+    (
+        b"\r\n\nGET / HTTP/1.1\nhOST:\n\nBREW /pot HTTP/1.1\r\nHost: d\r\n\r\n\r\n",
+        2,
+        None,
+    ),
+    (b"", 0, None),
+    (b"GET /plans HTTP/1.1\r\nHo", 0, None),
+    (b"GET /plans HTTP/1.1\r\n\r\n", 0, Some(Fault::BadHost)),
+    (
+        b"GET / HTTP/1.1\r\nHost: d\r\nHost: d\r\n\r\n",
+        0,
+        Some(Fault::BadHost),
+    ),
+    (
+        b"GET / HTTP/1.0\r\nHost: d\r\n\r\n",
+        0,
+        Some(Fault::BadHead),
+    ),
+    (b"G(T ", 0, Some(Fault::BadHead)),
+    (
+        b"GET /\xff HTTP/1.1\r\nHost: d\r\n\r\n",
+        0,
+        Some(Fault::BadHead),
+    ),
+    (
+        b"GET /\xc3\xa9 HTTP/1.1\r\nHost: d\r\n\r\n",
+        0,
+        Some(Fault::BadTarget),
+    ),
+    (
+        b"OPTIONS * HTTP/1.1\r\nHost: d\r\n\r\n",
+        0,
+        Some(Fault::BadTarget),
+    ),
+    (
+        b"PUT / HTTP/1.1\r\nHost: d\r\nContent-Length: 5\r\n\r\nfour",
+        0,
+        None,
+    ),
+    (
+        b"PUT / HTTP/1.1\r\nHost: d\r\nContent-Length: +5\r\n\r\n",
+        0,
+        Some(Fault::BadLength),
+    ),
+    (
+        b"PUT / HTTP/1.1\r\nHost: d\r\nContent-Length: 0\r\nTransfer-Encoding: chunked\r\n\r\n",
+        0,
+        Some(Fault::BadLength),
+    ),
+    (
+        b"PUT / HTTP/1.1\r\nHost: d\r\nTransfer-Encoding: chunked\r\n\r\n",
+        0,
+        Some(Fault::BadCoding),
+    ),
+    (
+        b"PUT / HTTP/1.1\r\nHost: d\r\nContent-Length: 33554433\r\n\r\n",
+        0,
+        Some(Fault::BodyTooLarge),
+    ),
+    (
+        b"PUT / HTTP/1.1\r\nHost: d\r\nContent-Length: 18446744073709551616\r\n\r\n",
+        0,
+        Some(Fault::BodyTooLarge),
+    ),
+];
+
 #[test]
 fn worked_heads(rt: HostRuntime) -> Result<(), Fail> {
-    let table: [(&[u8], u64, Option<Fault>); 17] = [
-        (b"GET /plans HTTP/1.1\r\nHost: d\r\n\r\n", 1, None),
-        (
-            b"\r\n\nGET / HTTP/1.1\nhOST:\n\nBREW /pot HTTP/1.1\r\nHost: d\r\n\r\n\r\n",
-            2,
-            None,
-        ),
-        (b"", 0, None),
-        (b"GET /plans HTTP/1.1\r\nHo", 0, None),
-        (b"GET /plans HTTP/1.1\r\n\r\n", 0, Some(Fault::BadHost)),
-        (
-            b"GET / HTTP/1.1\r\nHost: d\r\nHost: d\r\n\r\n",
-            0,
-            Some(Fault::BadHost),
-        ),
-        (
-            b"GET / HTTP/1.0\r\nHost: d\r\n\r\n",
-            0,
-            Some(Fault::BadHead),
-        ),
-        (b"G(T ", 0, Some(Fault::BadHead)),
-        (
-            b"GET /\xff HTTP/1.1\r\nHost: d\r\n\r\n",
-            0,
-            Some(Fault::BadHead),
-        ),
-        (
-            b"GET /\xc3\xa9 HTTP/1.1\r\nHost: d\r\n\r\n",
-            0,
-            Some(Fault::BadTarget),
-        ),
-        (
-            b"OPTIONS * HTTP/1.1\r\nHost: d\r\n\r\n",
-            0,
-            Some(Fault::BadTarget),
-        ),
-        (
-            b"PUT / HTTP/1.1\r\nHost: d\r\nContent-Length: 5\r\n\r\nfour",
-            0,
-            None,
-        ),
-        (
-            b"PUT / HTTP/1.1\r\nHost: d\r\nContent-Length: +5\r\n\r\n",
-            0,
-            Some(Fault::BadLength),
-        ),
-        (
-            b"PUT / HTTP/1.1\r\nHost: d\r\nContent-Length: 0\r\nTransfer-Encoding: chunked\r\n\r\n",
-            0,
-            Some(Fault::BadLength),
-        ),
-        (
-            b"PUT / HTTP/1.1\r\nHost: d\r\nTransfer-Encoding: chunked\r\n\r\n",
-            0,
-            Some(Fault::BadCoding),
-        ),
-        (
-            b"PUT / HTTP/1.1\r\nHost: d\r\nContent-Length: 33554433\r\n\r\n",
-            0,
-            Some(Fault::BodyTooLarge),
-        ),
-        (
-            b"PUT / HTTP/1.1\r\nHost: d\r\nContent-Length: 18446744073709551616\r\n\r\n",
-            0,
-            Some(Fault::BodyTooLarge),
-        ),
-    ];
-    for (input, requests, refused) in table {
+    for (input, requests, refused) in HEADS {
         for piece in [1, 7, 65_536] {
             let stream = read_stream(rt.alloc(), input, piece, u64::MAX)?;
             assert_eq!(rt; stream.requests, requests);
@@ -174,9 +176,8 @@ fn head_of(alloc: Global, lines: usize, len: usize) -> Result<Vec<u8>, AllocErro
     for _ in 1..lines {
         head.extend_from_slice(b"X: y\r\n")?;
     }
-    let filled = head.len().saturating_add(5);
-    if filled < len {
-        head.resize(len.saturating_sub(filled).saturating_add(filled - 5), b'z')?;
+    if head.len().saturating_add(5) < len {
+        head.resize(len.saturating_sub(5), b'z')?;
         head.extend_from_slice(b":\r\n")?;
     }
     head.extend_from_slice(b"\r\n")?;
