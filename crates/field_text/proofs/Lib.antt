@@ -1,3 +1,5 @@
+pub mod BufferLemmas
 pub mod DigitLemmas
 pub mod NthLemmas
+pub mod ReadingLemmas
 pub mod TextLemmas

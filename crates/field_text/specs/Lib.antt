@@ -1,3 +1,6 @@
+pub mod Buffer
 pub mod Digits
 pub mod Fields
 pub mod Lines
+pub mod Reading
+pub mod Turns

@@ -4,3 +4,5 @@
 pub mod digits;
 pub mod fields;
 pub mod lines;
+pub mod reader;
+pub mod source;
