@@ -1,0 +1,24 @@
+-- Plans under their names.
+use Rattle.std.proofs.Common.{◌≡◌, ℕ, List, [], ◌∷◌, Bool, true, false, cond, refl, ap, sym, ◌∙◌, arith, length, Some}
+use Rattle.std.specs.FinMap as map_of
+use Rattle.std.specs.FinMap.{get-insert, len-empty, len-entries, same_map, slice_cmp-IsAntisymmetric, nat_cmp-IsAntisymmetric}
+use Rattle.std.specs.Ordering.{eq_by_cmp}
+use Rattle.std.specs.Cmp.Lexicographic.{nat_list_cmp_total}
+use Rattle.desk_model.specs.Desk.{Plan, name_cmp}
+
+no_items : {A : Type 0} (xs : List A) → length xs ≡ 0 → xs ≡ []
+no_items [] e = refl
+no_items (x ∷ xs) e = absurd (omega arith)
+
+pub entries-empty : map_of.entries (map_of.empty {X = Plan} {R = name_cmp}) ≡ []
+entries-empty = no_items _ (rw (← len-entries) (len-empty name_cmp Plan))
+
+shadowed : {A : Type 0} (b : Bool) (x y z : A) → cond b x (cond b y z) ≡ cond b x z
+shadowed true x y z = refl
+shadowed false x y z = refl
+
+-- the later plan under a name takes the earlier one's place
+pub insert_again : (m : map_of.FinMap name_cmp Plan) (name : List ℕ) (p q : Plan) → map_of.insert (map_of.insert m name p) name q ≡ map_of.insert m name q
+insert_again m name p q = same_map nat_list_cmp_total (slice_cmp-IsAntisymmetric nat_cmp-IsAntisymmetric) _ _ (λ at.
+    get-insert nat_list_cmp_total _ name q at ∙ ap (cond (eq_by_cmp name_cmp at name) (Some q)) (get-insert nat_list_cmp_total m name p at)
+    ∙ shadowed (eq_by_cmp name_cmp at name) _ _ _ ∙ sym (get-insert nat_list_cmp_total m name q at))

@@ -1,0 +1,53 @@
+-- What a counter may answer: the desk's own step, or that there was no room, no memory or no device.
+use Rattle.std.specs.Prelude.{◌≡◌, ◌≢◌, ⊤}
+use Rattle.desk_model.specs.declared.command.Command.{Command}
+use Rattle.desk_model.specs.declared.command.Query.{Query}
+use Rattle.desk_model.specs.declared.reply.Reply.{Reply}
+use Rattle.desk_model.specs.declared.reply.Reply.TheVariants as reply
+use Rattle.desk_model.specs.declared.reply.Refusal.{Refusal}
+use Rattle.desk_model.specs.declared.reply.Refusal.TheVariants.{NoPlan, NoRevision, PlanExists, Stale, BadBody, NotWholeCounty, BadCompanion, Limit, Full, Memory, Halted, NotSealed}
+use Rattle.desk_model.specs.Desk.{Desk}
+use Rattle.desk_model.specs.Step.{step, answer}
+
+-- the reply of an accepted command
+abbrev pub IsAcceptance : Reply → Type 0
+IsAcceptance (reply.Created name revisions) = ⊤
+IsAcceptance (reply.Plans rows) = ⊥
+IsAcceptance (reply.Refused refusal) = ⊥
+
+-- the step's reply and its desk, and no want of room where it accepts
+pub record IsStep (short : Type 0) (d : Desk) (c : Command) (r : Reply) (new : Desk) : Type 0 where
+  pub reply : r ≡ (step d c).0
+  pub desk : new ≡ (step d c).1
+  pub room : IsAcceptance r → ¬ short
+
+-- the step would accept, and there is no room for it
+pub record IsFull (short : Type 0) (d : Desk) (c : Command) (new : Desk) : Type 0 where
+  pub accepted : IsAcceptance (step d c).0
+  pub no_room : short
+  pub desk : new ≡ d
+
+-- the outcomes that are no step: by the refusal
+abbrev pub RefusalMay : (short failed : Type 0) → Desk → Command → Refusal → Desk → Type 0
+RefusalMay short failed d c Memory new = ¬ failed × (new ≡ d)
+RefusalMay short failed d c Halted new = failed × (new ≡ d)
+RefusalMay short failed d c Full new = ¬ failed × IsFull short d c new
+RefusalMay short failed d c NoPlan new = ¬ failed × IsStep short d c (reply.Refused NoPlan) new
+RefusalMay short failed d c NoRevision new = ¬ failed × IsStep short d c (reply.Refused NoRevision) new
+RefusalMay short failed d c PlanExists new = ¬ failed × IsStep short d c (reply.Refused PlanExists) new
+RefusalMay short failed d c (Stale k) new = ¬ failed × IsStep short d c (reply.Refused (Stale k)) new
+RefusalMay short failed d c (BadBody code line) new = ¬ failed × IsStep short d c (reply.Refused (BadBody code line)) new
+RefusalMay short failed d c (NotWholeCounty county) new = ¬ failed × IsStep short d c (reply.Refused (NotWholeCounty county)) new
+RefusalMay short failed d c BadCompanion new = ⊥
+RefusalMay short failed d c Limit new = ¬ failed × IsStep short d c (reply.Refused Limit) new
+RefusalMay short failed d c NotSealed new = ¬ failed × IsStep short d c (reply.Refused NotSealed) new
+
+-- a command may have this reply, and leave this desk. short: there is less room than it needs; failed: the device failed in this call or before
+abbrev pub CommandMay : (short failed : Type 0) → Desk → Command → Reply → Desk → Type 0
+CommandMay short failed d c (reply.Refused refusal) new = RefusalMay short failed d c refusal new
+CommandMay short failed d c (reply.Created name revisions) new = ¬ failed × IsStep short d c (reply.Created name revisions) new
+CommandMay short failed d c (reply.Plans rows) new = ⊥
+
+-- a query is answered by the desk, unless memory is wanting
+abbrev pub QueryMay : Desk → Query → Reply → Type 0
+QueryMay d q r = (r ≢ reply.Refused Memory) → r ≡ answer d q

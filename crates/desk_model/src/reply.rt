@@ -1,0 +1,93 @@
+//! What a desk answers.
+ghost use Rattle.std.specs.Prelude.{◌≡◌};
+
+use crate::kind::Kind;
+use crate::name::PlanName;
+use std::marker::Model;
+
+/// A line of the list of plans.
+#[derive(Clone, Copy, Debug)]
+pub struct PlanRow {
+    pub name: PlanName,
+    pub kind: Kind,
+    pub n: u16,
+    pub revisions: u32,
+}
+
+/// Lines of the list of plans, which contracts see as their list.
+#[derive(Drop)]
+pub struct PlanRows {
+    rows: Vec<PlanRow>,
+}
+
+impl Model for PlanRows {
+    ghost use Rattle.std.specs.Prelude.{List};
+    ghost use Rattle.desk_model.specs.declared.reply.PlanRow.{PlanRow};
+
+    ghost Value = { List PlanRow };
+
+    ghost view = { λ a. a.rows.items };
+}
+
+impl PlanRows {
+    pub fn from_vec(rows: Vec<PlanRow>) -> PlanRows
+        ensures { result ≡ rows.items }
+    {
+        PlanRows { rows }
+    }
+
+    pub fn as_slice(&self) -> &[PlanRow]
+        ensures { result.now ≡ self.now }
+    {
+        self.rows.as_slice()
+    }
+}
+
+/// The answer to a command or a query.
+#[derive(Drop)]
+pub enum Reply {
+    /// The plan stands with so many revisions.
+    Created { plan: PlanName, revisions: u32 },
+    Plans(PlanRows),
+    Refused(Refusal),
+}
+
+/// What is wrong with a block assignment file.
+#[derive(Clone, Copy, Debug, PartialEq, Eq)]
+pub enum BodyFault {
+    /// B1: the first line isn't the header.
+    Header,
+    /// B2: a line that isn't a block and a code.
+    Shape,
+    /// B3: no block of the geography.
+    UnknownBlock,
+    /// B4: the block stands on an earlier line.
+    RepeatedBlock,
+    /// B5: a district number that is 0 or above the plan's.
+    OutOfRange,
+}
+
+/// Why a command or a query is refused. A refused command changes nothing.
+#[derive(Clone, Copy, Debug, PartialEq, Eq)]
+pub enum Refusal {
+    NoPlan,
+    NoRevision,
+    PlanExists,
+    /// The revision that the command comes after isn't the last; the number of revisions there are.
+    Stale { current: u32 },
+    /// The body's first fault and its line, from 1.
+    BadBody { code: BodyFault, line: u64 },
+    /// The least county, from 0 to 999, of which only a part is listed.
+    NotWholeCounty { county: u16 },
+    BadCompanion,
+    /// 65,535 plans, or 65,535 revisions of the plan, are there.
+    Limit,
+    /// The store has no room for the change.
+    Full,
+    /// Memory for the answer was refused.
+    Memory,
+    /// The store's device failed in this call or since the store was opened.
+    Halted,
+    /// The store has no sealed geography.
+    NotSealed,
+}
