@@ -4,6 +4,8 @@ use Rattle.std.specs.Io.KnownBytes.{Consumes, IsAtEnd}
 use Rattle.std.specs.Str.Lines.{strip_carriage_return}
 use Rattle.field_text.specs.declared.source.Turn.{Turn}
 use Rattle.field_text.specs.declared.source.Turn.TheVariants as turn
+use Rattle.field_text.specs.declared.reader.Step.{Step}
+use Rattle.field_text.specs.declared.reader.Step.TheVariants as step
 use Rattle.field_text.specs.declared.reader.ReadFault.{ReadFault}
 use Rattle.field_text.specs.declared.reader.ReadFault.TheVariants as fault
 
@@ -56,22 +58,24 @@ pub record IsTooLong (text : List ℕ) : Type 0 where
   pub long : IsLong text
 
 -- What one step gives of the bytes that came, where the reader has this left: a line, no line, or why there is none.
-abbrev pub Gives : List ℕ → Option (List ℕ) → Result Bool ReadFault → Reading → Type 0
-Gives text left (Ok true) new = BeginsWithLine text new.line new.held ⊎ (IsAtEnd left × IsLastLine text new.line × (new.held ≡ []))
-Gives text left (Ok false) new = IsAtEnd left × (text ≡ []) × (new.held ≡ [])
+abbrev pub Gives : List ℕ → Option (List ℕ) → Result Step ReadFault → Reading → Type 0
+Gives text left (Ok step.Line) new = BeginsWithLine text new.line new.held
+Gives text left (Ok step.LastLine) new = IsAtEnd left × IsLastLine text new.line
+Gives text left (Ok step.End) new = IsAtEnd left × (text ≡ [])
 Gives text left (Err fault.TooLong) new = IsTooLong text
 Gives text left (Err fault.Failed) new = IsBroken text
 Gives text left (Err fault.TurnLimit) new = IsBroken text
 
 -- one more line was given, or none
-abbrev pub number_after : ℕ → Result Bool ReadFault → ℕ
-number_after before (Ok true) = before + 1
-number_after before (Ok false) = before
+abbrev pub number_after : ℕ → Result Step ReadFault → ℕ
+number_after before (Ok step.Line) = before + 1
+number_after before (Ok step.LastLine) = before + 1
+number_after before (Ok step.End) = before
 number_after before (Err e) = before
 
 -- one more failure, where it is the reader's
-abbrev pub failures_after_step : ℕ → Result Bool ReadFault → ℕ
-failures_after_step before (Ok more) = before
+abbrev pub failures_after_step : ℕ → Result Step ReadFault → ℕ
+failures_after_step before (Ok s) = before
 failures_after_step before (Err fault.TooLong) = before
 failures_after_step before (Err fault.Failed) = min (before + 1) (2 ^ 64 - 1)
 failures_after_step before (Err fault.TurnLimit) = before

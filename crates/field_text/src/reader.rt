@@ -30,6 +30,17 @@ pub enum ReadFault {
     TurnLimit,
 }
 
+/// How far the lines have come.
+#[derive(Clone, Copy, Debug, PartialEq, Eq)]
+pub enum Step {
+    /// A line that ends.
+    Line,
+    /// The last line, which lacks its end.
+    LastLine,
+    /// There is no further line.
+    End,
+}
+
 /// Makes room behind the bytes from `start` to `end`: answers where they then stand.
 fn make_room(buffer: &mut Vec<u8>, start: usize, end: usize) -> (usize, usize)
     requires order { start ≤ end }
@@ -206,8 +217,8 @@ impl LineReader {
         }
     }
 
-    /// Goes on to the next line, which `line` then gives. `false` at the end of the source.
-    pub fn advance<R: Source>(&mut self, reader: &mut R) -> Result<bool, ReadFault>
+    /// Goes on to the next line, which `line` then gives. After `LastLine` and `End` the source isn't asked again.
+    pub fn advance<R: Source>(&mut self, reader: &mut R) -> Result<Step, ReadFault>
         ensures bytes { (more : List ℕ) × Consumes (R.remaining reader.old) (R.remaining reader.new) more
             × Gives (self.old.held ++ more) (R.remaining reader.new) result self.new }
         ensures number { self.new.number ≡ number_after self.old.number result }
@@ -218,7 +229,7 @@ impl LineReader {
     {
         loop {
             if self.take_line() {
-                return Ok(true);
+                return Ok(Step::Line);
             }
             if self.is_long() {
                 return Err(ReadFault::TooLong);
@@ -227,7 +238,14 @@ impl LineReader {
                 return Err(ReadFault::TurnLimit);
             }
             match self.fill(reader) {
-                Turn::Read(0) => return Ok(self.take_last()),
+                Turn::Read(0) => {
+                    let step = if self.take_last() {
+                        Step::LastLine
+                    } else {
+                        Step::End
+                    };
+                    return Ok(step);
+                }
                 Turn::Failed => return Err(ReadFault::Failed),
                 _ => {}
             }
