@@ -1,3 +1,4 @@
+pub mod Baf
 pub mod Block
 pub mod Desk
 pub mod Examples
