@@ -1,0 +1,6 @@
+pub mod BufferLemmas
+pub mod DigitLemmas
+pub mod JudgedLemmas
+pub mod NthLemmas
+pub mod ReadingLemmas
+pub mod TextLemmas

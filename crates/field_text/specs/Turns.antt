@@ -1,0 +1,17 @@
+-- What a turn of reading does.
+use Rattle.std.specs.Prelude.{◌≡◌, ℕ, ◌+◌, ◌-◌, ◌^◌, ◌<◌, ◌≤◌, List, length, take, min, Option}
+use Rattle.std.specs.Io.KnownBytes.{Consumes, Keeps, IsAtEnd}
+use Rattle.field_text.specs.declared.source.Turn.{Turn}
+use Rattle.field_text.specs.declared.source.Turn.TheVariants.{Read, Interrupted, Failed}
+
+-- the bytes that came leave the reader; none come only at the end or where there is no room
+abbrev pub TurnConsumes : Option (List ℕ) → Option (List ℕ) → Turn → List ℕ → Type 0
+TurnConsumes old new (Read n) buf = (n ≤ length buf) × Consumes old new (take n buf) × (n ≡ 0 → 0 < length buf → IsAtEnd new)
+TurnConsumes old new Interrupted buf = Keeps old new
+TurnConsumes old new Failed buf = Keeps old new
+
+-- one more failure, where the turn is one
+abbrev pub failures_after : ℕ → Turn → ℕ
+failures_after before (Read n) = before
+failures_after before Interrupted = before
+failures_after before Failed = min (before + 1) (2 ^ 64 - 1)
