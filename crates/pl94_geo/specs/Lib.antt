@@ -1,0 +1,3 @@
+pub mod Entries
+pub mod Holding
+pub mod Judging
