@@ -1,6 +1,6 @@
 -- One more taken record.
-use Rattle.std.proofs.Common.{◌≡◌, ℕ, suc, ◌+◌, ◌<◌, ◌≤◌, Bool, true, false, not, cond, ◌||◌, eqb, leb, List, [], ◌∷◌, ◌++◌, length, map, Option, Some, None, Result, Ok, Err, is_some, is_none, refl, sym, ap, subst, ◌∙◌, arith, nat_eq, length-append, All}
-use Rattle.std.specs.List.{list_any, filter_map, cons_option, IsDistinct}
+use Rattle.std.proofs.Common.{◌≡◌, ℕ, suc, ◌<◌, ◌≤◌, Bool, true, false, not, cond, ◌||◌, eqb, leb, List, [], ◌∷◌, ◌++◌, length, Option, Some, None, Result, Ok, Err, is_some, is_none, refl, sym, ap, subst, ◌∙◌, arith, nat_eq, length-append}
+use Rattle.std.specs.List.{list_any, cons_option, IsDistinct}
 use Rattle.std.specs.Option.{option_map_or, option_map}
 use Rattle.std.specs.HashSet.{contains}
 use Rattle.std.proofs.lemmas.Bool.Decides.{nat_tests}
@@ -11,7 +11,7 @@ use Rattle.std.proofs.lemmas.List.Elements.{filter_map-append, All-push}
 use Rattle.std.proofs.lemmas.Map.Keys.{IsDistinct-push}
 use Rattle.desk_model.specs.Geography.{block_limit}
 use Rattle.pl94_geo.specs.Entries.{IsEntry, line_read}
-use Rattle.pl94_geo.specs.Judging.{states_of, numbers_of, ids_of, blocks_of, geo_block, state_record_of, other_state, repeats, conflict, kind_conflict, entries, entry_of, taken_entry, judge, judged}
+use Rattle.pl94_geo.specs.Judging.{states_of, numbers_of, ids_of, blocks_of, geo_block, state_record_of, other_state, repeats, conflict, entries, entry_of, taken_entry, judged}
 use Rattle.pl94_geo.specs.Holding.{Holds, Numbers, Takes, Judges}
 use Rattle.pl94_geo.specs.declared.entry.Entry.{Entry}
 use Rattle.pl94_geo.specs.declared.entry.LineFault.{LineFault}

@@ -1,5 +1,5 @@
 -- The records of the geographic header that are taken: 2020 Census PL 94-171 summary file, fields of the geographic header.
-use Rattle.std.specs.Prelude.{◌≡◌, ℕ, ◌+◌, ◌-◌, ◌*◌, ◌/◌, ◌^◌, ◌<◌, Bool, true, false, not, ◌&&◌, ◌||◌, if◌then◌else◌, ◌==◌, nat_lt, nat_le, nat_eq, List, [], ◌∷◌, length, get_or, slice_index, Option, Some, None, Result, Ok, Err, codes, IfSome}
+use Rattle.std.specs.Prelude.{◌≡◌, ℕ, ◌+◌, ◌-◌, ◌*◌, ◌^◌, Bool, not, ◌||◌, if◌then◌else◌, ◌==◌, nat_lt, nat_eq, List, [], length, get_or, slice_index, Option, Some, None, Result, Ok, Err, codes, IfSome}
 use Rattle.std.specs.Cmp.Lexicographic.{pointwise}
 use Rattle.field_text.specs.Digits.{number_of, number_of_digits}
 use Rattle.field_text.specs.Fields.{fields}

@@ -1,5 +1,5 @@
 -- The geographic header as a whole: which texts are headers, and what they say.
-use Rattle.std.specs.Prelude.{◌≡◌, ℕ, ◌+◌, ◌-◌, ◌^◌, ◌<◌, ◌≤◌, ◌⊎◌, List, [], map, length, get_or, min, All, nat_eq, Option, Some, None, Result, Ok, Err, ⊤}
+use Rattle.std.specs.Prelude.{◌≡◌, ℕ, ◌+◌, ◌-◌, ◌^◌, ◌<◌, ◌≤◌, List, [], map, length, get_or, min, All, nat_eq, Option, Result, Ok, Err, ⊤}
 use Rattle.std.specs.List.{IsDistinct}
 use Rattle.std.specs.Io.KnownBytes.{Consumes, IsAtEnd}
 use Rattle.std.specs.Str.Lines.{lines}
@@ -11,7 +11,6 @@ use Rattle.field_text.specs.declared.reader.ReadFault.TheVariants as read
 use Rattle.pl94_geo.specs.Holding.{Holds}
 use Rattle.pl94_geo.specs.Judging.{entries, blocks_of, state_record_of, ids_of, judge}
 use Rattle.pl94_geo.specs.declared.entry.Entry.{Entry}
-use Rattle.pl94_geo.specs.declared.entry.LineFault.{LineFault}
 use Rattle.pl94_geo.specs.declared.entry.LineFault.TheVariants.{Shape}
 use Rattle.pl94_geo.specs.declared.header.GeoBlock.{GeoBlock}
 use Rattle.pl94_geo.specs.declared.header.Header.{Header}

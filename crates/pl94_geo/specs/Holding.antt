@@ -1,5 +1,5 @@
 -- What a reader keeps of the taken records.
-use Rattle.std.specs.Prelude.{◌≡◌, ℕ, ◌+◌, ◌<◌, ◌≤◌, Bool, true, false, not, ◌||◌, ◌==◌, nat_eq, List, [], ◌∷◌, ◌++◌, length, All, Option, Some, None, Result, Ok, Err, ⊤}
+use Rattle.std.specs.Prelude.{◌≡◌, ℕ, ◌≤◌, true, false, not, ◌||◌, ◌==◌, nat_eq, List, [], ◌∷◌, ◌++◌, length, All, Some, None, Result, Ok, Err, ⊤}
 use Rattle.std.specs.List.{IsDistinct}
 use Rattle.std.specs.Option.{option_map_or}
 use Rattle.std.specs.HashSet.{HashSet, contains}
@@ -7,7 +7,7 @@ use Rattle.std.specs.declared.hash.FoldHasher.{FoldHasher}
 use Rattle.std.specs.declared.hash.BuildHasherDefault.{BuildHasherDefault}
 use Rattle.desk_model.specs.Geography.{block_limit}
 use Rattle.pl94_geo.specs.Entries.{IsEntry}
-use Rattle.pl94_geo.specs.Judging.{states_of, numbers_of, ids_of, blocks_of, state_record_of, other_state, repeats, conflict, entries, judge}
+use Rattle.pl94_geo.specs.Judging.{numbers_of, ids_of, blocks_of, state_record_of, other_state, repeats, conflict, entries, judge}
 use Rattle.pl94_geo.specs.declared.entry.Entry.{Entry}
 use Rattle.pl94_geo.specs.declared.entry.LineFault.{LineFault}
 use Rattle.pl94_geo.specs.declared.header.Header.{Header}

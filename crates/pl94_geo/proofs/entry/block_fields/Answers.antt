@@ -1,4 +1,3 @@
-use Rattle.std.proofs.Common.{ap, ◌∙◌, List, ℕ, [], drop, get_or}
 use Rattle.field_text.specs.Fields.{fields}
 use Rattle.pl94_geo.proofs.FieldLemmas.{field_at, left_after}
 use Rattle.pl94_geo.proofs.entry.block_fields.Goals as goal

@@ -1,4 +1,4 @@
-use Rattle.std.proofs.Common.{◌≡◌, sym, ◌∙◌, ap, subst, Ok, None}
+use Rattle.std.proofs.Common.{◌≡◌, sym, ap, subst, Ok, None}
 use Rattle.pl94_geo.specs.Judging.{judged, entries}
 use Rattle.pl94_geo.specs.Entries.{line_read}
 use Rattle.pl94_geo.specs.Holding.{Holds}

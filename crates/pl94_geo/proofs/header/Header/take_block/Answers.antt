@@ -1,4 +1,4 @@
-use Rattle.std.proofs.Common.{◌≡◌, refl, sym, ◌∙◌, ◌<◌, ◌≤◌, length, arith}
+use Rattle.std.proofs.Common.{refl, arith}
 use Rattle.pl94_geo.proofs.HoldingLemmas.{holds_block, too_many}
 use Rattle.pl94_geo.proofs.header.Header.take_block.Goals as goal
 

@@ -1,4 +1,4 @@
-use Rattle.std.proofs.Common.{◌≡◌, refl, sym, ◌∙◌}
+use Rattle.std.proofs.Common.{refl, sym, ◌∙◌}
 use Rattle.pl94_geo.proofs.HoldingLemmas.{holds_state, none_from_test}
 use Rattle.pl94_geo.proofs.header.Header.take_state.Goals as goal
 
