@@ -66,7 +66,7 @@ states_known h es (Some own) same valid =
     let itself : not (eqb own own) ≡ false = grind (arith, nat_tests) in
     (own, one_state own es (same own ∙ itself) valid)
 
-all_as_first : (own : ℕ) (ids : List ℕ) → All (λ id. state_of id ≡ own) ids → All (λ id. state_of id ≡ state_of (get_or ids 0 0)) ids
+pub all_as_first : (own : ℕ) (ids : List ℕ) → All (λ id. state_of id ≡ own) ids → All (λ id. state_of id ≡ state_of (get_or ids 0 0)) ids
 all_as_first own [] all = λ k d inside. absurd (omega arith)
 all_as_first own (x ∷ ids) all = λ k d inside. all k d inside ∙ sym (all 0 0 (omega arith))
 

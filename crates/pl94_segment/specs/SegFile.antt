@@ -1,5 +1,5 @@
 -- A segment as a whole: which texts are segments, and what they say.
-use Rattle.std.specs.Prelude.{◌≡◌, ℕ, ◌+◌, ◌-◌, ◌^◌, ◌<◌, ◌≤◌, ◌⊎◌, List, [], ◌∷◌, ◌++◌, length, min, nat_eq, Bool, false, Option, Some, None, Result, Ok, Err, ⊤}
+use Rattle.std.specs.Prelude.{◌≡◌, ℕ, ◌+◌, ◌-◌, ◌^◌, List, [], ◌∷◌, ◌++◌, length, min, nat_eq, false, Option, Some, None, Result, Ok, Err, ⊤}
 use Rattle.std.specs.HashMap.{get}
 use Rattle.std.specs.Io.KnownBytes.{Consumes, IsAtEnd}
 use Rattle.std.specs.Str.Lines.{lines}
@@ -9,7 +9,6 @@ use Rattle.field_text.specs.declared.reader.ReadFault.TheVariants as read
 use Rattle.pl94_segment.specs.Records.{people_at, has_number, records, judged, judge}
 use Rattle.pl94_segment.specs.declared.record.Part.{Part}
 use Rattle.pl94_segment.specs.declared.record.SegRecord.{SegRecord}
-use Rattle.pl94_segment.specs.declared.record.LineFault.{LineFault}
 use Rattle.pl94_segment.specs.declared.record.LineFault.TheVariants.{Shape}
 use Rattle.pl94_segment.specs.declared.segment.SegRows.{SegRows}
 use Rattle.pl94_segment.specs.declared.segment.Refusal.{Refusal}

@@ -2,5 +2,6 @@
 //! geographic header.
 #![tactic(auto)]
 
+pub mod join;
 pub mod record;
 pub mod segment;

@@ -1,4 +1,4 @@
-use Rattle.std.proofs.Common.{◌≡◌, sym, ◌∙◌}
+use Rattle.std.proofs.Common.{sym}
 use Rattle.pl94_segment.proofs.SegLemmas.{holds_more, repeated}
 use Rattle.pl94_segment.proofs.segment.SegRows.take.Goals as goal
 

@@ -1,4 +1,4 @@
-use Rattle.std.proofs.Common.{◌≡◌, ℕ, ◌-◌, ◌^◌}
+use Rattle.std.proofs.Common.{◌≡◌, ◌-◌, ◌^◌}
 use Rattle.field_text.specs.Reading.{CountsFrom}
 use Rattle.pl94_segment.specs.SegFile.{Stands}
 use Rattle.pl94_segment.proofs.segment.SegmentReader.read.Given as goal
