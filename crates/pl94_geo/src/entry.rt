@@ -31,6 +31,21 @@ pub enum LineFault {
     TooManyBlocks,
 }
 
+impl LineFault {
+    /// Its code.
+    pub fn code(self) -> &'static str {
+        match self {
+            LineFault::Shape => "G1",
+            LineFault::RecordNumber => "G2",
+            LineFault::Codes => "G3",
+            LineFault::State => "G4",
+            LineFault::RepeatedBlock => "G5",
+            LineFault::RepeatedRecord => "G6",
+            LineFault::TooManyBlocks => "G7",
+        }
+    }
+}
+
 /// A taken record: a block (SUMLEV 750) or the state (SUMLEV 040), both with GEOCOMP 00.
 #[derive(Clone, Copy, Debug)]
 pub struct Entry {

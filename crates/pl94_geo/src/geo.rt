@@ -11,6 +11,7 @@ use crate::header::{GeoBlock, Header, Refusal};
 use field_text::reader::{LineReader, ReadFault, Step};
 use field_text::source::Source;
 use std::alloc::Global;
+use std::fmt;
 
 /// The taken records of a header.
 #[derive(Drop)]
@@ -33,6 +34,19 @@ pub enum GeoFault {
     /// G10: the source was asked 4,294,967,296 times.
     TurnLimit(u64),
     Memory,
+}
+
+impl fmt::Display for GeoFault {
+    /// The code and the line, as `G1 line 2`.
+    fn fmt<W: fmt::Write>(&self, f: &mut fmt::Formatter<W>) -> fmt::Result {
+        match *self {
+            GeoFault::Line(fault, line) => write!(f, "{} line {}", fault.code(), line),
+            GeoFault::Read(line) => write!(f, "G8 line {}", line),
+            GeoFault::NoBlock(line) => write!(f, "G9 line {}", line),
+            GeoFault::TurnLimit(line) => write!(f, "G10 line {}", line),
+            GeoFault::Memory => f.write_str("Memory"),
+        }
+    }
 }
 
 /// Reads a header line by line.

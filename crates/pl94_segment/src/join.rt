@@ -11,6 +11,7 @@ use desk_model::block::BlockRow;
 use pl94_geo::geo::GeoRows;
 use pl94_geo::header::GeoBlock;
 use std::alloc::{AllocError, Global};
+use std::fmt;
 
 /// Why the files don't go together.
 #[derive(Clone, Copy, Debug, PartialEq, Eq)]
@@ -22,6 +23,18 @@ pub enum JoinFault {
     /// S8: the people of the state record and of all blocks, where they differ.
     OtherTotal(u32, u32),
     Memory,
+}
+
+impl fmt::Display for JoinFault {
+    /// The code and what it carries, as `S7 3 2`.
+    fn fmt<W: fmt::Write>(&self, f: &mut fmt::Formatter<W>) -> fmt::Result {
+        match *self {
+            JoinFault::Missing(number, part) => write!(f, "S7 {} {}", number, part.number()),
+            JoinFault::TooManyPeople => f.write_str("S9"),
+            JoinFault::OtherTotal(state, total) => write!(f, "S8 {} {}", state, total),
+            JoinFault::Memory => f.write_str("Memory"),
+        }
+    }
 }
 
 /// The least segment that lacks a record.

@@ -5,3 +5,5 @@
 pub mod join;
 pub mod record;
 pub mod segment;
+#[cfg(test)]
+mod tests;

@@ -16,6 +16,15 @@ pub enum Part {
 }
 
 impl Part {
+    /// 1, 2 or 3.
+    pub fn number(self) -> u8 {
+        match self {
+            Part::One => 1,
+            Part::Two => 2,
+            Part::Three => 3,
+        }
+    }
+
     /// How many fields its lines have.
     fn field_count(self) -> usize
         ensures { result ≡ field_count_of self }
@@ -39,6 +48,18 @@ pub enum LineFault {
     People,
     /// S4: a LOGRECNO that stood before.
     RepeatedRecord,
+}
+
+impl LineFault {
+    /// Its code.
+    pub fn code(self) -> &'static str {
+        match self {
+            LineFault::Shape => "S1",
+            LineFault::RecordNumber => "S2",
+            LineFault::People => "S3",
+            LineFault::RepeatedRecord => "S4",
+        }
+    }
 }
 
 /// A record's number (LOGRECNO) and, in segment 1, its total population (P0010001).

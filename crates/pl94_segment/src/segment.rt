@@ -11,6 +11,7 @@ use field_text::reader::{LineReader, ReadFault, Step};
 use field_text::source::Source;
 use std::alloc::Global;
 use std::collections::HashMap;
+use std::fmt;
 
 /// The records of a segment: the people of each record number.
 #[derive(Drop)]
@@ -28,6 +29,18 @@ pub enum SegFault {
     /// S6: the source was asked 4,294,967,296 times.
     TurnLimit(u64),
     Memory,
+}
+
+impl fmt::Display for SegFault {
+    /// The code and the line, as `S1 line 2`.
+    fn fmt<W: fmt::Write>(&self, f: &mut fmt::Formatter<W>) -> fmt::Result {
+        match *self {
+            SegFault::Line(fault, line) => write!(f, "{} line {}", fault.code(), line),
+            SegFault::Read(line) => write!(f, "S5 line {}", line),
+            SegFault::TurnLimit(line) => write!(f, "S6 line {}", line),
+            SegFault::Memory => f.write_str("Memory"),
+        }
+    }
 }
 
 /// Why a line isn't taken.
