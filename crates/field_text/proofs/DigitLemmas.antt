@@ -34,3 +34,8 @@ value_more bytes n i value inside is =
     let more = digits_value_more 10 bytes i inside in
     let digit = digit_value_digit (get_or bytes i 0) (low, high) in
     sym (rw (more, ← value) (omega arith))
+
+pub below_pow : (n i j : ℕ) → n < 10 ^ i → i ≤ j → n < 10 ^ j
+below_pow n i j small le =
+    let most : 10 ^ i ≤ 10 ^ j = pow-le-pow_right {n = 10} (lit< tt) {i = i} {j = j} le in
+    omega arith

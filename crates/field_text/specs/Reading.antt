@@ -82,7 +82,7 @@ failures_after_step before (Err fault.TurnLimit) = before
 
 -- the source's count of turns goes with the reader's: as it stood at `first`, and then one more for each turn
 abbrev pub CountsFrom : ℕ → ℕ → ℕ → Type 0
-CountsFrom first turns source = source ≡ min (first + turns) (2 ^ 64 - 1)
+CountsFrom first turns source = (turns ≡ 0 → source ≡ first) × (0 < turns → source ≡ min (first + turns) (2 ^ 64 - 1))
 
 -- what a turn added to the bytes that were held
 abbrev pub Fills : Option (List ℕ) → Option (List ℕ) → List ℕ → Turn → List ℕ → Type 0

@@ -1,5 +1,5 @@
 //! Decimal numbers in ASCII digits.
-ghost use Rattle.std.specs.Prelude.{◌≡◌, ◌≤◌, true, All, length};
+ghost use Rattle.std.specs.Prelude.{◌≡◌, ◌^◌, ◌<◌, ◌≤◌, true, All, IfSome, length};
 ghost use Rattle.std.specs.Char.{is_ascii_digit};
 ghost use Rattle.std.specs.List.{list_all};
 ghost use Rattle.std.specs.Str.Parse.{digits_value};
@@ -17,7 +17,8 @@ fn all_digits(bytes: &[u8]) -> bool
 fn value(bytes: &[u8]) -> u64
     requires few { length bytes.now ≤ 19 }
     requires each { All (λ b. is_ascii_digit b ≡ true) bytes.now }
-    ensures { result ≡ digits_value 10 bytes.now }
+    ensures value { result ≡ digits_value 10 bytes.now }
+    ensures small { result < 10 ^ length bytes.now }
 {
     let mut n = 0u64;
     for b in bytes {
@@ -29,13 +30,15 @@ fn value(bytes: &[u8]) -> u64
 /// The number that 1 to `most` digits write. Leading zeros are digits like others.
 pub fn number(bytes: &[u8], most: usize) -> Option<u64>
     requires { most ≤ 19 }
-    ensures { result ≡ number_of most bytes.now }
+    ensures value { result ≡ number_of most bytes.now }
+    ensures small { IfSome result (λ n. n < 10 ^ most) }
 {
     if bytes.is_empty() || bytes.len() > most {
         return None;
     }
     if all_digits(bytes) {
-        Some(value(bytes))
+        let n = value(bytes);
+        Some(n)
     } else {
         None
     }
@@ -44,7 +47,8 @@ pub fn number(bytes: &[u8], most: usize) -> Option<u64>
 /// The number that exactly `count` digits write.
 pub fn digits_exactly(bytes: &[u8], count: usize) -> Option<u64>
     requires { count ≤ 19 }
-    ensures { result ≡ number_of_digits count bytes.now }
+    ensures value { result ≡ number_of_digits count bytes.now }
+    ensures small { IfSome result (λ n. n < 10 ^ count) }
 {
     if bytes.len() != count {
         return None;

@@ -1,5 +1,5 @@
 //! The fields of a line, as slices of it.
-ghost use Rattle.std.specs.Prelude.{◌≡◌, ◌+◌, ◌∷◌, [], drop, length, MatchOption};
+ghost use Rattle.std.specs.Prelude.{◌≡◌, ◌+◌, ◌∷◌, [], ◌<◌, drop, get_or, length, MatchOption};
 ghost use Rattle.std.specs.List.{slice_get};
 ghost use Rattle.std.specs.Option.{option_copied};
 ghost use Rattle.field_text.specs.Fields.{fields};
@@ -74,5 +74,18 @@ impl<'t> Fields<'t> {
             self.next_field()?;
         }
         self.next_field()
+    }
+
+    /// The same where there is such a field.
+    pub fn field_after(&mut self, skipped: usize) -> &'t [u8]
+        requires { skipped < length self.old }
+        ensures field { result.now ≡ get_or self.old skipped [] }
+        ensures rest { self.new ≡ drop (skipped + 1) self.old }
+        ensures left { length self.new + (skipped + 1) ≡ length self.old }
+    {
+        match self.nth_field(skipped) {
+            Some(field) => field,
+            None => unreachable!(),
+        }
     }
 }

@@ -140,6 +140,7 @@ impl LineReader {
 
     /// Takes a whole line out of the bytes at hand.
     fn take_line(&mut self) -> bool
+        ensures within { self.new.turns ≤ turn_limit }
         ensures line { MatchBool result (BeginsWithLine self.old.held self.new.line self.new.held) (NoLineFeed self.old.held × (self.new ≡ self.old)) }
         ensures number { MatchBool result (self.new.number ≡ self.old.number + 1) (self.new.number ≡ self.old.number) }
         ensures turns { self.new.turns ≡ self.old.turns }
@@ -224,6 +225,7 @@ impl LineReader {
         ensures number { self.new.number ≡ number_after self.old.number result }
         ensures few { self.new.number < 2 ^ 53 }
         ensures counted { (first : ℕ) → CountsFrom first self.old.turns (R.turns reader.old) → CountsFrom first self.new.turns (R.turns reader.new) }
+        ensures within { self.new.turns ≤ turn_limit }
         ensures limit { result ≡ Err ReadFault.TurnLimit → self.new.turns ≡ turn_limit }
         ensures failures { R.failures reader.new ≡ failures_after_step (R.failures reader.old) result }
     {
@@ -238,16 +240,18 @@ impl LineReader {
                 return Err(ReadFault::TurnLimit);
             }
             match self.fill(reader) {
-                Turn::Read(0) => {
-                    let step = if self.take_last() {
-                        Step::LastLine
-                    } else {
-                        Step::End
-                    };
-                    return Ok(step);
+                Turn::Read(n) => {
+                    if n == 0 {
+                        let step = if self.take_last() {
+                            Step::LastLine
+                        } else {
+                            Step::End
+                        };
+                        return Ok(step);
+                    }
                 }
+                Turn::Interrupted => {}
                 Turn::Failed => return Err(ReadFault::Failed),
-                _ => {}
             }
         }
     }

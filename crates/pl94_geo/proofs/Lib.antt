@@ -1,0 +1,3 @@
+pub mod FieldLemmas
+pub mod GeoLemmas
+pub mod HoldingLemmas

@@ -1,0 +1,4 @@
+pub mod Entries
+pub mod GeoFile
+pub mod Holding
+pub mod Judging

@@ -1,0 +1,138 @@
+//! The taken records of the lines so far.
+ghost use Rattle.std.specs.Prelude.{◌≡◌, ◌++◌, ◌∷◌, [], ℕ, List, Bool, true, false, not, OnOk, OnErr, MatchBool, MatchOption, MatchResult, ◌==◌, nat_eq, Some, None, Err, Ok, IfSome};
+ghost use Rattle.std.specs.HashSet.{contains};
+ghost use Rattle.std.specs.Option.{option_map_or};
+ghost use Rattle.pl94_geo.specs.Entries.{IsEntry};
+ghost use Rattle.pl94_geo.specs.Judging.{conflict, entries, judge, ids_of, numbers_of, other_state};
+ghost use Rattle.pl94_geo.specs.Holding.{Holds, Takes, Judges, Adds};
+ghost use Rattle.pl94_geo.specs.declared.entry.Entry.{Entry as TakenEntry};
+
+use crate::entry::{Entry, LineFault, read_line};
+use desk_model::block::BlockId;
+use desk_model::geography::BLOCK_LIMIT;
+use std::alloc::Global;
+use std::collections::HashSet;
+
+/// A block of the header.
+#[derive(Clone, Copy, Debug)]
+pub struct GeoBlock {
+    /// LOGRECNO, which the segments' records have too.
+    pub number: u64,
+    pub id: BlockId,
+    pub city: Option<u32>,
+}
+
+/// Why a line isn't taken.
+#[derive(Clone, Copy, Debug)]
+pub enum Refusal {
+    Fault(LineFault),
+    Memory,
+}
+
+/// What the lines so far have given.
+#[derive(Drop)]
+pub struct Header {
+    pub state: Option<u64>,
+    pub state_record: Option<u64>,
+    pub blocks: Vec<GeoBlock>,
+    pub ids: HashSet<u64>,
+    pub numbers: HashSet<u64>,
+}
+
+/// Adds a number to a set that hasn't it yet.
+fn add(set: &mut HashSet<u64>, number: u64, repeated: LineFault) -> Result<(), Refusal>
+    ensures { Adds set.old set.new number repeated result }
+{
+    match set.insert(number) {
+        Ok(true) => Ok(()),
+        Ok(false) => Err(Refusal::Fault(repeated)),
+        Err(_) => Err(Refusal::Memory),
+    }
+}
+
+impl Header {
+    pub fn new(alloc: Global) -> Header
+        ensures { Holds result [] }
+    {
+        Header {
+            state: None,
+            state_record: None,
+            blocks: Vec::new(alloc),
+            ids: HashSet::new(alloc),
+            numbers: HashSet::new(alloc),
+        }
+    }
+
+    /// Whether a record was taken that is of another state.
+    fn is_of_other_state(&self, state: u64) -> bool
+        ensures { result ≡ option_map_or (λ own. not (own == state)) self.now.state false }
+    {
+        match self.state {
+            Some(own) => own != state,
+            None => false,
+        }
+    }
+
+    /// Takes the state record.
+    fn take_state(&mut self, entry: Entry) -> Result<(), Refusal>
+        requires valid { IsEntry entry }
+        requires kind { entry.block ≡ None }
+        ensures { (es : List TakenEntry) → Holds self.old es → other_state es entry.state ≡ false → Takes es entry result self.new }
+    {
+        if self.state_record.is_some() {
+            return Err(Refusal::Fault(LineFault::State));
+        }
+        add(&mut self.numbers, entry.number, LineFault::RepeatedRecord)?;
+        self.state_record = Some(entry.number);
+        self.state = Some(entry.state);
+        Ok(())
+    }
+
+    /// Takes a block.
+    fn take_block(&mut self, entry: Entry, id: BlockId) -> Result<(), Refusal>
+        requires valid { IsEntry entry }
+        requires kind { entry.block ≡ Some id }
+        ensures { (es : List TakenEntry) → Holds self.old es → other_state es entry.state ≡ false → Takes es entry result self.new }
+    {
+        add(&mut self.ids, id.number(), LineFault::RepeatedBlock)?;
+        add(&mut self.numbers, entry.number, LineFault::RepeatedRecord)?;
+        if self.blocks.len() >= BLOCK_LIMIT {
+            return Err(Refusal::Fault(LineFault::TooManyBlocks));
+        }
+        let block = GeoBlock {
+            number: entry.number,
+            id,
+            city: entry.city,
+        };
+        let Ok(()) = self.blocks.push(block) else {
+            return Err(Refusal::Memory);
+        };
+        self.state = Some(entry.state);
+        Ok(())
+    }
+
+    /// Takes a record.
+    fn take(&mut self, entry: Entry) -> Result<(), Refusal>
+        requires { IsEntry entry }
+        ensures { (es : List TakenEntry) → Holds self.old es → Takes es entry result self.new }
+    {
+        if self.is_of_other_state(entry.state) {
+            return Err(Refusal::Fault(LineFault::State));
+        }
+        match entry.block {
+            None => self.take_state(entry),
+            Some(id) => self.take_block(entry, id),
+        }
+    }
+
+    /// Judges a line and takes its record.
+    pub fn judge_line(&mut self, line: &[u8]) -> Result<(), Refusal>
+        ensures { (ls : List (List ℕ)) → Holds self.old (entries ls) → Judges ls line.now result self.new }
+    {
+        match read_line(line) {
+            Ok(Some(entry)) => self.take(entry),
+            Ok(None) => Ok(()),
+            Err(fault) => Err(Refusal::Fault(fault)),
+        }
+    }
+}

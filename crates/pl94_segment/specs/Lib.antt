@@ -1,0 +1,3 @@
+pub mod Join
+pub mod Records
+pub mod SegFile

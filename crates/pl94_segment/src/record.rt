@@ -1,0 +1,109 @@
+//! What is read of one line of a segment.
+ghost use Rattle.std.specs.Prelude.{◌≡◌, ◌<◌, ◌≤◌, ◌^◌, length, IfOk, IfSome};
+ghost use Rattle.field_text.specs.Fields.{fields};
+ghost use Rattle.pl94_segment.specs.Records.{field_count_of, people_of_field, record_read, line_read};
+
+use field_text::digits::number as record_number;
+use field_text::fields::{Fields, count_fields};
+use field_text::reader::LINE_LIMIT;
+
+/// A segment's number.
+#[derive(Clone, Copy, Debug, PartialEq, Eq)]
+pub enum Part {
+    One,
+    Two,
+    Three,
+}
+
+impl Part {
+    /// 1, 2 or 3.
+    pub fn number(self) -> u8 {
+        match self {
+            Part::One => 1,
+            Part::Two => 2,
+            Part::Three => 3,
+        }
+    }
+
+    /// How many fields its lines have.
+    fn field_count(self) -> usize
+        ensures { result ≡ field_count_of self }
+    {
+        match self {
+            Part::One => 149,
+            Part::Two => 152,
+            Part::Three => 15,
+        }
+    }
+}
+
+/// The fault of a line, by its code.
+#[derive(Clone, Copy, Debug, PartialEq, Eq)]
+pub enum LineFault {
+    /// S1: a wrong number of fields, or longer than 65,536 bytes.
+    Shape,
+    /// S2: LOGRECNO isn't 1 to 10 digits.
+    RecordNumber,
+    /// S3: in segment 1, P0010001 isn't 1 to 10 digits or is above 4,294,967,295.
+    People,
+    /// S4: a LOGRECNO that stood before.
+    RepeatedRecord,
+}
+
+impl LineFault {
+    /// Its code.
+    pub fn code(self) -> &'static str {
+        match self {
+            LineFault::Shape => "S1",
+            LineFault::RecordNumber => "S2",
+            LineFault::People => "S3",
+            LineFault::RepeatedRecord => "S4",
+        }
+    }
+}
+
+/// A record's number (LOGRECNO) and, in segment 1, its total population (P0010001).
+#[derive(Clone, Copy, Debug)]
+pub struct SegRecord {
+    pub number: u64,
+    pub people: u32,
+}
+
+/// The total population of a record.
+fn read_people(text: &[u8]) -> Option<u32>
+    ensures { result ≡ people_of_field text.now }
+{
+    let people = record_number(text, 10)?;
+    if people > 4_294_967_295 {
+        return None;
+    }
+    Some(people as u32)
+}
+
+/// The record of a line with the right number of fields.
+fn read_record(part: Part, line: &[u8]) -> Result<SegRecord, LineFault>
+    requires { 6 ≤ length (fields line.now) }
+    ensures { result ≡ record_read part (fields line.now) }
+{
+    let mut fields = Fields::new(line);
+    let Some(number) = record_number(fields.field_after(4), 10) else {
+        return Err(LineFault::RecordNumber);
+    };
+    if part != Part::One {
+        return Ok(SegRecord { number, people: 0 });
+    }
+    let Some(people) = read_people(fields.field_after(0)) else {
+        return Err(LineFault::People);
+    };
+    Ok(SegRecord { number, people })
+}
+
+/// What a line says.
+pub fn read_line(part: Part, line: &[u8]) -> Result<SegRecord, LineFault>
+    ensures { result ≡ line_read part line.now }
+{
+    if line.len() > LINE_LIMIT || count_fields(line) != part.field_count() {
+        return Err(LineFault::Shape);
+    }
+    read_record(part, line)
+}
