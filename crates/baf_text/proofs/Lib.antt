@@ -1,0 +1,5 @@
+mod Printing
+mod Rows
+mod Taken
+mod Values
+pub mod WholeLemmas

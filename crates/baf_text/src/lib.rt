@@ -1,0 +1,7 @@
+//! Block assignment files, in the Census Bureau's layout `BLOCKID|DISTRICT`: read against a geography, and printed.
+#![tactic(auto)]
+
+pub mod listed;
+pub mod reading;
+pub mod row;
+pub mod writing;
