@@ -1,3 +1,5 @@
+mod Again
+mod Codes
 mod Printing
 mod Rows
 mod Taken

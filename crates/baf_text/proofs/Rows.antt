@@ -20,7 +20,7 @@ use Rattle.field_text.specs.Fields.{fields}
 tells_digits : IsDigitsTest (λ ds. list_all is_ascii_digit ds ≡ true)
 tells_digits = search rules
 
-own : IsNumeralModel (λ ds. list_all is_ascii_digit ds ≡ true) (digits_value 10)
+pub own : IsNumeralModel (λ ds. list_all is_ascii_digit ds ≡ true) (digits_value 10)
 own = numerals_by_value _ tells_digits
 
 -- so many digits write a number below that power of ten
@@ -47,7 +47,7 @@ pub record IsRow (line : List ℕ) (e : ℕ × Option ℕ) : Type 0 where
   pub id : number_of_digits 15 (take 15 line) ≡ Some e.0
   pub code : code_value (drop 16 line) ≡ Some e.1
 
-two_fields : (id code : List ℕ) (e : ℕ × Option ℕ) (b : Bool) (v : Option (Option ℕ)) → are_digits 15 id ≡ b → code_value code ≡ v
+pub two_fields : (id code : List ℕ) (e : ℕ × Option ℕ) (b : Bool) (v : Option (Option ℕ)) → are_digits 15 id ≡ b → code_value code ≡ v
     → cond b (with_id (digits_value 10 id) v) None ≡ Some e → IsRow (id ++ 124 ∷ code) e
 two_fields id code e true None are value gives = cc
 two_fields id code e false None are value gives = cc

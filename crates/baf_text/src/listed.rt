@@ -1,8 +1,6 @@
 //! The blocks that a block assignment file lists.
-ghost use Rattle.std.specs.Prelude.{◌≡◌, ℕ, map, length, unwrap_or, IfOk, IfErr, IsOkAnd};
-ghost use Rattle.desk_model.specs.Geography.{ids};
+ghost use Rattle.std.specs.Prelude.{◌≡◌, map, unwrap_or, IfOk};
 
-use desk_model::geography::Geography;
 use std::alloc::{AllocError, Global};
 use std::marker::Model;
 
