@@ -1,5 +1,6 @@
 mod Again
 mod Codes
+mod Listing
 mod Printing
 mod Rows
 mod Taken
