@@ -1,0 +1,8 @@
+mod Again
+mod Codes
+mod Listing
+mod Printing
+mod Rows
+mod Taken
+mod Values
+pub mod WholeLemmas
