@@ -11,9 +11,6 @@ last_more (pick ∷ picks) (suc k) i bytes lt = last_more picks k i (cond (nat_e
 pub stop_more : (picks : List (ℕ × List ℕ)) (k : ℕ) (unsynced : List Bool) (reads now : Image) (i : ℕ) → k < length picks → now i ≡ after_stop (take k picks) unsynced reads i → after_pick (get_or picks k (0, [])) unsynced now i ≡ after_stop (take (k + 1) picks) unsynced reads i
 stop_more picks k unsynced reads now i lt was = rw add-one (cases (get_or unsynced i false) was)
   where
-    w : ℕ × List ℕ
-    w = get_or picks k (0, [])
-
     cases : (b : Bool) → now i ≡ cond b (last_pick (take k picks) i (reads i)) (reads i) → cond b (cond (nat_eq i (get_or picks k (0, [])).0) (get_or picks k (0, [])).1 (now i)) (now i) ≡ cond b (last_pick (take (suc k) picks) i (reads i)) (reads i)
     cases true was = rw (was, last_more picks k i (reads i) lt) refl
     cases false was = was
