@@ -1,0 +1,5 @@
+mod Images
+mod Commit
+mod Lists
+mod Headers
+mod Quiet
