@@ -28,7 +28,7 @@ pub record IsAfter (d : Desk) (c : Command) (new : Desk) : Type 0 where
 pub record IsPrepared (d : Desk) (c : Command) (ready : Prepared) : Type 0 where
   pub command : ready.command ≡ c
   pub accepted : IsAcceptance ready.reply
-  pub step : step d c ≡ (ready.reply, ready.after)
+  pub step : step d ready.command ≡ (ready.reply, ready.after)
 
 -- the reply to a command where it is accepted
 abbrev pub acceptance : Command → Reply

@@ -6,3 +6,5 @@ pub mod clerk;
 mod place;
 mod plans;
 mod shelf;
+#[cfg(test)]
+mod tests;
