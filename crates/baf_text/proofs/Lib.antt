@@ -1,0 +1,7 @@
+mod Again
+mod Codes
+mod Printing
+mod Rows
+mod Taken
+mod Values
+pub mod WholeLemmas

@@ -1,0 +1,91 @@
+//! The lines of a whole text, as slices of it.
+ghost use Rattle.std.specs.Prelude.{◌≡◌, ◌+◌, ◌==◌, ◌<◌, ◌++◌, ◌∷◌, ◌^◌, ℕ, List, [], All, false, length, MatchOption};
+ghost use Rattle.std.specs.Str.Lines.{lines, strip_carriage_return};
+
+use memchr::memchr;
+use std::marker::Model;
+
+/// The bytes before the first `byte`, and the bytes after it.
+pub fn cut(text: &[u8], byte: u8) -> Option<(&[u8], &[u8])>
+    ensures { MatchOption result (All (λ b. (b == byte) ≡ false) text.now)
+        (λ p. (text.now ≡ p.0.now ++ byte ∷ p.1.now) × All (λ b. (b == byte) ≡ false) p.0.now) }
+{
+    let at = memchr(byte, text)?;
+    Some((&text[..at], &text[at + 1..]))
+}
+
+/// A line without the one carriage return at its end.
+pub fn without_return(line: &[u8]) -> &[u8]
+    ensures { result.now ≡ strip_carriage_return line.now }
+{
+    let n = line.len();
+    if n > 0 && line[n - 1] == b'\r' {
+        &line[..n - 1]
+    } else {
+        line
+    }
+}
+
+/// A line without its end, and its number, counted from 1.
+#[derive(Clone, Copy)]
+pub struct Line<'t> {
+    pub number: u64,
+    pub bytes: &'t [u8],
+}
+
+/// The lines of a text that are left. A line ends with LF or CRLF; the last may lack its end.
+#[derive(Drop)]
+pub struct Lines<'t> {
+    rest: &'t [u8],
+    number: u64,
+}
+
+impl<'t> Model for Lines<'t> {
+    ghost use Rattle.std.specs.Prelude.{◌+◌, ◌<◌, ◌^◌, length};
+    ghost use Rattle.std.specs.Str.Lines.{lines};
+    ghost use Rattle.field_text.specs.Lines.{LinesLeft};
+
+    ghost Value = { LinesLeft };
+
+    ghost view = { λ a. record { number = a.number; left = lines a.rest.now } };
+
+    ghost invariant = { λ a. a.number + length a.rest.now < 2 ^ 63 };
+}
+
+impl<'t> Lines<'t> {
+    pub fn new(text: &'t [u8]) -> Lines<'t>
+        ensures number { result.number ≡ 0 }
+        ensures left { result.left ≡ lines text.now }
+    {
+        Lines {
+            rest: text,
+            number: 0,
+        }
+    }
+
+    /// The next line. `None` at the end.
+    pub fn next_line(&mut self) -> Option<Line<'t>>
+        ensures line { MatchOption result ((self.old.left ≡ []) × (self.new.left ≡ [])) (λ line. self.old.left ≡ line.bytes.now ∷ self.new.left) }
+        ensures number { MatchOption result (self.new.number ≡ self.old.number) (λ line. (line.number ≡ self.old.number + 1) × (self.new.number ≡ line.number)) }
+    {
+        if self.rest.is_empty() {
+            return None;
+        }
+        let bytes = match cut(self.rest, b'\n') {
+            Some((line, rest)) => {
+                self.rest = rest;
+                without_return(line)
+            }
+            None => {
+                let line = self.rest;
+                self.rest = &line[line.len()..];
+                line
+            }
+        };
+        self.number += 1;
+        Some(Line {
+            number: self.number,
+            bytes,
+        })
+    }
+}
