@@ -2,10 +2,10 @@
 use Rattle.std.specs.Prelude.{◌≡◌, ℕ, List, [], ◌∷◌, Some, None, codes}
 use Rattle.std.specs.FinMap as map_of
 use Rattle.desk_model.specs.declared.kind.Kind.TheVariants.{Congress}
-use Rattle.desk_model.specs.declared.command.Command.TheVariants.{Create}
-use Rattle.desk_model.specs.declared.command.Query.TheVariants.{Plans}
+use Rattle.desk_model.specs.declared.command.Command.TheVariants.{Create, Whole}
+use Rattle.desk_model.specs.declared.command.Query.TheVariants.{Plans, Blocks, Revision}
 use Rattle.desk_model.specs.declared.reply.Reply.TheVariants as reply
-use Rattle.desk_model.specs.declared.reply.Refusal.TheVariants.{PlanExists, NotSealed}
+use Rattle.desk_model.specs.declared.reply.Refusal.TheVariants.{PlanExists, Stale, NotSealed}
 use Rattle.desk_model.specs.Desk.{Plan, Desk}
 use Rattle.desk_model.specs.Step.{step, answer, plan_row}
 use Rattle.desk_model.specs.Sample.{sample, sample_desk}
@@ -33,3 +33,20 @@ pub record PlansAreCreated : Type 0 where
   pub again : step with_a (Create name_a Congress 2) ≡ (reply.Refused PlanExists, with_a)
   pub listed : answer with_a Plans ≡ reply.Plans (plan_row (name_a, plan_of []) ∷ [])
   pub no_geography : step unsealed (Create name_a Congress 2) ≡ (reply.Refused NotSealed, unsealed)
+
+abbrev pub county_text : List ℕ
+county_text = codes "BLOCKID|DISTRICT\n190010001001001|01\n190010001001002|01\n190030001001001|02\n190030001001002|02\n"
+
+abbrev pub sample_text : List ℕ
+sample_text = codes "BLOCKID|PLACE|POPULATION\n190010001001001|00100|505\n190010001001002|00100|505\n190030001001001|00100|495\n190030001001002||495\n"
+
+-- the plan a with one revision, county by county
+abbrev pub with_county : Desk
+with_county = desk_of (plan_of ((1 ∷ 1 ∷ 2 ∷ 2 ∷ []) ∷ []))
+
+-- a revision is read back, and the same post again is stale
+pub record RevisionsAreKept : Type 0 where
+  pub made : step with_a (Whole name_a 0 county_text) ≡ (reply.Created name_a 1, with_county)
+  pub back : answer with_county (Revision name_a 1) ≡ reply.Baf county_text
+  pub stale : step with_county (Whole name_a 0 county_text) ≡ (reply.Refused (Stale 1), with_county)
+  pub blocks : answer with_county Blocks ≡ reply.Blocks sample_text

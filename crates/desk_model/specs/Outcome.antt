@@ -13,6 +13,8 @@ use Rattle.desk_model.specs.Step.{step, answer}
 abbrev pub IsAcceptance : Reply → Type 0
 IsAcceptance (reply.Created name revisions) = ⊤
 IsAcceptance (reply.Plans rows) = ⊥
+IsAcceptance (reply.Blocks text) = ⊥
+IsAcceptance (reply.Baf text) = ⊥
 IsAcceptance (reply.Refused refusal) = ⊥
 
 -- the step's reply and its desk, and no want of room where it accepts
@@ -47,6 +49,8 @@ abbrev pub CommandMay : (short failed : Type 0) → Desk → Command → Reply �
 CommandMay short failed d c (reply.Refused refusal) new = RefusalMay short failed d c refusal new
 CommandMay short failed d c (reply.Created name revisions) new = ¬ failed × IsStep short d c (reply.Created name revisions) new
 CommandMay short failed d c (reply.Plans rows) new = ⊥
+CommandMay short failed d c (reply.Blocks text) new = ⊥
+CommandMay short failed d c (reply.Baf text) new = ⊥
 
 -- a query is answered by the desk, unless memory is wanting
 abbrev pub QueryMay : Desk → Query → Reply → Type 0

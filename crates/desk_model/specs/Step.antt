@@ -1,16 +1,19 @@
 -- What a desk answers, and the desk that follows.
-use Rattle.std.specs.Prelude.{ℕ, if◌then◌else◌, nat_le, List, [], map, length, Option, Some, None}
+use Rattle.std.specs.Prelude.{ℕ, ◌+◌, ◌-◌, ◌==◌, not, if◌then◌else◌, nat_le, List, [], ◌∷◌, ◌++◌, map, length, Option, Some, None, Result, Ok, Err, unwrap_or, codes, decimal}
+use Rattle.std.specs.List.{slice_get, flat_map}
 use Rattle.std.specs.FinMap as map_of
 use Rattle.desk_model.specs.declared.kind.Kind.{Kind}
 use Rattle.desk_model.specs.declared.command.Command.{Command}
-use Rattle.desk_model.specs.declared.command.Command.TheVariants.{Create}
+use Rattle.desk_model.specs.declared.command.Command.TheVariants.{Create, Whole}
 use Rattle.desk_model.specs.declared.command.Query.{Query}
-use Rattle.desk_model.specs.declared.command.Query.TheVariants.{Plans}
+use Rattle.desk_model.specs.declared.command.Query.TheVariants.{Plans, Blocks, Revision}
 use Rattle.desk_model.specs.declared.reply.PlanRow.{PlanRow}
 use Rattle.desk_model.specs.declared.reply.Reply.{Reply}
 use Rattle.desk_model.specs.declared.reply.Reply.TheVariants as reply
 use Rattle.desk_model.specs.declared.reply.Refusal.{Refusal}
-use Rattle.desk_model.specs.declared.reply.Refusal.TheVariants.{PlanExists, Limit, NotSealed}
+use Rattle.desk_model.specs.declared.reply.Refusal.TheVariants.{NoPlan, NoRevision, PlanExists, Stale, BadBody, Limit, NotSealed}
+use Rattle.desk_model.specs.declared.block.BlockRow.{BlockRow}
+use Rattle.desk_model.specs.Baf.{Values, Fault, value_at, body_read, printed, padded_decimal}
 use Rattle.desk_model.specs.Geography.{Ground}
 use Rattle.desk_model.specs.Desk.{Plan, Desk}
 
@@ -32,8 +35,37 @@ create d name kind n None =
     if nat_le plan_limit (map_of.len d.plans) then refused d Limit
     else (reply.Created name 0, record d { plans = map_of.insert d.plans name (record { kind = kind; n = n; revisions = [] }) })
 
+-- a plan has this many revisions at most
+abbrev pub revision_limit : ℕ
+revision_limit = 65535
+
+-- a plan with one more revision
+abbrev pub revised : Desk → List ℕ → Plan → List ℕ → Outcome
+revised d name p districts = (
+  reply.Created name (length p.revisions + 1),
+  record d { plans = map_of.insert d.plans name (record p { revisions = p.revisions ++ districts ∷ [] }) },
+)
+
+-- the districts of the blocks, 0 where a block is not listed
+abbrev pub whole : Ground → Values → List ℕ
+whole g listed = map (λ b. unwrap_or (value_at listed b.id) 0) g.blocks
+
+-- a present plan whose number of revisions is told, and that may have one more
+abbrev pub on_revisions : Desk → Option Plan → ℕ → (Plan → Outcome) → Outcome
+on_revisions d None after go = refused d NoPlan
+on_revisions d (Some p) after go =
+    if not (after == length p.revisions) then refused d (Stale (length p.revisions))
+    else if nat_le revision_limit (length p.revisions) then refused d Limit
+    else go p
+
+-- the body was read: a revision of its own, or its first fault
+abbrev pub whole_read : Ground → Desk → List ℕ → Plan → Result Values Fault → Outcome
+whole_read g d name p (Err f) = refused d (BadBody f.0 f.1)
+whole_read g d name p (Ok listed) = revised d name p (whole g listed)
+
 abbrev pub step_on : Ground → Desk → Command → Outcome
 step_on g d (Create name kind n) = create d name kind n (map_of.get d.plans name)
+step_on g d (Whole name after body) = on_revisions d (map_of.get d.plans name) after (λ p. whole_read g d name p (body_read g p.n body))
 
 -- with a geography or none
 abbrev pub step_at : Option Ground → Desk → Command → Outcome
@@ -48,6 +80,34 @@ step d c = step_at d.geography d c
 abbrev pub plan_row : List ℕ × Plan → PlanRow
 plan_row e = record { name = e.0; kind = e.1.kind; n = e.1.n; revisions = length e.1.revisions }
 
--- the reply to a query; the plans rise by the bytes of their names
+abbrev pub place_text : Option ℕ → List ℕ
+place_text None = []
+place_text (Some place) = padded_decimal 5 place
+
+-- a block's number, its city and its people
+abbrev pub block_text : BlockRow → List ℕ
+block_text b = padded_decimal 15 b.id ++ 124 ∷ place_text b.city ++ 124 ∷ decimal b.population ++ 10 ∷ []
+
+abbrev pub blocks_text : Ground → List ℕ
+blocks_text g = codes "BLOCKID|PLACE|POPULATION\n" ++ flat_map block_text g.blocks
+
+abbrev pub baf_of : Ground → Plan → Option (List ℕ) → Reply
+baf_of g p None = reply.Refused NoRevision
+baf_of g p (Some districts) = reply.Baf (printed g p.kind districts)
+
+-- revision k of a plan, from 1
+abbrev pub revision_of : Ground → Option Plan → ℕ → Reply
+revision_of g None k = reply.Refused NoPlan
+revision_of g (Some p) k = baf_of g p (if k == 0 then None else slice_get p.revisions (k - 1))
+
+-- with a geography or none; the plans rise by the bytes of their names
+abbrev pub answer_at : Option Ground → Desk → Query → Reply
+answer_at g d Plans = reply.Plans (map plan_row (map_of.entries d.plans))
+answer_at None d Blocks = reply.Refused NotSealed
+answer_at (Some g) d Blocks = reply.Blocks (blocks_text g)
+answer_at None d (Revision name k) = reply.Refused NotSealed
+answer_at (Some g) d (Revision name k) = revision_of g (map_of.get d.plans name) k
+
+-- the reply to a query
 abbrev pub answer : Desk → Query → Reply
-answer d Plans = reply.Plans (map plan_row (map_of.entries d.plans))
+answer d q = answer_at d.geography d q

@@ -1,12 +1,24 @@
 //! What a desk is asked to do, and what it is asked.
 use crate::kind::Kind;
 use crate::name::PlanName;
+use crate::text::Text;
 
 /// A command changes the desk, or is refused and changes nothing.
 #[derive(Drop)]
 pub enum Command {
     /// Makes a plan of so many districts, with no revision.
-    Create { plan: PlanName, kind: Kind, n: u16 },
+    Create {
+        plan: PlanName,
+        kind: Kind,
+        n: u16,
+    },
+    /// Adds a revision that a block assignment file says whole, after the revision of that number: blocks that it does
+    /// not list are unassigned.
+    Whole {
+        plan: PlanName,
+        after: u32,
+        body: Text,
+    },
 }
 
 /// A query changes nothing.
@@ -14,4 +26,8 @@ pub enum Command {
 pub enum Query {
     /// The list of plans.
     Plans,
+    /// The blocks of the geography.
+    Blocks,
+    /// A revision of a plan, counted from 1.
+    Revision { plan: PlanName, k: u32 },
 }

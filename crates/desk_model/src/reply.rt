@@ -3,6 +3,7 @@ ghost use Rattle.std.specs.Prelude.{◌≡◌};
 
 use crate::kind::Kind;
 use crate::name::PlanName;
+use crate::text::Text;
 use std::marker::Model;
 
 /// A line of the list of plans.
@@ -49,6 +50,10 @@ pub enum Reply {
     /// The plan stands with so many revisions.
     Created { plan: PlanName, revisions: u32 },
     Plans(PlanRows),
+    /// A line for each block: its number, its city and its people.
+    Blocks(Text),
+    /// A revision as a block assignment file.
+    Baf(Text),
     Refused(Refusal),
 }
 
