@@ -6,7 +6,7 @@ use Rattle.desk_model.specs.declared.reply.Refusal.{Refusal}
 use Rattle.desk_model.specs.declared.reply.Refusal.TheVariants.{NoPlan, NoRevision, PlanExists, Stale, BadBody, NotWholeCounty, BadCompanion, Limit, Full, Memory, Halted, NotSealed}
 use Rattle.http_wire.specs.declared.fault.Fault.{Fault}
 use Rattle.http_wire.specs.declared.fault.Fault.TheVariants as fault
-use Rattle.http_wire.specs.declared.response.ContentType.TheVariants.{Json}
+use Rattle.http_wire.specs.declared.response.ContentType.TheVariants.{Json, PlainText}
 use Rattle.http_wire.specs.Answer.{answer_text}
 use Rattle.http_desk.specs.declared.order.Error.{Error}
 use Rattle.http_desk.specs.declared.order.Error.TheVariants as error
@@ -53,23 +53,29 @@ refusal_closes NotSealed = false
 abbrev pub answer_of : Reply → List ℕ
 answer_of (reply.Created name revisions) = json_text 201 false (created_body name revisions)
 answer_of (reply.Plans rows) = json_text 200 false (plans_body rows)
+answer_of (reply.Blocks text) = answer_text 200 PlainText None false text
+answer_of (reply.Baf text) = answer_text 200 PlainText None false text
 answer_of (reply.Refused refusal) = json_text (refusal_status refusal) (refusal_closes refusal) (refusal_body refusal)
 
 abbrev pub closes_after : Reply → Bool
 closes_after (reply.Created name revisions) = false
 closes_after (reply.Plans rows) = false
+closes_after (reply.Blocks text) = false
+closes_after (reply.Baf text) = false
 closes_after (reply.Refused refusal) = refusal_closes refusal
 
 abbrev pub error_name : Error → List ℕ
 error_name error.UnknownMethod = codes "UnknownMethod"
 error_name error.NoRoute = codes "NoRoute"
 error_name error.BadName = codes "BadName"
+error_name error.BadNumber = codes "BadNumber"
 error_name error.BadQuery = codes "BadQuery"
 
 abbrev pub error_status : Error → ℕ
 error_status error.UnknownMethod = 501
 error_status error.NoRoute = 404
 error_status error.BadName = 400
+error_status error.BadNumber = 400
 error_status error.BadQuery = 400
 
 -- the answer to a whole request that asks for nothing; the connection stays
@@ -102,6 +108,8 @@ fault_text f = json_text (fault_status f) true (error_body (fault_name f))
 abbrev pub MayStarve : Reply → Type 0
 MayStarve (reply.Created name revisions) = ⊥
 MayStarve (reply.Plans rows) = ⊤
+MayStarve (reply.Blocks text) = ⊤
+MayStarve (reply.Baf text) = ⊤
 MayStarve (reply.Refused Halted) = ⊥
 MayStarve (reply.Refused NoPlan) = ⊤
 MayStarve (reply.Refused NoRevision) = ⊤

@@ -5,15 +5,17 @@ use Rattle.std.specs.Str.{bytes_eq}
 use Rattle.percent_encoding.specs.Percent.{percent_decode}
 use Rattle.desk_model.specs.Name.{plan_name_of}
 use Rattle.desk_model.specs.declared.kind.Kind.{Kind}
-use Rattle.desk_model.specs.declared.command.Command.TheVariants.{Create}
-use Rattle.desk_model.specs.declared.command.Query.TheVariants.{Plans}
+use Rattle.desk_model.specs.declared.command.Query.{Query}
+use Rattle.desk_model.specs.declared.command.Command.TheVariants.{Create, Whole}
+use Rattle.desk_model.specs.declared.command.Query.TheVariants.{Plans, Blocks, Revision}
 use Rattle.http_desk.specs.declared.route.Page.{Page}
 use Rattle.http_desk.specs.declared.route.Page.TheVariants as page
 use Rattle.http_desk.specs.declared.order.Order.{Order}
 use Rattle.http_desk.specs.declared.order.Order.TheVariants as order
-use Rattle.http_desk.specs.declared.order.Error.TheVariants.{UnknownMethod, NoRoute, BadName, BadQuery}
-use Rattle.http_desk.specs.Routes.{page_of, plan_part}
-use Rattle.http_desk.specs.Queries.{create_query, is_no_query}
+use Rattle.http_desk.specs.declared.order.Error.TheVariants.{UnknownMethod, NoRoute, BadName, BadNumber, BadQuery}
+use Rattle.http_desk.specs.Routes.{page_of, plan_part, revision_part}
+use Rattle.field_text.specs.Digits.{number_of}
+use Rattle.http_desk.specs.Queries.{create_query, after_query, is_no_query}
 
 -- the method is the word; case matters (RFC 9110, section 9.1)
 abbrev pub is_method : List ℕ → List ℕ → Bool
@@ -38,17 +40,34 @@ create_order (Some name) (Some size) = order.Command (Create name size.0 size.1)
 abbrev pub name_in : List ℕ → Option (List ℕ)
 name_in path = plan_name_of (percent_decode (plan_part path))
 
-abbrev pub order_at : Option Page → List ℕ → List ℕ → List ℕ → Order
-order_at None method path query = order.Refused NoRoute
-order_at (Some page.Plans) method path query =
-    if is_method (codes "GET") method then (if is_no_query query then order.Query Plans else order.Refused BadQuery)
-    else order.Refused NoRoute
-order_at (Some page.Plan) method path query =
-    if is_method (codes "PUT") method then create_order (name_in path) (create_query query)
-    else order.Refused NoRoute
+-- the number that the path's part {k} spells, percent-decoded, of 1 to 5 digits
+abbrev pub number_in : List ℕ → Option ℕ
+number_in path = number_of 5 (percent_decode (revision_part path))
+
+abbrev pub whole_order : Option (List ℕ) → Option ℕ → List ℕ → Order
+whole_order None after body = order.Refused BadName
+whole_order (Some name) None body = order.Refused BadQuery
+whole_order (Some name) (Some after) body = order.Command (Whole name after body)
+
+-- a query takes no name and no value
+abbrev pub plain_query : Query → List ℕ → Order
+plain_query asked query = if is_no_query query then order.Query asked else order.Refused BadQuery
+
+abbrev pub revision_order : Option (List ℕ) → Option ℕ → List ℕ → Order
+revision_order None k query = order.Refused BadName
+revision_order (Some name) None query = order.Refused BadNumber
+revision_order (Some name) (Some k) query = plain_query (Revision name k) query
+
+abbrev pub order_at : Option Page → (method path query body : List ℕ) → Order
+order_at None method path query body = order.Refused NoRoute
+order_at (Some page.Blocks) method path query body = if is_method (codes "GET") method then plain_query Blocks query else order.Refused NoRoute
+order_at (Some page.Plans) method path query body = if is_method (codes "GET") method then plain_query Plans query else order.Refused NoRoute
+order_at (Some page.Plan) method path query body = if is_method (codes "PUT") method then create_order (name_in path) (create_query query) else order.Refused NoRoute
+order_at (Some page.Revisions) method path query body = if is_method (codes "POST") method then whole_order (name_in path) (after_query query) body else order.Refused NoRoute
+order_at (Some page.Revision) method path query body = if is_method (codes "GET") method then revision_order (name_in path) (number_in path) query else order.Refused NoRoute
 
 -- what the request asks for
-abbrev pub order_of : List ℕ → List ℕ → List ℕ → Order
+abbrev pub order_of : (method target body : List ℕ) → Order
 order_of method target body =
-    if is_known method then order_at (page_of (path_of target)) method (path_of target) (query_of target)
+    if is_known method then order_at (page_of (path_of target)) method (path_of target) (query_of target) body
     else order.Refused UnknownMethod

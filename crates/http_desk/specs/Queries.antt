@@ -57,6 +57,15 @@ create_size (p ∷ q ∷ r ∷ more) = None
 abbrev pub create_query : List ℕ → Option (Kind × ℕ)
 create_query query = create_size (pairs_of query)
 
+-- the number of the revision that a body comes after, of 1 to 5 digits
+abbrev pub after_number : List (List ℕ × List ℕ) → Option ℕ
+after_number [] = None
+after_number (p ∷ []) = if bytes_eq p.0 (codes "after") then number_of 5 p.1 else None
+after_number (p ∷ q ∷ more) = None
+
+abbrev pub after_query : List ℕ → Option ℕ
+after_query query = after_number (pairs_of query)
+
 -- there is no pair
 abbrev pub has_none : List (List ℕ × List ℕ) → Bool
 has_none [] = true

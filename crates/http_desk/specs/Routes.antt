@@ -8,7 +8,7 @@ use Rattle.matchit.specs.Router.{RouteOf, route_from}
 use Rattle.matchit.specs.Seek.{first}
 use Rattle.matchit.specs.declared.InsertError.{InsertError}
 use Rattle.http_desk.specs.declared.route.Page.{Page}
-use Rattle.http_desk.specs.declared.route.Page.TheVariants.{Plans, Plan}
+use Rattle.http_desk.specs.declared.route.Page.TheVariants.{Blocks, Plans, Plan, Revisions, Revision}
 
 -- the rows with one more route
 abbrev pub with_read : Result Scan InsertError → Page → RowsOf (RouteOf Page) → RowsOf (RouteOf Page)
@@ -21,8 +21,11 @@ with_route text page rows = with_read (parse_route text) page rows
 -- the table of paths; a name in braces stands for one part of at least one byte
 abbrev pub the_routes : RowsOf (RouteOf Page)
 the_routes =
-    with_route (codes "/plans/{p}") Plan
-    (with_route (codes "/plans") Plans [])
+    with_route (codes "/plans/{p}/revisions/{k}") Revision
+    (with_route (codes "/plans/{p}/revisions") Revisions
+    (with_route (codes "/plans/{p}") Plan
+    (with_route (codes "/plans") Plans
+    (with_route (codes "/blocks") Blocks []))))
 
 -- which of them the path is
 abbrev pub page_of : List ℕ → Option Page
@@ -38,3 +41,7 @@ up_to_slash path = before_first (λ b. b == 47) path
 -- the part {p} of a path: what stands between the second slash and the third, or behind the second
 abbrev pub plan_part : List ℕ → List ℕ
 plan_part path = up_to_slash (behind_slash (behind_slash path))
+
+-- the part {k} of a path: what stands between the fourth slash and the fifth, or behind the fourth
+abbrev pub revision_part : List ℕ → List ℕ
+revision_part path = up_to_slash (behind_slash (behind_slash (behind_slash (behind_slash path))))

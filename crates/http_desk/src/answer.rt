@@ -61,6 +61,7 @@ fn error_name(error: Error) -> &'static [u8]
         Error::UnknownMethod => b"UnknownMethod",
         Error::NoRoute => b"NoRoute",
         Error::BadName => b"BadName",
+        Error::BadNumber => b"BadNumber",
         Error::BadQuery => b"BadQuery",
     }
 }
@@ -71,7 +72,7 @@ fn error_status(error: Error) -> StatusCode
     match error {
         Error::UnknownMethod => StatusCode::NOT_IMPLEMENTED,
         Error::NoRoute => StatusCode::NOT_FOUND,
-        Error::BadName | Error::BadQuery => StatusCode::BAD_REQUEST,
+        Error::BadName | Error::BadNumber | Error::BadQuery => StatusCode::BAD_REQUEST,
     }
 }
 
@@ -204,6 +205,10 @@ impl Answer {
             Reply::Plans(rows) => {
                 let text = plans_text(alloc, rows.as_slice())?;
                 self.put_long(ContentType::Json, text.into_bytes());
+                Ok(false)
+            }
+            Reply::Blocks(text) | Reply::Baf(text) => {
+                self.put_long(ContentType::PlainText, text.into_vec());
                 Ok(false)
             }
             Reply::Refused(refusal) => {

@@ -1,14 +1,15 @@
 //! Requests to commands and queries.
-ghost use Rattle.std.specs.Prelude.{◌≡◌, IfOk};
+ghost use Rattle.std.specs.Prelude.{◌≡◌, Some, IfOk, codes, if◌then◌else◌};
 ghost use Rattle.std.specs.Str.{IsAscii};
 ghost use Rattle.http_desk.specs.Routes.{the_routes};
-ghost use Rattle.http_desk.specs.Orders.{is_known as is_known_method, order_of as order_of_request, order_at, name_in as name_in_path, create_order as create_order_of};
-ghost use Rattle.http_desk.specs.Queries.{create_query as create_query_of};
+ghost use Rattle.http_desk.specs.Orders.{is_method, is_known as is_known_method, order_of as order_of_request, order_at, name_in as name_in_path, create_order as create_order_of, whole_order as whole_order_of, plain_query as plain_query_of, revision_order as revision_order_of, number_in as number_in_path};
+ghost use Rattle.http_desk.specs.Queries.{create_query as create_query_of, after_query as after_query_of};
 
-use crate::query::{create_query, is_no_query};
-use crate::route::{Page, around, page_of, plan_part};
+use crate::query::{after_query, create_query, is_no_query, short_number};
+use crate::route::{Page, around, page_of, plan_part, revision_part};
 use desk_model::command::{Command, Query};
 use desk_model::name::PlanName;
+use desk_model::text::Text;
 use matchit::Router;
 use percent_encoding::percent_decode;
 use std::alloc::{AllocError, Global};
@@ -23,6 +24,8 @@ pub enum Error {
     NoRoute,
     /// The path's name is no plan name. 400
     BadName,
+    /// The path's number is not 1 to 5 digits. 400
+    BadNumber,
     /// A name of the query is unknown, repeated or missing, or a value is bad. 400
     BadQuery,
 }
@@ -66,32 +69,93 @@ fn create_order(alloc: Global, path: &[u8], query: &[u8]) -> Result<Order, Alloc
     Ok(Order::Command(Command::Create { plan, kind, n }))
 }
 
-/// What a known method asks for at a page.
+/// The number of a revision in a path.
+fn number_in(alloc: Global, path: &[u8]) -> Result<Option<u32>, AllocError>
+    ensures { IfOk result (λ k. k ≡ number_in_path path.now) }
+{
+    let decoded = percent_decode(revision_part(path)).into_cow(alloc)?;
+    Ok(short_number(decoded.as_slice()))
+}
+
+/// A body at `/plans/{p}/revisions`.
+fn whole_order(alloc: Global, path: &[u8], query: &[u8], body: Vec<u8>) -> Result<Order, AllocError>
+    ensures { IfOk result (λ order. order ≡ whole_order_of (name_in_path path.now) (after_query_of query.now) body.items) }
+{
+    let Some(plan) = name_in(alloc, path)? else {
+        return Ok(Order::Refused(Error::BadName));
+    };
+    let Some(after) = after_query(alloc, query)? else {
+        return Ok(Order::Refused(Error::BadQuery));
+    };
+    let body = Text::from_vec(body);
+    Ok(Order::Command(Command::Whole { plan, after, body }))
+}
+
+/// A query that takes no name and no value.
+fn plain_query(asked: Query, query: &[u8]) -> Order
+    ensures { result ≡ plain_query_of asked query.now }
+{
+    if is_no_query(query) {
+        Order::Query(asked)
+    } else {
+        Order::Refused(Error::BadQuery)
+    }
+}
+
+/// A look at `/plans/{p}/revisions/{k}`.
+fn revision_order(alloc: Global, path: &[u8], query: &[u8]) -> Result<Order, AllocError>
+    ensures { IfOk result (λ order. order ≡ revision_order_of (name_in_path path.now) (number_in_path path.now) query.now) }
+{
+    let Some(plan) = name_in(alloc, path)? else {
+        return Ok(Order::Refused(Error::BadName));
+    };
+    let Some(k) = number_in(alloc, path)? else {
+        return Ok(Order::Refused(Error::BadNumber));
+    };
+    Ok(plain_query(Query::Revision { plan, k }, query))
+}
+
+/// A query at a page that takes nothing else.
+fn get_only(method: &[u8], asked: Query, query: &[u8]) -> Order
+    ensures { result ≡ (if is_method (codes "GET") method.now then plain_query_of asked query.now else Order.Refused Error.NoRoute) }
+{
+    if method != b"GET".as_slice() {
+        return Order::Refused(Error::NoRoute);
+    }
+    plain_query(asked, query)
+}
+
+/// What a request with a known method asks for at a page.
 fn order_at_page(
     alloc: Global,
-    page: Option<Page>,
+    page: Page,
     method: &[u8],
     path: &[u8],
     query: &[u8],
+    body: Vec<u8>,
 ) -> Result<Order, AllocError>
-    ensures { IfOk result (λ order. order ≡ order_at page method.now path.now query.now) }
+    ensures { IfOk result (λ order. order ≡ order_at (Some page) method.now path.now query.now body.items) }
 {
     match page {
-        None => Ok(Order::Refused(Error::NoRoute)),
-        Some(Page::Plans) => {
-            if method != b"GET".as_slice() {
-                return Ok(Order::Refused(Error::NoRoute));
-            }
-            if !is_no_query(query) {
-                return Ok(Order::Refused(Error::BadQuery));
-            }
-            Ok(Order::Query(Query::Plans))
-        }
-        Some(Page::Plan) => {
+        Page::Blocks => Ok(get_only(method, Query::Blocks, query)),
+        Page::Plans => Ok(get_only(method, Query::Plans, query)),
+        Page::Plan => {
             if method != b"PUT".as_slice() {
                 return Ok(Order::Refused(Error::NoRoute));
             }
             create_order(alloc, path, query)
+        }
+        Page::Revisions => {
+            if method != b"POST".as_slice() {
+                return Ok(Order::Refused(Error::NoRoute));
+            }
+            whole_order(alloc, path, query, body)
+        }
+        Page::Revision => {
+            if method != b"GET".as_slice() {
+                return Ok(Order::Refused(Error::NoRoute));
+            }
+            revision_order(alloc, path, query)
         }
     }
 }
@@ -102,11 +166,11 @@ pub fn order_of(
     router: &Router<Page>,
     method: &[u8],
     target: &[u8],
-    _body: Vec<u8>,
+    body: Vec<u8>,
 ) -> Result<Order, AllocError>
     requires routes { router.now ≡ the_routes }
     requires ascii { IsAscii target.now }
-    ensures { IfOk result (λ order. order ≡ order_of_request method.now target.now _body.items) }
+    ensures { IfOk result (λ order. order ≡ order_of_request method.now target.now body.items) }
 {
     if !is_known(method) {
         return Ok(Order::Refused(Error::UnknownMethod));
@@ -116,5 +180,8 @@ pub fn order_of(
         Ok(text) => page_of(router, text),
         Err(_) => unreachable!(),
     };
-    order_at_page(alloc, page, method, path, query)
+    match page {
+        Some(page) => order_at_page(alloc, page, method, path, query, body),
+        None => Ok(Order::Refused(Error::NoRoute)),
+    }
 }

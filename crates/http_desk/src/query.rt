@@ -3,8 +3,9 @@ ghost use Rattle.std.specs.Prelude.{◌≡◌, ℕ, List, [], ◌∷◌, length,
 ghost use Rattle.std.specs.Str.{bytes_eq};
 ghost use Rattle.std.specs.Cow.{cow_str_bytes};
 ghost use Rattle.form_urlencoded.specs.Form.{raw_pairs as raw_pairs_of, pair_text};
-ghost use Rattle.http_desk.specs.Queries.{text_of, kind_of as kind_of_text, district_limit as limit_of, size_of as size_of_texts, create_query as create_query_of, is_no_query as has_no_pair};
-ghost use Rattle.http_desk.specs.Pairs.{HasTwo};
+ghost use Rattle.http_desk.specs.Queries.{text_of, kind_of as kind_of_text, district_limit as limit_of, size_of as size_of_texts, create_query as create_query_of, after_query as after_query_of, is_no_query as has_no_pair};
+ghost use Rattle.http_desk.specs.Pairs.{HasOne, HasTwo};
+ghost use Rattle.field_text.specs.Digits.{number_of};
 
 use desk_model::kind::Kind;
 use field_text::digits::number;
@@ -95,6 +96,41 @@ pub fn create_query(alloc: Global, query: &[u8]) -> Result<Option<(Kind, u16)>, 
         return Ok(size_of(second_value.as_bytes(), first_value.as_bytes()));
     }
     Ok(None)
+}
+
+/// The one pair of a query, still encoded, where it has just one.
+fn one_pair(query: &[u8]) -> Option<(&[u8], &[u8])>
+    ensures { HasOne (raw_pairs_of query.now) result }
+{
+    let mut pairs = raw_pairs(query);
+    let first = pairs.next()?;
+    match pairs.next() {
+        None => Some(first),
+        Some(_) => None,
+    }
+}
+
+/// What the query of a revision tells: `after`, once, of 1 to 5 digits. `None` where it tells anything else.
+pub fn after_query(alloc: Global, query: &[u8]) -> Result<Option<u32>, AllocError>
+    ensures { IfOk result (λ after. after ≡ after_query_of query.now) }
+{
+    let Some(pair) = one_pair(query) else {
+        return Ok(None);
+    };
+    let name = text(alloc, pair.0)?;
+    let value = text(alloc, pair.1)?;
+    if is_text(&name, b"after") {
+        return Ok(short_number(value.as_bytes()));
+    }
+    Ok(None)
+}
+
+/// The number that 1 to 5 digits write.
+pub fn short_number(digits: &[u8]) -> Option<u32>
+    ensures { result ≡ number_of 5 digits.now }
+{
+    let found = number(digits, 5)?;
+    Some(found as u32)
 }
 
 /// Whether a query has no name and no value.

@@ -1,7 +1,7 @@
 //! The table of paths.
 ghost use Rattle.std.specs.Prelude.{◌≡◌, ◌==◌, ◌≤◌, IfOk, OnOk, length};
 ghost use Rattle.std.specs.List.{before_first, after_first, position_or_len};
-ghost use Rattle.http_desk.specs.Routes.{the_routes, with_route, page_of as page_of_path, plan_part as plan_part_of};
+ghost use Rattle.http_desk.specs.Routes.{the_routes, with_route, page_of as page_of_path, plan_part as plan_part_of, revision_part as revision_part_of};
 
 use matchit::{InsertError, Router};
 use std::alloc::Global;
@@ -9,10 +9,16 @@ use std::alloc::Global;
 /// What stands at a path.
 #[derive(Clone, Copy, Debug, PartialEq, Eq)]
 pub enum Page {
+    /// `/blocks`
+    Blocks,
     /// `/plans`
     Plans,
     /// `/plans/{p}`
     Plan,
+    /// `/plans/{p}/revisions`
+    Revisions,
+    /// `/plans/{p}/revisions/{k}`
+    Revision,
 }
 
 /// Adds a route.
@@ -27,8 +33,11 @@ pub fn router(alloc: Global) -> Result<Router<Page>, InsertError>
     ensures { IfOk result (λ r. r ≡ the_routes) }
 {
     let mut router = Router::new(alloc);
+    add(&mut router, "/blocks", Page::Blocks)?;
     add(&mut router, "/plans", Page::Plans)?;
     add(&mut router, "/plans/{p}", Page::Plan)?;
+    add(&mut router, "/plans/{p}/revisions", Page::Revisions)?;
+    add(&mut router, "/plans/{p}/revisions/{k}", Page::Revision)?;
     Ok(router)
 }
 
@@ -75,4 +84,15 @@ pub fn plan_part(path: &[u8]) -> &[u8]
     let (_, behind_first) = around(path, b'/');
     let (_, behind_second) = around(behind_first, b'/');
     around(behind_second, b'/').0
+}
+
+/// The part `{k}` of a path.
+pub fn revision_part(path: &[u8]) -> &[u8]
+    ensures { result.now ≡ revision_part_of path.now }
+{
+    let (_, behind_first) = around(path, b'/');
+    let (_, behind_second) = around(behind_first, b'/');
+    let (_, behind_third) = around(behind_second, b'/');
+    let (_, behind_fourth) = around(behind_third, b'/');
+    around(behind_fourth, b'/').0
 }
