@@ -5,8 +5,8 @@ use Rattle.http_wire.specs.declared.fault.Fault.{Fault}
 use Rattle.http_wire.specs.declared.fault.Fault.TheVariants.{BadHost, BadLength}
 use Rattle.http_wire.specs.Front.{HasRequest, HasFault, IsIncomplete, HasTooManyLines, IsNoHead}
 
--- A front is one request, or has one fault, or is incomplete. Where more than 64 header lines have come and no head can
--- stand whatever follows, either fault may be told.
+-- A front is one request, or has one fault, or is incomplete; reading tells which. Where more than 64 header lines have
+-- come and no head can stand whatever follows, either of these faults may be told.
 pub record FrontLaw : Type 0 where
   pub one_request : (input : List ℕ) (h k : RequestHead) (b c r q : List ℕ) → HasRequest input h b r → HasRequest input k c q → (h ≡ k) × (b ≡ c) × (r ≡ q)
   pub one_fault : (input : List ℕ) (f g : Fault) → HasFault input f → HasFault input g → (f ≡ g) ⊎ (HasTooManyLines input × IsNoHead input)
