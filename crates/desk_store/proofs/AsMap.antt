@@ -1,7 +1,6 @@
 -- Rows as a map.
-use Rattle.std.proofs.Common.{◌≡◌, ℕ, ◌+◌, ◌-◌, ◌<◌, Bool, true, false, List, [], ◌++◌, length, map, get_or, take, drop, ◌≤◌, IsTrue, Some, None, min, arith, refl, ap, sym, ◌∙◌}
+use Rattle.std.proofs.Common.{◌≡◌, ℕ, ◌+◌, ◌-◌, ◌<◌, Bool, true, false, List, [], ◌∷◌, ◌++◌, length, map, get_or, take, drop, ◌≤◌, IsTrue, Some, None, IsSome, min, arith, refl, ap, sym, ◌∙◌}
 use Rattle.std.proofs.Math.Dec.{T}
-use Rattle.std.specs.List.{insert}
 use Rattle.std.specs.FinMap as map_of
 use Rattle.std.specs.FinMap.{put, find, is_sorted, from_sorted, entries, get, len, entries_sorted, entries-from_sorted, entries-insert, get-from_sorted, len-entries, same_entries_map, empty_of_len}
 use Rattle.std.specs.Cmp.Lexicographic.{nat_list_cmp_total}
@@ -15,8 +14,8 @@ use Rattle.desk_store.specs.declared.shelf.Shelf.{Shelf}
 use Rattle.desk_store.specs.Shelves.{AreRows, rows, shelf_lists}
 use Rattle.std.specs.Ordering.{is_eq}
 use Rattle.std.proofs.Math.Nat.{min_comm}
-use Rattle.std.proofs.lemmas.List.{take-map, drop-map, drop_min, take_rest, take_all}
-use Rattle.desk_store.proofs.Spots.{put_at, one_more, found_at, missing_there, missing_past}
+use Rattle.std.proofs.lemmas.List.{take-map, drop-map, drop_min, take_rest, take_all, get_or_default}
+use Rattle.desk_store.proofs.Spots.{put_at, put_over, one_more, as_many, found_at, missing_there, missing_past, inside_where_found, equal_where_found}
 
 abbrev pub as_map : List Row → map_of.FinMap name_cmp Plan
 as_map = from_sorted
@@ -41,24 +40,20 @@ get_of rows name rising = get-from_sorted name_cmp rows name (holds _ rising)
 pub empty_of : as_map [] ≡ map_of.empty
 empty_of = empty_of_len (as_map []) (len_of [] refl)
 
--- the rows with one more
-abbrev pub with_row : List (List Row) → ℕ → ℕ → List ℕ → Plan → List Row
-with_row ps i j name v = rows_of (take i ps) ++ insert (shelf_at ps i) j (name, v) ++ rows_of (drop (i + 1) ps)
+-- the rows with another at a place on a shelf, and the shelf's rows from the next place on
+abbrev pub with_row : List (List Row) → ℕ → ℕ → ℕ → List ℕ → Plan → List Row
+with_row ps i j next name v = rows_of (take i ps) ++ (take j (shelf_at ps i) ++ (name, v) ∷ drop next (shelf_at ps i)) ++ rows_of (drop (i + 1) ps)
 
-module _ (ps : List (List Row)) (i j : ℕ) (name : List ℕ) (v : Plan) (spot : IsSpot name ps i j) (rising : IsTrue (is_sorted name_cmp (rows_of ps)))
-    (missing : get (as_map (rows_of ps)) name ≡ None) where
-  entries_after : entries (map_of.insert (as_map (rows_of ps)) name v) ≡ with_row ps i j name v
-  entries_after = entries-insert nat_list_cmp_total (as_map (rows_of ps)) name v ∙ ap (put name_cmp name v) (entries_of (rows_of ps) rising)
-      ∙ put_at name ps i j spot v rising (sym (get_of (rows_of ps) name rising) ∙ missing)
+module _ (ps : List (List Row)) (i j next : ℕ) (name : List ℕ) (v : Plan) (rising : IsTrue (is_sorted name_cmp (rows_of ps)))
+    (put_is : put name_cmp name v (rows_of ps) ≡ with_row ps i j next name v) where
+  entries_after : entries (map_of.insert (as_map (rows_of ps)) name v) ≡ with_row ps i j next name v
+  entries_after = entries-insert nat_list_cmp_total (as_map (rows_of ps)) name v ∙ ap (put name_cmp name v) (entries_of (rows_of ps) rising) ∙ put_is
 
-  pub rising_after : IsTrue (is_sorted name_cmp (with_row ps i j name v))
+  pub rising_after : IsTrue (is_sorted name_cmp (with_row ps i j next name v))
   rising_after = rw entries_after at (is_true _ (entries_sorted (map_of.insert (as_map (rows_of ps)) name v)))
 
-  pub map_after : as_map (with_row ps i j name v) ≡ map_of.insert (as_map (rows_of ps)) name v
-  map_after = same_entries_map _ _ (entries_of (with_row ps i j name v) rising_after ∙ sym entries_after)
-
-  pub rows_after : (count : ℕ) → AreRows (rows_of ps) count → AreRows (with_row ps i j name v) (count + 1)
-  rows_after count was = record { rising = rising_after; count = omega (arith, was.count, one_more ps i j (name, v)) }
+  pub map_after : as_map (with_row ps i j next name v) ≡ map_of.insert (as_map (rows_of ps)) name v
+  map_after = same_entries_map _ _ (entries_of (with_row ps i j next name v) rising_after ∙ sym entries_after)
 
 -- the lines of all rows
 pub lines_are : (shelves : List (Arc Shelf Global)) (self : map_of.FinMap name_cmp Plan) (lines : List PlanRow) (i : ℕ) → IsTrue (is_sorted name_cmp (rows shelves))
@@ -92,23 +87,67 @@ module _ (shelves given : List (Arc Shelf Global)) (self : map_of.FinMap name_cm
       → es ≡ shelf_at (shelf_lists given) i → length es ≤ j → get self name ≡ None
   get_past same rising view spot there past = get_is same rising view ∙ missing_past name (shelf_lists given) i j spot (rw same rising) (rw (← there) past)
 
--- a row more
+-- a name on the shelves
+module _ (shelves given : List (Arc Shelf Global)) (self : map_of.FinMap name_cmp Plan) (name : List ℕ) (i j : ℕ) (old : List Row)
+    (same : given ≡ shelves) (view : as_map (rows shelves) ≡ self) (spot : IsSpot name (shelf_lists given) i j) (there : old ≡ shelf_at (shelf_lists given) i) where
+  get_given : IsTrue (is_sorted name_cmp (rows given)) → get self name ≡ find name_cmp name (rows given)
+  get_given rising = ap (λ m. get m name) (sym (ap (λ ss. as_map (rows ss)) same ∙ view)) ∙ get_of (rows given) name rising
+
+  found_given : IsTrue (is_sorted name_cmp (rows given)) → IsSome (get self name) → IsSome (find name_cmp name (rows given))
+  found_given rising some = rw (get_given rising) at some
+
+  pub inside : IsTrue (is_sorted name_cmp (rows shelves)) → IsSome (get self name) → j < length old
+  inside sorted some =
+      let rising : IsTrue (is_sorted name_cmp (rows given)) = rw same sorted in
+      rw there (inside_where_found name (shelf_lists given) i j spot rising (found_given rising some))
+
+  put_missing : (v : Plan) → IsTrue (is_sorted name_cmp (rows given)) → get self name ≡ None → put name_cmp name v (rows given) ≡ with_row (shelf_lists given) i j j name v
+  put_missing v rising missing = put_at name (shelf_lists given) i j spot v rising (sym (get_given rising) ∙ missing)
+
+  put_found : (v : Plan) → IsTrue (is_sorted name_cmp (rows given)) → IsSome (get self name) → put name_cmp name v (rows given) ≡ with_row (shelf_lists given) i j (j + 1) name v
+  put_found v rising some =
+      let found : IsSome (find name_cmp name (rows given)) = found_given rising some in
+      let within : j < length (shelf_at (shelf_lists given) i) = inside_where_found name (shelf_lists given) i j spot rising found in
+      let e : Row = get_or (shelf_at (shelf_lists given) i) j (name, v) in
+      let is : e ≡ get_or (shelf_at (shelf_lists given) i) j e = get_or_default (shelf_at (shelf_lists given) i) j (name, v) e within in
+      put_over name (shelf_lists given) i j spot v e rising within is (equal_where_found name (shelf_lists given) i j spot e rising found within is)
+
+-- a row more, or in the place of another
 module _ (shelves given after : List (Arc Shelf Global)) (self : map_of.FinMap name_cmp Plan) (name : List ℕ) (v : Plan) (i j : ℕ) (old new : List Row)
-    (same : given ≡ shelves) (view : as_map (rows shelves) ≡ self) (spot : IsSpot name (shelf_lists given) i j)
-    (there : old ≡ shelf_at (shelf_lists given) i) (edited : new ≡ insert old j (name, v))
-    (put_in : rows after ≡ rows_of (take i (shelf_lists given)) ++ new ++ rows_of (drop (i + 1) (shelf_lists given))) (missing : get self name ≡ None) where
-  after_is : rows after ≡ with_row (shelf_lists given) i j name v
-  after_is = put_in ∙ ap (λ es. rows_of (take i (shelf_lists given)) ++ es ++ rows_of (drop (i + 1) (shelf_lists given))) (edited ∙ ap (λ es. insert es j (name, v)) there)
+    (same : given ≡ shelves) (view : as_map (rows shelves) ≡ self) (spot : IsSpot name (shelf_lists given) i j) (there : old ≡ shelf_at (shelf_lists given) i)
+    (put_in : rows after ≡ rows_of (take i (shelf_lists given)) ++ new ++ rows_of (drop (i + 1) (shelf_lists given))) where
+  after_is : (next : ℕ) → new ≡ take j old ++ (name, v) ∷ drop next old → rows after ≡ with_row (shelf_lists given) i j next name v
+  after_is next edited = put_in ∙ ap (λ es. rows_of (take i (shelf_lists given)) ++ es ++ rows_of (drop (i + 1) (shelf_lists given)))
+      (edited ∙ ap (λ (es : List Row). take j es ++ (name, v) ∷ drop next es) there)
 
-  none : get (as_map (rows given)) name ≡ None
-  none = ap (λ ss. get (as_map (rows ss)) name) same ∙ ap (λ m. get m name) view ∙ missing
+  map_with : (next : ℕ) → new ≡ take j old ++ (name, v) ∷ drop next old → IsTrue (is_sorted name_cmp (rows given))
+      → put name_cmp name v (rows given) ≡ with_row (shelf_lists given) i j next name v → as_map (rows after) ≡ map_of.insert self name v
+  map_with next edited rising put_is = ap as_map (after_is next edited) ∙ map_after (shelf_lists given) i j next name v rising put_is
+      ∙ ap (λ m. map_of.insert m name v) (ap (λ ss. as_map (rows ss)) same ∙ view)
 
-  pub are_rows_after : (count : ℕ) → AreRows (rows shelves) count → AreRows (rows after) (count + 1)
-  are_rows_after count was =
+  pub are_rows_more : (count : ℕ) → new ≡ take j old ++ (name, v) ∷ drop j old → get self name ≡ None → AreRows (rows shelves) count → AreRows (rows after) (count + 1)
+  are_rows_more count edited missing was =
       let were : AreRows (rows given) count = rw same was in
-      rw after_is (rows_after (shelf_lists given) i j name v spot were.rising none count were)
+      rw (after_is j edited) (record {
+        rising = rising_after (shelf_lists given) i j j name v were.rising (put_missing shelves given self name i j old same view spot there v were.rising missing);
+        count = omega (arith, were.count, one_more (shelf_lists given) i j (name, v));
+      })
 
-  pub map_is : (count : ℕ) → AreRows (rows shelves) count → as_map (rows after) ≡ map_of.insert self name v
-  map_is count was =
+  pub map_more : (count : ℕ) → new ≡ take j old ++ (name, v) ∷ drop j old → get self name ≡ None → AreRows (rows shelves) count → as_map (rows after) ≡ map_of.insert self name v
+  map_more count edited missing was =
       let were : AreRows (rows given) count = rw same was in
-      ap as_map after_is ∙ map_after (shelf_lists given) i j name v spot were.rising none ∙ ap (λ m. map_of.insert m name v) (ap (λ ss. as_map (rows ss)) same ∙ view)
+      map_with j edited were.rising (put_missing shelves given self name i j old same view spot there v were.rising missing)
+
+  pub are_rows_over : (count : ℕ) → new ≡ take j old ++ (name, v) ∷ drop (j + 1) old → IsSome (get self name) → AreRows (rows shelves) count → AreRows (rows after) count
+  are_rows_over count edited some was =
+      let were : AreRows (rows given) count = rw same was in
+      let within : j < length (shelf_at (shelf_lists given) i) = rw there at (inside shelves given self name i j old same view spot there was.rising some) in
+      rw (after_is (j + 1) edited) (record {
+        rising = rising_after (shelf_lists given) i j (j + 1) name v were.rising (put_found shelves given self name i j old same view spot there v were.rising some);
+        count = omega (arith, were.count, as_many (shelf_lists given) i j (name, v) within);
+      })
+
+  pub map_over : (count : ℕ) → new ≡ take j old ++ (name, v) ∷ drop (j + 1) old → IsSome (get self name) → AreRows (rows shelves) count → as_map (rows after) ≡ map_of.insert self name v
+  map_over count edited some was =
+      let were : AreRows (rows given) count = rw same was in
+      map_with (j + 1) edited were.rising (put_found shelves given self name i j old same view spot there v were.rising some)

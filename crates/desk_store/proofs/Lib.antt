@@ -2,3 +2,6 @@ pub mod AsMap
 pub mod Rising
 pub mod Search
 pub mod Spots
+pub mod Steps
+pub mod Whole
+pub mod Padding

@@ -63,6 +63,13 @@ put_between k v (e ∷ es) fs below above =
     ap (λ o. by_order o ((k, v) ∷ e ∷ es ++ fs) ((e.0, v) ∷ es ++ fs) (e ∷ put name_cmp k v (es ++ fs))) (turned e.0 k below.0)
     ∙ ap (λ rest. e ∷ rest) (put_between k v es fs below.1 above)
 
+-- a row under the same name takes the place of the one that is there
+pub put_there : (k : List ℕ) (v : Plan) (es fs : List Row) (e : Row) → AllBelow k es → name_cmp k e.0 ≡ Equal → put name_cmp k v (es ++ e ∷ fs) ≡ es ++ (e.0, v) ∷ fs
+put_there k v [] fs e below same = ap (λ o. by_order o ((k, v) ∷ e ∷ fs) ((e.0, v) ∷ fs) (e ∷ put name_cmp k v fs)) same
+put_there k v (d ∷ es) fs e below same =
+    ap (λ o. by_order o ((k, v) ∷ d ∷ es ++ e ∷ fs) ((d.0, v) ∷ es ++ e ∷ fs) (d ∷ put name_cmp k v (es ++ e ∷ fs))) (turned d.0 k below.0)
+    ∙ ap (λ rest. d ∷ rest) (put_there k v es fs e below.1 same)
+
 -- a name is not found among those below it
 skip_below : (k : List ℕ) (es fs : List Row) → AllBelow k es → find name_cmp k (es ++ fs) ≡ find name_cmp k fs
 skip_below k [] fs below = refl

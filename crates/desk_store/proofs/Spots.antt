@@ -1,10 +1,10 @@
 -- A name's place on the shelves: what is found there, and a row put there.
-use Rattle.std.proofs.Common.{◌≡◌, ℕ, zero, suc, ◌+◌, ◌<◌, ◌≤◌, true, false, List, [], ◌∷◌, ◌++◌, length, get_or, take, drop, IsTrue, IsFalse, Some, None, arith, refl, ap, sym, ◌∙◌, ⊎_elim, ◌-◌, add-one, length-append}
-use Rattle.std.specs.List.{insert}
+use Rattle.std.proofs.Common.{◌≡◌, ℕ, zero, suc, ◌+◌, ◌<◌, ◌≤◌, true, false, List, [], ◌∷◌, ◌++◌, length, get_or, take, drop, IsTrue, IsFalse, Some, None, IsSome, arith, refl, ap, sym, ◌∙◌, ⊎_elim, ◌-◌, add-one, length-append, length-drop}
 use Rattle.std.proofs.lemmas.List.{append_assoc, append-nil, take-append-drop, drop_more, drop_all, get_or_past, take_more, length-map, get_or_default, get_or-map, take_all, nil_from_length, length-take-le, get_or-take}
 use Rattle.std.proofs.lemmas.List.Concat.{flat_map-append}
 use Rattle.std.proofs.lemmas.Bool.{cases_lt, cases_Bool}
 use Rattle.std.proofs.lemmas.Cmp.{tied_back}
+use Rattle.std.proofs.lemmas.Map.Lookups.{exact_bytes}
 use Rattle.std.specs.declared.cmp.Ordering.{Ordering}
 use Rattle.std.specs.declared.cmp.Ordering.TheVariants.{Less, Equal, Greater}
 use Rattle.std.specs.declared.sync.Arc.{Arc}
@@ -17,7 +17,7 @@ use Rattle.desk_model.specs.Desk.{Plan, name_cmp}
 use Rattle.desk_store.specs.Places.{Row, IsPlace, IsSpot, EndsBelow, last_name, rows_of, shelf_at, front, back}
 use Rattle.desk_store.specs.Shelves.{shelf_lists}
 use Rattle.desk_store.specs.declared.shelf.Shelf.{Shelf}
-use Rattle.desk_store.proofs.Rising.{AllBelow, StartsAbove, all_below, put_between, find_missing, find_there, ends_below_append, ends_below_last, ends_below_name, last_name_at}
+use Rattle.desk_store.proofs.Rising.{AllBelow, StartsAbove, all_below, put_between, put_there, find_missing, find_there, ends_below_append, ends_below_last, ends_below_name, last_name_at}
 
 -- a row that fills where none stands
 nowhere : Row
@@ -31,6 +31,14 @@ above x y not_below not_same = ap is_lt (nat_list_cmp_total.antisymm y x) ∙ by
     by_cases Less p q = absurd (cc)
     by_cases Equal p q = absurd (cc)
     by_cases Greater p q = refl
+
+equal : (o : Ordering) → IsTrue (is_eq o) → o ≡ Equal
+equal Less t = cc
+equal Equal t = refl
+equal Greater t = cc
+
+pub same_name : (x y : List ℕ) → is_eq (name_cmp x y) ≡ true → x ≡ y
+same_name x y same = exact_bytes x y (equal (name_cmp x y) same)
 
 -- the rows from a shelf on
 rows_from : (ps : List (List Row)) (i : ℕ) → rows_of (drop i ps) ≡ shelf_at ps i ++ rows_of (drop (i + 1) ps)
@@ -63,11 +71,14 @@ module _ (name : List ℕ) (ps : List (List Row)) (i j : ℕ) (spot : IsSpot nam
       → find name_cmp name (rows_of ps) ≡ Some e.1
   found_at e rising within is same = ap (find name_cmp name) (front_back ps i j ∙ ap (λ rest. front ps i j ++ rest) (back_there e within is))
       ∙ find_there name (front ps i j) _ e (below_front rising) (tied_back nat_list_cmp_total e.0 name (equal (name_cmp e.0 name) same))
-    where
-      equal : (o : Ordering) → IsTrue (is_eq o) → o ≡ Equal
-      equal Less t = cc
-      equal Equal t = refl
-      equal Greater t = cc
+
+  -- where the name is found, a row under it takes the place of the one there
+  pub put_over : (v : Plan) (e : Row) → IsTrue (is_sorted name_cmp (rows_of ps)) → j < length (shelf_at ps i) → e ≡ get_or (shelf_at ps i) j e → IsTrue (is_eq (name_cmp e.0 name))
+      → put name_cmp name v (rows_of ps) ≡ rows_of (take i ps) ++ (take j (shelf_at ps i) ++ (name, v) ∷ drop (j + 1) (shelf_at ps i)) ++ rows_of (drop (i + 1) ps)
+  put_over v e rising within is same = ap (put name_cmp name v) (front_back ps i j ∙ ap (λ rest. front ps i j ++ rest) (back_there e within is))
+      ∙ put_there name v (front ps i j) _ e (below_front rising) (tied_back nat_list_cmp_total e.0 name (equal (name_cmp e.0 name) same))
+      ∙ ap (λ (k : List ℕ). front ps i j ++ (k, v) ∷ (drop (j + 1) (shelf_at ps i) ++ rows_of (drop (i + 1) ps))) (same_name e.0 name same)
+      ∙ simp append_assoc
 
   above_there : (e : Row) → j < length (shelf_at ps i) → e ≡ get_or (shelf_at ps i) j e → IsFalse (is_eq (name_cmp e.0 name)) → StartsAbove name (back ps i j)
   above_there e within is differ = rw (back_there e within is) (above e.0 name (rw (← is) at (spot.here e within)) differ)
@@ -88,7 +99,7 @@ module _ (name : List ℕ) (ps : List (List Row)) (i j : ℕ) (spot : IsSpot nam
 
   -- where the name isn't found, a row under it goes to the place
   pub put_at : (v : Plan) → IsTrue (is_sorted name_cmp (rows_of ps)) → find name_cmp name (rows_of ps) ≡ None
-      → put name_cmp name v (rows_of ps) ≡ rows_of (take i ps) ++ insert (shelf_at ps i) j (name, v) ++ rows_of (drop (i + 1) ps)
+      → put name_cmp name v (rows_of ps) ≡ rows_of (take i ps) ++ (take j (shelf_at ps i) ++ (name, v) ∷ drop j (shelf_at ps i)) ++ rows_of (drop (i + 1) ps)
   put_at v rising none = ap (put name_cmp name v) (front_back ps i j)
       ∙ put_between name v (front ps i j) (back ps i j) (below_front rising) (⊎_elim there above_past (cases_lt j (length (shelf_at ps i))))
       ∙ simp append_assoc
@@ -102,8 +113,30 @@ module _ (name : List ℕ) (ps : List (List Row)) (i j : ℕ) (spot : IsSpot nam
           (λ (differ : is_eq (name_cmp e.0 name) ≡ false). differ)
           (cases_Bool (is_eq (name_cmp e.0 name))))
 
+  -- a name that is found is at its place
+  pub inside_where_found : IsTrue (is_sorted name_cmp (rows_of ps)) → IsSome (find name_cmp name (rows_of ps)) → j < length (shelf_at ps i)
+  inside_where_found rising some = ⊎_elim (λ within. within)
+      (λ (past : length (shelf_at ps i) ≤ j). let clash : false ≡ true = rw (missing_past rising past) at some in cc)
+      (cases_lt j (length (shelf_at ps i)))
+
+  pub equal_where_found : (e : Row) → IsTrue (is_sorted name_cmp (rows_of ps)) → IsSome (find name_cmp name (rows_of ps)) → j < length (shelf_at ps i)
+      → e ≡ get_or (shelf_at ps i) j e → IsTrue (is_eq (name_cmp e.0 name))
+  equal_where_found e rising some within is = ⊎_elim (λ (same : is_eq (name_cmp e.0 name) ≡ true). same)
+      (λ (differ : is_eq (name_cmp e.0 name) ≡ false). let clash : false ≡ true = rw (missing_there e rising within is differ) at some in cc)
+      (cases_Bool (is_eq (name_cmp e.0 name)))
+
+-- an entry in the place of another is a row in the place of another
+pub as_many : (ps : List (List Row)) (i j : ℕ) (e : Row) → j < length (shelf_at ps i)
+    → length (rows_of (take i ps) ++ (take j (shelf_at ps i) ++ e ∷ drop (j + 1) (shelf_at ps i)) ++ rows_of (drop (i + 1) ps)) ≡ length (rows_of ps)
+as_many ps i j e within =
+    let whole : length (rows_of ps) ≡ length (rows_of (take i ps)) + (length (shelf_at ps i) + length (rows_of (drop (i + 1) ps))) = ap length (rows_split ps i) ∙ simp length-append in
+    let before : length (take j (shelf_at ps i)) ≡ j = length-take-le j (shelf_at ps i) (omega arith) in
+    let behind : length (drop (j + 1) (shelf_at ps i)) ≡ length (shelf_at ps i) - (j + 1) = length-drop (j + 1) (shelf_at ps i) in
+    simp length-append (omega (arith, whole, before, behind))
+
 -- an entry more is a row more
-pub one_more : (ps : List (List Row)) (i j : ℕ) (e : Row) → length (rows_of (take i ps) ++ insert (shelf_at ps i) j e ++ rows_of (drop (i + 1) ps)) ≡ length (rows_of ps) + 1
+pub one_more : (ps : List (List Row)) (i j : ℕ) (e : Row)
+    → length (rows_of (take i ps) ++ (take j (shelf_at ps i) ++ e ∷ drop j (shelf_at ps i)) ++ rows_of (drop (i + 1) ps)) ≡ length (rows_of ps) + 1
 one_more ps i j e =
     let whole : length (rows_of ps) ≡ length (rows_of (take i ps)) + (length (shelf_at ps i) + length (rows_of (drop (i + 1) ps))) = ap length (rows_split ps i) ∙ simp length-append in
     let parts : length (shelf_at ps i) ≡ length (take j (shelf_at ps i)) + length (drop j (shelf_at ps i)) = ap length (sym (take-append-drop j (shelf_at ps i))) ∙ simp length-append in

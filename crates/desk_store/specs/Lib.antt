@@ -1,4 +1,5 @@
 pub mod Clerks
 pub mod Codes
+pub mod Kept
 pub mod Places
 pub mod Shelves

@@ -1,17 +1,26 @@
 //! A desk that doesn't change: what is shown.
-ghost use Rattle.std.specs.Prelude.{◌≡◌, IfOk, IfErr, IsSome};
+ghost use Rattle.std.specs.Prelude.{◌≡◌, IfOk, IfErr, IsSome, IsOkAnd};
 ghost use Rattle.std.specs.Option.{option_map, option_copied};
 ghost use Rattle.std.specs.FinMap as map_of;
 ghost use Rattle.desk_model.specs.Outcome.{QueryMay, RefusalMay};
+ghost use Rattle.desk_model.specs.Baf.{body_read};
+ghost use Rattle.desk_model.specs.Step.{whole as whole_of};
 ghost use Rattle.desk_store.specs.Clerks.{IsAfter};
+ghost use Rattle.desk_store.specs.Kept.{AreWhole, IsRefusalOf};
 
+use crate::blocks::blocks_text;
 use crate::plans::Plans;
+use crate::revisions::REVISION_LIMIT;
 use crate::shelf::Entry;
+use baf_text::listed::whole;
+use baf_text::reading::{BafFault, read};
+use baf_text::writing::write;
 use desk_model::command::{Command, Query};
 use desk_model::geography::Geography;
 use desk_model::kind::Kind;
 use desk_model::name::PlanName;
 use desk_model::reply::{Refusal, Reply};
+use desk_model::text::Text;
 use std::alloc::{AllocError, Global};
 use std::marker::Model;
 use std::sync::Arc;
@@ -35,7 +44,11 @@ impl Model for Catalogue {
 
     ghost coded = { coded_desk };
 
+    ghost use Rattle.desk_store.specs.Kept.{AreWhole};
+
     ghost view = { λ a. record { geography = option_map (λ g. g.value) a.geography; plans = a.plans } };
+
+    ghost invariant = { λ a. AreWhole (option_map (λ g. g.value) a.geography) a.plans };
 }
 
 impl Catalogue {
@@ -68,6 +81,40 @@ impl Catalogue {
                 Ok(rows) => Reply::Plans(rows),
                 Err(_) => Reply::Refused(Refusal::Memory),
             },
+            Query::Blocks => self.blocks(alloc),
+            Query::Revision { plan, k } => self.revision(alloc, &plan, k),
+        }
+    }
+
+    /// The answer on the blocks.
+    fn blocks(&self, alloc: Global) -> Reply
+        ensures { QueryMay self.now Query.Blocks result }
+    {
+        let Some(geography) = self.geography() else {
+            return Reply::Refused(Refusal::NotSealed);
+        };
+        match blocks_text(alloc, geography) {
+            Ok(text) => Reply::Blocks(Text::from_vec(text)),
+            Err(_) => Reply::Refused(Refusal::Memory),
+        }
+    }
+
+    /// The answer on a revision of a plan.
+    fn revision(&self, alloc: Global, name: &PlanName, k: u32) -> Reply
+        ensures { QueryMay self.now (Query.Revision name.now k) result }
+    {
+        let Some(geography) = self.geography() else {
+            return Reply::Refused(Refusal::NotSealed);
+        };
+        let Some(entry) = self.plans.get(name) else {
+            return Reply::Refused(Refusal::NoPlan);
+        };
+        let Some(districts) = entry.revision(k) else {
+            return Reply::Refused(Refusal::NoRevision);
+        };
+        match write(alloc, districts, geography, entry.kind()) {
+            Ok(text) => Reply::Baf(Text::from_vec(text)),
+            Err(_) => Reply::Refused(Refusal::Memory),
         }
     }
 
@@ -82,6 +129,7 @@ impl Catalogue {
         }
         match command {
             Command::Create { plan, kind, n } => self.with_plan(alloc, *plan, *kind, *n),
+            Command::Whole { plan, after, body } => self.with_whole(alloc, plan, *after, body),
         }
     }
 
@@ -103,7 +151,44 @@ impl Catalogue {
         if self.plans.len() >= PLAN_LIMIT {
             return Err(Refusal::Limit);
         }
-        let Ok(plans) = self.plans.insert(alloc, Entry { name, kind, n }) else {
+        let Ok(entry) = Entry::new(alloc, name, kind, n) else {
+            return Err(Refusal::Memory);
+        };
+        let Ok(plans) = self.plans.insert(alloc, entry) else {
+            return Err(Refusal::Memory);
+        };
+        self.with_plans(plans)
+    }
+
+    /// The catalogue with one more revision of a plan.
+    fn with_whole(
+        &self,
+        alloc: Global,
+        name: &PlanName,
+        after: u32,
+        body: &Text,
+    ) -> Result<Catalogue, Refusal>
+        ensures ok { IfOk result (IsAfter self.now (Command.Whole name.now after body.now)) }
+        ensures err { IfErr result (λ refusal. RefusalMay ⊥ ⊥ self.now (Command.Whole name.now after body.now) refusal self.now) }
+    {
+        let Some(geography) = self.geography() else {
+            return Err(Refusal::NotSealed);
+        };
+        let Some(entry) = self.plans.get(name) else {
+            return Err(Refusal::NoPlan);
+        };
+        let current = entry.count();
+        if after != current {
+            return Err(Refusal::Stale { current });
+        }
+        if current >= REVISION_LIMIT {
+            return Err(Refusal::Limit);
+        }
+        let districts = districts_of(alloc, body.as_slice(), geography, entry.n())?;
+        let Ok(entry) = entry.revised(alloc, districts) else {
+            return Err(Refusal::Memory);
+        };
+        let Ok(plans) = self.plans.replace(alloc, entry) else {
             return Err(Refusal::Memory);
         };
         self.with_plans(plans)
@@ -111,6 +196,7 @@ impl Catalogue {
 
     /// The catalogue of the same geography with these plans.
     fn with_plans(&self, plans: Plans) -> Result<Catalogue, Refusal>
+        requires { AreWhole self.now.geography plans }
         ensures ok { IfOk result (λ next. next ≡ record self.now { plans = plans }) }
         ensures err { IfErr result (λ refusal. refusal ≡ Refusal.Memory) }
     {
@@ -118,6 +204,26 @@ impl Catalogue {
             Ok(geography) => Ok(Catalogue { geography, plans }),
             Err(_) => Err(Refusal::Memory),
         }
+    }
+}
+
+/// The district of each block, rising, as the body says it.
+fn districts_of(
+    alloc: Global,
+    body: &[u8],
+    geography: &Geography,
+    n: u16,
+) -> Result<Vec<u16>, Refusal>
+    ensures ok { IfOk result (λ districts. IsOkAnd (body_read geography.now n body.now) (λ values. districts.items ≡ whole_of geography.now values)) }
+    ensures err { IfErr result (IsRefusalOf (body_read geography.now n body.now)) }
+{
+    match read(alloc, body, geography, n) {
+        Ok(listed) => match whole(alloc, &listed) {
+            Ok(districts) => Ok(districts),
+            Err(_) => Err(Refusal::Memory),
+        },
+        Err(BafFault::Body { code, line }) => Err(Refusal::BadBody { code, line }),
+        Err(BafFault::Memory) => Err(Refusal::Memory),
     }
 }
 

@@ -1,10 +1,10 @@
 //! The clerk, who holds the desk: prepares commands, commits them and answers queries.
-ghost use Rattle.std.specs.Prelude.{◌≡◌, IfOk, IfErr};
+ghost use Rattle.std.specs.Prelude.{◌≡◌, ◌≤◌, IfOk, IfErr};
 ghost use Rattle.std.specs.Option.{option_map};
 ghost use Rattle.std.specs.FinMap as map_of;
-ghost use Rattle.desk_model.specs.Step.{step};
+ghost use Rattle.desk_model.specs.Step.{step, revision_limit};
 ghost use Rattle.desk_model.specs.Outcome.{CommandMay, QueryMay, RefusalMay, IsAcceptance};
-ghost use Rattle.desk_store.specs.Clerks.{IsPrepared, acceptance};
+ghost use Rattle.desk_store.specs.Clerks.{IsPrepared, acceptance, revisions_after};
 
 use crate::catalogue::Catalogue;
 use desk_model::command::{Command, Query};
@@ -55,7 +55,9 @@ pub struct Ready {
 }
 
 impl Model for Ready {
-    ghost use Rattle.desk_store.specs.Clerks.{Prepared, acceptance};
+    ghost use Rattle.std.specs.Prelude.{◌≤◌};
+    ghost use Rattle.desk_model.specs.Step.{revision_limit};
+    ghost use Rattle.desk_store.specs.Clerks.{Prepared, acceptance, revisions_after};
     ghost use Rattle.desk_store.specs.Codes.{coded_prepared};
 
     ghost Value = { Prepared };
@@ -63,16 +65,23 @@ impl Model for Ready {
     ghost coded = { coded_prepared };
 
     ghost view = { λ a. record { command = a.command.value; reply = acceptance a.command.value; after = a.after.value } };
+
+    ghost invariant = { λ a. revisions_after a.command.value ≤ revision_limit };
 }
 
 /// The reply to a command where it is accepted.
 fn acceptance_of(command: &Command) -> Reply
+    requires { revisions_after command.now ≤ revision_limit }
     ensures { result ≡ acceptance command.now }
 {
     match command {
         Command::Create { plan, .. } => Reply::Created {
             plan: *plan,
             revisions: 0,
+        },
+        Command::Whole { plan, after, .. } => Reply::Created {
+            plan: *plan,
+            revisions: *after + 1,
         },
     }
 }
@@ -137,6 +146,7 @@ impl Clerk {
 
     /// Makes ready a command that is accepted, and changes nothing; all the memory that its commit needs is taken
     /// here.
+    #[tactic(auto, using(crate::proofs::Steps::step_pair))]
     pub fn prepare(&mut self, alloc: Global, command: Command) -> Result<Ready, Refusal>
         ensures same { self.new ≡ self.old }
         ensures ok { IfOk result (IsPrepared self.old command) }

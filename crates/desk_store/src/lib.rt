@@ -1,10 +1,12 @@
 //! The desk's plans and its clerk: a catalogue that answers queries, and a clerk that changes what it shows.
 #![tactic(auto)]
 
+mod blocks;
 pub mod catalogue;
 pub mod clerk;
 mod place;
 mod plans;
+mod revisions;
 mod shelf;
 #[cfg(test)]
 mod tests;

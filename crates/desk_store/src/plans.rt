@@ -1,5 +1,5 @@
 //! The plans of a catalogue, by their names.
-ghost use Rattle.std.specs.Prelude.{◌≡◌, ◌+◌, ◌<◌, ◌≤◌, ◌++◌, length, map, take, drop, insert, IfOk, IfSome, IfNone, OnOk, Some, None};
+ghost use Rattle.std.specs.Prelude.{◌≡◌, ◌+◌, ◌<◌, ◌≤◌, ◌++◌, ◌∷◌, length, map, take, drop, IfOk, IfSome, IfNone, IsSome, OnOk, Some, None};
 ghost use Rattle.std.specs.FinMap as map_of;
 ghost use Rattle.desk_model.specs.Step.{plan_limit, plan_row};
 ghost use Rattle.desk_store.specs.Places.{IsSpot, Row, rows_of, shelf_at};
@@ -72,20 +72,40 @@ fn spot_of(shelves: &[Arc<Shelf>], name: &PlanName) -> Spot
     }
 }
 
-/// A shelf's entries with one more.
+/// Puts the same plans behind.
+fn add_same(all: &mut Vec<Entry>, entries: &[Entry]) -> Result<(), AllocError>
+    ensures { OnOk result (all.new.items ≡ all.old.items ++ entries.now) }
+{
+    for entry in entries {
+        all.push(entry.share()?)?;
+    }
+    Ok(())
+}
+
+/// A shelf's entries before a place, an entry, and the shelf's entries from the next place on.
 fn with_entry(
     alloc: Global,
     entries: &[Entry],
     place: usize,
+    next: usize,
     entry: Entry,
 ) -> Result<Vec<Entry>, AllocError>
-    requires { place ≤ length entries.now }
-    ensures { IfOk result (λ v. v.items ≡ insert entries.now place entry) }
+    requires { (place ≤ next) × (next ≤ length entries.now) }
+    ensures { IfOk result (λ v. v.items ≡ take place entries.now ++ entry ∷ drop next entries.now) }
 {
     let mut all = Vec::with_capacity(alloc, entries.len() + 1)?;
-    all.extend_from_slice(&entries[..place])?;
+    add_same(&mut all, &entries[..place])?;
     all.push(entry)?;
-    all.extend_from_slice(&entries[place..])?;
+    add_same(&mut all, &entries[next..])?;
+    Ok(all)
+}
+
+/// The same plans.
+fn same(alloc: Global, entries: &[Entry]) -> Result<Vec<Entry>, AllocError>
+    ensures { IfOk result (λ v. v.items ≡ entries.now) }
+{
+    let mut all = Vec::with_capacity(alloc, entries.len())?;
+    add_same(&mut all, entries)?;
     Ok(all)
 }
 
@@ -126,8 +146,8 @@ fn add_entries(
         return add_shelf(alloc, all, entries);
     }
     let half = entries.len() / 2;
-    add_shelf(alloc, all, Vec::from_slice(alloc, &entries[..half])?)?;
-    add_shelf(alloc, all, Vec::from_slice(alloc, &entries[half..])?)
+    add_shelf(alloc, all, same(alloc, &entries[..half])?)?;
+    add_shelf(alloc, all, same(alloc, &entries[half..])?)
 }
 
 /// The shelves with these entries in the place of one shelf, or behind the last one.
@@ -178,6 +198,7 @@ impl Plans {
     /// The plan of a name.
     pub fn get(&self, name: &PlanName) -> Option<&Entry>
         ensures found { IfSome result (λ e. map_of.get self.now name.now ≡ Some e.now.1) }
+        ensures named { IfSome result (λ e. e.now.0 ≡ name.now) }
         ensures missing { IfNone result (map_of.get self.now name.now ≡ None) }
     {
         let shelves = self.shelves.as_slice();
@@ -200,10 +221,26 @@ impl Plans {
     {
         let shelves = self.shelves.as_slice();
         let spot = spot_of(shelves, entry.name());
-        let entries = with_entry(alloc, entries_at(shelves, spot.shelf), spot.place, entry)?;
+        let place = spot.place;
+        let entries = with_entry(alloc, entries_at(shelves, spot.shelf), place, place, entry)?;
         Ok(Plans {
             shelves: with_entries(alloc, shelves, spot.shelf, entries)?,
             count: self.count + 1,
+        })
+    }
+
+    /// These plans with another under the name of one.
+    pub fn replace(&self, alloc: Global, entry: Entry) -> Result<Plans, AllocError>
+        requires { IsSome (map_of.get self.now entry.0) }
+        ensures { IfOk result (λ p. p ≡ map_of.insert self.now entry.0 entry.1) }
+    {
+        let shelves = self.shelves.as_slice();
+        let spot = spot_of(shelves, entry.name());
+        let place = spot.place;
+        let entries = with_entry(alloc, entries_at(shelves, spot.shelf), place, place + 1, entry)?;
+        Ok(Plans {
+            shelves: with_entries(alloc, shelves, spot.shelf, entries)?,
+            count: self.count,
         })
     }
 

@@ -1,39 +1,84 @@
 //! Plans that stand side by side on a shelf, which catalogues share.
-ghost use Rattle.std.specs.Prelude.{◌≡◌, ◌<◌, ℕ, length};
+ghost use Rattle.std.specs.Prelude.{◌≡◌, ◌<◌, ◌++◌, ◌∷◌, [], ℕ, length, IfOk};
+ghost use Rattle.std.specs.Option.{option_copied};
 ghost use Rattle.std.specs.Ordering.{is_lt, is_eq};
 ghost use Rattle.desk_model.specs.Desk.{name_cmp};
-ghost use Rattle.desk_model.specs.Step.{plan_row};
+ghost use Rattle.desk_model.specs.Step.{plan_row, revision_limit};
+ghost use Rattle.desk_store.specs.Kept.{revision_at};
 ghost use Rattle.desk_store.specs.Places.{last_name};
 
+use crate::revisions::Revisions;
 use desk_model::kind::Kind;
 use desk_model::name::PlanName;
 use desk_model::reply::PlanRow;
+use std::alloc::{AllocError, Global};
 use std::marker::Model;
+use std::sync::Arc;
 
-/// A plan under its name, with no revision.
-#[derive(Clone, Copy, Debug)]
+/// A plan under its name.
+#[derive(Drop)]
 pub struct Entry {
-    pub name: PlanName,
-    pub kind: Kind,
-    pub n: u16,
+    name: PlanName,
+    kind: Kind,
+    n: u16,
+    revisions: Arc<Revisions>,
 }
 
 impl Model for Entry {
-    ghost use Rattle.std.specs.Prelude.{ℕ, List, []};
+    ghost use Rattle.std.specs.Prelude.{ℕ, List};
     ghost use Rattle.desk_model.specs.Desk.{Plan};
 
     ghost Value = { List ℕ × Plan };
 
-    ghost view = { λ a. (a.name, record { kind = a.kind; n = a.n; revisions = [] }) };
-
-    ghost inverse = { λ e. record { name = e.0; kind = e.1.kind; n = e.1.n } };
+    ghost view = { λ a. (a.name, record { kind = a.kind; n = a.n; revisions = a.revisions.value }) };
 }
 
 impl Entry {
+    /// A plan with no revision.
+    pub fn new(alloc: Global, name: PlanName, kind: Kind, n: u16) -> Result<Entry, AllocError>
+        ensures { IfOk result (λ e. e ≡ (name, record { kind = kind; n = n; revisions = [] })) }
+    {
+        Ok(Entry {
+            name,
+            kind,
+            n,
+            revisions: Arc::new(alloc, Revisions::none(alloc))?,
+        })
+    }
+
     pub fn name(&self) -> &PlanName
         ensures { result.now ≡ self.now.0 }
     {
         &self.name
+    }
+
+    pub fn kind(&self) -> Kind
+        ensures { result ≡ self.now.1.kind }
+    {
+        self.kind
+    }
+
+    pub fn n(&self) -> u16
+        ensures { result ≡ self.now.1.n }
+    {
+        self.n
+    }
+
+    /// How many revisions there are.
+    pub fn count(&self) -> u32
+        ensures { result ≡ length self.now.1.revisions }
+    {
+        self.revisions.len()
+    }
+
+    /// Revision `k`, from 1: the district of each block, rising.
+    pub fn revision(&self, k: u32) -> Option<&[u16]>
+        ensures { option_copied result ≡ revision_at self.now.1 k }
+    {
+        if k == 0 {
+            return None;
+        }
+        self.revisions.get(k as usize - 1)
     }
 
     /// The plan's line in the list of plans.
@@ -44,8 +89,33 @@ impl Entry {
             name: self.name,
             kind: self.kind,
             n: self.n,
-            revisions: 0,
+            revisions: self.revisions.len(),
         }
+    }
+
+    /// The same plan, which shares its revisions.
+    pub fn share(&self) -> Result<Entry, AllocError>
+        ensures { IfOk result (λ e. e ≡ self.now) }
+    {
+        Ok(Entry {
+            name: self.name,
+            kind: self.kind,
+            n: self.n,
+            revisions: self.revisions.clone()?,
+        })
+    }
+
+    /// The plan with one more revision.
+    pub fn revised(&self, alloc: Global, districts: Vec<u16>) -> Result<Entry, AllocError>
+        requires { length self.now.1.revisions < revision_limit }
+        ensures { IfOk result (λ e. e ≡ (self.now.0, record self.now.1 { revisions = self.now.1.revisions ++ districts.items ∷ [] })) }
+    {
+        Ok(Entry {
+            name: self.name,
+            kind: self.kind,
+            n: self.n,
+            revisions: Arc::new(alloc, self.revisions.with(alloc, districts)?)?,
+        })
     }
 }
 

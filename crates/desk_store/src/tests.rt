@@ -3,10 +3,20 @@ use desk_model::command::{Command, Query};
 use desk_model::geography::sample;
 use desk_model::kind::Kind;
 use desk_model::name::PlanName;
-use desk_model::reply::{PlanRow, PlanRows, Refusal, Reply};
+use desk_model::reply::{BodyFault, PlanRow, PlanRows, Refusal, Reply};
+use desk_model::text::Text;
 use std::alloc::Global;
 use std::sync::Arc;
 use std::test::Fail;
+
+const COUNTIES: &[u8] =
+    b"BLOCKID|DISTRICT\n190010001001001|01\n190010001001002|01\n190030001001001|02\n190030001001002|02\n";
+
+const DIAGONAL: &[u8] =
+    b"BLOCKID|DISTRICT\n190010001001001|01\n190010001001002|02\n190030001001001|02\n190030001001002|01\n";
+
+const BLOCKS: &[u8] =
+    b"BLOCKID|PLACE|POPULATION\n190010001001001|00100|505\n190010001001002|00100|505\n190030001001001|00100|495\n190030001001002||495\n";
 
 fn clerk_of_sample(alloc: Global) -> Result<Clerk, Fail> {
     let geography = Arc::new(alloc, sample(alloc)?)?;
@@ -45,6 +55,29 @@ fn listed(reply: Reply) -> Result<PlanRows, Fail> {
 fn is_made(reply: &Reply, name: &PlanName) -> bool {
     match reply {
         Reply::Created { plan, revisions } => plan == name && *revisions == 0,
+        _ => false,
+    }
+}
+
+/// A post of a body after so many revisions.
+fn post(alloc: Global, plan: PlanName, after: u32, body: &[u8]) -> Result<Command, Fail> {
+    Ok(Command::Whole {
+        plan,
+        after,
+        body: Text::from_vec(Vec::from_slice(alloc, body)?),
+    })
+}
+
+fn has_revisions(reply: &Reply, name: &PlanName, number: u32) -> bool {
+    match reply {
+        Reply::Created { plan, revisions } => plan == name && *revisions == number,
+        _ => false,
+    }
+}
+
+fn is_text(reply: &Reply, wanted: &[u8]) -> bool {
+    match reply {
+        Reply::Blocks(text) | Reply::Baf(text) => text.as_slice() == wanted,
         _ => false,
     }
 }
@@ -103,5 +136,64 @@ fn many_plans_are_listed_in_order(rt: HostRuntime) -> Result<(), Fail> {
     for (i, row) in rows.as_slice().iter().enumerate() {
         assert!(rt; is_row(row, &numbered(i as u16)?));
     }
+    Ok(())
+}
+
+#[test]
+fn revisions_are_kept(rt: HostRuntime) -> Result<(), Fail> {
+    let alloc = rt.alloc();
+    let mut clerk = clerk_of_sample(alloc)?;
+    let plan = named("a")?;
+    let create = Command::Create {
+        plan,
+        kind: Kind::Congress,
+        n: 2,
+    };
+    assert!(rt; is_made(&clerk.command(alloc, create), &plan));
+    assert!(rt; has_revisions(&clerk.command(alloc, post(alloc, plan, 0, COUNTIES)?), &plan, 1));
+    assert!(rt;
+        is_refused(
+            &clerk.command(alloc, post(alloc, plan, 0, COUNTIES)?),
+            Refusal::Stale { current: 1 }
+        )
+    );
+    assert!(rt; has_revisions(&clerk.command(alloc, post(alloc, plan, 1, DIAGONAL)?), &plan, 2));
+    let first = clerk.ask(alloc, Query::Revision { plan, k: 1 });
+    assert!(rt; is_text(&first, COUNTIES));
+    let second = clerk.ask(alloc, Query::Revision { plan, k: 2 });
+    assert!(rt; is_text(&second, DIAGONAL));
+    let none = clerk.ask(alloc, Query::Revision { plan, k: 0 });
+    assert!(rt; is_refused(&none, Refusal::NoRevision));
+    let past = clerk.ask(alloc, Query::Revision { plan, k: 3 });
+    assert!(rt; is_refused(&past, Refusal::NoRevision));
+    assert!(rt; is_text(&clerk.ask(alloc, Query::Blocks), BLOCKS));
+    Ok(())
+}
+
+#[test]
+fn a_post_is_refused(rt: HostRuntime) -> Result<(), Fail> {
+    let alloc = rt.alloc();
+    let plan = named("a")?;
+    let mut unsealed = Clerk::plain(alloc, None)?;
+    assert!(rt;
+        is_refused(
+            &unsealed.command(alloc, post(alloc, plan, 0, COUNTIES)?),
+            Refusal::NotSealed
+        )
+    );
+    assert!(rt; is_refused(&unsealed.ask(alloc, Query::Blocks), Refusal::NotSealed));
+    let asked = unsealed.ask(alloc, Query::Revision { plan, k: 1 });
+    assert!(rt; is_refused(&asked, Refusal::NotSealed));
+    let mut clerk = clerk_of_sample(alloc)?;
+    assert!(rt;
+        is_refused(&clerk.command(alloc, post(alloc, plan, 0, COUNTIES)?), Refusal::NoPlan)
+    );
+    assert!(rt; is_made(&clerk.command(alloc, house(plan)), &plan));
+    let bad = clerk.command(alloc, post(alloc, plan, 0, b"BLOCKID|DISTRICT\nx|01\n")?);
+    let why = Refusal::BadBody {
+        code: BodyFault::Shape,
+        line: 2,
+    };
+    assert!(rt; is_refused(&bad, why));
     Ok(())
 }

@@ -1,0 +1,39 @@
+-- What is kept of revisions.
+use Rattle.std.specs.Prelude.{◌≡◌, ℕ, ◌-◌, ◌==◌, if◌then◌else◌, List, map, length, All, Option, Some, None, Result, Err}
+use Rattle.std.specs.List.{slice_get}
+use Rattle.std.specs.FinMap as map_of
+use Rattle.std.specs.declared.sync.Arc.{Arc}
+use Rattle.std.specs.declared.vec.Vec.{Vec}
+use Rattle.std.specs.declared.alloc.Global.{Global}
+use Rattle.desk_model.specs.Desk.{Plan, name_cmp}
+use Rattle.desk_model.specs.Baf.{Values, Fault}
+use Rattle.desk_model.specs.Geography.{Ground}
+use Rattle.desk_model.specs.declared.reply.Refusal.{Refusal}
+use Rattle.desk_model.specs.declared.reply.Refusal.TheVariants.{NoPlan, NoRevision, PlanExists, Stale, BadBody, NotWholeCounty, BadCompanion, Limit, Full, Memory, Halted, NotSealed}
+
+-- the shared lists
+abbrev pub lists : List (Arc (Vec ℕ Global) Global) → List (List ℕ)
+lists = map (λ d. d.value.items)
+
+-- revision k of a plan, from 1
+abbrev pub revision_at : Plan → ℕ → Option (List ℕ)
+revision_at p k = if k == 0 then None else slice_get p.revisions (k - 1)
+
+-- every revision of a plan has a district for each block
+abbrev pub AreWhole : Option Ground → map_of.FinMap name_cmp Plan → Type 0
+AreWhole geography plans = (g : Ground) (name : List ℕ) (p : Plan) → geography ≡ Some g → map_of.get plans name ≡ Some p → All (λ d. length d ≡ length g.blocks) p.revisions
+
+-- a body's first fault, or that memory was refused
+abbrev pub IsRefusalOf : Result Values Fault → Refusal → Type 0
+IsRefusalOf reading (BadBody code line) = reading ≡ Err (code, line)
+IsRefusalOf reading Memory = Unit {0}
+IsRefusalOf reading NoPlan = ⊥
+IsRefusalOf reading NoRevision = ⊥
+IsRefusalOf reading PlanExists = ⊥
+IsRefusalOf reading (Stale k) = ⊥
+IsRefusalOf reading (NotWholeCounty county) = ⊥
+IsRefusalOf reading BadCompanion = ⊥
+IsRefusalOf reading Limit = ⊥
+IsRefusalOf reading Full = ⊥
+IsRefusalOf reading Halted = ⊥
+IsRefusalOf reading NotSealed = ⊥
