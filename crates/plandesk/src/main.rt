@@ -1,6 +1,8 @@
 //! The plan desk's program: each command is a function over its readers and writers that answers the exit status.
 #![tactic(auto)]
 
+#[cfg(test)]
+mod revision_tests;
 pub mod status;
 pub mod talk;
 #[cfg(test)]

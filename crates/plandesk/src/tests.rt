@@ -58,13 +58,13 @@ impl Write for Page {
 
 /// What a stream came to.
 #[derive(Drop)]
-struct Ran {
-    status: Status,
-    output: Vec<u8>,
-    errors: Vec<u8>,
+pub struct Ran {
+    pub status: Status,
+    pub output: Vec<u8>,
+    pub errors: Vec<u8>,
 }
 
-fn run(
+pub fn run(
     alloc: Global,
     input: &[u8],
     piece: usize,
@@ -99,9 +99,9 @@ fn run(
     })
 }
 
-const NEVER: u64 = u64::MAX;
+pub const NEVER: u64 = u64::MAX;
 
-const ROOM: usize = 100_000;
+pub const ROOM: usize = 100_000;
 
 const FIRST: &[u8] = b"GET /plans HTTP/1.1\r\nHost: d\r\n\r\n";
 

@@ -13,17 +13,17 @@ returns-then-line-le-ID_DIGITS c = no_row c.args.line.now (λ e row.
     ])
 
 pub returns-in_default : goal.returns-in_default
-returns-in_default c = no_row c.args.line.now (λ e row. cc (row.id, c.in_default.is, c.digits_exactly.ensures))
+returns-in_default c = no_row c.args.line.now (λ e row. cc (row.id, c.in_default.is, c.digits_exactly.ensures.value))
 
 pub from_number-requires : goal.from_number-requires
-from_number-requires c = id_small 15 (take 15 c.args.line.now) c.in-Some.id (sym c.digits_exactly.ensures ∙ c.in-Some.is)
+from_number-requires c = id_small 15 (take 15 c.args.line.now) c.in-Some.id (sym c.digits_exactly.ensures.value ∙ c.in-Some.is)
 
 pub returns-in-Some-code_number : goal.returns-in-Some-code_number
 returns-in-Some-code_number c =
     sym (fields_from_row c.args.line.now (c.from_number.result, c.in-Some-code_number.number) (record {
       long = omega arith;
       bar = c.if-line-ne124.false;
-      id = sym c.digits_exactly.ensures ∙ c.in-Some.is ∙ ap (λ (n : ℕ). Some n) (sym c.from_number.ensures);
+      id = sym c.digits_exactly.ensures.value ∙ c.in-Some.is ∙ ap (λ (n : ℕ). Some n) (sym c.from_number.ensures);
       code = ap code_value (sym (take_rest c.args.line.now 16)) ∙ sym c.code_number.ensures ∙ c.in-Some-code_number.is;
     }))
 
