@@ -237,7 +237,13 @@ impl Plans {
         let shelves = self.shelves.as_slice();
         let spot = spot_of(shelves, entry.name());
         let place = spot.place;
-        let entries = with_entry(alloc, entries_at(shelves, spot.shelf), place, place + 1, entry)?;
+        let entries = with_entry(
+            alloc,
+            entries_at(shelves, spot.shelf),
+            place,
+            place + 1,
+            entry,
+        )?;
         Ok(Plans {
             shelves: with_entries(alloc, shelves, spot.shelf, entries)?,
             count: self.count,

@@ -104,7 +104,9 @@ fn a_plan_is_prepared_and_committed(rt: HostRuntime) -> Result<(), Fail> {
             .as_slice()
             .is_empty()
     );
-    let ready = clerk.prepare(alloc, house(name)).ok().ok_or("refused")?;
+    let Ok(ready) = clerk.prepare(alloc, house(name)) else {
+        return Err("refused")?;
+    };
     assert!(rt; is_made(&ready.reply(), &name));
     let change = ready.change()?;
     assert!(rt; is_made(&ready.commit(&mut clerk), &name));
@@ -150,14 +152,26 @@ fn revisions_are_kept(rt: HostRuntime) -> Result<(), Fail> {
         n: 2,
     };
     assert!(rt; is_made(&clerk.command(alloc, create), &plan));
-    assert!(rt; has_revisions(&clerk.command(alloc, post(alloc, plan, 0, COUNTIES)?), &plan, 1));
+    assert!(rt;
+        has_revisions(
+            &clerk.command(alloc, post(alloc, plan, 0, COUNTIES)?),
+            &plan,
+            1
+        )
+    );
     assert!(rt;
         is_refused(
             &clerk.command(alloc, post(alloc, plan, 0, COUNTIES)?),
             Refusal::Stale { current: 1 }
         )
     );
-    assert!(rt; has_revisions(&clerk.command(alloc, post(alloc, plan, 1, DIAGONAL)?), &plan, 2));
+    assert!(rt;
+        has_revisions(
+            &clerk.command(alloc, post(alloc, plan, 1, DIAGONAL)?),
+            &plan,
+            2
+        )
+    );
     let first = clerk.ask(alloc, Query::Revision { plan, k: 1 });
     assert!(rt; is_text(&first, COUNTIES));
     let second = clerk.ask(alloc, Query::Revision { plan, k: 2 });
@@ -186,7 +200,10 @@ fn a_post_is_refused(rt: HostRuntime) -> Result<(), Fail> {
     assert!(rt; is_refused(&asked, Refusal::NotSealed));
     let mut clerk = clerk_of_sample(alloc)?;
     assert!(rt;
-        is_refused(&clerk.command(alloc, post(alloc, plan, 0, COUNTIES)?), Refusal::NoPlan)
+        is_refused(
+            &clerk.command(alloc, post(alloc, plan, 0, COUNTIES)?),
+            Refusal::NoPlan
+        )
     );
     assert!(rt; is_made(&clerk.command(alloc, house(plan)), &plan));
     let bad = clerk.command(alloc, post(alloc, plan, 0, b"BLOCKID|DISTRICT\nx|01\n")?);

@@ -5,7 +5,7 @@ use Rattle.desk_store.proofs.plans.Plans.replace.Goals as goal
 pub with_entry-requires : goal.with_entry-requires
 with_entry-requires c =
     let within = inside c.self.inside.shelves.items c.as_slice-shelves.result.now c.args.self.now c.args.entry.0 c.spot_of-spot.result.shelf c.spot_of-spot.result.place c.entries_at.result.now c.as_slice-shelves.ensures.value c.self.view_is
-        (rw c.name.ensures at c.spot_of-spot.ensures) c.entries_at.ensures c.self.invariant.rising c.requires in
+    (rw c.name.ensures at c.spot_of-spot.ensures) c.entries_at.ensures c.self.invariant.rising c.requires in
     (omega arith, omega (arith, within))
 
 pub invariant_of-result : goal.invariant_of-result
