@@ -1,5 +1,5 @@
 //! What is read of one line of a segment.
-ghost use Rattle.std.specs.Prelude.{◌≡◌, ◌<◌, ◌≤◌, ◌^◌, length, IfOk, IfSome};
+ghost use Rattle.std.specs.Prelude.{◌≡◌, ◌<◌, ◌≤◌, length};
 ghost use Rattle.field_text.specs.Fields.{fields};
 ghost use Rattle.pl94_segment.specs.Records.{part_number, field_count_of, people_of_field, record_read, line_read};
 
