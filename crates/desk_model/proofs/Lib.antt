@@ -1,3 +1,4 @@
 pub mod Maps
 pub mod Places
 pub mod SampleIsGround
+pub mod NameLemmas

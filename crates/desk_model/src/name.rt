@@ -1,12 +1,14 @@
 //! Names of plans.
-ghost use Rattle.std.specs.Prelude.{◌≡◌, ◌≤◌, ◌-◌, ◌++◌, length, replicate, ◌↔◌, refl, IsSome, IfSome, Some, nat_eq};
+ghost use Rattle.std.specs.Prelude.{◌≡◌, ◌≤◌, ◌-◌, ◌++◌, length, replicate, true, refl, Some, nat_eq};
+ghost use Rattle.std.specs.List.{list_all};
 ghost use Rattle.std.specs.Ordering.{nat_cmp};
 ghost use Rattle.std.specs.Cmp.{on_equiv, on_total, on_po, on_per, partial_equiv_from_equiv};
 ghost use Rattle.std.specs.Cmp.Lexicographic.{pointwise, slice_cmp, nat_list_eq_equiv, nat_list_cmp_total, texts_po, texts_ties};
-ghost use Rattle.desk_model.specs.Name.{IsPlanName, is_name_byte as is_name_byte_of};
+ghost use Rattle.desk_model.specs.Name.{IsPlanName, is_name_byte as is_name_byte_of, is_plan_name, plan_name_of};
 
 use std::cmp::Ordering;
 use std::marker::Model;
+use std::str::from_utf8;
 
 const MAX_LEN: usize = 64;
 
@@ -51,13 +53,29 @@ fn padded(bytes: &[u8]) -> [u8; 64]
     cells
 }
 
+/// Whether every byte may stand in a name.
+fn all_name_bytes(bytes: &[u8]) -> bool
+    ensures { result ≡ list_all is_name_byte_of bytes.now }
+{
+    bytes.iter().all(|b| is_name_byte(*b))
+}
+
+fn is_name(bytes: &[u8]) -> bool
+    ensures test { result ≡ is_plan_name bytes.now }
+    ensures short { result ≡ true → length bytes.now ≤ 64 }
+{
+    if bytes.is_empty() || bytes.len() > MAX_LEN {
+        return false;
+    }
+    all_name_bytes(bytes)
+}
+
 impl PlanName {
     /// The name that the bytes spell.
     pub fn read(bytes: &[u8]) -> Option<PlanName>
-        ensures found { IsSome result ↔ IsPlanName bytes.now }
-        ensures same { IfSome result (λ name. name ≡ bytes.now) }
+        ensures { result ≡ plan_name_of bytes.now }
     {
-        if bytes.is_empty() || bytes.len() > MAX_LEN || !bytes.iter().all(|b| is_name_byte(*b)) {
+        if !is_name(bytes) {
             return None;
         }
         Some(PlanName {
@@ -69,8 +87,19 @@ impl PlanName {
     pub fn as_slice(&self) -> &[u8]
         ensures value { result.now ≡ self.now }
         ensures valid { IsPlanName self.now }
+        ensures short { length self.now ≤ 64 }
     {
         &self.bytes[..self.len]
+    }
+
+    /// The name as text.
+    pub fn as_str(&self) -> &str
+        ensures { result.now ≡ self.now }
+    {
+        match from_utf8(self.as_slice()) {
+            Ok(text) => text,
+            Err(_) => unreachable!(),
+        }
     }
 }
 

@@ -1,0 +1,11 @@
+use Rattle.std.proofs.Common.{arith}
+use Rattle.audit_contiguity.proofs.Rooting.{joined_same}
+use Rattle.audit_contiguity.proofs.forest.join.Goals as goal
+
+pub returns-else-other_root-one_root-clause-rooting : goal.returns-else-other_root-one_root-clause-rooting
+returns-else-other_root-one_root-clause-rooting c = λ root was.
+    let one = c.root_of-one_root.ensures.rooting root was in
+    let both = c.root_of-other_root.ensures.rooting root one in
+    let first = c.root_of-one_root.ensures.root root was in
+    let second = c.root_of-other_root.ensures.root root one in
+    joined_same root _ _ _ (omega (arith, first, second)) both

@@ -1,0 +1,8 @@
+//! Districts that don't hold together, Iowa Code 42.4(3), each with two of its blocks that no path within it joins.
+#![tactic(auto)]
+
+pub mod breaks;
+mod forest;
+mod lowest;
+#[cfg(test)]
+mod tests;

@@ -1,0 +1,7 @@
+use Rattle.std.proofs.Common.{◌≡◌, filter}
+use Rattle.audit_population.specs.People.{districts}
+use Rattle.audit_population.specs.Clauses.{deviates}
+use Rattle.audit_population.proofs.clauses.congress_breaks.Given as goal
+
+abbrev pub invariant-loop-i : goal.invariant-loop-i
+invariant-loop-i l = l.breaks.items ≡ filter (deviates l.populations l.fn.total) (districts l.i)

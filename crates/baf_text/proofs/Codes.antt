@@ -1,0 +1,75 @@
+-- The fields of a printed line, as they are read.
+use Rattle.std.proofs.Common.{◌≡◌, ℕ, ◌-◌, ◌<◌, ◌≤◌, ◌^◌, true, false, cond, eqb, List, ◌++◌, length, replicate, zero, suc, refl, ◌∙◌, ap, arith, Option, Some, None}
+use Rattle.std.specs.Prelude.{codes, nat_eq}
+use Rattle.std.specs.Char.{is_ascii_digit}
+use Rattle.std.specs.Fmt.{decimal}
+use Rattle.std.specs.List.{list_all}
+use Rattle.std.specs.Cmp.Lexicographic.{pointwise}
+use Rattle.std.specs.Str.Parse.{digits_value}
+use Rattle.std.proofs.Math.Dec.{eqb-suc-zero}
+use Rattle.std.proofs.lemmas.Bool.{ne_eqb, le-leb, and_from, false_from_ne_true}
+use Rattle.std.proofs.lemmas.Slice.Eq.{bytes_eq-Decides}
+use Rattle.std.proofs.lemmas.List.Folds.{list_all-append}
+use Rattle.std.proofs.lemmas.Fmt.{length-decimal-le, digits_decimal, digits_value-decimal}
+use Rattle.desk_model.specs.declared.kind.Kind.{Kind}
+use Rattle.desk_model.specs.declared.kind.Kind.TheVariants.{Congress, Senate, House}
+use Rattle.desk_model.specs.Baf.{code_value, padded_decimal, code_text, in_range}
+use Rattle.baf_text.specs.Laws.{greatest_district}
+use Rattle.baf_text.proofs.Printing.{length-padded}
+use Rattle.baf_text.proofs.Rows.{own}
+
+-- so many digits, which write n
+pub record Writes (width n : ℕ) (text : List ℕ) : Type 0 where
+  pub long : length text ≡ width
+  pub digits : list_all is_ascii_digit text ≡ true
+  pub value : digits_value 10 text ≡ n
+
+zeros_are_digits : (k : ℕ) → list_all is_ascii_digit (replicate k 48) ≡ true
+zeros_are_digits zero = refl
+zeros_are_digits (suc k) = zeros_are_digits k
+
+value_after_zeros : (k : ℕ) (text : List ℕ) → digits_value 10 (replicate k 48 ++ text) ≡ digits_value 10 text
+value_after_zeros zero text = refl
+value_after_zeros (suc k) text = value_after_zeros k text
+
+pub padded_writes : (width n : ℕ) → 0 < width → n < 10 ^ width → n < 2 ^ 64 → Writes width n (padded_decimal width n)
+padded_writes width n some small word = record {
+  long = omega (arith, length-padded width n, length-decimal-le width n some small word);
+  digits = list_all-append is_ascii_digit (replicate zeros 48) (decimal n) ∙ and_from _ _ (zeros_are_digits zeros) (digits_decimal own n word);
+  value = value_after_zeros zeros (decimal n) ∙ digits_value-decimal own n word;
+}
+  where
+    zeros : ℕ
+    zeros = width - length (decimal n)
+
+-- digits aren't letters
+no_letters : (text letters : List ℕ) → list_all is_ascii_digit text ≡ true → list_all is_ascii_digit letters ≡ false → pointwise nat_eq text letters ≡ false
+no_letters text letters digits not = false_from_ne_true _ (λ same.
+    let e : list_all is_ascii_digit text ≡ list_all is_ascii_digit letters = ap (list_all is_ascii_digit) ((bytes_eq-Decides text letters).0 same) in
+    cc)
+
+code_of_digits : (width n : ℕ) (text : List ℕ) → 0 < width → width ≤ 3 → Writes width n text → code_value text ≡ Some (Some n)
+code_of_digits width n text some few w =
+    rw (
+      ne_eqb (length text) 0 (λ e. omega (arith, w.long)),
+      no_letters text (codes "ZZ") w.digits refl,
+      no_letters text (codes "ZZZ") w.digits refl,
+      le-leb (length text) 3 (omega (arith, w.long)),
+      w.digits,
+    ) (ap (λ (v : ℕ). Some (Some v)) w.value)
+
+-- what a code says: nothing, or the district
+abbrev pub said : ℕ → Option ℕ
+said d = cond (eqb d 0) None (Some d)
+
+pub code_again : (kind : Kind) (d : ℕ) → d ≤ greatest_district kind → code_value (code_text kind d) ≡ Some (said d)
+code_again Congress zero most = refl
+code_again Senate zero most = refl
+code_again House zero most = refl
+code_again Congress (suc d) most = rw (eqb-suc-zero d) (code_of_digits 2 (suc d) _ (omega arith) (omega arith) (padded_writes 2 (suc d) (omega arith) (omega arith) (omega arith)))
+code_again Senate (suc d) most = rw (eqb-suc-zero d) (code_of_digits 3 (suc d) _ (omega arith) (omega arith) (padded_writes 3 (suc d) (omega arith) (omega arith) (omega arith)))
+code_again House (suc d) most = rw (eqb-suc-zero d) (code_of_digits 3 (suc d) _ (omega arith) (omega arith) (padded_writes 3 (suc d) (omega arith) (omega arith) (omega arith)))
+
+pub in_range_again : (n d : ℕ) → d ≤ n → in_range n (said d) ≡ Some d
+in_range_again n zero le = refl
+in_range_again n (suc d) le = rw (eqb-suc-zero d, le-leb 1 (suc d) (omega arith), le-leb (suc d) n le) refl

@@ -1,0 +1,68 @@
+-- The parts of a printed text.
+use Rattle.std.proofs.Common.{◌≡◌, ℕ, ◌+◌, ◌-◌, ◌<◌, ◌≤◌, List, [], ◌∷◌, ◌++◌, length, take, drop, get_or, replicate, zero, suc, sym, ◌∙◌, ap, arith, append_assoc, length-append, length-drop, take-append-drop, add-one}
+use Rattle.std.specs.Fmt.{decimal}
+use Rattle.std.specs.List.{flat_map, zip}
+use Rattle.std.proofs.lemmas.List.{take-take, take-replicate, drop-replicate, drop-append-le, length-replicate, append-nil, take_all, length-map}
+use Rattle.std.proofs.lemmas.List.Concat.{flat_map-append}
+use Rattle.desk_model.specs.declared.block.BlockRow.{BlockRow}
+use Rattle.desk_model.specs.declared.kind.Kind.{Kind}
+use Rattle.desk_model.specs.Baf.{header, padded_decimal, row_text}
+use Rattle.desk_model.specs.Geography.{ids_of}
+
+-- zeros before a place are zeros before an earlier one
+pub zeros_below : (xs : List ℕ) (n m : ℕ) → n ≤ m → take m xs ≡ replicate m 48 → take n xs ≡ replicate n 48
+zeros_below xs n m le zeros = sym (take-take n m xs le) ∙ ap (take n) zeros ∙ take-replicate n m 48 le
+
+-- digits after zeros, from so many places before their end
+pub padded_from : (row tail : List ℕ) (start from width n : ℕ) → take start row ≡ replicate start 48 → drop start row ≡ decimal n ++ tail → from ≤ start
+    → start - from ≡ width - length (decimal n) → drop from row ≡ padded_decimal width n ++ tail
+padded_from row tail start from width n zeros digits le zeros_are =
+    ap (drop from) (sym (take-append-drop start row) ∙ ap (λ xs. xs ++ drop start row) zeros)
+    ∙ drop-append-le from (replicate start 48) (drop start row) (omega (arith, length-replicate {A = ℕ} start 48))
+    ∙ ap (λ xs. xs ++ drop start row) (drop-replicate from start 48 ∙ ap (λ k. replicate k 48) zeros_are)
+    ∙ ap (λ xs. replicate (width - length (decimal n)) 48 ++ xs) digits
+    ∙ sym (append_assoc (replicate (width - length (decimal n)) 48) (decimal n) tail)
+
+pub length-padded : (width n : ℕ) → length (padded_decimal width n) ≡ (width - length (decimal n)) + length (decimal n)
+length-padded width n = length-append (replicate (width - length (decimal n)) 48) (decimal n)
+    ∙ ap (λ k. k + length (decimal n)) (length-replicate {A = ℕ} (width - length (decimal n)) 48)
+
+-- where so many bytes stand before the rest of a row
+pub width_of : (row old text : List ℕ) (start end : ℕ) → start ≤ end → end ≤ length old → length row ≡ length old → drop start row ≡ text ++ drop end old → end ≡ start + length text
+width_of row old text start end le within same written =
+    omega (arith, ap length written, length-drop start row, length-drop end old, length-append text (drop end old))
+
+length-zip-le : (xs ys : List ℕ) → length (zip xs ys) ≤ length xs
+length-zip-le [] ys = omega arith
+length-zip-le (x ∷ xs) [] = omega arith
+length-zip-le (x ∷ xs) (y ∷ ys) = omega (arith, length-zip-le xs ys)
+
+zip_more : (blocks : List BlockRow) (ds : List ℕ) (i : ℕ) (b : BlockRow) → i < length blocks → i < length ds → b ≡ get_or blocks i b
+    → take (suc i) (zip (ids_of blocks) ds) ≡ take i (zip (ids_of blocks) ds) ++ (b.id, get_or ds i 0) ∷ []
+zip_more [] ds i b within inside is = absurd (omega arith)
+zip_more (x ∷ xs) [] i b within inside is = absurd (omega arith)
+zip_more (x ∷ xs) (y ∷ ys) zero b within inside is = ap (λ (r : BlockRow). (r.id, y) ∷ []) (sym is)
+zip_more (x ∷ xs) (y ∷ ys) (suc i) b within inside is = ap (λ (rows : List (ℕ × ℕ)). (x.id, y) ∷ rows) (zip_more xs ys i b (omega arith) (omega arith) is)
+
+-- the rows with one block more
+rows_more : (kind : Kind) (blocks : List BlockRow) (ds : List ℕ) (i : ℕ) (b : BlockRow) → i < length blocks → i < length ds → b ≡ get_or blocks i b
+    → flat_map (row_text kind) (take (i + 1) (zip (ids_of blocks) ds)) ≡ flat_map (row_text kind) (take i (zip (ids_of blocks) ds)) ++ row_text kind (b.id, get_or ds i 0)
+rows_more kind blocks ds i b within inside is =
+    ap (flat_map (row_text kind)) (ap (λ k. take k (zip (ids_of blocks) ds)) (add-one i) ∙ zip_more blocks ds i b within inside is)
+    ∙ flat_map-append (row_text kind) (take i (zip (ids_of blocks) ds)) ((b.id, get_or ds i 0) ∷ [])
+    ∙ ap (λ xs. flat_map (row_text kind) (take i (zip (ids_of blocks) ds)) ++ xs) (append-nil (row_text kind (b.id, get_or ds i 0)))
+
+all_rows : (blocks : List BlockRow) (ds : List ℕ) (i : ℕ) → length blocks ≤ i → take i (zip (ids_of blocks) ds) ≡ zip (ids_of blocks) ds
+all_rows blocks ds i end = take_all i (zip (ids_of blocks) ds) (omega (arith, length-zip-le (ids_of blocks) ds, length-map blocks (λ (b : BlockRow). b.id)))
+
+-- the text with one row more, and with all rows
+pub text_more : (kind : Kind) (blocks : List BlockRow) (ds old new : List ℕ) (i : ℕ) (b : BlockRow) → i < length blocks → length ds ≡ length blocks → b ≡ get_or blocks i b
+    → old ≡ header ++ 10 ∷ flat_map (row_text kind) (take i (zip (ids_of blocks) ds)) → new ≡ old ++ row_text kind (b.id, get_or ds i 0)
+    → new ≡ header ++ 10 ∷ flat_map (row_text kind) (take (i + 1) (zip (ids_of blocks) ds))
+text_more kind blocks ds old new i b within same is before pushed =
+    pushed ∙ ap (λ xs. xs ++ row_text kind (b.id, get_or ds i 0)) before
+    ∙ ap (λ xs. header ++ 10 ∷ xs) (sym (rows_more kind blocks ds i b within (omega arith) is))
+
+pub text_whole : (kind : Kind) (blocks : List BlockRow) (ds text : List ℕ) (i : ℕ) → length blocks ≤ i
+    → text ≡ header ++ 10 ∷ flat_map (row_text kind) (take i (zip (ids_of blocks) ds)) → text ≡ header ++ 10 ∷ flat_map (row_text kind) (zip (ids_of blocks) ds)
+text_whole kind blocks ds text i end is = is ∙ ap (λ rows. header ++ 10 ∷ flat_map (row_text kind) rows) (all_rows blocks ds i end)

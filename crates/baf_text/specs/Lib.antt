@@ -1,0 +1,4 @@
+pub mod Body
+pub mod Faults
+pub mod Laws
+pub mod Listed

@@ -1,0 +1,15 @@
+-- A plan's name is ASCII.
+use Rattle.std.proofs.Common.{◌≡◌, ◌<◌, ◌&&◌, nat_le, ℕ, true, List, length, arith}
+use Rattle.std.specs.Str.{IsAscii}
+use Rattle.std.specs.List.{list_all}
+use Rattle.std.proofs.lemmas.Str.Ascii.{IsAscii-from_all}
+use Rattle.std.proofs.lemmas.Bool.{and_parts}
+use Rattle.std.proofs.lemmas.List.Sums.{AllPass-from_list_all}
+use Rattle.std.proofs.lemmas.Bool.Decides.{nat_tests}
+use Rattle.desk_model.specs.Name.{is_name_byte, IsPlanName}
+
+small : (b : ℕ) → is_name_byte b ≡ true → b < 128
+small b is = grind (arith, nat_tests)
+
+pub name_is_ascii : (bytes : List ℕ) → IsPlanName bytes → IsAscii bytes
+name_is_ascii bytes is = IsAscii-from_all bytes (λ k d within. small _ (AllPass-from_list_all is_name_byte bytes (and_parts (nat_le 1 (length bytes) && nat_le (length bytes) 64) (list_all is_name_byte bytes) is).1 k d within))

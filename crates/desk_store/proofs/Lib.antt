@@ -1,0 +1,4 @@
+pub mod AsMap
+pub mod Rising
+pub mod Search
+pub mod Spots

@@ -1,0 +1,4 @@
+pub mod Clerks
+pub mod Codes
+pub mod Places
+pub mod Shelves

@@ -1,0 +1,6 @@
+pub mod Images
+pub mod Commit
+mod Lists
+pub mod Headers
+mod Quiet
+pub mod Overlays

@@ -1,0 +1,158 @@
+-- What an opening may leave.
+use Rattle.std.proofs.Common.{◌≡◌, ◌≤◌, ◌<◌, ℕ, Result, Ok, Err, OnOk, OnErr, IsErrOf, IfErr, IsErrAnd, inl, inr, ⊎_elim, refl, sym, subst, ap, ◌∙◌, arith}
+use Rattle.sector_device.specs.Disk.{Disk, Image, AgreeOff, Nowhere, Touches, LeavesBut, IsSynced, HasCause}
+use Rattle.sector_device.specs.Moments.{LeavesOnly, leaves_from, leaves_more, leaves_wider, now_but, cause_after, on_ok}
+use Rattle.gate_journal.specs.Store.{header_of, pages, IsStore, IsStoreOf, IsSettled, Opens}
+use Rattle.gate_journal.specs.Recovery.{AllStores, HasRoom, HasLayout, ReadsAs, Found, Reopens, Recovers, Starts}
+use Rattle.gate_journal.specs.declared.layout.Layout.{Layout}
+use Rattle.gate_journal.proofs.Headers.{is_laid_out}
+use Rattle.gate_journal.specs.declared.error.JournalError.{JournalError}
+use Rattle.gate_journal.specs.declared.error.JournalError.TheVariants.{NotAStore, DeviceFault}
+use Rattle.gate_journal.specs.declared.layout.Layout.{Layout}
+
+agreed : (b c : Image) → AgreeOff Nowhere b c → b ≡ c
+agreed b c agree = λ i k. (sym (agree.same k (λ none. none))) i
+
+pub same_reads : (a b : Disk) → Touches Nowhere a b → a.reads ≡ b.reads
+same_reads a b ab = agreed a.reads b.reads ab.reads
+
+always : {T E : Type 0} {P : Type 0} (r : Result T E) → P → OnOk r P
+always (Ok x) p = p
+always (Err e) p = tt
+
+at_err : {T E : Type 0} {P : Type 0} (r : Result T E) (e : E) → IsErrOf r e → OnErr r P → P
+at_err {T = T} {E = E} {P = P} r e is on = let Q : Result T E → Type 0 = λ s. OnErr s P in subst Q is on
+
+not_both : {T : Type 0} (r : Result T JournalError) → IfErr r (λ e. e ≡ DeviceFault) → IsErrOf r NotAStore → ⊥
+not_both r only is = let same : NotAStore ≡ DeviceFault = subst (λ s. IfErr s (λ e. e ≡ DeviceFault)) is only in cc
+
+no_fewer : {T E : Type 0} (a b : Disk) (r : Result T E) → HasCause a b r → a.faults ≤ b.faults
+no_fewer a b (Ok x) cause = let e = cause.passed in omega arith
+no_fewer a b (Err x) cause = let e = cause.failed in omega arith
+
+-- nothing was written since the opening began
+module _ (a : Disk) (all : AllStores a) where
+  here : (c : Image) → a.leaves c → ReadsAs a c
+  here c leaves =
+      let is = all c leaves in
+      record { was = c; left = leaves; J = is.J; n = is.n; whole = is.whole; store = is.store; opens = record { store = is.store; each = λ p. refl } }
+
+  there : (c : Image) → LeavesBut Nowhere a c → ReadsAs a c
+  there c but = subst (λ (x : Image). ReadsAs a x) (agreed but.0 c but.2) (here but.0 but.1)
+
+  pub quiet_reads : (b : Disk) → Touches Nowhere a b → LeavesOnly (ReadsAs a) a b
+  quiet_reads b ab = record {
+    later = ab.later;
+    each = λ c left. ⊎_elim (λ was. here c (a.only_now c was)) (λ but. there c but) (ab.since a.moment c (omega arith) left);
+    before = λ t c le left. ⊎_elim (λ was. inl was) (λ but. inr (there c but)) (ab.since t c le left);
+  }
+
+  -- what is read then is a store
+  pub reads_store : (b : Disk) → Touches Nowhere a b → IsStoreOf b.sectors b.reads
+  reads_store b ab =
+      let but = now_but Nowhere a b ab b.reads b.as_read in
+      let is = all but.0 but.1 in
+      record { J = is.J; n = is.n; whole = is.whole ∙ sym ab.sectors; store = subst (λ (x : Image). IsStore is.J is.n x) (agreed but.0 b.reads but.2) is.store }
+
+-- the pages that are read are those of an image that a stop might have left
+pub quiet_found : (J n : ℕ) (a b d : Disk) → Touches Nowhere a b → b.reads 0 ≡ header_of J n → pages J d.reads ≡ pages J b.reads → Found J n a d
+quiet_found J n a b d ab header same =
+    let but = now_but Nowhere a b ab b.reads b.as_read in
+    record { was = but.0; left = but.1; header = sym (but.2.same 0 (λ none. none)) ∙ header; same = same ∙ sym (ap (λ (x : Image). pages J x) (agreed but.0 b.reads but.2)) }
+
+module _ (J n : ℕ) (a : Disk) (synced : IsSynced a) where
+  -- nothing was written since the gate was read
+  pub quiet_opens : (b : Disk) → IsStore J n a.reads → Touches Nowhere a b → LeavesOnly (Opens J n (pages J a.reads)) a b
+  quiet_opens b store ab = leaves_from (Opens J n (pages J a.reads)) Nowhere a b synced ab (λ c agree. subst (λ (x : Image). Opens J n (pages J a.reads) x) (agreed a.reads c agree) (record { store = store; each = λ p. refl }))
+
+  pub quiet_recovers : {T : Type 0} (b : Disk) (r : Result T JournalError) → Touches Nowhere a b → OnOk r (b.faults ≡ a.faults) → (IsErrOf r DeviceFault → a.faults < b.faults) → (IsErrOf r NotAStore → IsStore J n a.reads → ⊥) → OnOk r (IsSettled J n b) → Recovers J n a b r
+  quiet_recovers b r ab passed faulted refused settled = record {
+    was_honest = ab.was_honest;
+    faults = ab.faults;
+    any_moment = λ store. quiet_opens b store ab;
+    passed = passed;
+    faulted = faulted;
+    refused = refused;
+    settled = settled;
+    after = always r (ap (λ (x : Image). pages J x) (sym (same_reads a b ab)));
+  }
+
+  pub fault_recovers : {T : Type 0} (b : Disk) (r : Result T JournalError) → IsErrAnd r (λ e. e ≡ DeviceFault) → Touches Nowhere a b → a.faults < b.faults → Recovers J n a b r
+  fault_recovers b (Ok x) is ab rose = absurd is
+  fault_recovers b (Err e) is ab rose = quiet_recovers b (Err e) ab tt (λ _. rose) (λ was store. not_both (Err e) is was) tt
+
+  -- after the gate was found open
+  pub back_recovers : {T : Type 0} (d e : Disk) (r : Result T JournalError) → Touches Nowhere a d → d.faults ≡ a.faults → Reopens J n d e r → Recovers J n a e r
+  back_recovers d e r ad passed re =
+      let same = same_reads a d ad in
+      let cause = cause_after a d e r passed re.cause in
+      record {
+        was_honest = ad.was_honest;
+        faults = no_fewer a e r cause;
+        any_moment = λ store. leaves_more (Opens J n (pages J a.reads)) a d e (quiet_opens d store ad) (subst (λ (x : Image). LeavesOnly (Opens J n (pages J x)) d e) (sym same) re.any_moment);
+        passed = cause.passed;
+        faulted = λ is. at_err r DeviceFault is cause.failed;
+        refused = λ is store. not_both r re.only is;
+        settled = re.settled;
+        after = on_ok r (λ p. p ∙ ap (λ (x : Image). pages J x) (sym same)) re.after;
+      }
+
+pub fault_starts : (a b : Disk) (r : Result Layout JournalError) → IsErrAnd r (λ e. e ≡ DeviceFault) → Touches Nowhere a b → a.faults < b.faults → Starts a b r
+fault_starts a b (Ok x) is ab rose = absurd is
+fault_starts a b (Err e) is ab rose = record {
+  was_honest = ab.was_honest;
+  faults = ab.faults;
+  any_moment = λ all. quiet_reads a all b ab;
+  passed = tt;
+  faulted = λ _. rose;
+  refused = λ was all. not_both (Err e) is was;
+  settled = tt;
+  found = tt;
+}
+
+-- after the header was read
+module _ (a d e : Disk) (l : Layout) (ad : Touches Nowhere a d) (passed : d.faults ≡ a.faults) (room : HasRoom d.sectors l.journal_pages l.pages) (layout : HasLayout d.reads l) where
+  store_at : AllStores a → IsStore l.journal_pages l.pages d.reads
+  store_at all = is_laid_out d.sectors d.reads l.journal_pages l.pages room layout (reads_store a all d ad)
+
+  reads_as : AllStores a → (c : Image) → Opens l.journal_pages l.pages (pages l.journal_pages d.reads) c → ReadsAs a c
+  reads_as all c opens =
+      let but = now_but Nowhere a d ad d.reads d.as_read in
+      let same : d.reads ≡ but.0 = sym (agreed but.0 d.reads but.2) in
+      record {
+        was = but.0;
+        left = but.1;
+        J = l.journal_pages;
+        n = l.pages;
+        whole = room.whole ∙ ad.sectors;
+        store = subst (λ (x : Image). IsStore l.journal_pages l.pages x) same (store_at all);
+        opens = subst (λ (x : Image). Opens l.journal_pages l.pages (pages l.journal_pages x) c) same opens;
+      }
+
+  moments : {T : Type 0} (r : Result T JournalError) → Recovers l.journal_pages l.pages d e r → AllStores a → LeavesOnly (ReadsAs a) a e
+  moments r de all = leaves_more (ReadsAs a) a d e (quiet_reads a all d ad) (leaves_wider (Opens l.journal_pages l.pages (pages l.journal_pages d.reads)) (ReadsAs a) d e (reads_as all) (de.any_moment (store_at all)))
+
+  pub starts_ok : {T : Type 0} (x : T) → Recovers l.journal_pages l.pages d e (Ok x) → Starts a e (Ok l)
+  starts_ok x de = record {
+    was_honest = ad.was_honest;
+    faults = omega (arith, ad.faults, de.faults);
+    any_moment = moments (Ok x) de;
+    passed = de.passed ∙ passed;
+    faulted = λ is. let never : Ok l ≡ Err DeviceFault = is in cc;
+    refused = λ is all. let never : Ok l ≡ Err NotAStore = is in cc;
+    settled = de.settled;
+    found = quiet_found l.journal_pages l.pages a d e ad layout de.after;
+  }
+
+  pub starts_err : {T : Type 0} (x : JournalError) (r : Result Layout JournalError) → IsErrAnd r (λ y. y ≡ x) → Recovers {T = T} l.journal_pages l.pages d e (Err x) → Starts a e r
+  starts_err {T = T} x (Ok y) is de = absurd is
+  starts_err {T = T} x (Err y) is de = record {
+    was_honest = ad.was_honest;
+    faults = omega (arith, ad.faults, de.faults);
+    any_moment = moments {T = T} (Err x) de;
+    passed = tt;
+    faulted = λ was. let same : x ≡ DeviceFault = sym (subst (λ (s : Result Layout JournalError). IfErr s (λ e. e ≡ x)) was is) in let rose = de.faulted (λ i. Err (same i)) in omega (arith, passed, rose);
+    refused = λ was all. let same : x ≡ NotAStore = sym (subst (λ (s : Result Layout JournalError). IfErr s (λ e. e ≡ x)) was is) in de.refused (λ i. Err (same i)) (store_at all);
+    settled = tt;
+    found = tt;
+  }

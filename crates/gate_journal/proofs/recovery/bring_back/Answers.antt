@@ -1,0 +1,69 @@
+use Rattle.std.proofs.Common.{◌≡◌, ◌∙◌, ◌+◌, rules}
+use Rattle.sector_device.specs.Disk.{Nowhere}
+use Rattle.sector_device.specs.Moments.{LeavesOnly, touches_more}
+use Rattle.gate_journal.specs.Store.{Opens, pages, Homes, home, copies}
+use Rattle.gate_journal.specs.Steps.{HasHomes}
+use Rattle.gate_journal.proofs.Commit.{back_leaves, shut_leaves, reopened, reshut}
+use Rattle.gate_journal.proofs.recovery.bring_back.Goals as goal
+
+pub returns-in_err-copy_back-clause-model : goal.returns-in_err-copy_back-clause-model
+returns-in_err-copy_back-clause-model g c = λ honest synced is_open counted store.
+    let J = c.args.layout.journal_pages in
+    let n = c.args.layout.pages in
+    let a = g.D.SectorDevice.disk c.args.device.now in
+    let b = g.D.SectorDevice.disk c.copy_back.new.device in
+    let back = c.copy_back.ensures.model honest counted (store.list is_open) in
+    let moment : LeavesOnly (Opens J n (pages J a.reads)) a b = back_leaves J n a store synced is_open b back.touches in
+    search rules
+
+pub returns-in_err-sync-clause-model : goal.returns-in_err-sync-clause-model
+returns-in_err-sync-clause-model g c = λ honest synced is_open counted store.
+    let J = c.args.layout.journal_pages in
+    let n = c.args.layout.pages in
+    let a = g.D.SectorDevice.disk c.args.device.now in
+    let b = g.D.SectorDevice.disk c.copy_back.new.device in
+    let d = g.D.SectorDevice.disk c.sync.new.self in
+    let s = c.sync.ensures.model honest in
+    let back = c.in_ok-copy_back.ensures.model s.0.was_honest counted (store.list is_open) in
+    let touches = touches_more (Homes (home J) (copies J a.reads)) Nowhere a b d (λ i none. absurd none) back.touches s.0 in
+    let moment : LeavesOnly (Opens J n (pages J a.reads)) a d = back_leaves J n a store synced is_open d touches in
+    let passed : b.faults ≡ a.faults = back.cause.passed in
+    search rules
+
+pub returns-in_err-set_gate-clause-model : goal.returns-in_err-set_gate-clause-model
+returns-in_err-set_gate-clause-model g c = λ honest synced is_open counted store.
+    let J = c.args.layout.journal_pages in
+    let n = c.args.layout.pages in
+    let a = g.D.SectorDevice.disk c.args.device.now in
+    let b = g.D.SectorDevice.disk c.copy_back.new.device in
+    let d = g.D.SectorDevice.disk c.sync.new.self in
+    let e = g.D.SectorDevice.disk c.set_gate.new.device in
+    let last = c.set_gate.ensures.model honest in
+    let s = c.in_ok-sync.ensures.model last.touches.was_honest in
+    let back = c.in_ok-copy_back.ensures.model s.0.was_honest counted (store.list is_open) in
+    let touches = touches_more (Homes (home J) (copies J a.reads)) Nowhere a b d (λ i none. absurd none) back.touches s.0 in
+    let homes : HasHomes (home J) (copies J a.reads) a d = λ p. s.0.reads.same (home J + p) (λ none. none) ∙ back.done p in
+    let moment : LeavesOnly (Opens J n (pages J a.reads)) a e = shut_leaves J n a store synced is_open d e touches homes (c.in_ok-sync.ensures.synced last.touches.was_honest) last.touches in
+    let passed : d.faults ≡ a.faults = s.1.passed ∙ back.cause.passed in
+    search rules
+
+pub returns-clause-model : goal.returns-clause-model
+returns-clause-model g c = λ honest synced is_open counted store.
+    let J = c.args.layout.journal_pages in
+    let n = c.args.layout.pages in
+    let a = g.D.SectorDevice.disk c.args.device.now in
+    let b = g.D.SectorDevice.disk c.copy_back.new.device in
+    let d = g.D.SectorDevice.disk c.sync.new.self in
+    let e = g.D.SectorDevice.disk c.set_gate.new.device in
+    let last = c.in_ok-set_gate.ensures.model honest in
+    let s = c.in_ok-sync.ensures.model last.touches.was_honest in
+    let back = c.in_ok-copy_back.ensures.model s.0.was_honest counted (store.list is_open) in
+    let touches = touches_more (Homes (home J) (copies J a.reads)) Nowhere a b d (λ i none. absurd none) back.touches s.0 in
+    let homes : HasHomes (home J) (copies J a.reads) a d = λ p. s.0.reads.same (home J + p) (λ none. none) ∙ back.done p in
+    record {
+      any_moment = shut_leaves J n a store synced is_open d e touches homes (c.in_ok-sync.ensures.synced last.touches.was_honest) last.touches;
+      cause = record { failed = tt; passed = last.cause.passed ∙ s.1.passed ∙ back.cause.passed };
+      only = tt;
+      settled = reshut J n a store synced is_open d e touches last.touches last.done;
+      after = reopened J n a store synced is_open d e homes last.touches last.done;
+    }

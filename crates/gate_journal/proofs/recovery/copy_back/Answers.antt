@@ -1,0 +1,74 @@
+use Rattle.std.proofs.Common.{◌≡◌, ◌+◌, ◌∙◌, take, subst, rules, arith}
+use Rattle.std.proofs.lemmas.List.{take_all}
+use Rattle.gate_journal.specs.Steps.{HasHomes}
+use Rattle.sector_device.specs.Disk.{Nowhere}
+use Rattle.sector_device.specs.Moments.{touches_more}
+use Rattle.gate_journal.specs.Store.{Homes, home, copies}
+use Rattle.gate_journal.proofs.Commit.{back_more, back_touches, entry_same, count_is}
+use Rattle.gate_journal.proofs.recovery.copy_back.Goals as goal
+
+pub loop-k-preserved : goal.loop-k-preserved
+loop-k-preserved g c = record {
+  sectors = search rules;
+  honest = λ honest. c.loop-k.invariant.honest (c.in_ok-page.ensures.model (c.in_ok-copy_sector.ensures.model honest).touches.was_honest).0.was_honest;
+  so_far = λ honest counted valid.
+      let J = c.args.layout.journal_pages in
+      let a = g.D.SectorDevice.disk c.args.device.now in
+      let b = g.D.SectorDevice.disk c.loop-k.device in
+      let e = g.D.SectorDevice.disk c.list_entry.new.device in
+      let d = g.D.SectorDevice.disk c.copy_sector.new.device in
+      let copied = c.in_ok-copy_sector.ensures.model honest in
+      let entry = c.in_ok-page.ensures.model copied.touches.was_honest in
+      let so_far = c.loop-k.invariant.so_far entry.0.was_honest counted valid in
+      let both = back_more J a b e d c.loop-k.k c.in_ok-page.page valid.count (omega (arith, counted)) so_far.touches so_far.done entry.0 (c.in_ok-page.ensures.entry copied.touches.was_honest) copied.touches copied.done in
+      record {
+        touches = both.0;
+        passed = copied.cause.passed ∙ entry.1.passed ∙ so_far.passed;
+        done = both.1;
+      };
+}
+
+pub returns-in_err-page-clause-model : goal.returns-in_err-page-clause-model
+returns-in_err-page-clause-model g c = λ honest counted valid.
+    let J = c.args.layout.journal_pages in
+    let a = g.D.SectorDevice.disk c.args.device.now in
+    let entry = c.list_entry.ensures.model honest in
+    let so_far = c.loop-k.invariant.so_far entry.0.was_honest counted valid in
+    let touches = touches_more (Homes (home J) (copies J a.reads)) Nowhere _ _ _ (λ i none. absurd none) so_far.touches entry.0 in
+    search rules
+
+pub returns-then-page-layout-clause-model : goal.returns-then-page-layout-clause-model
+returns-then-page-layout-clause-model g c = λ honest counted valid.
+    let J = c.args.layout.journal_pages in
+    let a = g.D.SectorDevice.disk c.args.device.now in
+    let entry = c.in_ok-page.ensures.model honest in
+    let so_far = c.loop-k.invariant.so_far entry.0.was_honest counted valid in
+    let is = c.in_ok-page.ensures.entry honest ∙ entry_same J a (g.D.SectorDevice.disk c.loop-k.device) (c.loop-k.k + 1) (omega arith) so_far.touches in
+    absurd (omega (arith, is, counted, c.if-page-layout.true, valid.each c.loop-k.k (omega (arith, counted))))
+
+pub returns-in_err-copy_sector-clause-model : goal.returns-in_err-copy_sector-clause-model
+returns-in_err-copy_sector-clause-model g c = λ honest counted valid.
+    let J = c.args.layout.journal_pages in
+    let a = g.D.SectorDevice.disk c.args.device.now in
+    let b = g.D.SectorDevice.disk c.loop-k.device in
+    let e = g.D.SectorDevice.disk c.list_entry.new.device in
+    let d = g.D.SectorDevice.disk c.copy_sector.new.device in
+    let copied = c.copy_sector.ensures.model honest in
+    let entry = c.in_ok-page.ensures.model copied.touches.was_honest in
+    let so_far = c.loop-k.invariant.so_far entry.0.was_honest counted valid in
+    let touches = back_touches J a b e d c.loop-k.k c.in_ok-page.page valid.count (omega (arith, counted)) so_far.touches entry.0 (c.in_ok-page.ensures.entry copied.touches.was_honest) copied.touches in
+    let passed : e.faults ≡ a.faults = entry.1.passed ∙ so_far.passed in
+    search rules
+
+pub returns-clause-model : goal.returns-clause-model
+returns-clause-model g c = λ honest counted valid.
+    let J = c.args.layout.journal_pages in
+    let a = g.D.SectorDevice.disk c.args.device.now in
+    let so_far = c.loop-k.invariant.so_far honest counted valid in
+    let all : take c.loop-k.k (copies J a.reads) ≡ copies J a.reads = take_all _ _ (omega (arith, count_is J a, counted)) in
+    record {
+      touches = so_far.touches;
+      cause = record { failed = tt; passed = so_far.passed };
+      only = tt;
+      done = subst (λ ws. HasHomes (home J) ws a (g.D.SectorDevice.disk c.loop-k.device)) all so_far.done;
+    }

@@ -1,0 +1,6 @@
+pub mod Store
+pub mod Steps
+pub mod Recovery
+pub mod Contents
+pub mod Writes
+pub mod Format

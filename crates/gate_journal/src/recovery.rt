@@ -1,0 +1,118 @@
+//! What an open gate left behind is brought home.
+ghost use Rattle.std.specs.Prelude.{◌≡◌, ◌+◌, ◌*◌, ◌≤◌, ◌<◌, ◌/◌, ◌⊎◌, ℕ, length, IfOk, IfErr, IsTrue};
+ghost use Rattle.sector_device.specs.Disk.{Disk, Touches, Step, HasCause, Nowhere, Only, IsSynced};
+ghost use Rattle.gate_journal.specs.Store.{word, list_word, home, gate, IsValid, IsStore};
+ghost use Rattle.gate_journal.specs.Recovery.{CopiesBack, Copied, NamesPages, SectorNames, Reopens};
+
+use crate::error::JournalError;
+use crate::layout::{Layout, copies_begin, homes_begin};
+use crate::steps::set_gate;
+use crate::words::word_at;
+use sector_device::{DeviceFault, SectorDevice};
+
+/// Reads a word of the list.
+pub fn list_entry<D: SectorDevice>(device: &mut D, k: u32) -> Result<u32, DeviceFault>
+    requires { 2 + k / 1024 < (D.disk device.old).sectors }
+    ensures sectors { (D.disk device.new).sectors ≡ (D.disk device.old).sectors }
+    ensures model { (D.disk device.new).is_honest → Touches Nowhere (D.disk device.old) (D.disk device.new) × HasCause (D.disk device.old) (D.disk device.new) result }
+    ensures entry { (D.disk device.new).is_honest → IfOk result (λ n. n ≡ list_word (D.disk device.old).reads k) }
+{
+    let mut sector = [0; 4096];
+    device.read(2 + k / 1024, &mut sector)?;
+    Ok(word_at(&sector, (k % 1024) as usize))
+}
+
+/// Whether the words of a sector of the list, of which the first is the `from`-th, name pages of the store.
+fn names_pages(sector: &[u8; 4096], from: u32, count: u32, pages: u32) -> bool
+    requires from { from ≤ count }
+    requires limit { count ≤ 65536 }
+    ensures good { IsTrue result → SectorNames from count pages sector.now 1024 }
+    ensures bad { SectorNames from count pages sector.now 1024 → IsTrue result }
+{
+    for j in 0..1024 {
+        let k = from + j;
+        if k >= 1 && k <= count && word_at(sector, j as usize) >= pages {
+            return false;
+        }
+    }
+    true
+}
+
+/// Whether each page that the list names is one of the store's.
+pub fn list_fits<D: SectorDevice>(
+    device: &mut D,
+    layout: Layout,
+    count: u32,
+) -> Result<bool, DeviceFault>
+    requires few { count ≤ layout.journal_pages }
+    requires limit { layout.journal_pages ≤ 65536 }
+    requires room { home layout.journal_pages ≤ (D.disk device.old).sectors }
+    ensures sectors { (D.disk device.new).sectors ≡ (D.disk device.old).sectors }
+    ensures model { (D.disk device.new).is_honest → Touches Nowhere (D.disk device.old) (D.disk device.new) × HasCause (D.disk device.old) (D.disk device.new) result }
+    ensures fits { (D.disk device.new).is_honest → IfOk result (λ good. (IsTrue good → NamesPages count layout.pages (D.disk device.old).reads) × (NamesPages count layout.pages (D.disk device.old).reads → IsTrue good)) }
+{
+    let mut sector = [0; 4096];
+    for s in 0..count / 1024 + 1 {
+        device.read(2 + s, &mut sector)?;
+        if !names_pages(&sector, 1024 * s, count, layout.pages) {
+            return Ok(false);
+        }
+    }
+    Ok(true)
+}
+
+/// Copies a sector.
+fn copy_sector<D: SectorDevice>(device: &mut D, from: u32, to: u32) -> Result<(), DeviceFault>
+    requires from { from < (D.disk device.old).sectors }
+    requires to { to < (D.disk device.old).sectors }
+    ensures sectors { (D.disk device.new).sectors ≡ (D.disk device.old).sectors }
+    ensures model { (D.disk device.new).is_honest → Step (Only to) (Copied from to (D.disk device.old)) (D.disk device.old) (D.disk device.new) result }
+{
+    let mut sector = [0; 4096];
+    device.read(from, &mut sector)?;
+    device.write(to, &sector)
+}
+
+/// Writes each copy to its page.
+fn copy_back<D: SectorDevice>(
+    device: &mut D,
+    layout: Layout,
+    count: u32,
+) -> Result<(), JournalError>
+    requires few { count ≤ layout.journal_pages }
+    requires room { home layout.journal_pages + layout.pages ≤ (D.disk device.old).sectors }
+    ensures sectors { (D.disk device.new).sectors ≡ (D.disk device.old).sectors }
+    ensures honest { (D.disk device.new).is_honest → (D.disk device.old).is_honest }
+    ensures errs { IfErr result (λ e. (e ≡ JournalError.NotAStore) ⊎ (e ≡ JournalError.DeviceFault)) }
+    ensures model { (D.disk device.new).is_honest → count ≡ list_word (D.disk device.old).reads 0 → IsValid layout.journal_pages layout.pages (D.disk device.old).reads → CopiesBack layout.journal_pages (D.disk device.old) (D.disk device.new) result }
+{
+    let first_copy = copies_begin!(layout.journal_pages);
+    let home = first_copy + layout.journal_pages;
+    for k in 0..count {
+        let page = list_entry(device, k + 1)?;
+        if page >= layout.pages {
+            return Err(JournalError::NotAStore);
+        }
+        copy_sector(device, first_copy + k, home + page)?;
+    }
+    Ok(())
+}
+
+/// Brings home what an open gate left behind, and closes it.
+pub fn bring_back<D: SectorDevice>(
+    device: &mut D,
+    layout: Layout,
+    count: u32,
+) -> Result<(), JournalError>
+    requires few { count ≤ layout.journal_pages }
+    requires room { home layout.journal_pages + layout.pages ≤ (D.disk device.old).sectors }
+    ensures sectors { (D.disk device.new).sectors ≡ (D.disk device.old).sectors }
+    ensures honest { (D.disk device.new).is_honest → (D.disk device.old).is_honest }
+    ensures errs { IfErr result (λ e. (e ≡ JournalError.NotAStore) ⊎ (e ≡ JournalError.DeviceFault)) }
+    ensures model { (D.disk device.new).is_honest → IsSynced (D.disk device.old) → gate (D.disk device.old).reads ≡ 165 → count ≡ list_word (D.disk device.old).reads 0 → IsStore layout.journal_pages layout.pages (D.disk device.old).reads → Reopens layout.journal_pages layout.pages (D.disk device.old) (D.disk device.new) result }
+{
+    copy_back(device, layout, count)?;
+    device.sync()?;
+    set_gate(device, 0)?;
+    Ok(())
+}

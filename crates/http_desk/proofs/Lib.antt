@@ -1,0 +1,4 @@
+pub mod Adds
+pub mod BodyLemmas
+pub mod TalkLemmas
+pub mod TurnLemmas

@@ -1,0 +1,54 @@
+-- What a request asks for, by its method, its target and its body.
+use Rattle.std.specs.Prelude.{ℕ, Bool, ◌||◌, ◌==◌, if◌then◌else◌, List, Option, Some, None, codes}
+use Rattle.std.specs.List.{before_first, after_first}
+use Rattle.std.specs.Str.{bytes_eq}
+use Rattle.percent_encoding.specs.Percent.{percent_decode}
+use Rattle.desk_model.specs.Name.{plan_name_of}
+use Rattle.desk_model.specs.declared.kind.Kind.{Kind}
+use Rattle.desk_model.specs.declared.command.Command.TheVariants.{Create}
+use Rattle.desk_model.specs.declared.command.Query.TheVariants.{Plans}
+use Rattle.http_desk.specs.declared.route.Page.{Page}
+use Rattle.http_desk.specs.declared.route.Page.TheVariants as page
+use Rattle.http_desk.specs.declared.order.Order.{Order}
+use Rattle.http_desk.specs.declared.order.Order.TheVariants as order
+use Rattle.http_desk.specs.declared.order.Error.TheVariants.{UnknownMethod, NoRoute, BadName, BadQuery}
+use Rattle.http_desk.specs.Routes.{page_of, plan_part}
+use Rattle.http_desk.specs.Queries.{create_query, is_no_query}
+
+-- the method is the word; case matters (RFC 9110, section 9.1)
+abbrev pub is_method : List ℕ → List ℕ → Bool
+is_method word method = bytes_eq method word
+
+abbrev pub is_known : List ℕ → Bool
+is_known method = is_method (codes "GET") method || is_method (codes "PUT") method || is_method (codes "POST") method || is_method (codes "DELETE") method
+
+-- the path is what stands before the first question mark, and the query what stands behind it (RFC 9112, section 3.2.1)
+abbrev pub path_of : List ℕ → List ℕ
+path_of target = before_first (λ b. b == 63) target
+
+abbrev pub query_of : List ℕ → List ℕ
+query_of target = after_first (λ b. b == 63) target
+
+abbrev pub create_order : Option (List ℕ) → Option (Kind × ℕ) → Order
+create_order None size = order.Refused BadName
+create_order (Some name) None = order.Refused BadQuery
+create_order (Some name) (Some size) = order.Command (Create name size.0 size.1)
+
+-- the name that the path's part {p} spells, percent-decoded
+abbrev pub name_in : List ℕ → Option (List ℕ)
+name_in path = plan_name_of (percent_decode (plan_part path))
+
+abbrev pub order_at : Option Page → List ℕ → List ℕ → List ℕ → Order
+order_at None method path query = order.Refused NoRoute
+order_at (Some page.Plans) method path query =
+    if is_method (codes "GET") method then (if is_no_query query then order.Query Plans else order.Refused BadQuery)
+    else order.Refused NoRoute
+order_at (Some page.Plan) method path query =
+    if is_method (codes "PUT") method then create_order (name_in path) (create_query query)
+    else order.Refused NoRoute
+
+-- what the request asks for
+abbrev pub order_of : List ℕ → List ℕ → List ℕ → Order
+order_of method target body =
+    if is_known method then order_at (page_of (path_of target)) method (path_of target) (query_of target)
+    else order.Refused UnknownMethod

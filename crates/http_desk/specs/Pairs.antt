@@ -1,0 +1,9 @@
+-- The first pairs of a query.
+use Rattle.std.specs.Prelude.{◌≡◌, ◌≢◌, ℕ, List, [], ◌∷◌, length, Option, Some, None}
+use Rattle.std.specs.Borrow.{Bor}
+use Rattle.form_urlencoded.specs.Form.{pair_text}
+
+-- two pairs of references are all that there is
+abbrev pub HasTwo : List (List ℕ × List ℕ) → Option ((Bor (List ℕ) × Bor (List ℕ)) × (Bor (List ℕ) × Bor (List ℕ))) → Type 0
+HasTwo pairs None = length pairs ≢ 2
+HasTwo pairs (Some two) = pairs ≡ pair_text two.0 ∷ pair_text two.1 ∷ []

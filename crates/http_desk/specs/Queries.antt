@@ -1,0 +1,67 @@
+-- What the query of a target says, as a form (application/x-www-form-urlencoded).
+use Rattle.std.specs.Prelude.{ℕ, Bool, true, false, ◌&&◌, if◌then◌else◌, nat_le, List, [], ◌∷◌, map, Option, Some, None, codes}
+use Rattle.std.specs.Str.{bytes_eq}
+use Rattle.std.specs.Str.Lossy.{utf8_lossy}
+use Rattle.form_urlencoded.specs.Form.{raw_pairs, decode}
+use Rattle.field_text.specs.Digits.{number_of}
+use Rattle.desk_model.specs.declared.kind.Kind.{Kind}
+use Rattle.desk_model.specs.declared.kind.Kind.TheVariants.{Congress, Senate, House}
+
+-- the text that a name or a value of the form stands for
+abbrev pub text_of : List ℕ → List ℕ
+text_of bytes = utf8_lossy (decode bytes)
+
+abbrev pub texts_of : List ℕ × List ℕ → List ℕ × List ℕ
+texts_of p = (text_of p.0, text_of p.1)
+
+-- the names and values of a query
+abbrev pub pairs_of : List ℕ → List (List ℕ × List ℕ)
+pairs_of query = map texts_of (raw_pairs query)
+
+abbrev pub kind_of : List ℕ → Option Kind
+kind_of text =
+    if bytes_eq text (codes "congress") then Some Congress
+    else if bytes_eq text (codes "senate") then Some Senate
+    else if bytes_eq text (codes "house") then Some House
+    else None
+
+-- a plan of that kind has so many districts at most
+abbrev pub district_limit : Kind → ℕ
+district_limit Congress = 99
+district_limit Senate = 999
+district_limit House = 999
+
+abbrev pub in_limit : Kind → ℕ → Option (Kind × ℕ)
+in_limit kind n = if nat_le 1 n && nat_le n (district_limit kind) then Some (kind, n) else None
+
+-- a kind and a number of 1 to 3 digits in its range
+abbrev pub sized : Option Kind → Option ℕ → Option (Kind × ℕ)
+sized None n = None
+sized (Some kind) None = None
+sized (Some kind) (Some n) = in_limit kind n
+
+abbrev pub size_of : List ℕ → List ℕ → Option (Kind × ℕ)
+size_of kind districts = sized (kind_of kind) (number_of 3 districts)
+
+-- both names, each once, in either order
+abbrev pub create_size : List (List ℕ × List ℕ) → Option (Kind × ℕ)
+create_size [] = None
+create_size (p ∷ []) = None
+create_size (p ∷ q ∷ []) =
+    if bytes_eq p.0 (codes "kind") && bytes_eq q.0 (codes "districts") then size_of p.1 q.1
+    else if bytes_eq p.0 (codes "districts") && bytes_eq q.0 (codes "kind") then size_of q.1 p.1
+    else None
+create_size (p ∷ q ∷ r ∷ more) = None
+
+-- the kind and the number of districts that a query tells
+abbrev pub create_query : List ℕ → Option (Kind × ℕ)
+create_query query = create_size (pairs_of query)
+
+-- there is no pair
+abbrev pub has_none : List (List ℕ × List ℕ) → Bool
+has_none [] = true
+has_none (p ∷ more) = false
+
+-- the query has no name and no value
+abbrev pub is_no_query : List ℕ → Bool
+is_no_query query = has_none (raw_pairs query)

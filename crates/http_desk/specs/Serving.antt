@@ -1,0 +1,87 @@
+-- What a served stream comes to.
+use Rattle.std.specs.Prelude.{◌≡◌, ℕ, suc, ◌<◌, ◌≤◌, Bool, true, false, List, [], ◌++◌, Option, Result, Ok, Err}
+use Rattle.std.specs.Io.KnownBytes.{Appends, Consumes, IsAtEnd}
+use Rattle.desk_model.specs.declared.command.Command.{Command}
+use Rattle.desk_model.specs.declared.command.Query.{Query}
+use Rattle.desk_model.specs.declared.reply.Reply.{Reply}
+use Rattle.http_desk.specs.declared.serve.Served.{Served}
+use Rattle.http_desk.specs.declared.serve.Next.{Next}
+use Rattle.http_desk.specs.declared.serve.Next.TheVariants as next
+use Rattle.http_desk.specs.declared.serve.ServeFault.{ServeFault}
+use Rattle.http_desk.specs.declared.serve.ServeFault.TheVariants as fault
+use Rattle.http_wire.specs.Turns.{counted}
+use Rattle.http_desk.specs.Talk.{Talk}
+
+-- a read fault is one failure of the reader more, and all else none
+abbrev pub read_failures : {A : Type 0} → ℕ → Result A ServeFault → ℕ
+read_failures n (Ok a) = n
+read_failures n (Err fault.Read) = counted n 1
+read_failures n (Err fault.Write) = n
+read_failures n (Err fault.Memory) = n
+read_failures n (Err fault.TurnLimit) = n
+
+-- a write fault is one failure of the writer more, and all else none
+abbrev pub write_failures : {A : Type 0} → ℕ → Result A ServeFault → ℕ
+write_failures n (Ok a) = n
+write_failures n (Err fault.Read) = n
+write_failures n (Err fault.Write) = counted n 1
+write_failures n (Err fault.Memory) = n
+write_failures n (Err fault.TurnLimit) = n
+
+-- what a stream can still give never grows, and each request that is answered takes some of it
+abbrev pub TakesSome : Result Next ServeFault → ℕ → ℕ → Type 0
+TakesSome (Ok next.Again) old new = new < old
+TakesSome (Ok next.Last) old new = new ≤ old
+TakesSome (Ok next.End) old new = new ≤ old
+TakesSome (Err e) old new = new ≤ old
+
+-- the last answer was written, or a front of it
+abbrev pub Closes : Option (List ℕ) → Option (List ℕ) → Result Next ServeFault → List ℕ → Type 0
+Closes old new (Ok next.Last) text = Appends old new text
+Closes old new (Err fault.Write) text = (front : List ℕ) × (rest : List ℕ) × (text ≡ front ++ rest) × Appends old new front
+Closes old new (Ok next.Again) text = ⊥
+Closes old new (Ok next.End) text = ⊥
+Closes old new (Err fault.Read) text = ⊥
+Closes old new (Err fault.Memory) text = ⊥
+Closes old new (Err fault.TurnLimit) text = ⊥
+
+module _ {X : Type 0} (commands : X → Command → Reply → X → Type 0) (asks : X → Query → Reply → X → Type 0) where
+  -- what was written is a front of a talk over a front of what was read
+  pub record IsCutTalk (x : X) (input output : List ℕ) (y : X) : Type 0 where
+    pub front : List ℕ
+    pub unread : List ℕ
+    pub read : input ≡ front ++ unread
+    pub answers : List ℕ
+    pub unwritten : List ℕ
+    pub written : answers ≡ output ++ unwritten
+    pub count : ℕ
+    pub shut : Bool
+    pub talk : Talk commands asks x front answers count shut y
+
+  -- Ok comes only at the end of the input or after an answer that closes
+  abbrev pub ServesTo : X → Result Served ServeFault → Option (List ℕ) → List ℕ → List ℕ → X → Type 0
+  ServesTo x (Ok served) left input output y = (shut : Bool) × Talk commands asks x input output served.requests shut y × (shut ≡ false → IsAtEnd left)
+  ServesTo x (Err fault.Read) left input output y = (n : ℕ) × Talk commands asks x input output n false y
+  ServesTo x (Err fault.TurnLimit) left input output y = (n : ℕ) × Talk commands asks x input output n false y
+  ServesTo x (Err fault.Write) left input output y = IsCutTalk x input output y
+  ServesTo x (Err fault.Memory) left input output y = (input ≡ []) × (output ≡ []) × (y ≡ x)
+
+  -- a request was taken and answered: whatever talk goes on behind it is one from before
+  pub record GoesOn (x : X) (input rest output : List ℕ) (y : X) : Type 0 where
+    pub front : List ℕ
+    pub read : input ≡ front ++ rest
+    pub on : (later more : List ℕ) (n : ℕ) (shut : Bool) (z : X) → Talk commands asks y later more n shut z → Talk commands asks x (front ++ later) (output ++ more) (suc n) shut z
+
+  abbrev pub Exchanges : X → Result Next ServeFault → Option (List ℕ) → List ℕ → List ℕ → List ℕ → X → Type 0
+  Exchanges x (Ok next.Again) left input rest output y = GoesOn x input rest output y
+  Exchanges x (Ok next.Last) left input rest output y = Talk commands asks x input output 1 true y
+  Exchanges x (Ok next.End) left input rest output y = (output ≡ []) × Talk commands asks x input output 0 false y × IsAtEnd left
+  Exchanges x (Err fault.Read) left input rest output y = Talk commands asks x input output 0 false y
+  Exchanges x (Err fault.TurnLimit) left input rest output y = Talk commands asks x input output 0 false y
+  Exchanges x (Err fault.Write) left input rest output y = IsCutTalk x input output y
+  Exchanges x (Err fault.Memory) left input rest output y = ⊥
+
+  -- seen from the reader and the writer
+  abbrev pub Serves : X → Result Served ServeFault → X → Option (List ℕ) → Option (List ℕ) → Option (List ℕ) → Option (List ℕ) → Type 0
+  Serves x result y unread left before after =
+      (input : List ℕ) × (output : List ℕ) × Consumes unread left input × Appends before after output × ServesTo x result left input output y

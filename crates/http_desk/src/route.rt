@@ -1,0 +1,78 @@
+//! The table of paths.
+ghost use Rattle.std.specs.Prelude.{◌≡◌, ◌==◌, ◌≤◌, IfOk, OnOk, length};
+ghost use Rattle.std.specs.List.{before_first, after_first, position_or_len};
+ghost use Rattle.http_desk.specs.Routes.{the_routes, with_route, page_of as page_of_path, plan_part as plan_part_of};
+
+use matchit::{InsertError, Router};
+use std::alloc::Global;
+
+/// What stands at a path.
+#[derive(Clone, Copy, Debug, PartialEq, Eq)]
+pub enum Page {
+    /// `/plans`
+    Plans,
+    /// `/plans/{p}`
+    Plan,
+}
+
+/// Adds a route.
+fn add(router: &mut Router<Page>, route: &str, page: Page) -> Result<(), InsertError>
+    ensures { OnOk result (router.new ≡ with_route route.now page router.old) }
+{
+    router.insert(route, page)
+}
+
+/// The table, made once for a stream.
+pub fn router(alloc: Global) -> Result<Router<Page>, InsertError>
+    ensures { IfOk result (λ r. r ≡ the_routes) }
+{
+    let mut router = Router::new(alloc);
+    add(&mut router, "/plans", Page::Plans)?;
+    add(&mut router, "/plans/{p}", Page::Plan)?;
+    Ok(router)
+}
+
+/// What stands at the path.
+pub fn page_of(router: &Router<Page>, path: &str) -> Option<Page>
+    requires { router.now ≡ the_routes }
+    ensures { result ≡ page_of_path path.now }
+{
+    match router.at(path) {
+        Ok(found) => Some(*found.value),
+        Err(_) => None,
+    }
+}
+
+/// The place of the first such byte, or the length.
+fn place_of(bytes: &[u8], byte: u8) -> usize
+    ensures place { result ≡ position_or_len (λ b. b == byte) bytes.now }
+    ensures within { result ≤ length bytes.now }
+{
+    for (i, b) in bytes.iter().enumerate() {
+        if *b == byte {
+            return i;
+        }
+    }
+    bytes.len()
+}
+
+/// What stands before the first such byte, or everything, and what stands behind it, or nothing.
+pub fn around(bytes: &[u8], byte: u8) -> (&[u8], &[u8])
+    ensures before { result.0.now ≡ before_first (λ b. b == byte) bytes.now }
+    ensures after { result.1.now ≡ after_first (λ b. b == byte) bytes.now }
+{
+    let at = place_of(bytes, byte);
+    if at == bytes.len() {
+        return (bytes, &bytes[at..]);
+    }
+    (&bytes[..at], &bytes[at + 1..])
+}
+
+/// The part `{p}` of a path.
+pub fn plan_part(path: &[u8]) -> &[u8]
+    ensures { result.now ≡ plan_part_of path.now }
+{
+    let (_, behind_first) = around(path, b'/');
+    let (_, behind_second) = around(behind_first, b'/');
+    around(behind_second, b'/').0
+}

@@ -1,0 +1,214 @@
+//! One stream of requests, from its reader to its writer.
+ghost use Rattle.std.specs.Prelude.{◌≡◌, ◌≤◌, ◌<◌, ◌++◌, ℕ, List, [], Ok, Err, IfSome};
+ghost use Rattle.std.specs.Str.{IsAscii};
+ghost use Rattle.std.specs.Io.KnownBytes.{Appends, Consumes};
+ghost use Rattle.http_wire.specs.Budget.{reading_left};
+ghost use Rattle.http_wire.specs.Turns.{Spends, counted};
+ghost use Rattle.http_desk.specs.Orders.{order_of as order_of_request};
+ghost use Rattle.http_desk.specs.Routes.{the_routes};
+ghost use Rattle.http_desk.specs.Serving.{Serves, Exchanges, Closes, read_failures, write_failures, TakesSome};
+ghost use Rattle.http_desk.specs.Talk.{Handles};
+
+use crate::answer::Answer;
+use crate::counter::Counter;
+use crate::order::{Order, order_of};
+use crate::route::{Page, router};
+use desk_model::gate::Gate;
+use http_wire::fault::WireFault;
+use http_wire::inbox::Inbox;
+use http_wire::request::{Incoming, Request, TURN_LIMIT, read_request};
+use http_wire::response::Outbox;
+use http_wire::sink::Sink;
+use http_wire::source::Source;
+use matchit::Router;
+use std::alloc::Global;
+
+/// What a stream came to: the number of answers that were written.
+#[derive(Clone, Copy, Debug)]
+pub struct Served {
+    pub requests: u64,
+}
+
+/// Why a stream was not served to its end.
+#[derive(Clone, Copy, Debug, PartialEq, Eq)]
+pub enum ServeFault {
+    /// A read failed. The answers to all requests that were read whole are written.
+    Read,
+    /// A write failed. What was written is a front of the answers; accepted commands stay.
+    Write,
+    /// Memory for the first buffers was refused. Nothing was read or written.
+    Memory,
+    /// The 4,294,967,296 turns of reading are used up. The answers to all requests that were read whole are written.
+    TurnLimit,
+}
+
+/// Whether a stream goes on.
+#[derive(Clone, Copy, Debug)]
+pub enum Next {
+    Again,
+    /// The answer closes.
+    Last,
+    /// The input ended.
+    End,
+}
+
+/// What a stream holds between its requests.
+#[derive(Drop)]
+struct Stream {
+    inbox: Inbox,
+    answer: Answer,
+    outbox: Outbox,
+    router: Router<Page>,
+    turns: u64,
+    ghost routes: { router ≡ the_routes },
+}
+
+/// Answers a request, and tells whether the answer closes.
+fn handle<C: Counter>(
+    alloc: Global,
+    router: &Router<Page>,
+    counter: &mut C,
+    request: Request,
+    answer: &mut Answer,
+) -> bool
+    requires routes { router.now ≡ the_routes }
+    requires ascii { IsAscii request.target.items }
+    ensures { Handles C.commands C.asks counter.old (order_of_request request.method request.target.items request.body.items) answer.new result counter.new }
+{
+    let Request {
+        method,
+        target,
+        body,
+    } = request;
+    let method = method.as_str().as_bytes();
+    let Ok(order) = order_of(alloc, router, method, target.as_slice(), body) else {
+        answer.put_memory();
+        return true;
+    };
+    let reply = match order {
+        Order::Refused(error) => {
+            answer.put_order_error(error);
+            return false;
+        }
+        Order::Query(query) => counter.ask(alloc, query),
+        Order::Command(command) => counter.command(alloc, command),
+    };
+    let Ok(closes) = answer.put_reply(alloc, reply) else {
+        answer.put_memory();
+        return true;
+    };
+    closes
+}
+
+/// Writes the last answer.
+fn close<W: Sink>(writer: &mut W, answer: &Answer, outbox: &mut Outbox) -> Result<Next, ServeFault>
+    ensures bytes { Closes (W.contents writer.old) (W.contents writer.new) result answer.now }
+    ensures failures { W.failures writer.new ≡ write_failures (W.failures writer.old) result }
+{
+    match answer.send(writer, outbox) {
+        Ok(()) => Ok(Next::Last),
+        Err(_) => Err(ServeFault::Write),
+    }
+}
+
+/// Reads one request and answers it.
+fn exchange<R: Source, W: Sink, C: Counter, G: Gate>(
+    alloc: Global,
+    reader: &mut R,
+    writer: &mut W,
+    counter: &mut C,
+    gate: &G,
+    stream: &mut Stream,
+    piece: u32,
+) -> Result<Next, ServeFault>
+    ensures talks { (more : List ℕ) × (output : List ℕ) × Consumes (R.remaining reader.old) (R.remaining reader.new) more
+        × Appends (W.contents writer.old) (W.contents writer.new) output
+        × Exchanges C.commands C.asks counter.old result (R.remaining reader.new) (stream.old.inbox ++ more) stream.new.inbox output counter.new }
+    ensures read_failures { R.failures reader.new ≡ read_failures (R.failures reader.old) result }
+    ensures write_failures { W.failures writer.new ≡ write_failures (W.failures writer.old) result }
+    ensures turns { Spends stream.old.turns stream.new.turns (R.turns reader.old) (R.turns reader.new) }
+    ensures limit { result ≡ Err ServeFault.TurnLimit → stream.new.turns ≡ 0 }
+    ensures left { TakesSome result (reading_left stream.old.turns stream.old.inbox) (reading_left stream.new.turns stream.new.inbox) }
+{
+    match read_request(alloc, reader, &mut stream.inbox, &mut stream.turns) {
+        Err(WireFault::Read) => Err(ServeFault::Read),
+        Err(WireFault::TurnLimit) => Err(ServeFault::TurnLimit),
+        Err(WireFault::Memory) => {
+            stream.answer.put_memory();
+            close(writer, &stream.answer, &mut stream.outbox)
+        }
+        Ok(Incoming::End) => Ok(Next::End),
+        Ok(Incoming::Refused(fault)) => {
+            stream.answer.put_fault(fault);
+            close(writer, &stream.answer, &mut stream.outbox)
+        }
+        Ok(Incoming::Request(request)) => {
+            gate.pass(0, piece);
+            if handle(alloc, &stream.router, counter, request, &mut stream.answer) {
+                return close(writer, &stream.answer, &mut stream.outbox);
+            }
+            match stream.answer.send(writer, &mut stream.outbox) {
+                Ok(()) => Ok(Next::Again),
+                Err(_) => Err(ServeFault::Write),
+            }
+        }
+    }
+}
+
+/// The buffers and the table of a stream, or `None` where memory for them is refused.
+fn start(alloc: Global) -> Option<Stream>
+    ensures { IfSome result (λ s. (s.inbox ≡ []) × (s.turns ≡ TURN_LIMIT)) }
+{
+    let Ok(inbox) = Inbox::new(alloc) else {
+        return None;
+    };
+    let Ok(answer) = Answer::new(alloc) else {
+        return None;
+    };
+    let Ok(outbox) = Outbox::new(alloc) else {
+        return None;
+    };
+    let Ok(router) = router(alloc) else {
+        return None;
+    };
+    Some(Stream {
+        inbox,
+        answer,
+        outbox,
+        router,
+        turns: TURN_LIMIT,
+    })
+}
+
+/// Serves a stream of requests: reads each, lets the gate pass, and writes its answer before the next is read.
+///
+/// The gate is passed as worker 0, with the number of requests that this call read before (4,294,967,295 at most).
+pub fn serve<R: Source, W: Sink, C: Counter, G: Gate>(
+    alloc: Global,
+    reader: &mut R,
+    writer: &mut W,
+    counter: &mut C,
+    gate: &G,
+) -> Result<Served, ServeFault>
+    ensures talks { Serves C.commands C.asks counter.old result counter.new (R.remaining reader.old) (R.remaining reader.new) (W.contents writer.old) (W.contents writer.new) }
+    ensures read_failures { R.failures reader.new ≡ read_failures (R.failures reader.old) result }
+    ensures write_failures { W.failures writer.new ≡ write_failures (W.failures writer.old) result }
+    ensures turn_limit { result ≡ Err ServeFault.TurnLimit → R.turns reader.new ≡ counted (R.turns reader.old) 4294967296 }
+{
+    let Some(mut stream) = start(alloc) else {
+        return Err(ServeFault::Memory);
+    };
+    let mut requests = 0u64;
+    loop {
+        let piece = u32::try_from(requests).unwrap_or(u32::MAX);
+        match exchange(alloc, reader, writer, counter, gate, &mut stream, piece)? {
+            Next::Again => requests += 1,
+            Next::Last => {
+                return Ok(Served {
+                    requests: requests + 1,
+                });
+            }
+            Next::End => return Ok(Served { requests }),
+        }
+    }
+}

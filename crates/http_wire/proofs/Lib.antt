@@ -1,0 +1,13 @@
+mod FieldLemmas
+mod SendLemmas
+mod InboxLemmas
+mod LineLemmas
+mod TargetLemmas
+mod FrontLemmas
+mod LookLemmas
+mod BodyLemmas
+mod RequestLemmas
+mod ReadingLemmas
+mod WorkedLemmas
+mod StayLemmas
+mod LawLemmas

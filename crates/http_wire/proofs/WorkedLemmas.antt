@@ -1,0 +1,103 @@
+-- The fronts of worked inputs.
+use Rattle.std.proofs.Common.{◌≡◌, ℕ, ◌<◌, true, List, [], ◌∷◌, length, codes, refl, arith, inl, inr, All}
+use Rattle.std.proofs.lemmas.List.Elements.{All-nil, All-cons}
+use Rattle.std.proofs.lemmas.List.Sums.{AllPass-from_list_all}
+use Rattle.std.specs.List.{list_all}
+use Rattle.std.specs.Str.{IsUtf8}
+use Rattle.httparse.specs.Grammar.{is_token_byte, is_uri_byte, is_value_byte, Field, IsField, crlf, RequestHead, IsRequestHead}
+use Rattle.httparse.proofs.OnLiterals.{httparse_on_literals}
+use Rattle.http_wire.specs.declared.fault.Fault.TheVariants.{BadHost, BadLength}
+use Rattle.http_wire.specs.Front.{HasRequest, RefusesHead}
+use Rattle.http_wire.specs.Law.{WorkedFronts}
+
+-- a head by its method, its target and its fields
+abbrev head : List ℕ → List ℕ → List Field → RequestHead
+head method target fields = record { blank = []; method = method; target = target; minor = 1; line_end = crlf; fields = fields; last = crlf }
+
+abbrev host : Field
+host = record { name = codes "Host"; raw = codes " d"; end = crlf }
+
+abbrev plans : RequestHead
+plans = head (codes "GET") (codes "/plans") (host ∷ [])
+
+host_ok : IsField host
+unfolding httparse_on_literals
+host_ok = record { name = (omega arith, AllPass-from_list_all is_token_byte (codes "Host") refl); raw = AllPass-from_list_all is_value_byte (codes " d") refl }
+
+fields_ok : (target : List ℕ) (fs : List Field) (method : List ℕ) → list_all is_token_byte method ≡ true → list_all is_uri_byte target ≡ true → 0 < length method → 0 < length target → IsUtf8 target → All IsField fs
+    → IsRequestHead (head method target fs)
+fields_ok target fs method m t some present text ok = record {
+  method = (some, AllPass-from_list_all is_token_byte method m);
+  target = (present, AllPass-from_list_all is_uri_byte target t);
+  target_text = text;
+  minor = omega arith;
+  fields = ok;
+}
+
+plans_fronts : HasRequest (codes "GET /plans HTTP/1.1\r\nHost: d\r\n\r\n") plans [] []
+unfolding httparse_on_literals lib.Utf8.encode
+plans_fronts = record {
+  message = record {
+    head = record {
+      reads = (fields_ok (codes "/plans") (host ∷ []) (codes "GET") refl refl (omega arith) (omega arith) (codes "/plans", (refl, refl)) (All-cons IsField host [] host_ok (All-nil IsField)), refl);
+      short = omega arith;
+      few = omega arith;
+    };
+    fits = refl;
+  };
+  target = refl;
+}
+
+abbrev bare : RequestHead
+bare = head (codes "GET") (codes "/plans") []
+
+bare_refused : RefusesHead (codes "GET /plans HTTP/1.1\r\n\r\n") BadHost
+unfolding httparse_on_literals lib.Utf8.encode
+bare_refused = record {
+  head = bare;
+  rest = [];
+  stands = record {
+    reads = (fields_ok (codes "/plans") [] (codes "GET") refl refl (omega arith) (omega arith) (codes "/plans", (refl, refl)) (All-nil IsField), refl);
+    short = omega arith;
+    few = omega arith;
+  };
+  judges = refl;
+}
+
+abbrev length_field : Field
+length_field = record { name = codes "Content-Length"; raw = codes " 1"; end = crlf }
+
+abbrev coding_field : Field
+coding_field = record { name = codes "Transfer-Encoding"; raw = codes " chunked"; end = crlf }
+
+length_ok : IsField length_field
+unfolding httparse_on_literals
+length_ok = record { name = (omega arith, AllPass-from_list_all is_token_byte (codes "Content-Length") refl); raw = AllPass-from_list_all is_value_byte (codes " 1") refl }
+
+coding_ok : IsField coding_field
+unfolding httparse_on_literals
+coding_ok = record { name = (omega arith, AllPass-from_list_all is_token_byte (codes "Transfer-Encoding") refl); raw = AllPass-from_list_all is_value_byte (codes " chunked") refl }
+
+coded_refused : RefusesHead (codes "PUT /plans/a HTTP/1.1\r\nHost: d\r\nContent-Length: 1\r\nTransfer-Encoding: chunked\r\n\r\n") BadLength
+unfolding httparse_on_literals lib.Utf8.encode
+coded_refused = record {
+  head = head (codes "PUT") (codes "/plans/a") (host ∷ length_field ∷ coding_field ∷ []);
+  rest = [];
+  stands = record {
+    reads = (
+      fields_ok (codes "/plans/a") (host ∷ length_field ∷ coding_field ∷ []) (codes "PUT") refl refl (omega arith) (omega arith) (codes "/plans/a", (refl, refl))
+          (All-cons IsField host (length_field ∷ coding_field ∷ []) host_ok (All-cons IsField length_field (coding_field ∷ []) length_ok (All-cons IsField coding_field [] coding_ok (All-nil IsField)))),
+      refl,
+    );
+    short = omega arith;
+    few = omega arith;
+  };
+  judges = refl;
+}
+
+pub worked_fronts : WorkedFronts
+worked_fronts = record {
+  plans = (plans, refl, refl, plans_fronts);
+  no_host = inr (inl bare_refused);
+  coded = inr (inl coded_refused);
+}

@@ -1,0 +1,31 @@
+use Rattle.std.proofs.Common.{ℕ, List, sym, ap, ◌∙◌, arith, length-append}
+use Rattle.http_wire.specs.Front.{is_word}
+use Rattle.http_wire.proofs.FieldLemmas.{values-more, with_value, without_value, first_stays, first_comes}
+use Rattle.http_wire.proofs.head.find_value.Goals.{then-is_named, then-count-eq0, else-count-eq0, else-is_named}
+use Rattle.http_wire.proofs.head.find_value.Goals as goal
+
+pub loop-h-preserved : goal.loop-h-preserved
+loop-h-preserved c =
+    let grown = values-more c.args.word.now c.args.buf.now c.args.headers.now c.loop-h.h-index _ c.loop-h-test.true in
+    let before = c.loop-h.invariant in
+    elim c.if-is_named.branch [
+      | then-is_named w ↦
+          let more = with_value _ _ _ _ grown (sym (c.is_named.ensures ∙ ap (is_word c.args.word.now) c.of.ensures) ∙ w.if-is_named.true) in
+          elim w.if-count-eq0.branch [
+            | then-count-eq0 w' ↦
+                rw (w.count-is, more, w.first-is, w'.first-is, w'.of-first.ensures) (record {
+                  count = omega (arith, before.count, length-append {A = List ℕ});
+                  first = λ _. first_comes _ _ (omega (arith, before.count, w'.if-count-eq0.true));
+                  few = omega (arith, before.few);
+                })
+            | else-count-eq0 w' ↦
+                rw (w.count-is, more, w.first-is, w'.first-is) (record {
+                  count = omega (arith, before.count, length-append {A = List ℕ});
+                  first = λ _. first_stays _ _ _ (omega (arith, before.count, w'.if-count-eq0.false)) (before.first (omega (arith, w'.if-count-eq0.false)));
+                  few = omega (arith, before.few);
+                })
+          ]
+      | else-is_named w ↦
+          let same = without_value _ _ _ _ grown (sym (c.is_named.ensures ∙ ap (is_word c.args.word.now) c.of.ensures) ∙ w.if-is_named.false) in
+          rw (w.count-is, w.first-is, same) (record { count = before.count; first = before.first; few = omega (arith, before.few) })
+    ]

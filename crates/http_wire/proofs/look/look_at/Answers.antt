@@ -1,0 +1,26 @@
+use Rattle.std.proofs.Common.{◌≤◌, inl, inr, subst, refl, arith}
+use Rattle.httparse.specs.Spans.{RequestOverflows}
+use Rattle.http_wire.specs.Lines.{lines_come}
+use Rattle.http_wire.proofs.LookLemmas.{window_is, parsed_at, exceeds_lines}
+use Rattle.http_wire.proofs.look.look_at.Goals as goal
+
+pub after_parse-requires : goal.after_parse-requires
+after_parse-requires c =
+    let done = rw c.in-Ok-Complete.field-0-is at c.in-Ok-Complete.ensures.complete in
+    let within = rw c.in-Ok-Complete.field-0-is at c.in-Ok-Complete.ensures.within in
+    parsed_at c.args.bytes.now c.min.result _ _ done.0 (omega (arith, c.min.ensures)) (omega (arith, c.parse_request.auto.headers)) within done.1
+
+pub unfinished-requires-clause-part_is : goal.unfinished-requires-clause-part_is
+unfinished-requires-clause-part_is c = window_is c.args.bytes.now c.min.result c.min.ensures
+
+pub after_error-requires-clause-part_is : goal.after_error-requires-clause-part_is
+after_error-requires-clause-part_is c = window_is c.args.bytes.now c.min.result c.min.ensures
+
+pub returns-in-Err-TooManyHeaders : goal.returns-in-Err-TooManyHeaders
+returns-in-Err-TooManyHeaders c =
+    let same = window_is c.args.bytes.now c.min.result c.min.ensures in
+    let many = (rw c.in-Err-TooManyHeaders.field-0-is at c.in-Err-TooManyHeaders.ensures.too_many) refl in
+    inl (inr (record {
+      lines = subst (λ xs. 66 ≤ lines_come xs) same (exceeds_lines _ many);
+      exceeds = subst (RequestOverflows 64) same c.in-Err-TooManyHeaders.ensures.no_room;
+    }))

@@ -1,0 +1,162 @@
+-- What stands at the front of the input: a request, a fault, or not enough to tell (RFC 9112, sections 2 to 6).
+use Rattle.std.specs.Prelude.{◌≡◌, ℕ, ◌+◌, ◌-◌, ◌*◌, ◌<◌, ◌≤◌, ◌⊎◌, Bool, true, false, not, ◌&&◌, if◌then◌else◌, ◌==◌, nat_lt, nat_le, List, [], ◌∷◌, ◌++◌, map, length, take, Option, Some, None, Result, Ok, Err, codes, fold}
+use Rattle.std.specs.List.{filter_map, list_all}
+use Rattle.std.specs.Char.{is_ascii_digit, to_ascii_lowercase}
+use Rattle.std.specs.Str.{bytes_eq}
+use Rattle.httparse.specs.Grammar.{RequestHead, ReadsRequest, NeverHasRequest, HasNoRequest, MayBecomeRequest, EndsInTarget, print_request}
+use Rattle.httparse.specs.Spans.{name_and_value, RequestOverflows}
+use Rattle.http_wire.specs.Lines.{lines_come}
+use Rattle.http_wire.specs.declared.fault.Fault.{Fault}
+use Rattle.http_wire.specs.declared.fault.Fault.TheVariants.{BadHead, HeadTooLarge, BadHost, BadLength, BadCoding, BodyTooLarge, BadTarget}
+
+-- a head is looked for in this many bytes
+abbrev pub head_limit : ℕ
+head_limit = 16384
+
+-- so many header lines at most
+abbrev pub field_limit : ℕ
+field_limit = 64
+
+-- so many bytes of a body at most
+abbrev pub body_limit : ℕ
+body_limit = 33554432
+
+-- the same word, whatever the case (RFC 9110, section 5.1)
+abbrev pub is_word : List ℕ → List ℕ → Bool
+is_word word name = bytes_eq (map to_ascii_lowercase name) (map to_ascii_lowercase word)
+
+-- a field's value, if it has that name
+abbrev pub named_value : List ℕ → List ℕ × List ℕ → Option (List ℕ)
+named_value word field = if is_word word field.0 then Some field.1 else None
+
+-- the values of the fields of that name, in order
+abbrev pub values : List ℕ → List (List ℕ × List ℕ) → List (List ℕ)
+values name fields = filter_map (named_value name) fields
+
+-- the number that digits spell
+abbrev pub number_of : List ℕ → ℕ
+number_of bytes = fold (λ n b. n * 10 + (b - 48)) 0 bytes
+
+-- 1 to 20 digits
+abbrev pub is_length : List ℕ → Bool
+is_length value = nat_le 1 (length value) && nat_le (length value) 20 && list_all is_ascii_digit value
+
+-- what one Content-Length line says (RFC 9112, section 6.2)
+abbrev pub length_of : List ℕ → Result ℕ Fault
+length_of value =
+    if not (is_length value) then Err BadLength
+    else if nat_lt body_limit (number_of value) then Err BodyTooLarge
+    else Ok (number_of value)
+
+-- what all of them say: without one there is no body
+abbrev pub lengths_of : List (List ℕ) → Result ℕ Fault
+lengths_of [] = Ok 0
+lengths_of (value ∷ []) = length_of value
+lengths_of (value ∷ other ∷ more) = Err BadLength
+
+-- the length of the body by the Transfer-Encoding and the Content-Length lines (RFC 9112, section 6.3)
+abbrev pub framing_of : List (List ℕ) → List (List ℕ) → Result ℕ Fault
+framing_of [] lengths = lengths_of lengths
+framing_of (coding ∷ codings) [] = Err BadCoding
+framing_of (coding ∷ codings) (value ∷ lengths) = Err BadLength
+
+-- one Host line (RFC 9112, section 3.2), then the length
+abbrev pub judged : List (List ℕ × List ℕ) → Result ℕ Fault
+judged fields =
+    if not (length (values (codes "host") fields) == 1) then Err BadHost
+    else framing_of (values (codes "transfer-encoding") fields) (values (codes "content-length") fields)
+
+-- the length of the body that the head announces, or the first fault of what it says
+abbrev pub judged_head : RequestHead → Result ℕ Fault
+judged_head h = if h.minor == 0 then Err BadHead else judged (map name_and_value h.fields)
+
+-- origin-form (RFC 9112, section 3.2.1): a slash first, and nothing outside ASCII
+abbrev pub is_target : List ℕ → Bool
+is_target [] = false
+is_target (b ∷ bytes) = (b == 47) && list_all (λ c. nat_lt c 128) bytes
+
+-- the head h, within the limits, stands at the front
+pub record HasHead (input : List ℕ) (h : RequestHead) (rest : List ℕ) : Type 0 where
+  pub reads : ReadsRequest input h rest
+  pub short : length (print_request h) ≤ head_limit
+  pub few : length h.fields ≤ field_limit
+
+-- a head that may stand, and a body of the length that it announces
+pub record HasMessage (input : List ℕ) (h : RequestHead) (body rest : List ℕ) : Type 0 where
+  pub head : HasHead input h (body ++ rest)
+  pub fits : judged_head h ≡ Ok (length body)
+
+-- a whole request
+pub record HasRequest (input : List ℕ) (h : RequestHead) (body rest : List ℕ) : Type 0 where
+  pub message : HasMessage input h body rest
+  pub target : is_target h.target ≡ true
+
+-- the bytes in which a head is looked for
+abbrev pub window : List ℕ → List ℕ
+window input = take head_limit input
+
+-- none of the first 16,384 bytes ends a head, though more bytes could
+pub record IsTooLong (input : List ℕ) : Type 0 where
+  pub long : head_limit ≤ length input
+  pub none : HasNoRequest (window input)
+  pub goes_on : MayBecomeRequest (window input)
+
+-- the request line and 65 header lines have come, and no head has at most 64
+pub record HasTooManyLines (input : List ℕ) : Type 0 where
+  pub lines : field_limit + 2 ≤ lines_come (window input)
+  pub exceeds : RequestOverflows field_limit (window input)
+
+-- whatever follows, no head stands at the front. That bytes which end in a target are text shows only at its end
+pub record IsNoHead (input : List ℕ) : Type 0 where
+  pub never : NeverHasRequest (window input)
+  pub past_target : ¬ (EndsInTarget (window input))
+
+-- the first bytes have this fault, and are no head
+abbrev pub RefusesBytes : List ℕ → Fault → Type 0
+RefusesBytes input BadHead = IsNoHead input
+RefusesBytes input HeadTooLarge = IsTooLong input ⊎ HasTooManyLines input
+RefusesBytes input BadHost = ⊥
+RefusesBytes input BadLength = ⊥
+RefusesBytes input BadCoding = ⊥
+RefusesBytes input BodyTooLarge = ⊥
+RefusesBytes input BadTarget = ⊥
+
+-- a head stands at the front and says what has this fault
+pub record RefusesHead (input : List ℕ) (f : Fault) : Type 0 where
+  pub head : RequestHead
+  pub rest : List ℕ
+  pub stands : HasHead input head rest
+  pub judges : judged_head head ≡ Err f
+
+-- a head and its body stand at the front, and the target has this fault
+pub record RefusesTarget (input : List ℕ) (f : Fault) : Type 0 where
+  pub head : RequestHead
+  pub body : List ℕ
+  pub rest : List ℕ
+  pub message : HasMessage input head body rest
+  pub bad : is_target head.target ≡ false
+  pub named : f ≡ BadTarget
+
+-- whatever follows, the front of the input has this fault
+abbrev pub HasFault : List ℕ → Fault → Type 0
+HasFault input f = RefusesBytes input f ⊎ (RefusesHead input f ⊎ RefusesTarget input f)
+
+-- no head yet, and one may still come
+pub record IsOpen (input : List ℕ) : Type 0 where
+  pub short : length input < head_limit
+  pub none : HasNoRequest (window input)
+  pub goes_on : MayBecomeRequest (window input)
+  pub few : lines_come (window input) < field_limit + 2
+
+-- a head, and not all of its body
+pub record LacksBody (input : List ℕ) : Type 0 where
+  pub head : RequestHead
+  pub rest : List ℕ
+  pub size : ℕ
+  pub stands : HasHead input head rest
+  pub judges : judged_head head ≡ Ok size
+  pub lacks : length rest < size
+
+-- no whole request yet, and no fault
+abbrev pub IsIncomplete : List ℕ → Type 0
+IsIncomplete input = IsOpen input ⊎ LacksBody input

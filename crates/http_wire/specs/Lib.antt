@@ -1,0 +1,12 @@
+pub mod Turns
+pub mod Sends
+pub mod Budget
+pub mod Lines
+pub mod InTarget
+pub mod Front
+pub mod Law
+pub mod Body
+pub mod Look
+pub mod Incoming
+pub mod Phrases
+pub mod Answer

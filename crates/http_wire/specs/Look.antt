@@ -1,0 +1,55 @@
+-- What a look at the bytes tells.
+use Rattle.std.specs.Prelude.{◌≡◌, ℕ, ◌<◌, ◌≤◌, List, map, length, drop, All, Option, Result, Ok, Err}
+use Rattle.std.specs.Io.KnownBytes.{IsAtEnd}
+use Rattle.httparse.specs.Grammar.{RequestHead}
+use Rattle.httparse.specs.Spans.{header_bytes, name_and_value, span_bytes, IsWithin, IsHeaderWithin}
+use Rattle.httparse.specs.declared.spans.HeaderSpan.{HeaderSpan}
+use Rattle.httparse.specs.declared.spans.RequestSpans.{RequestSpans}
+use Rattle.http_wire.specs.declared.fault.WireFault.{WireFault}
+use Rattle.http_wire.specs.declared.look.Head.{Head}
+use Rattle.http_wire.specs.declared.look.Look.{Look}
+use Rattle.http_wire.specs.declared.look.Look.TheVariants.{Found, Refused, Wanting}
+use Rattle.http_wire.specs.Front.{HasHead, HasFault, IsOpen, judged_head}
+
+-- the head that the parser's spans tell stands at the front of bytes, and part is as much of them as was read
+pub record IsParsed (bytes part : List ℕ) (headers : List HeaderSpan) (s : RequestSpans) : Type 0 where
+  pub head : RequestHead
+  pub stands : HasHead bytes head (drop s.len bytes)
+  pub within : s.len ≤ length bytes
+  pub some : 0 < s.len
+  pub version : s.version ≡ head.minor
+  pub method : span_bytes bytes s.method ≡ head.method
+  pub target : span_bytes bytes s.path ≡ head.target
+  pub fields : map (header_bytes part) headers ≡ map name_and_value head.fields
+  pub method_fits : IsWithin (length bytes) s.method
+  pub target_fits : IsWithin (length bytes) s.path
+  pub headers_fit : All (IsHeaderWithin (length part)) headers
+
+-- a head stands at the front, and this is where its parts are
+pub record IsFound (bytes : List ℕ) (found : Head) : Type 0 where
+  pub head : RequestHead
+  pub stands : HasHead bytes head (drop found.len bytes)
+  pub judges : judged_head head ≡ Ok found.body_len
+  pub within : found.len ≤ length bytes
+  pub some : 0 < found.len
+  pub method : span_bytes bytes found.method ≡ head.method
+  pub target : span_bytes bytes found.target ≡ head.target
+  pub method_fits : IsWithin (length bytes) found.method
+  pub target_fits : IsWithin (length bytes) found.target
+
+abbrev pub Sees : List ℕ → Look → Type 0
+Sees bytes (Found found) = IsFound bytes found
+Sees bytes (Refused fault) = HasFault bytes fault
+Sees bytes Wanting = IsOpen bytes
+
+-- what is known of the bytes once reading a head has ended so
+abbrev pub SeesFront : List ℕ → Result Look WireFault → Type 0
+SeesFront bytes (Ok look) = Sees bytes look
+SeesFront bytes (Err e) = IsOpen bytes
+
+-- more bytes are wanted in vain only at the reader's end
+abbrev pub WantsAtEnd : Option (List ℕ) → Result Look WireFault → Type 0
+WantsAtEnd left (Ok (Found found)) = Unit {0}
+WantsAtEnd left (Ok (Refused f)) = Unit {0}
+WantsAtEnd left (Ok Wanting) = IsAtEnd left
+WantsAtEnd left (Err e) = Unit {0}

@@ -1,0 +1,44 @@
+//! Why a request is refused, and why reading ends.
+ghost use Rattle.std.specs.Prelude.{◌≡◌};
+
+use std::alloc::AllocError;
+
+/// Why no request is taken. After an answer to any of these the connection closes.
+#[derive(Clone, Copy, Debug, PartialEq, Eq)]
+pub enum Fault {
+    /// The first bytes are no HTTP/1.1 head, whatever follows. 400
+    BadHead,
+    /// No head in the first 16,384 bytes, or more than 64 header lines. 431
+    HeadTooLarge,
+    /// No Host line, or more than one. 400
+    BadHost,
+    /// More than one Content-Length line, or one that is not 1 to 20 digits, or one beside a Transfer-Encoding line. 400
+    BadLength,
+    /// A Transfer-Encoding line. 501
+    BadCoding,
+    /// A body of more than 33,554,432 bytes. 413
+    BodyTooLarge,
+    /// A target that does not begin with a slash, or has a byte outside ASCII. 400
+    BadTarget,
+}
+
+/// Why reading ended without an answer to it.
+#[derive(Clone, Copy, Debug, PartialEq, Eq)]
+pub enum WireFault {
+    /// A turn of the reader failed.
+    Read,
+    /// Memory for a request was refused. What was read of it is lost.
+    Memory,
+    /// A turn was wanted and none was left.
+    TurnLimit,
+}
+
+impl From<AllocError> for WireFault {
+    ghost use Rattle.http_wire.specs.declared.fault.WireFault.TheVariants.{Memory};
+
+    ghost from_gives = { λ _ e. e ≡ Memory };
+
+    fn from(_: AllocError) -> WireFault {
+        WireFault::Memory
+    }
+}

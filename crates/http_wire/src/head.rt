@@ -1,0 +1,133 @@
+//! What the fields of a head announce.
+ghost use Rattle.std.specs.Prelude.{◌≡◌, true, ◌<◌, ◌≤◌, length, map, Some, All, slice_get, codes, nat_lt};
+ghost use Rattle.std.specs.Char.{is_ascii_digit};
+ghost use Rattle.std.specs.List.{list_all};
+ghost use Rattle.httparse.specs.Spans.{header_bytes, IsHeaderWithin};
+ghost use Rattle.http_wire.specs.Front.{is_word, is_length as is_length_text, number_of, values, length_of as length_by, framing_of as framing_by, judged, is_target as is_target_text};
+
+use crate::fault::Fault;
+use httparse::spans::HeaderSpan;
+
+/// Bodies are at most this long.
+pub const BODY_LIMIT: usize = 33_554_432;
+
+/// Whether a field's name is the word, in any case.
+fn is_named(word: &[u8], name: &[u8]) -> bool
+    ensures { result ≡ is_word word.now name.now }
+{
+    name.eq_ignore_ascii_case(word)
+}
+
+/// How many of the headers have that name, and the first one's value.
+fn find_value<'b>(buf: &'b [u8], headers: &[HeaderSpan], word: &[u8]) -> (usize, &'b [u8])
+    requires { All (IsHeaderWithin (length buf.now)) headers.now }
+    ensures count { result.0 ≡ length (values word.now (map (header_bytes buf.now) headers.now)) }
+    ensures first { 0 < result.0 → slice_get (values word.now (map (header_bytes buf.now) headers.now)) 0 ≡ Some result.1.now }
+{
+    let mut count = 0usize;
+    let mut first = &buf[..0];
+    for h in headers {
+        if is_named(word, h.name.of(buf)) {
+            if count == 0 {
+                first = h.value.of(buf);
+            }
+            count += 1;
+        }
+    }
+    (count, first)
+}
+
+/// The number that the digits spell.
+fn digits(value: &[u8]) -> u128
+    requires few { length value.now ≤ 20 }
+    requires each { All (λ b. is_ascii_digit b ≡ true) value.now }
+    ensures { result ≡ number_of value.now }
+{
+    let mut n = 0u128;
+    for b in value {
+        n = n * 10 + (*b - b'0') as u128;
+    }
+    n
+}
+
+fn all_digits(value: &[u8]) -> bool
+    ensures test { result ≡ list_all is_ascii_digit value.now }
+    ensures each { result ≡ true → All (λ b. is_ascii_digit b ≡ true) value.now }
+{
+    value.iter().all(|b| b.is_ascii_digit())
+}
+
+/// Whether it is 1 to 20 digits.
+fn is_length(value: &[u8]) -> bool
+    ensures test { result ≡ is_length_text value.now }
+    ensures few { result ≡ true → length value.now ≤ 20 }
+    ensures each { result ≡ true → All (λ b. is_ascii_digit b ≡ true) value.now }
+{
+    if value.is_empty() || value.len() > 20 {
+        return false;
+    }
+    all_digits(value)
+}
+
+/// The length that a Content-Length line says.
+fn length_of(value: &[u8]) -> Result<usize, Fault>
+    ensures { result ≡ length_by value.now }
+{
+    if !is_length(value) {
+        return Err(Fault::BadLength);
+    }
+    let n = digits(value);
+    if n > BODY_LIMIT as u128 {
+        return Err(Fault::BodyTooLarge);
+    }
+    Ok(n as usize)
+}
+
+/// The length of the body by the lines that frame it.
+fn framing_of(buf: &[u8], headers: &[HeaderSpan]) -> Result<usize, Fault>
+    requires { All (IsHeaderWithin (length buf.now)) headers.now }
+    ensures { result ≡ framing_by (values (codes "transfer-encoding") (map (header_bytes buf.now) headers.now)) (values (codes "content-length") (map (header_bytes buf.now) headers.now)) }
+{
+    let (codings, _) = find_value(buf, headers, b"transfer-encoding");
+    let (lengths, value) = find_value(buf, headers, b"content-length");
+    if codings > 0 {
+        return Err(if lengths > 0 {
+            Fault::BadLength
+        } else {
+            Fault::BadCoding
+        });
+    }
+    match lengths {
+        0 => Ok(0),
+        1 => length_of(value),
+        _ => Err(Fault::BadLength),
+    }
+}
+
+/// The length of the body, or the first fault of the fields.
+pub fn judge(buf: &[u8], headers: &[HeaderSpan]) -> Result<usize, Fault>
+    requires { All (IsHeaderWithin (length buf.now)) headers.now }
+    ensures { result ≡ judged (map (header_bytes buf.now) headers.now) }
+{
+    let (hosts, _) = find_value(buf, headers, b"host");
+    if hosts != 1 {
+        return Err(Fault::BadHost);
+    }
+    framing_of(buf, headers)
+}
+
+fn all_ascii(bytes: &[u8]) -> bool
+    ensures { result ≡ list_all (λ c. nat_lt c 128) bytes.now }
+{
+    bytes.iter().all(|b| *b < 128)
+}
+
+/// Whether it begins with a slash and is ASCII.
+pub fn is_target(target: &[u8]) -> bool
+    ensures { result ≡ is_target_text target.now }
+{
+    match target {
+        [first, rest @ ..] => *first == b'/' && all_ascii(rest),
+        [] => false,
+    }
+}

@@ -1,0 +1,12 @@
+//! What the definitions of a front have for all inputs, and at worked ones.
+ghost use Rattle.http_wire.specs.Law.{FrontLaw, WorkedFronts};
+
+/// Each front of an input is one request, or has one fault, or is incomplete.
+pub fn front_law()
+    ensures { FrontLaw }
+{}
+
+/// The fronts of worked inputs.
+pub fn worked_fronts()
+    ensures { WorkedFronts }
+{}

@@ -1,0 +1,15 @@
+//! HTTP/1.1 on the wire (RFC 9112): the requests that a stream of bytes holds, and the bytes of an answer.
+#![tactic(auto)]
+
+mod body;
+pub mod fault;
+mod head;
+pub mod inbox;
+pub mod law;
+mod look;
+pub mod request;
+pub mod response;
+pub mod sink;
+pub mod source;
+#[cfg(test)]
+mod tests;

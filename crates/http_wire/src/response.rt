@@ -1,0 +1,204 @@
+//! Answers to bytes (RFC 9112, section 4).
+ghost use Rattle.std.specs.Prelude.{◌≡◌, ℕ, ◌+◌, ◌<◌, ◌≤◌, List, [], ◌++◌, length, Option, option_map, vec_len, vec_capacity, decimal, IfOk, codes};
+ghost use Rattle.http_wire.specs.Sends.{Sends, failures_with};
+ghost use Rattle.http_wire.specs.Phrases.{phrase_of};
+ghost use Rattle.http_wire.specs.Answer.{status_line, type_line, length_line, allow_line, close_line, line_end, head_text, response_text, memory_text, allowed, allowed_len};
+
+use crate::sink::{Sink, WriteFault};
+use http::StatusCode;
+use itoa::Buffer;
+use std::alloc::{AllocError, Global};
+
+/// The media type of a body.
+#[derive(Clone, Copy, Debug, PartialEq, Eq)]
+pub enum ContentType {
+    /// `application/json`
+    Json,
+    /// `text/plain`
+    PlainText,
+}
+
+/// An answer.
+#[derive(Clone, Copy, Debug)]
+pub struct Response<'a> {
+    pub status: StatusCode,
+    pub kind: ContentType,
+    /// The methods that an Allow line names.
+    pub allow: Option<&'a str>,
+    /// Whether the connection closes after it.
+    pub closes: bool,
+    pub body: &'a [u8],
+}
+
+/// Answers up to this length are sent in one piece.
+pub const OUTBOX_LEN: usize = 16_384;
+
+/// The buffer in which answers are built, with all the room that it ever takes.
+#[derive(Drop)]
+pub struct Outbox {
+    bytes: Vec<u8>,
+    ghost room: { 16384 ≤ vec_capacity bytes },
+}
+
+impl Outbox {
+    /// An empty one, with all the room that it ever takes.
+    pub fn new(alloc: Global) -> Result<Outbox, AllocError> {
+        Ok(Outbox {
+            bytes: Vec::with_capacity(alloc, OUTBOX_LEN)?,
+        })
+    }
+}
+
+/// The phrase of a status that the desk answers; other statuses have none.
+fn phrase(status: StatusCode) -> &'static str
+    ensures phrase { result.now ≡ phrase_of status }
+    ensures short { length result.now ≤ 31 }
+{
+    match status.as_u16() {
+        200 => "OK",
+        201 => "Created",
+        400 => "Bad Request",
+        404 => "Not Found",
+        405 => "Method Not Allowed",
+        409 => "Conflict",
+        413 => "Content Too Large",
+        422 => "Unprocessable Content",
+        431 => "Request Header Fields Too Large",
+        501 => "Not Implemented",
+        503 => "Service Unavailable",
+        507 => "Insufficient Storage",
+        _ => "",
+    }
+}
+
+/// Adds a text for which there is room.
+fn put(bytes: &mut Vec<u8>, text: &[u8])
+    requires { vec_len bytes.old + length text.now ≤ vec_capacity bytes.old }
+    ensures items { bytes.new.items ≡ bytes.old.items ++ text.now }
+    ensures len { vec_len bytes.new ≡ vec_len bytes.old + length text.now }
+    ensures room { vec_capacity bytes.old ≤ vec_capacity bytes.new }
+{
+    let _ = bytes.extend_from_slice(text);
+}
+
+/// The line of the status.
+fn put_status(bytes: &mut Vec<u8>, status: StatusCode)
+    requires { vec_len bytes.old + 100 ≤ vec_capacity bytes.old }
+    ensures items { bytes.new.items ≡ bytes.old.items ++ status_line status }
+    ensures len { vec_len bytes.new ≤ vec_len bytes.old + 100 }
+    ensures room { vec_capacity bytes.old ≤ vec_capacity bytes.new }
+{
+    put(bytes, b"HTTP/1.1 ");
+    put(bytes, status.as_str().as_bytes());
+    put(bytes, b" ");
+    put(bytes, phrase(status).as_bytes());
+    put(bytes, b"\r\n");
+}
+
+/// The line of the media type.
+fn put_type(bytes: &mut Vec<u8>, kind: ContentType)
+    requires { vec_len bytes.old + 100 ≤ vec_capacity bytes.old }
+    ensures items { bytes.new.items ≡ bytes.old.items ++ type_line kind }
+    ensures len { vec_len bytes.new ≤ vec_len bytes.old + 100 }
+    ensures room { vec_capacity bytes.old ≤ vec_capacity bytes.new }
+{
+    match kind {
+        ContentType::Json => put(bytes, b"Content-Type: application/json\r\n"),
+        ContentType::PlainText => put(bytes, b"Content-Type: text/plain\r\n"),
+    }
+}
+
+/// The line of the body's length.
+fn put_length(bytes: &mut Vec<u8>, n: usize)
+    requires { vec_len bytes.old + 100 ≤ vec_capacity bytes.old }
+    ensures items { bytes.new.items ≡ bytes.old.items ++ length_line n }
+    ensures len { vec_len bytes.new ≤ vec_len bytes.old + 100 }
+    ensures room { vec_capacity bytes.old ≤ vec_capacity bytes.new }
+{
+    let mut digits = Buffer::new();
+    put(bytes, b"Content-Length: ");
+    put(bytes, digits.format(n).as_bytes());
+    put(bytes, b"\r\n");
+}
+
+/// The line of the allowed methods, if there is one.
+fn put_allow(bytes: &mut Vec<u8>, allow: Option<&str>)
+    requires room { vec_len bytes.old + 100 ≤ vec_capacity bytes.old }
+    requires short { allowed_len (option_map (λ methods. methods.now) allow) ≤ 64 }
+    ensures items { bytes.new.items ≡ bytes.old.items ++ allow_line (option_map (λ methods. methods.now) allow.entry) }
+    ensures len { vec_len bytes.new ≤ vec_len bytes.old + 100 }
+    ensures room { vec_capacity bytes.old ≤ vec_capacity bytes.new }
+{
+    if let Some(methods) = allow {
+        put(bytes, b"Allow: ");
+        put(bytes, methods.as_bytes());
+        put(bytes, b"\r\n");
+    }
+}
+
+/// The line that tells that the connection closes, where it does, and the empty line.
+fn put_end(bytes: &mut Vec<u8>, closes: bool)
+    requires { vec_len bytes.old + 100 ≤ vec_capacity bytes.old }
+    ensures items { bytes.new.items ≡ bytes.old.items ++ close_line closes ++ line_end }
+    ensures len { vec_len bytes.new ≤ vec_len bytes.old + 100 }
+    ensures room { vec_capacity bytes.old ≤ vec_capacity bytes.new }
+{
+    if closes {
+        put(bytes, b"Connection: close\r\n\r\n");
+    } else {
+        put(bytes, b"\r\n");
+    }
+}
+
+/// The head, in place of what the buffer held.
+fn put_head(bytes: &mut Vec<u8>, response: &Response<'_>)
+    requires room { 16384 ≤ vec_capacity bytes.old }
+    requires short { allowed_len (allowed response.now) ≤ 64 }
+    ensures items { bytes.new.items ≡ head_text response.now.status response.now.kind (allowed response.now) response.now.closes (length response.now.body.now) }
+    ensures len { vec_len bytes.new ≤ 500 }
+    ensures room { 16384 ≤ vec_capacity bytes.new }
+{
+    bytes.clear();
+    put_status(bytes, response.status);
+    put_type(bytes, response.kind);
+    put_length(bytes, response.body.len());
+    put_allow(bytes, response.allow);
+    put_end(bytes, response.closes);
+}
+
+/// Writes an answer, and takes no memory for it. Its head, with as much of its body as has room, is built before the first
+/// byte is written.
+pub fn write_response<W: Sink>(
+    writer: &mut W,
+    outbox: &mut Outbox,
+    response: &Response<'_>,
+) -> Result<(), WriteFault>
+    requires { allowed_len (allowed response.now) ≤ 64 }
+    ensures bytes { Sends (W.contents writer.old) (W.contents writer.new) result (response_text response.now) }
+    ensures failures { W.failures writer.new ≡ failures_with (W.failures writer.old) result }
+{
+    let body = response.body;
+    let bytes = &mut outbox.bytes;
+    put_head(bytes, response);
+    let fits = body.len().min(OUTBOX_LEN - bytes.len());
+    put(bytes, &body[..fits]);
+    let Ok(()) = writer.send(bytes.as_slice()) else {
+        return Err(WriteFault);
+    };
+    if fits == body.len() {
+        return Ok(());
+    }
+    writer.send(&body[fits..])
+}
+
+/// The answer where memory is wanting, which closes the connection.
+pub const MEMORY_ANSWER: &[u8] =
+    b"HTTP/1.1 503 Service Unavailable\r\nContent-Type: application/json\r\nContent-Length: 18\r\nConnection: close\r\n\r\n{\"error\":\"Memory\"}";
+
+/// Writes that memory is wanting.
+pub fn write_memory<W: Sink>(writer: &mut W) -> Result<(), WriteFault>
+    ensures bytes { Sends (W.contents writer.old) (W.contents writer.new) result memory_text }
+    ensures failures { W.failures writer.new ≡ failures_with (W.failures writer.old) result }
+{
+    writer.send(MEMORY_ANSWER)
+}

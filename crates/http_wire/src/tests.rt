@@ -1,0 +1,341 @@
+//! Worked heads and answers, in pieces, with failures.
+
+use crate::fault::{Fault, WireFault};
+use crate::inbox::Inbox;
+use crate::request::{Incoming, TURN_LIMIT, read_request};
+use crate::response::{ContentType, MEMORY_ANSWER, Outbox, Response, write_memory, write_response};
+use crate::sink::{WriteFault, WriteSink};
+use crate::source::ReadSource;
+use http::{Method, StatusCode};
+use std::alloc::{AllocError, Global};
+use std::io;
+use std::io::{ErrorKind, Read, Write};
+use std::test::Fail;
+
+/// Gives its bytes in pieces, is interrupted at each third call, and fails at one.
+#[derive(Drop)]
+struct Pieces<'a> {
+    bytes: &'a [u8],
+    piece: usize,
+    calls: u64,
+    fails_at: u64,
+}
+
+impl Read for Pieces<'_> {
+    fn read(&mut self, buf: &mut [u8]) -> io::Result<usize> {
+        let call = self.calls;
+        self.calls = call.saturating_add(1);
+        if call == self.fails_at {
+            return Err(io::Error::from(ErrorKind::BrokenPipe));
+        }
+        if call % 3 == 2 {
+            return Err(io::Error::from(ErrorKind::Interrupted));
+        }
+        let bytes = self.bytes;
+        let n = self.piece.min(buf.len()).min(bytes.len());
+        buf[..n].copy_from_slice(&bytes[..n]);
+        self.bytes = &bytes[n..];
+        Ok(n)
+    }
+}
+
+/// What a stream gave: its requests' bodies joined, how many there were, and how it ended.
+#[derive(Drop)]
+struct Stream {
+    requests: u64,
+    bodies: Vec<u8>,
+    refused: Option<Fault>,
+    fault: Option<WireFault>,
+}
+
+fn read_stream(
+    alloc: Global,
+    bytes: &[u8],
+    piece: usize,
+    fails_at: u64,
+) -> Result<Stream, AllocError> {
+    let mut reader = ReadSource::new(Pieces {
+        bytes,
+        piece,
+        calls: 0,
+        fails_at,
+    });
+    let mut inbox = Inbox::new(alloc)?;
+    let mut turns = TURN_LIMIT;
+    let mut stream = Stream {
+        requests: 0,
+        bodies: Vec::new(alloc),
+        refused: None,
+        fault: None,
+    };
+    for _ in 0..100 {
+        match read_request(alloc, &mut reader, &mut inbox, &mut turns) {
+            Ok(Incoming::Request(request)) => {
+                stream.requests = stream.requests.saturating_add(1);
+                stream.bodies.extend_from_slice(request.body.as_slice())?;
+            }
+            Ok(Incoming::Refused(fault)) => {
+                stream.refused = Some(fault);
+                return Ok(stream);
+            }
+            Ok(Incoming::End) => return Ok(stream),
+            Err(fault) => {
+                stream.fault = Some(fault);
+                return Ok(stream);
+            }
+        }
+    }
+    Ok(stream)
+}
+
+/// Inputs, the number of their requests, and their fault.
+const HEADS: [(&[u8], u64, Option<Fault>); 17] = [
+    (b"GET /plans HTTP/1.1\r\nHost: d\r\n\r\n", 1, None),
+    (
+        b"\r\n\nGET / HTTP/1.1\nhOST:\n\nBREW /pot HTTP/1.1\r\nHost: d\r\n\r\n\r\n",
+        2,
+        None,
+    ),
+    (b"", 0, None),
+    (b"GET /plans HTTP/1.1\r\nHo", 0, None),
+    (b"GET /plans HTTP/1.1\r\n\r\n", 0, Some(Fault::BadHost)),
+    (
+        b"GET / HTTP/1.1\r\nHost: d\r\nHost: d\r\n\r\n",
+        0,
+        Some(Fault::BadHost),
+    ),
+    (
+        b"GET / HTTP/1.0\r\nHost: d\r\n\r\n",
+        0,
+        Some(Fault::BadHead),
+    ),
+    (b"G(T ", 0, Some(Fault::BadHead)),
+    (
+        b"GET /\xff HTTP/1.1\r\nHost: d\r\n\r\n",
+        0,
+        Some(Fault::BadHead),
+    ),
+    (
+        b"GET /\xc3\xa9 HTTP/1.1\r\nHost: d\r\n\r\n",
+        0,
+        Some(Fault::BadTarget),
+    ),
+    (
+        b"OPTIONS * HTTP/1.1\r\nHost: d\r\n\r\n",
+        0,
+        Some(Fault::BadTarget),
+    ),
+    (
+        b"PUT / HTTP/1.1\r\nHost: d\r\nContent-Length: 5\r\n\r\nfour",
+        0,
+        None,
+    ),
+    (
+        b"PUT / HTTP/1.1\r\nHost: d\r\nContent-Length: +5\r\n\r\n",
+        0,
+        Some(Fault::BadLength),
+    ),
+    (
+        b"PUT / HTTP/1.1\r\nHost: d\r\nContent-Length: 0\r\nTransfer-Encoding: chunked\r\n\r\n",
+        0,
+        Some(Fault::BadLength),
+    ),
+    (
+        b"PUT / HTTP/1.1\r\nHost: d\r\nTransfer-Encoding: chunked\r\n\r\n",
+        0,
+        Some(Fault::BadCoding),
+    ),
+    (
+        b"PUT / HTTP/1.1\r\nHost: d\r\nContent-Length: 33554433\r\n\r\n",
+        0,
+        Some(Fault::BodyTooLarge),
+    ),
+    (
+        b"PUT / HTTP/1.1\r\nHost: d\r\nContent-Length: 18446744073709551616\r\n\r\n",
+        0,
+        Some(Fault::BodyTooLarge),
+    ),
+];
+
+#[test]
+fn worked_heads(rt: HostRuntime) -> Result<(), Fail> {
+    for (input, requests, refused) in HEADS {
+        for piece in [1, 7, 65_536] {
+            let stream = read_stream(rt.alloc(), input, piece, u64::MAX)?;
+            assert_eq!(rt; stream.requests, requests);
+            assert!(rt; stream.refused == refused);
+            assert!(rt; stream.fault.is_none());
+        }
+    }
+    Ok(())
+}
+
+/// A head of so many header lines and so many bytes.
+fn head_of(alloc: Global, lines: usize, len: usize) -> Result<Vec<u8>, AllocError> {
+    let mut head = Vec::from_slice(alloc, b"GET / HTTP/1.1\r\nHost: d\r\n")?;
+    for _ in 1..lines {
+        head.extend_from_slice(b"X: y\r\n")?;
+    }
+    if head.len().saturating_add(5) < len {
+        head.resize(len.saturating_sub(5), b'z')?;
+        head.extend_from_slice(b":\r\n")?;
+    }
+    head.extend_from_slice(b"\r\n")?;
+    Ok(head)
+}
+
+#[test]
+fn limits(rt: HostRuntime) -> Result<(), Fail> {
+    let table = [
+        (64, 0, 1, None),
+        (65, 0, 0, Some(Fault::HeadTooLarge)),
+        (1, 16_384, 1, None),
+        (1, 16_385, 0, Some(Fault::HeadTooLarge)),
+    ];
+    for (lines, len, requests, refused) in table {
+        let head = head_of(rt.alloc(), lines, len)?;
+        assert!(rt; len == 0 || head.len() == len);
+        for piece in [100, 65_536] {
+            let stream = read_stream(rt.alloc(), head.as_slice(), piece, u64::MAX)?;
+            assert_eq!(rt; stream.requests, requests);
+            assert!(rt; stream.refused == refused);
+        }
+    }
+    Ok(())
+}
+
+/// Two requests with a long and a short body.
+fn two_requests(alloc: Global) -> Result<Vec<u8>, AllocError> {
+    let mut input = Vec::from_slice(
+        alloc,
+        b"POST /a HTTP/1.1\r\nHost: d\r\nContent-Length: 100000\r\n\r\n",
+    )?;
+    let len = input.len();
+    input.resize(len.saturating_add(100_000), b'a')?;
+    input.extend_from_slice(b"POST /b HTTP/1.1\r\nHost: d\r\nContent-Length: 3\r\n\r\nbbb")?;
+    Ok(input)
+}
+
+#[test]
+fn bodies_in_pieces(rt: HostRuntime) -> Result<(), Fail> {
+    let input = two_requests(rt.alloc())?;
+    let mut bodies = Vec::from_elem(rt.alloc(), b'a', 100_000)?;
+    bodies.extend_from_slice(b"bbb")?;
+    for piece in [1, 999, 1_000_000] {
+        let stream = read_stream(rt.alloc(), input.as_slice(), piece, u64::MAX)?;
+        assert_eq!(rt; stream.requests, 2);
+        assert!(rt; stream.bodies.as_slice() == bodies.as_slice());
+    }
+    Ok(())
+}
+
+#[test]
+fn a_read_that_fails(rt: HostRuntime) -> Result<(), Fail> {
+    let input = two_requests(rt.alloc())?;
+    let mut ended = false;
+    for call in 0..200 {
+        let stream = read_stream(rt.alloc(), input.as_slice(), 2_000, call)?;
+        assert!(rt; stream.refused.is_none());
+        if stream.fault.is_none() {
+            ended = true;
+            assert_eq!(rt; stream.requests, 2);
+        } else {
+            assert!(rt; stream.fault == Some(WireFault::Read));
+            assert!(rt; stream.requests < 2 || call > 50);
+        }
+    }
+    assert!(rt; ended);
+    Ok(())
+}
+
+/// Takes so many bytes a call, is interrupted before each, and fails once so many were written.
+#[derive(Drop)]
+struct Slow {
+    bytes: Vec<u8>,
+    piece: usize,
+    limit: usize,
+    interrupts: bool,
+}
+
+impl Write for Slow {
+    fn write(&mut self, buf: &[u8]) -> io::Result<usize> {
+        self.interrupts = !self.interrupts;
+        if self.interrupts {
+            return Err(io::Error::from(ErrorKind::Interrupted));
+        }
+        let n = self
+            .piece
+            .min(buf.len())
+            .min(self.limit.saturating_sub(self.bytes.len()));
+        self.bytes.extend_from_slice(&buf[..n])?;
+        Ok(n)
+    }
+
+    fn flush(&mut self) -> io::Result<()> {
+        Ok(())
+    }
+}
+
+#[test]
+fn worked_answers(rt: HostRuntime) -> Result<(), Fail> {
+    let mut outbox = Outbox::new(rt.alloc())?;
+    let mut writer = WriteSink::new(Vec::new(rt.alloc()));
+    let list = Response {
+        status: StatusCode::OK,
+        kind: ContentType::Json,
+        allow: None,
+        closes: false,
+        body: b"{\"plans\":[]}",
+    };
+    assert!(rt; write_response(&mut writer, &mut outbox, &list).is_ok());
+    let refusal = Response {
+        status: StatusCode::METHOD_NOT_ALLOWED,
+        kind: ContentType::PlainText,
+        allow: Some("GET, HEAD"),
+        closes: true,
+        body: b"",
+    };
+    assert!(rt; write_response(&mut writer, &mut outbox, &refusal).is_ok());
+    assert!(rt; write_memory(&mut writer).is_ok());
+    let written = writer.into_inner();
+    let first =
+        b"HTTP/1.1 200 OK\r\nContent-Type: application/json\r\nContent-Length: 12\r\n\r\n{\"plans\":[]}";
+    let second =
+        b"HTTP/1.1 405 Method Not Allowed\r\nContent-Type: text/plain\r\nContent-Length: 0\r\nAllow: GET, HEAD\r\nConnection: close\r\n\r\n";
+    let mut wanted = Vec::from_slice(rt.alloc(), first)?;
+    wanted.extend_from_slice(second)?;
+    wanted.extend_from_slice(MEMORY_ANSWER)?;
+    assert!(rt; written.as_slice() == wanted.as_slice());
+    Ok(())
+}
+
+#[test]
+fn a_write_that_fails(rt: HostRuntime) -> Result<(), Fail> {
+    let body = Vec::from_elem(rt.alloc(), b'x', 40_000)?;
+    let answer = Response {
+        status: StatusCode::OK,
+        kind: ContentType::PlainText,
+        allow: None,
+        closes: false,
+        body: body.as_slice(),
+    };
+    for limit in [0, 1, 100, 16_383, 16_384, 16_385, 30_000, 50_000] {
+        let mut outbox = Outbox::new(rt.alloc())?;
+        let mut writer = WriteSink::new(Slow {
+            bytes: Vec::new(rt.alloc()),
+            piece: 5_000,
+            limit,
+            interrupts: false,
+        });
+        let result = write_response(&mut writer, &mut outbox, &answer);
+        let written = writer.into_inner();
+        if limit < 40_000 {
+            assert!(rt; result == Err(WriteFault));
+            assert_eq!(rt; written.bytes.len(), limit);
+        } else {
+            assert!(rt; result.is_ok());
+            assert_eq!(rt; written.bytes.len(), 40_000 + 68);
+        }
+    }
+    Ok(())
+}

@@ -1,0 +1,36 @@
+-- What `talk` comes to.
+use Rattle.std.specs.Prelude.{◌≡◌, ℕ, List, Option, Result, Ok, Err}
+use Rattle.desk_model.specs.declared.command.Command.{Command}
+use Rattle.desk_model.specs.declared.command.Query.{Query}
+use Rattle.desk_model.specs.declared.reply.Reply.{Reply}
+use Rattle.desk_model.specs.Desk.{Desk}
+use Rattle.desk_model.specs.Sample.{sample_desk}
+use Rattle.desk_model.specs.Outcome.{CommandMay, QueryMay}
+use Rattle.http_desk.specs.Serving.{Serves}
+use Rattle.http_desk.specs.declared.serve.Served.{Served}
+use Rattle.http_desk.specs.declared.serve.ServeFault.{ServeFault}
+use Rattle.http_desk.specs.declared.serve.ServeFault.TheVariants as fault
+use Rattle.plandesk.specs.declared.status.Status.{Status}
+use Rattle.plandesk.specs.declared.status.Status.TheVariants.{Done, Memory, Stream}
+
+-- a desk in memory: it is never full, and no device fails
+abbrev pub desk_commands : Desk → Command → Reply → Desk → Type 0
+desk_commands desk command reply after = CommandMay ⊥ ⊥ desk command reply after
+
+abbrev pub desk_asks : Desk → Query → Reply → Desk → Type 0
+desk_asks desk query reply after = QueryMay desk query reply × (after ≡ desk)
+
+abbrev pub status_of : Result Served ServeFault → Status
+status_of (Ok served) = Done
+status_of (Err fault.Read) = Stream
+status_of (Err fault.Write) = Stream
+status_of (Err fault.Memory) = Memory
+status_of (Err fault.TurnLimit) = Stream
+
+-- what was written is a talk of the sample desk over what was read
+abbrev pub ServesSample : Result Served ServeFault → (unread left before after : Option (List ℕ)) → Type 0
+ServesSample served unread left before after = (desk : Desk) × Serves desk_commands desk_asks sample_desk served desk unread left before after
+
+-- the same, and the status tells how it ended
+abbrev pub Talks : Status → (unread left before after : Option (List ℕ)) → Type 0
+Talks status unread left before after = (served : Result Served ServeFault) × (status ≡ status_of served) × ServesSample served unread left before after

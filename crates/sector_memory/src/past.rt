@@ -1,0 +1,35 @@
+//! What a device held so far. It takes no memory, and only clauses read it.
+ghost use Rattle.std.specs.Prelude.{◌≡◌, ℕ, Bool, true, false, List, [], ◌∷◌};
+ghost use Rattle.std.specs.Borrow.{ftrue};
+
+use std::marker::{Model, PhantomData};
+
+#[derive(Drop)]
+pub struct Past {
+    marker: PhantomData<u8>,
+    pub ghost states: { List (List (List ℕ) × List Bool × Bool) },
+}
+
+impl Model for Past {
+    ghost also_owns = { λ _. ftrue };
+}
+
+impl Past {
+    pub(crate) fn new() -> Past
+        ensures { result.states ≡ [] }
+    {
+        Past {
+            marker: PhantomData,
+        }
+    }
+
+    /// Notes what the device held before a call that passed.
+    pub(crate) fn note(&mut self, _sectors: &[[u8; 4096]], _dirty: &[bool])
+        ensures { self.new.states ≡ (_sectors.now, _dirty.now, false) ∷ self.old.states }
+    {}
+
+    /// Notes what the device held before a call that was refused.
+    pub(crate) fn note_fault(&mut self, _sectors: &[[u8; 4096]], _dirty: &[bool])
+        ensures { self.new.states ≡ (_sectors.now, _dirty.now, true) ∷ self.old.states }
+    {}
+}
