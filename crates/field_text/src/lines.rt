@@ -1,5 +1,5 @@
 //! The lines of a whole text, as slices of it.
-ghost use Rattle.std.specs.Prelude.{◌≡◌, ◌+◌, ◌==◌, ◌<◌, ◌++◌, ◌∷◌, ◌^◌, ℕ, List, [], All, false, length, MatchOption};
+ghost use Rattle.std.specs.Prelude.{◌≡◌, ◌+◌, ◌==◌, ◌<◌, ◌++◌, ◌∷◌, ◌^◌, [], All, false, length, MatchOption};
 ghost use Rattle.std.specs.Str.Lines.{lines, strip_carriage_return};
 
 use memchr::memchr;

@@ -1,10 +1,10 @@
 //! The lines of a reader, one at a time, however its bytes are cut.
-ghost use Rattle.std.specs.Prelude.{◌≡◌, ◌+◌, ◌-◌, ◌<◌, ◌≤◌, ◌^◌, ◌++◌, ◌∷◌, ℕ, List, [], Bool, true, false, Ok, Err, IfOk, MatchBool, length, take, drop, vec_len, min, nat_lt};
+ghost use Rattle.std.specs.Prelude.{◌≡◌, ◌+◌, ◌-◌, ◌<◌, ◌≤◌, ◌^◌, ◌++◌, ℕ, List, [], true, false, Ok, Err, IfOk, MatchBool, length, take, drop, vec_len, min, nat_lt};
 ghost use Rattle.std.specs.List.{slice_range};
 ghost use Rattle.std.specs.Str.Lines.{strip_carriage_return};
-ghost use Rattle.std.specs.Io.KnownBytes.{Consumes, IsAtEnd};
+ghost use Rattle.std.specs.Io.KnownBytes.{Consumes};
 ghost use Rattle.field_text.specs.Turns.{TurnConsumes, failures_after};
-ghost use Rattle.field_text.specs.Reading.{NoLineFeed, IsLong, IsShort, BeginsWithLine, IsLastLine, Gives, number_after, failures_after_step, CountsFrom, Fills, turn_limit};
+ghost use Rattle.field_text.specs.Reading.{NoLineFeed, BeginsWithLine, Gives, number_after, failures_after_step, CountsFrom, Fills, turn_limit};
 
 use crate::lines::{cut, without_return};
 use crate::source::{Source, Turn};
@@ -83,7 +83,7 @@ pub struct LineReader {
 }
 
 impl Model for LineReader {
-    ghost use Rattle.std.specs.Prelude.{◌≡◌, ◌+◌, ◌*◌, ◌^◌, ◌≤◌, vec_len};
+    ghost use Rattle.std.specs.Prelude.{◌≡◌, ◌+◌, ◌^◌, ◌≤◌, vec_len};
     ghost use Rattle.std.specs.List.{slice_range};
     ghost use Rattle.field_text.specs.Reading.{Reading};
 

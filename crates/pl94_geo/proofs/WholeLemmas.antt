@@ -49,7 +49,7 @@ all_right P [] ys all = all
 all_right P (x ∷ xs) ys all = all_right P xs ys all.1
 
 -- of different numbers, none before a place is the one there
-before_differs : (xs ys : List ℕ) (y : ℕ) → IsDistinct nat_eq (xs ++ y ∷ ys) → repeats xs y ≡ false
+pub before_differs : (xs ys : List ℕ) (y : ℕ) → IsDistinct nat_eq (xs ++ y ∷ ys) → repeats xs y ≡ false
 before_differs [] ys y distinct = refl
 before_differs (x ∷ xs) ys y distinct =
     let apart : nat_eq x y ≡ false = all_at_end (λ z. nat_eq x z ≡ false) y ys (all_right (λ z. nat_eq x z ≡ false) xs (y ∷ ys) (IsDistinct-head nat_eq x (xs ++ y ∷ ys) distinct)) in

@@ -1,5 +1,5 @@
 //! What is read of one line of the geographic header.
-ghost use Rattle.std.specs.Prelude.{◌≡◌, ◌+◌, ◌*◌, ◌<◌, ◌≤◌, ◌^◌, ◌==◌, ℕ, List, drop, length, slice_index, IfSome, IfOk, Option, All};
+ghost use Rattle.std.specs.Prelude.{◌≡◌, ◌+◌, ◌*◌, ◌<◌, ◌^◌, ◌==◌, length, IfSome, IfOk, Option};
 ghost use Rattle.field_text.specs.Fields.{fields};
 ghost use Rattle.pl94_geo.specs.Entries.{is_city, place_of, block_read, state_record_read, line_read, IsEntry, AreBlockFields, block_number};
 ghost use Rattle.desk_model.specs.Block.{state_of};

@@ -1,9 +1,8 @@
 //! The taken records of the lines so far.
-ghost use Rattle.std.specs.Prelude.{◌≡◌, ◌++◌, ◌∷◌, [], ℕ, List, Bool, true, false, not, OnOk, OnErr, MatchBool, MatchOption, MatchResult, ◌==◌, nat_eq, Some, None, Err, Ok, IfSome};
-ghost use Rattle.std.specs.HashSet.{contains};
+ghost use Rattle.std.specs.Prelude.{◌≡◌, [], ℕ, List, true, false, not, ◌==◌, Some, None, Err, Ok};
 ghost use Rattle.std.specs.Option.{option_map_or};
 ghost use Rattle.pl94_geo.specs.Entries.{IsEntry};
-ghost use Rattle.pl94_geo.specs.Judging.{conflict, entries, judge, ids_of, numbers_of, other_state};
+ghost use Rattle.pl94_geo.specs.Judging.{entries, other_state};
 ghost use Rattle.pl94_geo.specs.Holding.{Holds, Takes, Judges, Adds};
 ghost use Rattle.pl94_geo.specs.declared.entry.Entry.{Entry as TakenEntry};
 

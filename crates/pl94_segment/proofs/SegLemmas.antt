@@ -70,7 +70,7 @@ repeated old rs r p holds there =
     let is : has_number rs r.number ≡ true = has_number-is_some rs r.number ∙ some_test _ p (sym (holds.people r.number) ∙ there) in
     ap (λ (b : Bool). cond b (Some RepeatedRecord) None) is
 
-records-push : (part : Part) (ls : List (List ℕ)) (line : List ℕ) (r : SegRecord) → line_read part line ≡ Ok r → records part (ls ++ line ∷ []) ≡ records part ls ++ r ∷ []
+pub records-push : (part : Part) (ls : List (List ℕ)) (line : List ℕ) (r : SegRecord) → line_read part line ≡ Ok r → records part (ls ++ line ∷ []) ≡ records part ls ++ r ∷ []
 records-push part ls line r is = filter_map-append (record_of part) ls (line ∷ []) ∙ ap (λ (x : Result SegRecord LineFault). records part ls ++ cons_option (result_ok x) []) is
 
 -- what taking its record says of the line

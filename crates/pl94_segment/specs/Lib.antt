@@ -1,3 +1,4 @@
+pub mod Files
 pub mod Join
 pub mod Records
 pub mod SegFile

@@ -12,6 +12,11 @@ use Rattle.pl94_segment.specs.declared.record.LineFault.{LineFault}
 use Rattle.pl94_segment.specs.declared.record.LineFault.TheVariants.{Shape, RecordNumber, People, RepeatedRecord}
 use Rattle.pl94_segment.specs.declared.record.SegRecord.{SegRecord}
 
+abbrev pub part_number : Part → ℕ
+part_number One = 1
+part_number Two = 2
+part_number Three = 3
+
 abbrev pub field_count_of : Part → ℕ
 field_count_of One = 149
 field_count_of Two = 152

@@ -1,5 +1,5 @@
 //! The blocks of a header with their people.
-ghost use Rattle.std.specs.Prelude.{◌≡◌, ◌+◌, ◌++◌, ◌∷◌, [], ◌<◌, ◌≤◌, ◌^◌, ℕ, List, IfOk, map, length, sum_by};
+ghost use Rattle.std.specs.Prelude.{◌≡◌, ◌+◌, ◌++◌, ◌∷◌, [], ◌<◌, ◌≤◌, ℕ, List, IfOk, map, length, sum_by};
 ghost use Rattle.std.specs.List.Sorted.{IsPermutation, IsNonDecreasing};
 ghost use Rattle.desk_model.specs.Geography.{block_limit, ids_of};
 ghost use Rattle.pl94_geo.specs.GeoFile.{AreGeoRows};

@@ -3,6 +3,7 @@
 #![tactic(auto)]
 
 pub mod join;
+pub mod law;
 pub mod record;
 pub mod segment;
 #[cfg(test)]

@@ -1,7 +1,7 @@
 //! What is read of one line of a segment.
-ghost use Rattle.std.specs.Prelude.{◌≡◌, ◌<◌, ◌≤◌, ◌^◌, length, IfOk, IfSome};
+ghost use Rattle.std.specs.Prelude.{◌≡◌, ◌<◌, ◌≤◌, length};
 ghost use Rattle.field_text.specs.Fields.{fields};
-ghost use Rattle.pl94_segment.specs.Records.{field_count_of, people_of_field, record_read, line_read};
+ghost use Rattle.pl94_segment.specs.Records.{part_number, field_count_of, people_of_field, record_read, line_read};
 
 use field_text::digits::number as record_number;
 use field_text::fields::{Fields, count_fields};
@@ -17,7 +17,9 @@ pub enum Part {
 
 impl Part {
     /// 1, 2 or 3.
-    pub fn number(self) -> u8 {
+    pub fn number(self) -> u8
+        ensures { result ≡ part_number self }
+    {
         match self {
             Part::One => 1,
             Part::Two => 2,
