@@ -1,5 +1,6 @@
 mod Again
 mod Codes
+mod Faulty
 mod Listing
 mod Printing
 mod Rows

@@ -1,10 +1,10 @@
 -- The lines' own values, and what the reading of them in turn gives.
-use Rattle.std.proofs.Common.{◌≡◌, ◌≢◌, ◌↔◌, ℕ, ◌+◌, ◌<◌, ◌≤◌, Bool, true, false, not, cond, eqb, List, [], ◌∷◌, ◌++◌, map, filter, drop, length, get_or, zero, suc, refl, sym, ◌∙◌, ap, arith, All, Contains, Option, Some, None, Result, Ok, Err, is_some, append_assoc, ⊎_elim}
+use Rattle.std.proofs.Common.{◌≡◌, ◌≢◌, ℕ, ◌+◌, Bool, true, false, not, cond, eqb, List, [], ◌∷◌, ◌++◌, map, filter, length, get_or, zero, suc, refl, sym, ◌∙◌, ap, arith, All, Contains, Option, Some, None, Result, Ok, Err, is_some, append_assoc, ⊎_elim}
 use Rattle.std.specs.Prelude.{AllPairs, nat_eq}
-use Rattle.std.specs.List.{list_any, slice_get, Any}
+use Rattle.std.specs.List.{list_any}
 use Rattle.std.specs.Cmp.Lexicographic.{pointwise}
 use Rattle.std.specs.Str.Lines.{lines}
-use Rattle.std.proofs.lemmas.Bool.{eq-eqb, eqb-true, ne_eqb, cases_Bool}
+use Rattle.std.proofs.lemmas.Bool.{eq-eqb, eqb-true, cases_Bool}
 use Rattle.std.proofs.lemmas.List.{append-nil, get_or_default}
 use Rattle.std.proofs.lemmas.Option.{same_Some}
 use Rattle.std.proofs.lemmas.List.Elements.{All-cons, All-nil, All-head, All-tail}
@@ -12,18 +12,18 @@ use Rattle.std.proofs.lemmas.List.Folds.{list_any_at, Any-from_list_any}
 use Rattle.std.proofs.lemmas.List.Kept.{AllPairs-cons}
 use Rattle.std.proofs.lemmas.Slice.Eq.{bytes_eq-Decides}
 use Rattle.desk_model.specs.declared.reply.BodyFault.{BodyFault}
-use Rattle.desk_model.specs.declared.reply.BodyFault.TheVariants.{UnknownBlock, RepeatedBlock, OutOfRange}
-use Rattle.desk_model.specs.Baf.{Values, Fault, value_at, header, fields_of, in_range, placed, line_read, at_line, rows_read, with_header, body_read}
+use Rattle.desk_model.specs.declared.reply.BodyFault.TheVariants.{UnknownBlock, RepeatedBlock}
+use Rattle.desk_model.specs.Baf.{Values, value_at, header, fields_of, in_range, placed, line_read, at_line, rows_read, with_header}
 use Rattle.desk_model.specs.Geography.{Ground, ids}
 use Rattle.field_text.specs.Fields.{fields}
 use Rattle.baf_text.specs.Body.{with_district, value_of, IsBody, ReadIsListed}
-use Rattle.baf_text.proofs.Values.{value_at-push_other, value_at-push_same}
+use Rattle.baf_text.proofs.Values.{value_at-push_other}
 
 -- a line's fields add this block with its district
-record Adds (g : Ground) (n : ℕ) (so_far : Values) (f : Option (ℕ × Option ℕ)) (e : ℕ × ℕ) : Type 0 where
-  value : value_of n f ≡ Some e
-  known : list_any (λ id. eqb id e.0) (ids g) ≡ true
-  fresh : value_at so_far e.0 ≡ None
+pub record Adds (g : Ground) (n : ℕ) (so_far : Values) (f : Option (ℕ × Option ℕ)) (e : ℕ × ℕ) : Type 0 where
+  pub value : value_of n f ≡ Some e
+  pub known : list_any (λ id. eqb id e.0) (ids g) ≡ true
+  pub fresh : value_at so_far e.0 ≡ None
 
 line_added : (g : Ground) (n : ℕ) (so_far : Values) (f : Option (ℕ × Option ℕ)) (e : ℕ × ℕ) → Adds g n so_far f e → line_read g n so_far f ≡ Ok (so_far ++ e ∷ [])
 line_added g n so_far None e adds = let v = adds.value in cc
@@ -40,12 +40,12 @@ line_added g n so_far (Some x) e adds = by_range (in_range n x.1) adds.value
         rw (known, fresh) (ap (λ (p : ℕ × ℕ). Ok (so_far ++ p ∷ [])) pair)
 
 -- what an accepted line adds
-record Added (g : Ground) (n : ℕ) (so_far : Values) (f : Option (ℕ × Option ℕ)) (next : Values) : Type 0 where
-  e : ℕ × ℕ
-  adds : Adds g n so_far f e
-  is : so_far ++ e ∷ [] ≡ next
+pub record Added (g : Ground) (n : ℕ) (so_far : Values) (f : Option (ℕ × Option ℕ)) (next : Values) : Type 0 where
+  pub e : ℕ × ℕ
+  pub adds : Adds g n so_far f e
+  pub is : so_far ++ e ∷ [] ≡ next
 
-line_adds : (g : Ground) (n : ℕ) (so_far : Values) (f : Option (ℕ × Option ℕ)) (next : Values) → line_read g n so_far f ≡ Ok next → Added g n so_far f next
+pub line_adds : (g : Ground) (n : ℕ) (so_far : Values) (f : Option (ℕ × Option ℕ)) (next : Values) → line_read g n so_far f ≡ Ok next → Added g n so_far f next
 line_adds g n so_far None next ok = cc
 line_adds g n so_far (Some x) next ok = by_tests (list_any (λ id. eqb id x.0) (ids g)) (value_at so_far x.0) (in_range n x.1) refl refl refl ok
   where
@@ -61,27 +61,27 @@ line_adds g n so_far (Some x) next ok = by_tests (list_any (λ id. eqb id x.0) (
       is = cc;
     }
 
-abbrev value_in : ℕ → List ℕ → Option (ℕ × ℕ)
+abbrev pub value_in : ℕ → List ℕ → Option (ℕ × ℕ)
 value_in n line = value_of n (fields_of (fields line))
 
-abbrev with_bytes : List (List ℕ) → List (List ℕ)
+abbrev pub with_bytes : List (List ℕ) → List (List ℕ)
 with_bytes ls = filter (λ line. not (eqb (length line) 0)) ls
 
-abbrev somes : Values → List (Option (ℕ × ℕ))
+abbrev pub somes : Values → List (Option (ℕ × ℕ))
 somes values = map (λ e. Some e) values
 
 -- lines list these blocks besides
-record ListsMore (g : Ground) (n : ℕ) (so_far : Values) (ls : List (List ℕ)) (more : Values) : Type 0 where
-  rows : map (value_in n) (with_bytes ls) ≡ somes more
-  known : All (λ e. list_any (λ id. eqb id e.0) (ids g) ≡ true) more
-  fresh : All (λ e. value_at so_far e.0 ≡ None) more
-  once : AllPairs (λ d e. d.0 ≢ e.0) more
+pub record ListsMore (g : Ground) (n : ℕ) (so_far : Values) (ls : List (List ℕ)) (more : Values) : Type 0 where
+  pub rows : map (value_in n) (with_bytes ls) ≡ somes more
+  pub known : All (λ e. list_any (λ id. eqb id e.0) (ids g) ≡ true) more
+  pub fresh : All (λ e. value_at so_far e.0 ≡ None) more
+  pub once : AllPairs (λ d e. d.0 ≢ e.0) more
 
 -- a list of values begins with the first line's
 record Begins (x : Option (ℕ × ℕ)) (xs : List (Option (ℕ × ℕ))) (more : Values) : Type 0 where
-  e : ℕ × ℕ
+  pub e : ℕ × ℕ
   rest : Values
-  is : more ≡ e ∷ rest
+  pub is : more ≡ e ∷ rest
   first : x ≡ Some e
   later : xs ≡ somes rest
 
@@ -89,10 +89,10 @@ begins : (x : Option (ℕ × ℕ)) (xs : List (Option (ℕ × ℕ))) (more : Val
 begins x xs [] same = cc
 begins x xs (e ∷ rest) same = record { e = e; rest = rest; is = refl; first = cc; later = cc }
 
-rows_past : (n : ℕ) (line : List ℕ) (ls : List (List ℕ)) → eqb (length line) 0 ≡ true → map (value_in n) (with_bytes (line ∷ ls)) ≡ map (value_in n) (with_bytes ls)
+pub rows_past : (n : ℕ) (line : List ℕ) (ls : List (List ℕ)) → eqb (length line) 0 ≡ true → map (value_in n) (with_bytes (line ∷ ls)) ≡ map (value_in n) (with_bytes ls)
 rows_past n line ls empty = rw empty refl
 
-rows_first : (n : ℕ) (line : List ℕ) (ls : List (List ℕ)) → eqb (length line) 0 ≡ false
+pub rows_first : (n : ℕ) (line : List ℕ) (ls : List (List ℕ)) → eqb (length line) 0 ≡ false
     → map (value_in n) (with_bytes (line ∷ ls)) ≡ value_in n line ∷ map (value_in n) (with_bytes ls)
 rows_first n line ls bytes = rw bytes refl
 
@@ -109,40 +109,40 @@ later_lists g n so_far ls e rest rows known fresh once = record {
   once = λ i j f less inside. once (suc i) (suc j) f (omega arith) (omega arith);
 }
 
-rows_listed : (g : Ground) (n at : ℕ) (so_far : Values) (ls : List (List ℕ)) (more : Values) → ListsMore g n so_far ls more → rows_read g n at so_far ls ≡ Ok (so_far ++ more)
+pub rows_listed : (g : Ground) (n at : ℕ) (so_far : Values) (ls : List (List ℕ)) (more : Values) → ListsMore g n so_far ls more → rows_read g n at so_far ls ≡ Ok (so_far ++ more)
 rows_listed g n at so_far [] [] lists = ap (λ (values : Values). Ok values) (sym (append-nil so_far))
 rows_listed g n at so_far [] (e ∷ more) lists = let rows = lists.rows in cc
 rows_listed g n at so_far (line ∷ ls) more lists = ⊎_elim
     (λ (empty : eqb (length line) 0 ≡ true). rw empty
-        (rows_listed g n (at + 1) so_far ls more (record { rows = sym (rows_past n line ls empty) ∙ lists.rows; known = lists.known; fresh = lists.fresh; once = lists.once })))
+    (rows_listed g n (at + 1) so_far ls more (record { rows = sym (rows_past n line ls empty) ∙ lists.rows; known = lists.known; fresh = lists.fresh; once = lists.once })))
     (λ (bytes : eqb (length line) 0 ≡ false).
-        let s = begins (value_in n line) (map (value_in n) (with_bytes ls)) more (sym (rows_first n line ls bytes) ∙ lists.rows) in
-        let known = rw s.is at lists.known in
-        let fresh = rw s.is at lists.fresh in
-        let once = rw s.is at lists.once in
-        let adds : Adds g n so_far (fields_of (fields line)) s.e = record {
-            value = s.first;
-            known = All-head (λ e. list_any (λ id. eqb id e.0) (ids g) ≡ true) s.e s.rest known;
-            fresh = All-head (λ e. value_at so_far e.0 ≡ None) s.e s.rest fresh;
-        } in
-        rw (bytes, line_added g n so_far (fields_of (fields line)) s.e adds)
-        (rows_listed g n (at + 1) (so_far ++ s.e ∷ []) ls s.rest (later_lists g n so_far ls s.e s.rest s.later known fresh once)
-        ∙ ap (λ (values : Values). Ok values) (append_assoc so_far (s.e ∷ []) s.rest ∙ ap (λ (values : Values). so_far ++ values) (sym s.is))))
+    let s = begins (value_in n line) (map (value_in n) (with_bytes ls)) more (sym (rows_first n line ls bytes) ∙ lists.rows) in
+    let known = rw s.is at lists.known in
+    let fresh = rw s.is at lists.fresh in
+    let once = rw s.is at lists.once in
+    let adds : Adds g n so_far (fields_of (fields line)) s.e = record {
+      value = s.first;
+      known = All-head (λ e. list_any (λ id. eqb id e.0) (ids g) ≡ true) s.e s.rest known;
+      fresh = All-head (λ e. value_at so_far e.0 ≡ None) s.e s.rest fresh;
+    } in
+    rw (bytes, line_added g n so_far (fields_of (fields line)) s.e adds)
+    (rows_listed g n (at + 1) (so_far ++ s.e ∷ []) ls s.rest (later_lists g n so_far ls s.e s.rest s.later known fresh once)
+    ∙ ap (λ (values : Values). Ok values) (append_assoc so_far (s.e ∷ []) s.rest ∙ ap (λ (values : Values). so_far ++ values) (sym s.is))))
     (cases_Bool (eqb (length line) 0))
 
 -- what the lines that were read list
-record More (g : Ground) (n : ℕ) (so_far : Values) (ls : List (List ℕ)) (values : Values) : Type 0 where
-  more : Values
-  is : so_far ++ more ≡ values
-  lists : ListsMore g n so_far ls more
+pub record More (g : Ground) (n : ℕ) (so_far : Values) (ls : List (List ℕ)) (values : Values) : Type 0 where
+  pub more : Values
+  pub is : so_far ++ more ≡ values
+  pub lists : ListsMore g n so_far ls more
 
 -- a line that was accepted, and the reading that goes on after it
-record GoesOn (g : Ground) (n at : ℕ) (so_far : Values) (line : List ℕ) (ls : List (List ℕ)) (values : Values) : Type 0 where
-  next : Values
-  line_is : line_read g n so_far (fields_of (fields line)) ≡ Ok next
-  rest_is : rows_read g n (at + 1) next ls ≡ Ok values
+pub record GoesOn (g : Ground) (n at : ℕ) (so_far : Values) (line : List ℕ) (ls : List (List ℕ)) (values : Values) : Type 0 where
+  pub next : Values
+  pub line_is : line_read g n so_far (fields_of (fields line)) ≡ Ok next
+  pub rest_is : rows_read g n (at + 1) next ls ≡ Ok values
 
-goes_on : (g : Ground) (n at : ℕ) (so_far : Values) (line : List ℕ) (ls : List (List ℕ)) (values : Values)
+pub goes_on : (g : Ground) (n at : ℕ) (so_far : Values) (line : List ℕ) (ls : List (List ℕ)) (values : Values)
     → at_line at (line_read g n so_far (fields_of (fields line))) (λ next. rows_read g n (at + 1) next ls) ≡ Ok values → GoesOn g n at so_far line ls values
 goes_on g n at so_far line ls values = by_line (line_read g n so_far (fields_of (fields line))) refl
   where
@@ -161,7 +161,7 @@ not_before (e ∷ more) id d other none = by_test (eqb e.0 other) none (not_befo
     by_test true is later = cc
     by_test false is later = later is
 
-first_lists : (g : Ground) (n : ℕ) (so_far : Values) (line : List ℕ) (ls : List (List ℕ)) (e : ℕ × ℕ) (more : Values) → eqb (length line) 0 ≡ false
+pub first_lists : (g : Ground) (n : ℕ) (so_far : Values) (line : List ℕ) (ls : List (List ℕ)) (e : ℕ × ℕ) (more : Values) → eqb (length line) 0 ≡ false
     → Adds g n so_far (fields_of (fields line)) e → ListsMore g n (so_far ++ e ∷ []) ls more → ListsMore g n so_far (line ∷ ls) (e ∷ more)
 first_lists g n so_far line ls e more bytes adds lists = record {
   rows = rows_first n line ls bytes ∙ ap (λ x. x ∷ map (value_in n) (with_bytes ls)) adds.value ∙ ap (λ (xs : List (Option (ℕ × ℕ))). Some e ∷ xs) lists.rows;
@@ -170,7 +170,15 @@ first_lists g n so_far line ls e more bytes adds lists = record {
   once = AllPairs-cons (λ d e. d.0 ≢ e.0) e more (λ k f inside. (not_before so_far e.0 e.1 (get_or more k f).0 (lists.fresh k f inside)).1) lists.once;
 }
 
-rows_list : (g : Ground) (n at : ℕ) (so_far : Values) (ls : List (List ℕ)) (values : Values) → rows_read g n at so_far ls ≡ Ok values → More g n so_far ls values
+one_more : (g : Ground) (n : ℕ) (so_far : Values) (line : List ℕ) (ls : List (List ℕ)) (values next : Values) → eqb (length line) 0 ≡ false
+    → Added g n so_far (fields_of (fields line)) next → More g n next ls values → More g n so_far (line ∷ ls) values
+one_more g n so_far line ls values next bytes added m = record {
+  more = added.e ∷ m.more;
+  is = sym (append_assoc so_far (added.e ∷ []) m.more) ∙ ap (λ (before : Values). before ++ m.more) added.is ∙ m.is;
+  lists = first_lists g n so_far line ls added.e m.more bytes added.adds (rw added.is m.lists);
+}
+
+pub rows_list : (g : Ground) (n at : ℕ) (so_far : Values) (ls : List (List ℕ)) (values : Values) → rows_read g n at so_far ls ≡ Ok values → More g n so_far ls values
 rows_list g n at so_far [] values ok = record {
   more = [];
   is = append-nil so_far ∙ cc;
@@ -178,22 +186,16 @@ rows_list g n at so_far [] values ok = record {
 }
 rows_list g n at so_far (line ∷ ls) values ok = ⊎_elim
     (λ (empty : eqb (length line) 0 ≡ true).
-        let m = rows_list g n (at + 1) so_far ls values (rw empty at ok) in
-        let past : More g n so_far (line ∷ ls) values = record {
-            more = m.more;
-            is = m.is;
-            lists = record { rows = rows_past n line ls empty ∙ m.lists.rows; known = m.lists.known; fresh = m.lists.fresh; once = m.lists.once };
-        } in past)
+    let m = rows_list g n (at + 1) so_far ls values (rw empty at ok) in
+    let past : More g n so_far (line ∷ ls) values = record {
+      more = m.more;
+      is = m.is;
+      lists = record { rows = rows_past n line ls empty ∙ m.lists.rows; known = m.lists.known; fresh = m.lists.fresh; once = m.lists.once };
+    } in past)
     (λ (bytes : eqb (length line) 0 ≡ false).
-        let on = goes_on g n at so_far line ls values (rw bytes at ok) in
-        let added = line_adds g n so_far (fields_of (fields line)) on.next on.line_is in
-        let m = rows_list g n (at + 1) (so_far ++ added.e ∷ []) ls values (rw added.is on.rest_is) in
-        let split : so_far ++ added.e ∷ m.more ≡ (so_far ++ added.e ∷ []) ++ m.more = sym (append_assoc so_far (added.e ∷ []) m.more) in
-        let here : More g n so_far (line ∷ ls) values = record {
-            more = added.e ∷ m.more;
-            is = split ∙ m.is;
-            lists = first_lists g n so_far line ls added.e m.more bytes added.adds m.lists;
-        } in here)
+    let on = goes_on g n at so_far line ls values (rw bytes at ok) in
+    let added = line_adds g n so_far (fields_of (fields line)) on.next on.line_is in
+    one_more g n so_far line ls values on.next bytes added (rows_list g n (at + 1) on.next ls values on.rest_is))
     (cases_Bool (eqb (length line) 0))
 
 -- a block of the geography, as a test
@@ -205,31 +207,31 @@ contains_from xs id is =
     let a = Any-from_list_any (λ x. eqb x id) xs is in
     (a.0, a.2, get_or_default xs a.0 id a.1 a.2 ∙ a.3 ∙ eqb-true a.1 id a.4)
 
-body_lists : (g : Ground) (n : ℕ) (ls : List (List ℕ)) (values : Values) → with_header g n ls ≡ Ok values → IsBody g n ls values
+pub body_lists : (g : Ground) (n : ℕ) (ls : List (List ℕ)) (values : Values) → with_header g n ls ≡ Ok values → IsBody g n ls values
 body_lists g n [] values ok = cc
 body_lists g n (first ∷ more) values ok = ⊎_elim
     (λ (is : pointwise nat_eq first header ≡ true).
-        let m = rows_list g n 2 [] more values (rw is at ok) in
-        let body : IsBody g n (first ∷ more) m.more = record {
-            first = ap (λ (line : List ℕ). Some line) ((bytes_eq-Decides first header).0 is);
-            rows = m.lists.rows;
-            known = λ k e inside. contains_from (ids g) (get_or m.more k e).0 (m.lists.known k e inside);
-            once = m.lists.once;
-        } in rw (← m.is) body)
+    let m = rows_list g n 2 [] more values (rw is at ok) in
+    let body : IsBody g n (first ∷ more) m.more = record {
+      first = ap (λ (line : List ℕ). Some line) ((bytes_eq-Decides first header).0 is);
+      rows = m.lists.rows;
+      known = λ k e inside. contains_from (ids g) (get_or m.more k e).0 (m.lists.known k e inside);
+      once = m.lists.once;
+    } in rw (← m.is) body)
     (λ (is : pointwise nat_eq first header ≡ false). let no = rw is at ok in cc)
     (cases_Bool (pointwise nat_eq first header))
 
-body_listed : (g : Ground) (n : ℕ) (ls : List (List ℕ)) (values : Values) → IsBody g n ls values → with_header g n ls ≡ Ok values
+pub body_listed : (g : Ground) (n : ℕ) (ls : List (List ℕ)) (values : Values) → IsBody g n ls values → with_header g n ls ≡ Ok values
 body_listed g n [] values is = let first = is.first in cc
 body_listed g n (first ∷ more) values is =
     let header_is : first ≡ header = same_Some first header is.first in
     let test : pointwise nat_eq first header ≡ true = (bytes_eq-Decides first header).1 header_is in
     rw test
     (rows_listed g n 2 [] more values (record {
-        rows = is.rows;
-        known = λ k e inside. known_from (ids g) (get_or values k e).0 (is.known k e inside);
-        fresh = λ k e inside. refl;
-        once = is.once;
+      rows = is.rows;
+      known = λ k e inside. known_from (ids g) (get_or values k e).0 (is.known k e inside);
+      fresh = λ k e inside. refl;
+      once = is.once;
     }))
 
 pub read_is_listed : ReadIsListed

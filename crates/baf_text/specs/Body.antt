@@ -1,8 +1,10 @@
 -- What a block assignment file lists, without an order of reading.
-use Rattle.std.specs.Prelude.{◌≡◌, ◌≢◌, ◌↔◌, ℕ, not, ◌==◌, List, map, filter, drop, length, Option, Some, None, Ok, All, AllPairs, Contains}
+use Rattle.std.specs.Prelude.{◌≡◌, ◌≢◌, ◌↔◌, ◌⊎◌, ℕ, ◌+◌, not, ◌==◌, List, ◌∷◌, ◌++◌, map, filter, drop, length, Option, Some, None, Ok, Err, All, AllPairs, Contains}
 use Rattle.std.specs.List.{slice_get}
 use Rattle.std.specs.Str.Lines.{lines}
-use Rattle.desk_model.specs.Baf.{Values, header, fields_of, in_range, body_read}
+use Rattle.desk_model.specs.declared.reply.BodyFault.{BodyFault}
+use Rattle.desk_model.specs.declared.reply.BodyFault.TheVariants.{Header}
+use Rattle.desk_model.specs.Baf.{Values, header, fields_of, in_range, line_read, body_read}
 use Rattle.desk_model.specs.Geography.{Ground, ids}
 use Rattle.field_text.specs.Fields.{fields}
 
@@ -29,3 +31,26 @@ pub record IsBody (g : Ground) (n : ℕ) (ls : List (List ℕ)) (values : Values
 -- a text is read as these values exactly where it lists them
 abbrev pub ReadIsListed : Type 0
 ReadIsListed = (g : Ground) (n : ℕ) (text : List ℕ) (values : Values) → (body_read g n text ≡ Ok values) ↔ IsBody g n (lines text) values
+
+-- the lines before a line with bytes are a body, and that line has the fault; lines are counted from 1
+pub record IsFaultyLine (g : Ground) (n : ℕ) (ls : List (List ℕ)) (code : BodyFault) (at : ℕ) : Type 0 where
+  pub before : List (List ℕ)
+  pub line : List ℕ
+  pub after : List (List ℕ)
+  pub values : Values
+  pub cut : ls ≡ before ++ line ∷ after
+  pub number : at ≡ length before + 1
+  pub body : IsBody g n before values
+  pub bytes : length line ≢ 0
+  pub fault : line_read g n values (fields_of (fields line)) ≡ Err code
+
+-- the first line isn't the header
+pub record HasNoHeader (ls : List (List ℕ)) (code : BodyFault) (at : ℕ) : Type 0 where
+  pub told : code ≡ Header
+  pub number : at ≡ 1
+  pub first : slice_get ls 0 ≢ Some header
+
+-- a fault is told of a text exactly where it is the first
+abbrev pub FaultIsFirst : Type 0
+FaultIsFirst = (g : Ground) (n : ℕ) (text : List ℕ) (code : BodyFault) (at : ℕ)
+    → (body_read g n text ≡ Err (code, at)) ↔ (HasNoHeader (lines text) code at ⊎ IsFaultyLine g n (lines text) code at)

@@ -1,10 +1,15 @@
 //! Laws of the text.
-ghost use Rattle.baf_text.specs.Body.{ReadIsListed};
+ghost use Rattle.baf_text.specs.Body.{FaultIsFirst, ReadIsListed};
 ghost use Rattle.baf_text.specs.Laws.{PrintedIsRead};
 
 /// What is read of a text is what its lines list, each line by itself and each block at most once.
 pub fn read_is_listed()
     ensures { ReadIsListed }
+{}
+
+/// The fault that is told is the first line's that has one.
+pub fn fault_is_first()
+    ensures { FaultIsFirst }
 {}
 
 /// What is printed of an assignment is read as that assignment, and as no other.

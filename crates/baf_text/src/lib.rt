@@ -4,7 +4,7 @@
 pub mod laws;
 pub mod listed;
 pub mod reading;
-pub mod row;
+mod row;
 #[cfg(test)]
 mod tests;
 pub mod writing;

@@ -15,7 +15,7 @@ use desk_model::reply::BodyFault;
 use field_text::lines::Lines;
 use std::alloc::{AllocError, Global};
 
-/// The first line.
+/// The first line of a block assignment file.
 pub const HEADER: &[u8] = b"BLOCKID|DISTRICT";
 
 /// Why a block assignment file isn't read.
@@ -53,7 +53,8 @@ fn district_of(number: Option<u16>, n: u16) -> Option<u16>
 {
     match number {
         None => Some(0),
-        Some(d) => { if d >= 1 && d <= n { Some(d) } else { None } }
+        Some(d) if d >= 1 && d <= n => Some(d),
+        Some(_) => None,
     }
 }
 
@@ -116,7 +117,9 @@ fn none_listed(alloc: Global, geography: &Geography) -> Result<Vec<Option<u16>>,
     geography.blocks().iter().map(|_| None).collect(alloc)
 }
 
-/// Reads a block assignment file for a plan of `n` districts.
+/// Reads a block assignment file for a plan of `n` districts. After the header each line with bytes is a block's number of
+/// 15 digits, a bar and a code: 1 to 3 digits for a district, or `ZZ`, `ZZZ` or nothing for an unassigned block. A line
+/// ends with LF or CRLF, and the last may lack its end. Memory is told only where it was refused.
 pub fn read(alloc: Global, bytes: &[u8], geography: &Geography, n: u16) -> Result<Listed, BafFault>
     ensures listed { IfOk result (λ listed. IsOkAnd (body_read geography.now n bytes.now)
         (λ values. listed ≡ listed_of geography.now values)) }

@@ -32,8 +32,8 @@ fn a_house_plan_is_read_back(rt: HostRuntime) -> Result<(), Fail> {
     Ok(())
 }
 
-// Codes of two digits, in 93 bytes, and the front of so many bytes: the header isn't whole up to 15, the header alone,
-// with or without its line end, and each block's first digit of the code and what follows it are read.
+// Codes of two digits, in 93 bytes. Of its 94 fronts 16 end within the header, 60 within a line before its bar, 4 after
+// the `0` of a code, and 14 after the header, a bar, a code or a line.
 #[test]
 fn fronts_of_a_congress_plan(rt: HostRuntime) -> Result<(), Fail> {
     let geography = sample(rt.alloc())?;

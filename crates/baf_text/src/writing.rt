@@ -81,8 +81,8 @@ fn push_row(text: &mut Vec<u8>, id: BlockId, district: u16, kind: Kind) -> Resul
     text.extend_from_slice(&row[start..])
 }
 
-/// Prints an assignment, the district of each block rising, 0 for none: the header and a line for each block, with LF
-/// after each.
+/// Prints an assignment, the district of each block rising, 0 for none: the header and a line for each block, rising,
+/// with LF after each. A code has two digits for congress and three for the other kinds.
 pub fn write(
     alloc: Global,
     assignment: &[u16],

@@ -1,4 +1,5 @@
 pub mod Buffer
+pub mod Counting
 pub mod Digits
 pub mod Fields
 pub mod Judged

@@ -39,7 +39,14 @@ pub struct Counted<R> {
 }
 
 impl<R> Counted<R> {
-    pub fn new(reader: R) -> Counted<R> {
+    ghost use Rattle.field_text.specs.Counting.{reader_of, turns_of, failures_of};
+
+    /// No turn was made and none failed.
+    pub fn new(reader: R) -> Counted<R>
+        ensures reader { reader_of result ≡ reader }
+        ensures turns { turns_of result ≡ 0 }
+        ensures failures { failures_of result ≡ 0 }
+    {
         Counted {
             reader,
             turns: 0,
@@ -49,11 +56,13 @@ impl<R> Counted<R> {
 }
 
 impl<R: Read> Source for Counted<R> {
-    ghost remaining = { λ s. R.remaining s.reader };
+    ghost use Rattle.field_text.specs.Counting.{reader_of, turns_of, failures_of};
 
-    ghost turns = { λ s. s.turns };
+    ghost remaining = { λ s. R.remaining (reader_of s) };
 
-    ghost failures = { λ s. s.failures };
+    ghost turns = { λ s. turns_of s };
+
+    ghost failures = { λ s. failures_of s };
 
     fn turn(&mut self, buf: &mut [u8]) -> Turn {
         self.turns = self.turns.saturating_add(1);

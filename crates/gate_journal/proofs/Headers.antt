@@ -60,3 +60,7 @@ is_laid_out sectors c J n room layout is =
       header = layout;
       list = λ open_gate. let valid = is.store.list open_gate in record { count = omega (arith, journal, valid.count); each = λ k lt. omega (arith, pages, valid.each k lt) };
     }
+
+-- a header names one number of journal pages
+pub same_journal : (J n K m : ℕ) → J < 2 ^ 32 → K < 2 ^ 32 → header_of J n ≡ header_of K m → J ≡ K
+same_journal J n K m small less same = sym (header_journal J n small) ∙ ap (λ (x : List ℕ). word x 3) same ∙ header_journal K m less

@@ -16,10 +16,10 @@ put_same w P Q p same = elim (cases_eq p w.0) [
   | inr off ↦ let e = same off in let G : Type 0 = put w P p ≡ put w Q p in let it : G = grind (arith, nat_tests) in it
 ]
 
-put_on : (w : ℕ × List ℕ) (P : Image) (p : ℕ) → p ≡ w.0 → put w P p ≡ w.1
+pub put_on : (w : ℕ × List ℕ) (P : Image) (p : ℕ) → p ≡ w.0 → put w P p ≡ w.1
 put_on w P p is = grind (arith, nat_tests)
 
-put_off : (w : ℕ × List ℕ) (P : Image) (p : ℕ) → p ≢ w.0 → put w P p ≡ P p
+pub put_off : (w : ℕ × List ℕ) (P : Image) (p : ℕ) → p ≢ w.0 → put w P p ≡ P p
 put_off w P p off = grind (arith, nat_tests)
 
 pub overlay_same : (ws : List (ℕ × List ℕ)) (P Q : Image) (p : ℕ) → ((Writes ws p → ⊥) → P p ≡ Q p) → overlay ws P p ≡ overlay ws Q p

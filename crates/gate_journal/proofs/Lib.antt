@@ -1,5 +1,6 @@
-mod Images
-mod Commit
+pub mod Images
+pub mod Commit
 mod Lists
-mod Headers
+pub mod Headers
 mod Quiet
+pub mod Overlays

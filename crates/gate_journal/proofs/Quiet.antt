@@ -2,7 +2,7 @@
 use Rattle.std.proofs.Common.{◌≡◌, ◌≤◌, ◌<◌, ℕ, Result, Ok, Err, OnOk, OnErr, IsErrOf, IfErr, IsErrAnd, inl, inr, ⊎_elim, refl, sym, subst, ap, ◌∙◌, arith}
 use Rattle.sector_device.specs.Disk.{Disk, Image, AgreeOff, Nowhere, Touches, LeavesBut, IsSynced, HasCause}
 use Rattle.sector_device.specs.Moments.{LeavesOnly, leaves_from, leaves_more, leaves_wider, now_but, cause_after, on_ok}
-use Rattle.gate_journal.specs.Store.{pages, IsStore, IsStoreOf, IsSettled, Opens}
+use Rattle.gate_journal.specs.Store.{header_of, pages, IsStore, IsStoreOf, IsSettled, Opens}
 use Rattle.gate_journal.specs.Recovery.{AllStores, HasRoom, HasLayout, ReadsAs, Found, Reopens, Recovers, Starts}
 use Rattle.gate_journal.specs.declared.layout.Layout.{Layout}
 use Rattle.gate_journal.proofs.Headers.{is_laid_out}
@@ -55,10 +55,10 @@ module _ (a : Disk) (all : AllStores a) where
       record { J = is.J; n = is.n; whole = is.whole ∙ sym ab.sectors; store = subst (λ (x : Image). IsStore is.J is.n x) (agreed but.0 b.reads but.2) is.store }
 
 -- the pages that are read are those of an image that a stop might have left
-pub quiet_found : (J : ℕ) (a b d : Disk) → Touches Nowhere a b → pages J d.reads ≡ pages J b.reads → Found J a d
-quiet_found J a b d ab same =
+pub quiet_found : (J n : ℕ) (a b d : Disk) → Touches Nowhere a b → b.reads 0 ≡ header_of J n → pages J d.reads ≡ pages J b.reads → Found J n a d
+quiet_found J n a b d ab header same =
     let but = now_but Nowhere a b ab b.reads b.as_read in
-    record { was = but.0; left = but.1; same = same ∙ sym (ap (λ (x : Image). pages J x) (agreed but.0 b.reads but.2)) }
+    record { was = but.0; left = but.1; header = sym (but.2.same 0 (λ none. none)) ∙ header; same = same ∙ sym (ap (λ (x : Image). pages J x) (agreed but.0 b.reads but.2)) }
 
 module _ (J n : ℕ) (a : Disk) (synced : IsSynced a) where
   -- nothing was written since the gate was read
@@ -141,7 +141,7 @@ module _ (a d e : Disk) (l : Layout) (ad : Touches Nowhere a d) (passed : d.faul
     faulted = λ is. let never : Ok l ≡ Err DeviceFault = is in cc;
     refused = λ is all. let never : Ok l ≡ Err NotAStore = is in cc;
     settled = de.settled;
-    found = quiet_found l.journal_pages a d e ad de.after;
+    found = quiet_found l.journal_pages l.pages a d e ad layout de.after;
   }
 
   pub starts_err : {T : Type 0} (x : JournalError) (r : Result Layout JournalError) → IsErrAnd r (λ y. y ≡ x) → Recovers {T = T} l.journal_pages l.pages d e (Err x) → Starts a e r

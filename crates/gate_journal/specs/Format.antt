@@ -4,14 +4,13 @@ use Rattle.sector_device.specs.Disk.{Disk}
 use Rattle.sector_device.specs.declared.SectorDevice.{Ghosts}
 use Rattle.gate_journal.specs.Store.{home, IsSettled}
 use Rattle.gate_journal.specs.Recovery.{AllStores}
+use Rattle.gate_journal.specs.declared.layout.Layout.{Layout}
 use Rattle.gate_journal.specs.declared.error.JournalError.{JournalError}
 use Rattle.gate_journal.specs.declared.error.JournalError.TheVariants.{NotAStore, DeviceFault, Halted, TooManyPages, TooSmall}
 
--- the disk is a store with J journal pages, its gate closed, and so is each image that a stop may leave
-pub record IsFormatted (J : ℕ) (disk : Disk) : Type 0 where
-  pub n : ℕ
-  pub whole : home J + n ≡ disk.sectors
-  pub settled : IsSettled J n disk
+-- the disk is a store of this layout, its gate closed, and each image that a stop may leave is one
+pub record IsFormatted (layout : Layout) (disk : Disk) : Type 0 where
+  pub settled : IsSettled layout.journal_pages layout.pages disk
   pub all : AllStores disk
 
 -- the header and the gate

@@ -70,9 +70,10 @@ pub record Recovers {T : Type 0} (J n : ℕ) (old new : Disk) (result : Result T
   pub after : OnOk result (pages J new.reads ≡ pages J old.reads)
 
 -- the pages found are those of an image that a stop might have left
-pub record Found (J : ℕ) (old new : Disk) : Type 0 where
+pub record Found (J n : ℕ) (old new : Disk) : Type 0 where
   pub was : Image
   pub left : old.leaves was
+  pub header : was 0 ≡ header_of J n
   pub same : pages J new.reads ≡ pages J was
 
 -- What an opening leaves.
@@ -84,4 +85,4 @@ pub record Starts (old new : Disk) (result : Result Layout JournalError) : Type 
   pub faulted : IsErrOf result DeviceFault → old.faults < new.faults
   pub refused : IsErrOf result NotAStore → AllStores old → ⊥
   pub settled : IfOk result (λ l. IsSettled l.journal_pages l.pages new)
-  pub found : IfOk result (λ l. Found l.journal_pages old new)
+  pub found : IfOk result (λ l. Found l.journal_pages l.pages old new)

@@ -23,11 +23,11 @@ pub struct Journal<D: SectorDevice> {
 }
 
 impl<D: SectorDevice> Journal<D> {
-    ghost use Rattle.std.specs.Prelude.{◌≡◌, ◌≤◌, ◌<◌, ◌+◌, ◌⊎◌, true, false, length, OnOk, IfOk, IfErr};
+    ghost use Rattle.std.specs.Prelude.{◌≡◌, ◌≤◌, ◌<◌, ◌⊎◌, true, false, length, OnOk, IfOk, IfErr};
     ghost use Rattle.sector_device.specs.Disk.{Disk, Image, Touches, Nowhere};
     ghost use Rattle.sector_device.specs.Moments.{LeavesOnly};
-    ghost use Rattle.gate_journal.specs.Store.{IsWithin, IsBeforeOrAfter, overlay, home};
-    ghost use Rattle.gate_journal.specs.Recovery.{AllStores, ReadsAs, Found};
+    ghost use Rattle.gate_journal.specs.Store.{IsWithin, IsBeforeOrAfter, overlay};
+    ghost use Rattle.gate_journal.specs.Recovery.{HasRoom, AllStores, ReadsAs, Found};
     ghost use Rattle.gate_journal.specs.Writes.{writes_of};
     ghost use Rattle.gate_journal.specs.Contents.{content, disk_of, device_of, device_after, page_count, journal_size, is_halted, IsKept, HasShapeOf, ReadErr, CommitErr};
 
@@ -38,8 +38,8 @@ impl<D: SectorDevice> Journal<D> {
         ensures honest { (D.disk (device_after result)).is_honest → (D.disk device).is_honest }
         ensures any_moment { (D.disk (device_after result)).is_honest → AllStores (D.disk device) → LeavesOnly (ReadsAs (D.disk device)) (D.disk device) (D.disk (device_after result)) }
         ensures working { IfOk result (λ j. is_halted j ≡ false) }
-        ensures room { IfOk result (λ j. home (journal_size j) + page_count j ≡ (D.disk device).sectors) }
-        ensures found { IfOk result (λ j. (disk_of j).is_honest → Found (journal_size j) (D.disk device) (disk_of j)) }
+        ensures room { IfOk result (λ j. HasRoom (D.disk device).sectors (journal_size j) (page_count j)) }
+        ensures found { IfOk result (λ j. (disk_of j).is_honest → Found (journal_size j) (page_count j) (D.disk device) (disk_of j)) }
         ensures kept { IfOk result (λ j. (disk_of j).is_honest → IsKept j) }
         ensures passed { (D.disk (device_after result)).is_honest → OnOk result ((D.disk (device_after result)).faults ≡ (D.disk device).faults) }
         ensures errs { IfErr result (λ e. (e.0 ≡ JournalError.NotAStore) ⊎ (e.0 ≡ JournalError.DeviceFault)) }

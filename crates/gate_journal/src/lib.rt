@@ -15,8 +15,10 @@ mod words;
 mod writes;
 
 pub use error::JournalError;
-pub use formatting::format;
+pub use formatting::{commit_on, format};
 pub use journal::Journal;
+pub use layout::Layout;
+pub use words::{set_word, word_at};
 pub use writes::PageWrites;
 
 const OPEN: u8 = 165;

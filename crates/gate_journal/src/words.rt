@@ -53,12 +53,15 @@ pub fn fill_list(sector: &mut [u8; 4096], writes: &[(u32, [u8; 4096])], from: us
     requires within { from ≤ length writes.now }
     ensures { (j : ℕ) → j < 1024 → from + j ≤ length writes.now → word sector.new j ≡ want writes.now (from + j) }
 {
-    for j in 0..1024 {
+    let left = writes.len() - from;
+    let words = if left < 1024 { left + 1 } else { 1024 };
+    for j in 0..words {
         let k = from + j;
-        if k == 0 {
-            set_word(sector, j, writes.len() as u32);
-        } else if k <= writes.len() {
-            set_word(sector, j, writes[k - 1].0);
-        }
+        let word = if k == 0 {
+            writes.len() as u32
+        } else {
+            writes[k - 1].0
+        };
+        set_word(sector, j, word);
     }
 }

@@ -7,7 +7,6 @@ use Rattle.httparse.proofs.GrammarLemmas.{request_unique}
 use Rattle.http_wire.specs.declared.fault.Fault.{Fault}
 use Rattle.http_wire.specs.declared.fault.Fault.TheVariants.{BadHead, HeadTooLarge, BadHost, BadLength, BadCoding, BodyTooLarge, BadTarget}
 use Rattle.http_wire.specs.Front.{window, HasHead, HasMessage, HasRequest, IsNoHead, IsTooLong, HasTooManyLines, RefusesBytes, RefusesHead, RefusesTarget, HasFault, IsOpen, LacksBody, IsIncomplete, judged_head}
-use Rattle.http_wire.specs.Law.{FrontLaw}
 
 pub window_rest : (input : List ℕ) → window input ++ drop 16384 input ≡ input
 window_rest input = take-append-drop 16384 input
@@ -27,7 +26,7 @@ same_head : (input : List ℕ) (h k : RequestHead) (r q : List ℕ) → HasHead 
 same_head input h k r q a b = request_unique input h k r q a.reads b.reads
 
 -- what the first bytes may be refused for
-bytes_are : (input : List ℕ) (f : Fault) → RefusesBytes input f → ((f ≡ BadHead) × IsNoHead input) ⊎ ((f ≡ HeadTooLarge) × (IsTooLong input ⊎ HasTooManyLines input))
+pub bytes_are : (input : List ℕ) (f : Fault) → RefusesBytes input f → ((f ≡ BadHead) × IsNoHead input) ⊎ ((f ≡ HeadTooLarge) × (IsTooLong input ⊎ HasTooManyLines input))
 bytes_are input BadHead x = inl (refl, x)
 bytes_are input HeadTooLarge x = inr (refl, x)
 bytes_are input BadHost x = absurd x
@@ -71,7 +70,7 @@ same_cut b c r q e len =
     let same : b ≡ c = sym (take-append_seam b r) ∙ ap (λ k. take k (b ++ r)) len ∙ ap (take (length c)) e ∙ take-append_seam c q in
     (same, append_cancel_left c r q (ap (λ (xs : List ℕ). xs ++ r) (sym same) ∙ e))
 
-one_request : (input : List ℕ) (h k : RequestHead) (b c r q : List ℕ) → HasRequest input h b r → HasRequest input k c q → (h ≡ k) × (b ≡ c) × (r ≡ q)
+pub one_request : (input : List ℕ) (h k : RequestHead) (b c r q : List ℕ) → HasRequest input h b r → HasRequest input k c q → (h ≡ k) × (b ≡ c) × (r ≡ q)
 one_request input h k b c r q x y =
     let same = same_head input h k (b ++ r) (c ++ q) x.message.head y.message.head in
     let cut = same_cut b c r q same.1 (same_size (length b) (length c) h k same.0 x.message.fits y.message.fits) in
@@ -84,7 +83,7 @@ message_or_lack input h b r m l =
     let size = same_size (length b) l.size h l.head same.0 m.fits l.judges in
     omega (arith, l.lacks, size, ap length same.1, length-append b r)
 
-message_or_incomplete : (input : List ℕ) (h : RequestHead) (b r : List ℕ) → HasMessage input h b r → IsIncomplete input → ⊥
+pub message_or_incomplete : (input : List ℕ) (h : RequestHead) (b r : List ℕ) → HasMessage input h b r → IsIncomplete input → ⊥
 message_or_incomplete input h b r m (inl o) = open_no_head input h (b ++ r) o m.head
 message_or_incomplete input h b r m (inr l) = message_or_lack input h b r m l
 
@@ -107,12 +106,12 @@ bytes_or_incomplete : (input : List ℕ) (f : Fault) → RefusesBytes input f �
 bytes_or_incomplete input f x (inl o) = bytes_or_open input f x o
 bytes_or_incomplete input f x (inr l) = bytes_no_head input f l.head l.rest x l.stands
 
-fault_or_incomplete : (input : List ℕ) (f : Fault) → HasFault input f → IsIncomplete input → ⊥
+pub fault_or_incomplete : (input : List ℕ) (f : Fault) → HasFault input f → IsIncomplete input → ⊥
 fault_or_incomplete input f (inl x) i = bytes_or_incomplete input f x i
 fault_or_incomplete input f (inr (inl x)) i = head_or_incomplete input f x i
 fault_or_incomplete input f (inr (inr x)) i = message_or_incomplete input x.head x.body x.rest x.message i
 
-request_or_fault : (input : List ℕ) (h : RequestHead) (b r : List ℕ) (f : Fault) → HasRequest input h b r → HasFault input f → ⊥
+pub request_or_fault : (input : List ℕ) (h : RequestHead) (b r : List ℕ) (f : Fault) → HasRequest input h b r → HasFault input f → ⊥
 request_or_fault input h b r f y (inl x) = bytes_no_head input f h (b ++ r) x y.message.head
 request_or_fault input h b r f y (inr (inl x)) = ok_not_err f (length b) h x.head (same_head input h x.head (b ++ r) x.rest y.message.head x.stands).0 y.message.fits x.judges
 request_or_fault input h b r f y (inr (inr x)) =
@@ -144,7 +143,7 @@ head_or_target : (input : List ℕ) (f g : Fault) → RefusesHead input f → Re
 head_or_target input f g x y =
     ok_not_err f (length y.body) y.head x.head (same_head input y.head x.head (y.body ++ y.rest) x.rest y.message.head x.stands).0 y.message.fits x.judges
 
-one_fault : (input : List ℕ) (f g : Fault) → HasFault input f → HasFault input g → (f ≡ g) ⊎ (HasTooManyLines input × IsNoHead input)
+pub one_fault : (input : List ℕ) (f g : Fault) → HasFault input f → HasFault input g → (f ≡ g) ⊎ (HasTooManyLines input × IsNoHead input)
 one_fault input f g (inl x) (inl y) = bytes_fault input f g x y
 one_fault input f g (inl x) (inr y) = absurd (bytes_or_head input f g x y)
 one_fault input f g (inr x) (inl y) = absurd (bytes_or_head input g f y x)
@@ -152,12 +151,3 @@ one_fault input f g (inr (inl x)) (inr (inl y)) = inl (same_fault f g x.head y.h
 one_fault input f g (inr (inl x)) (inr (inr y)) = absurd (head_or_target input f g x y)
 one_fault input f g (inr (inr x)) (inr (inl y)) = absurd (head_or_target input g f y x)
 one_fault input f g (inr (inr x)) (inr (inr y)) = inl (x.named ∙ sym y.named)
-
-pub front_law : FrontLaw
-front_law = record {
-  one_request = one_request;
-  one_fault = one_fault;
-  request_or_fault = request_or_fault;
-  request_or_incomplete = λ input h b r x. message_or_incomplete input h b r x.message;
-  fault_or_incomplete = fault_or_incomplete;
-}

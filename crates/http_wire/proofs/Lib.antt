@@ -9,3 +9,5 @@ mod BodyLemmas
 mod RequestLemmas
 mod ReadingLemmas
 mod WorkedLemmas
+mod StayLemmas
+mod LawLemmas

@@ -14,7 +14,7 @@ use Rattle.http_wire.specs.Front.{HasHead, HasMessage, IsIncomplete, is_target}
 use Rattle.http_wire.specs.Incoming.{ReadsFront, finished}
 use Rattle.http_wire.specs.Look.{IsFound}
 
-head_before : (input : List ℕ) (h : RequestHead) (rest more : List ℕ) → HasHead input h rest → HasHead (input ++ more) h (rest ++ more)
+pub head_before : (input : List ℕ) (h : RequestHead) (rest more : List ℕ) → HasHead input h rest → HasHead (input ++ more) h (rest ++ more)
 head_before input h rest more s = record { reads = ReadsRequest-append input h rest more s.reads; short = s.short; few = s.few }
 
 -- less than the body has come

@@ -1,10 +1,10 @@
 -- The fronts of worked inputs.
-use Rattle.std.proofs.Common.{◌≡◌, ℕ, ◌<◌, ◌≤◌, true, List, [], ◌∷◌, ◌++◌, length, Ok, Err, codes, refl, arith, inl, inr, All}
+use Rattle.std.proofs.Common.{◌≡◌, ℕ, ◌<◌, true, List, [], ◌∷◌, length, codes, refl, arith, inl, inr, All}
 use Rattle.std.proofs.lemmas.List.Elements.{All-nil, All-cons}
 use Rattle.std.proofs.lemmas.List.Sums.{AllPass-from_list_all}
 use Rattle.std.specs.List.{list_all}
 use Rattle.std.specs.Str.{IsUtf8}
-use Rattle.httparse.specs.Grammar.{is_token_byte, is_uri_byte, is_value_byte, Field, IsField, crlf, RequestHead, IsRequestHead, print_request}
+use Rattle.httparse.specs.Grammar.{is_token_byte, is_uri_byte, is_value_byte, Field, IsField, crlf, RequestHead, IsRequestHead}
 use Rattle.httparse.proofs.OnLiterals.{httparse_on_literals}
 use Rattle.http_wire.specs.declared.fault.Fault.TheVariants.{BadHost, BadLength}
 use Rattle.http_wire.specs.Front.{HasRequest, RefusesHead}

@@ -34,13 +34,13 @@ or-end false false = refl
 repeats-push : (ns : List ℕ) (n q : ℕ) → repeats (ns ++ n ∷ []) q ≡ (nat_eq n q || repeats ns q)
 repeats-push ns n q = list_any-append (nat_eq q) ns (n ∷ []) ∙ or-end (repeats ns q) (nat_eq q n) ∙ ap (λ (b : Bool). b || repeats ns q) (eqb-flip q n)
 
-numbers_of-push : (es : List Entry) (e : Entry) → numbers_of (es ++ e ∷ []) ≡ numbers_of es ++ e.number ∷ []
+pub numbers_of-push : (es : List Entry) (e : Entry) → numbers_of (es ++ e ∷ []) ≡ numbers_of es ++ e.number ∷ []
 numbers_of-push es e = map-append (λ (x : Entry). x.number) es (e ∷ [])
 
-states_of-push : (es : List Entry) (e : Entry) → states_of (es ++ e ∷ []) ≡ states_of es ++ e.state ∷ []
+pub states_of-push : (es : List Entry) (e : Entry) → states_of (es ++ e ∷ []) ≡ states_of es ++ e.state ∷ []
 states_of-push es e = map-append (λ (x : Entry). x.state) es (e ∷ [])
 
-ids_of-push : (es : List Entry) (e : Entry) → ids_of (es ++ e ∷ []) ≡ ids_of es ++ cons_option e.block []
+pub ids_of-push : (es : List Entry) (e : Entry) → ids_of (es ++ e ∷ []) ≡ ids_of es ++ cons_option e.block []
 ids_of-push es e = filter_map-append (λ (x : Entry). x.block) es (e ∷ [])
 
 blocks_of-push : (es : List Entry) (e : Entry) → blocks_of (es ++ e ∷ []) ≡ blocks_of es ++ cons_option (geo_block e) []

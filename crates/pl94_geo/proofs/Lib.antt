@@ -1,3 +1,4 @@
 pub mod FieldLemmas
 pub mod GeoLemmas
 pub mod HoldingLemmas
+pub mod WholeLemmas

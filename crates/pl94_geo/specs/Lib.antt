@@ -2,3 +2,4 @@ pub mod Entries
 pub mod GeoFile
 pub mod Holding
 pub mod Judging
+pub mod Whole

@@ -4,3 +4,4 @@
 pub mod entry;
 pub mod geo;
 pub mod header;
+pub mod law;

@@ -1,4 +1,4 @@
-use Rattle.http_wire.proofs.FrontLemmas as front
+use Rattle.http_wire.proofs.LawLemmas as front
 use Rattle.http_wire.proofs.law.front_law.Goals as goal
 
 pub returns : goal.returns

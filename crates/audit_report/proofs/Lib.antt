@@ -1,0 +1,7 @@
+pub mod Counting
+pub mod Lists
+pub mod Members
+pub mod Naming
+pub mod Padded
+pub mod Reporting
+pub mod TextLemmas

@@ -1,0 +1,106 @@
+-- The broken clauses, one by one.
+use Rattle.std.proofs.Common.{◌≡◌, ℕ, ◌+◌, ◌<◌, ◌≤◌, Bool, true, false, IsTrue, zero, suc, List, [], ◌∷◌, ◌++◌, length, map, All, Contains, refl, ap, sym, ◌∙◌, subst, arith, ⊎_elim}
+use Rattle.std.specs.List.Sorted.{IsStrictlyIncreasing}
+use Rattle.std.proofs.lemmas.Bool.{cases_lt, cases_Bool, false≢true}
+use Rattle.std.proofs.lemmas.List.{append-nil, length-map, map_push, length_push, get_or_push, get_or_append_left, get_or-map}
+use Rattle.std.proofs.lemmas.List.Elements.{All-push, All-nil, All-weaker, Contains-push, Contains-append_left}
+use Rattle.audit_report.specs.declared.clause.Clause.{Clause}
+use Rattle.audit_report.specs.declared.clause.Clause.TheVariants.{Complete, Mean, Range, Congress, Contiguous, Nested}
+use Rattle.audit_report.specs.Clauses.{rank, AreExactlyClauses}
+use Rattle.audit_report.specs.Assembled.{noted}
+
+-- the clauses of a lower rank of which this holds are named
+pub record AreNamed (Holds : Clause → Type 0) (count : ℕ) (clauses : List Clause) : Type 0 where
+  pub rising : IsStrictlyIncreasing (map rank clauses)
+  pub below : All (λ (c : Clause). rank c < count) clauses
+  pub listed : All Holds clauses
+  pub all : (c : Clause) → rank c < count → Holds c → Contains clauses c
+
+pub named_none : (Holds : Clause → Type 0) → AreNamed Holds 0 []
+named_none Holds = record {
+  rising = λ k less. absurd (omega arith);
+  below = All-nil (λ (c : Clause). rank c < 0);
+  listed = All-nil Holds;
+  all = λ c less holds. absurd (omega arith);
+}
+
+clause_at : ℕ → Clause
+clause_at zero = Complete
+clause_at (suc zero) = Mean
+clause_at (suc (suc zero)) = Range
+clause_at (suc (suc (suc zero))) = Congress
+clause_at (suc (suc (suc (suc zero)))) = Contiguous
+clause_at (suc (suc (suc (suc (suc k))))) = Nested
+
+at_rank : (c : Clause) → clause_at (rank c) ≡ c
+unfolding clause_at
+at_rank Complete = refl
+at_rank Mean = refl
+at_rank Range = refl
+at_rank Congress = refl
+at_rank Contiguous = refl
+at_rank Nested = refl
+
+same_rank : (a b : Clause) → rank a ≡ rank b → a ≡ b
+same_rank a b e = sym (at_rank a) ∙ ap clause_at e ∙ at_rank b
+
+rising_push : (xs : List ℕ) (y : ℕ) → IsStrictlyIncreasing xs → All (λ x. x < y) xs → IsStrictlyIncreasing (xs ++ y ∷ [])
+rising_push xs y rising below k less =
+    ⊎_elim
+    (λ (inside : k + 1 < length xs).
+    let e = get_or_append_left xs (y ∷ []) 0 k (omega arith) in
+    let f = get_or_append_left xs (y ∷ []) 0 (k + 1) inside in rw (e, f) (rising k inside))
+    (λ (last : length xs ≤ k + 1).
+    let at : length xs ≡ k + 1 = omega (arith, length_push xs y) in
+    let e = get_or_append_left xs (y ∷ []) 0 k (omega arith) in
+    let f = get_or_push xs y 0 (k + 1) at in rw (e, f) (below k 0 (omega arith)))
+    (cases_lt (k + 1) (length xs))
+
+below_map : (clauses : List Clause) (count : ℕ) → All (λ (c : Clause). rank c < count) clauses → All (λ x. x < count) (map rank clauses)
+below_map clauses count below k d less =
+    let inside : k < length clauses = rw length-map at less in
+    let e = get_or-map rank clauses k Complete d inside in rw e (below k Complete inside)
+
+named_push : (Holds : Clause → Type 0) (count : ℕ) (clauses : List Clause) (clause : Clause) → rank clause ≡ count → Holds clause → AreNamed Holds count clauses
+    → AreNamed Holds (count + 1) (clauses ++ clause ∷ [])
+named_push Holds count clauses clause is holds was = record {
+  rising = rw (map_push rank clauses clause) (rising_push (map rank clauses) (rank clause) was.rising (rw is (below_map clauses count was.below)));
+  below = All-push (λ (c : Clause). rank c < count + 1) clauses clause
+      (All-weaker (λ (c : Clause). rank c < count) (λ (c : Clause). rank c < count + 1) (λ c less. omega arith) clauses was.below) (omega arith);
+  listed = All-push Holds clauses clause was.listed holds;
+  all = λ c less has. ⊎_elim (λ (before : rank c < count). Contains-append_left clauses (clause ∷ []) c (was.all c before has))
+      (λ (after : count ≤ rank c). let e : clause ≡ c = same_rank clause c (omega arith) in rw (← e) (Contains-push clauses clause)) (cases_lt (rank c) count);
+}
+
+named_pass : (Holds : Clause → Type 0) (count : ℕ) (clauses : List Clause) (clause : Clause) → rank clause ≡ count → ¬ Holds clause → AreNamed Holds count clauses
+    → AreNamed Holds (count + 1) clauses
+named_pass Holds count clauses clause is not_here was = record {
+  rising = was.rising;
+  below = All-weaker (λ (c : Clause). rank c < count) (λ (c : Clause). rank c < count + 1) (λ c less. omega arith) clauses was.below;
+  listed = was.listed;
+  all = λ c less has. ⊎_elim (λ (before : rank c < count). was.all c before has)
+      (λ (after : count ≤ rank c). let e : clause ≡ c = same_rank clause c (omega arith) in absurd (not_here (subst Holds (sym e) has))) (cases_lt (rank c) count);
+}
+
+-- the next clause is judged
+pub named_more : (Holds : Clause → Type 0) (count : ℕ) (clauses : List Clause) (told : Bool) (clause : Clause) → rank clause ≡ count → (IsTrue told → Holds clause) → (Holds clause → IsTrue told)
+    → AreNamed Holds count clauses → AreNamed Holds (count + 1) (clauses ++ noted told clause)
+named_more Holds count clauses told clause is holds tells was =
+    ⊎_elim (λ (e : told ≡ true). rw e (named_push Holds count clauses clause is (holds e) was))
+    (λ (e : told ≡ false). rw (e, append-nil clauses) (named_pass Holds count clauses clause is (λ has. false≢true (sym e ∙ tells has)) was))
+    (cases_Bool told)
+
+rank_below : (c : Clause) → rank c < 6
+rank_below Complete = omega arith
+rank_below Mean = omega arith
+rank_below Range = omega arith
+rank_below Congress = omega arith
+rank_below Contiguous = omega arith
+rank_below Nested = omega arith
+
+pub named_all : (Holds : Clause → Type 0) (clauses : List Clause) → AreNamed Holds 6 clauses → AreExactlyClauses Holds clauses
+named_all Holds clauses was = record {
+  rising = was.rising;
+  listed = was.listed;
+  all = λ c has. was.all c (rank_below c) has;
+}

@@ -1,0 +1,157 @@
+-- From the pieces to the report.
+use Rattle.std.proofs.Common.{◌≡◌, ℕ, ◌<◌, ◌≤◌, Bool, IsTrue, List, [], length, get_or, filter, Option, Some, None, is_some, MatchOption, refl, ap, sym, ◌∙◌, arith, ⊎_elim}
+use Rattle.std.specs.Option.{option_copied}
+use Rattle.std.specs.Borrow.{Bor}
+use Rattle.std.proofs.lemmas.Bool.{cases_lt, lt-ltb, ltb-true, false≢true, some_since, and_from}
+use Rattle.std.proofs.lemmas.List.{length-map}
+use Rattle.std.proofs.lemmas.List.FromFn.{length-map-range_with_len}
+use Rattle.desk_model.specs.declared.kind.Kind.{Kind}
+use Rattle.desk_model.specs.declared.kind.Kind.TheVariants as kind
+use Rattle.desk_model.specs.declared.block.BlockRow.{BlockRow}
+use Rattle.desk_model.specs.Geography.{Ground}
+use Rattle.audit_population.specs.declared.clauses.Extremes.{Extremes}
+use Rattle.audit_population.specs.People.{people_in, populations_of, state_people, districts}
+use Rattle.audit_population.specs.Clauses.{deviates}
+use Rattle.audit_contiguity.specs.declared.breaks.Gap.{Gap}
+use Rattle.audit_contiguity.specs.declared.breaks.Break.{Break}
+use Rattle.audit_contiguity.specs.Paths.{IsIn, HoldsTogether}
+use Rattle.audit_contiguity.specs.Breaks.{IsGap, AreBreaks}
+use Rattle.audit_report.specs.declared.clause.Clause.{Clause}
+use Rattle.audit_report.specs.declared.clause.Clause.TheVariants.{Complete, Mean, Range, Congress, Contiguous, Nested}
+use Rattle.audit_report.specs.declared.pieces.Pieces.{Pieces}
+use Rattle.audit_report.specs.Clauses.{is_house, is_congress, is_legislative, RangeBreaks, CongressBreaks, ContiguityBreaks, NestingBreaks, IsNamed, AreExactlyClauses}
+use Rattle.audit_report.specs.Figures.{Figures}
+use Rattle.audit_report.specs.Report.{congress_of, AreExtremes, IsRange, IsNesting, not_asked_of, IsReport}
+use Rattle.audit_report.specs.Pieces.{ArePeople, AreSplits}
+use Rattle.audit_report.specs.Assembled.{is_listed, found_clauses, assembled}
+use Rattle.audit_report.proofs.Counting.{has_from_count, count_from_has, filter_from_district, first_filtered}
+use Rattle.audit_report.proofs.Naming.{named_none, named_more, named_all}
+
+pub populations_long : (blocks : List BlockRow) (plan : List ℕ) (n : ℕ) (populations : List ℕ) → populations ≡ populations_of blocks plan n → length populations ≡ n
+populations_long blocks plan n populations same = ap length same ∙ length-map-range_with_len (people_in blocks plan) 1 n
+
+pub copied_same : {X : Type 0} (o : Option (Bor X)) → is_some (option_copied o) ≡ is_some o
+copied_same None = refl
+copied_same (Some x) = refl
+
+extremes_from : (populations : List ℕ) (range : Option Extremes) → MatchOption range (¬ RangeBreaks populations) (AreExtremes populations) → IsTrue (is_some range) → RangeBreaks populations
+extremes_from populations None is some = absurd (false≢true some)
+extremes_from populations (Some e) is some = record { most = e.most; least = e.least; most_is = is.most.district; least_is = is.least.district; exceeds = is.exceeds }
+
+range_holds : (k : Kind) (populations : List ℕ) (range : Option Extremes) → IsRange k populations range → IsTrue (is_some range) → IsTrue (is_legislative k) × RangeBreaks populations
+range_holds kind.Congress populations range is some = absurd (false≢true (ap is_some (sym is) ∙ some))
+range_holds kind.Senate populations range is some = (refl, extremes_from populations range is some)
+range_holds kind.House populations range is some = (refl, extremes_from populations range is some)
+
+range_tells : (k : Kind) (populations : List ℕ) (range : Option Extremes) → IsRange k populations range → IsTrue (is_legislative k) → RangeBreaks populations → IsTrue (is_some range)
+range_tells kind.Congress populations range is applies breaks = absurd (false≢true applies)
+range_tells kind.Senate populations range is applies breaks = some_since range (¬ RangeBreaks populations) (AreExtremes populations) is (λ keeps. keeps breaks)
+range_tells kind.House populations range is applies breaks = some_since range (¬ RangeBreaks populations) (AreExtremes populations) is (λ keeps. keeps breaks)
+
+none_listed : {X : Type 0} (xs : List X) → xs ≡ [] → ¬ IsTrue (is_listed xs)
+none_listed xs none listed = false≢true (ap is_listed (sym none) ∙ listed)
+
+deviating_from : (populations : List ℕ) (total : ℕ) (listed : List ℕ) → listed ≡ filter (deviates populations total) (districts (length populations)) → IsTrue (is_listed listed)
+    → CongressBreaks populations total
+deviating_from populations total listed is some =
+    let first = first_filtered (deviates populations total) (length populations) (omega (arith, ap length is, ltb-true 0 (length listed) some)) in
+    record { district = first.0; is = first.1; deviates = ltb-true _ _ first.2 }
+
+congress_holds : (k : Kind) (populations : List ℕ) (total : ℕ) (listed : List ℕ) → listed ≡ congress_of k populations total → IsTrue (is_listed listed)
+    → IsTrue (is_congress k) × CongressBreaks populations total
+congress_holds kind.Congress populations total listed is some = (refl, deviating_from populations total listed is some)
+congress_holds kind.Senate populations total listed is some = absurd (none_listed listed is some)
+congress_holds kind.House populations total listed is some = absurd (none_listed listed is some)
+
+congress_tells : (k : Kind) (populations : List ℕ) (total : ℕ) (listed : List ℕ) → listed ≡ congress_of k populations total → IsTrue (is_congress k) → CongressBreaks populations total
+    → IsTrue (is_listed listed)
+congress_tells kind.Congress populations total listed is applies breaks =
+    let some = filter_from_district (deviates populations total) (length populations) breaks.district breaks.is.0 breaks.is.1 (lt-ltb _ _ breaks.deviates) in
+    lt-ltb 0 (length listed) (omega (arith, ap length is, some))
+congress_tells kind.Senate populations total listed is applies breaks = absurd (false≢true applies)
+congress_tells kind.House populations total listed is applies breaks = absurd (false≢true applies)
+
+apart : (g : Ground) (plan : List ℕ) (d : ℕ) (gap : Option Gap) → MatchOption gap ((a : ℕ) → ¬ IsIn plan d a) (IsGap g plan d) → ¬ HoldsTogether g.pairs plan d
+apart g plan d None none holds = none holds.some.0 holds.some.1
+apart g plan d (Some gap) is holds = is.apart.holds.apart (holds.joined is.from is.to is.least.holds is.apart.holds.lies)
+
+none : Break
+none = record { district = 0; gap = None }
+
+contiguity_holds : (g : Ground) (plan : List ℕ) (n : ℕ) (breaks : List Break) → AreBreaks g plan 1 n breaks → IsTrue (is_listed breaks) → ContiguityBreaks g n plan
+contiguity_holds g plan n breaks are some =
+    let first = get_or breaks 0 none in
+    let is = are.broken 0 none (ltb-true 0 (length breaks) some) in
+    record { district = first.district; from_first = is.from_first; to_last = is.to_last; broken = apart g plan first.district first.gap is.breaks }
+
+contiguity_tells : (g : Ground) (plan : List ℕ) (n : ℕ) (breaks : List Break) → AreBreaks g plan 1 n breaks → ContiguityBreaks g n plan → IsTrue (is_listed breaks)
+contiguity_tells g plan n breaks are broken =
+    ⊎_elim (λ (some : 0 < length breaks). lt-ltb 0 (length breaks) some)
+    (λ (empty : length breaks ≤ 0).
+    absurd (broken.broken (are.whole broken.district broken.from_first broken.to_last (λ has. omega (arith, has.1, length-map breaks (λ (b : Break). b.district))))))
+    (cases_lt 0 (length breaks))
+
+nesting_holds : (n : ℕ) (plan : List ℕ) (companion : Option (List ℕ)) (listed : List ℕ) → IsNesting n plan companion listed → IsTrue (is_listed listed)
+    → IsTrue (is_some companion) × MatchOption companion ⊥ (NestingBreaks n plan)
+nesting_holds n plan None listed is some = absurd (none_listed listed is some)
+nesting_holds n plan (Some c) listed is some = (refl, record { district = get_or listed 0 0; broken = is.listed 0 0 (ltb-true 0 (length listed) some) })
+
+nesting_tells : (n : ℕ) (plan : List ℕ) (companion : Option (List ℕ)) (listed : List ℕ) → IsNesting n plan companion listed → MatchOption companion ⊥ (NestingBreaks n plan)
+    → IsTrue (is_listed listed)
+nesting_tells n plan None listed is broken = absurd broken
+nesting_tells n plan (Some c) listed is broken = let has = is.all broken.district broken.broken in lt-ltb 0 (length listed) (omega (arith, has.1))
+
+-- the clauses that the pieces found are those that apply and are broken
+named : (g : Ground) (k : Kind) (n : ℕ) (plan : List ℕ) (companion : Option (List ℕ)) (p : Pieces) → (IsTrue (is_some companion) → IsTrue (is_house k)) → ArePeople g k n plan p.people
+    → IsNesting n plan companion p.nesting.items → AreBreaks g plan 1 n p.contiguity.items → AreExactlyClauses (IsNamed g k n plan companion) (found_clauses p)
+named g k n plan companion p of_house people nesting contiguity =
+    named_all Holds (found_clauses p)
+    (named_more Holds 5 _ (is_listed p.nesting.items) Nested refl
+    (λ told. let is = nesting_holds n plan companion p.nesting.items nesting told in
+    record { applies_to = and_from (is_house k) (is_some companion) (of_house is.0) is.0; broken = is.1 })
+    (λ has. nesting_tells n plan companion p.nesting.items nesting has.broken)
+    (named_more Holds 4 _ (is_listed p.contiguity.items) Contiguous refl
+    (λ told. record { applies_to = refl; broken = contiguity_holds g plan n p.contiguity.items contiguity told })
+    (λ has. contiguity_tells g plan n p.contiguity.items contiguity has.broken)
+    (named_more Holds 3 _ (is_listed p.people.congress.items) Congress refl
+    (λ told. let is = congress_holds k pops total p.people.congress.items people.congress told in record { applies_to = is.0; broken = is.1 })
+    (λ has. congress_tells k pops total p.people.congress.items people.congress has.applies_to has.broken)
+    (named_more Holds 2 _ (is_some p.people.range) Range refl
+    (λ told. let is = range_holds k pops p.people.range people.range told in record { applies_to = is.0; broken = is.1 })
+    (λ has. range_tells k pops p.people.range people.range has.applies_to has.broken)
+    (named_more Holds 1 _ p.people.mean_breaks Mean refl
+    (λ told. record { applies_to = people.mean.applies told; broken = people.mean.breaks told })
+    (λ has. people.mean.told_where has.applies_to has.broken)
+    (named_more Holds 0 [] _ Complete refl
+    (λ told. record { applies_to = refl; broken = has_from_count plan (omega (arith, people.unassigned, ltb-true 0 p.people.unassigned told)) })
+    (λ has. lt-ltb 0 p.people.unassigned (omega (arith, people.unassigned, count_from_has plan has.broken)))
+    (named_none Holds)))))))
+  where
+    Holds : Clause → Type 0
+    Holds = IsNamed g k n plan companion
+
+    pops : List ℕ
+    pops = populations_of g.blocks plan n
+
+    total : ℕ
+    total = state_people g.blocks
+
+pub report_is : (g : Ground) (k : Kind) (n : ℕ) (plan : List ℕ) (companion : Option (List ℕ)) (p : Pieces) (with_companion : Bool) (report : Figures)
+    → with_companion ≡ is_some companion → (IsTrue (is_some companion) → IsTrue (is_house k)) → ArePeople g k n plan p.people → AreSplits g plan p.splits
+    → IsNesting n plan companion p.nesting.items → AreBreaks g plan 1 n p.contiguity.items → report ≡ assembled k n with_companion p → IsReport g k n plan companion report
+report_is g k n plan companion p with_companion report same of_house people splits nesting contiguity is = rw is (record {
+  broken = named g k n plan companion p of_house people nesting contiguity;
+  cities = splits.cities;
+  cities_in_county = splits.cities_in_county;
+  congress = people.congress;
+  contiguity = contiguity;
+  counties = splits.counties;
+  districts = refl;
+  kind_is = refl;
+  nesting = nesting;
+  not_asked = ap (not_asked_of k) same;
+  population = people.total;
+  populations = people.populations;
+  range = people.range;
+  unassigned = people.unassigned;
+})

@@ -1,0 +1,44 @@
+-- A report has no float.
+use Rattle.std.proofs.Common.{◌≡◌, false, ℕ, List, [], ◌∷◌, Option, Some, None, Result, Ok, Err, IfOk, refl, ap, ◌∙◌, string_bytes}
+use Rattle.std.specs.Prelude.{String}
+use Rattle.std.specs.declared.alloc.AllocError.{AllocError}
+use Rattle.std.specs.declared.alloc.Global.{Global}
+use Rattle.serde_json.specs.Data.{Data}
+use Rattle.serde_json.specs.Written.{has_float, compact_text}
+use Rattle.audit_population.specs.declared.clauses.Extremes.{Extremes}
+use Rattle.audit_contiguity.specs.declared.breaks.Gap.{Gap}
+use Rattle.audit_contiguity.specs.declared.breaks.Break.{Break}
+use Rattle.audit_report.specs.Figures.{Figures}
+use Rattle.audit_report.specs.ReportText.{clause_data, code_data, number_data, list_data, gap_data, break_data, range_data, report_data, report_text}
+
+list_has_no_float : {X : Type 0} (f : X → Data) → ((x : X) → has_float (f x) ≡ false) → (xs : List X) → has_float (list_data f xs) ≡ false
+list_has_no_float f none [] = refl
+list_has_no_float f none (x ∷ xs) = rw (none x, list_has_no_float f none xs) refl
+
+gap_has_no_float : (district : ℕ) (gap : Option Gap) → has_float (gap_data district gap) ≡ false
+gap_has_no_float district None = refl
+gap_has_no_float district (Some gap) = refl
+
+range_has_no_float : (range : Option Extremes) → has_float (range_data range) ≡ false
+range_has_no_float None = refl
+range_has_no_float (Some e) = refl
+
+report_has_no_float : (r : Figures) → has_float (report_data r) ≡ false
+report_has_no_float r =
+    rw (
+      list_has_no_float clause_data (λ c. refl) r.broken,
+      list_has_no_float (code_data 5) (λ c. refl) r.cities,
+      list_has_no_float (code_data 5) (λ c. refl) r.cities_in_county,
+      list_has_no_float number_data (λ c. refl) r.congress,
+      list_has_no_float break_data (λ (b : Break). gap_has_no_float b.district b.gap) r.contiguity,
+      list_has_no_float (code_data 3) (λ c. refl) r.counties,
+      list_has_no_float number_data (λ c. refl) r.nesting,
+      list_has_no_float clause_data (λ c. refl) r.not_asked,
+      list_has_no_float number_data (λ c. refl) r.populations,
+      range_has_no_float r.range,
+    ) refl
+
+pub text_is : (d : Data) (report : Figures) (r : Result (String Global) AllocError) → d ≡ report_data report → IfOk r (λ s. has_float d ≡ false → string_bytes s ≡ compact_text d)
+    → IfOk r (λ s. string_bytes s ≡ report_text report)
+text_is d report (Ok s) same text = text (ap has_float same ∙ report_has_no_float report) ∙ ap compact_text same
+text_is d report (Err e) same text = tt

@@ -1,0 +1,6 @@
+use Rattle.audit_report.specs.ReportText.{break_data}
+use Rattle.audit_report.proofs.Lists.{AreFirst}
+use Rattle.audit_report.proofs.values.breaks_value.Given as goal
+
+abbrev pub invariant-loop-found : goal.invariant-loop-found
+invariant-loop-found l = AreFirst break_data l.breaks l.found-index l.values.items

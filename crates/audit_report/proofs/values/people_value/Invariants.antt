@@ -1,0 +1,6 @@
+use Rattle.audit_report.specs.ReportText.{number_data}
+use Rattle.audit_report.proofs.Lists.{AreFirst}
+use Rattle.audit_report.proofs.values.people_value.Given as goal
+
+abbrev pub invariant-loop-number : goal.invariant-loop-number
+invariant-loop-number l = AreFirst number_data l.people l.number-index l.values.items

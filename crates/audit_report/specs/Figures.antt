@@ -1,0 +1,22 @@
+-- What a report holds.
+use Rattle.std.specs.Prelude.{ℕ, List, Option}
+use Rattle.desk_model.specs.declared.kind.Kind.{Kind}
+use Rattle.audit_population.specs.declared.clauses.Extremes.{Extremes}
+use Rattle.audit_contiguity.specs.declared.breaks.Break.{Break}
+use Rattle.audit_report.specs.declared.clause.Clause.{Clause}
+
+pub record Figures : Type 0 where
+  pub broken : List Clause
+  pub cities : List ℕ
+  pub cities_in_county : List ℕ
+  pub congress : List ℕ
+  pub contiguity : List Break
+  pub counties : List ℕ
+  pub districts : ℕ
+  pub kind : Kind
+  pub nesting : List ℕ
+  pub not_asked : List Clause
+  pub population : ℕ
+  pub populations : List ℕ
+  pub range : Option Extremes
+  pub unassigned : ℕ

@@ -1,0 +1,6 @@
+pub mod Assembled
+pub mod Clauses
+pub mod Figures
+pub mod Pieces
+pub mod Report
+pub mod ReportText

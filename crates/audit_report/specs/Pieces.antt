@@ -1,0 +1,31 @@
+-- What the pieces of the work found.
+use Rattle.std.specs.Prelude.{◌≡◌, ℕ, Bool, IsTrue, List}
+use Rattle.desk_model.specs.declared.kind.Kind.{Kind}
+use Rattle.desk_model.specs.Geography.{Ground}
+use Rattle.audit_population.specs.People.{populations_of, state_people}
+use Rattle.audit_population.specs.Clauses.{MeanBreaks}
+use Rattle.audit_splits_nesting.specs.Exactly.{AreExactly}
+use Rattle.audit_splits_nesting.specs.Divided.{IsDividedCounty, IsDividedCity, IsDividedWithinCounty}
+use Rattle.audit_report.specs.declared.pieces.People.{People}
+use Rattle.audit_report.specs.declared.pieces.Splits.{Splits}
+use Rattle.audit_report.specs.Clauses.{is_legislative}
+use Rattle.audit_report.specs.Report.{unassigned_of, congress_of, IsRange}
+
+-- whether the clause of the mean applies and is broken
+pub record IsMean (kind : Kind) (populations : List ℕ) (total : ℕ) (told : Bool) : Type 0 where
+  pub applies : IsTrue told → IsTrue (is_legislative kind)
+  pub breaks : IsTrue told → MeanBreaks populations total
+  pub told_where : IsTrue (is_legislative kind) → MeanBreaks populations total → IsTrue told
+
+pub record ArePeople (g : Ground) (kind : Kind) (n : ℕ) (plan : List ℕ) (p : People) : Type 0 where
+  pub unassigned : p.unassigned ≡ unassigned_of plan
+  pub total : p.total ≡ state_people g.blocks
+  pub populations : p.populations.items ≡ populations_of g.blocks plan n
+  pub mean : IsMean kind (populations_of g.blocks plan n) (state_people g.blocks) p.mean_breaks
+  pub range : IsRange kind (populations_of g.blocks plan n) p.range
+  pub congress : p.congress.items ≡ congress_of kind (populations_of g.blocks plan n) (state_people g.blocks)
+
+pub record AreSplits (g : Ground) (plan : List ℕ) (s : Splits) : Type 0 where
+  pub counties : AreExactly (IsDividedCounty g.blocks plan) s.counties.items
+  pub cities : AreExactly (IsDividedCity g.blocks plan) s.cities.items
+  pub cities_in_county : AreExactly (IsDividedWithinCounty g.blocks plan) s.cities_in_county.items

@@ -1,0 +1,10 @@
+//! The audit of a plan under Iowa Code 42.4: the clauses that it breaks, and the figures beside them.
+#![tactic(auto)]
+
+pub mod audit;
+pub mod clause;
+mod pieces;
+pub mod report;
+#[cfg(test)]
+mod tests;
+mod values;

@@ -1,0 +1,155 @@
+//! The pieces of an audit's work, which don't depend on each other.
+ghost use Rattle.std.specs.Prelude.{◌≡◌, ◌<◌, ◌≤◌, ◌^◌, length, IfOk, IsTrue, ◌&&◌, ◌↔◌, IfSome};
+ghost use Rattle.std.specs.Option.{option_copied};
+ghost use Rattle.audit_population.specs.People.{populations_of, state_people};
+ghost use Rattle.audit_population.specs.Clauses.{MeanBreaks};
+ghost use Rattle.audit_splits_nesting.specs.Exactly.{AreExactly};
+ghost use Rattle.audit_splits_nesting.specs.Divided.{IsDividedCounty, IsDividedCity, IsDividedWithinCounty};
+ghost use Rattle.audit_report.specs.Clauses.{is_legislative};
+ghost use Rattle.audit_report.specs.Report.{unassigned_of, congress_of, IsRange, IsNesting};
+ghost use Rattle.audit_report.specs.Pieces.{IsMean, ArePeople, AreSplits};
+
+use audit_contiguity::breaks::Break;
+use audit_population::clauses::{Extremes, congress_breaks, mean_breaks, range_breaks};
+use audit_population::people::{populations, total};
+use audit_splits_nesting::nesting::nesting_breaks;
+use audit_splits_nesting::splits::{cities_in_county, divided_cities, divided_counties};
+use desk_model::geography::Geography;
+use desk_model::kind::Kind;
+use std::alloc::{AllocError, Global};
+
+/// The people of the districts and of the state, and what breaks the clauses on them.
+#[derive(Drop)]
+pub struct People {
+    pub unassigned: u32,
+    pub total: u32,
+    pub populations: Vec<u32>,
+    pub mean_breaks: bool,
+    pub range: Option<Extremes>,
+    pub congress: Vec<u16>,
+}
+
+/// The counties and cities that are divided.
+#[derive(Drop)]
+pub struct Splits {
+    pub counties: Vec<u16>,
+    pub cities: Vec<u32>,
+    pub cities_in_county: Vec<u32>,
+}
+
+/// All pieces.
+#[derive(Drop)]
+pub struct Pieces {
+    pub people: People,
+    pub splits: Splits,
+    pub nesting: Vec<u16>,
+    pub contiguity: Vec<Break>,
+}
+
+/// The unassigned blocks.
+fn count_unassigned(plan: &[u16]) -> u32
+    requires { length plan.now < 2 ^ 32 }
+    ensures { result ≡ unassigned_of plan.now }
+{
+    let mut count = 0;
+    for district in plan {
+        if *district == 0 {
+            count += 1;
+        }
+    }
+    count
+}
+
+/// Whether the clause of the mean applies and is broken.
+fn mean(kind: Kind, populations: &[u32], total: u32) -> bool
+    requires { length populations.now ≤ 999 }
+    ensures { IsMean kind populations.now total result }
+{
+    match kind {
+        Kind::Congress => false,
+        Kind::Senate | Kind::House => mean_breaks(populations, total),
+    }
+}
+
+/// The districts that break the clause of the range, where it applies.
+fn range(kind: Kind, populations: &[u32]) -> Option<Extremes>
+    requires some { 0 < length populations.now }
+    requires few { length populations.now ≤ 999 }
+    ensures { IsRange kind populations.now result }
+{
+    match kind {
+        Kind::Congress => None,
+        Kind::Senate | Kind::House => range_breaks(populations),
+    }
+}
+
+/// The districts that break the clause on districts for the congress, where it applies.
+fn congress(
+    alloc: Global,
+    kind: Kind,
+    populations: &[u32],
+    total: u32,
+) -> Result<Vec<u16>, AllocError>
+    requires { length populations.now ≤ 999 }
+    ensures { IfOk result (λ v. v.items ≡ congress_of kind populations.now total) }
+{
+    match kind {
+        Kind::Congress => congress_breaks(alloc, populations, total),
+        Kind::Senate | Kind::House => Ok(Vec::new(alloc)),
+    }
+}
+
+/// The piece of the populations and the clauses on them.
+pub fn find_people(
+    alloc: Global,
+    geography: &Geography,
+    kind: Kind,
+    count: u16,
+    plan: &[u16],
+) -> Result<People, AllocError>
+    requires beside { length plan.now ≡ length geography.now.blocks }
+    requires some { 1 ≤ count }
+    requires few { count ≤ 999 }
+    ensures { IfOk result (ArePeople geography.now kind count plan.now) }
+{
+    let blocks = geography.blocks().len();
+    let total = total(geography);
+    let populations = populations(alloc, geography, count, plan)?;
+    let congress = congress(alloc, kind, populations.as_slice(), total)?;
+    Ok(People {
+        unassigned: count_unassigned(&plan[..blocks]),
+        total,
+        mean_breaks: mean(kind, populations.as_slice(), total),
+        range: range(kind, populations.as_slice()),
+        populations,
+        congress,
+    })
+}
+
+/// The piece of the divided counties and cities.
+pub fn find_splits(alloc: Global, geography: &Geography, plan: &[u16]) -> Result<Splits, AllocError>
+    requires { length plan.now ≡ length geography.now.blocks }
+    ensures { IfOk result (AreSplits geography.now plan.now) }
+{
+    Ok(Splits {
+        counties: divided_counties(alloc, geography, plan)?,
+        cities: divided_cities(alloc, geography, plan)?,
+        cities_in_county: cities_in_county(alloc, geography, plan)?,
+    })
+}
+
+/// The piece of the nesting.
+pub fn find_nesting(
+    alloc: Global,
+    count: u16,
+    plan: &[u16],
+    companion: Option<&[u16]>,
+) -> Result<Vec<u16>, AllocError>
+    requires { IfSome (option_copied companion) (λ c. length c ≡ length plan.now) }
+    ensures { IfOk result (λ v. IsNesting count plan.now (option_copied companion.entry) v.items) }
+{
+    match companion {
+        Some(companion) => nesting_breaks(alloc, count, plan, companion),
+        None => Ok(Vec::new(alloc)),
+    }
+}

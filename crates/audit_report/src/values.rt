@@ -1,0 +1,203 @@
+//! The parts of a report as JSON.
+ghost use Rattle.std.specs.Prelude.{◌≡◌, IfOk, string_bytes, map, codes};
+ghost use Rattle.serde_json.specs.Data.{string, object, member, no_members};
+ghost use Rattle.serde_json.specs.View.{view};
+ghost use Rattle.desk_model.specs.Baf.{padded_decimal};
+ghost use Rattle.audit_report.specs.ReportText.{kind_text, clause_data, code_data, number_data, list_data, break_data, range_data};
+
+use crate::clause::Clause;
+use audit_contiguity::breaks::Break;
+use audit_population::clauses::Extremes;
+use desk_model::block::BlockId;
+use desk_model::kind::Kind;
+use serde_json::{Map, Value, json, put};
+use std::alloc::{AllocError, Global};
+
+/// A report, its lists as JSON.
+#[derive(Drop)]
+pub struct Values {
+    pub broken: Value,
+    pub cities: Value,
+    pub cities_in_county: Value,
+    pub congress: Value,
+    pub contiguity: Value,
+    pub counties: Value,
+    pub districts: u16,
+    pub kind: Kind,
+    pub nesting: Value,
+    pub not_asked: Value,
+    pub population: u32,
+    pub populations: Value,
+    pub range: Value,
+    pub unassigned: u32,
+}
+
+/// The word for a kind.
+fn kind_word(kind: Kind) -> &'static str
+    ensures { result.now ≡ kind_text kind }
+{
+    match kind {
+        Kind::Congress => "congress",
+        Kind::Senate => "senate",
+        Kind::House => "house",
+    }
+}
+
+fn county_text(alloc: Global, county: u16) -> Result<String, AllocError>
+    ensures { IfOk result (λ s. string_bytes s ≡ padded_decimal 3 county) }
+{
+    format!(in alloc; "{county:03}")
+}
+
+fn city_text(alloc: Global, city: u32) -> Result<String, AllocError>
+    ensures { IfOk result (λ s. string_bytes s ≡ padded_decimal 5 city) }
+{
+    format!(in alloc; "{city:05}")
+}
+
+fn block_text(alloc: Global, id: BlockId) -> Result<String, AllocError>
+    ensures { IfOk result (λ s. string_bytes s ≡ padded_decimal 15 id) }
+{
+    let number = id.number();
+    format!(in alloc; "{number:015}")
+}
+
+pub fn clauses_value(alloc: Global, clauses: &[Clause]) -> Result<Value, AllocError>
+    ensures { IfOk result (λ v. view v ≡ list_data clause_data clauses.now) }
+{
+    let mut values = Vec::with_capacity(alloc, clauses.len())?;
+    for clause in clauses {
+        values.push(Value::String(String::from_str(alloc, clause.name())?))?;
+    }
+    Ok(Value::Array(values))
+}
+
+pub fn counties_value(alloc: Global, counties: &[u16]) -> Result<Value, AllocError>
+    ensures { IfOk result (λ v. view v ≡ list_data (code_data 3) counties.now) }
+{
+    let mut values = Vec::with_capacity(alloc, counties.len())?;
+    for county in counties {
+        values.push(Value::String(county_text(alloc, *county)?))?;
+    }
+    Ok(Value::Array(values))
+}
+
+pub fn cities_value(alloc: Global, cities: &[u32]) -> Result<Value, AllocError>
+    ensures { IfOk result (λ v. view v ≡ list_data (code_data 5) cities.now) }
+{
+    let mut values = Vec::with_capacity(alloc, cities.len())?;
+    for city in cities {
+        values.push(Value::String(city_text(alloc, *city)?))?;
+    }
+    Ok(Value::Array(values))
+}
+
+pub fn districts_value(alloc: Global, districts: &[u16]) -> Result<Value, AllocError>
+    ensures { IfOk result (λ v. view v ≡ list_data number_data districts.now) }
+{
+    let mut values = Vec::with_capacity(alloc, districts.len())?;
+    for district in districts {
+        values.push(Value::from(*district))?;
+    }
+    Ok(Value::Array(values))
+}
+
+pub fn people_value(alloc: Global, people: &[u32]) -> Result<Value, AllocError>
+    ensures { IfOk result (λ v. view v ≡ list_data number_data people.now) }
+{
+    let mut values = Vec::with_capacity(alloc, people.len())?;
+    for number in people {
+        values.push(Value::from(*number))?;
+    }
+    Ok(Value::Array(values))
+}
+
+fn break_value(alloc: Global, found: Break) -> Result<Value, AllocError>
+    ensures { IfOk result (λ v. view v ≡ break_data found) }
+{
+    let Break { district, gap } = found;
+    match gap {
+        None => json!(in alloc; {"district": district}),
+        Some(gap) => {
+            let from = block_text(alloc, gap.from)?;
+            let to = block_text(alloc, gap.to)?;
+            json!(in alloc; {
+                "district": district,
+                "from": Value::String(from),
+                "to": Value::String(to),
+            })
+        }
+    }
+}
+
+pub fn breaks_value(alloc: Global, breaks: &[Break]) -> Result<Value, AllocError>
+    ensures { IfOk result (λ v. view v ≡ list_data break_data breaks.now) }
+{
+    let mut values = Vec::with_capacity(alloc, breaks.len())?;
+    for found in breaks {
+        values.push(break_value(alloc, *found)?)?;
+    }
+    Ok(Value::Array(values))
+}
+
+pub fn range_value(alloc: Global, range: Option<Extremes>) -> Result<Value, AllocError>
+    ensures { IfOk result (λ v. view v ≡ range_data range) }
+{
+    match range {
+        None => Ok(Value::Null),
+        Some(extremes) => json!(in alloc; [extremes.most, extremes.least]),
+    }
+}
+
+/// The whole report. A key is put in before those that are there.
+pub fn report_value(alloc: Global, values: Values) -> Result<Value, AllocError>
+    ensures { IfOk result (λ v. view v ≡
+        object (member (codes "broken") (view values.broken)
+        (member (codes "cities") (view values.cities)
+        (member (codes "cities_in_county") (view values.cities_in_county)
+        (member (codes "congress") (view values.congress)
+        (member (codes "contiguity") (view values.contiguity)
+        (member (codes "counties") (view values.counties)
+        (member (codes "districts") (number_data values.districts)
+        (member (codes "kind") (string (kind_text values.kind))
+        (member (codes "nesting") (view values.nesting)
+        (member (codes "not_asked") (view values.not_asked)
+        (member (codes "population") (number_data values.population)
+        (member (codes "populations") (view values.populations)
+        (member (codes "range") (view values.range)
+        (member (codes "unassigned") (number_data values.unassigned) no_members))))))))))))))) }
+{
+    let Values {
+        broken,
+        cities,
+        cities_in_county,
+        congress,
+        contiguity,
+        counties,
+        districts,
+        kind,
+        nesting,
+        not_asked,
+        population,
+        populations,
+        range,
+        unassigned,
+    } = values;
+    let kind = String::from_str(alloc, kind_word(kind))?;
+    let mut map = Map::new(alloc);
+    put(&mut map, alloc, "unassigned", Value::from(unassigned))?;
+    put(&mut map, alloc, "range", range)?;
+    put(&mut map, alloc, "populations", populations)?;
+    put(&mut map, alloc, "population", Value::from(population))?;
+    put(&mut map, alloc, "not_asked", not_asked)?;
+    put(&mut map, alloc, "nesting", nesting)?;
+    put(&mut map, alloc, "kind", Value::String(kind))?;
+    put(&mut map, alloc, "districts", Value::from(districts))?;
+    put(&mut map, alloc, "counties", counties)?;
+    put(&mut map, alloc, "contiguity", contiguity)?;
+    put(&mut map, alloc, "congress", congress)?;
+    put(&mut map, alloc, "cities_in_county", cities_in_county)?;
+    put(&mut map, alloc, "cities", cities)?;
+    put(&mut map, alloc, "broken", broken)?;
+    Ok(Value::Object(map))
+}

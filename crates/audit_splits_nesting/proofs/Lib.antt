@@ -1,0 +1,4 @@
+pub mod Listing
+pub mod Marking
+pub mod Meaning
+pub mod Places

@@ -1,0 +1,4 @@
+pub mod Divided
+pub mod Exactly
+pub mod Marks
+pub mod Nested

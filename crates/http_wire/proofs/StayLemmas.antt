@@ -1,0 +1,155 @@
+-- A request and a fault stay, whatever bytes follow.
+use Rattle.std.proofs.Common.{◌≡◌, ◌⊎◌, ℕ, suc, ◌+◌, ◌-◌, ◌<◌, ◌≤◌, true, List, [], ◌∷◌, ◌++◌, length, take, drop, codes, refl, sym, ap, subst, ◌∙◌, arith, inl, inr, ⊎_elim, append_assoc, append-nil, take_all, take-append-drop, length-append}
+use Rattle.std.proofs.lemmas.Bool.{cases_lt}
+use Rattle.std.proofs.lemmas.List.{take-append-le}
+use Rattle.std.proofs.lemmas.List.Elements.{All-nil, All-take}
+use Rattle.std.proofs.lemmas.List.Sums.{AllPass-from_list_all}
+use Rattle.std.proofs.Math.Seq.{take-append-add, take-append_seam}
+use Rattle.httparse.specs.Grammar.{is_uri_byte, AllPass, IsToken, IsField, LineEnd, lf, print_blank, RequestHead, IsRequestHead, ReadsRequest, HasNoRequest, NeverHasRequest, MayBecomeRequest, EndsInTarget, print_request}
+use Rattle.httparse.specs.Spans.{RequestOverflows}
+use Rattle.httparse.proofs.GrammarLemmas.{print_request-append}
+use Rattle.http_wire.specs.declared.fault.Fault.{Fault}
+use Rattle.http_wire.specs.declared.fault.Fault.TheVariants.{BadHead, HeadTooLarge}
+use Rattle.http_wire.specs.Front.{window, HasHead, HasMessage, HasRequest, IsNoHead, IsTooLong, HasTooManyLines, RefusesBytes, HasFault}
+use Rattle.http_wire.specs.Lines.{lines_come}
+use Rattle.http_wire.proofs.FrontLemmas.{bytes_are}
+use Rattle.http_wire.proofs.LineLemmas.{lines_take}
+use Rattle.http_wire.proofs.RequestLemmas.{head_before}
+
+-- the window of more bytes begins with the window
+window_grows : (input more : List ℕ) → (y : List ℕ) × (window (input ++ more) ≡ window input ++ y)
+window_grows input more = ⊎_elim short long (cases_lt (length input) 16384)
+  where
+    short : length input < 16384 → (y : List ℕ) × (window (input ++ more) ≡ window input ++ y)
+    short h =
+        let n = 16384 - length input in
+        let whole : 16384 ≡ length input + n = omega arith in
+        (take n more, ap (λ k. take k (input ++ more)) whole ∙ take-append-add input more n ∙ ap (λ (xs : List ℕ). xs ++ take n more) (sym (take_all 16384 input (omega arith))))
+
+    long : 16384 ≤ length input → (y : List ℕ) × (window (input ++ more) ≡ window input ++ y)
+    long h = ([], take-append-le 16384 input more h ∙ sym (append-nil (window input)))
+
+window_full : (input more : List ℕ) → 16384 ≤ length input → window (input ++ more) ≡ window input
+window_full input more h = take-append-le 16384 input more h
+
+never_grows : (w y : List ℕ) → NeverHasRequest w → NeverHasRequest (w ++ y)
+never_grows w y never more h rest reads = never (y ++ more) h rest (subst (λ xs. ReadsRequest xs h rest) (append_assoc w y more) reads)
+
+overflows_grows : (w y : List ℕ) → RequestOverflows 64 w → RequestOverflows 64 (w ++ y)
+overflows_grows w y o more h rest reads = o (y ++ more) h rest (subst (λ xs. ReadsRequest xs h rest) (append_assoc w y more) reads)
+
+lines_grow : (w y : List ℕ) → lines_come w ≤ lines_come (w ++ y)
+lines_grow w y = subst (λ xs. lines_come xs ≤ lines_come (w ++ y)) (take-append_seam w y) (lines_take (length w) (w ++ y))
+
+-- what follows a method, to make a head of it
+abbrev ending : List ℕ
+ending = codes " / HTTP/1.1\n\n"
+
+-- a short head with this method
+abbrev short_head : List LineEnd → List ℕ → RequestHead
+short_head blank method = record { blank = blank; method = method; target = codes "/"; minor = 1; line_end = lf; fields = []; last = lf }
+
+short_head_ok : (blank : List LineEnd) (method : List ℕ) → IsToken method → IsRequestHead (short_head blank method)
+unfolding lib.Utf8.encode
+short_head_ok blank method token = record {
+  method = token;
+  target = (omega arith, AllPass-from_list_all is_uri_byte (codes "/") refl);
+  target_text = (codes "/", (refl, refl));
+  minor = omega arith;
+  fields = All-nil IsField;
+}
+
+short_head_text : (blank : List LineEnd) (method : List ℕ) → print_request (short_head blank method) ≡ (print_blank blank ++ method) ++ ending
+short_head_text blank method =
+    sym (append-nil (print_request (short_head blank method))) ∙ print_request-append (short_head blank method) [] ∙ sym (append_assoc (print_blank blank) method ending)
+
+-- a front of empty lines and a method becomes a head
+front_becomes : (blank : List LineEnd) (method target w y : List ℕ) → IsToken method → w ++ y ≡ (print_blank blank ++ method) ++ 32 ∷ target → length w ≤ length (print_blank blank ++ method)
+    → (more : List ℕ) × (h : RequestHead) × ReadsRequest (w ++ more) h []
+front_becomes blank method target w y token e within =
+    let front = print_blank blank ++ method in
+    let begins : take (length w) front ≡ w = sym (take-append-le (length w) front (32 ∷ target) within) ∙ ap (take (length w)) (sym e) ∙ take-append_seam w y in
+    let whole : front ≡ w ++ drop (length w) front = sym (take-append-drop (length w) front) ∙ ap (λ (xs : List ℕ). xs ++ drop (length w) front) begins in (
+      drop (length w) front ++ ending,
+      short_head blank method,
+      (
+        short_head_ok blank method token,
+        sym (append_assoc w (drop (length w) front) ending) ∙ ap (λ (xs : List ℕ). xs ++ ending) (sym whole) ∙ sym (short_head_text blank method) ∙ sym (append-nil (print_request (short_head blank method))),
+      ),
+    )
+
+-- a front that goes beyond them ends in the target
+front_in_target : (blank : List LineEnd) (method target w y : List ℕ) → IsToken method → AllPass is_uri_byte target → w ++ y ≡ (print_blank blank ++ method) ++ 32 ∷ target
+    → length (print_blank blank ++ method) < length w → EndsInTarget w
+front_in_target blank method target w y token uris e beyond =
+    let front = print_blank blank ++ method in
+    let k = length w - length front - 1 in
+    let whole : length w ≡ length front + suc k = omega arith in (
+      blank,
+      method,
+      take k target,
+      token,
+      All-take (λ b. is_uri_byte b ≡ true) k target uris,
+      sym (take-append_seam w y) ∙ ap (take (length w)) e ∙ ap (λ n. take n (front ++ 32 ∷ target)) whole ∙ take-append-add front (32 ∷ target) (suc k),
+    )
+
+-- bytes that go on into a target end in it, or are a front of a head
+target_or_front : (w y : List ℕ) → EndsInTarget (w ++ y) → EndsInTarget w ⊎ ((more : List ℕ) × (h : RequestHead) × ReadsRequest (w ++ more) h [])
+target_or_front w y e =
+    ⊎_elim (λ beyond. inl (front_in_target e.0 e.1 e.2 w y e.3 e.4 e.5 beyond)) (λ within. inr (front_becomes e.0 e.1 e.2 w y e.3 e.5 within)) (cases_lt (length (print_blank e.0 ++ e.1)) (length w))
+
+past_target_grows : (w y : List ℕ) → NeverHasRequest w → ¬ (EndsInTarget w) → EndsInTarget (w ++ y) → ⊥
+past_target_grows w y never past e = ⊎_elim (λ t. past t) (λ b. never b.0 b.1 [] b.2) (target_or_front w y e)
+
+no_head_stays : (input more : List ℕ) → IsNoHead input → IsNoHead (input ++ more)
+no_head_stays input more x =
+    let g = window_grows input more in
+    let w = window input in
+    record {
+      never = subst NeverHasRequest (sym g.1) (never_grows w g.0 x.never);
+      past_target = λ e. past_target_grows w g.0 x.never x.past_target (subst EndsInTarget g.1 e);
+    }
+
+too_long_stays : (input more : List ℕ) → IsTooLong input → IsTooLong (input ++ more)
+too_long_stays input more x =
+    let same = window_full input more x.long in
+    record {
+      long = omega (arith, x.long, length-append input more);
+      none = subst HasNoRequest (sym same) x.none;
+      goes_on = subst MayBecomeRequest (sym same) x.goes_on;
+    }
+
+too_many_stays : (input more : List ℕ) → HasTooManyLines input → HasTooManyLines (input ++ more)
+too_many_stays input more x =
+    let g = window_grows input more in
+    let w = window input in
+    record {
+      lines = subst (λ xs. 66 ≤ lines_come xs) (sym g.1) (omega (arith, x.lines, lines_grow w g.0));
+      exceeds = subst (RequestOverflows 64) (sym g.1) (overflows_grows w g.0 x.exceeds);
+    }
+
+bytes_stay : (input more : List ℕ) (f : Fault) → ((f ≡ BadHead) × IsNoHead input) ⊎ ((f ≡ HeadTooLarge) × (IsTooLong input ⊎ HasTooManyLines input)) → RefusesBytes (input ++ more) f
+bytes_stay input more f (inl x) = subst (RefusesBytes (input ++ more)) (sym x.0) (no_head_stays input more x.1)
+bytes_stay input more f (inr (e, inl x)) = subst (RefusesBytes (input ++ more)) (sym e) (inl (too_long_stays input more x))
+bytes_stay input more f (inr (e, inr x)) = subst (RefusesBytes (input ++ more)) (sym e) (inr (too_many_stays input more x))
+
+message_stays : (input : List ℕ) (h : RequestHead) (b r more : List ℕ) → HasMessage input h b r → HasMessage (input ++ more) h b (r ++ more)
+message_stays input h b r more m = record {
+  head = subst (HasHead (input ++ more) h) (append_assoc b r more) (head_before input h (b ++ r) more m.head);
+  fits = m.fits;
+}
+
+pub request_stays : (input : List ℕ) (h : RequestHead) (b r more : List ℕ) → HasRequest input h b r → HasRequest (input ++ more) h b (r ++ more)
+request_stays input h b r more x = record { message = message_stays input h b r more x.message; target = x.target }
+
+pub fault_stays : (input : List ℕ) (f : Fault) (more : List ℕ) → HasFault input f → HasFault (input ++ more) f
+fault_stays input f more (inl x) = inl (bytes_stay input more f (bytes_are input f x))
+fault_stays input f more (inr (inl x)) = inr (inl (record { head = x.head; rest = x.rest ++ more; stands = head_before input x.head x.rest more x.stands; judges = x.judges }))
+fault_stays input f more (inr (inr x)) = inr (inr (record {
+  head = x.head;
+  body = x.body;
+  rest = x.rest ++ more;
+  message = message_stays input x.head x.body x.rest more x.message;
+  bad = x.bad;
+  named = x.named;
+}))

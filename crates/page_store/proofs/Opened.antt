@@ -1,0 +1,44 @@
+-- What an opening finds in the pages.
+use Rattle.std.proofs.Common.{◌≡◌, ◌<◌, ℕ, true, false, sym, subst, ◌∙◌, arith}
+use Rattle.sector_device.specs.Disk.{Disk, Image, Touches, Nowhere}
+use Rattle.sector_device.specs.Moments.{now_but}
+use Rattle.sector_device.specs.declared.SectorDevice.{Ghosts}
+use Rattle.gate_journal.specs.Store.{pages, Opens}
+use Rattle.gate_journal.specs.Recovery.{HasRoom, Found}
+use Rattle.gate_journal.specs.Contents.{content, disk_of, device_of, page_count, is_halted}
+use Rattle.gate_journal.specs.declared.journal.Journal.{Journal}
+use Rattle.gate_journal.proofs.Headers.{same_journal}
+use Rattle.page_store.specs.Chain.{IsPages}
+use Rattle.page_store.specs.Openings.{AllPageStores, MetaErr}
+use Rattle.page_store.specs.Transactions.{OpenErr}
+use Rattle.page_store.specs.declared.error.PageError.{PageError}
+use Rattle.page_store.specs.declared.error.PageError.TheVariants.{NotAStore, DeviceFault, Halted, TooManyPages, TooSmall, NoPages, Memory}
+
+-- a call that wrote nothing keeps what each image stands for
+pub kept_still : (J n K m : ℕ) (b c : Disk) (P Q : Image) → K ≡ J → m ≡ n → Q ≡ P → ((x : Image) → b.leaves x → Opens J n P x) → Touches Nowhere b c → (x : Image) → c.leaves x → Opens K m Q x
+kept_still J n K m b c P Q same_journal same_count same kept bc x leaves =
+    let but = now_but Nowhere b c bc x leaves in
+    let there : Opens J n P x = subst (λ (y : Image). Opens J n P y) (λ i k. (sym (but.2.same k (λ none. none))) i) (kept but.0 but.1) in
+    subst (λ (k : ℕ). Opens k m Q x) (sym same_journal) (subst (λ (k : ℕ). Opens J k Q x) (sym same_count) (subst (λ (R : Image). Opens J n R x) (sym same) there))
+
+-- where each image is a store with pages, so is what was found
+pub found_pages : (a b : Disk) (J n : ℕ) → Found J n a b → HasRoom a.sectors J n → AllPageStores a → IsPages n (pages J b.reads)
+found_pages a b J n found room all =
+    let is = all found.was found.left in
+    let most = room.most_journal in
+    let less = is.store.most_journal in
+    let journal : is.J ≡ J = same_journal is.J is.n J n (omega arith) (omega arith) (sym is.store.header ∙ found.header) in
+    let count : is.n ≡ n = omega (arith, journal, is.whole, room.whole) in
+    let here : IsPages is.n (pages J found.was) = subst (λ (k : ℕ). IsPages is.n (pages k found.was)) journal is.pages in
+    subst (λ (P : Image). IsPages n P) (sym found.same) (subst (λ (k : ℕ). IsPages k (pages J found.was)) count here)
+
+-- why an opening failed after the journal was opened
+pub opened_err : {D : Type 0} (g : Ghosts D) (a d : D) (old new : Journal D g) (e : PageError) → d ≡ device_of new → is_halted old ≡ false
+    → ((disk_of new).is_honest → (disk_of old).faults ≡ (g.disk a).faults) → ((disk_of new).is_honest → AllPageStores (g.disk a) → IsPages (page_count old) (content old)) → MetaErr old new e → OpenErr g a d e
+opened_err {D = D} g a d old new DeviceFault is working passed sound why = subst (λ (x : D). (g.disk x).is_honest → (g.disk a).faults < (g.disk x).faults) (sym is) (λ honest. let rose = why.rose honest in let same = passed honest in omega (arith, rose, same))
+opened_err {D = D} g a d old new NotAStore is working passed sound why = subst (λ (x : D). (g.disk x).is_honest → AllPageStores (g.disk a) → ⊥) (sym is) (λ honest all. why honest (sound honest all))
+opened_err g a d old new Halted is working passed sound why = let never : true ≡ false = sym why ∙ working in cc
+opened_err g a d old new TooManyPages is working passed sound why = absurd why
+opened_err g a d old new TooSmall is working passed sound why = absurd why
+opened_err g a d old new NoPages is working passed sound why = absurd why
+opened_err g a d old new Memory is working passed sound why = absurd why

@@ -1,0 +1,39 @@
+use Rattle.std.proofs.Common.{ℕ, sym, subst}
+use Rattle.sector_device.specs.Moments.{LeavesOnly, leaves_still}
+use Rattle.gate_journal.specs.Contents.{disk_of, content, page_count}
+use Rattle.gate_journal.specs.Recovery.{AllStores, ReadsAs}
+use Rattle.sector_device.specs.Disk.{Image}
+use Rattle.page_store.specs.Chain.{IsPages}
+use Rattle.page_store.proofs.Opened.{kept_still, found_pages, opened_err}
+use Rattle.page_store.proofs.pages.Pages.open.Goals as goal
+
+pub returns-in-Ok-read_meta-clause-any_moment : goal.returns-in-Ok-read_meta-clause-any_moment
+returns-in-Ok-read_meta-clause-any_moment g c = λ honest all.
+    let read = c.in-Ok-read_meta.ensures in
+    leaves_still (ReadsAs (g.D.SectorDevice.disk c.args.device)) _ (disk_of c.in-Ok.journal) (disk_of c.read_meta.new.journal) (c.in-Ok.ensures.any_moment (read.honest honest) all) (read.quiet honest c.in-Ok.ensures.working)
+
+pub returns-in-Ok-read_meta-clause-kept : goal.returns-in-Ok-read_meta-clause-kept
+returns-in-Ok-read_meta-clause-kept g c = λ honest.
+    let read = c.in-Ok-read_meta.ensures in
+    kept_still _ _ _ _ (disk_of c.in-Ok.journal) (disk_of c.read_meta.new.journal) (content c.in-Ok.journal) (content c.read_meta.new.journal) read.shape.journal_pages read.shape.pages (read.same honest)
+    (c.in-Ok.ensures.kept (read.honest honest)) (read.quiet honest c.in-Ok.ensures.working)
+
+pub returns-in-Ok-read_meta-clause-sound : goal.returns-in-Ok-read_meta-clause-sound
+returns-in-Ok-read_meta-clause-sound g c = λ honest all.
+    let read = c.in-Ok-read_meta.ensures in
+    let found = found_pages (g.D.SectorDevice.disk c.args.device) (disk_of c.in-Ok.journal) _ _ (c.in-Ok.ensures.found (read.honest honest)) c.in-Ok.ensures.room all in
+    let here : IsPages (page_count c.in-Ok.journal) (content c.read_meta.new.journal) = subst (λ (P : Image). IsPages (page_count c.in-Ok.journal) P) (sym (read.same honest)) found in
+    subst (λ (n : ℕ). IsPages n (content c.read_meta.new.journal)) (sym read.shape.pages) here
+
+pub returns-in-Err-read_meta-clause-any_moment : goal.returns-in-Err-read_meta-clause-any_moment
+returns-in-Err-read_meta-clause-any_moment g c =
+    let a = g.D.SectorDevice.disk c.args.device in
+    let read = c.in-Err-read_meta.ensures in
+    subst (λ d. (g.D.SectorDevice.disk d).is_honest → AllStores a → LeavesOnly (ReadsAs a) a (g.D.SectorDevice.disk d)) (sym c.into_device.ensures)
+    (λ honest all. leaves_still (ReadsAs a) a (disk_of c.in-Ok.journal) (disk_of c.read_meta.new.journal) (c.in-Ok.ensures.any_moment (read.honest honest) all) (read.quiet honest c.in-Ok.ensures.working))
+
+pub returns-in-Err-read_meta-clause-err : goal.returns-in-Err-read_meta-clause-err
+returns-in-Err-read_meta-clause-err g c =
+    let read = c.in-Err-read_meta.ensures in
+    opened_err g.D.SectorDevice c.args.device c.into_device.result c.in-Ok.journal c.read_meta.new.journal c.in-Err-read_meta.e c.into_device.ensures c.in-Ok.ensures.working
+    (λ honest. c.in-Ok.ensures.passed (read.honest honest)) (λ honest all. found_pages (g.D.SectorDevice.disk c.args.device) (disk_of c.in-Ok.journal) _ _ (c.in-Ok.ensures.found (read.honest honest)) c.in-Ok.ensures.room all) read.err

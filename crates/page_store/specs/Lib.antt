@@ -1,0 +1,4 @@
+pub mod Errors
+pub mod Chain
+pub mod Openings
+pub mod Transactions

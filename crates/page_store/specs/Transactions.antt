@@ -1,0 +1,149 @@
+-- Pages and transactions over them, as the layers above see them.
+use Rattle.std.specs.Prelude.{◌≡◌, ◌≤◌, ◌<◌, ◌+◌, ◌⊎◌, ℕ, Bool, true, false, List, Result, Ok, Err, length}
+use Rattle.sector_device.specs.Disk.{Disk, Image, Touches, Nowhere}
+use Rattle.sector_device.specs.declared.SectorDevice.{Ghosts}
+use Rattle.gate_journal.specs.Store.{overlay, home}
+use Rattle.gate_journal.specs.Writes.{writes_of}
+use Rattle.gate_journal.specs.Contents.{content, disk_of, device_of, page_count, journal_size, is_halted, HasShapeOf, HasHalted, IsKept as kept}
+use Rattle.page_store.specs.Chain.{chain, AreFree, IsIn}
+use Rattle.page_store.specs.Openings.{AllPageStores}
+use Rattle.page_store.specs.declared.error.PageError.{PageError}
+use Rattle.page_store.specs.declared.error.PageError.TheVariants.{NotAStore, DeviceFault, Halted, TooManyPages, TooSmall, NoPages, Memory}
+use Rattle.page_store.specs.declared.pages.Pages.{Pages}
+use Rattle.page_store.specs.declared.txn.Txn.{Txn}
+use Rattle.page_store.specs.declared.txn.Prepared.{Prepared}
+
+-- ---- a transaction, over the pages P that are stored
+-- of how many pages the store is
+abbrev pub txn_pages : Txn → ℕ
+txn_pages t = t.pages
+
+-- how many pages it writes
+abbrev pub txn_writes : Txn → ℕ
+txn_writes t = length (writes_of t.writes)
+
+abbrev pub txn_root : Txn → ℕ
+txn_root t = t.root
+
+-- the first of its free pages, where there is one
+abbrev pub txn_first : Txn → ℕ
+txn_first t = t.first
+
+abbrev pub txn_free : Txn → ℕ
+txn_free t = t.free
+
+-- the pages as it reads them, and those that are free
+abbrev pub over : Txn → Image → Image
+over t P = overlay (writes_of t.writes) P
+
+abbrev pub free_over : Txn → Image → List ℕ
+free_over t P = chain (overlay (writes_of t.writes) P) t.first t.free
+
+-- ---- one that is prepared
+abbrev pub prepared_pages : Prepared → ℕ
+prepared_pages p = p.pages
+
+abbrev pub prepared_writes : Prepared → List (ℕ × List ℕ)
+prepared_writes p = writes_of p.writes
+
+-- the pages after its commit
+abbrev pub after : Prepared → Image → Image
+after p P = overlay (writes_of p.writes) P
+
+-- why a page is not given back
+abbrev pub GiveErr : Txn → ℕ → PageError → Type 0
+GiveErr t p DeviceFault = (P : Image) → 0 < p → AreFree t.pages (free_over t P) → (IsIn p (free_over t P) → ⊥) → ⊥
+GiveErr t p Memory = Unit {0}
+GiveErr t p Halted = ⊥
+GiveErr t p NotAStore = ⊥
+GiveErr t p TooManyPages = ⊥
+GiveErr t p TooSmall = ⊥
+GiveErr t p NoPages = ⊥
+
+module _ {D : Type 0} {g : Ghosts D} where
+  abbrev pub stored : Pages D g → Image
+  stored ps = content ps.journal
+
+  abbrev pub disk_in : Pages D g → Disk
+  disk_in ps = disk_of ps.journal
+
+  abbrev pub device_in : Pages D g → D
+  device_in ps = device_of ps.journal
+
+  abbrev pub count_of : Pages D g → ℕ
+  count_of ps = page_count ps.journal
+
+  abbrev pub journal_of : Pages D g → ℕ
+  journal_of ps = journal_size ps.journal
+
+  abbrev pub has_halted : Pages D g → Bool
+  has_halted ps = is_halted ps.journal
+
+  -- a call that read at most
+  pub record IsQuiet (old new : Pages D g) : Type 0 where
+    pub count : page_count new.journal ≡ page_count old.journal
+    pub journal : journal_size new.journal ≡ journal_size old.journal
+    pub honest : (disk_of new.journal).is_honest → (disk_of old.journal).is_honest
+    pub same : (disk_of new.journal).is_honest → content new.journal ≡ content old.journal
+    pub moves : (disk_of new.journal).is_honest → is_halted old.journal ≡ false → Touches Nowhere (disk_of old.journal) (disk_of new.journal)
+
+  -- why a page is not read
+  abbrev pub ReadErr : Pages D g → Pages D g → PageError → Type 0
+  ReadErr old new DeviceFault = HasHalted old.journal new.journal
+  ReadErr old new Halted = is_halted old.journal ≡ true
+  ReadErr old new NotAStore = ⊥
+  ReadErr old new TooManyPages = ⊥
+  ReadErr old new TooSmall = ⊥
+  ReadErr old new NoPages = ⊥
+  ReadErr old new Memory = ⊥
+
+  abbrev pub device_after : Result (Pages D g) (PageError × D) → D
+  device_after (Ok ps) = device_of ps.journal
+  device_after (Err e) = e.1
+
+  -- why no page is taken
+  abbrev pub TakeErr : Txn → Pages D g → Pages D g → PageError → Type 0
+  TakeErr t old new NoPages = t.free ≡ 0
+  TakeErr t old new DeviceFault = HasHalted old.journal new.journal ⊎ ((disk_of new.journal).is_honest → AreFree t.pages (free_over t (content old.journal)) → ⊥)
+  TakeErr t old new Halted = is_halted old.journal ≡ true
+  TakeErr t old new NotAStore = ⊥
+  TakeErr t old new TooManyPages = ⊥
+  TakeErr t old new TooSmall = ⊥
+  TakeErr t old new Memory = ⊥
+
+  -- why so many pages are not committed
+  abbrev pub CommitErr : ℕ → Pages D g → Pages D g → PageError → Type 0
+  CommitErr n old new DeviceFault = HasHalted old.journal new.journal × (n ≤ journal_size old.journal)
+  CommitErr n old new Halted = (is_halted old.journal ≡ true) × (new.journal ≡ old.journal)
+  CommitErr n old new TooManyPages = (is_halted old.journal ≡ false) × (journal_size old.journal < n) × (new.journal ≡ old.journal)
+  CommitErr n old new NotAStore = ⊥
+  CommitErr n old new TooSmall = ⊥
+  CommitErr n old new NoPages = ⊥
+  CommitErr n old new Memory = ⊥
+
+  abbrev pub HasShape : Pages D g → Pages D g → Type 0
+  HasShape old new = HasShapeOf old.journal new.journal
+
+  -- each image that a stop now may leave stands for the pages
+  abbrev pub IsKept : Pages D g → Type 0
+  IsKept ps = kept ps.journal
+
+-- why pages are not opened
+abbrev pub OpenErr : {D : Type 0} (g : Ghosts D) → D → D → PageError → Type 0
+OpenErr g old new DeviceFault = (g.disk new).is_honest → (g.disk old).faults < (g.disk new).faults
+OpenErr g old new NotAStore = (g.disk new).is_honest → AllPageStores (g.disk old) → ⊥
+OpenErr g old new Halted = ⊥
+OpenErr g old new TooManyPages = ⊥
+OpenErr g old new TooSmall = ⊥
+OpenErr g old new NoPages = ⊥
+OpenErr g old new Memory = ⊥
+
+-- why a device is not formatted with J journal pages
+abbrev pub FormatErr : {D : Type 0} (g : Ghosts D) → ℕ → D → D → PageError → Type 0
+FormatErr g J old new DeviceFault = (home J + 64 ≤ (g.disk old).sectors) × ((g.disk new).is_honest → (g.disk old).faults < (g.disk new).faults)
+FormatErr g J old new TooSmall = ((g.disk old).sectors < home J + 64) × (new ≡ old)
+FormatErr g J old new Memory = home J + 64 ≤ (g.disk old).sectors
+FormatErr g J old new NotAStore = ⊥
+FormatErr g J old new Halted = ⊥
+FormatErr g J old new TooManyPages = ⊥
+FormatErr g J old new NoPages = ⊥

@@ -1,0 +1,156 @@
+//! Pages on a device.
+ghost use Rattle.std.specs.Prelude.{◌≡◌, ◌<◌, false, OnOk, IfOk, IfErr};
+ghost use Rattle.sector_device.specs.Disk.{Touches, Nowhere};
+ghost use Rattle.gate_journal.specs.Contents.{content, disk_of, page_count, is_halted, HasShapeOf};
+ghost use Rattle.page_store.specs.Chain.{IsMeta};
+ghost use Rattle.page_store.specs.Openings.{MetaErr};
+
+use crate::error::PageError;
+use crate::txn::Txn;
+use gate_journal::{Journal, PageWrites, word_at};
+use sector_device::SectorDevice;
+use std::alloc::Global;
+
+/// Pages behind a journal. Page 0 is the meta page, and the others are free or in use.
+#[derive(Drop)]
+pub struct Pages<D: SectorDevice> {
+    pub(crate) journal: Journal<D>,
+    pub(crate) root: u32,
+    /// The first free page, and how many are free.
+    pub(crate) first: u32,
+    pub(crate) free: u32,
+    ghost root_below: { root < page_count journal },
+    ghost first_below: { first < page_count journal },
+    ghost free_below: { free < page_count journal },
+    ghost meta: { is_halted journal ≡ false → (disk_of journal).is_honest → IsMeta (content journal) root first free },
+}
+
+/// What the meta page says.
+#[derive(Clone, Copy, Drop)]
+struct Meta {
+    root: u32,
+    first: u32,
+    free: u32,
+}
+
+/// Reads the meta page.
+fn read_meta<D: SectorDevice>(journal: &mut Journal<D>) -> Result<Meta, PageError>
+    requires { 0 < page_count journal.old }
+    ensures shape { HasShapeOf journal.old journal.new }
+    ensures quiet { (disk_of journal.new).is_honest → is_halted journal.old ≡ false → Touches Nowhere (disk_of journal.old) (disk_of journal.new) }
+    ensures honest { (disk_of journal.new).is_honest → (disk_of journal.old).is_honest }
+    ensures same { (disk_of journal.new).is_honest → content journal.new ≡ content journal.old }
+    ensures below { IfOk result (λ meta. (meta.root < page_count journal.old) × (meta.first < page_count journal.old) × (meta.free < page_count journal.old)) }
+    ensures meta { (disk_of journal.new).is_honest → IfOk result (λ meta. IsMeta (content journal.old) meta.root meta.first meta.free) }
+    ensures working { OnOk result (is_halted journal.new ≡ false) }
+    ensures passed { (disk_of journal.new).is_honest → OnOk result ((disk_of journal.new).faults ≡ (disk_of journal.old).faults) }
+    ensures err { IfErr result (λ e. MetaErr journal.old journal.new e) }
+{
+    let mut page = [0; 4096];
+    journal.read_page(0, &mut page)?;
+    let meta = Meta {
+        root: word_at(&page, 0),
+        first: word_at(&page, 1),
+        free: word_at(&page, 2),
+    };
+    let count = journal.page_count();
+    if meta.root >= count || meta.first >= count || meta.free >= count {
+        return Err(PageError::NotAStore);
+    }
+    Ok(meta)
+}
+
+impl<D: SectorDevice> Pages<D> {
+    ghost use Rattle.std.specs.Prelude.{◌≡◌, ◌<◌, ℕ, false, length, OnOk, IfOk, IfErr};
+    ghost use Rattle.sector_device.specs.Disk.{Disk};
+    ghost use Rattle.sector_device.specs.Moments.{LeavesOnly};
+    ghost use Rattle.gate_journal.specs.Recovery.{HasRoom, AllStores, ReadsAs, Found};
+    ghost use Rattle.page_store.specs.Chain.{root_in, free_in, IsPages};
+    ghost use Rattle.page_store.specs.Openings.{AllPageStores};
+    ghost use Rattle.page_store.specs.Transactions.{stored, disk_in, device_in, count_of, journal_of, has_halted, txn_pages, txn_writes, txn_root, over, free_over, IsQuiet, IsKept, ReadErr, OpenErr, device_after};
+
+    /// Opens the pages that a device holds, as `Journal::open`. With a refusal the device comes back.
+    pub fn open(device: D) -> Result<Pages<D>, (PageError, D)>
+        ensures sectors { (D.disk (device_after result)).sectors ≡ (D.disk device).sectors }
+        ensures honest { (D.disk (device_after result)).is_honest → (D.disk device).is_honest }
+        ensures any_moment { (D.disk (device_after result)).is_honest → AllStores (D.disk device) → LeavesOnly (ReadsAs (D.disk device)) (D.disk device) (D.disk (device_after result)) }
+        ensures working { IfOk result (λ ps. has_halted ps ≡ false) }
+        ensures room { IfOk result (λ ps. HasRoom (D.disk device).sectors (journal_of ps) (count_of ps)) }
+        ensures found { IfOk result (λ ps. (disk_in ps).is_honest → Found (journal_of ps) (count_of ps) (D.disk device) (disk_in ps)) }
+        ensures kept { IfOk result (λ ps. (disk_in ps).is_honest → IsKept ps) }
+        ensures sound { IfOk result (λ ps. (disk_in ps).is_honest → AllPageStores (D.disk device) → IsPages (count_of ps) (stored ps)) }
+        ensures passed { (D.disk (device_after result)).is_honest → OnOk result ((D.disk (device_after result)).faults ≡ (D.disk device).faults) }
+        ensures err { IfErr result (λ e. OpenErr D.SectorDevice device e.1 e.0) }
+    {
+        let mut journal = match Journal::open(device) {
+            Ok(journal) => journal,
+            Err((e, device)) => return Err((PageError::from(e), device)),
+        };
+        match read_meta(&mut journal) {
+            Ok(meta) => Ok(Pages {
+                journal,
+                root: meta.root,
+                first: meta.first,
+                free: meta.free,
+            }),
+            Err(e) => Err((e, journal.into_device())),
+        }
+    }
+
+    /// How many pages are free.
+    pub fn free_pages(&self) -> u32
+        ensures { has_halted self.now ≡ false → (disk_in self.now).is_honest → result ≡ length (free_in (stored self.now)) }
+    {
+        self.free
+    }
+
+    /// How many pages a commit may write.
+    pub fn journal_pages(&self) -> u32
+        ensures { result ≡ journal_of self.now }
+    {
+        self.journal.journal_pages()
+    }
+
+    /// Gives the device back.
+    pub fn into_device(self) -> D
+        ensures { result ≡ device_in self }
+    {
+        let Pages {
+            journal,
+            root: _,
+            first: _,
+            free: _,
+        } = self;
+        journal.into_device()
+    }
+
+    /// Begins a transaction, which reads the pages as they are.
+    pub fn begin(&self, alloc: Global) -> Txn
+        ensures pages { txn_pages result ≡ count_of self.now }
+        ensures none { txn_writes result ≡ 0 }
+        ensures over { (q : ℕ) → over result (stored self.now) q ≡ stored self.now q }
+        ensures root { has_halted self.now ≡ false → (disk_in self.now).is_honest → txn_root result ≡ root_in (stored self.now) }
+        ensures free { has_halted self.now ≡ false → (disk_in self.now).is_honest → free_over result (stored self.now) ≡ free_in (stored self.now) }
+    {
+        Txn {
+            writes: PageWrites::new(alloc),
+            pages: self.journal.page_count(),
+            root: self.root,
+            first: self.first,
+            free: self.free,
+        }
+    }
+
+    /// Reads a page as it is stored.
+    pub(crate) fn read_stored(&mut self, p: u32, page: &mut [u8; 4096]) -> Result<(), PageError>
+        requires { p < count_of self.old }
+        ensures quiet { IsQuiet self.old self.new }
+        ensures reads { (disk_in self.new).is_honest → OnOk result (page.new ≡ stored self.old p) }
+        ensures passed { (disk_in self.new).is_honest → OnOk result ((disk_in self.new).faults ≡ (disk_in self.old).faults) }
+        ensures ok { OnOk result (has_halted self.new ≡ has_halted self.old) }
+        ensures err { IfErr result (λ e. ReadErr self.old self.new e) }
+    {
+        self.journal.read_page(p, page)?;
+        Ok(())
+    }
+}

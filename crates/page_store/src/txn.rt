@@ -1,0 +1,243 @@
+//! Transactions over pages.
+ghost use Rattle.std.specs.Prelude.{◌<◌, ◌≡◌};
+ghost use Rattle.sector_device.specs.Disk.{Image};
+ghost use Rattle.gate_journal.specs.Store.{IsWithin, overlay};
+ghost use Rattle.gate_journal.specs.Writes.{writes_of};
+ghost use Rattle.page_store.specs.Chain.{IsMeta};
+
+use crate::error::PageError;
+use crate::pages::Pages;
+use gate_journal::{PageWrites, set_word, word_at};
+use sector_device::SectorDevice;
+
+/// New pages over those of a store. Dropping it changes nothing.
+#[derive(Drop)]
+pub struct Txn {
+    pub(crate) writes: PageWrites,
+    pub(crate) pages: u32,
+    pub(crate) root: u32,
+    pub(crate) first: u32,
+    pub(crate) free: u32,
+    ghost within: { IsWithin (writes_of writes) pages },
+    ghost root_below: { root < pages },
+    ghost first_below: { first < pages },
+    ghost free_below: { free < pages },
+}
+
+/// A transaction with its meta page, ready to be committed. Dropping it changes nothing.
+#[derive(Drop)]
+pub struct Prepared {
+    writes: PageWrites,
+    pages: u32,
+    root: u32,
+    first: u32,
+    free: u32,
+    ghost within: { IsWithin (writes_of writes) pages },
+    ghost root_below: { root < pages },
+    ghost first_below: { first < pages },
+    ghost free_below: { free < pages },
+    ghost meta: { (P : Image) → IsMeta (overlay (writes_of writes) P) root first free },
+}
+
+impl Txn {
+    ghost use Rattle.std.specs.Prelude.{◌≡◌, ◌≢◌, ◌<◌, ◌≤◌, ◌+◌, ◌-◌, ◌∷◌, ℕ, length, OnOk, OnErr, IfOk, IfErr};
+    ghost use Rattle.sector_device.specs.Disk.{Image};
+    ghost use Rattle.gate_journal.specs.Store.{put};
+    ghost use Rattle.page_store.specs.Chain.{chain, IsIn, AreFree, IsPages, root_in, free_in};
+    ghost use Rattle.page_store.specs.Transactions.{stored, disk_in, count_of, has_halted, txn_pages, txn_writes, txn_root, txn_first, txn_free, over, free_over, prepared_pages, prepared_writes, after, IsQuiet, ReadErr, TakeErr, GiveErr};
+    ghost use Rattle.page_store.specs.declared.error.PageError.TheVariants.{Memory};
+
+    /// Reads a page, its own write before the stored one. The pages are those that began it.
+    pub fn read<D: SectorDevice>(
+        &self,
+        pages: &mut Pages<D>,
+        p: u32,
+        page: &mut [u8; 4096],
+    ) -> Result<(), PageError>
+        requires begun { txn_pages self.now ≡ count_of pages.old }
+        requires page { p < count_of pages.old }
+        ensures quiet { IsQuiet pages.old pages.new }
+        ensures reads { (disk_in pages.new).is_honest → OnOk result (page.new ≡ over self.now (stored pages.old) p) }
+        ensures passed { (disk_in pages.new).is_honest → OnOk result ((disk_in pages.new).faults ≡ (disk_in pages.old).faults) }
+        ensures ok { OnOk result (has_halted pages.new ≡ has_halted pages.old) }
+        ensures err { IfErr result (λ e. ReadErr pages.old pages.new e) }
+    {
+        if let Some(bytes) = self.writes.get(p) {
+            *page = *bytes;
+            return Ok(());
+        }
+        pages.read_stored(p, page)
+    }
+
+    /// Writes a page.
+    pub fn write(&mut self, p: u32, bytes: &[u8; 4096]) -> Result<(), PageError>
+        requires { p < txn_pages self.old }
+        ensures pages { txn_pages self.new ≡ txn_pages self.old }
+        ensures root { txn_root self.new ≡ txn_root self.old }
+        ensures written { OnOk result ((P : Image) (q : ℕ) → over self.new P q ≡ put (p, bytes.now) (over self.old P) q) }
+        ensures free { OnOk result ((P : Image) → (IsIn p (free_over self.old P) → ⊥) → free_over self.new P ≡ free_over self.old P) }
+        ensures more { OnOk result (txn_writes self.new ≤ txn_writes self.old + 1) }
+        ensures err { IfErr result (λ e. e ≡ Memory) }
+        ensures same { OnErr result ((P : Image) → (over self.new P ≡ over self.old P) × (free_over self.new P ≡ free_over self.old P)) }
+    {
+        self.writes.put(p, bytes)?;
+        Ok(())
+    }
+
+    /// The free page after the first, or 0 where there is none.
+    fn next_free<D: SectorDevice>(&self, pages: &mut Pages<D>) -> Result<u32, PageError>
+        requires begun { txn_pages self.now ≡ count_of pages.old }
+        requires some { 0 < txn_free self.now }
+        ensures quiet { IsQuiet pages.old pages.new }
+        ensures below { IfOk result (λ next. next < txn_pages self.now) }
+        ensures next { (disk_in pages.new).is_honest → IfOk result (λ next. free_over self.now (stored pages.old) ≡ txn_first self.now ∷ chain (over self.now (stored pages.old)) next (txn_free self.now - 1)) }
+        ensures passed { (disk_in pages.new).is_honest → OnOk result ((disk_in pages.new).faults ≡ (disk_in pages.old).faults) }
+        ensures ok { OnOk result (has_halted pages.new ≡ has_halted pages.old) }
+        ensures err { IfErr result (λ e. TakeErr self.now pages.old pages.new e) }
+    {
+        if self.free == 1 {
+            return Ok(0);
+        }
+        let mut page = [0; 4096];
+        self.read(pages, self.first, &mut page)?;
+        let next = word_at(&page, 0);
+        if next >= self.pages {
+            return Err(PageError::DeviceFault);
+        }
+        Ok(next)
+    }
+
+    /// Takes a free page. What it holds is for the caller to write.
+    pub fn take_page<D: SectorDevice>(&mut self, pages: &mut Pages<D>) -> Result<u32, PageError>
+        requires { txn_pages self.old ≡ count_of pages.old }
+        ensures quiet { IsQuiet pages.old pages.new }
+        ensures pages { txn_pages self.new ≡ txn_pages self.old }
+        ensures root { txn_root self.new ≡ txn_root self.old }
+        ensures writes { txn_writes self.new ≡ txn_writes self.old }
+        ensures over { (P : Image) → over self.new P ≡ over self.old P }
+        ensures below { IfOk result (λ p. p < txn_pages self.old) }
+        ensures taken { (disk_in pages.new).is_honest → IfOk result (λ p. free_over self.old (stored pages.old) ≡ p ∷ free_over self.new (stored pages.old)) }
+        ensures passed { (disk_in pages.new).is_honest → OnOk result ((disk_in pages.new).faults ≡ (disk_in pages.old).faults) }
+        ensures ok { OnOk result (has_halted pages.new ≡ has_halted pages.old) }
+        ensures err { IfErr result (λ e. TakeErr self.old pages.old pages.new e) }
+        ensures same { OnErr result ((P : Image) → free_over self.new P ≡ free_over self.old P) }
+    {
+        if self.free == 0 {
+            return Err(PageError::NoPages);
+        }
+        let next = self.next_free(pages)?;
+        let taken = self.first;
+        self.first = next;
+        self.free -= 1;
+        Ok(taken)
+    }
+
+    /// Gives a page back, which is one of the store's, in use, and not page 0. `DeviceFault` comes only where more pages are
+    /// free than a store has.
+    pub fn give_page(&mut self, p: u32) -> Result<(), PageError>
+        requires { p < txn_pages self.old }
+        ensures pages { txn_pages self.new ≡ txn_pages self.old }
+        ensures root { txn_root self.new ≡ txn_root self.old }
+        ensures over { OnOk result ((P : Image) (q : ℕ) → q ≢ p → over self.new P q ≡ over self.old P q) }
+        ensures given { OnOk result ((P : Image) → (IsIn p (free_over self.old P) → ⊥) → free_over self.new P ≡ p ∷ free_over self.old P) }
+        ensures more { OnOk result (txn_writes self.new ≤ txn_writes self.old + 1) }
+        ensures err { IfErr result (λ e. GiveErr self.old p e) }
+        ensures same { OnErr result ((P : Image) → (over self.new P ≡ over self.old P) × (free_over self.new P ≡ free_over self.old P)) }
+    {
+        if self.free + 1 >= self.pages {
+            return Err(PageError::DeviceFault);
+        }
+        let mut link = [0; 4096];
+        set_word(&mut link, 0, self.first);
+        self.writes.put(p, &link)?;
+        self.first = p;
+        self.free += 1;
+        Ok(())
+    }
+
+    /// Makes the meta page, and every growth that the commit needs.
+    pub fn prepare(self) -> Result<Prepared, PageError>
+        ensures pages { IfOk result (λ made. prepared_pages made ≡ txn_pages self) }
+        ensures after { IfOk result (λ made. (P : Image) (q : ℕ) → q ≢ 0 → after made P q ≡ over self P q) }
+        ensures root { IfOk result (λ made. (P : Image) → root_in (after made P) ≡ txn_root self) }
+        ensures free { IfOk result (λ made. (P : Image) → AreFree (txn_pages self) (free_over self P) → free_in (after made P) ≡ free_over self P) }
+        ensures sound { IfOk result (λ made. (P : Image) → AreFree (txn_pages self) (free_over self P) → IsPages (txn_pages self) (after made P)) }
+        ensures more { IfOk result (λ made. length (prepared_writes made) ≤ txn_writes self + 1) }
+        ensures err { IfErr result (λ e. e ≡ Memory) }
+    {
+        let Txn {
+            mut writes,
+            pages,
+            root,
+            first,
+            free,
+        } = self;
+        let mut meta = [0; 4096];
+        set_word(&mut meta, 0, root);
+        set_word(&mut meta, 1, first);
+        set_word(&mut meta, 2, free);
+        writes.put(0, &meta)?;
+        Ok(Prepared {
+            writes,
+            pages,
+            root,
+            first,
+            free,
+        })
+    }
+
+    /// The root that the meta page is to name. Page 0 stands for none.
+    pub fn root(&self) -> u32
+        ensures { result ≡ txn_root self.now }
+    {
+        self.root
+    }
+
+    /// Sets the root.
+    pub fn set_root(&mut self, root: u32)
+        requires { root < txn_pages self.old }
+        ensures root { txn_root self.new ≡ root }
+        ensures pages { txn_pages self.new ≡ txn_pages self.old }
+        ensures writes { txn_writes self.new ≡ txn_writes self.old }
+        ensures same { (P : Image) → (over self.new P ≡ over self.old P) × (free_over self.new P ≡ free_over self.old P) }
+    {
+        self.root = root;
+    }
+
+    /// How many pages are free in this transaction.
+    pub fn free_pages(&self) -> u32
+        ensures { (P : Image) → result ≡ length (free_over self.now P) }
+    {
+        self.free
+    }
+
+    /// Ends the transaction, with nothing changed.
+    pub fn abandon(self) {}
+}
+
+impl Prepared {
+    ghost use Rattle.std.specs.Prelude.{◌≡◌, ◌≤◌, length, false, OnOk, IfErr};
+    ghost use Rattle.sector_device.specs.Disk.{Image};
+    ghost use Rattle.sector_device.specs.Moments.{LeavesOnly};
+    ghost use Rattle.gate_journal.specs.Store.{IsBeforeOrAfter};
+    ghost use Rattle.page_store.specs.Transactions.{stored, disk_in, count_of, journal_of, has_halted, prepared_pages, prepared_writes, after, HasShape, IsKept, CommitErr};
+
+    /// Writes the pages, all or none of them. It takes no memory.
+    pub fn commit<D: SectorDevice>(self, pages: &mut Pages<D>) -> Result<(), PageError>
+        requires { prepared_pages self ≡ count_of pages.old }
+        ensures shape { HasShape pages.old pages.new }
+        ensures honest { (disk_in pages.new).is_honest → (disk_in pages.old).is_honest }
+        ensures any_moment { (disk_in pages.new).is_honest → has_halted pages.old ≡ false → LeavesOnly (IsBeforeOrAfter (journal_of pages.old) (count_of pages.old) (prepared_writes self) (stored pages.old)) (disk_in pages.old) (disk_in pages.new) }
+        ensures after { (disk_in pages.new).is_honest → OnOk result (stored pages.new ≡ after self (stored pages.old)) }
+        ensures kept { (disk_in pages.new).is_honest → OnOk result (IsKept pages.new) }
+        ensures passed { (disk_in pages.new).is_honest → OnOk result ((disk_in pages.new).faults ≡ (disk_in pages.old).faults) }
+        ensures ok { OnOk result ((has_halted pages.old ≡ false) × (length (prepared_writes self) ≤ journal_of pages.old) × (has_halted pages.new ≡ false)) }
+        ensures err { IfErr result (λ e. CommitErr (length (prepared_writes self)) pages.old pages.new e) }
+    {
+        pages.journal.commit(&self.writes)?;
+        pages.root = self.root;
+        pages.first = self.first;
+        pages.free = self.free;
+        Ok(())
+    }
+}
