@@ -1,2 +1,4 @@
+pub mod Checking
+pub mod Counts
 pub mod Statuses
 pub mod Talking

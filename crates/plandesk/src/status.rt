@@ -9,8 +9,12 @@ use std::alloc::AllocError;
 pub enum Status {
     /// 0
     Done,
+    /// 1: a report names a broken clause.
+    Broken,
     /// 2: the command line is wrong.
     Usage,
+    /// 3: an input file was refused.
+    Refused,
     /// 5: memory was refused.
     Memory,
     /// 6: a socket, or standard input or output.
@@ -23,7 +27,9 @@ impl Status {
     {
         match self {
             Status::Done => 0,
+            Status::Broken => 1,
             Status::Usage => 2,
+            Status::Refused => 3,
             Status::Memory => 5,
             Status::Stream => 6,
         }

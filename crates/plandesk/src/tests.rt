@@ -11,11 +11,11 @@ use std::test::Fail;
 
 /// Gives its bytes in pieces, and fails at one call.
 #[derive(Drop)]
-struct Pieces<'a> {
-    bytes: &'a [u8],
-    piece: usize,
-    calls: u64,
-    fails_at: u64,
+pub struct Pieces<'a> {
+    pub bytes: &'a [u8],
+    pub piece: usize,
+    pub calls: u64,
+    pub fails_at: u64,
 }
 
 impl Read for Pieces<'_> {
@@ -35,9 +35,9 @@ impl Read for Pieces<'_> {
 
 /// Takes so many bytes, and then fails.
 #[derive(Drop)]
-struct Page {
-    bytes: Vec<u8>,
-    room: usize,
+pub struct Page {
+    pub bytes: Vec<u8>,
+    pub room: usize,
 }
 
 impl Write for Page {

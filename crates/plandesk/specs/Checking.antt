@@ -1,0 +1,135 @@
+-- What `check` comes to: each file is opened, read and judged in turn, and the first fault ends it.
+use Rattle.std.specs.Prelude.{◌≡◌, ℕ, List, ◌++◌, Option, Result, Ok, Err, Vec}
+use Rattle.std.specs.declared.alloc.Global.{Global}
+use Rattle.std.specs.Io.KnownBytes.{Appends, Consumes, Keeps}
+use Rattle.desk_model.specs.declared.block.BlockRow.{BlockRow}
+use Rattle.pl94_geo.specs.GeoFile.{IsRead as IsHeaderRead}
+use Rattle.pl94_geo.specs.declared.geo.GeoRows.{GeoRows}
+use Rattle.pl94_geo.specs.declared.geo.GeoFault.{GeoFault}
+use Rattle.pl94_geo.specs.declared.geo.GeoFault.TheVariants as geo
+use Rattle.pl94_segment.specs.Join.{IsJoined}
+use Rattle.pl94_segment.specs.SegFile.{IsRead as IsSegmentRead}
+use Rattle.pl94_segment.specs.declared.record.Part.{Part}
+use Rattle.pl94_segment.specs.declared.record.Part.TheVariants.{One, Two, Three}
+use Rattle.pl94_segment.specs.declared.segment.SegRows.{SegRows}
+use Rattle.pl94_segment.specs.declared.segment.SegFault.{SegFault}
+use Rattle.pl94_segment.specs.declared.segment.SegFault.TheVariants as segment
+use Rattle.pl94_segment.specs.declared.join.JoinFault.{JoinFault}
+use Rattle.pl94_segment.specs.declared.join.JoinFault.TheVariants as join
+use Rattle.plandesk.specs.Counts.{counts_text}
+use Rattle.plandesk.specs.declared.fault.OpenFault.{OpenFault}
+use Rattle.plandesk.specs.declared.fault.OpenFault.TheVariants as opening
+use Rattle.plandesk.specs.declared.fault.CheckFault.{CheckFault}
+use Rattle.plandesk.specs.declared.fault.CheckFault.TheVariants.{NoHeader, Header, NoSegment, Segment, Join}
+use Rattle.plandesk.specs.declared.census.CensusFiles.{CensusFiles}
+use Rattle.plandesk.specs.declared.status.Status.{Status}
+use Rattle.plandesk.specs.declared.status.Status.TheVariants.{Done, Broken, Usage, Refused, Memory, Stream}
+
+-- an opening: the bytes that the file has, where they are known, or why it isn't opened
+abbrev pub Opening : Type 0
+Opening = Result (Option (List ℕ)) OpenFault
+
+abbrev pub opening_of : {R : Type 0} → (R → Option (List ℕ)) → Result R OpenFault → Opening
+opening_of remaining (Ok reader) = Ok (remaining reader)
+opening_of remaining (Err fault) = Err fault
+
+-- what a fault or a success of the header is to the command
+abbrev pub header_outcome : Result GeoRows GeoFault → Result GeoRows CheckFault
+header_outcome (Ok rows) = Ok rows
+header_outcome (Err fault) = Err (Header fault)
+
+abbrev pub segment_outcome : Part → Result SegRows SegFault → Result SegRows CheckFault
+segment_outcome part (Ok rows) = Ok rows
+segment_outcome part (Err fault) = Err (Segment part fault)
+
+abbrev pub join_outcome : Result (Vec BlockRow Global) JoinFault → Result (Vec BlockRow Global) CheckFault
+join_outcome (Ok rows) = Ok rows
+join_outcome (Err fault) = Err (Join fault)
+
+-- some bytes came from the file, and this is what they say
+abbrev pub ReadsHeader : Opening → Result GeoRows CheckFault → Type 0
+ReadsHeader (Err fault) outcome = outcome ≡ Err (NoHeader fault)
+ReadsHeader (Ok unread) outcome = (left : Option (List ℕ)) × (text : List ℕ) × (read : Result GeoRows GeoFault)
+    × Consumes unread left text × IsHeaderRead text left read × (outcome ≡ header_outcome read)
+
+abbrev pub ReadsSegment : Part → Opening → Result SegRows CheckFault → Type 0
+ReadsSegment part (Err fault) outcome = outcome ≡ Err (NoSegment part fault)
+ReadsSegment part (Ok unread) outcome = (left : Option (List ℕ)) × (text : List ℕ) × (read : Result SegRows SegFault)
+    × Consumes unread left text × IsSegmentRead part text left read × (outcome ≡ segment_outcome part read)
+
+-- the header and the segments together
+abbrev pub Joins : GeoRows → SegRows → SegRows → SegRows → Result (Vec BlockRow Global) CheckFault → Type 0
+Joins header first second third outcome = (joined : Result (Vec BlockRow Global) JoinFault)
+    × IsJoined header first second third joined × (outcome ≡ join_outcome joined)
+
+-- the next step goes on from what this one gave, and its fault ends all
+abbrev pub GoesOn : {A B : Type 0} → Result A CheckFault → (A → Result B CheckFault → Type 0) → Result B CheckFault → Type 0
+GoesOn (Ok value) next outcome = next value outcome
+GoesOn (Err fault) next outcome = outcome ≡ Err fault
+
+abbrev pub Then : {A B : Type 0} → (Result A CheckFault → Type 0) → (A → Result B CheckFault → Type 0) → Result B CheckFault → Type 0
+Then {A} {B} step next outcome = (given : Result A CheckFault) × step given × GoesOn given next outcome
+
+-- the files of a state, one after the other
+abbrev pub ReadsState : (header first second third : Opening) → Result (Vec BlockRow Global) CheckFault → Type 0
+ReadsState header first second third =
+    Then (ReadsHeader header) (λ rows. Then (ReadsSegment One first) (λ one. Then (ReadsSegment Two second) (λ two.
+    Then (ReadsSegment Three third) (λ three. Joins rows one two three))))
+
+-- and the counts of its blocks
+abbrev pub PrintsCounts : Vec BlockRow Global → Result (Vec ℕ Global) CheckFault → Type 0
+PrintsCounts rows (Ok text) = text.items ≡ counts_text rows.items
+PrintsCounts rows (Err fault) = fault ≡ Join join.Memory
+
+abbrev pub CountsState : (header first second third : Opening) → Result (Vec ℕ Global) CheckFault → Type 0
+CountsState header first second third = Then (ReadsState header first second third) PrintsCounts
+
+-- 5 where memory was refused, and 3 for all else
+abbrev pub status_of_open : OpenFault → Status
+status_of_open opening.Unreadable = Refused
+status_of_open opening.Memory = Memory
+
+abbrev pub status_of_geo : GeoFault → Status
+status_of_geo (geo.Line fault line) = Refused
+status_of_geo (geo.Read line) = Refused
+status_of_geo (geo.NoBlock line) = Refused
+status_of_geo (geo.TurnLimit line) = Refused
+status_of_geo geo.Memory = Memory
+
+abbrev pub status_of_segment : SegFault → Status
+status_of_segment (segment.Line fault line) = Refused
+status_of_segment (segment.Read line) = Refused
+status_of_segment (segment.TurnLimit line) = Refused
+status_of_segment segment.Memory = Memory
+
+abbrev pub status_of_join : JoinFault → Status
+status_of_join (join.Missing number part) = Refused
+status_of_join join.TooManyPeople = Refused
+status_of_join (join.OtherTotal state total) = Refused
+status_of_join join.Memory = Memory
+
+abbrev pub status_of_fault : CheckFault → Status
+status_of_fault (NoHeader fault) = status_of_open fault
+status_of_fault (Header fault) = status_of_geo fault
+status_of_fault (NoSegment part fault) = status_of_open fault
+status_of_fault (Segment part fault) = status_of_segment fault
+status_of_fault (Join fault) = status_of_join fault
+
+-- the whole text is written: 0; or a front of it: 6
+abbrev pub Prints : Status → (before after : Option (List ℕ)) → List ℕ → Type 0
+Prints Done before after text = Appends before after text
+Prints Stream before after text = (front : List ℕ) × (rest : List ℕ) × (text ≡ front ++ rest) × Appends before after front
+Prints Broken before after text = ⊥
+Prints Usage before after text = ⊥
+Prints Refused before after text = ⊥
+Prints Memory before after text = ⊥
+
+-- the text is printed; at a fault nothing is
+abbrev pub Ends : Result (Vec ℕ Global) CheckFault → Status → (before after : Option (List ℕ)) → Type 0
+Ends (Ok text) status before after = Prints status before after text.items
+Ends (Err fault) status before after = Keeps before after × (status ≡ status_of_fault fault)
+
+-- the counts of the files
+abbrev pub Counts : (header first second third : Opening) → Status → (before after : Option (List ℕ)) → Type 0
+Counts header first second third status before after =
+    (outcome : Result (Vec ℕ Global) CheckFault) × CountsState header first second third outcome × Ends outcome status before after

@@ -1,0 +1,103 @@
+//! Why a command does nothing with its files.
+ghost use Rattle.std.specs.Prelude.{◌≡◌};
+ghost use Rattle.plandesk.specs.Checking.{status_of_open, status_of_geo, status_of_segment, status_of_join, status_of_fault};
+
+use crate::status::Status;
+use pl94_geo::geo::GeoFault;
+use pl94_segment::join::JoinFault;
+use pl94_segment::record::Part;
+use pl94_segment::segment::SegFault;
+use std::fmt;
+
+/// Why a file isn't opened.
+#[derive(Clone, Copy, Debug, PartialEq, Eq)]
+pub enum OpenFault {
+    Unreadable,
+    Memory,
+}
+
+/// The first fault of the files, in the order in which they are read and judged.
+#[derive(Clone, Copy, Debug, PartialEq, Eq)]
+pub enum CheckFault {
+    /// The geographic header isn't opened.
+    NoHeader(OpenFault),
+    Header(GeoFault),
+    /// A segment isn't opened.
+    NoSegment(Part, OpenFault),
+    Segment(Part, SegFault),
+    /// The files don't go together, or memory for the blocks or for what is printed was refused.
+    Join(JoinFault),
+}
+
+impl fmt::Display for OpenFault {
+    fn fmt<W: fmt::Write>(&self, f: &mut fmt::Formatter<W>) -> fmt::Result {
+        match *self {
+            OpenFault::Unreadable => f.write_str("Unreadable"),
+            OpenFault::Memory => f.write_str("Memory"),
+        }
+    }
+}
+
+impl fmt::Display for CheckFault {
+    /// The file and its fault, as `geo: G1 line 2`.
+    fn fmt<W: fmt::Write>(&self, f: &mut fmt::Formatter<W>) -> fmt::Result {
+        match *self {
+            CheckFault::NoHeader(fault) => write!(f, "geo: {}", fault),
+            CheckFault::Header(fault) => write!(f, "geo: {}", fault),
+            CheckFault::NoSegment(part, fault) => write!(f, "seg{}: {}", part.number(), fault),
+            CheckFault::Segment(part, fault) => write!(f, "seg{}: {}", part.number(), fault),
+            CheckFault::Join(fault) => write!(f, "join: {}", fault),
+        }
+    }
+}
+
+fn open_status(fault: OpenFault) -> Status
+    ensures { result ≡ status_of_open fault }
+{
+    match fault {
+        OpenFault::Unreadable => Status::Refused,
+        OpenFault::Memory => Status::Memory,
+    }
+}
+
+fn header_status(fault: GeoFault) -> Status
+    ensures { result ≡ status_of_geo fault }
+{
+    match fault {
+        GeoFault::Memory => Status::Memory,
+        _ => Status::Refused,
+    }
+}
+
+fn segment_status(fault: SegFault) -> Status
+    ensures { result ≡ status_of_segment fault }
+{
+    match fault {
+        SegFault::Memory => Status::Memory,
+        _ => Status::Refused,
+    }
+}
+
+fn join_status(fault: JoinFault) -> Status
+    ensures { result ≡ status_of_join fault }
+{
+    match fault {
+        JoinFault::Memory => Status::Memory,
+        _ => Status::Refused,
+    }
+}
+
+impl CheckFault {
+    /// 5 where memory was refused, and 3 for all else.
+    pub fn status(self) -> Status
+        ensures { result ≡ status_of_fault self }
+    {
+        match self {
+            CheckFault::NoHeader(fault) => open_status(fault),
+            CheckFault::Header(fault) => header_status(fault),
+            CheckFault::NoSegment(_, fault) => open_status(fault),
+            CheckFault::Segment(_, fault) => segment_status(fault),
+            CheckFault::Join(fault) => join_status(fault),
+        }
+    }
+}
