@@ -1,8 +1,6 @@
 //! Plans that stand side by side on a shelf, which catalogues share.
-ghost use Rattle.std.specs.Prelude.{◌≡◌, ◌<◌, ◌++◌, ◌∷◌, [], ℕ, length, IfOk};
+ghost use Rattle.std.specs.Prelude.{◌≡◌, ◌<◌, ◌++◌, ◌∷◌, [], length, IfOk};
 ghost use Rattle.std.specs.Option.{option_copied};
-ghost use Rattle.std.specs.Ordering.{is_lt, is_eq};
-ghost use Rattle.desk_model.specs.Desk.{name_cmp};
 ghost use Rattle.desk_model.specs.Step.{plan_row, revision_limit};
 ghost use Rattle.desk_store.specs.Kept.{revision_at};
 ghost use Rattle.desk_store.specs.Places.{last_name};
