@@ -23,7 +23,6 @@ use Rattle.plandesk.specs.declared.fault.CheckFault.{CheckFault}
 use Rattle.plandesk.specs.declared.fault.CheckFault.TheVariants.{NoHeader, Header, NoSegment, Segment, Join, Plan}
 use Rattle.plandesk.specs.declared.fault.PlanFault.{PlanFault}
 use Rattle.plandesk.specs.declared.fault.PlanFault.TheVariants as plan
-use Rattle.plandesk.specs.declared.census.CensusFiles.{CensusFiles}
 use Rattle.plandesk.specs.declared.status.Status.{Status}
 use Rattle.plandesk.specs.declared.status.Status.TheVariants.{Done, Broken, Usage, Refused, Memory, Stream}
 
