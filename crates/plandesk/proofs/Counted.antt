@@ -1,5 +1,5 @@
 -- A sum over the blocks of each county, block by block.
-use Rattle.std.proofs.Common.{◌≡◌, ℕ, ◌+◌, ◌%◌, ◌<◌, ◌≤◌, ◌≢◌, List, [], ◌∷◌, ◌++◌, length, get_or, set, take, replicate, map, filter, cond, eqb, true, false, sum_by, arith, sym, ◌∙◌, ap, refl, ⊎_elim, add-zero, eq-eqb, ne_eqb}
+use Rattle.std.proofs.Common.{◌≡◌, ℕ, ◌+◌, ◌<◌, ◌≤◌, ◌≢◌, List, [], ◌∷◌, ◌++◌, length, get_or, set, take, replicate, map, cond, eqb, true, false, sum_by, arith, sym, ◌∙◌, ap, refl, ⊎_elim, add-zero, eq-eqb, ne_eqb}
 use Rattle.std.specs.List.{range_with_len}
 use Rattle.std.proofs.lemmas.List.{get_or_default, get_or-replicate, length-set, get_or-set_same, get_or-set_other, take_all, same_lists}
 use Rattle.std.proofs.lemmas.List.Sums.{sum_by_more, sum_by_more_le_part, sum_by-cons}

@@ -20,8 +20,9 @@ use Rattle.plandesk.specs.Counts.{counts_text}
 use Rattle.plandesk.specs.declared.fault.OpenFault.{OpenFault}
 use Rattle.plandesk.specs.declared.fault.OpenFault.TheVariants as opening
 use Rattle.plandesk.specs.declared.fault.CheckFault.{CheckFault}
-use Rattle.plandesk.specs.declared.fault.CheckFault.TheVariants.{NoHeader, Header, NoSegment, Segment, Join}
-use Rattle.plandesk.specs.declared.census.CensusFiles.{CensusFiles}
+use Rattle.plandesk.specs.declared.fault.CheckFault.TheVariants.{NoHeader, Header, NoSegment, Segment, Join, Plan}
+use Rattle.plandesk.specs.declared.fault.PlanFault.{PlanFault}
+use Rattle.plandesk.specs.declared.fault.PlanFault.TheVariants as plan
 use Rattle.plandesk.specs.declared.status.Status.{Status}
 use Rattle.plandesk.specs.declared.status.Status.TheVariants.{Done, Broken, Usage, Refused, Memory, Stream}
 
@@ -108,12 +109,19 @@ status_of_join join.TooManyPeople = Refused
 status_of_join (join.OtherTotal state total) = Refused
 status_of_join join.Memory = Memory
 
+abbrev pub status_of_plan : PlanFault → Status
+status_of_plan plan.Unreadable = Refused
+status_of_plan plan.TooLarge = Refused
+status_of_plan (plan.Body fault line) = Refused
+status_of_plan plan.Memory = Memory
+
 abbrev pub status_of_fault : CheckFault → Status
 status_of_fault (NoHeader fault) = status_of_open fault
 status_of_fault (Header fault) = status_of_geo fault
 status_of_fault (NoSegment part fault) = status_of_open fault
 status_of_fault (Segment part fault) = status_of_segment fault
 status_of_fault (Join fault) = status_of_join fault
+status_of_fault (Plan file fault) = status_of_plan fault
 
 -- the whole text is written: 0; or a front of it: 6
 abbrev pub Prints : Status → (before after : Option (List ℕ)) → List ℕ → Type 0

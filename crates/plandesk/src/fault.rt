@@ -1,8 +1,9 @@
 //! Why a command does nothing with its files.
 ghost use Rattle.std.specs.Prelude.{◌≡◌};
-ghost use Rattle.plandesk.specs.Checking.{status_of_open, status_of_geo, status_of_segment, status_of_join, status_of_fault};
+ghost use Rattle.plandesk.specs.Checking.{status_of_open, status_of_geo, status_of_segment, status_of_join, status_of_plan, status_of_fault};
 
 use crate::status::Status;
+use desk_model::reply::BodyFault;
 use pl94_geo::geo::GeoFault;
 use pl94_segment::join::JoinFault;
 use pl94_segment::record::Part;
@@ -13,6 +14,25 @@ use std::fmt;
 #[derive(Clone, Copy, Debug, PartialEq, Eq)]
 pub enum OpenFault {
     Unreadable,
+    Memory,
+}
+
+/// A plan's file.
+#[derive(Clone, Copy, Debug, PartialEq, Eq)]
+pub enum PlanFile {
+    Plan,
+    /// The senate plan beside a house plan.
+    Senate,
+}
+
+/// Why a plan's file isn't read.
+#[derive(Clone, Copy, Debug, PartialEq, Eq)]
+pub enum PlanFault {
+    Unreadable,
+    /// More than 33,554,432 bytes.
+    TooLarge,
+    /// B1 to B5: the first line with a fault, counted from 1.
+    Body(BodyFault, u64),
     Memory,
 }
 
@@ -27,6 +47,7 @@ pub enum CheckFault {
     Segment(Part, SegFault),
     /// The files don't go together, or memory for the blocks or for what is printed was refused.
     Join(JoinFault),
+    Plan(PlanFile, PlanFault),
 }
 
 impl fmt::Display for OpenFault {
@@ -34,6 +55,38 @@ impl fmt::Display for OpenFault {
         match *self {
             OpenFault::Unreadable => f.write_str("Unreadable"),
             OpenFault::Memory => f.write_str("Memory"),
+        }
+    }
+}
+
+impl PlanFile {
+    /// What it is called in a fault.
+    fn name(self) -> &'static str {
+        match self {
+            PlanFile::Plan => "plan",
+            PlanFile::Senate => "senate",
+        }
+    }
+}
+
+fn body_code(fault: BodyFault) -> &'static str {
+    match fault {
+        BodyFault::Header => "B1",
+        BodyFault::Shape => "B2",
+        BodyFault::UnknownBlock => "B3",
+        BodyFault::RepeatedBlock => "B4",
+        BodyFault::OutOfRange => "B5",
+    }
+}
+
+impl fmt::Display for PlanFault {
+    /// The code and the line, as `B4 line 3`.
+    fn fmt<W: fmt::Write>(&self, f: &mut fmt::Formatter<W>) -> fmt::Result {
+        match *self {
+            PlanFault::Unreadable => f.write_str("Unreadable"),
+            PlanFault::TooLarge => f.write_str("TooLarge"),
+            PlanFault::Body(fault, line) => write!(f, "{} line {}", body_code(fault), line),
+            PlanFault::Memory => f.write_str("Memory"),
         }
     }
 }
@@ -47,6 +100,7 @@ impl fmt::Display for CheckFault {
             CheckFault::NoSegment(part, fault) => write!(f, "seg{}: {}", part.number(), fault),
             CheckFault::Segment(part, fault) => write!(f, "seg{}: {}", part.number(), fault),
             CheckFault::Join(fault) => write!(f, "join: {}", fault),
+            CheckFault::Plan(file, fault) => write!(f, "{}: {}", file.name(), fault),
         }
     }
 }
@@ -87,6 +141,15 @@ fn join_status(fault: JoinFault) -> Status
     }
 }
 
+fn plan_status(fault: PlanFault) -> Status
+    ensures { result ≡ status_of_plan fault }
+{
+    match fault {
+        PlanFault::Memory => Status::Memory,
+        _ => Status::Refused,
+    }
+}
+
 impl CheckFault {
     /// 5 where memory was refused, and 3 for all else.
     pub fn status(self) -> Status
@@ -98,6 +161,7 @@ impl CheckFault {
             CheckFault::NoSegment(_, fault) => open_status(fault),
             CheckFault::Segment(_, fault) => segment_status(fault),
             CheckFault::Join(fault) => join_status(fault),
+            CheckFault::Plan(_, fault) => plan_status(fault),
         }
     }
 }

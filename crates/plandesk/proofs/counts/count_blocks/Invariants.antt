@@ -1,4 +1,3 @@
-use Rattle.std.proofs.Common.{ℕ}
 use Rattle.plandesk.proofs.Counted.{AreCounted, one}
 use Rattle.plandesk.proofs.counts.count_blocks.Given as goal
 

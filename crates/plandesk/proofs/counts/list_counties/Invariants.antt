@@ -1,4 +1,4 @@
-use Rattle.std.proofs.Common.{◌≡◌, List, map, filter}
+use Rattle.std.proofs.Common.{◌≡◌, List, map}
 use Rattle.std.specs.List.{range_with_len}
 use Rattle.desk_model.specs.declared.block.BlockRow.{BlockRow}
 use Rattle.plandesk.specs.Counts.{county_codes, county_blocks, county_people, counties_to}
