@@ -6,23 +6,19 @@ use Rattle.desk_model.specs.declared.block.BlockRow.{BlockRow}
 use Rattle.pl94_geo.specs.GeoFile.{IsRead as IsHeaderRead}
 use Rattle.pl94_geo.specs.declared.geo.GeoRows.{GeoRows}
 use Rattle.pl94_geo.specs.declared.geo.GeoFault.{GeoFault}
-use Rattle.pl94_geo.specs.declared.geo.GeoFault.TheVariants as geo
 use Rattle.pl94_segment.specs.Join.{IsJoined}
 use Rattle.pl94_segment.specs.SegFile.{IsRead as IsSegmentRead}
 use Rattle.pl94_segment.specs.declared.record.Part.{Part}
 use Rattle.pl94_segment.specs.declared.record.Part.TheVariants.{One, Two, Three}
 use Rattle.pl94_segment.specs.declared.segment.SegRows.{SegRows}
 use Rattle.pl94_segment.specs.declared.segment.SegFault.{SegFault}
-use Rattle.pl94_segment.specs.declared.segment.SegFault.TheVariants as segment
 use Rattle.pl94_segment.specs.declared.join.JoinFault.{JoinFault}
 use Rattle.pl94_segment.specs.declared.join.JoinFault.TheVariants as join
 use Rattle.plandesk.specs.Counts.{counts_text}
+use Rattle.plandesk.specs.Telling.{Tells}
 use Rattle.plandesk.specs.declared.fault.OpenFault.{OpenFault}
-use Rattle.plandesk.specs.declared.fault.OpenFault.TheVariants as opening
 use Rattle.plandesk.specs.declared.fault.CheckFault.{CheckFault}
-use Rattle.plandesk.specs.declared.fault.CheckFault.TheVariants.{NoHeader, Header, NoSegment, Segment, Join, Plan}
-use Rattle.plandesk.specs.declared.fault.PlanFault.{PlanFault}
-use Rattle.plandesk.specs.declared.fault.PlanFault.TheVariants as plan
+use Rattle.plandesk.specs.declared.fault.CheckFault.TheVariants.{NoHeader, Header, NoSegment, Segment, Join}
 use Rattle.plandesk.specs.declared.status.Status.{Status}
 use Rattle.plandesk.specs.declared.status.Status.TheVariants.{Done, Broken, Usage, Refused, Memory, Stream}
 
@@ -85,44 +81,6 @@ PrintsCounts rows (Err fault) = fault ≡ Join join.Memory
 abbrev pub CountsState : (header first second third : Opening) → Result (Vec ℕ Global) CheckFault → Type 0
 CountsState header first second third = Then (ReadsState header first second third) PrintsCounts
 
--- 5 where memory was refused, and 3 for all else
-abbrev pub status_of_open : OpenFault → Status
-status_of_open opening.Unreadable = Refused
-status_of_open opening.Memory = Memory
-
-abbrev pub status_of_geo : GeoFault → Status
-status_of_geo (geo.Line fault line) = Refused
-status_of_geo (geo.Read line) = Refused
-status_of_geo (geo.NoBlock line) = Refused
-status_of_geo (geo.TurnLimit line) = Refused
-status_of_geo geo.Memory = Memory
-
-abbrev pub status_of_segment : SegFault → Status
-status_of_segment (segment.Line fault line) = Refused
-status_of_segment (segment.Read line) = Refused
-status_of_segment (segment.TurnLimit line) = Refused
-status_of_segment segment.Memory = Memory
-
-abbrev pub status_of_join : JoinFault → Status
-status_of_join (join.Missing number part) = Refused
-status_of_join join.TooManyPeople = Refused
-status_of_join (join.OtherTotal state total) = Refused
-status_of_join join.Memory = Memory
-
-abbrev pub status_of_plan : PlanFault → Status
-status_of_plan plan.Unreadable = Refused
-status_of_plan plan.TooLarge = Refused
-status_of_plan (plan.Body fault line) = Refused
-status_of_plan plan.Memory = Memory
-
-abbrev pub status_of_fault : CheckFault → Status
-status_of_fault (NoHeader fault) = status_of_open fault
-status_of_fault (Header fault) = status_of_geo fault
-status_of_fault (NoSegment part fault) = status_of_open fault
-status_of_fault (Segment part fault) = status_of_segment fault
-status_of_fault (Join fault) = status_of_join fault
-status_of_fault (Plan file fault) = status_of_plan fault
-
 -- the whole text is written: 0; or a front of it: 6
 abbrev pub Prints : Status → (before after : Option (List ℕ)) → List ℕ → Type 0
 Prints Done before after text = Appends before after text
@@ -132,12 +90,12 @@ Prints Usage before after text = ⊥
 Prints Refused before after text = ⊥
 Prints Memory before after text = ⊥
 
--- the text is printed; at a fault nothing is
-abbrev pub Ends : Result (Vec ℕ Global) CheckFault → Status → (before after : Option (List ℕ)) → Type 0
-Ends (Ok text) status before after = Prints status before after text.items
-Ends (Err fault) status before after = Keeps before after × (status ≡ status_of_fault fault)
+-- the text is printed; or nothing is, and the fault is told
+abbrev pub Ends : Result (Vec ℕ Global) CheckFault → Status → (before after told_before told_after : Option (List ℕ)) → Type 0
+Ends (Ok text) status before after told_before told_after = Prints status before after text.items
+Ends (Err fault) status before after told_before told_after = Keeps before after × Tells fault status told_before told_after
 
 -- the counts of the files
-abbrev pub Counts : (header first second third : Opening) → Status → (before after : Option (List ℕ)) → Type 0
-Counts header first second third status before after =
-    (outcome : Result (Vec ℕ Global) CheckFault) × CountsState header first second third outcome × Ends outcome status before after
+abbrev pub Counts : (header first second third : Opening) → Status → (before after told_before told_after : Option (List ℕ)) → Type 0
+Counts header first second third status before after told_before told_after =
+    (outcome : Result (Vec ℕ Global) CheckFault) × CountsState header first second third outcome × Ends outcome status before after told_before told_after

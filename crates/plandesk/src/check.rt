@@ -6,11 +6,11 @@ use crate::census::{CensusFiles, read_state};
 use crate::counts::print_counts;
 use crate::fault::CheckFault;
 use crate::status::Status;
+use crate::telling::tell;
 use field_text::source::Source;
 use http_wire::sink::Sink;
 use pl94_segment::join::JoinFault;
 use std::alloc::Global;
-use std::io::Write;
 
 /// What is printed of a state's files.
 fn counts_of<R: Source + Drop>(alloc: Global, files: CensusFiles<R>) -> Result<Vec<u8>, CheckFault>
@@ -24,38 +24,36 @@ fn counts_of<R: Source + Drop>(alloc: Global, files: CensusFiles<R>) -> Result<V
 }
 
 /// Writes what was made of the files, or tells their fault.
-fn end<W: Sink, E: Write>(
+fn end<W: Sink, E: Sink>(
+    alloc: Global,
     outcome: Result<Vec<u8>, CheckFault>,
     writer: &mut W,
     errors: &mut E,
 ) -> Status
-    ensures { Ends outcome result (W.contents writer.old) (W.contents writer.new) }
+    ensures { Ends outcome result (W.contents writer.old) (W.contents writer.new) (E.contents errors.old) (E.contents errors.new) }
 {
     match outcome {
         Ok(text) => match writer.send(text.as_slice()) {
             Ok(()) => Status::Done,
             Err(_) => {
-                let _ = errors.write_all(b"plandesk: check: WriteFault\n");
+                let _ = errors.send(b"plandesk: check: WriteFault\n");
                 Status::Stream
             }
         },
-        Err(fault) => {
-            let _ = writeln!(errors, "plandesk: {}", fault);
-            fault.status()
-        }
+        Err(fault) => tell(alloc, fault, errors),
     }
 }
 
 /// Prints the numbers of blocks, counties and people of a state, and the people of each county: 0. 3 where a file is
 /// refused and 5 where memory is, with the file and its fault told and nothing printed; 6 where the writing fails.
-pub fn check<R: Source + Drop, W: Sink, E: Write>(
+pub fn check<R: Source + Drop, W: Sink, E: Sink>(
     alloc: Global,
     files: CensusFiles<R>,
     writer: &mut W,
     errors: &mut E,
 ) -> Status
-    ensures { Counts (opening_of R.remaining files.geo) (opening_of R.remaining files.seg1) (opening_of R.remaining files.seg2) (opening_of R.remaining files.seg3) result (W.contents writer.old) (W.contents writer.new) }
+    ensures { Counts (opening_of R.remaining files.geo) (opening_of R.remaining files.seg1) (opening_of R.remaining files.seg2) (opening_of R.remaining files.seg3) result (W.contents writer.old) (W.contents writer.new) (E.contents errors.old) (E.contents errors.new) }
 {
     let outcome = counts_of(alloc, files);
-    end(outcome, writer, errors)
+    end(alloc, outcome, writer, errors)
 }

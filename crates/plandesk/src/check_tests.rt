@@ -187,10 +187,10 @@ fn run(alloc: Global, given: Given<'_>) -> Ended {
         bytes: Vec::new(alloc),
         room: given.room,
     });
-    let mut errors = Page {
+    let mut errors = WriteSink::new(Page {
         bytes: Vec::new(alloc),
         room: ROOM,
-    };
+    });
     let status = check(alloc, files, &mut writer, &mut errors);
     let Page {
         bytes: output,
@@ -199,7 +199,7 @@ fn run(alloc: Global, given: Given<'_>) -> Ended {
     let Page {
         bytes: errors,
         room: _,
-    } = errors;
+    } = errors.into_inner();
     Ended {
         status,
         output,

@@ -1,6 +1,6 @@
 //! Why a command does nothing with its files.
 ghost use Rattle.std.specs.Prelude.{◌≡◌};
-ghost use Rattle.plandesk.specs.Checking.{status_of_open, status_of_geo, status_of_segment, status_of_join, status_of_plan, status_of_fault};
+ghost use Rattle.plandesk.specs.Faults.{status_of_open, status_of_geo, status_of_segment, status_of_join, status_of_plan, status_of_fault};
 
 use crate::status::Status;
 use desk_model::reply::BodyFault;
@@ -8,7 +8,6 @@ use pl94_geo::geo::GeoFault;
 use pl94_segment::join::JoinFault;
 use pl94_segment::record::Part;
 use pl94_segment::segment::SegFault;
-use std::fmt;
 
 /// Why a file isn't opened.
 #[derive(Clone, Copy, Debug, PartialEq, Eq)]
@@ -48,61 +47,6 @@ pub enum CheckFault {
     /// The files don't go together, or memory for the blocks or for what is printed was refused.
     Join(JoinFault),
     Plan(PlanFile, PlanFault),
-}
-
-impl fmt::Display for OpenFault {
-    fn fmt<W: fmt::Write>(&self, f: &mut fmt::Formatter<W>) -> fmt::Result {
-        match *self {
-            OpenFault::Unreadable => f.write_str("Unreadable"),
-            OpenFault::Memory => f.write_str("Memory"),
-        }
-    }
-}
-
-impl PlanFile {
-    /// What it is called in a fault.
-    fn name(self) -> &'static str {
-        match self {
-            PlanFile::Plan => "plan",
-            PlanFile::Senate => "senate",
-        }
-    }
-}
-
-fn body_code(fault: BodyFault) -> &'static str {
-    match fault {
-        BodyFault::Header => "B1",
-        BodyFault::Shape => "B2",
-        BodyFault::UnknownBlock => "B3",
-        BodyFault::RepeatedBlock => "B4",
-        BodyFault::OutOfRange => "B5",
-    }
-}
-
-impl fmt::Display for PlanFault {
-    /// The code and the line, as `B4 line 3`.
-    fn fmt<W: fmt::Write>(&self, f: &mut fmt::Formatter<W>) -> fmt::Result {
-        match *self {
-            PlanFault::Unreadable => f.write_str("Unreadable"),
-            PlanFault::TooLarge => f.write_str("TooLarge"),
-            PlanFault::Body(fault, line) => write!(f, "{} line {}", body_code(fault), line),
-            PlanFault::Memory => f.write_str("Memory"),
-        }
-    }
-}
-
-impl fmt::Display for CheckFault {
-    /// The file and its fault, as `geo: G1 line 2`.
-    fn fmt<W: fmt::Write>(&self, f: &mut fmt::Formatter<W>) -> fmt::Result {
-        match *self {
-            CheckFault::NoHeader(fault) => write!(f, "geo: {}", fault),
-            CheckFault::Header(fault) => write!(f, "geo: {}", fault),
-            CheckFault::NoSegment(part, fault) => write!(f, "seg{}: {}", part.number(), fault),
-            CheckFault::Segment(part, fault) => write!(f, "seg{}: {}", part.number(), fault),
-            CheckFault::Join(fault) => write!(f, "join: {}", fault),
-            CheckFault::Plan(file, fault) => write!(f, "{}: {}", file.name(), fault),
-        }
-    }
 }
 
 fn open_status(fault: OpenFault) -> Status

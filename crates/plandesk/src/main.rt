@@ -11,6 +11,7 @@ pub mod fault;
 mod revision_tests;
 pub mod status;
 pub mod talk;
+pub mod telling;
 #[cfg(test)]
 mod tests;
 pub mod words;
@@ -88,9 +89,10 @@ fn serve_talk(rt: &HostRuntime) -> Status {
 fn check_counts(rt: &HostRuntime, paths: CensusPaths<'_>) -> Status {
     let files = open_census(rt, paths);
     let mut writer = WriteSink::new(rt.stdout());
-    let mut errors = rt.stderr();
+    let mut errors = WriteSink::new(rt.stderr());
     let status = check::check(rt.alloc(), files, &mut writer, &mut errors);
     let _ = writer.into_inner();
+    let _ = errors.into_inner();
     status
 }
 
