@@ -37,9 +37,9 @@ are_blocks blocks count made some few = record {
 range_with_len_more : (a n : ℕ) → range_with_len a (n + 1) ≡ range_with_len a n ++ (a + n) ∷ []
 range_with_len_more a n = same_lists _ _ (omega (arith, length-range_with_len a (n + 1), length-range_with_len a n, length-append (range_with_len a n) ((a + n) ∷ [])))
     (λ k d inside. ⊎_elim
-        (λ (less : k < n). get_or-range_with_len a (n + 1) k d (omega arith) ∙ sym (get_or_append_left (range_with_len a n) ((a + n) ∷ []) d k (omega (arith, length-range_with_len a n)) ∙ get_or-range_with_len a n k d less))
-        (λ (more : n ≤ k). let e : k ≡ n = omega (arith, length-range_with_len a (n + 1)) in rw e (get_or-range_with_len a (n + 1) n d (omega arith) ∙ sym (get_or_push (range_with_len a n) (a + n) d n (length-range_with_len a n))))
-        (cases_lt k n))
+    (λ (less : k < n). get_or-range_with_len a (n + 1) k d (omega arith) ∙ sym (get_or_append_left (range_with_len a n) ((a + n) ∷ []) d k (omega (arith, length-range_with_len a n)) ∙ get_or-range_with_len a n k d less))
+    (λ (more : n ≤ k). let e : k ≡ n = omega (arith, length-range_with_len a (n + 1)) in rw e (get_or-range_with_len a (n + 1) n d (omega arith) ∙ sym (get_or_push (range_with_len a n) (a + n) d n (length-range_with_len a n))))
+    (cases_lt k n))
 
 pub made_more : (blocks : List BlockRow) (count : ℕ) (b : BlockRow) → AreMade blocks count → b.id ≡ 190010000000000 + count → b.population ≡ 0 → AreMade (blocks ++ b ∷ []) (count + 1)
 made_more blocks count b made id nobody = record {

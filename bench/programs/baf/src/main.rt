@@ -1,5 +1,6 @@
 //! Times reading and printing over a made geography of 175,000 blocks.
 #![tactic(auto)]
+
 ghost use Rattle.std.specs.Prelude.{◌≡◌, length};
 
 mod made;
@@ -24,24 +25,36 @@ fn run(rt: &HostRuntime, g: &Geography, assignment: &[u16]) -> io::Result<()>
         let t = Instant::now(rt)?;
         let text = write(rt.alloc(), assignment, g, Kind::House)?;
         let d = t.elapsed(rt)?.as_nanos();
-        if d < write_best { write_best = d; }
+        if d < write_best {
+            write_best = d;
+        }
         size = text.len();
         let t = Instant::now(rt)?;
         match read(rt.alloc(), text.as_slice(), g, 50) {
             Ok(listed) => {
                 let d = t.elapsed(rt)?.as_nanos();
-                if d < read_best { read_best = d; }
+                if d < read_best {
+                    read_best = d;
+                }
                 let t = Instant::now(rt)?;
                 let w = whole(rt.alloc(), &listed)?;
                 let d = t.elapsed(rt)?.as_nanos();
-                if d < whole_best { whole_best = d; }
+                if d < whole_best {
+                    whole_best = d;
+                }
                 let same = w.as_slice() == assignment;
-                if !same { println!(rt; "different")?; }
+                if !same {
+                    println!(rt; "different")?;
+                }
             }
-            Err(e) => { println!(rt; "{e:?}")?; }
+            Err(e) => {
+                println!(rt; "{e:?}")?;
+            }
         }
     }
-    println!(rt; "{size} bytes: write {write_best} ns, read {read_best} ns, whole {whole_best} ns")?;
+    println!(rt;
+        "{size} bytes: write {write_best} ns, read {read_best} ns, whole {whole_best} ns"
+    )?;
     Ok(())
 }
 
