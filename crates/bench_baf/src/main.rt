@@ -1,4 +1,4 @@
-//! Times reading and printing over a made geography of 175,000 blocks.
+//! Times reading and printing over a made geography of 175,000 blocks, for `bench/baf`. With no word it does nothing.
 #![tactic(auto)]
 
 ghost use Rattle.std.specs.Prelude.{◌≡◌, length};
@@ -11,8 +11,8 @@ use baf_text::writing::write;
 use desk_model::block::BlockId;
 use desk_model::geography::Geography;
 use desk_model::kind::Kind;
-use std::io;
 use std::time::Instant;
+use std::{env, io};
 
 fn run(rt: &HostRuntime, g: &Geography, assignment: &[u16]) -> io::Result<()>
     requires { length assignment.now ≡ length g.now.blocks }
@@ -59,6 +59,11 @@ fn run(rt: &HostRuntime, g: &Geography, assignment: &[u16]) -> io::Result<()>
 }
 
 fn main(rt: HostRuntime) -> io::Result<()> {
+    let mut words = env::args(&rt)?;
+    let _ = words.next();
+    if words.next().is_none() {
+        return Ok(());
+    }
     let blocks = made::made_blocks(rt.alloc(), 175_000)?;
     let mut assignment = Vec::with_capacity(rt.alloc(), 175_000)?;
     for i in 0..175_000u64 {
