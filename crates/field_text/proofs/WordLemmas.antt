@@ -1,9 +1,8 @@
 -- Words at the front of a text.
-use Rattle.std.proofs.Common.{◌≡◌, ℕ, zero, suc, ◌+◌, ◌-◌, ◌<◌, ◌≤◌, true, false, List, [], ◌∷◌, ◌++◌, length, take, drop, get_or, sym, ap, ◌∙◌, arith, length-take, length-drop, append_assoc, add-one, drop-cons, refl, inl, inr}
+use Rattle.std.proofs.Common.{◌≡◌, ℕ, zero, suc, ◌+◌, ◌-◌, ◌<◌, ◌≤◌, true, false, List, [], ◌∷◌, ◌++◌, length, take, drop, get_or, sym, ap, ◌∙◌, arith, length-take, length-drop, add-one, drop-cons, inl, inr}
 use Rattle.std.specs.List.{slice_range}
 use Rattle.std.proofs.lemmas.Bool.{false≢true, cases_lt}
 use Rattle.std.proofs.lemmas.List.{take_all, drop_all, drop-drop, take-take, take-append-drop, get_or-drop}
-use Rattle.std.proofs.lemmas.List.Elements.{All-append}
 use Rattle.std.proofs.lemmas.Slice.{between_is}
 use Rattle.field_text.specs.Words.{is_separator, words, AreSeparators, NoSeparator, IsWord, word_limit, CutsWord, CutsPart, CutsLong}
 use Rattle.field_text.specs.WordLaws.{words-none, words-separator, words-past, words-word, words-last}
@@ -104,7 +103,7 @@ words_front front m is ends =
     elim (cases_lt m (length front)) [
       | inl inside ↦
           let rest : words (drop m front) ≡ words (drop (m + 1) front) =
-              ap words (drop_here front m inside) ∙ words-separator (get_or front m 0) (drop (m + 1) front) (ends inside) in
+          ap words (drop_here front m inside) ∙ words-separator (get_or front m 0) (drop (m + 1) front) (ends inside) in
           ap words (cut_at front m inside) ∙ words-word (take m front) (get_or front m 0) (drop (m + 1) front) is (ends inside)
           ∙ ap (λ (ws : List (List ℕ)). take m front ∷ ws) (sym rest)
       | inr past ↦

@@ -1,10 +1,10 @@
 -- Steps of a reader of words, one after the other.
-use Rattle.std.proofs.Common.{◌≡◌, ℕ, ◌+◌, ◌<◌, ◌≤◌, List, [], ◌∷◌, ◌++◌, length, Option, Ok, true, false, refl, sym, ap, ◌∙◌, arith, append_assoc, length-append}
+use Rattle.std.proofs.Common.{◌≡◌, ℕ, List, [], ◌∷◌, ◌++◌, Option, Ok, true, sym, ap, ◌∙◌, arith, append_assoc, length-append}
 use Rattle.std.specs.Io.KnownBytes.{Consumes, IsAtEnd}
 use Rattle.std.proofs.lemmas.List.{append-nil}
 use Rattle.std.proofs.lemmas.List.Elements.{All-append}
 use Rattle.field_text.specs.Reading.{Reading}
-use Rattle.field_text.specs.Words.{is_separator, words, AreSeparators, NoSeparator, IsWord, word_limit, BeginsWithWord, IsOneWord, BeginsWithLongWord, IsBrokenWord, GivesWord, CutsWord, CutsPart, CutsLong, TakesLastWord}
+use Rattle.field_text.specs.Words.{is_separator, words, AreSeparators, IsWord, BeginsWithWord, BeginsWithLongWord, IsBrokenWord, GivesWord, CutsWord, CutsPart, CutsLong, TakesLastWord}
 use Rattle.field_text.specs.WordLaws.{words-none, words-past, words-word, words-last, words-goes_on}
 use Rattle.field_text.specs.declared.reader.WordStep.{WordStep}
 use Rattle.field_text.specs.declared.reader.WordStep.TheVariants.{Word, LastWord, End}
@@ -85,11 +85,11 @@ long_given before after old held reads cuts = (
         cuts.part ++ on.0,
         on.1,
         words_on before after old held next reads
-        ∙ ap (λ (t : List ℕ). words (t ++ next)) cuts.cut
-        ∙ ap words (append_assoc cuts.blanks (cuts.part ++ cuts.rest) next)
-        ∙ words-past cuts.blanks ((cuts.part ++ cuts.rest) ++ next) cuts.blank
-        ∙ ap words (append_assoc cuts.part cuts.rest next)
-        ∙ on.2,
+            ∙ ap (λ (t : List ℕ). words (t ++ next)) cuts.cut
+            ∙ ap words (append_assoc cuts.blanks (cuts.part ++ cuts.rest) next)
+            ∙ words-past cuts.blanks ((cuts.part ++ cuts.rest) ++ next) cuts.blank
+            ∙ ap words (append_assoc cuts.part cuts.rest next)
+            ∙ on.2,
         omega (arith, cuts.long, length-append cuts.part on.0),
       ),
 )

@@ -59,9 +59,7 @@ impl<'t> Words<'t> {
     pub fn new(text: &'t [u8]) -> Words<'t>
         ensures { result ≡ words text.now }
     {
-        Words {
-            rest: text,
-        }
+        Words { rest: text }
     }
 
     /// The next word. `None` at the end.

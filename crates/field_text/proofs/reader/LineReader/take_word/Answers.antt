@@ -1,4 +1,4 @@
-use Rattle.std.proofs.Common.{◌≡◌, List, ℕ, length, drop, take, ◌-◌, sym, ap, arith, length-take, length-drop}
+use Rattle.std.proofs.Common.{List, ℕ, length, drop, ◌-◌, sym, ap, arith, length-take, length-drop}
 use Rattle.std.specs.List.{slice_range}
 use Rattle.std.proofs.lemmas.Slice.{between_to_end}
 use Rattle.field_text.specs.Reading.{Reading}
