@@ -1,6 +1,5 @@
 -- What is kept of revisions.
-use Rattle.std.specs.Prelude.{◌≡◌, ℕ, ◌-◌, ◌==◌, if◌then◌else◌, List, map, length, All, Option, Some, None, Result, Err}
-use Rattle.std.specs.List.{slice_get}
+use Rattle.std.specs.Prelude.{◌≡◌, ℕ, List, map, length, All, Option, Some, Result, Err}
 use Rattle.std.specs.FinMap as map_of
 use Rattle.std.specs.declared.sync.Arc.{Arc}
 use Rattle.std.specs.declared.vec.Vec.{Vec}
