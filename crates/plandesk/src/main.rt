@@ -1,6 +1,8 @@
 //! The plan desk's program: each command is a function over its readers and writers that answers the exit status.
 #![tactic(auto)]
 
+#[cfg(test)]
+mod audit_tests;
 pub mod census;
 pub mod check;
 #[cfg(test)]
