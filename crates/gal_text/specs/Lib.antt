@@ -1,0 +1,4 @@
+pub mod GalFile
+pub mod Links
+pub mod Units
+pub mod Words

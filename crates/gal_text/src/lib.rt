@@ -1,0 +1,6 @@
+//! Neighbour files (GAL): which blocks share an edge.
+#![tactic(auto)]
+
+pub mod fault;
+pub mod gal;
+pub mod units;
