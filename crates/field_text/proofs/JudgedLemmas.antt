@@ -1,13 +1,13 @@
 -- Lines that are judged one after the other.
-use Rattle.std.proofs.Common.{◌≡◌, ℕ, zero, suc, ◌+◌, ◌-◌, ◌<◌, ◌≤◌, ◌⊎◌, List, [], ◌∷◌, ◌++◌, Bool, true, false, eqb, Option, None, Some, length, take, drop, get_or, map, refl, sym, ap, subst, ◌∙◌, arith, append_assoc, inl, inr, All, length-append, ⊎_elim}
+use Rattle.std.proofs.Common.{◌≡◌, ℕ, zero, suc, ◌+◌, ◌<◌, ◌⊎◌, List, [], ◌∷◌, ◌++◌, Bool, true, false, eqb, Option, None, Some, length, map, refl, sym, ap, ◌∙◌, arith, append_assoc, inl, inr, length-append, ⊎_elim}
 use Rattle.std.proofs.lemmas.List.{append-nil, map-append}
 use Rattle.std.proofs.lemmas.Bool.{eqb-true}
 use Rattle.std.proofs.lemmas.List.Elements.{All-append}
 use Rattle.std.specs.Io.KnownBytes.{IsAtEnd}
 use Rattle.std.specs.Str.Lines.{lines, strip_carriage_return}
-use Rattle.field_text.specs.Reading.{NoLineFeed, IsLong, IsShort, IsBroken, IsTooLong, IsLastLine, BeginsWithLine, line_limit}
+use Rattle.field_text.specs.Reading.{NoLineFeed, IsLong, IsBroken, IsTooLong, IsLastLine, BeginsWithLine, line_limit}
 use Rattle.field_text.specs.Judged.{Judge, AreGood, IsFirstFault, ShowsFault, with_ends, AreCut, BeginsWithLines, IsCutShort}
-use Rattle.field_text.proofs.TextLemmas.{lines-cut, lines-last, lines-none}
+use Rattle.field_text.proofs.TextLemmas.{lines-cut, lines-last}
 use Rattle.field_text.proofs.BufferLemmas.{strip_by_one, strip_shorter}
 
 -- ---- whole lines at the front of a text
