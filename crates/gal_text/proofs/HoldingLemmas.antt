@@ -110,10 +110,6 @@ unit_said : (p : Progress) (id number : ℕ) → has_number p.units id ≡ false
 unit_said p id number fresh =
     ap (λ (b : Bool). cond b (Err (RepeatedUnit id)) (Ok (record { left = p.left - 1; next = awaited.Count id; units = p.units ++ id ∷ []; links = p.links }))) fresh
 
-pub unit_repeated : (p : Progress) (id number : ℕ) → has_number p.units id ≡ true → unit_read p number (Some id) ≡ Err (RepeatedUnit id)
-unit_repeated p id number stood =
-    ap (λ (b : Bool). cond b (Err (RepeatedUnit id)) (Ok (record { left = p.left - 1; next = awaited.Count id; units = p.units ++ id ∷ []; links = p.links }))) stood
-
 -- what a mark says of a block
 pub mark_says : (blocks : List BlockRow) (g : Graph) (p : Progress) (place id : ℕ) (b : Bool) → Holds blocks g p → place < vec_len g.seen → id_at blocks place ≡ id
     → b ≡ get_or g.seen.items place b → has_number p.units id ≡ b
@@ -165,72 +161,6 @@ count_taken blocks old new p unit n number holds awaits few seen links first lef
         from_units = holds.from_units;
       },
     )
-
-pub too_many : (p : Progress) (unit n number : ℕ) → neighbour_limit < n → count_read p unit number (Some n) ≡ Err (TooManyNeighbours unit)
-too_many p unit n number many =
-    ap (λ (b : Bool). cond b (Err (TooManyNeighbours unit)) (Ok (record { left = p.left; next = neighbours_left unit n; units = p.units; links = p.links }))) (lt-ltb neighbour_limit n many)
-
--- ---- a neighbour
-
-link_at_hand : (units : List ℕ) (links : List Link) (first : ℕ) (l : Link) → first ≤ length links → IsAtHand units links first l.from → IsAtHand units (links ++ l ∷ []) first l.from
-link_at_hand units links first l within at = record {
-  is_unit = at.is_unit;
-  lists_from = λ x.
-      ap (λ (ls : List Link). lists ls l.from x) (drop-append-le first links (l ∷ []) within)
-      ∙ list_any-append (λ (m : Link). eqb m.from l.from && eqb m.to x) (drop first links) (l ∷ [])
-      ∙ ap (λ (b : Bool). b || lists (l ∷ []) l.from x) (at.lists_from x)
-      ∙ sym (list_any-append (λ (m : Link). eqb m.from l.from && eqb m.to x) links (l ∷ []));
-}
-
-pub link_taken : (blocks : List BlockRow) (old new : Graph) (p : Progress) (l : Link) (left_now : ℕ) (said : Result Progress TextFault) → said ≡ Ok (with_link p l left_now) → Holds blocks old p → IsAtHand p.units p.links old.first l.from
-    → new.seen ≡ old.seen → new.links.items ≡ old.links.items ++ l ∷ [] → vec_len new.links ≡ vec_len old.links + 1 → new.first ≡ old.first → new.left ≡ old.left → new.next ≡ neighbours_left l.from left_now
-    → (q : Progress) × (said ≡ Ok q) × Holds blocks new q
-link_taken blocks old new p l left_now said is holds at seen links len first left next = (
-  with_link p l left_now,
-  is,
-  record {
-    left = left ∙ holds.left;
-    next = next;
-    links = links ∙ ap (λ (ls : List Link). ls ++ l ∷ []) holds.links;
-    marked = ap (λ (v : Vec Bool Global). vec_len v) seen ∙ holds.marked;
-    marks = subst (λ (v : Vec Bool Global). (q : ℕ) → q < length blocks → get_or v.items q false ≡ has_number p.units (id_at blocks q)) (sym seen) holds.marks;
-    begins = omega (arith, first, len, holds.begins);
-    at_hand = left_at_hand (eqb left_now 0) p.units (p.links ++ l ∷ []) new.first l.from left_now
-        (subst (λ (k : ℕ). IsAtHand p.units (p.links ++ l ∷ []) k l.from) (sym first)
-        (link_at_hand p.units p.links old.first l (omega (arith, holds.begins, old.links.ok.0, ap (λ (ls : List Link). length ls) holds.links)) at));
-    from_units = All-push (λ (m : Link). has_number p.units m.from ≡ true) p.links l holds.from_units at.is_unit;
-  },
-)
-
-pub own_neighbour : (p : Progress) (unit left number other : ℕ) → other ≡ unit → neighbour_read p unit left number (Some other) ≡ Err (OwnNeighbour unit)
-own_neighbour p unit left number other same =
-    ap (λ (b : Bool). cond b (Err (OwnNeighbour unit)) (cond (lists p.links unit other) (Err (RepeatedNeighbour unit other)) (Ok (with_link p (link_of unit other) (left - 1))))) (eq-eqb other unit same)
-
-linked : (p : Progress) (unit left number other : ℕ) → (other ≡ unit → ⊥) → neighbour_read p unit left number (Some other) ≡ cond (lists p.links unit other) (Err (RepeatedNeighbour unit other)) (Ok (with_link p (link_of unit other) (left - 1)))
-linked p unit left number other apart =
-    ap (λ (b : Bool). cond b (Err (OwnNeighbour unit)) (cond (lists p.links unit other) (Err (RepeatedNeighbour unit other)) (Ok (with_link p (link_of unit other) (left - 1)))))
-    (not_both (eqb other unit) (λ yes. absurd (apart (eqb-true other unit yes))))
-
--- what the answer on the links of the unit at hand says
-lists_says : (blocks : List BlockRow) (g : Graph) (p : Progress) (unit other : ℕ) (b : Bool) → Holds blocks g p → IsAtHand p.units p.links g.first unit
-    → b ≡ lists (drop g.first g.links.items) unit other → lists p.links unit other ≡ b
-lists_says blocks g p unit other b holds at is =
-    sym (is ∙ ap (λ (ls : List Link). lists (drop g.first ls) unit other) holds.links ∙ at.lists_from other)
-
-pub neighbour_at_hand : (blocks : List BlockRow) (g : Graph) (p : Progress) (unit left : ℕ) → Holds blocks g p → p.next ≡ awaited.Neighbour unit left → IsAtHand p.units p.links g.first unit
-neighbour_at_hand blocks g p unit left holds awaits = subst (HasUnit p.units p.links g.first) awaits holds.at_hand
-
-pub neighbour_repeated : (blocks : List BlockRow) (g : Graph) (p : Progress) (unit left number other : ℕ) (b : Bool) → Holds blocks g p → p.next ≡ awaited.Neighbour unit left
-    → (other ≡ unit → ⊥) → b ≡ lists (drop g.first g.links.items) unit other → b ≡ true → neighbour_read p unit left number (Some other) ≡ Err (RepeatedNeighbour unit other)
-neighbour_repeated blocks g p unit left number other b holds awaits apart is stood =
-    linked p unit left number other apart
-    ∙ ap (λ (t : Bool). cond t (Err (RepeatedNeighbour unit other)) (Ok (with_link p (link_of unit other) (left - 1)))) (lists_says blocks g p unit other b holds (neighbour_at_hand blocks g p unit left holds awaits) is ∙ stood)
-
-pub neighbour_new : (blocks : List BlockRow) (g : Graph) (p : Progress) (unit left number other : ℕ) (b : Bool) → Holds blocks g p → p.next ≡ awaited.Neighbour unit left
-    → (other ≡ unit → ⊥) → b ≡ lists (drop g.first g.links.items) unit other → b ≡ false → neighbour_read p unit left number (Some other) ≡ Ok (with_link p (link_of unit other) (left - 1))
-neighbour_new blocks g p unit left number other b holds awaits apart is fresh =
-    linked p unit left number other apart
-    ∙ ap (λ (t : Bool). cond t (Err (RepeatedNeighbour unit other)) (Ok (with_link p (link_of unit other) (left - 1)))) (lists_says blocks g p unit other b holds (neighbour_at_hand blocks g p unit left holds awaits) is ∙ fresh)
 
 -- ---- a word
 

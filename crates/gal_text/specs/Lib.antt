@@ -2,4 +2,3 @@ pub mod GalFile
 pub mod Holding
 pub mod Links
 pub mod Units
-pub mod Words
