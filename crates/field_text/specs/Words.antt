@@ -77,6 +77,19 @@ failures_after_word before (Err fault.TooLong) = before
 failures_after_word before (Err fault.Failed) = min (before + 1) (2 ^ 64 - 1)
 failures_after_word before (Err fault.TurnLimit) = before
 
+-- one more word was given, or none
+abbrev pub number_after_word : ℕ → Result WordStep ReadFault → ℕ
+number_after_word before (Ok step.Word) = before + 1
+number_after_word before (Ok step.LastWord) = before + 1
+number_after_word before (Ok step.End) = before
+number_after_word before (Err e) = before
+
+-- one more word is taken, or none
+abbrev pub number_taken : ℕ → AtHand → ℕ
+number_taken before hand.Word = before + 1
+number_taken before hand.Long = before
+number_taken before hand.Part = before
+
 -- separators, this word, one separator and the rest
 pub record CutsWord (text word rest : List ℕ) : Type 0 where
   pub blanks : List ℕ

@@ -5,7 +5,7 @@ ghost use Rattle.std.specs.Str.Lines.{strip_carriage_return};
 ghost use Rattle.std.specs.Io.KnownBytes.{Consumes};
 ghost use Rattle.field_text.specs.Turns.{TurnConsumes, failures_after};
 ghost use Rattle.field_text.specs.Reading.{NoLineFeed, BeginsWithLine, Gives, number_after, failures_after_step, CountsFrom, Fills, turn_limit};
-ghost use Rattle.field_text.specs.Words.{GivesWord, failures_after_word, TakesWord, TakesLastWord};
+ghost use Rattle.field_text.specs.Words.{GivesWord, failures_after_word, TakesWord, TakesLastWord, number_taken, number_after_word};
 
 use crate::lines::{cut, without_return};
 use crate::source::{Source, Turn};
@@ -158,7 +158,7 @@ impl LineReader {
         &self.buffer[self.line_start..self.line_end]
     }
 
-    /// How many lines were given.
+    /// How many lines and words were given.
     pub fn number(&self) -> u64
         ensures { result ≡ self.now.number }
     {
@@ -286,7 +286,7 @@ impl LineReader {
     fn take_word(&mut self) -> AtHand
         ensures within { self.new.turns ≤ turn_limit }
         ensures word { TakesWord self.old.held result self.new }
-        ensures number { self.new.number ≡ self.old.number }
+        ensures number { self.new.number ≡ number_taken self.old.number result }
         ensures turns { self.new.turns ≡ self.old.turns }
         ensures few { self.new.number < 2 ^ 53 }
     {
@@ -304,6 +304,7 @@ impl LineReader {
         self.line_start = self.start;
         self.line_end = word_end;
         self.start = word_end + 1;
+        self.number += 1;
         AtHand::Word
     }
 
@@ -311,7 +312,7 @@ impl LineReader {
     fn take_last_word(&mut self) -> WordStep
         ensures word { TakesLastWord self.old.held result self.new.line }
         ensures held { self.new.held ≡ [] }
-        ensures number { self.new.number ≡ self.old.number }
+        ensures number { self.new.number ≡ number_after_word self.old.number (Ok result) }
         ensures turns { self.new.turns ≡ self.old.turns }
         ensures few { self.new.number < 2 ^ 53 }
     {
@@ -321,6 +322,7 @@ impl LineReader {
         self.line_start = self.start;
         self.line_end = self.end;
         self.start = self.end;
+        self.number += 1;
         WordStep::LastWord
     }
 
@@ -328,7 +330,7 @@ impl LineReader {
     pub fn advance_word<R: Source>(&mut self, reader: &mut R) -> Result<WordStep, ReadFault>
         ensures bytes { (more : List ℕ) × Consumes (R.remaining reader.old) (R.remaining reader.new) more
             × GivesWord (self.old.held ++ more) (R.remaining reader.new) result self.new }
-        ensures number { self.new.number ≡ self.old.number }
+        ensures number { self.new.number ≡ number_after_word self.old.number result }
         ensures few { self.new.number < 2 ^ 53 }
         ensures counted { (first : ℕ) → CountsFrom first self.old.turns (R.turns reader.old) → CountsFrom first self.new.turns (R.turns reader.new) }
         ensures within { self.new.turns ≤ turn_limit }

@@ -54,7 +54,7 @@ loop-self-preserved-else-n-eq0 g c =
     let came = c.in-Read.ensures.bytes in
     record {
       read = past_turn before between after c.args.self.now.held part c.fill.new.self.held came.0 (past_part before between c.args.self.now.held c.loop-self.self.held part c.loop-self.invariant.read c.in-Part.ensures.word) came.1 came.2;
-      number = c.fill.ensures.number ∙ c.take_word.ensures.number ∙ c.loop-self.invariant.number;
+      number = c.fill.ensures.number ∙ c.in-Part.ensures.number ∙ c.loop-self.invariant.number;
       failures = c.in-Read.ensures.failures ∙ c.loop-self.invariant.failures;
       counted = λ first was.
           subst (λ turns. CountsFrom first turns (g.R.Source.turns c.fill.new.reader)) (sym c.fill.ensures.turns)
@@ -71,7 +71,7 @@ loop-self-preserved g c =
     let came = c.in-Interrupted.ensures.bytes in
     record {
       read = past_none before between after c.args.self.now.held part c.fill.new.self.held (past_part before between c.args.self.now.held c.loop-self.self.held part c.loop-self.invariant.read c.in-Part.ensures.word) came.0 came.1;
-      number = c.fill.ensures.number ∙ c.take_word.ensures.number ∙ c.loop-self.invariant.number;
+      number = c.fill.ensures.number ∙ c.in-Part.ensures.number ∙ c.loop-self.invariant.number;
       failures = c.in-Interrupted.ensures.failures ∙ c.loop-self.invariant.failures;
       counted = λ first was.
           subst (λ turns. CountsFrom first turns (g.R.Source.turns c.fill.new.reader)) (sym c.fill.ensures.turns)
