@@ -3,4 +3,5 @@
 
 pub mod fault;
 pub mod gal;
+pub mod links;
 pub mod units;
