@@ -1,1 +1,2 @@
 pub mod HoldingLemmas
+pub mod LinkLemmas

@@ -4,4 +4,5 @@
 pub mod fault;
 pub mod gal;
 pub mod header;
+pub mod links;
 pub mod units;
