@@ -61,9 +61,9 @@ differ blocks rising i j inside within same =
     ⊎_elim
     (λ (less : i < j). absurd (omega (arith, below_from_sorted (ids_of blocks) i j 0 sorted less lt_j, same)))
     (λ (most : j ≤ i). ⊎_elim
-        (λ (less : j < i). absurd (omega (arith, below_from_sorted (ids_of blocks) j i 0 sorted less lt_i, same)))
-        (λ (least : i ≤ j). omega arith)
-        (cases_lt j i))
+    (λ (less : j < i). absurd (omega (arith, below_from_sorted (ids_of blocks) j i 0 sorted less lt_i, same)))
+    (λ (least : i ≤ j). omega arith)
+    (cases_lt j i))
     (cases_lt i j)
 
 -- a mark more, that of a unit

@@ -1,9 +1,10 @@
 //! The units of a neighbour file, word by word.
-ghost use Rattle.std.specs.Prelude.{◌≡◌, ◌<◌, ◌≤◌, ℕ, List, Some, Ok, false, length, drop, vec_len, Contains, IfOk, IfSome, IfNone};
+ghost use Rattle.std.specs.Prelude.{◌≡◌, ◌<◌, ◌≤◌, ℕ, List, Some, Ok, Err, false, length, drop, vec_len, Contains, IfOk, IfSome, IfNone};
 ghost use Rattle.std.specs.List.Sorted.{IsStrictlyIncreasing};
 ghost use Rattle.desk_model.specs.Geography.{AreBlocks, ids_of, id_at};
 ghost use Rattle.desk_model.specs.declared.block.BlockRow.{BlockRow as Row};
-ghost use Rattle.gal_text.specs.Units.{Progress, at_start, is_done, lists, neighbours_left, unit_read, neighbour_read, word_awaited};
+ghost use Rattle.gal_text.specs.Units.{Progress, at_start, is_done, lists, neighbours_left, unit_read, neighbour_read, word_awaited, word_read};
+ghost use Rattle.field_text.specs.Words.{word_limit};
 ghost use Rattle.gal_text.specs.Holding.{Holds, IsHeld, IsAtHand, with_link, Meets, Takes, IsPlaced};
 
 use crate::fault::TextFault;
@@ -115,6 +116,24 @@ impl Graph {
         ensures { (blocks : List Row) (p : Progress) → Holds blocks self.now p → result ≡ is_done p }
     {
         self.left == 0 && self.next == Awaited::Block
+    }
+
+    /// The fault of a word, of this number, that is too long.
+    pub fn long_fault(&self, number: u64) -> TextFault
+        ensures { (blocks : List Row) (p : Progress) (word : List ℕ) → Holds blocks self.now p → word_limit < length word
+            → word_read (ids_of blocks) p number word ≡ Err result }
+    {
+        match self.next {
+            Awaited::Block => {
+                if self.left == 0 {
+                    TextFault::TrailingWord(number)
+                } else {
+                    TextFault::UnknownBlock(number)
+                }
+            }
+            Awaited::Count(_) => TextFault::Count(number),
+            Awaited::Neighbour(_, _) => TextFault::UnknownBlock(number),
+        }
     }
 
     /// Takes a unit's block, at the place given.
