@@ -1,2 +1,3 @@
+pub mod FinishLemmas
 pub mod HoldingLemmas
 pub mod LinkLemmas

@@ -15,6 +15,9 @@ use Rattle.gal_text.specs.declared.fault.TextFault.{TextFault}
 use Rattle.gal_text.specs.declared.fault.TextFault.TheVariants.{Header, EndsEarly}
 use Rattle.gal_text.specs.declared.fault.GalFault.{GalFault}
 use Rattle.gal_text.specs.declared.fault.GalFault.TheVariants as fault
+use Rattle.gal_text.specs.declared.links.Unpaired.{Unpaired}
+use Rattle.gal_text.specs.declared.links.Unpaired.TheVariants as unpaired
+use Rattle.gal_text.specs.declared.units.Link.{Link}
 use Rattle.gal_text.specs.declared.units.Graph.{Graph}
 use Rattle.gal_text.specs.declared.units.Refusal.{Refusal}
 use Rattle.gal_text.specs.declared.units.Refusal.TheVariants as refusal
@@ -29,6 +32,11 @@ abbrev pub read_told : TextFault → ReadFault → GalFault
 read_told long read.TooLong = fault.Text long
 read_told long read.Failed = fault.Read
 read_told long read.TurnLimit = fault.TurnLimit
+
+-- how links that give no pairs are told
+abbrev pub pairs_told : Unpaired → GalFault
+pairs_told (unpaired.OneWay a b) = fault.OneWay a b
+pairs_told unpaired.Memory = fault.Memory
 
 -- one more failure, where it is the source's
 abbrev pub failures_after_graph : ℕ → Result Graph GalFault → ℕ
@@ -88,6 +96,13 @@ ReadsGraph blocks text left (Err fault.Read) = IsCutShort (ids_of blocks) text
 ReadsGraph blocks text left (Err fault.TurnLimit) = IsCutShort (ids_of blocks) text
 ReadsGraph blocks text left (Err fault.Memory) = ⊤
 ReadsGraph blocks text left (Err e) = ⊥
+
+-- what the links give
+abbrev pub PairsUp : List Link → Result (Vec (ℕ × ℕ) Global) GalFault → Type 0
+PairsUp links (Ok pairs) = AreMutual links × ArePairsOf links pairs.items
+PairsUp links (Err (fault.OneWay a b)) = IsLeastOneWay links a b
+PairsUp links (Err fault.Memory) = ⊤
+PairsUp links (Err e) = ⊥
 
 -- the units are all there, and each block that is listed lists back: these are the pairs
 pub record ArePaired (ids : List ℕ) (p : Progress) (pairs : List (ℕ × ℕ)) : Type 0 where

@@ -8,12 +8,12 @@ ghost use Rattle.desk_model.specs.declared.block.BlockRow.{BlockRow as Row};
 ghost use Rattle.gal_text.specs.Units.{Progress, at_start, word_read};
 ghost use Rattle.gal_text.specs.Holding.{Holds, IsHeld};
 ghost use Rattle.gal_text.specs.GalFile.{IsRead, failures_after_file};
-ghost use Rattle.gal_text.specs.Parts.{refused, read_told, failures_after_graph, Begins, ReadsWords, ReadsGraph, Finishes};
+ghost use Rattle.gal_text.specs.Parts.{refused, read_told, pairs_told, failures_after_graph, Begins, ReadsWords, ReadsGraph, PairsUp, Finishes};
 
 use crate::fault::{GalFault, TextFault};
 use crate::header::header_count;
 use crate::links::{Unpaired, first_missing, pairs_of};
-use crate::units::{Graph, Refusal};
+use crate::units::{Graph, Link, Refusal};
 use desk_model::block::{BlockId, BlockRow};
 use field_text::reader::{LineReader, ReadFault, Step, WordStep};
 use field_text::source::Source;
@@ -120,26 +120,41 @@ fn read_graph<R: Source>(
     }
 }
 
+fn pairs_told(unpaired: Unpaired) -> GalFault
+    ensures { result ≡ pairs_told unpaired }
+{
+    match unpaired {
+        Unpaired::OneWay(first, second) => GalFault::OneWay(first, second),
+        Unpaired::Memory => GalFault::Memory,
+    }
+}
+
+/// The pairs, where each block that is listed lists back.
+fn paired(alloc: Global, links: Vec<Link>) -> Result<Vec<(BlockId, BlockId)>, GalFault>
+    ensures { PairsUp links.items result }
+{
+    match pairs_of(alloc, links) {
+        Ok(pairs) => Ok(pairs),
+        Err(unpaired) => Err(pairs_told(unpaired)),
+    }
+}
+
 /// The pairs, where no word and no unit is wanting and each block that is listed lists back.
 fn finish(
     alloc: Global,
     blocks: &[BlockRow],
     graph: Graph,
 ) -> Result<Vec<(BlockId, BlockId)>, GalFault>
-    requires blocks { AreBlocks blocks.now }
+    requires valid { AreBlocks blocks.now }
     requires held { IsHeld blocks.now graph }
     ensures { (p : Progress) → Holds blocks.now graph p → Finishes (ids_of blocks.now) p result }
 {
     if !graph.is_done() {
         return Err(GalFault::Text(TextFault::EndsEarly));
     }
-    if let Some(place) = first_missing(graph.seen.as_slice()) {
-        return Err(GalFault::MissingUnit(blocks[place].id));
-    }
-    match pairs_of(alloc, graph.links) {
-        Ok(pairs) => Ok(pairs),
-        Err(Unpaired::OneWay(first, second)) => Err(GalFault::OneWay(first, second)),
-        Err(Unpaired::Memory) => Err(GalFault::Memory),
+    match first_missing(graph.seen.as_slice()) {
+        Some(place) => Err(GalFault::MissingUnit(blocks[place].id)),
+        None => paired(alloc, graph.links),
     }
 }
 
