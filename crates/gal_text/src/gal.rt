@@ -60,7 +60,7 @@ fn read_words<R: Source>(
     blocks: &[BlockRow],
     mut graph: Graph,
 ) -> Result<Graph, GalFault>
-    requires blocks { AreBlocks blocks.now }
+    requires valid { AreBlocks blocks.now }
     requires starts { Holds blocks.now graph (at_start graph.left) }
     requires first { text.old.number ≡ 1 }
     ensures read { (more : List ℕ) × Consumes (R.remaining reader.old) (R.remaining reader.new) more
@@ -96,7 +96,7 @@ fn read_graph<R: Source>(
     reader: &mut R,
     blocks: &[BlockRow],
 ) -> Result<Graph, GalFault>
-    requires blocks { AreBlocks blocks.now }
+    requires valid { AreBlocks blocks.now }
     requires held { text.old.held ≡ [] }
     requires first { text.old.number ≡ 0 }
     ensures read { (came : List ℕ) × Consumes (R.remaining reader.old) (R.remaining reader.new) came
