@@ -1,5 +1,5 @@
 -- A neighbour file as a whole: its header, its words and its end.
-use Rattle.std.proofs.Common.{◌≡◌, ℕ, ◌+◌, ◌<◌, Bool, true, false, cond, ltb, List, [], ◌∷◌, ◌++◌, length, Vec, Option, Result, Ok, Err, min, refl, sym, ap, subst, ◌∙◌, arith, append_assoc, length-append, inl, inr, ◌⊎◌, ⊎_elim}
+use Rattle.std.proofs.Common.{◌≡◌, ℕ, zero, suc, ◌+◌, ◌<◌, ◌≤◌, Bool, true, false, cond, ltb, List, [], ◌∷◌, ◌++◌, length, Vec, Option, Result, Ok, Err, min, refl, sym, ap, subst, ◌∙◌, arith, append_assoc, length-append, inl, inr, ◌⊎◌, ⊎_elim}
 use Rattle.std.specs.declared.alloc.Global.{Global}
 use Rattle.std.proofs.lemmas.List.{append-nil}
 use Rattle.std.proofs.lemmas.Bool.{lt-ltb}
@@ -7,7 +7,7 @@ use Rattle.std.specs.Io.KnownBytes.{Consumes, IsAtEnd}
 use Rattle.std.specs.Str.Lines.{strip_carriage_return}
 use Rattle.field_text.specs.Words.{words}
 use Rattle.field_text.specs.WordLaws.{words-none}
-use Rattle.field_text.specs.Reading.{Reading, NoLineFeed, BeginsWithLine, IsLastLine, IsTooLong, Gives, line_limit}
+use Rattle.field_text.specs.Reading.{Reading, NoLineFeed, BeginsWithLine, IsLastLine, IsTooLong, Gives, CountsFrom, line_limit, turn_limit}
 use Rattle.field_text.specs.declared.reader.ReadFault.{ReadFault}
 use Rattle.field_text.specs.declared.reader.ReadFault.TheVariants as read
 use Rattle.field_text.proofs.ReadingLemmas.{Consumes-then}
@@ -220,3 +220,12 @@ module _ (blocks : List BlockRow) where
 
   pub no_turn : (p : Progress) (result : Result (Vec (ℕ × ℕ) Global) GalFault) → Finishes (ids_of blocks) p result → result ≡ Err fault.TurnLimit → ⊥
   no_turn p result finishes is = subst (Finishes (ids_of blocks) p) is finishes
+
+-- ---- turns
+
+pub counts_start : (first turns : ℕ) → turns ≡ 0 → CountsFrom first turns first
+counts_start first turns none = (λ same. refl, λ some. absurd (omega arith))
+
+pub most_turns : (first turns source : ℕ) → CountsFrom first turns source → turns ≤ turn_limit → source ≤ first + turn_limit
+most_turns first zero source counted within = let same = counted.0 refl in omega arith
+most_turns first (suc turns) source counted within = let same = counted.1 (omega arith) in omega arith
