@@ -1,0 +1,5 @@
+pub mod FileLemmas
+pub mod FinishLemmas
+pub mod HoldingLemmas
+pub mod LinkLemmas
+pub mod StandLemmas

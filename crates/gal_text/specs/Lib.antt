@@ -1,0 +1,5 @@
+pub mod GalFile
+pub mod Holding
+pub mod Links
+pub mod Parts
+pub mod Units

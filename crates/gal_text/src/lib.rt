@@ -1,0 +1,8 @@
+//! Neighbour files (GAL): which blocks share an edge.
+#![tactic(auto)]
+
+pub mod fault;
+pub mod gal;
+pub mod header;
+pub mod links;
+pub mod units;
