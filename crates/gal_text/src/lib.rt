@@ -5,4 +5,6 @@ pub mod fault;
 pub mod gal;
 pub mod header;
 pub mod links;
+#[cfg(test)]
+mod tests;
 pub mod units;
