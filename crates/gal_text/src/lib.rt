@@ -3,5 +3,6 @@
 
 pub mod fault;
 pub mod gal;
+pub mod law;
 pub mod links;
 pub mod units;
