@@ -3,6 +3,7 @@
 
 pub mod fault;
 pub mod gal;
+pub mod header;
 pub mod law;
 pub mod links;
 pub mod units;
