@@ -2,4 +2,5 @@ pub mod FileLemmas
 pub mod FinishLemmas
 pub mod HoldingLemmas
 pub mod LinkLemmas
+pub mod RelationLemmas
 pub mod StandLemmas

@@ -4,6 +4,7 @@
 pub mod fault;
 pub mod gal;
 pub mod header;
+pub mod law;
 pub mod links;
 #[cfg(test)]
 mod tests;
