@@ -187,11 +187,13 @@ fn faults_of_the_units(rt: HostRuntime) -> Result<(), Fail> {
 fn a_reader_fails(rt: HostRuntime) -> Result<(), Fail> {
     let alloc = rt.alloc();
     let state = sample(alloc)?;
-    for k in 1..ISLAND.len() as u64 {
+    // 153 bytes, two at a time, and the end are 78 calls; each third call is interrupted besides
+    for k in 1..=117u64 {
         let mut pieces = Pieces::of(ISLAND, 2);
         pieces.fails = k;
         let answer = read(alloc, &mut Counted::new(pieces), state.blocks()).err();
-        assert_eq!(rt; answer, Some(GalFault::Read));
+        let want = if k <= 116 { Some(GalFault::Read) } else { None };
+        assert_eq!(rt; answer, want);
     }
     assert_eq!(rt; format!(in alloc; "{}", GalFault::Read)?.as_str(), "A12");
     Ok(())
