@@ -171,7 +171,7 @@ module _ (blocks : List BlockRow) (count : ℕ) (start : List ℕ) (old : Option
     inr (
       end,
       ap (words_read (ids_of blocks) (at_start count) 1) (whole_words left held number g s ∙ ap (λ (ws : List (List ℕ)). s.whole ++ ws) one.gives)
-      ∙ faulty left held number g s word [] f (took s.progress s.holds),
+          ∙ faulty left held number g s word [] f (took s.progress s.holds),
     ),
   )
   told_refused_last left held word number g new refusal.Memory s end one took = (s.came, s.consumed, tt)

@@ -2,4 +2,5 @@ pub mod GalFile
 pub mod Holding
 pub mod Links
 pub mod Parts
+pub mod Relation
 pub mod Units

@@ -60,4 +60,4 @@ returns-in-Err-clause-read g c =
     subst (λ (e : GalFault). Told c.args.blocks.now c.args.graph.left c.args.text.now.held (g.R.Source.remaining c.args.reader.now) (g.R.Source.remaining c.advance_word.new.reader) (Err e)) (sym c.read_told.ensures)
     (told_fault c.args.blocks.now c.args.graph.left c.args.text.now.held (g.R.Source.remaining c.args.reader.now) (g.R.Source.remaining c.advance_word.new.reader) (c.loop-graph.text.held ++ came.0) c.loop-graph.text.number c.loop-graph.graph c.long_fault.result c.in-Err.fault c.advance_word.new.self s
     (λ p word holds long.
-        subst (λ (k : ℕ). word_read (ids_of c.args.blocks.now) p k word ≡ Err c.long_fault.result) (c.number-in-Err.ensures ∙ c.in-Err.ensures.number) (c.long_fault.ensures c.args.blocks.now p word holds long)) came.2)
+    subst (λ (k : ℕ). word_read (ids_of c.args.blocks.now) p k word ≡ Err c.long_fault.result) (c.number-in-Err.ensures ∙ c.in-Err.ensures.number) (c.long_fault.ensures c.args.blocks.now p word holds long)) came.2)
