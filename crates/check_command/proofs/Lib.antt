@@ -1,0 +1,4 @@
+pub mod Counted
+pub mod Numbers
+pub mod Pieces
+pub mod Plans
