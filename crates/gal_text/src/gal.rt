@@ -1,8 +1,8 @@
 //! The pairs of neighbours that a file says.
-ghost use Rattle.std.specs.Prelude.{◌≡◌, ◌+◌, ◌-◌, ◌^◌, ◌≤◌, ℕ, List, Err, min, All, IfOk};
+ghost use Rattle.std.specs.Prelude.{◌≡◌, ◌+◌, ◌-◌, ◌^◌, ◌≤◌, ℕ, List, Err, min};
 ghost use Rattle.std.specs.Io.KnownBytes.{Consumes};
 ghost use Rattle.field_text.specs.Reading.{turn_limit};
-ghost use Rattle.desk_model.specs.Geography.{AreBlocks, AreDifferentBlocks, ids_of};
+ghost use Rattle.desk_model.specs.Geography.{AreBlocks, ids_of};
 ghost use Rattle.gal_text.specs.GalFile.{IsRead, failures_after_file};
 
 use crate::fault::GalFault;
@@ -18,7 +18,6 @@ pub fn read<R: Source>(
 ) -> Result<Vec<(BlockId, BlockId)>, GalFault>
     requires { AreBlocks blocks.now }
     ensures read { (text : List ℕ) × Consumes (R.remaining reader.old) (R.remaining reader.new) text × IsRead (ids_of blocks.now) text (R.remaining reader.new) result }
-    ensures valid { IfOk result (λ pairs. All (AreDifferentBlocks blocks.now) pairs.items) }
     ensures failures { R.failures reader.new ≡ failures_after_file (R.failures reader.old) result }
     ensures turns { result ≡ Err GalFault.TurnLimit → R.turns reader.new ≡ min (R.turns reader.old + turn_limit) (2 ^ 64 - 1) }
     ensures most { R.turns reader.new ≤ R.turns reader.old + turn_limit }
