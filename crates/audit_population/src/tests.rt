@@ -1,8 +1,41 @@
 //! The worked plans: two counties of two blocks each, one district a county.
+ghost use Rattle.std.specs.Prelude.{◌≡◌, ◌+◌, ◌<◌, ◌≤◌, None};
+
 use crate::clauses::{Extremes, congress_breaks, mean_breaks, range_breaks};
 use crate::people::{populations, total};
-use desk_model::geography::sample;
+use desk_model::block::{BlockId, BlockRow};
+use desk_model::geography::{Geography, sample};
+use std::alloc::{AllocError, Global};
 use std::test::Fail;
+
+fn block(number: u64, population: u32) -> BlockRow
+    requires { number < 1_000_000_000_000_000 }
+    ensures { result ≡ record { id = number; city = None; population = population } }
+{
+    BlockRow {
+        id: BlockId::from_number(number),
+        city: None,
+        population,
+    }
+}
+
+/// The sample's blocks, two of each county with so many people each.
+fn two_counties(
+    alloc: Global,
+    first: (u32, u32),
+    second: (u32, u32),
+) -> Result<Geography, AllocError>
+    requires first { first.0 + first.1 ≤ 10_000 }
+    requires second { second.0 + second.1 ≤ 10_000 }
+{
+    let blocks = vec![in alloc;
+        block(190_010_001_001_001, first.0),
+        block(190_010_001_001_002, first.1),
+        block(190_030_001_001_001, second.0),
+        block(190_030_001_001_002, second.1),
+    ]?;
+    Geography::make(alloc, blocks, &[])
+}
 
 /// The sums of the sample geography in two districts and in three, with an unassigned block in the last.
 #[test]
@@ -16,6 +49,21 @@ fn sums_people(rt: HostRuntime) -> Result<(), Fail> {
     assert_eq!(rt; three.as_slice(), [1010, 990, 0].as_slice());
     let partly = populations(rt.alloc(), &geography, 2, &[1, 1, 2, 0])?;
     assert_eq!(rt; partly.as_slice(), [1010, 495].as_slice());
+    Ok(())
+}
+
+/// The sums of other people in the same blocks: the mean is beyond one percent, and the range is within five.
+#[test]
+fn sums_other_people(rt: HostRuntime) -> Result<(), Fail> {
+    let uneven = two_counties(rt.alloc(), (506, 505), (495, 494))?;
+    assert_eq!(rt; uneven.blocks().len(), 4);
+    let sums = populations(rt.alloc(), &uneven, 2, &[1, 1, 2, 2])?;
+    assert_eq!(rt; sums.as_slice(), [1011, 989].as_slice());
+    let wider = two_counties(rt.alloc(), (525, 525), (500, 500))?;
+    assert_eq!(rt; wider.blocks().len(), 4);
+    assert_eq!(rt; total(&wider), 2050);
+    let sums = populations(rt.alloc(), &wider, 2, &[1, 1, 2, 2])?;
+    assert_eq!(rt; sums.as_slice(), [1050, 1000].as_slice());
     Ok(())
 }
 

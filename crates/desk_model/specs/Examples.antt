@@ -1,13 +1,14 @@
 -- Worked answers of the sample desk.
 use Rattle.std.specs.Prelude.{◌≡◌, ℕ, List, [], ◌∷◌, Some, None, codes}
 use Rattle.std.specs.FinMap as map_of
-use Rattle.desk_model.specs.declared.kind.Kind.TheVariants.{Congress}
+use Rattle.desk_model.specs.declared.kind.Kind.TheVariants.{Congress, Senate, House}
+use Rattle.desk_model.specs.declared.kind.Kind.{Kind}
 use Rattle.desk_model.specs.declared.command.Command.TheVariants.{Create, Whole}
-use Rattle.desk_model.specs.declared.command.Query.TheVariants.{Plans, Blocks, Revision}
+use Rattle.desk_model.specs.declared.command.Query.TheVariants.{Plans, Blocks, Revision, Audit}
 use Rattle.desk_model.specs.declared.reply.Reply.TheVariants as reply
-use Rattle.desk_model.specs.declared.reply.Refusal.TheVariants.{PlanExists, Stale, NotSealed}
+use Rattle.desk_model.specs.declared.reply.Refusal.TheVariants.{NoPlan, NoRevision, PlanExists, Stale, BadCompanion, NotSealed}
 use Rattle.desk_model.specs.Desk.{Plan, Desk}
-use Rattle.desk_model.specs.Step.{step, answer, plan_row}
+use Rattle.desk_model.specs.Step.{step, says, reports, answer, plan_row}
 use Rattle.desk_model.specs.Sample.{sample, sample_desk}
 
 abbrev pub name_a : List ℕ
@@ -28,10 +29,10 @@ unsealed = record { geography = None; plans = map_of.empty }
 
 -- no plan at first; a plan is made once, and then listed; nothing is made before a geography is sealed
 pub record PlansAreCreated : Type 0 where
-  pub none : answer sample_desk Plans ≡ reply.Plans []
+  pub none : answer sample_desk Plans ≡ says (reply.Plans [])
   pub made : step sample_desk (Create name_a Congress 2) ≡ (reply.Created name_a 0, with_a)
   pub again : step with_a (Create name_a Congress 2) ≡ (reply.Refused PlanExists, with_a)
-  pub listed : answer with_a Plans ≡ reply.Plans (plan_row (name_a, plan_of []) ∷ [])
+  pub listed : answer with_a Plans ≡ says (reply.Plans (plan_row (name_a, plan_of []) ∷ []))
   pub no_geography : step unsealed (Create name_a Congress 2) ≡ (reply.Refused NotSealed, unsealed)
 
 abbrev pub county_text : List ℕ
@@ -47,6 +48,27 @@ with_county = desk_of (plan_of ((1 ∷ 1 ∷ 2 ∷ 2 ∷ []) ∷ []))
 -- a revision is read back, and the same post again is stale
 pub record RevisionsAreKept : Type 0 where
   pub made : step with_a (Whole name_a 0 county_text) ≡ (reply.Created name_a 1, with_county)
-  pub back : answer with_county (Revision name_a 1) ≡ reply.Baf county_text
+  pub back : answer with_county (Revision name_a 1) ≡ says (reply.Baf county_text)
   pub stale : step with_county (Whole name_a 0 county_text) ≡ (reply.Refused (Stale 1), with_county)
-  pub blocks : answer with_county Blocks ≡ reply.Blocks sample_text
+  pub blocks : answer with_county Blocks ≡ says (reply.Blocks sample_text)
+
+abbrev pub name_b : List ℕ
+name_b = codes "b"
+
+abbrev pub kept : Kind → List ℕ → Plan
+kept kind districts = record { kind = kind; n = 2; revisions = districts ∷ [] }
+
+-- the house plan a county by county, and the senate plan b of the two diagonals
+abbrev pub with_both : Desk
+with_both = record { geography = Some sample; plans = map_of.insert (map_of.insert map_of.empty name_a (kept House (1 ∷ 1 ∷ 2 ∷ 2 ∷ []))) name_b (kept Senate (1 ∷ 2 ∷ 2 ∷ 1 ∷ [])) }
+
+-- a house plan is judged beside a senate plan, a senate plan alone; what isn't there is refused
+pub record AuditsAreFound : Type 0 where
+  pub beside : answer with_both (Audit name_a 1 (Some (name_b, 1)))
+      ≡ reports sample (record { kind = House; n = 2; districts = 1 ∷ 1 ∷ 2 ∷ 2 ∷ []; senate = Some (1 ∷ 2 ∷ 2 ∷ 1 ∷ []) })
+  pub alone : answer with_both (Audit name_b 1 None) ≡ reports sample (record { kind = Senate; n = 2; districts = 1 ∷ 2 ∷ 2 ∷ 1 ∷ []; senate = None })
+  pub no_plan : answer with_a (Audit name_b 1 None) ≡ says (reply.Refused NoPlan)
+  pub no_revision : answer with_both (Audit name_a 2 (Some (name_b, 0))) ≡ says (reply.Refused NoRevision)
+  pub no_companion : answer with_both (Audit name_a 1 (Some (name_b, 0))) ≡ says (reply.Refused BadCompanion)
+  pub of_house : answer with_both (Audit name_a 1 (Some (name_a, 1))) ≡ says (reply.Refused BadCompanion)
+  pub for_senate : answer with_both (Audit name_b 1 (Some (name_b, 1))) ≡ says (reply.Refused BadCompanion)

@@ -7,3 +7,4 @@ pub mod Name
 pub mod Outcome
 pub mod Sample
 pub mod Step
+pub mod Subject

@@ -1,13 +1,15 @@
 -- What a counter may answer: the desk's own step, or that there was no room, no memory or no device.
-use Rattle.std.specs.Prelude.{◌≡◌, ◌≢◌, ⊤}
+use Rattle.std.specs.Prelude.{◌≡◌, ◌≢◌, ℕ, List, ⊤}
 use Rattle.desk_model.specs.declared.command.Command.{Command}
 use Rattle.desk_model.specs.declared.command.Query.{Query}
 use Rattle.desk_model.specs.declared.reply.Reply.{Reply}
 use Rattle.desk_model.specs.declared.reply.Reply.TheVariants as reply
 use Rattle.desk_model.specs.declared.reply.Refusal.{Refusal}
 use Rattle.desk_model.specs.declared.reply.Refusal.TheVariants.{NoPlan, NoRevision, PlanExists, Stale, BadBody, NotWholeCounty, BadCompanion, Limit, Full, Memory, Halted, NotSealed}
+use Rattle.desk_model.specs.Geography.{Ground}
 use Rattle.desk_model.specs.Desk.{Desk}
-use Rattle.desk_model.specs.Step.{step, answer}
+use Rattle.desk_model.specs.Subject.{AuditSubject}
+use Rattle.desk_model.specs.Step.{step, Answer, says, reports, answer}
 
 -- the reply of an accepted command
 abbrev pub IsAcceptance : Reply → Type 0
@@ -15,6 +17,7 @@ IsAcceptance (reply.Created name revisions) = ⊤
 IsAcceptance (reply.Plans rows) = ⊥
 IsAcceptance (reply.Blocks text) = ⊥
 IsAcceptance (reply.Baf text) = ⊥
+IsAcceptance (reply.Audited text) = ⊥
 IsAcceptance (reply.Refused refusal) = ⊥
 
 -- the step's reply and its desk, and no want of room where it accepts
@@ -51,7 +54,17 @@ CommandMay short failed d c (reply.Created name revisions) new = ¬ failed × Is
 CommandMay short failed d c (reply.Plans rows) new = ⊥
 CommandMay short failed d c (reply.Blocks text) new = ⊥
 CommandMay short failed d c (reply.Baf text) new = ⊥
+CommandMay short failed d c (reply.Audited text) new = ⊥
+
+-- which texts are the report on a subject: what an audit decides, in the crates above
+abbrev pub Reporting : Type 1
+Reporting = Ground → AuditSubject → List ℕ → Type 0
+
+-- the reply is the answer
+abbrev pub IsAnswer : Reporting → Answer → Reply → Type 0
+IsAnswer Reports (says told) r = r ≡ told
+IsAnswer Reports (reports g subject) r = (text : List ℕ) × (r ≡ reply.Audited text) × Reports g subject text
 
 -- a query is answered by the desk, unless memory is wanting
-abbrev pub QueryMay : Desk → Query → Reply → Type 0
-QueryMay d q r = (r ≢ reply.Refused Memory) → r ≡ answer d q
+abbrev pub QueryMay : Reporting → Desk → Query → Reply → Type 0
+QueryMay Reports d q r = (r ≢ reply.Refused Memory) → IsAnswer Reports (answer d q) r

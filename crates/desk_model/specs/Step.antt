@@ -6,7 +6,7 @@ use Rattle.desk_model.specs.declared.kind.Kind.{Kind}
 use Rattle.desk_model.specs.declared.command.Command.{Command}
 use Rattle.desk_model.specs.declared.command.Command.TheVariants.{Create, Whole}
 use Rattle.desk_model.specs.declared.command.Query.{Query}
-use Rattle.desk_model.specs.declared.command.Query.TheVariants.{Plans, Blocks, Revision}
+use Rattle.desk_model.specs.declared.command.Query.TheVariants.{Plans, Blocks, Revision, Audit}
 use Rattle.desk_model.specs.declared.reply.PlanRow.{PlanRow}
 use Rattle.desk_model.specs.declared.reply.Reply.{Reply}
 use Rattle.desk_model.specs.declared.reply.Reply.TheVariants as reply
@@ -16,6 +16,7 @@ use Rattle.desk_model.specs.declared.block.BlockRow.{BlockRow}
 use Rattle.desk_model.specs.Baf.{Values, Fault, value_at, body_read, printed, padded_decimal}
 use Rattle.desk_model.specs.Geography.{Ground}
 use Rattle.desk_model.specs.Desk.{Plan, Desk}
+use Rattle.desk_model.specs.Subject.{AuditSubject, subject_of}
 
 -- a desk has this many plans at most
 abbrev pub plan_limit : ℕ
@@ -100,14 +101,25 @@ abbrev pub revision_of : Ground → Option Plan → ℕ → Reply
 revision_of g None k = reply.Refused NoPlan
 revision_of g (Some p) k = baf_of g p (if k == 0 then None else slice_get p.revisions (k - 1))
 
--- with a geography or none; the plans rise by the bytes of their names
-abbrev pub answer_at : Option Ground → Desk → Query → Reply
-answer_at g d Plans = reply.Plans (map plan_row (map_of.entries d.plans))
-answer_at None d Blocks = reply.Refused NotSealed
-answer_at (Some g) d Blocks = reply.Blocks (blocks_text g)
-answer_at None d (Revision name k) = reply.Refused NotSealed
-answer_at (Some g) d (Revision name k) = revision_of g (map_of.get d.plans name) k
+-- what a query is answered: a reply, or the report on a subject, whose text an audit decides
+pub data Answer : Type 0 where
+  says : Reply → Answer
+  reports : Ground → AuditSubject → Answer
 
--- the reply to a query
-abbrev pub answer : Desk → Query → Reply
+abbrev pub audit_of : Ground → Result AuditSubject Refusal → Answer
+audit_of g (Err refusal) = says (reply.Refused refusal)
+audit_of g (Ok subject) = reports g subject
+
+-- with a geography or none; the plans rise by the bytes of their names
+abbrev pub answer_at : Option Ground → Desk → Query → Answer
+answer_at g d Plans = says (reply.Plans (map plan_row (map_of.entries d.plans)))
+answer_at None d Blocks = says (reply.Refused NotSealed)
+answer_at (Some g) d Blocks = says (reply.Blocks (blocks_text g))
+answer_at None d (Revision name k) = says (reply.Refused NotSealed)
+answer_at (Some g) d (Revision name k) = says (revision_of g (map_of.get d.plans name) k)
+answer_at None d (Audit name k senate) = says (reply.Refused NotSealed)
+answer_at (Some g) d (Audit name k senate) = audit_of g (subject_of d (map_of.get d.plans name) k senate)
+
+-- what a query is answered, where there is memory
+abbrev pub answer : Desk → Query → Answer
 answer d q = answer_at d.geography d q

@@ -1,4 +1,5 @@
 //! What a desk is asked to do, and what it is asked.
+use crate::districts::DistrictCount;
 use crate::kind::Kind;
 use crate::name::PlanName;
 use crate::text::Text;
@@ -10,7 +11,7 @@ pub enum Command {
     Create {
         plan: PlanName,
         kind: Kind,
-        n: u16,
+        n: DistrictCount,
     },
     /// Adds a revision that a block assignment file says whole, after the revision of that number: blocks that it does
     /// not list are unassigned.
@@ -29,5 +30,14 @@ pub enum Query {
     /// The blocks of the geography.
     Blocks,
     /// A revision of a plan, counted from 1.
-    Revision { plan: PlanName, k: u32 },
+    Revision {
+        plan: PlanName,
+        k: u32,
+    },
+    /// The audit of a revision of a plan, of a house plan also beside a revision of a senate plan.
+    Audit {
+        plan: PlanName,
+        k: u32,
+        senate: Option<(PlanName, u32)>,
+    },
 }

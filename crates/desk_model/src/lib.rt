@@ -3,6 +3,7 @@
 
 pub mod block;
 pub mod command;
+pub mod districts;
 pub mod examples;
 pub mod gate;
 pub mod geography;

@@ -54,6 +54,8 @@ pub enum Reply {
     Blocks(Text),
     /// A revision as a block assignment file.
     Baf(Text),
+    /// The report of an audit as JSON.
+    Audited(Text),
     Refused(Refusal),
 }
 
@@ -84,6 +86,7 @@ pub enum Refusal {
     BadBody { code: BodyFault, line: u64 },
     /// The least county, from 0 to 999, of which only a part is listed.
     NotWholeCounty { county: u16 },
+    /// The audited plan takes no such companion, or there is no such revision of a plan of the companion's kind.
     BadCompanion,
     /// 65,535 plans, or 65,535 revisions of the plan, are there.
     Limit,

@@ -1,6 +1,5 @@
 -- What is kept of revisions.
-use Rattle.std.specs.Prelude.{◌≡◌, ℕ, ◌-◌, ◌==◌, if◌then◌else◌, List, map, length, All, Option, Some, None, Result, Err}
-use Rattle.std.specs.List.{slice_get}
+use Rattle.std.specs.Prelude.{◌≡◌, ℕ, List, map, length, All, Option, Some, Result, Err}
 use Rattle.std.specs.FinMap as map_of
 use Rattle.std.specs.declared.sync.Arc.{Arc}
 use Rattle.std.specs.declared.vec.Vec.{Vec}
@@ -15,13 +14,13 @@ use Rattle.desk_model.specs.declared.reply.Refusal.TheVariants.{NoPlan, NoRevisi
 abbrev pub lists : List (Arc (Vec ℕ Global) Global) → List (List ℕ)
 lists = map (λ d. d.value.items)
 
--- revision k of a plan, from 1
-abbrev pub revision_at : Plan → ℕ → Option (List ℕ)
-revision_at p k = if k == 0 then None else slice_get p.revisions (k - 1)
-
 -- every revision of a plan has a district for each block
 abbrev pub AreWhole : Option Ground → map_of.FinMap name_cmp Plan → Type 0
 AreWhole geography plans = (g : Ground) (name : List ℕ) (p : Plan) → geography ≡ Some g → map_of.get plans name ≡ Some p → All (λ d. length d ≡ length g.blocks) p.revisions
+
+-- the districts, if there are any, have one for each block
+abbrev pub IsWhole : Option Ground → Option (List ℕ) → Type 0
+IsWhole geography districts = (g : Ground) (d : List ℕ) → geography ≡ Some g → districts ≡ Some d → length d ≡ length g.blocks
 
 -- a body's first fault, or that memory was refused
 abbrev pub IsRefusalOf : Result Values Fault → Refusal → Type 0

@@ -1,3 +1,4 @@
+pub mod Audits
 pub mod Clerks
 pub mod Codes
 pub mod Kept

@@ -1,21 +1,25 @@
 //! A desk that doesn't change: what is shown.
-ghost use Rattle.std.specs.Prelude.{◌≡◌, IfOk, IfErr, IsSome, IsOkAnd};
+ghost use Rattle.std.specs.Prelude.{◌≡◌, IfOk, IfErr, IsSome, IsOkAnd, IsTrue, Ok, Err};
 ghost use Rattle.std.specs.Option.{option_map, option_copied};
 ghost use Rattle.std.specs.FinMap as map_of;
-ghost use Rattle.desk_model.specs.Outcome.{QueryMay, RefusalMay};
+ghost use Rattle.desk_model.specs.Outcome.{RefusalMay};
 ghost use Rattle.desk_model.specs.Baf.{body_read};
 ghost use Rattle.desk_model.specs.Step.{whole as whole_of};
+ghost use Rattle.desk_model.specs.Subject.{senate_companion as senate_companion_of, senate_revision as senate_revision_of, takes_senate};
+ghost use Rattle.desk_store.specs.Audits.{AskMay};
 ghost use Rattle.desk_store.specs.Clerks.{IsAfter};
-ghost use Rattle.desk_store.specs.Kept.{AreWhole, IsRefusalOf};
+ghost use Rattle.desk_store.specs.Kept.{AreWhole, IsWhole, IsRefusalOf};
 
 use crate::blocks::blocks_text;
 use crate::plans::Plans;
+use crate::report::report;
 use crate::revisions::REVISION_LIMIT;
 use crate::shelf::Entry;
 use baf_text::listed::whole;
 use baf_text::reading::{BafFault, read};
 use baf_text::writing::write;
 use desk_model::command::{Command, Query};
+use desk_model::districts::DistrictCount;
 use desk_model::geography::Geography;
 use desk_model::kind::Kind;
 use desk_model::name::PlanName;
@@ -74,7 +78,7 @@ impl Catalogue {
 
     /// The answer to a query; Memory only where memory for it was refused.
     pub fn ask(&self, alloc: Global, query: Query) -> Reply
-        ensures { QueryMay self.now query result }
+        ensures { AskMay self.now query result }
     {
         match query {
             Query::Plans => match self.plans.rows(alloc) {
@@ -83,12 +87,13 @@ impl Catalogue {
             },
             Query::Blocks => self.blocks(alloc),
             Query::Revision { plan, k } => self.revision(alloc, &plan, k),
+            Query::Audit { plan, k, senate } => self.audited(alloc, &plan, k, senate),
         }
     }
 
     /// The answer on the blocks.
     fn blocks(&self, alloc: Global) -> Reply
-        ensures { QueryMay self.now Query.Blocks result }
+        ensures { AskMay self.now Query.Blocks result }
     {
         let Some(geography) = self.geography() else {
             return Reply::Refused(Refusal::NotSealed);
@@ -101,7 +106,7 @@ impl Catalogue {
 
     /// The answer on a revision of a plan.
     fn revision(&self, alloc: Global, name: &PlanName, k: u32) -> Reply
-        ensures { QueryMay self.now (Query.Revision name.now k) result }
+        ensures { AskMay self.now (Query.Revision name.now k) result }
     {
         let Some(geography) = self.geography() else {
             return Reply::Refused(Refusal::NotSealed);
@@ -114,6 +119,70 @@ impl Catalogue {
         };
         match write(alloc, districts, geography, entry.kind()) {
             Ok(text) => Reply::Baf(Text::from_vec(text)),
+            Err(_) => Reply::Refused(Refusal::Memory),
+        }
+    }
+
+    /// Revision `j` of a senate plan, from 1.
+    fn senate_revision(&self, name: &PlanName, j: u32) -> Option<&[u16]>
+        ensures value { option_copied result ≡ senate_revision_of (map_of.get self.now.plans name.now) j }
+        ensures whole { IsWhole self.now.geography (option_copied result) }
+    {
+        let entry = self.plans.get(name)?;
+        if entry.kind() != Kind::Senate {
+            return None;
+        }
+        entry.revision(j)
+    }
+
+    /// The districts of the senate companion that is asked for, if one is, of a plan of the kind.
+    fn senate_companion(
+        &self,
+        kind: Kind,
+        asked: Option<(PlanName, u32)>,
+    ) -> Result<Option<&[u16]>, Refusal>
+        ensures ok { IfOk result (λ senate. senate_companion_of self.now kind asked ≡ Ok (option_copied senate)) }
+        ensures err { IfErr result (λ refusal. senate_companion_of self.now kind asked ≡ Err refusal) }
+        ensures whole { IfOk result (λ senate. IsWhole self.now.geography (option_copied senate)) }
+        ensures of_house { IfOk result (λ senate. IsSome senate → IsTrue (takes_senate kind)) }
+    {
+        let Some((name, j)) = asked else {
+            return Ok(None);
+        };
+        if kind != Kind::House {
+            return Err(Refusal::BadCompanion);
+        }
+        match self.senate_revision(&name, j) {
+            Some(districts) => Ok(Some(districts)),
+            None => Err(Refusal::BadCompanion),
+        }
+    }
+
+    /// The answer to an audit of a revision of a plan, beside the senate companion that is asked for.
+    fn audited(
+        &self,
+        alloc: Global,
+        name: &PlanName,
+        k: u32,
+        asked: Option<(PlanName, u32)>,
+    ) -> Reply
+        ensures { AskMay self.now (Query.Audit name.now k asked) result }
+    {
+        let Some(geography) = self.geography() else {
+            return Reply::Refused(Refusal::NotSealed);
+        };
+        let Some(entry) = self.plans.get(name) else {
+            return Reply::Refused(Refusal::NoPlan);
+        };
+        let Some(districts) = entry.revision(k) else {
+            return Reply::Refused(Refusal::NoRevision);
+        };
+        let senate = match self.senate_companion(entry.kind(), asked) {
+            Ok(senate) => senate,
+            Err(refusal) => return Reply::Refused(refusal),
+        };
+        match report(alloc, geography, entry.kind(), entry.n(), districts, senate) {
+            Ok(text) => Reply::Audited(text),
             Err(_) => Reply::Refused(Refusal::Memory),
         }
     }
@@ -139,7 +208,7 @@ impl Catalogue {
         alloc: Global,
         name: PlanName,
         kind: Kind,
-        n: u16,
+        n: DistrictCount,
     ) -> Result<Catalogue, Refusal>
         requires { IsSome self.now.geography }
         ensures ok { IfOk result (IsAfter self.now (Command.Create name kind n)) }
@@ -184,7 +253,7 @@ impl Catalogue {
         if current >= REVISION_LIMIT {
             return Err(Refusal::Limit);
         }
-        let districts = districts_of(alloc, body.as_slice(), geography, entry.n())?;
+        let districts = districts_of(alloc, body.as_slice(), geography, entry.n().number())?;
         let Ok(entry) = entry.revised(alloc, districts) else {
             return Err(Refusal::Memory);
         };

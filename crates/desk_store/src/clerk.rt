@@ -3,7 +3,8 @@ ghost use Rattle.std.specs.Prelude.{◌≡◌, ◌≤◌, IfOk, IfErr};
 ghost use Rattle.std.specs.Option.{option_map};
 ghost use Rattle.std.specs.FinMap as map_of;
 ghost use Rattle.desk_model.specs.Step.{step, revision_limit};
-ghost use Rattle.desk_model.specs.Outcome.{CommandMay, QueryMay, RefusalMay, IsAcceptance};
+ghost use Rattle.desk_model.specs.Outcome.{CommandMay, RefusalMay, IsAcceptance};
+ghost use Rattle.desk_store.specs.Audits.{AskMay};
 ghost use Rattle.desk_store.specs.Clerks.{IsPrepared, acceptance, revisions_after};
 
 use crate::catalogue::Catalogue;
@@ -174,7 +175,7 @@ impl Clerk {
 
     /// The answer to a query; Memory only where memory for it was refused.
     pub fn ask(&self, alloc: Global, query: Query) -> Reply
-        ensures { QueryMay self.now query result }
+        ensures { AskMay self.now query result }
     {
         self.catalogue.ask(alloc, query)
     }

@@ -6,6 +6,7 @@ pub mod catalogue;
 pub mod clerk;
 mod place;
 mod plans;
+mod report;
 mod revisions;
 mod shelf;
 #[cfg(test)]

@@ -2,10 +2,11 @@
 ghost use Rattle.std.specs.Prelude.{◌≡◌, ◌<◌, ◌++◌, ◌∷◌, [], length, IfOk};
 ghost use Rattle.std.specs.Option.{option_copied};
 ghost use Rattle.desk_model.specs.Step.{plan_row, revision_limit};
-ghost use Rattle.desk_store.specs.Kept.{revision_at};
+ghost use Rattle.desk_model.specs.Subject.{revision_at};
 ghost use Rattle.desk_store.specs.Places.{last_name};
 
 use crate::revisions::Revisions;
+use desk_model::districts::DistrictCount;
 use desk_model::kind::Kind;
 use desk_model::name::PlanName;
 use desk_model::reply::PlanRow;
@@ -18,7 +19,7 @@ use std::sync::Arc;
 pub struct Entry {
     name: PlanName,
     kind: Kind,
-    n: u16,
+    n: DistrictCount,
     revisions: Arc<Revisions>,
 }
 
@@ -33,7 +34,12 @@ impl Model for Entry {
 
 impl Entry {
     /// A plan with no revision.
-    pub fn new(alloc: Global, name: PlanName, kind: Kind, n: u16) -> Result<Entry, AllocError>
+    pub fn new(
+        alloc: Global,
+        name: PlanName,
+        kind: Kind,
+        n: DistrictCount,
+    ) -> Result<Entry, AllocError>
         ensures { IfOk result (λ e. e ≡ (name, record { kind = kind; n = n; revisions = [] })) }
     {
         Ok(Entry {
@@ -56,7 +62,7 @@ impl Entry {
         self.kind
     }
 
-    pub fn n(&self) -> u16
+    pub fn n(&self) -> DistrictCount
         ensures { result ≡ self.now.1.n }
     {
         self.n
@@ -86,7 +92,7 @@ impl Entry {
         PlanRow {
             name: self.name,
             kind: self.kind,
-            n: self.n,
+            n: self.n.number(),
             revisions: self.revisions.len(),
         }
     }

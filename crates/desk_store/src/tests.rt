@@ -1,5 +1,6 @@
 use crate::clerk::Clerk;
 use desk_model::command::{Command, Query};
+use desk_model::districts::DistrictCount;
 use desk_model::geography::sample;
 use desk_model::kind::Kind;
 use desk_model::name::PlanName;
@@ -41,7 +42,7 @@ fn house(plan: PlanName) -> Command {
     Command::Create {
         plan,
         kind: Kind::House,
-        n: 100,
+        n: DistrictCount::from_number(100),
     }
 }
 
@@ -149,7 +150,7 @@ fn revisions_are_kept(rt: HostRuntime) -> Result<(), Fail> {
     let create = Command::Create {
         plan,
         kind: Kind::Congress,
-        n: 2,
+        n: DistrictCount::from_number(2),
     };
     assert!(rt; is_made(&clerk.command(alloc, create), &plan));
     assert!(rt;

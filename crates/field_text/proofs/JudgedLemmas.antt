@@ -1,13 +1,13 @@
 -- Lines that are judged one after the other.
-use Rattle.std.proofs.Common.{◌≡◌, ℕ, zero, suc, ◌+◌, ◌-◌, ◌<◌, ◌≤◌, ◌⊎◌, List, [], ◌∷◌, ◌++◌, Bool, true, false, eqb, Option, None, Some, length, take, drop, get_or, map, refl, sym, ap, subst, ◌∙◌, arith, append_assoc, inl, inr, All, length-append, ⊎_elim}
+use Rattle.std.proofs.Common.{◌≡◌, ℕ, zero, suc, ◌+◌, ◌<◌, ◌⊎◌, List, [], ◌∷◌, ◌++◌, Bool, true, false, eqb, Option, None, Some, length, map, refl, sym, ap, ◌∙◌, arith, append_assoc, inl, inr, length-append, ⊎_elim}
 use Rattle.std.proofs.lemmas.List.{append-nil, map-append}
 use Rattle.std.proofs.lemmas.Bool.{eqb-true}
 use Rattle.std.proofs.lemmas.List.Elements.{All-append}
 use Rattle.std.specs.Io.KnownBytes.{IsAtEnd}
 use Rattle.std.specs.Str.Lines.{lines, strip_carriage_return}
-use Rattle.field_text.specs.Reading.{NoLineFeed, IsLong, IsShort, IsBroken, IsTooLong, IsLastLine, BeginsWithLine, line_limit}
+use Rattle.field_text.specs.Reading.{NoLineFeed, IsLong, IsBroken, IsTooLong, IsLastLine, BeginsWithLine, line_limit}
 use Rattle.field_text.specs.Judged.{Judge, AreGood, IsFirstFault, ShowsFault, with_ends, AreCut, BeginsWithLines, IsCutShort}
-use Rattle.field_text.proofs.TextLemmas.{lines-cut, lines-last, lines-none}
+use Rattle.field_text.proofs.TextLemmas.{lines-cut, lines-last}
 use Rattle.field_text.proofs.BufferLemmas.{strip_by_one, strip_shorter}
 
 -- ---- whole lines at the front of a text
@@ -58,7 +58,7 @@ lines-begins text rest ls b =
 -- ---- a line that is too long
 
 -- a text is one line, or begins with a line
-cut_or_one : (text : List ℕ) → NoLineFeed text ⊎ ((raw : List ℕ) × (rest : List ℕ) × (text ≡ raw ++ 10 ∷ rest) × NoLineFeed raw)
+pub cut_or_one : (text : List ℕ) → NoLineFeed text ⊎ ((raw : List ℕ) × (rest : List ℕ) × (text ≡ raw ++ 10 ∷ rest) × NoLineFeed raw)
 cut_or_one [] = inl (λ k d inside. absurd (omega arith))
 cut_or_one (x ∷ xs) = at_first (eqb x 10) refl (cut_or_one xs)
   where
@@ -72,10 +72,10 @@ cut_or_one (x ∷ xs) = at_first (eqb x 10) refl (cut_or_one xs)
     at_first false differs (inl one) = inl (more xs differs one)
     at_first false differs (inr w) = inr (x ∷ w.0, w.1, ap (λ (t : List ℕ). x ∷ t) w.2, more w.0 differs w.3)
 
-NoLineFeed-append : (xs ys : List ℕ) → NoLineFeed xs → NoLineFeed ys → NoLineFeed (xs ++ ys)
+pub NoLineFeed-append : (xs ys : List ℕ) → NoLineFeed xs → NoLineFeed ys → NoLineFeed (xs ++ ys)
 NoLineFeed-append xs ys = All-append (λ b. eqb b 10 ≡ false) xs ys
 
-long_part : (text raw : List ℕ) → IsLong text → line_limit < length (strip_carriage_return (text ++ raw))
+pub long_part : (text raw : List ℕ) → IsLong text → line_limit < length (strip_carriage_return (text ++ raw))
 long_part text [] long = rw (append-nil text) long
 long_part text (x ∷ raw) long =
     omega (arith, strip_by_one (text ++ x ∷ raw), length-append text (x ∷ raw), strip_shorter text)

@@ -4,3 +4,5 @@ pub mod JudgedLemmas
 pub mod NthLemmas
 pub mod ReadingLemmas
 pub mod TextLemmas
+pub mod WordLemmas
+pub mod WordSteps

@@ -6,3 +6,5 @@ pub mod Judged
 pub mod Lines
 pub mod Reading
 pub mod Turns
+pub mod WordLaws
+pub mod Words

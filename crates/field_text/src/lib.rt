@@ -6,3 +6,4 @@ pub mod fields;
 pub mod lines;
 pub mod reader;
 pub mod source;
+pub mod words;

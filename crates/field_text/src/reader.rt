@@ -1,28 +1,33 @@
-//! The lines of a reader, one at a time, however its bytes are cut.
+//! The lines of a reader, one at a time, however its bytes are cut; or the words behind them.
 ghost use Rattle.std.specs.Prelude.{◌≡◌, ◌+◌, ◌-◌, ◌<◌, ◌≤◌, ◌^◌, ◌++◌, ℕ, List, [], true, false, Ok, Err, IfOk, MatchBool, length, take, drop, vec_len, min, nat_lt};
 ghost use Rattle.std.specs.List.{slice_range};
 ghost use Rattle.std.specs.Str.Lines.{strip_carriage_return};
 ghost use Rattle.std.specs.Io.KnownBytes.{Consumes};
 ghost use Rattle.field_text.specs.Turns.{TurnConsumes, failures_after};
 ghost use Rattle.field_text.specs.Reading.{NoLineFeed, BeginsWithLine, Gives, number_after, failures_after_step, CountsFrom, Fills, turn_limit};
+ghost use Rattle.field_text.specs.Words.{GivesWord, failures_after_word, TakesWord, TakesLastWord, number_taken, number_after_word};
 
 use crate::lines::{cut, without_return};
 use crate::source::{Source, Turn};
+use crate::words::{bytes_before, separators_before};
 use std::alloc::{AllocError, Global};
 use std::marker::Model;
 
 /// A line has at most this many bytes, its end not counted.
 pub const LINE_LIMIT: usize = 65_536;
 
+/// A word has at most this many bytes.
+pub const WORD_LIMIT: usize = 64;
+
 /// A reader makes at most this many turns.
 pub const TURN_LIMIT: u64 = 4_294_967_296;
 
 const BUFFER_LEN: usize = 262_144;
 
-/// Why no line is given.
+/// Why no line or word is given.
 #[derive(Clone, Copy, Debug, PartialEq, Eq)]
 pub enum ReadFault {
-    /// The line is longer than `LINE_LIMIT`.
+    /// The line is longer than `LINE_LIMIT`, or the word than `WORD_LIMIT`.
     TooLong,
     /// The source failed.
     Failed,
@@ -39,6 +44,28 @@ pub enum Step {
     LastLine,
     /// There is no further line.
     End,
+}
+
+/// How far the words have come.
+#[derive(Clone, Copy, Debug, PartialEq, Eq)]
+pub enum WordStep {
+    /// A word with a separator behind it.
+    Word,
+    /// The last word, which the end of the text ends.
+    LastWord,
+    /// There is no further word.
+    End,
+}
+
+/// What the bytes at hand begin with, behind separators.
+#[derive(Clone, Copy)]
+enum AtHand {
+    /// A word with a separator behind it.
+    Word,
+    /// More bytes than a word may have.
+    Long,
+    /// A part that no separator ends, which may be empty.
+    Part,
 }
 
 /// Makes room behind the bytes from `start` to `end`: answers where they then stand.
@@ -124,14 +151,14 @@ impl LineReader {
         })
     }
 
-    /// The line at hand, without its end.
+    /// The line at hand, without its end, or the word at hand.
     pub fn line(&self) -> &[u8]
         ensures { result.now ≡ self.now.line }
     {
         &self.buffer[self.line_start..self.line_end]
     }
 
-    /// How many lines were given.
+    /// How many lines and words were given.
     pub fn number(&self) -> u64
         ensures { result ≡ self.now.number }
     {
@@ -248,6 +275,81 @@ impl LineReader {
                             Step::End
                         };
                         return Ok(step);
+                    }
+                }
+                Turn::Interrupted => {}
+                Turn::Failed => return Err(ReadFault::Failed),
+            }
+        }
+    }
+    /// Passes over separators, and takes the word behind them where it ends within the bytes at hand.
+    fn take_word(&mut self) -> AtHand
+        ensures within { self.new.turns ≤ turn_limit }
+        ensures word { TakesWord self.old.held result self.new }
+        ensures number { self.new.number ≡ number_taken self.old.number result }
+        ensures turns { self.new.turns ≡ self.old.turns }
+        ensures few { self.new.number < 2 ^ 53 }
+    {
+        let held = &self.buffer[self.start..self.end];
+        let blanks = separators_before(held);
+        let word_len = bytes_before(&held[blanks..]);
+        self.start += blanks;
+        if word_len > WORD_LIMIT {
+            return AtHand::Long;
+        }
+        let word_end = self.start + word_len;
+        if word_end == self.end {
+            return AtHand::Part;
+        }
+        self.line_start = self.start;
+        self.line_end = word_end;
+        self.start = word_end + 1;
+        self.number += 1;
+        AtHand::Word
+    }
+
+    /// Takes the bytes at hand as the last word, if there are any.
+    fn take_last_word(&mut self) -> WordStep
+        ensures word { TakesLastWord self.old.held result self.new.line }
+        ensures held { self.new.held ≡ [] }
+        ensures number { self.new.number ≡ number_after_word self.old.number (Ok result) }
+        ensures turns { self.new.turns ≡ self.old.turns }
+        ensures few { self.new.number < 2 ^ 53 }
+    {
+        if self.start == self.end {
+            return WordStep::End;
+        }
+        self.line_start = self.start;
+        self.line_end = self.end;
+        self.start = self.end;
+        self.number += 1;
+        WordStep::LastWord
+    }
+
+    /// Goes on to the next word, which `line` then gives. After `LastWord` and `End` the source isn't asked again.
+    pub fn advance_word<R: Source>(&mut self, reader: &mut R) -> Result<WordStep, ReadFault>
+        ensures bytes { (more : List ℕ) × Consumes (R.remaining reader.old) (R.remaining reader.new) more
+            × GivesWord (self.old.held ++ more) (R.remaining reader.new) result self.new }
+        ensures number { self.new.number ≡ number_after_word self.old.number result }
+        ensures few { self.new.number < 2 ^ 53 }
+        ensures counted { (first : ℕ) → CountsFrom first self.old.turns (R.turns reader.old) → CountsFrom first self.new.turns (R.turns reader.new) }
+        ensures within { self.new.turns ≤ turn_limit }
+        ensures limit { result ≡ Err ReadFault.TurnLimit → self.new.turns ≡ turn_limit }
+        ensures failures { R.failures reader.new ≡ failures_after_word (R.failures reader.old) result }
+    {
+        loop {
+            match self.take_word() {
+                AtHand::Word => return Ok(WordStep::Word),
+                AtHand::Long => return Err(ReadFault::TooLong),
+                AtHand::Part => {}
+            }
+            if !self.has_turns() {
+                return Err(ReadFault::TurnLimit);
+            }
+            match self.fill(reader) {
+                Turn::Read(n) => {
+                    if n == 0 {
+                        return Ok(self.take_last_word());
                     }
                 }
                 Turn::Interrupted => {}

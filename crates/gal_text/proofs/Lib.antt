@@ -1,0 +1,7 @@
+pub mod FileLemmas
+pub mod FinishLemmas
+pub mod HoldingLemmas
+pub mod LinkLemmas
+pub mod RelationLemmas
+pub mod StandLemmas
+pub mod ValidLemmas

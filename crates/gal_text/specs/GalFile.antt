@@ -3,7 +3,7 @@ use Rattle.std.specs.Prelude.{◌≡◌, ℕ, ◌+◌, ◌-◌, ◌^◌, ◌⊎�
 use Rattle.std.specs.declared.alloc.Global.{Global}
 use Rattle.std.specs.Io.KnownBytes.{IsAtEnd}
 use Rattle.field_text.specs.Reading.{NoLineFeed, BeginsWithLine, IsBroken}
-use Rattle.gal_text.specs.Words.{words, IsBrokenWord}
+use Rattle.field_text.specs.Words.{words, IsBrokenWord}
 use Rattle.gal_text.specs.Units.{Progress, progress_after, units_read}
 use Rattle.gal_text.specs.Links.{AreComplete, IsLeastMissing, AreMutual, IsLeastOneWay, ArePairsOf}
 use Rattle.gal_text.specs.declared.fault.TextFault.{TextFault}

@@ -1,4 +1,6 @@
 pub mod GalFile
+pub mod Holding
 pub mod Links
+pub mod Parts
+pub mod Relation
 pub mod Units
-pub mod Words

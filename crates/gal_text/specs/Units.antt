@@ -3,7 +3,7 @@ use Rattle.std.specs.Prelude.{◌≡◌, ℕ, ◌+◌, ◌-◌, ◌==◌, Bool, 
 use Rattle.std.specs.List.{list_any}
 use Rattle.field_text.specs.Digits.{number_of, number_of_digits}
 use Rattle.field_text.specs.Reading.{line_limit}
-use Rattle.gal_text.specs.Words.{words}
+use Rattle.field_text.specs.Words.{words}
 use Rattle.gal_text.specs.declared.fault.TextFault.{TextFault}
 use Rattle.gal_text.specs.declared.fault.TextFault.TheVariants.{Header, Count, UnknownBlock, RepeatedUnit, OwnNeighbour, TooManyNeighbours, TrailingWord, EndsEarly, RepeatedNeighbour}
 use Rattle.gal_text.specs.declared.units.Link.{Link}

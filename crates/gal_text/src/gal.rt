@@ -1,14 +1,162 @@
 //! The pairs of neighbours that a file says.
-ghost use Rattle.std.specs.Prelude.{◌≡◌, ◌+◌, ◌-◌, ◌^◌, ◌≤◌, ℕ, List, Err, min};
+ghost use Rattle.std.specs.Prelude.{◌≡◌, ◌+◌, ◌-◌, ◌^◌, ◌<◌, ◌≤◌, ◌++◌, ℕ, List, [], Err, All, IfOk, min, length, vec_len};
 ghost use Rattle.std.specs.Io.KnownBytes.{Consumes};
-ghost use Rattle.field_text.specs.Reading.{turn_limit};
-ghost use Rattle.desk_model.specs.Geography.{AreBlocks, ids_of};
+ghost use Rattle.field_text.specs.Reading.{CountsFrom, turn_limit};
+ghost use Rattle.field_text.specs.Words.{word_limit};
+ghost use Rattle.desk_model.specs.Geography.{AreBlocks, AreDifferentBlocks, ids_of};
+ghost use Rattle.desk_model.specs.declared.block.BlockRow.{BlockRow as Row};
+ghost use Rattle.gal_text.specs.Units.{Progress, at_start, word_read};
+ghost use Rattle.gal_text.specs.Holding.{Holds, IsHeld};
 ghost use Rattle.gal_text.specs.GalFile.{IsRead, failures_after_file};
+ghost use Rattle.gal_text.specs.Parts.{refused, read_told, pairs_told, failures_after_graph, Begins, ReadsWords, ReadsGraph, PairsUp, Finishes};
 
-use crate::fault::GalFault;
+use crate::fault::{GalFault, TextFault};
+use crate::header::header_count;
+use crate::links::{Unpaired, first_missing, pairs_of};
+use crate::units::{Graph, Link, Refusal};
 use desk_model::block::{BlockId, BlockRow};
+use field_text::reader::{LineReader, ReadFault, Step, WordStep};
 use field_text::source::Source;
 use std::alloc::Global;
+
+fn refused(refusal: Refusal) -> GalFault
+    ensures { result ≡ refused refusal }
+{
+    match refusal {
+        Refusal::Fault(fault) => GalFault::Text(fault),
+        Refusal::Memory => GalFault::Memory,
+    }
+}
+
+/// A fault of the reader, where a part that is too long has the fault `long`.
+fn read_told(long: TextFault, fault: ReadFault) -> GalFault
+    ensures { result ≡ read_told long fault }
+{
+    match fault {
+        ReadFault::TooLong => GalFault::Text(long),
+        ReadFault::Failed => GalFault::Read,
+        ReadFault::TurnLimit => GalFault::TurnLimit,
+    }
+}
+
+/// The state before the first word.
+fn begin(alloc: Global, line: &[u8], blocks: &[BlockRow]) -> Result<Graph, Refusal>
+    ensures { Begins blocks.now line.now result }
+{
+    let count = match header_count(line) {
+        Ok(count) => count,
+        Err(fault) => return Err(Refusal::Fault(fault)),
+    };
+    match Graph::new(alloc, blocks, count) {
+        Ok(graph) => Ok(graph),
+        Err(_) => Err(Refusal::Memory),
+    }
+}
+
+/// Takes the words behind the header's line, to the end of the source.
+fn read_words<R: Source>(
+    text: &mut LineReader,
+    reader: &mut R,
+    blocks: &[BlockRow],
+    mut graph: Graph,
+) -> Result<Graph, GalFault>
+    requires valid { AreBlocks blocks.now }
+    requires starts { Holds blocks.now graph (at_start graph.left) }
+    requires first { text.old.number ≡ 1 }
+    ensures read { (more : List ℕ) × Consumes (R.remaining reader.old) (R.remaining reader.new) more
+        × ReadsWords blocks.now graph.left (text.old.held ++ more) (R.remaining reader.new) result }
+    ensures failures { R.failures reader.new ≡ failures_after_graph (R.failures reader.old) result }
+    ensures counted { (first : ℕ) → CountsFrom first text.old.turns (R.turns reader.old) → CountsFrom first text.new.turns (R.turns reader.new) }
+    ensures within { text.new.turns ≤ turn_limit }
+    ensures limit { result ≡ Err GalFault.TurnLimit → text.new.turns ≡ turn_limit }
+{
+    loop {
+        match text.advance_word(reader) {
+            Ok(WordStep::Word) => {
+                if let Err(refusal) = graph.take(blocks, text.number() - 1, text.line()) {
+                    return Err(refused(refusal));
+                }
+            }
+            Ok(WordStep::LastWord) => {
+                if let Err(refusal) = graph.take(blocks, text.number() - 1, text.line()) {
+                    return Err(refused(refusal));
+                }
+                return Ok(graph);
+            }
+            Ok(WordStep::End) => return Ok(graph),
+            Err(fault) => return Err(read_told(graph.long_fault(text.number()), fault)),
+        }
+    }
+}
+
+/// Takes the header and all words.
+fn read_graph<R: Source>(
+    alloc: Global,
+    text: &mut LineReader,
+    reader: &mut R,
+    blocks: &[BlockRow],
+) -> Result<Graph, GalFault>
+    requires valid { AreBlocks blocks.now }
+    requires held { text.old.held ≡ [] }
+    requires first { text.old.number ≡ 0 }
+    ensures read { (came : List ℕ) × Consumes (R.remaining reader.old) (R.remaining reader.new) came
+        × ReadsGraph blocks.now came (R.remaining reader.new) result }
+    ensures failures { R.failures reader.new ≡ failures_after_graph (R.failures reader.old) result }
+    ensures counted { (first : ℕ) → CountsFrom first text.old.turns (R.turns reader.old) → CountsFrom first text.new.turns (R.turns reader.new) }
+    ensures within { text.new.turns ≤ turn_limit }
+    ensures limit { result ≡ Err GalFault.TurnLimit → text.new.turns ≡ turn_limit }
+{
+    match text.advance(reader) {
+        Ok(Step::Line) => match begin(alloc, text.line(), blocks) {
+            Ok(graph) => read_words(text, reader, blocks, graph),
+            Err(refusal) => Err(refused(refusal)),
+        },
+        Ok(Step::LastLine) => match begin(alloc, text.line(), blocks) {
+            Ok(graph) => Ok(graph),
+            Err(refusal) => Err(refused(refusal)),
+        },
+        Ok(Step::End) => Err(GalFault::Text(TextFault::Header)),
+        Err(fault) => Err(read_told(TextFault::Header, fault)),
+    }
+}
+
+fn pairs_told(unpaired: Unpaired) -> GalFault
+    ensures { result ≡ pairs_told unpaired }
+{
+    match unpaired {
+        Unpaired::OneWay(first, second) => GalFault::OneWay(first, second),
+        Unpaired::Memory => GalFault::Memory,
+    }
+}
+
+/// The pairs, where each block that is listed lists back.
+fn paired(alloc: Global, links: Vec<Link>) -> Result<Vec<(BlockId, BlockId)>, GalFault>
+    ensures { PairsUp links.items result }
+{
+    match pairs_of(alloc, links) {
+        Ok(pairs) => Ok(pairs),
+        Err(unpaired) => Err(pairs_told(unpaired)),
+    }
+}
+
+/// The pairs, where no word and no unit is wanting and each block that is listed lists back.
+fn finish(
+    alloc: Global,
+    blocks: &[BlockRow],
+    graph: Graph,
+) -> Result<Vec<(BlockId, BlockId)>, GalFault>
+    requires valid { AreBlocks blocks.now }
+    requires held { IsHeld blocks.now graph }
+    ensures { (p : Progress) → Holds blocks.now graph p → Finishes (ids_of blocks.now) p result }
+{
+    if !graph.is_done() {
+        return Err(GalFault::Text(TextFault::EndsEarly));
+    }
+    match first_missing(graph.seen.as_slice()) {
+        Some(place) => Err(GalFault::MissingUnit(blocks[place].id)),
+        None => paired(alloc, graph.links),
+    }
+}
 
 /// Reads a neighbour file to the end of the source: each pair of neighbours once, the smaller number first, rising.
 pub fn read<R: Source>(
@@ -18,9 +166,16 @@ pub fn read<R: Source>(
 ) -> Result<Vec<(BlockId, BlockId)>, GalFault>
     requires { AreBlocks blocks.now }
     ensures read { (text : List ℕ) × Consumes (R.remaining reader.old) (R.remaining reader.new) text × IsRead (ids_of blocks.now) text (R.remaining reader.new) result }
+    ensures valid { IfOk result (λ pairs. All (AreDifferentBlocks blocks.now) pairs.items) }
     ensures failures { R.failures reader.new ≡ failures_after_file (R.failures reader.old) result }
     ensures turns { result ≡ Err GalFault.TurnLimit → R.turns reader.new ≡ min (R.turns reader.old + turn_limit) (2 ^ 64 - 1) }
     ensures most { R.turns reader.new ≤ R.turns reader.old + turn_limit }
 {
-    Err(GalFault::Memory)
+    let Ok(mut text) = LineReader::new(alloc) else {
+        return Err(GalFault::Memory);
+    };
+    match read_graph(alloc, &mut text, reader, blocks) {
+        Ok(graph) => finish(alloc, blocks, graph),
+        Err(fault) => Err(fault),
+    }
 }

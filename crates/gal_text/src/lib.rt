@@ -3,4 +3,9 @@
 
 pub mod fault;
 pub mod gal;
+pub mod header;
+pub mod law;
+pub mod links;
+#[cfg(test)]
+mod tests;
 pub mod units;

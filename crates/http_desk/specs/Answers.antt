@@ -55,6 +55,7 @@ answer_of (reply.Created name revisions) = json_text 201 false (created_body nam
 answer_of (reply.Plans rows) = json_text 200 false (plans_body rows)
 answer_of (reply.Blocks text) = answer_text 200 PlainText None false text
 answer_of (reply.Baf text) = answer_text 200 PlainText None false text
+answer_of (reply.Audited text) = json_text 200 false text
 answer_of (reply.Refused refusal) = json_text (refusal_status refusal) (refusal_closes refusal) (refusal_body refusal)
 
 abbrev pub closes_after : Reply → Bool
@@ -62,6 +63,7 @@ closes_after (reply.Created name revisions) = false
 closes_after (reply.Plans rows) = false
 closes_after (reply.Blocks text) = false
 closes_after (reply.Baf text) = false
+closes_after (reply.Audited text) = false
 closes_after (reply.Refused refusal) = refusal_closes refusal
 
 abbrev pub error_name : Error → List ℕ
@@ -110,6 +112,7 @@ MayStarve (reply.Created name revisions) = ⊥
 MayStarve (reply.Plans rows) = ⊤
 MayStarve (reply.Blocks text) = ⊤
 MayStarve (reply.Baf text) = ⊤
+MayStarve (reply.Audited text) = ⊤
 MayStarve (reply.Refused Halted) = ⊥
 MayStarve (reply.Refused NoPlan) = ⊤
 MayStarve (reply.Refused NoRevision) = ⊤

@@ -7,7 +7,7 @@ use Rattle.desk_model.specs.Name.{plan_name_of}
 use Rattle.desk_model.specs.declared.kind.Kind.{Kind}
 use Rattle.desk_model.specs.declared.command.Query.{Query}
 use Rattle.desk_model.specs.declared.command.Command.TheVariants.{Create, Whole}
-use Rattle.desk_model.specs.declared.command.Query.TheVariants.{Plans, Blocks, Revision}
+use Rattle.desk_model.specs.declared.command.Query.TheVariants.{Plans, Blocks, Revision, Audit}
 use Rattle.http_desk.specs.declared.route.Page.{Page}
 use Rattle.http_desk.specs.declared.route.Page.TheVariants as page
 use Rattle.http_desk.specs.declared.order.Order.{Order}
@@ -15,7 +15,7 @@ use Rattle.http_desk.specs.declared.order.Order.TheVariants as order
 use Rattle.http_desk.specs.declared.order.Error.TheVariants.{UnknownMethod, NoRoute, BadName, BadNumber, BadQuery}
 use Rattle.http_desk.specs.Routes.{page_of, plan_part, revision_part}
 use Rattle.field_text.specs.Digits.{number_of}
-use Rattle.http_desk.specs.Queries.{create_query, after_query, is_no_query}
+use Rattle.http_desk.specs.Queries.{create_query, after_query, senate_query, is_no_query}
 
 -- the method is the word; case matters (RFC 9110, section 9.1)
 abbrev pub is_method : List ℕ → List ℕ → Bool
@@ -58,6 +58,12 @@ revision_order None k query = order.Refused BadName
 revision_order (Some name) None query = order.Refused BadNumber
 revision_order (Some name) (Some k) query = plain_query (Revision name k) query
 
+abbrev pub audit_order : Option (List ℕ) → Option ℕ → Option (Option (List ℕ × ℕ)) → Order
+audit_order None k senate = order.Refused BadName
+audit_order (Some name) None senate = order.Refused BadNumber
+audit_order (Some name) (Some k) None = order.Refused BadQuery
+audit_order (Some name) (Some k) (Some senate) = order.Query (Audit name k senate)
+
 abbrev pub order_at : Option Page → (method path query body : List ℕ) → Order
 order_at None method path query body = order.Refused NoRoute
 order_at (Some page.Blocks) method path query body = if is_method (codes "GET") method then plain_query Blocks query else order.Refused NoRoute
@@ -65,6 +71,7 @@ order_at (Some page.Plans) method path query body = if is_method (codes "GET") m
 order_at (Some page.Plan) method path query body = if is_method (codes "PUT") method then create_order (name_in path) (create_query query) else order.Refused NoRoute
 order_at (Some page.Revisions) method path query body = if is_method (codes "POST") method then whole_order (name_in path) (after_query query) body else order.Refused NoRoute
 order_at (Some page.Revision) method path query body = if is_method (codes "GET") method then revision_order (name_in path) (number_in path) query else order.Refused NoRoute
+order_at (Some page.Audit) method path query body = if is_method (codes "GET") method then audit_order (name_in path) (number_in path) (senate_query query) else order.Refused NoRoute
 
 -- what the request asks for
 abbrev pub order_of : (method target body : List ℕ) → Order

@@ -1,9 +1,11 @@
 -- What the query of a target says, as a form (application/x-www-form-urlencoded).
-use Rattle.std.specs.Prelude.{ℕ, Bool, true, false, ◌&&◌, if◌then◌else◌, nat_le, List, [], ◌∷◌, map, Option, Some, None, codes}
+use Rattle.std.specs.Prelude.{ℕ, Bool, true, false, ◌&&◌, if◌then◌else◌, nat_le, ◌==◌, List, [], ◌∷◌, map, Option, Some, None, option_map, codes}
+use Rattle.std.specs.List.{before_first, after_first}
 use Rattle.std.specs.Str.{bytes_eq}
 use Rattle.std.specs.Str.Lossy.{utf8_lossy}
 use Rattle.form_urlencoded.specs.Form.{raw_pairs, decode}
 use Rattle.field_text.specs.Digits.{number_of}
+use Rattle.desk_model.specs.Name.{plan_name_of}
 use Rattle.desk_model.specs.declared.kind.Kind.{Kind}
 use Rattle.desk_model.specs.declared.kind.Kind.TheVariants.{Congress, Senate, House}
 
@@ -65,6 +67,24 @@ after_number (p ∷ q ∷ more) = None
 
 abbrev pub after_query : List ℕ → Option ℕ
 after_query query = after_number (pairs_of query)
+
+abbrev pub addressed : Option (List ℕ) → Option ℕ → Option (List ℕ × ℕ)
+addressed None j = None
+addressed (Some name) None = None
+addressed (Some name) (Some j) = Some (name, j)
+
+-- a revision of a plan: the plan's name, a colon, and the revision's number of 1 to 5 digits
+abbrev pub address_of : List ℕ → Option (List ℕ × ℕ)
+address_of text = addressed (plan_name_of (before_first (λ b. b == 58) text)) (number_of 5 (after_first (λ b. b == 58) text))
+
+-- the revision of a companion, or none; nothing where the query tells anything else
+abbrev pub senate_address : List (List ℕ × List ℕ) → Option (Option (List ℕ × ℕ))
+senate_address [] = Some None
+senate_address (p ∷ []) = if bytes_eq p.0 (codes "senate") then option_map Some (address_of p.1) else None
+senate_address (p ∷ q ∷ more) = None
+
+abbrev pub senate_query : List ℕ → Option (Option (List ℕ × ℕ))
+senate_query query = senate_address (pairs_of query)
 
 -- there is no pair
 abbrev pub has_none : List (List ℕ × List ℕ) → Bool

@@ -211,6 +211,10 @@ impl Answer {
                 self.put_long(ContentType::PlainText, text.into_vec());
                 Ok(false)
             }
+            Reply::Audited(text) => {
+                self.put_long(ContentType::Json, text.into_vec());
+                Ok(false)
+            }
             Reply::Refused(refusal) => {
                 put_refusal(&mut self.short, refusal);
                 self.status = refusal_status(refusal);

@@ -1,6 +1,7 @@
 //! The clerk at the counter, alone with the desk.
 ghost use Rattle.std.specs.Prelude.{◌≡◌};
-ghost use Rattle.desk_model.specs.Outcome.{CommandMay, QueryMay};
+ghost use Rattle.desk_model.specs.Outcome.{CommandMay};
+ghost use Rattle.desk_store.specs.Audits.{AskMay};
 
 use crate::counter::Counter;
 use desk_model::command::{Command, Query};
@@ -11,7 +12,7 @@ use std::alloc::Global;
 impl Counter for Clerk {
     ghost commands = { λ desk command reply after. CommandMay ⊥ ⊥ desk command reply after };
 
-    ghost asks = { λ desk query reply after. QueryMay desk query reply × (after ≡ desk) };
+    ghost asks = { λ desk query reply after. AskMay desk query reply × (after ≡ desk) };
 
     const ALONE: bool = true;
 

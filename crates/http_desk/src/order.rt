@@ -2,10 +2,10 @@
 ghost use Rattle.std.specs.Prelude.{◌≡◌, Some, IfOk, codes, if◌then◌else◌};
 ghost use Rattle.std.specs.Str.{IsAscii};
 ghost use Rattle.http_desk.specs.Routes.{the_routes};
-ghost use Rattle.http_desk.specs.Orders.{is_method, is_known as is_known_method, order_of as order_of_request, order_at, name_in as name_in_path, create_order as create_order_of, whole_order as whole_order_of, plain_query as plain_query_of, revision_order as revision_order_of, number_in as number_in_path};
-ghost use Rattle.http_desk.specs.Queries.{create_query as create_query_of, after_query as after_query_of};
+ghost use Rattle.http_desk.specs.Orders.{is_method, is_known as is_known_method, order_of as order_of_request, order_at, name_in as name_in_path, create_order as create_order_of, whole_order as whole_order_of, plain_query as plain_query_of, revision_order as revision_order_of, audit_order as audit_order_of, number_in as number_in_path};
+ghost use Rattle.http_desk.specs.Queries.{create_query as create_query_of, after_query as after_query_of, senate_query as senate_query_of};
 
-use crate::query::{after_query, create_query, is_no_query, short_number};
+use crate::query::{after_query, create_query, is_no_query, senate_query, short_number};
 use crate::route::{Page, around, page_of, plan_part, revision_part};
 use desk_model::command::{Command, Query};
 use desk_model::name::PlanName;
@@ -115,6 +115,22 @@ fn revision_order(alloc: Global, path: &[u8], query: &[u8]) -> Result<Order, All
     Ok(plain_query(Query::Revision { plan, k }, query))
 }
 
+/// A look at `/plans/{p}/revisions/{k}/audit`.
+fn audit_order(alloc: Global, path: &[u8], query: &[u8]) -> Result<Order, AllocError>
+    ensures { IfOk result (λ order. order ≡ audit_order_of (name_in_path path.now) (number_in_path path.now) (senate_query_of query.now)) }
+{
+    let Some(plan) = name_in(alloc, path)? else {
+        return Ok(Order::Refused(Error::BadName));
+    };
+    let Some(k) = number_in(alloc, path)? else {
+        return Ok(Order::Refused(Error::BadNumber));
+    };
+    let Some(senate) = senate_query(alloc, query)? else {
+        return Ok(Order::Refused(Error::BadQuery));
+    };
+    Ok(Order::Query(Query::Audit { plan, k, senate }))
+}
+
 /// A query at a page that takes nothing else.
 fn get_only(method: &[u8], asked: Query, query: &[u8]) -> Order
     ensures { result ≡ (if is_method (codes "GET") method.now then plain_query_of asked query.now else Order.Refused Error.NoRoute) }
@@ -156,6 +172,12 @@ fn order_at_page(
                 return Ok(Order::Refused(Error::NoRoute));
             }
             revision_order(alloc, path, query)
+        }
+        Page::Audit => {
+            if method != b"GET".as_slice() {
+                return Ok(Order::Refused(Error::NoRoute));
+            }
+            audit_order(alloc, path, query)
         }
     }
 }

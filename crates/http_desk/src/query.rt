@@ -1,13 +1,16 @@
 //! Queries of targets.
-ghost use Rattle.std.specs.Prelude.{◌≡◌, ℕ, List, [], ◌∷◌, length, ◌≢◌, IfOk, MatchOption, ⊤};
+ghost use Rattle.std.specs.Prelude.{◌≡◌, ℕ, List, [], ◌∷◌, length, ◌≢◌, IfOk, MatchOption, Some, ⊤};
 ghost use Rattle.std.specs.Str.{bytes_eq};
 ghost use Rattle.std.specs.Cow.{cow_str_bytes};
 ghost use Rattle.form_urlencoded.specs.Form.{raw_pairs as raw_pairs_of, pair_text};
-ghost use Rattle.http_desk.specs.Queries.{text_of, kind_of as kind_of_text, district_limit as limit_of, size_of as size_of_texts, create_query as create_query_of, after_query as after_query_of, is_no_query as has_no_pair};
+ghost use Rattle.http_desk.specs.Queries.{text_of, kind_of as kind_of_text, district_limit as limit_of, size_of as size_of_texts, create_query as create_query_of, after_query as after_query_of, address_of as address_of_text, senate_query as senate_query_of, is_no_query as has_no_pair};
 ghost use Rattle.http_desk.specs.Pairs.{HasOne, HasTwo};
 ghost use Rattle.field_text.specs.Digits.{number_of};
 
+use crate::route::around;
+use desk_model::districts::DistrictCount;
 use desk_model::kind::Kind;
+use desk_model::name::PlanName;
 use field_text::digits::number;
 use form_urlencoded::{decode, raw_pairs};
 use std::alloc::{AllocError, Global};
@@ -67,7 +70,7 @@ fn district_limit(kind: Kind) -> u64
 }
 
 /// A kind, and a number of districts in its range.
-fn size_of(kind: &[u8], districts: &[u8]) -> Option<(Kind, u16)>
+fn size_of(kind: &[u8], districts: &[u8]) -> Option<(Kind, DistrictCount)>
     ensures { result ≡ size_of_texts kind.now districts.now }
 {
     let kind = kind_of(kind)?;
@@ -75,11 +78,14 @@ fn size_of(kind: &[u8], districts: &[u8]) -> Option<(Kind, u16)>
     if count < 1 || count > district_limit(kind) {
         return None;
     }
-    Some((kind, count as u16))
+    Some((kind, DistrictCount::from_number(count as u16)))
 }
 
 /// What the query of a create tells: `kind` and `districts`, each once. `None` where it tells anything else.
-pub fn create_query(alloc: Global, query: &[u8]) -> Result<Option<(Kind, u16)>, AllocError>
+pub fn create_query(
+    alloc: Global,
+    query: &[u8],
+) -> Result<Option<(Kind, DistrictCount)>, AllocError>
     ensures { IfOk result (λ size. size ≡ create_query_of query.now) }
 {
     let Some((first, second)) = two_pairs(query) else {
@@ -123,6 +129,40 @@ pub fn after_query(alloc: Global, query: &[u8]) -> Result<Option<u32>, AllocErro
         return Ok(short_number(value.as_bytes()));
     }
     Ok(None)
+}
+
+/// A plan's name and the number of one of its revisions, of 1 to 5 digits, cut at the first colon.
+fn address_of(text: &[u8]) -> Option<(PlanName, u32)>
+    ensures { result ≡ address_of_text text.now }
+{
+    let (name, number) = around(text, b':');
+    let plan = PlanName::read(name)?;
+    let j = short_number(number)?;
+    Some((plan, j))
+}
+
+/// What the query of an audit tells: a revision of a `senate` companion, or none. `None` where it tells anything else.
+pub fn senate_query(
+    alloc: Global,
+    query: &[u8],
+) -> Result<Option<Option<(PlanName, u32)>>, AllocError>
+    ensures { IfOk result (λ senate. senate ≡ senate_query_of query.now) }
+{
+    if is_no_query(query) {
+        return Ok(Some(None));
+    }
+    let Some(pair) = one_pair(query) else {
+        return Ok(None);
+    };
+    let name = text(alloc, pair.0)?;
+    let value = text(alloc, pair.1)?;
+    if !is_text(&name, b"senate") {
+        return Ok(None);
+    }
+    match address_of(value.as_bytes()) {
+        Some(address) => Ok(Some(Some(address))),
+        None => Ok(None),
+    }
 }
 
 /// The number that 1 to 5 digits write.

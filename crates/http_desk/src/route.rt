@@ -19,6 +19,8 @@ pub enum Page {
     Revisions,
     /// `/plans/{p}/revisions/{k}`
     Revision,
+    /// `/plans/{p}/revisions/{k}/audit`
+    Audit,
 }
 
 /// Adds a route.
@@ -38,6 +40,7 @@ pub fn router(alloc: Global) -> Result<Router<Page>, InsertError>
     add(&mut router, "/plans/{p}", Page::Plan)?;
     add(&mut router, "/plans/{p}/revisions", Page::Revisions)?;
     add(&mut router, "/plans/{p}/revisions/{k}", Page::Revision)?;
+    add(&mut router, "/plans/{p}/revisions/{k}/audit", Page::Audit)?;
     Ok(router)
 }
 

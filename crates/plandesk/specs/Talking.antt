@@ -5,7 +5,8 @@ use Rattle.desk_model.specs.declared.command.Query.{Query}
 use Rattle.desk_model.specs.declared.reply.Reply.{Reply}
 use Rattle.desk_model.specs.Desk.{Desk}
 use Rattle.desk_model.specs.Sample.{sample_desk}
-use Rattle.desk_model.specs.Outcome.{CommandMay, QueryMay}
+use Rattle.desk_model.specs.Outcome.{CommandMay}
+use Rattle.desk_store.specs.Audits.{AskMay}
 use Rattle.http_desk.specs.Serving.{Serves}
 use Rattle.http_desk.specs.declared.serve.Served.{Served}
 use Rattle.http_desk.specs.declared.serve.ServeFault.{ServeFault}
@@ -18,7 +19,7 @@ abbrev pub desk_commands : Desk → Command → Reply → Desk → Type 0
 desk_commands desk command reply after = CommandMay ⊥ ⊥ desk command reply after
 
 abbrev pub desk_asks : Desk → Query → Reply → Desk → Type 0
-desk_asks desk query reply after = QueryMay desk query reply × (after ≡ desk)
+desk_asks desk query reply after = AskMay desk query reply × (after ≡ desk)
 
 abbrev pub status_of : Result Served ServeFault → Status
 status_of (Ok served) = Done

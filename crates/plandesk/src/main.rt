@@ -6,6 +6,8 @@ ghost use Rattle.check_command.specs.Options.{AreTerms};
 #[cfg(test)]
 mod audit_check_tests;
 #[cfg(test)]
+mod audit_tests;
+#[cfg(test)]
 mod check_tests;
 #[cfg(test)]
 mod revision_tests;

@@ -6,7 +6,7 @@ use Rattle.std.specs.Cmp.Lexicographic.{nat_list_cmp_total}
 use Rattle.desk_model.specs.Desk.{Plan}
 use Rattle.desk_model.specs.Baf.{printed}
 use Rattle.desk_model.specs.Sample.{sample}
-use Rattle.desk_model.specs.Step.{blocks_text}
+use Rattle.desk_model.specs.Step.{says, blocks_text}
 use Rattle.desk_model.specs.Examples.{name_a, county_text, sample_text, plan_of, desk_of}
 use Rattle.desk_model.specs.declared.kind.Kind.TheVariants.{Congress}
 use Rattle.desk_model.specs.declared.reply.Reply.TheVariants as reply
@@ -25,7 +25,7 @@ pub returns : goal.returns
 returns c = record {
   made = simp (get-insert {X = Plan} nat_list_cmp_total)
       (ap (λ m. (reply.Created name_a 1, record (desk_of (plan_of [])) { plans = m })) (insert_again map_of.empty name_a (plan_of []) (plan_of ((1 ∷ 1 ∷ 2 ∷ 2 ∷ []) ∷ []))));
-  back = simp (get-insert {X = Plan} nat_list_cmp_total) (ap reply.Baf text);
+  back = simp (get-insert {X = Plan} nat_list_cmp_total) (ap (λ bytes. says (reply.Baf bytes)) text);
   stale = simp (get-insert {X = Plan} nat_list_cmp_total);
-  blocks = ap reply.Blocks rows;
+  blocks = ap (λ bytes. says (reply.Blocks bytes)) rows;
 }

@@ -21,7 +21,7 @@ returns-clause-ok c =
     let few : length c.in-Some-get.entry.now.1.revisions < 65535 = omega arith in
     posted_after c.args.self.now c.in-Some.geography.now c.args.name.now c.args.body.now c.args.after c.in-Some-get.entry.now.1
     (sym c.in-Some.ensures) (ap (λ (d : Desk). map_of.get d.plans c.args.name.now) (sym c.self.view_is) ∙ c.in-Some-get.ensures.found) same few
-    c.in-Ok-replace.plans c.in_ok-districts.districts.items c.with_plans.result (rw (c.as_slice.ensures, c.n.ensures) at c.in_ok-districts.ensures.ok)
+    c.in-Ok-replace.plans c.in_ok-districts.districts.items c.with_plans.result (rw (c.as_slice.ensures, c.number.ensures.value, c.n.ensures) at c.in_ok-districts.ensures.ok)
     (c.in-Ok-replace.ensures ∙ ap (λ (e : Row). map_of.insert c.self.inside.plans e.0 e.1) c.in-Ok.ensures
     ∙ ap (λ (k : List ℕ). map_of.insert c.self.inside.plans k (record c.in-Some-get.entry.now.1 { revisions = c.in-Some-get.entry.now.1.revisions ++ c.in_ok-districts.districts.items ∷ [] })) c.in-Some-get.ensures.named
     ∙ ap (λ (d : Desk). map_of.insert d.plans c.args.name.now (record c.in-Some-get.entry.now.1 { revisions = c.in-Some-get.entry.now.1.revisions ++ c.in_ok-districts.districts.items ∷ [] })) c.self.view_is)

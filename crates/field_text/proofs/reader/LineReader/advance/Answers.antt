@@ -1,4 +1,4 @@
-use Rattle.std.proofs.Common.{◌≡◌, ℕ, List, ◌+◌, ◌++◌, rules, sym, subst, ap, ◌∙◌, append_assoc}
+use Rattle.std.proofs.Common.{ℕ, List, ◌++◌, sym, subst, ap, ◌∙◌, append_assoc}
 use Rattle.field_text.specs.Reading.{CountsFrom, Reading}
 use Rattle.field_text.proofs.ReadingLemmas.{counts_more, Consumes-then}
 use Rattle.field_text.proofs.reader.LineReader.advance.Goals as goal

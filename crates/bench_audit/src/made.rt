@@ -1,0 +1,86 @@
+//! A made state: blocks in rows, each beside the next and above the one in the next row.
+ghost use Rattle.std.specs.Prelude.{◌≡◌, ◌<◌, ◌≤◌, length, All, IfOk, OnOk};
+ghost use Rattle.desk_model.specs.Geography.{AreBlocks, AreDifferentBlocks};
+
+use desk_model::block::{BlockId, BlockRow};
+use std::alloc::{AllocError, Global};
+
+/// Blocks of one state with consecutive numbers.
+pub fn made_blocks(alloc: Global, count: usize) -> Result<Vec<BlockRow>, AllocError>
+    requires some { 0 < count }
+    requires few { count ≤ 262144 }
+    ensures { IfOk result (λ blocks. AreBlocks blocks.items) }
+{
+    let mut blocks = Vec::with_capacity(alloc, count)?;
+    for i in 0..count {
+        blocks.push(BlockRow {
+            id: BlockId::from_number(190_010_000_000_000 + i as u64),
+            city: None,
+            population: (i % 97) as u32,
+        })?;
+    }
+    Ok(blocks)
+}
+
+/// Adds a pair, where there are two such blocks.
+fn add_pair(
+    pairs: &mut Vec<(BlockId, BlockId)>,
+    blocks: &[BlockRow],
+    first: usize,
+    second: usize,
+) -> Result<(), AllocError>
+    requires { All (AreDifferentBlocks blocks.now) pairs.old.items }
+    ensures { OnOk result (All (AreDifferentBlocks blocks.now) pairs.new.items) }
+{
+    if first < blocks.len() && second < blocks.len() {
+        let one = blocks[first].id;
+        let other = blocks[second].id;
+        if one.number() != other.number() {
+            pairs.push((one, other))?;
+        }
+    }
+    Ok(())
+}
+
+/// The pairs of neighbours, in rows of that width.
+pub fn made_pairs(
+    alloc: Global,
+    blocks: &[BlockRow],
+    width: usize,
+) -> Result<Vec<(BlockId, BlockId)>, AllocError>
+    requires some { 0 < width }
+    requires narrow { width ≤ 262144 }
+    requires few { length blocks.now ≤ 262144 }
+    ensures { IfOk result (λ pairs. All (AreDifferentBlocks blocks.now) pairs.items) }
+{
+    let mut pairs = Vec::with_capacity(alloc, 2 * blocks.len())?;
+    for i in 0..blocks.len() {
+        if (i + 1) % width != 0 {
+            add_pair(&mut pairs, blocks, i, i + 1)?;
+        }
+        add_pair(&mut pairs, blocks, i, i + width)?;
+    }
+    Ok(pairs)
+}
+
+/// A plan in stripes of blocks, which the districts take in turn.
+pub fn made_plan(
+    alloc: Global,
+    count: usize,
+    stripes: usize,
+    districts: u16,
+) -> Result<Vec<u16>, AllocError>
+    requires some { 0 < count }
+    requires few { count ≤ 262144 }
+    requires striped { stripes ≤ 262144 }
+    requires districted { 0 < districts }
+    requires numbered { districts ≤ 999 }
+    ensures { IfOk result (λ plan. length plan.items ≡ count) }
+{
+    let mut plan = Vec::with_capacity(alloc, count)?;
+    for i in 0..count {
+        let stripe = i as u64 * stripes as u64 / count as u64;
+        plan.push((stripe % districts as u64) as u16 + 1)?;
+    }
+    Ok(plan)
+}

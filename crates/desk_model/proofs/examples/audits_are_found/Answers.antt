@@ -1,0 +1,15 @@
+use Rattle.std.specs.FinMap.{get-empty, get-insert}
+use Rattle.std.specs.Cmp.Lexicographic.{nat_list_cmp_total}
+use Rattle.desk_model.specs.Desk.{Plan, name_cmp}
+use Rattle.desk_model.proofs.examples.audits_are_found.Goals as goal
+
+pub returns : goal.returns
+returns c = record {
+  beside = simp (get-insert {X = Plan} nat_list_cmp_total);
+  alone = simp (get-insert {X = Plan} nat_list_cmp_total);
+  no_plan = simp (get-insert {X = Plan} nat_list_cmp_total, get-empty {X = Plan} name_cmp);
+  no_revision = simp (get-insert {X = Plan} nat_list_cmp_total);
+  no_companion = simp (get-insert {X = Plan} nat_list_cmp_total);
+  of_house = simp (get-insert {X = Plan} nat_list_cmp_total);
+  for_senate = simp (get-insert {X = Plan} nat_list_cmp_total);
+}

@@ -1,0 +1,21 @@
+-- The texts of audits.
+use Rattle.std.specs.Prelude.{◌≡◌, ℕ, List}
+use Rattle.desk_model.specs.declared.command.Query.{Query}
+use Rattle.desk_model.specs.declared.reply.Reply.{Reply}
+use Rattle.desk_model.specs.Geography.{Ground}
+use Rattle.desk_model.specs.Desk.{Desk}
+use Rattle.desk_model.specs.Subject.{AuditSubject}
+use Rattle.desk_model.specs.Outcome.{QueryMay}
+use Rattle.audit_report.specs.Figures.{Figures}
+use Rattle.audit_report.specs.Report.{IsReport}
+use Rattle.audit_report.specs.ReportText.{report_text}
+
+-- the text tells the figures of a report on the subject
+pub record IsReportText (g : Ground) (subject : AuditSubject) (text : List ℕ) : Type 0 where
+  pub figures : Figures
+  pub report : IsReport g subject.kind subject.n subject.districts subject.senate figures
+  pub told : text ≡ report_text figures
+
+-- a query is answered by the desk and audited by the law, unless memory is wanting
+abbrev pub AskMay : Desk → Query → Reply → Type 0
+AskMay = QueryMay IsReportText

@@ -1,0 +1,231 @@
+-- A neighbour file as a whole: its header, its words and its end.
+use Rattle.std.proofs.Common.{◌≡◌, ℕ, zero, suc, ◌+◌, ◌<◌, ◌≤◌, Bool, true, false, cond, ltb, List, [], ◌∷◌, ◌++◌, length, Vec, Option, Result, Ok, Err, min, refl, sym, ap, subst, ◌∙◌, arith, append_assoc, length-append, inl, inr, ◌⊎◌, ⊎_elim}
+use Rattle.std.specs.declared.alloc.Global.{Global}
+use Rattle.std.proofs.lemmas.List.{append-nil}
+use Rattle.std.proofs.lemmas.Bool.{lt-ltb}
+use Rattle.std.specs.Io.KnownBytes.{Consumes, IsAtEnd}
+use Rattle.std.specs.Str.Lines.{strip_carriage_return}
+use Rattle.field_text.specs.Words.{words}
+use Rattle.field_text.specs.WordLaws.{words-none}
+use Rattle.field_text.specs.Reading.{Reading, NoLineFeed, BeginsWithLine, IsLastLine, IsTooLong, Gives, CountsFrom, line_limit, turn_limit}
+use Rattle.field_text.specs.declared.reader.ReadFault.{ReadFault}
+use Rattle.field_text.specs.declared.reader.ReadFault.TheVariants as read
+use Rattle.field_text.proofs.ReadingLemmas.{Consumes-then}
+use Rattle.field_text.proofs.BufferLemmas.{strip_shorter}
+use Rattle.field_text.proofs.JudgedLemmas.{cut_or_one, NoLineFeed-append, long_part}
+use Rattle.desk_model.specs.Geography.{ids_of}
+use Rattle.desk_model.specs.declared.block.BlockRow.{BlockRow}
+use Rattle.gal_text.specs.Units.{Progress, at_start, words_read, count_of_words, header_count, from_count, progress_after, units_read, go_on, at_end, is_done}
+use Rattle.gal_text.specs.Holding.{Holds}
+use Rattle.gal_text.specs.GalFile.{IsOneLine, HasHeader, Says, ArePairs, LacksUnit, HasOneWay, ShowsFault, IsCutInWords, IsCutShort, IsRead, failures_after_file}
+use Rattle.gal_text.specs.Parts.{AreUnits, AreCutWords, ReadsWords, IsGraph, ReadsGraph, Begins, Finishes, refused, read_told}
+use Rattle.gal_text.specs.declared.fault.TextFault.{TextFault}
+use Rattle.gal_text.specs.declared.fault.TextFault.TheVariants.{Header, EndsEarly}
+use Rattle.gal_text.specs.declared.fault.GalFault.{GalFault}
+use Rattle.gal_text.specs.declared.fault.GalFault.TheVariants as fault
+use Rattle.gal_text.specs.declared.units.Graph.{Graph}
+use Rattle.gal_text.specs.declared.units.Refusal.{Refusal}
+use Rattle.gal_text.specs.declared.units.Refusal.TheVariants as refusal
+
+-- ---- the header
+
+line_more : (text line rest more : List ℕ) → BeginsWithLine text line rest → BeginsWithLine (text ++ more) line (rest ++ more)
+line_more text line rest more l = record {
+  raw = l.raw;
+  cut = ap (λ (t : List ℕ). t ++ more) l.cut ∙ append_assoc l.raw (10 ∷ rest) more;
+  one = l.one;
+  stripped = l.stripped;
+}
+
+module _ (ids : List ℕ) where
+  bad_header : (text line rest : List ℕ) (f : TextFault) → HasHeader text line rest → header_count line ≡ Err f → Says ids text (Err f)
+  bad_header text line rest f header is = record {
+    line = line;
+    rest = rest;
+    header = header;
+    says = sym (ap (λ (r : Result ℕ TextFault). go_on (from_count r (λ n. words_read ids (at_start n) 1 (words rest))) at_end) is);
+  }
+
+  after : (line : List ℕ) (count : ℕ) (ws : List (List ℕ)) (r : Result Progress TextFault) → header_count line ≡ Ok count → words_read ids (at_start count) 1 ws ≡ r → progress_after ids line ws ≡ r
+  after line count ws r is said = ap (λ (c : Result ℕ TextFault). from_count c (λ n. words_read ids (at_start n) 1 ws)) is ∙ said
+
+  bad_words : (text line rest : List ℕ) (count : ℕ) (f : TextFault) → HasHeader text line rest → header_count line ≡ Ok count → words_read ids (at_start count) 1 (words rest) ≡ Err f → Says ids text (Err f)
+  bad_words text line rest count f header is said = record {
+    line = line;
+    rest = rest;
+    header = header;
+    says = sym (ap (λ (r : Result Progress TextFault). go_on r at_end) (after line count (words rest) (Err f) is said));
+  }
+
+  long_header : (line : List ℕ) → line_limit < length line → header_count line ≡ Err Header
+  long_header line long = ap (λ (b : Bool). cond b (Err Header) (count_of_words (words line))) (lt-ltb line_limit (length line) long)
+
+  -- whatever follows, the header's line is too long
+  pub too_long : (text more : List ℕ) → IsTooLong text → Says ids (text ++ more) (Err Header)
+  too_long text more t = ⊎_elim whole part (cut_or_one more)
+    where
+      bytes : line_limit < length text
+      bytes = omega (arith, strip_shorter text, t.long)
+
+      whole : NoLineFeed more → Says ids (text ++ more) (Err Header)
+      whole one =
+          bad_header (text ++ more) (text ++ more) [] Header (inr (record { is = refl; one = NoLineFeed-append text more t.one one }, refl))
+          (long_header (text ++ more) (omega (arith, length-append text more, bytes)))
+
+      part : ((raw : List ℕ) × (rest : List ℕ) × (more ≡ raw ++ 10 ∷ rest) × NoLineFeed raw) → Says ids (text ++ more) (Err Header)
+      part w =
+          bad_header (text ++ more) (strip_carriage_return (text ++ w.0)) w.1 Header
+          (inl (record {
+            raw = text ++ w.0;
+            cut = ap (λ (m : List ℕ). text ++ m) w.2 ∙ sym (append_assoc text w.0 (10 ∷ w.1));
+            one = NoLineFeed-append text w.0 t.one w.3;
+            stripped = refl;
+          }))
+          (long_header (strip_carriage_return (text ++ w.0)) (long_part text w.0 t.long))
+
+  none_says : Says ids [] (Err Header)
+  none_says = bad_header [] [] [] Header (inr (record { is = refl; one = λ k d inside. absurd (omega arith) }, refl)) (ap count_of_words words-none)
+
+-- ---- the header, and then the words
+
+module _ (blocks : List BlockRow) where
+  -- what is told of the bytes that came
+  abbrev pub Told : Option (List ℕ) → Option (List ℕ) → Result Graph GalFault → Type 0
+  Told old left result = (came : List ℕ) × Consumes old left came × ReadsGraph blocks came left result
+
+  cut_words : (text line held more : List ℕ) (count : ℕ) → BeginsWithLine text line held → header_count line ≡ Ok count → AreCutWords (ids_of blocks) count (held ++ more) → IsCutInWords (ids_of blocks) (text ++ more)
+  cut_words text line held more count l is cut = record {
+    line = line;
+    rest = held ++ more;
+    header = line_more text line held more l;
+    whole = cut.whole;
+    broken = cut.broken;
+    words_are = cut.words_are;
+    is_broken = cut.is_broken;
+    progress = cut.progress;
+    good = after (ids_of blocks) line count cut.whole (Ok cut.progress) is cut.good;
+  }
+
+  reads_on : (text line held more : List ℕ) (count : ℕ) (left : Option (List ℕ)) (result : Result Graph GalFault) → BeginsWithLine text line held → header_count line ≡ Ok count
+      → ReadsWords blocks count (held ++ more) left result → ReadsGraph blocks (text ++ more) left result
+  reads_on text line held more count left (Ok g) l is reads = (
+    reads.0,
+    record {
+      line = line;
+      rest = held ++ more;
+      header = inl (line_more text line held more l);
+      progress = reads.1.progress;
+      said = after (ids_of blocks) line count (words (held ++ more)) (Ok reads.1.progress) is reads.1.said;
+      holds = reads.1.holds;
+    },
+  )
+  reads_on text line held more count left (Err (fault.Text f)) l is (inl each) =
+      inl (λ rest. bad_words (ids_of blocks) ((text ++ more) ++ rest) line ((held ++ more) ++ rest) count f (inl (line_more (text ++ more) line (held ++ more) rest (line_more text line held more l))) is (each rest))
+  reads_on text line held more count left (Err (fault.Text f)) l is (inr last) =
+      inr (last.0, bad_words (ids_of blocks) (text ++ more) line (held ++ more) count f (inl (line_more text line held more l)) is last.1)
+  reads_on text line held more count left (Err fault.Read) l is cut = inr (cut_words text line held more count l is cut)
+  reads_on text line held more count left (Err fault.TurnLimit) l is cut = inr (cut_words text line held more count l is cut)
+  reads_on text line held more count left (Err fault.Memory) l is reads = tt
+  reads_on text line held more count left (Err (fault.MissingUnit id)) l is reads = absurd reads
+  reads_on text line held more count left (Err (fault.OneWay a b)) l is reads = absurd reads
+
+  pub told_words : (old left next : Option (List ℕ)) (text line held : List ℕ) (count : ℕ) (result : Result Graph GalFault) → Consumes old left text → BeginsWithLine text line held → header_count line ≡ Ok count
+      → ((more : List ℕ) × Consumes left next more × ReadsWords blocks count (held ++ more) next result) → Told old next result
+  told_words old left next text line held count result came l is reads =
+      (text ++ reads.0, Consumes-then old left next text reads.0 came reads.1, reads_on text line held reads.0 count next result l is reads.2)
+
+  pub told_refused : (old left : Option (List ℕ)) (text line held : List ℕ) (r : Refusal) → Consumes old left text → BeginsWithLine text line held → Begins blocks line (Err r) → Told old left (Err (refused r))
+  told_refused old left text line held (refusal.Fault f) came l is =
+      (text, came, inl (λ rest. bad_header (ids_of blocks) (text ++ rest) line (held ++ rest) f (inl (line_more text line held rest l)) is))
+  told_refused old left text line held refusal.Memory came l is = (text, came, tt)
+
+  last_header : (text line : List ℕ) → IsLastLine text line → HasHeader text line []
+  last_header text line l = inr (record { is = l.is; one = l.one }, refl)
+
+  pub told_refused_last : (old left : Option (List ℕ)) (text line : List ℕ) (r : Refusal) → Consumes old left text → IsAtEnd left → IsLastLine text line → Begins blocks line (Err r) → Told old left (Err (refused r))
+  told_refused_last old left text line (refusal.Fault f) came end l is = (text, came, inr (end, bad_header (ids_of blocks) text line [] f (last_header text line l) is))
+  told_refused_last old left text line refusal.Memory came end l is = (text, came, tt)
+
+  pub told_header_alone : (old left : Option (List ℕ)) (text line : List ℕ) (g : Graph) → Consumes old left text → IsAtEnd left → IsLastLine text line → Begins blocks line (Ok g) → Told old left (Ok g)
+  told_header_alone old left text line g came end l is = (
+    text,
+    came,
+    (
+      end,
+      record {
+        line = line;
+        rest = [];
+        header = last_header text line l;
+        progress = at_start g.left;
+        said = after (ids_of blocks) line g.left (words []) (Ok (at_start g.left)) is.0 (ap (words_read (ids_of blocks) (at_start g.left) 1) words-none);
+        holds = is.1;
+      },
+    ),
+  )
+
+  pub told_none : (old left : Option (List ℕ)) (text : List ℕ) → Consumes old left text → IsAtEnd left → text ≡ [] → Told old left (Err (fault.Text Header))
+  told_none old left text came end none = (text, came, inr (end, subst (λ (t : List ℕ). Says (ids_of blocks) t (Err Header)) (sym none) (none_says (ids_of blocks))))
+
+  pub told_fault : (old left : Option (List ℕ)) (text : List ℕ) (e : ReadFault) (r : Reading) → Consumes old left text → Gives text left (Err e) r → Told old left (Err (read_told Header e))
+  told_fault old left text read.TooLong r came gives = (text, came, inl (λ rest. too_long (ids_of blocks) text rest gives))
+  told_fault old left text read.Failed r came gives = (text, came, inl gives)
+  told_fault old left text read.TurnLimit r came gives = (text, came, inl gives)
+
+  -- ---- the end
+
+  said_end : (text : List ℕ) (g : Graph) (graph : IsGraph blocks text g) (b : Bool) → is_done graph.progress ≡ b → Says (ids_of blocks) text (cond b (Ok graph.progress) (Err EndsEarly))
+  said_end text g graph b done = record {
+    line = graph.line;
+    rest = graph.rest;
+    header = graph.header;
+    says = sym (ap (λ (r : Result Progress TextFault). go_on r at_end) graph.said ∙ ap (λ (t : Bool). cond t (Ok graph.progress) (Err EndsEarly)) done);
+  }
+
+  pub told_end : (text : List ℕ) (left : Option (List ℕ)) (g : Graph) (result : Result (Vec (ℕ × ℕ) Global) GalFault) → IsAtEnd left → IsGraph blocks text g
+      → ((p : Progress) → Holds blocks g p → Finishes (ids_of blocks) p result) → IsRead (ids_of blocks) text left result
+  told_end text left g (Ok pairs) end graph finishes =
+      let is = finishes graph.progress graph.holds in
+      (end, record { progress = graph.progress; says = said_end text g graph true is.done; complete = is.complete; back = is.back; pairs_are = is.pairs_are })
+  told_end text left g (Err (fault.Text f)) end graph finishes =
+      let is = finishes graph.progress graph.holds in
+      inr (end, subst (λ (e : TextFault). Says (ids_of blocks) text (Err e)) (sym is.0) (said_end text g graph false is.1))
+  told_end text left g (Err (fault.MissingUnit id)) end graph finishes =
+      let is = finishes graph.progress graph.holds in
+      (end, record { progress = graph.progress; says = said_end text g graph true is.done; missing = is.missing })
+  told_end text left g (Err (fault.OneWay a b)) end graph finishes =
+      let is = finishes graph.progress graph.holds in
+      (end, record { progress = graph.progress; says = said_end text g graph true is.done; complete = is.complete; one_way = is.one_way })
+  told_end text left g (Err fault.Memory) end graph finishes = tt
+  told_end text left g (Err fault.Read) end graph finishes = absurd (finishes graph.progress graph.holds)
+  told_end text left g (Err fault.TurnLimit) end graph finishes = absurd (finishes graph.progress graph.holds)
+
+  -- the same fault, of the file
+  pub told_same : (text : List ℕ) (left : Option (List ℕ)) (e : GalFault) → ReadsGraph blocks text left (Err e) → IsRead (ids_of blocks) text left (Err e)
+  told_same text left (fault.Text f) reads = reads
+  told_same text left fault.Read reads = reads
+  told_same text left fault.TurnLimit reads = reads
+  told_same text left fault.Memory reads = tt
+  told_same text left (fault.MissingUnit id) reads = absurd reads
+  told_same text left (fault.OneWay a b) reads = absurd reads
+
+  -- the end of the text is no failure of the source, and no turn
+  pub no_failure : (before : ℕ) (p : Progress) (result : Result (Vec (ℕ × ℕ) Global) GalFault) → Finishes (ids_of blocks) p result → failures_after_file before result ≡ before
+  no_failure before p (Ok pairs) finishes = refl
+  no_failure before p (Err (fault.Text f)) finishes = refl
+  no_failure before p (Err (fault.MissingUnit id)) finishes = refl
+  no_failure before p (Err (fault.OneWay a b)) finishes = refl
+  no_failure before p (Err fault.Memory) finishes = refl
+  no_failure before p (Err fault.Read) finishes = absurd finishes
+  no_failure before p (Err fault.TurnLimit) finishes = absurd finishes
+
+  pub no_turn : (p : Progress) (result : Result (Vec (ℕ × ℕ) Global) GalFault) → Finishes (ids_of blocks) p result → result ≡ Err fault.TurnLimit → ⊥
+  no_turn p result finishes is = subst (Finishes (ids_of blocks) p) is finishes
+
+-- ---- turns
+
+pub counts_start : (first turns : ℕ) → turns ≡ 0 → CountsFrom first turns first
+counts_start first turns none = (λ same. refl, λ some. absurd (omega arith))
+
+pub most_turns : (first turns source : ℕ) → CountsFrom first turns source → turns ≤ turn_limit → source ≤ first + turn_limit
+most_turns first zero source counted within = let same = counted.0 refl in omega arith
+most_turns first (suc turns) source counted within = let same = counted.1 (omega arith) in omega arith

@@ -1,0 +1,93 @@
+-- What the marks and the links say once all words are read.
+use Rattle.std.proofs.Common.{◌≡◌, ℕ, ◌+◌, ◌<◌, ◌≤◌, Bool, true, false, cond, eqb, List, [], ◌∷◌, length, get_or, vec_len, Vec, Option, Some, None, Result, Ok, Err, All, Contains, refl, sym, ap, subst, ◌∙◌, arith, ⊎_elim, eq-eqb}
+use Rattle.std.specs.declared.alloc.Global.{Global}
+use Rattle.std.proofs.lemmas.Bool.{eqb-true, cases_lt}
+use Rattle.std.proofs.lemmas.List.{length-map, get_or-map, get_or_default}
+use Rattle.std.proofs.lemmas.Grind.{get_or_default_zero}
+use Rattle.std.proofs.lemmas.Map.Views.{Contains-from_any}
+use Rattle.std.proofs.lemmas.Map.Keys.{sorted_from_strictly_increasing, below_from_sorted}
+use Rattle.std.proofs.lemmas.List.Folds.{list_any_at}
+use Rattle.std.specs.List.Sorted.{IsStrictlyIncreasing}
+use Rattle.desk_model.specs.Geography.{AreBlocks, ids_of, id_at}
+use Rattle.desk_model.specs.declared.block.BlockRow.{BlockRow}
+use Rattle.gal_text.specs.Units.{Progress, has_number, is_done, awaits_block, at_end}
+use Rattle.gal_text.specs.Links.{AreComplete, IsLeastMissing, IsFirstFalse, ArePaired, AreMutual, ArePairsOf, IsLeastOneWay}
+use Rattle.gal_text.specs.Holding.{Holds}
+use Rattle.gal_text.specs.Parts.{PairsUp, Lacks, Finishes, pairs_told}
+use Rattle.gal_text.specs.declared.links.Unpaired.{Unpaired}
+use Rattle.gal_text.specs.declared.links.Unpaired.TheVariants as unpaired
+use Rattle.gal_text.specs.declared.fault.TextFault.{TextFault}
+use Rattle.gal_text.specs.declared.fault.GalFault.{GalFault}
+use Rattle.gal_text.specs.declared.fault.GalFault.TheVariants as fault
+use Rattle.gal_text.specs.declared.units.Link.{Link}
+use Rattle.gal_text.specs.declared.units.Graph.{Graph}
+
+listed : (units : List ℕ) (x : ℕ) → has_number units x ≡ true → Contains units x
+listed units x has = Contains-from_any {eq = λ (a b : ℕ). eqb b a} (λ x y e. sym (eqb-true y x e)) x units has
+
+found : (units : List ℕ) (x : ℕ) → Contains units x → has_number units x ≡ true
+found units x has = list_any_at (λ (y : ℕ). eqb y x) units has.0 x has.1 (eq-eqb (get_or units has.0 x) x has.2)
+
+not_listed : (units : List ℕ) (x : ℕ) → has_number units x ≡ false → ¬ Contains units x
+not_listed units x none has = absurd (let yes : has_number units x ≡ true = found units x has in (cc))
+
+-- the number at a place
+id_is : (blocks : List BlockRow) (k d : ℕ) → k < length (ids_of blocks) → get_or (ids_of blocks) k d ≡ id_at blocks k
+id_is blocks k d inside = get_or_default_zero (ids_of blocks) k d inside
+
+rises : (blocks : List BlockRow) → IsStrictlyIncreasing (ids_of blocks) → (i j : ℕ) → i ≤ j → j < length (ids_of blocks) → id_at blocks i ≤ id_at blocks j
+rises blocks rising i j most within = ⊎_elim
+    (λ (less : i < j). omega (arith, below_from_sorted (ids_of blocks) i j 0 (sorted_from_strictly_increasing (ids_of blocks) rising) less within))
+    (λ (same : j ≤ i). let e : i ≡ j = omega arith in rw e (omega arith))
+    (cases_lt i j)
+
+pub id_there : (blocks : List BlockRow) (k : ℕ) (row : BlockRow) → k < length blocks → (get_or blocks k row).id ≡ id_at blocks k
+id_there blocks k row within = sym (get_or-map (λ (b : BlockRow). b.id) blocks k row 0 within)
+
+module _ (blocks : List BlockRow) (g : Graph) (p : Progress) (holds : Holds blocks g p) where
+  marked : length g.seen.items ≡ length (ids_of blocks)
+  marked = omega (arith, g.seen.ok.0, holds.marked, length-map {A = BlockRow} {B = ℕ})
+
+  mark_is : (k : ℕ) → k < length (ids_of blocks) → get_or g.seen.items k false ≡ has_number p.units (id_at blocks k)
+  mark_is k inside = holds.marks k (rw length-map at inside)
+
+  pub all_there : All (λ mark. mark ≡ true) g.seen.items → AreComplete (ids_of blocks) p.units
+  all_there each = λ k d inside.
+      subst (Contains p.units) (sym (id_is blocks k d inside)) (listed p.units (id_at blocks k) (sym (mark_is k inside) ∙ each k false (omega (arith, marked))))
+
+  pub least_missing : (place : ℕ) (marks : List Bool) (id : ℕ) → IsStrictlyIncreasing (ids_of blocks) → marks ≡ g.seen.items → IsFirstFalse marks place → id ≡ id_at blocks place
+      → IsLeastMissing (ids_of blocks) p.units id
+  least_missing place marks id rising same first is = record {
+    known = (place, inside, id_is blocks place id inside ∙ sym is);
+    missing = subst (λ (x : ℕ). ¬ Contains p.units x) (sym is) (not_listed p.units (id_at blocks place) (sym (mark_is place inside) ∙ sym (ap (λ (ms : List Bool). get_or ms place false) same) ∙ first.missing false));
+    least = λ k d within lacks. ⊎_elim
+        (λ (less : k < place). absurd (lacks (subst (Contains p.units) (sym (id_is blocks k d within)) (listed p.units (id_at blocks k) (sym (mark_is k within) ∙ sym (ap (λ (ms : List Bool). get_or ms k false) same) ∙ first.before k false (omega arith) less)))))
+        (λ (more : place ≤ k). rw (id_is blocks k d within, is) (rises blocks rising place k more within))
+        (cases_lt k place);
+  }
+    where
+      inside : place < length (ids_of blocks)
+      inside = omega (arith, first.inside, marked, ap (λ (ms : List Bool). length ms) same)
+
+  pub finished : (marks : List Bool) (links : List Link) (result : Result (Vec (ℕ × ℕ) Global) GalFault) → is_done p ≡ true → marks ≡ g.seen.items → links ≡ p.links → All (λ mark. mark ≡ true) marks → PairsUp links result
+      → Finishes (ids_of blocks) p result
+  finished marks links (Ok pairs) done same linked each up = record {
+    done = done;
+    complete = all_there (subst (All (λ mark. mark ≡ true)) same each);
+    back = subst AreMutual linked up.0;
+    pairs_are = subst (λ (ls : List Link). ArePairsOf ls pairs.items) linked up.1;
+  }
+  finished marks links (Err (fault.OneWay a b)) done same linked each up = record {
+    done = done;
+    complete = all_there (subst (All (λ mark. mark ≡ true)) same each);
+    one_way = subst (λ (ls : List Link). IsLeastOneWay ls a b) linked up;
+  }
+  finished marks links (Err fault.Memory) done same linked each up = tt
+  finished marks links (Err (fault.Text f)) done same linked each up = absurd up
+  finished marks links (Err (fault.MissingUnit id)) done same linked each up = absurd up
+  finished marks links (Err fault.Read) done same linked each up = absurd up
+  finished marks links (Err fault.TurnLimit) done same linked each up = absurd up
+
+pub pairs_up : (links : List Link) (u : Unpaired) → ArePaired links (Err u) → PairsUp links (Err (pairs_told u))
+pairs_up links (unpaired.OneWay a b) least = least
+pairs_up links unpaired.Memory none = tt

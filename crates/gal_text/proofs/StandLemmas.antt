@@ -1,0 +1,205 @@
+-- The words of a neighbour file, one after the other.
+use Rattle.std.proofs.Common.{◌≡◌, ℕ, ◌+◌, ◌<◌, List, [], ◌∷◌, ◌++◌, length, Option, Result, Ok, Err, refl, sym, ap, subst, ◌∙◌, arith, append_assoc, length-append, inl, inr}
+use Rattle.std.proofs.lemmas.List.{append-nil}
+use Rattle.std.specs.Io.KnownBytes.{Consumes, IsAtEnd}
+use Rattle.field_text.specs.Words.{words, word_limit, BeginsWithWord, IsOneWord, BeginsWithLongWord, IsBrokenWord, GivesWord}
+use Rattle.field_text.specs.Reading.{Reading}
+use Rattle.field_text.specs.declared.reader.ReadFault.{ReadFault}
+use Rattle.field_text.specs.declared.reader.ReadFault.TheVariants as read
+use Rattle.field_text.proofs.ReadingLemmas.{Consumes-nothing, Consumes-then}
+use Rattle.desk_model.specs.Geography.{ids_of}
+use Rattle.desk_model.specs.declared.block.BlockRow.{BlockRow}
+use Rattle.gal_text.specs.Units.{Progress, at_start, word_read, words_read, go_on}
+use Rattle.gal_text.specs.Holding.{Holds, Takes}
+use Rattle.gal_text.specs.Parts.{Stands, ReadsWords, AreUnits, AreCutWords, ShowsInWords, refused, read_told}
+use Rattle.gal_text.specs.declared.fault.TextFault.{TextFault}
+use Rattle.gal_text.specs.declared.fault.GalFault.{GalFault}
+use Rattle.gal_text.specs.declared.fault.GalFault.TheVariants as fault
+use Rattle.gal_text.specs.declared.units.Graph.{Graph}
+use Rattle.gal_text.specs.declared.units.Refusal.{Refusal}
+use Rattle.gal_text.specs.declared.units.Refusal.TheVariants as refusal
+
+-- ---- words behind words
+
+go_on-ok : (r : Result Progress TextFault) → go_on r (λ p. Ok p) ≡ r
+go_on-ok (Ok p) = refl
+go_on-ok (Err f) = refl
+
+go_on-words : (ids : List ℕ) (at : ℕ) (w : List ℕ) (ws more : List (List ℕ))
+    → ((q : Progress) → words_read ids q (at + 1) (ws ++ more) ≡ go_on (words_read ids q (at + 1) ws) (λ n. words_read ids n (at + 1 + length ws) more))
+    → (r : Result Progress TextFault) → go_on r (λ q. words_read ids q (at + 1) (ws ++ more)) ≡ go_on (go_on r (λ q. words_read ids q (at + 1) ws)) (λ n. words_read ids n (at + length (w ∷ ws)) more)
+go_on-words ids at w ws more each (Ok q) =
+    let same : at + 1 + length ws ≡ at + length (w ∷ ws) = omega arith in
+    each q ∙ ap (λ (k : ℕ). go_on (words_read ids q (at + 1) ws) (λ n. words_read ids n k more)) same
+go_on-words ids at w ws more each (Err f) = refl
+
+pub words_read-append : (ids : List ℕ) (p : Progress) (at : ℕ) (ws more : List (List ℕ))
+    → words_read ids p at (ws ++ more) ≡ go_on (words_read ids p at ws) (λ q. words_read ids q (at + length ws) more)
+words_read-append ids p at [] more = let same : at ≡ at + 0 = omega arith in ap (λ (k : ℕ). words_read ids p k more) same
+words_read-append ids p at (w ∷ ws) more = go_on-words ids at w ws more (λ q. words_read-append ids q (at + 1) ws more) (word_read ids p at w)
+
+module _ (ids : List ℕ) (s p : Progress) (ws : List (List ℕ)) (said : words_read ids s 1 ws ≡ Ok p) where
+  behind : (more : List (List ℕ)) → words_read ids s 1 (ws ++ more) ≡ words_read ids p (length ws + 1) more
+  behind more =
+      let same : 1 + length ws ≡ length ws + 1 = omega arith in
+      words_read-append ids s 1 ws more
+      ∙ ap (λ (r : Result Progress TextFault). go_on r (λ q. words_read ids q (1 + length ws) more)) said
+      ∙ ap (λ (k : ℕ). words_read ids p k more) same
+
+  pub said_more : (w : List ℕ) (q : Progress) → word_read ids p (length ws + 1) w ≡ Ok q → words_read ids s 1 (ws ++ w ∷ []) ≡ Ok q
+  said_more w q is = behind (w ∷ []) ∙ go_on-ok (word_read ids p (length ws + 1) w) ∙ is
+
+  pub said_fault : (w : List ℕ) (more : List (List ℕ)) (f : TextFault) → word_read ids p (length ws + 1) w ≡ Err f → words_read ids s 1 (ws ++ w ∷ more) ≡ Err f
+  said_fault w more f is = behind (w ∷ more) ∙ ap (λ (r : Result Progress TextFault). go_on r (λ q. words_read ids q (length ws + 1 + 1) more)) is
+
+-- ---- how far the words have come
+
+module _ (blocks : List BlockRow) (count : ℕ) (start : List ℕ) (old : Option (List ℕ)) where
+  pub stands_start : (g : Graph) → Holds blocks g (at_start count) → Stands blocks count start old old start 1 g
+  stands_start g holds = record {
+    came = [];
+    consumed = Consumes-nothing old;
+    whole = [];
+    words_are = λ more. ap (λ (t : List ℕ). words (t ++ more)) (append-nil start);
+    progress = at_start count;
+    said = refl;
+    holds = holds;
+    counted = refl;
+  }
+
+  pub stands_more : (left next : Option (List ℕ)) (held more : List ℕ) (number : ℕ) (g : Graph) → Stands blocks count start old left held number g → Consumes left next more
+      → Stands blocks count start old next (held ++ more) number g
+  stands_more left next held more number g s came = record {
+    came = s.came ++ more;
+    consumed = Consumes-then old left next s.came more s.consumed came;
+    whole = s.whole;
+    words_are = λ rest.
+        ap (λ (t : List ℕ). words (t ++ rest)) (sym (append_assoc start s.came more))
+        ∙ ap words (append_assoc (start ++ s.came) more rest)
+        ∙ s.words_are (more ++ rest)
+        ∙ ap (λ (t : List ℕ). s.whole ++ words t) (sym (append_assoc held more rest));
+    progress = s.progress;
+    said = s.said;
+    holds = s.holds;
+    counted = s.counted;
+  }
+
+  -- what was judged of the word at hand, of any progress that the state holds
+  abbrev pub Took : Graph → ℕ → List ℕ → Result (Unit {0}) Refusal → Graph → Type 0
+  Took g number word result new = (p : Progress) → Holds blocks g p → Takes blocks p number word result new
+
+  -- a word that was taken
+  pub stands_word : (left : Option (List ℕ)) (held word rest : List ℕ) (number : ℕ) (g new : Graph) (u : Unit {0}) → Stands blocks count start old left held number g → BeginsWithWord held word rest
+      → Took g number word (Ok u) new → Stands blocks count start old left rest (number + 1) new
+  stands_word left held word rest number g new u s b took =
+      let is = took s.progress s.holds in
+      record {
+        came = s.came;
+        consumed = s.consumed;
+        whole = s.whole ++ word ∷ [];
+        words_are = λ more. s.words_are more ∙ ap (λ (ws : List (List ℕ)). s.whole ++ ws) (b.gives more) ∙ sym (append_assoc s.whole (word ∷ []) (words (rest ++ more)));
+        progress = is.0;
+        said = said_more (ids_of blocks) (at_start count) s.progress s.whole s.said word is.0 (subst (λ (k : ℕ). word_read (ids_of blocks) s.progress k word ≡ Ok is.0) s.counted is.1);
+        holds = is.2;
+        counted = omega (arith, s.counted, length-append s.whole (word ∷ []));
+      }
+
+  -- what is told of the bytes that came
+  abbrev pub Told : Option (List ℕ) → Result Graph GalFault → Type 0
+  Told left result = (more : List ℕ) × Consumes old left more × ReadsWords blocks count (start ++ more) left result
+
+  whole_words : (left : Option (List ℕ)) (held : List ℕ) (number : ℕ) (g : Graph) → (s : Stands blocks count start old left held number g) → words (start ++ s.came) ≡ s.whole ++ words held
+  whole_words left held number g s =
+      ap words (sym (append-nil (start ++ s.came))) ∙ s.words_are [] ∙ ap (λ (t : List ℕ). s.whole ++ words t) (append-nil held)
+
+  faulty : (left : Option (List ℕ)) (held : List ℕ) (number : ℕ) (g : Graph) → (s : Stands blocks count start old left held number g) → (word : List ℕ) (more : List (List ℕ)) (f : TextFault)
+      → word_read (ids_of blocks) s.progress number word ≡ Err f → words_read (ids_of blocks) (at_start count) 1 (s.whole ++ word ∷ more) ≡ Err f
+  faulty left held number g s word more f is =
+      said_fault (ids_of blocks) (at_start count) s.progress s.whole s.said word more f (subst (λ (k : ℕ). word_read (ids_of blocks) s.progress k word ≡ Err f) s.counted is)
+
+  -- ---- the end
+
+  pub told_end : (left : Option (List ℕ)) (held : List ℕ) (number : ℕ) (g : Graph) → Stands blocks count start old left held number g → IsAtEnd left → words held ≡ [] → Told left (Ok g)
+  told_end left held number g s end none = (
+    s.came,
+    s.consumed,
+    (
+      end,
+      record {
+        progress = s.progress;
+        said = ap (words_read (ids_of blocks) (at_start count) 1) (whole_words left held number g s ∙ ap (λ (ws : List (List ℕ)). s.whole ++ ws) none ∙ append-nil s.whole) ∙ s.said;
+        holds = s.holds;
+      },
+    ),
+  )
+
+  pub told_last_end : (left : Option (List ℕ)) (held word : List ℕ) (number : ℕ) (g new : Graph) (u : Unit {0}) → Stands blocks count start old left held number g → IsAtEnd left → IsOneWord held word
+      → Took g number word (Ok u) new → Told left (Ok new)
+  told_last_end left held word number g new u s end one took =
+      let is = took s.progress s.holds in (
+        s.came,
+        s.consumed,
+        (
+          end,
+          record {
+            progress = is.0;
+            said = ap (words_read (ids_of blocks) (at_start count) 1) (whole_words left held number g s ∙ ap (λ (ws : List (List ℕ)). s.whole ++ ws) one.gives)
+                ∙ said_more (ids_of blocks) (at_start count) s.progress s.whole s.said word is.0 (subst (λ (k : ℕ). word_read (ids_of blocks) s.progress k word ≡ Ok is.0) s.counted is.1);
+            holds = is.2;
+          },
+        ),
+      )
+
+  -- ---- why there is no state
+
+  pub told_refused : (left : Option (List ℕ)) (held word rest : List ℕ) (number : ℕ) (g new : Graph) (r : Refusal) → Stands blocks count start old left held number g → BeginsWithWord held word rest
+      → Took g number word (Err r) new → Told left (Err (refused r))
+  told_refused left held word rest number g new (refusal.Fault f) s b took = (
+    s.came,
+    s.consumed,
+    inl (λ more.
+        ap (words_read (ids_of blocks) (at_start count) 1) (s.words_are more ∙ ap (λ (ws : List (List ℕ)). s.whole ++ ws) (b.gives more))
+        ∙ faulty left held number g s word (words (rest ++ more)) f (took s.progress s.holds)),
+  )
+  told_refused left held word rest number g new refusal.Memory s b took = (s.came, s.consumed, tt)
+
+  pub told_refused_last : (left : Option (List ℕ)) (held word : List ℕ) (number : ℕ) (g new : Graph) (r : Refusal) → Stands blocks count start old left held number g → IsAtEnd left → IsOneWord held word
+      → Took g number word (Err r) new → Told left (Err (refused r))
+  told_refused_last left held word number g new (refusal.Fault f) s end one took = (
+    s.came,
+    s.consumed,
+    inr (
+      end,
+      ap (words_read (ids_of blocks) (at_start count) 1) (whole_words left held number g s ∙ ap (λ (ws : List (List ℕ)). s.whole ++ ws) one.gives)
+          ∙ faulty left held number g s word [] f (took s.progress s.holds),
+    ),
+  )
+  told_refused_last left held word number g new refusal.Memory s end one took = (s.came, s.consumed, tt)
+
+  told_cut : (left : Option (List ℕ)) (held : List ℕ) (number : ℕ) (g : Graph) → (s : Stands blocks count start old left held number g) → IsBrokenWord held → AreCutWords (ids_of blocks) count (start ++ s.came)
+  told_cut left held number g s broken = record {
+    whole = s.whole;
+    broken = held;
+    words_are = s.words_are;
+    is_broken = broken;
+    progress = s.progress;
+    good = s.said;
+  }
+
+  pub told_fault : (left : Option (List ℕ)) (held : List ℕ) (number : ℕ) (g : Graph) (long : TextFault) (e : ReadFault) (r : Reading) → Stands blocks count start old left held number g
+      → ((p : Progress) (word : List ℕ) → Holds blocks g p → word_limit < length word → word_read (ids_of blocks) p number word ≡ Err long) → GivesWord held left (Err e) r
+      → Told left (Err (read_told long e))
+  told_fault left held number g long read.TooLong r s is_long gives = (
+    s.came,
+    s.consumed,
+    inl (λ more.
+        let w = gives more in
+        ap (words_read (ids_of blocks) (at_start count) 1) (s.words_are more ∙ ap (λ (ws : List (List ℕ)). s.whole ++ ws) w.2)
+        ∙ faulty left held number g s w.0 w.1 long (is_long s.progress w.0 s.holds w.3)),
+  )
+  told_fault left held number g long read.Failed r s is_long gives = (s.came, s.consumed, told_cut left held number g s gives)
+  told_fault left held number g long read.TurnLimit r s is_long gives = (s.came, s.consumed, told_cut left held number g s gives)
+
+  pub took_at : (g new : Graph) (number at : ℕ) (given word : List ℕ) (r : Result (Unit {0}) Refusal) → at ≡ number → given ≡ word → Took g at given r new → Took g number word r new
+  took_at g new number at given word r same_number same took =
+      subst (λ (w : List ℕ). Took g number w r new) same (subst (λ (k : ℕ). Took g k given r new) same_number took)

@@ -1,0 +1,7 @@
+use Rattle.std.proofs.Common.{◌≡◌, take}
+use Rattle.std.specs.List.{filter_map}
+use Rattle.gal_text.specs.Links.{downward_pair}
+use Rattle.gal_text.proofs.links.downward.Given as goal
+
+abbrev pub invariant-loop-link : goal.invariant-loop-link
+invariant-loop-link l = l.pairs.items ≡ filter_map downward_pair (take l.link-index l.links)
