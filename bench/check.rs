@@ -1,4 +1,5 @@
-// The plain counterpart of `plandesk check`, for bench/check alone: the same counts of the state that bench/check makes.
+// The plain counterpart of `plandesk check`, for bench/check alone: the same counts, and the same report of a house plan
+// with its senate plan, of the state that bench/check makes.
 use std::collections::{BTreeMap, HashMap, HashSet};
 use std::fs::File;
 use std::io::{self, BufRead, BufReader, BufWriter, Write};
@@ -9,6 +10,9 @@ const COUNTIES: usize = 99;
 fn is_block(line: usize, lines: usize, blocks: usize) -> bool {
     line * blocks / lines != (line + 1) * blocks / lines
 }
+
+const HOUSE: usize = 100;
+const SENATE: usize = 50;
 
 struct Block {
     number: usize,
@@ -73,6 +77,41 @@ fn make(folder: &str, lines: usize, blocks: usize) {
     }
 }
 
+fn id_of(b: &Block) -> u64 {
+    ((19_000 + b.county as u64) * 1_000_000 + b.tract as u64) * 10_000 + b.block as u64
+}
+
+// the blocks in rows of a grid, each a neighbour of those beside, above and below it; a house plan of stripes of blocks, two
+// of them in each district of a senate plan
+fn make_plans(folder: &str, lines: usize, blocks: usize) {
+    let ids: Vec<u64> = blocks_of(lines, blocks).iter().map(id_of).collect();
+    let (count, width) = (ids.len(), blocks / (4 * HOUSE));
+    let file = |name: &str| BufWriter::new(File::create(format!("{folder}/{name}")).unwrap());
+    let (mut gal, mut plan, mut senate) = (file("gal"), file("plan"), file("senate"));
+    writeln!(gal, "0 {count} made BLOCKID").unwrap();
+    writeln!(plan, "BLOCKID|DISTRICT").unwrap();
+    writeln!(senate, "BLOCKID|DISTRICT").unwrap();
+    for (i, id) in ids.iter().enumerate() {
+        let mut near = Vec::new();
+        if i >= width {
+            near.push(i - width);
+        }
+        if i % width > 0 {
+            near.push(i - 1);
+        }
+        if i % width + 1 < width && i + 1 < count {
+            near.push(i + 1);
+        }
+        if i + width < count {
+            near.push(i + width);
+        }
+        let texts: Vec<String> = near.iter().map(|j| format!("{:015}", ids[*j])).collect();
+        writeln!(gal, "{id:015} {}\n{}", near.len(), texts.join(" ")).unwrap();
+        writeln!(plan, "{id:015}|{:03}", i * HOUSE / count + 1).unwrap();
+        writeln!(senate, "{id:015}|{:03}", i * HOUSE / count * SENATE / HOUSE + 1).unwrap();
+    }
+}
+
 fn number(text: &[u8]) -> u64 {
     assert!((1..=10).contains(&text.len()));
     text.iter().fold(0, |n, b| {
@@ -109,7 +148,19 @@ fn segment(path: &str, count: usize, with_people: bool) -> HashMap<u64, u32> {
     records
 }
 
-fn check(paths: &[String]) {
+struct Row {
+    id: u64,
+    city: Option<u64>,
+    people: u32,
+}
+
+impl Row {
+    fn county(&self) -> u64 {
+        self.id / 10_000_000_000 % 1000
+    }
+}
+
+fn read_state(paths: &[String]) -> Vec<Row> {
     let (mut blocks, mut ids, mut numbers, mut state_record) = (Vec::new(), HashSet::new(), HashSet::new(), None);
     each_line(&paths[0], 97, |line| {
         let fields: Vec<&[u8]> = line.splitn(36, |b| *b == b'|').collect();
@@ -131,15 +182,21 @@ fn check(paths: &[String]) {
     for (key, _, _) in &blocks {
         assert!(segments.iter().all(|records| records.contains_key(key)));
     }
-    let mut rows: Vec<(u64, Option<u64>, u32)> = blocks.iter().map(|(key, id, city)| (*id, *city, segments[0][key])).collect();
-    let total: u64 = rows.iter().map(|row| row.2 as u64).sum();
+    let mut rows: Vec<Row> = blocks.iter().map(|(key, id, city)| Row { id: *id, city: *city, people: segments[0][key] }).collect();
+    let total: u64 = rows.iter().map(|row| row.people as u64).sum();
     if let Some(key) = state_record {
         assert_eq!(segments[0][&key] as u64, total);
     }
-    rows.sort_unstable_by_key(|row| row.0);
+    rows.sort_unstable_by_key(|row| row.id);
+    rows
+}
+
+fn check(paths: &[String]) {
+    let rows = read_state(paths);
+    let total: u64 = rows.iter().map(|row| row.people as u64).sum();
     let mut counties: BTreeMap<u64, u64> = BTreeMap::new();
     for row in &rows {
-        *counties.entry(row.0 / 10_000_000_000 % 1000).or_default() += row.2 as u64;
+        *counties.entry(row.county()).or_default() += row.people as u64;
     }
     let mut text = format!("blocks {}\ncounties {}\npopulation {total}\n", rows.len(), counties.len());
     for (county, people) in &counties {
@@ -148,10 +205,172 @@ fn check(paths: &[String]) {
     io::stdout().write_all(text.as_bytes()).unwrap();
 }
 
+fn place(rows: &[Row], text: &[u8]) -> usize {
+    assert_eq!(text.len(), 15);
+    let id = text.iter().fold(0, |n, b| {
+        assert!(b.is_ascii_digit());
+        n * 10 + (b - b'0') as u64
+    });
+    rows.binary_search_by_key(&id, |row| row.id).unwrap()
+}
+
+// for each block the places of its neighbours
+fn read_gal(path: &str, rows: &[Row]) -> Vec<Vec<u32>> {
+    let text = std::fs::read_to_string(path).unwrap();
+    let (header, rest) = text.split_once('\n').unwrap();
+    let count: usize = header.split_ascii_whitespace().nth(1).unwrap().parse().unwrap();
+    let mut near: Vec<Option<Vec<u32>>> = (0..rows.len()).map(|_| None).collect();
+    let mut words = rest.split_ascii_whitespace();
+    for _ in 0..count {
+        let unit = place(rows, words.next().unwrap().as_bytes());
+        let n: usize = words.next().unwrap().parse().unwrap();
+        assert!(n <= 4096 && near[unit].is_none());
+        let mut list: Vec<u32> = Vec::with_capacity(n);
+        for _ in 0..n {
+            let other = place(rows, words.next().unwrap().as_bytes());
+            assert!(other != unit && !list.contains(&(other as u32)));
+            list.push(other as u32);
+        }
+        near[unit] = Some(list);
+    }
+    assert!(words.next().is_none());
+    let near: Vec<Vec<u32>> = near.into_iter().map(Option::unwrap).collect();
+    for (unit, list) in near.iter().enumerate() {
+        assert!(list.iter().all(|other| near[*other as usize].contains(&(unit as u32))));
+    }
+    near
+}
+
+fn read_plan(path: &str, rows: &[Row], n: usize) -> Vec<u16> {
+    let text = std::fs::read(path).unwrap();
+    assert!(text.len() <= 33_554_432);
+    let mut lines = text.split(|b| *b == b'\n').map(|line| line.strip_suffix(b"\r").unwrap_or(line));
+    assert_eq!(lines.next().unwrap(), b"BLOCKID|DISTRICT");
+    let mut plan: Vec<Option<u16>> = vec![None; rows.len()];
+    for line in lines.filter(|line| !line.is_empty()) {
+        let (id, code) = line.split_at(line.iter().position(|b| *b == b'|').unwrap());
+        let district = match &code[1..] {
+            b"" | b"ZZ" | b"ZZZ" => 0,
+            digits => {
+                let d = std::str::from_utf8(digits).unwrap().parse().unwrap();
+                assert!((1..=n).contains(&d));
+                d as u16
+            }
+        };
+        assert!(plan[place(rows, id)].replace(district).is_none());
+    }
+    plan.into_iter().map(|d| d.unwrap_or(0)).collect()
+}
+
+// the districts that don't hold together, with the least block and the least that no path reaches
+fn breaks(near: &[Vec<u32>], plan: &[u16], n: usize) -> Vec<(usize, Option<(usize, usize)>)> {
+    let (mut first, mut apart) = (vec![None; n + 1], vec![None; n + 1]);
+    let mut seen = vec![false; plan.len()];
+    let mut queue = Vec::new();
+    for (i, d) in plan.iter().enumerate() {
+        let d = *d as usize;
+        if d == 0 || seen[i] {
+            continue;
+        }
+        if first[d].is_some() {
+            apart[d].get_or_insert(i);
+            continue;
+        }
+        first[d] = Some(i);
+        seen[i] = true;
+        queue.push(i);
+        while let Some(j) = queue.pop() {
+            for k in &near[j] {
+                let k = *k as usize;
+                if plan[k] as usize == d && !seen[k] {
+                    seen[k] = true;
+                    queue.push(k);
+                }
+            }
+        }
+    }
+    (1..=n).filter_map(|d| match (first[d], apart[d]) {
+        (None, _) => Some((d, None)),
+        (Some(i), Some(j)) => Some((d, Some((i, j)))),
+        (Some(_), None) => None,
+    }).collect()
+}
+
+// the keys whose blocks have two districts, an unassigned block among them
+fn divided<K: Ord + std::hash::Hash + Copy>(keys: impl Iterator<Item = (K, u16)>) -> Vec<K> {
+    let mut all: HashMap<K, (u16, bool)> = HashMap::new();
+    for (key, d) in keys {
+        let entry = all.entry(key).or_insert((d, false));
+        entry.1 |= entry.0 != d;
+    }
+    let mut keys: Vec<K> = all.into_iter().filter(|(_, (_, two))| *two).map(|(key, _)| key).collect();
+    keys.sort_unstable();
+    keys
+}
+
+fn list<X>(xs: &[X], f: impl Fn(&X) -> String) -> String {
+    format!("[{}]", xs.iter().map(f).collect::<Vec<_>>().join(","))
+}
+
+fn audit(paths: &[String]) {
+    let rows = read_state(paths);
+    let near = read_gal(&paths[4], &rows);
+    let (plan, senate) = (read_plan(&paths[5], &rows, HOUSE), read_plan(&paths[6], &rows, SENATE));
+    let total: u64 = rows.iter().map(|row| row.people as u64).sum();
+    let mut people = vec![0u64; HOUSE];
+    for (row, d) in rows.iter().zip(&plan) {
+        if *d > 0 {
+            people[*d as usize - 1] += row.people as u64;
+        }
+    }
+    let n = HOUSE as u64;
+    let mean = 100 * people.iter().map(|p| (n * p).abs_diff(total)).sum::<u64>() > n * total;
+    let (most, least) = (*people.iter().max().unwrap(), *people.iter().min().unwrap());
+    let range = 20 * most > 21 * least;
+    let at = |wanted: u64| people.iter().position(|p| *p == wanted).unwrap() + 1;
+    let unassigned = plan.iter().filter(|d| **d == 0).count();
+    let gaps = breaks(&near, &plan, HOUSE);
+    let mut values: Vec<Option<u16>> = vec![None; HOUSE + 1];
+    let mut bad = vec![false; HOUSE + 1];
+    for (d, s) in plan.iter().zip(&senate) {
+        let d = *d as usize;
+        bad[d] |= *s == 0 || *values[d].get_or_insert(*s) != *s;
+    }
+    let nesting: Vec<usize> = (1..=HOUSE).filter(|d| bad[*d]).collect();
+    let mut broken = Vec::new();
+    for (is, name) in [(unassigned > 0, "desk.complete"), (mean, "42.4.1.a.mean"), (range, "42.4.1.a.range"), (!gaps.is_empty(), "42.4.3"), (!nesting.is_empty(), "42.4.6")] {
+        if is {
+            broken.push(name);
+        }
+    }
+    let cities = |in_county: bool| rows.iter().zip(&plan).filter_map(move |(row, d)| row.city.map(|city| ((city, if in_county { row.county() } else { 0 }), *d)));
+    let mut within: Vec<u64> = divided(cities(true)).into_iter().map(|key| key.0).collect();
+    within.dedup();
+    let gap = |g: &(usize, Option<(usize, usize)>)| match g.1 {
+        None => format!("{{\"district\":{}}}", g.0),
+        Some((i, j)) => format!("{{\"district\":{},\"from\":\"{:015}\",\"to\":\"{:015}\"}}", g.0, rows[i].id, rows[j].id),
+    };
+    let shown_range = if range { format!("[{},{}]", at(most), at(least)) } else { "null".into() };
+    println!(
+        "{{\"broken\":{},\"cities\":{},\"cities_in_county\":{},\"congress\":[],\"contiguity\":{},\"counties\":{},\"districts\":{HOUSE},\"kind\":\"house\",\"nesting\":{},\"not_asked\":[],\"population\":{total},\"populations\":{},\"range\":{shown_range},\"unassigned\":{unassigned}}}",
+        list(&broken, |name| format!("\"{name}\"")),
+        list(&divided(cities(false)), |city| format!("\"{:05}\"", city.0)),
+        list(&within, |city| format!("\"{city:05}\"")),
+        list(&gaps, gap),
+        list(&divided(rows.iter().zip(&plan).map(|(row, d)| (row.county(), *d))), |county| format!("\"{county:03}\"")),
+        list(&nesting, usize::to_string),
+        list(&people, u64::to_string),
+    );
+}
+
 fn main() {
     let words: Vec<String> = std::env::args().collect();
     match words[1].as_str() {
-        "make" => make(&words[2], words[3].parse().unwrap(), words[4].parse().unwrap()),
+        "make" => {
+            make(&words[2], words[3].parse().unwrap(), words[4].parse().unwrap());
+            make_plans(&words[2], words[3].parse().unwrap(), words[4].parse().unwrap());
+        }
+        "audit" => audit(&words[2..]),
         _ => check(&words[2..]),
     }
 }

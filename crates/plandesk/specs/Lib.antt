@@ -1,6 +1,2 @@
-pub mod Checking
-pub mod Counts
-pub mod Faults
-pub mod Statuses
+pub mod Jobs
 pub mod Talking
-pub mod Telling

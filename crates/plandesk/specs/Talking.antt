@@ -11,8 +11,8 @@ use Rattle.http_desk.specs.Serving.{Serves}
 use Rattle.http_desk.specs.declared.serve.Served.{Served}
 use Rattle.http_desk.specs.declared.serve.ServeFault.{ServeFault}
 use Rattle.http_desk.specs.declared.serve.ServeFault.TheVariants as fault
-use Rattle.plandesk.specs.declared.status.Status.{Status}
-use Rattle.plandesk.specs.declared.status.Status.TheVariants.{Done, Memory, Stream}
+use Rattle.check_command.specs.declared.status.Status.{Status}
+use Rattle.check_command.specs.declared.status.Status.TheVariants.{Done, Memory, Stream}
 
 -- a desk in memory: it is never full, and no device fails
 abbrev pub desk_commands : Desk → Command → Reply → Desk → Type 0

@@ -1,5 +1,5 @@
 //! Audits over `talk`: reports, companions that fit and that don't, and requests that ask for nothing.
-use crate::status::Status;
+use check_command::status::Status;
 use crate::tests::{NEVER, ROOM, run};
 use std::test::Fail;
 

@@ -1,8 +1,8 @@
 //! `check` over the sample's files: whole, with one fault each, cut short, and with a read or a write that fails.
-use crate::census::CensusFiles;
-use crate::check::check;
-use crate::fault::OpenFault;
-use crate::status::Status;
+use check_command::census::CensusFiles;
+use check_command::check::check;
+use check_command::fault::OpenFault;
+use check_command::status::Status;
 use crate::tests::{NEVER, Page, Pieces, ROOM};
 use field_text::source::Counted;
 use http_wire::sink::WriteSink;
@@ -11,25 +11,28 @@ use std::test::Fail;
 
 /// How the sample's files are made.
 #[derive(Clone, Copy)]
-struct Shape {
+pub struct Shape {
     /// A line of the header that is left out, 0 for none.
-    header_without: usize,
+    pub header_without: usize,
     /// How many fields line 2 of the header has.
-    second_fields: usize,
+    pub second_fields: usize,
     /// Field 88 of the header's blocks.
-    mark: &'static [u8],
+    pub mark: &'static [u8],
     /// The people of the state record.
-    state_people: &'static [u8],
+    pub state_people: &'static [u8],
+    /// The people of the blocks.
+    pub people: [&'static [u8]; 4],
     /// A line of segment 2 that is left out, 0 for none.
-    segment_without: usize,
-    end: &'static [u8],
+    pub segment_without: usize,
+    pub end: &'static [u8],
 }
 
-const SAMPLE: Shape = Shape {
+pub const SAMPLE: Shape = Shape {
     header_without: 0,
     second_fields: 97,
     mark: b"",
     state_people: b"2000",
+    people: [b"505", b"505", b"495", b"495"],
     segment_without: 0,
     end: b"\n",
 };
@@ -54,8 +57,6 @@ const HEADER: [[&[u8]; 9]; 5] = [
 ];
 
 const NUMBERS: [&[u8]; 5] = [b"0000001", b"0000002", b"0000003", b"0000004", b"0000005"];
-
-const PEOPLE: [&[u8]; 5] = [b"", b"505", b"505", b"495", b"495"];
 
 const COUNTS: &[u8] = b"blocks 4\ncounties 2\npopulation 2000\ncounty 001 1010\ncounty 003 990\n";
 
@@ -119,13 +120,10 @@ fn segment(
 ) -> Result<Vec<u8>, AllocError> {
     let mut text = Vec::new(alloc);
     let mut line = 0usize;
-    for (number, people) in NUMBERS.iter().zip(&PEOPLE) {
+    let [a, b, c, d] = shape.people;
+    for (number, people) in NUMBERS.iter().zip(&[shape.state_people, a, b, c, d]) {
         line = line.saturating_add(1);
-        let people = match (part, line) {
-            (1, 1) => shape.state_people,
-            (1, _) => *people,
-            _ => b"0",
-        };
+        let people = if part == 1 { *people } else { b"0" };
         if part != 2 || line != shape.segment_without {
             put_line(
                 &mut text,
@@ -154,7 +152,7 @@ struct Given<'a> {
     room: usize,
 }
 
-fn reader(
+pub fn reader(
     opened: Result<&[u8], OpenFault>,
     piece: usize,
     fails_at: u64,
@@ -170,10 +168,26 @@ fn reader(
 
 /// What it came to.
 #[derive(Drop)]
-struct Ended {
-    status: Status,
-    output: Vec<u8>,
-    errors: Vec<u8>,
+pub struct Ended {
+    pub status: Status,
+    pub output: Vec<u8>,
+    pub errors: Vec<u8>,
+}
+
+pub fn ended(status: Status, writer: Page, errors: Page) -> Ended {
+    let Page {
+        bytes: output,
+        room: _,
+    } = writer;
+    let Page {
+        bytes: errors,
+        room: _,
+    } = errors;
+    Ended {
+        status,
+        output,
+        errors,
+    }
 }
 
 fn run(alloc: Global, given: Given<'_>) -> Ended {
@@ -192,24 +206,12 @@ fn run(alloc: Global, given: Given<'_>) -> Ended {
         room: ROOM,
     });
     let status = check(alloc, files, &mut writer, &mut errors);
-    let Page {
-        bytes: output,
-        room: _,
-    } = writer.into_inner();
-    let Page {
-        bytes: errors,
-        room: _,
-    } = errors.into_inner();
-    Ended {
-        status,
-        output,
-        errors,
-    }
+    ended(status, writer.into_inner(), errors.into_inner())
 }
 
 /// The sample's files, made in that shape.
 #[derive(Drop)]
-struct Files {
+pub struct Files {
     geo: Vec<u8>,
     seg1: Vec<u8>,
     seg2: Vec<u8>,
@@ -217,13 +219,22 @@ struct Files {
 }
 
 impl Files {
-    fn make(alloc: Global, shape: &Shape) -> Result<Files, AllocError> {
+    pub fn make(alloc: Global, shape: &Shape) -> Result<Files, AllocError> {
         Ok(Files {
             geo: header(alloc, shape)?,
             seg1: segment(alloc, shape, 1, 149)?,
             seg2: segment(alloc, shape, 2, 152)?,
             seg3: segment(alloc, shape, 3, 15)?,
         })
+    }
+
+    pub fn readers(&self) -> CensusFiles<Counted<Pieces<'_>>> {
+        CensusFiles {
+            geo: reader(Ok(self.geo.as_slice()), 1000, NEVER),
+            seg1: reader(Ok(self.seg1.as_slice()), 1000, NEVER),
+            seg2: reader(Ok(self.seg2.as_slice()), 1000, NEVER),
+            seg3: reader(Ok(self.seg3.as_slice()), 1000, NEVER),
+        }
     }
 
     fn given(&self) -> Given<'_> {

@@ -1,34 +1,36 @@
 //! The plan desk's program: each command is a function over its readers and writers that answers the exit status.
 #![tactic(auto)]
+ghost use Rattle.std.specs.Prelude.{IsSome};
+ghost use Rattle.check_command.specs.Options.{AreTerms};
 
 #[cfg(test)]
+mod audit_check_tests;
+#[cfg(test)]
 mod audit_tests;
-pub mod census;
-pub mod check;
 #[cfg(test)]
 mod check_tests;
-pub mod counts;
-pub mod fault;
 #[cfg(test)]
 mod revision_tests;
-pub mod status;
 pub mod talk;
-pub mod telling;
 #[cfg(test)]
 mod tests;
 pub mod words;
 
-use census::CensusFiles;
-use fault::OpenFault;
+use check_command::audit_plan::{AuditFiles, audit_plan};
+use check_command::census::CensusFiles;
+use check_command::check::check;
+use check_command::fault::OpenFault;
+use check_command::options::Terms;
+use check_command::plan_file::Companion;
+use check_command::status::Status;
 use field_text::source::Counted;
 use http_wire::sink::WriteSink;
 use http_wire::source::ReadSource;
-use status::Status;
 use std::env;
 use std::fs::File;
 use std::io::{ErrorKind, Write};
 use std::process::ExitCode;
-use words::{CensusPaths, Job, job_of};
+use words::{AuditPaths, CensusPaths, Job, job_of};
 
 /// Tells a text on standard error, as far as that can be written.
 fn tell<E: Write>(errors: &mut E, text: &str) {
@@ -92,7 +94,41 @@ fn check_counts(rt: &HostRuntime, paths: CensusPaths<'_>) -> Status {
     let files = open_census(rt, paths);
     let mut writer = WriteSink::new(rt.stdout());
     let mut errors = WriteSink::new(rt.stderr());
-    let status = check::check(rt.alloc(), files, &mut writer, &mut errors);
+    let status = check(rt.alloc(), files, &mut writer, &mut errors);
+    let _ = writer.into_inner();
+    let _ = errors.into_inner();
+    status
+}
+
+/// Opens a senate plan, where there is one.
+fn open_companion(
+    rt: &HostRuntime,
+    path: Option<&str>,
+    districts: Option<u16>,
+) -> Option<Companion<Counted<File>>>
+    ensures { IsSome result → IsSome districts }
+{
+    let path = path?;
+    let districts = districts?;
+    Some(Companion {
+        opened: open(rt, path),
+        districts,
+    })
+}
+
+fn check_plan(rt: &HostRuntime, paths: AuditPaths<'_>, terms: Terms) -> Status
+    requires { AreTerms terms }
+{
+    let files = AuditFiles {
+        census: open_census(rt, paths.census),
+        gal: open(rt, paths.gal),
+        plan: open(rt, paths.plan),
+        senate: open_companion(rt, paths.senate, terms.senate_districts),
+    };
+    let mut writer = WriteSink::new(rt.stdout());
+    let mut errors = WriteSink::new(rt.stderr());
+    let (kind, districts) = (terms.kind, terms.districts);
+    let status = audit_plan(rt.alloc(), files, kind, districts, &mut writer, &mut errors);
     let _ = writer.into_inner();
     let _ = errors.into_inner();
     status
@@ -109,6 +145,7 @@ fn run(rt: &HostRuntime) -> Result<Status, Status> {
     match job_of(rt.alloc(), texts.as_slice()) {
         Ok(Job::Talk) => Ok(serve_talk(rt)),
         Ok(Job::Counts(paths)) => Ok(check_counts(rt, paths)),
+        Ok(Job::Audit(paths, terms)) => Ok(check_plan(rt, paths, terms)),
         Err(mistake) => {
             let mut errors = rt.stderr();
             tell(&mut errors, mistake.text());

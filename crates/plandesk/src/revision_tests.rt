@@ -1,5 +1,5 @@
 //! Revisions over `talk`: posted, read back, stale and bad, whole and in pieces.
-use crate::status::Status;
+use check_command::status::Status;
 use crate::tests::{NEVER, ROOM, run};
 use std::test::Fail;
 

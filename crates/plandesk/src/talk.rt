@@ -3,7 +3,7 @@ ghost use Rattle.std.specs.Prelude.{◌≡◌, ◌+◌, ◌≤◌, IfSome};
 ghost use Rattle.desk_model.specs.Sample.{sample_desk};
 ghost use Rattle.plandesk.specs.Talking.{Talks, ServesSample, status_of as status_of_served};
 
-use crate::status::Status;
+use check_command::status::Status;
 use desk_model::gate::NoGate;
 use desk_model::geography::sample;
 use desk_store::clerk::Clerk;

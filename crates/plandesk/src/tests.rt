@@ -1,5 +1,5 @@
 //! `talk` over worked streams: whole, in pieces, and with a read or a write that fails.
-use crate::status::Status;
+use check_command::status::Status;
 use crate::talk::talk;
 use crate::words::{Job, job_of};
 use http_wire::sink::WriteSink;

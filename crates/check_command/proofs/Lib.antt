@@ -1,0 +1,5 @@
+pub mod Counted
+pub mod Known
+pub mod Numbers
+pub mod Pieces
+pub mod Plans

@@ -1,0 +1,9 @@
+pub mod Auditing
+pub mod Checking
+pub mod Counts
+pub mod Faults
+pub mod Options
+pub mod PlanFiles
+pub mod Statuses
+pub mod Telling
+pub mod Whole

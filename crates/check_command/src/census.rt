@@ -1,0 +1,93 @@
+//! The census files of a state, each opened, read and judged in turn.
+ghost use Rattle.std.specs.Prelude.{◌≡◌, IfOk};
+ghost use Rattle.desk_model.specs.Geography.{AreBlocks};
+ghost use Rattle.pl94_geo.specs.GeoFile.{AreGeoRows};
+ghost use Rattle.check_command.specs.Checking.{opening_of, ReadsHeader, ReadsSegment, Joins, ReadsState};
+
+use crate::fault::{CheckFault, OpenFault};
+use desk_model::block::BlockRow;
+use field_text::source::Source;
+use pl94_geo::geo::{GeoReader, GeoRows};
+use pl94_segment::join::{JoinFault, join};
+use pl94_segment::record::Part;
+use pl94_segment::segment::{SegRows, SegmentReader};
+use std::alloc::Global;
+
+/// The openings of the geographic header and of the three segments.
+#[derive(Drop)]
+pub struct CensusFiles<R> {
+    pub geo: Result<R, OpenFault>,
+    pub seg1: Result<R, OpenFault>,
+    pub seg2: Result<R, OpenFault>,
+    pub seg3: Result<R, OpenFault>,
+}
+
+fn read_header<R: Source + Drop>(
+    alloc: Global,
+    opened: Result<R, OpenFault>,
+) -> Result<GeoRows, CheckFault>
+    ensures read { ReadsHeader (opening_of R.remaining opened) result }
+    ensures valid { IfOk result AreGeoRows }
+{
+    match opened {
+        Ok(mut reader) => match GeoReader::read(alloc, &mut reader) {
+            Ok(rows) => Ok(rows),
+            Err(fault) => Err(CheckFault::Header(fault)),
+        },
+        Err(fault) => Err(CheckFault::NoHeader(fault)),
+    }
+}
+
+fn read_segment<R: Source + Drop>(
+    alloc: Global,
+    part: Part,
+    opened: Result<R, OpenFault>,
+) -> Result<SegRows, CheckFault>
+    ensures { ReadsSegment part (opening_of R.remaining opened) result }
+{
+    match opened {
+        Ok(mut reader) => match SegmentReader::read(alloc, part, &mut reader) {
+            Ok(rows) => Ok(rows),
+            Err(fault) => Err(CheckFault::Segment(part, fault)),
+        },
+        Err(fault) => Err(CheckFault::NoSegment(part, fault)),
+    }
+}
+
+fn join_rows(
+    alloc: Global,
+    header: &GeoRows,
+    first: &SegRows,
+    second: &SegRows,
+    third: &SegRows,
+) -> Result<Vec<BlockRow>, CheckFault>
+    requires { AreGeoRows header.now }
+    ensures joined { Joins header.now first.now second.now third.now result }
+    ensures blocks { IfOk result (λ rows. AreBlocks rows.items) }
+{
+    match join(alloc, header, first, second, third) {
+        Ok(rows) => Ok(rows),
+        Err(fault) => Err(CheckFault::Join(fault)),
+    }
+}
+
+/// The blocks of a state with their people, rising by number, or the first fault of its files.
+pub fn read_state<R: Source + Drop>(
+    alloc: Global,
+    files: CensusFiles<R>,
+) -> Result<Vec<BlockRow>, CheckFault>
+    ensures read { ReadsState (opening_of R.remaining files.geo) (opening_of R.remaining files.seg1) (opening_of R.remaining files.seg2) (opening_of R.remaining files.seg3) result }
+    ensures blocks { IfOk result (λ rows. AreBlocks rows.items) }
+{
+    let CensusFiles {
+        geo,
+        seg1,
+        seg2,
+        seg3,
+    } = files;
+    let header = read_header(alloc, geo)?;
+    let first = read_segment(alloc, Part::One, seg1)?;
+    let second = read_segment(alloc, Part::Two, seg2)?;
+    let third = read_segment(alloc, Part::Three, seg3)?;
+    join_rows(alloc, &header, &first, &second, &third)
+}

@@ -1,0 +1,16 @@
+//! `check`: the counts of a state's census files, and the audit of a plan from files. Each command is a function over its
+//! readers and writers that answers the exit status.
+#![tactic(auto)]
+
+pub mod audit_plan;
+pub mod census;
+pub mod check;
+pub mod counts;
+pub mod fault;
+pub mod ground;
+pub mod options;
+pub mod plan_file;
+pub mod report;
+pub mod status;
+pub mod telling;
+pub mod whole;

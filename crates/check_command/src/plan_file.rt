@@ -1,0 +1,122 @@
+//! A plan's file: opened, read whole, and judged against the blocks.
+ghost use Rattle.std.specs.Prelude.{◌≡◌, IfOk, IfSome, length, is_some};
+ghost use Rattle.std.specs.Option.{option_copied};
+ghost use Rattle.check_command.specs.Checking.{opening_of};
+ghost use Rattle.check_command.specs.PlanFiles.{plan_fault_of_open, plan_fault_of_whole, ReadsBytes, JudgesPlan, ReadsPlan, companion_of, ReadsCompanion, beside};
+
+use crate::fault::{CheckFault, OpenFault, PlanFault, PlanFile};
+use crate::whole::{WholeFault, read_whole};
+use baf_text::listed::whole;
+use baf_text::reading::{BafFault, read};
+use desk_model::geography::Geography;
+use field_text::source::Source;
+use std::alloc::Global;
+
+/// The senate plan that a house plan is nested in: its file's opening, and its number of districts.
+#[derive(Drop)]
+pub struct Companion<R> {
+    pub opened: Result<R, OpenFault>,
+    pub districts: u16,
+}
+
+fn opening_fault(fault: OpenFault) -> PlanFault
+    ensures { result ≡ plan_fault_of_open fault }
+{
+    match fault {
+        OpenFault::Unreadable => PlanFault::Unreadable,
+        OpenFault::Memory => PlanFault::Memory,
+    }
+}
+
+fn reading_fault(fault: WholeFault) -> PlanFault
+    ensures { result ≡ plan_fault_of_whole fault }
+{
+    match fault {
+        WholeFault::TooLarge => PlanFault::TooLarge,
+        WholeFault::Failed => PlanFault::Unreadable,
+        WholeFault::TurnLimit => PlanFault::Unreadable,
+        WholeFault::Memory => PlanFault::Memory,
+    }
+}
+
+fn read_bytes<R: Source + Drop>(
+    alloc: Global,
+    file: PlanFile,
+    opened: Result<R, OpenFault>,
+) -> Result<Vec<u8>, CheckFault>
+    ensures { ReadsBytes file (opening_of R.remaining opened) result }
+{
+    match opened {
+        Ok(mut reader) => match read_whole(alloc, &mut reader) {
+            Ok(bytes) => Ok(bytes),
+            Err(fault) => Err(CheckFault::Plan(file, reading_fault(fault))),
+        },
+        Err(fault) => Err(CheckFault::Plan(file, opening_fault(fault))),
+    }
+}
+
+/// The district of each block, rising, as a plan of n districts says it.
+fn judge(
+    alloc: Global,
+    file: PlanFile,
+    bytes: &[u8],
+    geography: &Geography,
+    n: u16,
+) -> Result<Vec<u16>, CheckFault>
+    ensures { JudgesPlan file geography.now n bytes.now result }
+{
+    match read(alloc, bytes, geography, n) {
+        Ok(listed) => match whole(alloc, &listed) {
+            Ok(plan) => Ok(plan),
+            Err(_) => Err(CheckFault::Plan(file, PlanFault::Memory)),
+        },
+        Err(BafFault::Body { code, line }) => {
+            Err(CheckFault::Plan(file, PlanFault::Body(code, line)))
+        }
+        Err(BafFault::Memory) => Err(CheckFault::Plan(file, PlanFault::Memory)),
+    }
+}
+
+/// The district of each block, rising, 0 for none, as a plan's file says it, or the file's fault.
+pub fn read_plan<R: Source + Drop>(
+    alloc: Global,
+    file: PlanFile,
+    geography: &Geography,
+    n: u16,
+    opened: Result<R, OpenFault>,
+) -> Result<Vec<u16>, CheckFault>
+    ensures read { ReadsPlan file geography.now n (opening_of R.remaining opened) result }
+    ensures beside { IfOk result (λ plan. length plan.items ≡ length geography.now.blocks) }
+{
+    let bytes = read_bytes(alloc, file, opened)?;
+    judge(alloc, file, bytes.as_slice(), geography, n)
+}
+
+/// The senate plan beside a house plan, where there is one.
+pub fn read_companion<R: Source + Drop>(
+    alloc: Global,
+    geography: &Geography,
+    companion: Option<Companion<R>>,
+) -> Result<Option<Vec<u16>>, CheckFault>
+    ensures read { ReadsCompanion geography.now (companion_of R.remaining companion) result }
+    ensures beside { IfOk result (λ plan. IfSome plan (λ p. length p.items ≡ length geography.now.blocks)) }
+    ensures same { IfOk result (λ plan. is_some plan ≡ is_some companion) }
+{
+    let Some(companion) = companion else {
+        return Ok(None);
+    };
+    let Companion { opened, districts } = companion;
+    let plan = read_plan(alloc, PlanFile::Senate, geography, districts, opened)?;
+    Ok(Some(plan))
+}
+
+/// The districts of a senate plan, where there is one.
+pub fn districts_of(companion: &Option<Vec<u16>>) -> Option<&[u16]>
+    ensures value { option_copied result ≡ beside companion.now }
+    ensures same { is_some result ≡ is_some companion.now }
+{
+    match companion {
+        Some(plan) => Some(plan.as_slice()),
+        None => None,
+    }
+}

@@ -1,0 +1,62 @@
+//! The report of an audit, as it is printed.
+ghost use Rattle.std.specs.Prelude.{◌≡◌, ◌≤◌, length, IfOk, IfSome, IsSome, IsTrue};
+ghost use Rattle.std.specs.Option.{option_copied};
+ghost use Rattle.audit_report.specs.Clauses.{is_house};
+ghost use Rattle.check_command.specs.Auditing.{IsAudited, Reports};
+
+use crate::fault::{CheckFault, PlanFault, PlanFile};
+use audit_report::audit::audit;
+use desk_model::geography::Geography;
+use desk_model::kind::Kind;
+use std::alloc::{AllocError, Global};
+
+/// A report's text and its LF, and whether it names a clause that is broken.
+#[derive(Drop)]
+pub struct Audited {
+    pub broken: bool,
+    pub text: String,
+}
+
+fn print_report(
+    alloc: Global,
+    geography: &Geography,
+    kind: Kind,
+    n: u16,
+    plan: &[u16],
+    companion: Option<&[u16]>,
+) -> Result<Audited, AllocError>
+    requires some { 1 ≤ n }
+    requires few { n ≤ 999 }
+    requires beside { length plan.now ≡ length geography.now.blocks }
+    requires companion_beside { IfSome (option_copied companion) (λ c. length c ≡ length geography.now.blocks) }
+    requires companion_of_house { IsSome companion → IsTrue (is_house kind) }
+    ensures { IfOk result (IsAudited geography.now kind n plan.now (option_copied companion.entry)) }
+{
+    let report = audit(alloc, geography, kind, n, plan, companion)?;
+    let broken = report.broken.len() > 0;
+    let mut text = report.to_json(alloc)?;
+    text.push_str("\n")?;
+    Ok(Audited { broken, text })
+}
+
+/// The report of a plan of n districts. `plan` and `companion` are as `audit` takes them.
+pub fn report_of(
+    alloc: Global,
+    geography: &Geography,
+    kind: Kind,
+    n: u16,
+    plan: &[u16],
+    companion: Option<&[u16]>,
+) -> Result<Audited, CheckFault>
+    requires some { 1 ≤ n }
+    requires few { n ≤ 999 }
+    requires beside { length plan.now ≡ length geography.now.blocks }
+    requires companion_beside { IfSome (option_copied companion) (λ c. length c ≡ length geography.now.blocks) }
+    requires companion_of_house { IsSome companion → IsTrue (is_house kind) }
+    ensures { Reports geography.now kind n plan.now (option_copied companion.entry) result }
+{
+    match print_report(alloc, geography, kind, n, plan, companion) {
+        Ok(audited) => Ok(audited),
+        Err(_) => Err(CheckFault::Plan(PlanFile::Plan, PlanFault::Memory)),
+    }
+}

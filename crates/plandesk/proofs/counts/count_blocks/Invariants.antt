@@ -1,5 +1,0 @@
-use Rattle.plandesk.proofs.Counted.{AreCounted, one}
-use Rattle.plandesk.proofs.counts.count_blocks.Given as goal
-
-abbrev pub invariant-loop-row : goal.invariant-loop-row
-invariant-loop-row l = AreCounted one l.rows l.row-index l.blocks

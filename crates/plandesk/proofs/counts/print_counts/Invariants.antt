@@ -1,7 +1,0 @@
-use Rattle.std.proofs.Common.{◌≡◌, ◌++◌, take}
-use Rattle.std.specs.List.{flat_map}
-use Rattle.plandesk.specs.Counts.{county_line}
-use Rattle.plandesk.proofs.counts.print_counts.Given as goal
-
-abbrev pub invariant-loop-county : goal.invariant-loop-county
-invariant-loop-county l = l.text.items ≡ l.initial.text.items ++ flat_map county_line (take l.county-index l.county-items)

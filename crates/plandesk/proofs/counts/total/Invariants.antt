@@ -1,6 +1,0 @@
-use Rattle.std.proofs.Common.{◌≡◌, take, sum_by}
-use Rattle.desk_model.specs.declared.block.BlockRow.{BlockRow}
-use Rattle.plandesk.proofs.counts.total.Given as goal
-
-abbrev pub invariant-loop-row : goal.invariant-loop-row
-invariant-loop-row l = l.people ≡ sum_by (λ (b : BlockRow). b.population) (take l.row-index l.rows)
