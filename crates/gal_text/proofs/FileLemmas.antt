@@ -1,7 +1,6 @@
 -- A neighbour file as a whole: its header, its words and its end.
-use Rattle.std.proofs.Common.{◌≡◌, ℕ, zero, suc, ◌+◌, ◌<◌, ◌≤◌, Bool, true, false, cond, ltb, List, [], ◌∷◌, ◌++◌, length, Vec, Option, Result, Ok, Err, min, refl, sym, ap, subst, ◌∙◌, arith, append_assoc, length-append, inl, inr, ◌⊎◌, ⊎_elim}
+use Rattle.std.proofs.Common.{◌≡◌, ℕ, zero, suc, ◌+◌, ◌<◌, ◌≤◌, Bool, true, false, cond, List, [], ◌∷◌, ◌++◌, length, Vec, Option, Result, Ok, Err, refl, sym, ap, subst, ◌∙◌, arith, append_assoc, length-append, inl, inr, ⊎_elim}
 use Rattle.std.specs.declared.alloc.Global.{Global}
-use Rattle.std.proofs.lemmas.List.{append-nil}
 use Rattle.std.proofs.lemmas.Bool.{lt-ltb}
 use Rattle.std.specs.Io.KnownBytes.{Consumes, IsAtEnd}
 use Rattle.std.specs.Str.Lines.{strip_carriage_return}
@@ -15,10 +14,10 @@ use Rattle.field_text.proofs.BufferLemmas.{strip_shorter}
 use Rattle.field_text.proofs.JudgedLemmas.{cut_or_one, NoLineFeed-append, long_part}
 use Rattle.desk_model.specs.Geography.{ids_of}
 use Rattle.desk_model.specs.declared.block.BlockRow.{BlockRow}
-use Rattle.gal_text.specs.Units.{Progress, at_start, words_read, count_of_words, header_count, from_count, progress_after, units_read, go_on, at_end, is_done}
+use Rattle.gal_text.specs.Units.{Progress, at_start, words_read, count_of_words, header_count, from_count, progress_after, go_on, at_end, is_done}
 use Rattle.gal_text.specs.Holding.{Holds}
-use Rattle.gal_text.specs.GalFile.{IsOneLine, HasHeader, Says, ArePairs, LacksUnit, HasOneWay, ShowsFault, IsCutInWords, IsCutShort, IsRead, failures_after_file}
-use Rattle.gal_text.specs.Parts.{AreUnits, AreCutWords, ReadsWords, IsGraph, ReadsGraph, Begins, Finishes, refused, read_told}
+use Rattle.gal_text.specs.GalFile.{HasHeader, Says, IsCutInWords, IsRead, failures_after_file}
+use Rattle.gal_text.specs.Parts.{AreCutWords, ReadsWords, IsGraph, ReadsGraph, Begins, Finishes, refused, read_told}
 use Rattle.gal_text.specs.declared.fault.TextFault.{TextFault}
 use Rattle.gal_text.specs.declared.fault.TextFault.TheVariants.{Header, EndsEarly}
 use Rattle.gal_text.specs.declared.fault.GalFault.{GalFault}

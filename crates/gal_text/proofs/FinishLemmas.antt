@@ -1,22 +1,21 @@
 -- What the marks and the links say once all words are read.
-use Rattle.std.proofs.Common.{◌≡◌, ℕ, ◌+◌, ◌<◌, ◌≤◌, Bool, true, false, cond, eqb, List, [], ◌∷◌, length, get_or, vec_len, Vec, Option, Some, None, Result, Ok, Err, All, Contains, refl, sym, ap, subst, ◌∙◌, arith, ⊎_elim, eq-eqb}
+use Rattle.std.proofs.Common.{◌≡◌, ℕ, ◌<◌, ◌≤◌, Bool, true, false, eqb, List, length, get_or, Vec, Result, Ok, Err, All, Contains, sym, ap, subst, ◌∙◌, arith, ⊎_elim, eq-eqb}
 use Rattle.std.specs.declared.alloc.Global.{Global}
 use Rattle.std.proofs.lemmas.Bool.{eqb-true, cases_lt}
-use Rattle.std.proofs.lemmas.List.{length-map, get_or-map, get_or_default}
+use Rattle.std.proofs.lemmas.List.{length-map, get_or-map}
 use Rattle.std.proofs.lemmas.Grind.{get_or_default_zero}
 use Rattle.std.proofs.lemmas.Map.Views.{Contains-from_any}
 use Rattle.std.proofs.lemmas.Map.Keys.{sorted_from_strictly_increasing, below_from_sorted}
 use Rattle.std.proofs.lemmas.List.Folds.{list_any_at}
 use Rattle.std.specs.List.Sorted.{IsStrictlyIncreasing}
-use Rattle.desk_model.specs.Geography.{AreBlocks, ids_of, id_at}
+use Rattle.desk_model.specs.Geography.{ids_of, id_at}
 use Rattle.desk_model.specs.declared.block.BlockRow.{BlockRow}
-use Rattle.gal_text.specs.Units.{Progress, has_number, is_done, awaits_block, at_end}
+use Rattle.gal_text.specs.Units.{Progress, has_number, is_done}
 use Rattle.gal_text.specs.Links.{AreComplete, IsLeastMissing, IsFirstFalse, ArePaired, AreMutual, ArePairsOf, IsLeastOneWay}
 use Rattle.gal_text.specs.Holding.{Holds}
-use Rattle.gal_text.specs.Parts.{PairsUp, Lacks, Finishes, pairs_told}
+use Rattle.gal_text.specs.Parts.{PairsUp, Finishes, pairs_told}
 use Rattle.gal_text.specs.declared.links.Unpaired.{Unpaired}
 use Rattle.gal_text.specs.declared.links.Unpaired.TheVariants as unpaired
-use Rattle.gal_text.specs.declared.fault.TextFault.{TextFault}
 use Rattle.gal_text.specs.declared.fault.GalFault.{GalFault}
 use Rattle.gal_text.specs.declared.fault.GalFault.TheVariants as fault
 use Rattle.gal_text.specs.declared.units.Link.{Link}

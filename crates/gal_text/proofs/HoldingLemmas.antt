@@ -1,21 +1,19 @@
 -- What the units' state holds, word by word.
-use Rattle.std.proofs.Common.{◌≡◌, ℕ, ◌+◌, ◌-◌, ◌<◌, ◌≤◌, Bool, true, false, cond, ◌&&◌, ◌||◌, eqb, List, [], ◌∷◌, ◌++◌, length, drop, get_or, set, vec_len, Vec, Option, Some, None, Result, Ok, Err, All, Contains, refl, sym, ap, subst, ◌∙◌, arith, length-append, ⊎_elim, eq-eqb}
+use Rattle.std.proofs.Common.{◌≡◌, ℕ, ◌-◌, ◌<◌, ◌≤◌, Bool, true, false, cond, ◌&&◌, ◌||◌, eqb, List, [], ◌∷◌, ◌++◌, length, get_or, set, vec_len, Vec, Option, Some, None, Result, Ok, Err, All, Contains, refl, sym, ap, subst, ◌∙◌, arith, ⊎_elim, eq-eqb}
 use Rattle.std.specs.declared.alloc.Global.{Global}
-use Rattle.std.proofs.lemmas.Bool.{eqb-true, cases_lt, lt-ltb, le-ltb}
-use Rattle.std.proofs.lemmas.List.{drop-append-le, length-map, get_or-set_other, get_or_read}
+use Rattle.std.proofs.lemmas.Bool.{eqb-true, cases_lt, le-ltb}
+use Rattle.std.proofs.lemmas.List.{length-map, get_or-set_other, get_or_read}
 use Rattle.std.proofs.lemmas.Grind.{get_or-set_at}
 use Rattle.std.proofs.Math.ListN.{drop_of_length-le}
-use Rattle.std.proofs.lemmas.List.Folds.{list_any-append, list_any_at, list_any_none}
-use Rattle.std.proofs.lemmas.List.Elements.{All-push}
+use Rattle.std.proofs.lemmas.List.Folds.{list_any-append, list_any_none}
 use Rattle.std.proofs.lemmas.Map.Views.{Contains-from_any}
 use Rattle.std.proofs.lemmas.Map.Keys.{sorted_from_strictly_increasing, below_from_sorted}
 use Rattle.std.specs.List.Sorted.{IsStrictlyIncreasing}
 use Rattle.desk_model.specs.Geography.{ids_of, id_at}
 use Rattle.desk_model.specs.declared.block.BlockRow.{BlockRow}
-use Rattle.gal_text.specs.Units.{Progress, has_number, lists, link_of, known, block_of, neighbours_left, unit_read, count_read, neighbour_read, neighbour_limit, word_awaited, word_read}
-use Rattle.gal_text.specs.Holding.{ListsFrom, AreFromUnits, IsAtHand, HasUnit, Holds, IsPlaced, Meets, with_link}
-use Rattle.gal_text.specs.declared.fault.TextFault.{TextFault}
-use Rattle.gal_text.specs.declared.fault.TextFault.TheVariants.{RepeatedUnit, OwnNeighbour, TooManyNeighbours, RepeatedNeighbour, TrailingWord}
+use Rattle.gal_text.specs.Units.{Progress, has_number, lists, known, block_of, neighbours_left, unit_read, count_read, neighbour_limit, word_awaited, word_read}
+use Rattle.gal_text.specs.Holding.{AreFromUnits, IsAtHand, HasUnit, Holds, Meets}
+use Rattle.gal_text.specs.declared.fault.TextFault.TheVariants.{RepeatedUnit, TooManyNeighbours, TrailingWord}
 use Rattle.gal_text.specs.declared.units.Link.{Link}
 use Rattle.gal_text.specs.declared.units.Awaited.{Awaited}
 use Rattle.gal_text.specs.declared.units.Awaited.TheVariants as awaited

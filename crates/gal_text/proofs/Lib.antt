@@ -4,3 +4,4 @@ pub mod HoldingLemmas
 pub mod LinkLemmas
 pub mod RelationLemmas
 pub mod StandLemmas
+pub mod ValidLemmas

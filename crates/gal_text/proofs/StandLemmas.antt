@@ -2,7 +2,7 @@
 use Rattle.std.proofs.Common.{◌≡◌, ℕ, ◌+◌, ◌<◌, List, [], ◌∷◌, ◌++◌, length, Option, Result, Ok, Err, refl, sym, ap, subst, ◌∙◌, arith, append_assoc, length-append, inl, inr}
 use Rattle.std.proofs.lemmas.List.{append-nil}
 use Rattle.std.specs.Io.KnownBytes.{Consumes, IsAtEnd}
-use Rattle.field_text.specs.Words.{words, word_limit, BeginsWithWord, IsOneWord, BeginsWithLongWord, IsBrokenWord, GivesWord}
+use Rattle.field_text.specs.Words.{words, word_limit, BeginsWithWord, IsOneWord, IsBrokenWord, GivesWord}
 use Rattle.field_text.specs.Reading.{Reading}
 use Rattle.field_text.specs.declared.reader.ReadFault.{ReadFault}
 use Rattle.field_text.specs.declared.reader.ReadFault.TheVariants as read
@@ -11,10 +11,9 @@ use Rattle.desk_model.specs.Geography.{ids_of}
 use Rattle.desk_model.specs.declared.block.BlockRow.{BlockRow}
 use Rattle.gal_text.specs.Units.{Progress, at_start, word_read, words_read, go_on}
 use Rattle.gal_text.specs.Holding.{Holds, Takes}
-use Rattle.gal_text.specs.Parts.{Stands, ReadsWords, AreUnits, AreCutWords, ShowsInWords, refused, read_told}
+use Rattle.gal_text.specs.Parts.{Stands, ReadsWords, AreCutWords, refused, read_told}
 use Rattle.gal_text.specs.declared.fault.TextFault.{TextFault}
 use Rattle.gal_text.specs.declared.fault.GalFault.{GalFault}
-use Rattle.gal_text.specs.declared.fault.GalFault.TheVariants as fault
 use Rattle.gal_text.specs.declared.units.Graph.{Graph}
 use Rattle.gal_text.specs.declared.units.Refusal.{Refusal}
 use Rattle.gal_text.specs.declared.units.Refusal.TheVariants as refusal
@@ -171,7 +170,7 @@ module _ (blocks : List BlockRow) (count : ℕ) (start : List ℕ) (old : Option
     inr (
       end,
       ap (words_read (ids_of blocks) (at_start count) 1) (whole_words left held number g s ∙ ap (λ (ws : List (List ℕ)). s.whole ++ ws) one.gives)
-      ∙ faulty left held number g s word [] f (took s.progress s.holds),
+          ∙ faulty left held number g s word [] f (took s.progress s.holds),
     ),
   )
   told_refused_last left held word number g new refusal.Memory s end one took = (s.came, s.consumed, tt)
@@ -203,3 +202,9 @@ module _ (blocks : List BlockRow) (count : ℕ) (start : List ℕ) (old : Option
   pub took_at : (g new : Graph) (number at : ℕ) (given word : List ℕ) (r : Result (Unit {0}) Refusal) → at ≡ number → given ≡ word → Took g at given r new → Took g number word r new
   took_at g new number at given word r same_number same took =
       subst (λ (w : List ℕ). Took g number w r new) same (subst (λ (k : ℕ). Took g k given r new) same_number took)
+
+-- the fault of a word that is too long, at the same number
+pub long_at : (blocks : List BlockRow) (g : Graph) (number at : ℕ) (long : TextFault) → at ≡ number
+    → ((p : Progress) (word : List ℕ) → Holds blocks g p → word_limit < length word → word_read (ids_of blocks) p at word ≡ Err long)
+    → (p : Progress) (word : List ℕ) → Holds blocks g p → word_limit < length word → word_read (ids_of blocks) p number word ≡ Err long
+long_at blocks g number at long same is p word holds over = subst (λ (k : ℕ). word_read (ids_of blocks) p k word ≡ Err long) same (is p word holds over)

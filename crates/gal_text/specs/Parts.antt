@@ -1,5 +1,5 @@
 -- What the parts of reading a neighbour file give: its header, its words, its end.
-use Rattle.std.specs.Prelude.{◌≡◌, ◌≢◌, ℕ, ◌+◌, ◌⊎◌, true, false, List, [], ◌++◌, length, Option, Result, Ok, Err, Vec, ⊤}
+use Rattle.std.specs.Prelude.{◌≡◌, ℕ, ◌+◌, ◌⊎◌, true, false, List, ◌++◌, length, Option, Result, Ok, Err, Vec, ⊤}
 use Rattle.std.specs.declared.alloc.Global.{Global}
 use Rattle.std.specs.Io.KnownBytes.{Consumes, IsAtEnd}
 use Rattle.field_text.specs.Words.{words, IsBrokenWord}
@@ -12,7 +12,7 @@ use Rattle.gal_text.specs.Links.{AreComplete, IsLeastMissing, AreMutual, IsLeast
 use Rattle.gal_text.specs.Holding.{Holds}
 use Rattle.gal_text.specs.GalFile.{HasHeader, ShowsFault, IsCutShort, failures_after_file}
 use Rattle.gal_text.specs.declared.fault.TextFault.{TextFault}
-use Rattle.gal_text.specs.declared.fault.TextFault.TheVariants.{Header, EndsEarly}
+use Rattle.gal_text.specs.declared.fault.TextFault.TheVariants.{EndsEarly}
 use Rattle.gal_text.specs.declared.fault.GalFault.{GalFault}
 use Rattle.gal_text.specs.declared.fault.GalFault.TheVariants as fault
 use Rattle.gal_text.specs.declared.links.Unpaired.{Unpaired}

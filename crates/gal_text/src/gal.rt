@@ -1,9 +1,9 @@
 //! The pairs of neighbours that a file says.
-ghost use Rattle.std.specs.Prelude.{◌≡◌, ◌+◌, ◌-◌, ◌^◌, ◌<◌, ◌≤◌, ◌++◌, ℕ, List, [], Err, min, length, vec_len};
+ghost use Rattle.std.specs.Prelude.{◌≡◌, ◌+◌, ◌-◌, ◌^◌, ◌<◌, ◌≤◌, ◌++◌, ℕ, List, [], Err, All, IfOk, min, length, vec_len};
 ghost use Rattle.std.specs.Io.KnownBytes.{Consumes};
 ghost use Rattle.field_text.specs.Reading.{CountsFrom, turn_limit};
 ghost use Rattle.field_text.specs.Words.{word_limit};
-ghost use Rattle.desk_model.specs.Geography.{AreBlocks, ids_of};
+ghost use Rattle.desk_model.specs.Geography.{AreBlocks, AreDifferentBlocks, ids_of};
 ghost use Rattle.desk_model.specs.declared.block.BlockRow.{BlockRow as Row};
 ghost use Rattle.gal_text.specs.Units.{Progress, at_start, word_read};
 ghost use Rattle.gal_text.specs.Holding.{Holds, IsHeld};
@@ -166,6 +166,7 @@ pub fn read<R: Source>(
 ) -> Result<Vec<(BlockId, BlockId)>, GalFault>
     requires { AreBlocks blocks.now }
     ensures read { (text : List ℕ) × Consumes (R.remaining reader.old) (R.remaining reader.new) text × IsRead (ids_of blocks.now) text (R.remaining reader.new) result }
+    ensures valid { IfOk result (λ pairs. All (AreDifferentBlocks blocks.now) pairs.items) }
     ensures failures { R.failures reader.new ≡ failures_after_file (R.failures reader.old) result }
     ensures turns { result ≡ Err GalFault.TurnLimit → R.turns reader.new ≡ min (R.turns reader.old + turn_limit) (2 ^ 64 - 1) }
     ensures most { R.turns reader.new ≤ R.turns reader.old + turn_limit }

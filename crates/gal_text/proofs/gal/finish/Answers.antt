@@ -1,7 +1,4 @@
-use Rattle.std.proofs.Common.{◌≡◌, true, sym, ap, ◌∙◌, arith, rules}
-use Rattle.std.proofs.lemmas.List.{get_or_read}
-use Rattle.desk_model.specs.declared.block.BlockRow.{BlockRow}
-use Rattle.gal_text.specs.Units.{is_done}
+use Rattle.std.proofs.Common.{◌≡◌, true, sym, ◌∙◌, arith, rules}
 use Rattle.gal_text.proofs.FinishLemmas.{finished, least_missing, id_there}
 use Rattle.gal_text.proofs.gal.finish.Goals as goal
 

@@ -1,11 +1,18 @@
 use Rattle.std.proofs.Common.{sym, ◌∙◌}
 use Rattle.gal_text.proofs.FileLemmas.{told_end, no_failure, no_turn, counts_start, most_turns}
+use Rattle.gal_text.proofs.ValidLemmas.{valid_pairs}
 use Rattle.gal_text.proofs.gal.read.Goals as goal
 
 pub returns-in-Ok-read_graph-clause-read : goal.returns-in-Ok-read_graph-clause-read
 returns-in-Ok-read_graph-clause-read g c =
     let came = c.in-Ok-read_graph.ensures.read in
     (came.0, came.1, told_end c.args.blocks.now came.0 (g.R.Source.remaining c.read_graph.new.reader) c.in-Ok-read_graph.graph c.finish.result came.2.0 came.2.1 c.finish.ensures)
+
+pub returns-in-Ok-read_graph-clause-valid : goal.returns-in-Ok-read_graph-clause-valid
+returns-in-Ok-read_graph-clause-valid g c =
+    let came = c.in-Ok-read_graph.ensures.read in
+    valid_pairs c.args.blocks.now came.0 (g.R.Source.remaining c.read_graph.new.reader) c.finish.result
+    (told_end c.args.blocks.now came.0 (g.R.Source.remaining c.read_graph.new.reader) c.in-Ok-read_graph.graph c.finish.result came.2.0 came.2.1 c.finish.ensures)
 
 pub returns-in-Ok-read_graph-clause-failures : goal.returns-in-Ok-read_graph-clause-failures
 returns-in-Ok-read_graph-clause-failures g c =

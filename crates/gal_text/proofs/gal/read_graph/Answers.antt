@@ -1,4 +1,4 @@
-use Rattle.std.proofs.Common.{◌≡◌, ℕ, List, [], ◌++◌, Ok, Err, sym, subst, ap, ◌∙◌}
+use Rattle.std.proofs.Common.{◌≡◌, ℕ, List, [], ◌++◌, Ok, Err, sym, subst}
 use Rattle.field_text.specs.Reading.{BeginsWithLine, IsLastLine, Gives}
 use Rattle.gal_text.specs.Parts.{Begins}
 use Rattle.gal_text.specs.declared.fault.GalFault.{GalFault}

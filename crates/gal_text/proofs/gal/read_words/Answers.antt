@@ -1,9 +1,7 @@
-use Rattle.std.proofs.Common.{◌≡◌, ℕ, ◌+◌, ◌-◌, ◌++◌, Ok, Err, refl, sym, subst, ap, ◌∙◌, arith}
-use Rattle.desk_model.specs.Geography.{ids_of}
-use Rattle.gal_text.specs.Units.{word_read}
-use Rattle.gal_text.specs.Parts.{Stands, refused, read_told}
+use Rattle.std.proofs.Common.{◌-◌, ◌++◌, Ok, Err, refl, sym, subst, ◌∙◌, arith}
+use Rattle.gal_text.specs.Parts.{Stands, read_told}
 use Rattle.gal_text.specs.declared.fault.GalFault.{GalFault}
-use Rattle.gal_text.proofs.StandLemmas.{Told, stands_start, stands_more, stands_word, told_refused, told_refused_last, told_fault, told_end, told_last_end, took_at}
+use Rattle.gal_text.proofs.StandLemmas.{Told, stands_start, stands_more, stands_word, told_refused, told_refused_last, told_fault, told_last_end, took_at, long_at}
 use Rattle.gal_text.proofs.gal.read_words.Goals as goal
 
 pub loop-graph-init : goal.loop-graph-init
@@ -57,7 +55,6 @@ pub returns-in-Err-clause-read : goal.returns-in-Err-clause-read
 returns-in-Err-clause-read g c =
     let came = c.in-Err.ensures.bytes in
     let s = stands_more c.args.blocks.now c.args.graph.left c.args.text.now.held (g.R.Source.remaining c.args.reader.now) (g.R.Source.remaining c.loop-graph.reader) (g.R.Source.remaining c.advance_word.new.reader) c.loop-graph.text.held came.0 c.loop-graph.text.number c.loop-graph.graph c.loop-graph.invariant.stands came.1 in
-    subst (λ (e : GalFault). Told c.args.blocks.now c.args.graph.left c.args.text.now.held (g.R.Source.remaining c.args.reader.now) (g.R.Source.remaining c.advance_word.new.reader) (Err e)) (sym c.read_told.ensures)
+    subst (λ (e : GalFault). Told c.args.blocks.now c.args.graph.left c.args.text.now.held (g.R.Source.remaining c.args.reader.now) (g.R.Source.remaining c.advance_word.new.reader) (Err e)) {x = read_told c.long_fault.result c.in-Err.fault} (sym c.read_told.ensures)
     (told_fault c.args.blocks.now c.args.graph.left c.args.text.now.held (g.R.Source.remaining c.args.reader.now) (g.R.Source.remaining c.advance_word.new.reader) (c.loop-graph.text.held ++ came.0) c.loop-graph.text.number c.loop-graph.graph c.long_fault.result c.in-Err.fault c.advance_word.new.self s
-    (λ p word holds long.
-        subst (λ (k : ℕ). word_read (ids_of c.args.blocks.now) p k word ≡ Err c.long_fault.result) (c.number-in-Err.ensures ∙ c.in-Err.ensures.number) (c.long_fault.ensures c.args.blocks.now p word holds long)) came.2)
+    (long_at c.args.blocks.now c.loop-graph.graph c.loop-graph.text.number c.number-in-Err.result c.long_fault.result (c.number-in-Err.ensures ∙ c.in-Err.ensures.number) (c.long_fault.ensures c.args.blocks.now)) came.2)

@@ -1,4 +1,4 @@
-use Rattle.std.proofs.Common.{refl, sym, ◌∙◌, ap, arith, ℕ, Option}
+use Rattle.std.proofs.Common.{refl, sym, ◌∙◌, ap, arith}
 use Rattle.gal_text.specs.Units.{count_read}
 use Rattle.gal_text.proofs.HoldingLemmas.{count_taken}
 use Rattle.gal_text.proofs.units.Graph.take_count.Goals as goal
