@@ -1,5 +1,5 @@
 -- Blocks with consecutive numbers.
-use Rattle.std.proofs.Common.{◌≡◌, ℕ, ◌+◌, ◌*◌, ◌<◌, ◌≤◌, ◌^◌, ◌/◌, List, [], ◌∷◌, ◌++◌, map, length, get_or, refl, sym, ◌∙◌, ap, arith, All, sum_by, length-append, ⊎_elim}
+use Rattle.std.proofs.Common.{◌≡◌, ℕ, ◌+◌, ◌*◌, ◌<◌, ◌≤◌, List, [], ◌∷◌, ◌++◌, length, get_or, sym, ◌∙◌, ap, arith, sum_by, length-append, ⊎_elim}
 use Rattle.std.specs.List.{Contains, range_with_len}
 use Rattle.std.proofs.lemmas.List.{length-map, get_or-map, map_push, same_lists, get_or_append_left, get_or_push}
 use Rattle.std.proofs.lemmas.Bool.{cases_lt}
@@ -7,7 +7,7 @@ use Rattle.std.proofs.lemmas.List.FromFn.{length-range_with_len, get_or-range_wi
 use Rattle.std.proofs.lemmas.List.Sums.{sum_by-append}
 use Rattle.desk_model.specs.declared.block.BlockRow.{BlockRow}
 use Rattle.desk_model.specs.Block.{state_of}
-use Rattle.desk_model.specs.Geography.{AreBlocks, ids_of, id_at}
+use Rattle.desk_model.specs.Geography.{AreBlocks, ids_of}
 
 pub record AreMade (blocks : List BlockRow) (count : ℕ) : Type 0 where
   pub ids : ids_of blocks ≡ range_with_len 190010000000000 count

@@ -1,83 +1,28 @@
-//! Times the audits of plans over a made state, for `bench/audit`: the words are the number of blocks, up to 262,144, and of
-//! districts, up to 999. With no words it does nothing.
+//! Times the audits of plans over a made state, for `bench/audit`, where the words are `audit`, the number of blocks, up to
+//! 262,144, and of districts, up to 999; and the reading of a neighbour file, for `bench/gal`, where they are `gal`, its path
+//! and the number of blocks. With no words it does nothing.
 #![tactic(auto)]
 
-ghost use Rattle.std.specs.Prelude.{◌≡◌, length};
-
+mod audits;
 mod made;
+mod neighbours;
 
-use audit_contiguity::breaks::breaks;
-use audit_population::people::populations;
-use desk_model::geography::Geography;
-use std::time::Instant;
 use std::{env, io};
-
-const WIDTH: usize = 419;
-
-/// The best of 20 times of both audits, with what they tell.
-fn measure(
-    rt: &HostRuntime,
-    name: &str,
-    geography: &Geography,
-    count: u16,
-    plan: &[u16],
-) -> io::Result<()>
-    requires { length plan.now ≡ length geography.now.blocks }
-{
-    let mut breaks_best = 1_000_000_000_000u128;
-    let mut people_best = 1_000_000_000_000u128;
-    let mut told = 0u64;
-    for _ in 0..20 {
-        let start = Instant::now(rt)?;
-        let broken = breaks(rt.alloc(), geography, count, plan)?;
-        breaks_best = start.elapsed(rt)?.as_nanos().min(breaks_best);
-        let start = Instant::now(rt)?;
-        let people = populations(rt.alloc(), geography, count, plan)?;
-        people_best = start.elapsed(rt)?.as_nanos().min(people_best);
-        told = 0;
-        for part in broken.as_slice() {
-            told = told.wrapping_mul(31).wrapping_add(part.district as u64);
-            if let Some(gap) = part.gap {
-                told = told.wrapping_mul(31).wrapping_add(gap.from.number());
-                told = told.wrapping_mul(31).wrapping_add(gap.to.number());
-            }
-        }
-        for number in people.as_slice() {
-            told = told.wrapping_mul(31).wrapping_add(*number as u64);
-        }
-    }
-    println!(rt; "{name} {breaks_best} {people_best} {told}")?;
-    Ok(())
-}
-
-fn run(rt: &HostRuntime, count: usize, districts: u16) -> io::Result<()> {
-    if count == 0 || count > 262_144 || districts == 0 || districts > 999 {
-        return Ok(());
-    }
-    let blocks = made::made_blocks(rt.alloc(), count)?;
-    if blocks.len() != count {
-        return Ok(());
-    }
-    let pairs = made::made_pairs(rt.alloc(), blocks.as_slice(), WIDTH)?;
-    let geography = Geography::make(rt.alloc(), blocks, pairs.as_slice())?;
-    let whole = made::made_plan(rt.alloc(), count, districts as usize, districts)?;
-    measure(rt, "whole", &geography, districts, whole.as_slice())?;
-    let parted = made::made_plan(rt.alloc(), count, 2 * districts as usize, districts)?;
-    measure(rt, "parted", &geography, districts, parted.as_slice())
-}
 
 fn main(rt: HostRuntime) -> io::Result<()> {
     let mut words = env::args(&rt)?;
     let _ = words.next();
-    let Some(count) = words.next() else {
+    let Some(job) = words.next() else {
         return Ok(());
     };
-    let Some(districts) = words.next() else {
+    let Some(first) = words.next() else {
         return Ok(());
     };
-    run(
-        &rt,
-        count.parse().unwrap_or(0),
-        districts.parse().unwrap_or(0),
-    )
+    let Some(second) = words.next() else {
+        return Ok(());
+    };
+    if job.as_str() == "gal" {
+        return neighbours::run(&rt, first.as_str(), second.parse().unwrap_or(0));
+    }
+    audits::run(&rt, first.parse().unwrap_or(0), second.parse().unwrap_or(0))
 }

@@ -1,8 +1,6 @@
-use Rattle.std.proofs.Common.{◌≡◌, ◌<◌, ◌∙◌, List, length, get_or, All, sym, ap, arith}
-use Rattle.std.specs.List.{Contains}
-use Rattle.std.proofs.lemmas.List.{length-map, get_or-map}
+use Rattle.std.proofs.Common.{get_or, ap, arith}
 use Rattle.std.proofs.lemmas.List.Elements.{All-push}
-use Rattle.desk_model.specs.Geography.{AreDifferentBlocks, ids_of}
+use Rattle.desk_model.specs.Geography.{AreDifferentBlocks}
 use Rattle.desk_model.specs.declared.block.BlockRow.{BlockRow}
 use Rattle.bench_audit.proofs.Consecutive.{is_known}
 use Rattle.bench_audit.proofs.made.add_pair.Goals as goal
