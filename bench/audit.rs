@@ -126,6 +126,7 @@ fn main() {
     for i in 0..count {
         if (i + 1) % WIDTH != 0 && i + 1 < count { pairs.push(Pair { first: i as u32, second: i as u32 + 1 }); }
         if i + WIDTH < count { pairs.push(Pair { first: i as u32, second: (i + WIDTH) as u32 }); }
+        if (i + 1) % WIDTH != 0 && i % 7 < 4 && i + WIDTH + 1 < count { pairs.push(Pair { first: i as u32, second: (i + WIDTH + 1) as u32 }); }
     }
     let mut starts = vec![0u32; count + 1];
     for p in &pairs { starts[p.first as usize + 1] += 1; starts[p.second as usize + 1] += 1; }

@@ -11,10 +11,12 @@ fn made(count: usize) -> String {
     let mut text = format!("0 {count} made id\n");
     for i in 0..count {
         let mut others = Vec::new();
+        if i > WIDTH && i % WIDTH != 0 && (i - WIDTH - 1) % 7 < 4 { others.push(i - WIDTH - 1); }
         if i >= WIDTH { others.push(i - WIDTH); }
         if i % WIDTH != 0 { others.push(i - 1); }
         if (i + 1) % WIDTH != 0 && i + 1 < count { others.push(i + 1); }
         if i + WIDTH < count { others.push(i + WIDTH); }
+        if (i + 1) % WIDTH != 0 && i % 7 < 4 && i + WIDTH + 1 < count { others.push(i + WIDTH + 1); }
         writeln!(text, "{} {}", FIRST + i as u64, others.len()).unwrap();
         let listed: Vec<String> = others.iter().map(|o| (FIRST + *o as u64).to_string()).collect();
         writeln!(text, "{}", listed.join(" ")).unwrap();

@@ -1,4 +1,5 @@
-//! A made state: blocks in rows, each beside the next and above the one in the next row.
+//! A made state: blocks in rows, each beside the next and above the one in the next row; four blocks of seven share an edge with
+//! the one after that too.
 ghost use Rattle.std.specs.Prelude.{◌≡◌, ◌<◌, ◌≤◌, length, All, IfOk, OnOk};
 ghost use Rattle.desk_model.specs.Geography.{AreBlocks, AreDifferentBlocks};
 
@@ -53,12 +54,16 @@ pub fn made_pairs(
     requires few { length blocks.now ≤ 262144 }
     ensures { IfOk result (λ pairs. All (AreDifferentBlocks blocks.now) pairs.items) }
 {
-    let mut pairs = Vec::with_capacity(alloc, 2 * blocks.len())?;
+    let mut pairs = Vec::with_capacity(alloc, 3 * blocks.len())?;
     for i in 0..blocks.len() {
-        if (i + 1) % width != 0 {
+        let is_last = (i + 1) % width == 0;
+        if !is_last {
             add_pair(&mut pairs, blocks, i, i + 1)?;
         }
         add_pair(&mut pairs, blocks, i, i + width)?;
+        if !is_last && i % 7 < 4 {
+            add_pair(&mut pairs, blocks, i, i + width + 1)?;
+        }
     }
     Ok(pairs)
 }
