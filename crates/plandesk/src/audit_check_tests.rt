@@ -1,5 +1,5 @@
 //! `check` with a plan: the worked plans of the sample's files, each fault of the files behind the census, and the options.
-use crate::check_tests::{Ended, Files, SAMPLE, Shape, ended, reader};
+use crate::check_tests::{Ended, Files, SAMPLE, Shape, end_of, reader};
 use crate::tests::{NEVER, Page, ROOM};
 use crate::words::{Job, job_of};
 use check_command::audit_plan::{AuditFiles, audit_plan};
@@ -72,168 +72,155 @@ fn run(alloc: Global, census: &Files, given: Given<'_>) -> Ended {
     });
     let (kind, districts) = (given.kind, given.districts.clamp(1, 999));
     let status = audit_plan(alloc, files, kind, districts, &mut writer, &mut errors);
-    ended(status, writer.into_inner(), errors.into_inner())
+    end_of(status, writer.into_inner(), errors.into_inner())
 }
 
+/// The sample with one more in the first block and one fewer in the third; with more people in all blocks.
+const ONE_MORE: Shape = Shape {
+    people: [b"506", b"505", b"494", b"495"],
+    ..SAMPLE
+};
+const LARGER: Shape = Shape {
+    people: [b"525", b"525", b"500", b"500"],
+    state_people: b"2050",
+    ..SAMPLE
+};
+
 /// A report that is wanted of a plan.
-struct Wanted<'a> {
-    given: Given<'a>,
-    report: &'a str,
+#[derive(Drop)]
+struct Wanted {
+    people: Shape,
+    given: Given<'static>,
+    report: &'static str,
     status: Status,
 }
 
-fn compare(rt: &HostRuntime, people: Shape, wanted: &[Wanted<'_>]) -> Result<(), Fail> {
-    let files = Files::make(rt.alloc(), &people)?;
-    for one in wanted {
-        let ended = run(rt.alloc(), &files, one.given);
-        assert!(*rt; ended.errors.is_empty());
-        assert_eq!(*rt; ended.output.as_slice(), one.report.as_bytes());
-        assert!(*rt; ended.status == one.status);
+const REPORTS: [Wanted; 11] = [
+    Wanted {
+        people: SAMPLE,
+            given: HOUSE,
+            report: "{\"broken\":[],\"cities\":[\"00100\"],\"cities_in_county\":[],\"congress\":[],\"contiguity\":[],\"counties\":[],\"districts\":2,\"kind\":\"house\",\"nesting\":[],\"not_asked\":[\"42.4.6\"],\"population\":2000,\"populations\":[1010,990],\"range\":null,\"unassigned\":0}\n",
+            status: Status::Done,
+        },
+    Wanted {
+        people: SAMPLE,
+            given: Given {
+                kind: Kind::Congress,
+                ..HOUSE
+            },
+            report: "{\"broken\":[],\"cities\":[\"00100\"],\"cities_in_county\":[],\"congress\":[],\"contiguity\":[],\"counties\":[],\"districts\":2,\"kind\":\"congress\",\"nesting\":[],\"not_asked\":[],\"population\":2000,\"populations\":[1010,990],\"range\":null,\"unassigned\":0}\n",
+            status: Status::Done,
+        },
+    Wanted {
+        people: SAMPLE,
+            given: Given {
+                kind: Kind::Senate,
+                plan: Ok(DIAGONAL),
+                ..HOUSE
+            },
+            report: "{\"broken\":[\"42.4.3\"],\"cities\":[\"00100\"],\"cities_in_county\":[\"00100\"],\"congress\":[],\"contiguity\":[{\"district\":1,\"from\":\"190010001001001\",\"to\":\"190030001001002\"},{\"district\":2,\"from\":\"190010001001002\",\"to\":\"190030001001001\"}],\"counties\":[\"001\",\"003\"],\"districts\":2,\"kind\":\"senate\",\"nesting\":[],\"not_asked\":[],\"population\":2000,\"populations\":[1000,1000],\"range\":null,\"unassigned\":0}\n",
+            status: Status::Broken,
+        },
+    Wanted {
+        people: SAMPLE,
+            given: Given {
+                kind: Kind::Senate,
+                plan: Ok(DIAGONAL),
+                gal: Ok(DIAGONALS),
+                ..HOUSE
+            },
+            report: "{\"broken\":[],\"cities\":[\"00100\"],\"cities_in_county\":[\"00100\"],\"congress\":[],\"contiguity\":[],\"counties\":[\"001\",\"003\"],\"districts\":2,\"kind\":\"senate\",\"nesting\":[],\"not_asked\":[],\"population\":2000,\"populations\":[1000,1000],\"range\":null,\"unassigned\":0}\n",
+            status: Status::Done,
+        },
+    Wanted {
+        people: SAMPLE,
+            given: Given {
+                kind: Kind::Senate,
+                districts: 3,
+                ..HOUSE
+            },
+            report: "{\"broken\":[\"42.4.1.a.mean\",\"42.4.1.a.range\",\"42.4.3\"],\"cities\":[\"00100\"],\"cities_in_county\":[],\"congress\":[],\"contiguity\":[{\"district\":3}],\"counties\":[],\"districts\":3,\"kind\":\"senate\",\"nesting\":[],\"not_asked\":[],\"population\":2000,\"populations\":[1010,990,0],\"range\":[1,3],\"unassigned\":0}\n",
+            status: Status::Broken,
+        },
+    Wanted {
+        people: SAMPLE,
+            given: Given {
+                plan: Ok(WITHOUT_LAST),
+                ..HOUSE
+            },
+            report: "{\"broken\":[\"desk.complete\",\"42.4.1.a.mean\",\"42.4.1.a.range\"],\"cities\":[\"00100\"],\"cities_in_county\":[],\"congress\":[],\"contiguity\":[],\"counties\":[\"003\"],\"districts\":2,\"kind\":\"house\",\"nesting\":[],\"not_asked\":[\"42.4.6\"],\"population\":2000,\"populations\":[1010,495],\"range\":[1,2],\"unassigned\":1}\n",
+            status: Status::Broken,
+        },
+    Wanted {
+        people: SAMPLE,
+            given: Given {
+                senate: Some((Ok(DIAGONAL), 2)),
+                ..HOUSE
+            },
+            report: "{\"broken\":[\"42.4.6\"],\"cities\":[\"00100\"],\"cities_in_county\":[],\"congress\":[],\"contiguity\":[],\"counties\":[],\"districts\":2,\"kind\":\"house\",\"nesting\":[1,2],\"not_asked\":[],\"population\":2000,\"populations\":[1010,990],\"range\":null,\"unassigned\":0}\n",
+            status: Status::Broken,
+        },
+    Wanted {
+        people: SAMPLE,
+            given: Given {
+                senate: Some((Ok(ALL_IN_ONE), 1)),
+                ..HOUSE
+            },
+            report: "{\"broken\":[],\"cities\":[\"00100\"],\"cities_in_county\":[],\"congress\":[],\"contiguity\":[],\"counties\":[],\"districts\":2,\"kind\":\"house\",\"nesting\":[],\"not_asked\":[],\"population\":2000,\"populations\":[1010,990],\"range\":null,\"unassigned\":0}\n",
+            status: Status::Done,
+        },
+    Wanted {
+        people: ONE_MORE,
+            given: HOUSE,
+            report: "{\"broken\":[\"42.4.1.a.mean\"],\"cities\":[\"00100\"],\"cities_in_county\":[],\"congress\":[],\"contiguity\":[],\"counties\":[],\"districts\":2,\"kind\":\"house\",\"nesting\":[],\"not_asked\":[\"42.4.6\"],\"population\":2000,\"populations\":[1011,989],\"range\":null,\"unassigned\":0}\n",
+            status: Status::Broken,
+        },
+    Wanted {
+        people: ONE_MORE,
+            given: Given {
+                kind: Kind::Congress,
+                ..HOUSE
+            },
+            report: "{\"broken\":[\"42.4.1.b\"],\"cities\":[\"00100\"],\"cities_in_county\":[],\"congress\":[1,2],\"contiguity\":[],\"counties\":[],\"districts\":2,\"kind\":\"congress\",\"nesting\":[],\"not_asked\":[],\"population\":2000,\"populations\":[1011,989],\"range\":null,\"unassigned\":0}\n",
+            status: Status::Broken,
+        },
+    Wanted {
+        people: LARGER,
+        given: Given {
+            kind: Kind::Senate,
+            ..HOUSE
+        },
+        report: "{\"broken\":[\"42.4.1.a.mean\"],\"cities\":[\"00100\"],\"cities_in_county\":[],\"congress\":[],\"contiguity\":[],\"counties\":[],\"districts\":2,\"kind\":\"senate\",\"nesting\":[],\"not_asked\":[],\"population\":2050,\"populations\":[1050,1000],\"range\":null,\"unassigned\":0}\n",
+        status: Status::Broken,
+        },
+];
+
+#[test]
+fn worked_plans_are_reported(rt: HostRuntime) -> Result<(), Fail> {
+    let alloc = rt.alloc();
+    for one in &REPORTS {
+        let files = Files::make(alloc, &one.people)?;
+        let ended = run(alloc, &files, one.given);
+        assert!(rt; ended.errors.is_empty());
+        assert_eq!(rt; ended.output.as_slice(), one.report.as_bytes());
+        assert!(rt; ended.status == one.status);
     }
     Ok(())
 }
 
-#[test]
-fn plans_of_the_sample(rt: HostRuntime) -> Result<(), Fail> {
-    compare(
-        &rt,
-        SAMPLE,
-        &[
-            Wanted {
-                given: HOUSE,
-                report: "{\"broken\":[],\"cities\":[\"00100\"],\"cities_in_county\":[],\"congress\":[],\"contiguity\":[],\"counties\":[],\"districts\":2,\"kind\":\"house\",\"nesting\":[],\"not_asked\":[\"42.4.6\"],\"population\":2000,\"populations\":[1010,990],\"range\":null,\"unassigned\":0}\n",
-                status: Status::Done,
-            },
-            Wanted {
-                given: Given {
-                    kind: Kind::Congress,
-                    ..HOUSE
-                },
-                report: "{\"broken\":[],\"cities\":[\"00100\"],\"cities_in_county\":[],\"congress\":[],\"contiguity\":[],\"counties\":[],\"districts\":2,\"kind\":\"congress\",\"nesting\":[],\"not_asked\":[],\"population\":2000,\"populations\":[1010,990],\"range\":null,\"unassigned\":0}\n",
-                status: Status::Done,
-            },
-            Wanted {
-                given: Given {
-                    kind: Kind::Senate,
-                    plan: Ok(DIAGONAL),
-                    ..HOUSE
-                },
-                report: "{\"broken\":[\"42.4.3\"],\"cities\":[\"00100\"],\"cities_in_county\":[\"00100\"],\"congress\":[],\"contiguity\":[{\"district\":1,\"from\":\"190010001001001\",\"to\":\"190030001001002\"},{\"district\":2,\"from\":\"190010001001002\",\"to\":\"190030001001001\"}],\"counties\":[\"001\",\"003\"],\"districts\":2,\"kind\":\"senate\",\"nesting\":[],\"not_asked\":[],\"population\":2000,\"populations\":[1000,1000],\"range\":null,\"unassigned\":0}\n",
-                status: Status::Broken,
-            },
-            Wanted {
-                given: Given {
-                    kind: Kind::Senate,
-                    plan: Ok(DIAGONAL),
-                    gal: Ok(DIAGONALS),
-                    ..HOUSE
-                },
-                report: "{\"broken\":[],\"cities\":[\"00100\"],\"cities_in_county\":[\"00100\"],\"congress\":[],\"contiguity\":[],\"counties\":[\"001\",\"003\"],\"districts\":2,\"kind\":\"senate\",\"nesting\":[],\"not_asked\":[],\"population\":2000,\"populations\":[1000,1000],\"range\":null,\"unassigned\":0}\n",
-                status: Status::Done,
-            },
-            Wanted {
-                given: Given {
-                    kind: Kind::Senate,
-                    districts: 3,
-                    ..HOUSE
-                },
-                report: "{\"broken\":[\"42.4.1.a.mean\",\"42.4.1.a.range\",\"42.4.3\"],\"cities\":[\"00100\"],\"cities_in_county\":[],\"congress\":[],\"contiguity\":[{\"district\":3}],\"counties\":[],\"districts\":3,\"kind\":\"senate\",\"nesting\":[],\"not_asked\":[],\"population\":2000,\"populations\":[1010,990,0],\"range\":[1,3],\"unassigned\":0}\n",
-                status: Status::Broken,
-            },
-            Wanted {
-                given: Given {
-                    plan: Ok(WITHOUT_LAST),
-                    ..HOUSE
-                },
-                report: "{\"broken\":[\"desk.complete\",\"42.4.1.a.mean\",\"42.4.1.a.range\"],\"cities\":[\"00100\"],\"cities_in_county\":[],\"congress\":[],\"contiguity\":[],\"counties\":[\"003\"],\"districts\":2,\"kind\":\"house\",\"nesting\":[],\"not_asked\":[\"42.4.6\"],\"population\":2000,\"populations\":[1010,495],\"range\":[1,2],\"unassigned\":1}\n",
-                status: Status::Broken,
-            },
-            Wanted {
-                given: Given {
-                    senate: Some((Ok(DIAGONAL), 2)),
-                    ..HOUSE
-                },
-                report: "{\"broken\":[\"42.4.6\"],\"cities\":[\"00100\"],\"cities_in_county\":[],\"congress\":[],\"contiguity\":[],\"counties\":[],\"districts\":2,\"kind\":\"house\",\"nesting\":[1,2],\"not_asked\":[],\"population\":2000,\"populations\":[1010,990],\"range\":null,\"unassigned\":0}\n",
-                status: Status::Broken,
-            },
-            Wanted {
-                given: Given {
-                    senate: Some((Ok(ALL_IN_ONE), 1)),
-                    ..HOUSE
-                },
-                report: "{\"broken\":[],\"cities\":[\"00100\"],\"cities_in_county\":[],\"congress\":[],\"contiguity\":[],\"counties\":[],\"districts\":2,\"kind\":\"house\",\"nesting\":[],\"not_asked\":[],\"population\":2000,\"populations\":[1010,990],\"range\":null,\"unassigned\":0}\n",
-                status: Status::Done,
-            },
-        ],
-    )
-}
-
-#[test]
-fn plans_of_other_people(rt: HostRuntime) -> Result<(), Fail> {
-    compare(
-        &rt,
-        Shape {
-            people: [b"506", b"505", b"494", b"495"],
-            ..SAMPLE
-        },
-        &[
-            Wanted {
-                given: HOUSE,
-                report: "{\"broken\":[\"42.4.1.a.mean\"],\"cities\":[\"00100\"],\"cities_in_county\":[],\"congress\":[],\"contiguity\":[],\"counties\":[],\"districts\":2,\"kind\":\"house\",\"nesting\":[],\"not_asked\":[\"42.4.6\"],\"population\":2000,\"populations\":[1011,989],\"range\":null,\"unassigned\":0}\n",
-                status: Status::Broken,
-            },
-            Wanted {
-                given: Given {
-                    kind: Kind::Congress,
-                    ..HOUSE
-                },
-                report: "{\"broken\":[\"42.4.1.b\"],\"cities\":[\"00100\"],\"cities_in_county\":[],\"congress\":[1,2],\"contiguity\":[],\"counties\":[],\"districts\":2,\"kind\":\"congress\",\"nesting\":[],\"not_asked\":[],\"population\":2000,\"populations\":[1011,989],\"range\":null,\"unassigned\":0}\n",
-                status: Status::Broken,
-            },
-        ],
-    )?;
-    compare(
-        &rt,
-        Shape {
-            people: [b"525", b"525", b"500", b"500"],
-            state_people: b"2050",
-            ..SAMPLE
-        },
-        &[Wanted {
-            given: Given {
-                kind: Kind::Senate,
-                ..HOUSE
-            },
-            report: "{\"broken\":[\"42.4.1.a.mean\"],\"cities\":[\"00100\"],\"cities_in_county\":[],\"congress\":[],\"contiguity\":[],\"counties\":[],\"districts\":2,\"kind\":\"senate\",\"nesting\":[],\"not_asked\":[],\"population\":2050,\"populations\":[1050,1000],\"range\":null,\"unassigned\":0}\n",
-            status: Status::Broken,
-        }],
-    )
-}
-
 /// A fault that is wanted.
+#[derive(Drop)]
 struct Told<'a> {
     given: Given<'a>,
     line: &'a [u8],
     status: Status,
 }
 
-fn compare_faults(rt: &HostRuntime, files: &Files, wanted: &[Told<'_>]) {
-    for one in wanted {
-        let ended = run(rt.alloc(), files, one.given);
-        assert_eq!(*rt; ended.errors.as_slice(), one.line);
-        assert!(*rt; ended.output.is_empty());
-        assert!(*rt; ended.status == one.status);
-    }
-}
-
 #[test]
 fn the_first_fault_behind_the_census_is_told(rt: HostRuntime) -> Result<(), Fail> {
     let files = Files::make(rt.alloc(), &SAMPLE)?;
     let none = Err(OpenFault::Unreadable);
-    compare_faults(
-        &rt,
-        &files,
-        &[
+    let faults = [
             Told {
                 given: Given {
                     gal: Ok(ONE_WAY),
@@ -305,8 +292,13 @@ fn the_first_fault_behind_the_census_is_told(rt: HostRuntime) -> Result<(), Fail
                 line: b"plandesk: senate: B5 line 2\n",
                 status: Status::Refused,
             },
-        ],
-    );
+        ];
+    for one in &faults {
+        let ended = run(rt.alloc(), &files, one.given);
+        assert_eq!(rt; ended.errors.as_slice(), one.line);
+        assert!(rt; ended.output.is_empty());
+        assert!(rt; ended.status == one.status);
+    }
     Ok(())
 }
 
@@ -314,10 +306,7 @@ fn the_first_fault_behind_the_census_is_told(rt: HostRuntime) -> Result<(), Fail
 fn a_plans_file_may_be_too_large(rt: HostRuntime) -> Result<(), Fail> {
     let files = Files::make(rt.alloc(), &SAMPLE)?;
     let long = vec![in rt.alloc(); b'x'; 33_554_433]?;
-    compare_faults(
-        &rt,
-        &files,
-        &[
+    let faults = [
             Told {
                 given: Given {
                     plan: Ok(long.as_slice()),
@@ -334,8 +323,12 @@ fn a_plans_file_may_be_too_large(rt: HostRuntime) -> Result<(), Fail> {
                 line: b"plandesk: plan: B1 line 1\n",
                 status: Status::Refused,
             },
-        ],
-    );
+        ];
+    for one in &faults {
+        let ended = run(rt.alloc(), &files, one.given);
+        assert_eq!(rt; ended.errors.as_slice(), one.line);
+        assert!(rt; ended.status == one.status);
+    }
     Ok(())
 }
 

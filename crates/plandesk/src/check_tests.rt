@@ -174,7 +174,7 @@ pub struct Ended {
     pub errors: Vec<u8>,
 }
 
-pub fn ended(status: Status, writer: Page, errors: Page) -> Ended {
+pub fn end_of(status: Status, writer: Page, errors: Page) -> Ended {
     let Page {
         bytes: output,
         room: _,
@@ -206,7 +206,7 @@ fn run(alloc: Global, given: Given<'_>) -> Ended {
         room: ROOM,
     });
     let status = check(alloc, files, &mut writer, &mut errors);
-    ended(status, writer.into_inner(), errors.into_inner())
+    end_of(status, writer.into_inner(), errors.into_inner())
 }
 
 /// The sample's files, made in that shape.
