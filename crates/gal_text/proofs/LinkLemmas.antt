@@ -19,7 +19,8 @@ use Rattle.std.proofs.lemmas.List.Sorted.{searchable_from_sorted}
 use Rattle.std.proofs.lemmas.Map.Lookups.{CmpEqualImpliesEq, exact_unsigned, exact_pairs}
 use Rattle.std.proofs.lemmas.Map.Views.{tells_apart}
 use Rattle.std.proofs.lemmas.Slice.Eq.{slice_eq-Decides}
-use Rattle.gal_text.specs.Links.{Precedes, Lists, AreRising, AreMutual, AreCut, ArePairsOf, IsPairOf, IsPairBack, IsOneWay, IsLeastOneWay, IsLeastSeen, IsLeastOrNone, is_before, upward_pair, downward_pair}
+use Rattle.gal_text.specs.Links.{Precedes, Lists, AreRising, AreMutual, ArePairsOf, IsPairOf, IsOneWay, IsLeastOneWay}
+use Rattle.gal_text.specs.Pairing.{AreCut, IsPairBack, IsLeastSeen, IsLeastOrNone, is_before, upward_pair, downward_pair}
 use Rattle.gal_text.specs.Units.{link_of}
 use Rattle.gal_text.specs.declared.units.Link.{Link}
 

@@ -1,6 +1,6 @@
 use Rattle.std.proofs.Common.{◌≡◌, take}
 use Rattle.std.specs.List.{filter_map}
-use Rattle.gal_text.specs.Links.{downward_pair}
+use Rattle.gal_text.specs.Pairing.{downward_pair}
 use Rattle.gal_text.proofs.links.downward.Given as goal
 
 abbrev pub invariant-loop-link : goal.invariant-loop-link

@@ -1,5 +1,5 @@
 use Rattle.std.proofs.Common.{◌<◌, ◌≤◌, arith}
-use Rattle.gal_text.specs.Links.{upward_pair}
+use Rattle.gal_text.specs.Pairing.{upward_pair}
 use Rattle.gal_text.proofs.LinkLemmas.{more_kept, pushed, passed_over}
 use Rattle.gal_text.proofs.links.upward.Goals as goal
 use Rattle.gal_text.proofs.links.upward.Goals.{then-number+in_ok-push, else-number}

@@ -1,6 +1,6 @@
 use Rattle.std.proofs.Common.{◌≡◌, take}
 use Rattle.std.specs.List.{filter_map}
-use Rattle.gal_text.specs.Links.{upward_pair}
+use Rattle.gal_text.specs.Pairing.{upward_pair}
 use Rattle.gal_text.proofs.links.upward.Given as goal
 
 abbrev pub invariant-loop-link : goal.invariant-loop-link
