@@ -1,15 +1,14 @@
 -- What the marks and the links say once all words are read.
-use Rattle.std.proofs.Common.{◌≡◌, ℕ, ◌<◌, ◌≤◌, Bool, true, false, eqb, List, length, get_or, Vec, Result, Ok, Err, All, Contains, sym, ap, subst, ◌∙◌, arith, ⊎_elim, eq-eqb}
+use Rattle.std.proofs.Common.{◌≡◌, ℕ, ◌<◌, ◌≤◌, Bool, true, false, List, length, get_or, Vec, Result, Ok, Err, All, Contains, sym, ap, subst, ◌∙◌, arith, ⊎_elim}
 use Rattle.std.specs.declared.alloc.Global.{Global}
-use Rattle.std.proofs.lemmas.Bool.{eqb-true, cases_lt}
+use Rattle.std.proofs.lemmas.Bool.{cases_lt}
 use Rattle.std.proofs.lemmas.List.{length-map, get_or-map}
 use Rattle.std.proofs.lemmas.Grind.{get_or_default_zero}
-use Rattle.std.proofs.lemmas.Map.Views.{Contains-from_any}
 use Rattle.std.proofs.lemmas.Map.Keys.{sorted_from_strictly_increasing, below_from_sorted}
-use Rattle.std.proofs.lemmas.List.Folds.{list_any_at}
 use Rattle.std.specs.List.Sorted.{IsStrictlyIncreasing}
 use Rattle.desk_model.specs.Geography.{ids_of, id_at}
 use Rattle.desk_model.specs.declared.block.BlockRow.{BlockRow}
+use Rattle.gal_text.proofs.RelationLemmas.{contains_from_has, not_contains}
 use Rattle.gal_text.specs.Units.{Progress, has_number, is_done}
 use Rattle.gal_text.specs.Links.{AreComplete, IsLeastMissing, IsFirstFalse, ArePaired, AreMutual, ArePairsOf, IsLeastOneWay}
 use Rattle.gal_text.specs.Holding.{Holds}
@@ -20,15 +19,6 @@ use Rattle.gal_text.specs.declared.fault.GalFault.{GalFault}
 use Rattle.gal_text.specs.declared.fault.GalFault.TheVariants as fault
 use Rattle.gal_text.specs.declared.units.Link.{Link}
 use Rattle.gal_text.specs.declared.units.Graph.{Graph}
-
-listed : (units : List ℕ) (x : ℕ) → has_number units x ≡ true → Contains units x
-listed units x has = Contains-from_any {eq = λ (a b : ℕ). eqb b a} (λ x y e. sym (eqb-true y x e)) x units has
-
-found : (units : List ℕ) (x : ℕ) → Contains units x → has_number units x ≡ true
-found units x has = list_any_at (λ (y : ℕ). eqb y x) units has.0 x has.1 (eq-eqb (get_or units has.0 x) x has.2)
-
-not_listed : (units : List ℕ) (x : ℕ) → has_number units x ≡ false → ¬ Contains units x
-not_listed units x none has = absurd (let yes : has_number units x ≡ true = found units x has in (cc))
 
 -- the number at a place
 id_is : (blocks : List BlockRow) (k d : ℕ) → k < length (ids_of blocks) → get_or (ids_of blocks) k d ≡ id_at blocks k
@@ -52,15 +42,15 @@ module _ (blocks : List BlockRow) (g : Graph) (p : Progress) (holds : Holds bloc
 
   pub all_there : All (λ mark. mark ≡ true) g.seen.items → AreComplete (ids_of blocks) p.units
   all_there each = λ k d inside.
-      subst (Contains p.units) (sym (id_is blocks k d inside)) (listed p.units (id_at blocks k) (sym (mark_is k inside) ∙ each k false (omega (arith, marked))))
+      subst (Contains p.units) (sym (id_is blocks k d inside)) (contains_from_has p.units (id_at blocks k) (sym (mark_is k inside) ∙ each k false (omega (arith, marked))))
 
   pub least_missing : (place : ℕ) (marks : List Bool) (id : ℕ) → IsStrictlyIncreasing (ids_of blocks) → marks ≡ g.seen.items → IsFirstFalse marks place → id ≡ id_at blocks place
       → IsLeastMissing (ids_of blocks) p.units id
   least_missing place marks id rising same first is = record {
     known = (place, inside, id_is blocks place id inside ∙ sym is);
-    missing = subst (λ (x : ℕ). ¬ Contains p.units x) (sym is) (not_listed p.units (id_at blocks place) (sym (mark_is place inside) ∙ sym (ap (λ (ms : List Bool). get_or ms place false) same) ∙ first.missing false));
+    missing = subst (λ (x : ℕ). ¬ Contains p.units x) (sym is) (not_contains p.units (id_at blocks place) (sym (mark_is place inside) ∙ sym (ap (λ (ms : List Bool). get_or ms place false) same) ∙ first.missing false));
     least = λ k d within lacks. ⊎_elim
-        (λ (less : k < place). absurd (lacks (subst (Contains p.units) (sym (id_is blocks k d within)) (listed p.units (id_at blocks k) (sym (mark_is k within) ∙ sym (ap (λ (ms : List Bool). get_or ms k false) same) ∙ first.before k false (omega arith) less)))))
+        (λ (less : k < place). absurd (lacks (subst (Contains p.units) (sym (id_is blocks k d within)) (contains_from_has p.units (id_at blocks k) (sym (mark_is k within) ∙ sym (ap (λ (ms : List Bool). get_or ms k false) same) ∙ first.before k false (omega arith) less)))))
         (λ (more : place ≤ k). rw (id_is blocks k d within, is) (rises blocks rising place k more within))
         (cases_lt k place);
   }

@@ -6,11 +6,11 @@ use Rattle.std.proofs.lemmas.List.{length-map, get_or-set_other, get_or_read}
 use Rattle.std.proofs.lemmas.Grind.{get_or-set_at}
 use Rattle.std.proofs.Math.ListN.{drop_of_length-le}
 use Rattle.std.proofs.lemmas.List.Folds.{list_any-append, list_any_none}
-use Rattle.std.proofs.lemmas.Map.Views.{Contains-from_any}
 use Rattle.std.proofs.lemmas.Map.Keys.{sorted_from_strictly_increasing, below_from_sorted}
 use Rattle.std.specs.List.Sorted.{IsStrictlyIncreasing}
 use Rattle.desk_model.specs.Geography.{ids_of, id_at}
 use Rattle.desk_model.specs.declared.block.BlockRow.{BlockRow}
+use Rattle.gal_text.proofs.RelationLemmas.{has_not}
 use Rattle.gal_text.specs.Units.{Progress, has_number, lists, known, block_of, neighbours_left, unit_read, count_read, neighbour_limit, word_awaited, word_read}
 use Rattle.gal_text.specs.Holding.{AreFromUnits, IsAtHand, HasUnit, Holds, Meets}
 use Rattle.gal_text.specs.declared.fault.TextFault.TheVariants.{RepeatedUnit, TooManyNeighbours, TrailingWord}
@@ -33,9 +33,6 @@ or_false false = refl
 not_both : (b : Bool) → (b ≡ true → b ≡ false) → b ≡ false
 not_both true clash = clash refl
 not_both false clash = refl
-
-pub has_not : (ids : List ℕ) (id : ℕ) → ¬ Contains ids id → has_number ids id ≡ false
-has_not ids id missing = not_both (has_number ids id) (λ has. absurd (missing (Contains-from_any {eq = λ (a b : ℕ). eqb b a} (λ x y e. sym (eqb-true y x e)) id ids has)))
 
 pub unknown : (ids : List ℕ) (id : ℕ) (o : Option ℕ) → Some id ≡ o → ¬ Contains ids id → known ids o ≡ None
 unknown ids id o is missing = ap (known ids) (sym is) ∙ ap (λ (b : Bool). cond b (Some id) None) (has_not ids id missing)
