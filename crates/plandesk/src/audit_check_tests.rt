@@ -1,10 +1,8 @@
-//! `check` with a plan: the worked plans of the sample's files, each fault of the files behind the census, and the options.
+//! `check` with a plan: the worked plans of the sample's files, and each fault of the files behind the census.
 use crate::check_tests::{Ended, Files, SAMPLE, Shape, end_of, reader};
 use crate::tests::{NEVER, Page, ROOM};
-use crate::words::{Job, job_of};
 use check_command::audit_plan::{AuditFiles, audit_plan};
 use check_command::fault::OpenFault;
-use check_command::options::Terms;
 use check_command::plan_file::Companion;
 use check_command::status::Status;
 use desk_model::kind::Kind;
@@ -13,15 +11,27 @@ use std::alloc::Global;
 use std::test::Fail;
 
 /// The two by two blocks of the sample; the same with the diagonals; the first row alone, one way.
-const GRID: &[u8] = b"4\n190010001001001 2\n190010001001002 190030001001001\n190010001001002 2\n190010001001001 190030001001002\n190030001001001 2\n190010001001001 190030001001002\n190030001001002 2\n190010001001002 190030001001001\n";
-const DIAGONALS: &[u8] = b"4\n190010001001001 3\n190010001001002 190030001001001 190030001001002\n190010001001002 3\n190010001001001 190030001001001 190030001001002\n190030001001001 3\n190010001001001 190010001001002 190030001001002\n190030001001002 3\n190010001001001 190010001001002 190030001001001\n";
-const ONE_WAY: &[u8] = b"4\n190010001001001 1\n190010001001002\n190010001001002 0\n190030001001001 0\n190030001001002 0\n";
+const GRID: &[u8] =
+    b"4\n190010001001001 2\n190010001001002 190030001001001\n190010001001002 2\n190010001001001 190030001001002\n190030001001001 2\n190010001001001 190030001001002\n190030001001002 2\n190010001001002 190030001001001\n";
+
+const DIAGONALS: &[u8] =
+    b"4\n190010001001001 3\n190010001001002 190030001001001 190030001001002\n190010001001002 3\n190010001001001 190030001001001 190030001001002\n190030001001001 3\n190010001001001 190010001001002 190030001001002\n190030001001002 3\n190010001001001 190010001001002 190030001001001\n";
+
+const ONE_WAY: &[u8] =
+    b"4\n190010001001001 1\n190010001001002\n190010001001002 0\n190030001001001 0\n190030001001002 0\n";
 
 /// A district a county; one of each diagonal; all in one; the same as the first but for the last block.
-const COUNTIES: &[u8] = b"BLOCKID|DISTRICT\n190010001001001|1\n190010001001002|1\n190030001001001|2\n190030001001002|2\n";
-const DIAGONAL: &[u8] = b"BLOCKID|DISTRICT\n190010001001001|1\n190010001001002|2\n190030001001001|2\n190030001001002|1\n";
-const ALL_IN_ONE: &[u8] = b"BLOCKID|DISTRICT\n190010001001001|1\n190010001001002|1\n190030001001001|1\n190030001001002|1\n";
-const WITHOUT_LAST: &[u8] = b"BLOCKID|DISTRICT\r\n190010001001001|001\r\n190010001001002|001\r\n190030001001001|002\r\n190030001001002|ZZZ";
+const COUNTIES: &[u8] =
+    b"BLOCKID|DISTRICT\n190010001001001|1\n190010001001002|1\n190030001001001|2\n190030001001002|2\n";
+
+const DIAGONAL: &[u8] =
+    b"BLOCKID|DISTRICT\n190010001001001|1\n190010001001002|2\n190030001001001|2\n190030001001002|1\n";
+
+const ALL_IN_ONE: &[u8] =
+    b"BLOCKID|DISTRICT\n190010001001001|1\n190010001001002|1\n190030001001001|1\n190030001001002|1\n";
+
+const WITHOUT_LAST: &[u8] =
+    b"BLOCKID|DISTRICT\r\n190010001001001|001\r\n190010001001002|001\r\n190030001001001|002\r\n190030001001002|ZZZ";
 
 /// What `check` is given behind the census files.
 #[derive(Clone, Copy)]
@@ -80,6 +90,7 @@ const ONE_MORE: Shape = Shape {
     people: [b"506", b"505", b"494", b"495"],
     ..SAMPLE
 };
+
 const LARGER: Shape = Shape {
     people: [b"525", b"525", b"500", b"500"],
     state_people: b"2050",
@@ -98,92 +109,92 @@ struct Wanted {
 const REPORTS: [Wanted; 11] = [
     Wanted {
         people: SAMPLE,
-            given: HOUSE,
-            report: "{\"broken\":[],\"cities\":[\"00100\"],\"cities_in_county\":[],\"congress\":[],\"contiguity\":[],\"counties\":[],\"districts\":2,\"kind\":\"house\",\"nesting\":[],\"not_asked\":[\"42.4.6\"],\"population\":2000,\"populations\":[1010,990],\"range\":null,\"unassigned\":0}\n",
-            status: Status::Done,
-        },
+        given: HOUSE,
+        report: "{\"broken\":[],\"cities\":[\"00100\"],\"cities_in_county\":[],\"congress\":[],\"contiguity\":[],\"counties\":[],\"districts\":2,\"kind\":\"house\",\"nesting\":[],\"not_asked\":[\"42.4.6\"],\"population\":2000,\"populations\":[1010,990],\"range\":null,\"unassigned\":0}\n",
+        status: Status::Done,
+    },
     Wanted {
         people: SAMPLE,
-            given: Given {
-                kind: Kind::Congress,
-                ..HOUSE
-            },
-            report: "{\"broken\":[],\"cities\":[\"00100\"],\"cities_in_county\":[],\"congress\":[],\"contiguity\":[],\"counties\":[],\"districts\":2,\"kind\":\"congress\",\"nesting\":[],\"not_asked\":[],\"population\":2000,\"populations\":[1010,990],\"range\":null,\"unassigned\":0}\n",
-            status: Status::Done,
+        given: Given {
+            kind: Kind::Congress,
+            ..HOUSE
         },
+        report: "{\"broken\":[],\"cities\":[\"00100\"],\"cities_in_county\":[],\"congress\":[],\"contiguity\":[],\"counties\":[],\"districts\":2,\"kind\":\"congress\",\"nesting\":[],\"not_asked\":[],\"population\":2000,\"populations\":[1010,990],\"range\":null,\"unassigned\":0}\n",
+        status: Status::Done,
+    },
     Wanted {
         people: SAMPLE,
-            given: Given {
-                kind: Kind::Senate,
-                plan: Ok(DIAGONAL),
-                ..HOUSE
-            },
-            report: "{\"broken\":[\"42.4.3\"],\"cities\":[\"00100\"],\"cities_in_county\":[\"00100\"],\"congress\":[],\"contiguity\":[{\"district\":1,\"from\":\"190010001001001\",\"to\":\"190030001001002\"},{\"district\":2,\"from\":\"190010001001002\",\"to\":\"190030001001001\"}],\"counties\":[\"001\",\"003\"],\"districts\":2,\"kind\":\"senate\",\"nesting\":[],\"not_asked\":[],\"population\":2000,\"populations\":[1000,1000],\"range\":null,\"unassigned\":0}\n",
-            status: Status::Broken,
+        given: Given {
+            kind: Kind::Senate,
+            plan: Ok(DIAGONAL),
+            ..HOUSE
         },
+        report: "{\"broken\":[\"42.4.3\"],\"cities\":[\"00100\"],\"cities_in_county\":[\"00100\"],\"congress\":[],\"contiguity\":[{\"district\":1,\"from\":\"190010001001001\",\"to\":\"190030001001002\"},{\"district\":2,\"from\":\"190010001001002\",\"to\":\"190030001001001\"}],\"counties\":[\"001\",\"003\"],\"districts\":2,\"kind\":\"senate\",\"nesting\":[],\"not_asked\":[],\"population\":2000,\"populations\":[1000,1000],\"range\":null,\"unassigned\":0}\n",
+        status: Status::Broken,
+    },
     Wanted {
         people: SAMPLE,
-            given: Given {
-                kind: Kind::Senate,
-                plan: Ok(DIAGONAL),
-                gal: Ok(DIAGONALS),
-                ..HOUSE
-            },
-            report: "{\"broken\":[],\"cities\":[\"00100\"],\"cities_in_county\":[\"00100\"],\"congress\":[],\"contiguity\":[],\"counties\":[\"001\",\"003\"],\"districts\":2,\"kind\":\"senate\",\"nesting\":[],\"not_asked\":[],\"population\":2000,\"populations\":[1000,1000],\"range\":null,\"unassigned\":0}\n",
-            status: Status::Done,
+        given: Given {
+            kind: Kind::Senate,
+            plan: Ok(DIAGONAL),
+            gal: Ok(DIAGONALS),
+            ..HOUSE
         },
+        report: "{\"broken\":[],\"cities\":[\"00100\"],\"cities_in_county\":[\"00100\"],\"congress\":[],\"contiguity\":[],\"counties\":[\"001\",\"003\"],\"districts\":2,\"kind\":\"senate\",\"nesting\":[],\"not_asked\":[],\"population\":2000,\"populations\":[1000,1000],\"range\":null,\"unassigned\":0}\n",
+        status: Status::Done,
+    },
     Wanted {
         people: SAMPLE,
-            given: Given {
-                kind: Kind::Senate,
-                districts: 3,
-                ..HOUSE
-            },
-            report: "{\"broken\":[\"42.4.1.a.mean\",\"42.4.1.a.range\",\"42.4.3\"],\"cities\":[\"00100\"],\"cities_in_county\":[],\"congress\":[],\"contiguity\":[{\"district\":3}],\"counties\":[],\"districts\":3,\"kind\":\"senate\",\"nesting\":[],\"not_asked\":[],\"population\":2000,\"populations\":[1010,990,0],\"range\":[1,3],\"unassigned\":0}\n",
-            status: Status::Broken,
+        given: Given {
+            kind: Kind::Senate,
+            districts: 3,
+            ..HOUSE
         },
+        report: "{\"broken\":[\"42.4.1.a.mean\",\"42.4.1.a.range\",\"42.4.3\"],\"cities\":[\"00100\"],\"cities_in_county\":[],\"congress\":[],\"contiguity\":[{\"district\":3}],\"counties\":[],\"districts\":3,\"kind\":\"senate\",\"nesting\":[],\"not_asked\":[],\"population\":2000,\"populations\":[1010,990,0],\"range\":[1,3],\"unassigned\":0}\n",
+        status: Status::Broken,
+    },
     Wanted {
         people: SAMPLE,
-            given: Given {
-                plan: Ok(WITHOUT_LAST),
-                ..HOUSE
-            },
-            report: "{\"broken\":[\"desk.complete\",\"42.4.1.a.mean\",\"42.4.1.a.range\"],\"cities\":[\"00100\"],\"cities_in_county\":[],\"congress\":[],\"contiguity\":[],\"counties\":[\"003\"],\"districts\":2,\"kind\":\"house\",\"nesting\":[],\"not_asked\":[\"42.4.6\"],\"population\":2000,\"populations\":[1010,495],\"range\":[1,2],\"unassigned\":1}\n",
-            status: Status::Broken,
+        given: Given {
+            plan: Ok(WITHOUT_LAST),
+            ..HOUSE
         },
+        report: "{\"broken\":[\"desk.complete\",\"42.4.1.a.mean\",\"42.4.1.a.range\"],\"cities\":[\"00100\"],\"cities_in_county\":[],\"congress\":[],\"contiguity\":[],\"counties\":[\"003\"],\"districts\":2,\"kind\":\"house\",\"nesting\":[],\"not_asked\":[\"42.4.6\"],\"population\":2000,\"populations\":[1010,495],\"range\":[1,2],\"unassigned\":1}\n",
+        status: Status::Broken,
+    },
     Wanted {
         people: SAMPLE,
-            given: Given {
-                senate: Some((Ok(DIAGONAL), 2)),
-                ..HOUSE
-            },
-            report: "{\"broken\":[\"42.4.6\"],\"cities\":[\"00100\"],\"cities_in_county\":[],\"congress\":[],\"contiguity\":[],\"counties\":[],\"districts\":2,\"kind\":\"house\",\"nesting\":[1,2],\"not_asked\":[],\"population\":2000,\"populations\":[1010,990],\"range\":null,\"unassigned\":0}\n",
-            status: Status::Broken,
+        given: Given {
+            senate: Some((Ok(DIAGONAL), 2)),
+            ..HOUSE
         },
+        report: "{\"broken\":[\"42.4.6\"],\"cities\":[\"00100\"],\"cities_in_county\":[],\"congress\":[],\"contiguity\":[],\"counties\":[],\"districts\":2,\"kind\":\"house\",\"nesting\":[1,2],\"not_asked\":[],\"population\":2000,\"populations\":[1010,990],\"range\":null,\"unassigned\":0}\n",
+        status: Status::Broken,
+    },
     Wanted {
         people: SAMPLE,
-            given: Given {
-                senate: Some((Ok(ALL_IN_ONE), 1)),
-                ..HOUSE
-            },
-            report: "{\"broken\":[],\"cities\":[\"00100\"],\"cities_in_county\":[],\"congress\":[],\"contiguity\":[],\"counties\":[],\"districts\":2,\"kind\":\"house\",\"nesting\":[],\"not_asked\":[],\"population\":2000,\"populations\":[1010,990],\"range\":null,\"unassigned\":0}\n",
-            status: Status::Done,
+        given: Given {
+            senate: Some((Ok(ALL_IN_ONE), 1)),
+            ..HOUSE
         },
+        report: "{\"broken\":[],\"cities\":[\"00100\"],\"cities_in_county\":[],\"congress\":[],\"contiguity\":[],\"counties\":[],\"districts\":2,\"kind\":\"house\",\"nesting\":[],\"not_asked\":[],\"population\":2000,\"populations\":[1010,990],\"range\":null,\"unassigned\":0}\n",
+        status: Status::Done,
+    },
     Wanted {
         people: ONE_MORE,
-            given: HOUSE,
-            report: "{\"broken\":[\"42.4.1.a.mean\"],\"cities\":[\"00100\"],\"cities_in_county\":[],\"congress\":[],\"contiguity\":[],\"counties\":[],\"districts\":2,\"kind\":\"house\",\"nesting\":[],\"not_asked\":[\"42.4.6\"],\"population\":2000,\"populations\":[1011,989],\"range\":null,\"unassigned\":0}\n",
-            status: Status::Broken,
-        },
+        given: HOUSE,
+        report: "{\"broken\":[\"42.4.1.a.mean\"],\"cities\":[\"00100\"],\"cities_in_county\":[],\"congress\":[],\"contiguity\":[],\"counties\":[],\"districts\":2,\"kind\":\"house\",\"nesting\":[],\"not_asked\":[\"42.4.6\"],\"population\":2000,\"populations\":[1011,989],\"range\":null,\"unassigned\":0}\n",
+        status: Status::Broken,
+    },
     Wanted {
         people: ONE_MORE,
-            given: Given {
-                kind: Kind::Congress,
-                ..HOUSE
-            },
-            report: "{\"broken\":[\"42.4.1.b\"],\"cities\":[\"00100\"],\"cities_in_county\":[],\"congress\":[1,2],\"contiguity\":[],\"counties\":[],\"districts\":2,\"kind\":\"congress\",\"nesting\":[],\"not_asked\":[],\"population\":2000,\"populations\":[1011,989],\"range\":null,\"unassigned\":0}\n",
-            status: Status::Broken,
+        given: Given {
+            kind: Kind::Congress,
+            ..HOUSE
         },
+        report: "{\"broken\":[\"42.4.1.b\"],\"cities\":[\"00100\"],\"cities_in_county\":[],\"congress\":[1,2],\"contiguity\":[],\"counties\":[],\"districts\":2,\"kind\":\"congress\",\"nesting\":[],\"not_asked\":[],\"population\":2000,\"populations\":[1011,989],\"range\":null,\"unassigned\":0}\n",
+        status: Status::Broken,
+    },
     Wanted {
         people: LARGER,
         given: Given {
@@ -192,7 +203,7 @@ const REPORTS: [Wanted; 11] = [
         },
         report: "{\"broken\":[\"42.4.1.a.mean\"],\"cities\":[\"00100\"],\"cities_in_county\":[],\"congress\":[],\"contiguity\":[],\"counties\":[],\"districts\":2,\"kind\":\"senate\",\"nesting\":[],\"not_asked\":[],\"population\":2050,\"populations\":[1050,1000],\"range\":null,\"unassigned\":0}\n",
         status: Status::Broken,
-        },
+    },
 ];
 
 #[test]
@@ -221,78 +232,78 @@ fn the_first_fault_behind_the_census_is_told(rt: HostRuntime) -> Result<(), Fail
     let files = Files::make(rt.alloc(), &SAMPLE)?;
     let none = Err(OpenFault::Unreadable);
     let faults = [
-            Told {
-                given: Given {
-                    gal: Ok(ONE_WAY),
-                    plan: none,
-                    ..HOUSE
-                },
-                line: b"plandesk: gal: A7 190010001001001 190010001001002\n",
-                status: Status::Refused,
+        Told {
+            given: Given {
+                gal: Ok(ONE_WAY),
+                plan: none,
+                ..HOUSE
             },
-            Told {
-                given: Given {
-                    gal: Ok(b"4\n190010001001001 x"),
-                    ..HOUSE
-                },
-                line: b"plandesk: gal: A2 word 2\n",
-                status: Status::Refused,
+            line: b"plandesk: gal: A7 190010001001001 190010001001002\n",
+            status: Status::Refused,
+        },
+        Told {
+            given: Given {
+                gal: Ok(b"4\n190010001001001 x"),
+                ..HOUSE
             },
-            Told {
-                given: Given {
-                    gal: Ok(b"4\n190010001001001"),
-                    ..HOUSE
-                },
-                line: b"plandesk: gal: A10\n",
-                status: Status::Refused,
+            line: b"plandesk: gal: A2 word 2\n",
+            status: Status::Refused,
+        },
+        Told {
+            given: Given {
+                gal: Ok(b"4\n190010001001001"),
+                ..HOUSE
             },
-            Told {
-                given: Given { gal: none, ..HOUSE },
-                line: b"plandesk: gal: Unreadable\n",
-                status: Status::Refused,
+            line: b"plandesk: gal: A10\n",
+            status: Status::Refused,
+        },
+        Told {
+            given: Given { gal: none, ..HOUSE },
+            line: b"plandesk: gal: Unreadable\n",
+            status: Status::Refused,
+        },
+        Told {
+            given: Given {
+                plan: none,
+                senate: Some((none, 2)),
+                ..HOUSE
             },
-            Told {
-                given: Given {
-                    plan: none,
-                    senate: Some((none, 2)),
-                    ..HOUSE
-                },
-                line: b"plandesk: plan: Unreadable\n",
-                status: Status::Refused,
+            line: b"plandesk: plan: Unreadable\n",
+            status: Status::Refused,
+        },
+        Told {
+            given: Given {
+                plan: Err(OpenFault::Memory),
+                ..HOUSE
             },
-            Told {
-                given: Given {
-                    plan: Err(OpenFault::Memory),
-                    ..HOUSE
-                },
-                line: b"plandesk: plan: Memory\n",
-                status: Status::Memory,
+            line: b"plandesk: plan: Memory\n",
+            status: Status::Memory,
+        },
+        Told {
+            given: Given {
+                fails_at: 1,
+                ..HOUSE
             },
-            Told {
-                given: Given {
-                    fails_at: 1,
-                    ..HOUSE
-                },
-                line: b"plandesk: plan: Unreadable\n",
-                status: Status::Refused,
+            line: b"plandesk: plan: Unreadable\n",
+            status: Status::Refused,
+        },
+        Told {
+            given: Given {
+                districts: 1,
+                ..HOUSE
             },
-            Told {
-                given: Given {
-                    districts: 1,
-                    ..HOUSE
-                },
-                line: b"plandesk: plan: B5 line 4\n",
-                status: Status::Refused,
+            line: b"plandesk: plan: B5 line 4\n",
+            status: Status::Refused,
+        },
+        Told {
+            given: Given {
+                senate: Some((Ok(b"BLOCKID|DISTRICT\n190010001001001|3\n"), 2)),
+                ..HOUSE
             },
-            Told {
-                given: Given {
-                    senate: Some((Ok(b"BLOCKID|DISTRICT\n190010001001001|3\n"), 2)),
-                    ..HOUSE
-                },
-                line: b"plandesk: senate: B5 line 2\n",
-                status: Status::Refused,
-            },
-        ];
+            line: b"plandesk: senate: B5 line 2\n",
+            status: Status::Refused,
+        },
+    ];
     for one in &faults {
         let ended = run(rt.alloc(), &files, one.given);
         assert_eq!(rt; ended.errors.as_slice(), one.line);
@@ -307,139 +318,27 @@ fn a_plans_file_may_be_too_large(rt: HostRuntime) -> Result<(), Fail> {
     let files = Files::make(rt.alloc(), &SAMPLE)?;
     let long = vec![in rt.alloc(); b'x'; 33_554_433]?;
     let faults = [
-            Told {
-                given: Given {
-                    plan: Ok(long.as_slice()),
-                    ..HOUSE
-                },
-                line: b"plandesk: plan: TooLarge\n",
-                status: Status::Refused,
+        Told {
+            given: Given {
+                plan: Ok(long.as_slice()),
+                ..HOUSE
             },
-            Told {
-                given: Given {
-                    plan: Ok(&long[1..]),
-                    ..HOUSE
-                },
-                line: b"plandesk: plan: B1 line 1\n",
-                status: Status::Refused,
+            line: b"plandesk: plan: TooLarge\n",
+            status: Status::Refused,
+        },
+        Told {
+            given: Given {
+                plan: Ok(&long[1..]),
+                ..HOUSE
             },
-        ];
+            line: b"plandesk: plan: B1 line 1\n",
+            status: Status::Refused,
+        },
+    ];
     for one in &faults {
         let ended = run(rt.alloc(), &files, one.given);
         assert_eq!(rt; ended.errors.as_slice(), one.line);
         assert!(rt; ended.status == one.status);
-    }
-    Ok(())
-}
-
-/// The words of `check` with the census files, and these behind them.
-fn job<'a>(alloc: Global, more: &[&'a str]) -> Result<Vec<&'a str>, Fail> {
-    let mut words: Vec<&'a str> = Vec::new(alloc);
-    for word in [
-        "plandesk", "check", "--geo", "g", "--seg1", "1", "--seg2", "2", "--seg3", "3",
-    ] {
-        words.push(word)?;
-    }
-    for word in more {
-        words.push(*word)?;
-    }
-    Ok(words)
-}
-
-#[test]
-fn options_that_go_together(rt: HostRuntime) -> Result<(), Fail> {
-    let alloc = rt.alloc();
-    let counts = job(alloc, &[])?;
-    assert!(rt; matches!(job_of(alloc, counts.as_slice()), Ok(Job::Counts(_))));
-    let asked: [(&[&str], Terms); 3] = [
-        (
-            &[
-                "--gal", "n", "--plan", "p", "--kind", "congress", "--districts", "99",
-            ],
-            Terms {
-                kind: Kind::Congress,
-                districts: 99,
-                senate_districts: None,
-            },
-        ),
-        (
-            &[
-                "--gal=n",
-                "--plan=p",
-                "--kind=senate",
-                "--districts=0000000000000000000000002",
-            ],
-            Terms {
-                kind: Kind::Senate,
-                districts: 2,
-                senate_districts: None,
-            },
-        ),
-        (
-            &[
-                "--gal",
-                "n",
-                "--plan",
-                "p",
-                "--kind",
-                "house",
-                "--districts",
-                "999",
-                "--senate",
-                "s",
-                "--senate-districts",
-                "050",
-            ],
-            Terms {
-                kind: Kind::House,
-                districts: 999,
-                senate_districts: Some(50),
-            },
-        ),
-    ];
-    for (more, wanted) in asked {
-        let words = job(alloc, more)?;
-        match job_of(alloc, words.as_slice()) {
-            Ok(Job::Audit(paths, terms)) => {
-                assert!(rt; terms == wanted);
-                assert_eq!(rt; paths.plan, "p");
-                assert_eq!(rt; paths.gal, "n");
-                assert!(rt; paths.senate.is_some() == wanted.senate_districts.is_some());
-            }
-            _ => assert!(rt; false),
-        }
-    }
-    Ok(())
-}
-
-#[test]
-fn options_that_do_not(rt: HostRuntime) -> Result<(), Fail> {
-    let alloc = rt.alloc();
-    let wrong: [&[&str]; 17] = [
-        &["--gal", "n", "--kind", "house", "--districts", "2"],
-        &["--plan", "p", "--kind", "house", "--districts", "2"],
-        &["--gal", "n", "--plan", "p", "--districts", "2"],
-        &["--gal", "n", "--plan", "p", "--kind", "house"],
-        &["--kind", "house"],
-        &["--senate", "s", "--senate-districts", "2"],
-        &["--gal", "n", "--plan", "p", "--kind", "senate", "--districts", "2", "--senate", "s", "--senate-districts", "2"],
-        &["--gal", "n", "--plan", "p", "--kind", "house", "--districts", "2", "--senate", "s"],
-        &["--gal", "n", "--plan", "p", "--kind", "house", "--districts", "2", "--senate-districts", "2"],
-        &["--gal", "n", "--plan", "p", "--kind", "house", "--districts", "2", "--senate", "s", "--senate-districts", "0"],
-        &["--gal", "n", "--plan", "p", "--kind", "congress", "--districts", "100"],
-        &["--gal", "n", "--plan", "p", "--kind", "house", "--districts", "1000"],
-        &["--gal", "n", "--plan", "p", "--kind", "house", "--districts", "18446744073709551618"],
-        &["--gal", "n", "--plan", "p", "--kind", "house", "--districts", "+2"],
-        &["--gal", "n", "--plan", "p", "--kind", "House", "--districts", "2"],
-        &["--gal", "n", "--plan", "p", "--kind", "house", "--districts", "2", "--districts", "2"],
-        &["--gal", "n", "--plan", "p", "--kind", "house", "--districts", "2", "--workers", "2"],
-    ];
-    for more in wrong {
-        let words = job(alloc, more)?;
-        match job_of(alloc, words.as_slice()) {
-            Ok(_) => assert!(rt; false),
-            Err(mistake) => assert!(rt; mistake.status() == Status::Usage),
-        }
     }
     Ok(())
 }

@@ -1,6 +1,6 @@
 //! Audits over `talk`: reports, companions that fit and that don't, and requests that ask for nothing.
-use check_command::status::Status;
 use crate::tests::{NEVER, ROOM, run};
+use check_command::status::Status;
 use std::test::Fail;
 
 /// Streams and what is written for them, whole.

@@ -1,9 +1,9 @@
 //! `check` over the sample's files: whole, with one fault each, cut short, and with a read or a write that fails.
+use crate::tests::{NEVER, Page, Pieces, ROOM};
 use check_command::census::CensusFiles;
 use check_command::check::check;
 use check_command::fault::OpenFault;
 use check_command::status::Status;
-use crate::tests::{NEVER, Page, Pieces, ROOM};
 use field_text::source::Counted;
 use http_wire::sink::WriteSink;
 use std::alloc::{AllocError, Global};

@@ -1,5 +1,6 @@
 //! The plan desk's program: each command is a function over its readers and writers that answers the exit status.
 #![tactic(auto)]
+
 ghost use Rattle.std.specs.Prelude.{IsSome};
 ghost use Rattle.check_command.specs.Options.{AreTerms};
 
@@ -9,6 +10,8 @@ mod audit_check_tests;
 mod audit_tests;
 #[cfg(test)]
 mod check_tests;
+#[cfg(test)]
+mod option_tests;
 #[cfg(test)]
 mod revision_tests;
 pub mod talk;

@@ -1,6 +1,6 @@
 //! Revisions over `talk`: posted, read back, stale and bad, whole and in pieces.
-use check_command::status::Status;
 use crate::tests::{NEVER, ROOM, run};
+use check_command::status::Status;
 use std::test::Fail;
 
 /// Streams and what is written for them, whole.

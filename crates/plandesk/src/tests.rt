@@ -1,7 +1,7 @@
 //! `talk` over worked streams: whole, in pieces, and with a read or a write that fails.
-use check_command::status::Status;
 use crate::talk::talk;
 use crate::words::{Job, job_of};
+use check_command::status::Status;
 use http_wire::sink::WriteSink;
 use http_wire::source::ReadSource;
 use std::alloc::{AllocError, Global};

@@ -57,7 +57,8 @@ impl Mistake {
     }
 }
 
-const WRONG_OPTIONS: &str = "plandesk: check: an option is missing, doesn't go with the others, or has a wrong value\n";
+const WRONG_OPTIONS: &str =
+    "plandesk: check: an option is missing, doesn't go with the others, or has a wrong value\n";
 
 fn memory() -> Mistake {
     Mistake {
@@ -91,12 +92,7 @@ fn with_plan_options<'a>(alloc: Global, command: Command<'a>) -> Result<Command<
             "KIND",
             "The plan's kind: congress, senate or house",
         ))?
-        .arg(option(
-            alloc,
-            "districts",
-            "N",
-            "The plan's number of districts",
-        ))?
+        .arg(option(alloc, "districts", "N", "The plan's number of districts"))?
         .arg(option(
             alloc,
             "senate",
