@@ -1,5 +1,5 @@
 -- Which options of `check` go together, and the values of those that aren't paths.
-use Rattle.std.specs.Prelude.{ℕ, ◌≤◌, Bool, ◌&&◌, ◌||◌, nat_le, if◌then◌else◌, List, codes, Option, Some, None, is_some, IsSome, IsTrue, option_map, option_and_then}
+use Rattle.std.specs.Prelude.{◌≡◌, false, ℕ, ◌≤◌, Bool, ◌&&◌, ◌||◌, nat_le, if◌then◌else◌, List, codes, Option, Some, None, is_some, IsSome, IsTrue, option_map, option_and_then}
 use Rattle.std.specs.Char.{is_ascii_digit}
 use Rattle.std.specs.List.{list_all}
 use Rattle.std.specs.Str.{bytes_eq}
@@ -64,6 +64,11 @@ pub record AreTerms (t : Terms) : Type 0 where
   pub some : 1 ≤ t.districts
   pub few : t.districts ≤ 999
   pub of_house : IsSome t.senate_districts → IsTrue (is_house t.kind)
+
+-- the terms have a senate plan exactly where one is given
+abbrev pub IsBeside : Bool → Form → Type 0
+IsBeside senate Counts = senate ≡ false
+IsBeside senate (Audit terms) = is_some terms.senate_districts ≡ senate
 
 abbrev pub IsForm : Form → Type 0
 IsForm Counts = Unit {0}

@@ -1,8 +1,8 @@
 //! Which options of `check` go together, and the values of those that aren't paths.
-ghost use Rattle.std.specs.Prelude.{◌≡◌, ◌≤◌, IfSome, IsSome, IsTrue, IsSomeAnd};
+ghost use Rattle.std.specs.Prelude.{◌≡◌, ◌≤◌, IfSome, IsSome, IsTrue, IsSomeAnd, is_some};
 ghost use Rattle.std.specs.Option.{option_copied};
 ghost use Rattle.audit_report.specs.Clauses.{is_house as is_house_kind};
-ghost use Rattle.check_command.specs.Options.{kind_named, district_limit as limit_of, number_to as number_in, senate_read, terms_read, form_read, AreTerms, IsForm};
+ghost use Rattle.check_command.specs.Options.{kind_named, district_limit as limit_of, number_to as number_in, senate_read, terms_read, form_read, AreTerms, IsForm, IsBeside};
 
 use desk_model::kind::Kind;
 
@@ -82,6 +82,7 @@ fn number_to(most: u16, text: &[u8]) -> Option<u16>
 fn senate_districts(kind: Kind, senate: bool, districts: Option<&[u8]>) -> Option<Option<u16>>
     ensures value { result ≡ senate_read kind senate (option_copied districts.entry) }
     ensures of_house { IfSome result (λ n. IsSome n → IsTrue (is_house_kind kind)) }
+    ensures beside { IfSome result (λ n. is_some n ≡ senate) }
 {
     let Some(text) = districts else {
         if senate {
@@ -104,6 +105,7 @@ fn read_terms(
 ) -> Option<Terms>
     ensures value { result ≡ terms_read word.now districts.now senate (option_copied of_senate.entry) }
     ensures valid { IfSome result AreTerms }
+    ensures beside { IfSome result (λ terms. is_some terms.senate_districts ≡ senate) }
 {
     let kind = kind_of(word)?;
     let districts = number_to(district_limit(kind), districts)?;
@@ -127,6 +129,7 @@ pub fn read_form(
 ) -> Option<Form>
     ensures value { result ≡ form_read gal plan (option_copied word.entry) (option_copied districts.entry) senate (option_copied of_senate.entry) }
     ensures valid { IfSome result IsForm }
+    ensures beside { IfSome result (IsBeside senate) }
 {
     match (word, districts) {
         (None, None) => {

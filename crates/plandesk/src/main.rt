@@ -1,7 +1,7 @@
 //! The plan desk's program: each command is a function over its readers and writers that answers the exit status.
 #![tactic(auto)]
 
-ghost use Rattle.std.specs.Prelude.{IsSome};
+ghost use Rattle.std.specs.Prelude.{◌≡◌, is_some, option_map};
 ghost use Rattle.check_command.specs.Options.{AreTerms};
 
 #[cfg(test)]
@@ -109,7 +109,8 @@ fn open_companion(
     path: Option<&str>,
     districts: Option<u16>,
 ) -> Option<Companion<Counted<File>>>
-    ensures { IsSome result → IsSome districts }
+    requires { is_some path ≡ is_some districts }
+    ensures { option_map (λ companion. companion.districts) result ≡ districts }
 {
     let path = path?;
     let districts = districts?;
@@ -120,7 +121,7 @@ fn open_companion(
 }
 
 fn check_plan(rt: &HostRuntime, paths: AuditPaths<'_>, terms: Terms) -> Status
-    requires { AreTerms terms }
+    requires { AreTerms terms × (is_some paths.senate ≡ is_some terms.senate_districts) }
 {
     let files = AuditFiles {
         census: open_census(rt, paths.census),
