@@ -2,3 +2,4 @@ pub mod Maps
 pub mod Places
 pub mod SampleIsGround
 pub mod NameLemmas
+pub mod Parts

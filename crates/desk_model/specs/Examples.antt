@@ -3,10 +3,10 @@ use Rattle.std.specs.Prelude.{◌≡◌, ℕ, List, [], ◌∷◌, Some, None, c
 use Rattle.std.specs.FinMap as map_of
 use Rattle.desk_model.specs.declared.kind.Kind.TheVariants.{Congress, Senate, House}
 use Rattle.desk_model.specs.declared.kind.Kind.{Kind}
-use Rattle.desk_model.specs.declared.command.Command.TheVariants.{Create, Whole}
+use Rattle.desk_model.specs.declared.command.Command.TheVariants.{Create, Whole, Counties, Retire}
 use Rattle.desk_model.specs.declared.command.Query.TheVariants.{Plans, Blocks, Revision, Audit}
 use Rattle.desk_model.specs.declared.reply.Reply.TheVariants as reply
-use Rattle.desk_model.specs.declared.reply.Refusal.TheVariants.{NoPlan, NoRevision, PlanExists, Stale, BadCompanion, NotSealed}
+use Rattle.desk_model.specs.declared.reply.Refusal.TheVariants.{NoPlan, NoRevision, PlanExists, Stale, NotWholeCounty, BadCompanion, NotSealed}
 use Rattle.desk_model.specs.Desk.{Plan, Desk}
 use Rattle.desk_model.specs.Step.{step, says, reports, answer, plan_row}
 use Rattle.desk_model.specs.Sample.{sample, sample_desk}
@@ -51,6 +51,34 @@ pub record RevisionsAreKept : Type 0 where
   pub back : answer with_county (Revision name_a 1) ≡ says (reply.Baf county_text)
   pub stale : step with_county (Whole name_a 0 county_text) ≡ (reply.Refused (Stale 1), with_county)
   pub blocks : answer with_county Blocks ≡ says (reply.Blocks sample_text)
+
+-- both blocks of county 003
+abbrev pub patch_text : List ℕ
+patch_text = codes "BLOCKID|DISTRICT\n190030001001001|1\n190030001001002|1\n"
+
+-- one of them
+abbrev pub part_text : List ℕ
+part_text = codes "BLOCKID|DISTRICT\n190030001001001|1\n"
+
+-- the plan a with a second revision, in which county 003 has changed
+abbrev pub with_patch : Desk
+with_patch = desk_of (plan_of ((1 ∷ 1 ∷ 2 ∷ 2 ∷ []) ∷ (1 ∷ 1 ∷ 1 ∷ 1 ∷ []) ∷ []))
+
+-- the plan a with one revision of one county
+abbrev pub with_part : Desk
+with_part = desk_of (plan_of ((0 ∷ 0 ∷ 1 ∷ 1 ∷ []) ∷ []))
+
+-- a patch keeps the counties that it does not list, or leaves them unassigned before the first revision; a county in part is refused
+pub record CountiesArePatched : Type 0 where
+  pub made : step with_county (Counties name_a 1 patch_text) ≡ (reply.Created name_a 2, with_patch)
+  pub first : step with_a (Counties name_a 0 patch_text) ≡ (reply.Created name_a 1, with_part)
+  pub part : step with_county (Counties name_a 1 part_text) ≡ (reply.Refused (NotWholeCounty 3), with_county)
+  pub stale : step with_county (Counties name_a 0 patch_text) ≡ (reply.Refused (Stale 1), with_county)
+
+-- a plan is taken away once
+pub record PlansAreRetired : Type 0 where
+  pub gone : step with_county (Retire name_a) ≡ (reply.Retired name_a, sample_desk)
+  pub missing : step sample_desk (Retire name_a) ≡ (reply.Refused NoPlan, sample_desk)
 
 abbrev pub name_b : List ℕ
 name_b = codes "b"

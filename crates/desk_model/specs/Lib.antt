@@ -1,5 +1,6 @@
 pub mod Baf
 pub mod Block
+pub mod Counties
 pub mod Desk
 pub mod Examples
 pub mod Geography

@@ -14,6 +14,7 @@ use Rattle.desk_model.specs.Step.{step, Answer, says, reports, answer}
 -- the reply of an accepted command
 abbrev pub IsAcceptance : Reply → Type 0
 IsAcceptance (reply.Created name revisions) = ⊤
+IsAcceptance (reply.Retired name) = ⊤
 IsAcceptance (reply.Plans rows) = ⊥
 IsAcceptance (reply.Blocks text) = ⊥
 IsAcceptance (reply.Baf text) = ⊥
@@ -51,6 +52,7 @@ RefusalMay short failed d c NotSealed new = ¬ failed × IsStep short d c (reply
 abbrev pub CommandMay : (short failed : Type 0) → Desk → Command → Reply → Desk → Type 0
 CommandMay short failed d c (reply.Refused refusal) new = RefusalMay short failed d c refusal new
 CommandMay short failed d c (reply.Created name revisions) new = ¬ failed × IsStep short d c (reply.Created name revisions) new
+CommandMay short failed d c (reply.Retired name) new = ¬ failed × IsStep short d c (reply.Retired name) new
 CommandMay short failed d c (reply.Plans rows) new = ⊥
 CommandMay short failed d c (reply.Blocks text) new = ⊥
 CommandMay short failed d c (reply.Baf text) new = ⊥

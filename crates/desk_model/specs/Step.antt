@@ -1,22 +1,23 @@
 -- What a desk answers, and the desk that follows.
-use Rattle.std.specs.Prelude.{ℕ, ◌+◌, ◌-◌, ◌==◌, not, if◌then◌else◌, nat_le, List, [], ◌∷◌, ◌++◌, map, length, Option, Some, None, Result, Ok, Err, unwrap_or, codes, decimal}
-use Rattle.std.specs.List.{slice_get, flat_map}
+use Rattle.std.specs.Prelude.{ℕ, ◌+◌, ◌-◌, ◌==◌, Bool, not, ◌&&◌, if◌then◌else◌, nat_le, List, [], ◌∷◌, ◌++◌, map, length, Option, Some, None, option_map, is_some, Result, Ok, Err, unwrap_or, codes, decimal}
+use Rattle.std.specs.List.{slice_get, flat_map, find, list_any, zip}
 use Rattle.std.specs.FinMap as map_of
 use Rattle.desk_model.specs.declared.kind.Kind.{Kind}
 use Rattle.desk_model.specs.declared.command.Command.{Command}
-use Rattle.desk_model.specs.declared.command.Command.TheVariants.{Create, Whole}
+use Rattle.desk_model.specs.declared.command.Command.TheVariants.{Create, Whole, Counties, Retire}
 use Rattle.desk_model.specs.declared.command.Query.{Query}
 use Rattle.desk_model.specs.declared.command.Query.TheVariants.{Plans, Blocks, Revision, Audit}
 use Rattle.desk_model.specs.declared.reply.PlanRow.{PlanRow}
 use Rattle.desk_model.specs.declared.reply.Reply.{Reply}
 use Rattle.desk_model.specs.declared.reply.Reply.TheVariants as reply
 use Rattle.desk_model.specs.declared.reply.Refusal.{Refusal}
-use Rattle.desk_model.specs.declared.reply.Refusal.TheVariants.{NoPlan, NoRevision, PlanExists, Stale, BadBody, Limit, NotSealed}
+use Rattle.desk_model.specs.declared.reply.Refusal.TheVariants.{NoPlan, NoRevision, PlanExists, Stale, BadBody, NotWholeCounty, Limit, NotSealed}
+use Rattle.desk_model.specs.Block.{county_of}
 use Rattle.desk_model.specs.declared.block.BlockRow.{BlockRow}
 use Rattle.desk_model.specs.Baf.{Values, Fault, value_at, body_read, printed, padded_decimal}
 use Rattle.desk_model.specs.Geography.{Ground}
 use Rattle.desk_model.specs.Desk.{Plan, Desk}
-use Rattle.desk_model.specs.Subject.{AuditSubject, subject_of}
+use Rattle.desk_model.specs.Subject.{AuditSubject, subject_of, revision_at}
 
 -- a desk has this many plans at most
 abbrev pub plan_limit : ℕ
@@ -64,9 +65,43 @@ abbrev pub whole_read : Ground → Desk → List ℕ → Plan → Result Values 
 whole_read g d name p (Err f) = refused d (BadBody f.0 f.1)
 whole_read g d name p (Ok listed) = revised d name p (whole g listed)
 
+-- some block of the county is listed
+abbrev pub is_county_listed : Ground → Values → ℕ → Bool
+is_county_listed g listed county = list_any (λ b. (county_of b.id == county) && is_some (value_at listed b.id)) g.blocks
+
+-- the block is not listed, and another of its county is
+abbrev pub is_left_out : Ground → Values → BlockRow → Bool
+is_left_out g listed b = not (is_some (value_at listed b.id)) && is_county_listed g listed (county_of b.id)
+
+-- the least county of which only a part is listed: that of the first block that is left out, since blocks of one state rise by county
+abbrev pub partly_listed : Ground → Values → Option ℕ
+partly_listed g listed = option_map (λ b. county_of b.id) (find (is_left_out g listed) g.blocks)
+
+-- the districts of the blocks, where a block that is not listed keeps its last one, 0 before the first revision
+abbrev pub patched : Ground → Values → Option (List ℕ) → List ℕ
+patched g listed None = whole g listed
+patched g listed (Some last) = map (λ e. unwrap_or (value_at listed e.0.id) e.1) (zip g.blocks last)
+
+-- a patch lists each county whole or not at all
+abbrev pub county_patched : Ground → Desk → List ℕ → Plan → Values → Option ℕ → Outcome
+county_patched g d name p listed (Some county) = refused d (NotWholeCounty county)
+county_patched g d name p listed None = revised d name p (patched g listed (revision_at p (length p.revisions)))
+
+-- the body was read: a patch of the last revision, or its first fault
+abbrev pub patch_read : Ground → Desk → List ℕ → Plan → Result Values Fault → Outcome
+patch_read g d name p (Err f) = refused d (BadBody f.0 f.1)
+patch_read g d name p (Ok listed) = county_patched g d name p listed (partly_listed g listed)
+
+-- a plan that is there is taken away with its revisions
+abbrev pub retired : Desk → List ℕ → Option Plan → Outcome
+retired d name None = refused d NoPlan
+retired d name (Some p) = (reply.Retired name, record d { plans = map_of.remove d.plans name })
+
 abbrev pub step_on : Ground → Desk → Command → Outcome
 step_on g d (Create name kind n) = create d name kind n (map_of.get d.plans name)
 step_on g d (Whole name after body) = on_revisions d (map_of.get d.plans name) after (λ p. whole_read g d name p (body_read g p.n body))
+step_on g d (Counties name after body) = on_revisions d (map_of.get d.plans name) after (λ p. patch_read g d name p (body_read g p.n body))
+step_on g d (Retire name) = retired d name (map_of.get d.plans name)
 
 -- with a geography or none
 abbrev pub step_at : Option Ground → Desk → Command → Outcome

@@ -20,6 +20,17 @@ pub enum Command {
         after: u32,
         body: Text,
     },
+    /// Adds a revision that a block assignment file says for whole counties, after the revision of that number: all other
+    /// counties keep what they had, or are unassigned where there is no revision.
+    Counties {
+        plan: PlanName,
+        after: u32,
+        body: Text,
+    },
+    /// Takes a plan away with its revisions.
+    Retire {
+        plan: PlanName,
+    },
 }
 
 /// A query changes nothing.

@@ -1,5 +1,5 @@
 //! Worked answers, as laws of the definitions.
-ghost use Rattle.desk_model.specs.Examples.{PlansAreCreated, RevisionsAreKept, AuditsAreFound};
+ghost use Rattle.desk_model.specs.Examples.{PlansAreCreated, RevisionsAreKept, CountiesArePatched, PlansAreRetired, AuditsAreFound};
 
 /// Plans of the sample desk are created once and listed.
 pub fn plans_are_created()
@@ -9,6 +9,16 @@ pub fn plans_are_created()
 /// A revision of the sample desk is read back as it was posted, and posted once.
 pub fn revisions_are_kept()
     ensures { RevisionsAreKept }
+{}
+
+/// Counties of the sample desk are patched whole.
+pub fn counties_are_patched()
+    ensures { CountiesArePatched }
+{}
+
+/// A plan of the sample desk is retired once.
+pub fn plans_are_retired()
+    ensures { PlansAreRetired }
 {}
 
 /// What an audit on the sample desk judges, and where it is refused.

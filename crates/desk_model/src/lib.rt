@@ -8,6 +8,7 @@ pub mod examples;
 pub mod gate;
 pub mod geography;
 pub mod kind;
+pub mod laws;
 pub mod name;
 pub mod reply;
 pub mod text;

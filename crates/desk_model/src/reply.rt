@@ -49,6 +49,8 @@ impl PlanRows {
 pub enum Reply {
     /// The plan stands with so many revisions.
     Created { plan: PlanName, revisions: u32 },
+    /// The plan is taken away.
+    Retired { plan: PlanName },
     Plans(PlanRows),
     /// A line for each block: its number, its city and its people.
     Blocks(Text),

@@ -1,8 +1,8 @@
 -- Rows as a map.
-use Rattle.std.proofs.Common.{◌≡◌, ℕ, ◌+◌, ◌-◌, ◌<◌, Bool, true, false, List, [], ◌∷◌, ◌++◌, length, map, get_or, take, drop, ◌≤◌, IsTrue, Some, None, IsSome, min, arith, refl, ap, sym, ◌∙◌}
+use Rattle.std.proofs.Common.{◌≡◌, ℕ, ◌+◌, ◌-◌, ◌<◌, Bool, true, false, cond, List, [], ◌∷◌, ◌++◌, length, map, get_or, take, drop, ◌≤◌, IsTrue, Some, None, IsSome, min, arith, refl, ap, sym, ◌∙◌}
 use Rattle.std.proofs.Math.Dec.{T}
 use Rattle.std.specs.FinMap as map_of
-use Rattle.std.specs.FinMap.{put, find, is_sorted, from_sorted, entries, get, len, entries_sorted, entries-from_sorted, entries-insert, get-from_sorted, len-entries, same_entries_map, empty_of_len}
+use Rattle.std.specs.FinMap.{put, find, is_sorted, from_sorted, entries, get, len, entries_sorted, entries-from_sorted, entries-insert, get-from_sorted, get-insert, get-remove, same_map, len-entries, same_entries_map, empty_of_len}
 use Rattle.std.specs.Cmp.Lexicographic.{nat_list_cmp_total}
 use Rattle.desk_model.specs.Desk.{Plan, name_cmp}
 use Rattle.desk_model.specs.Step.{plan_row}
@@ -12,10 +12,11 @@ use Rattle.std.specs.declared.sync.Arc.{Arc}
 use Rattle.std.specs.declared.alloc.Global.{Global}
 use Rattle.desk_store.specs.declared.shelf.Shelf.{Shelf}
 use Rattle.desk_store.specs.Shelves.{AreRows, rows, shelf_lists}
-use Rattle.std.specs.Ordering.{is_eq}
+use Rattle.std.specs.Ordering.{is_eq, eq_by_cmp}
+use Rattle.std.proofs.lemmas.Map.Lookups.{exact_bytes}
 use Rattle.std.proofs.Math.Nat.{min_comm}
 use Rattle.std.proofs.lemmas.List.{take-map, drop-map, drop_min, take_rest, take_all, get_or_default}
-use Rattle.desk_store.proofs.Spots.{put_at, put_over, one_more, as_many, found_at, missing_there, missing_past, inside_where_found, equal_where_found}
+use Rattle.desk_store.proofs.Spots.{nowhere, put_at, put_over, without_row, rising_left, missing_left, put_back, one_more, one_less, as_many, same_name, found_at, missing_there, missing_past, inside_where_found, equal_where_found}
 
 abbrev pub as_map : List Row → map_of.FinMap name_cmp Plan
 as_map = from_sorted
@@ -151,3 +152,65 @@ module _ (shelves given after : List (Arc Shelf Global)) (self : map_of.FinMap n
   map_over count edited some was =
       let were : AreRows (rows given) count = rw same was in
       map_with (j + 1) edited were.rising (put_found shelves given self name i j old same view spot there v were.rising some)
+
+-- a row that is put to others is taken away again
+removed_inserted : (m : map_of.FinMap name_cmp Plan) (name : List ℕ) (v : Plan) → get m name ≡ None → map_of.remove (map_of.insert m name v) name ≡ m
+removed_inserted m name v none = same_map nat_list_cmp_total exact_bytes _ m
+    (λ q. get-remove nat_list_cmp_total (map_of.insert m name v) name q ∙ ap (cond (eq_by_cmp name_cmp q name) None) (get-insert nat_list_cmp_total m name v q)
+    ∙ by_name q (eq_by_cmp name_cmp q name) refl)
+  where
+    by_name : (q : List ℕ) (b : Bool) → eq_by_cmp name_cmp q name ≡ b → cond b None (cond b (Some v) (get m q)) ≡ get m q
+    by_name q true same = sym (ap (get m) (same_name q name same) ∙ none)
+    by_name q false same = refl
+
+-- a row less
+module _ (shelves given after : List (Arc Shelf Global)) (self : map_of.FinMap name_cmp Plan) (name : List ℕ) (i j : ℕ) (old new : List Row)
+    (same : given ≡ shelves) (view : as_map (rows shelves) ≡ self) (spot : IsSpot name (shelf_lists given) i j) (there : old ≡ shelf_at (shelf_lists given) i)
+    (put_in : rows after ≡ rows_of (take i (shelf_lists given)) ++ new ++ rows_of (drop (i + 1) (shelf_lists given)))
+    (count : ℕ) (edited : new ≡ take j old ++ drop (j + 1) old) (some : IsSome (get self name)) (was : AreRows (rows shelves) count) where
+  were : AreRows (rows given) count
+  were = rw same was
+
+  found : IsSome (find name_cmp name (rows given))
+  found = found_given shelves given self name i j old same view spot there were.rising some
+
+  within : j < length (shelf_at (shelf_lists given) i)
+  within = inside_where_found name (shelf_lists given) i j spot were.rising found
+
+  abbrev taken : Row
+  taken = get_or (shelf_at (shelf_lists given) i) j nowhere
+
+  is : taken ≡ get_or (shelf_at (shelf_lists given) i) j taken
+  is = get_or_default (shelf_at (shelf_lists given) i) j nowhere taken within
+
+  named : IsTrue (is_eq (name_cmp taken.0 name))
+  named = equal_where_found name (shelf_lists given) i j spot taken were.rising found within is
+
+  after_less : rows after ≡ without_row (shelf_lists given) i j
+  after_less = put_in ∙ ap (λ es. rows_of (take i (shelf_lists given)) ++ es ++ rows_of (drop (i + 1) (shelf_lists given)))
+      (edited ∙ ap (λ (es : List Row). take j es ++ drop (j + 1) es) there)
+
+  rising_less : IsTrue (is_sorted name_cmp (rows after))
+  rising_less = rw after_less (rising_left name (shelf_lists given) i j spot taken were.rising within is named)
+
+  pub some_row : 0 < count
+  some_row = omega (arith, were.count, one_less (shelf_lists given) i j within)
+
+  pub are_rows_less : AreRows (rows after) (count - 1)
+  are_rows_less = record {
+    rising = rising_less;
+    count = rw after_less (omega (arith, were.count, one_less (shelf_lists given) i j within));
+  }
+
+  abbrev left : map_of.FinMap name_cmp Plan
+  left = as_map (rows after)
+
+  missing : get left name ≡ None
+  missing = get_of (rows after) name rising_less ∙ ap (find name_cmp name) after_less ∙ missing_left name (shelf_lists given) i j spot taken were.rising within is named
+
+  back : map_of.insert left name taken.1 ≡ self
+  back = same_entries_map _ self (entries-insert nat_list_cmp_total left name taken.1 ∙ ap (put name_cmp name taken.1) (entries_of (rows after) rising_less ∙ after_less)
+      ∙ put_back name (shelf_lists given) i j spot taken were.rising within is named ∙ sym (entries_of (rows given) were.rising) ∙ ap (λ ss. entries (as_map (rows ss))) same ∙ ap entries view)
+
+  pub map_less : as_map (rows after) ≡ map_of.remove self name
+  map_less = sym (removed_inserted left name taken.1 missing) ∙ ap (λ m. map_of.remove m name) back

@@ -5,3 +5,5 @@ pub mod Spots
 pub mod Steps
 pub mod Whole
 pub mod Padding
+pub mod Neighbours
+pub mod Overlays

@@ -4,7 +4,7 @@ use Rattle.std.specs.declared.cmp.Ordering.{Ordering}
 use Rattle.std.specs.declared.cmp.Ordering.TheVariants.{Less, Equal, Greater}
 use Rattle.std.specs.Ordering.{is_lt, is_eq, ordering_reverse}
 use Rattle.std.specs.FinMap.{put, find, is_sorted}
-use Rattle.std.specs.FinMap.Entries.{by_order}
+use Rattle.std.specs.FinMap.Entries.{by_order, below_all}
 use Rattle.std.specs.Cmp.Lexicographic.{nat_list_cmp_total}
 use Rattle.desk_model.specs.Desk.{Plan, name_cmp}
 use Rattle.desk_store.specs.Places.{Row, EndsBelow, last_name}
@@ -50,6 +50,20 @@ all_below k (e ∷ []) fs rising ends = (ends, tt)
 all_below k (e ∷ f ∷ es) fs rising ends =
     let rest = all_below k (f ∷ es) fs (second _ _ rising) ends in
     (transitive e.0 f.0 k (first _ _ (first _ _ rising)) rest.0, rest)
+
+-- rows that rise still do without one of them
+below_without : (k : List ℕ) (es fs : List Row) (e : Row) → IsTrue (below_all name_cmp k (es ++ e ∷ fs)) → IsTrue (below_all name_cmp k (es ++ fs))
+below_without k [] fs e below = second _ _ below
+below_without k (d ∷ es) fs e below = both _ _ (first _ _ below) (below_without k es fs e (second _ _ below))
+
+pub rising_without : (es fs : List Row) (e : Row) → IsTrue (is_sorted name_cmp (es ++ e ∷ fs)) → IsTrue (is_sorted name_cmp (es ++ fs))
+rising_without [] fs e rising = second _ _ rising
+rising_without (d ∷ es) fs e rising = both _ _ (below_without d.0 es fs e (first _ _ rising)) (rising_without es fs e (second _ _ rising))
+
+-- what follows a row is above its name
+pub above_after : (e : Row) (fs : List Row) → IsTrue (is_sorted name_cmp (e ∷ fs)) → StartsAbove e.0 fs
+above_after e [] rising = tt
+above_after e (f ∷ fs) rising = first _ _ (first _ _ rising)
 
 pub rising_back : (es fs : List Row) → IsTrue (is_sorted name_cmp (es ++ fs)) → IsTrue (is_sorted name_cmp fs)
 rising_back [] fs rising = rising

@@ -17,10 +17,10 @@ use Rattle.desk_model.specs.Desk.{Plan, name_cmp}
 use Rattle.desk_store.specs.Places.{Row, IsPlace, IsSpot, EndsBelow, last_name, rows_of, shelf_at, front, back}
 use Rattle.desk_store.specs.Shelves.{shelf_lists}
 use Rattle.desk_store.specs.declared.shelf.Shelf.{Shelf}
-use Rattle.desk_store.proofs.Rising.{AllBelow, StartsAbove, all_below, put_between, put_there, find_missing, find_there, ends_below_append, ends_below_last, ends_below_name, last_name_at}
+use Rattle.desk_store.proofs.Rising.{AllBelow, StartsAbove, all_below, rising_without, above_after, rising_back, put_between, put_there, find_missing, find_there, ends_below_append, ends_below_last, ends_below_name, last_name_at}
 
 -- a row that fills where none stands
-nowhere : Row
+pub nowhere : Row
 nowhere = ([], record { kind = House; n = 0; revisions = [] })
 
 -- names that are neither below nor the same are above
@@ -56,6 +56,10 @@ front_back ps i j =
     rows_split ps i
     ∙ ap (λ es. rows_of (take i ps) ++ (es ++ rows_of (drop (i + 1) ps))) (sym (take-append-drop j (shelf_at ps i)))
     ∙ simp append_assoc
+
+-- the rows but for the one at a place on a shelf
+abbrev pub without_row : List (List Row) → ℕ → ℕ → List Row
+without_row ps i j = rows_of (take i ps) ++ (take j (shelf_at ps i) ++ drop (j + 1) (shelf_at ps i)) ++ rows_of (drop (i + 1) ps)
 
 module _ (name : List ℕ) (ps : List (List Row)) (i j : ℕ) (spot : IsSpot name ps i j) where
   back_there : (e : Row) → j < length (shelf_at ps i) → e ≡ get_or (shelf_at ps i) j e → back ps i j ≡ e ∷ (drop (j + 1) (shelf_at ps i) ++ rows_of (drop (i + 1) ps))
@@ -124,6 +128,40 @@ module _ (name : List ℕ) (ps : List (List Row)) (i j : ℕ) (spot : IsSpot nam
   equal_where_found e rising some within is = ⊎_elim (λ (same : is_eq (name_cmp e.0 name) ≡ true). same)
       (λ (differ : is_eq (name_cmp e.0 name) ≡ false). let clash : false ≡ true = rw (missing_there e rising within is differ) at some in cc)
       (cases_Bool (is_eq (name_cmp e.0 name)))
+
+  -- without the row under the name, the rows still rise and have none of that name; put there, it gives all rows again
+  module _ (e : Row) (rising : IsTrue (is_sorted name_cmp (rows_of ps))) (within : j < length (shelf_at ps i)) (is : e ≡ get_or (shelf_at ps i) j e)
+      (same : IsTrue (is_eq (name_cmp e.0 name))) where
+    abbrev behind : List Row
+    behind = drop (j + 1) (shelf_at ps i) ++ rows_of (drop (i + 1) ps)
+
+    split : rows_of ps ≡ front ps i j ++ e ∷ behind
+    split = front_back ps i j ∙ ap (λ rest. front ps i j ++ rest) (back_there e within is)
+
+    joined : without_row ps i j ≡ front ps i j ++ behind
+    joined = simp append_assoc
+
+    starts_above : StartsAbove name behind
+    starts_above = rw (← same_name e.0 name same) (above_after e behind (rising_back (front ps i j) (e ∷ behind) (rw split at rising)))
+
+    pub rising_left : IsTrue (is_sorted name_cmp (without_row ps i j))
+    rising_left = rw joined (rising_without (front ps i j) behind e (rw split at rising))
+
+    pub missing_left : find name_cmp name (without_row ps i j) ≡ None
+    missing_left = ap (find name_cmp name) joined
+        ∙ find_missing name (front ps i j) behind (rw joined at rising_left) (below_front rising) starts_above
+
+    pub put_back : put name_cmp name e.1 (without_row ps i j) ≡ rows_of ps
+    put_back = ap (put name_cmp name e.1) joined ∙ put_between name e.1 (front ps i j) behind (below_front rising) starts_above
+        ∙ ap (λ (k : List ℕ). front ps i j ++ (k, e.1) ∷ behind) (sym (same_name e.0 name same)) ∙ sym split
+
+-- an entry less is a row less
+pub one_less : (ps : List (List Row)) (i j : ℕ) → j < length (shelf_at ps i) → length (without_row ps i j) + 1 ≡ length (rows_of ps)
+one_less ps i j within =
+    let whole : length (rows_of ps) ≡ length (rows_of (take i ps)) + (length (shelf_at ps i) + length (rows_of (drop (i + 1) ps))) = ap length (rows_split ps i) ∙ simp length-append in
+    let before : length (take j (shelf_at ps i)) ≡ j = length-take-le j (shelf_at ps i) (omega arith) in
+    let after : length (drop (j + 1) (shelf_at ps i)) ≡ length (shelf_at ps i) - (j + 1) = length-drop (j + 1) (shelf_at ps i) in
+    simp length-append (omega (arith, whole, before, after))
 
 -- an entry in the place of another is a row in the place of another
 pub as_many : (ps : List (List Row)) (i j : ℕ) (e : Row) → j < length (shelf_at ps i)

@@ -2,10 +2,9 @@
 use Rattle.std.proofs.Common.{◌≡◌, ℕ, zero, suc, Bool, true, false, cond, List, [], ◌∷◌, ◌++◌, length, map, All, Option, Some, None, Result, Ok, Err, IsOkAnd, arith, refl, ap, sym, ◌∙◌}
 use Rattle.std.specs.Prelude.{unwrap_or}
 use Rattle.std.specs.FinMap as map_of
-use Rattle.std.specs.FinMap.{get-empty, get-insert}
+use Rattle.std.specs.FinMap.{get-empty, get-insert, get-remove}
 use Rattle.std.specs.Ordering.{eq_by_cmp}
 use Rattle.std.specs.Cmp.Lexicographic.{nat_list_cmp_total}
-use Rattle.std.proofs.lemmas.List.{length-map}
 use Rattle.std.proofs.lemmas.List.Elements.{All-append}
 use Rattle.desk_model.specs.declared.block.BlockRow.{BlockRow}
 use Rattle.desk_model.specs.Baf.{Values, Fault, value_at}
@@ -13,7 +12,7 @@ use Rattle.desk_model.specs.Geography.{Ground, ids_of}
 use Rattle.desk_model.specs.Desk.{Plan, name_cmp}
 use Rattle.desk_model.specs.Step.{whole}
 use Rattle.baf_text.specs.Listed.{listed_of}
-use Rattle.desk_store.specs.Kept.{AreWhole}
+use Rattle.desk_store.specs.Kept.{AreWhole, IsWhole}
 
 pub none_whole : (geography : Option Ground) → AreWhole geography map_of.empty
 none_whole geography g name p geo there = let clash : None ≡ Some p = sym (get-empty name_cmp name) ∙ there in absurd (cc)
@@ -28,6 +27,14 @@ module _ (geography : Option Ground) (plans : map_of.FinMap name_cmp Plan) (name
   pub inserted_whole : AreWhole geography (map_of.insert plans name v)
   inserted_whole g q p geo there = by_name g q p geo (eq_by_cmp name_cmp q name) (sym (get-insert nat_list_cmp_total plans name v q) ∙ there)
 
+-- a plan less
+pub removed_whole : (geography : Option Ground) (plans : map_of.FinMap name_cmp Plan) (name : List ℕ) → AreWhole geography plans → AreWhole geography (map_of.remove plans name)
+removed_whole geography plans name was g q p geo there = by_name (eq_by_cmp name_cmp q name) (sym (get-remove nat_list_cmp_total plans name q) ∙ there)
+  where
+    by_name : (b : Bool) → cond b None (map_of.get plans q) ≡ Some p → All (λ (d : List ℕ). length d ≡ length g.blocks) p.revisions
+    by_name true clash = absurd (cc)
+    by_name false found = was g q p geo found
+
 -- no revision
 pub no_revision : (g : Ground) → All (λ (d : List ℕ). length d ≡ length g.blocks) []
 no_revision g k d less = absurd (omega arith)
@@ -41,22 +48,13 @@ revision_more g revisions districts is were = All-append (λ (d : List ℕ). len
     one zero d less = is
     one (suc k) d less = absurd (omega arith)
 
-as_long : (reading : Result Values Fault) (g : Ground) (districts : List ℕ) → IsOkAnd reading (λ values. districts ≡ whole g values) → length districts ≡ length g.blocks
-as_long (Err f) g districts said = absurd said
-as_long (Ok values) g districts said = ap length said ∙ length-map g.blocks _
+-- a plan with one revision more
+pub revised_whole : (geography : Option Ground) (plans : map_of.FinMap name_cmp Plan) (name : List ℕ) (p : Plan) (districts : List ℕ) → AreWhole geography plans
+    → map_of.get plans name ≡ Some p → IsWhole geography (Some districts) → AreWhole geography (map_of.insert plans name (record p { revisions = p.revisions ++ districts ∷ [] }))
+revised_whole geography plans name p districts was found is =
+    inserted_whole geography plans name (record p { revisions = p.revisions ++ districts ∷ [] }) was (λ g there. revision_more g p.revisions districts (is g districts there refl) (was g name p there found))
 
-pub posted_whole : (geography : Option Ground) (plans : map_of.FinMap name_cmp Plan) (g : Ground) (name : List ℕ) (p : Plan) (districts : List ℕ) (reading : Result Values Fault)
-    → AreWhole geography plans → geography ≡ Some g → map_of.get plans name ≡ Some p → IsOkAnd reading (λ values. districts ≡ whole g values)
-    → AreWhole geography (map_of.insert plans name (record p { revisions = p.revisions ++ districts ∷ [] }))
-posted_whole geography plans g name p districts reading was geo found said =
-    inserted_whole geography plans name (record p { revisions = p.revisions ++ districts ∷ [] }) was more
-  where
-    more : (h : Ground) → geography ≡ Some h → All (λ (d : List ℕ). length d ≡ length h.blocks) (p.revisions ++ districts ∷ [])
-    more h there =
-        let same : g ≡ h = cc in
-        revision_more h p.revisions districts (as_long reading g districts said ∙ ap (λ (x : Ground). length x.blocks) same) (was h name p there found)
-
-in_turn : (values : Values) (blocks : List BlockRow) → map (λ (d : Option ℕ). unwrap_or d 0) (map (value_at values) (ids_of blocks)) ≡ map (λ (b : BlockRow). unwrap_or (value_at values b.id) 0) blocks
+pub in_turn : (values : Values) (blocks : List BlockRow) → map (λ (d : Option ℕ). unwrap_or d 0) (map (value_at values) (ids_of blocks)) ≡ map (λ (b : BlockRow). unwrap_or (value_at values b.id) 0) blocks
 in_turn values [] = refl
 in_turn values (b ∷ bs) = ap (λ (more : List ℕ). unwrap_or (value_at values b.id) 0 ∷ more) (in_turn values bs)
 

@@ -1,10 +1,11 @@
 -- What is kept of revisions.
-use Rattle.std.specs.Prelude.{◌≡◌, ℕ, List, map, length, All, Option, Some, Result, Err}
+use Rattle.std.specs.Prelude.{◌≡◌, ℕ, List, map, length, All, Option, Some, Result, Err, IfSome}
 use Rattle.std.specs.FinMap as map_of
 use Rattle.std.specs.declared.sync.Arc.{Arc}
 use Rattle.std.specs.declared.vec.Vec.{Vec}
 use Rattle.std.specs.declared.alloc.Global.{Global}
 use Rattle.desk_model.specs.Desk.{Plan, name_cmp}
+use Rattle.desk_model.specs.Subject.{revision_at}
 use Rattle.desk_model.specs.Baf.{Values, Fault}
 use Rattle.desk_model.specs.Geography.{Ground}
 use Rattle.desk_model.specs.declared.reply.Refusal.{Refusal}
@@ -17,6 +18,10 @@ lists = map (λ d. d.value.items)
 -- every revision of a plan has a district for each block
 abbrev pub AreWhole : Option Ground → map_of.FinMap name_cmp Plan → Type 0
 AreWhole geography plans = (g : Ground) (name : List ℕ) (p : Plan) → geography ≡ Some g → map_of.get plans name ≡ Some p → All (λ d. length d ≡ length g.blocks) p.revisions
+
+-- and each revision of this plan has
+abbrev pub HasWhole : Option Ground → Plan → Type 0
+HasWhole geography p = (g : Ground) (k : ℕ) → geography ≡ Some g → IfSome (revision_at p k) (λ d. length d ≡ length g.blocks)
 
 -- the districts, if there are any, have one for each block
 abbrev pub IsWhole : Option Ground → Option (List ℕ) → Type 0

@@ -2,5 +2,6 @@ pub mod Audits
 pub mod Clerks
 pub mod Codes
 pub mod Kept
+pub mod Patches
 pub mod Places
 pub mod Shelves

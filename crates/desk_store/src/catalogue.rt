@@ -1,22 +1,21 @@
 //! A desk that doesn't change: what is shown.
-ghost use Rattle.std.specs.Prelude.{◌≡◌, IfOk, IfErr, IsSome, IsOkAnd, IsTrue, Ok, Err};
+ghost use Rattle.std.specs.Prelude.{◌≡◌, ℕ, ◌<◌, List, ◌++◌, ◌∷◌, [], length, IfOk, IfErr, IsSome, IsTrue, Some, Ok, Err};
 ghost use Rattle.std.specs.Option.{option_map, option_copied};
 ghost use Rattle.std.specs.FinMap as map_of;
 ghost use Rattle.desk_model.specs.Outcome.{RefusalMay};
-ghost use Rattle.desk_model.specs.Baf.{body_read};
-ghost use Rattle.desk_model.specs.Step.{whole as whole_of};
+ghost use Rattle.desk_model.specs.Step.{revision_limit};
 ghost use Rattle.desk_model.specs.Subject.{senate_companion as senate_companion_of, senate_revision as senate_revision_of, takes_senate};
 ghost use Rattle.desk_store.specs.Audits.{AskMay};
-ghost use Rattle.desk_store.specs.Clerks.{IsAfter};
-ghost use Rattle.desk_store.specs.Kept.{AreWhole, IsWhole, IsRefusalOf};
+ghost use Rattle.desk_store.specs.Clerks.{IsAfter, IsRevisable};
+ghost use Rattle.desk_store.specs.Kept.{AreWhole, HasWhole, IsWhole};
 
 use crate::blocks::blocks_text;
+use crate::patch::patched_districts;
 use crate::plans::Plans;
+use crate::posted::districts_of;
 use crate::report::report;
 use crate::revisions::REVISION_LIMIT;
 use crate::shelf::Entry;
-use baf_text::listed::whole;
-use baf_text::reading::{BafFault, read};
 use baf_text::writing::write;
 use desk_model::command::{Command, Query};
 use desk_model::districts::DistrictCount;
@@ -199,6 +198,10 @@ impl Catalogue {
         match command {
             Command::Create { plan, kind, n } => self.with_plan(alloc, *plan, *kind, *n),
             Command::Whole { plan, after, body } => self.with_whole(alloc, plan, *after, body),
+            Command::Counties { plan, after, body } => self.with_counties(
+                alloc, plan, *after, body,
+            ),
+            Command::Retire { plan } => self.without_plan(alloc, plan),
         }
     }
 
@@ -229,7 +232,28 @@ impl Catalogue {
         self.with_plans(plans)
     }
 
-    /// The catalogue with one more revision of a plan.
+    /// The plan of that name, where it has so many revisions and may have one more.
+    fn revisable(&self, name: &PlanName, after: u32) -> Result<&Entry, Refusal>
+        requires { IsSome self.now.geography }
+        ensures ok { IfOk result (λ entry. IsRevisable self.now name.now after entry.now) }
+        ensures kept { IfOk result (λ entry. HasWhole self.now.geography entry.now.1) }
+        ensures whole { IfErr result (λ refusal. (body : List ℕ) → RefusalMay ⊥ ⊥ self.now (Command.Whole name.now after body) refusal self.now) }
+        ensures counties { IfErr result (λ refusal. (body : List ℕ) → RefusalMay ⊥ ⊥ self.now (Command.Counties name.now after body) refusal self.now) }
+    {
+        let Some(entry) = self.plans.get(name) else {
+            return Err(Refusal::NoPlan);
+        };
+        let current = entry.count();
+        if after != current {
+            return Err(Refusal::Stale { current });
+        }
+        if current >= REVISION_LIMIT {
+            return Err(Refusal::Limit);
+        }
+        Ok(entry)
+    }
+
+    /// The catalogue with a revision of a plan that a body says whole.
     fn with_whole(
         &self,
         alloc: Global,
@@ -243,21 +267,69 @@ impl Catalogue {
         let Some(geography) = self.geography() else {
             return Err(Refusal::NotSealed);
         };
-        let Some(entry) = self.plans.get(name) else {
-            return Err(Refusal::NoPlan);
-        };
-        let current = entry.count();
-        if after != current {
-            return Err(Refusal::Stale { current });
-        }
-        if current >= REVISION_LIMIT {
-            return Err(Refusal::Limit);
-        }
+        let entry = self.revisable(name, after)?;
         let districts = districts_of(alloc, body.as_slice(), geography, entry.n().number())?;
+        self.with_revision(alloc, entry, districts)
+    }
+
+    /// The catalogue with a revision of a plan in which only the counties change that a body lists.
+    fn with_counties(
+        &self,
+        alloc: Global,
+        name: &PlanName,
+        after: u32,
+        body: &Text,
+    ) -> Result<Catalogue, Refusal>
+        ensures ok { IfOk result (IsAfter self.now (Command.Counties name.now after body.now)) }
+        ensures err { IfErr result (λ refusal. RefusalMay ⊥ ⊥ self.now (Command.Counties name.now after body.now) refusal self.now) }
+    {
+        let Some(geography) = self.geography() else {
+            return Err(Refusal::NotSealed);
+        };
+        let entry = self.revisable(name, after)?;
+        let last = entry.revision(after);
+        let districts = patched_districts(
+            alloc,
+            body.as_slice(),
+            geography,
+            entry.n().number(),
+            last,
+        )?;
+        self.with_revision(alloc, entry, districts)
+    }
+
+    /// The catalogue with one more revision of a plan that is there.
+    fn with_revision(
+        &self,
+        alloc: Global,
+        entry: &Entry,
+        districts: Vec<u16>,
+    ) -> Result<Catalogue, Refusal>
+        requires found { map_of.get self.now.plans entry.now.0 ≡ Some entry.now.1 }
+        requires few { length entry.now.1.revisions < revision_limit }
+        requires whole { IsWhole self.now.geography (Some districts.items) }
+        ensures ok { IfOk result (λ next. next ≡ record self.now { plans = map_of.insert self.now.plans entry.now.0 (record entry.now.1 { revisions = entry.now.1.revisions ++ districts.items ∷ [] }) }) }
+        ensures err { IfErr result (λ refusal. refusal ≡ Refusal.Memory) }
+    {
         let Ok(entry) = entry.revised(alloc, districts) else {
             return Err(Refusal::Memory);
         };
         let Ok(plans) = self.plans.replace(alloc, entry) else {
+            return Err(Refusal::Memory);
+        };
+        self.with_plans(plans)
+    }
+
+    /// The catalogue without a plan.
+    fn without_plan(&self, alloc: Global, name: &PlanName) -> Result<Catalogue, Refusal>
+        requires { IsSome self.now.geography }
+        ensures ok { IfOk result (IsAfter self.now (Command.Retire name.now)) }
+        ensures err { IfErr result (λ refusal. RefusalMay ⊥ ⊥ self.now (Command.Retire name.now) refusal self.now) }
+    {
+        if self.plans.get(name).is_none() {
+            return Err(Refusal::NoPlan);
+        }
+        let Ok(plans) = self.plans.remove(alloc, name) else {
             return Err(Refusal::Memory);
         };
         self.with_plans(plans)
@@ -273,26 +345,6 @@ impl Catalogue {
             Ok(geography) => Ok(Catalogue { geography, plans }),
             Err(_) => Err(Refusal::Memory),
         }
-    }
-}
-
-/// The district of each block, rising, as the body says it.
-fn districts_of(
-    alloc: Global,
-    body: &[u8],
-    geography: &Geography,
-    n: u16,
-) -> Result<Vec<u16>, Refusal>
-    ensures ok { IfOk result (λ districts. IsOkAnd (body_read geography.now n body.now) (λ values. districts.items ≡ whole_of geography.now values)) }
-    ensures err { IfErr result (IsRefusalOf (body_read geography.now n body.now)) }
-{
-    match read(alloc, body, geography, n) {
-        Ok(listed) => match whole(alloc, &listed) {
-            Ok(districts) => Ok(districts),
-            Err(_) => Err(Refusal::Memory),
-        },
-        Err(BafFault::Body { code, line }) => Err(Refusal::BadBody { code, line }),
-        Err(BafFault::Memory) => Err(Refusal::Memory),
     }
 }
 

@@ -80,10 +80,12 @@ fn acceptance_of(command: &Command) -> Reply
             plan: *plan,
             revisions: 0,
         },
-        Command::Whole { plan, after, .. } => Reply::Created {
-            plan: *plan,
-            revisions: *after + 1,
-        },
+        Command::Whole { plan, after, .. } | Command::Counties { plan, after, .. } =>
+            Reply::Created {
+                plan: *plan,
+                revisions: *after + 1,
+            },
+        Command::Retire { plan } => Reply::Retired { plan: *plan },
     }
 }
 

@@ -4,8 +4,10 @@
 mod blocks;
 pub mod catalogue;
 pub mod clerk;
+mod patch;
 mod place;
 mod plans;
+mod posted;
 mod report;
 mod revisions;
 mod shelf;

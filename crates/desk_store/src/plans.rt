@@ -100,6 +100,17 @@ fn with_entry(
     Ok(all)
 }
 
+/// A shelf's entries but for the one at a place.
+fn without_entry(alloc: Global, entries: &[Entry], place: usize) -> Result<Vec<Entry>, AllocError>
+    requires { place < length entries.now }
+    ensures { IfOk result (λ v. v.items ≡ take place entries.now ++ drop (place + 1) entries.now) }
+{
+    let mut all = Vec::with_capacity(alloc, entries.len() - 1)?;
+    add_same(&mut all, &entries[..place])?;
+    add_same(&mut all, &entries[place + 1..])?;
+    Ok(all)
+}
+
 /// The same plans.
 fn same(alloc: Global, entries: &[Entry]) -> Result<Vec<Entry>, AllocError>
     ensures { IfOk result (λ v. v.items ≡ entries.now) }
@@ -247,6 +258,20 @@ impl Plans {
         Ok(Plans {
             shelves: with_entries(alloc, shelves, spot.shelf, entries)?,
             count: self.count,
+        })
+    }
+
+    /// These plans without one.
+    pub fn remove(&self, alloc: Global, name: &PlanName) -> Result<Plans, AllocError>
+        requires { IsSome (map_of.get self.now name.now) }
+        ensures { IfOk result (λ p. p ≡ map_of.remove self.now name.now) }
+    {
+        let shelves = self.shelves.as_slice();
+        let spot = spot_of(shelves, name);
+        let entries = without_entry(alloc, entries_at(shelves, spot.shelf), spot.place)?;
+        Ok(Plans {
+            shelves: with_entries(alloc, shelves, spot.shelf, entries)?,
+            count: self.count - 1,
         })
     }
 

@@ -16,6 +16,15 @@ const COUNTIES: &[u8] =
 const DIAGONAL: &[u8] =
     b"BLOCKID|DISTRICT\n190010001001001|01\n190010001001002|02\n190030001001001|02\n190030001001002|01\n";
 
+const PATCH: &[u8] = b"BLOCKID|DISTRICT\n190030001001001|1\n190030001001002|ZZ\n";
+
+const PATCHED: &[u8] =
+    b"BLOCKID|DISTRICT\n190010001001001|01\n190010001001002|01\n190030001001001|01\n190030001001002|ZZ\n";
+
+const PART: &[u8] = b"BLOCKID|DISTRICT\n190030001001001|1\n";
+
+const NOTHING: &[u8] = b"BLOCKID|DISTRICT\n";
+
 const BLOCKS: &[u8] =
     b"BLOCKID|PLACE|POPULATION\n190010001001001|00100|505\n190010001001002|00100|505\n190030001001001|00100|495\n190030001001002||495\n";
 
@@ -63,6 +72,15 @@ fn is_made(reply: &Reply, name: &PlanName) -> bool {
 /// A post of a body after so many revisions.
 fn post(alloc: Global, plan: PlanName, after: u32, body: &[u8]) -> Result<Command, Fail> {
     Ok(Command::Whole {
+        plan,
+        after,
+        body: Text::from_vec(Vec::from_slice(alloc, body)?),
+    })
+}
+
+/// A patch after so many revisions.
+fn patch(alloc: Global, plan: PlanName, after: u32, body: &[u8]) -> Result<Command, Fail> {
+    Ok(Command::Counties {
         plan,
         after,
         body: Text::from_vec(Vec::from_slice(alloc, body)?),
@@ -213,5 +231,30 @@ fn a_post_is_refused(rt: HostRuntime) -> Result<(), Fail> {
         line: 2,
     };
     assert!(rt; is_refused(&bad, why));
+    Ok(())
+}
+
+#[test]
+fn counties_are_patched(rt: HostRuntime) -> Result<(), Fail> {
+    let alloc = rt.alloc();
+    let mut clerk = clerk_of_sample(alloc)?;
+    let plan = named("a")?;
+    let create = Command::Create {
+        plan,
+        kind: Kind::Congress,
+        n: DistrictCount::from_number(2),
+    };
+    assert!(rt; is_made(&clerk.command(alloc, create), &plan));
+    let whole = clerk.command(alloc, post(alloc, plan, 0, COUNTIES)?);
+    assert!(rt; has_revisions(&whole, &plan, 1));
+    let part = clerk.command(alloc, patch(alloc, plan, 1, PART)?);
+    assert!(rt; is_refused(&part, Refusal::NotWholeCounty { county: 3 }));
+    let patched = clerk.command(alloc, patch(alloc, plan, 1, PATCH)?);
+    assert!(rt; has_revisions(&patched, &plan, 2));
+    let same = clerk.command(alloc, patch(alloc, plan, 2, NOTHING)?);
+    assert!(rt; has_revisions(&same, &plan, 3));
+    for (k, wanted) in [(1, COUNTIES), (2, PATCHED), (3, PATCHED)] {
+        assert!(rt; is_text(&clerk.ask(alloc, Query::Revision { plan, k }), wanted));
+    }
     Ok(())
 }

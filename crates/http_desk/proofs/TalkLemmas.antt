@@ -3,7 +3,7 @@ use Rattle.std.proofs.Common.{◌≡◌, ℕ, suc, Bool, true, false, List, [], 
 use Rattle.std.proofs.lemmas.List.{append-nil}
 use Rattle.std.specs.Io.KnownBytes.{Appends, Consumes}
 use Rattle.httparse.specs.Grammar.{RequestHead, print_request}
-use Rattle.http_wire.specs.Front.{HasRequest}
+use Rattle.http_wire.specs.Front.{HasRequest, IsStarved, closes_after as closes_after_head, is_head}
 use Rattle.http_wire.specs.Incoming.{IsRequestOf}
 use Rattle.http_wire.specs.declared.request.Request.{Request}
 use Rattle.desk_model.specs.declared.command.Command.{Command}
@@ -34,18 +34,18 @@ Consumes-then (Some xs) (Some ys) None a b x y = y
 Consumes-then (Some xs) (Some ys) (Some zs) a b x y = x ∙ ap (λ (t : List ℕ). a ++ t) y ∙ sym (append_assoc a b zs)
 
 -- the request with other bytes behind it
-pub HasRequest-before : (input : List ℕ) (h : RequestHead) (body rest later : List ℕ) → HasRequest input h body rest → HasRequest ((print_request h ++ body) ++ later) h body later
-HasRequest-before input h body rest later r = record {
+pub HasRequest-before : (input : List ℕ) (h : RequestHead) (target body rest later : List ℕ) → HasRequest input h target body rest → HasRequest ((print_request h ++ body) ++ later) h target body later
+HasRequest-before input h target body rest later r = record {
   message = record {
     head = record { reads = (r.message.head.reads.0, append_assoc (print_request h) body later); short = r.message.head.short; few = r.message.head.few };
     fits = r.message.fits;
   };
-  target = r.target;
+  target_is = r.target_is;
 }
 
 -- the request alone
-pub HasRequest-alone : (input : List ℕ) (h : RequestHead) (body rest : List ℕ) → HasRequest input h body rest → HasRequest (print_request h ++ body) h body []
-HasRequest-alone input h body rest r = record {
+pub HasRequest-alone : (input : List ℕ) (h : RequestHead) (target body rest : List ℕ) → HasRequest input h target body rest → HasRequest (print_request h ++ body) h target body []
+HasRequest-alone input h target body rest r = record {
   message = record {
     head = record {
       reads = (r.message.head.reads.0, ap (λ (t : List ℕ). print_request h ++ t) (sym (append-nil body)));
@@ -54,35 +54,43 @@ HasRequest-alone input h body rest r = record {
     };
     fits = r.message.fits;
   };
-  target = r.target;
+  target_is = r.target_is;
 }
 
+-- memory is wanting for a request that has come
+pub IsStarved-whole : (input : List ℕ) (h : RequestHead) (target body rest : List ℕ) → HasRequest input h target body rest → IsStarved input (is_head h.method)
+IsStarved-whole input h target body rest r = record { head = h; rest = body ++ rest; stands = r.message.head; shown = refl }
+
 module _ {X : Type 0} (commands : X → Command → Reply → X → Type 0) (asks : X → Query → Reply → X → Type 0) where
+  -- a request of this head is answered, or memory was wanting before
+  abbrev pub HandlesHead : X → (h : RequestHead) → (target body text : List ℕ) → (shut : Bool) → X → Type 0
+  HandlesHead x h target body text shut y = Handles commands asks x (order_of h.method target body) (closes_after_head h) (is_head h.method) text shut y
+
   -- what the handling of a request as it came says of its head
-  pub of_head : (x y : X) (input rest text : List ℕ) (closes : Bool) (r : Request) (is : IsRequestOf input r rest)
-      → Handles commands asks x (order_of r.method r.target.items r.body.items) text closes y → Handles commands asks x (order_of is.head.method is.head.target r.body.items) text closes y
-  of_head x y input rest text closes r is h = rw (← is.method, ← is.target) h
+  pub of_head : (x y : X) (input rest text : List ℕ) (shut : Bool) (r : Request) (is : IsRequestOf input r rest)
+      → Handles commands asks x (order_of r.method r.target.items r.body.items) r.closes (is_head r.method) text shut y → HandlesHead x is.head r.target.items r.body.items text shut y
+  of_head x y input rest text shut r is h = rw (← is.method, ← is.closes) h
 
   -- the last answer to a request
-  pub last : (x y : X) (input rest text : List ℕ) (h : RequestHead) (body : List ℕ) → HasRequest input h body rest
-      → Handles commands asks x (order_of h.method h.target body) text true y → Talk commands asks x input text 1 true y
-  last x y input rest text h body r (inl may) = closed x input h body rest text y r may
-  last x y input rest text h body r (inr (same, closes, kept)) = rw (same, kept) (starved x input)
+  pub last : (x y : X) (input rest text : List ℕ) (h : RequestHead) (target body : List ℕ) → HasRequest input h target body rest
+      → HandlesHead x h target body text true y → Talk commands asks x input text 1 true y
+  last x y input rest text h target body r (inl may) = closed x input h target body rest text y r may
+  last x y input rest text h target body r (inr (same, shut, kept)) = rw (same, kept) (starved x input (is_head h.method) (IsStarved-whole input h target body rest r))
 
   -- an answer after which the talk goes on
-  pub on : (x y : X) (left : Option (List ℕ)) (input rest text : List ℕ) (h : RequestHead) (body : List ℕ) → HasRequest input h body rest
-      → Handles commands asks x (order_of h.method h.target body) text false y → Exchanges commands asks x (Ok next.Again) left input rest text y
-  on x y left input rest text h body r (inl may) = record {
+  pub on : (x y : X) (left : Option (List ℕ)) (input rest text : List ℕ) (h : RequestHead) (target body : List ℕ) → HasRequest input h target body rest
+      → HandlesHead x h target body text false y → Exchanges commands asks x (Ok next.Again) left input rest text y
+  on x y left input rest text h target body r (inl may) = record {
     front = print_request h ++ body;
     read = r.message.head.reads.1 ∙ sym (append_assoc (print_request h) body rest);
-    on = λ later more n shut z talk. went x ((print_request h ++ body) ++ later) h body later text y more n shut z (HasRequest-before input h body rest later r) may talk;
+    on = λ later more n shut z talk. went x ((print_request h ++ body) ++ later) h target body later text y more n shut z (HasRequest-before input h target body rest later r) may talk;
   }
-  on x y left input rest text h body r (inr (same, closes, kept)) = absurd (cc)
+  on x y left input rest text h target body r (inr (same, shut, kept)) = absurd (cc)
 
   -- the same where the answer was written in part
-  pub cut : (x y : X) (input rest text front left : List ℕ) (h : RequestHead) (body : List ℕ) → HasRequest input h body rest
-      → Handles commands asks x (order_of h.method h.target body) text false y → text ≡ front ++ left → IsCutTalk commands asks x input front y
-  cut x y input rest text front left h body r (inl may) e = record {
+  pub cut : (x y : X) (input rest text front left : List ℕ) (h : RequestHead) (target body : List ℕ) → HasRequest input h target body rest
+      → HandlesHead x h target body text false y → text ≡ front ++ left → IsCutTalk commands asks x input front y
+  cut x y input rest text front left h target body r (inl may) e = record {
     front = print_request h ++ body;
     unread = rest;
     read = r.message.head.reads.1 ∙ sym (append_assoc (print_request h) body rest);
@@ -91,9 +99,9 @@ module _ {X : Type 0} (commands : X → Command → Reply → X → Type 0) (ask
     written = append-nil text ∙ e;
     count = 1;
     shut = false;
-    talk = went x (print_request h ++ body) h body [] text y [] 0 false y (HasRequest-alone input h body rest r) may (over y);
+    talk = went x (print_request h ++ body) h target body [] text y [] 0 false y (HasRequest-alone input h target body rest r) may (over y);
   }
-  cut x y input rest text front left h body r (inr (same, closes, kept)) e = absurd (cc)
+  cut x y input rest text front left h target body r (inr (same, shut, kept)) e = absurd (cc)
 
   -- a closing answer, written whole or in part
   pub closing : (x y : X) (old new left : Option (List ℕ)) (input rest text : List ℕ) (result : Result Next ServeFault) → Talk commands asks x input text 1 true y → Closes old new result text

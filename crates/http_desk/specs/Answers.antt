@@ -1,24 +1,40 @@
--- Answers as bytes.
-use Rattle.std.specs.Prelude.{◌≡◌, ◌⊎◌, ℕ, Bool, true, false, List, None, codes, ⊤}
+-- Answers: what each says, and their bytes.
+use Rattle.std.specs.Prelude.{◌≡◌, ◌⊎◌, ◌||◌, ℕ, Bool, true, false, List, Option, Some, None, option_map, codes, ⊤}
 use Rattle.desk_model.specs.declared.reply.Reply.{Reply}
 use Rattle.desk_model.specs.declared.reply.Reply.TheVariants as reply
 use Rattle.desk_model.specs.declared.reply.Refusal.{Refusal}
 use Rattle.desk_model.specs.declared.reply.Refusal.TheVariants.{NoPlan, NoRevision, PlanExists, Stale, BadBody, NotWholeCounty, BadCompanion, Limit, Full, Memory, Halted, NotSealed}
 use Rattle.http_wire.specs.declared.fault.Fault.{Fault}
 use Rattle.http_wire.specs.declared.fault.Fault.TheVariants as fault
+use Rattle.http_wire.specs.declared.response.ContentType.{ContentType}
 use Rattle.http_wire.specs.declared.response.ContentType.TheVariants.{Json, PlainText}
 use Rattle.http_wire.specs.Answer.{answer_text}
 use Rattle.http_desk.specs.declared.order.Error.{Error}
 use Rattle.http_desk.specs.declared.order.Error.TheVariants as error
-use Rattle.http_desk.specs.Bodies.{plans_body, created_body, error_body, refusal_body}
+use Rattle.http_desk.specs.declared.method.Methods.{Methods}
+use Rattle.http_desk.specs.Methods.{methods_text}
+use Rattle.http_desk.specs.Bodies.{plans_body, created_body, retired_body, error_body, refusal_body}
 
--- an answer in JSON, after which the connection stays or closes
-abbrev pub json_text : ℕ → Bool → List ℕ → List ℕ
-json_text status closes body = answer_text status Json None closes body
+-- what an answer says, whichever request it is for
+pub record Message : Type 0 where
+  pub status : ℕ
+  pub kind : ContentType
+  pub allow : Option (List ℕ)
+  pub body : List ℕ
+
+-- its bytes: whether the connection closes after it, and whether its body is left out
+abbrev pub text_of : (closes bare : Bool) → Message → List ℕ
+text_of closes bare m = answer_text m.status m.kind m.allow closes bare m.body
+
+abbrev pub saying : ℕ → ContentType → List ℕ → Message
+saying n type text = record { status = n; kind = type; allow = None; body = text }
+
+abbrev pub memory_message : Message
+memory_message = saying 503 Json (error_body (codes "Memory"))
 
 -- memory for an answer was refused; the connection closes
-abbrev pub memory_text : List ℕ
-memory_text = json_text 503 true (error_body (codes "Memory"))
+abbrev pub memory_text : (bare : Bool) → List ℕ
+memory_text bare = text_of true bare memory_message
 
 abbrev pub refusal_status : Refusal → ℕ
 refusal_status NoPlan = 404
@@ -50,16 +66,19 @@ refusal_closes Halted = false
 refusal_closes NotSealed = false
 
 -- the answer to a reply
-abbrev pub answer_of : Reply → List ℕ
-answer_of (reply.Created name revisions) = json_text 201 false (created_body name revisions)
-answer_of (reply.Plans rows) = json_text 200 false (plans_body rows)
-answer_of (reply.Blocks text) = answer_text 200 PlainText None false text
-answer_of (reply.Baf text) = answer_text 200 PlainText None false text
-answer_of (reply.Audited text) = json_text 200 false text
-answer_of (reply.Refused refusal) = json_text (refusal_status refusal) (refusal_closes refusal) (refusal_body refusal)
+abbrev pub message_of : Reply → Message
+message_of (reply.Created name revisions) = saying 201 Json (created_body name revisions)
+message_of (reply.Retired name) = saying 200 Json (retired_body name)
+message_of (reply.Plans rows) = saying 200 Json (plans_body rows)
+message_of (reply.Blocks text) = saying 200 PlainText text
+message_of (reply.Baf text) = saying 200 PlainText text
+message_of (reply.Audited text) = saying 200 Json text
+message_of (reply.Refused refusal) = saying (refusal_status refusal) Json (refusal_body refusal)
 
+-- whether a reply itself closes the connection
 abbrev pub closes_after : Reply → Bool
 closes_after (reply.Created name revisions) = false
+closes_after (reply.Retired name) = false
 closes_after (reply.Plans rows) = false
 closes_after (reply.Blocks text) = false
 closes_after (reply.Baf text) = false
@@ -69,6 +88,7 @@ closes_after (reply.Refused refusal) = refusal_closes refusal
 abbrev pub error_name : Error → List ℕ
 error_name error.UnknownMethod = codes "UnknownMethod"
 error_name error.NoRoute = codes "NoRoute"
+error_name (error.MethodNotAllowed methods) = codes "MethodNotAllowed"
 error_name error.BadName = codes "BadName"
 error_name error.BadNumber = codes "BadNumber"
 error_name error.BadQuery = codes "BadQuery"
@@ -76,13 +96,23 @@ error_name error.BadQuery = codes "BadQuery"
 abbrev pub error_status : Error → ℕ
 error_status error.UnknownMethod = 501
 error_status error.NoRoute = 404
+error_status (error.MethodNotAllowed methods) = 405
 error_status error.BadName = 400
 error_status error.BadNumber = 400
 error_status error.BadQuery = 400
 
--- the answer to a whole request that asks for nothing; the connection stays
-abbrev pub error_text : Error → List ℕ
-error_text e = json_text (error_status e) false (error_body (error_name e))
+-- only the answer that the page has other methods names them
+abbrev pub error_allow : Error → Option Methods
+error_allow error.UnknownMethod = None
+error_allow error.NoRoute = None
+error_allow (error.MethodNotAllowed methods) = Some methods
+error_allow error.BadName = None
+error_allow error.BadNumber = None
+error_allow error.BadQuery = None
+
+-- the answer to a whole request that asks for nothing
+abbrev pub error_message : Error → Message
+error_message e = record { status = error_status e; kind = Json; allow = option_map methods_text (error_allow e); body = error_body (error_name e) }
 
 abbrev pub fault_name : Fault → List ℕ
 fault_name fault.BadHead = codes "BadHead"
@@ -103,12 +133,13 @@ fault_status fault.BodyTooLarge = 413
 fault_status fault.BadTarget = 400
 
 -- the answer to a fault of the front; the connection closes
-abbrev pub fault_text : Fault → List ℕ
-fault_text f = json_text (fault_status f) true (error_body (fault_name f))
+abbrev pub fault_message : Fault → Message
+fault_message f = saying (fault_status f) Json (error_body (fault_name f))
 
 -- memory may be wanting for the answer: not for an acknowledgement, nor for what a halted desk answers
 abbrev pub MayStarve : Reply → Type 0
 MayStarve (reply.Created name revisions) = ⊥
+MayStarve (reply.Retired name) = ⊥
 MayStarve (reply.Plans rows) = ⊤
 MayStarve (reply.Blocks text) = ⊤
 MayStarve (reply.Baf text) = ⊤
@@ -126,6 +157,8 @@ MayStarve (reply.Refused Full) = ⊤
 MayStarve (reply.Refused Memory) = ⊤
 MayStarve (reply.Refused NotSealed) = ⊤
 
--- an answer to a reply: its own, or that memory is wanting
-abbrev pub Tells : Reply → List ℕ → Bool → Type 0
-Tells r text closes = ((text ≡ answer_of r) × (closes ≡ closes_after r)) ⊎ (MayStarve r × (text ≡ memory_text) × (closes ≡ true))
+-- an answer to a reply, for a request that asks to close or not: its own, or that memory is wanting
+abbrev pub Tells : Reply → (closing bare : Bool) → (text : List ℕ) → (shut : Bool) → Type 0
+Tells r closing bare text shut =
+    ((text ≡ text_of (closes_after r || closing) bare (message_of r)) × (shut ≡ (closes_after r || closing)))
+    ⊎ (MayStarve r × (text ≡ memory_text bare) × (shut ≡ true))

@@ -35,6 +35,10 @@ plans_body rows = compact_text (plans_data rows)
 abbrev pub created_body : List ℕ → ℕ → List ℕ
 created_body name revisions = codes "{\"plan\":\"" ++ name ++ codes "\",\"revisions\":" ++ decimal revisions ++ codes "}"
 
+-- a plan is taken away
+abbrev pub retired_body : List ℕ → List ℕ
+retired_body name = codes "{\"plan\":\"" ++ name ++ codes "\",\"retired\":true}"
+
 -- an error by its name
 abbrev pub error_body : List ℕ → List ℕ
 error_body name = codes "{\"error\":\"" ++ name ++ codes "\"}"

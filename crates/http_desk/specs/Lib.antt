@@ -1,5 +1,6 @@
 pub mod Answers
 pub mod Bodies
+pub mod Methods
 pub mod Orders
 pub mod Pairs
 pub mod Queries

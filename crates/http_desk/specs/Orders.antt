@@ -1,28 +1,21 @@
 -- What a request asks for, by its method, its target and its body.
-use Rattle.std.specs.Prelude.{ℕ, Bool, ◌||◌, ◌==◌, if◌then◌else◌, List, Option, Some, None, codes}
+use Rattle.std.specs.Prelude.{ℕ, ◌==◌, if◌then◌else◌, List, Option, Some, None, codes}
 use Rattle.std.specs.List.{before_first, after_first}
-use Rattle.std.specs.Str.{bytes_eq}
 use Rattle.percent_encoding.specs.Percent.{percent_decode}
 use Rattle.desk_model.specs.Name.{plan_name_of}
 use Rattle.desk_model.specs.declared.kind.Kind.{Kind}
 use Rattle.desk_model.specs.declared.command.Query.{Query}
-use Rattle.desk_model.specs.declared.command.Command.TheVariants.{Create, Whole}
+use Rattle.desk_model.specs.declared.command.Command.TheVariants.{Create, Whole, Counties, Retire}
 use Rattle.desk_model.specs.declared.command.Query.TheVariants.{Plans, Blocks, Revision, Audit}
 use Rattle.http_desk.specs.declared.route.Page.{Page}
 use Rattle.http_desk.specs.declared.route.Page.TheVariants as page
 use Rattle.http_desk.specs.declared.order.Order.{Order}
 use Rattle.http_desk.specs.declared.order.Order.TheVariants as order
-use Rattle.http_desk.specs.declared.order.Error.TheVariants.{UnknownMethod, NoRoute, BadName, BadNumber, BadQuery}
+use Rattle.http_desk.specs.declared.order.Error.TheVariants.{UnknownMethod, NoRoute, MethodNotAllowed, BadName, BadNumber, BadQuery}
+use Rattle.http_desk.specs.Methods.{is_method, is_known, methods_of, takes}
 use Rattle.http_desk.specs.Routes.{page_of, plan_part, revision_part}
 use Rattle.field_text.specs.Digits.{number_of}
 use Rattle.http_desk.specs.Queries.{create_query, after_query, senate_query, is_no_query}
-
--- the method is the word; case matters (RFC 9110, section 9.1)
-abbrev pub is_method : List ℕ → List ℕ → Bool
-is_method word method = bytes_eq method word
-
-abbrev pub is_known : List ℕ → Bool
-is_known method = is_method (codes "GET") method || is_method (codes "PUT") method || is_method (codes "POST") method || is_method (codes "DELETE") method
 
 -- the path is what stands before the first question mark, and the query what stands behind it (RFC 9112, section 3.2.1)
 abbrev pub path_of : List ℕ → List ℕ
@@ -49,6 +42,15 @@ whole_order None after body = order.Refused BadName
 whole_order (Some name) None body = order.Refused BadQuery
 whole_order (Some name) (Some after) body = order.Command (Whole name after body)
 
+abbrev pub counties_order : Option (List ℕ) → Option ℕ → List ℕ → Order
+counties_order None after body = order.Refused BadName
+counties_order (Some name) None body = order.Refused BadQuery
+counties_order (Some name) (Some after) body = order.Command (Counties name after body)
+
+abbrev pub retire_order : Option (List ℕ) → List ℕ → Order
+retire_order None query = order.Refused BadName
+retire_order (Some name) query = if is_no_query query then order.Command (Retire name) else order.Refused BadQuery
+
 -- a query takes no name and no value
 abbrev pub plain_query : Query → List ℕ → Order
 plain_query asked query = if is_no_query query then order.Query asked else order.Refused BadQuery
@@ -64,14 +66,26 @@ audit_order (Some name) None senate = order.Refused BadNumber
 audit_order (Some name) (Some k) None = order.Refused BadQuery
 audit_order (Some name) (Some k) (Some senate) = order.Query (Audit name k senate)
 
+-- a plan is taken away or made
+abbrev pub plan_order : (method path query : List ℕ) → Order
+plan_order method path query = if is_method (codes "DELETE") method then retire_order (name_in path) query else create_order (name_in path) (create_query query)
+
+-- what one of the page's methods asks for
+abbrev pub order_on : Page → (method path query body : List ℕ) → Order
+order_on page.Blocks method path query body = plain_query Blocks query
+order_on page.Plans method path query body = plain_query Plans query
+order_on page.Plan method path query body = plan_order method path query
+order_on page.Revisions method path query body = whole_order (name_in path) (after_query query) body
+order_on page.Counties method path query body = counties_order (name_in path) (after_query query) body
+order_on page.Revision method path query body = revision_order (name_in path) (number_in path) query
+order_on page.Audit method path query body = audit_order (name_in path) (number_in path) (senate_query query)
+
+-- HEAD asks what GET asks; the method is judged before the path's parts and the query
 abbrev pub order_at : Option Page → (method path query body : List ℕ) → Order
 order_at None method path query body = order.Refused NoRoute
-order_at (Some page.Blocks) method path query body = if is_method (codes "GET") method then plain_query Blocks query else order.Refused NoRoute
-order_at (Some page.Plans) method path query body = if is_method (codes "GET") method then plain_query Plans query else order.Refused NoRoute
-order_at (Some page.Plan) method path query body = if is_method (codes "PUT") method then create_order (name_in path) (create_query query) else order.Refused NoRoute
-order_at (Some page.Revisions) method path query body = if is_method (codes "POST") method then whole_order (name_in path) (after_query query) body else order.Refused NoRoute
-order_at (Some page.Revision) method path query body = if is_method (codes "GET") method then revision_order (name_in path) (number_in path) query else order.Refused NoRoute
-order_at (Some page.Audit) method path query body = if is_method (codes "GET") method then audit_order (name_in path) (number_in path) (senate_query query) else order.Refused NoRoute
+order_at (Some p) method path query body =
+    if takes (methods_of p) method then order_on p method path query body
+    else order.Refused (MethodNotAllowed (methods_of p))
 
 -- what the request asks for
 abbrev pub order_of : (method target body : List ℕ) → Order

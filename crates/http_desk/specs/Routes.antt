@@ -8,7 +8,7 @@ use Rattle.matchit.specs.Router.{RouteOf, route_from}
 use Rattle.matchit.specs.Seek.{first}
 use Rattle.matchit.specs.declared.InsertError.{InsertError}
 use Rattle.http_desk.specs.declared.route.Page.{Page}
-use Rattle.http_desk.specs.declared.route.Page.TheVariants.{Blocks, Plans, Plan, Revisions, Revision, Audit}
+use Rattle.http_desk.specs.declared.route.Page.TheVariants.{Blocks, Plans, Plan, Revisions, Counties, Revision, Audit}
 
 -- the rows with one more route
 abbrev pub with_read : Result Scan InsertError → Page → RowsOf (RouteOf Page) → RowsOf (RouteOf Page)
@@ -23,10 +23,11 @@ abbrev pub the_routes : RowsOf (RouteOf Page)
 the_routes =
     with_route (codes "/plans/{p}/revisions/{k}/audit") Audit
     (with_route (codes "/plans/{p}/revisions/{k}") Revision
+    (with_route (codes "/plans/{p}/counties") Counties
     (with_route (codes "/plans/{p}/revisions") Revisions
     (with_route (codes "/plans/{p}") Plan
     (with_route (codes "/plans") Plans
-    (with_route (codes "/blocks") Blocks [])))))
+    (with_route (codes "/blocks") Blocks []))))))
 
 -- which of them the path is
 abbrev pub page_of : List ℕ → Option Page

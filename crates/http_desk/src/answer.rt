@@ -1,13 +1,15 @@
 //! The answer to a request, put together before its first byte is written.
-ghost use Rattle.std.specs.Prelude.{◌≡◌, ◌≤◌, [], ℕ, length, codes, OnOk, OnErr, IfOk, None, false, if◌then◌else◌};
+ghost use Rattle.std.specs.Prelude.{◌≡◌, ◌≤◌, ◌||◌, [], ℕ, length, codes, OnOk, OnErr, IfOk, Some, None, option_map, true, false, if◌then◌else◌};
 ghost use Rattle.http_wire.specs.Sends.{Sends, failures_with};
+ghost use Rattle.http_wire.specs.Answer.{allowed_len};
 ghost use Rattle.http_desk.specs.Bodies.{error_body};
-ghost use Rattle.http_wire.specs.Answer.{answer_text};
-ghost use Rattle.http_desk.specs.Answers.{json_text, answer_of, closes_after, error_text, error_name as error_name_of, error_status as error_status_of, fault_text, fault_name as fault_name_of, fault_status as fault_status_of, memory_text, refusal_status as refusal_status_of, refusal_closes, MayStarve};
+ghost use Rattle.http_desk.specs.Methods.{methods_text};
+ghost use Rattle.http_desk.specs.Answers.{text_of, saying, message_of, closes_after, error_message, error_name as error_name_of, error_status as error_status_of, error_allow as error_allow_of, fault_message, fault_name as fault_name_of, fault_status as fault_status_of, memory_text, refusal_status as refusal_status_of, refusal_closes, MayStarve, Tells};
 
 use crate::body::plans_text;
+use crate::method::Methods;
 use crate::order::Error;
-use crate::short::{SHORT, put_created, put_error, put_refusal};
+use crate::short::{SHORT, put_created, put_error, put_refusal, put_retired};
 use desk_model::reply::{Refusal, Reply};
 use http::StatusCode;
 use http_wire::fault::Fault;
@@ -16,24 +18,33 @@ use http_wire::sink::{Sink, WriteFault};
 use std::alloc::{AllocError, Global};
 use std::marker::Model;
 
+/// What an answer tells beside its body.
+#[derive(Clone, Copy, Debug)]
+struct Head {
+    status: StatusCode,
+    kind: ContentType,
+    allow: Option<Methods>,
+    closes: bool,
+    bare: bool,
+}
+
 /// The answer that is written next, with room for each short body. A long one keeps the memory that it came in.
 #[derive(Drop)]
 pub struct Answer {
-    status: StatusCode,
-    kind: ContentType,
-    closes: bool,
+    head: Head,
     is_long: bool,
     short: Vec<u8>,
     long: Vec<u8>,
 }
 
 impl Model for Answer {
-    ghost use Rattle.std.specs.Prelude.{List, ℕ, None, if◌then◌else◌, ◌≤◌, vec_capacity};
+    ghost use Rattle.std.specs.Prelude.{List, ℕ, option_map, if◌then◌else◌, ◌≤◌, vec_capacity};
     ghost use Rattle.http_wire.specs.Answer.{answer_text};
+    ghost use Rattle.http_desk.specs.Methods.{methods_text};
 
     ghost Value = { List ℕ };
 
-    ghost view = { λ a. answer_text a.status a.kind None a.closes (if a.is_long then a.long.items else a.short.items) };
+    ghost view = { λ a. answer_text a.head.status a.head.kind (option_map methods_text a.head.allow) a.head.closes a.head.bare (if a.is_long then a.long.items else a.short.items) };
 
     ghost invariant = { λ a. 112 ≤ vec_capacity a.short };
 }
@@ -60,6 +71,7 @@ fn error_name(error: Error) -> &'static [u8]
     match error {
         Error::UnknownMethod => b"UnknownMethod",
         Error::NoRoute => b"NoRoute",
+        Error::MethodNotAllowed(_) => b"MethodNotAllowed",
         Error::BadName => b"BadName",
         Error::BadNumber => b"BadNumber",
         Error::BadQuery => b"BadQuery",
@@ -72,7 +84,32 @@ fn error_status(error: Error) -> StatusCode
     match error {
         Error::UnknownMethod => StatusCode::NOT_IMPLEMENTED,
         Error::NoRoute => StatusCode::NOT_FOUND,
+        Error::MethodNotAllowed(_) => StatusCode::METHOD_NOT_ALLOWED,
         Error::BadName | Error::BadNumber | Error::BadQuery => StatusCode::BAD_REQUEST,
+    }
+}
+
+fn error_allow(error: Error) -> Option<Methods>
+    ensures { result ≡ error_allow_of error }
+{
+    match error {
+        Error::MethodNotAllowed(methods) => Some(methods),
+        Error::UnknownMethod
+        | Error::NoRoute
+        | Error::BadName
+        | Error::BadNumber
+        | Error::BadQuery => None,
+    }
+}
+
+/// The names of the methods, where there are any to tell.
+fn allow_text(allow: Option<Methods>) -> Option<&'static str>
+    ensures text { option_map (λ t. t.now) result ≡ option_map methods_text allow }
+    ensures short { allowed_len (option_map (λ t. t.now) result) ≤ 64 }
+{
+    match allow {
+        Some(methods) => Some(methods.text()),
+        None => None,
     }
 }
 
@@ -116,13 +153,24 @@ fn is_memory(refusal: Refusal) -> bool
     matches!(refusal, Refusal::Memory)
 }
 
+/// The head of a JSON answer that allows nothing in particular.
+fn json(status: StatusCode, closes: bool, bare: bool) -> Head
+    ensures { result ≡ record { status = status; kind = ContentType.Json; allow = None; closes = closes; bare = bare } }
+{
+    Head {
+        status,
+        kind: ContentType::Json,
+        allow: None,
+        closes,
+        bare,
+    }
+}
+
 impl Answer {
     /// An answer with the room that each short body takes.
     pub fn new(alloc: Global) -> Result<Answer, AllocError> {
         Ok(Answer {
-            status: StatusCode::OK,
-            kind: ContentType::Json,
-            closes: false,
+            head: json(StatusCode::OK, false, false),
             is_long: false,
             short: Vec::with_capacity(alloc, SHORT)?,
             long: Vec::new(alloc),
@@ -136,93 +184,127 @@ impl Answer {
     {
         let body = body_of(self.is_long, self.short.as_slice(), self.long.as_slice());
         let response = Response {
-            status: self.status,
-            kind: self.kind,
-            allow: None,
-            closes: self.closes,
+            status: self.head.status,
+            kind: self.head.kind,
+            allow: allow_text(self.head.allow),
+            closes: self.head.closes,
+            bare: self.head.bare,
             body,
         };
         write_response(writer, outbox, &response)
     }
 
     /// Puts a JSON error by its name.
-    fn put_named(&mut self, status: StatusCode, closes: bool, name: &[u8])
+    fn put_named(&mut self, status: StatusCode, name: &[u8], closes: bool, bare: bool)
         requires { length name.now ≤ 64 }
-        ensures { self.new ≡ json_text status closes (error_body name.now) }
+        ensures { self.new ≡ text_of closes bare (saying status ContentType.Json (error_body name.now)) }
     {
         put_error(&mut self.short, name);
-        self.status = status;
-        self.kind = ContentType::Json;
-        self.closes = closes;
+        self.head = json(status, closes, bare);
         self.is_long = false;
     }
 
     /// Puts the answer that memory was refused.
-    pub fn put_memory(&mut self)
-        ensures { self.new ≡ memory_text }
+    pub fn put_memory(&mut self, bare: bool)
+        ensures { self.new ≡ memory_text bare }
     {
-        self.put_named(StatusCode::SERVICE_UNAVAILABLE, true, b"Memory");
+        self.put_named(StatusCode::SERVICE_UNAVAILABLE, b"Memory", true, bare);
     }
 
-    pub fn put_order_error(&mut self, error: Error)
-        ensures { self.new ≡ error_text error }
+    /// Puts the answer to a request that asks for nothing.
+    pub fn put_order_error(&mut self, error: Error, closes: bool, bare: bool)
+        ensures { self.new ≡ text_of closes bare (error_message error) }
     {
-        self.put_named(error_status(error), false, error_name(error));
+        put_error(&mut self.short, error_name(error));
+        self.head = Head {
+            status: error_status(error),
+            kind: ContentType::Json,
+            allow: error_allow(error),
+            closes,
+            bare,
+        };
+        self.is_long = false;
     }
 
-    pub fn put_fault(&mut self, fault: Fault)
-        ensures { self.new ≡ fault_text fault }
+    /// Puts the answer to a fault of the front.
+    pub fn put_fault(&mut self, fault: Fault, bare: bool)
+        ensures { self.new ≡ text_of true bare (fault_message fault) }
     {
-        self.put_named(fault_status(fault), true, fault_name(fault));
+        self.put_named(fault_status(fault), fault_name(fault), true, bare);
     }
 
     /// Puts a body that may be long.
-    fn put_long(&mut self, kind: ContentType, body: Vec<u8>)
-        ensures { self.new ≡ answer_text 200 kind None false body.items }
+    fn put_long(&mut self, kind: ContentType, body: Vec<u8>, closes: bool, bare: bool)
+        ensures { self.new ≡ text_of closes bare (saying 200 kind body.items) }
     {
         self.long = body;
-        self.status = StatusCode::OK;
-        self.kind = kind;
-        self.closes = false;
+        self.head = Head {
+            status: StatusCode::OK,
+            kind,
+            allow: None,
+            closes,
+            bare,
+        };
         self.is_long = true;
     }
 
-    /// Puts the answer to a reply, and tells whether it closes. Only an answer that may be long takes memory.
-    pub fn put_reply(&mut self, alloc: Global, reply: Reply) -> Result<bool, AllocError>
-        ensures text { OnOk result (self.new ≡ answer_of reply) }
-        ensures closes { IfOk result (λ closes. closes ≡ closes_after reply) }
+    /// Puts the answer to a reply, and tells whether it closes: where the request asks for it, or where the reply itself
+    /// does. Only an answer that may be long takes memory.
+    fn put_reply(
+        &mut self,
+        alloc: Global,
+        reply: Reply,
+        closing: bool,
+        bare: bool,
+    ) -> Result<bool, AllocError>
+        ensures text { OnOk result (self.new ≡ text_of (closes_after reply || closing) bare (message_of reply)) }
+        ensures closes { IfOk result (λ closes. closes ≡ (closes_after reply || closing)) }
         ensures starved { OnErr result (MayStarve reply) }
     {
         match reply {
             Reply::Created { plan, revisions } => {
                 put_created(&mut self.short, &plan, revisions);
-                self.status = StatusCode::CREATED;
-                self.kind = ContentType::Json;
-                self.closes = false;
+                self.head = json(StatusCode::CREATED, closing, bare);
                 self.is_long = false;
-                Ok(false)
+                Ok(closing)
+            }
+            Reply::Retired { plan } => {
+                put_retired(&mut self.short, &plan);
+                self.head = json(StatusCode::OK, closing, bare);
+                self.is_long = false;
+                Ok(closing)
             }
             Reply::Plans(rows) => {
                 let text = plans_text(alloc, rows.as_slice())?;
-                self.put_long(ContentType::Json, text.into_bytes());
-                Ok(false)
+                self.put_long(ContentType::Json, text.into_bytes(), closing, bare);
+                Ok(closing)
             }
             Reply::Blocks(text) | Reply::Baf(text) => {
-                self.put_long(ContentType::PlainText, text.into_vec());
-                Ok(false)
+                self.put_long(ContentType::PlainText, text.into_vec(), closing, bare);
+                Ok(closing)
             }
             Reply::Audited(text) => {
-                self.put_long(ContentType::Json, text.into_vec());
-                Ok(false)
+                self.put_long(ContentType::Json, text.into_vec(), closing, bare);
+                Ok(closing)
             }
             Reply::Refused(refusal) => {
+                let closes = is_memory(refusal) || closing;
                 put_refusal(&mut self.short, refusal);
-                self.status = refusal_status(refusal);
-                self.kind = ContentType::Json;
-                self.closes = is_memory(refusal);
+                self.head = json(refusal_status(refusal), closes, bare);
                 self.is_long = false;
-                Ok(is_memory(refusal))
+                Ok(closes)
             }
         }
+    }
+
+    /// Puts the answer to a reply, or that memory is wanting for it, and tells whether the connection closes after it.
+    pub fn tell(&mut self, alloc: Global, reply: Reply, closing: bool, bare: bool) -> bool
+        ensures { Tells reply closing bare self.new result }
+    {
+        let Ok(closes) = self.put_reply(alloc, reply, closing, bare) else {
+            self.put_memory(bare);
+            return true;
+        };
+        closes
     }
 }

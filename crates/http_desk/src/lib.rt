@@ -5,6 +5,7 @@ pub mod answer;
 pub mod body;
 pub mod clerk;
 pub mod counter;
+pub mod method;
 pub mod order;
 pub mod query;
 pub mod route;

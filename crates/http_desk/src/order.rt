@@ -1,10 +1,11 @@
 //! Requests to commands and queries.
-ghost use Rattle.std.specs.Prelude.{◌≡◌, Some, IfOk, codes, if◌then◌else◌};
+ghost use Rattle.std.specs.Prelude.{◌≡◌, Some, IfOk};
 ghost use Rattle.std.specs.Str.{IsAscii};
 ghost use Rattle.http_desk.specs.Routes.{the_routes};
-ghost use Rattle.http_desk.specs.Orders.{is_method, is_known as is_known_method, order_of as order_of_request, order_at, name_in as name_in_path, create_order as create_order_of, whole_order as whole_order_of, plain_query as plain_query_of, revision_order as revision_order_of, audit_order as audit_order_of, number_in as number_in_path};
+ghost use Rattle.http_desk.specs.Orders.{order_of as order_of_request, order_at, order_on, name_in as name_in_path, create_order as create_order_of, whole_order as whole_order_of, counties_order as counties_order_of, retire_order as retire_order_of, plan_order as plan_order_of, plain_query as plain_query_of, revision_order as revision_order_of, audit_order as audit_order_of, number_in as number_in_path};
 ghost use Rattle.http_desk.specs.Queries.{create_query as create_query_of, after_query as after_query_of, senate_query as senate_query_of};
 
+use crate::method::{Methods, is_known, methods_of};
 use crate::query::{after_query, create_query, is_no_query, senate_query, short_number};
 use crate::route::{Page, around, page_of, plan_part, revision_part};
 use desk_model::command::{Command, Query};
@@ -15,13 +16,15 @@ use percent_encoding::percent_decode;
 use std::alloc::{AllocError, Global};
 use std::str::from_utf8;
 
-/// Why a whole request asks for nothing. The connection stays.
+/// Why a whole request asks for nothing. By itself it closes no connection.
 #[derive(Clone, Copy, Debug, PartialEq, Eq)]
 pub enum Error {
     /// The method is none of the desk's. 501
     UnknownMethod,
-    /// No such path, or not with that method. 404
+    /// No such path. 404
     NoRoute,
+    /// The page has other methods. 405
+    MethodNotAllowed(Methods),
     /// The path's name is no plan name. 400
     BadName,
     /// The path's number is not 1 to 5 digits. 400
@@ -36,16 +39,6 @@ pub enum Order {
     Command(Command),
     Query(Query),
     Refused(Error),
-}
-
-/// Whether the method is one of the desk's.
-fn is_known(method: &[u8]) -> bool
-    ensures { result ≡ is_known_method method.now }
-{
-    method == b"GET".as_slice()
-        || method == b"PUT".as_slice()
-        || method == b"POST".as_slice()
-        || method == b"DELETE".as_slice()
 }
 
 /// The plan's name in a path.
@@ -91,6 +84,38 @@ fn whole_order(alloc: Global, path: &[u8], query: &[u8], body: Vec<u8>) -> Resul
     Ok(Order::Command(Command::Whole { plan, after, body }))
 }
 
+/// A body at `/plans/{p}/counties`.
+fn counties_order(
+    alloc: Global,
+    path: &[u8],
+    query: &[u8],
+    body: Vec<u8>,
+) -> Result<Order, AllocError>
+    ensures { IfOk result (λ order. order ≡ counties_order_of (name_in_path path.now) (after_query_of query.now) body.items) }
+{
+    let Some(plan) = name_in(alloc, path)? else {
+        return Ok(Order::Refused(Error::BadName));
+    };
+    let Some(after) = after_query(alloc, query)? else {
+        return Ok(Order::Refused(Error::BadQuery));
+    };
+    let body = Text::from_vec(body);
+    Ok(Order::Command(Command::Counties { plan, after, body }))
+}
+
+/// The end of a plan at `/plans/{p}`.
+fn retire_order(alloc: Global, path: &[u8], query: &[u8]) -> Result<Order, AllocError>
+    ensures { IfOk result (λ order. order ≡ retire_order_of (name_in_path path.now) query.now) }
+{
+    let Some(plan) = name_in(alloc, path)? else {
+        return Ok(Order::Refused(Error::BadName));
+    };
+    if !is_no_query(query) {
+        return Ok(Order::Refused(Error::BadQuery));
+    }
+    Ok(Order::Command(Command::Retire { plan }))
+}
+
 /// A query that takes no name and no value.
 fn plain_query(asked: Query, query: &[u8]) -> Order
     ensures { result ≡ plain_query_of asked query.now }
@@ -131,14 +156,36 @@ fn audit_order(alloc: Global, path: &[u8], query: &[u8]) -> Result<Order, AllocE
     Ok(Order::Query(Query::Audit { plan, k, senate }))
 }
 
-/// A query at a page that takes nothing else.
-fn get_only(method: &[u8], asked: Query, query: &[u8]) -> Order
-    ensures { result ≡ (if is_method (codes "GET") method.now then plain_query_of asked query.now else Order.Refused Error.NoRoute) }
+/// What is asked for at `/plans/{p}`, by DELETE or by PUT.
+fn plan_order(alloc: Global, method: &[u8], path: &[u8], query: &[u8]) -> Result<Order, AllocError>
+    ensures { IfOk result (λ order. order ≡ plan_order_of method.now path.now query.now) }
 {
-    if method != b"GET".as_slice() {
-        return Order::Refused(Error::NoRoute);
+    if method == b"DELETE".as_slice() {
+        return retire_order(alloc, path, query);
     }
-    plain_query(asked, query)
+    create_order(alloc, path, query)
+}
+
+/// What one of the page's methods asks for.
+fn order_on_page(
+    alloc: Global,
+    page: Page,
+    method: &[u8],
+    path: &[u8],
+    query: &[u8],
+    body: Vec<u8>,
+) -> Result<Order, AllocError>
+    ensures { IfOk result (λ order. order ≡ order_on page method.now path.now query.now body.items) }
+{
+    match page {
+        Page::Blocks => Ok(plain_query(Query::Blocks, query)),
+        Page::Plans => Ok(plain_query(Query::Plans, query)),
+        Page::Plan => plan_order(alloc, method, path, query),
+        Page::Revisions => whole_order(alloc, path, query, body),
+        Page::Counties => counties_order(alloc, path, query, body),
+        Page::Revision => revision_order(alloc, path, query),
+        Page::Audit => audit_order(alloc, path, query),
+    }
 }
 
 /// What a request with a known method asks for at a page.
@@ -152,34 +199,11 @@ fn order_at_page(
 ) -> Result<Order, AllocError>
     ensures { IfOk result (λ order. order ≡ order_at (Some page) method.now path.now query.now body.items) }
 {
-    match page {
-        Page::Blocks => Ok(get_only(method, Query::Blocks, query)),
-        Page::Plans => Ok(get_only(method, Query::Plans, query)),
-        Page::Plan => {
-            if method != b"PUT".as_slice() {
-                return Ok(Order::Refused(Error::NoRoute));
-            }
-            create_order(alloc, path, query)
-        }
-        Page::Revisions => {
-            if method != b"POST".as_slice() {
-                return Ok(Order::Refused(Error::NoRoute));
-            }
-            whole_order(alloc, path, query, body)
-        }
-        Page::Revision => {
-            if method != b"GET".as_slice() {
-                return Ok(Order::Refused(Error::NoRoute));
-            }
-            revision_order(alloc, path, query)
-        }
-        Page::Audit => {
-            if method != b"GET".as_slice() {
-                return Ok(Order::Refused(Error::NoRoute));
-            }
-            audit_order(alloc, path, query)
-        }
+    let methods = methods_of(page);
+    if !methods.takes(method) {
+        return Ok(Order::Refused(Error::MethodNotAllowed(methods)));
     }
+    order_on_page(alloc, page, method, path, query, body)
 }
 
 /// What a request asks for. Only want of memory is an error.

@@ -17,6 +17,8 @@ pub enum Page {
     Plan,
     /// `/plans/{p}/revisions`
     Revisions,
+    /// `/plans/{p}/counties`
+    Counties,
     /// `/plans/{p}/revisions/{k}`
     Revision,
     /// `/plans/{p}/revisions/{k}/audit`
@@ -39,6 +41,7 @@ pub fn router(alloc: Global) -> Result<Router<Page>, InsertError>
     add(&mut router, "/plans", Page::Plans)?;
     add(&mut router, "/plans/{p}", Page::Plan)?;
     add(&mut router, "/plans/{p}/revisions", Page::Revisions)?;
+    add(&mut router, "/plans/{p}/counties", Page::Counties)?;
     add(&mut router, "/plans/{p}/revisions/{k}", Page::Revision)?;
     add(&mut router, "/plans/{p}/revisions/{k}/audit", Page::Audit)?;
     Ok(router)

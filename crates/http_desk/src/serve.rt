@@ -3,6 +3,7 @@ ghost use Rattle.std.specs.Prelude.{◌≡◌, ◌≤◌, ◌<◌, ◌++◌, ℕ
 ghost use Rattle.std.specs.Str.{IsAscii};
 ghost use Rattle.std.specs.Io.KnownBytes.{Appends, Consumes};
 ghost use Rattle.http_wire.specs.Budget.{reading_left};
+ghost use Rattle.http_wire.specs.Front.{is_head};
 ghost use Rattle.http_wire.specs.Turns.{Spends, counted};
 ghost use Rattle.http_desk.specs.Orders.{order_of as order_of_request};
 ghost use Rattle.http_desk.specs.Routes.{the_routes};
@@ -63,7 +64,7 @@ struct Stream {
     ghost routes: { router ≡ the_routes },
 }
 
-/// Answers a request, and tells whether the answer closes.
+/// Answers a request, and tells whether the connection closes after it.
 fn handle<C: Counter>(
     alloc: Global,
     router: &Router<Page>,
@@ -73,31 +74,29 @@ fn handle<C: Counter>(
 ) -> bool
     requires routes { router.now ≡ the_routes }
     requires ascii { IsAscii request.target.items }
-    ensures { Handles C.commands C.asks counter.old (order_of_request request.method request.target.items request.body.items) answer.new result counter.new }
+    ensures { Handles C.commands C.asks counter.old (order_of_request request.method request.target.items request.body.items) request.closes (is_head request.method) answer.new result counter.new }
 {
     let Request {
         method,
         target,
+        closes,
         body,
     } = request;
     let method = method.as_str().as_bytes();
+    let bare = method == b"HEAD".as_slice();
     let Ok(order) = order_of(alloc, router, method, target.as_slice(), body) else {
-        answer.put_memory();
+        answer.put_memory(bare);
         return true;
     };
     let reply = match order {
         Order::Refused(error) => {
-            answer.put_order_error(error);
-            return false;
+            answer.put_order_error(error, closes, bare);
+            return closes;
         }
         Order::Query(query) => counter.ask(alloc, query),
         Order::Command(command) => counter.command(alloc, command),
     };
-    let Ok(closes) = answer.put_reply(alloc, reply) else {
-        answer.put_memory();
-        return true;
-    };
-    closes
+    answer.tell(alloc, reply, closes, bare)
 }
 
 /// Writes the last answer.
@@ -133,13 +132,14 @@ fn exchange<R: Source, W: Sink, C: Counter, G: Gate>(
     match read_request(alloc, reader, &mut stream.inbox, &mut stream.turns) {
         Err(WireFault::Read) => Err(ServeFault::Read),
         Err(WireFault::TurnLimit) => Err(ServeFault::TurnLimit),
-        Err(WireFault::Memory) => {
-            stream.answer.put_memory();
+        Err(WireFault::Memory) => unreachable!(),
+        Ok(Incoming::End) => Ok(Next::End),
+        Ok(Incoming::Starved { bare }) => {
+            stream.answer.put_memory(bare);
             close(writer, &stream.answer, &mut stream.outbox)
         }
-        Ok(Incoming::End) => Ok(Next::End),
-        Ok(Incoming::Refused(fault)) => {
-            stream.answer.put_fault(fault);
+        Ok(Incoming::Refused { fault, bare }) => {
+            stream.answer.put_fault(fault, bare);
             close(writer, &stream.answer, &mut stream.outbox)
         }
         Ok(Incoming::Request(request)) => {

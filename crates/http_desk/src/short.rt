@@ -1,6 +1,6 @@
 //! Short bodies, put together in a buffer that was made first, so that they take no memory.
 ghost use Rattle.std.specs.Prelude.{◌≡◌, ◌≤◌, ◌+◌, ◌-◌, ◌++◌, length, replicate, decimal, vec_capacity, vec_len, codes};
-ghost use Rattle.http_desk.specs.Bodies.{created_body, error_body, refusal_body, fault_code};
+ghost use Rattle.http_desk.specs.Bodies.{created_body, retired_body, error_body, refusal_body, fault_code};
 ghost use Rattle.desk_model.specs.Baf.{padded_decimal};
 ghost use Rattle.desk_model.specs.declared.reply.Refusal.TheVariants.{BadBody, Stale, NotWholeCounty};
 
@@ -47,6 +47,19 @@ pub fn put_created(buffer: &mut Vec<u8>, plan: &PlanName, revisions: u32)
     add(buffer, b"\",\"revisions\":");
     add_number(buffer, revisions as u64);
     add(buffer, b"}");
+}
+
+/// A plan is taken away.
+pub fn put_retired(buffer: &mut Vec<u8>, plan: &PlanName)
+    requires { SHORT ≤ vec_capacity buffer.old }
+    ensures text { buffer.new.items ≡ retired_body plan.now }
+    ensures short { length buffer.new.items ≤ SHORT }
+    ensures room { SHORT ≤ vec_capacity buffer.new }
+{
+    buffer.clear();
+    add(buffer, b"{\"plan\":\"");
+    add(buffer, plan.as_slice());
+    add(buffer, b"\",\"retired\":true}");
 }
 
 /// An error by its name.

@@ -5,7 +5,8 @@ use Rattle.std.proofs.lemmas.List.Elements.{filter_map-append}
 use Rattle.std.specs.List.{slice_get, cons_option}
 use Rattle.httparse.specs.Spans.{header_bytes}
 use Rattle.httparse.specs.declared.spans.HeaderSpan.{HeaderSpan}
-use Rattle.http_wire.specs.Front.{is_word, values, named_value, length_of, lengths_of, framing_of}
+use Rattle.http_wire.specs.Target.{is_word}
+use Rattle.http_wire.specs.Front.{values, named_value, length_of, lengths_of, framing_of}
 
 picked : (b : Bool) (v : List ℕ) → cons_option (cond b (Some v) None) [] ≡ cond b (v ∷ []) []
 picked true v = refl
@@ -44,6 +45,6 @@ single_length (x ∷ y ∷ more) v one e = absurd (omega arith)
 single_length (x ∷ []) v one e = let same : x ≡ v = cc in ap length_of same
 
 -- with no coding, one length decides
-pub framed_single : (codings lengths : List (List ℕ)) (v : List ℕ) → length codings ≡ 0 → length lengths ≡ 1 → slice_get lengths 0 ≡ Some v → framing_of codings lengths ≡ length_of v
-framed_single [] lengths v none one e = single_length lengths v one e
-framed_single (coding ∷ codings) lengths v none one e = absurd (omega arith)
+pub framed_single : (minor : ℕ) (codings lengths : List (List ℕ)) (v : List ℕ) → length codings ≡ 0 → length lengths ≡ 1 → slice_get lengths 0 ≡ Some v → framing_of minor codings lengths ≡ length_of v
+framed_single minor [] lengths v none one e = single_length lengths v one e
+framed_single minor (coding ∷ codings) lengths v none one e = absurd (omega arith)

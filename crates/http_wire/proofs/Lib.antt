@@ -3,6 +3,8 @@ mod SendLemmas
 mod InboxLemmas
 mod LineLemmas
 mod TargetLemmas
+mod TargetTexts
+mod ConnectionLemmas
 mod FrontLemmas
 mod LookLemmas
 mod BodyLemmas

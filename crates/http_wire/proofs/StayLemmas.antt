@@ -1,5 +1,5 @@
 -- A request and a fault stay, whatever bytes follow.
-use Rattle.std.proofs.Common.{◌≡◌, ◌⊎◌, ℕ, suc, ◌+◌, ◌-◌, ◌<◌, ◌≤◌, true, List, [], ◌∷◌, ◌++◌, length, take, drop, codes, refl, sym, ap, subst, ◌∙◌, arith, inl, inr, ⊎_elim, append_assoc, append-nil, take_all, take-append-drop, length-append}
+use Rattle.std.proofs.Common.{◌≡◌, ◌⊎◌, ℕ, suc, ◌+◌, ◌-◌, ◌<◌, ◌≤◌, true, Bool, List, [], ◌∷◌, ◌++◌, length, take, drop, codes, refl, sym, ap, subst, ◌∙◌, arith, inl, inr, ⊎_elim, append_assoc, append-nil, take_all, take-append-drop, length-append}
 use Rattle.std.proofs.lemmas.Bool.{cases_lt}
 use Rattle.std.proofs.lemmas.List.{take-append-le}
 use Rattle.std.proofs.lemmas.List.Elements.{All-nil, All-take}
@@ -139,17 +139,24 @@ message_stays input h b r more m = record {
   fits = m.fits;
 }
 
-pub request_stays : (input : List ℕ) (h : RequestHead) (b r more : List ℕ) → HasRequest input h b r → HasRequest (input ++ more) h b (r ++ more)
-request_stays input h b r more x = record { message = message_stays input h b r more x.message; target = x.target }
+pub request_stays : (input : List ℕ) (h : RequestHead) (t b r more : List ℕ) → HasRequest input h t b r → HasRequest (input ++ more) h t b (r ++ more)
+request_stays input h t b r more x = record { message = message_stays input h b r more x.message; target_is = x.target_is }
 
-pub fault_stays : (input : List ℕ) (f : Fault) (more : List ℕ) → HasFault input f → HasFault (input ++ more) f
-fault_stays input f more (inl x) = inl (bytes_stay input more f (bytes_are input f x))
-fault_stays input f more (inr (inl x)) = inr (inl (record { head = x.head; rest = x.rest ++ more; stands = head_before input x.head x.rest more x.stands; judges = x.judges }))
-fault_stays input f more (inr (inr x)) = inr (inr (record {
+pub fault_stays : (input : List ℕ) (f : Fault) (bare : Bool) (more : List ℕ) → HasFault input f bare → HasFault (input ++ more) f bare
+fault_stays input f bare more (inl x) = inl (bytes_stay input more f (bytes_are input f x.0), x.1)
+fault_stays input f bare more (inr (inl x)) = inr (inl (record {
+  head = x.head;
+  rest = x.rest ++ more;
+  stands = head_before input x.head x.rest more x.stands;
+  judges = x.judges;
+  shown = x.shown;
+}))
+fault_stays input f bare more (inr (inr x)) = inr (inr (record {
   head = x.head;
   body = x.body;
   rest = x.rest ++ more;
   message = message_stays input x.head x.body x.rest more x.message;
   bad = x.bad;
   named = x.named;
+  shown = x.shown;
 }))

@@ -1,5 +1,5 @@
 -- The fronts of worked inputs.
-use Rattle.std.proofs.Common.{◌≡◌, ℕ, ◌<◌, true, List, [], ◌∷◌, length, codes, refl, arith, inl, inr, All}
+use Rattle.std.proofs.Common.{◌≡◌, ℕ, ◌<◌, true, false, List, [], ◌∷◌, length, codes, refl, arith, inl, inr, All}
 use Rattle.std.proofs.lemmas.List.Elements.{All-nil, All-cons}
 use Rattle.std.proofs.lemmas.List.Sums.{AllPass-from_list_all}
 use Rattle.std.specs.List.{list_all}
@@ -34,7 +34,7 @@ fields_ok target fs method m t some present text ok = record {
   fields = ok;
 }
 
-plans_fronts : HasRequest (codes "GET /plans HTTP/1.1\r\nHost: d\r\n\r\n") plans [] []
+plans_fronts : HasRequest (codes "GET /plans HTTP/1.1\r\nHost: d\r\n\r\n") plans (codes "/plans") [] []
 unfolding httparse_on_literals lib.Utf8.encode
 plans_fronts = record {
   message = record {
@@ -45,13 +45,39 @@ plans_fronts = record {
     };
     fits = refl;
   };
-  target = refl;
+  target_is = refl;
+}
+
+abbrev old : RequestHead
+old = record { blank = []; method = codes "HEAD"; target = codes "http://d?x=1"; minor = 0; line_end = crlf; fields = []; last = crlf }
+
+old_fronts : HasRequest (codes "HEAD http://d?x=1 HTTP/1.0\r\n\r\n") old (codes "/?x=1") [] []
+unfolding httparse_on_literals lib.Utf8.encode
+old_fronts = record {
+  message = record {
+    head = record {
+      reads = (
+        record {
+          method = (omega arith, AllPass-from_list_all is_token_byte (codes "HEAD") refl);
+          target = (omega arith, AllPass-from_list_all is_uri_byte (codes "http://d?x=1") refl);
+          target_text = (codes "http://d?x=1", (refl, refl));
+          minor = omega arith;
+          fields = All-nil IsField;
+        },
+        refl,
+      );
+      short = omega arith;
+      few = omega arith;
+    };
+    fits = refl;
+  };
+  target_is = refl;
 }
 
 abbrev bare : RequestHead
 bare = head (codes "GET") (codes "/plans") []
 
-bare_refused : RefusesHead (codes "GET /plans HTTP/1.1\r\n\r\n") BadHost
+bare_refused : RefusesHead (codes "GET /plans HTTP/1.1\r\n\r\n") BadHost false
 unfolding httparse_on_literals lib.Utf8.encode
 bare_refused = record {
   head = bare;
@@ -62,6 +88,7 @@ bare_refused = record {
     few = omega arith;
   };
   judges = refl;
+  shown = refl;
 }
 
 abbrev length_field : Field
@@ -78,7 +105,7 @@ coding_ok : IsField coding_field
 unfolding httparse_on_literals
 coding_ok = record { name = (omega arith, AllPass-from_list_all is_token_byte (codes "Transfer-Encoding") refl); raw = AllPass-from_list_all is_value_byte (codes " chunked") refl }
 
-coded_refused : RefusesHead (codes "PUT /plans/a HTTP/1.1\r\nHost: d\r\nContent-Length: 1\r\nTransfer-Encoding: chunked\r\n\r\n") BadLength
+coded_refused : RefusesHead (codes "PUT /plans/a HTTP/1.1\r\nHost: d\r\nContent-Length: 1\r\nTransfer-Encoding: chunked\r\n\r\n") BadLength false
 unfolding httparse_on_literals lib.Utf8.encode
 coded_refused = record {
   head = head (codes "PUT") (codes "/plans/a") (host ∷ length_field ∷ coding_field ∷ []);
@@ -93,11 +120,13 @@ coded_refused = record {
     few = omega arith;
   };
   judges = refl;
+  shown = refl;
 }
 
 pub worked_fronts : WorkedFronts
 worked_fronts = record {
-  plans = (plans, refl, refl, plans_fronts);
+  plans = (plans, refl, plans_fronts);
+  absolute = (old, refl, refl, old_fronts);
   no_host = inr (inl bare_refused);
   coded = inr (inl coded_refused);
 }

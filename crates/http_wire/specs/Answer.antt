@@ -41,17 +41,18 @@ close_line false = []
 abbrev pub head_text : ℕ → ContentType → Option (List ℕ) → Bool → ℕ → List ℕ
 head_text status kind allow closes n = status_line status ++ type_line kind ++ length_line n ++ allow_line allow ++ close_line closes ++ line_end
 
+-- an answer to HEAD tells the length of the body and has none (RFC 9110, section 9.3.2)
+abbrev pub sent_body : Bool → List ℕ → List ℕ
+sent_body true body = []
+sent_body false body = body
+
 -- the head, and then the body
-abbrev pub answer_text : ℕ → ContentType → Option (List ℕ) → Bool → List ℕ → List ℕ
-answer_text status kind allow closes body = head_text status kind allow closes (length body) ++ body
+abbrev pub answer_text : ℕ → ContentType → Option (List ℕ) → (closes bare : Bool) → List ℕ → List ℕ
+answer_text status kind allow closes bare body = head_text status kind allow closes (length body) ++ sent_body bare body
 
 -- the methods that the answer allows
 abbrev pub allowed : Response → Option (List ℕ)
 allowed r = option_map (λ methods. methods.now) r.allow
 
 abbrev pub response_text : Response → List ℕ
-response_text r = answer_text r.status r.kind (allowed r) r.closes r.body.now
-
--- the answer where memory is wanting
-abbrev pub memory_text : List ℕ
-memory_text = answer_text 503 Json None true (codes "{\"error\":\"Memory\"}")
+response_text r = answer_text r.status r.kind (allowed r) r.closes r.bare r.body.now

@@ -1,11 +1,13 @@
 -- What stands at the front of the input: a request, a fault, or not enough to tell (RFC 9112, sections 2 to 6).
-use Rattle.std.specs.Prelude.{◌≡◌, ℕ, ◌+◌, ◌-◌, ◌*◌, ◌<◌, ◌≤◌, ◌⊎◌, Bool, true, false, not, ◌&&◌, if◌then◌else◌, ◌==◌, nat_lt, nat_le, List, [], ◌∷◌, ◌++◌, map, length, take, Option, Some, None, Result, Ok, Err, codes, fold}
+use Rattle.std.specs.Prelude.{◌≡◌, ℕ, ◌+◌, ◌-◌, ◌*◌, ◌<◌, ◌≤◌, ◌⊎◌, Bool, true, false, not, ◌&&◌, ◌||◌, if◌then◌else◌, ◌==◌, nat_lt, nat_le, List, [], ◌∷◌, ◌++◌, map, length, take, Option, Some, None, Result, Ok, Err, codes, fold}
 use Rattle.std.specs.List.{filter_map, list_all}
-use Rattle.std.specs.Char.{is_ascii_digit, to_ascii_lowercase}
+use Rattle.std.specs.Char.{is_ascii_digit}
 use Rattle.std.specs.Str.{bytes_eq}
 use Rattle.httparse.specs.Grammar.{RequestHead, ReadsRequest, NeverHasRequest, HasNoRequest, MayBecomeRequest, EndsInTarget, print_request}
 use Rattle.httparse.specs.Spans.{name_and_value, RequestOverflows}
 use Rattle.http_wire.specs.Lines.{lines_come}
+use Rattle.http_wire.specs.Target.{is_word, target_of}
+use Rattle.http_wire.specs.Connection.{asks_to_close}
 use Rattle.http_wire.specs.declared.fault.Fault.{Fault}
 use Rattle.http_wire.specs.declared.fault.Fault.TheVariants.{BadHead, HeadTooLarge, BadHost, BadLength, BadCoding, BodyTooLarge, BadTarget}
 
@@ -20,10 +22,6 @@ field_limit = 64
 -- so many bytes of a body at most
 abbrev pub body_limit : ℕ
 body_limit = 33554432
-
--- the same word, whatever the case (RFC 9110, section 5.1)
-abbrev pub is_word : List ℕ → List ℕ → Bool
-is_word word name = bytes_eq (map to_ascii_lowercase name) (map to_ascii_lowercase word)
 
 -- a field's value, if it has that name
 abbrev pub named_value : List ℕ → List ℕ × List ℕ → Option (List ℕ)
@@ -54,26 +52,33 @@ lengths_of [] = Ok 0
 lengths_of (value ∷ []) = length_of value
 lengths_of (value ∷ other ∷ more) = Err BadLength
 
--- the length of the body by the Transfer-Encoding and the Content-Length lines (RFC 9112, section 6.3)
-abbrev pub framing_of : List (List ℕ) → List (List ℕ) → Result ℕ Fault
-framing_of [] lengths = lengths_of lengths
-framing_of (coding ∷ codings) [] = Err BadCoding
-framing_of (coding ∷ codings) (value ∷ lengths) = Err BadLength
+-- the length of the body by the Transfer-Encoding and the Content-Length lines (RFC 9112, section 6.3); HTTP/1.0 has no coding
+abbrev pub framing_of : ℕ → List (List ℕ) → List (List ℕ) → Result ℕ Fault
+framing_of minor [] lengths = lengths_of lengths
+framing_of minor (coding ∷ codings) [] = if minor == 0 then Err BadLength else Err BadCoding
+framing_of minor (coding ∷ codings) (value ∷ lengths) = Err BadLength
 
--- one Host line (RFC 9112, section 3.2), then the length
-abbrev pub judged : List (List ℕ × List ℕ) → Result ℕ Fault
-judged fields =
-    if not (length (values (codes "host") fields) == 1) then Err BadHost
-    else framing_of (values (codes "transfer-encoding") fields) (values (codes "content-length") fields)
+-- one Host line, which HTTP/1.0 may leave out (RFC 9112, section 3.2)
+abbrev pub is_host_count : ℕ → ℕ → Bool
+is_host_count minor hosts = hosts == 1 || (minor == 0 && hosts == 0)
+
+-- the Host line, then the length
+abbrev pub judged : ℕ → List (List ℕ × List ℕ) → Result ℕ Fault
+judged minor fields =
+    if not (is_host_count minor (length (values (codes "host") fields))) then Err BadHost
+    else framing_of minor (values (codes "transfer-encoding") fields) (values (codes "content-length") fields)
 
 -- the length of the body that the head announces, or the first fault of what it says
 abbrev pub judged_head : RequestHead → Result ℕ Fault
-judged_head h = if h.minor == 0 then Err BadHead else judged (map name_and_value h.fields)
+judged_head h = judged h.minor (map name_and_value h.fields)
 
--- origin-form (RFC 9112, section 3.2.1): a slash first, and nothing outside ASCII
-abbrev pub is_target : List ℕ → Bool
-is_target [] = false
-is_target (b ∷ bytes) = (b == 47) && list_all (λ c. nat_lt c 128) bytes
+-- the connection closes after the answer to a request of this head
+abbrev pub closes_after : RequestHead → Bool
+closes_after h = asks_to_close h.minor (map name_and_value h.fields)
+
+-- the answer to a request of this method has no body (RFC 9110, section 9.3.2)
+abbrev pub is_head : List ℕ → Bool
+is_head method = bytes_eq method (codes "HEAD")
 
 -- the head h, within the limits, stands at the front
 pub record HasHead (input : List ℕ) (h : RequestHead) (rest : List ℕ) : Type 0 where
@@ -86,10 +91,10 @@ pub record HasMessage (input : List ℕ) (h : RequestHead) (body rest : List ℕ
   pub head : HasHead input h (body ++ rest)
   pub fits : judged_head h ≡ Ok (length body)
 
--- a whole request
-pub record HasRequest (input : List ℕ) (h : RequestHead) (body rest : List ℕ) : Type 0 where
+-- a whole request, and the path and query that it asks for
+pub record HasRequest (input : List ℕ) (h : RequestHead) (target body rest : List ℕ) : Type 0 where
   pub message : HasMessage input h body rest
-  pub target : is_target h.target ≡ true
+  pub target_is : target_of h.target ≡ Some target
 
 -- the bytes in which a head is looked for
 abbrev pub window : List ℕ → List ℕ
@@ -121,25 +126,35 @@ RefusesBytes input BadCoding = ⊥
 RefusesBytes input BodyTooLarge = ⊥
 RefusesBytes input BadTarget = ⊥
 
--- a head stands at the front and says what has this fault
-pub record RefusesHead (input : List ℕ) (f : Fault) : Type 0 where
+-- a head stands at the front and says what has this fault; bare tells whether the answer has no body
+pub record RefusesHead (input : List ℕ) (f : Fault) (bare : Bool) : Type 0 where
   pub head : RequestHead
   pub rest : List ℕ
   pub stands : HasHead input head rest
   pub judges : judged_head head ≡ Err f
+  pub shown : bare ≡ is_head head.method
 
 -- a head and its body stand at the front, and the target has this fault
-pub record RefusesTarget (input : List ℕ) (f : Fault) : Type 0 where
+pub record RefusesTarget (input : List ℕ) (f : Fault) (bare : Bool) : Type 0 where
   pub head : RequestHead
   pub body : List ℕ
   pub rest : List ℕ
   pub message : HasMessage input head body rest
-  pub bad : is_target head.target ≡ false
+  pub bad : target_of head.target ≡ None
   pub named : f ≡ BadTarget
+  pub shown : bare ≡ is_head head.method
 
--- whatever follows, the front of the input has this fault
-abbrev pub HasFault : List ℕ → Fault → Type 0
-HasFault input f = RefusesBytes input f ⊎ (RefusesHead input f ⊎ RefusesTarget input f)
+-- Whatever follows, the front of the input has this fault. The answer is bare, without its body, exactly where a head of the
+-- method HEAD has come
+abbrev pub HasFault : List ℕ → Fault → Bool → Type 0
+HasFault input f bare = (RefusesBytes input f × (bare ≡ false)) ⊎ (RefusesHead input f bare ⊎ RefusesTarget input f bare)
+
+-- memory is wanting for the request whose head stands at the front
+pub record IsStarved (input : List ℕ) (bare : Bool) : Type 0 where
+  pub head : RequestHead
+  pub rest : List ℕ
+  pub stands : HasHead input head rest
+  pub shown : bare ≡ is_head head.method
 
 -- no head yet, and one may still come
 pub record IsOpen (input : List ℕ) : Type 0 where

@@ -1,24 +1,26 @@
 -- The front of an input is one thing alone.
-use Rattle.std.specs.Prelude.{◌≡◌, ◌⊎◌, ℕ, List, [], ◌++◌, codes}
+use Rattle.std.specs.Prelude.{◌≡◌, ◌⊎◌, ℕ, Bool, true, false, List, [], ◌++◌, codes}
 use Rattle.httparse.specs.Grammar.{RequestHead}
 use Rattle.http_wire.specs.declared.fault.Fault.{Fault}
 use Rattle.http_wire.specs.declared.fault.Fault.TheVariants.{BadHost, BadLength}
-use Rattle.http_wire.specs.Front.{HasRequest, HasFault, IsIncomplete, HasTooManyLines, IsNoHead}
+use Rattle.http_wire.specs.Front.{HasRequest, HasFault, closes_after, IsIncomplete, HasTooManyLines, IsNoHead}
 
 -- A front is one request, or has one fault, or is incomplete; reading tells which. Where more than 64 header lines have
 -- come and no head can stand whatever follows, either of these faults may be told.
 pub record FrontLaw : Type 0 where
-  pub one_request : (input : List ℕ) (h k : RequestHead) (b c r q : List ℕ) → HasRequest input h b r → HasRequest input k c q → (h ≡ k) × (b ≡ c) × (r ≡ q)
-  pub one_fault : (input : List ℕ) (f g : Fault) → HasFault input f → HasFault input g → (f ≡ g) ⊎ (HasTooManyLines input × IsNoHead input)
-  pub request_or_fault : (input : List ℕ) (h : RequestHead) (b r : List ℕ) (f : Fault) → HasRequest input h b r → HasFault input f → ⊥
-  pub request_or_incomplete : (input : List ℕ) (h : RequestHead) (b r : List ℕ) → HasRequest input h b r → IsIncomplete input → ⊥
-  pub fault_or_incomplete : (input : List ℕ) (f : Fault) → HasFault input f → IsIncomplete input → ⊥
+  pub one_request : (input : List ℕ) (h k : RequestHead) (t u b c r q : List ℕ) → HasRequest input h t b r → HasRequest input k u c q → (h ≡ k) × (t ≡ u) × (b ≡ c) × (r ≡ q)
+  pub one_fault : (input : List ℕ) (f g : Fault) (a b : Bool) → HasFault input f a → HasFault input g b → ((f ≡ g) × (a ≡ b)) ⊎ (HasTooManyLines input × IsNoHead input)
+  pub request_or_fault : (input : List ℕ) (h : RequestHead) (t b r : List ℕ) (f : Fault) (bare : Bool) → HasRequest input h t b r → HasFault input f bare → ⊥
+  pub request_or_incomplete : (input : List ℕ) (h : RequestHead) (t b r : List ℕ) → HasRequest input h t b r → IsIncomplete input → ⊥
+  pub fault_or_incomplete : (input : List ℕ) (f : Fault) (bare : Bool) → HasFault input f bare → IsIncomplete input → ⊥
   -- and what is told of the bytes so far stays, whatever follows
-  pub request_stays : (input : List ℕ) (h : RequestHead) (b r more : List ℕ) → HasRequest input h b r → HasRequest (input ++ more) h b (r ++ more)
-  pub fault_stays : (input : List ℕ) (f : Fault) (more : List ℕ) → HasFault input f → HasFault (input ++ more) f
+  pub request_stays : (input : List ℕ) (h : RequestHead) (t b r more : List ℕ) → HasRequest input h t b r → HasRequest (input ++ more) h t b (r ++ more)
+  pub fault_stays : (input : List ℕ) (f : Fault) (bare : Bool) (more : List ℕ) → HasFault input f bare → HasFault (input ++ more) f bare
 
 -- worked fronts
 pub record WorkedFronts : Type 0 where
-  pub plans : (h : RequestHead) × (h.method ≡ codes "GET") × (h.target ≡ codes "/plans") × HasRequest (codes "GET /plans HTTP/1.1\r\nHost: d\r\n\r\n") h [] []
-  pub no_host : HasFault (codes "GET /plans HTTP/1.1\r\n\r\n") BadHost
-  pub coded : HasFault (codes "PUT /plans/a HTTP/1.1\r\nHost: d\r\nContent-Length: 1\r\nTransfer-Encoding: chunked\r\n\r\n") BadLength
+  pub plans : (h : RequestHead) × (h.method ≡ codes "GET") × HasRequest (codes "GET /plans HTTP/1.1\r\nHost: d\r\n\r\n") h (codes "/plans") [] []
+  -- an absolute target without a path asks for the slash; HTTP/1.0 needs no Host line, and closes
+  pub absolute : (h : RequestHead) × (h.method ≡ codes "HEAD") × (closes_after h ≡ true) × HasRequest (codes "HEAD http://d?x=1 HTTP/1.0\r\n\r\n") h (codes "/?x=1") [] []
+  pub no_host : HasFault (codes "GET /plans HTTP/1.1\r\n\r\n") BadHost false
+  pub coded : HasFault (codes "PUT /plans/a HTTP/1.1\r\nHost: d\r\nContent-Length: 1\r\nTransfer-Encoding: chunked\r\n\r\n") BadLength false

@@ -3,6 +3,8 @@ pub mod Sends
 pub mod Budget
 pub mod Lines
 pub mod InTarget
+pub mod Target
+pub mod Connection
 pub mod Front
 pub mod Law
 pub mod Body

@@ -9,7 +9,7 @@ use Rattle.http_wire.specs.declared.fault.WireFault.{WireFault}
 use Rattle.http_wire.specs.declared.look.Head.{Head}
 use Rattle.http_wire.specs.declared.look.Look.{Look}
 use Rattle.http_wire.specs.declared.look.Look.TheVariants.{Found, Refused, Wanting}
-use Rattle.http_wire.specs.Front.{HasHead, HasFault, IsOpen, judged_head}
+use Rattle.http_wire.specs.Front.{HasHead, HasFault, IsOpen, judged_head, closes_after, is_head}
 
 -- the head that the parser's spans tell stands at the front of bytes, and part is as much of them as was read
 pub record IsParsed (bytes part : List ℕ) (headers : List HeaderSpan) (s : RequestSpans) : Type 0 where
@@ -36,10 +36,12 @@ pub record IsFound (bytes : List ℕ) (found : Head) : Type 0 where
   pub target : span_bytes bytes found.target ≡ head.target
   pub method_fits : IsWithin (length bytes) found.method
   pub target_fits : IsWithin (length bytes) found.target
+  pub closes : found.closes ≡ closes_after head
+  pub shown : found.bare ≡ is_head head.method
 
 abbrev pub Sees : List ℕ → Look → Type 0
 Sees bytes (Found found) = IsFound bytes found
-Sees bytes (Refused fault) = HasFault bytes fault
+Sees bytes (Refused fault bare) = HasFault bytes fault bare
 Sees bytes Wanting = IsOpen bytes
 
 -- what is known of the bytes once reading a head has ended so
@@ -50,6 +52,6 @@ SeesFront bytes (Err e) = IsOpen bytes
 -- more bytes are wanted in vain only at the reader's end
 abbrev pub WantsAtEnd : Option (List ℕ) → Result Look WireFault → Type 0
 WantsAtEnd left (Ok (Found found)) = Unit {0}
-WantsAtEnd left (Ok (Refused f)) = Unit {0}
+WantsAtEnd left (Ok (Refused f bare)) = Unit {0}
 WantsAtEnd left (Ok Wanting) = IsAtEnd left
 WantsAtEnd left (Err e) = Unit {0}

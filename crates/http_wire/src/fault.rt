@@ -6,19 +6,20 @@ use std::alloc::AllocError;
 /// Why no request is taken. After an answer to any of these the connection closes.
 #[derive(Clone, Copy, Debug, PartialEq, Eq)]
 pub enum Fault {
-    /// The first bytes are no HTTP/1.1 head, whatever follows. 400
+    /// The first bytes are no head of HTTP/1.0 or 1.1, whatever follows. 400
     BadHead,
     /// No head in the first 16,384 bytes, or more than 64 header lines. 431
     HeadTooLarge,
-    /// No Host line, or more than one. 400
+    /// More than one Host line, or none in HTTP/1.1. 400
     BadHost,
-    /// More than one Content-Length line, or one that is not 1 to 20 digits, or one beside a Transfer-Encoding line. 400
+    /// More than one Content-Length line, or one that is not 1 to 20 digits, or one beside a Transfer-Encoding line, or a
+    /// Transfer-Encoding line in HTTP/1.0. 400
     BadLength,
-    /// A Transfer-Encoding line. 501
+    /// A Transfer-Encoding line in HTTP/1.1. 501
     BadCoding,
     /// A body of more than 33,554,432 bytes. 413
     BodyTooLarge,
-    /// A target that does not begin with a slash, or has a byte outside ASCII. 400
+    /// A target that begins with neither a slash nor `http://`, or has a byte outside ASCII. 400
     BadTarget,
 }
 

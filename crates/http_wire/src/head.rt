@@ -1,9 +1,10 @@
 //! What the fields of a head announce.
-ghost use Rattle.std.specs.Prelude.{◌≡◌, true, ◌<◌, ◌≤◌, length, map, Some, All, slice_get, codes, nat_lt};
+ghost use Rattle.std.specs.Prelude.{◌≡◌, true, ◌<◌, ◌≤◌, length, map, Some, All, slice_get, codes};
 ghost use Rattle.std.specs.Char.{is_ascii_digit};
 ghost use Rattle.std.specs.List.{list_all};
 ghost use Rattle.httparse.specs.Spans.{header_bytes, IsHeaderWithin};
-ghost use Rattle.http_wire.specs.Front.{is_word, is_length as is_length_text, number_of, values, length_of as length_by, framing_of as framing_by, judged, is_target as is_target_text};
+ghost use Rattle.http_wire.specs.Front.{is_length as is_length_text, number_of, values, length_of as length_by, framing_of as framing_by, is_host_count as is_host_count_of, judged};
+ghost use Rattle.http_wire.specs.Target.{is_word};
 
 use crate::fault::Fault;
 use httparse::spans::HeaderSpan;
@@ -12,7 +13,7 @@ use httparse::spans::HeaderSpan;
 pub const BODY_LIMIT: usize = 33_554_432;
 
 /// Whether a field's name is the word, in any case.
-fn is_named(word: &[u8], name: &[u8]) -> bool
+pub(crate) fn is_named(word: &[u8], name: &[u8]) -> bool
     ensures { result ≡ is_word word.now name.now }
 {
     name.eq_ignore_ascii_case(word)
@@ -84,14 +85,14 @@ fn length_of(value: &[u8]) -> Result<usize, Fault>
 }
 
 /// The length of the body by the lines that frame it.
-fn framing_of(buf: &[u8], headers: &[HeaderSpan]) -> Result<usize, Fault>
+fn framing_of(minor: u8, buf: &[u8], headers: &[HeaderSpan]) -> Result<usize, Fault>
     requires { All (IsHeaderWithin (length buf.now)) headers.now }
-    ensures { result ≡ framing_by (values (codes "transfer-encoding") (map (header_bytes buf.now) headers.now)) (values (codes "content-length") (map (header_bytes buf.now) headers.now)) }
+    ensures { result ≡ framing_by minor (values (codes "transfer-encoding") (map (header_bytes buf.now) headers.now)) (values (codes "content-length") (map (header_bytes buf.now) headers.now)) }
 {
     let (codings, _) = find_value(buf, headers, b"transfer-encoding");
     let (lengths, value) = find_value(buf, headers, b"content-length");
     if codings > 0 {
-        return Err(if lengths > 0 {
+        return Err(if lengths > 0 || minor == 0 {
             Fault::BadLength
         } else {
             Fault::BadCoding
@@ -104,30 +105,21 @@ fn framing_of(buf: &[u8], headers: &[HeaderSpan]) -> Result<usize, Fault>
     }
 }
 
+/// Whether there may be so many Host lines.
+fn is_host_count(minor: u8, hosts: usize) -> bool
+    ensures { result ≡ is_host_count_of minor hosts }
+{
+    hosts == 1 || (minor == 0 && hosts == 0)
+}
+
 /// The length of the body, or the first fault of the fields.
-pub fn judge(buf: &[u8], headers: &[HeaderSpan]) -> Result<usize, Fault>
+pub fn judge(minor: u8, buf: &[u8], headers: &[HeaderSpan]) -> Result<usize, Fault>
     requires { All (IsHeaderWithin (length buf.now)) headers.now }
-    ensures { result ≡ judged (map (header_bytes buf.now) headers.now) }
+    ensures { result ≡ judged minor (map (header_bytes buf.now) headers.now) }
 {
     let (hosts, _) = find_value(buf, headers, b"host");
-    if hosts != 1 {
+    if !is_host_count(minor, hosts) {
         return Err(Fault::BadHost);
     }
-    framing_of(buf, headers)
-}
-
-fn all_ascii(bytes: &[u8]) -> bool
-    ensures { result ≡ list_all (λ c. nat_lt c 128) bytes.now }
-{
-    bytes.iter().all(|b| *b < 128)
-}
-
-/// Whether it begins with a slash and is ASCII.
-pub fn is_target(target: &[u8]) -> bool
-    ensures { result ≡ is_target_text target.now }
-{
-    match target {
-        [first, rest @ ..] => *first == b'/' && all_ascii(rest),
-        [] => false,
-    }
+    framing_of(minor, buf, headers)
 }

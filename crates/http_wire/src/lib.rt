@@ -2,6 +2,7 @@
 #![tactic(auto)]
 
 mod body;
+mod connection;
 pub mod fault;
 mod head;
 pub mod inbox;
@@ -11,5 +12,6 @@ pub mod request;
 pub mod response;
 pub mod sink;
 pub mod source;
+mod target;
 #[cfg(test)]
 mod tests;

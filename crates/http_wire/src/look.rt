@@ -1,13 +1,14 @@
 //! A look at the bytes that have come, for a head.
 ghost use Rattle.std.specs.Prelude.{◌≡◌, ◌<◌, ◌≤◌, ◌+◌, length, true, false, drop};
 ghost use Rattle.httparse.specs.Grammar.{HasNoRequest, NeverHasRequest, MayBecomeRequest};
-ghost use Rattle.http_wire.specs.Front.{window};
+ghost use Rattle.http_wire.specs.Front.{window, is_head as is_head_method};
 ghost use Rattle.http_wire.specs.Look.{IsParsed, Sees};
 ghost use Rattle.http_wire.specs.Lines.{line_feeds as line_feeds_in, lines_come as lines_come_in};
 ghost use Rattle.http_wire.specs.InTarget.{in_method, in_blank};
 ghost use Rattle.httparse.specs.Grammar.{EndsInTarget, is_uri_byte};
 ghost use Rattle.std.specs.List.{list_all};
 
+use crate::connection::asks_to_close;
 use crate::fault::Fault;
 use crate::head::judge;
 use httparse::spans::{EMPTY_HEADER_SPAN, HeaderSpan, RequestSpans, Span, parse_request};
@@ -28,6 +29,10 @@ pub struct Head {
     pub len: usize,
     /// The length of the body that it announces.
     pub body_len: usize,
+    /// Whether the answer ends the connection.
+    pub closes: bool,
+    /// Whether the answer has no body: its method is HEAD.
+    pub bare: bool,
 }
 
 /// What stands at the front.
@@ -35,7 +40,8 @@ pub struct Head {
 pub enum Look {
     /// A head that may stand.
     Found(Head),
-    Refused(Fault),
+    /// The answer to it has no body where it is bare.
+    Refused { fault: Fault, bare: bool },
     /// More bytes are wanted.
     Wanting,
 }
@@ -106,21 +112,28 @@ fn ends_in_target(bytes: &[u8]) -> bool
     ends_after_blank(bytes)
 }
 
+/// Whether the answer to the method has no body.
+fn is_head(method: &[u8]) -> bool
+    ensures { result ≡ is_head_method method.now }
+{
+    method == b"HEAD".as_slice()
+}
+
 /// A head that was parsed: what it says.
 fn after_parse(bytes: &[u8], part: &[u8], head: RequestSpans, headers: &[HeaderSpan]) -> Look
     requires { IsParsed bytes.now part.now headers.now head }
     ensures { Sees bytes.now result }
 {
-    if head.version == 0 {
-        return Look::Refused(Fault::BadHead);
-    }
-    match judge(part, headers) {
-        Err(fault) => Look::Refused(fault),
+    let bare = is_head(head.method.of(bytes));
+    match judge(head.version, part, headers) {
+        Err(fault) => Look::Refused { fault, bare },
         Ok(body_len) => Look::Found(Head {
             method: head.method,
             target: head.path,
             len: head.len,
             body_len,
+            closes: asks_to_close(head.version, part, headers),
+            bare,
         }),
     }
 }
@@ -133,10 +146,16 @@ fn unfinished(bytes: &[u8], part: &[u8]) -> Look
     ensures { Sees bytes.now result }
 {
     if bytes.len() >= HEAD_LIMIT {
-        return Look::Refused(Fault::HeadTooLarge);
+        return Look::Refused {
+            fault: Fault::HeadTooLarge,
+            bare: false,
+        };
     }
     if lines_come(part) >= FIELD_LIMIT + 2 {
-        return Look::Refused(Fault::HeadTooLarge);
+        return Look::Refused {
+            fault: Fault::HeadTooLarge,
+            bare: false,
+        };
     }
     Look::Wanting
 }
@@ -150,7 +169,10 @@ fn after_error(bytes: &[u8], part: &[u8]) -> Look
     if ends_in_target(part) {
         return unfinished(bytes, part);
     }
-    Look::Refused(Fault::BadHead)
+    Look::Refused {
+        fault: Fault::BadHead,
+        bare: false,
+    }
 }
 
 /// Looks for a head at the front of the bytes.
@@ -165,7 +187,10 @@ pub fn look_at(bytes: &[u8]) -> Look
             after_parse(bytes, part, head, &headers[..count])
         }
         Ok(Status::Partial) => unfinished(bytes, part),
-        Err(Error::TooManyHeaders) => Look::Refused(Fault::HeadTooLarge),
+        Err(Error::TooManyHeaders) => Look::Refused {
+            fault: Fault::HeadTooLarge,
+            bare: false,
+        },
         Err(_) => after_error(bytes, part),
     }
 }

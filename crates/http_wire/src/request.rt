@@ -1,20 +1,22 @@
 //! Requests from a reader, however its bytes are cut.
-ghost use Rattle.std.specs.Prelude.{◌≡◌, ◌≢◌, ℕ, ◌+◌, ◌<◌, ◌≤◌, List, [], ◌++◌, length, Err, IfOk, IfErr};
+ghost use Rattle.std.specs.Prelude.{◌≡◌, ◌≢◌, ℕ, ◌+◌, ◌<◌, ◌≤◌, List, [], ◌++◌, length, Err, IfOk};
 ghost use Rattle.httparse.specs.Spans.{span_bytes, IsWithin};
 ghost use Rattle.std.specs.Io.KnownBytes.{Consumes};
 ghost use Rattle.http_wire.specs.Budget.{failures_of, reading_left};
-ghost use Rattle.http_wire.specs.Incoming.{ReadsFront, EndsAt, TakesSome, finished};
+ghost use Rattle.std.specs.Option.{option_map};
+ghost use Rattle.http_wire.specs.Incoming.{ReadsFront, EndsAt, TakesSome, finished, IsTargetOf};
 ghost use Rattle.http_wire.specs.Look.{SeesFront, WantsAtEnd, IsFound};
+ghost use Rattle.http_wire.specs.Target.{target_of};
 ghost use Rattle.http_wire.specs.Turns.{Spends};
 
 use crate::body::read_body;
 use crate::fault::{Fault, WireFault};
-use crate::head::is_target;
 use crate::inbox::Inbox;
 use crate::look::{Head, Look, look_at};
 use crate::source::Source;
+use crate::target::{Target, read_target};
 use http::Method;
-use std::alloc::Global;
+use std::alloc::{AllocError, Global};
 
 /// The turns of a whole stream, from which each call takes its own.
 pub const TURN_LIMIT: u64 = 4_294_967_296;
@@ -25,6 +27,8 @@ pub struct Request {
     pub method: Method,
     /// In origin-form: a path, and perhaps a query.
     pub target: Vec<u8>,
+    /// Whether the answer ends the connection.
+    pub closes: bool,
     pub body: Vec<u8>,
 }
 
@@ -32,8 +36,10 @@ pub struct Request {
 #[derive(Drop)]
 pub enum Incoming {
     Request(Request),
-    /// The front has this fault: the answer to it is the last.
-    Refused(Fault),
+    /// The front has this fault: the answer to it is the last, without its body where it is bare.
+    Refused { fault: Fault, bare: bool },
+    /// Memory for a request was refused, and what was read of it is lost.
+    Starved { bare: bool },
     /// The input ended, perhaps inside a request.
     End,
 }
@@ -56,7 +62,7 @@ fn read_head<R: Source>(
     loop {
         match look_at(inbox.as_slice()) {
             Look::Found(head) => return Ok(Look::Found(head)),
-            Look::Refused(fault) => return Ok(Look::Refused(fault)),
+            Look::Refused { fault, bare } => return Ok(Look::Refused { fault, bare }),
             Look::Wanting => {}
         }
         match inbox.fill(reader, turns) {
@@ -67,41 +73,84 @@ fn read_head<R: Source>(
     }
 }
 
+/// A request whose body is still to come.
+#[derive(Drop)]
+struct Begun {
+    request: Request,
+    /// Whether its target may stand. One that may not is judged behind its body, and is not kept.
+    is_good: bool,
+}
+
+/// A copy of what a target asks for, if it may stand.
+fn copy_target(alloc: Global, target: &[u8]) -> Result<Option<Vec<u8>>, AllocError>
+    ensures { IfOk result (λ copy. option_map (λ v. v.items) copy ≡ target_of target.now) }
+{
+    match read_target(target) {
+        Some(asked) => Ok(Some(asked.to_vec(alloc)?)),
+        None => Ok(None),
+    }
+}
+
+/// The method of a head, which is a token, so that this fails for memory alone.
+fn copy_method(alloc: Global, method: &[u8]) -> Result<Method, AllocError>
+    ensures { IfOk result (λ m. m ≡ method.now) }
+{
+    match Method::from_bytes(alloc, method) {
+        Ok(method) => Ok(method),
+        Err(_) => Err(AllocError),
+    }
+}
+
 /// A request as its head begins it, with room for its body.
-fn begin(alloc: Global, bytes: &[u8], head: Head) -> Result<Request, WireFault>
+fn begin(alloc: Global, bytes: &[u8], head: Head) -> Result<Begun, AllocError>
     requires method { IsWithin (length bytes.now) head.method }
     requires target { IsWithin (length bytes.now) head.target }
-    ensures method { IfOk result (λ r. r.method ≡ span_bytes bytes.now head.method) }
-    ensures target { IfOk result (λ r. r.target.items ≡ span_bytes bytes.now head.target) }
-    ensures body { IfOk result (λ r. r.body.items ≡ []) }
-    ensures err { IfErr result (λ e. e ≡ WireFault.Memory) }
+    ensures method { IfOk result (λ b. b.request.method ≡ span_bytes bytes.now head.method) }
+    ensures target { IfOk result (λ b. IsTargetOf (span_bytes bytes.now head.target) b.is_good b.request.target.items) }
+    ensures closes { IfOk result (λ b. b.request.closes ≡ head.closes) }
+    ensures body { IfOk result (λ b. b.request.body.items ≡ []) }
 {
-    // A head's method is a token, so this fails for memory alone.
-    let Ok(method) = Method::from_bytes(alloc, head.method.of(bytes)) else {
-        return Err(WireFault::Memory);
-    };
-    let target = Vec::from_slice(alloc, head.target.of(bytes))?;
+    let method = copy_method(alloc, head.method.of(bytes))?;
+    let copy = copy_target(alloc, head.target.of(bytes))?;
     let body = Vec::with_capacity(alloc, head.body_len)?;
-    Ok(Request {
-        method,
-        target,
-        body,
+    let is_good = copy.is_some();
+    let target = match copy {
+        Some(target) => target,
+        None => Vec::new(alloc),
+    };
+    Ok(Begun {
+        request: Request {
+            method,
+            target,
+            closes: head.closes,
+            body,
+        },
+        is_good,
     })
 }
 
 /// What the request comes to once its body was read so.
-fn finish(request: Request, came: Result<bool, WireFault>) -> Result<Incoming, WireFault>
-    ensures { result ≡ finished request came }
+fn finish(
+    request: Request,
+    is_good: bool,
+    bare: bool,
+    came: Result<bool, WireFault>,
+) -> Result<Incoming, WireFault>
+    ensures { result ≡ finished request is_good bare came }
 {
     match came {
         Ok(true) => {
-            if is_target(request.target.as_slice()) {
+            if is_good {
                 Ok(Incoming::Request(request))
             } else {
-                Ok(Incoming::Refused(Fault::BadTarget))
+                Ok(Incoming::Refused {
+                    fault: Fault::BadTarget,
+                    bare,
+                })
             }
         }
         Ok(false) => Ok(Incoming::End),
+        Err(WireFault::Memory) => Ok(Incoming::Starved { bare }),
         Err(fault) => Err(fault),
     }
 }
@@ -122,17 +171,21 @@ fn read_rest<R: Source>(
     ensures limit { result ≡ Err WireFault.TurnLimit → turns.new ≡ 0 }
     ensures left { TakesSome result (reading_left turns.old inbox.old) (reading_left turns.new inbox.new) }
 {
-    let Ok(mut request) = begin(alloc, inbox.as_slice(), head) else {
-        return Err(WireFault::Memory);
+    let Ok(begun) = begin(alloc, inbox.as_slice(), head) else {
+        return Ok(Incoming::Starved { bare: head.bare });
     };
+    let Begun {
+        mut request,
+        is_good,
+    } = begun;
     inbox.consume(head.len);
     let came = read_body(reader, inbox, turns, &mut request.body, head.body_len);
-    finish(request, came)
+    finish(request, is_good, head.bare, came)
 }
 
 /// Reads the next request, in as many turns as it needs.
 ///
-/// After an `Err` or `Refused` the stream is over: what had come of a request is lost.
+/// After an `Err`, `Refused` or `Starved` the stream is over: what had come of a request is lost.
 pub fn read_request<R: Source>(
     alloc: Global,
     reader: &mut R,
@@ -149,7 +202,7 @@ pub fn read_request<R: Source>(
 {
     match read_head(reader, inbox, turns) {
         Ok(Look::Wanting) => Ok(Incoming::End),
-        Ok(Look::Refused(fault)) => Ok(Incoming::Refused(fault)),
+        Ok(Look::Refused { fault, bare }) => Ok(Incoming::Refused { fault, bare }),
         Ok(Look::Found(head)) => read_rest(alloc, reader, inbox, turns, head),
         Err(fault) => Err(fault),
     }

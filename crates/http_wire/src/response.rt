@@ -2,7 +2,7 @@
 ghost use Rattle.std.specs.Prelude.{◌≡◌, ℕ, ◌+◌, ◌<◌, ◌≤◌, List, [], ◌++◌, length, Option, option_map, vec_len, vec_capacity, decimal, IfOk, codes};
 ghost use Rattle.http_wire.specs.Sends.{Sends, failures_with};
 ghost use Rattle.http_wire.specs.Phrases.{phrase_of};
-ghost use Rattle.http_wire.specs.Answer.{status_line, type_line, length_line, allow_line, close_line, line_end, head_text, response_text, memory_text, allowed, allowed_len};
+ghost use Rattle.http_wire.specs.Answer.{status_line, type_line, length_line, allow_line, close_line, line_end, head_text, response_text, sent_body, allowed, allowed_len};
 
 use crate::sink::{Sink, WriteFault};
 use http::StatusCode;
@@ -27,6 +27,8 @@ pub struct Response<'a> {
     pub allow: Option<&'a str>,
     /// Whether the connection closes after it.
     pub closes: bool,
+    /// Whether its body is left out, though its length is told: it answers HEAD.
+    pub bare: bool,
     pub body: &'a [u8],
 }
 
@@ -166,18 +168,25 @@ fn put_head(bytes: &mut Vec<u8>, response: &Response<'_>)
     put_end(bytes, response.closes);
 }
 
-/// Writes an answer, and takes no memory for it. Its head, with as much of its body as has room, is built before the first
-/// byte is written.
-pub fn write_response<W: Sink>(
+/// The part of the body that is sent.
+fn sent<'a>(response: &Response<'a>) -> &'a [u8]
+    ensures { result.now ≡ sent_body response.now.bare response.now.body.now }
+{
+    if response.bare { &[] } else { response.body }
+}
+
+/// Writes the head of an answer and a body behind it.
+fn write_parts<W: Sink>(
     writer: &mut W,
     outbox: &mut Outbox,
     response: &Response<'_>,
+    body: &[u8],
 ) -> Result<(), WriteFault>
     requires { allowed_len (allowed response.now) ≤ 64 }
-    ensures bytes { Sends (W.contents writer.old) (W.contents writer.new) result (response_text response.now) }
+    ensures bytes { Sends (W.contents writer.old) (W.contents writer.new) result
+        (head_text response.now.status response.now.kind (allowed response.now) response.now.closes (length response.now.body.now) ++ body.now) }
     ensures failures { W.failures writer.new ≡ failures_with (W.failures writer.old) result }
 {
-    let body = response.body;
     let bytes = &mut outbox.bytes;
     put_head(bytes, response);
     let fits = body.len().min(OUTBOX_LEN - bytes.len());
@@ -191,14 +200,16 @@ pub fn write_response<W: Sink>(
     writer.send(&body[fits..])
 }
 
-/// The answer where memory is wanting, which closes the connection.
-pub const MEMORY_ANSWER: &[u8] =
-    b"HTTP/1.1 503 Service Unavailable\r\nContent-Type: application/json\r\nContent-Length: 18\r\nConnection: close\r\n\r\n{\"error\":\"Memory\"}";
-
-/// Writes that memory is wanting.
-pub fn write_memory<W: Sink>(writer: &mut W) -> Result<(), WriteFault>
-    ensures bytes { Sends (W.contents writer.old) (W.contents writer.new) result memory_text }
+/// Writes an answer, and takes no memory for it. Its head, with as much of its body as has room, is built before the first
+/// byte is written.
+pub fn write_response<W: Sink>(
+    writer: &mut W,
+    outbox: &mut Outbox,
+    response: &Response<'_>,
+) -> Result<(), WriteFault>
+    requires { allowed_len (allowed response.now) ≤ 64 }
+    ensures bytes { Sends (W.contents writer.old) (W.contents writer.new) result (response_text response.now) }
     ensures failures { W.failures writer.new ≡ failures_with (W.failures writer.old) result }
 {
-    writer.send(MEMORY_ANSWER)
+    write_parts(writer, outbox, response, sent(response))
 }

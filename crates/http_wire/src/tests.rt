@@ -3,7 +3,7 @@
 use crate::fault::{Fault, WireFault};
 use crate::inbox::Inbox;
 use crate::request::{Incoming, TURN_LIMIT, read_request};
-use crate::response::{ContentType, MEMORY_ANSWER, Outbox, Response, write_memory, write_response};
+use crate::response::{ContentType, Outbox, Response, write_response};
 use crate::sink::{WriteFault, WriteSink};
 use crate::source::ReadSource;
 use http::{Method, StatusCode};
@@ -44,7 +44,9 @@ impl Read for Pieces<'_> {
 struct Stream {
     requests: u64,
     bodies: Vec<u8>,
-    refused: Option<Fault>,
+    targets: Vec<u8>,
+    closing: u64,
+    refused: Option<(Fault, bool)>,
     fault: Option<WireFault>,
 }
 
@@ -65,6 +67,8 @@ fn read_stream(
     let mut stream = Stream {
         requests: 0,
         bodies: Vec::new(alloc),
+        targets: Vec::new(alloc),
+        closing: 0,
         refused: None,
         fault: None,
     };
@@ -73,12 +77,14 @@ fn read_stream(
             Ok(Incoming::Request(request)) => {
                 stream.requests = stream.requests.saturating_add(1);
                 stream.bodies.extend_from_slice(request.body.as_slice())?;
+                stream.targets.extend_from_slice(request.target.as_slice())?;
+                stream.closing = stream.closing.saturating_add(request.closes as u64);
             }
-            Ok(Incoming::Refused(fault)) => {
-                stream.refused = Some(fault);
+            Ok(Incoming::Refused { fault, bare }) => {
+                stream.refused = Some((fault, bare));
                 return Ok(stream);
             }
-            Ok(Incoming::End) => return Ok(stream),
+            Ok(Incoming::End) | Ok(Incoming::Starved { .. }) => return Ok(stream),
             Err(fault) => {
                 stream.fault = Some(fault);
                 return Ok(stream);
@@ -89,7 +95,7 @@ fn read_stream(
 }
 
 /// Inputs, the number of their requests, and their fault.
-const HEADS: [(&[u8], u64, Option<Fault>); 17] = [
+const HEADS: [(&[u8], u64, Option<Fault>); 19] = [
     (b"GET /plans HTTP/1.1\r\nHost: d\r\n\r\n", 1, None),
     (
         b"\r\n\nGET / HTTP/1.1\nhOST:\n\nBREW /pot HTTP/1.1\r\nHost: d\r\n\r\n\r\n",
@@ -104,10 +110,16 @@ const HEADS: [(&[u8], u64, Option<Fault>); 17] = [
         0,
         Some(Fault::BadHost),
     ),
+    (b"GET / HTTP/1.0\r\nHost: d\r\n\r\n", 1, None),
     (
-        b"GET / HTTP/1.0\r\nHost: d\r\n\r\n",
+        b"GET / HTTP/1.0\r\nHost: d\r\nHost: d\r\n\r\n",
         0,
-        Some(Fault::BadHead),
+        Some(Fault::BadHost),
+    ),
+    (
+        b"GET / HTTP/1.0\r\nTransfer-Encoding: gzip, chunked\r\n\r\n",
+        0,
+        Some(Fault::BadLength),
     ),
     (b"G(T ", 0, Some(Fault::BadHead)),
     (
@@ -157,13 +169,86 @@ const HEADS: [(&[u8], u64, Option<Fault>); 17] = [
     ),
 ];
 
+fn fault_of(stream: &Stream) -> Option<Fault> {
+    match stream.refused {
+        Some((fault, _)) => Some(fault),
+        None => None,
+    }
+}
+
+/// Inputs of one request each, what its target asks for, and whether the answer ends the connection.
+const TARGETS: [(&[u8], &[u8], u64); 10] = [
+    (b"GET /a?b HTTP/1.1\r\nHost: d\r\n\r\n", b"/a?b", 0),
+    (b"GET http://d?x=1 HTTP/1.1\r\nHost: e\r\n\r\n", b"/?x=1", 0),
+    (b"GET hTTp://u@d:1/a HTTP/1.1\r\nHost: e\r\n\r\n", b"/a", 0),
+    (b"GET http:// HTTP/1.1\r\nHost: e\r\n\r\n", b"/", 0),
+    (b"GET http://d/a?b/c HTTP/1.0\r\n\r\n", b"/a?b/c", 1),
+    (
+        b"GET / HTTP/1.1\r\nHost: d\r\nConnection: keep-alive\t, \tClOsE \r\n\r\n",
+        b"/",
+        1,
+    ),
+    (
+        b"GET / HTTP/1.1\r\nHost: d\r\nConnection: a\r\nConnection: close\r\n\r\n",
+        b"/",
+        1,
+    ),
+    (
+        b"GET / HTTP/1.1\r\nHost: d\r\nConnection: close;x, closed, \"close\", clo se\r\n\r\n",
+        b"/",
+        0,
+    ),
+    (
+        b"GET / HTTP/1.1\r\nHost: d\r\nConnection:\r\nX: close\r\n\r\n",
+        b"/",
+        0,
+    ),
+    (b"GET / HTTP/1.0\r\nConnection: keep-alive\r\n\r\n", b"/", 1),
+];
+
+#[test]
+fn worked_targets(rt: HostRuntime) -> Result<(), Fail> {
+    for (input, target, closing) in TARGETS {
+        let stream = read_stream(rt.alloc(), input, 11, u64::MAX)?;
+        assert_eq!(rt; stream.requests, 1);
+        assert!(rt; stream.targets.as_slice() == target);
+        assert_eq!(rt; stream.closing, closing);
+    }
+    Ok(())
+}
+
+/// Inputs whose first request is refused, and whether the answer has no body.
+const BARE: [(&[u8], Fault, bool); 4] = [
+    (b"HEAD / HTTP/1.1\r\n\r\n", Fault::BadHost, true),
+    (
+        b"HEAD https://d/ HTTP/1.1\r\nHost: d\r\n\r\n",
+        Fault::BadTarget,
+        true,
+    ),
+    (
+        b"GET https://d/ HTTP/1.1\r\nHost: d\r\n\r\n",
+        Fault::BadTarget,
+        false,
+    ),
+    (b"HEAD / HTTP/2.0\r\n\r\n", Fault::BadHead, false),
+];
+
+#[test]
+fn refused_heads(rt: HostRuntime) -> Result<(), Fail> {
+    for (input, fault, bare) in BARE {
+        let stream = read_stream(rt.alloc(), input, 5, u64::MAX)?;
+        assert!(rt; stream.refused == Some((fault, bare)));
+    }
+    Ok(())
+}
+
 #[test]
 fn worked_heads(rt: HostRuntime) -> Result<(), Fail> {
     for (input, requests, refused) in HEADS {
         for piece in [1, 7, 65_536] {
             let stream = read_stream(rt.alloc(), input, piece, u64::MAX)?;
             assert_eq!(rt; stream.requests, requests);
-            assert!(rt; stream.refused == refused);
+            assert!(rt; fault_of(&stream) == refused);
             assert!(rt; stream.fault.is_none());
         }
     }
@@ -198,7 +283,7 @@ fn limits(rt: HostRuntime) -> Result<(), Fail> {
         for piece in [100, 65_536] {
             let stream = read_stream(rt.alloc(), head.as_slice(), piece, u64::MAX)?;
             assert_eq!(rt; stream.requests, requests);
-            assert!(rt; stream.refused == refused);
+            assert!(rt; fault_of(&stream) == refused);
         }
     }
     Ok(())
@@ -285,6 +370,7 @@ fn worked_answers(rt: HostRuntime) -> Result<(), Fail> {
         kind: ContentType::Json,
         allow: None,
         closes: false,
+        bare: false,
         body: b"{\"plans\":[]}",
     };
     assert!(rt; write_response(&mut writer, &mut outbox, &list).is_ok());
@@ -293,18 +379,17 @@ fn worked_answers(rt: HostRuntime) -> Result<(), Fail> {
         kind: ContentType::PlainText,
         allow: Some("GET, HEAD"),
         closes: true,
-        body: b"",
+        bare: true,
+        body: b"text",
     };
     assert!(rt; write_response(&mut writer, &mut outbox, &refusal).is_ok());
-    assert!(rt; write_memory(&mut writer).is_ok());
     let written = writer.into_inner();
     let first =
         b"HTTP/1.1 200 OK\r\nContent-Type: application/json\r\nContent-Length: 12\r\n\r\n{\"plans\":[]}";
     let second =
-        b"HTTP/1.1 405 Method Not Allowed\r\nContent-Type: text/plain\r\nContent-Length: 0\r\nAllow: GET, HEAD\r\nConnection: close\r\n\r\n";
+        b"HTTP/1.1 405 Method Not Allowed\r\nContent-Type: text/plain\r\nContent-Length: 4\r\nAllow: GET, HEAD\r\nConnection: close\r\n\r\n";
     let mut wanted = Vec::from_slice(rt.alloc(), first)?;
     wanted.extend_from_slice(second)?;
-    wanted.extend_from_slice(MEMORY_ANSWER)?;
     assert!(rt; written.as_slice() == wanted.as_slice());
     Ok(())
 }
@@ -317,6 +402,7 @@ fn a_write_that_fails(rt: HostRuntime) -> Result<(), Fail> {
         kind: ContentType::PlainText,
         allow: None,
         closes: false,
+        bare: false,
         body: body.as_slice(),
     };
     for limit in [0, 1, 100, 16_383, 16_384, 16_385, 30_000, 50_000] {

@@ -11,6 +11,10 @@ mod audit_tests;
 #[cfg(test)]
 mod check_tests;
 #[cfg(test)]
+mod command_tests;
+#[cfg(test)]
+mod method_tests;
+#[cfg(test)]
 mod option_tests;
 #[cfg(test)]
 mod revision_tests;

@@ -129,7 +129,7 @@ const TABLE: [(&[u8], &[u8]); 14] = [
     ),
     (b"GET /plans HTTP/1.1\r\nHo", b""),
     (
-        b"GET /plans HTTP/1.0\r\nHost: d\r\n\r\n",
+        b"GET /plans HTTP/2.0\r\nHost: d\r\n\r\n",
         b"HTTP/1.1 400 Bad Request\r\nContent-Type: application/json\r\nContent-Length: 19\r\nConnection: close\r\n\r\n{\"error\":\"BadHead\"}",
     ),
     (
@@ -145,11 +145,11 @@ const TABLE: [(&[u8], &[u8]); 14] = [
         b"HTTP/1.1 413 Content Too Large\r\nContent-Type: application/json\r\nContent-Length: 24\r\nConnection: close\r\n\r\n{\"error\":\"BodyTooLarge\"}",
     ),
     (
-        b"GET http://d/plans HTTP/1.1\r\nHost: d\r\n\r\n",
+        b"GET https://d/plans HTTP/1.1\r\nHost: d\r\n\r\n",
         b"HTTP/1.1 400 Bad Request\r\nContent-Type: application/json\r\nContent-Length: 21\r\nConnection: close\r\n\r\n{\"error\":\"BadTarget\"}",
     ),
     (
-        b"BREW /pot HTTP/1.1\r\nHost: d\r\n\r\nGET /plans/a HTTP/1.1\r\nHost: d\r\nContent-Length: 3\r\n\r\nabc",
+        b"BREW /pot HTTP/1.1\r\nHost: d\r\n\r\nGET /plans/a/ HTTP/1.1\r\nHost: d\r\nContent-Length: 3\r\n\r\nabc",
         b"HTTP/1.1 501 Not Implemented\r\nContent-Type: application/json\r\nContent-Length: 25\r\n\r\n{\"error\":\"UnknownMethod\"}HTTP/1.1 404 Not Found\r\nContent-Type: application/json\r\nContent-Length: 19\r\n\r\n{\"error\":\"NoRoute\"}",
     ),
     (

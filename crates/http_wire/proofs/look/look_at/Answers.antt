@@ -20,7 +20,10 @@ pub returns-in-Err-TooManyHeaders : goal.returns-in-Err-TooManyHeaders
 returns-in-Err-TooManyHeaders c =
     let same = window_is c.args.bytes.now c.min.result c.min.ensures in
     let many = (rw c.in-Err-TooManyHeaders.field-0-is at c.in-Err-TooManyHeaders.ensures.too_many) refl in
-    inl (inr (record {
-      lines = subst (λ xs. 66 ≤ lines_come xs) same (exceeds_lines _ many);
-      exceeds = subst (RequestOverflows 64) same c.in-Err-TooManyHeaders.ensures.no_room;
-    }))
+    inl (
+      inr (record {
+        lines = subst (λ xs. 66 ≤ lines_come xs) same (exceeds_lines _ many);
+        exceeds = subst (RequestOverflows 64) same c.in-Err-TooManyHeaders.ensures.no_room;
+      }),
+      refl,
+    )

@@ -1,0 +1,28 @@
+-- What a patch by counties makes of the last districts.
+use Rattle.std.specs.Prelude.{◌≡◌, ℕ, List, map, unwrap_or, Option, Some, None, Result, Err, IsOkAnd}
+use Rattle.std.specs.List.{zip}
+use Rattle.desk_model.specs.Baf.{Values, Fault}
+use Rattle.desk_model.specs.Geography.{Ground}
+use Rattle.desk_model.specs.Step.{partly_listed}
+use Rattle.desk_model.specs.declared.reply.Refusal.{Refusal}
+use Rattle.desk_model.specs.declared.reply.Refusal.TheVariants.{NoPlan, NoRevision, PlanExists, Stale, BadBody, NotWholeCounty, BadCompanion, Limit, Full, Memory, Halted, NotSealed}
+
+-- the listed districts, and the last ones where none is listed, 0 before there are any
+abbrev pub overlaid : List (Option ℕ) → Option (List ℕ) → List ℕ
+overlaid listed None = map (λ d. unwrap_or d 0) listed
+overlaid listed (Some last) = map (λ e. unwrap_or e.0 e.1) (zip listed last)
+
+-- a body's first fault, the least county that it lists in part, or that memory was refused
+abbrev pub IsPatchRefusal : Ground → Result Values Fault → Refusal → Type 0
+IsPatchRefusal g reading (BadBody code line) = reading ≡ Err (code, line)
+IsPatchRefusal g reading (NotWholeCounty county) = IsOkAnd reading (λ values. partly_listed g values ≡ Some county)
+IsPatchRefusal g reading Memory = Unit {0}
+IsPatchRefusal g reading NoPlan = ⊥
+IsPatchRefusal g reading NoRevision = ⊥
+IsPatchRefusal g reading PlanExists = ⊥
+IsPatchRefusal g reading (Stale k) = ⊥
+IsPatchRefusal g reading BadCompanion = ⊥
+IsPatchRefusal g reading Limit = ⊥
+IsPatchRefusal g reading Full = ⊥
+IsPatchRefusal g reading Halted = ⊥
+IsPatchRefusal g reading NotSealed = ⊥

@@ -1,0 +1,97 @@
+//! Whether a request asks for the end of its connection.
+ghost use Rattle.std.specs.Prelude.{◌≡◌, ◌==◌, ◌≤◌, length, map, All, reverse};
+ghost use Rattle.std.specs.List.{position_or_len};
+ghost use Rattle.std.specs.Option.{option_copied};
+ghost use Rattle.httparse.specs.Grammar.{skip_ows, trim_ows};
+ghost use Rattle.httparse.specs.Spans.{header_bytes, IsHeaderWithin};
+ghost use Rattle.http_wire.specs.Connection.{IsCut, names_close as names_close_in, asks_to_close as asks_to_close_in};
+
+use crate::head::is_named;
+use httparse::is_space_or_tab;
+use httparse::spans::HeaderSpan;
+
+fn trim_start(mut s: &[u8]) -> &[u8]
+    ensures { result.now ≡ skip_ows s.now }
+{
+    while let [first, rest @ ..] = s
+        && is_space_or_tab(*first)
+    {
+        s = rest;
+    }
+    s
+}
+
+fn trim_end(mut s: &[u8]) -> &[u8]
+    ensures { result.now ≡ reverse (skip_ows (reverse s.now)) }
+{
+    while let [rest @ .., last] = s
+        && is_space_or_tab(*last)
+    {
+        s = rest;
+    }
+    s
+}
+
+/// Without the spaces and tabs at both ends.
+fn trim(s: &[u8]) -> &[u8]
+    ensures { result.now ≡ trim_ows s.now }
+{
+    trim_end(trim_start(s))
+}
+
+/// The place of the first comma, or the length.
+fn comma_at(bytes: &[u8]) -> usize
+    ensures place { result ≡ position_or_len (λ b. b == 44) bytes.now }
+    ensures within { result ≤ length bytes.now }
+{
+    for (i, b) in bytes.iter().enumerate() {
+        if *b == b',' {
+            return i;
+        }
+    }
+    bytes.len()
+}
+
+/// What stands before the first comma, and what stands behind it.
+fn cut(bytes: &[u8]) -> (&[u8], Option<&[u8]>)
+    ensures { IsCut bytes.now result.0.now (option_copied result.1) }
+{
+    let end = comma_at(bytes);
+    if end == bytes.len() {
+        return (bytes, None);
+    }
+    (&bytes[..end], Some(&bytes[end + 1..]))
+}
+
+/// Whether the list names `close`.
+fn names_close(value: &[u8]) -> bool
+    ensures { result ≡ names_close_in value.now }
+{
+    let mut rest = value;
+    loop {
+        let (part, more) = cut(rest);
+        if is_named(b"close", trim(part)) {
+            return true;
+        }
+        match more {
+            Some(next) => rest = next,
+            None => return false,
+        }
+    }
+}
+
+/// Whether the answer to a request of this version and these fields ends the connection.
+pub fn asks_to_close(minor: u8, buf: &[u8], headers: &[HeaderSpan]) -> bool
+    requires { All (IsHeaderWithin (length buf.now)) headers.now }
+    ensures { result ≡ asks_to_close_in minor (map (header_bytes buf.now) headers.now) }
+{
+    if minor == 0 {
+        return true;
+    }
+    for h in headers {
+        if is_named(b"connection", h.name.of(buf)) && names_close(h.value.of(buf)) {
+            return true;
+        }
+    }
+    false
+}
