@@ -1,8 +1,8 @@
 -- How one exchange goes into a talk.
-use Rattle.std.proofs.Common.{◌≡◌, ℕ, suc, Bool, true, false, List, [], ◌++◌, Option, Some, None, Result, Ok, Err, refl, sym, ap, ◌∙◌, append_assoc, inl, inr, ◌+◌, arith}
+use Rattle.std.proofs.Common.{◌≡◌, ℕ, suc, Bool, true, false, List, [], ◌++◌, Option, Some, None, Result, Ok, Err, refl, sym, ap, subst, ◌∙◌, append_assoc, inl, inr, ◌+◌, arith}
 use Rattle.std.proofs.lemmas.List.{append-nil}
 use Rattle.std.specs.Io.KnownBytes.{Appends, Consumes}
-use Rattle.httparse.specs.Grammar.{RequestHead, print_request}
+use Rattle.httparse.specs.Grammar.{RequestHead}
 use Rattle.http_wire.specs.Front.{HasRequest, IsStarved, closes_after as closes_after_head, is_head}
 use Rattle.http_wire.specs.Incoming.{IsRequestOf}
 use Rattle.http_wire.specs.declared.request.Request.{Request}
@@ -33,33 +33,13 @@ Consumes-then (Some xs) None w a b x y = absurd x
 Consumes-then (Some xs) (Some ys) None a b x y = y
 Consumes-then (Some xs) (Some ys) (Some zs) a b x y = x ∙ ap (λ (t : List ℕ). a ++ t) y ∙ sym (append_assoc a b zs)
 
--- the request with other bytes behind it
-pub HasRequest-before : (input : List ℕ) (h : RequestHead) (target body rest later : List ℕ) → HasRequest input h target body rest → HasRequest ((print_request h ++ body) ++ later) h target body later
-HasRequest-before input h target body rest later r = record {
-  message = record {
-    head = record { reads = (r.message.head.reads.0, append_assoc (print_request h) body later); short = r.message.head.short; few = r.message.head.few };
-    fits = r.message.fits;
-  };
-  target_is = r.target_is;
-}
-
 -- the request alone
-pub HasRequest-alone : (input : List ℕ) (h : RequestHead) (target body rest : List ℕ) → HasRequest input h target body rest → HasRequest (print_request h ++ body) h target body []
-HasRequest-alone input h target body rest r = record {
-  message = record {
-    head = record {
-      reads = (r.message.head.reads.0, ap (λ (t : List ℕ). print_request h ++ t) (sym (append-nil body)));
-      short = r.message.head.short;
-      few = r.message.head.few;
-    };
-    fits = r.message.fits;
-  };
-  target_is = r.target_is;
-}
+pub HasRequest-alone : (front : List ℕ) (h : RequestHead) (target body : List ℕ) → ((more : List ℕ) → HasRequest (front ++ more) h target body more) → HasRequest front h target body []
+HasRequest-alone front h target body alone = subst (λ (xs : List ℕ). HasRequest xs h target body []) (append-nil front) (alone [])
 
 -- memory is wanting for a request that has come
 pub IsStarved-whole : (input : List ℕ) (h : RequestHead) (target body rest : List ℕ) → HasRequest input h target body rest → IsStarved input (is_head h.method)
-IsStarved-whole input h target body rest r = record { head = h; rest = body ++ rest; stands = r.message.head; shown = refl }
+IsStarved-whole input h target body rest r = record { head = h; rest = r.message.text; stands = r.message.head; shown = refl }
 
 module _ {X : Type 0} (commands : X → Command → Reply → X → Type 0) (asks : X → Query → Reply → X → Type 0) where
   -- a request of this head is answered, or memory was wanting before
@@ -78,30 +58,30 @@ module _ {X : Type 0} (commands : X → Command → Reply → X → Type 0) (ask
   last x y input rest text h target body r (inr (same, shut, kept)) = rw (same, kept) (starved x input (is_head h.method) (IsStarved-whole input h target body rest r))
 
   -- an answer after which the talk goes on
-  pub on : (x y : X) (left : Option (List ℕ)) (input rest text : List ℕ) (h : RequestHead) (target body : List ℕ) → HasRequest input h target body rest
-      → HandlesHead x h target body text false y → Exchanges commands asks x (Ok next.Again) left input rest text y
-  on x y left input rest text h target body r (inl may) = record {
-    front = print_request h ++ body;
-    read = r.message.head.reads.1 ∙ sym (append_assoc (print_request h) body rest);
-    on = λ later more n shut z talk. went x ((print_request h ++ body) ++ later) h target body later text y more n shut z (HasRequest-before input h target body rest later r) may talk;
+  pub on : (x y : X) (left : Option (List ℕ)) (input rest text : List ℕ) (h : RequestHead) (target body start : List ℕ) → input ≡ start ++ rest
+      → ((more : List ℕ) → HasRequest (start ++ more) h target body more) → HandlesHead x h target body text false y → Exchanges commands asks x (Ok next.Again) left input rest text y
+  on x y left input rest text h target body start read alone (inl may) = record {
+    front = start;
+    read = read;
+    on = λ later more n shut z talk. went x (start ++ later) h target body later text y more n shut z (alone later) may talk;
   }
-  on x y left input rest text h target body r (inr (same, shut, kept)) = absurd (cc)
+  on x y left input rest text h target body start read alone (inr (same, shut, kept)) = absurd (cc)
 
   -- the same where the answer was written in part
-  pub cut : (x y : X) (input rest text front left : List ℕ) (h : RequestHead) (target body : List ℕ) → HasRequest input h target body rest
-      → HandlesHead x h target body text false y → text ≡ front ++ left → IsCutTalk commands asks x input front y
-  cut x y input rest text front left h target body r (inl may) e = record {
-    front = print_request h ++ body;
+  pub cut : (x y : X) (input rest text front left : List ℕ) (h : RequestHead) (target body start : List ℕ) → input ≡ start ++ rest
+      → ((more : List ℕ) → HasRequest (start ++ more) h target body more) → HandlesHead x h target body text false y → text ≡ front ++ left → IsCutTalk commands asks x input front y
+  cut x y input rest text front left h target body start read alone (inl may) e = record {
+    front = start;
     unread = rest;
-    read = r.message.head.reads.1 ∙ sym (append_assoc (print_request h) body rest);
+    read = read;
     answers = text ++ [];
     unwritten = left;
     written = append-nil text ∙ e;
     count = 1;
     shut = false;
-    talk = went x (print_request h ++ body) h target body [] text y [] 0 false y (HasRequest-alone input h target body rest r) may (over y);
+    talk = went x start h target body [] text y [] 0 false y (HasRequest-alone start h target body alone) may (over y);
   }
-  cut x y input rest text front left h target body r (inr (same, shut, kept)) e = absurd (cc)
+  cut x y input rest text front left h target body start read alone (inr (same, shut, kept)) e = absurd (cc)
 
   -- a closing answer, written whole or in part
   pub closing : (x y : X) (old new left : Option (List ℕ)) (input rest text : List ℕ) (result : Result Next ServeFault) → Talk commands asks x input text 1 true y → Closes old new result text

@@ -122,6 +122,7 @@ fault_name fault.BadLength = codes "BadLength"
 fault_name fault.BadCoding = codes "BadCoding"
 fault_name fault.BodyTooLarge = codes "BodyTooLarge"
 fault_name fault.BadTarget = codes "BadTarget"
+fault_name fault.BadChunk = codes "BadChunk"
 
 abbrev pub fault_status : Fault → ℕ
 fault_status fault.BadHead = 400
@@ -131,6 +132,7 @@ fault_status fault.BadLength = 400
 fault_status fault.BadCoding = 501
 fault_status fault.BodyTooLarge = 413
 fault_status fault.BadTarget = 400
+fault_status fault.BadChunk = 400
 
 -- the answer to a fault of the front; the connection closes
 abbrev pub fault_message : Fault → Message

@@ -125,6 +125,7 @@ fn fault_name(fault: Fault) -> &'static [u8]
         Fault::BadCoding => b"BadCoding",
         Fault::BodyTooLarge => b"BodyTooLarge",
         Fault::BadTarget => b"BadTarget",
+        Fault::BadChunk => b"BadChunk",
     }
 }
 
@@ -132,7 +133,7 @@ fn fault_status(fault: Fault) -> StatusCode
     ensures { result ≡ fault_status_of fault }
 {
     match fault {
-        Fault::BadHead | Fault::BadHost | Fault::BadLength | Fault::BadTarget =>
+        Fault::BadHead | Fault::BadHost | Fault::BadLength | Fault::BadTarget | Fault::BadChunk =>
             StatusCode::BAD_REQUEST,
         Fault::HeadTooLarge => StatusCode::REQUEST_HEADER_FIELDS_TOO_LARGE,
         Fault::BadCoding => StatusCode::NOT_IMPLEMENTED,

@@ -1,9 +1,13 @@
 -- The parts of a list in a field.
-use Rattle.std.proofs.Common.{◌≡◌, ℕ, ◌+◌, ◌-◌, ◌≤◌, ◌<◌, ◌==◌, List, [], ◌∷◌, length, take, drop, sym, ap, ap₂, ◌∙◌, arith, length-drop}
-use Rattle.std.specs.List.{position_or_len, before_first, after_first}
-use Rattle.std.proofs.lemmas.List.Splits.{slice_split_none, slice_split_first}
+use Rattle.std.proofs.Common.{◌≡◌, ℕ, ◌+◌, ◌<◌, ◌==◌, true, false, List, [], ◌∷◌, ◌++◌, length, take, drop, refl, sym, ap, ◌∙◌, arith, length-drop, length-append}
+use Rattle.std.specs.Prelude.{codes}
+use Rattle.std.specs.List.{position_or_len, flat_map}
+use Rattle.std.proofs.lemmas.Grind.{flat_map-append}
+use Rattle.std.proofs.lemmas.List.{append-nil}
+use Rattle.std.proofs.lemmas.List.Splits.{slice_split_none, slice_split_first, length-slice_split}
+use Rattle.std.proofs.lemmas.Bool.Decides.{nat_tests}
 use Rattle.std.proofs.lemmas.List.Sums.{fails_before_first}
-use Rattle.http_wire.specs.Connection.{parts}
+use Rattle.http_wire.specs.Connection.{parts, ends_in}
 
 -- without a comma there is one part
 pub whole_part : (value : List ℕ) (end : ℕ) → end ≡ position_or_len (λ b. b == 44) value → end ≡ length value → parts value ≡ value ∷ []
@@ -16,3 +20,31 @@ first_part value end at within = (
   slice_split_first (λ b. b == 44) value 0 (omega (arith, at, within)) ∙ ap (λ (n : ℕ). take n value ∷ parts (drop (n + 1) value)) (sym at),
   omega (arith, within, length-drop (end + 1) value),
 )
+
+-- there is a part
+pub some_part : (value : List ℕ) → 0 < length (parts value)
+some_part value = omega (arith, length-slice_split (λ b. b == 44) value)
+
+pub one_part : (value part : List ℕ) → parts value ≡ part ∷ [] → true ≡ (length (parts value) == 1)
+one_part value part e = rw e refl
+
+more_parts : (n : ℕ) → 0 < n → false ≡ (n + 1 == 1)
+more_parts n h = grind (arith, nat_tests, h)
+
+pub two_parts : (value part more : List ℕ) → parts value ≡ part ∷ parts more → false ≡ (length (parts value) == 1)
+two_parts value part more e = more_parts (length (parts more)) (some_part more) ∙ ap (λ (n : ℕ). n == 1) (omega (arith, ap length e))
+
+-- the last part is the last one of what follows the first
+pub ends_behind : (word part : List ℕ) (more : List (List ℕ)) → 0 < length more → ends_in word (part ∷ more) ≡ ends_in word more
+ends_behind word part [] some = absurd (omega arith)
+ends_behind word part (next ∷ more) some = refl
+
+pub ends_append : (word : List ℕ) (before more : List (List ℕ)) → 0 < length more → ends_in word (before ++ more) ≡ ends_in word more
+ends_append word [] more some = refl
+ends_append word (part ∷ before) more some = ends_behind word part (before ++ more) (omega (arith, length-append before more)) ∙ ends_append word before more some
+
+-- the last part of several values is that of the last value
+pub ends_last : (before : List (List ℕ)) (value : List ℕ) → ends_in (codes "chunked") (flat_map parts (before ++ value ∷ [])) ≡ ends_in (codes "chunked") (parts value)
+ends_last before value =
+    ap (ends_in (codes "chunked")) (flat_map-append parts before (value ∷ []) ∙ ap (λ (ps : List (List ℕ)). flat_map parts before ++ ps) (append-nil (parts value)))
+    ∙ ends_append (codes "chunked") (flat_map parts before) (parts value) (some_part value)

@@ -1,12 +1,16 @@
 -- The values of the fields of one name, field by field.
-use Rattle.std.proofs.Common.{◌≡◌, ℕ, ◌+◌, ◌<◌, Bool, true, false, cond, List, [], ◌∷◌, ◌++◌, map, length, take, get_or, Some, None, refl, ap, ◌∙◌, arith}
+use Rattle.std.proofs.Common.{◌≡◌, ℕ, ◌+◌, ◌<◌, Bool, true, false, cond, List, [], ◌∷◌, ◌++◌, map, length, take, get_or, Some, None, refl, ap, ◌∙◌, arith, length-append}
 use Rattle.std.proofs.lemmas.List.{map-append, append-nil, take_more}
 use Rattle.std.proofs.lemmas.List.Elements.{filter_map-append}
-use Rattle.std.specs.List.{slice_get, cons_option}
+use Rattle.std.specs.List.{slice_get, cons_option, flat_map}
+use Rattle.std.specs.Prelude.{◌==◌, ◌≢◌}
+use Rattle.std.proofs.lemmas.Bool.Decides.{nat_tests}
+use Rattle.http_wire.specs.Connection.{parts}
+use Rattle.http_wire.proofs.ConnectionLemmas.{some_part}
 use Rattle.httparse.specs.Spans.{header_bytes}
 use Rattle.httparse.specs.declared.spans.HeaderSpan.{HeaderSpan}
 use Rattle.http_wire.specs.Target.{is_word}
-use Rattle.http_wire.specs.Front.{values, named_value, length_of, lengths_of, framing_of}
+use Rattle.http_wire.specs.Front.{values, named_value, length_of, lengths_of}
 
 picked : (b : Bool) (v : List ℕ) → cons_option (cond b (Some v) None) [] ≡ cond b (v ∷ []) []
 picked true v = refl
@@ -44,7 +48,16 @@ single_length [] v one e = absurd (omega arith)
 single_length (x ∷ y ∷ more) v one e = absurd (omega arith)
 single_length (x ∷ []) v one e = let same : x ≡ v = cc in ap length_of same
 
--- with no coding, one length decides
-pub framed_single : (minor : ℕ) (codings lengths : List (List ℕ)) (v : List ℕ) → length codings ≡ 0 → length lengths ≡ 1 → slice_get lengths 0 ≡ Some v → framing_of minor codings lengths ≡ length_of v
-framed_single minor [] lengths v none one e = single_length lengths v one e
-framed_single minor (coding ∷ codings) lengths v none one e = absurd (omega arith)
+-- one value of one part is one part in all
+pub single_one : (all : List (List ℕ)) (v : List ℕ) → length all ≡ 1 → slice_get all 0 ≡ Some v → length (flat_map parts all) ≡ length (parts v)
+single_one [] v one e = absurd (omega arith)
+single_one (x ∷ y ∷ more) v one e = absurd (omega arith)
+single_one (x ∷ []) v one e = let same : x ≡ v = cc in ap length (append-nil (parts x)) ∙ ap (λ (w : List ℕ). length (parts w)) same
+
+-- and more values are more than one part
+pub single_more : (all : List (List ℕ)) (v : List ℕ) → length all ≢ 1 → slice_get all 0 ≡ Some v → false ≡ (length (flat_map parts all) == 1)
+single_more [] v other e = absurd (cc)
+single_more (x ∷ []) v other e = absurd (other refl)
+single_more (x ∷ y ∷ more) v other e =
+    let many : 1 < length (flat_map parts (x ∷ y ∷ more)) = omega (arith, length-append (parts x) (flat_map parts (y ∷ more)), length-append (parts y) (flat_map parts more), some_part x, some_part y) in
+    grind (arith, nat_tests, many)

@@ -7,9 +7,14 @@ mod TargetTexts
 mod ConnectionLemmas
 mod FrontLemmas
 mod LookLemmas
+mod ChunkLookLemmas
+mod ChunkReadLemmas
 mod BodyLemmas
 mod RequestLemmas
 mod ReadingLemmas
 mod WorkedLemmas
 mod StayLemmas
+mod ChunkLemmas
+mod ChunkStays
+mod ChunkTruths
 mod LawLemmas

@@ -28,7 +28,7 @@ token_no_feed : is_token_byte 10 ≡ false
 unfolding is_token_byte
 token_no_feed = refl
 
-end_feeds : (e : LineEnd) → line_feeds (print_end e) ≡ 1
+pub end_feeds : (e : LineEnd) → line_feeds (print_end e) ≡ 1
 end_feeds crlf = refl
 end_feeds lf = refl
 
@@ -40,7 +40,7 @@ field_feeds f ok =
     feeds-append (f.name ++ 58 ∷ f.raw) (print_end f.end)
     ∙ omega (arith, feeds-append f.name (58 ∷ f.raw), feeds_none is_token_byte f.name token_no_feed ok.name.1, other_feeds 58 f.raw (omega arith), feeds_none is_value_byte f.raw refl ok.raw, end_feeds f.end)
 
-fields_feeds : (fs : List Field) → All IsField fs → line_feeds (flat_map print_field fs) ≡ length fs
+pub fields_feeds : (fs : List Field) → All IsField fs → line_feeds (flat_map print_field fs) ≡ length fs
 fields_feeds [] all = refl
 fields_feeds (f ∷ fs) all =
     feeds-append (print_field f) (flat_map print_field fs)
@@ -89,16 +89,16 @@ head_lines h ok =
     ∙ omega (arith, feeds-append (print_section h.fields h.last) [], feeds-append (flat_map print_field h.fields) (print_end h.last), fields_feeds h.fields ok.fields, end_feeds h.last)
 
 -- all of a line end but its LF
-before_feed : LineEnd → List ℕ
+pub before_feed : LineEnd → List ℕ
 before_feed crlf = 13 ∷ []
 before_feed lf = []
 
-before_feed_is : (e : LineEnd) → print_end e ≡ before_feed e ++ 10 ∷ []
+pub before_feed_is : (e : LineEnd) → print_end e ≡ before_feed e ++ 10 ∷ []
 unfolding before_feed
 before_feed_is crlf = refl
 before_feed_is lf = refl
 
-before_feed_feeds : (e : LineEnd) → line_feeds (before_feed e) ≡ 0
+pub before_feed_feeds : (e : LineEnd) → line_feeds (before_feed e) ≡ 0
 unfolding before_feed
 before_feed_feeds crlf = refl
 before_feed_feeds lf = refl
@@ -121,7 +121,7 @@ cut_head h ok =
     )
 
 -- a front has no more lines
-feeds_take : (k : ℕ) (xs : List ℕ) → line_feeds (take k xs) ≤ line_feeds xs
+pub feeds_take : (k : ℕ) (xs : List ℕ) → line_feeds (take k xs) ≤ line_feeds xs
 feeds_take zero xs = omega arith
 feeds_take (suc k) [] = omega arith
 feeds_take (suc k) (b ∷ xs) = omega (arith, feeds_take k xs)

@@ -10,7 +10,7 @@ use Rattle.httparse.specs.Spans.{header_bytes, name_and_value, span_bytes, IsReq
 use Rattle.httparse.specs.declared.spans.Span.{Span}
 use Rattle.httparse.specs.declared.spans.HeaderSpan.{HeaderSpan}
 use Rattle.httparse.specs.declared.spans.RequestSpans.{RequestSpans}
-use Rattle.http_wire.specs.Front.{window}
+use Rattle.http_wire.specs.Limits.{window}
 use Rattle.http_wire.specs.Lines.{lines_come}
 use Rattle.http_wire.specs.Look.{IsParsed}
 use Rattle.http_wire.proofs.LineLemmas.{head_lines, cut_head, lines_take, lines_push}
@@ -20,13 +20,13 @@ after_front : (bytes front rest : List ℕ) → bytes ≡ front ++ rest → drop
 after_front bytes front rest e = rw e (drop-append_seam front rest)
 
 -- a front of a front is a front
-front_of_front : (bytes front : List ℕ) (n m : ℕ) → m ≡ length front → take n bytes ≡ front ++ drop m (take n bytes) → bytes ≡ front ++ drop m bytes
+pub front_of_front : (bytes front : List ℕ) (n m : ℕ) → m ≡ length front → take n bytes ≡ front ++ drop m (take n bytes) → bytes ≡ front ++ drop m bytes
 front_of_front bytes front n m len e =
     let all : bytes ≡ front ++ (drop m (take n bytes) ++ drop n bytes) = sym (take-append-drop n bytes) ∙ ap (λ xs. xs ++ drop n bytes) e ∙ append_assoc front _ _ in
     all ∙ ap (λ xs. front ++ xs) (sym (rw len (after_front bytes front _ (rw (← len) all))))
 
 -- the first n bytes, or all, are the window
-take_min : (k : ℕ) (xs : List ℕ) (n : ℕ) → n ≡ min (length xs) k → take n xs ≡ take k xs
+pub take_min : (k : ℕ) (xs : List ℕ) (n : ℕ) → n ≡ min (length xs) k → take n xs ≡ take k xs
 take_min k xs n e = ⊎_elim below above (cases_lt (length xs) k)
   where
     below : length xs < k → take n xs ≡ take k xs

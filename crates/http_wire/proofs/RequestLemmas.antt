@@ -1,6 +1,6 @@
 -- A head that has come, and then its body.
-use Rattle.std.proofs.Common.{◌≡◌, ℕ, ◌<◌, Bool, true, false, cond, List, ◌++◌, length, drop, Result, Ok, Err, refl, sym, ap, subst, ◌∙◌, inr}
-use Rattle.httparse.specs.Grammar.{RequestHead}
+use Rattle.std.proofs.Common.{◌≡◌, ℕ, Bool, true, false, cond, List, ◌++◌, drop, Result, Ok, Err, refl, sym, ap, subst, ◌∙◌, inl, inr, append_assoc}
+use Rattle.httparse.specs.Grammar.{RequestHead, print_request}
 use Rattle.httparse.specs.Spans.{span_bytes}
 use Rattle.httparse.proofs.GrammarLemmas.{ReadsRequest-append}
 use Rattle.http_wire.specs.declared.fault.Fault.TheVariants.{BadTarget}
@@ -9,9 +9,14 @@ use Rattle.http_wire.specs.declared.fault.WireFault.TheVariants as fault
 use Rattle.http_wire.specs.declared.look.Head.{Head}
 use Rattle.http_wire.specs.declared.request.Incoming.TheVariants as came
 use Rattle.http_wire.specs.declared.request.Request.{Request}
-use Rattle.http_wire.specs.Body.{BodyCame}
-use Rattle.http_wire.specs.Front.{HasHead, HasMessage, IsIncomplete, IsStarved, closes_after, is_head}
-use Rattle.http_wire.specs.Target.{target_of}
+use Rattle.http_wire.specs.Chunked.{BodyRead}
+use Rattle.http_wire.specs.Chunks.{ChunkLaw}
+use Rattle.http_wire.specs.declared.chunks.Chunked.{Chunked}
+use Rattle.http_wire.specs.declared.chunks.Chunked.TheVariants as chunked
+use Rattle.http_wire.specs.declared.head.Framing.{Framing}
+use Rattle.http_wire.specs.declared.head.Framing.TheVariants as framing
+use Rattle.http_wire.specs.declared.fault.Fault.{Fault}
+use Rattle.http_wire.specs.Front.{HasHead, HasMessage, HasRequest, HasBody, HasFault, Lacks, IsFaulty, IsIncomplete, IsStarved, closes_after, is_head}
 use Rattle.http_wire.proofs.TargetTexts.{target_ascii}
 use Rattle.http_wire.specs.Incoming.{ReadsFront, IsTargetOf, finished}
 use Rattle.http_wire.specs.Look.{IsFound}
@@ -20,11 +25,11 @@ pub head_before : (input : List ℕ) (h : RequestHead) (rest more : List ℕ) �
 head_before input h rest more s = record { reads = ReadsRequest-append input h rest more s.reads; short = s.short; few = s.few }
 
 -- less than the body has come
-lacks : (input more : List ℕ) (found : Head) → IsFound input found → length (drop found.len input ++ more) < found.body_len → IsIncomplete (input ++ more)
+lacks : (input more : List ℕ) (found : Head) → IsFound input found → Lacks found.framing (drop found.len input ++ more) → IsIncomplete (input ++ more)
 lacks input more found f short = inr (record {
   head = f.head;
   rest = drop found.len input ++ more;
-  size = found.body_len;
+  framing = found.framing;
   stands = head_before input f.head (drop found.len input) more f.stands;
   judges = f.judges;
   lacks = short;
@@ -39,23 +44,68 @@ starved input more found f = record {
   shown = f.shown;
 }
 
+-- what has come of the body has a fault
+faulty : (input more : List ℕ) (found : Head) (f : Fault) → IsFound input found → IsFaulty found.framing (drop found.len input ++ more) f → HasFault (input ++ more) f found.bare
+faulty input more found fault f x = inr (inr (inl (record {
+  head = f.head;
+  rest = drop found.len input ++ more;
+  framing = found.framing;
+  stands = head_before input f.head (drop found.len input) more f.stands;
+  judges = f.judges;
+  faulty = x;
+  shown = f.shown;
+})))
+
 -- the body has come
-whole : (input more : List ℕ) (found : Head) (body rest : List ℕ) → (f : IsFound input found) → drop found.len input ++ more ≡ body ++ rest → length body ≡ found.body_len → HasMessage (input ++ more) f.head body rest
-whole input more found body rest f same size = record {
-  head = subst (HasHead (input ++ more) f.head) same (head_before input f.head (drop found.len input) more f.stands);
-  fits = f.judges ∙ ap (λ n. Ok n) (sym size);
+whole : (input more : List ℕ) (found : Head) (body rest : List ℕ) → (f : IsFound input found) → HasBody found.framing (drop found.len input ++ more) body rest → HasMessage (input ++ more) f.head body rest
+whole input more found body rest f stands = record {
+  text = drop found.len input ++ more;
+  head = head_before input f.head (drop found.len input) more f.stands;
+  framing = found.framing;
+  judges = f.judges;
+  stands = stands;
 }
 
-judge_target : (input : List ℕ) (r : Request) (h : RequestHead) (rest : List ℕ) (good bare : Bool) → IsTargetOf h.target good r.target.items → HasMessage input h r.body.items rest → r.method ≡ h.method → r.closes ≡ closes_after h
+-- the front of the bytes that a body is
+body_front : ChunkLaw → (m : Framing) (text b r : List ℕ) → HasBody m text b r → (front : List ℕ) × (text ≡ front ++ r) × ((more : List ℕ) → HasBody m (front ++ more) b more)
+body_front law (framing.Sized n) text b r x = (b, x.0, λ more. (refl, x.1))
+body_front law framing.Chunked text b r x = law.body_front 0 text b r x
+
+pub request_front : ChunkLaw → (input : List ℕ) (h : RequestHead) (t b r : List ℕ) → HasRequest input h t b r → (front : List ℕ) × (input ≡ front ++ r) × ((more : List ℕ) → HasRequest (front ++ more) h t b more)
+request_front law input h t b r x =
+    let m = x.message in
+    let body = body_front law m.framing m.text b r m.stands in
+    let head = print_request h in (
+      head ++ body.0,
+      m.head.reads.1 ∙ ap (λ (xs : List ℕ). head ++ xs) body.1 ∙ sym (append_assoc head body.0 r),
+      λ more. record {
+        message = record {
+          text = body.0 ++ more;
+          head = record { reads = (m.head.reads.0, append_assoc head body.0 more); short = m.head.short; few = m.head.few };
+          framing = m.framing;
+          judges = m.judges;
+          stands = body.2 more;
+        };
+        target_is = x.target_is;
+      },
+    )
+
+judge_target : ChunkLaw → (input : List ℕ) (r : Request) (h : RequestHead) (rest : List ℕ) (good bare : Bool) → IsTargetOf h.target good r.target.items → HasMessage input h r.body.items rest → r.method ≡ h.method → r.closes ≡ closes_after h
     → bare ≡ is_head h.method → ReadsFront input (cond good (Ok (came.Request r)) (Ok (came.Refused BadTarget bare))) rest
-judge_target input r h rest true bare good m method closes shown = record {
-  head = h;
-  request = record { message = m; target_is = good };
-  method = method;
-  closes = closes;
-  ascii = target_ascii h.target r.target.items good;
-}
-judge_target input r h rest false bare bad m method closes shown = inr (inr (record {
+judge_target law input r h rest true bare good m method closes shown =
+    let request : HasRequest input h r.target.items r.body.items rest = record { message = m; target_is = good } in
+    let cut = request_front law input h r.target.items r.body.items rest request in
+    record {
+      head = h;
+      request = request;
+      method = method;
+      closes = closes;
+      ascii = target_ascii h.target r.target.items good;
+      front = cut.0;
+      cut = cut.1;
+      alone = cut.2;
+    }
+judge_target law input r h rest false bare bad m method closes shown = inr (inr (inr (record {
   head = h;
   body = r.body.items;
   rest = rest;
@@ -63,14 +113,15 @@ judge_target input r h rest false bare bad m method closes shown = inr (inr (rec
   bad = bad;
   named = refl;
   shown = shown;
-}))
+})))
 
-pub rest_reads : (input more : List ℕ) (found : Head) (r : Request) (good : Bool) (c : Result Bool WireFault) (rest : List ℕ) → IsFound input found → r.method ≡ span_bytes input found.method
-    → IsTargetOf (span_bytes input found.target) good r.target.items → r.closes ≡ found.closes → BodyCame (drop found.len input ++ more) found.body_len c r.body.items rest
+pub rest_reads : ChunkLaw → (input more : List ℕ) (found : Head) (r : Request) (good : Bool) (c : Result Chunked WireFault) (rest : List ℕ) → IsFound input found → r.method ≡ span_bytes input found.method
+    → IsTargetOf (span_bytes input found.target) good r.target.items → r.closes ≡ found.closes → BodyRead found.framing (drop found.len input ++ more) c r.body.items rest
     → ReadsFront (input ++ more) (finished r good found.bare c) rest
-rest_reads input more found r good (Ok true) rest f method target closes b =
-    judge_target (input ++ more) r f.head rest good found.bare (subst (λ (raw : List ℕ). IsTargetOf raw good r.target.items) f.target target) (whole input more found r.body.items rest f b.0 b.1) (method ∙ f.method) (closes ∙ f.closes) f.shown
-rest_reads input more found r good (Ok false) rest f method target closes b = lacks input more found f b
-rest_reads input more found r good (Err fault.Read) rest f method target closes b = lacks input more found f b
-rest_reads input more found r good (Err fault.Memory) rest f method target closes b = starved input more found f
-rest_reads input more found r good (Err fault.TurnLimit) rest f method target closes b = lacks input more found f b
+rest_reads law input more found r good (Ok chunked.Whole) rest f method target closes b =
+    judge_target law (input ++ more) r f.head rest good found.bare (subst (λ (raw : List ℕ). IsTargetOf raw good r.target.items) f.target target) (whole input more found r.body.items rest f b) (method ∙ f.method) (closes ∙ f.closes) f.shown
+rest_reads law input more found r good (Ok chunked.Lacking) rest f method target closes b = lacks input more found f b
+rest_reads law input more found r good (Ok (chunked.Refused fault)) rest f method target closes b = faulty input more found fault f b
+rest_reads law input more found r good (Err fault.Read) rest f method target closes b = lacks input more found f b
+rest_reads law input more found r good (Err fault.Memory) rest f method target closes b = starved input more found f
+rest_reads law input more found r good (Err fault.TurnLimit) rest f method target closes b = lacks input more found f b

@@ -10,26 +10,34 @@ use Rattle.httparse.specs.Spans.{RequestOverflows}
 use Rattle.httparse.proofs.GrammarLemmas.{print_request-append}
 use Rattle.http_wire.specs.declared.fault.Fault.{Fault}
 use Rattle.http_wire.specs.declared.fault.Fault.TheVariants.{BadHead, HeadTooLarge}
-use Rattle.http_wire.specs.Front.{window, HasHead, HasMessage, HasRequest, IsNoHead, IsTooLong, HasTooManyLines, RefusesBytes, HasFault}
+use Rattle.http_wire.specs.Limits.{window}
+use Rattle.http_wire.specs.Front.{HasMessage, HasRequest, IsNoHead, IsTooLong, HasTooManyLines, RefusesBytes, HasFault, HasBody, IsFaulty}
 use Rattle.http_wire.specs.Lines.{lines_come}
+use Rattle.http_wire.specs.Chunks.{ChunkLaw}
+use Rattle.http_wire.specs.declared.head.Framing.{Framing}
+use Rattle.http_wire.specs.declared.head.Framing.TheVariants.{Sized, Chunked}
 use Rattle.http_wire.proofs.FrontLemmas.{bytes_are}
 use Rattle.http_wire.proofs.LineLemmas.{lines_take}
 use Rattle.http_wire.proofs.RequestLemmas.{head_before}
 
--- the window of more bytes begins with the window
-window_grows : (input more : List ℕ) → (y : List ℕ) × (window (input ++ more) ≡ window input ++ y)
-window_grows input more = ⊎_elim short long (cases_lt (length input) 16384)
+-- the first bytes of more bytes begin with the first bytes
+pub take_grows : (k : ℕ) (input more : List ℕ) → (y : List ℕ) × (take k (input ++ more) ≡ take k input ++ y)
+take_grows k input more = ⊎_elim short long (cases_lt (length input) k)
   where
-    short : length input < 16384 → (y : List ℕ) × (window (input ++ more) ≡ window input ++ y)
+    short : length input < k → (y : List ℕ) × (take k (input ++ more) ≡ take k input ++ y)
     short h =
-        let n = 16384 - length input in
-        let whole : 16384 ≡ length input + n = omega arith in
-        (take n more, ap (λ k. take k (input ++ more)) whole ∙ take-append-add input more n ∙ ap (λ (xs : List ℕ). xs ++ take n more) (sym (take_all 16384 input (omega arith))))
+        let n = k - length input in
+        let whole : k ≡ length input + n = omega arith in
+        (take n more, ap (λ m. take m (input ++ more)) whole ∙ take-append-add input more n ∙ ap (λ (xs : List ℕ). xs ++ take n more) (sym (take_all k input (omega arith))))
 
-    long : 16384 ≤ length input → (y : List ℕ) × (window (input ++ more) ≡ window input ++ y)
-    long h = ([], take-append-le 16384 input more h ∙ sym (append-nil (window input)))
+    long : k ≤ length input → (y : List ℕ) × (take k (input ++ more) ≡ take k input ++ y)
+    long h = ([], take-append-le k input more h ∙ sym (append-nil (take k input)))
 
-window_full : (input more : List ℕ) → 16384 ≤ length input → window (input ++ more) ≡ window input
+-- the window of more bytes begins with the window
+pub window_grows : (input more : List ℕ) → (y : List ℕ) × (window (input ++ more) ≡ window input ++ y)
+window_grows input more = take_grows 16384 input more
+
+pub window_full : (input more : List ℕ) → 16384 ≤ length input → window (input ++ more) ≡ window input
 window_full input more h = take-append-le 16384 input more h
 
 never_grows : (w y : List ℕ) → NeverHasRequest w → NeverHasRequest (w ++ y)
@@ -133,30 +141,50 @@ bytes_stay input more f (inl x) = subst (RefusesBytes (input ++ more)) (sym x.0)
 bytes_stay input more f (inr (e, inl x)) = subst (RefusesBytes (input ++ more)) (sym e) (inl (too_long_stays input more x))
 bytes_stay input more f (inr (e, inr x)) = subst (RefusesBytes (input ++ more)) (sym e) (inr (too_many_stays input more x))
 
-message_stays : (input : List ℕ) (h : RequestHead) (b r more : List ℕ) → HasMessage input h b r → HasMessage (input ++ more) h b (r ++ more)
-message_stays input h b r more m = record {
-  head = subst (HasHead (input ++ more) h) (append_assoc b r more) (head_before input h (b ++ r) more m.head);
-  fits = m.fits;
+body_stays : ChunkLaw → (m : Framing) (text b r more : List ℕ) → HasBody m text b r → HasBody m (text ++ more) b (r ++ more)
+body_stays law (Sized n) text b r more x = (ap (λ (xs : List ℕ). xs ++ more) x.0 ∙ append_assoc b r more, x.1)
+body_stays law Chunked text b r more x = law.body_stays 0 text b r more x
+
+faulty_stays : ChunkLaw → (m : Framing) (text : List ℕ) (f : Fault) (more : List ℕ) → IsFaulty m text f → IsFaulty m (text ++ more) f
+faulty_stays law (Sized n) text f more x = absurd x
+faulty_stays law Chunked text f more x = law.fault_stays 0 text f more x
+
+message_stays : ChunkLaw → (input : List ℕ) (h : RequestHead) (b r more : List ℕ) → HasMessage input h b r → HasMessage (input ++ more) h b (r ++ more)
+message_stays law input h b r more m = record {
+  text = m.text ++ more;
+  head = head_before input h m.text more m.head;
+  framing = m.framing;
+  judges = m.judges;
+  stands = body_stays law m.framing m.text b r more m.stands;
 }
 
-pub request_stays : (input : List ℕ) (h : RequestHead) (t b r more : List ℕ) → HasRequest input h t b r → HasRequest (input ++ more) h t b (r ++ more)
-request_stays input h t b r more x = record { message = message_stays input h b r more x.message; target_is = x.target_is }
+pub request_stays : ChunkLaw → (input : List ℕ) (h : RequestHead) (t b r more : List ℕ) → HasRequest input h t b r → HasRequest (input ++ more) h t b (r ++ more)
+request_stays law input h t b r more x = record { message = message_stays law input h b r more x.message; target_is = x.target_is }
 
-pub fault_stays : (input : List ℕ) (f : Fault) (bare : Bool) (more : List ℕ) → HasFault input f bare → HasFault (input ++ more) f bare
-fault_stays input f bare more (inl x) = inl (bytes_stay input more f (bytes_are input f x.0), x.1)
-fault_stays input f bare more (inr (inl x)) = inr (inl (record {
+pub fault_stays : ChunkLaw → (input : List ℕ) (f : Fault) (bare : Bool) (more : List ℕ) → HasFault input f bare → HasFault (input ++ more) f bare
+fault_stays law input f bare more (inl x) = inl (bytes_stay input more f (bytes_are input f x.0), x.1)
+fault_stays law input f bare more (inr (inl x)) = inr (inl (record {
   head = x.head;
   rest = x.rest ++ more;
   stands = head_before input x.head x.rest more x.stands;
   judges = x.judges;
   shown = x.shown;
 }))
-fault_stays input f bare more (inr (inr x)) = inr (inr (record {
+fault_stays law input f bare more (inr (inr (inl x))) = inr (inr (inl (record {
+  head = x.head;
+  rest = x.rest ++ more;
+  framing = x.framing;
+  stands = head_before input x.head x.rest more x.stands;
+  judges = x.judges;
+  faulty = faulty_stays law x.framing x.rest f more x.faulty;
+  shown = x.shown;
+})))
+fault_stays law input f bare more (inr (inr (inr x))) = inr (inr (inr (record {
   head = x.head;
   body = x.body;
   rest = x.rest ++ more;
-  message = message_stays input x.head x.body x.rest more x.message;
+  message = message_stays law input x.head x.body x.rest more x.message;
   bad = x.bad;
   named = x.named;
   shown = x.shown;
-}))
+})))

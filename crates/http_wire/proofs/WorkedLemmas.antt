@@ -9,6 +9,7 @@ use Rattle.httparse.proofs.OnLiterals.{httparse_on_literals}
 use Rattle.http_wire.specs.declared.fault.Fault.TheVariants.{BadHost, BadLength}
 use Rattle.http_wire.specs.Front.{HasRequest, RefusesHead}
 use Rattle.http_wire.specs.Law.{WorkedFronts}
+use Rattle.http_wire.specs.declared.head.Framing.TheVariants.{Sized}
 
 -- a head by its method, its target and its fields
 abbrev head : List ℕ → List ℕ → List Field → RequestHead
@@ -43,7 +44,10 @@ plans_fronts = record {
       short = omega arith;
       few = omega arith;
     };
-    fits = refl;
+    text = [];
+    framing = Sized 0;
+    judges = refl;
+    stands = (refl, refl);
   };
   target_is = refl;
 }
@@ -69,7 +73,10 @@ old_fronts = record {
       short = omega arith;
       few = omega arith;
     };
-    fits = refl;
+    text = [];
+    framing = Sized 0;
+    judges = refl;
+    stands = (refl, refl);
   };
   target_is = refl;
 }

@@ -1,5 +1,5 @@
 -- What the words of a list in a field say.
-use Rattle.std.specs.Prelude.{◌≡◌, ℕ, ◌<◌, Bool, ◌||◌, ◌&&◌, ◌==◌, List, [], ◌∷◌, length, Option, Some, None, codes}
+use Rattle.std.specs.Prelude.{◌≡◌, ℕ, ◌<◌, Bool, false, ◌||◌, ◌&&◌, ◌==◌, List, [], ◌∷◌, length, Option, Some, None, codes}
 use Rattle.std.specs.List.{list_any, slice_split}
 use Rattle.httparse.specs.Grammar.{trim_ows}
 use Rattle.http_wire.specs.Target.{is_word}
@@ -15,6 +15,12 @@ parts value = slice_split (λ b. b == 44) value
 abbrev pub IsCut : List ℕ → List ℕ → Option (List ℕ) → Type 0
 IsCut value part None = parts value ≡ part ∷ []
 IsCut value part (Some more) = (parts value ≡ part ∷ parts more) × (length more < length value)
+
+-- the last of the parts is the word
+abbrev pub ends_in : List ℕ → List (List ℕ) → Bool
+ends_in word [] = false
+ends_in word (part ∷ []) = is_element word part
+ends_in word (part ∷ next ∷ more) = ends_in word (next ∷ more)
 
 -- a list names the word `close` (RFC 9112, section 9.6)
 abbrev pub names_close : List ℕ → Bool

@@ -1,27 +1,19 @@
 -- What stands at the front of the input: a request, a fault, or not enough to tell (RFC 9112, sections 2 to 6).
-use Rattle.std.specs.Prelude.{◌≡◌, ℕ, ◌+◌, ◌-◌, ◌*◌, ◌<◌, ◌≤◌, ◌⊎◌, Bool, true, false, not, ◌&&◌, ◌||◌, if◌then◌else◌, ◌==◌, nat_lt, nat_le, List, [], ◌∷◌, ◌++◌, map, length, take, Option, Some, None, Result, Ok, Err, codes, fold}
-use Rattle.std.specs.List.{filter_map, list_all}
+use Rattle.std.specs.Prelude.{◌≡◌, ℕ, ◌+◌, ◌-◌, ◌*◌, ◌<◌, ◌≤◌, ◌⊎◌, Bool, false, not, ◌&&◌, ◌||◌, if◌then◌else◌, ◌==◌, nat_lt, nat_le, List, [], ◌∷◌, ◌++◌, map, length, Option, Some, None, Result, Ok, Err, codes, fold}
+use Rattle.std.specs.List.{filter_map, flat_map, list_all}
 use Rattle.std.specs.Char.{is_ascii_digit}
 use Rattle.std.specs.Str.{bytes_eq}
 use Rattle.httparse.specs.Grammar.{RequestHead, ReadsRequest, NeverHasRequest, HasNoRequest, MayBecomeRequest, EndsInTarget, print_request}
 use Rattle.httparse.specs.Spans.{name_and_value, RequestOverflows}
 use Rattle.http_wire.specs.Lines.{lines_come}
+use Rattle.http_wire.specs.Limits.{head_limit, field_limit, body_limit, window}
 use Rattle.http_wire.specs.Target.{is_word, target_of}
-use Rattle.http_wire.specs.Connection.{asks_to_close}
+use Rattle.http_wire.specs.Connection.{asks_to_close, parts, ends_in}
+use Rattle.http_wire.specs.Chunks.{HasChunks, LacksChunks, HasChunkFault}
+use Rattle.http_wire.specs.declared.head.Framing.{Framing}
+use Rattle.http_wire.specs.declared.head.Framing.TheVariants.{Sized, Chunked}
 use Rattle.http_wire.specs.declared.fault.Fault.{Fault}
-use Rattle.http_wire.specs.declared.fault.Fault.TheVariants.{BadHead, HeadTooLarge, BadHost, BadLength, BadCoding, BodyTooLarge, BadTarget}
-
--- a head is looked for in this many bytes
-abbrev pub head_limit : ℕ
-head_limit = 16384
-
--- so many header lines at most
-abbrev pub field_limit : ℕ
-field_limit = 64
-
--- so many bytes of a body at most
-abbrev pub body_limit : ℕ
-body_limit = 33554432
+use Rattle.http_wire.specs.declared.fault.Fault.TheVariants.{BadHead, HeadTooLarge, BadHost, BadLength, BadCoding, BodyTooLarge, BadTarget, BadChunk}
 
 -- a field's value, if it has that name
 abbrev pub named_value : List ℕ → List ℕ × List ℕ → Option (List ℕ)
@@ -52,24 +44,35 @@ lengths_of [] = Ok 0
 lengths_of (value ∷ []) = length_of value
 lengths_of (value ∷ other ∷ more) = Err BadLength
 
--- the length of the body by the Transfer-Encoding and the Content-Length lines (RFC 9112, section 6.3); HTTP/1.0 has no coding
-abbrev pub framing_of : ℕ → List (List ℕ) → List (List ℕ) → Result ℕ Fault
-framing_of minor [] lengths = lengths_of lengths
-framing_of minor (coding ∷ codings) [] = if minor == 0 then Err BadLength else Err BadCoding
-framing_of minor (coding ∷ codings) (value ∷ lengths) = Err BadLength
+abbrev pub sized : Result ℕ Fault → Result Framing Fault
+sized (Ok n) = Ok (Sized n)
+sized (Err f) = Err f
+
+-- what the codings of all Transfer-Encoding lines say: `chunked` comes last, and nothing before it (RFC 9112, section 6.1)
+abbrev pub coded : List (List ℕ) → Result Framing Fault
+coded codings =
+    if not (ends_in (codes "chunked") codings) then Err BadLength
+    else if length codings == 1 then Ok Chunked
+    else Err BadCoding
+
+-- how the body is framed, by the Transfer-Encoding and the Content-Length lines (RFC 9112, section 6.3); HTTP/1.0 has no coding
+abbrev pub framing_of : ℕ → List (List ℕ) → List (List ℕ) → Result Framing Fault
+framing_of minor [] lengths = sized (lengths_of lengths)
+framing_of minor (value ∷ values) [] = if minor == 0 then Err BadLength else coded (flat_map parts (value ∷ values))
+framing_of minor (value ∷ values) (length ∷ lengths) = Err BadLength
 
 -- one Host line, which HTTP/1.0 may leave out (RFC 9112, section 3.2)
 abbrev pub is_host_count : ℕ → ℕ → Bool
 is_host_count minor hosts = hosts == 1 || (minor == 0 && hosts == 0)
 
--- the Host line, then the length
-abbrev pub judged : ℕ → List (List ℕ × List ℕ) → Result ℕ Fault
+-- the Host line, then the body's framing
+abbrev pub judged : ℕ → List (List ℕ × List ℕ) → Result Framing Fault
 judged minor fields =
     if not (is_host_count minor (length (values (codes "host") fields))) then Err BadHost
     else framing_of minor (values (codes "transfer-encoding") fields) (values (codes "content-length") fields)
 
--- the length of the body that the head announces, or the first fault of what it says
-abbrev pub judged_head : RequestHead → Result ℕ Fault
+-- how the body that the head announces is framed, or the first fault of what it says
+abbrev pub judged_head : RequestHead → Result Framing Fault
 judged_head h = judged h.minor (map name_and_value h.fields)
 
 -- the connection closes after the answer to a request of this head
@@ -86,19 +89,33 @@ pub record HasHead (input : List ℕ) (h : RequestHead) (rest : List ℕ) : Type
   pub short : length (print_request h) ≤ head_limit
   pub few : length h.fields ≤ field_limit
 
--- a head that may stand, and a body of the length that it announces
+-- the body stands at the front, as it is framed
+abbrev pub HasBody : Framing → List ℕ → List ℕ → List ℕ → Type 0
+HasBody (Sized n) text body rest = (text ≡ body ++ rest) × (length body ≡ n)
+HasBody Chunked text body rest = HasChunks 0 text body rest
+
+-- not all of it has come, and it has no fault
+abbrev pub Lacks : Framing → List ℕ → Type 0
+Lacks (Sized n) text = length text < n
+Lacks Chunked text = LacksChunks 0 text
+
+-- what has come of it has this fault
+abbrev pub IsFaulty : Framing → List ℕ → Fault → Type 0
+IsFaulty (Sized n) text f = ⊥
+IsFaulty Chunked text f = HasChunkFault 0 text f
+
+-- a head that may stand, and its body
 pub record HasMessage (input : List ℕ) (h : RequestHead) (body rest : List ℕ) : Type 0 where
-  pub head : HasHead input h (body ++ rest)
-  pub fits : judged_head h ≡ Ok (length body)
+  pub text : List ℕ
+  pub head : HasHead input h text
+  pub framing : Framing
+  pub judges : judged_head h ≡ Ok framing
+  pub stands : HasBody framing text body rest
 
 -- a whole request, and the path and query that it asks for
 pub record HasRequest (input : List ℕ) (h : RequestHead) (target body rest : List ℕ) : Type 0 where
   pub message : HasMessage input h body rest
   pub target_is : target_of h.target ≡ Some target
-
--- the bytes in which a head is looked for
-abbrev pub window : List ℕ → List ℕ
-window input = take head_limit input
 
 -- none of the first 16,384 bytes ends a head, though more bytes could
 pub record IsTooLong (input : List ℕ) : Type 0 where
@@ -125,6 +142,7 @@ RefusesBytes input BadLength = ⊥
 RefusesBytes input BadCoding = ⊥
 RefusesBytes input BodyTooLarge = ⊥
 RefusesBytes input BadTarget = ⊥
+RefusesBytes input BadChunk = ⊥
 
 -- a head stands at the front and says what has this fault; bare tells whether the answer has no body
 pub record RefusesHead (input : List ℕ) (f : Fault) (bare : Bool) : Type 0 where
@@ -132,6 +150,16 @@ pub record RefusesHead (input : List ℕ) (f : Fault) (bare : Bool) : Type 0 whe
   pub rest : List ℕ
   pub stands : HasHead input head rest
   pub judges : judged_head head ≡ Err f
+  pub shown : bare ≡ is_head head.method
+
+-- a head stands at the front, and what follows it has this fault of a body
+pub record RefusesBody (input : List ℕ) (f : Fault) (bare : Bool) : Type 0 where
+  pub head : RequestHead
+  pub rest : List ℕ
+  pub framing : Framing
+  pub stands : HasHead input head rest
+  pub judges : judged_head head ≡ Ok framing
+  pub faulty : IsFaulty framing rest f
   pub shown : bare ≡ is_head head.method
 
 -- a head and its body stand at the front, and the target has this fault
@@ -147,7 +175,7 @@ pub record RefusesTarget (input : List ℕ) (f : Fault) (bare : Bool) : Type 0 w
 -- Whatever follows, the front of the input has this fault. The answer is bare, without its body, exactly where a head of the
 -- method HEAD has come
 abbrev pub HasFault : List ℕ → Fault → Bool → Type 0
-HasFault input f bare = (RefusesBytes input f × (bare ≡ false)) ⊎ (RefusesHead input f bare ⊎ RefusesTarget input f bare)
+HasFault input f bare = (RefusesBytes input f × (bare ≡ false)) ⊎ (RefusesHead input f bare ⊎ (RefusesBody input f bare ⊎ RefusesTarget input f bare))
 
 -- memory is wanting for the request whose head stands at the front
 pub record IsStarved (input : List ℕ) (bare : Bool) : Type 0 where
@@ -167,10 +195,10 @@ pub record IsOpen (input : List ℕ) : Type 0 where
 pub record LacksBody (input : List ℕ) : Type 0 where
   pub head : RequestHead
   pub rest : List ℕ
-  pub size : ℕ
+  pub framing : Framing
   pub stands : HasHead input head rest
-  pub judges : judged_head head ≡ Ok size
-  pub lacks : length rest < size
+  pub judges : judged_head head ≡ Ok framing
+  pub lacks : Lacks framing rest
 
 -- no whole request yet, and no fault
 abbrev pub IsIncomplete : List ℕ → Type 0

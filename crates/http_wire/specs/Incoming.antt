@@ -1,5 +1,5 @@
 -- What reading a request gives.
-use Rattle.std.specs.Prelude.{◌≡◌, ℕ, ◌<◌, ◌≤◌, Bool, true, false, if◌then◌else◌, List, Option, Some, None, Result, Ok, Err, ⊤}
+use Rattle.std.specs.Prelude.{◌≡◌, ℕ, ◌++◌, ◌<◌, ◌≤◌, Bool, true, false, if◌then◌else◌, List, Option, Some, None, Result, Ok, Err, ⊤}
 use Rattle.std.specs.Io.KnownBytes.{IsAtEnd}
 use Rattle.httparse.specs.Grammar.{RequestHead}
 use Rattle.http_wire.specs.declared.request.Incoming.{Incoming}
@@ -8,6 +8,8 @@ use Rattle.http_wire.specs.declared.request.Request.{Request}
 use Rattle.http_wire.specs.declared.fault.WireFault.{WireFault}
 use Rattle.http_wire.specs.declared.fault.WireFault.TheVariants as fault
 use Rattle.http_wire.specs.Target.{target_of}
+use Rattle.http_wire.specs.declared.chunks.Chunked.{Chunked}
+use Rattle.http_wire.specs.declared.chunks.Chunked.TheVariants as chunked
 use Rattle.http_wire.specs.Front.{HasRequest, HasFault, IsStarved, IsIncomplete, closes_after}
 use Rattle.std.specs.Str.{IsAscii}
 use Rattle.http_wire.specs.declared.fault.Fault.TheVariants.{BadTarget}
@@ -24,6 +26,10 @@ pub record IsRequestOf (input : List ℕ) (r : Request) (rest : List ℕ) : Type
   pub method : r.method ≡ head.method
   pub closes : r.closes ≡ closes_after head
   pub ascii : IsAscii r.target.items
+  -- the bytes that it is
+  pub front : List ℕ
+  pub cut : input ≡ front ++ rest
+  pub alone : (more : List ℕ) → HasRequest (front ++ more) head r.target.items r.body.items more
 
 abbrev pub Came : List ℕ → Incoming → List ℕ → Type 0
 Came input (came.Request r) rest = IsRequestOf input r rest
@@ -55,9 +61,10 @@ TakesSome (Ok came.End) old new = new ≤ old
 TakesSome (Err e) old new = new ≤ old
 
 -- what a request comes to once its body was read so: is_good tells whether its target may stand
-abbrev pub finished : Request → Bool → Bool → Result Bool WireFault → Result Incoming WireFault
-finished r is_good bare (Ok true) = if is_good then Ok (came.Request r) else Ok (came.Refused BadTarget bare)
-finished r is_good bare (Ok false) = Ok came.End
+abbrev pub finished : Request → Bool → Bool → Result Chunked WireFault → Result Incoming WireFault
+finished r is_good bare (Ok chunked.Whole) = if is_good then Ok (came.Request r) else Ok (came.Refused BadTarget bare)
+finished r is_good bare (Ok chunked.Lacking) = Ok came.End
+finished r is_good bare (Ok (chunked.Refused f)) = Ok (came.Refused f bare)
 finished r is_good bare (Err fault.Read) = Err fault.Read
 finished r is_good bare (Err fault.Memory) = Ok (came.Starved bare)
 finished r is_good bare (Err fault.TurnLimit) = Err fault.TurnLimit

@@ -3,18 +3,36 @@ use Rattle.std.specs.Prelude.{◌≡◌, ◌⊎◌, ℕ, Bool, true, false, List
 use Rattle.httparse.specs.Grammar.{RequestHead}
 use Rattle.http_wire.specs.declared.fault.Fault.{Fault}
 use Rattle.http_wire.specs.declared.fault.Fault.TheVariants.{BadHost, BadLength}
-use Rattle.http_wire.specs.Front.{HasRequest, HasFault, closes_after, IsIncomplete, HasTooManyLines, IsNoHead}
+use Rattle.http_wire.specs.Chunks as chunks
+use Rattle.http_wire.specs.Front.{HasHead, HasRequest, HasFault, closes_after, IsIncomplete, HasTooManyLines, IsNoHead}
 
--- A front is one request, or has one fault, or is incomplete; reading tells which. Where more than 64 header lines have
--- come and no head can stand whatever follows, either of these faults may be told.
+-- more than 64 lines have come, and no head can stand, whatever follows
+pub record HasTwoHeadFaults (input : List ℕ) : Type 0 where
+  pub many : HasTooManyLines input
+  pub never : IsNoHead input
+
+-- the same of the trailers behind a body in chunks
+pub record HasTwoBodyFaults (input : List ℕ) : Type 0 where
+  pub head : RequestHead
+  pub rest : List ℕ
+  pub stands : HasHead input head rest
+  pub two : chunks.HasTwoFaults 0 rest
+
+abbrev pub HasTwoFaults : List ℕ → Type 0
+HasTwoFaults input = HasTwoHeadFaults input ⊎ HasTwoBodyFaults input
+
+-- A front is one request, or has one fault, or is incomplete; reading tells which. Where more than 64 lines of a head or of
+-- trailers have come and none of these can stand whatever follows, either fault may be told.
 pub record FrontLaw : Type 0 where
   pub one_request : (input : List ℕ) (h k : RequestHead) (t u b c r q : List ℕ) → HasRequest input h t b r → HasRequest input k u c q → (h ≡ k) × (t ≡ u) × (b ≡ c) × (r ≡ q)
-  pub one_fault : (input : List ℕ) (f g : Fault) (a b : Bool) → HasFault input f a → HasFault input g b → ((f ≡ g) × (a ≡ b)) ⊎ (HasTooManyLines input × IsNoHead input)
+  pub one_fault : (input : List ℕ) (f g : Fault) (a b : Bool) → HasFault input f a → HasFault input g b → ((f ≡ g) × (a ≡ b)) ⊎ HasTwoFaults input
   pub request_or_fault : (input : List ℕ) (h : RequestHead) (t b r : List ℕ) (f : Fault) (bare : Bool) → HasRequest input h t b r → HasFault input f bare → ⊥
   pub request_or_incomplete : (input : List ℕ) (h : RequestHead) (t b r : List ℕ) → HasRequest input h t b r → IsIncomplete input → ⊥
   pub fault_or_incomplete : (input : List ℕ) (f : Fault) (bare : Bool) → HasFault input f bare → IsIncomplete input → ⊥
   -- and what is told of the bytes so far stays, whatever follows
   pub request_stays : (input : List ℕ) (h : RequestHead) (t b r more : List ℕ) → HasRequest input h t b r → HasRequest (input ++ more) h t b (r ++ more)
+  -- the front of the input that the request is
+  pub request_front : (input : List ℕ) (h : RequestHead) (t b r : List ℕ) → HasRequest input h t b r → (front : List ℕ) × (input ≡ front ++ r) × ((more : List ℕ) → HasRequest (front ++ more) h t b more)
   pub fault_stays : (input : List ℕ) (f : Fault) (bare : Bool) (more : List ℕ) → HasFault input f bare → HasFault (input ++ more) f bare
 
 -- worked fronts

@@ -3,11 +3,15 @@ pub mod Sends
 pub mod Budget
 pub mod Lines
 pub mod InTarget
+pub mod Limits
 pub mod Target
 pub mod Connection
+pub mod Chunks
 pub mod Front
 pub mod Law
 pub mod Body
+pub mod Chunked
+pub mod ChunkParts
 pub mod Look
 pub mod Incoming
 pub mod Phrases

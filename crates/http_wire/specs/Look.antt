@@ -29,7 +29,7 @@ pub record IsParsed (bytes part : List ℕ) (headers : List HeaderSpan) (s : Req
 pub record IsFound (bytes : List ℕ) (found : Head) : Type 0 where
   pub head : RequestHead
   pub stands : HasHead bytes head (drop found.len bytes)
-  pub judges : judged_head head ≡ Ok found.body_len
+  pub judges : judged_head head ≡ Ok found.framing
   pub within : found.len ≤ length bytes
   pub some : 0 < found.len
   pub method : span_bytes bytes found.method ≡ head.method

@@ -83,6 +83,35 @@ fn read_more<R: Source>(
     Ok(true)
 }
 
+/// Reads until the body has n bytes: what has come of it, and the rest from the reader. Answers whether it has.
+pub fn read_behind<R: Source>(
+    reader: &mut R,
+    inbox: &mut Inbox,
+    turns: &mut u64,
+    body: &mut Vec<u8>,
+    n: usize,
+) -> Result<bool, WireFault>
+    requires { vec_len body.old ≤ n }
+    ensures read { (more : List ℕ) × Consumes (R.remaining reader.old) (R.remaining reader.new) more × BodyCame (body.old.items ++ (inbox.old ++ more)) n result body.new.items inbox.new }
+    ensures end { LacksAtEnd (R.remaining reader.new) result }
+    ensures failures { R.failures reader.new ≡ failures_of (R.failures reader.old) result }
+    ensures turns { Spends turns.old turns.new (R.turns reader.old) (R.turns reader.new) }
+    ensures limit { result ≡ Err WireFault.TurnLimit → turns.new ≡ 0 }
+    ensures left { reading_left turns.new inbox.new ≤ reading_left turns.old inbox.old }
+{
+    let wanted = n - body.len();
+    let bytes = inbox.as_slice();
+    let held = bytes.len().min(wanted);
+    let Ok(()) = body.extend_from_slice(&bytes[..held]) else {
+        return Err(WireFault::Memory);
+    };
+    inbox.consume(held);
+    if held == wanted {
+        return Ok(true);
+    }
+    read_more(reader, turns, body, n)
+}
+
 /// Reads a body of n bytes: what has come of it, and the rest from the reader. Answers whether all of it came.
 pub fn read_body<R: Source>(
     reader: &mut R,
@@ -99,14 +128,5 @@ pub fn read_body<R: Source>(
     ensures limit { result ≡ Err WireFault.TurnLimit → turns.new ≡ 0 }
     ensures left { reading_left turns.new inbox.new ≤ reading_left turns.old inbox.old }
 {
-    let bytes = inbox.as_slice();
-    let held = bytes.len().min(n);
-    let Ok(()) = body.extend_from_slice(&bytes[..held]) else {
-        return Err(WireFault::Memory);
-    };
-    inbox.consume(held);
-    if held == n {
-        return Ok(true);
-    }
-    read_more(reader, turns, body, n)
+    read_behind(reader, inbox, turns, body, n)
 }

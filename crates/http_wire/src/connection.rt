@@ -1,10 +1,10 @@
 //! Whether a request asks for the end of its connection.
-ghost use Rattle.std.specs.Prelude.{◌≡◌, ◌==◌, ◌≤◌, length, map, All, reverse};
+ghost use Rattle.std.specs.Prelude.{◌≡◌, ◌==◌, ◌≤◌, length, map, All, reverse, codes};
 ghost use Rattle.std.specs.List.{position_or_len};
 ghost use Rattle.std.specs.Option.{option_copied};
 ghost use Rattle.httparse.specs.Grammar.{skip_ows, trim_ows};
 ghost use Rattle.httparse.specs.Spans.{header_bytes, IsHeaderWithin};
-ghost use Rattle.http_wire.specs.Connection.{IsCut, names_close as names_close_in, asks_to_close as asks_to_close_in};
+ghost use Rattle.http_wire.specs.Connection.{IsCut, parts, ends_in, names_close as names_close_in, asks_to_close as asks_to_close_in};
 
 use crate::head::is_named;
 use httparse::is_space_or_tab;
@@ -61,6 +61,30 @@ fn cut(bytes: &[u8]) -> (&[u8], Option<&[u8]>)
         return (bytes, None);
     }
     (&bytes[..end], Some(&bytes[end + 1..]))
+}
+
+/// Whether the list has one part.
+pub fn is_one(value: &[u8]) -> bool
+    ensures { result ≡ (length (parts value.now) == 1) }
+{
+    match cut(value).1 {
+        None => true,
+        Some(_) => false,
+    }
+}
+
+/// Whether the last part of the list is `chunked`.
+pub fn ends_in_chunked(value: &[u8]) -> bool
+    ensures { result ≡ ends_in (codes "chunked") (parts value.now) }
+{
+    let mut rest = value;
+    loop {
+        let (part, more) = cut(rest);
+        match more {
+            Some(next) => rest = next,
+            None => return is_named(b"chunked", trim(part)),
+        }
+    }
 }
 
 /// Whether the list names `close`.

@@ -12,15 +12,17 @@ pub enum Fault {
     HeadTooLarge,
     /// More than one Host line, or none in HTTP/1.1. 400
     BadHost,
-    /// More than one Content-Length line, or one that is not 1 to 20 digits, or one beside a Transfer-Encoding line, or a
-    /// Transfer-Encoding line in HTTP/1.0. 400
+    /// More than one Content-Length line, or one that is not 1 to 20 digits, or one beside a Transfer-Encoding line; a
+    /// Transfer-Encoding line whose last coding is not `chunked`, or in HTTP/1.0. 400
     BadLength,
-    /// A Transfer-Encoding line in HTTP/1.1. 501
+    /// A coding before `chunked`, which comes last. 501
     BadCoding,
     /// A body of more than 33,554,432 bytes. 413
     BodyTooLarge,
     /// A target that begins with neither a slash nor `http://`, or has a byte outside ASCII. 400
     BadTarget,
+    /// A line of a chunk that is none, or is longer than 256 bytes, or no CR LF after a chunk's data. 400
+    BadChunk,
 }
 
 /// Why reading ended without an answer to it.

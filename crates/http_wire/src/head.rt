@@ -1,16 +1,27 @@
 //! What the fields of a head announce.
-ghost use Rattle.std.specs.Prelude.{◌≡◌, true, ◌<◌, ◌≤◌, length, map, Some, All, slice_get, codes};
+ghost use Rattle.std.specs.Prelude.{◌≡◌, ◌==◌, ℕ, true, ◌<◌, ◌≤◌, List, length, map, Some, All, slice_get, codes};
 ghost use Rattle.std.specs.Char.{is_ascii_digit};
-ghost use Rattle.std.specs.List.{list_all};
+ghost use Rattle.std.specs.List.{list_all, flat_map};
 ghost use Rattle.httparse.specs.Spans.{header_bytes, IsHeaderWithin};
-ghost use Rattle.http_wire.specs.Front.{is_length as is_length_text, number_of, values, length_of as length_by, framing_of as framing_by, is_host_count as is_host_count_of, judged};
+ghost use Rattle.http_wire.specs.Front.{is_length as is_length_text, number_of, values, length_of as length_by, lengths_of, sized as sized_by, framing_of as framing_by, is_host_count as is_host_count_of, judged};
 ghost use Rattle.http_wire.specs.Target.{is_word};
+ghost use Rattle.http_wire.specs.Connection.{parts, ends_in};
 
+use crate::connection::{ends_in_chunked, is_one};
 use crate::fault::Fault;
 use httparse::spans::HeaderSpan;
 
 /// Bodies are at most this long.
 pub const BODY_LIMIT: usize = 33_554_432;
+
+/// How a body is framed (RFC 9112, section 6).
+#[derive(Clone, Copy, Debug, PartialEq, Eq)]
+pub enum Framing {
+    /// It has so many bytes, at most 33,554,432.
+    Sized(usize),
+    /// It comes in chunks.
+    Chunked,
+}
 
 /// Whether a field's name is the word, in any case.
 pub(crate) fn is_named(word: &[u8], name: &[u8]) -> bool
@@ -84,25 +95,61 @@ fn length_of(value: &[u8]) -> Result<usize, Fault>
     Ok(n as usize)
 }
 
-/// The length of the body by the lines that frame it.
-fn framing_of(minor: u8, buf: &[u8], headers: &[HeaderSpan]) -> Result<usize, Fault>
+/// The framing by the Content-Length lines, of which there are so many.
+fn sized(lengths: usize, value: &[u8]) -> Result<Framing, Fault>
+    ensures { (all : List (List ℕ)) → lengths ≡ length all → (0 < lengths → slice_get all 0 ≡ Some value.now) → result ≡ sized_by (lengths_of all) }
+{
+    match lengths {
+        0 => Ok(Framing::Sized(0)),
+        1 => match length_of(value) {
+            Ok(n) => Ok(Framing::Sized(n)),
+            Err(fault) => Err(fault),
+        },
+        _ => Err(Fault::BadLength),
+    }
+}
+
+/// Whether the last coding of the last Transfer-Encoding line is `chunked`.
+fn ends_chunked(buf: &[u8], headers: &[HeaderSpan]) -> bool
+    requires { All (IsHeaderWithin (length buf.now)) headers.now }
+    ensures { result ≡ ends_in (codes "chunked") (flat_map parts (values (codes "transfer-encoding") (map (header_bytes buf.now) headers.now))) }
+{
+    let mut ends = false;
+    for h in headers {
+        if is_named(b"transfer-encoding", h.name.of(buf)) {
+            ends = ends_in_chunked(h.value.of(buf));
+        }
+    }
+    ends
+}
+
+/// Whether so many Transfer-Encoding lines, the first of which is known, name one coding in all.
+fn is_single(lines: usize, first: &[u8]) -> bool
+    ensures { (all : List (List ℕ)) → lines ≡ length all → slice_get all 0 ≡ Some first.now → result ≡ (length (flat_map parts all) == 1) }
+{
+    if lines != 1 {
+        return false;
+    }
+    is_one(first)
+}
+
+/// The framing by the lines that say it.
+fn framing_of(minor: u8, buf: &[u8], headers: &[HeaderSpan]) -> Result<Framing, Fault>
     requires { All (IsHeaderWithin (length buf.now)) headers.now }
     ensures { result ≡ framing_by minor (values (codes "transfer-encoding") (map (header_bytes buf.now) headers.now)) (values (codes "content-length") (map (header_bytes buf.now) headers.now)) }
 {
-    let (codings, _) = find_value(buf, headers, b"transfer-encoding");
+    let (codings, coding) = find_value(buf, headers, b"transfer-encoding");
     let (lengths, value) = find_value(buf, headers, b"content-length");
-    if codings > 0 {
-        return Err(if lengths > 0 || minor == 0 {
-            Fault::BadLength
-        } else {
-            Fault::BadCoding
-        });
+    if codings == 0 {
+        return sized(lengths, value);
     }
-    match lengths {
-        0 => Ok(0),
-        1 => length_of(value),
-        _ => Err(Fault::BadLength),
+    if lengths > 0 || minor == 0 || !ends_chunked(buf, headers) {
+        return Err(Fault::BadLength);
     }
+    if !is_single(codings, coding) {
+        return Err(Fault::BadCoding);
+    }
+    Ok(Framing::Chunked)
 }
 
 /// Whether there may be so many Host lines.
@@ -112,8 +159,8 @@ fn is_host_count(minor: u8, hosts: usize) -> bool
     hosts == 1 || (minor == 0 && hosts == 0)
 }
 
-/// The length of the body, or the first fault of the fields.
-pub fn judge(minor: u8, buf: &[u8], headers: &[HeaderSpan]) -> Result<usize, Fault>
+/// The body's framing, or the first fault of the fields.
+pub fn judge(minor: u8, buf: &[u8], headers: &[HeaderSpan]) -> Result<Framing, Fault>
     requires { All (IsHeaderWithin (length buf.now)) headers.now }
     ensures { result ≡ judged minor (map (header_bytes buf.now) headers.now) }
 {

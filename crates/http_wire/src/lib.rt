@@ -2,6 +2,11 @@
 #![tactic(auto)]
 
 mod body;
+mod chunk_end;
+mod chunk_line;
+#[cfg(test)]
+mod chunk_tests;
+pub mod chunks;
 mod connection;
 pub mod fault;
 mod head;
@@ -10,8 +15,10 @@ pub mod law;
 mod look;
 pub mod request;
 pub mod response;
+mod seen;
 pub mod sink;
 pub mod source;
 mod target;
 #[cfg(test)]
 mod tests;
+mod trailers;

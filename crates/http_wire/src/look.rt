@@ -1,7 +1,8 @@
 //! A look at the bytes that have come, for a head.
 ghost use Rattle.std.specs.Prelude.{◌≡◌, ◌<◌, ◌≤◌, ◌+◌, length, true, false, drop};
 ghost use Rattle.httparse.specs.Grammar.{HasNoRequest, NeverHasRequest, MayBecomeRequest};
-ghost use Rattle.http_wire.specs.Front.{window, is_head as is_head_method};
+ghost use Rattle.http_wire.specs.Limits.{window};
+ghost use Rattle.http_wire.specs.Front.{is_head as is_head_method};
 ghost use Rattle.http_wire.specs.Look.{IsParsed, Sees};
 ghost use Rattle.http_wire.specs.Lines.{line_feeds as line_feeds_in, lines_come as lines_come_in};
 ghost use Rattle.http_wire.specs.InTarget.{in_method, in_blank};
@@ -10,7 +11,7 @@ ghost use Rattle.std.specs.List.{list_all};
 
 use crate::connection::asks_to_close;
 use crate::fault::Fault;
-use crate::head::judge;
+use crate::head::{Framing, judge};
 use httparse::spans::{EMPTY_HEADER_SPAN, HeaderSpan, RequestSpans, Span, parse_request};
 use httparse::{Error, Status, is_method_token, is_uri_token};
 
@@ -27,8 +28,8 @@ pub struct Head {
     pub target: Span,
     /// The length of the head, where the body begins.
     pub len: usize,
-    /// The length of the body that it announces.
-    pub body_len: usize,
+    /// How the body is framed that it announces.
+    pub framing: Framing,
     /// Whether the answer ends the connection.
     pub closes: bool,
     /// Whether the answer has no body: its method is HEAD.
@@ -47,7 +48,7 @@ pub enum Look {
 }
 
 /// How many LF there are.
-fn line_feeds(bytes: &[u8]) -> usize
+pub(crate) fn line_feeds(bytes: &[u8]) -> usize
     ensures { result ≡ line_feeds_in bytes.now }
 {
     let mut count = 0usize;
@@ -127,11 +128,11 @@ fn after_parse(bytes: &[u8], part: &[u8], head: RequestSpans, headers: &[HeaderS
     let bare = is_head(head.method.of(bytes));
     match judge(head.version, part, headers) {
         Err(fault) => Look::Refused { fault, bare },
-        Ok(body_len) => Look::Found(Head {
+        Ok(framing) => Look::Found(Head {
             method: head.method,
             target: head.path,
             len: head.len,
-            body_len,
+            framing,
             closes: asks_to_close(head.version, part, headers),
             bare,
         }),

@@ -2,6 +2,7 @@
 ghost use Rattle.std.specs.Prelude.{◌≡◌, ◌≢◌, ℕ, ◌+◌, ◌<◌, ◌≤◌, List, [], ◌++◌, length, Err, IfOk};
 ghost use Rattle.httparse.specs.Spans.{span_bytes, IsWithin};
 ghost use Rattle.std.specs.Io.KnownBytes.{Consumes};
+ghost use Rattle.http_wire.specs.Chunked.{BodyRead, LacksChunksAtEnd};
 ghost use Rattle.http_wire.specs.Budget.{failures_of, reading_left};
 ghost use Rattle.std.specs.Option.{option_map};
 ghost use Rattle.http_wire.specs.Incoming.{ReadsFront, EndsAt, TakesSome, finished, IsTargetOf};
@@ -10,7 +11,9 @@ ghost use Rattle.http_wire.specs.Target.{target_of};
 ghost use Rattle.http_wire.specs.Turns.{Spends};
 
 use crate::body::read_body;
+use crate::chunks::{Chunked, read_chunks};
 use crate::fault::{Fault, WireFault};
+use crate::head::Framing;
 use crate::inbox::Inbox;
 use crate::look::{Head, Look, look_at};
 use crate::source::Source;
@@ -101,6 +104,14 @@ fn copy_method(alloc: Global, method: &[u8]) -> Result<Method, AllocError>
     }
 }
 
+/// How much room is made for a body before it comes.
+fn room_for(framing: Framing) -> usize {
+    match framing {
+        Framing::Sized(n) => n,
+        Framing::Chunked => 0,
+    }
+}
+
 /// A request as its head begins it, with room for its body.
 fn begin(alloc: Global, bytes: &[u8], head: Head) -> Result<Begun, AllocError>
     requires method { IsWithin (length bytes.now) head.method }
@@ -112,7 +123,7 @@ fn begin(alloc: Global, bytes: &[u8], head: Head) -> Result<Begun, AllocError>
 {
     let method = copy_method(alloc, head.method.of(bytes))?;
     let copy = copy_target(alloc, head.target.of(bytes))?;
-    let body = Vec::with_capacity(alloc, head.body_len)?;
+    let body = Vec::with_capacity(alloc, room_for(head.framing))?;
     let is_good = copy.is_some();
     let target = match copy {
         Some(target) => target,
@@ -134,12 +145,12 @@ fn finish(
     request: Request,
     is_good: bool,
     bare: bool,
-    came: Result<bool, WireFault>,
+    came: Result<Chunked, WireFault>,
 ) -> Result<Incoming, WireFault>
     ensures { result ≡ finished request is_good bare came }
 {
     match came {
-        Ok(true) => {
+        Ok(Chunked::Whole) => {
             if is_good {
                 Ok(Incoming::Request(request))
             } else {
@@ -149,9 +160,36 @@ fn finish(
                 })
             }
         }
-        Ok(false) => Ok(Incoming::End),
+        Ok(Chunked::Lacking) => Ok(Incoming::End),
+        Ok(Chunked::Refused(fault)) => Ok(Incoming::Refused { fault, bare }),
         Err(WireFault::Memory) => Ok(Incoming::Starved { bare }),
         Err(fault) => Err(fault),
+    }
+}
+
+/// Reads a body as it is framed.
+fn read_framed<R: Source>(
+    reader: &mut R,
+    inbox: &mut Inbox,
+    turns: &mut u64,
+    body: &mut Vec<u8>,
+    framing: Framing,
+) -> Result<Chunked, WireFault>
+    requires { body.old.items ≡ [] }
+    ensures read { (more : List ℕ) × Consumes (R.remaining reader.old) (R.remaining reader.new) more × BodyRead framing (inbox.old ++ more) result body.new.items inbox.new }
+    ensures end { LacksChunksAtEnd (R.remaining reader.new) result }
+    ensures failures { R.failures reader.new ≡ failures_of (R.failures reader.old) result }
+    ensures turns { Spends turns.old turns.new (R.turns reader.old) (R.turns reader.new) }
+    ensures limit { result ≡ Err WireFault.TurnLimit → turns.new ≡ 0 }
+    ensures left { reading_left turns.new inbox.new ≤ reading_left turns.old inbox.old }
+{
+    match framing {
+        Framing::Sized(n) => match read_body(reader, inbox, turns, body, n) {
+            Ok(true) => Ok(Chunked::Whole),
+            Ok(false) => Ok(Chunked::Lacking),
+            Err(fault) => Err(fault),
+        },
+        Framing::Chunked => read_chunks(reader, inbox, turns, body),
     }
 }
 
@@ -179,7 +217,7 @@ fn read_rest<R: Source>(
         is_good,
     } = begun;
     inbox.consume(head.len);
-    let came = read_body(reader, inbox, turns, &mut request.body, head.body_len);
+    let came = read_framed(reader, inbox, turns, &mut request.body, head.framing);
     finish(request, is_good, head.bare, came)
 }
 

@@ -14,11 +14,11 @@ use std::test::Fail;
 
 /// Gives its bytes in pieces, is interrupted at each third call, and fails at one.
 #[derive(Drop)]
-struct Pieces<'a> {
-    bytes: &'a [u8],
-    piece: usize,
-    calls: u64,
-    fails_at: u64,
+pub(crate) struct Pieces<'a> {
+    pub(crate) bytes: &'a [u8],
+    pub(crate) piece: usize,
+    pub(crate) calls: u64,
+    pub(crate) fails_at: u64,
 }
 
 impl Read for Pieces<'_> {
@@ -95,7 +95,7 @@ fn read_stream(
 }
 
 /// Inputs, the number of their requests, and their fault.
-const HEADS: [(&[u8], u64, Option<Fault>); 19] = [
+const HEADS: [(&[u8], u64, Option<Fault>); 27] = [
     (b"GET /plans HTTP/1.1\r\nHost: d\r\n\r\n", 1, None),
     (
         b"\r\n\nGET / HTTP/1.1\nhOST:\n\nBREW /pot HTTP/1.1\r\nHost: d\r\n\r\n\r\n",
@@ -153,9 +153,49 @@ const HEADS: [(&[u8], u64, Option<Fault>); 19] = [
         Some(Fault::BadLength),
     ),
     (
-        b"PUT / HTTP/1.1\r\nHost: d\r\nTransfer-Encoding: chunked\r\n\r\n",
+        b"PUT / HTTP/1.1\r\nHost: d\r\nTransfer-Encoding: gzip,\tChunked\r\n\r\n",
         0,
         Some(Fault::BadCoding),
+    ),
+    (
+        b"PUT / HTTP/1.1\r\nHost: d\r\nTransfer-Encoding: chunked\r\nTransfer-Encoding: chunked\r\n\r\n",
+        0,
+        Some(Fault::BadCoding),
+    ),
+    (
+        b"PUT / HTTP/1.1\r\nHost: d\r\nTransfer-Encoding: ,chunked\r\n\r\n",
+        0,
+        Some(Fault::BadCoding),
+    ),
+    (
+        b"PUT / HTTP/1.1\r\nHost: d\r\nTransfer-Encoding: chunked,\r\n\r\n",
+        0,
+        Some(Fault::BadLength),
+    ),
+    (
+        b"PUT / HTTP/1.1\r\nHost: d\r\nTransfer-Encoding: chunked\r\nTransfer-Encoding: gzip\r\n\r\n",
+        0,
+        Some(Fault::BadLength),
+    ),
+    (
+        b"PUT / HTTP/1.1\r\nHost: d\r\nTransfer-Encoding: chunked;q=1\r\n\r\n",
+        0,
+        Some(Fault::BadLength),
+    ),
+    (
+        b"PUT / HTTP/1.1\r\nHost: d\r\nTransfer-Encoding: CHUNKED\r\n\r\n3\r\nabc\r\n0\r\n\r\nGET / HTTP/1.1\r\nHost: d\r\n\r\n",
+        2,
+        None,
+    ),
+    (
+        b"PUT / HTTP/1.1\r\nHost: d\r\nTransfer-Encoding: chunked\r\n\r\n3\r\nabc\r\n0\r\nA b\r\n\r\n",
+        0,
+        Some(Fault::BadHead),
+    ),
+    (
+        b"PUT / HTTP/1.1\r\nHost: d\r\nTransfer-Encoding: chunked\r\n\r\n3\r\nabcd",
+        0,
+        Some(Fault::BadChunk),
     ),
     (
         b"PUT / HTTP/1.1\r\nHost: d\r\nContent-Length: 33554433\r\n\r\n",

@@ -11,6 +11,8 @@ mod audit_tests;
 #[cfg(test)]
 mod check_tests;
 #[cfg(test)]
+mod chunk_tests;
+#[cfg(test)]
 mod command_tests;
 #[cfg(test)]
 mod method_tests;

@@ -137,7 +137,7 @@ const TABLE: [(&[u8], &[u8]); 14] = [
         b"HTTP/1.1 400 Bad Request\r\nContent-Type: application/json\r\nContent-Length: 21\r\nConnection: close\r\n\r\n{\"error\":\"BadLength\"}",
     ),
     (
-        b"GET /plans HTTP/1.1\r\nHost: d\r\nTransfer-Encoding: chunked\r\n\r\n",
+        b"GET /plans HTTP/1.1\r\nHost: d\r\nTransfer-Encoding: gzip, chunked\r\n\r\n",
         b"HTTP/1.1 501 Not Implemented\r\nContent-Type: application/json\r\nContent-Length: 21\r\nConnection: close\r\n\r\n{\"error\":\"BadCoding\"}",
     ),
     (

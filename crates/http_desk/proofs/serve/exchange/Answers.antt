@@ -55,7 +55,7 @@ returns-in-Ok-clause-talks g c =
     let handles = rw c.if-handle.false at c.handle.ensures in
     let input = c.args.stream.now.inbox ++ read.0 in
     let of = of_head g.C.Counter.commands g.C.Counter.asks c.args.counter.now c.handle.new.counter input c.read_request.new.inbox c.handle.new.answer false c.in-Ok-Request.request read.2 handles in
-    (read.0, c.handle.new.answer, read.1, c.in-Ok.ensures.bytes, on g.C.Counter.commands g.C.Counter.asks c.args.counter.now c.handle.new.counter (g.R.Source.remaining c.read_request.new.reader) input c.read_request.new.inbox c.handle.new.answer read.2.head c.in-Ok-Request.request.target.items c.in-Ok-Request.request.body.items read.2.request of)
+    (read.0, c.handle.new.answer, read.1, c.in-Ok.ensures.bytes, on g.C.Counter.commands g.C.Counter.asks c.args.counter.now c.handle.new.counter (g.R.Source.remaining c.read_request.new.reader) input c.read_request.new.inbox c.handle.new.answer read.2.head c.in-Ok-Request.request.target.items c.in-Ok-Request.request.body.items read.2.front read.2.cut read.2.alone of)
 
 pub returns-in-Err-clause-talks : goal.returns-in-Err-clause-talks
 returns-in-Err-clause-talks g c =
@@ -64,4 +64,4 @@ returns-in-Err-clause-talks g c =
     let input = c.args.stream.now.inbox ++ read.0 in
     let of = of_head g.C.Counter.commands g.C.Counter.asks c.args.counter.now c.handle.new.counter input c.read_request.new.inbox c.handle.new.answer false c.in-Ok-Request.request read.2 handles in
     let sent = c.in-Err.ensures.bytes in
-    (read.0, sent.0, read.1, sent.3, cut g.C.Counter.commands g.C.Counter.asks c.args.counter.now c.handle.new.counter input c.read_request.new.inbox c.handle.new.answer sent.0 sent.1 read.2.head c.in-Ok-Request.request.target.items c.in-Ok-Request.request.body.items read.2.request of sent.2)
+    (read.0, sent.0, read.1, sent.3, cut g.C.Counter.commands g.C.Counter.asks c.args.counter.now c.handle.new.counter input c.read_request.new.inbox c.handle.new.answer sent.0 sent.1 read.2.head c.in-Ok-Request.request.target.items c.in-Ok-Request.request.body.items read.2.front read.2.cut read.2.alone of sent.2)

@@ -1,0 +1,10 @@
+use Rattle.std.proofs.Common.{◌≡◌, take, map}
+use Rattle.std.specs.Prelude.{codes}
+use Rattle.std.specs.List.{flat_map}
+use Rattle.httparse.specs.Spans.{header_bytes}
+use Rattle.http_wire.specs.Connection.{parts, ends_in}
+use Rattle.http_wire.specs.Front.{values}
+use Rattle.http_wire.proofs.head.ends_chunked.Given as goal
+
+abbrev pub invariant-loop-h : goal.invariant-loop-h
+invariant-loop-h l = l.ends ≡ ends_in (codes "chunked") (flat_map parts (values (codes "transfer-encoding") (map (header_bytes l.buf) (take l.h-index l.headers))))
