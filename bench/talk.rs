@@ -35,35 +35,53 @@ fn make_body(size: usize, out: &mut impl Write) {
     }
 }
 
-struct Head<'a> {
-    method: &'a str,
-    target: &'a str,
+// the same body in chunks of 4,096 bytes
+fn make_chunks(size: usize, out: &mut impl Write) {
+    write!(out, "GET /plans HTTP/1.1\r\nHost: d\r\nTransfer-Encoding: chunked\r\n\r\n").unwrap();
+    let piece = vec![b'x'; 4096];
+    let mut left = size;
+    while left > 0 {
+        let n = left.min(piece.len());
+        write!(out, "{n:x}\r\n").unwrap();
+        out.write_all(&piece[..n]).unwrap();
+        out.write_all(b"\r\n").unwrap();
+        left -= n;
+    }
+    out.write_all(b"0\r\n\r\n").unwrap();
+}
+
+struct Head {
+    list: bool,
+    target: String,
     length: usize,
+    chunked: bool,
     size: usize,
 }
 
-fn head_of(bytes: &[u8]) -> Option<Head<'_>> {
+fn head_of(bytes: &[u8]) -> Option<Head> {
     let end = bytes.windows(4).position(|w| w == b"\r\n\r\n")?;
     let text = std::str::from_utf8(&bytes[..end]).ok()?;
     let mut lines = text.split("\r\n");
     let mut words = lines.next()?.split(' ');
     let (method, target) = (words.next()?, words.next()?);
-    let (mut hosts, mut length) = (0, 0);
+    let (mut hosts, mut length, mut chunked) = (0, 0, false);
     for line in lines {
         let (key, value) = line.split_once(':')?;
         if key.eq_ignore_ascii_case("host") {
             hosts += 1;
         } else if key.eq_ignore_ascii_case("content-length") {
             length = value.trim().parse().ok()?;
+        } else if key.eq_ignore_ascii_case("transfer-encoding") {
+            chunked = value.trim().eq_ignore_ascii_case("chunked");
         }
     }
     assert_eq!(hosts, 1);
-    Some(Head { method, target, length, size: end + 4 })
+    Some(Head { list: method == "GET", target: target.to_string(), length, chunked, size: end + 4 })
 }
 
-fn answer(plans: &mut BTreeMap<String, (String, u16)>, method: &str, target: &str, out: &mut Vec<u8>) {
+fn answer(plans: &mut BTreeMap<String, (String, u16)>, list: bool, target: &str, out: &mut Vec<u8>) {
     let (path, query) = target.split_once('?').unwrap_or((target, ""));
-    let (status, body) = if method == "GET" && path == "/plans" {
+    let (status, body) = if list && path == "/plans" {
         let mut body = String::from("{\"plans\":[");
         for (i, (name, (kind, n))) in plans.iter().enumerate() {
             let comma = if i == 0 { "" } else { "," };
@@ -92,36 +110,87 @@ fn answer(plans: &mut BTreeMap<String, (String, u16)>, method: &str, target: &st
     write!(out, "HTTP/1.1 {status}\r\nContent-Type: application/json\r\nContent-Length: {}\r\n\r\n{body}", body.len()).unwrap();
 }
 
+// bytes that have come, from start to end
+struct Inbox {
+    buffer: Vec<u8>,
+    start: usize,
+    end: usize,
+}
+
+impl Inbox {
+    fn bytes(&self) -> &[u8] {
+        &self.buffer[self.start..self.end]
+    }
+
+    fn fill(&mut self, input: &mut impl Read) -> bool {
+        self.buffer.copy_within(self.start..self.end, 0);
+        self.end -= self.start;
+        self.start = 0;
+        let n = input.read(&mut self.buffer[self.end..]).unwrap();
+        self.end += n;
+        n > 0
+    }
+
+    // adds the next bytes to the body
+    fn take(&mut self, input: &mut impl Read, body: &mut Vec<u8>, n: usize) {
+        let here = n.min(self.end - self.start);
+        body.extend_from_slice(&self.bytes()[..here]);
+        self.start += here;
+        if here < n {
+            let filled = body.len();
+            body.resize(filled + n - here, 0);
+            input.read_exact(&mut body[filled..]).unwrap();
+        }
+    }
+
+    // the next line without its end
+    fn line(&mut self, input: &mut impl Read) -> String {
+        loop {
+            if let Some(end) = self.bytes().windows(2).position(|w| w == b"\r\n") {
+                let line = String::from_utf8(self.bytes()[..end].to_vec()).unwrap();
+                self.start += end + 2;
+                return line;
+            }
+            assert!(self.fill(input));
+        }
+    }
+
+    fn take_chunks(&mut self, input: &mut impl Read, body: &mut Vec<u8>) {
+        loop {
+            let size = usize::from_str_radix(&self.line(input), 16).unwrap();
+            if size == 0 {
+                break;
+            }
+            assert!(body.len() + size <= 33_554_432);
+            self.take(input, body, size);
+            assert!(self.line(input).is_empty());
+        }
+        while !self.line(input).is_empty() {}
+    }
+}
+
 fn talk() {
     let (mut input, mut output) = (io::stdin().lock(), io::stdout().lock());
     let mut plans = BTreeMap::new();
-    let mut buffer = vec![0; 65_536];
-    let (mut start, mut end) = (0, 0);
+    let mut inbox = Inbox { buffer: vec![0; 65_536], start: 0, end: 0 };
     let mut out = Vec::new();
     loop {
-        if let Some(head) = head_of(&buffer[start..end]) {
-            answer(&mut plans, head.method, head.target, &mut out);
-            let (size, mut length) = (head.size, head.length);
-            start += size;
-            let here = length.min(end - start);
-            start += here;
-            length -= here;
-            if length > 0 {
-                let mut body = vec![0; length];
-                input.read_exact(&mut body).unwrap();
+        if let Some(head) = head_of(inbox.bytes()) {
+            inbox.start += head.size;
+            let mut body = Vec::with_capacity(head.length);
+            if head.chunked {
+                inbox.take_chunks(&mut input, &mut body);
+            } else {
+                inbox.take(&mut input, &mut body, head.length);
             }
+            answer(&mut plans, head.list, &head.target, &mut out);
             // one write an answer, as the desk does
             writeln_all(&mut output, &out);
             continue;
         }
-        buffer.copy_within(start..end, 0);
-        end -= start;
-        start = 0;
-        let n = input.read(&mut buffer[end..]).unwrap();
-        if n == 0 {
+        if !inbox.fill(&mut input) {
             return;
         }
-        end += n;
     }
 }
 
@@ -138,6 +207,7 @@ fn main() {
         "make-lists" => make_lists(count(), &mut out),
         "make-creates" => make_creates(count(), &mut out),
         "make-body" => make_body(count(), &mut out),
+        "make-chunks" => make_chunks(count(), &mut out),
         _ => {
             drop(out);
             talk();
