@@ -129,9 +129,9 @@ pub record HasTwoFaults (n : ℕ) (input : List ℕ) : Type 0 where
   pub many : HasTooManyTrailers trailers
   pub never : NeverHasSection (window trailers)
 
--- Behind as many bytes as a body may have, chunks are one thing alone: their body and what follows, one fault, or incomplete; and
--- that stays, whatever follows. Where more than 64 lines of trailers have come and no trailers can stand, either of these faults may
--- be told
+-- Behind as many bytes as a body may have, chunks are one thing alone: their body and what follows, one fault, or incomplete; and a
+-- body and a fault stay, whatever follows. Where more than 64 lines of trailers have come and no trailers can stand, either of these
+-- faults may be told
 pub record ChunkLaw : Type 0 where
   pub one_body : (n : ℕ) (input b c r q : List ℕ) → HasChunks n input b r → HasChunks n input c q → (b ≡ c) × (r ≡ q)
   pub one_fault : (n : ℕ) (input : List ℕ) (f g : Fault) → n ≤ body_limit → HasChunkFault n input f → HasChunkFault n input g → (f ≡ g) ⊎ HasTwoFaults n input

@@ -6,9 +6,9 @@ use std::alloc::AllocError;
 /// Why no request is taken. After an answer to any of these the connection closes.
 #[derive(Clone, Copy, Debug, PartialEq, Eq)]
 pub enum Fault {
-    /// The first bytes are no head of HTTP/1.0 or 1.1, whatever follows. 400
+    /// The first bytes are no head of HTTP/1.0 or 1.1, or those behind the last chunk no trailers, whatever follows. 400
     BadHead,
-    /// No head in the first 16,384 bytes, or more than 64 header lines. 431
+    /// No head in the first 16,384 bytes, or more than 64 header lines; the same of trailers. 431
     HeadTooLarge,
     /// More than one Host line, or none in HTTP/1.1. 400
     BadHost,

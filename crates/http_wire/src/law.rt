@@ -12,7 +12,7 @@ pub fn worked_fronts()
     ensures { WorkedFronts }
 {}
 
-/// Chunks are one body, or have one fault, or are incomplete, and that stays, whatever follows.
+/// Chunks are one body, or have one fault, or are incomplete; a body and a fault stay, whatever follows.
 pub fn chunk_law()
     ensures { ChunkLaw }
 {}
