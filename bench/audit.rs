@@ -1,4 +1,4 @@
-// The plain counterpart of crates/bench_audit, for bench/audit alone: the same audits of the same made state.
+// The plain counterpart of crates/bench_programs, for bench/audit alone: the same audits of the same made state.
 use std::env;
 use std::time::Instant;
 

@@ -1,8 +1,9 @@
-// The plain counterpart of `plandesk check`, for bench/check alone: the same counts, and the same report of a house plan
+// The plain counterpart of `plandesk check`, with vector code for the lines where the machine has AVX2, for bench/check alone: the same counts, and the same report of a house plan
 // with its senate plan, of the state that bench/check makes.
 use std::collections::{BTreeMap, HashMap, HashSet};
 use std::fs::File;
-use std::io::{self, BufRead, BufReader, BufWriter, Write};
+use std::hash::{BuildHasherDefault, Hasher};
+use std::io::{self, BufWriter, Read, Write};
 
 const COUNTIES: usize = 99;
 
@@ -120,25 +121,96 @@ fn number(text: &[u8]) -> u64 {
     })
 }
 
+// the first line feed, or the length where there is none, and how many bars stand before it
+#[cfg(target_arch = "x86_64")]
+#[target_feature(enable = "avx2")]
+unsafe fn scan_wide(text: &[u8]) -> (usize, usize) {
+    use std::arch::x86_64::*;
+    let (feed, bar) = (_mm256_set1_epi8(b'\n' as i8), _mm256_set1_epi8(b'|' as i8));
+    let (mut at, mut bars) = (0, 0);
+    while at + 32 <= text.len() {
+        let block = _mm256_loadu_si256(text.as_ptr().add(at) as *const __m256i);
+        let feeds = _mm256_movemask_epi8(_mm256_cmpeq_epi8(block, feed)) as u32;
+        let hits = _mm256_movemask_epi8(_mm256_cmpeq_epi8(block, bar)) as u32;
+        if feeds != 0 {
+            let end = feeds.trailing_zeros();
+            return (at + end as usize, bars + (hits & ((1u32 << end) - 1)).count_ones() as usize);
+        }
+        bars += hits.count_ones() as usize;
+        at += 32;
+    }
+    let (end, more) = scan_plain(&text[at..]);
+    (at + end, bars + more)
+}
+
+fn scan_plain(text: &[u8]) -> (usize, usize) {
+    let end = text.iter().position(|b| *b == b'\n').unwrap_or(text.len());
+    (end, text[..end].iter().filter(|b| **b == b'|').count())
+}
+
+fn scan(text: &[u8]) -> (usize, usize) {
+    #[cfg(target_arch = "x86_64")]
+    if is_x86_feature_detected!("avx2") {
+        return unsafe { scan_wide(text) };
+    }
+    scan_plain(text)
+}
+
+fn judge_line(line: &[u8], bars: usize, count: usize) -> &[u8] {
+    let line = line.strip_suffix(b"\r").unwrap_or(line);
+    assert!(line.len() <= 65_536);
+    assert_eq!(bars + 1, count);
+    line
+}
+
+// calls f with each line of so many fields, from one buffer
 fn each_line(path: &str, count: usize, mut f: impl FnMut(&[u8])) {
-    let mut reader = BufReader::with_capacity(262_144, File::open(path).unwrap());
-    let mut line = Vec::new();
-    while reader.read_until(b'\n', &mut line).unwrap() > 0 {
-        if line.ends_with(b"\n") {
-            line.pop();
+    let mut file = File::open(path).unwrap();
+    let mut buffer = vec![0u8; 1 << 18];
+    let mut held = 0;
+    loop {
+        let came = file.read(&mut buffer[held..]).unwrap();
+        let filled = held + came;
+        let mut from = 0;
+        while from < filled {
+            let (end, bars) = scan(&buffer[from..filled]);
+            if from + end == filled && came > 0 {
+                break;
+            }
+            f(judge_line(&buffer[from..from + end], bars, count));
+            from += end + 1;
         }
-        if line.ends_with(b"\r") {
-            line.pop();
+        if came == 0 {
+            return;
         }
-        assert!(line.len() <= 65_536);
-        assert_eq!(line.iter().filter(|b| **b == b'|').count() + 1, count);
-        f(&line);
-        line.clear();
+        buffer.copy_within(from..filled, 0);
+        held = filled - from;
+        assert!(held < buffer.len());
     }
 }
 
-fn segment(path: &str, count: usize, with_people: bool) -> HashMap<u64, u32> {
-    let mut records = HashMap::new();
+// a cheap hash of a number
+#[derive(Default, Clone, Copy)]
+struct Mix(u64);
+
+impl Hasher for Mix {
+    fn finish(&self) -> u64 {
+        self.0
+    }
+
+    fn write(&mut self, _: &[u8]) {
+        unreachable!()
+    }
+
+    fn write_u64(&mut self, n: u64) {
+        self.0 = (n ^ n >> 32).wrapping_mul(0x9e37_79b9_7f4a_7c15).rotate_left(26);
+    }
+}
+
+type Mixed = BuildHasherDefault<Mix>;
+
+fn segment(path: &str, count: usize, with_people: bool) -> HashMap<u64, u32, Mixed> {
+    let mut records = HashMap::default();
     each_line(path, count, |line| {
         let mut fields = line.split(|b| *b == b'|').skip(4);
         let key = number(fields.next().unwrap());
@@ -161,7 +233,8 @@ impl Row {
 }
 
 fn read_state(paths: &[String]) -> Vec<Row> {
-    let (mut blocks, mut ids, mut numbers, mut state_record) = (Vec::new(), HashSet::new(), HashSet::new(), None);
+    let (mut blocks, mut state_record) = (Vec::new(), None);
+    let (mut ids, mut numbers) = (HashSet::<u64, Mixed>::default(), HashSet::<u64, Mixed>::default());
     each_line(&paths[0], 97, |line| {
         let fields: Vec<&[u8]> = line.splitn(36, |b| *b == b'|').collect();
         if fields[4] != b"00" {

@@ -1,7 +1,10 @@
 pub mod Climb
 pub mod Growth
 pub mod Noting
+pub mod OneList
+pub mod Parting
 pub mod Rooting
-pub mod RowBlocks
+pub mod Shelving
+pub mod Sharing
 pub mod Telling
 pub mod Walks

@@ -13,7 +13,7 @@ use Rattle.audit_contiguity.specs.declared.lowest.Lowest.TheVariants.{Zero, One,
 use Rattle.audit_contiguity.specs.Paths.{AreNeighbours, IsIn, AreJoined, HoldsTogether}
 use Rattle.audit_contiguity.specs.Forest.{HasOneRoot, IsForest}
 use Rattle.audit_contiguity.specs.Lowest.{IsRoot, AreLowest}
-use Rattle.audit_contiguity.specs.Breaks.{IsGap, IsBreak, IsBreakWithin, districts_of, AreBreaks}
+use Rattle.audit_contiguity.specs.Breaks.{IsLeast, IsApart, IsGap, IsBreak, IsBreakWithin, districts_of, AreBreaks}
 use Rattle.audit_contiguity.proofs.Walks.{joined_on, joined_back, end_lies, same_joined}
 
 -- the root of a block of the district is one of its roots
@@ -62,6 +62,40 @@ together pairs plan first last parents d a forest one = record {
     to_a : (x : ℕ) → IsIn plan d x → AreJoined pairs plan d x a
     to_a x lies = rw (one.1 (forest.root x) (root_there pairs plan first last parents forest d x lies)) at (forest.joined x d lies)
 
+-- where a root of the district is one of the two lowest or lies above
+where_root : (pairs : List Pair) (plan : List ℕ) (first last : ℕ) (parents : List ℕ) (d a b : ℕ) (forest : IsForest pairs plan first last (length pairs) parents)
+    → AreLowest parents plan (length plan) d (Two a b) → (x : ℕ) → IsIn plan d x → (forest.root x ≡ a) ⊎ (b ≤ forest.root x)
+where_root pairs plan first last parents d a b forest two x lies = two.3 (forest.root x) (root_there pairs plan first last parents forest d x lies)
+
+-- the lowest root is the district's least block
+pub two_least : (pairs : List Pair) (plan : List ℕ) (first last : ℕ) (parents : List ℕ) (d a b : ℕ) → first ≤ d → d ≤ last
+    → IsForest pairs plan first last (length pairs) parents → AreLowest parents plan (length plan) d (Two a b) → IsLeast (IsIn plan d) a
+two_least pairs plan first last parents d a b from to forest two = record {
+  holds = two.0.lies;
+  least = λ x lies. ⊎_elim (λ (e : forest.root x ≡ a). omega (arith, root_low pairs plan first last parents forest d x lies))
+      (λ (more : b ≤ forest.root x). omega (arith, root_low pairs plan first last parents forest d x lies, two.2)) (where_root pairs plan first last parents d a b forest two x lies);
+}
+
+-- the next is the least block that is apart from it
+pub two_apart : (g : Ground) (plan : List ℕ) (first last : ℕ) (parents : List ℕ) (d a b : ℕ) → first ≤ d → d ≤ last
+    → IsForest g.pairs plan first last (length g.pairs) parents → AreLowest parents plan (length plan) d (Two a b) → IsLeast (IsApart g plan d a) b
+two_apart g plan first last parents d a b from to forest two = record {
+  holds = record {
+    lies = two.1.lies;
+    apart = λ way. omega (
+      arith,
+      one_root g.pairs plan first last parents forest d a b from to way,
+      own_root g.pairs plan first last parents forest d a two.0,
+      own_root g.pairs plan first last parents forest d b two.1,
+      two.2,
+    );
+  };
+  least = λ x is. ⊎_elim
+      (λ (e : forest.root x ≡ a). absurd (is.apart (joined_back g.pairs plan d x a (rw e at (forest.joined x d is.lies)))))
+      (λ (more : b ≤ forest.root x). omega (arith, root_low g.pairs plan first last parents forest d x is.lies))
+      (where_root g.pairs plan first last parents d a b forest two x is.lies);
+}
+
 pub gap_there : (g : Ground) (plan : List ℕ) (first last : ℕ) (parents : List ℕ) (d a b : ℕ) (gap : Gap) → first ≤ d → d ≤ last
     → IsForest g.pairs plan first last (length g.pairs) parents → AreLowest parents plan (length plan) d (Two a b) → id_at g.blocks a ≡ gap.from → id_at g.blocks b ≡ gap.to
     → IsGap g plan d gap
@@ -70,31 +104,9 @@ gap_there g plan first last parents d a b gap from to forest two from_id to_id =
   to = b;
   from_id = from_id;
   to_id = to_id;
-  least = record {
-    holds = two.0.lies;
-    least = λ x lies. ⊎_elim (λ (e : forest.root x ≡ a). omega (arith, root_low g.pairs plan first last parents forest d x lies))
-        (λ (more : b ≤ forest.root x). omega (arith, root_low g.pairs plan first last parents forest d x lies, two.2)) (where_root x lies);
-  };
-  apart = record {
-    holds = record {
-      lies = two.1.lies;
-      apart = λ way. omega (
-        arith,
-        one_root g.pairs plan first last parents forest d a b from to way,
-        own_root g.pairs plan first last parents forest d a two.0,
-        own_root g.pairs plan first last parents forest d b two.1,
-        two.2,
-      );
-    };
-    least = λ x is. ⊎_elim
-        (λ (e : forest.root x ≡ a). absurd (is.apart (joined_back g.pairs plan d x a (rw e at (forest.joined x d is.lies)))))
-        (λ (more : b ≤ forest.root x). omega (arith, root_low g.pairs plan first last parents forest d x is.lies))
-        (where_root x is.lies);
-  };
+  least = two_least g.pairs plan first last parents d a b from to forest two;
+  apart = two_apart g plan first last parents d a b from to forest two;
 }
-  where
-    where_root : (x : ℕ) → IsIn plan d x → (forest.root x ≡ a) ⊎ (b ≤ forest.root x)
-    where_root x lies = two.3 (forest.root x) (root_there g.pairs plan first last parents forest d x lies)
 
 -- the breaks of the first districts
 pub record AreTold (g : Ground) (plan : List ℕ) (first last count : ℕ) (breaks : List Break) : Type 0 where
@@ -162,3 +174,9 @@ told_all g plan first last count breaks all was = record {
 
 pub id_here : (blocks given : List BlockRow) (i : ℕ) (row : BlockRow) → given ≡ blocks → i < length blocks → id_at blocks i ≡ (get_or given i row).id
 id_here blocks given i row same inside = get_or-map (λ (b : BlockRow). b.id) blocks i row 0 inside ∙ ap (λ (xs : List BlockRow). (get_or xs i row).id) (sym same)
+
+-- the number of the block at a place of a list of blocks' places
+pub id_of : (blocks given : List BlockRow) (shown places : List ℕ) (i : ℕ) (row : BlockRow) → given ≡ blocks → shown ≡ places → get_or places i 0 < length blocks
+    → id_at blocks (get_or places i 0) ≡ (get_or given (get_or shown i 0) row).id
+id_of blocks given shown places i row same same_too inside =
+    id_here blocks given (get_or places i 0) row same inside ∙ ap (λ (ps : List ℕ). (get_or given (get_or ps i 0) row).id) (sym same_too)

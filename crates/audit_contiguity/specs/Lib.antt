@@ -1,5 +1,6 @@
 pub mod Breaks
 pub mod Forest
+pub mod Laws
 pub mod Lowest
+pub mod Parts
 pub mod Paths
-pub mod Rows

@@ -25,7 +25,7 @@ pub struct Break {
 }
 
 impl Break {
-    fn empty(district: u16) -> Break
+    pub fn empty(district: u16) -> Break
         ensures { result ≡ record { district = district; gap = None } }
     {
         Break {
@@ -34,7 +34,7 @@ impl Break {
         }
     }
 
-    fn parted(district: u16, gap: Gap) -> Break
+    pub fn parted(district: u16, gap: Gap) -> Break
         ensures { result ≡ record { district = district; gap = Some gap } }
     {
         Break {

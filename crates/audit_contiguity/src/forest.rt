@@ -1,6 +1,6 @@
 //! Trees of blocks, one for each part of a district that holds together.
 ghost use Rattle.std.specs.Prelude.{◌≡◌, ◌<◌, ◌≤◌, ◌^◌, ℕ, length, min, max, All, IfOk};
-ghost use Rattle.desk_model.specs.Geography.{IsPair};
+ghost use Rattle.audit_contiguity.specs.Parts.{LiesWithin};
 ghost use Rattle.audit_contiguity.specs.Forest.{PointsDown, AreAlone, IsRooting, merged, IsForest};
 
 use desk_model::geography::Pair;
@@ -47,7 +47,7 @@ fn join(parents: &mut [u32], one: u32, other: u32)
 
 /// Joins the two blocks of each pair that lies in one district from `first` to `last`.
 fn join_pairs(parents: &mut [u32], pairs: &[Pair], plan: &[u16], first: u16, last: u16)
-    requires pairs { All (IsPair (length plan.now)) pairs.now }
+    requires pairs { All (LiesWithin (length plan.now)) pairs.now }
     requires forest { IsForest pairs.now plan.now first last 0 parents.old }
     ensures { IsForest pairs.now plan.now first last (length pairs.now) parents.new }
 {
@@ -79,7 +79,7 @@ pub fn forest(
     first: u16,
     last: u16,
 ) -> Result<Vec<u32>, AllocError>
-    requires pairs { All (IsPair (length plan.now)) pairs.now }
+    requires pairs { All (LiesWithin (length plan.now)) pairs.now }
     requires few { length plan.now < 2 ^ 32 }
     ensures { IfOk result (λ v. IsForest pairs.now plan.now first last (length pairs.now) v.items) }
 {

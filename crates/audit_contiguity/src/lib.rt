@@ -3,6 +3,6 @@
 
 pub mod breaks;
 mod forest;
+pub mod laws;
 mod lowest;
-#[cfg(test)]
-mod tests;
+pub mod parts;

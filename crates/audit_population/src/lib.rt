@@ -3,5 +3,3 @@
 
 pub mod clauses;
 pub mod people;
-#[cfg(test)]
-mod tests;

@@ -5,6 +5,4 @@ pub mod audit;
 pub mod clause;
 mod pieces;
 pub mod report;
-#[cfg(test)]
-mod tests;
 mod values;

@@ -5,5 +5,3 @@
 mod mark;
 pub mod nesting;
 pub mod splits;
-#[cfg(test)]
-mod tests;

@@ -18,7 +18,8 @@ use Rattle.desk_model.specs.Geography.{Ground, ids, AreBlocks}
 use Rattle.desk_model.specs.declared.block.BlockRow.{BlockRow}
 use Rattle.field_text.specs.Fields.{fields}
 use Rattle.field_text.proofs.TextLemmas.{lines-cut}
-use Rattle.baf_text.specs.Laws.{greatest_district, IsAssignment, PrintedIsRead}
+use Rattle.desk_model.specs.Kind.{most_districts}
+use Rattle.baf_text.specs.Laws.{IsAssignment, PrintedIsRead}
 use Rattle.baf_text.specs.Listed.{listed_of}
 use Rattle.baf_text.proofs.Taken.{header_read}
 use Rattle.baf_text.proofs.Codes.{Writes, padded_writes, said, code_again, in_range_again}
@@ -47,7 +48,7 @@ in_line (b ∷ bytes) are =
     let here = and_parts (not (eqb b 10)) (not (eqb b 13)) parts.0 in
     All-cons IsInLine b bytes (record { feed = not-true _ here.0; return = not-true _ here.1 }) (in_line bytes parts.1)
 
-code_in_line : (kind : Kind) (d : ℕ) → d ≤ greatest_district kind → All IsInLine (code_text kind d)
+code_in_line : (kind : Kind) (d : ℕ) → d ≤ most_districts kind → All IsInLine (code_text kind d)
 code_in_line Congress zero most = in_line (codes "ZZ") refl
 code_in_line Senate zero most = in_line (codes "ZZZ") refl
 code_in_line House zero most = in_line (codes "ZZZ") refl
@@ -62,7 +63,7 @@ row_line kind row = padded_decimal 15 row.0 ++ 124 ∷ code_text kind row.1
 -- a row that the codes of the kind can write
 pub record IsPrintable (kind : Kind) (row : ℕ × ℕ) : Type 0 where
   pub id : row.0 < 10 ^ 15
-  pub district : row.1 ≤ greatest_district kind
+  pub district : row.1 ≤ most_districts kind
 
 id_writes : (kind : Kind) (row : ℕ × ℕ) → IsPrintable kind row → Writes 15 row.0 (padded_decimal 15 row.0)
 id_writes kind row is = padded_writes 15 row.0 (omega arith) is.id (omega (arith, is.id))
@@ -110,12 +111,12 @@ pub record AreNew (g : Ground) (kind : Kind) (n : ℕ) (so_far : Values) (xs ds 
   pub known : All (λ x. list_any (λ id. eqb id x) (ids g) ≡ true) xs
   pub unlisted : All (λ x. value_at so_far x ≡ None) xs
   pub ids : All (λ x. x < 10 ^ 15) xs
-  pub districts : All (λ d. (d ≤ n) × (d ≤ greatest_district kind)) ds
+  pub districts : All (λ d. (d ≤ n) × (d ≤ most_districts kind)) ds
 
 first_of_rows : (kind : Kind) (g : Ground) (n x d : ℕ) (so_far : Values) (xs ds : List ℕ) → AreNew g kind n so_far (x ∷ xs) (d ∷ ds) → IsPrintable kind (x, d)
 first_of_rows kind g n x d so_far xs ds are = record {
   id = All-head (λ x. x < 10 ^ 15) x xs are.ids;
-  district = (All-head (λ d. (d ≤ n) × (d ≤ greatest_district kind)) d ds are.districts).1;
+  district = (All-head (λ d. (d ≤ n) × (d ≤ most_districts kind)) d ds are.districts).1;
 }
 
 later_rows : (kind : Kind) (g : Ground) (n x d : ℕ) (so_far : Values) (xs ds : List ℕ) → AreNew g kind n so_far (x ∷ xs) (d ∷ ds) → AreNew g kind n (so_far ++ (x, d) ∷ []) xs ds
@@ -127,7 +128,7 @@ later_rows kind g n x d so_far xs ds are = record {
       value_at-push_other so_far x d (get_or xs k e) (λ same. omega (arith, are.rising zero (suc k) e (omega arith) (omega arith)))
       ∙ are.unlisted (suc k) e (omega arith);
   ids = All-tail (λ x. x < 10 ^ 15) x xs are.ids;
-  districts = All-tail (λ d. (d ≤ n) × (d ≤ greatest_district kind)) d ds are.districts;
+  districts = All-tail (λ d. (d ≤ n) × (d ≤ most_districts kind)) d ds are.districts;
 }
 
 pub rows_printable : (kind : Kind) (g : Ground) (n : ℕ) (so_far : Values) (xs ds : List ℕ) → AreNew g kind n so_far xs ds → All (IsPrintable kind) (zip xs ds)
@@ -145,7 +146,7 @@ rows_again kind g n at so_far (x ∷ xs) (d ∷ ds) are =
     rw (
       not_empty kind (x, d),
       line_again g kind n so_far (x, d) (first_of_rows kind g n x d so_far xs ds are)
-          (All-head (λ d. (d ≤ n) × (d ≤ greatest_district kind)) d ds are.districts).0
+          (All-head (λ d. (d ≤ n) × (d ≤ most_districts kind)) d ds are.districts).0
           (All-head (λ x. list_any (λ id. eqb id x) (ids g) ≡ true) x xs are.known)
           (All-head (λ x. value_at so_far x ≡ None) x xs are.unlisted),
     )
@@ -190,10 +191,10 @@ some_injective (x ∷ xs) (y ∷ ys) e =
     let more : map (λ d. Some d) xs ≡ map (λ d. Some d) ys = cc in
     same_cons x y xs ys first (some_injective xs ys more)
 
-districts_small : (kind : Kind) (n : ℕ) (f : List ℕ) → n ≤ greatest_district kind → All (λ d. d ≤ n) f → All (λ d. (d ≤ n) × (d ≤ greatest_district kind)) f
+districts_small : (kind : Kind) (n : ℕ) (f : List ℕ) → n ≤ most_districts kind → All (λ d. d ≤ n) f → All (λ d. (d ≤ n) × (d ≤ most_districts kind)) f
 districts_small kind n f most in' = λ k e inside. (in' k e inside, omega (arith, in' k e inside))
 
-new_at_first : (g : Ground) (kind : Kind) (n : ℕ) (f : List ℕ) → AreBlocks g.blocks → All (λ id. id < 10 ^ 15) (ids g) → n ≤ greatest_district kind → IsAssignment g n f
+new_at_first : (g : Ground) (kind : Kind) (n : ℕ) (f : List ℕ) → AreBlocks g.blocks → All (λ id. id < 10 ^ 15) (ids g) → n ≤ most_districts kind → IsAssignment g n f
     → AreNew g kind n [] (ids g) f
 new_at_first g kind n f blocks small most is = record {
   same = is.whole ∙ sym (length-map g.blocks (λ (b : BlockRow). b.id));

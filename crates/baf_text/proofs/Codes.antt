@@ -14,7 +14,7 @@ use Rattle.std.proofs.lemmas.Fmt.{length-decimal-le, digits_decimal, digits_valu
 use Rattle.desk_model.specs.declared.kind.Kind.{Kind}
 use Rattle.desk_model.specs.declared.kind.Kind.TheVariants.{Congress, Senate, House}
 use Rattle.desk_model.specs.Baf.{code_value, padded_decimal, code_text, in_range}
-use Rattle.baf_text.specs.Laws.{greatest_district}
+use Rattle.desk_model.specs.Kind.{most_districts}
 use Rattle.baf_text.proofs.Printing.{length-padded}
 use Rattle.baf_text.proofs.Rows.{own}
 
@@ -62,7 +62,7 @@ code_of_digits width n text some few w =
 abbrev pub said : ℕ → Option ℕ
 said d = cond (eqb d 0) None (Some d)
 
-pub code_again : (kind : Kind) (d : ℕ) → d ≤ greatest_district kind → code_value (code_text kind d) ≡ Some (said d)
+pub code_again : (kind : Kind) (d : ℕ) → d ≤ most_districts kind → code_value (code_text kind d) ≡ Some (said d)
 code_again Congress zero most = refl
 code_again Senate zero most = refl
 code_again House zero most = refl

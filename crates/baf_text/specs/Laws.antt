@@ -2,16 +2,10 @@
 use Rattle.std.specs.Prelude.{◌≡◌, ℕ, ◌<◌, ◌≤◌, ◌^◌, List, map, length, Some, Ok, All}
 use Rattle.std.specs.List.{zip}
 use Rattle.desk_model.specs.declared.kind.Kind.{Kind}
-use Rattle.desk_model.specs.declared.kind.Kind.TheVariants.{Congress, Senate, House}
+use Rattle.desk_model.specs.Kind.{most_districts}
 use Rattle.desk_model.specs.Baf.{body_read, printed}
 use Rattle.desk_model.specs.Geography.{Ground, ids, AreBlocks}
 use Rattle.baf_text.specs.Listed.{listed_of}
-
--- the greatest district that a code of the kind can write
-abbrev pub greatest_district : Kind → ℕ
-greatest_district Congress = 99
-greatest_district Senate = 999
-greatest_district House = 999
 
 -- the district of each block, rising, 0 for none, and none above n
 pub record IsAssignment (g : Ground) (n : ℕ) (f : List ℕ) : Type 0 where
@@ -26,5 +20,5 @@ pub record IsReadAgain (g : Ground) (kind : Kind) (n : ℕ) (f : List ℕ) : Typ
 
 -- for the blocks of a state, whose numbers have at most 15 digits
 abbrev pub PrintedIsRead : Type 0
-PrintedIsRead = (g : Ground) (kind : Kind) (n : ℕ) (f : List ℕ) → AreBlocks g.blocks → All (λ id. id < 10 ^ 15) (ids g) → n ≤ greatest_district kind → IsAssignment g n f
+PrintedIsRead = (g : Ground) (kind : Kind) (n : ℕ) (f : List ℕ) → AreBlocks g.blocks → All (λ id. id < 10 ^ 15) (ids g) → n ≤ most_districts kind → IsAssignment g n f
     → IsReadAgain g kind n f

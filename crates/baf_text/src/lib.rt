@@ -5,6 +5,4 @@ pub mod laws;
 pub mod listed;
 pub mod reading;
 mod row;
-#[cfg(test)]
-mod tests;
 pub mod writing;

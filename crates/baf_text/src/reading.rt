@@ -1,16 +1,13 @@
 //! Reading a block assignment file.
-ghost use Rattle.std.specs.Prelude.{◌≡◌, ℕ, ◌<◌, map, length, IfOk, IfErr, IfSome, IfNone, IsOkAnd, Contains};
-ghost use Rattle.std.specs.List.Sorted.{IsStrictlyIncreasing};
+ghost use Rattle.std.specs.Prelude.{◌≡◌, ◌<◌, map, length, IfOk, IfErr, IsOkAnd};
 ghost use Rattle.desk_model.specs.Baf.{Values, body_read, in_range};
-ghost use Rattle.desk_model.specs.Geography.{ids_of, id_at};
 ghost use Rattle.baf_text.specs.Listed.{listed_of, IsEntry, IsLineTaken};
 ghost use Rattle.baf_text.specs.Faults.{IsFaultOf};
 ghost use Rattle.baf_text.specs.declared.reading.BafFault.TheVariants.{Memory};
 
 use crate::listed::Listed;
 use crate::row::row_of;
-use desk_model::block::{BlockId, BlockRow};
-use desk_model::geography::{Geography, place_of};
+use desk_model::geography::{Geography, place_near};
 use desk_model::reply::BodyFault;
 use field_text::lines::Lines;
 use std::alloc::{AllocError, Global};
@@ -33,18 +30,6 @@ impl From<AllocError> for BafFault {
     fn from(_e: AllocError) -> BafFault {
         BafFault::Memory
     }
-}
-
-/// The place of a block, looked for first at `likely`.
-fn find(blocks: &[BlockRow], id: BlockId, likely: usize) -> Option<usize>
-    requires { IsStrictlyIncreasing (ids_of blocks.now) }
-    ensures found { IfSome result (λ place. (place < length blocks.now) × (id_at blocks.now place ≡ id)) }
-    ensures missing { IfNone result (¬ Contains (ids_of blocks.now) id) }
-{
-    if likely < blocks.len() && blocks[likely].id == id {
-        return Some(likely);
-    }
-    place_of(blocks, id)
 }
 
 /// The district that a number names, 0 for none.
@@ -74,7 +59,7 @@ fn entry_of(
     let Some(row) = row_of(line) else {
         return Err(BodyFault::Shape);
     };
-    let Some(place) = find(geography.blocks(), row.0, likely) else {
+    let Some(place) = place_near(geography.blocks(), likely, row.0) else {
         return Err(BodyFault::UnknownBlock);
     };
     if listed[place].is_some() {

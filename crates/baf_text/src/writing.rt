@@ -5,9 +5,9 @@ ghost use Rattle.desk_model.specs.Baf.{padded_decimal, code_text, row_text, prin
 use crate::reading::HEADER;
 use crate::row::ID_DIGITS;
 use desk_model::block::BlockId;
+use desk_model::decimal::write_padded;
 use desk_model::geography::Geography;
 use desk_model::kind::Kind;
-use itoa::write_digits;
 use std::alloc::{AllocError, Global};
 
 /// Room for the longest row.
@@ -32,23 +32,6 @@ fn unassigned(kind: Kind) -> &'static [u8]
     match kind {
         Kind::Congress => b"ZZ",
         Kind::Senate | Kind::House => b"ZZZ",
-    }
-}
-
-/// Writes a number of at least so many digits before `end`, where the row has zeros, and gives its start.
-fn write_padded(row: &mut [u8], end: usize, number: u64, width: usize) -> usize
-    requires room { (20 ≤ end) × (end ≤ length row.old) }
-    requires narrow { width ≤ end }
-    requires zeros { take end row.old ≡ replicate end 48 }
-    ensures start { result ≤ end }
-    ensures written { drop result row.new ≡ padded_decimal width number ++ drop end row.old }
-    ensures zeros { take result row.new ≡ replicate result 48 }
-{
-    let start = write_digits(number, row, end);
-    if start <= end - width {
-        start
-    } else {
-        end - width
     }
 }
 

@@ -1,34 +1,31 @@
--- What `check` comes to: each file is opened, read and judged in turn, and the first fault ends it.
-use Rattle.std.specs.Prelude.{◌≡◌, ℕ, List, ◌++◌, Option, Result, Ok, Err, Vec}
+-- What `check` comes to: each file is read and judged in turn, and the first fault ends it.
+use Rattle.std.specs.Prelude.{◌≡◌, ℕ, List, Result, Ok, Err, Vec}
 use Rattle.std.specs.declared.alloc.Global.{Global}
-use Rattle.std.specs.Io.KnownBytes.{Appends, Consumes, Keeps}
+use Rattle.std.specs.Io.KnownBytes.{Consumes}
+use Rattle.byte_stream.specs.Counts.{counted}
+use Rattle.field_text.specs.Reading.{turn_limit}
 use Rattle.desk_model.specs.declared.block.BlockRow.{BlockRow}
-use Rattle.pl94_geo.specs.GeoFile.{IsRead as IsHeaderRead}
+use Rattle.pl94_geo.specs.GeoFile.{IsRead as IsHeaderRead, failures_after_file as failures_after_header}
 use Rattle.pl94_geo.specs.declared.geo.GeoRows.{GeoRows}
 use Rattle.pl94_geo.specs.declared.geo.GeoFault.{GeoFault}
+use Rattle.pl94_geo.specs.declared.geo.GeoFault.TheVariants as geo
 use Rattle.pl94_segment.specs.Join.{IsJoined}
-use Rattle.pl94_segment.specs.SegFile.{IsRead as IsSegmentRead}
+use Rattle.pl94_segment.specs.SegFile.{IsRead as IsSegmentRead, failures_after_file as failures_after_segment}
 use Rattle.pl94_segment.specs.declared.record.Part.{Part}
 use Rattle.pl94_segment.specs.declared.record.Part.TheVariants.{One, Two, Three}
 use Rattle.pl94_segment.specs.declared.segment.SegRows.{SegRows}
 use Rattle.pl94_segment.specs.declared.segment.SegFault.{SegFault}
+use Rattle.pl94_segment.specs.declared.segment.SegFault.TheVariants as segment
 use Rattle.pl94_segment.specs.declared.join.JoinFault.{JoinFault}
 use Rattle.pl94_segment.specs.declared.join.JoinFault.TheVariants as join
 use Rattle.check_command.specs.Counts.{counts_text}
+use Rattle.check_command.specs.Opening.{File, Opening, Census}
 use Rattle.check_command.specs.Telling.{Tells}
-use Rattle.check_command.specs.declared.fault.OpenFault.{OpenFault}
+use Rattle.check_command.specs.Writing.{Written, Prints}
 use Rattle.check_command.specs.declared.fault.CheckFault.{CheckFault}
 use Rattle.check_command.specs.declared.fault.CheckFault.TheVariants.{NoHeader, Header, NoSegment, Segment, Join}
 use Rattle.check_command.specs.declared.status.Status.{Status}
-use Rattle.check_command.specs.declared.status.Status.TheVariants.{Done, Broken, Usage, Refused, Memory, Stream}
-
--- an opening: the bytes that the file has, where they are known, or why it isn't opened
-abbrev pub Opening : Type 0
-Opening = Result (Option (List ℕ)) OpenFault
-
-abbrev pub opening_of : {R : Type 0} → (R → Option (List ℕ)) → Result R OpenFault → Opening
-opening_of remaining (Ok reader) = Ok (remaining reader)
-opening_of remaining (Err fault) = Err fault
+use Rattle.check_command.specs.declared.status.Status.TheVariants.{Done}
 
 -- what a fault or a success of the header is to the command
 abbrev pub header_outcome : Result GeoRows GeoFault → Result GeoRows CheckFault
@@ -43,59 +40,72 @@ abbrev pub join_outcome : Result (Vec BlockRow Global) JoinFault → Result (Vec
 join_outcome (Ok rows) = Ok rows
 join_outcome (Err fault) = Err (Join fault)
 
--- some bytes came from the file, and this is what they say
-abbrev pub ReadsHeader : Opening → Result GeoRows CheckFault → Type 0
-ReadsHeader (Err fault) outcome = outcome ≡ Err (NoHeader fault)
-ReadsHeader (Ok unread) outcome = (left : Option (List ℕ)) × (text : List ℕ) × (read : Result GeoRows GeoFault)
-    × Consumes unread left text × IsHeaderRead text left read × (outcome ≡ header_outcome read)
+-- the file was asked as often as that is done
+abbrev pub IsAtLimit : (before after : File) → Type 0
+IsAtLimit before after = after.turns ≡ counted before.turns turn_limit
 
-abbrev pub ReadsSegment : Part → Opening → Result SegRows CheckFault → Type 0
-ReadsSegment part (Err fault) outcome = outcome ≡ Err (NoSegment part fault)
-ReadsSegment part (Ok unread) outcome = (left : Option (List ℕ)) × (text : List ℕ) × (read : Result SegRows SegFault)
-    × Consumes unread left text × IsSegmentRead part text left read × (outcome ≡ segment_outcome part read)
+-- These bytes came from the header's file, and this is what they say. Its reader failed once more exactly where that is told,
+-- and the turn limit is told at the limit alone.
+abbrev pub IsHeaderOf : (before after : File) → Result GeoRows GeoFault → Type 0
+IsHeaderOf before after read = (text : List ℕ) × Consumes before.unread after.unread text × IsHeaderRead text after.unread read
+    × (after.failures ≡ failures_after_header before.failures read)
+    × ((line : ℕ) → read ≡ Err (geo.TurnLimit line) → IsAtLimit before after)
+
+abbrev pub ReadsHeader : (before after : Opening) → Result GeoRows CheckFault → Type 0
+ReadsHeader (Err fault) after outcome = (after ≡ Err fault) × (outcome ≡ Err (NoHeader fault))
+ReadsHeader (Ok before) (Err fault) outcome = ⊥
+ReadsHeader (Ok before) (Ok after) outcome = (read : Result GeoRows GeoFault) × IsHeaderOf before after read × (outcome ≡ header_outcome read)
+
+-- the same of a segment
+abbrev pub IsSegmentOf : Part → (before after : File) → Result SegRows SegFault → Type 0
+IsSegmentOf part before after read = (text : List ℕ) × Consumes before.unread after.unread text × IsSegmentRead part text after.unread read
+    × (after.failures ≡ failures_after_segment before.failures read)
+    × ((line : ℕ) → read ≡ Err (segment.TurnLimit line) → IsAtLimit before after)
+
+abbrev pub ReadsSegment : Part → (before after : Opening) → Result SegRows CheckFault → Type 0
+ReadsSegment part (Err fault) after outcome = (after ≡ Err fault) × (outcome ≡ Err (NoSegment part fault))
+ReadsSegment part (Ok before) (Err fault) outcome = ⊥
+ReadsSegment part (Ok before) (Ok after) outcome = (read : Result SegRows SegFault) × IsSegmentOf part before after read × (outcome ≡ segment_outcome part read)
 
 -- the header and the segments together
 abbrev pub Joins : GeoRows → SegRows → SegRows → SegRows → Result (Vec BlockRow Global) CheckFault → Type 0
 Joins header first second third outcome = (joined : Result (Vec BlockRow Global) JoinFault)
     × IsJoined header first second third joined × (outcome ≡ join_outcome joined)
 
--- the next step goes on from what this one gave, and its fault ends all
-abbrev pub GoesOn : {A B : Type 0} → Result A CheckFault → (A → Result B CheckFault → Type 0) → Result B CheckFault → Type 0
-GoesOn (Ok value) next outcome = next value outcome
-GoesOn (Err fault) next outcome = outcome ≡ Err fault
+-- the next step goes on from what this one gave; its fault ends all, and the files that come after it stay as they are
+abbrev pub GoesOn : {A B : Type 0} → Result A CheckFault → Type 0 → (A → Result B CheckFault → Type 0) → Result B CheckFault → Type 0
+GoesOn (Ok value) kept next outcome = next value outcome
+GoesOn (Err fault) kept next outcome = kept × (outcome ≡ Err fault)
 
-abbrev pub Then : {A B : Type 0} → (Result A CheckFault → Type 0) → (A → Result B CheckFault → Type 0) → Result B CheckFault → Type 0
-Then {A} {B} step next outcome = (given : Result A CheckFault) × step given × GoesOn given next outcome
+abbrev pub Then : {A B : Type 0} → (Result A CheckFault → Type 0) → Type 0 → (A → Result B CheckFault → Type 0) → Result B CheckFault → Type 0
+Then {A} {B} step kept next outcome = (given : Result A CheckFault) × step given × GoesOn given kept next outcome
+
+-- no file comes after it
+abbrev pub NoFile : Type 0
+NoFile = Unit {0}
 
 -- the files of a state, one after the other
-abbrev pub ReadsState : (header first second third : Opening) → Result (Vec BlockRow Global) CheckFault → Type 0
-ReadsState header first second third =
-    Then (ReadsHeader header) (λ rows. Then (ReadsSegment One first) (λ one. Then (ReadsSegment Two second) (λ two.
-    Then (ReadsSegment Three third) (λ three. Joins rows one two three))))
+abbrev pub ReadsState : (before after : Census) → Result (Vec BlockRow Global) CheckFault → Type 0
+ReadsState before after =
+    Then (ReadsHeader before.header after.header) ((after.first ≡ before.first) × (after.second ≡ before.second) × (after.third ≡ before.third)) (λ rows.
+    Then (ReadsSegment One before.first after.first) ((after.second ≡ before.second) × (after.third ≡ before.third)) (λ one.
+    Then (ReadsSegment Two before.second after.second) (after.third ≡ before.third) (λ two.
+    Then (ReadsSegment Three before.third after.third) NoFile (λ three. Joins rows one two three))))
 
 -- and the counts of its blocks
 abbrev pub PrintsCounts : Vec BlockRow Global → Result (Vec ℕ Global) CheckFault → Type 0
 PrintsCounts rows (Ok text) = text.items ≡ counts_text rows.items
 PrintsCounts rows (Err fault) = fault ≡ Join join.Memory
 
-abbrev pub CountsState : (header first second third : Opening) → Result (Vec ℕ Global) CheckFault → Type 0
-CountsState header first second third = Then (ReadsState header first second third) PrintsCounts
-
--- the whole text is written: 0; or a front of it: 6
-abbrev pub Prints : Status → (before after : Option (List ℕ)) → List ℕ → Type 0
-Prints Done before after text = Appends before after text
-Prints Stream before after text = (front : List ℕ) × (rest : List ℕ) × (text ≡ front ++ rest) × Appends before after front
-Prints Broken before after text = ⊥
-Prints Usage before after text = ⊥
-Prints Refused before after text = ⊥
-Prints Memory before after text = ⊥
+abbrev pub CountsState : (before after : Census) → Result (Vec ℕ Global) CheckFault → Type 0
+CountsState before after = Then (ReadsState before after) NoFile PrintsCounts
 
 -- the text is printed; or nothing is, and the fault is told
-abbrev pub Ends : Result (Vec ℕ Global) CheckFault → Status → (before after told_before told_after : Option (List ℕ)) → Type 0
-Ends (Ok text) status before after told_before told_after = Prints status before after text.items
-Ends (Err fault) status before after told_before told_after = Keeps before after × Tells fault status told_before told_after
+abbrev pub Ends : Result (Vec ℕ Global) CheckFault → Status → (before after told_before told_after : Written) → Type 0
+Ends (Ok text) status before after told_before told_after = Prints text.items Done status before after told_before told_after
+Ends (Err fault) status before after told_before told_after = (after ≡ before) × Tells fault status told_before told_after
 
 -- the counts of the files
-abbrev pub Counts : (header first second third : Opening) → Status → (before after told_before told_after : Option (List ℕ)) → Type 0
-Counts header first second third status before after told_before told_after =
-    (outcome : Result (Vec ℕ Global) CheckFault) × CountsState header first second third outcome × Ends outcome status before after told_before told_after
+abbrev pub Counts : (files left : Census) → Status → (before after told_before told_after : Written) → Type 0
+Counts files left status before after told_before told_after =
+    (outcome : Result (Vec ℕ Global) CheckFault) × CountsState files left outcome × Ends outcome status before after told_before told_after

@@ -2,6 +2,7 @@
 use Rattle.std.specs.Prelude.{◌≡◌, ℕ, ◌+◌, ◌-◌, ◌^◌, ◌<◌, ◌≤◌, List, length, min, Option, Result, Ok, Err, Vec, ⊤}
 use Rattle.std.specs.declared.alloc.Global.{Global}
 use Rattle.std.specs.Io.KnownBytes.{IsAtEnd}
+use Rattle.byte_stream.specs.Counts.{counted}
 use Rattle.check_command.specs.declared.whole.WholeFault.{WholeFault}
 use Rattle.check_command.specs.declared.whole.WholeFault.TheVariants as fault
 
@@ -21,6 +22,6 @@ IsWholeFile text left (Err fault.Memory) = ⊤
 abbrev pub failures_after_whole : ℕ → Result (Vec ℕ Global) WholeFault → ℕ
 failures_after_whole before (Ok bytes) = before
 failures_after_whole before (Err fault.TooLarge) = before
-failures_after_whole before (Err fault.Failed) = min (before + 1) (2 ^ 64 - 1)
+failures_after_whole before (Err fault.Failed) = counted before 1
 failures_after_whole before (Err fault.TurnLimit) = before
 failures_after_whole before (Err fault.Memory) = before

@@ -2,11 +2,12 @@
 ghost use Rattle.std.specs.Prelude.{◌≡◌, IfOk};
 ghost use Rattle.desk_model.specs.Geography.{AreBlocks};
 ghost use Rattle.pl94_geo.specs.GeoFile.{AreGeoRows};
-ghost use Rattle.check_command.specs.Checking.{opening_of, ReadsHeader, ReadsSegment, Joins, ReadsState};
+ghost use Rattle.check_command.specs.Checking.{ReadsHeader, ReadsSegment, Joins, ReadsState};
+ghost use Rattle.check_command.specs.Opening.{opening_of, census_of};
 
 use crate::fault::{CheckFault, OpenFault};
+use byte_stream::source::Source;
 use desk_model::block::BlockRow;
-use field_text::source::Source;
 use pl94_geo::geo::{GeoReader, GeoRows};
 use pl94_segment::join::{JoinFault, join};
 use pl94_segment::record::Part;
@@ -22,35 +23,35 @@ pub struct CensusFiles<R> {
     pub seg3: Result<R, OpenFault>,
 }
 
-fn read_header<R: Source + Drop>(
+fn read_header<R: Source>(
     alloc: Global,
-    opened: Result<R, OpenFault>,
+    opened: &mut Result<R, OpenFault>,
 ) -> Result<GeoRows, CheckFault>
-    ensures read { ReadsHeader (opening_of R.remaining opened) result }
+    ensures read { ReadsHeader (opening_of R.remaining R.turns R.failures opened.old) (opening_of R.remaining R.turns R.failures opened.new) result }
     ensures valid { IfOk result AreGeoRows }
 {
     match opened {
-        Ok(mut reader) => match GeoReader::read(alloc, &mut reader) {
+        Ok(reader) => match GeoReader::read(alloc, reader) {
             Ok(rows) => Ok(rows),
             Err(fault) => Err(CheckFault::Header(fault)),
         },
-        Err(fault) => Err(CheckFault::NoHeader(fault)),
+        Err(fault) => Err(CheckFault::NoHeader(*fault)),
     }
 }
 
-fn read_segment<R: Source + Drop>(
+fn read_segment<R: Source>(
     alloc: Global,
     part: Part,
-    opened: Result<R, OpenFault>,
+    opened: &mut Result<R, OpenFault>,
 ) -> Result<SegRows, CheckFault>
-    ensures { ReadsSegment part (opening_of R.remaining opened) result }
+    ensures { ReadsSegment part (opening_of R.remaining R.turns R.failures opened.old) (opening_of R.remaining R.turns R.failures opened.new) result }
 {
     match opened {
-        Ok(mut reader) => match SegmentReader::read(alloc, part, &mut reader) {
+        Ok(reader) => match SegmentReader::read(alloc, part, reader) {
             Ok(rows) => Ok(rows),
             Err(fault) => Err(CheckFault::Segment(part, fault)),
         },
-        Err(fault) => Err(CheckFault::NoSegment(part, fault)),
+        Err(fault) => Err(CheckFault::NoSegment(part, *fault)),
     }
 }
 
@@ -71,23 +72,18 @@ fn join_rows(
     }
 }
 
-/// The blocks of a state with their people, rising by number, or the first fault of its files.
-pub fn read_state<R: Source + Drop>(
+/// The blocks of a state with their people, rising by number, or the first fault of its files. Of the files that come after a
+/// fault nothing is read.
+pub fn read_state<R: Source>(
     alloc: Global,
-    files: CensusFiles<R>,
+    files: &mut CensusFiles<R>,
 ) -> Result<Vec<BlockRow>, CheckFault>
-    ensures read { ReadsState (opening_of R.remaining files.geo) (opening_of R.remaining files.seg1) (opening_of R.remaining files.seg2) (opening_of R.remaining files.seg3) result }
+    ensures read { ReadsState (census_of R.remaining R.turns R.failures files.old) (census_of R.remaining R.turns R.failures files.new) result }
     ensures blocks { IfOk result (λ rows. AreBlocks rows.items) }
 {
-    let CensusFiles {
-        geo,
-        seg1,
-        seg2,
-        seg3,
-    } = files;
-    let header = read_header(alloc, geo)?;
-    let first = read_segment(alloc, Part::One, seg1)?;
-    let second = read_segment(alloc, Part::Two, seg2)?;
-    let third = read_segment(alloc, Part::Three, seg3)?;
+    let header = read_header(alloc, &mut files.geo)?;
+    let first = read_segment(alloc, Part::One, &mut files.seg1)?;
+    let second = read_segment(alloc, Part::Two, &mut files.seg2)?;
+    let third = read_segment(alloc, Part::Three, &mut files.seg3)?;
     join_rows(alloc, &header, &first, &second, &third)
 }

@@ -1,20 +1,22 @@
 //! `check`: the counts of a state's census files.
 ghost use Rattle.std.specs.Prelude.{◌≡◌};
-ghost use Rattle.check_command.specs.Checking.{opening_of, CountsState, Counts, Ends};
+ghost use Rattle.check_command.specs.Opening.{census_of};
+ghost use Rattle.check_command.specs.Writing.{written_of};
+ghost use Rattle.check_command.specs.Checking.{CountsState, Counts, Ends};
 
 use crate::census::{CensusFiles, read_state};
 use crate::counts::print_counts;
 use crate::fault::CheckFault;
 use crate::status::Status;
-use crate::telling::tell;
-use field_text::source::Source;
-use http_wire::sink::Sink;
+use crate::telling::{print, tell};
+use byte_stream::sink::Sink;
+use byte_stream::source::Source;
 use pl94_segment::join::JoinFault;
 use std::alloc::Global;
 
 /// What is printed of a state's files.
-fn counts_of<R: Source + Drop>(alloc: Global, files: CensusFiles<R>) -> Result<Vec<u8>, CheckFault>
-    ensures { CountsState (opening_of R.remaining files.geo) (opening_of R.remaining files.seg1) (opening_of R.remaining files.seg2) (opening_of R.remaining files.seg3) result }
+fn counts_of<R: Source>(alloc: Global, files: &mut CensusFiles<R>) -> Result<Vec<u8>, CheckFault>
+    ensures { CountsState (census_of R.remaining R.turns R.failures files.old) (census_of R.remaining R.turns R.failures files.new) result }
 {
     let rows = read_state(alloc, files)?;
     match print_counts(alloc, rows.as_slice()) {
@@ -30,29 +32,23 @@ fn end<W: Sink, E: Sink>(
     writer: &mut W,
     errors: &mut E,
 ) -> Status
-    ensures { Ends outcome result (W.contents writer.old) (W.contents writer.new) (E.contents errors.old) (E.contents errors.new) }
+    ensures { Ends outcome result (written_of W.contents W.failures writer.old) (written_of W.contents W.failures writer.new) (written_of E.contents E.failures errors.old) (written_of E.contents E.failures errors.new) }
 {
     match outcome {
-        Ok(text) => match writer.send(text.as_slice()) {
-            Ok(()) => Status::Done,
-            Err(_) => {
-                let _ = errors.send(b"plandesk: check: WriteFault\n");
-                Status::Stream
-            }
-        },
+        Ok(text) => print(text.as_slice(), Status::Done, writer, errors),
         Err(fault) => tell(alloc, fault, errors),
     }
 }
 
 /// Prints the numbers of blocks, counties and people of a state, and the people of each county: 0. 3 where a file is
 /// refused and 5 where memory is, with the file and its fault told and nothing printed; 6 where the writing fails.
-pub fn check<R: Source + Drop, W: Sink, E: Sink>(
+pub fn check<R: Source, W: Sink, E: Sink>(
     alloc: Global,
-    files: CensusFiles<R>,
+    files: &mut CensusFiles<R>,
     writer: &mut W,
     errors: &mut E,
 ) -> Status
-    ensures { Counts (opening_of R.remaining files.geo) (opening_of R.remaining files.seg1) (opening_of R.remaining files.seg2) (opening_of R.remaining files.seg3) result (W.contents writer.old) (W.contents writer.new) (E.contents errors.old) (E.contents errors.new) }
+    ensures { Counts (census_of R.remaining R.turns R.failures files.old) (census_of R.remaining R.turns R.failures files.new) result (written_of W.contents W.failures writer.old) (written_of W.contents W.failures writer.new) (written_of E.contents E.failures errors.old) (written_of E.contents E.failures errors.new) }
 {
     let outcome = counts_of(alloc, files);
     end(alloc, outcome, writer, errors)

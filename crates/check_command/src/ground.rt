@@ -1,32 +1,32 @@
 //! The geography of a state: its blocks, and what its neighbour file says of them.
 ghost use Rattle.std.specs.Prelude.{◌≡◌, IfOk, All};
 ghost use Rattle.desk_model.specs.Geography.{AreBlocks, AreDifferentBlocks};
-ghost use Rattle.check_command.specs.Checking.{opening_of};
+ghost use Rattle.check_command.specs.Opening.{opening_of};
 ghost use Rattle.check_command.specs.Auditing.{ReadsNeighbours, MakesGround, ReadsGround};
 
 use crate::fault::{CheckFault, OpenFault};
+use byte_stream::source::Source;
 use desk_model::block::{BlockId, BlockRow};
 use desk_model::geography::Geography;
-use field_text::source::Source;
 use gal_text::fault::GalFault;
 use gal_text::gal::read;
 use std::alloc::Global;
 
-fn read_neighbours<R: Source + Drop>(
+fn read_neighbours<R: Source>(
     alloc: Global,
-    opened: Result<R, OpenFault>,
+    opened: &mut Result<R, OpenFault>,
     blocks: &[BlockRow],
 ) -> Result<Vec<(BlockId, BlockId)>, CheckFault>
     requires { AreBlocks blocks.now }
-    ensures read { ReadsNeighbours blocks.now (opening_of R.remaining opened) result }
+    ensures read { ReadsNeighbours blocks.now (opening_of R.remaining R.turns R.failures opened.old) (opening_of R.remaining R.turns R.failures opened.new) result }
     ensures valid { IfOk result (λ pairs. All (AreDifferentBlocks blocks.now) pairs.items) }
 {
     match opened {
-        Ok(mut reader) => match read(alloc, &mut reader, blocks) {
+        Ok(reader) => match read(alloc, reader, blocks) {
             Ok(pairs) => Ok(pairs),
             Err(fault) => Err(CheckFault::Gal(fault)),
         },
-        Err(fault) => Err(CheckFault::NoGal(fault)),
+        Err(fault) => Err(CheckFault::NoGal(*fault)),
     }
 }
 
@@ -46,13 +46,13 @@ fn make_ground(
 }
 
 /// The geography of these blocks and of the pairs that a neighbour file says, or the file's fault.
-pub fn read_ground<R: Source + Drop>(
+pub fn read_ground<R: Source>(
     alloc: Global,
     blocks: Vec<BlockRow>,
-    opened: Result<R, OpenFault>,
+    opened: &mut Result<R, OpenFault>,
 ) -> Result<Geography, CheckFault>
     requires { AreBlocks blocks.items }
-    ensures { ReadsGround blocks.items (opening_of R.remaining opened) result }
+    ensures { ReadsGround blocks.items (opening_of R.remaining R.turns R.failures opened.old) (opening_of R.remaining R.turns R.failures opened.new) result }
 {
     let pairs = read_neighbours(alloc, opened, blocks.as_slice())?;
     make_ground(alloc, blocks, pairs.as_slice())

@@ -8,6 +8,7 @@ pub mod check;
 pub mod counts;
 pub mod fault;
 pub mod ground;
+pub mod open;
 pub mod options;
 pub mod plan_file;
 pub mod report;

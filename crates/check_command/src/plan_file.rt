@@ -1,15 +1,15 @@
 //! A plan's file: opened, read whole, and judged against the blocks.
 ghost use Rattle.std.specs.Prelude.{◌≡◌, IfOk, IfSome, length, is_some};
 ghost use Rattle.std.specs.Option.{option_copied};
-ghost use Rattle.check_command.specs.Checking.{opening_of};
+ghost use Rattle.check_command.specs.Opening.{opening_of};
 ghost use Rattle.check_command.specs.PlanFiles.{plan_fault_of_open, plan_fault_of_whole, ReadsBytes, JudgesPlan, ReadsPlan, companion_of, ReadsCompanion, beside};
 
 use crate::fault::{CheckFault, OpenFault, PlanFault, PlanFile};
 use crate::whole::{WholeFault, read_whole};
 use baf_text::listed::whole;
 use baf_text::reading::{BafFault, read};
+use byte_stream::source::Source;
 use desk_model::geography::Geography;
-use field_text::source::Source;
 use std::alloc::Global;
 
 /// The senate plan that a house plan is nested in: its file's opening, and its number of districts.
@@ -39,19 +39,19 @@ fn reading_fault(fault: WholeFault) -> PlanFault
     }
 }
 
-fn read_bytes<R: Source + Drop>(
+fn read_bytes<R: Source>(
     alloc: Global,
     file: PlanFile,
-    opened: Result<R, OpenFault>,
+    opened: &mut Result<R, OpenFault>,
 ) -> Result<Vec<u8>, CheckFault>
-    ensures { ReadsBytes file (opening_of R.remaining opened) result }
+    ensures { ReadsBytes file (opening_of R.remaining R.turns R.failures opened.old) (opening_of R.remaining R.turns R.failures opened.new) result }
 {
     match opened {
-        Ok(mut reader) => match read_whole(alloc, &mut reader) {
+        Ok(reader) => match read_whole(alloc, reader) {
             Ok(bytes) => Ok(bytes),
             Err(fault) => Err(CheckFault::Plan(file, reading_fault(fault))),
         },
-        Err(fault) => Err(CheckFault::Plan(file, opening_fault(fault))),
+        Err(fault) => Err(CheckFault::Plan(file, opening_fault(*fault))),
     }
 }
 
@@ -78,36 +78,56 @@ fn judge(
 }
 
 /// The district of each block, rising, 0 for none, as a plan's file says it, or the file's fault.
-pub fn read_plan<R: Source + Drop>(
+pub fn read_plan<R: Source>(
     alloc: Global,
     file: PlanFile,
     geography: &Geography,
     n: u16,
-    opened: Result<R, OpenFault>,
+    opened: &mut Result<R, OpenFault>,
 ) -> Result<Vec<u16>, CheckFault>
-    ensures read { ReadsPlan file geography.now n (opening_of R.remaining opened) result }
+    ensures read { ReadsPlan file geography.now n (opening_of R.remaining R.turns R.failures opened.old) (opening_of R.remaining R.turns R.failures opened.new) result }
     ensures beside { IfOk result (λ plan. length plan.items ≡ length geography.now.blocks) }
 {
     let bytes = read_bytes(alloc, file, opened)?;
     judge(alloc, file, bytes.as_slice(), geography, n)
 }
 
-/// The senate plan beside a house plan, where there is one.
-pub fn read_companion<R: Source + Drop>(
+fn read_senate<R: Source>(
     alloc: Global,
     geography: &Geography,
-    companion: Option<Companion<R>>,
-) -> Result<Option<Vec<u16>>, CheckFault>
-    ensures read { ReadsCompanion geography.now (companion_of R.remaining companion) result }
-    ensures beside { IfOk result (λ plan. IfSome plan (λ p. length p.items ≡ length geography.now.blocks)) }
-    ensures same { IfOk result (λ plan. is_some plan ≡ is_some companion) }
+    companion: &mut Companion<R>,
+) -> Result<Vec<u16>, CheckFault>
+    ensures read { ReadsPlan PlanFile.Senate geography.now companion.old.districts (opening_of R.remaining R.turns R.failures companion.old.opened) (opening_of R.remaining R.turns R.failures companion.new.opened) result }
+    ensures same { companion.new.districts ≡ companion.old.districts }
+    ensures beside { IfOk result (λ plan. length plan.items ≡ length geography.now.blocks) }
 {
-    let Some(companion) = companion else {
-        return Ok(None);
-    };
-    let Companion { opened, districts } = companion;
-    let plan = read_plan(alloc, PlanFile::Senate, geography, districts, opened)?;
-    Ok(Some(plan))
+    let districts = companion.districts;
+    read_plan(
+        alloc,
+        PlanFile::Senate,
+        geography,
+        districts,
+        &mut companion.opened,
+    )
+}
+
+/// The senate plan beside a house plan, where there is one.
+pub fn read_companion<R: Source>(
+    alloc: Global,
+    geography: &Geography,
+    companion: &mut Option<Companion<R>>,
+) -> Result<Option<Vec<u16>>, CheckFault>
+    ensures read { ReadsCompanion geography.now (companion_of R.remaining R.turns R.failures companion.old) (companion_of R.remaining R.turns R.failures companion.new) result }
+    ensures beside { IfOk result (λ plan. IfSome plan (λ p. length p.items ≡ length geography.now.blocks)) }
+    ensures same { IfOk result (λ plan. is_some plan ≡ is_some companion.old) }
+{
+    match companion {
+        None => Ok(None),
+        Some(companion) => match read_senate(alloc, geography, companion) {
+            Ok(plan) => Ok(Some(plan)),
+            Err(fault) => Err(fault),
+        },
+    }
 }
 
 /// The districts of a senate plan, where there is one.

@@ -1,12 +1,13 @@
 //! A plan's file, read whole.
 ghost use Rattle.std.specs.Prelude.{◌≡◌, ◌+◌, ◌-◌, ◌^◌, ◌<◌, ◌≤◌, ℕ, List, length, take, drop, vec_len, min, Err, OnOk};
+ghost use Rattle.byte_stream.specs.Counts.{counted};
 ghost use Rattle.std.specs.Io.KnownBytes.{Consumes};
-ghost use Rattle.field_text.specs.Turns.{TurnConsumes, failures_after};
+ghost use Rattle.byte_stream.specs.Turns.{TurnConsumes, failures_after};
 ghost use Rattle.field_text.specs.Reading.{Fills, turn_limit};
 ghost use Rattle.check_command.specs.Whole.{IsWholeFile, failures_after_whole};
 
+use byte_stream::source::{Source, Turn};
 use field_text::reader::TURN_LIMIT;
-use field_text::source::{Source, Turn};
 use std::alloc::{AllocError, Global};
 
 /// A plan's file has at most this many bytes.
@@ -44,7 +45,7 @@ fn read_after<R: Source>(reader: &mut R, buffer: &mut [u8], end: usize) -> Turn
     requires { end < length buffer.old }
     ensures front { take end buffer.new ≡ take end buffer.old }
     ensures bytes { TurnConsumes (R.remaining reader.old) (R.remaining reader.new) result (drop end buffer.new) }
-    ensures turns { R.turns reader.new ≡ min (R.turns reader.old + 1) (2 ^ 64 - 1) }
+    ensures turns { R.turns reader.new ≡ counted (R.turns reader.old) 1 }
     ensures failures { R.failures reader.new ≡ failures_after (R.failures reader.old) result }
 {
     reader.turn(&mut buffer[end..])
@@ -55,7 +56,7 @@ fn read_piece<R: Source>(reader: &mut R, text: &mut Vec<u8>, filled: usize) -> T
     requires { filled < vec_len text.old }
     ensures bytes { Fills (R.remaining reader.old) (R.remaining reader.new) (take filled text.old.items) result text.new.items }
     ensures most { vec_len text.new ≤ vec_len text.old }
-    ensures turns { R.turns reader.new ≡ min (R.turns reader.old + 1) (2 ^ 64 - 1) }
+    ensures turns { R.turns reader.new ≡ counted (R.turns reader.old) 1 }
     ensures failures { R.failures reader.new ≡ failures_after (R.failures reader.old) result }
 {
     match read_after(reader, text.as_mut_slice(), filled) {
@@ -78,7 +79,7 @@ fn read_piece<R: Source>(reader: &mut R, text: &mut Vec<u8>, filled: usize) -> T
 pub fn read_whole<R: Source>(alloc: Global, reader: &mut R) -> Result<Vec<u8>, WholeFault>
     ensures read { (text : List ℕ) × Consumes (R.remaining reader.old) (R.remaining reader.new) text × IsWholeFile text (R.remaining reader.new) result }
     ensures failures { R.failures reader.new ≡ failures_after_whole (R.failures reader.old) result }
-    ensures limit { result ≡ Err WholeFault.TurnLimit → R.turns reader.new ≡ min (R.turns reader.old + turn_limit) (2 ^ 64 - 1) }
+    ensures limit { result ≡ Err WholeFault.TurnLimit → R.turns reader.new ≡ counted (R.turns reader.old) turn_limit }
     ensures turns { R.turns reader.new ≤ R.turns reader.old + turn_limit }
 {
     let mut text = Vec::new(alloc);

@@ -1,5 +1,8 @@
 pub mod Maps
 pub mod Places
+pub mod Pairs
 pub mod SampleIsGround
 pub mod NameLemmas
 pub mod Parts
+pub mod Runs
+pub mod Decimals

@@ -34,7 +34,7 @@ module _ (g : Ground) (listed : Values) (valid : AreBlocks g.blocks) where
   same_state : (i j : ℕ) → i < length g.blocks → j < length g.blocks → state_of (id_at g.blocks i) ≡ state_of (id_at g.blocks j)
   same_state i j first second = valid.one_state i 0 (rw length-map first) ∙ sym (valid.one_state j 0 (rw length-map second))
 
-  climbs : (i j : ℕ) → i ≤ j → j < length g.blocks → county_of (id_at g.blocks i) ≤ county_of (id_at g.blocks j)
+  pub climbs : (i j : ℕ) → i ≤ j → j < length g.blocks → county_of (id_at g.blocks i) ≤ county_of (id_at g.blocks j)
   climbs i j less within = ⊎_elim
       (λ lower. county_rises _ _ (omega (arith, below_from_sorted (ids g) i j 0 (sorted_from_strictly_increasing (ids g) valid.rising) lower (rw length-map within))) (same_state i j (omega arith) within))
       (λ (over : j ≤ i). let e : i ≡ j = omega arith in rw e (omega arith))

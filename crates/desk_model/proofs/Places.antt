@@ -1,22 +1,14 @@
 -- Where a block stands in a rising list.
-use Rattle.std.proofs.Common.{◌≡◌, ℕ, ◌+◌, ◌<◌, ◌≤◌, List, [], ◌∷◌, ◌++◌, map, length, get_or, take, All, Contains, arith, sym, ◌∙◌, ap, refl, ⊎_elim}
+use Rattle.std.proofs.Common.{◌≡◌, ℕ, ◌+◌, ◌<◌, ◌≤◌, List, length, get_or, Contains, arith, sym, ◌∙◌, ap, ⊎_elim}
 use Rattle.std.proofs.lemmas.Map.Keys.{sorted_from_strictly_increasing, below_from_sorted}
-use Rattle.std.proofs.lemmas.List.{get_or-map, map_push, take_more, length-map}
-use Rattle.std.proofs.lemmas.List.Elements.{All-push}
+use Rattle.std.proofs.lemmas.List.{get_or-map, length-map}
 use Rattle.std.proofs.lemmas.Grind.{get_or_default_zero}
 use Rattle.std.proofs.lemmas.Bool.{cases_lt}
 use Rattle.std.specs.List.Sorted.{IsStrictlyIncreasing}
-use Rattle.desk_model.specs.Geography.{ids_of, id_at, pair_ids, AreDifferentBlocks, IsPair}
+use Rattle.desk_model.specs.Geography.{ids_of, id_at, IsBetween}
 use Rattle.desk_model.specs.declared.block.BlockRow.{BlockRow}
-use Rattle.desk_model.specs.declared.geography.Pair.{Pair}
 
--- blocks below low are smaller, and those from high on are greater
-pub record IsBetween (blocks : List BlockRow) (id low high : ℕ) : Type 0 where
-  pub within : high ≤ length blocks
-  pub below : (k : ℕ) → k < low → id_at blocks k < id
-  pub above : (k : ℕ) → high ≤ k → k < length blocks → id < id_at blocks k
-
-rises : (blocks : List BlockRow) → IsStrictlyIncreasing (ids_of blocks) → (i j : ℕ) → i < j → j < length blocks → id_at blocks i < id_at blocks j
+pub rises : (blocks : List BlockRow) → IsStrictlyIncreasing (ids_of blocks) → (i j : ℕ) → i < j → j < length blocks → id_at blocks i < id_at blocks j
 rises blocks rising i j less within =
     below_from_sorted (ids_of blocks) i j 0 (sorted_from_strictly_increasing (ids_of blocks) rising) less (rw length-map within)
 
@@ -58,24 +50,29 @@ not_there blocks id low high was closed has =
     let there : id_at blocks has.0 ≡ id = sym (get_or_default_zero (ids_of blocks) has.0 id has.1) ∙ has.2 in
     ⊎_elim (λ less. omega (arith, was.below has.0 less, there)) (λ more. omega (arith, was.above has.0 (omega arith) inside, there)) (cases_lt has.0 low)
 
--- the pairs so far are placed
-pub record ArePlaced (blocks : List BlockRow) (pairs : List (ℕ × ℕ)) (count : ℕ) (placed : List Pair) : Type 0 where
-  pub same : map (pair_ids blocks) placed ≡ take count pairs
-  pub valid : All (IsPair (length blocks)) placed
+-- the whole list
+pub between_all : (blocks : List BlockRow) (id : ℕ) → IsBetween blocks id 0 (length blocks)
+between_all blocks id = record { within = omega arith; below = λ k under. absurd (omega arith); above = λ k over inside. absurd (omega arith) }
 
-pub place_more : (blocks : List BlockRow) (pairs : List (ℕ × ℕ)) (count : ℕ) (placed : List Pair) (given : ℕ × ℕ) (pair : Pair) → count < length pairs
-    → ArePlaced blocks pairs count placed → given ≡ get_or pairs count given → AreDifferentBlocks blocks given
-    → (pair.first < length blocks) × (id_at blocks pair.first ≡ given.0) → (pair.second < length blocks) × (id_at blocks pair.second ≡ given.1)
-    → ArePlaced blocks pairs (count + 1) (placed ++ pair ∷ [])
-place_more blocks pairs count placed given pair within was is different first second = record {
-  same = map_push (pair_ids blocks) placed pair ∙ ap (λ xs. xs ++ pair_ids blocks pair ∷ []) was.same
-      ∙ ap (λ p. take count pairs ++ p ∷ []) same_ids ∙ sym (take_more pairs count given within);
-  valid = All-push (IsPair (length blocks)) placed pair was.valid (record {
-    first = first.0;
-    second = second.0;
-    differ = λ e. different.differ (sym first.1 ∙ ap (id_at blocks) e ∙ second.1);
-  });
+-- up to and with a block that isn't before it
+pub up_to : (blocks : List BlockRow) (id low at : ℕ) (row : BlockRow) → IsStrictlyIncreasing (ids_of blocks) → IsBetween blocks id low (length blocks)
+    → at < length blocks → row ≡ get_or blocks at row → id ≤ row.id → IsBetween blocks id low (at + 1)
+up_to blocks id low at row rising was within is most = record {
+  within = omega arith;
+  below = was.below;
+  above = λ k over inside. omega (arith, rises blocks rising at k (omega arith) inside, id_there blocks at row within is);
 }
-  where
-    same_ids : pair_ids blocks pair ≡ get_or pairs count given
-    same_ids = let e : pair_ids blocks pair ≡ given = rw (first.1, second.1) refl in e ∙ is
+
+-- behind a block that is before it
+pub from_behind : (blocks : List BlockRow) (id low at : ℕ) (row : BlockRow) → IsStrictlyIncreasing (ids_of blocks) → IsBetween blocks id low (length blocks)
+    → at < length blocks → row ≡ get_or blocks at row → row.id < id → IsBetween blocks id (at + 1) (length blocks)
+from_behind blocks id low at row rising was within is less = go_up blocks id low (length blocks) at row rising was within is less
+
+-- from a block that isn't behind it
+pub from_at : (blocks : List BlockRow) (id high at : ℕ) (row : BlockRow) → IsStrictlyIncreasing (ids_of blocks) → IsBetween blocks id 0 high
+    → at < high → row ≡ get_or blocks at row → row.id ≤ id → IsBetween blocks id at high
+from_at blocks id high at row rising was within is most = record {
+  within = was.within;
+  below = λ k under. omega (arith, rises blocks rising k at under (omega (arith, was.within)), id_there blocks at row (omega (arith, was.within)) is);
+  above = was.above;
+}

@@ -2,7 +2,7 @@
 use Rattle.std.proofs.Common.{◌≡◌, ◌<◌, zero, suc, lit<, lit≤, refl, arith, All}
 use Rattle.std.specs.List.Sorted.{IsStrictlyIncreasing}
 use Rattle.desk_model.specs.Block.{state_of}
-use Rattle.desk_model.specs.Geography.{IsPair, IsGround, ids, id_at}
+use Rattle.desk_model.specs.Geography.{IsPair, IsGround, AreRising, ids, id_at}
 use Rattle.desk_model.specs.Sample.{sample, pair_of}
 use Rattle.desk_model.specs.declared.geography.Pair.{Pair}
 
@@ -20,7 +20,7 @@ one_state (suc (suc (suc zero))) d within = refl
 one_state (suc (suc (suc (suc k)))) d within = absurd (omega arith)
 
 pair : (p : Pair) → p.first < 4 → p.second < 4 → p.first < p.second → IsPair 4 p
-pair p first second rises = record { first = first; second = second; differ = λ e. omega (arith, e) }
+pair p first second rises = record { first = first; second = second; rises = rises }
 
 pairs : All (IsPair 4) sample.pairs
 pairs zero d within = pair (pair_of 0 1) (lit< tt) (lit< tt) (lit< tt)
@@ -29,8 +29,15 @@ pairs (suc (suc zero)) d within = pair (pair_of 1 3) (lit< tt) (lit< tt) (lit< t
 pairs (suc (suc (suc zero))) d within = pair (pair_of 2 3) (lit< tt) (lit< tt) (lit< tt)
 pairs (suc (suc (suc (suc k)))) d within = absurd (omega arith)
 
+pairs_rise : AreRising sample.pairs
+pairs_rise zero d within = refl
+pairs_rise (suc zero) d within = refl
+pairs_rise (suc (suc zero)) d within = refl
+pairs_rise (suc (suc (suc k))) d within = absurd (omega arith)
+
 pub sample_is_ground : IsGround sample
 sample_is_ground = record {
   blocks = record { some = lit< tt; few = lit≤ tt; rising = rising; one_state = one_state; people = lit< tt };
   pairs = pairs;
+  rising = pairs_rise;
 }

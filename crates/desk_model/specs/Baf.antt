@@ -27,6 +27,14 @@ value_at (e ∷ more) id = if e.0 == id then Some e.1 else value_at more id
 abbrev pub Fault : Type 0
 Fault = BodyFault × ℕ
 
+-- a fault's code
+abbrev pub fault_code : BodyFault → List ℕ
+fault_code Header = codes "B1"
+fault_code Shape = codes "B2"
+fault_code UnknownBlock = codes "B3"
+fault_code RepeatedBlock = codes "B4"
+fault_code OutOfRange = codes "B5"
+
 abbrev pub are_digits : ℕ → List ℕ → Bool
 are_digits n bytes = (length bytes == n) && list_all is_ascii_digit bytes
 

@@ -9,6 +9,7 @@ use Rattle.desk_model.specs.declared.reply.Reply.TheVariants as reply
 use Rattle.desk_model.specs.declared.reply.Refusal.TheVariants.{NoPlan, NoRevision, PlanExists, Stale, NotWholeCounty, BadCompanion, NotSealed}
 use Rattle.desk_model.specs.Desk.{Plan, Desk}
 use Rattle.desk_model.specs.Step.{step, says, reports, answer, plan_row}
+use Rattle.desk_model.specs.Room.{need}
 use Rattle.desk_model.specs.Sample.{sample, sample_desk}
 
 abbrev pub name_a : List ℕ
@@ -30,10 +31,10 @@ unsealed = record { geography = None; plans = map_of.empty }
 -- no plan at first; a plan is made once, and then listed; nothing is made before a geography is sealed
 pub record PlansAreCreated : Type 0 where
   pub none : answer sample_desk Plans ≡ says (reply.Plans [])
-  pub made : step sample_desk (Create name_a Congress 2) ≡ (reply.Created name_a 0, with_a)
-  pub again : step with_a (Create name_a Congress 2) ≡ (reply.Refused PlanExists, with_a)
+  pub made : step sample_desk (Create name_a (Congress, 2)) ≡ (reply.Created name_a 0, with_a)
+  pub again : step with_a (Create name_a (Congress, 2)) ≡ (reply.Refused PlanExists, with_a)
   pub listed : answer with_a Plans ≡ says (reply.Plans (plan_row (name_a, plan_of []) ∷ []))
-  pub no_geography : step unsealed (Create name_a Congress 2) ≡ (reply.Refused NotSealed, unsealed)
+  pub no_geography : step unsealed (Create name_a (Congress, 2)) ≡ (reply.Refused NotSealed, unsealed)
 
 abbrev pub county_text : List ℕ
 county_text = codes "BLOCKID|DISTRICT\n190010001001001|01\n190010001001002|01\n190030001001001|02\n190030001001002|02\n"
@@ -100,3 +101,11 @@ pub record AuditsAreFound : Type 0 where
   pub no_companion : answer with_both (Audit name_a 1 (Some (name_b, 0))) ≡ says (reply.Refused BadCompanion)
   pub of_house : answer with_both (Audit name_a 1 (Some (name_a, 1))) ≡ says (reply.Refused BadCompanion)
   pub for_senate : answer with_both (Audit name_b 1 (Some (name_b, 1))) ≡ says (reply.Refused BadCompanion)
+
+-- the room that commands need: 13 pages for a row
+pub record RoomIsCounted : Type 0 where
+  pub create : need sample_desk (Create name_a (Congress, 2)) ≡ 26
+  pub first : need with_a (Whole name_a 0 county_text) ≡ 65
+  pub patch : need with_county (Counties name_a 1 patch_text) ≡ 52
+  pub unchanged : need with_county (Whole name_a 1 county_text) ≡ 39
+  pub retire : need with_county (Retire name_a) ≡ 26

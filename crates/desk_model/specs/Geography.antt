@@ -1,5 +1,5 @@
 -- A state's blocks, and which of them share an edge.
-use Rattle.std.specs.Prelude.{◌≡◌, ◌≢◌, ℕ, ◌^◌, ◌<◌, ◌≤◌, List, map, length, get_or, sum_by, All, Contains}
+use Rattle.std.specs.Prelude.{◌≡◌, ◌≢◌, ◌⊎◌, ◌↔◌, ℕ, ◌+◌, ◌^◌, ◌<◌, ◌≤◌, Bool, ◌&&◌, ◌||◌, ◌==◌, nat_lt, IsTrue, List, map, length, get_or, sum_by, All, Contains}
 use Rattle.std.specs.List.Sorted.{IsStrictlyIncreasing}
 use Rattle.desk_model.specs.Block.{state_of}
 use Rattle.desk_model.specs.declared.block.BlockRow.{BlockRow}
@@ -36,18 +36,45 @@ pub record AreBlocks (blocks : List BlockRow) : Type 0 where
   pub one_state : All (λ id. state_of id ≡ state_of (id_at blocks 0)) (ids_of blocks)
   pub people : sum_by (λ b. b.population) blocks < 2 ^ 32
 
--- two different places of a list of that length
+-- two places of a list of that length, the smaller first
 pub record IsPair (count : ℕ) (p : Pair) : Type 0 where
   pub first : p.first < count
   pub second : p.second < count
-  pub differ : p.first ≢ p.second
+  pub rises : p.first < p.second
 
+-- one pair stands before another, by its first place and then by its second
+abbrev pub is_before : Pair → Pair → Bool
+is_before p q = nat_lt p.first q.first || ((p.first == q.first) && nat_lt p.second q.second)
+
+-- each pair stands before the next, so each is there once
+abbrev pub AreRising : List Pair → Type 0
+AreRising pairs = (k : ℕ) (d : Pair) → k + 1 < length pairs → IsTrue (is_before (get_or pairs k d) (get_or pairs (k + 1) d))
+
+-- blocks and a set of pairs of different ones, which is written in one way alone
 pub record IsGround (g : Ground) : Type 0 where
   pub blocks : AreBlocks g.blocks
   pub pairs : All (IsPair (length g.blocks)) g.pairs
+  pub rising : AreRising g.pairs
 
 -- the numbers are those of two different blocks
 pub record AreDifferentBlocks (blocks : List BlockRow) (p : ℕ × ℕ) : Type 0 where
   pub first : Contains (ids_of blocks) p.0
   pub second : Contains (ids_of blocks) p.1
   pub differ : p.0 ≢ p.1
+
+abbrev pub turned : ℕ × ℕ → ℕ × ℕ
+turned p = (p.1, p.0)
+
+-- the pair's blocks are told by their numbers, one way round or the other
+abbrev pub IsTold : List BlockRow → List (ℕ × ℕ) → Pair → Type 0
+IsTold blocks told p = Contains told (pair_ids blocks p) ⊎ Contains told (turned (pair_ids blocks p))
+
+-- the pairs of places are those that numbers tell, in any order and either way round, as often as they like
+abbrev pub AreTold : List BlockRow → List (ℕ × ℕ) → List Pair → Type 0
+AreTold blocks told pairs = (p : Pair) → Contains pairs p ↔ (IsPair (length blocks) p × IsTold blocks told p)
+
+-- blocks below low are smaller, and those from high on are greater
+pub record IsBetween (blocks : List BlockRow) (id low high : ℕ) : Type 0 where
+  pub within : high ≤ length blocks
+  pub below : (k : ℕ) → k < low → id_at blocks k < id
+  pub above : (k : ℕ) → high ≤ k → k < length blocks → id < id_at blocks k

@@ -21,42 +21,43 @@ IsAcceptance (reply.Baf text) = ⊥
 IsAcceptance (reply.Audited text) = ⊥
 IsAcceptance (reply.Refused refusal) = ⊥
 
--- the step's reply and its desk, and no want of room where it accepts
-pub record IsStep (short : Type 0) (d : Desk) (c : Command) (r : Reply) (new : Desk) : Type 0 where
+-- the step's reply and its desk, and room for the change where it accepts
+pub record IsStep (must : Type 0) (d : Desk) (c : Command) (r : Reply) (new : Desk) : Type 0 where
   pub reply : r ≡ (step d c).0
   pub desk : new ≡ (step d c).1
-  pub room : IsAcceptance r → ¬ short
+  pub room : IsAcceptance r → ¬ must
 
--- the step would accept, and there is no room for it
-pub record IsFull (short : Type 0) (d : Desk) (c : Command) (new : Desk) : Type 0 where
+-- the step would accept, and it may be told that there is no room for it
+pub record IsFull (may : Type 0) (d : Desk) (c : Command) (new : Desk) : Type 0 where
   pub accepted : IsAcceptance (step d c).0
-  pub no_room : short
+  pub no_room : may
   pub desk : new ≡ d
 
 -- the outcomes that are no step: by the refusal
-abbrev pub RefusalMay : (short failed : Type 0) → Desk → Command → Refusal → Desk → Type 0
-RefusalMay short failed d c Memory new = ¬ failed × (new ≡ d)
-RefusalMay short failed d c Halted new = failed × (new ≡ d)
-RefusalMay short failed d c Full new = ¬ failed × IsFull short d c new
-RefusalMay short failed d c NoPlan new = ¬ failed × IsStep short d c (reply.Refused NoPlan) new
-RefusalMay short failed d c NoRevision new = ¬ failed × IsStep short d c (reply.Refused NoRevision) new
-RefusalMay short failed d c PlanExists new = ¬ failed × IsStep short d c (reply.Refused PlanExists) new
-RefusalMay short failed d c (Stale k) new = ¬ failed × IsStep short d c (reply.Refused (Stale k)) new
-RefusalMay short failed d c (BadBody code line) new = ¬ failed × IsStep short d c (reply.Refused (BadBody code line)) new
-RefusalMay short failed d c (NotWholeCounty county) new = ¬ failed × IsStep short d c (reply.Refused (NotWholeCounty county)) new
-RefusalMay short failed d c BadCompanion new = ⊥
-RefusalMay short failed d c Limit new = ¬ failed × IsStep short d c (reply.Refused Limit) new
-RefusalMay short failed d c NotSealed new = ¬ failed × IsStep short d c (reply.Refused NotSealed) new
+abbrev pub RefusalMay : (must may failed : Type 0) → Desk → Command → Refusal → Desk → Type 0
+RefusalMay must may failed d c Memory new = ¬ failed × (new ≡ d)
+RefusalMay must may failed d c Halted new = failed × (new ≡ d)
+RefusalMay must may failed d c Full new = ¬ failed × IsFull may d c new
+RefusalMay must may failed d c NoPlan new = ¬ failed × IsStep must d c (reply.Refused NoPlan) new
+RefusalMay must may failed d c NoRevision new = ¬ failed × IsStep must d c (reply.Refused NoRevision) new
+RefusalMay must may failed d c PlanExists new = ¬ failed × IsStep must d c (reply.Refused PlanExists) new
+RefusalMay must may failed d c (Stale k) new = ¬ failed × IsStep must d c (reply.Refused (Stale k)) new
+RefusalMay must may failed d c (BadBody code line) new = ¬ failed × IsStep must d c (reply.Refused (BadBody code line)) new
+RefusalMay must may failed d c (NotWholeCounty county) new = ¬ failed × IsStep must d c (reply.Refused (NotWholeCounty county)) new
+RefusalMay must may failed d c BadCompanion new = ⊥
+RefusalMay must may failed d c Limit new = ¬ failed × IsStep must d c (reply.Refused Limit) new
+RefusalMay must may failed d c NotSealed new = ¬ failed × IsStep must d c (reply.Refused NotSealed) new
 
--- a command may have this reply, and leave this desk. short: there is less room than it needs; failed: the device failed in this call or before
-abbrev pub CommandMay : (short failed : Type 0) → Desk → Command → Reply → Desk → Type 0
-CommandMay short failed d c (reply.Refused refusal) new = RefusalMay short failed d c refusal new
-CommandMay short failed d c (reply.Created name revisions) new = ¬ failed × IsStep short d c (reply.Created name revisions) new
-CommandMay short failed d c (reply.Retired name) new = ¬ failed × IsStep short d c (reply.Retired name) new
-CommandMay short failed d c (reply.Plans rows) new = ⊥
-CommandMay short failed d c (reply.Blocks text) new = ⊥
-CommandMay short failed d c (reply.Baf text) new = ⊥
-CommandMay short failed d c (reply.Audited text) new = ⊥
+-- A command may have this reply, and leave this desk. must: there is less room than it needs, so it isn't accepted;
+-- may: so little room that it may be refused for want of it; failed: the device failed in this call or before.
+abbrev pub CommandMay : (must may failed : Type 0) → Desk → Command → Reply → Desk → Type 0
+CommandMay must may failed d c (reply.Refused refusal) new = RefusalMay must may failed d c refusal new
+CommandMay must may failed d c (reply.Created name revisions) new = ¬ failed × IsStep must d c (reply.Created name revisions) new
+CommandMay must may failed d c (reply.Retired name) new = ¬ failed × IsStep must d c (reply.Retired name) new
+CommandMay must may failed d c (reply.Plans rows) new = ⊥
+CommandMay must may failed d c (reply.Blocks text) new = ⊥
+CommandMay must may failed d c (reply.Baf text) new = ⊥
+CommandMay must may failed d c (reply.Audited text) new = ⊥
 
 -- which texts are the report on a subject: what an audit decides, in the crates above
 abbrev pub Reporting : Type 1

@@ -98,7 +98,7 @@ retired d name None = refused d NoPlan
 retired d name (Some p) = (reply.Retired name, record d { plans = map_of.remove d.plans name })
 
 abbrev pub step_on : Ground → Desk → Command → Outcome
-step_on g d (Create name kind n) = create d name kind n (map_of.get d.plans name)
+step_on g d (Create name size) = create d name size.0 size.1 (map_of.get d.plans name)
 step_on g d (Whole name after body) = on_revisions d (map_of.get d.plans name) after (λ p. whole_read g d name p (body_read g p.n body))
 step_on g d (Counties name after body) = on_revisions d (map_of.get d.plans name) after (λ p. patch_read g d name p (body_read g p.n body))
 step_on g d (Retire name) = retired d name (map_of.get d.plans name)

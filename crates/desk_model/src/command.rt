@@ -1,17 +1,15 @@
 //! What a desk is asked to do, and what it is asked.
-use crate::districts::DistrictCount;
-use crate::kind::Kind;
 use crate::name::PlanName;
+use crate::size::PlanSize;
 use crate::text::Text;
 
 /// A command changes the desk, or is refused and changes nothing.
 #[derive(Drop)]
 pub enum Command {
-    /// Makes a plan of so many districts, with no revision.
+    /// Makes a plan of that kind and so many districts, with no revision.
     Create {
         plan: PlanName,
-        kind: Kind,
-        n: DistrictCount,
+        size: PlanSize,
     },
     /// Adds a revision that a block assignment file says whole, after the revision of that number: blocks that it does
     /// not list are unassigned.

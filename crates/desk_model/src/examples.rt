@@ -1,5 +1,5 @@
 //! Worked answers, as laws of the definitions.
-ghost use Rattle.desk_model.specs.Examples.{PlansAreCreated, RevisionsAreKept, CountiesArePatched, PlansAreRetired, AuditsAreFound};
+ghost use Rattle.desk_model.specs.Examples.{PlansAreCreated, RevisionsAreKept, CountiesArePatched, PlansAreRetired, AuditsAreFound, RoomIsCounted};
 
 /// Plans of the sample desk are created once and listed.
 pub fn plans_are_created()
@@ -24,4 +24,9 @@ pub fn plans_are_retired()
 /// What an audit on the sample desk judges, and where it is refused.
 pub fn audits_are_found()
     ensures { AuditsAreFound }
+{}
+
+/// The room that commands on the sample desk need of a store.
+pub fn room_is_counted()
+    ensures { RoomIsCounted }
 {}

@@ -1,7 +1,18 @@
 //! Laws of the definitions.
 ghost use Rattle.desk_model.specs.Counties.{LeastCountyIsTold};
+ghost use Rattle.desk_model.specs.Cuts.{CutsAreCounties, ListsAreCut};
 
 /// The county with which a patch is refused is the least that is listed in part.
 pub fn least_county_is_told()
     ensures { LeastCountyIsTold }
+{}
+
+/// A list beside the blocks, cut by counties, is the list again part by part.
+pub fn lists_are_cut()
+    ensures { ListsAreCut }
+{}
+
+/// The blocks are cut into their counties, which rise.
+pub fn cuts_are_counties()
+    ensures { CutsAreCounties }
 {}

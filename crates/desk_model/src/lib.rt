@@ -3,7 +3,8 @@
 
 pub mod block;
 pub mod command;
-pub mod districts;
+pub mod cuts;
+pub mod decimal;
 pub mod examples;
 pub mod gate;
 pub mod geography;
@@ -11,4 +12,5 @@ pub mod kind;
 pub mod laws;
 pub mod name;
 pub mod reply;
+pub mod size;
 pub mod text;

@@ -1,5 +1,6 @@
 //! What a desk answers.
 ghost use Rattle.std.specs.Prelude.{◌≡◌};
+ghost use Rattle.desk_model.specs.Baf.{fault_code};
 
 use crate::kind::Kind;
 use crate::name::PlanName;
@@ -74,6 +75,21 @@ pub enum BodyFault {
     RepeatedBlock,
     /// B5: a district number that is 0 or above the plan's.
     OutOfRange,
+}
+
+impl BodyFault {
+    /// The fault's code, `B1` to `B5`.
+    pub fn code(self) -> &'static str
+        ensures { result.now ≡ fault_code self }
+    {
+        match self {
+            BodyFault::Header => "B1",
+            BodyFault::Shape => "B2",
+            BodyFault::UnknownBlock => "B3",
+            BodyFault::RepeatedBlock => "B4",
+            BodyFault::OutOfRange => "B5",
+        }
+    }
 }
 
 /// Why a command or a query is refused. A refused command changes nothing.

@@ -4,6 +4,5 @@ pub mod Search
 pub mod Spots
 pub mod Steps
 pub mod Whole
-pub mod Padding
 pub mod Neighbours
 pub mod Overlays

@@ -7,7 +7,8 @@ use Rattle.desk_model.specs.declared.reply.Reply.{Reply}
 use Rattle.desk_model.specs.declared.reply.Reply.TheVariants as reply
 use Rattle.desk_model.specs.Desk.{Desk}
 use Rattle.desk_model.specs.Step.{step, revision_limit}
-use Rattle.desk_model.specs.Outcome.{IsAcceptance}
+use Rattle.desk_model.specs.declared.reply.Refusal.{Refusal}
+use Rattle.desk_model.specs.Outcome.{IsAcceptance, CommandMay, RefusalMay}
 use Rattle.desk_store.specs.Places.{Row}
 
 -- a command with the desk after it
@@ -21,16 +22,38 @@ pub record Prepared : Type 0 where
   pub reply : Reply
   pub after : Desk
 
+-- Of a clerk in memory: there is room for every command, none may be refused for want of it, and no device fails.
+abbrev pub MustBeFull : Desk → Command → Type 0
+MustBeFull d c = ⊥
+
+abbrev pub MayBeFull : Desk → Command → Type 0
+MayBeFull d c = ⊥
+
+abbrev pub HasFailed : Desk → Command → Type 0
+HasFailed d c = ⊥
+
+-- a clerk may reply this to a command, and leave this desk
+abbrev pub ClerkMay : Desk → Command → Reply → Desk → Type 0
+ClerkMay d c r new = CommandMay (MustBeFull d c) (MayBeFull d c) (HasFailed d c) d c r new
+
+-- and may refuse it so
+abbrev pub ClerkRefuses : Desk → Command → Refusal → Desk → Type 0
+ClerkRefuses d c refusal new = RefusalMay (MustBeFull d c) (MayBeFull d c) (HasFailed d c) d c refusal new
+
+-- a catalogue knows of no room and no device: a command is refused by the desk alone, or for want of memory
+abbrev pub StepRefuses : Desk → Command → Refusal → Type 0
+StepRefuses d c refusal = RefusalMay ⊥ ⊥ ⊥ d c refusal d
+
 -- the number of revisions of the plan after a command that is accepted
 abbrev pub revisions_after : Command → ℕ
-revisions_after (Create name kind n) = 0
+revisions_after (Create name size) = 0
 revisions_after (Whole name after body) = after + 1
 revisions_after (Counties name after body) = after + 1
 revisions_after (Retire name) = 0
 
 -- the reply to a command where it is accepted
 abbrev pub acceptance : Command → Reply
-acceptance (Create name kind n) = reply.Created name 0
+acceptance (Create name size) = reply.Created name 0
 acceptance (Whole name after body) = reply.Created name (after + 1)
 acceptance (Counties name after body) = reply.Created name (after + 1)
 acceptance (Retire name) = reply.Retired name

@@ -2,11 +2,10 @@
 ghost use Rattle.std.specs.Prelude.{◌≡◌, ℕ, ◌<◌, List, ◌++◌, ◌∷◌, [], length, IfOk, IfErr, IsSome, IsTrue, Some, Ok, Err};
 ghost use Rattle.std.specs.Option.{option_map, option_copied};
 ghost use Rattle.std.specs.FinMap as map_of;
-ghost use Rattle.desk_model.specs.Outcome.{RefusalMay};
 ghost use Rattle.desk_model.specs.Step.{revision_limit};
 ghost use Rattle.desk_model.specs.Subject.{senate_companion as senate_companion_of, senate_revision as senate_revision_of, takes_senate};
 ghost use Rattle.desk_store.specs.Audits.{AskMay};
-ghost use Rattle.desk_store.specs.Clerks.{IsAfter, IsRevisable};
+ghost use Rattle.desk_store.specs.Clerks.{IsAfter, IsRevisable, StepRefuses};
 ghost use Rattle.desk_store.specs.Kept.{AreWhole, HasWhole, IsWhole};
 
 use crate::blocks::blocks_text;
@@ -18,11 +17,11 @@ use crate::revisions::REVISION_LIMIT;
 use crate::shelf::Entry;
 use baf_text::writing::write;
 use desk_model::command::{Command, Query};
-use desk_model::districts::DistrictCount;
 use desk_model::geography::Geography;
 use desk_model::kind::Kind;
 use desk_model::name::PlanName;
 use desk_model::reply::{Refusal, Reply};
+use desk_model::size::PlanSize;
 use desk_model::text::Text;
 use std::alloc::{AllocError, Global};
 use std::marker::Model;
@@ -190,13 +189,13 @@ impl Catalogue {
     /// the catalogue was refused.
     pub fn after(&self, alloc: Global, command: &Command) -> Result<Catalogue, Refusal>
         ensures ok { IfOk result (IsAfter self.now command.now) }
-        ensures err { IfErr result (λ refusal. RefusalMay ⊥ ⊥ self.now command.now refusal self.now) }
+        ensures err { IfErr result (λ refusal. StepRefuses self.now command.now refusal) }
     {
         if self.geography.is_none() {
             return Err(Refusal::NotSealed);
         }
         match command {
-            Command::Create { plan, kind, n } => self.with_plan(alloc, *plan, *kind, *n),
+            Command::Create { plan, size } => self.with_plan(alloc, *plan, *size),
             Command::Whole { plan, after, body } => self.with_whole(alloc, plan, *after, body),
             Command::Counties { plan, after, body } => self.with_counties(
                 alloc, plan, *after, body,
@@ -206,16 +205,10 @@ impl Catalogue {
     }
 
     /// The catalogue with one more plan.
-    fn with_plan(
-        &self,
-        alloc: Global,
-        name: PlanName,
-        kind: Kind,
-        n: DistrictCount,
-    ) -> Result<Catalogue, Refusal>
+    fn with_plan(&self, alloc: Global, name: PlanName, size: PlanSize) -> Result<Catalogue, Refusal>
         requires { IsSome self.now.geography }
-        ensures ok { IfOk result (IsAfter self.now (Command.Create name kind n)) }
-        ensures err { IfErr result (λ refusal. RefusalMay ⊥ ⊥ self.now (Command.Create name kind n) refusal self.now) }
+        ensures ok { IfOk result (IsAfter self.now (Command.Create name size)) }
+        ensures err { IfErr result (λ refusal. StepRefuses self.now (Command.Create name size) refusal) }
     {
         if self.plans.get(&name).is_some() {
             return Err(Refusal::PlanExists);
@@ -223,7 +216,7 @@ impl Catalogue {
         if self.plans.len() >= PLAN_LIMIT {
             return Err(Refusal::Limit);
         }
-        let Ok(entry) = Entry::new(alloc, name, kind, n) else {
+        let Ok(entry) = Entry::new(alloc, name, size) else {
             return Err(Refusal::Memory);
         };
         let Ok(plans) = self.plans.insert(alloc, entry) else {
@@ -237,8 +230,8 @@ impl Catalogue {
         requires { IsSome self.now.geography }
         ensures ok { IfOk result (λ entry. IsRevisable self.now name.now after entry.now) }
         ensures kept { IfOk result (λ entry. HasWhole self.now.geography entry.now.1) }
-        ensures whole { IfErr result (λ refusal. (body : List ℕ) → RefusalMay ⊥ ⊥ self.now (Command.Whole name.now after body) refusal self.now) }
-        ensures counties { IfErr result (λ refusal. (body : List ℕ) → RefusalMay ⊥ ⊥ self.now (Command.Counties name.now after body) refusal self.now) }
+        ensures whole { IfErr result (λ refusal. (body : List ℕ) → StepRefuses self.now (Command.Whole name.now after body) refusal) }
+        ensures counties { IfErr result (λ refusal. (body : List ℕ) → StepRefuses self.now (Command.Counties name.now after body) refusal) }
     {
         let Some(entry) = self.plans.get(name) else {
             return Err(Refusal::NoPlan);
@@ -262,13 +255,13 @@ impl Catalogue {
         body: &Text,
     ) -> Result<Catalogue, Refusal>
         ensures ok { IfOk result (IsAfter self.now (Command.Whole name.now after body.now)) }
-        ensures err { IfErr result (λ refusal. RefusalMay ⊥ ⊥ self.now (Command.Whole name.now after body.now) refusal self.now) }
+        ensures err { IfErr result (λ refusal. StepRefuses self.now (Command.Whole name.now after body.now) refusal) }
     {
         let Some(geography) = self.geography() else {
             return Err(Refusal::NotSealed);
         };
         let entry = self.revisable(name, after)?;
-        let districts = districts_of(alloc, body.as_slice(), geography, entry.n().number())?;
+        let districts = districts_of(alloc, body.as_slice(), geography, entry.n())?;
         self.with_revision(alloc, entry, districts)
     }
 
@@ -281,20 +274,14 @@ impl Catalogue {
         body: &Text,
     ) -> Result<Catalogue, Refusal>
         ensures ok { IfOk result (IsAfter self.now (Command.Counties name.now after body.now)) }
-        ensures err { IfErr result (λ refusal. RefusalMay ⊥ ⊥ self.now (Command.Counties name.now after body.now) refusal self.now) }
+        ensures err { IfErr result (λ refusal. StepRefuses self.now (Command.Counties name.now after body.now) refusal) }
     {
         let Some(geography) = self.geography() else {
             return Err(Refusal::NotSealed);
         };
         let entry = self.revisable(name, after)?;
         let last = entry.revision(after);
-        let districts = patched_districts(
-            alloc,
-            body.as_slice(),
-            geography,
-            entry.n().number(),
-            last,
-        )?;
+        let districts = patched_districts(alloc, body.as_slice(), geography, entry.n(), last)?;
         self.with_revision(alloc, entry, districts)
     }
 
@@ -324,7 +311,7 @@ impl Catalogue {
     fn without_plan(&self, alloc: Global, name: &PlanName) -> Result<Catalogue, Refusal>
         requires { IsSome self.now.geography }
         ensures ok { IfOk result (IsAfter self.now (Command.Retire name.now)) }
-        ensures err { IfErr result (λ refusal. RefusalMay ⊥ ⊥ self.now (Command.Retire name.now) refusal self.now) }
+        ensures err { IfErr result (λ refusal. StepRefuses self.now (Command.Retire name.now) refusal) }
     {
         if self.plans.get(name).is_none() {
             return Err(Refusal::NoPlan);

@@ -3,9 +3,8 @@ ghost use Rattle.std.specs.Prelude.{◌≡◌, ◌≤◌, IfOk, IfErr};
 ghost use Rattle.std.specs.Option.{option_map};
 ghost use Rattle.std.specs.FinMap as map_of;
 ghost use Rattle.desk_model.specs.Step.{step, revision_limit};
-ghost use Rattle.desk_model.specs.Outcome.{CommandMay, RefusalMay, IsAcceptance};
 ghost use Rattle.desk_store.specs.Audits.{AskMay};
-ghost use Rattle.desk_store.specs.Clerks.{IsPrepared, acceptance, revisions_after};
+ghost use Rattle.desk_store.specs.Clerks.{ClerkMay, ClerkRefuses, IsPrepared, acceptance, revisions_after};
 
 use crate::catalogue::Catalogue;
 use desk_model::command::{Command, Query};
@@ -153,7 +152,7 @@ impl Clerk {
     pub fn prepare(&mut self, alloc: Global, command: Command) -> Result<Ready, Refusal>
         ensures same { self.new ≡ self.old }
         ensures ok { IfOk result (IsPrepared self.old command) }
-        ensures err { IfErr result (λ refusal. RefusalMay ⊥ ⊥ self.old command refusal self.new) }
+        ensures err { IfErr result (λ refusal. ClerkRefuses self.old command refusal self.new) }
     {
         let after = self.catalogue.after(alloc, &command)?;
         let Ok(after) = Arc::new(alloc, after) else {
@@ -167,7 +166,7 @@ impl Clerk {
 
     /// The outcome of a command: its step, or Memory with nothing changed.
     pub fn command(&mut self, alloc: Global, command: Command) -> Reply
-        ensures { CommandMay ⊥ ⊥ self.old command result self.new }
+        ensures { ClerkMay self.old command result self.new }
     {
         match self.prepare(alloc, command) {
             Ok(ready) => ready.commit(self),

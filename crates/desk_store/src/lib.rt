@@ -11,5 +11,3 @@ mod posted;
 mod report;
 mod revisions;
 mod shelf;
-#[cfg(test)]
-mod tests;

@@ -1,15 +1,15 @@
 //! Plans that stand side by side on a shelf, which catalogues share.
-ghost use Rattle.std.specs.Prelude.{◌≡◌, ◌<◌, ◌++◌, ◌∷◌, [], length, IfOk};
+ghost use Rattle.std.specs.Prelude.{◌≡◌, ◌<◌, ◌≤◌, ◌++◌, ◌∷◌, [], length, IfOk};
 ghost use Rattle.std.specs.Option.{option_copied};
 ghost use Rattle.desk_model.specs.Step.{plan_row, revision_limit};
 ghost use Rattle.desk_model.specs.Subject.{revision_at};
 ghost use Rattle.desk_store.specs.Places.{last_name};
 
 use crate::revisions::Revisions;
-use desk_model::districts::DistrictCount;
 use desk_model::kind::Kind;
 use desk_model::name::PlanName;
 use desk_model::reply::PlanRow;
+use desk_model::size::PlanSize;
 use std::alloc::{AllocError, Global};
 use std::marker::Model;
 use std::sync::Arc;
@@ -18,8 +18,7 @@ use std::sync::Arc;
 #[derive(Drop)]
 pub struct Entry {
     name: PlanName,
-    kind: Kind,
-    n: DistrictCount,
+    size: PlanSize,
     revisions: Arc<Revisions>,
 }
 
@@ -29,23 +28,17 @@ impl Model for Entry {
 
     ghost Value = { List ℕ × Plan };
 
-    ghost view = { λ a. (a.name, record { kind = a.kind; n = a.n; revisions = a.revisions.value }) };
+    ghost view = { λ a. (a.name, record { kind = a.size.0; n = a.size.1; revisions = a.revisions.value }) };
 }
 
 impl Entry {
     /// A plan with no revision.
-    pub fn new(
-        alloc: Global,
-        name: PlanName,
-        kind: Kind,
-        n: DistrictCount,
-    ) -> Result<Entry, AllocError>
-        ensures { IfOk result (λ e. e ≡ (name, record { kind = kind; n = n; revisions = [] })) }
+    pub fn new(alloc: Global, name: PlanName, size: PlanSize) -> Result<Entry, AllocError>
+        ensures { IfOk result (λ e. e ≡ (name, record { kind = size.0; n = size.1; revisions = [] })) }
     {
         Ok(Entry {
             name,
-            kind,
-            n,
+            size,
             revisions: Arc::new(alloc, Revisions::none(alloc))?,
         })
     }
@@ -59,13 +52,16 @@ impl Entry {
     pub fn kind(&self) -> Kind
         ensures { result ≡ self.now.1.kind }
     {
-        self.kind
+        self.size.kind()
     }
 
-    pub fn n(&self) -> DistrictCount
-        ensures { result ≡ self.now.1.n }
+    /// The number of districts.
+    pub fn n(&self) -> u16
+        ensures value { result ≡ self.now.1.n }
+        ensures some { 1 ≤ self.now.1.n }
+        ensures few { self.now.1.n ≤ 999 }
     {
-        self.n
+        self.size.n()
     }
 
     /// How many revisions there are.
@@ -91,8 +87,8 @@ impl Entry {
     {
         PlanRow {
             name: self.name,
-            kind: self.kind,
-            n: self.n.number(),
+            kind: self.size.kind(),
+            n: self.size.n(),
             revisions: self.revisions.len(),
         }
     }
@@ -103,8 +99,7 @@ impl Entry {
     {
         Ok(Entry {
             name: self.name,
-            kind: self.kind,
-            n: self.n,
+            size: self.size,
             revisions: self.revisions.clone()?,
         })
     }
@@ -116,8 +111,7 @@ impl Entry {
     {
         Ok(Entry {
             name: self.name,
-            kind: self.kind,
-            n: self.n,
+            size: self.size,
             revisions: Arc::new(alloc, self.revisions.with(alloc, districts)?)?,
         })
     }

@@ -1,6 +1,7 @@
 -- Steps of a reader, one after the other.
 use Rattle.std.proofs.Common.{◌≡◌, ℕ, zero, suc, ◌+◌, ◌-◌, ◌^◌, List, [], ◌++◌, Option, None, Some, min, refl, sym, ap, ◌∙◌, arith, append_assoc}
 use Rattle.std.specs.Io.KnownBytes.{Consumes, Keeps}
+use Rattle.byte_stream.specs.Counts.{counted}
 use Rattle.field_text.specs.Reading.{CountsFrom}
 
 pub Consumes-nothing : (a : Option (List ℕ)) → Consumes a a []
@@ -19,6 +20,5 @@ Consumes-then (Some x) (Some y) None bs cs p q = absurd q
 Consumes-then (Some x) (Some y) (Some z) bs cs p q = p ∙ ap (λ (l : List ℕ). bs ++ l) q ∙ sym (append_assoc bs cs z)
 
 -- one more turn on both sides
-pub counts_more : (first turns source next : ℕ) → CountsFrom first turns source → next ≡ min (source + 1) (2 ^ 64 - 1) → CountsFrom first (turns + 1) next
-counts_more first zero source next before step = (λ none. absurd (omega arith), λ some. let was = before.0 refl in omega arith)
-counts_more first (suc turns) source next before step = (λ none. absurd (omega arith), λ some. let was = before.1 (omega arith) in omega arith)
+pub counts_more : (first turns source next : ℕ) → CountsFrom first turns source → next ≡ counted source 1 → CountsFrom first (turns + 1) next
+counts_more first turns source next before step = omega (arith, before, step)

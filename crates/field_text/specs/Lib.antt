@@ -1,10 +1,8 @@
 pub mod Buffer
-pub mod Counting
 pub mod Digits
 pub mod Fields
 pub mod Judged
 pub mod Lines
 pub mod Reading
-pub mod Turns
 pub mod WordLaws
 pub mod Words

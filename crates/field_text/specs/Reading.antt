@@ -2,8 +2,9 @@
 use Rattle.std.specs.Prelude.{◌≡◌, ℕ, ◌+◌, ◌-◌, ◌^◌, ◌<◌, ◌≤◌, ◌==◌, false, List, [], ◌∷◌, ◌++◌, length, min, All, Option, Result, Ok, Err}
 use Rattle.std.specs.Io.KnownBytes.{Consumes, IsAtEnd}
 use Rattle.std.specs.Str.Lines.{strip_carriage_return}
-use Rattle.field_text.specs.declared.source.Turn.{Turn}
-use Rattle.field_text.specs.declared.source.Turn.TheVariants as turn
+use Rattle.byte_stream.specs.Counts.{counted}
+use Rattle.byte_stream.specs.declared.source.Turn.{Turn}
+use Rattle.byte_stream.specs.declared.source.Turn.TheVariants as turn
 use Rattle.field_text.specs.declared.reader.Step.{Step}
 use Rattle.field_text.specs.declared.reader.Step.TheVariants as step
 use Rattle.field_text.specs.declared.reader.ReadFault.{ReadFault}
@@ -77,12 +78,12 @@ number_after before (Err e) = before
 abbrev pub failures_after_step : ℕ → Result Step ReadFault → ℕ
 failures_after_step before (Ok s) = before
 failures_after_step before (Err fault.TooLong) = before
-failures_after_step before (Err fault.Failed) = min (before + 1) (2 ^ 64 - 1)
+failures_after_step before (Err fault.Failed) = counted before 1
 failures_after_step before (Err fault.TurnLimit) = before
 
 -- the source's count of turns goes with the reader's: as it stood at `first`, and then one more for each turn
 abbrev pub CountsFrom : ℕ → ℕ → ℕ → Type 0
-CountsFrom first turns source = (turns ≡ 0 → source ≡ first) × (0 < turns → source ≡ min (first + turns) (2 ^ 64 - 1))
+CountsFrom first turns source = source ≡ counted first turns
 
 -- what a turn added to the bytes that were held
 abbrev pub Fills : Option (List ℕ) → Option (List ℕ) → List ℕ → Turn → List ℕ → Type 0

@@ -2,6 +2,7 @@
 use Rattle.std.specs.Prelude.{◌≡◌, ℕ, ◌+◌, ◌-◌, ◌^◌, ◌<◌, ◌≤◌, ◌==◌, ◌||◌, Bool, true, false, List, [], ◌∷◌, ◌++◌, length, min, All, Option, Result, Ok, Err}
 use Rattle.std.specs.Io.KnownBytes.{IsAtEnd}
 use Rattle.std.specs.List.{slice_split, filter}
+use Rattle.byte_stream.specs.Counts.{counted}
 use Rattle.field_text.specs.Reading.{Reading}
 use Rattle.field_text.specs.declared.reader.AtHand.{AtHand}
 use Rattle.field_text.specs.declared.reader.AtHand.TheVariants as hand
@@ -74,7 +75,7 @@ GivesWord text left (Err fault.TurnLimit) new = IsBrokenWord text
 abbrev pub failures_after_word : ℕ → Result WordStep ReadFault → ℕ
 failures_after_word before (Ok s) = before
 failures_after_word before (Err fault.TooLong) = before
-failures_after_word before (Err fault.Failed) = min (before + 1) (2 ^ 64 - 1)
+failures_after_word before (Err fault.Failed) = counted before 1
 failures_after_word before (Err fault.TurnLimit) = before
 
 -- one more word was given, or none

@@ -5,5 +5,4 @@ pub mod digits;
 pub mod fields;
 pub mod lines;
 pub mod reader;
-pub mod source;
 pub mod words;

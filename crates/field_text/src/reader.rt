@@ -1,15 +1,16 @@
 //! The lines of a reader, one at a time, however its bytes are cut; or the words behind them.
 ghost use Rattle.std.specs.Prelude.{◌≡◌, ◌+◌, ◌-◌, ◌<◌, ◌≤◌, ◌^◌, ◌++◌, ℕ, List, [], true, false, Ok, Err, IfOk, MatchBool, length, take, drop, vec_len, min, nat_lt};
+ghost use Rattle.byte_stream.specs.Counts.{counted};
 ghost use Rattle.std.specs.List.{slice_range};
 ghost use Rattle.std.specs.Str.Lines.{strip_carriage_return};
 ghost use Rattle.std.specs.Io.KnownBytes.{Consumes};
-ghost use Rattle.field_text.specs.Turns.{TurnConsumes, failures_after};
+ghost use Rattle.byte_stream.specs.Turns.{TurnConsumes, failures_after};
 ghost use Rattle.field_text.specs.Reading.{NoLineFeed, BeginsWithLine, Gives, number_after, failures_after_step, CountsFrom, Fills, turn_limit};
 ghost use Rattle.field_text.specs.Words.{GivesWord, failures_after_word, TakesWord, TakesLastWord, number_taken, number_after_word};
 
 use crate::lines::{cut, without_return};
-use crate::source::{Source, Turn};
 use crate::words::{bytes_before, separators_before};
+use byte_stream::source::{Source, Turn};
 use std::alloc::{AllocError, Global};
 use std::marker::Model;
 
@@ -91,7 +92,7 @@ fn read_after<R: Source>(reader: &mut R, buffer: &mut [u8], end: usize) -> Turn
     requires { end < length buffer.old }
     ensures front { take end buffer.new ≡ take end buffer.old }
     ensures bytes { TurnConsumes (R.remaining reader.old) (R.remaining reader.new) result (drop end buffer.new) }
-    ensures turns { R.turns reader.new ≡ min (R.turns reader.old + 1) (2 ^ 64 - 1) }
+    ensures turns { R.turns reader.new ≡ counted (R.turns reader.old) 1 }
     ensures failures { R.failures reader.new ≡ failures_after (R.failures reader.old) result }
 {
     reader.turn(&mut buffer[end..])
@@ -226,7 +227,7 @@ impl LineReader {
         ensures number { self.new.number ≡ self.old.number }
         ensures turns { self.new.turns ≡ self.old.turns + 1 }
         ensures few { self.new.number < 2 ^ 53 }
-        ensures counted { R.turns reader.new ≡ min (R.turns reader.old + 1) (2 ^ 64 - 1) }
+        ensures counted { R.turns reader.new ≡ counted (R.turns reader.old) 1 }
         ensures failures { R.failures reader.new ≡ failures_after (R.failures reader.old) result }
     {
         let (start, end) = make_room(&mut self.buffer, self.start, self.end);

@@ -223,8 +223,7 @@ module _ (blocks : List BlockRow) where
 -- ---- turns
 
 pub counts_start : (first turns : ℕ) → turns ≡ 0 → CountsFrom first turns first
-counts_start first turns none = (λ same. refl, λ some. absurd (omega arith))
+counts_start first turns none = omega (arith, none)
 
 pub most_turns : (first turns source : ℕ) → CountsFrom first turns source → turns ≤ turn_limit → source ≤ first + turn_limit
-most_turns first zero source counted within = let same = counted.0 refl in omega arith
-most_turns first (suc turns) source counted within = let same = counted.1 (omega arith) in omega arith
+most_turns first turns source counted within = omega (arith, counted, within)

@@ -4,4 +4,5 @@ pub mod HoldingLemmas
 pub mod LinkLemmas
 pub mod RelationLemmas
 pub mod StandLemmas
+pub mod Texts
 pub mod ValidLemmas

@@ -2,6 +2,7 @@
 use Rattle.std.specs.Prelude.{◌≡◌, ℕ, ◌+◌, ◌-◌, ◌^◌, ◌⊎◌, List, [], ◌++◌, min, Option, Result, Ok, Err, Vec, ⊤}
 use Rattle.std.specs.declared.alloc.Global.{Global}
 use Rattle.std.specs.Io.KnownBytes.{IsAtEnd}
+use Rattle.byte_stream.specs.Counts.{counted}
 use Rattle.field_text.specs.Reading.{NoLineFeed, BeginsWithLine, IsBroken}
 use Rattle.field_text.specs.Words.{words, IsBrokenWord}
 use Rattle.gal_text.specs.Units.{Progress, progress_after, units_read}
@@ -83,6 +84,6 @@ failures_after_file before (Ok pairs) = before
 failures_after_file before (Err (fault.Text f)) = before
 failures_after_file before (Err (fault.MissingUnit id)) = before
 failures_after_file before (Err (fault.OneWay a b)) = before
-failures_after_file before (Err fault.Read) = min (before + 1) (2 ^ 64 - 1)
+failures_after_file before (Err fault.Read) = counted before 1
 failures_after_file before (Err fault.TurnLimit) = before
 failures_after_file before (Err fault.Memory) = before

@@ -4,4 +4,5 @@ pub mod Links
 pub mod Pairing
 pub mod Parts
 pub mod Relation
+pub mod Texts
 pub mod Units

@@ -1,4 +1,8 @@
 //! Why a neighbour file isn't read.
+ghost use Rattle.std.specs.Prelude.{◌++◌, codes};
+ghost use Rattle.std.specs.Fmt.{WritesOnOk};
+ghost use Rattle.gal_text.specs.Texts.{block_text, blocks_text};
+
 use desk_model::block::BlockId;
 use std::fmt;
 
@@ -41,7 +45,9 @@ pub enum GalFault {
     Memory,
 }
 
-fn write_id<W: fmt::Write>(f: &mut fmt::Formatter<W>, code: &str, id: BlockId) -> fmt::Result {
+fn write_id<W: fmt::Write>(f: &mut fmt::Formatter<W>, code: &str, id: BlockId) -> fmt::Result
+    ensures { WritesOnOk W.write_str_gives f.old result (block_text code.now id) f.new }
+{
     write!(f, "{} {:015}", code, id.number())
 }
 
@@ -50,11 +56,18 @@ fn write_ids<W: fmt::Write>(
     code: &str,
     first: BlockId,
     second: BlockId,
-) -> fmt::Result {
+) -> fmt::Result
+    ensures { WritesOnOk W.write_str_gives f.old result (blocks_text code.now first second) f.new }
+{
     write!(f, "{} {:015} {:015}", code, first.number(), second.number())
 }
 
 impl fmt::Display for TextFault {
+    ghost use Rattle.std.specs.Prelude.{Some};
+    ghost use Rattle.gal_text.specs.Texts.{text_fault_text};
+
+    ghost output = { λ fault. Some (text_fault_text fault) };
+
     /// The code and what it carries, as `A2 word 3` or `A4 190010001001001`.
     fn fmt<W: fmt::Write>(&self, f: &mut fmt::Formatter<W>) -> fmt::Result {
         match *self {
@@ -72,6 +85,11 @@ impl fmt::Display for TextFault {
 }
 
 impl fmt::Display for GalFault {
+    ghost use Rattle.std.specs.Prelude.{Some};
+    ghost use Rattle.gal_text.specs.Texts.{gal_fault_text};
+
+    ghost output = { λ fault. Some (gal_fault_text fault) };
+
     fn fmt<W: fmt::Write>(&self, f: &mut fmt::Formatter<W>) -> fmt::Result {
         match *self {
             GalFault::Text(fault) => write!(f, "{}", fault),

@@ -1,5 +1,6 @@
 //! The pairs of neighbours that a file says.
 ghost use Rattle.std.specs.Prelude.{◌≡◌, ◌+◌, ◌-◌, ◌^◌, ◌<◌, ◌≤◌, ◌++◌, ℕ, List, [], Err, All, IfOk, min, length, vec_len};
+ghost use Rattle.byte_stream.specs.Counts.{counted};
 ghost use Rattle.std.specs.Io.KnownBytes.{Consumes};
 ghost use Rattle.field_text.specs.Reading.{CountsFrom, turn_limit};
 ghost use Rattle.field_text.specs.Words.{word_limit};
@@ -14,9 +15,9 @@ use crate::fault::{GalFault, TextFault};
 use crate::header::header_count;
 use crate::links::{Unpaired, first_missing, pairs_of};
 use crate::units::{Graph, Link, Refusal};
+use byte_stream::source::Source;
 use desk_model::block::{BlockId, BlockRow};
 use field_text::reader::{LineReader, ReadFault, Step, WordStep};
-use field_text::source::Source;
 use std::alloc::Global;
 
 fn refused(refusal: Refusal) -> GalFault
@@ -168,7 +169,7 @@ pub fn read<R: Source>(
     ensures read { (text : List ℕ) × Consumes (R.remaining reader.old) (R.remaining reader.new) text × IsRead (ids_of blocks.now) text (R.remaining reader.new) result }
     ensures valid { IfOk result (λ pairs. All (AreDifferentBlocks blocks.now) pairs.items) }
     ensures failures { R.failures reader.new ≡ failures_after_file (R.failures reader.old) result }
-    ensures turns { result ≡ Err GalFault.TurnLimit → R.turns reader.new ≡ min (R.turns reader.old + turn_limit) (2 ^ 64 - 1) }
+    ensures turns { result ≡ Err GalFault.TurnLimit → R.turns reader.new ≡ counted (R.turns reader.old) turn_limit }
     ensures most { R.turns reader.new ≤ R.turns reader.old + turn_limit }
 {
     let Ok(mut text) = LineReader::new(alloc) else {

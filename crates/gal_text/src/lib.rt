@@ -6,6 +6,4 @@ pub mod gal;
 pub mod header;
 pub mod law;
 pub mod links;
-#[cfg(test)]
-mod tests;
 pub mod units;

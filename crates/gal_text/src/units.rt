@@ -9,7 +9,7 @@ ghost use Rattle.gal_text.specs.Holding.{Holds, IsHeld, IsAtHand, with_link, Mee
 
 use crate::fault::TextFault;
 use desk_model::block::{BlockId, BlockRow};
-use desk_model::geography::place_of;
+use desk_model::geography::place_near;
 use field_text::digits::{digits_exactly, number as number_of};
 use std::alloc::{AllocError, Global};
 
@@ -49,23 +49,11 @@ pub struct Graph {
     pub links: Vec<Link>,
     /// Where the links of the unit at hand begin.
     first: usize,
-    /// The place after the last unit's, where the next one is looked for first.
+    /// The place after the last unit's, from which blocks are looked for outward.
     likely: usize,
     /// How many units are left.
     left: u64,
     next: Awaited,
-}
-
-/// The place of a block, looked for at a likely place first.
-fn likely_place(blocks: &[BlockRow], likely: usize, id: BlockId) -> Option<usize>
-    requires { IsStrictlyIncreasing (ids_of blocks.now) }
-    ensures found { IfSome result (λ place. (place < length blocks.now) × (id_at blocks.now place ≡ id)) }
-    ensures missing { IfNone result (¬ Contains (ids_of blocks.now) id) }
-{
-    if likely < blocks.len() && blocks[likely].id.number() == id.number() {
-        return Some(likely);
-    }
-    place_of(blocks, id)
 }
 
 /// The block that a word names, with its place.
@@ -74,7 +62,7 @@ fn block_of(blocks: &[BlockRow], likely: usize, word: &[u8]) -> Option<(usize, B
     ensures { IsPlaced blocks.now word.now result }
 {
     let id = BlockId::from_number(digits_exactly(word, 15)?);
-    let place = likely_place(blocks, likely, id)?;
+    let place = place_near(blocks, likely, id)?;
     Some((place, id))
 }
 
@@ -237,7 +225,7 @@ impl Graph {
         ensures { (p : Progress) → Holds blocks.now self.old p → p.next ≡ Awaited.Neighbour unit left
             → Meets blocks.now (word_awaited (ids_of blocks.now) p number word.now (Awaited.Neighbour unit left)) result self.new }
     {
-        match block_of(blocks, blocks.len(), word) {
+        match block_of(blocks, self.likely, word) {
             Some((_, id)) => self.take_link(unit, left, number, id),
             None => Err(Refusal::Fault(TextFault::UnknownBlock(number))),
         }

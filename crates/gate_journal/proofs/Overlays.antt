@@ -1,10 +1,13 @@
 -- Writes in a list, and what they leave of a page.
-use Rattle.std.proofs.Common.{Option, Some, None, MatchOption, ◌≡◌, ◌≢◌, ◌<◌, ◌≤◌, ℕ, zero, suc, List, [], ◌∷◌, ◌++◌, length, get_or, set, inl, inr, refl, sym, ap, ◌∙◌, arith}
-use Rattle.std.proofs.lemmas.Bool.{cases_eq}
+use Rattle.std.proofs.Common.{Option, Some, None, MatchOption, ◌≡◌, ◌≢◌, ◌⊎◌, ◌<◌, ◌≤◌, ℕ, zero, suc, List, [], ◌∷◌, ◌++◌, length, get_or, set, inl, inr, refl, sym, ap, subst, ◌∙◌, arith, length-append}
+use Rattle.std.proofs.lemmas.Bool.{cases_eq, cases_lt}
+use Rattle.std.proofs.Math.ListN.{get_or-append}
+use Rattle.std.proofs.Math.Seq.{get_or-append_seam}
+use Rattle.std.proofs.lemmas.List.{get_or-set_same, get_or-set_other, length-set}
 use Rattle.sector_device.specs.Disk.{Image}
-use Rattle.gate_journal.specs.Store.{put, overlay, Writes}
+use Rattle.gate_journal.specs.Store.{put, overlay, Writes, IsOnce, AreNumbers, AreApart}
 use Rattle.gate_journal.specs.Writes.{IsLast}
-use Rattle.gate_journal.proofs.Images.{overlay_off, overlay_same, put_on, put_off}
+use Rattle.gate_journal.proofs.Images.{overlay_off, overlay_same, put_on, put_off, writes_at}
 
 -- where one is found
 pub writes_here : (ws : List (ℕ × List ℕ)) (p : ℕ) → Writes ws p → (k : ℕ) × (k < length ws) × ((get_or ws k (0, [])).0 ≡ p)
@@ -46,12 +49,85 @@ pub overlay_push : (ws : List (ℕ × List ℕ)) (P : Image) (w : ℕ × List �
 overlay_push [] P w q = refl
 overlay_push (v ∷ ws) P w q = overlay_push ws (put v P) w q
 
-pub none_writes : (ws : List (ℕ × List ℕ)) (p : ℕ) → ((j : ℕ) → j < length ws → (get_or ws j (0, [])).0 ≢ p) → Writes ws p → ⊥
+none_writes : (ws : List (ℕ × List ℕ)) (p : ℕ) → ((j : ℕ) → j < length ws → (get_or ws j (0, [])).0 ≢ p) → Writes ws p → ⊥
 none_writes ws p none there = let found = writes_here ws p there in none found.0 found.1 found.2
 
--- what a search from the front has found in the end
-pub found_last : (ws : List (ℕ × List ℕ)) (p k : ℕ) (o : Option ℕ) → length ws ≤ k → k ≤ length ws
-    → MatchOption o ((j : ℕ) → j < k → (get_or ws j (0, [])).0 ≢ p) (λ f. (f < k) × ((get_or ws f (0, [])).0 ≡ p) × ((j : ℕ) → f < j → j < k → (get_or ws j (0, [])).0 ≢ p))
-    → MatchOption o (Writes ws p → ⊥) (λ f. IsLast ws p f)
-found_last ws p k None ge le is = none_writes ws p (λ j lt. is j (omega arith))
-found_last ws p k (Some f) ge le is = let lt = is.0 in record { below = omega arith; here = is.1; later = λ j gt lt. is.2 j gt (omega arith) }
+-- ---- the numbers beside a list of writes
+module _ (ns : List ℕ) (ws : List (ℕ × List ℕ)) (beside : AreNumbers ns ws) where
+  at_place : (k p : ℕ) → k < length ns → get_or ns k 0 ≡ p → (get_or ws k (0, [])).0 ≡ p
+  at_place k p lt is = let long = beside.long in sym (beside.each k (omega arith)) ∙ is
+
+  -- where a number is found, the write is the only one of its page
+  found_last : (p k : ℕ) → AreApart ns → k < length ns → get_or ns k 0 ≡ p → IsLast ws p k
+  found_last p k apart lt is =
+      let long = beside.long in
+      record {
+        below = omega arith;
+        here = at_place k p lt is;
+        later = λ j gt below. λ same. apart k j gt (omega arith) (is ∙ sym (beside.each j below ∙ same));
+      }
+
+  found_none : (p : ℕ) → ((j : ℕ) → j < length ns → get_or ns j 0 ≢ p) → Writes ws p → ⊥
+  found_none p none = let long = beside.long in none_writes ws p (λ j lt same. none j (omega arith) (beside.each j lt ∙ same))
+
+  pub found_by : (p : ℕ) (o : Option ℕ) → AreApart ns → MatchOption o ((j : ℕ) → j < length ns → get_or ns j 0 ≢ p) (λ k. (k < length ns) × (get_or ns k 0 ≡ p)) → MatchOption o (Writes ws p → ⊥) (λ k. IsLast ws p k)
+  found_by p None apart is = found_none p is
+  found_by p (Some k) apart is = found_last p k apart is.0 is.1
+
+  pub is_once : AreApart ns → IsOnce ws
+  is_once apart j k lt below same = let long = beside.long in apart j k lt (omega arith) (beside.each j (omega arith) ∙ same ∙ sym (beside.each k below))
+
+  -- a page that is not yet written
+  not_there : (p : ℕ) → (Writes ws p → ⊥) → (j : ℕ) → j < length ns → get_or ns j 0 ≢ p
+  not_there p off j lt is = let long = beside.long in off (subst (λ (q : ℕ). Writes ws q) (at_place j p lt is) (writes_at ws j (omega arith)))
+
+  pub beside_push : (p : ℕ) (bytes : List ℕ) → AreNumbers (ns ++ p ∷ []) (ws ++ (p, bytes) ∷ [])
+  beside_push p bytes = let long = beside.long in record {
+    long = simp length-append (omega arith);
+    each = λ k lt. each_more k lt;
+  }
+    where
+      each_more : (k : ℕ) → k < length (ws ++ (p, bytes) ∷ []) → get_or (ns ++ p ∷ []) k 0 ≡ (get_or (ws ++ (p, bytes) ∷ []) k (0, [])).0
+      each_more k lt = let long = beside.long in elim (cases_lt k (length ws)) [
+        | inl early ↦ get_or-append ns (p ∷ []) 0 k (omega arith) ∙ beside.each k early ∙ sym (ap (λ (w : ℕ × List ℕ). w.0) (get_or-append ws ((p, bytes) ∷ []) (0, []) k early))
+        | inr late ↦
+            let here : k ≡ length ws = omega (arith, length-append ws ((p, bytes) ∷ [])) in
+            let there : k ≡ length ns = omega arith in
+            ap (λ (i : ℕ). get_or (ns ++ p ∷ []) i 0) there ∙ get_or-append_seam ns p [] 0
+            ∙ sym (ap (λ (i : ℕ). (get_or (ws ++ (p, bytes) ∷ []) i (0, [])).0) here ∙ ap (λ (w : ℕ × List ℕ). w.0) (get_or-append_seam ws (p, bytes) [] (0, [])))
+      ]
+
+  pub apart_push : (p : ℕ) → (Writes ws p → ⊥) → AreApart ns → AreApart (ns ++ p ∷ [])
+  apart_push p off apart j k lt below same = elim (cases_lt k (length ns)) [
+    | inl early ↦ apart j k lt early (sym (get_or-append ns (p ∷ []) 0 j (omega arith)) ∙ same ∙ get_or-append ns (p ∷ []) 0 k early)
+    | inr late ↦
+        let there : k ≡ length ns = omega (arith, length-append ns (p ∷ [])) in
+        not_there p off j (omega arith) (sym (get_or-append ns (p ∷ []) 0 j (omega arith)) ∙ same ∙ ap (λ (i : ℕ). get_or (ns ++ p ∷ []) i 0) there ∙ get_or-append_seam ns p [] 0)
+  ]
+
+  -- other bytes in place
+  pub beside_set : (p k : ℕ) (bytes : List ℕ) → p ≡ (get_or ws k (0, [])).0 → AreNumbers ns (set ws k (p, bytes))
+  beside_set p k bytes is = record {
+    long = beside.long ∙ sym (length-set ws k (p, bytes));
+    each = λ j lt. elim (cases_eq j k) [
+      | inl here ↦
+          let below : k < length ws = omega (arith, length-set ws k (p, bytes)) in
+          ap (λ (i : ℕ). get_or ns i 0) here ∙ beside.each k below ∙ sym is ∙ sym (ap (λ (i : ℕ). (get_or (set ws k (p, bytes)) i (0, [])).0) here ∙ ap (λ (w : ℕ × List ℕ). w.0) (get_or-set_same ws k (p, bytes) (0, []) below))
+      | inr off ↦ beside.each j (omega (arith, length-set ws k (p, bytes))) ∙ sym (ap (λ (w : ℕ × List ℕ). w.0) (get_or-set_other ws k j (p, bytes) (0, []) off))
+    ];
+  }
+
+-- which pages are written
+pub writes_set : (ws : List (ℕ × List ℕ)) (k p : ℕ) (bytes : List ℕ) → p ≡ (get_or ws k (0, [])).0 → (q : ℕ) → Writes ws q → Writes (set ws k (p, bytes)) q
+writes_set [] k p bytes is q there = absurd there
+writes_set (w ∷ ws) zero p bytes is q (inl here) = inl (here ∙ sym is)
+writes_set (w ∷ ws) zero p bytes is q (inr there) = inr there
+writes_set (w ∷ ws) (suc k) p bytes is q (inl here) = inl here
+writes_set (w ∷ ws) (suc k) p bytes is q (inr there) = inr (writes_set ws k p bytes is q there)
+
+pub writes_push : (ws : List (ℕ × List ℕ)) (w : ℕ × List ℕ) (q : ℕ) → (q ≡ w.0) ⊎ Writes ws q → Writes (ws ++ w ∷ []) q
+writes_push [] w q (inl here) = inl here
+writes_push [] w q (inr none) = absurd none
+writes_push (v ∷ ws) w q (inl here) = inr (writes_push ws w q (inl here))
+writes_push (v ∷ ws) w q (inr (inl first)) = inl first
+writes_push (v ∷ ws) w q (inr (inr there)) = inr (writes_push ws w q (inr there))

@@ -1,7 +1,7 @@
 -- What an opening may leave.
 use Rattle.std.proofs.Common.{◌≡◌, ◌≤◌, ◌<◌, ℕ, Result, Ok, Err, OnOk, OnErr, IsErrOf, IfErr, IsErrAnd, inl, inr, ⊎_elim, refl, sym, subst, ap, ◌∙◌, arith}
 use Rattle.sector_device.specs.Disk.{Disk, Image, AgreeOff, Nowhere, Touches, LeavesBut, IsSynced, HasCause}
-use Rattle.sector_device.specs.Moments.{LeavesOnly, leaves_from, leaves_more, leaves_wider, now_but, cause_after, on_ok}
+use Rattle.sector_device.specs.Moments.{LeavesOnly, leaves_from, leaves_more, leaves_wider, now_but, cause_after, on_ok, touches_more}
 use Rattle.gate_journal.specs.Store.{header_of, pages, IsStore, IsStoreOf, IsSettled, Opens}
 use Rattle.gate_journal.specs.Recovery.{AllStores, HasRoom, HasLayout, ReadsAs, Found, Reopens, Recovers, Starts}
 use Rattle.gate_journal.specs.declared.layout.Layout.{Layout}
@@ -73,6 +73,7 @@ module _ (J n : ℕ) (a : Disk) (synced : IsSynced a) where
     passed = passed;
     faulted = faulted;
     refused = refused;
+    untouched = λ _. ab;
     settled = settled;
     after = always r (ap (λ (x : Image). pages J x) (sym (same_reads a b ab)));
   }
@@ -93,6 +94,7 @@ module _ (J n : ℕ) (a : Disk) (synced : IsSynced a) where
         passed = cause.passed;
         faulted = λ is. at_err r DeviceFault is cause.failed;
         refused = λ is store. not_both r re.only is;
+        untouched = λ is. absurd (not_both r re.only is);
         settled = re.settled;
         after = on_ok r (λ p. p ∙ ap (λ (x : Image). pages J x) (sym same)) re.after;
       }
@@ -106,6 +108,7 @@ fault_starts a b (Err e) is ab rose = record {
   passed = tt;
   faulted = λ _. rose;
   refused = λ was all. not_both (Err e) is was;
+  untouched = λ _. ab;
   settled = tt;
   found = tt;
 }
@@ -140,6 +143,7 @@ module _ (a d e : Disk) (l : Layout) (ad : Touches Nowhere a d) (passed : d.faul
     passed = de.passed ∙ passed;
     faulted = λ is. let never : Ok l ≡ Err DeviceFault = is in cc;
     refused = λ is all. let never : Ok l ≡ Err NotAStore = is in cc;
+    untouched = λ is. let never : Ok l ≡ Err NotAStore = is in cc;
     settled = de.settled;
     found = quiet_found l.journal_pages l.pages a d e ad layout de.after;
   }
@@ -153,6 +157,7 @@ module _ (a d e : Disk) (l : Layout) (ad : Touches Nowhere a d) (passed : d.faul
     passed = tt;
     faulted = λ was. let same : x ≡ DeviceFault = sym (subst (λ (s : Result Layout JournalError). IfErr s (λ e. e ≡ x)) was is) in let rose = de.faulted (λ i. Err (same i)) in omega (arith, passed, rose);
     refused = λ was all. let same : x ≡ NotAStore = sym (subst (λ (s : Result Layout JournalError). IfErr s (λ e. e ≡ x)) was is) in de.refused (λ i. Err (same i)) (store_at all);
+    untouched = λ was. let same : x ≡ NotAStore = sym (subst (λ (s : Result Layout JournalError). IfErr s (λ e. e ≡ x)) was is) in touches_more Nowhere Nowhere a d e (λ i none. none) ad (de.untouched (λ i. Err (same i)));
     settled = tt;
     found = tt;
   }

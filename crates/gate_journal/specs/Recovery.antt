@@ -1,6 +1,6 @@
 -- What an opening finds, and what it leaves.
 use Rattle.std.specs.Prelude.{◌≡◌, ◌≤◌, ◌<◌, ◌+◌, ℕ, List, Result, OnOk, IsErrOf, IfOk, IfErr}
-use Rattle.sector_device.specs.Disk.{Disk, Image, Touches, HasCause}
+use Rattle.sector_device.specs.Disk.{Disk, Image, Touches, Nowhere, HasCause}
 use Rattle.sector_device.specs.Moments.{LeavesOnly}
 use Rattle.gate_journal.specs.Store.{home, header_of, word, list_word, copies, Homes, IsStore, IsStoreOf, Opens, pages, IsSettled}
 use Rattle.gate_journal.specs.Steps.{HasHomes}
@@ -66,6 +66,7 @@ pub record Recovers {T : Type 0} (J n : ℕ) (old new : Disk) (result : Result T
   pub passed : OnOk result (new.faults ≡ old.faults)
   pub faulted : IsErrOf result DeviceFault → old.faults < new.faults
   pub refused : IsErrOf result NotAStore → IsStore J n old.reads → ⊥
+  pub untouched : IsErrOf result NotAStore → Touches Nowhere old new
   pub settled : OnOk result (IsSettled J n new)
   pub after : OnOk result (pages J new.reads ≡ pages J old.reads)
 
@@ -84,5 +85,6 @@ pub record Starts (old new : Disk) (result : Result Layout JournalError) : Type 
   pub passed : OnOk result (new.faults ≡ old.faults)
   pub faulted : IsErrOf result DeviceFault → old.faults < new.faults
   pub refused : IsErrOf result NotAStore → AllStores old → ⊥
+  pub untouched : IsErrOf result NotAStore → Touches Nowhere old new
   pub settled : IfOk result (λ l. IsSettled l.journal_pages l.pages new)
   pub found : IfOk result (λ l. Found l.journal_pages l.pages old new)

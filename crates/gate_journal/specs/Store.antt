@@ -104,6 +104,19 @@ abbrev pub Writes : List (ℕ × List ℕ) → ℕ → Type 0
 Writes [] p = ⊥
 Writes (w ∷ ws) p = (p ≡ w.0) ⊎ Writes ws p
 
+-- no page is written twice
+abbrev pub IsOnce : List (ℕ × List ℕ) → Type 0
+IsOnce ws = (j k : ℕ) → j < k → k < length ws → (get_or ws j (0, [])).0 ≢ (get_or ws k (0, [])).0
+
+-- the numbers of the pages, in the order of the writes
+pub record AreNumbers (ns : List ℕ) (ws : List (ℕ × List ℕ)) : Type 0 where
+  pub long : length ns ≡ length ws
+  pub each : (k : ℕ) → k < length ws → get_or ns k 0 ≡ (get_or ws k (0, [])).0
+
+-- no number stands twice
+abbrev pub AreApart : List ℕ → Type 0
+AreApart ns = (j k : ℕ) → j < k → k < length ns → get_or ns j 0 ≢ get_or ns k 0
+
 -- each write is of one of n pages
 abbrev pub IsWithin : List (ℕ × List ℕ) → ℕ → Type 0
 IsWithin ws n = (k : ℕ) → k < length ws → (get_or ws k (0, [])).0 < n

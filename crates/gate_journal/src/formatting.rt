@@ -1,5 +1,5 @@
 //! How a store is made.
-ghost use Rattle.std.specs.Prelude.{◌≡◌, ◌≤◌, ◌+◌, length, OnOk, IfOk, IfErr};
+ghost use Rattle.std.specs.Prelude.{◌≡◌, ◌≤◌, ◌<◌, ◌+◌, true, false, length, OnOk, IfOk, IfErr};
 ghost use Rattle.sector_device.specs.Disk.{Disk, Touches};
 ghost use Rattle.gate_journal.specs.Store.{home, IsWithin, IsSettled};
 ghost use Rattle.gate_journal.specs.Steps.{Commits};
@@ -14,6 +14,16 @@ use crate::steps::{set_gate, write_through};
 use crate::words::fill_header;
 use crate::writes::PageWrites;
 use sector_device::{DeviceFault, SectorDevice};
+
+/// Whether 64 pages remain of so many sectors.
+pub fn has_room(sectors: u32, journal_pages: u32) -> bool
+    requires { journal_pages ≤ 65536 }
+    ensures yes { result ≡ true → home journal_pages + 64 ≤ sectors }
+    ensures no { result ≡ false → sectors < home journal_pages + 64 }
+{
+    let home = homes_begin!(journal_pages);
+    sectors >= home && sectors - home >= LEAST_PAGES
+}
 
 /// Makes a device a store whose commits write up to so many pages. The pages hold what the device held. A stop before the
 /// end isn't covered: the device is formatted again. The answer is what the store has.

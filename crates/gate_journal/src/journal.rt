@@ -23,7 +23,7 @@ pub struct Journal<D: SectorDevice> {
 }
 
 impl<D: SectorDevice> Journal<D> {
-    ghost use Rattle.std.specs.Prelude.{◌≡◌, ◌≤◌, ◌<◌, ◌⊎◌, true, false, length, OnOk, IfOk, IfErr};
+    ghost use Rattle.std.specs.Prelude.{◌≡◌, ◌≤◌, ◌<◌, ◌⊎◌, true, false, length, OnOk, IfOk, IfErr, IsOk};
     ghost use Rattle.sector_device.specs.Disk.{Disk, Image, Touches, Nowhere};
     ghost use Rattle.sector_device.specs.Moments.{LeavesOnly};
     ghost use Rattle.gate_journal.specs.Store.{IsWithin, IsBeforeOrAfter, overlay};
@@ -45,6 +45,7 @@ impl<D: SectorDevice> Journal<D> {
         ensures errs { IfErr result (λ e. (e.0 ≡ JournalError.NotAStore) ⊎ (e.0 ≡ JournalError.DeviceFault)) }
         ensures fault { IfErr result (λ e. (D.disk e.1).is_honest → e.0 ≡ JournalError.DeviceFault → (D.disk device).faults < (D.disk e.1).faults) }
         ensures no_store { IfErr result (λ e. (D.disk e.1).is_honest → e.0 ≡ JournalError.NotAStore → AllStores (D.disk device) → ⊥) }
+        ensures untouched { IfErr result (λ e. (D.disk e.1).is_honest → e.0 ≡ JournalError.NotAStore → Touches Nowhere (D.disk device) (D.disk e.1)) }
     {
         let mut device = device;
         match start(&mut device) {
@@ -101,10 +102,10 @@ impl<D: SectorDevice> Journal<D> {
         ensures passed { (disk_of self.new).is_honest → OnOk result ((disk_of self.new).faults ≡ (disk_of self.old).faults) }
         ensures err { IfErr result (λ e. ReadErr self.old self.new e) }
     {
+        let home = homes_begin!(self.layout.journal_pages);
         if self.halted {
             return Err(JournalError::Halted);
         }
-        let home = homes_begin!(self.layout.journal_pages);
         if self.device.read(home + p, page).is_err() {
             self.halted = true;
             return Err(JournalError::DeviceFault);
@@ -121,6 +122,7 @@ impl<D: SectorDevice> Journal<D> {
         ensures after { (disk_of self.new).is_honest → OnOk result (content self.new ≡ overlay (writes_of writes.now) (content self.old)) }
         ensures kept { (disk_of self.new).is_honest → OnOk result (IsKept self.new) }
         ensures ok { OnOk result ((is_halted self.old ≡ false) × (length (writes_of writes.now) ≤ journal_size self.old) × (is_halted self.new ≡ false)) }
+        ensures succeeds { is_halted self.old ≡ false → length (writes_of writes.now) ≤ journal_size self.old → (disk_of self.new).is_honest → (disk_of self.new).faults ≡ (disk_of self.old).faults → IsOk result }
         ensures passed { (disk_of self.new).is_honest → OnOk result ((disk_of self.new).faults ≡ (disk_of self.old).faults) }
         ensures err { IfErr result (λ e. CommitErr (length (writes_of writes.now)) self.old self.new e) }
     {

@@ -15,7 +15,7 @@ mod words;
 mod writes;
 
 pub use error::JournalError;
-pub use formatting::{commit_on, format};
+pub use formatting::{commit_on, format, has_room};
 pub use journal::Journal;
 pub use layout::Layout;
 pub use words::{set_word, word_at};

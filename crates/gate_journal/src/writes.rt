@@ -1,71 +1,99 @@
 //! The pages of a commit.
-ghost use Rattle.std.specs.Prelude.{◌≡◌, ◌<◌, ℕ, [], ◌∷◌, length, MatchOption};
-ghost use Rattle.gate_journal.specs.Store.{Writes};
-ghost use Rattle.gate_journal.specs.Writes.{IsLast};
+ghost use Rattle.std.specs.Prelude.{◌≡◌, ◌≢◌, ◌<◌, ℕ, length, MatchOption, slice_index_or};
+ghost use Rattle.gate_journal.specs.Store.{AreNumbers, AreApart};
 
 use std::alloc::{AllocError, Global};
 
-/// Pages that a commit is to write. Where a page stands twice, the later bytes count.
+/// Pages that a commit is to write, each once.
 #[derive(Drop)]
 pub struct PageWrites {
+    /// The number of each page, in the order of the list: a search passes over these alone.
+    numbers: Vec<u32>,
     pub(crate) list: Vec<(u32, [u8; 4096])>,
+    ghost beside: { AreNumbers numbers.items list.items },
+    ghost once: { AreApart numbers.items },
 }
 
-/// The place of the last write of a page.
-fn find_last(list: &[(u32, [u8; 4096])], page: u32) -> Option<usize>
-    ensures { MatchOption result (Writes list.now page → ⊥) (λ k. IsLast list.now page k) }
+/// The place of a page's number.
+fn find(numbers: &[u32], page: u32) -> Option<usize>
+    ensures { MatchOption result ((j : ℕ) → j < length numbers.now → slice_index_or numbers.now j 0 ≢ page) (λ k. (k < length numbers.now) × (slice_index_or numbers.now k 0 ≡ page)) }
 {
-    let mut found = None;
-    for (k, write) in list.iter().enumerate() {
-        if write.0 == page {
-            found = Some(k);
+    for (k, number) in numbers.iter().enumerate() {
+        if *number == page {
+            return Some(k);
         }
     }
-    found
+    None
 }
 
 impl PageWrites {
-    ghost use Rattle.std.specs.Prelude.{◌≡◌, ◌<◌, ◌≤◌, ◌+◌, ◌++◌, ℕ, [], ◌∷◌, length, OnOk, OnErr, MatchOption};
+    ghost use Rattle.std.specs.Prelude.{◌≡◌, ◌<◌, ◌≤◌, ◌+◌, ◌++◌, ◌⊎◌, ℕ, [], ◌∷◌, length, OnOk, OnErr, IfOk, IsOk, MatchOption};
     ghost use Rattle.sector_device.specs.Disk.{Image};
-    ghost use Rattle.gate_journal.specs.Store.{Writes, IsWithin, overlay, put};
-    ghost use Rattle.gate_journal.specs.Writes.{writes_of};
+    ghost use Rattle.gate_journal.specs.Store.{Writes, IsWithin, IsOnce, overlay, put};
+    ghost use Rattle.gate_journal.specs.Writes.{writes_of, room_of, IsLast};
 
     pub fn new(alloc: Global) -> PageWrites
         ensures { writes_of result ≡ [] }
     {
         PageWrites {
+            numbers: Vec::new(alloc),
             list: Vec::new(alloc),
         }
     }
 
-    /// How many writes there are.
+    /// Room for so many pages, and none yet.
+    pub fn with_capacity(alloc: Global, count: usize) -> Result<PageWrites, AllocError>
+        ensures none { IfOk result (λ writes. writes_of writes ≡ []) }
+        ensures room { IfOk result (λ writes. count ≤ room_of writes) }
+    {
+        let numbers = Vec::with_capacity(alloc, count)?;
+        let list = Vec::with_capacity(alloc, count)?;
+        Ok(PageWrites { numbers, list })
+    }
+
+    /// How many pages are written. Each stands once.
     pub fn len(&self) -> usize
-        ensures { result ≡ length (writes_of self.now) }
+        ensures length { result ≡ length (writes_of self.now) }
+        ensures once { IsOnce (writes_of self.now) }
     {
         self.list.len()
     }
 
     /// Takes all writes away, and keeps the memory.
     pub fn clear(&mut self)
-        ensures { writes_of self.new ≡ [] }
+        ensures none { writes_of self.new ≡ [] }
+        ensures room { room_of self.new ≡ room_of self.old }
     {
+        self.numbers.clear();
         self.list.clear();
     }
 
-    /// Adds a page and its bytes. That the page is one of the store's and not yet there is the caller's condition.
+    /// Adds a page and its bytes. That the page is one of the store's is the caller's condition.
     pub fn push(&mut self, page: u32, bytes: &[u8; 4096]) -> Result<(), AllocError>
+        requires { Writes (writes_of self.old) page → ⊥ }
         ensures pushed { OnOk result (writes_of self.new ≡ writes_of self.old ++ (page, bytes.now) ∷ []) }
         ensures same { OnErr result (writes_of self.new ≡ writes_of self.old) }
+        ensures room { room_of self.old ≤ room_of self.new }
+        ensures succeeds { length (writes_of self.old) < room_of self.old → IsOk result }
     {
+        self.numbers.reserve(1)?;
         self.list.push((page, *bytes))?;
+        let _ = self.numbers.push(page);
         Ok(())
+    }
+
+    /// The place of a page among the writes.
+    fn place(&self, page: u32) -> Option<usize>
+        ensures { MatchOption result (Writes (writes_of self.now) page → ⊥) (λ k. IsLast (writes_of self.now) page k) }
+    {
+        find(&self.numbers, page)
     }
 
     /// The bytes that a page is to have, where it is written.
     pub fn get(&self, page: u32) -> Option<&[u8; 4096]>
         ensures { MatchOption result (Writes (writes_of self.now) page → ⊥) (λ bytes. (P : Image) → overlay (writes_of self.now) P page ≡ bytes.now) }
     {
-        let k = find_last(&self.list, page)?;
+        let k = self.place(page)?;
         Some(&self.list[k].1)
     }
 
@@ -75,9 +103,12 @@ impl PageWrites {
         ensures within { OnOk result ((n : ℕ) → page < n → IsWithin (writes_of self.old) n → IsWithin (writes_of self.new) n) }
         ensures more { OnOk result (length (writes_of self.new) ≤ length (writes_of self.old) + 1) }
         ensures again { OnOk result (Writes (writes_of self.old) page → length (writes_of self.new) ≡ length (writes_of self.old)) }
+        ensures noted { OnOk result ((q : ℕ) → (q ≡ page) ⊎ Writes (writes_of self.old) q → Writes (writes_of self.new) q) }
         ensures same { OnErr result (writes_of self.new ≡ writes_of self.old) }
+        ensures room { room_of self.old ≤ room_of self.new }
+        ensures succeeds { length (writes_of self.old) < room_of self.old → IsOk result }
     {
-        match find_last(&self.list, page) {
+        match self.place(page) {
             Some(k) => {
                 let write = &mut self.list[k];
                 write.1 = *bytes;

@@ -1,4 +1,5 @@
 pub mod Adds
 pub mod BodyLemmas
+pub mod NextLemmas
 pub mod TalkLemmas
 pub mod TurnLemmas

@@ -1,10 +1,12 @@
 -- How one exchange goes into a talk.
-use Rattle.std.proofs.Common.{◌≡◌, ℕ, suc, Bool, true, false, List, [], ◌++◌, Option, Some, None, Result, Ok, Err, refl, sym, ap, subst, ◌∙◌, append_assoc, inl, inr, ◌+◌, arith}
+use Rattle.std.proofs.Common.{◌≡◌, ◌⊎◌, ℕ, suc, Bool, true, false, List, [], ◌++◌, Option, Some, None, Result, Ok, Err, refl, sym, ap, subst, ◌∙◌, append_assoc, inl, inr, ◌+◌, arith}
 use Rattle.std.proofs.lemmas.List.{append-nil}
 use Rattle.std.specs.Io.KnownBytes.{Appends, Consumes}
 use Rattle.httparse.specs.Grammar.{RequestHead}
-use Rattle.http_wire.specs.Front.{HasRequest, IsStarved, closes_after as closes_after_head, is_head}
+use Rattle.http_wire.specs.Front.{HasRequest, IsIncomplete, IsStarved, closes_after as closes_after_head, is_head}
 use Rattle.http_wire.specs.Incoming.{IsRequestOf}
+use Rattle.http_wire.specs.Interim.{Interim, continue_text, asks_to_continue}
+use Rattle.http_wire.specs.Queue.{Queued}
 use Rattle.http_wire.specs.declared.request.Request.{Request}
 use Rattle.desk_model.specs.declared.command.Command.{Command}
 use Rattle.desk_model.specs.declared.command.Query.{Query}
@@ -14,8 +16,8 @@ use Rattle.http_desk.specs.declared.serve.Next.TheVariants as next
 use Rattle.http_desk.specs.declared.serve.ServeFault.{ServeFault}
 use Rattle.http_desk.specs.declared.serve.ServeFault.TheVariants as fault
 use Rattle.http_desk.specs.Orders.{order_of}
-use Rattle.http_desk.specs.Serving.{Closes, Exchanges, IsCutTalk, GoesOn, ServesTo}
-use Rattle.http_desk.specs.Talk.{Talk, Handles, over, starved, closed, went}
+use Rattle.http_desk.specs.Serving.{Closes, CutsNext, Exchanges, IsCutTalk, IsFrontTalk, GoesOn, Leaves, ServesTo}
+use Rattle.http_desk.specs.Talk.{Talk, Handles, over, ended, starved, closed, went}
 
 pub Appends-none : (u : Option (List ℕ)) → Appends u u []
 Appends-none None = tt
@@ -32,6 +34,28 @@ Consumes-then None v w a b x y = tt
 Consumes-then (Some xs) None w a b x y = absurd x
 Consumes-then (Some xs) (Some ys) None a b x y = y
 Consumes-then (Some xs) (Some ys) (Some zs) a b x y = x ∙ ap (λ (t : List ℕ). a ++ t) y ∙ sym (append_assoc a b zs)
+
+-- one text behind another waits
+pub queued_then : (u v w : Option (List ℕ)) (before between after first second : List ℕ) → Queued u v before between first → Queued v w between after second → Queued u w before after (first ++ second)
+queued_then u v w before between after first second p q = (
+  p.0 ++ q.0,
+  Appends-then u v w p.0 q.0 p.1 q.1,
+  sym (append_assoc before first second) ∙ ap (λ (t : List ℕ). t ++ second) p.2 ∙ append_assoc p.0 between second ∙ ap (λ (t : List ℕ). p.0 ++ t) q.2 ∙ sym (append_assoc p.0 q.0 after),
+)
+
+pub queued_as : (u v : Option (List ℕ)) (before unsent after text : List ℕ) → unsent ≡ after → Queued u v before unsent text → Queued u v before after text
+queued_as u v before unsent after text e q = subst (λ (t : List ℕ). Queued u v before t text) e q
+
+pub queued_all : (u v : Option (List ℕ)) (text : List ℕ) → Queued u v [] [] text → Appends u v text
+queued_all u v text q = subst (Appends u v) (sym (q.2 ∙ append-nil q.0)) q.1
+
+-- what waits is sent
+pub flushed : (u v w : Option (List ℕ)) (before pending text : List ℕ) → Queued u v before pending text → Appends v w pending → Queued u w before [] text
+flushed u v w before pending text q s = (q.0 ++ pending, Appends-then u v w q.0 pending q.1 s, q.2 ∙ sym (append-nil (q.0 ++ pending)))
+
+pub flushed_cut : (u v w : Option (List ℕ)) (before pending text : List ℕ) → Queued u v before pending text → (front : List ℕ) × (rest : List ℕ) × (pending ≡ front ++ rest) × Appends v w front
+    → (unsent : List ℕ) × Queued u w before unsent text
+flushed_cut u v w before pending text q s = (s.1, (q.0 ++ s.0, Appends-then u v w q.0 s.0 q.1 s.3, q.2 ∙ ap (λ (t : List ℕ). q.0 ++ t) s.2 ∙ sym (append_assoc q.0 s.0 s.1)))
 
 -- the request alone
 pub HasRequest-alone : (front : List ℕ) (h : RequestHead) (target body : List ℕ) → ((more : List ℕ) → HasRequest (front ++ more) h target body more) → HasRequest front h target body []
@@ -51,15 +75,20 @@ module _ {X : Type 0} (commands : X → Command → Reply → X → Type 0) (ask
       → Handles commands asks x (order_of r.method r.target.items r.body.items) r.closes (is_head r.method) text shut y → HandlesHead x is.head r.target.items r.body.items text shut y
   of_head x y input rest text shut r is h = rw (← is.method, ← is.closes) h
 
+  pub moved : (x z : X) (shut : Bool) (input input' output output' : List ℕ) (n m : ℕ) → input ≡ input' → output ≡ output' → n ≡ m → Talk commands asks x input output n shut z → Talk commands asks x input' output' m shut z
+  moved x z shut input input' output output' n m i o e talk = rw (← i, ← o, ← e) talk
+
   -- the last answer to a request
   pub last : (x y : X) (input rest text : List ℕ) (h : RequestHead) (target body : List ℕ) → HasRequest input h target body rest
-      → HandlesHead x h target body text true y → Talk commands asks x input text 1 true y
+      → HandlesHead x h target body text true y → Talk commands asks x input (continue_text (asks_to_continue h) ++ text) 1 true y
   last x y input rest text h target body r (inl may) = closed x input h target body rest text y r may
-  last x y input rest text h target body r (inr (same, shut, kept)) = rw (same, kept) (starved x input (is_head h.method) (IsStarved-whole input h target body rest r))
+  last x y input rest text h target body r (inr (same, shut, kept)) =
+      rw (same, kept) (starved x input (continue_text (asks_to_continue h)) (is_head h.method) (IsStarved-whole input h target body rest r) (inl (record { head = h; rest = r.message.text; stands = r.message.head; asked = refl })))
 
   -- an answer after which the talk goes on
   pub on : (x y : X) (left : Option (List ℕ)) (input rest text : List ℕ) (h : RequestHead) (target body start : List ℕ) → input ≡ start ++ rest
-      → ((more : List ℕ) → HasRequest (start ++ more) h target body more) → HandlesHead x h target body text false y → Exchanges commands asks x (Ok next.Again) left input rest text y
+      → ((more : List ℕ) → HasRequest (start ++ more) h target body more) → HandlesHead x h target body text false y
+      → Exchanges commands asks x (Ok next.Again) left input rest (continue_text (asks_to_continue h) ++ text) y
   on x y left input rest text h target body start read alone (inl may) = record {
     front = start;
     read = read;
@@ -67,54 +96,64 @@ module _ {X : Type 0} (commands : X → Command → Reply → X → Type 0) (ask
   }
   on x y left input rest text h target body start read alone (inr (same, shut, kept)) = absurd (cc)
 
-  -- the same where the answer was written in part
-  pub cut : (x y : X) (input rest text front left : List ℕ) (h : RequestHead) (target body start : List ℕ) → input ≡ start ++ rest
-      → ((more : List ℕ) → HasRequest (start ++ more) h target body more) → HandlesHead x h target body text false y → text ≡ front ++ left → IsCutTalk commands asks x input front y
-  cut x y input rest text front left h target body start read alone (inl may) e = record {
+  -- the same where it was not written whole
+  pub cut : (x y : X) (input rest text : List ℕ) (h : RequestHead) (target body start : List ℕ) → input ≡ start ++ rest
+      → ((more : List ℕ) → HasRequest (start ++ more) h target body more) → HandlesHead x h target body text false y → IsFrontTalk commands asks x input (continue_text (asks_to_continue h) ++ text) y
+  cut x y input rest text h target body start read alone (inl may) = record {
     front = start;
     unread = rest;
     read = read;
-    answers = text ++ [];
-    unwritten = left;
-    written = append-nil text ∙ e;
     count = 1;
     shut = false;
-    talk = went x start h target body [] text y [] 0 false y (HasRequest-alone start h target body alone) may (over y);
+    talk = moved x y false start start ((continue_text (asks_to_continue h) ++ text) ++ []) (continue_text (asks_to_continue h) ++ text) 1 1 refl (append-nil (continue_text (asks_to_continue h) ++ text)) refl
+        (went x start h target body [] text y [] 0 false y (HasRequest-alone start h target body alone) may (over y));
   }
-  cut x y input rest text front left h target body start read alone (inr (same, shut, kept)) e = absurd (cc)
+  cut x y input rest text h target body start read alone (inr (same, shut, kept)) = absurd (cc)
+
+  -- the writer failed before an answer
+  pub cut_next : (x : X) (input interim : List ℕ) → CutsNext input interim → IsFrontTalk commands asks x input interim x
+  cut_next x input interim c = record { front = c.front; unread = c.unread; read = c.read; count = 0; shut = false; talk = nothing c.due }
+    where
+      nothing : ((c.front ≡ []) × (interim ≡ [])) ⊎ (IsIncomplete c.front × Interim c.front interim) → Talk commands asks x c.front interim 0 false x
+      nothing (inl (none, same)) = moved x x false [] c.front [] interim 0 0 (sym none) (sym same) refl (over x)
+      nothing (inr (lacks, due)) = ended x c.front interim lacks due
 
   -- a closing answer, written whole or in part
-  pub closing : (x y : X) (old new left : Option (List ℕ)) (input rest text : List ℕ) (result : Result Next ServeFault) → Talk commands asks x input text 1 true y → Closes old new result text
-      → (output : List ℕ) × Appends old new output × Exchanges commands asks x result left input rest output y
-  closing x y old new left input rest text (Ok next.Last) talk c = (text, c, talk)
-  closing x y old new left input rest text (Err fault.Write) talk c =
-      (c.0, c.3, record { front = input; unread = []; read = sym (append-nil input); answers = text; unwritten = c.1; written = c.2; count = 1; shut = true; talk = talk })
-  closing x y old new left input rest text (Ok next.Again) talk c = absurd c
-  closing x y old new left input rest text (Ok next.End) talk c = absurd c
-  closing x y old new left input rest text (Err fault.Read) talk c = absurd c
-  closing x y old new left input rest text (Err fault.Memory) talk c = absurd c
-  closing x y old new left input rest text (Err fault.TurnLimit) talk c = absurd c
-
-  pub moved : (x z : X) (shut : Bool) (input input' output output' : List ℕ) (n m : ℕ) → input ≡ input' → output ≡ output' → n ≡ m → Talk commands asks x input output n shut z → Talk commands asks x input' output' m shut z
-  moved x z shut input input' output output' n m i o e talk = rw (← i, ← o, ← e) talk
+  pub closing : (x y : X) (old mid new left : Option (List ℕ)) (input rest before pending unsent interim text end : List ℕ) (result : Result Next ServeFault) → Talk commands asks x input (interim ++ text) 1 true y
+      → Queued old mid before unsent interim → unsent ≡ pending → Closes mid new pending result text
+      → (output : List ℕ) × (unsent : List ℕ) × Queued old new before unsent output × Exchanges commands asks x result left input rest output y × Leaves result unsent end
+  closing x y old mid new left input rest before pending unsent interim text end (Ok next.Last) talk q e c =
+      (interim ++ text, [], queued_then old mid new before pending [] interim text (queued_as old mid before unsent pending interim e q) c, talk, refl)
+  closing x y old mid new left input rest before pending unsent interim text end (Err fault.Write) talk q e c = (
+    interim ++ text,
+    c.0,
+    queued_then old mid new before pending c.0 interim text (queued_as old mid before unsent pending interim e q) c.1,
+    record { front = input; unread = []; read = sym (append-nil input); count = 1; shut = true; talk = talk },
+    tt,
+  )
+  closing x y old mid new left input rest before pending unsent interim text end (Ok next.Again) talk q e c = absurd c
+  closing x y old mid new left input rest before pending unsent interim text end (Ok next.End) talk q e c = absurd c
+  closing x y old mid new left input rest before pending unsent interim text end (Err fault.Read) talk q e c = absurd c
+  closing x y old mid new left input rest before pending unsent interim text end (Err fault.Memory) talk q e c = absurd c
+  closing x y old mid new left input rest before pending unsent interim text end (Err fault.TurnLimit) talk q e c = absurd c
 
   pub counted_as : (x z : X) (shut : Bool) (input output : List ℕ) (n m : ℕ) → n ≡ m → Talk commands asks x input output n shut z → Talk commands asks x input output m shut z
   counted_as x z shut input output n m e talk = rw (← e) talk
 
-  -- where a stream stands: the requests that were taken and answered, and what is in the inbox
-  pub record Stands (x0 : X) (unread0 unread before0 before : Option (List ℕ)) (x : X) (inbox : List ℕ) (requests : ℕ) : Type 0 where
+  -- where a stream stands: the requests that were taken and answered, what is in the inbox, and the answers that wait
+  pub record Stands (x0 : X) (unread0 unread before0 before : Option (List ℕ)) (x : X) (inbox pending : List ℕ) (requests : ℕ) : Type 0 where
     pub taken : List ℕ
     pub output : List ℕ
     pub read : Consumes unread0 unread (taken ++ inbox)
-    pub written : Appends before0 before output
+    pub written : Queued before0 before [] pending output
     pub on : (later more : List ℕ) (n : ℕ) (shut : Bool) (z : X) → Talk commands asks x later more n shut z → Talk commands asks x0 (taken ++ later) (output ++ more) (requests + n) shut z
 
-  pub starts : (x : X) (unread before : Option (List ℕ)) (inbox : List ℕ) → inbox ≡ [] → Consumes unread unread [] → Stands x unread unread before before x inbox 0
-  starts x unread before inbox e none = record {
+  pub starts : (x : X) (unread before : Option (List ℕ)) (inbox pending : List ℕ) → inbox ≡ [] → pending ≡ [] → Consumes unread unread [] → Stands x unread unread before before x inbox pending 0
+  starts x unread before inbox pending e f none = record {
     taken = [];
     output = [];
     read = rw e none;
-    written = Appends-none before;
+    written = ([], Appends-none before, sym f);
     on = λ later more n shut z talk. moved x z shut later later more more n (0 + n) refl refl (omega arith) talk;
   }
 
@@ -122,48 +161,61 @@ module _ {X : Type 0} (commands : X → Command → Reply → X → Type 0) (ask
   pub all_read : (u v w : Option (List ℕ)) (taken inbox came : List ℕ) → Consumes u v (taken ++ inbox) → Consumes v w came → Consumes u w (taken ++ (inbox ++ came))
   all_read u v w taken inbox came a b = rw (← append_assoc taken inbox came) (Consumes-then u v w (taken ++ inbox) came a b)
 
-  pub goes : (x0 x y : X) (u v w b0 b1 b2 : Option (List ℕ)) (inbox rest came sent : List ℕ) (requests : ℕ) → Stands x0 u v b0 b1 x inbox requests → Consumes v w came → Appends b1 b2 sent
-      → GoesOn commands asks x (inbox ++ came) rest sent y → Stands x0 u w b0 b2 y rest (requests + 1)
-  goes x0 x y u v w b0 b1 b2 inbox rest came sent requests s read write g = record {
+  pub goes : (x0 x y : X) (u v w b0 b1 b2 : Option (List ℕ)) (inbox rest pending after came sent unsent : List ℕ) (requests : ℕ) → Stands x0 u v b0 b1 x inbox pending requests → Consumes v w came
+      → Queued b1 b2 pending unsent sent → GoesOn commands asks x (inbox ++ came) rest sent y → unsent ≡ after → Stands x0 u w b0 b2 y rest after (requests + 1)
+  goes x0 x y u v w b0 b1 b2 inbox rest pending after came sent unsent requests s read write g e = record {
     taken = s.taken ++ g.front;
     output = s.output ++ sent;
     read = rw (append_assoc s.taken g.front rest, ← g.read) (all_read u v w s.taken inbox came s.read read);
-    written = Appends-then b0 b1 b2 s.output sent s.written write;
+    written = queued_as b0 b2 [] unsent after (s.output ++ sent) e (queued_then b0 b1 b2 [] pending unsent s.output sent s.written write);
     on = λ later more n shut z talk. moved x0 z shut _ _ _ _ (requests + suc n) ((requests + 1) + n) (sym (append_assoc s.taken g.front later)) (sym (append_assoc s.output sent more)) (omega arith)
         (s.on (g.front ++ later) (sent ++ more) (suc n) shut z (g.on later more n shut z talk));
   }
 
   -- the stream ends with a talk
-  pub ends : (x0 x y : X) (u v w b0 b1 b2 : Option (List ℕ)) (inbox came sent : List ℕ) (requests n : ℕ) (shut : Bool) → Stands x0 u v b0 b1 x inbox requests → Consumes v w came → Appends b1 b2 sent
-      → Talk commands asks x (inbox ++ came) sent n shut y → (input : List ℕ) × (output : List ℕ) × Consumes u w input × Appends b0 b2 output × Talk commands asks x0 input output (requests + n) shut y
-  ends x0 x y u v w b0 b1 b2 inbox came sent requests n shut s read write talk =
-      (s.taken ++ (inbox ++ came), s.output ++ sent, all_read u v w s.taken inbox came s.read read, Appends-then b0 b1 b2 s.output sent s.written write, s.on (inbox ++ came) sent n shut y talk)
-
-  -- or within an answer
-  pub ends_cut : (x0 x y : X) (u v w b0 b1 b2 : Option (List ℕ)) (inbox came sent : List ℕ) (requests : ℕ) → Stands x0 u v b0 b1 x inbox requests → Consumes v w came → Appends b1 b2 sent
-      → IsCutTalk commands asks x (inbox ++ came) sent y → (input : List ℕ) × (output : List ℕ) × Consumes u w input × Appends b0 b2 output × IsCutTalk commands asks x0 input output y
-  ends_cut x0 x y u v w b0 b1 b2 inbox came sent requests s read write c = (
+  pub ends : (x0 x y : X) (u v w b0 b1 b2 : Option (List ℕ)) (inbox pending came sent unsent : List ℕ) (requests n : ℕ) (shut : Bool) → Stands x0 u v b0 b1 x inbox pending requests → Consumes v w came
+      → Queued b1 b2 pending unsent sent → unsent ≡ [] → Talk commands asks x (inbox ++ came) sent n shut y
+      → (input : List ℕ) × (output : List ℕ) × Consumes u w input × Appends b0 b2 output × Talk commands asks x0 input output (requests + n) shut y
+  ends x0 x y u v w b0 b1 b2 inbox pending came sent unsent requests n shut s read write none talk = (
     s.taken ++ (inbox ++ came),
     s.output ++ sent,
     all_read u v w s.taken inbox came s.read read,
-    Appends-then b0 b1 b2 s.output sent s.written write,
-    record {
-      front = s.taken ++ c.front;
-      unread = c.unread;
-      read = ap (λ (t : List ℕ). s.taken ++ t) c.read ∙ sym (append_assoc s.taken c.front c.unread);
-      answers = s.output ++ c.answers;
-      unwritten = c.unwritten;
-      written = ap (λ (t : List ℕ). s.output ++ t) c.written ∙ sym (append_assoc s.output sent c.unwritten);
-      count = requests + c.count;
-      shut = c.shut;
-      talk = s.on c.front c.answers c.count c.shut y c.talk;
-    },
+    queued_all b0 b2 (s.output ++ sent) (queued_as b0 b2 [] unsent [] (s.output ++ sent) none (queued_then b0 b1 b2 [] pending unsent s.output sent s.written write)),
+    s.on (inbox ++ came) sent n shut y talk,
   )
 
+  -- or within an answer
+  pub ends_cut : (x0 x y : X) (u v w b0 b1 b2 : Option (List ℕ)) (inbox pending came sent unsent : List ℕ) (requests : ℕ) → Stands x0 u v b0 b1 x inbox pending requests → Consumes v w came
+      → Queued b1 b2 pending unsent sent → IsFrontTalk commands asks x (inbox ++ came) sent y
+      → (input : List ℕ) × (output : List ℕ) × Consumes u w input × Appends b0 b2 output × IsCutTalk commands asks x0 input output y
+  ends_cut x0 x y u v w b0 b1 b2 inbox pending came sent unsent requests s read write c =
+      let all = queued_then b0 b1 b2 [] pending unsent s.output sent s.written write in (
+        s.taken ++ (inbox ++ came),
+        all.0,
+        all_read u v w s.taken inbox came s.read read,
+        all.1,
+        record {
+          answers = s.output ++ sent;
+          unwritten = unsent;
+          written = all.2;
+          over_front = record {
+            front = s.taken ++ c.front;
+            unread = c.unread;
+            read = ap (λ (t : List ℕ). s.taken ++ t) c.read ∙ sym (append_assoc s.taken c.front c.unread);
+            count = requests + c.count;
+            shut = c.shut;
+            talk = s.on c.front sent c.count c.shut y c.talk;
+          };
+        },
+      )
+
   -- a fault of an exchange ends the stream
-  pub fails : (x0 x y : X) (u v w b0 b1 b2 : Option (List ℕ)) (inbox rest came sent : List ℕ) (requests : ℕ) (e : ServeFault) → Stands x0 u v b0 b1 x inbox requests → Consumes v w came → Appends b1 b2 sent
-      → Exchanges commands asks x (Err e) w (inbox ++ came) rest sent y → (input : List ℕ) × (output : List ℕ) × Consumes u w input × Appends b0 b2 output × ServesTo commands asks x0 (Err e) w input output y
-  fails x0 x y u v w b0 b1 b2 inbox rest came sent requests fault.Read s read write t = let all = ends x0 x y u v w b0 b1 b2 inbox came sent requests 0 false s read write t in (all.0, all.1, all.2, all.3, (requests + 0, all.4))
-  fails x0 x y u v w b0 b1 b2 inbox rest came sent requests fault.TurnLimit s read write t = let all = ends x0 x y u v w b0 b1 b2 inbox came sent requests 0 false s read write t in (all.0, all.1, all.2, all.3, (requests + 0, all.4))
-  fails x0 x y u v w b0 b1 b2 inbox rest came sent requests fault.Write s read write t = ends_cut x0 x y u v w b0 b1 b2 inbox came sent requests s read write t
-  fails x0 x y u v w b0 b1 b2 inbox rest came sent requests fault.Memory s read write t = absurd t
+  pub fails : (x0 x y : X) (u v w b0 b1 b2 : Option (List ℕ)) (inbox rest pending after came sent unsent : List ℕ) (requests : ℕ) (e : ServeFault) → Stands x0 u v b0 b1 x inbox pending requests → Consumes v w came
+      → Queued b1 b2 pending unsent sent → Exchanges commands asks x (Err e) w (inbox ++ came) rest sent y → Leaves (Err e) unsent after
+      → (input : List ℕ) × (output : List ℕ) × Consumes u w input × Appends b0 b2 output × ServesTo commands asks x0 (Err e) w input output y
+  fails x0 x y u v w b0 b1 b2 inbox rest pending after came sent unsent requests fault.Read s read write t none =
+      let all = ends x0 x y u v w b0 b1 b2 inbox pending came sent unsent requests 0 false s read write none t in (all.0, all.1, all.2, all.3, (requests + 0, all.4))
+  fails x0 x y u v w b0 b1 b2 inbox rest pending after came sent unsent requests fault.TurnLimit s read write t none =
+      let all = ends x0 x y u v w b0 b1 b2 inbox pending came sent unsent requests 0 false s read write none t in (all.0, all.1, all.2, all.3, (requests + 0, all.4))
+  fails x0 x y u v w b0 b1 b2 inbox rest pending after came sent unsent requests fault.Write s read write t none = ends_cut x0 x y u v w b0 b1 b2 inbox pending came sent unsent requests s read write t
+  fails x0 x y u v w b0 b1 b2 inbox rest pending after came sent unsent requests fault.Memory s read write t none = absurd t

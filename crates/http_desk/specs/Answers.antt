@@ -138,26 +138,16 @@ fault_status fault.BadChunk = 400
 abbrev pub fault_message : Fault → Message
 fault_message f = saying (fault_status f) Json (error_body (fault_name f))
 
--- memory may be wanting for the answer: not for an acknowledgement, nor for what a halted desk answers
+-- memory may be wanting for the text of an answer: only the list of plans takes any, since the other long texts come whole and
+-- the short ones have room that was made first
 abbrev pub MayStarve : Reply → Type 0
+MayStarve (reply.Plans rows) = ⊤
 MayStarve (reply.Created name revisions) = ⊥
 MayStarve (reply.Retired name) = ⊥
-MayStarve (reply.Plans rows) = ⊤
-MayStarve (reply.Blocks text) = ⊤
-MayStarve (reply.Baf text) = ⊤
-MayStarve (reply.Audited text) = ⊤
-MayStarve (reply.Refused Halted) = ⊥
-MayStarve (reply.Refused NoPlan) = ⊤
-MayStarve (reply.Refused NoRevision) = ⊤
-MayStarve (reply.Refused PlanExists) = ⊤
-MayStarve (reply.Refused (Stale current)) = ⊤
-MayStarve (reply.Refused (BadBody code line)) = ⊤
-MayStarve (reply.Refused (NotWholeCounty county)) = ⊤
-MayStarve (reply.Refused BadCompanion) = ⊤
-MayStarve (reply.Refused Limit) = ⊤
-MayStarve (reply.Refused Full) = ⊤
-MayStarve (reply.Refused Memory) = ⊤
-MayStarve (reply.Refused NotSealed) = ⊤
+MayStarve (reply.Blocks text) = ⊥
+MayStarve (reply.Baf text) = ⊥
+MayStarve (reply.Audited text) = ⊥
+MayStarve (reply.Refused refusal) = ⊥
 
 -- an answer to a reply, for a request that asks to close or not: its own, or that memory is wanting
 abbrev pub Tells : Reply → (closing bare : Bool) → (text : List ℕ) → (shut : Bool) → Type 0

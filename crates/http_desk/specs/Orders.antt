@@ -27,7 +27,7 @@ query_of target = after_first (λ b. b == 63) target
 abbrev pub create_order : Option (List ℕ) → Option (Kind × ℕ) → Order
 create_order None size = order.Refused BadName
 create_order (Some name) None = order.Refused BadQuery
-create_order (Some name) (Some size) = order.Command (Create name size.0 size.1)
+create_order (Some name) (Some size) = order.Command (Create name size)
 
 -- the name that the path's part {p} spells, percent-decoded
 abbrev pub name_in : List ℕ → Option (List ℕ)

@@ -7,7 +7,7 @@ use Rattle.form_urlencoded.specs.Form.{raw_pairs, decode}
 use Rattle.field_text.specs.Digits.{number_of}
 use Rattle.desk_model.specs.Name.{plan_name_of}
 use Rattle.desk_model.specs.declared.kind.Kind.{Kind}
-use Rattle.desk_model.specs.declared.kind.Kind.TheVariants.{Congress, Senate, House}
+use Rattle.desk_model.specs.Kind.{kind_named, sized}
 
 -- the text that a name or a value of the form stands for
 abbrev pub text_of : List ℕ → List ℕ
@@ -20,30 +20,14 @@ texts_of p = (text_of p.0, text_of p.1)
 abbrev pub pairs_of : List ℕ → List (List ℕ × List ℕ)
 pairs_of query = map texts_of (raw_pairs query)
 
-abbrev pub kind_of : List ℕ → Option Kind
-kind_of text =
-    if bytes_eq text (codes "congress") then Some Congress
-    else if bytes_eq text (codes "senate") then Some Senate
-    else if bytes_eq text (codes "house") then Some House
-    else None
-
--- a plan of that kind has so many districts at most
-abbrev pub district_limit : Kind → ℕ
-district_limit Congress = 99
-district_limit Senate = 999
-district_limit House = 999
-
-abbrev pub in_limit : Kind → ℕ → Option (Kind × ℕ)
-in_limit kind n = if nat_le 1 n && nat_le n (district_limit kind) then Some (kind, n) else None
-
 -- a kind and a number of 1 to 3 digits in its range
-abbrev pub sized : Option Kind → Option ℕ → Option (Kind × ℕ)
-sized None n = None
-sized (Some kind) None = None
-sized (Some kind) (Some n) = in_limit kind n
+abbrev pub size_in : Option Kind → Option ℕ → Option (Kind × ℕ)
+size_in None n = None
+size_in (Some kind) None = None
+size_in (Some kind) (Some n) = sized kind n
 
 abbrev pub size_of : List ℕ → List ℕ → Option (Kind × ℕ)
-size_of kind districts = sized (kind_of kind) (number_of 3 districts)
+size_of kind districts = size_in (kind_named kind) (number_of 3 districts)
 
 -- both names, each once, in either order
 abbrev pub create_size : List (List ℕ × List ℕ) → Option (Kind × ℕ)

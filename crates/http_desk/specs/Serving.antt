@@ -1,5 +1,5 @@
 -- What a served stream comes to.
-use Rattle.std.specs.Prelude.{◌≡◌, ℕ, suc, ◌<◌, ◌≤◌, Bool, true, false, List, [], ◌++◌, Option, Result, Ok, Err}
+use Rattle.std.specs.Prelude.{◌≡◌, ◌⊎◌, ⊤, ℕ, suc, ◌<◌, ◌≤◌, Bool, true, false, List, [], ◌++◌, Option, Result, Ok, Err}
 use Rattle.std.specs.Io.KnownBytes.{Appends, Consumes, IsAtEnd}
 use Rattle.desk_model.specs.declared.command.Command.{Command}
 use Rattle.desk_model.specs.declared.command.Query.{Query}
@@ -9,7 +9,15 @@ use Rattle.http_desk.specs.declared.serve.Next.{Next}
 use Rattle.http_desk.specs.declared.serve.Next.TheVariants as next
 use Rattle.http_desk.specs.declared.serve.ServeFault.{ServeFault}
 use Rattle.http_desk.specs.declared.serve.ServeFault.TheVariants as fault
-use Rattle.http_wire.specs.Turns.{counted}
+use Rattle.byte_stream.specs.Counts.{counted}
+use Rattle.http_wire.specs.Queue.{Queued}
+use Rattle.http_wire.specs.Front.{IsIncomplete}
+use Rattle.http_wire.specs.Incoming.{Came}
+use Rattle.http_wire.specs.Interim.{Interim}
+use Rattle.http_wire.specs.declared.fault.RequestFault.{RequestFault}
+use Rattle.http_wire.specs.declared.fault.RequestFault.TheVariants as request
+use Rattle.http_wire.specs.declared.request.Incoming.{Incoming}
+use Rattle.http_wire.specs.declared.request.Incoming.TheVariants as came
 use Rattle.http_desk.specs.Talk.{Talk}
 
 -- a read fault is one failure of the reader more, and all else none
@@ -35,28 +43,66 @@ TakesSome (Ok next.Last) old new = new ≤ old
 TakesSome (Ok next.End) old new = new ≤ old
 TakesSome (Err e) old new = new ≤ old
 
--- the last answer was written, or a front of it
-abbrev pub Closes : Option (List ℕ) → Option (List ℕ) → Result Next ServeFault → List ℕ → Type 0
-Closes old new (Ok next.Last) text = Appends old new text
-Closes old new (Err fault.Write) text = (front : List ℕ) × (rest : List ℕ) × (text ≡ front ++ rest) × Appends old new front
-Closes old new (Ok next.Again) text = ⊥
-Closes old new (Ok next.End) text = ⊥
-Closes old new (Err fault.Read) text = ⊥
-Closes old new (Err fault.Memory) text = ⊥
-Closes old new (Err fault.TurnLimit) text = ⊥
+-- the last answer was written with what waited, or a front of them
+abbrev pub Closes : (old new : Option (List ℕ)) → (before : List ℕ) → Result Next ServeFault → List ℕ → Type 0
+Closes old new before (Ok next.Last) text = Queued old new before [] text
+Closes old new before (Err fault.Write) text = (unsent : List ℕ) × Queued old new before unsent text
+Closes old new before (Ok next.Again) text = ⊥
+Closes old new before (Ok next.End) text = ⊥
+Closes old new before (Err fault.Read) text = ⊥
+Closes old new before (Err fault.Memory) text = ⊥
+Closes old new before (Err fault.TurnLimit) text = ⊥
+
+-- what is unsent waits, but at the end and at a read fault nothing does
+abbrev pub Leaves : Result Next ServeFault → (unsent pending : List ℕ) → Type 0
+Leaves (Ok next.Again) unsent pending = unsent ≡ pending
+Leaves (Ok next.Last) unsent pending = unsent ≡ []
+Leaves (Ok next.End) unsent pending = unsent ≡ []
+Leaves (Err fault.Read) unsent pending = unsent ≡ []
+Leaves (Err fault.TurnLimit) unsent pending = unsent ≡ []
+Leaves (Err fault.Write) unsent pending = ⊤
+Leaves (Err fault.Memory) unsent pending = ⊤
+
+-- the same before an answer
+abbrev pub Waits : Result Incoming RequestFault → (unsent pending : List ℕ) → Type 0
+Waits (Ok (came.Request r)) unsent pending = unsent ≡ pending
+Waits (Ok (came.Refused f bare)) unsent pending = unsent ≡ pending
+Waits (Ok (came.Starved bare)) unsent pending = unsent ≡ pending
+Waits (Ok came.End) unsent pending = unsent ≡ []
+Waits (Err request.Read) unsent pending = unsent ≡ []
+Waits (Err request.TurnLimit) unsent pending = unsent ≡ []
+Waits (Err request.Write) unsent pending = ⊤
+
+-- the writer failed before the answer to this input: over a front of it no answer is due
+pub record CutsNext (input interim : List ℕ) : Type 0 where
+  pub front : List ℕ
+  pub unread : List ℕ
+  pub read : input ≡ front ++ unread
+  pub due : ((front ≡ []) × (interim ≡ [])) ⊎ (IsIncomplete front × Interim front interim)
+
+-- what came next, and the interim line that was written or waits
+abbrev pub NextCame : List ℕ → Result Incoming RequestFault → (rest interim : List ℕ) → Type 0
+NextCame input (Ok incoming) rest interim = Came input incoming rest interim
+NextCame input (Err request.Read) rest interim = IsIncomplete input × Interim input interim
+NextCame input (Err request.TurnLimit) rest interim = IsIncomplete input × Interim input interim
+NextCame input (Err request.Write) rest interim = CutsNext input interim
 
 module _ {X : Type 0} (commands : X → Command → Reply → X → Type 0) (asks : X → Query → Reply → X → Type 0) where
-  -- what was written is a front of a talk over a front of what was read
-  pub record IsCutTalk (x : X) (input output : List ℕ) (y : X) : Type 0 where
+  -- the answers are a talk over a front of what was read
+  pub record IsFrontTalk (x : X) (input answers : List ℕ) (y : X) : Type 0 where
     pub front : List ℕ
     pub unread : List ℕ
     pub read : input ≡ front ++ unread
-    pub answers : List ℕ
-    pub unwritten : List ℕ
-    pub written : answers ≡ output ++ unwritten
     pub count : ℕ
     pub shut : Bool
     pub talk : Talk commands asks x front answers count shut y
+
+  -- what was written is a front of them
+  pub record IsCutTalk (x : X) (input output : List ℕ) (y : X) : Type 0 where
+    pub answers : List ℕ
+    pub unwritten : List ℕ
+    pub written : answers ≡ output ++ unwritten
+    pub over_front : IsFrontTalk x input answers y
 
   -- Ok comes only at the end of the input or after an answer that closes
   abbrev pub ServesTo : X → Result Served ServeFault → Option (List ℕ) → List ℕ → List ℕ → X → Type 0
@@ -75,10 +121,10 @@ module _ {X : Type 0} (commands : X → Command → Reply → X → Type 0) (ask
   abbrev pub Exchanges : X → Result Next ServeFault → Option (List ℕ) → List ℕ → List ℕ → List ℕ → X → Type 0
   Exchanges x (Ok next.Again) left input rest output y = GoesOn x input rest output y
   Exchanges x (Ok next.Last) left input rest output y = Talk commands asks x input output 1 true y
-  Exchanges x (Ok next.End) left input rest output y = (output ≡ []) × Talk commands asks x input output 0 false y × IsAtEnd left
+  Exchanges x (Ok next.End) left input rest output y = Talk commands asks x input output 0 false y × IsAtEnd left
   Exchanges x (Err fault.Read) left input rest output y = Talk commands asks x input output 0 false y
   Exchanges x (Err fault.TurnLimit) left input rest output y = Talk commands asks x input output 0 false y
-  Exchanges x (Err fault.Write) left input rest output y = IsCutTalk x input output y
+  Exchanges x (Err fault.Write) left input rest output y = IsFrontTalk x input output y
   Exchanges x (Err fault.Memory) left input rest output y = ⊥
 
   -- seen from the reader and the writer

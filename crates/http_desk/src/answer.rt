@@ -1,6 +1,7 @@
 //! The answer to a request, put together before its first byte is written.
 ghost use Rattle.std.specs.Prelude.{◌≡◌, ◌≤◌, ◌||◌, [], ℕ, length, codes, OnOk, OnErr, IfOk, Some, None, option_map, true, false, if◌then◌else◌};
-ghost use Rattle.http_wire.specs.Sends.{Sends, failures_with};
+ghost use Rattle.byte_stream.specs.Sends.{failures_with};
+ghost use Rattle.http_wire.specs.Queue.{Queues};
 ghost use Rattle.http_wire.specs.Answer.{allowed_len};
 ghost use Rattle.http_desk.specs.Bodies.{error_body};
 ghost use Rattle.http_desk.specs.Methods.{methods_text};
@@ -10,11 +11,11 @@ use crate::body::plans_text;
 use crate::method::Methods;
 use crate::order::Error;
 use crate::short::{SHORT, put_created, put_error, put_refusal, put_retired};
+use byte_stream::sink::{Sink, WriteFault};
 use desk_model::reply::{Refusal, Reply};
 use http::StatusCode;
 use http_wire::fault::Fault;
 use http_wire::response::{ContentType, Outbox, Response, write_response};
-use http_wire::sink::{Sink, WriteFault};
 use std::alloc::{AllocError, Global};
 use std::marker::Model;
 
@@ -178,9 +179,9 @@ impl Answer {
         })
     }
 
-    /// Writes the answer.
+    /// Puts the answer behind those that wait to be sent.
     pub fn send<W: Sink>(&self, writer: &mut W, outbox: &mut Outbox) -> Result<(), WriteFault>
-        ensures bytes { Sends (W.contents writer.old) (W.contents writer.new) result self.now }
+        ensures bytes { Queues (W.contents writer.old) (W.contents writer.new) outbox.old outbox.new result self.now }
         ensures failures { W.failures writer.new ≡ failures_with (W.failures writer.old) result }
     {
         let body = body_of(self.is_long, self.short.as_slice(), self.long.as_slice());

@@ -1,6 +1,6 @@
 //! The clerk at the counter, alone with the desk.
 ghost use Rattle.std.specs.Prelude.{◌≡◌};
-ghost use Rattle.desk_model.specs.Outcome.{CommandMay};
+ghost use Rattle.desk_store.specs.Clerks.{ClerkMay};
 ghost use Rattle.desk_store.specs.Audits.{AskMay};
 
 use crate::counter::Counter;
@@ -10,7 +10,7 @@ use desk_store::clerk::Clerk;
 use std::alloc::Global;
 
 impl Counter for Clerk {
-    ghost commands = { λ desk command reply after. CommandMay ⊥ ⊥ desk command reply after };
+    ghost commands = { λ desk command reply after. ClerkMay desk command reply after };
 
     ghost asks = { λ desk query reply after. AskMay desk query reply × (after ≡ desk) };
 

@@ -56,10 +56,10 @@ fn create_order(alloc: Global, path: &[u8], query: &[u8]) -> Result<Order, Alloc
     let Some(plan) = name_in(alloc, path)? else {
         return Ok(Order::Refused(Error::BadName));
     };
-    let Some((kind, n)) = create_query(alloc, query)? else {
+    let Some(size) = create_query(alloc, query)? else {
         return Ok(Order::Refused(Error::BadQuery));
     };
-    Ok(Order::Command(Command::Create { plan, kind, n }))
+    Ok(Order::Command(Command::Create { plan, size }))
 }
 
 /// The number of a revision in a path.

@@ -3,14 +3,14 @@ ghost use Rattle.std.specs.Prelude.{◌≡◌, ℕ, List, [], ◌∷◌, length,
 ghost use Rattle.std.specs.Str.{bytes_eq};
 ghost use Rattle.std.specs.Cow.{cow_str_bytes};
 ghost use Rattle.form_urlencoded.specs.Form.{raw_pairs as raw_pairs_of, pair_text};
-ghost use Rattle.http_desk.specs.Queries.{text_of, kind_of as kind_of_text, district_limit as limit_of, size_of as size_of_texts, create_query as create_query_of, after_query as after_query_of, address_of as address_of_text, senate_query as senate_query_of, is_no_query as has_no_pair};
+ghost use Rattle.http_desk.specs.Queries.{text_of, size_of as size_of_texts, create_query as create_query_of, after_query as after_query_of, address_of as address_of_text, senate_query as senate_query_of, is_no_query as has_no_pair};
 ghost use Rattle.http_desk.specs.Pairs.{HasOne, HasTwo};
 ghost use Rattle.field_text.specs.Digits.{number_of};
 
 use crate::route::around;
-use desk_model::districts::DistrictCount;
 use desk_model::kind::Kind;
 use desk_model::name::PlanName;
+use desk_model::size::PlanSize;
 use field_text::digits::number;
 use form_urlencoded::{decode, raw_pairs};
 use std::alloc::{AllocError, Global};
@@ -43,49 +43,15 @@ fn is_text(text: &CowStr<'_>, word: &[u8]) -> bool
     text.as_bytes() == word
 }
 
-/// The kind that a word names.
-fn kind_of(word: &[u8]) -> Option<Kind>
-    ensures { result ≡ kind_of_text word.now }
-{
-    if word == b"congress".as_slice() {
-        return Some(Kind::Congress);
-    }
-    if word == b"senate".as_slice() {
-        return Some(Kind::Senate);
-    }
-    if word == b"house".as_slice() {
-        return Some(Kind::House);
-    }
-    None
-}
-
-/// How many districts a plan of that kind has at most.
-fn district_limit(kind: Kind) -> u64
-    ensures { result ≡ limit_of kind }
-{
-    match kind {
-        Kind::Congress => 99,
-        Kind::Senate | Kind::House => 999,
-    }
-}
-
 /// A kind, and a number of districts in its range.
-fn size_of(kind: &[u8], districts: &[u8]) -> Option<(Kind, DistrictCount)>
+fn size_of(kind: &[u8], districts: &[u8]) -> Option<PlanSize>
     ensures { result ≡ size_of_texts kind.now districts.now }
 {
-    let kind = kind_of(kind)?;
-    let count = number(districts, 3)?;
-    if count < 1 || count > district_limit(kind) {
-        return None;
-    }
-    Some((kind, DistrictCount::from_number(count as u16)))
+    PlanSize::read(Kind::from_name(kind)?, number(districts, 3)?)
 }
 
 /// What the query of a create tells: `kind` and `districts`, each once. `None` where it tells anything else.
-pub fn create_query(
-    alloc: Global,
-    query: &[u8],
-) -> Result<Option<(Kind, DistrictCount)>, AllocError>
+pub fn create_query(alloc: Global, query: &[u8]) -> Result<Option<PlanSize>, AllocError>
     ensures { IfOk result (λ size. size ≡ create_query_of query.now) }
 {
     let Some((first, second)) = two_pairs(query) else {

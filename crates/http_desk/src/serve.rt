@@ -1,30 +1,33 @@
 //! One stream of requests, from its reader to its writer.
 ghost use Rattle.std.specs.Prelude.{◌≡◌, ◌≤◌, ◌<◌, ◌++◌, ℕ, List, [], Ok, Err, IfSome};
 ghost use Rattle.std.specs.Str.{IsAscii};
-ghost use Rattle.std.specs.Io.KnownBytes.{Appends, Consumes};
-ghost use Rattle.http_wire.specs.Budget.{reading_left};
+ghost use Rattle.std.specs.Io.KnownBytes.{Consumes};
+ghost use Rattle.http_wire.specs.Budget.{read_failures_of, write_failures_of, reading_left};
 ghost use Rattle.http_wire.specs.Front.{is_head};
-ghost use Rattle.http_wire.specs.Turns.{Spends, counted};
+ghost use Rattle.byte_stream.specs.Counts.{counted};
+ghost use Rattle.http_wire.specs.Budget.{Spends};
 ghost use Rattle.http_desk.specs.Orders.{order_of as order_of_request};
 ghost use Rattle.http_desk.specs.Routes.{the_routes};
-ghost use Rattle.http_desk.specs.Serving.{Serves, Exchanges, Closes, read_failures, write_failures, TakesSome};
+ghost use Rattle.http_desk.specs.Serving.{Serves, Exchanges, Closes, Leaves, Waits, NextCame, read_failures, write_failures, TakesSome};
+ghost use Rattle.http_wire.specs.Incoming.{EndsAt, TakesSome as RequestTakes};
+ghost use Rattle.http_wire.specs.Queue.{Queued};
 ghost use Rattle.http_desk.specs.Talk.{Handles};
 
 use crate::answer::Answer;
 use crate::counter::Counter;
 use crate::order::{Order, order_of};
 use crate::route::{Page, router};
+use byte_stream::sink::Sink;
+use byte_stream::source::Source;
 use desk_model::gate::Gate;
-use http_wire::fault::WireFault;
+use http_wire::fault::RequestFault;
 use http_wire::inbox::Inbox;
-use http_wire::request::{Incoming, Request, TURN_LIMIT, read_request};
+use http_wire::request::{Incoming, Request, TURN_LIMIT, read_request, take_request};
 use http_wire::response::Outbox;
-use http_wire::sink::Sink;
-use http_wire::source::Source;
 use matchit::Router;
 use std::alloc::Global;
 
-/// What a stream came to: the number of answers that were written.
+/// What a stream came to: the number of answers that were written, the interim ones aside.
 #[derive(Clone, Copy, Debug)]
 pub struct Served {
     pub requests: u64,
@@ -99,15 +102,47 @@ fn handle<C: Counter>(
     answer.tell(alloc, reply, closes, bare)
 }
 
-/// Writes the last answer.
+/// Writes the last answer, and those that wait before it.
 fn close<W: Sink>(writer: &mut W, answer: &Answer, outbox: &mut Outbox) -> Result<Next, ServeFault>
-    ensures bytes { Closes (W.contents writer.old) (W.contents writer.new) result answer.now }
+    ensures bytes { Closes (W.contents writer.old) (W.contents writer.new) outbox.old result answer.now }
     ensures failures { W.failures writer.new ≡ write_failures (W.failures writer.old) result }
 {
     match answer.send(writer, outbox) {
+        Ok(()) => {}
+        Err(_) => return Err(ServeFault::Write),
+    }
+    match outbox.flush(writer) {
         Ok(()) => Ok(Next::Last),
         Err(_) => Err(ServeFault::Write),
     }
+}
+
+/// The next request. One that has come is taken; otherwise the answers that wait are sent before a turn of reading.
+fn next_request<R: Source, W: Sink>(
+    alloc: Global,
+    reader: &mut R,
+    writer: &mut W,
+    stream: &mut Stream,
+) -> Result<Incoming, RequestFault>
+    ensures read { (more : List ℕ) × (interim : List ℕ) × (unsent : List ℕ) × Consumes (R.remaining reader.old) (R.remaining reader.new) more
+        × Queued (W.contents writer.old) (W.contents writer.new) stream.old.outbox unsent interim
+        × NextCame (stream.old.inbox ++ more) result stream.new.inbox interim × Waits result unsent stream.new.outbox }
+    ensures end { EndsAt (R.remaining reader.new) result }
+    ensures failures { R.failures reader.new ≡ read_failures_of (R.failures reader.old) result }
+    ensures write_failures { W.failures writer.new ≡ write_failures_of (W.failures writer.old) result }
+    ensures turns { Spends stream.old.turns stream.new.turns (R.turns reader.old) (R.turns reader.new) }
+    ensures limit { result ≡ Err RequestFault.TurnLimit → stream.new.turns ≡ 0 }
+    ensures left { RequestTakes result (reading_left stream.old.turns stream.old.inbox) (reading_left stream.new.turns stream.new.inbox) }
+{
+    match take_request(alloc, &mut stream.inbox) {
+        Some(incoming) => return Ok(incoming),
+        None => {}
+    }
+    match stream.outbox.flush(writer) {
+        Ok(()) => {}
+        Err(_) => return Err(RequestFault::Write),
+    }
+    read_request(alloc, reader, writer, &mut stream.inbox, &mut stream.turns)
 }
 
 /// Reads one request and answers it.
@@ -120,19 +155,20 @@ fn exchange<R: Source, W: Sink, C: Counter, G: Gate>(
     stream: &mut Stream,
     piece: u32,
 ) -> Result<Next, ServeFault>
-    ensures talks { (more : List ℕ) × (output : List ℕ) × Consumes (R.remaining reader.old) (R.remaining reader.new) more
-        × Appends (W.contents writer.old) (W.contents writer.new) output
-        × Exchanges C.commands C.asks counter.old result (R.remaining reader.new) (stream.old.inbox ++ more) stream.new.inbox output counter.new }
+    ensures talks { (more : List ℕ) × (output : List ℕ) × (unsent : List ℕ) × Consumes (R.remaining reader.old) (R.remaining reader.new) more
+        × Queued (W.contents writer.old) (W.contents writer.new) stream.old.outbox unsent output
+        × Exchanges C.commands C.asks counter.old result (R.remaining reader.new) (stream.old.inbox ++ more) stream.new.inbox output counter.new
+        × Leaves result unsent stream.new.outbox }
     ensures read_failures { R.failures reader.new ≡ read_failures (R.failures reader.old) result }
     ensures write_failures { W.failures writer.new ≡ write_failures (W.failures writer.old) result }
     ensures turns { Spends stream.old.turns stream.new.turns (R.turns reader.old) (R.turns reader.new) }
     ensures limit { result ≡ Err ServeFault.TurnLimit → stream.new.turns ≡ 0 }
     ensures left { TakesSome result (reading_left stream.old.turns stream.old.inbox) (reading_left stream.new.turns stream.new.inbox) }
 {
-    match read_request(alloc, reader, &mut stream.inbox, &mut stream.turns) {
-        Err(WireFault::Read) => Err(ServeFault::Read),
-        Err(WireFault::TurnLimit) => Err(ServeFault::TurnLimit),
-        Err(WireFault::Memory) => unreachable!(),
+    match next_request(alloc, reader, writer, stream) {
+        Err(RequestFault::Read) => Err(ServeFault::Read),
+        Err(RequestFault::Write) => Err(ServeFault::Write),
+        Err(RequestFault::TurnLimit) => Err(ServeFault::TurnLimit),
         Ok(Incoming::End) => Ok(Next::End),
         Ok(Incoming::Starved { bare }) => {
             stream.answer.put_memory(bare);
@@ -157,7 +193,7 @@ fn exchange<R: Source, W: Sink, C: Counter, G: Gate>(
 
 /// The buffers and the table of a stream, or `None` where memory for them is refused.
 fn start(alloc: Global) -> Option<Stream>
-    ensures { IfSome result (λ s. (s.inbox ≡ []) × (s.turns ≡ TURN_LIMIT)) }
+    ensures { IfSome result (λ s. (s.inbox ≡ []) × (s.outbox ≡ []) × (s.turns ≡ TURN_LIMIT)) }
 {
     let Ok(inbox) = Inbox::new(alloc) else {
         return None;
@@ -180,7 +216,8 @@ fn start(alloc: Global) -> Option<Stream>
     })
 }
 
-/// Serves a stream of requests: reads each, lets the gate pass, and writes its answer before the next is read.
+/// Serves a stream of requests: reads each, lets the gate pass, and answers it before the next is taken. Answers wait in a
+/// buffer, and are sent before a turn of reading, before one that has no room behind them, and at the end.
 ///
 /// The gate is passed as worker 0, with the number of requests that this call read before (4,294,967,295 at most).
 pub fn serve<R: Source, W: Sink, C: Counter, G: Gate>(

@@ -3,7 +3,7 @@ use Rattle.std.proofs.Common.{◌≡◌, ℕ, ◌+◌, List, ◌++◌, take, dro
 use Rattle.std.proofs.Math.Seq.{take-add}
 use Rattle.std.proofs.KnownBytes.{Consumes-trans}
 use Rattle.std.specs.Io.KnownBytes.{Consumes}
-use Rattle.http_wire.specs.Turns.{Spends}
+use Rattle.http_wire.specs.Budget.{Spends}
 
 pub spends_more : (t u v a b c : ℕ) → Spends t u a b → Spends u v b c → Spends t v a c
 spends_more t u v a b c p q = record { fewer = omega (arith, p.fewer, q.fewer); taken = omega (arith, p.fewer, q.fewer, p.taken, q.taken) }

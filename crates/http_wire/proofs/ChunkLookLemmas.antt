@@ -18,7 +18,7 @@ use Rattle.http_wire.proofs.LineLemmas.{feeds-append, end_feeds, fields_feeds, f
 pub line_window_is : (bytes : List ℕ) (n : ℕ) → n ≡ min (length bytes) 256 → take n bytes ≡ line_window bytes
 line_window_is bytes n e = take_min 256 bytes n e
 
-some_line : (l : ChunkLine) → IsChunkLine l → 0 < length (print_chunk_line l)
+pub some_line : (l : ChunkLine) → IsChunkLine l → 0 < length (print_chunk_line l)
 unfolding print_chunk_line
 some_line l ok =
     let front = l.digits ++ l.pad ++ print_extension l.extension in

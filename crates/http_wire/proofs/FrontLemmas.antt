@@ -44,7 +44,7 @@ bytes_are input BadTarget x = absurd x
 bytes_are input BadChunk x = absurd x
 
 -- bytes that are refused have no head
-bytes_no_head : (input : List ℕ) (f : Fault) (h : RequestHead) (rest : List ℕ) → RefusesBytes input f → HasHead input h rest → ⊥
+pub bytes_no_head : (input : List ℕ) (f : Fault) (h : RequestHead) (rest : List ℕ) → RefusesBytes input f → HasHead input h rest → ⊥
 bytes_no_head input f h rest x s = decide (bytes_are input f x)
   where
     decide : ((f ≡ BadHead) × IsNoHead input) ⊎ ((f ≡ HeadTooLarge) × (IsTooLong input ⊎ HasTooManyLines input)) → ⊥
@@ -60,7 +60,7 @@ no_head_not_open : (input : List ℕ) → IsNoHead input → MayBecomeRequest (w
 no_head_not_open input x (inl (more, h, reads)) = x.never more h [] reads
 no_head_not_open input x (inr ends) = x.past_target ends
 
-open_no_head : (input : List ℕ) (h : RequestHead) (rest : List ℕ) → IsOpen input → HasHead input h rest → ⊥
+pub open_no_head : (input : List ℕ) (h : RequestHead) (rest : List ℕ) → IsOpen input → HasHead input h rest → ⊥
 open_no_head input h rest o s = o.none h (head_in_window input h rest s).0 (head_in_window input h rest s).1
 
 ok_not_err : (f : Fault) (m : Framing) (h k : RequestHead) → h ≡ k → judged_head h ≡ Ok m → judged_head k ≡ Err f → ⊥

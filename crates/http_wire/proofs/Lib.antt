@@ -1,5 +1,6 @@
 mod FieldLemmas
 mod SendLemmas
+mod QueueLemmas
 mod InboxLemmas
 mod LineLemmas
 mod TargetLemmas
@@ -11,6 +12,8 @@ mod ChunkLookLemmas
 mod ChunkReadLemmas
 mod BodyLemmas
 mod RequestLemmas
+mod InterimLemmas
+mod TakenLemmas
 mod ReadingLemmas
 mod WorkedLemmas
 mod StayLemmas

@@ -18,7 +18,8 @@ use Rattle.http_wire.specs.declared.head.Framing.TheVariants as framing
 use Rattle.http_wire.specs.declared.fault.Fault.{Fault}
 use Rattle.http_wire.specs.Front.{HasHead, HasMessage, HasRequest, HasBody, HasFault, Lacks, IsFaulty, IsIncomplete, IsStarved, closes_after, is_head}
 use Rattle.http_wire.proofs.TargetTexts.{target_ascii}
-use Rattle.http_wire.specs.Incoming.{ReadsFront, IsTargetOf, finished}
+use Rattle.http_wire.specs.Incoming.{ReadsFront, IsTargetOf, finished, targeted}
+use Rattle.http_wire.specs.Interim.{Interim, continue_text, asks_to_continue}
 use Rattle.http_wire.specs.Look.{IsFound}
 
 pub head_before : (input : List ℕ) (h : RequestHead) (rest more : List ℕ) → HasHead input h rest → HasHead (input ++ more) h (rest ++ more)
@@ -90,38 +91,52 @@ request_front law input h t b r x =
       },
     )
 
-judge_target : ChunkLaw → (input : List ℕ) (r : Request) (h : RequestHead) (rest : List ℕ) (good bare : Bool) → IsTargetOf h.target good r.target.items → HasMessage input h r.body.items rest → r.method ≡ h.method → r.closes ≡ closes_after h
-    → bare ≡ is_head h.method → ReadsFront input (cond good (Ok (came.Request r)) (Ok (came.Refused BadTarget bare))) rest
-judge_target law input r h rest true bare good m method closes shown =
-    let request : HasRequest input h r.target.items r.body.items rest = record { message = m; target_is = good } in
-    let cut = request_front law input h r.target.items r.body.items rest request in
-    record {
-      head = h;
-      request = request;
-      method = method;
-      closes = closes;
-      ascii = target_ascii h.target r.target.items good;
-      front = cut.0;
-      cut = cut.1;
-      alone = cut.2;
-    }
-judge_target law input r h rest false bare bad m method closes shown = inr (inr (inr (record {
-  head = h;
-  body = r.body.items;
-  rest = rest;
-  message = m;
-  bad = bad;
-  named = refl;
-  shown = shown;
-})))
+-- what a head asks for is due before the answer
+pub due : (input more sent : List ℕ) (found : Head) (f : IsFound input found) → sent ≡ continue_text (asks_to_continue f.head) → Interim (input ++ more) sent
+due input more sent found f asked = inl (record {
+  head = f.head;
+  rest = drop found.len input ++ more;
+  stands = head_before input f.head (drop found.len input) more f.stands;
+  asked = asked;
+})
 
-pub rest_reads : ChunkLaw → (input more : List ℕ) (found : Head) (r : Request) (good : Bool) (c : Result Chunked WireFault) (rest : List ℕ) → IsFound input found → r.method ≡ span_bytes input found.method
-    → IsTargetOf (span_bytes input found.target) good r.target.items → r.closes ≡ found.closes → BodyRead found.framing (drop found.len input ++ more) c r.body.items rest
-    → ReadsFront (input ++ more) (finished r good found.bare c) rest
-rest_reads law input more found r good (Ok chunked.Whole) rest f method target closes b =
-    judge_target law (input ++ more) r f.head rest good found.bare (subst (λ (raw : List ℕ). IsTargetOf raw good r.target.items) f.target target) (whole input more found r.body.items rest f b) (method ∙ f.method) (closes ∙ f.closes) f.shown
-rest_reads law input more found r good (Ok chunked.Lacking) rest f method target closes b = lacks input more found f b
-rest_reads law input more found r good (Ok (chunked.Refused fault)) rest f method target closes b = faulty input more found fault f b
-rest_reads law input more found r good (Err fault.Read) rest f method target closes b = lacks input more found f b
-rest_reads law input more found r good (Err fault.Memory) rest f method target closes b = starved input more found f
-rest_reads law input more found r good (Err fault.TurnLimit) rest f method target closes b = lacks input more found f b
+judge_target : ChunkLaw → (input : List ℕ) (r : Request) (h : RequestHead) (rest sent : List ℕ) (good bare : Bool) → IsTargetOf h.target good r.target.items → HasMessage input h r.body.items rest → r.method ≡ h.method
+    → r.closes ≡ closes_after h → bare ≡ is_head h.method → sent ≡ continue_text (asks_to_continue h) → ReadsFront input (Ok (targeted r good bare)) rest sent
+judge_target law input r h rest sent true bare good m method closes shown asked =
+    let request : HasRequest input h r.target.items r.body.items rest = record { message = m; target_is = good } in
+    let cut = request_front law input h r.target.items r.body.items rest request in (
+      record {
+        head = h;
+        request = request;
+        method = method;
+        closes = closes;
+        ascii = target_ascii h.target r.target.items good;
+        front = cut.0;
+        cut = cut.1;
+        alone = cut.2;
+      },
+      asked,
+    )
+judge_target law input r h rest sent false bare bad m method closes shown asked = (
+  inr (inr (inr (record {
+    head = h;
+    body = r.body.items;
+    rest = rest;
+    message = m;
+    bad = bad;
+    named = refl;
+    shown = shown;
+  }))),
+  inl (record { head = h; rest = m.text; stands = m.head; asked = asked }),
+)
+
+pub rest_reads : ChunkLaw → (input more : List ℕ) (found : Head) (r : Request) (good : Bool) (c : Result Chunked WireFault) (rest sent : List ℕ) (f : IsFound input found) → r.method ≡ span_bytes input found.method
+    → IsTargetOf (span_bytes input found.target) good r.target.items → r.closes ≡ found.closes → BodyRead found.framing (drop found.len input ++ more) c r.body.items rest → sent ≡ continue_text (asks_to_continue f.head)
+    → ReadsFront (input ++ more) (finished r good found.bare c) rest sent
+rest_reads law input more found r good (Ok chunked.Whole) rest sent f method target closes b asked =
+    judge_target law (input ++ more) r f.head rest sent good found.bare (subst (λ (raw : List ℕ). IsTargetOf raw good r.target.items) f.target target) (whole input more found r.body.items rest f b) (method ∙ f.method) (closes ∙ f.closes) f.shown asked
+rest_reads law input more found r good (Ok chunked.Lacking) rest sent f method target closes b asked = (lacks input more found f b, due input more sent found f asked)
+rest_reads law input more found r good (Ok (chunked.Refused fault)) rest sent f method target closes b asked = (faulty input more found fault f b, due input more sent found f asked)
+rest_reads law input more found r good (Err fault.Read) rest sent f method target closes b asked = (lacks input more found f b, due input more sent found f asked)
+rest_reads law input more found r good (Err fault.Memory) rest sent f method target closes b asked = (starved input more found f, due input more sent found f asked)
+rest_reads law input more found r good (Err fault.TurnLimit) rest sent f method target closes b asked = (lacks input more found f b, due input more sent found f asked)

@@ -177,6 +177,10 @@ pub record RefusesTarget (input : List ℕ) (f : Fault) (bare : Bool) : Type 0 w
 abbrev pub HasFault : List ℕ → Fault → Bool → Type 0
 HasFault input f bare = (RefusesBytes input f × (bare ≡ false)) ⊎ (RefusesHead input f bare ⊎ (RefusesBody input f bare ⊎ RefusesTarget input f bare))
 
+-- no head that may stand is at the front, and this is the fault
+abbrev pub RefusesFront : List ℕ → Fault → Bool → Type 0
+RefusesFront input f bare = (RefusesBytes input f × (bare ≡ false)) ⊎ RefusesHead input f bare
+
 -- memory is wanting for the request whose head stands at the front
 pub record IsStarved (input : List ℕ) (bare : Bool) : Type 0 where
   pub head : RequestHead

@@ -1,12 +1,15 @@
 -- What reading a request gives.
-use Rattle.std.specs.Prelude.{◌≡◌, ℕ, ◌++◌, ◌<◌, ◌≤◌, Bool, true, false, if◌then◌else◌, List, Option, Some, None, Result, Ok, Err, ⊤}
+use Rattle.std.specs.Prelude.{◌≡◌, ℕ, ◌++◌, ◌<◌, ◌≤◌, Bool, true, false, if◌then◌else◌, List, [], Option, Some, None, Result, Ok, Err, ⊤}
 use Rattle.std.specs.Io.KnownBytes.{IsAtEnd}
 use Rattle.httparse.specs.Grammar.{RequestHead}
 use Rattle.http_wire.specs.declared.request.Incoming.{Incoming}
 use Rattle.http_wire.specs.declared.request.Incoming.TheVariants as came
 use Rattle.http_wire.specs.declared.request.Request.{Request}
 use Rattle.http_wire.specs.declared.fault.WireFault.{WireFault}
-use Rattle.http_wire.specs.declared.fault.WireFault.TheVariants as fault
+use Rattle.http_wire.specs.declared.fault.WireFault.TheVariants as wire
+use Rattle.http_wire.specs.declared.fault.RequestFault.{RequestFault}
+use Rattle.http_wire.specs.declared.fault.RequestFault.TheVariants as fault
+use Rattle.http_wire.specs.Interim.{Interim, IsCutInterim, continue_text, asks_to_continue}
 use Rattle.http_wire.specs.Target.{target_of}
 use Rattle.http_wire.specs.declared.chunks.Chunked.{Chunked}
 use Rattle.http_wire.specs.declared.chunks.Chunked.TheVariants as chunked
@@ -31,21 +34,32 @@ pub record IsRequestOf (input : List ℕ) (r : Request) (rest : List ℕ) : Type
   pub cut : input ≡ front ++ rest
   pub alone : (more : List ℕ) → HasRequest (front ++ more) head r.target.items r.body.items more
 
-abbrev pub Came : List ℕ → Incoming → List ℕ → Type 0
-Came input (came.Request r) rest = IsRequestOf input r rest
-Came input (came.Refused f bare) rest = HasFault input f bare
-Came input (came.Starved bare) rest = IsStarved input bare
-Came input came.End rest = IsIncomplete input
+-- what stands at the front of the input, and what was written before the answer to it
+abbrev pub Came : List ℕ → Incoming → (rest sent : List ℕ) → Type 0
+Came input (came.Request r) rest sent = (is : IsRequestOf input r rest) × (sent ≡ continue_text (asks_to_continue is.head))
+Came input (came.Refused f bare) rest sent = HasFault input f bare × Interim input sent
+Came input (came.Starved bare) rest sent = IsStarved input bare × Interim input sent
+Came input came.End rest sent = IsIncomplete input × Interim input sent
 
--- of the input up to here. Nothing leaves a request that had come, but a want of memory, which is told as what came
-abbrev pub ReadsFront : List ℕ → Result Incoming WireFault → List ℕ → Type 0
-ReadsFront input (Ok incoming) rest = Came input incoming rest
-ReadsFront input (Err fault.Read) rest = IsIncomplete input
-ReadsFront input (Err fault.Memory) rest = ⊥
-ReadsFront input (Err fault.TurnLimit) rest = IsIncomplete input
+-- of the input up to here
+abbrev pub ReadsFront : List ℕ → Result Incoming RequestFault → (rest sent : List ℕ) → Type 0
+ReadsFront input (Ok incoming) rest sent = Came input incoming rest sent
+ReadsFront input (Err fault.Read) rest sent = IsIncomplete input × Interim input sent
+ReadsFront input (Err fault.TurnLimit) rest sent = IsIncomplete input × Interim input sent
+ReadsFront input (Err fault.Write) rest sent = IsCutInterim input sent
+
+abbrev pub IsNoEnd : Incoming → Type 0
+IsNoEnd (came.Request r) = ⊤
+IsNoEnd (came.Refused f bare) = ⊤
+IsNoEnd (came.Starved bare) = ⊤
+IsNoEnd came.End = ⊥
+
+-- what stands at the front of the bytes that have come, before whose answer nothing is written
+abbrev pub Taken : List ℕ → Incoming → List ℕ → Type 0
+Taken input incoming rest = IsNoEnd incoming × Came input incoming rest []
 
 -- the end is told only at the reader's end
-abbrev pub EndsAt : Option (List ℕ) → Result Incoming WireFault → Type 0
+abbrev pub EndsAt : Option (List ℕ) → Result Incoming RequestFault → Type 0
 EndsAt left (Ok (came.Request r)) = ⊤
 EndsAt left (Ok (came.Refused f bare)) = ⊤
 EndsAt left (Ok (came.Starved bare)) = ⊤
@@ -53,18 +67,22 @@ EndsAt left (Ok came.End) = IsAtEnd left
 EndsAt left (Err e) = ⊤
 
 -- it never grows, and each request takes some of it
-abbrev pub TakesSome : Result Incoming WireFault → ℕ → ℕ → Type 0
+abbrev pub TakesSome : Result Incoming RequestFault → ℕ → ℕ → Type 0
 TakesSome (Ok (came.Request r)) old new = new < old
 TakesSome (Ok (came.Refused f bare)) old new = new ≤ old
 TakesSome (Ok (came.Starved bare)) old new = new ≤ old
 TakesSome (Ok came.End) old new = new ≤ old
 TakesSome (Err e) old new = new ≤ old
 
--- what a request comes to once its body was read so: is_good tells whether its target may stand
-abbrev pub finished : Request → Bool → Bool → Result Chunked WireFault → Result Incoming WireFault
-finished r is_good bare (Ok chunked.Whole) = if is_good then Ok (came.Request r) else Ok (came.Refused BadTarget bare)
+-- what a request comes to once its body is there: is_good tells whether its target may stand
+abbrev pub targeted : Request → Bool → Bool → Incoming
+targeted r is_good bare = if is_good then came.Request r else came.Refused BadTarget bare
+
+-- what a request comes to once its body was read so
+abbrev pub finished : Request → Bool → Bool → Result Chunked WireFault → Result Incoming RequestFault
+finished r is_good bare (Ok chunked.Whole) = Ok (targeted r is_good bare)
 finished r is_good bare (Ok chunked.Lacking) = Ok came.End
 finished r is_good bare (Ok (chunked.Refused f)) = Ok (came.Refused f bare)
-finished r is_good bare (Err fault.Read) = Err fault.Read
-finished r is_good bare (Err fault.Memory) = Ok (came.Starved bare)
-finished r is_good bare (Err fault.TurnLimit) = Err fault.TurnLimit
+finished r is_good bare (Err wire.Read) = Err fault.Read
+finished r is_good bare (Err wire.Memory) = Ok (came.Starved bare)
+finished r is_good bare (Err wire.TurnLimit) = Err fault.TurnLimit

@@ -1,5 +1,3 @@
-pub mod Turns
-pub mod Sends
 pub mod Budget
 pub mod Lines
 pub mod InTarget
@@ -8,6 +6,7 @@ pub mod Target
 pub mod Connection
 pub mod Chunks
 pub mod Front
+pub mod Interim
 pub mod Law
 pub mod Body
 pub mod Chunked
@@ -16,3 +15,4 @@ pub mod Look
 pub mod Incoming
 pub mod Phrases
 pub mod Answer
+pub mod Queue

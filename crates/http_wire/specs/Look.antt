@@ -9,7 +9,8 @@ use Rattle.http_wire.specs.declared.fault.WireFault.{WireFault}
 use Rattle.http_wire.specs.declared.look.Head.{Head}
 use Rattle.http_wire.specs.declared.look.Look.{Look}
 use Rattle.http_wire.specs.declared.look.Look.TheVariants.{Found, Refused, Wanting}
-use Rattle.http_wire.specs.Front.{HasHead, HasFault, IsOpen, judged_head, closes_after, is_head}
+use Rattle.http_wire.specs.Interim.{asks_by}
+use Rattle.http_wire.specs.Front.{HasHead, RefusesFront, IsOpen, judged_head, closes_after, is_head}
 
 -- the head that the parser's spans tell stands at the front of bytes, and part is as much of them as was read
 pub record IsParsed (bytes part : List ℕ) (headers : List HeaderSpan) (s : RequestSpans) : Type 0 where
@@ -38,10 +39,11 @@ pub record IsFound (bytes : List ℕ) (found : Head) : Type 0 where
   pub target_fits : IsWithin (length bytes) found.target
   pub closes : found.closes ≡ closes_after head
   pub shown : found.bare ≡ is_head head.method
+  pub expects : found.expects ≡ asks_by (Ok found.framing) head
 
 abbrev pub Sees : List ℕ → Look → Type 0
 Sees bytes (Found found) = IsFound bytes found
-Sees bytes (Refused fault bare) = HasFault bytes fault bare
+Sees bytes (Refused fault bare) = RefusesFront bytes fault bare
 Sees bytes Wanting = IsOpen bytes
 
 -- what is known of the bytes once reading a head has ended so

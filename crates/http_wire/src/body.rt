@@ -3,11 +3,11 @@ ghost use Rattle.std.specs.Prelude.{◌≡◌, ◌≢◌, ℕ, ◌+◌, ◌-◌,
 ghost use Rattle.std.specs.Io.KnownBytes.{Consumes};
 ghost use Rattle.http_wire.specs.Body.{PieceCame, BodyCame, LacksAtEnd};
 ghost use Rattle.http_wire.specs.Budget.{failures_of, reading_left};
-ghost use Rattle.http_wire.specs.Turns.{Spends};
+ghost use Rattle.http_wire.specs.Budget.{Spends};
 
 use crate::fault::WireFault;
 use crate::inbox::{INBOX_LEN, Inbox, turn_at};
-use crate::source::{Source, Turn};
+use byte_stream::source::{Source, Turn};
 
 /// One turn into the room behind the filled bytes. Answers how many bytes came, and `None` at the end.
 fn read_piece<R: Source>(
@@ -37,7 +37,7 @@ fn read_piece<R: Source>(
     }
 }
 
-/// Room for more bytes behind the filled ones, where there is none.
+/// Room for more bytes behind the filled ones, where there is none: as much again as has come, and 65,536 bytes at least.
 fn make_room(body: &mut Vec<u8>, filled: usize, n: usize) -> Result<(), WireFault>
     requires filled_len { filled ≤ vec_len body.old }
     requires short { filled < n }
@@ -50,7 +50,7 @@ fn make_room(body: &mut Vec<u8>, filled: usize, n: usize) -> Result<(), WireFaul
     if body.len() > filled {
         return Ok(());
     }
-    let more = (n - filled).min(INBOX_LEN);
+    let more = (n - filled).min(filled.max(INBOX_LEN));
     body.resize(filled + more, 0u8)?;
     Ok(())
 }

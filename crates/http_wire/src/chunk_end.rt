@@ -3,12 +3,12 @@ ghost use Rattle.std.specs.Prelude.{◌≡◌, ◌≢◌, ℕ, ◌≤◌, List, 
 ghost use Rattle.std.specs.Io.KnownBytes.{Consumes};
 ghost use Rattle.http_wire.specs.Budget.{failures_of, reading_left};
 ghost use Rattle.http_wire.specs.ChunkParts.{SeesEnd, SeesFront, WantsAtEnd};
-ghost use Rattle.http_wire.specs.Turns.{Spends};
+ghost use Rattle.http_wire.specs.Budget.{Spends};
 
 use crate::fault::{Fault, WireFault};
 use crate::inbox::Inbox;
 use crate::seen::Seen;
-use crate::source::Source;
+use byte_stream::source::Source;
 
 /// Looks for CR LF at the front of the bytes, and tells its length.
 fn look_at_end(bytes: &[u8]) -> Seen<usize>

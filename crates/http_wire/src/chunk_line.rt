@@ -3,12 +3,12 @@ ghost use Rattle.std.specs.Prelude.{◌≡◌, ◌≢◌, ℕ, ◌≤◌, List, 
 ghost use Rattle.std.specs.Io.KnownBytes.{Consumes};
 ghost use Rattle.http_wire.specs.Budget.{failures_of, reading_left};
 ghost use Rattle.http_wire.specs.ChunkParts.{SeesLine, SeesFront, WantsAtEnd};
-ghost use Rattle.http_wire.specs.Turns.{Spends};
+ghost use Rattle.http_wire.specs.Budget.{Spends};
 
 use crate::fault::{Fault, WireFault};
 use crate::inbox::Inbox;
 use crate::seen::Seen;
-use crate::source::Source;
+use byte_stream::source::Source;
 use httparse::{Status, parse_chunk_size};
 
 /// The line of a chunk ends within so many bytes.

@@ -4,7 +4,7 @@ ghost use Rattle.std.specs.Io.KnownBytes.{Consumes};
 ghost use Rattle.http_wire.specs.Budget.{failures_of, reading_left};
 ghost use Rattle.http_wire.specs.ChunkParts.{IsLineAt, EndCame, TrailersCame, DataCame, StepCame, StepLacksAtEnd, TakesChunk, after_trailers as after_trailers_by, after_data as after_data_by};
 ghost use Rattle.http_wire.specs.Chunked.{ChunksCame, LacksChunksAtEnd};
-ghost use Rattle.http_wire.specs.Turns.{Spends};
+ghost use Rattle.http_wire.specs.Budget.{Spends};
 
 use crate::body::read_behind;
 use crate::chunk_end::read_end;
@@ -13,8 +13,8 @@ use crate::fault::{Fault, WireFault};
 use crate::head::BODY_LIMIT;
 use crate::inbox::Inbox;
 use crate::seen::Seen;
-use crate::source::Source;
 use crate::trailers::read_trailers;
+use byte_stream::source::Source;
 
 /// What came of a body in chunks.
 #[derive(Clone, Copy, Debug, PartialEq, Eq)]

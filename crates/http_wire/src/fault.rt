@@ -36,6 +36,17 @@ pub enum WireFault {
     TurnLimit,
 }
 
+/// Why no request was read, and no answer to it is due.
+#[derive(Clone, Copy, Debug, PartialEq, Eq)]
+pub enum RequestFault {
+    /// A turn of the reader failed.
+    Read,
+    /// The writer failed within the interim answer.
+    Write,
+    /// A turn was wanted and none was left.
+    TurnLimit,
+}
+
 impl From<AllocError> for WireFault {
     ghost use Rattle.http_wire.specs.declared.fault.WireFault.TheVariants.{Memory};
 

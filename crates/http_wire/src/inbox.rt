@@ -2,10 +2,12 @@
 ghost use Rattle.std.specs.Prelude.{◌≡◌, ◌≢◌, ℕ, ◌+◌, ◌-◌, ◌<◌, ◌≤◌, List, [], length, take, drop, slice_range, vec_len, IfOk, OnOk, Err};
 ghost use Rattle.http_wire.specs.Body.{Fills};
 ghost use Rattle.http_wire.specs.Budget.{failures_of};
-ghost use Rattle.http_wire.specs.Turns.{TurnConsumes, failures_after, counted, Spends};
+ghost use Rattle.byte_stream.specs.Turns.{TurnConsumes, failures_after};
+ghost use Rattle.byte_stream.specs.Counts.{counted};
+ghost use Rattle.http_wire.specs.Budget.{Spends};
 
 use crate::fault::WireFault;
-use crate::source::{Source, Turn};
+use byte_stream::source::{Source, Turn};
 use std::alloc::{AllocError, Global};
 use std::marker::Model;
 
@@ -114,8 +116,8 @@ pub(crate) fn turn_at<R: Source>(reader: &mut R, buf: &mut [u8], at: usize) -> T
     requires { at < length buf.old }
     ensures front { take at buf.new ≡ take at buf.old }
     ensures bytes { TurnConsumes (R.remaining reader.old) (R.remaining reader.new) result (drop at buf.new) }
-    ensures failed { R.failures reader.new ≡ failures_after (R.failures reader.old) result }
-    ensures taken { R.turns reader.new ≡ counted (R.turns reader.old) 1 }
+    ensures failures { R.failures reader.new ≡ failures_after (R.failures reader.old) result }
+    ensures turns { R.turns reader.new ≡ counted (R.turns reader.old) 1 }
 {
     reader.turn(&mut buf[at..])
 }

@@ -4,21 +4,16 @@
 mod body;
 mod chunk_end;
 mod chunk_line;
-#[cfg(test)]
-mod chunk_tests;
 pub mod chunks;
 mod connection;
 pub mod fault;
 mod head;
 pub mod inbox;
+mod interim;
 pub mod law;
 mod look;
 pub mod request;
 pub mod response;
 mod seen;
-pub mod sink;
-pub mod source;
 mod target;
-#[cfg(test)]
-mod tests;
 mod trailers;

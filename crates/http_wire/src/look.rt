@@ -12,6 +12,7 @@ ghost use Rattle.std.specs.List.{list_all};
 use crate::connection::asks_to_close;
 use crate::fault::Fault;
 use crate::head::{Framing, judge};
+use crate::interim::{expects_continue, has_body};
 use httparse::spans::{EMPTY_HEADER_SPAN, HeaderSpan, RequestSpans, Span, parse_request};
 use httparse::{Error, Status, is_method_token, is_uri_token};
 
@@ -34,6 +35,8 @@ pub struct Head {
     pub closes: bool,
     /// Whether the answer has no body: its method is HEAD.
     pub bare: bool,
+    /// Whether it asks for the interim answer 100 before its body.
+    pub expects: bool,
 }
 
 /// What stands at the front.
@@ -135,6 +138,7 @@ fn after_parse(bytes: &[u8], part: &[u8], head: RequestSpans, headers: &[HeaderS
             framing,
             closes: asks_to_close(head.version, part, headers),
             bare,
+            expects: has_body(framing) && expects_continue(head.version, part, headers),
         }),
     }
 }

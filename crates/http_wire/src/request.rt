@@ -1,23 +1,25 @@
 //! Requests from a reader, however its bytes are cut.
-ghost use Rattle.std.specs.Prelude.{◌≡◌, ◌≢◌, ℕ, ◌+◌, ◌<◌, ◌≤◌, List, [], ◌++◌, length, Err, IfOk};
+ghost use Rattle.std.specs.Prelude.{◌≡◌, ◌≢◌, ℕ, ◌+◌, ◌<◌, ◌≤◌, List, [], ◌++◌, length, Ok, Err, None, false, IfOk, IfSome};
 ghost use Rattle.httparse.specs.Spans.{span_bytes, IsWithin};
-ghost use Rattle.std.specs.Io.KnownBytes.{Consumes};
+ghost use Rattle.std.specs.Io.KnownBytes.{Appends, Consumes};
 ghost use Rattle.http_wire.specs.Chunked.{BodyRead, LacksChunksAtEnd};
-ghost use Rattle.http_wire.specs.Budget.{failures_of, reading_left};
+ghost use Rattle.http_wire.specs.Budget.{failures_of, read_failures_of, write_failures_of, reading_left};
 ghost use Rattle.std.specs.Option.{option_map};
-ghost use Rattle.http_wire.specs.Incoming.{ReadsFront, EndsAt, TakesSome, finished, IsTargetOf};
+ghost use Rattle.http_wire.specs.Incoming.{ReadsFront, EndsAt, TakesSome, Taken, finished, targeted as targeted_by, IsTargetOf};
 ghost use Rattle.http_wire.specs.Look.{SeesFront, WantsAtEnd, IsFound};
 ghost use Rattle.http_wire.specs.Target.{target_of};
-ghost use Rattle.http_wire.specs.Turns.{Spends};
+ghost use Rattle.http_wire.specs.Budget.{Spends};
 
 use crate::body::read_body;
 use crate::chunks::{Chunked, read_chunks};
-use crate::fault::{Fault, WireFault};
+use crate::fault::{Fault, RequestFault, WireFault};
 use crate::head::Framing;
-use crate::inbox::Inbox;
+use crate::inbox::{INBOX_LEN, Inbox};
+use crate::interim::write_interim;
 use crate::look::{Head, Look, look_at};
-use crate::source::Source;
 use crate::target::{Target, read_target};
+use byte_stream::sink::Sink;
+use byte_stream::source::Source;
 use http::Method;
 use std::alloc::{AllocError, Global};
 
@@ -104,10 +106,10 @@ fn copy_method(alloc: Global, method: &[u8]) -> Result<Method, AllocError>
     }
 }
 
-/// How much room is made for a body before it comes.
+/// How much room is made for a body before it comes. What is missing then is made as it comes.
 fn room_for(framing: Framing) -> usize {
     match framing {
-        Framing::Sized(n) => n,
+        Framing::Sized(n) => n.min(INBOX_LEN),
         Framing::Chunked => 0,
     }
 }
@@ -140,30 +142,36 @@ fn begin(alloc: Global, bytes: &[u8], head: Head) -> Result<Begun, AllocError>
     })
 }
 
+/// What the request comes to once its body is there.
+fn targeted(request: Request, is_good: bool, bare: bool) -> Incoming
+    ensures { result ≡ targeted_by request is_good bare }
+{
+    if is_good {
+        Incoming::Request(request)
+    } else {
+        Incoming::Refused {
+            fault: Fault::BadTarget,
+            bare,
+        }
+    }
+}
+
 /// What the request comes to once its body was read so.
 fn finish(
     request: Request,
     is_good: bool,
     bare: bool,
     came: Result<Chunked, WireFault>,
-) -> Result<Incoming, WireFault>
+) -> Result<Incoming, RequestFault>
     ensures { result ≡ finished request is_good bare came }
 {
     match came {
-        Ok(Chunked::Whole) => {
-            if is_good {
-                Ok(Incoming::Request(request))
-            } else {
-                Ok(Incoming::Refused {
-                    fault: Fault::BadTarget,
-                    bare,
-                })
-            }
-        }
+        Ok(Chunked::Whole) => Ok(targeted(request, is_good, bare)),
         Ok(Chunked::Lacking) => Ok(Incoming::End),
         Ok(Chunked::Refused(fault)) => Ok(Incoming::Refused { fault, bare }),
+        Err(WireFault::Read) => Err(RequestFault::Read),
         Err(WireFault::Memory) => Ok(Incoming::Starved { bare }),
-        Err(fault) => Err(fault),
+        Err(WireFault::TurnLimit) => Err(RequestFault::TurnLimit),
     }
 }
 
@@ -193,22 +201,29 @@ fn read_framed<R: Source>(
     }
 }
 
-/// The rest of a request whose head has come.
-fn read_rest<R: Source>(
+/// The rest of a request whose head has come: writes the interim answer where it is asked for, and reads the body.
+fn read_rest<R: Source, W: Sink>(
     alloc: Global,
     reader: &mut R,
+    writer: &mut W,
     inbox: &mut Inbox,
     turns: &mut u64,
     head: Head,
-) -> Result<Incoming, WireFault>
+) -> Result<Incoming, RequestFault>
     requires { IsFound inbox.old head }
-    ensures read { (more : List ℕ) × Consumes (R.remaining reader.old) (R.remaining reader.new) more × ReadsFront (inbox.old ++ more) result inbox.new }
+    ensures read { (more : List ℕ) × (sent : List ℕ) × Consumes (R.remaining reader.old) (R.remaining reader.new) more
+        × Appends (W.contents writer.old) (W.contents writer.new) sent × ReadsFront (inbox.old ++ more) result inbox.new sent }
     ensures end { EndsAt (R.remaining reader.new) result }
-    ensures failures { R.failures reader.new ≡ failures_of (R.failures reader.old) result }
+    ensures failures { R.failures reader.new ≡ read_failures_of (R.failures reader.old) result }
+    ensures write_failures { W.failures writer.new ≡ write_failures_of (W.failures writer.old) result }
     ensures turns { Spends turns.old turns.new (R.turns reader.old) (R.turns reader.new) }
-    ensures limit { result ≡ Err WireFault.TurnLimit → turns.new ≡ 0 }
+    ensures limit { result ≡ Err RequestFault.TurnLimit → turns.new ≡ 0 }
     ensures left { TakesSome result (reading_left turns.old inbox.old) (reading_left turns.new inbox.new) }
 {
+    match write_interim(writer, head.expects) {
+        Ok(()) => {}
+        Err(_) => return Err(RequestFault::Write),
+    }
     let Ok(begun) = begin(alloc, inbox.as_slice(), head) else {
         return Ok(Incoming::Starved { bare: head.bare });
     };
@@ -221,27 +236,81 @@ fn read_rest<R: Source>(
     finish(request, is_good, head.bare, came)
 }
 
-/// Reads the next request, in as many turns as it needs.
+/// Reads the next request, in as many turns as it needs. Where its head asks for the interim answer 100 (RFC 9110, section
+/// 10.1.1) it is written first, before the body is read, also where the body has come with the head; it takes no memory.
 ///
 /// After an `Err`, `Refused` or `Starved` the stream is over: what had come of a request is lost.
-pub fn read_request<R: Source>(
+pub fn read_request<R: Source, W: Sink>(
     alloc: Global,
     reader: &mut R,
+    writer: &mut W,
     inbox: &mut Inbox,
     turns: &mut u64,
-) -> Result<Incoming, WireFault>
-    ensures read { (more : List ℕ) × Consumes (R.remaining reader.old) (R.remaining reader.new) more × ReadsFront (inbox.old ++ more) result inbox.new }
+) -> Result<Incoming, RequestFault>
+    ensures read { (more : List ℕ) × (sent : List ℕ) × Consumes (R.remaining reader.old) (R.remaining reader.new) more
+        × Appends (W.contents writer.old) (W.contents writer.new) sent × ReadsFront (inbox.old ++ more) result inbox.new sent }
     ensures end { EndsAt (R.remaining reader.new) result }
-    ensures failures { R.failures reader.new ≡ failures_of (R.failures reader.old) result }
+    ensures failures { R.failures reader.new ≡ read_failures_of (R.failures reader.old) result }
+    ensures write_failures { W.failures writer.new ≡ write_failures_of (W.failures writer.old) result }
     ensures turns { Spends turns.old turns.new (R.turns reader.old) (R.turns reader.new) }
-    ensures limit { result ≡ Err WireFault.TurnLimit → turns.new ≡ 0 }
+    ensures limit { result ≡ Err RequestFault.TurnLimit → turns.new ≡ 0 }
     // A bound for a loop over requests.
     ensures left { TakesSome result (reading_left turns.old inbox.old) (reading_left turns.new inbox.new) }
 {
     match read_head(reader, inbox, turns) {
         Ok(Look::Wanting) => Ok(Incoming::End),
         Ok(Look::Refused { fault, bare }) => Ok(Incoming::Refused { fault, bare }),
-        Ok(Look::Found(head)) => read_rest(alloc, reader, inbox, turns, head),
-        Err(fault) => Err(fault),
+        Ok(Look::Found(head)) => read_rest(alloc, reader, writer, inbox, turns, head),
+        Err(WireFault::Read) => Err(RequestFault::Read),
+        Err(WireFault::TurnLimit) => Err(RequestFault::TurnLimit),
+        Err(WireFault::Memory) => unreachable!(),
+    }
+}
+
+/// A request whose head asks for no interim answer, and whose body of n bytes is there.
+#[tactic(auto, using(crate::proofs::TakenLemmas::taken_starved))]
+fn take_found(alloc: Global, inbox: &mut Inbox, head: Head, n: usize) -> Incoming
+    requires found { IsFound inbox.old head }
+    requires plain { head.expects ≡ false }
+    requires framing { head.framing ≡ Framing.Sized n }
+    requires whole { head.len + n ≤ length inbox.old }
+    ensures taken { Taken inbox.old result inbox.new }
+    ensures less { TakesSome (Ok result) (length inbox.old) (length inbox.new) }
+{
+    let Ok(begun) = begin(alloc, inbox.as_slice(), head) else {
+        return Incoming::Starved { bare: head.bare };
+    };
+    let Begun {
+        mut request,
+        is_good,
+    } = begun;
+    inbox.consume(head.len);
+    let bytes = inbox.as_slice();
+    let Ok(()) = request.body.extend_from_slice(&bytes[..n]) else {
+        return Incoming::Starved { bare: head.bare };
+    };
+    inbox.consume(n);
+    targeted(request, is_good, head.bare)
+}
+
+/// Takes the next request without a turn of reading, or tells why it is refused. `None` where a turn may be wanted, or the
+/// interim answer, or where the body comes in chunks: then nothing is taken, and `read_request` goes on.
+pub fn take_request(alloc: Global, inbox: &mut Inbox) -> Option<Incoming>
+    ensures taken { IfSome result (λ incoming. Taken inbox.old incoming inbox.new) }
+    ensures less { IfSome result (λ incoming. TakesSome (Ok incoming) (length inbox.old) (length inbox.new)) }
+    ensures none { result ≡ None → inbox.new ≡ inbox.old }
+{
+    match look_at(inbox.as_slice()) {
+        Look::Wanting => None,
+        Look::Refused { fault, bare } => Some(Incoming::Refused { fault, bare }),
+        Look::Found(head) => {
+            let Framing::Sized(n) = head.framing else {
+                return None;
+            };
+            if head.expects || inbox.as_slice().len() - head.len < n {
+                return None;
+            }
+            Some(take_found(alloc, inbox, head, n))
+        }
     }
 }

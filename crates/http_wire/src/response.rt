@@ -1,13 +1,15 @@
 //! Answers to bytes (RFC 9112, section 4).
-ghost use Rattle.std.specs.Prelude.{◌≡◌, ℕ, ◌+◌, ◌<◌, ◌≤◌, List, [], ◌++◌, length, Option, option_map, vec_len, vec_capacity, decimal, IfOk, codes};
-ghost use Rattle.http_wire.specs.Sends.{Sends, failures_with};
+ghost use Rattle.std.specs.Prelude.{◌≡◌, ℕ, ◌+◌, ◌<◌, ◌≤◌, List, [], ◌++◌, length, true, Option, option_map, vec_len, vec_capacity, decimal, IfOk, codes};
+ghost use Rattle.byte_stream.specs.Sends.{Sends, failures_with};
+ghost use Rattle.http_wire.specs.Queue.{Queues};
 ghost use Rattle.http_wire.specs.Phrases.{phrase_of};
 ghost use Rattle.http_wire.specs.Answer.{status_line, type_line, length_line, allow_line, close_line, line_end, head_text, response_text, sent_body, allowed, allowed_len};
 
-use crate::sink::{Sink, WriteFault};
+use byte_stream::sink::{Sink, WriteFault};
 use http::StatusCode;
 use itoa::Buffer;
 use std::alloc::{AllocError, Global};
+use std::marker::Model;
 
 /// The media type of a body.
 #[derive(Clone, Copy, Debug, PartialEq, Eq)]
@@ -32,22 +34,85 @@ pub struct Response<'a> {
     pub body: &'a [u8],
 }
 
-/// Answers up to this length are sent in one piece.
+/// So many bytes of answers wait at most, and go out in one piece.
 pub const OUTBOX_LEN: usize = 16_384;
 
-/// The buffer in which answers are built, with all the room that it ever takes.
+/// Room for a head, in bytes.
+const HEAD_LEN: usize = 500;
+
+/// The buffer in which answers are built and wait until they are sent together, with all the room that it ever takes.
 #[derive(Drop)]
 pub struct Outbox {
     bytes: Vec<u8>,
-    ghost room: { 16384 ≤ vec_capacity bytes },
+}
+
+impl Model for Outbox {
+    ghost use Rattle.std.specs.Prelude.{List, ℕ, ◌≤◌, vec_capacity, vec_len};
+
+    ghost Value = { List ℕ };
+
+    ghost view = { λ a. a.bytes.items };
+
+    ghost invariant = { λ a. (16384 ≤ vec_capacity a.bytes) × (vec_len a.bytes ≤ 16384) };
 }
 
 impl Outbox {
     /// An empty one, with all the room that it ever takes.
-    pub fn new(alloc: Global) -> Result<Outbox, AllocError> {
+    pub fn new(alloc: Global) -> Result<Outbox, AllocError>
+        ensures { IfOk result (λ outbox. outbox ≡ []) }
+    {
         Ok(Outbox {
             bytes: Vec::with_capacity(alloc, OUTBOX_LEN)?,
         })
+    }
+
+    /// Sends what waits. After a fault nothing waits either.
+    pub fn flush<W: Sink>(&mut self, writer: &mut W) -> Result<(), WriteFault>
+        ensures bytes { Sends (W.contents writer.old) (W.contents writer.new) result self.old }
+        ensures emptied { self.new ≡ [] }
+        ensures failures { W.failures writer.new ≡ failures_with (W.failures writer.old) result }
+    {
+        if self.bytes.is_empty() {
+            return Ok(());
+        }
+        let result = writer.send(self.bytes.as_slice());
+        self.bytes.clear();
+        result
+    }
+
+    /// Whether a head and so many bytes have room behind what waits.
+    fn has_room(&self, len: usize) -> bool
+        ensures { result ≡ true → length self.now + 500 + len ≤ 16384 }
+    {
+        len <= OUTBOX_LEN - HEAD_LEN && self.bytes.len() <= OUTBOX_LEN - HEAD_LEN - len
+    }
+
+    /// Puts a head and a body behind what waits.
+    fn put_answer(&mut self, response: &Response<'_>, body: &[u8])
+        requires room { length self.old + 500 + length body.now ≤ 16384 }
+        requires short { allowed_len (allowed response.now) ≤ 64 }
+        ensures { self.new ≡ self.old ++ (head_text response.now.status response.now.kind (allowed response.now) response.now.closes (length response.now.body.now) ++ body.now) }
+    {
+        put_head(&mut self.bytes, response);
+        put(&mut self.bytes, body);
+    }
+
+    /// Writes a head and a body that have no room together. Nothing waits before or after it.
+    fn write_long<W: Sink>(
+        &mut self,
+        writer: &mut W,
+        response: &Response<'_>,
+        body: &[u8],
+    ) -> Result<(), WriteFault>
+        requires { allowed_len (allowed response.now) ≤ 64 }
+        ensures bytes { Sends (W.contents writer.old) (W.contents writer.new) result
+            (head_text response.now.status response.now.kind (allowed response.now) response.now.closes (length response.now.body.now) ++ body.now) }
+        ensures emptied { self.new ≡ [] }
+        ensures failures { W.failures writer.new ≡ failures_with (W.failures writer.old) result }
+    {
+        let result = write_parts(writer, &mut self.bytes, response, body);
+        self.bytes.clear();
+        result
     }
 }
 
@@ -152,15 +217,14 @@ fn put_end(bytes: &mut Vec<u8>, closes: bool)
     }
 }
 
-/// The head, in place of what the buffer held.
+/// The head.
 fn put_head(bytes: &mut Vec<u8>, response: &Response<'_>)
-    requires room { 16384 ≤ vec_capacity bytes.old }
+    requires room { vec_len bytes.old + 500 ≤ vec_capacity bytes.old }
     requires short { allowed_len (allowed response.now) ≤ 64 }
-    ensures items { bytes.new.items ≡ head_text response.now.status response.now.kind (allowed response.now) response.now.closes (length response.now.body.now) }
-    ensures len { vec_len bytes.new ≤ 500 }
-    ensures room { 16384 ≤ vec_capacity bytes.new }
+    ensures items { bytes.new.items ≡ bytes.old.items ++ head_text response.now.status response.now.kind (allowed response.now) response.now.closes (length response.now.body.now) }
+    ensures len { vec_len bytes.new ≤ vec_len bytes.old + 500 }
+    ensures room { vec_capacity bytes.old ≤ vec_capacity bytes.new }
 {
-    bytes.clear();
     put_status(bytes, response.status);
     put_type(bytes, response.kind);
     put_length(bytes, response.body.len());
@@ -175,19 +239,21 @@ fn sent<'a>(response: &Response<'a>) -> &'a [u8]
     if response.bare { &[] } else { response.body }
 }
 
-/// Writes the head of an answer and a body behind it.
+/// Writes the head of an answer and a body behind it, by a buffer whose bytes it drops.
 fn write_parts<W: Sink>(
     writer: &mut W,
-    outbox: &mut Outbox,
+    bytes: &mut Vec<u8>,
     response: &Response<'_>,
     body: &[u8],
 ) -> Result<(), WriteFault>
-    requires { allowed_len (allowed response.now) ≤ 64 }
+    requires room { 16384 ≤ vec_capacity bytes.old }
+    requires short { allowed_len (allowed response.now) ≤ 64 }
     ensures bytes { Sends (W.contents writer.old) (W.contents writer.new) result
         (head_text response.now.status response.now.kind (allowed response.now) response.now.closes (length response.now.body.now) ++ body.now) }
+    ensures room { 16384 ≤ vec_capacity bytes.new }
     ensures failures { W.failures writer.new ≡ failures_with (W.failures writer.old) result }
 {
-    let bytes = &mut outbox.bytes;
+    bytes.clear();
     put_head(bytes, response);
     let fits = body.len().min(OUTBOX_LEN - bytes.len());
     put(bytes, &body[..fits]);
@@ -200,16 +266,30 @@ fn write_parts<W: Sink>(
     writer.send(&body[fits..])
 }
 
-/// Writes an answer, and takes no memory for it. Its head, with as much of its body as has room, is built before the first
-/// byte is written.
+/// Puts an answer behind those that wait, and takes no memory for it. Where it has no room these are sent first; one that
+/// has no room in the empty buffer either is written at once, its head with as much of its body as has room, and then the
+/// rest. The names of the allowed methods have 64 bytes at most.
 pub fn write_response<W: Sink>(
     writer: &mut W,
     outbox: &mut Outbox,
     response: &Response<'_>,
 ) -> Result<(), WriteFault>
     requires { allowed_len (allowed response.now) ≤ 64 }
-    ensures bytes { Sends (W.contents writer.old) (W.contents writer.new) result (response_text response.now) }
+    ensures bytes { Queues (W.contents writer.old) (W.contents writer.new) outbox.old outbox.new result (response_text response.now) }
     ensures failures { W.failures writer.new ≡ failures_with (W.failures writer.old) result }
 {
-    write_parts(writer, outbox, response, sent(response))
+    let body = sent(response);
+    if outbox.has_room(body.len()) {
+        outbox.put_answer(response, body);
+        return Ok(());
+    }
+    match outbox.flush(writer) {
+        Ok(()) => {}
+        Err(_) => return Err(WriteFault),
+    }
+    if outbox.has_room(body.len()) {
+        outbox.put_answer(response, body);
+        return Ok(());
+    }
+    outbox.write_long(writer, response, body)
 }

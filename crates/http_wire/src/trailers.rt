@@ -5,13 +5,13 @@ ghost use Rattle.httparse.specs.Grammar.{HasNoSection, MayBecomeSection};
 ghost use Rattle.http_wire.specs.Budget.{failures_of, reading_left};
 ghost use Rattle.http_wire.specs.ChunkParts.{SeesTrailers, SeesFront, WantsAtEnd};
 ghost use Rattle.http_wire.specs.Limits.{window};
-ghost use Rattle.http_wire.specs.Turns.{Spends};
+ghost use Rattle.http_wire.specs.Budget.{Spends};
 
 use crate::fault::{Fault, WireFault};
 use crate::inbox::Inbox;
 use crate::look::{FIELD_LIMIT, HEAD_LIMIT, line_feeds};
 use crate::seen::Seen;
-use crate::source::Source;
+use byte_stream::source::Source;
 use httparse::spans::{EMPTY_HEADER_SPAN, parse_headers};
 use httparse::{Error, Status};
 

@@ -1,25 +1,17 @@
 -- What an opening finds in the pages.
 use Rattle.std.proofs.Common.{◌≡◌, ◌<◌, ℕ, true, false, sym, subst, ◌∙◌, arith}
-use Rattle.sector_device.specs.Disk.{Disk, Image, Touches, Nowhere}
-use Rattle.sector_device.specs.Moments.{now_but}
+use Rattle.sector_device.specs.Disk.{Disk, Image}
 use Rattle.sector_device.specs.declared.SectorDevice.{Ghosts}
-use Rattle.gate_journal.specs.Store.{pages, Opens}
+use Rattle.gate_journal.specs.Store.{pages}
 use Rattle.gate_journal.specs.Recovery.{HasRoom, Found}
 use Rattle.gate_journal.specs.Contents.{content, disk_of, device_of, page_count, is_halted}
 use Rattle.gate_journal.specs.declared.journal.Journal.{Journal}
 use Rattle.gate_journal.proofs.Headers.{same_journal}
 use Rattle.page_store.specs.Chain.{IsPages}
 use Rattle.page_store.specs.Openings.{AllPageStores, MetaErr}
-use Rattle.page_store.specs.Transactions.{OpenErr}
+use Rattle.page_store.specs.Transactions.{OpenErr, HasBadPages}
 use Rattle.page_store.specs.declared.error.PageError.{PageError}
 use Rattle.page_store.specs.declared.error.PageError.TheVariants.{NotAStore, DeviceFault, Halted, TooManyPages, TooSmall, NoPages, Memory}
-
--- a call that wrote nothing keeps what each image stands for
-pub kept_still : (J n K m : ℕ) (b c : Disk) (P Q : Image) → K ≡ J → m ≡ n → Q ≡ P → ((x : Image) → b.leaves x → Opens J n P x) → Touches Nowhere b c → (x : Image) → c.leaves x → Opens K m Q x
-kept_still J n K m b c P Q same_journal same_count same kept bc x leaves =
-    let but = now_but Nowhere b c bc x leaves in
-    let there : Opens J n P x = subst (λ (y : Image). Opens J n P y) (λ i k. (sym (but.2.same k (λ none. none))) i) (kept but.0 but.1) in
-    subst (λ (k : ℕ). Opens k m Q x) (sym same_journal) (subst (λ (k : ℕ). Opens J k Q x) (sym same_count) (subst (λ (R : Image). Opens J n R x) (sym same) there))
 
 -- where each image is a store with pages, so is what was found
 pub found_pages : (a b : Disk) (J n : ℕ) → Found J n a b → HasRoom a.sectors J n → AllPageStores a → IsPages n (pages J b.reads)
@@ -31,6 +23,17 @@ found_pages a b J n found room all =
     let count : is.n ≡ n = omega (arith, journal, is.whole, room.whole) in
     let here : IsPages is.n (pages J found.was) = subst (λ (k : ℕ). IsPages is.n (pages k found.was)) journal is.pages in
     subst (λ (P : Image). IsPages n P) (sym found.same) (subst (λ (k : ℕ). IsPages k (pages J found.was)) count here)
+
+-- the pages that were found are no store's
+pub bad_pages : (a b d : Disk) (J K n : ℕ) → Found J n a b → K ≡ J → pages K d.reads ≡ pages J b.reads → (IsPages n (pages J b.reads) → ⊥) → HasBadPages a d
+bad_pages a b d J K n found journal same unsound =
+    let here : pages J d.reads ≡ pages J b.reads = subst (λ (k : ℕ). pages k d.reads ≡ pages J b.reads) journal same in
+    record {
+      J = J;
+      n = n;
+      found = record { was = found.was; left = found.left; header = found.header; same = here ∙ found.same };
+      unsound = λ sound. unsound (subst (λ (P : Image). IsPages n P) here sound);
+    }
 
 -- why an opening failed after the journal was opened
 pub opened_err : {D : Type 0} (g : Ghosts D) (a d : D) (old new : Journal D g) (e : PageError) → d ≡ device_of new → is_halted old ≡ false

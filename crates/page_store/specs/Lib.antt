@@ -2,3 +2,4 @@ pub mod Errors
 pub mod Chain
 pub mod Openings
 pub mod Transactions
+pub mod Stops

@@ -46,13 +46,3 @@ pub record Links (J n from : ℕ) (old new : Disk) : Type 0 where
   pub passed : new.faults ≡ old.faults
   pub settled : IsSettled J n new
   pub linked : AreLinked n (pages J old.reads) 1 from → AreLinked n (pages J new.reads) 1 (from + 256)
-
--- why a batch isn't linked
-abbrev pub LinkErr : {D : Type 0} (g : Ghosts D) → D → D → PageError → Type 0
-LinkErr g old new DeviceFault = (g.disk new).is_honest → (g.disk old).faults < (g.disk new).faults
-LinkErr g old new Memory = (g.disk new).is_honest → (g.disk new).faults ≡ (g.disk old).faults
-LinkErr g old new Halted = ⊥
-LinkErr g old new NotAStore = ⊥
-LinkErr g old new TooManyPages = ⊥
-LinkErr g old new TooSmall = ⊥
-LinkErr g old new NoPages = ⊥

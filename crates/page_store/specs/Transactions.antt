@@ -2,10 +2,11 @@
 use Rattle.std.specs.Prelude.{◌≡◌, ◌≤◌, ◌<◌, ◌+◌, ◌⊎◌, ℕ, Bool, true, false, List, Result, Ok, Err, length}
 use Rattle.sector_device.specs.Disk.{Disk, Image, Touches, Nowhere}
 use Rattle.sector_device.specs.declared.SectorDevice.{Ghosts}
-use Rattle.gate_journal.specs.Store.{overlay, home}
+use Rattle.gate_journal.specs.Store.{overlay, home, Writes, pages}
 use Rattle.gate_journal.specs.Writes.{writes_of}
+use Rattle.gate_journal.specs.Recovery.{Found}
 use Rattle.gate_journal.specs.Contents.{content, disk_of, device_of, page_count, journal_size, is_halted, HasShapeOf, HasHalted, IsKept as kept}
-use Rattle.page_store.specs.Chain.{chain, AreFree, IsIn}
+use Rattle.page_store.specs.Chain.{chain, AreFree, IsIn, IsPages}
 use Rattle.page_store.specs.Openings.{AllPageStores}
 use Rattle.page_store.specs.declared.error.PageError.{PageError}
 use Rattle.page_store.specs.declared.error.PageError.TheVariants.{NotAStore, DeviceFault, Halted, TooManyPages, TooSmall, NoPages, Memory}
@@ -18,9 +19,15 @@ use Rattle.page_store.specs.declared.txn.Prepared.{Prepared}
 abbrev pub txn_pages : Txn → ℕ
 txn_pages t = t.pages
 
--- how many pages it writes
+-- the pages that it writes, each once, with their bytes; how many they are, and whether one is of them
+abbrev pub txn_list : Txn → List (ℕ × List ℕ)
+txn_list t = writes_of t.writes
+
 abbrev pub txn_writes : Txn → ℕ
 txn_writes t = length (writes_of t.writes)
+
+abbrev pub IsWritten : Txn → ℕ → Type 0
+IsWritten t p = Writes (writes_of t.writes) p
 
 abbrev pub txn_root : Txn → ℕ
 txn_root t = t.root
@@ -79,6 +86,10 @@ module _ {D : Type 0} {g : Ghosts D} where
   abbrev pub has_halted : Pages D g → Bool
   has_halted ps = is_halted ps.journal
 
+  -- device and pages are the same
+  abbrev pub IsSame : Pages D g → Pages D g → Type 0
+  IsSame old new = new.journal ≡ old.journal
+
   -- a call that read at most
   pub record IsQuiet (old new : Pages D g) : Type 0 where
     pub count : page_count new.journal ≡ page_count old.journal
@@ -86,6 +97,8 @@ module _ {D : Type 0} {g : Ghosts D} where
     pub honest : (disk_of new.journal).is_honest → (disk_of old.journal).is_honest
     pub same : (disk_of new.journal).is_honest → content new.journal ≡ content old.journal
     pub moves : (disk_of new.journal).is_honest → is_halted old.journal ≡ false → Touches Nowhere (disk_of old.journal) (disk_of new.journal)
+    -- from a fault on nothing changes
+    pub still : is_halted old.journal ≡ true → new.journal ≡ old.journal
 
   -- why a page is not read
   abbrev pub ReadErr : Pages D g → Pages D g → PageError → Type 0
@@ -128,6 +141,17 @@ module _ {D : Type 0} {g : Ghosts D} where
   abbrev pub IsKept : Pages D g → Type 0
   IsKept ps = kept ps.journal
 
+-- the journal was opened, and its pages, which are as they were, are no store's
+pub record HasBadPages (old new : Disk) : Type 0 where
+  pub J : ℕ
+  pub n : ℕ
+  pub found : Found J n old new
+  pub unsound : IsPages n (pages J new.reads) → ⊥
+
+-- what no store holds stays as it is
+abbrev pub IsUntouched : Disk → Disk → Type 0
+IsUntouched old new = Touches Nowhere old new ⊎ HasBadPages old new
+
 -- why pages are not opened
 abbrev pub OpenErr : {D : Type 0} (g : Ghosts D) → D → D → PageError → Type 0
 OpenErr g old new DeviceFault = (g.disk new).is_honest → (g.disk old).faults < (g.disk new).faults
@@ -142,7 +166,7 @@ OpenErr g old new Memory = ⊥
 abbrev pub FormatErr : {D : Type 0} (g : Ghosts D) → ℕ → D → D → PageError → Type 0
 FormatErr g J old new DeviceFault = (home J + 64 ≤ (g.disk old).sectors) × ((g.disk new).is_honest → (g.disk old).faults < (g.disk new).faults)
 FormatErr g J old new TooSmall = ((g.disk old).sectors < home J + 64) × (new ≡ old)
-FormatErr g J old new Memory = home J + 64 ≤ (g.disk old).sectors
+FormatErr g J old new Memory = (home J + 64 ≤ (g.disk old).sectors) × (new ≡ old)
 FormatErr g J old new NotAStore = ⊥
 FormatErr g J old new Halted = ⊥
 FormatErr g J old new TooManyPages = ⊥

@@ -1,5 +1,6 @@
 //! Why pages are refused.
 use gate_journal::JournalError;
+use sector_device::DeviceFault;
 use std::alloc::AllocError;
 
 /// Why pages are refused.
@@ -35,6 +36,17 @@ impl From<JournalError> for PageError {
             JournalError::TooManyPages => PageError::TooManyPages,
             JournalError::TooSmall => PageError::TooSmall,
         }
+    }
+}
+
+impl From<DeviceFault> for PageError {
+    ghost use Rattle.std.specs.Prelude.{◌≡◌};
+    ghost use Rattle.page_store.specs.declared.error.PageError.TheVariants.{DeviceFault};
+
+    ghost from_gives = { λ _ e. e ≡ DeviceFault };
+
+    fn from(_: DeviceFault) -> Self {
+        PageError::DeviceFault
     }
 }
 

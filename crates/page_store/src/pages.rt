@@ -67,7 +67,7 @@ impl<D: SectorDevice> Pages<D> {
     ghost use Rattle.gate_journal.specs.Recovery.{HasRoom, AllStores, ReadsAs, Found};
     ghost use Rattle.page_store.specs.Chain.{root_in, free_in, IsPages};
     ghost use Rattle.page_store.specs.Openings.{AllPageStores};
-    ghost use Rattle.page_store.specs.Transactions.{stored, disk_in, device_in, count_of, journal_of, has_halted, txn_pages, txn_writes, txn_root, over, free_over, IsQuiet, IsKept, ReadErr, OpenErr, device_after};
+    ghost use Rattle.page_store.specs.Transactions.{stored, disk_in, device_in, count_of, journal_of, has_halted, txn_pages, txn_writes, txn_root, over, free_over, IsQuiet, IsKept, IsUntouched, ReadErr, OpenErr, device_after};
 
     /// Opens the pages that a device holds, as `Journal::open`. With a refusal the device comes back.
     pub fn open(device: D) -> Result<Pages<D>, (PageError, D)>
@@ -81,6 +81,7 @@ impl<D: SectorDevice> Pages<D> {
         ensures sound { IfOk result (λ ps. (disk_in ps).is_honest → AllPageStores (D.disk device) → IsPages (count_of ps) (stored ps)) }
         ensures passed { (D.disk (device_after result)).is_honest → OnOk result ((D.disk (device_after result)).faults ≡ (D.disk device).faults) }
         ensures err { IfErr result (λ e. OpenErr D.SectorDevice device e.1 e.0) }
+        ensures untouched { IfErr result (λ e. (D.disk e.1).is_honest → e.0 ≡ PageError.NotAStore → IsUntouched (D.disk device) (D.disk e.1)) }
     {
         let mut journal = match Journal::open(device) {
             Ok(journal) => journal,
@@ -109,6 +110,13 @@ impl<D: SectorDevice> Pages<D> {
         ensures { result ≡ journal_of self.now }
     {
         self.journal.journal_pages()
+    }
+
+    /// Whether the device has failed since the opening.
+    pub fn is_halted(&self) -> bool
+        ensures { result ≡ has_halted self.now }
+    {
+        self.journal.is_halted()
     }
 
     /// Gives the device back.

@@ -40,11 +40,11 @@ pub struct Prepared {
 }
 
 impl Txn {
-    ghost use Rattle.std.specs.Prelude.{◌≡◌, ◌≢◌, ◌<◌, ◌≤◌, ◌+◌, ◌-◌, ◌∷◌, ℕ, length, OnOk, OnErr, IfOk, IfErr};
+    ghost use Rattle.std.specs.Prelude.{◌≡◌, ◌≢◌, ◌⊎◌, ◌<◌, ◌≤◌, ◌+◌, ◌-◌, ◌∷◌, ℕ, length, OnOk, OnErr, IfOk, IfErr};
     ghost use Rattle.sector_device.specs.Disk.{Image};
     ghost use Rattle.gate_journal.specs.Store.{put};
     ghost use Rattle.page_store.specs.Chain.{chain, IsIn, AreFree, IsPages, root_in, free_in};
-    ghost use Rattle.page_store.specs.Transactions.{stored, disk_in, count_of, has_halted, txn_pages, txn_writes, txn_root, txn_first, txn_free, over, free_over, prepared_pages, prepared_writes, after, IsQuiet, ReadErr, TakeErr, GiveErr};
+    ghost use Rattle.page_store.specs.Transactions.{stored, disk_in, count_of, has_halted, txn_pages, txn_list, txn_writes, IsWritten, txn_root, txn_first, txn_free, over, free_over, prepared_pages, prepared_writes, after, IsQuiet, ReadErr, TakeErr, GiveErr};
     ghost use Rattle.page_store.specs.declared.error.PageError.TheVariants.{Memory};
 
     /// Reads a page, its own write before the stored one. The pages are those that began it.
@@ -77,8 +77,11 @@ impl Txn {
         ensures written { OnOk result ((P : Image) (q : ℕ) → over self.new P q ≡ put (p, bytes.now) (over self.old P) q) }
         ensures free { OnOk result ((P : Image) → (IsIn p (free_over self.old P) → ⊥) → free_over self.new P ≡ free_over self.old P) }
         ensures more { OnOk result (txn_writes self.new ≤ txn_writes self.old + 1) }
+        ensures again { OnOk result (IsWritten self.old p → txn_writes self.new ≡ txn_writes self.old) }
+        ensures noted { OnOk result ((q : ℕ) → (q ≡ p) ⊎ IsWritten self.old q → IsWritten self.new q) }
         ensures err { IfErr result (λ e. e ≡ Memory) }
         ensures same { OnErr result ((P : Image) → (over self.new P ≡ over self.old P) × (free_over self.new P ≡ free_over self.old P)) }
+        ensures unwritten { OnErr result (txn_list self.new ≡ txn_list self.old) }
     {
         self.writes.put(p, bytes)?;
         Ok(())
@@ -114,6 +117,7 @@ impl Txn {
         ensures pages { txn_pages self.new ≡ txn_pages self.old }
         ensures root { txn_root self.new ≡ txn_root self.old }
         ensures writes { txn_writes self.new ≡ txn_writes self.old }
+        ensures list { txn_list self.new ≡ txn_list self.old }
         ensures over { (P : Image) → over self.new P ≡ over self.old P }
         ensures below { IfOk result (λ p. p < txn_pages self.old) }
         ensures taken { (disk_in pages.new).is_honest → IfOk result (λ p. free_over self.old (stored pages.old) ≡ p ∷ free_over self.new (stored pages.old)) }
@@ -141,8 +145,11 @@ impl Txn {
         ensures over { OnOk result ((P : Image) (q : ℕ) → q ≢ p → over self.new P q ≡ over self.old P q) }
         ensures given { OnOk result ((P : Image) → (IsIn p (free_over self.old P) → ⊥) → free_over self.new P ≡ p ∷ free_over self.old P) }
         ensures more { OnOk result (txn_writes self.new ≤ txn_writes self.old + 1) }
+        ensures again { OnOk result (IsWritten self.old p → txn_writes self.new ≡ txn_writes self.old) }
+        ensures noted { OnOk result ((q : ℕ) → (q ≡ p) ⊎ IsWritten self.old q → IsWritten self.new q) }
         ensures err { IfErr result (λ e. GiveErr self.old p e) }
         ensures same { OnErr result ((P : Image) → (over self.new P ≡ over self.old P) × (free_over self.new P ≡ free_over self.old P)) }
+        ensures unwritten { OnErr result (txn_list self.new ≡ txn_list self.old) }
     {
         if self.free + 1 >= self.pages {
             return Err(PageError::DeviceFault);
@@ -163,6 +170,7 @@ impl Txn {
         ensures free { IfOk result (λ made. (P : Image) → AreFree (txn_pages self) (free_over self P) → free_in (after made P) ≡ free_over self P) }
         ensures sound { IfOk result (λ made. (P : Image) → AreFree (txn_pages self) (free_over self P) → IsPages (txn_pages self) (after made P)) }
         ensures more { IfOk result (λ made. length (prepared_writes made) ≤ txn_writes self + 1) }
+        ensures again { IfOk result (λ made. IsWritten self 0 → length (prepared_writes made) ≡ txn_writes self) }
         ensures err { IfErr result (λ e. e ≡ Memory) }
     {
         let Txn {
@@ -199,6 +207,7 @@ impl Txn {
         ensures root { txn_root self.new ≡ root }
         ensures pages { txn_pages self.new ≡ txn_pages self.old }
         ensures writes { txn_writes self.new ≡ txn_writes self.old }
+        ensures list { txn_list self.new ≡ txn_list self.old }
         ensures same { (P : Image) → (over self.new P ≡ over self.old P) × (free_over self.new P ≡ free_over self.old P) }
     {
         self.root = root;
@@ -216,11 +225,12 @@ impl Txn {
 }
 
 impl Prepared {
-    ghost use Rattle.std.specs.Prelude.{◌≡◌, ◌≤◌, length, false, OnOk, IfErr};
+    ghost use Rattle.std.specs.Prelude.{◌≡◌, ◌≤◌, length, true, false, Err, OnOk, IfErr, IsOk};
     ghost use Rattle.sector_device.specs.Disk.{Image};
     ghost use Rattle.sector_device.specs.Moments.{LeavesOnly};
     ghost use Rattle.gate_journal.specs.Store.{IsBeforeOrAfter};
-    ghost use Rattle.page_store.specs.Transactions.{stored, disk_in, count_of, journal_of, has_halted, prepared_pages, prepared_writes, after, HasShape, IsKept, CommitErr};
+    ghost use Rattle.page_store.specs.Transactions.{stored, disk_in, count_of, journal_of, has_halted, prepared_pages, prepared_writes, after, HasShape, IsSame, IsKept, CommitErr};
+    ghost use Rattle.page_store.specs.declared.error.PageError.TheVariants.{Halted};
 
     /// Writes the pages, all or none of them. It takes no memory.
     pub fn commit<D: SectorDevice>(self, pages: &mut Pages<D>) -> Result<(), PageError>
@@ -232,6 +242,8 @@ impl Prepared {
         ensures kept { (disk_in pages.new).is_honest → OnOk result (IsKept pages.new) }
         ensures passed { (disk_in pages.new).is_honest → OnOk result ((disk_in pages.new).faults ≡ (disk_in pages.old).faults) }
         ensures ok { OnOk result ((has_halted pages.old ≡ false) × (length (prepared_writes self) ≤ journal_of pages.old) × (has_halted pages.new ≡ false)) }
+        ensures succeeds { has_halted pages.old ≡ false → length (prepared_writes self) ≤ journal_of pages.old → (disk_in pages.new).is_honest → (disk_in pages.new).faults ≡ (disk_in pages.old).faults → IsOk result }
+        ensures still { has_halted pages.old ≡ true → (result ≡ Err Halted) × IsSame pages.old pages.new }
         ensures err { IfErr result (λ e. CommitErr (length (prepared_writes self)) pages.old pages.new e) }
     {
         pages.journal.commit(&self.writes)?;

@@ -3,6 +3,7 @@ use Rattle.std.specs.Prelude.{◌≡◌, ℕ, ◌+◌, ◌-◌, ◌^◌, ◌<◌
 use Rattle.std.specs.List.{IsDistinct}
 use Rattle.std.specs.Io.KnownBytes.{Consumes, IsAtEnd}
 use Rattle.std.specs.Str.Lines.{lines}
+use Rattle.byte_stream.specs.Counts.{counted}
 use Rattle.desk_model.specs.Block.{state_of}
 use Rattle.desk_model.specs.Geography.{block_limit}
 use Rattle.field_text.specs.Judged.{AreGood, ShowsFault, IsCutShort, BeginsWithLines}
@@ -56,7 +57,7 @@ IsRead text left (Err fault.Memory) = ⊤
 abbrev pub failures_after_file : ℕ → Result GeoRows GeoFault → ℕ
 failures_after_file before (Ok rows) = before
 failures_after_file before (Err (fault.Line f number)) = before
-failures_after_file before (Err (fault.Read number)) = min (before + 1) (2 ^ 64 - 1)
+failures_after_file before (Err (fault.Read number)) = counted before 1
 failures_after_file before (Err (fault.NoBlock number)) = before
 failures_after_file before (Err (fault.TurnLimit number)) = before
 failures_after_file before (Err fault.Memory) = before

@@ -2,4 +2,5 @@ pub mod Entries
 pub mod GeoFile
 pub mod Holding
 pub mod Judging
+pub mod Texts
 pub mod Whole

@@ -2,6 +2,7 @@
 ghost use Rattle.std.specs.Prelude.{◌≡◌, ◌+◌, ◌*◌, ◌<◌, ◌^◌, ◌==◌, length, IfSome, IfOk, Option};
 ghost use Rattle.field_text.specs.Fields.{fields};
 ghost use Rattle.pl94_geo.specs.Entries.{is_city, place_of, block_read, state_record_read, line_read, IsEntry, AreBlockFields, block_number};
+ghost use Rattle.pl94_geo.specs.Texts.{line_code};
 ghost use Rattle.desk_model.specs.Block.{state_of};
 
 use desk_model::block::BlockId;
@@ -33,7 +34,9 @@ pub enum LineFault {
 
 impl LineFault {
     /// Its code.
-    pub fn code(self) -> &'static str {
+    pub fn code(self) -> &'static str
+        ensures { result.now ≡ line_code self }
+    {
         match self {
             LineFault::Shape => "G1",
             LineFault::RecordNumber => "G2",

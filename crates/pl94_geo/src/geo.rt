@@ -1,5 +1,6 @@
 //! The geographic header of a whole state.
 ghost use Rattle.std.specs.Prelude.{◌≡◌, ◌+◌, ◌-◌, ◌^◌, ◌≤◌, ℕ, List, Err, Ok, IfOk, min};
+ghost use Rattle.byte_stream.specs.Counts.{counted};
 ghost use Rattle.std.specs.Io.KnownBytes.{Consumes};
 ghost use Rattle.field_text.specs.Reading.{turn_limit};
 ghost use Rattle.pl94_geo.specs.Holding.{Holds};
@@ -8,8 +9,8 @@ ghost use Rattle.pl94_geo.specs.declared.entry.Entry.{Entry as TakenEntry};
 
 use crate::entry::LineFault;
 use crate::header::{GeoBlock, Header, Refusal};
+use byte_stream::source::Source;
 use field_text::reader::{LineReader, ReadFault, Step};
-use field_text::source::Source;
 use std::alloc::Global;
 use std::fmt;
 
@@ -37,6 +38,11 @@ pub enum GeoFault {
 }
 
 impl fmt::Display for GeoFault {
+    ghost use Rattle.std.specs.Prelude.{Some};
+    ghost use Rattle.pl94_geo.specs.Texts.{header_text};
+
+    ghost output = { λ fault. Some (header_text fault) };
+
     /// The code and the line, as `G1 line 2`.
     fn fmt<W: fmt::Write>(&self, f: &mut fmt::Formatter<W>) -> fmt::Result {
         match *self {
@@ -97,7 +103,7 @@ impl GeoReader {
         ensures read { (text : List ℕ) × Consumes (R.remaining reader.old) (R.remaining reader.new) text × IsRead text (R.remaining reader.new) result }
         ensures valid { IfOk result AreGeoRows }
         ensures failures { R.failures reader.new ≡ failures_after_file (R.failures reader.old) result }
-        ensures turns { (line : ℕ) → result ≡ Err (GeoFault.TurnLimit line) → R.turns reader.new ≡ min (R.turns reader.old + turn_limit) (2 ^ 64 - 1) }
+        ensures turns { (line : ℕ) → result ≡ Err (GeoFault.TurnLimit line) → R.turns reader.new ≡ counted (R.turns reader.old) turn_limit }
         ensures most { R.turns reader.new ≤ R.turns reader.old + turn_limit }
     {
         let Ok(mut text) = LineReader::new(alloc) else {

@@ -3,6 +3,7 @@ use Rattle.std.specs.Prelude.{◌≡◌, ℕ, ◌+◌, ◌-◌, ◌^◌, List, [
 use Rattle.std.specs.HashMap.{get}
 use Rattle.std.specs.Io.KnownBytes.{Consumes, IsAtEnd}
 use Rattle.std.specs.Str.Lines.{lines}
+use Rattle.byte_stream.specs.Counts.{counted}
 use Rattle.field_text.specs.Judged.{AreGood, ShowsFault, IsCutShort, BeginsWithLines}
 use Rattle.field_text.specs.declared.reader.ReadFault.{ReadFault}
 use Rattle.field_text.specs.declared.reader.ReadFault.TheVariants as read
@@ -41,7 +42,7 @@ IsRead part text left (Err fault.Memory) = ⊤
 abbrev pub failures_after_file : ℕ → Result SegRows SegFault → ℕ
 failures_after_file before (Ok rows) = before
 failures_after_file before (Err (fault.Line f number)) = before
-failures_after_file before (Err (fault.Read number)) = min (before + 1) (2 ^ 64 - 1)
+failures_after_file before (Err (fault.Read number)) = counted before 1
 failures_after_file before (Err (fault.TurnLimit number)) = before
 failures_after_file before (Err fault.Memory) = before
 

@@ -26,6 +26,11 @@ pub enum JoinFault {
 }
 
 impl fmt::Display for JoinFault {
+    ghost use Rattle.std.specs.Prelude.{Some};
+    ghost use Rattle.pl94_segment.specs.Texts.{join_text};
+
+    ghost output = { λ fault. Some (join_text fault) };
+
     /// The code and what it carries, as `S7 3 2`.
     fn fmt<W: fmt::Write>(&self, f: &mut fmt::Formatter<W>) -> fmt::Result {
         match *self {

@@ -6,5 +6,3 @@ pub mod join;
 pub mod law;
 pub mod record;
 pub mod segment;
-#[cfg(test)]
-mod tests;

@@ -2,6 +2,7 @@
 ghost use Rattle.std.specs.Prelude.{◌≡◌, ◌<◌, ◌≤◌, length};
 ghost use Rattle.field_text.specs.Fields.{fields};
 ghost use Rattle.pl94_segment.specs.Records.{part_number, field_count_of, people_of_field, record_read, line_read};
+ghost use Rattle.pl94_segment.specs.Texts.{line_code};
 
 use field_text::digits::number as record_number;
 use field_text::fields::{Fields, count_fields};
@@ -54,7 +55,9 @@ pub enum LineFault {
 
 impl LineFault {
     /// Its code.
-    pub fn code(self) -> &'static str {
+    pub fn code(self) -> &'static str
+        ensures { result.now ≡ line_code self }
+    {
         match self {
             LineFault::Shape => "S1",
             LineFault::RecordNumber => "S2",

@@ -1,5 +1,6 @@
 //! A segment of a whole state.
 ghost use Rattle.std.specs.Prelude.{◌≡◌, ◌+◌, ◌-◌, ◌^◌, ◌≤◌, [], ℕ, List, Err, Ok, min};
+ghost use Rattle.byte_stream.specs.Counts.{counted};
 ghost use Rattle.std.specs.Io.KnownBytes.{Consumes};
 ghost use Rattle.field_text.specs.Reading.{turn_limit};
 ghost use Rattle.pl94_segment.specs.Records.{records};
@@ -7,8 +8,8 @@ ghost use Rattle.pl94_segment.specs.SegFile.{people_of, Holds, Takes, Judges, Is
 ghost use Rattle.pl94_segment.specs.declared.record.SegRecord.{SegRecord as SegmentRecord};
 
 use crate::record::{LineFault, Part, SegRecord, read_line};
+use byte_stream::source::Source;
 use field_text::reader::{LineReader, ReadFault, Step};
-use field_text::source::Source;
 use std::alloc::Global;
 use std::collections::HashMap;
 use std::fmt;
@@ -32,6 +33,11 @@ pub enum SegFault {
 }
 
 impl fmt::Display for SegFault {
+    ghost use Rattle.std.specs.Prelude.{Some};
+    ghost use Rattle.pl94_segment.specs.Texts.{segment_text};
+
+    ghost output = { λ fault. Some (segment_text fault) };
+
     /// The code and the line, as `S1 line 2`.
     fn fmt<W: fmt::Write>(&self, f: &mut fmt::Formatter<W>) -> fmt::Result {
         match *self {
@@ -115,7 +121,7 @@ impl SegmentReader {
     pub fn read<R: Source>(alloc: Global, part: Part, reader: &mut R) -> Result<SegRows, SegFault>
         ensures read { (text : List ℕ) × Consumes (R.remaining reader.old) (R.remaining reader.new) text × IsRead part text (R.remaining reader.new) result }
         ensures failures { R.failures reader.new ≡ failures_after_file (R.failures reader.old) result }
-        ensures turns { (line : ℕ) → result ≡ Err (SegFault.TurnLimit line) → R.turns reader.new ≡ min (R.turns reader.old + turn_limit) (2 ^ 64 - 1) }
+        ensures turns { (line : ℕ) → result ≡ Err (SegFault.TurnLimit line) → R.turns reader.new ≡ counted (R.turns reader.old) turn_limit }
         ensures most { R.turns reader.new ≤ R.turns reader.old + turn_limit }
     {
         let Ok(mut text) = LineReader::new(alloc) else {

@@ -5,9 +5,10 @@ use Rattle.desk_model.specs.declared.command.Query.{Query}
 use Rattle.desk_model.specs.declared.reply.Reply.{Reply}
 use Rattle.desk_model.specs.Desk.{Desk}
 use Rattle.desk_model.specs.Sample.{sample_desk}
-use Rattle.desk_model.specs.Outcome.{CommandMay}
+use Rattle.desk_store.specs.Clerks.{ClerkMay}
 use Rattle.desk_store.specs.Audits.{AskMay}
-use Rattle.http_desk.specs.Serving.{Serves}
+use Rattle.byte_stream.specs.Counts.{counted}
+use Rattle.http_desk.specs.Serving.{Serves, read_failures, write_failures}
 use Rattle.http_desk.specs.declared.serve.Served.{Served}
 use Rattle.http_desk.specs.declared.serve.ServeFault.{ServeFault}
 use Rattle.http_desk.specs.declared.serve.ServeFault.TheVariants as fault
@@ -16,7 +17,7 @@ use Rattle.check_command.specs.declared.status.Status.TheVariants.{Done, Memory,
 
 -- a desk in memory: it is never full, and no device fails
 abbrev pub desk_commands : Desk → Command → Reply → Desk → Type 0
-desk_commands desk command reply after = CommandMay ⊥ ⊥ desk command reply after
+desk_commands desk command reply after = ClerkMay desk command reply after
 
 abbrev pub desk_asks : Desk → Query → Reply → Desk → Type 0
 desk_asks desk query reply after = AskMay desk query reply × (after ≡ desk)
@@ -32,6 +33,9 @@ status_of (Err fault.TurnLimit) = Stream
 abbrev pub ServesSample : Result Served ServeFault → (unread left before after : Option (List ℕ)) → Type 0
 ServesSample served unread left before after = (desk : Desk) × Serves desk_commands desk_asks sample_desk served desk unread left before after
 
--- the same, and the status tells how it ended
-abbrev pub Talks : Status → (unread left before after : Option (List ℕ)) → Type 0
-Talks status unread left before after = (served : Result Served ServeFault) × (status ≡ status_of served) × ServesSample served unread left before after
+-- The same, and the status tells how it ended: a read fault or a write fault only where the reader or the writer failed, and the turn
+-- limit only where all its turns were made.
+abbrev pub Talks : Status → (unread left before after : Option (List ℕ)) → (reads_failed reads_fail writes_failed writes_fail turned turns : ℕ) → Type 0
+Talks status unread left before after reads_failed reads_fail writes_failed writes_fail turned turns =
+    (served : Result Served ServeFault) × (status ≡ status_of served) × ServesSample served unread left before after × (reads_fail ≡ read_failures reads_failed served)
+    × (writes_fail ≡ write_failures writes_failed served) × (served ≡ Err fault.TurnLimit → turns ≡ counted turned 4294967296)

@@ -1,15 +1,11 @@
 //! The plan desk's program: each command is a function over its readers and writers that answers the exit status.
 #![tactic(auto)]
 
-ghost use Rattle.std.specs.Prelude.{◌≡◌, is_some, option_map};
+ghost use Rattle.std.specs.Prelude.{◌≡◌, is_some};
 ghost use Rattle.check_command.specs.Options.{AreTerms};
 
 #[cfg(test)]
-mod audit_check_tests;
-#[cfg(test)]
 mod audit_tests;
-#[cfg(test)]
-mod check_tests;
 #[cfg(test)]
 mod chunk_tests;
 #[cfg(test)]
@@ -25,21 +21,20 @@ pub mod talk;
 mod tests;
 pub mod words;
 
+use byte_stream::sink::WriteSink;
+use byte_stream::source::ReadSource;
 use check_command::audit_plan::{AuditFiles, audit_plan};
 use check_command::census::CensusFiles;
 use check_command::check::check;
 use check_command::fault::OpenFault;
+use check_command::open::{AuditPaths, CensusPaths, Opener, open_audit, open_census};
 use check_command::options::Terms;
-use check_command::plan_file::Companion;
 use check_command::status::Status;
-use field_text::source::Counted;
-use http_wire::sink::WriteSink;
-use http_wire::source::ReadSource;
 use std::env;
 use std::fs::File;
 use std::io::{ErrorKind, Write};
 use std::process::ExitCode;
-use words::{AuditPaths, CensusPaths, Job, job_of};
+use words::{Job, Mistake, job_of};
 
 /// Tells a text on standard error, as far as that can be written.
 fn tell<E: Write>(errors: &mut E, text: &str) {
@@ -67,25 +62,26 @@ fn all_words(rt: &HostRuntime) -> Result<Vec<String>, Status> {
     }
 }
 
-/// Opens a file to be read, or tells why it isn't.
-fn open(rt: &HostRuntime, path: &str) -> Result<Counted<File>, OpenFault> {
-    match File::open(rt, path) {
-        Ok(file) => Ok(Counted::new(file)),
-        Err(e) => {
-            if e.kind() == ErrorKind::OutOfMemory {
-                return Err(OpenFault::Memory);
-            }
-            Err(OpenFault::Unreadable)
-        }
-    }
+/// The files of the file system, by their paths.
+#[derive(Drop)]
+struct Files<'a> {
+    rt: &'a HostRuntime,
 }
 
-fn open_census(rt: &HostRuntime, paths: CensusPaths<'_>) -> CensusFiles<Counted<File>> {
-    CensusFiles {
-        geo: open(rt, paths.geo),
-        seg1: open(rt, paths.seg1),
-        seg2: open(rt, paths.seg2),
-        seg3: open(rt, paths.seg3),
+impl<'a> Opener<ReadSource<File>> for Files<'a> {
+    // What the file system has under a name isn't known.
+    ghost opens = { λ _ _ _ _. Unit {0} };
+
+    fn open(&mut self, name: &str) -> Result<ReadSource<File>, OpenFault> {
+        match File::open(self.rt, name) {
+            Ok(file) => Ok(ReadSource::new(file)),
+            Err(e) => {
+                if e.kind() == ErrorKind::OutOfMemory {
+                    return Err(OpenFault::Memory);
+                }
+                Err(OpenFault::Unreadable)
+            }
+        }
     }
 }
 
@@ -100,48 +96,53 @@ fn serve_talk(rt: &HostRuntime) -> Status {
 }
 
 fn check_counts(rt: &HostRuntime, paths: CensusPaths<'_>) -> Status {
-    let files = open_census(rt, paths);
+    let mut opener = Files { rt };
+    let mut files: CensusFiles<ReadSource<File>> = open_census(&mut opener, paths);
     let mut writer = WriteSink::new(rt.stdout());
     let mut errors = WriteSink::new(rt.stderr());
-    let status = check(rt.alloc(), files, &mut writer, &mut errors);
+    let status = check(rt.alloc(), &mut files, &mut writer, &mut errors);
     let _ = writer.into_inner();
     let _ = errors.into_inner();
     status
-}
-
-/// Opens a senate plan, where there is one.
-fn open_companion(
-    rt: &HostRuntime,
-    path: Option<&str>,
-    districts: Option<u16>,
-) -> Option<Companion<Counted<File>>>
-    requires { is_some path ≡ is_some districts }
-    ensures { option_map (λ companion. companion.districts) result ≡ districts }
-{
-    let path = path?;
-    let districts = districts?;
-    Some(Companion {
-        opened: open(rt, path),
-        districts,
-    })
 }
 
 fn check_plan(rt: &HostRuntime, paths: AuditPaths<'_>, terms: Terms) -> Status
     requires { AreTerms terms × (is_some paths.senate ≡ is_some terms.senate_districts) }
 {
-    let files = AuditFiles {
-        census: open_census(rt, paths.census),
-        gal: open(rt, paths.gal),
-        plan: open(rt, paths.plan),
-        senate: open_companion(rt, paths.senate, terms.senate_districts),
-    };
+    let (kind, districts) = (terms.kind, terms.districts);
+    let mut opener = Files { rt };
+    let mut files: AuditFiles<ReadSource<File>> = open_audit(
+        &mut opener,
+        paths,
+        terms.senate_districts,
+    );
     let mut writer = WriteSink::new(rt.stdout());
     let mut errors = WriteSink::new(rt.stderr());
-    let (kind, districts) = (terms.kind, terms.districts);
-    let status = audit_plan(rt.alloc(), files, kind, districts, &mut writer, &mut errors);
+    let status = audit_plan(
+        rt.alloc(),
+        &mut files,
+        kind,
+        districts,
+        &mut writer,
+        &mut errors,
+    );
     let _ = writer.into_inner();
     let _ = errors.into_inner();
     status
+}
+
+/// Tells why nothing is done: help and the version on standard output, and what is wrong on standard error.
+fn end_mistake(rt: &HostRuntime, mistake: &Mistake) -> Status {
+    if mistake.status() != Status::Done {
+        let mut errors = rt.stderr();
+        tell(&mut errors, mistake.text());
+        return mistake.status();
+    }
+    let mut output = rt.stdout();
+    match output.write_all(mistake.text().as_bytes()) {
+        Ok(()) => Status::Done,
+        Err(_) => Status::Stream,
+    }
 }
 
 fn run(rt: &HostRuntime) -> Result<Status, Status> {
@@ -156,11 +157,7 @@ fn run(rt: &HostRuntime) -> Result<Status, Status> {
         Ok(Job::Talk) => Ok(serve_talk(rt)),
         Ok(Job::Counts(paths)) => Ok(check_counts(rt, paths)),
         Ok(Job::Audit(paths, terms)) => Ok(check_plan(rt, paths, terms)),
-        Err(mistake) => {
-            let mut errors = rt.stderr();
-            tell(&mut errors, mistake.text());
-            Ok(mistake.status())
-        }
+        Err(mistake) => Ok(end_mistake(rt, &mistake)),
     }
 }
 

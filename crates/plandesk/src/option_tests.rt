@@ -26,7 +26,15 @@ fn options_that_go_together(rt: HostRuntime) -> Result<(), Fail> {
     let counts = [
         "plandesk", "check", "--seg3", "3", "--seg2", "2", "--seg1", "1", "--geo", "g",
     ];
-    assert!(rt; matches!(job_of(alloc, &counts), Ok(Job::Counts(_))));
+    match job_of(alloc, &counts) {
+        Ok(Job::Counts(paths)) => {
+            assert_eq!(rt; paths.geo, "g");
+            assert_eq!(rt; paths.seg1, "1");
+            assert_eq!(rt; paths.seg2, "2");
+            assert_eq!(rt; paths.seg3, "3");
+        }
+        _ => assert!(rt; false),
+    }
     let asked = [
         (
             "--gal n --plan p --kind congress --districts 99",
@@ -58,9 +66,13 @@ fn options_that_go_together(rt: HostRuntime) -> Result<(), Fail> {
         match job_of(alloc, words.as_slice()) {
             Ok(Job::Audit(paths, terms)) => {
                 assert!(rt; terms == wanted);
-                assert_eq!(rt; paths.plan, "p");
+                assert_eq!(rt; paths.census.geo, "g");
+                assert_eq!(rt; paths.census.seg1, "1");
+                assert_eq!(rt; paths.census.seg2, "2");
+                assert_eq!(rt; paths.census.seg3, "3");
                 assert_eq!(rt; paths.gal, "n");
-                assert!(rt; paths.senate.is_some() == wanted.senate_districts.is_some());
+                assert_eq!(rt; paths.plan, "p");
+                assert!(rt; paths.senate == wanted.senate_districts.map(|_| "s"));
             }
             _ => assert!(rt; false),
         }
@@ -95,6 +107,61 @@ fn options_that_do_not(rt: HostRuntime) -> Result<(), Fail> {
         match job_of(alloc, words.as_slice()) {
             Ok(_) => assert!(rt; false),
             Err(mistake) => assert!(rt; mistake.status() == Status::Usage),
+        }
+    }
+    Ok(())
+}
+
+/// Words, the status, and what the text that is told begins with.
+const TOLD: [(&str, Status, &str); 8] = [
+    ("plandesk --help", Status::Done, "The plan desk of a state"),
+    ("plandesk --version", Status::Done, "plandesk 0.1.0\n"),
+    (
+        "plandesk check --help",
+        Status::Done,
+        "Prints the counts of a state's census files",
+    ),
+    (
+        "plandesk talk --help",
+        Status::Done,
+        "Serves HTTP/1.1 from standard input",
+    ),
+    ("plandesk", Status::Usage, ""),
+    (
+        "plandesk check --geo g --seg1 1 --seg2 2 --seg3 3 --gal n --plan p --kind House --districts 2",
+        Status::Usage,
+        "error: invalid value 'House' for '--kind <KIND>'\n  [possible values: congress, senate, house]",
+    ),
+    (
+        "plandesk check --geo g --seg1 1 --seg2 2 --seg3 3 --gal n --plan p --kind house --districts 1000",
+        Status::Usage,
+        "error: invalid value '1000' for '--districts <N>': 1000 is not in 1..=999",
+    ),
+    (
+        "plandesk check --geo g --seg1 1 --seg2 2 --seg3 3 --gal n --plan p --kind senate --districts 2 --senate s --senate-districts 2",
+        Status::Usage,
+        "error: '--senate <FILE>' goes with '--kind house' alone\n",
+    ),
+];
+
+#[test]
+fn what_is_told(rt: HostRuntime) -> Result<(), Fail> {
+    let alloc = rt.alloc();
+    for (line, status, text) in TOLD {
+        let mut words = Vec::new(alloc);
+        for word in line.split(' ') {
+            words.push(word)?;
+        }
+        match job_of(alloc, words.as_slice()) {
+            Ok(_) => assert!(rt; false, "{line}"),
+            Err(mistake) => {
+                assert!(rt; mistake.status() == status, "{line}");
+                assert!(rt;
+                    mistake.text().starts_with(text),
+                    "{line}: {}",
+                    mistake.text()
+                );
+            }
         }
     }
     Ok(())

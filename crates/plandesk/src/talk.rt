@@ -1,15 +1,17 @@
 //! `talk`: serves standard input to standard output, with a clerk alone over the sample geography.
-ghost use Rattle.std.specs.Prelude.{◌≡◌, ◌+◌, ◌≤◌, IfSome};
+ghost use Rattle.std.specs.Prelude.{◌≡◌, ◌+◌, ◌≤◌, Err, IfSome};
+ghost use Rattle.byte_stream.specs.Counts.{counted};
+ghost use Rattle.http_desk.specs.Serving.{read_failures, write_failures};
 ghost use Rattle.desk_model.specs.Sample.{sample_desk};
 ghost use Rattle.plandesk.specs.Talking.{Talks, ServesSample, status_of as status_of_served};
 
+use byte_stream::sink::Sink;
+use byte_stream::source::Source;
 use check_command::status::Status;
 use desk_model::gate::NoGate;
 use desk_model::geography::sample;
 use desk_store::clerk::Clerk;
 use http_desk::serve::{ServeFault, Served, serve};
-use http_wire::sink::Sink;
-use http_wire::source::Source;
 use std::alloc::Global;
 use std::io::Write;
 use std::sync::Arc;
@@ -29,7 +31,10 @@ fn serve_sample<R: Source, W: Sink>(
     reader: &mut R,
     writer: &mut W,
 ) -> Result<Served, ServeFault>
-    ensures { ServesSample result (R.remaining reader.old) (R.remaining reader.new) (W.contents writer.old) (W.contents writer.new) }
+    ensures serves { ServesSample result (R.remaining reader.old) (R.remaining reader.new) (W.contents writer.old) (W.contents writer.new) }
+    ensures read_failures { R.failures reader.new ≡ read_failures (R.failures reader.old) result }
+    ensures write_failures { W.failures writer.new ≡ write_failures (W.failures writer.old) result }
+    ensures turns { result ≡ Err ServeFault.TurnLimit → R.turns reader.new ≡ counted (R.turns reader.old) 4294967296 }
 {
     match sample_clerk(alloc) {
         Some(mut clerk) => serve(alloc, reader, writer, &mut clerk, &NoGate),
@@ -65,7 +70,8 @@ pub fn talk<R: Source, W: Sink, E: Write>(
     writer: &mut W,
     errors: &mut E,
 ) -> Status
-    ensures { Talks result (R.remaining reader.old) (R.remaining reader.new) (W.contents writer.old) (W.contents writer.new) }
+    ensures { Talks result (R.remaining reader.old) (R.remaining reader.new) (W.contents writer.old) (W.contents writer.new)
+        (R.failures reader.old) (R.failures reader.new) (W.failures writer.old) (W.failures writer.new) (R.turns reader.old) (R.turns reader.new) }
 {
     let served = serve_sample(alloc, reader, writer);
     if let Err(fault) = served {

@@ -1,9 +1,9 @@
 //! `talk` over worked streams: whole, in pieces, and with a read or a write that fails.
 use crate::talk::talk;
 use crate::words::{Job, job_of};
+use byte_stream::sink::WriteSink;
+use byte_stream::source::ReadSource;
 use check_command::status::Status;
-use http_wire::sink::WriteSink;
-use http_wire::source::ReadSource;
 use std::alloc::{AllocError, Global};
 use std::io;
 use std::io::{ErrorKind, Read, Write};

@@ -4,6 +4,8 @@
 #[cfg(test)]
 mod journal_trials;
 #[cfg(test)]
+mod memory_trials;
+#[cfg(test)]
 mod page_trials;
 #[cfg(test)]
 mod recorder;

@@ -1,7 +1,4 @@
 use Rattle.check_command.proofs.check.end.Goals as goal
 
-pub returns-in-Ok-send : goal.returns-in-Ok-send
-returns-in-Ok-send g c = rw c.in-Ok.is (rw (← c.as_slice.ensures.value) c.in-Ok-send.ensures.bytes)
-
 pub returns-in-Ok : goal.returns-in-Ok
-returns-in-Ok g c = rw c.in-Ok.is (rw (← c.as_slice.ensures.value) c.in-Err-send.ensures.bytes)
+returns-in-Ok g c = rw c.in-Ok.is (rw (← c.as_slice.ensures.value) c.print.ensures)

@@ -1,8 +1,10 @@
 use Rattle.std.proofs.Common.{ℕ, List, subst}
-use Rattle.check_command.specs.Telling.{Told}
+use Rattle.check_command.specs.Writing.{Told, written_of}
 use Rattle.check_command.proofs.telling.tell_memory.Goals as goal
 
 pub returns : goal.returns
 returns g c =
-    let P : List ℕ → Type 0 = λ line. Told (g.E.Sink.contents c.args.errors.now) (g.E.Sink.contents c.send_line.new.errors) line in
+    let before = written_of g.E.Sink.contents g.E.Sink.failures c.args.errors.now in
+    let after = written_of g.E.Sink.contents g.E.Sink.failures c.send_line.new.errors in
+    let P : List ℕ → Type 0 = λ line. Told before after line in
     subst P c.memory_line_of.ensures c.send_line.ensures

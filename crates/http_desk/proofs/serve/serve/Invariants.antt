@@ -1,6 +1,6 @@
 use Rattle.std.proofs.Common.{◌≡◌, ◌+◌, ◌*◌, ◌≤◌}
 use Rattle.http_wire.specs.Budget.{reading_left}
-use Rattle.http_wire.specs.Turns.{Spends}
+use Rattle.http_wire.specs.Budget.{Spends}
 use Rattle.http_desk.proofs.TalkLemmas.{Stands}
 use Rattle.http_desk.proofs.serve.serve.Given as goal
 
@@ -10,7 +10,7 @@ invariant-loop-stream g l = record {
   read_failures : g.R.Source.failures l.reader ≡ g.R.Source.failures l.fn.reader;
   write_failures : g.W.Sink.failures l.writer ≡ g.W.Sink.failures l.fn.writer;
   turns : Spends 4294967296 l.stream.turns (g.R.Source.turns l.fn.reader) (g.R.Source.turns l.reader);
-  stands : Stands g.C.Counter.commands g.C.Counter.asks l.fn.counter (g.R.Source.remaining l.fn.reader) (g.R.Source.remaining l.reader) (g.W.Sink.contents l.fn.writer) (g.W.Sink.contents l.writer) l.counter l.stream.inbox l.requests;
+  stands : Stands g.C.Counter.commands g.C.Counter.asks l.fn.counter (g.R.Source.remaining l.fn.reader) (g.R.Source.remaining l.reader) (g.W.Sink.contents l.fn.writer) (g.W.Sink.contents l.writer) l.counter l.stream.inbox l.stream.outbox l.requests;
 }
 
 abbrev pub decreases-loop-stream : goal.decreases-loop-stream

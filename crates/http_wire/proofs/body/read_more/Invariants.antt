@@ -1,6 +1,6 @@
 use Rattle.std.proofs.Common.{◌≡◌, ◌≤◌, List, ℕ, ◌++◌, take, vec_len}
 use Rattle.std.specs.Io.KnownBytes.{Consumes}
-use Rattle.http_wire.specs.Turns.{Spends}
+use Rattle.http_wire.specs.Budget.{Spends}
 use Rattle.http_wire.proofs.body.read_more.Given as goal
 
 abbrev pub invariant-loop-filled : goal.invariant-loop-filled

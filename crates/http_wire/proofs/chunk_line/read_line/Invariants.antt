@@ -1,7 +1,7 @@
 use Rattle.std.proofs.Common.{◌≡◌, ◌≤◌, List, ℕ, ◌++◌}
 use Rattle.std.specs.Io.KnownBytes.{Consumes}
 use Rattle.http_wire.specs.Budget.{reading_left}
-use Rattle.http_wire.specs.Turns.{Spends}
+use Rattle.http_wire.specs.Budget.{Spends}
 use Rattle.http_wire.proofs.chunk_line.read_line.Given as goal
 
 abbrev pub invariant-loop-line : goal.invariant-loop-line

@@ -1,6 +1,6 @@
 use Rattle.std.proofs.Common.{◌≡◌, ◌≤◌, vec_len}
 use Rattle.http_wire.specs.Budget.{reading_left}
-use Rattle.http_wire.specs.Turns.{Spends}
+use Rattle.http_wire.specs.Budget.{Spends}
 use Rattle.http_wire.proofs.ChunkReadLemmas.{Stands}
 use Rattle.http_wire.proofs.chunks.read_chunks.Given as goal
 

@@ -1,5 +1,6 @@
-use Rattle.std.proofs.Common.{◌≡◌, ◌*◌, ◌+◌}
+use Rattle.std.proofs.Common.{◌≡◌, ◌≤◌, ◌*◌, ◌+◌}
 use Rattle.gate_journal.specs.Store.{IsSettled, pages}
+use Rattle.gate_journal.specs.Writes.{room_of}
 use Rattle.page_store.specs.Chain.{AreLinked}
 use Rattle.page_store.proofs.formatting.format.Given as goal
 
@@ -14,5 +15,6 @@ invariant-loop-batch g l =
       honest : now.is_honest → old.is_honest;
       passed : now.is_honest → now.faults ≡ old.faults;
       settled : now.is_honest → IsSettled J n now;
+      capacity : 256 ≤ room_of l.writes;
       linked : now.is_honest → AreLinked n (pages J now.reads) 1 (1 + 256 * l.batch);
     }

@@ -1,13 +1,14 @@
 use Rattle.std.proofs.Common.{◌≡◌, ◌≤◌, ◌<◌, ◌+◌, ℕ, length}
 use Rattle.sector_device.specs.Disk.{Image}
 use Rattle.gate_journal.specs.Store.{IsWithin, overlay}
-use Rattle.gate_journal.specs.Writes.{writes_of}
+use Rattle.gate_journal.specs.Writes.{writes_of, room_of}
 use Rattle.page_store.specs.Chain.{AreLinked}
 use Rattle.page_store.proofs.formatting.link_pages.Given as goal
 
 abbrev pub invariant-loop-p : goal.invariant-loop-p
 invariant-loop-p l = record {
   few : length (writes_of l.writes) + l.from ≤ l.p;
+  room : 256 ≤ room_of l.writes;
   within : IsWithin (writes_of l.writes) l.pages;
   linked : (P : Image) → AreLinked l.pages (overlay (writes_of l.writes) P) l.from l.p;
   others : (P : Image) (q : ℕ) → q < l.from → overlay (writes_of l.writes) P q ≡ P q;

@@ -1,10 +1,14 @@
-use Rattle.std.proofs.Common.{arith}
-use Rattle.desk_model.proofs.Places.{place_more}
+use Rattle.std.proofs.Common.{subst}
+use Rattle.desk_model.specs.Geography.{AreTold}
+use Rattle.desk_model.proofs.Pairs.{told_sorted, ground_made}
 use Rattle.desk_model.proofs.geography.Geography.make.Goals as goal
 
-pub loop-pair-preserved : goal.loop-pair-preserved
-loop-pair-preserved c =
-    rw c.in_ok-push.ensures.items (place_more _ _ _ _ c.pair-item.result _ (omega arith) c.loop-pair.invariant c.pair-item.is
-    (rw c.pair-item.is (c.requires.pairs _ _ (omega arith)))
-    (rw c.as_slice.ensures.value at c.known_place.ensures.within, rw c.as_slice.ensures.value at c.known_place.ensures.found)
-    (rw c.as_slice-in-loop-pair.ensures.value at c.known_place-in-loop-pair.ensures.within, rw c.as_slice-in-loop-pair.ensures.value at c.known_place-in-loop-pair.ensures.found))
+pub invariant_of-result : goal.invariant_of-result
+invariant_of-result c =
+    ground_made c.args.blocks.items c.args.pairs.now c.in_ok-placed.placed.items c.sort_pairs.new.pairs.items c.requires.blocks
+    (subst (λ rows. AreTold rows c.args.pairs.now c.in_ok-placed.placed.items) c.as_slice.ensures.value c.in_ok-placed.ensures) c.sort_pairs.ensures.kept c.sort_pairs.ensures.rising
+
+pub returns-clause-pairs : goal.returns-clause-pairs
+returns-clause-pairs c =
+    told_sorted c.args.blocks.items c.args.pairs.now c.in_ok-placed.placed.items c.sort_pairs.new.pairs.items
+    (subst (λ rows. AreTold rows c.args.pairs.now c.in_ok-placed.placed.items) c.as_slice.ensures.value c.in_ok-placed.ensures) c.sort_pairs.ensures.kept

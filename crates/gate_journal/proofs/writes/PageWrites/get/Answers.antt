@@ -1,10 +1,10 @@
-use Rattle.std.proofs.Common.{◌∙◌, ℕ, List, ap, sym, subst}
+use Rattle.std.proofs.Common.{◌∙◌, ℕ, List, ap, sym}
 use Rattle.std.proofs.lemmas.List.{get_or_default}
-use Rattle.gate_journal.specs.Writes.{writes_of, IsLast}
+use Rattle.gate_journal.specs.Writes.{writes_of}
 use Rattle.gate_journal.proofs.Overlays.{overlay_last}
 use Rattle.gate_journal.proofs.writes.PageWrites.get.Goals as goal
 
 pub returns : goal.returns
 returns c =
-    let last = subst (λ (ws : List (ℕ × List ℕ)). IsLast ws c.args.page c.in_ok-k.k) c.deref.ensures.value c.in_ok-k.ensures in
+    let last = c.in_ok-k.ensures in
     λ P. overlay_last (writes_of c.args.self.now) P c.args.page c.in_ok-k.k last ∙ ap (λ (w : ℕ × List ℕ). w.1) (get_or_default (writes_of c.args.self.now) c.in_ok-k.k _ _ last.below ∙ sym c.index.ensures)

@@ -1,10 +1,15 @@
-use Rattle.std.proofs.Common.{ℕ, sym, subst}
+use Rattle.std.proofs.Common.{◌≡◌, ℕ, inr, sym, subst}
 use Rattle.sector_device.specs.Moments.{LeavesOnly, leaves_still}
 use Rattle.gate_journal.specs.Contents.{disk_of, content, page_count}
 use Rattle.gate_journal.specs.Recovery.{AllStores, ReadsAs}
 use Rattle.sector_device.specs.Disk.{Image}
 use Rattle.page_store.specs.Chain.{IsPages}
-use Rattle.page_store.proofs.Opened.{kept_still, found_pages, opened_err}
+use Rattle.page_store.specs.Openings.{MetaErr}
+use Rattle.page_store.specs.Transactions.{IsUntouched}
+use Rattle.page_store.specs.declared.error.PageError.{PageError}
+use Rattle.page_store.specs.declared.error.PageError.TheVariants.{NotAStore}
+use Rattle.page_store.specs.Stops.{kept_still}
+use Rattle.page_store.proofs.Opened.{found_pages, bad_pages, opened_err}
 use Rattle.page_store.proofs.pages.Pages.open.Goals as goal
 
 pub returns-in-Ok-read_meta-clause-any_moment : goal.returns-in-Ok-read_meta-clause-any_moment
@@ -37,3 +42,12 @@ returns-in-Err-read_meta-clause-err g c =
     let read = c.in-Err-read_meta.ensures in
     opened_err g.D.SectorDevice c.args.device c.into_device.result c.in-Ok.journal c.read_meta.new.journal c.in-Err-read_meta.e c.into_device.ensures c.in-Ok.ensures.working
     (λ honest. c.in-Ok.ensures.passed (read.honest honest)) (λ honest all. found_pages (g.D.SectorDevice.disk c.args.device) (disk_of c.in-Ok.journal) _ _ (c.in-Ok.ensures.found (read.honest honest)) c.in-Ok.ensures.room all) read.err
+
+pub returns-in-Err-read_meta-clause-untouched : goal.returns-in-Err-read_meta-clause-untouched
+returns-in-Err-read_meta-clause-untouched g c =
+    let a = g.D.SectorDevice.disk c.args.device in
+    let read = c.in-Err-read_meta.ensures in
+    let e = c.in-Err-read_meta.e in
+    subst (λ d. (g.D.SectorDevice.disk d).is_honest → e ≡ NotAStore → IsUntouched a (g.D.SectorDevice.disk d)) (sym c.into_device.ensures)
+    (λ honest is. inr (bad_pages a (disk_of c.in-Ok.journal) (disk_of c.read_meta.new.journal) _ _ _ (c.in-Ok.ensures.found (read.honest honest)) read.shape.journal_pages (read.same honest)
+    (subst (λ (x : PageError). MetaErr c.in-Ok.journal c.read_meta.new.journal x) is read.err honest)))

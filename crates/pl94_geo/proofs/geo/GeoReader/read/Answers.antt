@@ -7,7 +7,7 @@ use Rattle.pl94_geo.proofs.geo.GeoReader.read.Goals as goal
 pub loop-header-init : goal.loop-header-init
 loop-header-init g c = record {
   stands = subst (λ n. Stands (g.R.Source.remaining c.args.reader.now) (g.R.Source.remaining c.args.reader.now) c.in-Ok.text.held n c.new-header.result) (sym c.in-Ok.ensures.number) (stands_start (g.R.Source.remaining c.args.reader.now) c.in-Ok.text.held c.new-header.result c.in-Ok.ensures.held c.new-header.ensures);
-  counted = (λ none. refl, λ some. absurd (omega (arith, c.in-Ok.ensures.turns)));
+  counted = omega (arith, c.in-Ok.ensures.turns);
   failures = refl;
 }
 

@@ -7,7 +7,7 @@ use Rattle.pl94_segment.proofs.segment.SegmentReader.read.Goals as goal
 pub loop-rows-init : goal.loop-rows-init
 loop-rows-init g c = record {
   stands = subst (λ n. Stands c.args.part (g.R.Source.remaining c.args.reader.now) (g.R.Source.remaining c.args.reader.now) c.in-Ok.text.held n c.new-rows.result) (sym c.in-Ok.ensures.number) (stands_start c.args.part (g.R.Source.remaining c.args.reader.now) c.in-Ok.text.held c.new-rows.result c.in-Ok.ensures.held c.new-rows.ensures);
-  counted = (λ none. refl, λ some. absurd (omega (arith, c.in-Ok.ensures.turns)));
+  counted = omega (arith, c.in-Ok.ensures.turns);
   failures = refl;
 }
 

@@ -1,0 +1,12 @@
+//! Laws of the definitions.
+ghost use Rattle.audit_contiguity.specs.Laws.{BreaksAreOneList, BreaksFollow};
+
+/// The breaks of a plan's districts are one list: what tells them tells the same.
+pub fn breaks_are_one_list()
+    ensures { BreaksAreOneList }
+{}
+
+/// The breaks of the districts up to one and those of the districts behind it are together the breaks of them all.
+pub fn breaks_follow()
+    ensures { BreaksFollow }
+{}

@@ -1,5 +1,0 @@
-use Rattle.bench_baf.proofs.Consecutive.{AreMade}
-use Rattle.bench_baf.proofs.made.made_blocks.Given as goal
-
-abbrev pub invariant-loop-i : goal.invariant-loop-i
-invariant-loop-i l = AreMade l.blocks.items l.i

@@ -1,0 +1,58 @@
+//! Commits pages to a device in memory, over and over.
+ghost use Rattle.std.specs.Prelude.{◌≤◌, ℕ, IfOk};
+ghost use Rattle.gate_journal.specs.Store.{IsWithin};
+ghost use Rattle.gate_journal.specs.Writes.{writes_of};
+ghost use Rattle.gate_journal.specs.Contents.{page_count};
+
+use gate_journal::{Journal, PageWrites, format};
+use sector_device::SectorDevice;
+use sector_memory::MemoryDevice;
+use std::alloc::{AllocError, Global};
+use std::io;
+
+/// The first pages, each of sevens.
+fn first_pages(alloc: Global, count: u32) -> Result<PageWrites, AllocError>
+    ensures { IfOk result (λ writes. (n : ℕ) → count ≤ n → IsWithin (writes_of writes) n) }
+{
+    let mut writes = PageWrites::new(alloc);
+    for p in 0..count {
+        writes.put(p, &[7; 4096])?;
+    }
+    Ok(writes)
+}
+
+/// Commits the first pages so often.
+fn commit_often<D: SectorDevice>(
+    journal: &mut Journal<D>,
+    writes: &PageWrites,
+    commits: u32,
+) -> bool
+    requires { IsWithin (writes_of writes.now) (page_count journal.old) }
+{
+    for _ in 0..commits {
+        if journal.commit(writes).is_err() {
+            return false;
+        }
+    }
+    true
+}
+
+fn commit_all(alloc: Global, count: u32, commits: u32) -> Option<bool> {
+    let mut device = MemoryDevice::new(alloc, 2000).ok()?;
+    let layout = format(&mut device, 256).ok()?;
+    let mut journal = Journal::open(device).ok()?;
+    let writes = first_pages(alloc, count).ok()?;
+    if layout.pages < count || journal.page_count() < count {
+        return None;
+    }
+    Some(commit_often(&mut journal, &writes, commits))
+}
+
+/// So many pages, so often. An error where a call was refused.
+pub fn run(rt: &HostRuntime, count: u32, commits: u32) -> io::Result<()> {
+    if commit_all(rt.alloc(), count, commits) == Some(true) {
+        Ok(())
+    } else {
+        Err(io::Error::from(io::ErrorKind::Other))
+    }
+}

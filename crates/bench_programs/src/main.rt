@@ -1,0 +1,35 @@
+//! The timed programs of `bench/`, by the first word: `commit` with the numbers of pages, up to 208, and of commits; `baf`;
+//! `audit` with the numbers of blocks, up to 262,144, and of districts, up to 999; `gal` with the path of a neighbour file and
+//! the number of its blocks. With no words it does nothing.
+#![tactic(auto)]
+
+mod audits;
+mod bafs;
+mod commits;
+mod made;
+mod neighbours;
+
+use std::{env, io};
+
+fn main(rt: HostRuntime) -> io::Result<()> {
+    let mut words = env::args(&rt)?;
+    let _ = words.next();
+    let Some(job) = words.next() else {
+        return Ok(());
+    };
+    if job.as_str() == "baf" {
+        return bafs::run(&rt);
+    }
+    let Some(first) = words.next() else {
+        return Ok(());
+    };
+    let Some(second) = words.next() else {
+        return Ok(());
+    };
+    let number = second.parse().unwrap_or(0);
+    match job.as_str() {
+        "commit" => commits::run(&rt, first.parse().unwrap_or(0), number),
+        "gal" => neighbours::run(&rt, first.as_str(), number as usize),
+        _ => audits::run(&rt, first.parse().unwrap_or(0), (number % 1000) as u16),
+    }
+}

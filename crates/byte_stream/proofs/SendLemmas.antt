@@ -1,0 +1,27 @@
+-- Bytes that are written one piece after another.
+use Rattle.std.proofs.Common.{◌≡◌, ℕ, ◌+◌, ◌-◌, ◌≤◌, List, ◌++◌, length, take, drop, Option, Result, Ok, Err, sym, ap, subst, ◌∙◌, arith, append_assoc, length-drop, take-append-drop}
+use Rattle.std.proofs.lemmas.List.{take_rest}
+use Rattle.std.proofs.Math.Seq.{take-add, take-length}
+use Rattle.std.proofs.KnownBytes.{Appends-trans, Appends-kept}
+use Rattle.std.specs.Io.KnownBytes.{Appends, Keeps}
+use Rattle.byte_stream.specs.Sends.{Sends}
+
+-- one piece more of the bytes, from what is left of them
+pub sent_more : (a b c : Option (List ℕ)) (bytes : List ℕ) (done n : ℕ) → Appends a b (take done bytes) → Appends b c (take n (take (length bytes - done) (drop done bytes)))
+    → Appends a c (take (done + n) bytes)
+sent_more a b c bytes done n p q =
+    subst (Appends a c) (sym (take-add done n bytes)) (Appends-trans a b c (take done bytes) (take n (drop done bytes)) p (subst (λ xs. Appends b c (take n xs)) (take_rest bytes done) q))
+
+-- and it is within the bytes
+pub piece_within : (bytes : List ℕ) (done n : ℕ) → done ≤ length bytes → n ≤ length (take (length bytes - done) (drop done bytes)) → done + n ≤ length bytes
+piece_within bytes done n within h = omega (arith, rw take_rest at h, length-drop done bytes)
+
+-- what was written is a front of the bytes
+pub sent_front : (a b : Option (List ℕ)) (bytes : List ℕ) (done : ℕ) → Appends a b (take done bytes) → (front : List ℕ) × (rest : List ℕ) × (bytes ≡ front ++ rest) × Appends a b front
+sent_front a b bytes done p = (take done bytes, drop done bytes, sym (take-append-drop done bytes), p)
+
+-- and a write that took nothing leaves it so
+pub sent_stays : (a b c : Option (List ℕ)) (bytes : List ℕ) (done : ℕ) → Appends a b (take done bytes) → Keeps b c → (front : List ℕ) × (rest : List ℕ) × (bytes ≡ front ++ rest) × Appends a c front
+sent_stays a b c bytes done p k = sent_front a c bytes done (Appends-kept a b c (take done bytes) p k)
+
+-- ---- a head with a part of its body, and then the rest

@@ -1,0 +1,212 @@
+-- How lists are cut at the counties.
+use Rattle.std.proofs.Common.{◌≡◌, ◌≢◌, ℕ, zero, suc, ◌+◌, ◌-◌, ◌<◌, ◌≤◌, Bool, true, false, cond, eqb, List, [], ◌∷◌, ◌++◌, map, length, take, drop, get_or, All, refl, sym, ap, subst, ◌∙◌, arith, append_assoc, take-append-drop, length-append, length-drop, length-take-le, drop-cons, add-one, ⊎_elim}
+use Rattle.std.specs.List.{concat}
+use Rattle.std.specs.List.Sorted.{IsStrictlyIncreasing}
+use Rattle.std.proofs.lemmas.Bool.{ne_eqb, eq-eqb, cases_lt}
+use Rattle.std.proofs.Math.Seq.{take-append_seam, drop-append_seam}
+use Rattle.std.proofs.lemmas.List.Elements.{All-push}
+use Rattle.std.proofs.lemmas.List.{append-nil, take_all, get_or-map, length-map}
+use Rattle.desk_model.specs.Block.{county_of}
+use Rattle.desk_model.specs.Geography.{Ground, AreBlocks, ids}
+use Rattle.desk_model.specs.Cuts.{runs, runs_from, parts, laid, counties, sizes, cut, first_county, IsOneCounty, IsCut, AreCounties, ListsAreCut, CutsAreCounties}
+use Rattle.desk_model.specs.declared.block.BlockRow.{BlockRow}
+use Rattle.desk_model.specs.declared.cuts.Cut.{Cut}
+use Rattle.desk_model.proofs.Parts.{climbs}
+
+-- the counties before a place are cut off, and a county's blocks from a place on are counted up to there
+pub record IsCutTo (cs : List ℕ) (all : List Cut) (first place : ℕ) : Type 0 where
+  pub before : first < place
+  pub here : all ++ laid first (runs_from (get_or cs first 0) (place - first) (drop place cs)) ≡ laid 0 (runs cs)
+
+pub cut_start : (cs : List ℕ) → 0 < length cs → IsCutTo cs [] 0 1
+cut_start [] some = absurd (omega arith)
+cut_start (c ∷ cs) some = record { before = omega arith; here = refl }
+
+abbrev cut_at : ℕ → ℕ → Cut
+cut_at first count = record { first = first; count = count }
+
+stepped : (cs : List ℕ) (first place : ℕ) → place < length cs → runs_from (get_or cs first 0) (place - first) (drop place cs)
+    ≡ cond (eqb (get_or cs place 0) (get_or cs first 0)) (runs_from (get_or cs first 0) (place - first + 1) (drop (place + 1) cs)) ((place - first) ∷ runs_from (get_or cs place 0) 1 (drop (place + 1) cs))
+stepped cs first place inside = rw (drop-cons cs place 0, add-one place) refl
+
+pub cut_same : (cs : List ℕ) (all : List Cut) (first place : ℕ) → IsCutTo cs all first place → place < length cs → get_or cs place 0 ≡ get_or cs first 0 → IsCutTo cs all first (place + 1)
+cut_same cs all first place was inside same = record {
+  before = omega (arith, was.before);
+  here = ap (λ rest. all ++ laid first rest) (more ∙ sym (stepped cs first place inside ∙ ap (λ b. cond b (runs_from (get_or cs first 0) (place - first + 1) (drop (place + 1) cs)) ((place - first) ∷ runs_from (get_or cs place 0) 1 (drop (place + 1) cs))) (eq-eqb _ _ same))) ∙ was.here;
+}
+  where
+    more : runs_from (get_or cs first 0) (place + 1 - first) (drop (place + 1) cs) ≡ runs_from (get_or cs first 0) (place - first + 1) (drop (place + 1) cs)
+    more = let e : place + 1 - first ≡ place - first + 1 = omega (arith, was.before) in ap (λ n. runs_from (get_or cs first 0) n (drop (place + 1) cs)) e
+
+pub cut_more : (cs : List ℕ) (all : List Cut) (first place : ℕ) → IsCutTo cs all first place → place < length cs → get_or cs place 0 ≢ get_or cs first 0
+    → IsCutTo cs (all ++ cut_at first (place - first) ∷ []) place (place + 1)
+cut_more cs all first place was inside apart = record {
+  before = omega arith;
+  here = append_assoc all (cut_at first (place - first) ∷ []) _ ∙ ap (λ rest. all ++ rest) (joined ∙ ap (laid first) (sym (stepped cs first place inside ∙ ap (λ b. cond b (runs_from (get_or cs first 0) (place - first + 1) (drop (place + 1) cs)) ((place - first) ∷ runs_from (get_or cs place 0) 1 (drop (place + 1) cs))) (ne_eqb _ _ apart)))) ∙ was.here;
+}
+  where
+    joined : (cut_at first (place - first) ∷ []) ++ laid place (runs_from (get_or cs place 0) (place + 1 - place) (drop (place + 1) cs))
+        ≡ laid first ((place - first) ∷ runs_from (get_or cs place 0) 1 (drop (place + 1) cs))
+    joined =
+        let one : place + 1 - place ≡ 1 = omega arith in
+        let sum : first + (place - first) ≡ place = omega (arith, was.before) in
+        rw (one, sum) refl
+
+pub cut_end : (cs : List ℕ) (all : List Cut) (first place : ℕ) → IsCutTo cs all first place → length cs ≤ place → place ≤ length cs → all ++ cut_at first (length cs - first) ∷ [] ≡ laid 0 (runs cs)
+cut_end cs all first place was most least =
+    let same : place ≡ length cs = omega arith in
+    let none : drop place cs ≡ [] = nothing (drop place cs) (omega (arith, length-drop place cs)) in
+    ap (λ n. all ++ cut_at first (n - first) ∷ []) (sym same) ∙ ap (λ rest. all ++ laid first (runs_from (get_or cs first 0) (place - first) rest)) (sym none) ∙ was.here
+  where
+    nothing : (xs : List ℕ) → length xs ≡ 0 → xs ≡ []
+    nothing [] e = refl
+    nothing (x ∷ xs) e = absurd (omega arith)
+
+-- ---- lists
+
+abbrev cut_or_go_on : Bool → ℕ → ℕ → ℕ → List ℕ → List ℕ
+cut_or_go_on b c d n ds = cond b (runs_from c (n + 1) ds) (n ∷ runs_from d 1 ds)
+
+whole_from : (c n : ℕ) (ds xs : List ℕ) → length xs ≡ n + length ds → concat (parts (runs_from c n ds) xs) ≡ xs
+whole_from c n [] xs long = append-nil (take n xs) ∙ take_all n xs (omega arith)
+whole_from c n (d ∷ ds) xs long = elim (eqb d c) as (λ (b : Bool). concat (parts (cut_or_go_on b c d n ds) xs) ≡ xs) [
+  | true ↦ whole_from c (n + 1) ds xs (omega arith)
+  | false ↦ ap (λ (rest : List ℕ). take n xs ++ rest) (whole_from d 1 ds (drop n xs) (omega (arith, length-drop n xs))) ∙ take-append-drop n xs
+]
+
+lengths_from : (c n : ℕ) (ds xs : List ℕ) → length xs ≡ n + length ds → map length (parts (runs_from c n ds) xs) ≡ runs_from c n ds
+lengths_from c n [] xs long = ap (λ m. m ∷ []) (length-take-le n xs (omega arith))
+lengths_from c n (d ∷ ds) xs long = elim (eqb d c) as (λ (b : Bool). map length (parts (cut_or_go_on b c d n ds) xs) ≡ cut_or_go_on b c d n ds) [
+  | true ↦ lengths_from c (n + 1) ds xs (omega arith)
+  | false ↦ ap (λ m. m ∷ map length (parts (runs_from d 1 ds) (drop n xs))) (length-take-le n xs (omega arith))
+      ∙ ap (λ ms. n ∷ ms) (lengths_from d 1 ds (drop n xs) (omega (arith, length-drop n xs)))
+]
+
+nothing_whole : (xs : List ℕ) → length xs ≡ 0 → concat (parts [] xs) ≡ xs
+nothing_whole [] e = refl
+nothing_whole (x ∷ xs) e = absurd (omega arith)
+
+whole_runs : (cs xs : List ℕ) → length xs ≡ length cs → concat (parts (runs cs) xs) ≡ xs
+whole_runs [] xs long = nothing_whole xs long
+whole_runs (c ∷ cs) xs long = whole_from c 1 cs xs (omega arith)
+
+lengths_runs : (cs xs : List ℕ) → length xs ≡ length cs → map length (parts (runs cs) xs) ≡ runs cs
+lengths_runs [] xs long = refl
+lengths_runs (c ∷ cs) xs long = lengths_from c 1 cs xs (omega arith)
+
+pub lists_cut : ListsAreCut
+lists_cut g xs long =
+    let same : length xs ≡ length (counties g) = rw (length-map, length-map) long in
+    record { whole = whole_runs (counties g) xs same; lengths = lengths_runs (counties g) xs same }
+
+-- ---- counties
+
+pub counties_long : (g : Ground) → length (counties g) ≡ length g.blocks
+counties_long g = length-map (ids g) county_of ∙ length-map g.blocks (λ (b : BlockRow). b.id)
+
+pub county_there : (g : Ground) (k : ℕ) (row : BlockRow) → k < length g.blocks → row ≡ get_or g.blocks k row → get_or (counties g) k 0 ≡ county_of row.id
+county_there g k row within is =
+    get_or-map county_of (ids g) k 0 0 (rw length-map within) ∙ ap county_of (get_or-map (λ (b : BlockRow). b.id) g.blocks k row 0 within ∙ ap (λ (b : BlockRow). b.id) (sym is))
+
+abbrev climbing : ℕ → List ℕ → Type 0
+climbing c [] = Unit {0}
+climbing c (d ∷ ds) = (c ≤ d) × climbing d ds
+
+climbing_from : (c : ℕ) (ds : List ℕ) → ((i j : ℕ) → i ≤ j → j < length (c ∷ ds) → get_or (c ∷ ds) i 0 ≤ get_or (c ∷ ds) j 0) → climbing c ds
+climbing_from c [] rises = tt
+climbing_from c (d ∷ ds) rises = (rises 0 1 (omega arith) (omega arith), climbing_from d ds (λ i j less inside. rises (suc i) (suc j) (omega arith) (omega arith)))
+
+-- blocks of the county, at least one
+record IsOf (c : ℕ) (front : List ℕ) : Type 0 where
+  pub some : 0 < length front
+  pub all : All (λ id. county_of id ≡ c) front
+
+-- parts that begin with a county's
+record ClimbFrom (c : ℕ) (ps : List (List ℕ)) : Type 0 where
+  pub some : 0 < length ps
+  pub head : first_county (get_or ps 0 []) ≡ c
+  pub are : AreCounties ps
+
+one_county : (c : ℕ) (front : List ℕ) → IsOf c front → IsOneCounty front
+one_county c front of = record { some = of.some; same = λ k d inside. of.all k d inside ∙ sym (of.all 0 0 of.some) }
+
+alone : (c : ℕ) (front : List ℕ) → IsOf c front → ClimbFrom c (front ∷ [])
+alone c front of = record {
+  some = omega arith;
+  head = of.all 0 0 of.some;
+  are = record { one = only; rising = λ k inside. absurd (omega arith) };
+}
+  where
+    only : All IsOneCounty (front ∷ [])
+    only zero d inside = one_county c front of
+    only (suc k) d inside = absurd (omega arith)
+
+with_front : (c d : ℕ) (front : List ℕ) (ps : List (List ℕ)) → IsOf c front → c < d → ClimbFrom d ps → ClimbFrom c (front ∷ ps)
+with_front c d front ps of less from = record {
+  some = omega arith;
+  head = of.all 0 0 of.some;
+  are = record { one = each; rising = rising };
+}
+  where
+    each : All IsOneCounty (front ∷ ps)
+    each zero e inside = one_county c front of
+    each (suc k) e inside = from.are.one k e (omega arith)
+
+    next_is : get_or (map first_county ps) 0 0 ≡ d
+    next_is = get_or-map first_county ps 0 [] 0 from.some ∙ from.head
+
+    rising : IsStrictlyIncreasing (map first_county (front ∷ ps))
+    rising zero inside = let here : first_county front ≡ c = of.all 0 0 of.some in omega (arith, here, next_is, less)
+    rising (suc k) inside = let e : suc k + 1 ≡ suc (k + 1) = omega arith in rw e (from.are.rising k (omega arith))
+
+more_of : (c r : ℕ) (front : List ℕ) → IsOf c front → county_of r ≡ c → IsOf c (front ++ r ∷ [])
+more_of c r front of same = record {
+  some = omega (arith, length-append front (r ∷ []), of.some);
+  all = All-push (λ id. county_of id ≡ c) front r of.all same;
+}
+
+first_of : (r : ℕ) → IsOf (county_of r) (r ∷ [])
+first_of r = record { some = omega arith; all = only }
+  where
+    only : All (λ id. county_of id ≡ county_of r) (r ∷ [])
+    only zero d inside = refl
+    only (suc k) d inside = absurd (omega arith)
+
+counties_from : (c : ℕ) (front rest : List ℕ) → IsOf c front → climbing c (map county_of rest) → ClimbFrom c (parts (runs_from c (length front) (map county_of rest)) (front ++ rest))
+counties_from c front [] of up = subst (λ (xs : List ℕ). ClimbFrom c (xs ∷ [])) (sym (ap (take (length front)) (append-nil front) ∙ take_all (length front) front (omega arith))) (alone c front of)
+counties_from c front (r ∷ rest) of up = ⊎_elim
+    (λ (less : c < county_of r).
+    let apart : county_of r ≢ c = λ e. omega (arith, less, e) in
+    let others : ClimbFrom (county_of r) (parts (runs_from (county_of r) 1 (map county_of rest)) (drop (length front) (front ++ r ∷ rest))) =
+    subst (λ (xs : List ℕ). ClimbFrom (county_of r) (parts (runs_from (county_of r) 1 (map county_of rest)) xs)) (sym (drop-append_seam front (r ∷ rest))) (counties_from (county_of r) (r ∷ []) rest (first_of r) up.1) in
+    subst (λ (b : Bool). ClimbFrom c (parts (cut_or_go_on b c (county_of r) (length front) (map county_of rest)) (front ++ r ∷ rest))) (sym (ne_eqb _ _ apart))
+    (subst (λ (xs : List ℕ). ClimbFrom c (xs ∷ parts (runs_from (county_of r) 1 (map county_of rest)) (drop (length front) (front ++ r ∷ rest)))) (sym (take-append_seam front (r ∷ rest)))
+    (with_front c (county_of r) front _ of less others)))
+    (λ (most : county_of r ≤ c).
+    let same : county_of r ≡ c = omega (arith, up.0) in
+    let long : length (front ++ r ∷ []) ≡ length front + 1 = length-append front (r ∷ []) in
+    let joined : (front ++ r ∷ []) ++ rest ≡ front ++ r ∷ rest = append_assoc front (r ∷ []) rest in
+    subst (λ (b : Bool). ClimbFrom c (parts (cut_or_go_on b c (county_of r) (length front) (map county_of rest)) (front ++ r ∷ rest))) (sym (eq-eqb _ _ same))
+    (subst (λ (xs : List ℕ). ClimbFrom c (parts (runs_from c (length front + 1) (map county_of rest)) xs)) joined
+    (subst (λ (n : ℕ). ClimbFrom c (parts (runs_from c n (map county_of rest)) ((front ++ r ∷ []) ++ rest))) long
+    (counties_from c (front ++ r ∷ []) rest (more_of c r front of same) (subst (λ (d : ℕ). climbing d (map county_of rest)) same up.1)))))
+    (cases_lt c (county_of r))
+
+counties_of_runs : (ks : List ℕ) → 0 < length ks → ((i j : ℕ) → i ≤ j → j < length (map county_of ks) → get_or (map county_of ks) i 0 ≤ get_or (map county_of ks) j 0)
+    → AreCounties (parts (runs (map county_of ks)) ks)
+counties_of_runs [] some rises = absurd (omega arith)
+counties_of_runs (k ∷ ks) some rises = (counties_from (county_of k) (k ∷ []) ks (first_of k) (climbing_from (county_of k) (map county_of ks) rises)).are
+
+pub counties_cut : CutsAreCounties
+counties_cut g valid = counties_of_runs (ids g) (rw length-map valid.some) rises
+  where
+    long : length (map county_of (ids g)) ≡ length g.blocks
+    long = length-map (ids g) county_of ∙ length-map g.blocks (λ (b : BlockRow). b.id)
+
+    rises : (i j : ℕ) → i ≤ j → j < length (map county_of (ids g)) → get_or (map county_of (ids g)) i 0 ≤ get_or (map county_of (ids g)) j 0
+    rises i j less inside =
+        let within : j < length g.blocks = omega (arith, long, inside) in
+        let low : get_or (map county_of (ids g)) i 0 ≡ county_of (get_or (ids g) i 0) = get_or-map county_of (ids g) i 0 0 (omega (arith, length-map g.blocks (λ (b : BlockRow). b.id))) in
+        let high : get_or (map county_of (ids g)) j 0 ≡ county_of (get_or (ids g) j 0) = get_or-map county_of (ids g) j 0 0 (omega (arith, length-map g.blocks (λ (b : BlockRow). b.id))) in
+        let up : county_of (get_or (ids g) i 0) ≤ county_of (get_or (ids g) j 0) = climbs g [] valid i j less within in
+        omega (arith, low, high, up)

@@ -1,0 +1,27 @@
+use Rattle.std.proofs.Common.{◌≡◌, ◌<◌, ◌+◌, length, get_or, arith, sym, ◌∙◌, ap, subst}
+use Rattle.desk_model.specs.Block.{county_of}
+use Rattle.desk_model.specs.Cuts.{counties}
+use Rattle.desk_model.specs.declared.block.BlockRow.{BlockRow}
+use Rattle.desk_model.proofs.Runs.{IsCutTo, cut_start, cut_same, cut_more, cut_end, county_there, counties_long}
+use Rattle.desk_model.proofs.cuts.cuts.Goals as goal
+use Rattle.desk_model.proofs.cuts.cuts.Goals.{then-county+in_ok-push, else-county}
+
+pub loop-place-preserved : goal.loop-place-preserved
+loop-place-preserved c =
+    let g = c.args.geography.now in
+    let rows = c.blocks-blocks.ensures.value in
+    let inside : c.loop-place.place < length g.blocks = omega (arith, ap length rows) in
+    let before : c.loop-place.first < length g.blocks = omega (arith, c.loop-place.invariant.before) in
+    let here : get_or (counties g) c.loop-place.place 0 ≡ c.county.result = county_there g c.loop-place.place c.index-blocks-place.result inside (c.index-blocks-place.is ∙ ap (λ rs. get_or rs c.loop-place.place c.index-blocks-place.result) rows) ∙ ap (λ (row : BlockRow). county_of row.id) c.index-blocks-place.is ∙ sym c.county.ensures in
+    let there : get_or (counties g) c.loop-place.first 0 ≡ c.county-in-loop-place.result = county_there g c.loop-place.first c.index-blocks-first.result before (c.index-blocks-first.is ∙ ap (λ rs. get_or rs c.loop-place.first c.index-blocks-first.result) rows) ∙ ap (λ (row : BlockRow). county_of row.id) c.index-blocks-first.is ∙ sym c.county-in-loop-place.ensures in
+    let long : c.loop-place.place < length (counties g) = rw (counties_long g) inside in
+    elim c.if-county.branch [
+      | then-county+in_ok-push w ↦
+          rw (w.all-is, w.first-is, w.in_ok-push.ensures.items, w.cut_between.ensures)
+          (cut_more (counties g) c.loop-place.all.items c.loop-place.first c.loop-place.place c.loop-place.invariant long
+          (λ e. w.if-county.true (sym here ∙ e ∙ there)))
+      | else-county w ↦
+          rw (w.all-is, w.first-is)
+          (cut_same (counties g) c.loop-place.all.items c.loop-place.first c.loop-place.place c.loop-place.invariant long
+          (here ∙ w.if-county.false ∙ sym there))
+    ]

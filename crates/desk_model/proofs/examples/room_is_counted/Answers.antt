@@ -1,0 +1,14 @@
+use Rattle.std.proofs.Common.{refl}
+use Rattle.std.specs.FinMap.{get-insert}
+use Rattle.std.specs.Cmp.Lexicographic.{nat_list_cmp_total}
+use Rattle.desk_model.specs.Desk.{Plan}
+use Rattle.desk_model.proofs.examples.room_is_counted.Goals as goal
+
+pub returns : goal.returns
+returns c = record {
+  create = refl;
+  first = simp (get-insert {X = Plan} nat_list_cmp_total);
+  patch = simp (get-insert {X = Plan} nat_list_cmp_total);
+  unchanged = simp (get-insert {X = Plan} nat_list_cmp_total);
+  retire = refl;
+}

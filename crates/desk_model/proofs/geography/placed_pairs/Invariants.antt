@@ -1,0 +1,6 @@
+use Rattle.std.proofs.Common.{take}
+use Rattle.desk_model.specs.Geography.{AreTold}
+use Rattle.desk_model.proofs.geography.placed_pairs.Given as goal
+
+abbrev pub invariant-loop-pair : goal.invariant-loop-pair
+invariant-loop-pair l = AreTold l.blocks (take l.pair-index l.told) l.pairs.items

@@ -1,0 +1,153 @@
+//! Worked bodies in chunks, in pieces, with ends and failures.
+
+use crate::wire_trials::Pieces;
+use byte_stream::source::ReadSource;
+use http_wire::chunks::{Chunked, read_chunks};
+use http_wire::fault::{Fault, WireFault};
+use http_wire::inbox::Inbox;
+use http_wire::request::TURN_LIMIT;
+use std::alloc::{AllocError, Global};
+use std::test::Fail;
+
+/// What came, and the bytes that stay behind it.
+#[derive(Drop)]
+struct Outcome {
+    came: Result<Chunked, WireFault>,
+    body: Vec<u8>,
+    left: Vec<u8>,
+}
+
+fn read_all(
+    alloc: Global,
+    bytes: &[u8],
+    piece: usize,
+    fails_at: u64,
+    turn_limit: u64,
+) -> Result<Outcome, AllocError> {
+    let mut reader = ReadSource::new(Pieces {
+        bytes,
+        piece,
+        calls: 0,
+        fails_at,
+    });
+    let mut inbox = Inbox::new(alloc)?;
+    let mut turns = turn_limit;
+    let mut body = Vec::new(alloc);
+    let came = read_chunks(&mut reader, &mut inbox, &mut turns, &mut body);
+    let mut left = inbox.as_slice().to_vec(alloc)?;
+    let pieces = reader.into_inner();
+    left.extend_from_slice(pieces.bytes)?;
+    Ok(Outcome { came, body, left })
+}
+
+/// Chunks of 17 and of 76 bytes, with an extension and a trailer.
+fn two_chunks(alloc: Global) -> Result<Vec<u8>, AllocError> {
+    let mut input = Vec::from_slice(alloc, b"11\r\n")?;
+    input.resize(21, b'a')?;
+    input.extend_from_slice(b"\r\n4C;x=y\r\n")?;
+    input.resize(107, b'b')?;
+    input.extend_from_slice(b"\r\n0\r\nA: b\r\n\r\n")?;
+    Ok(input)
+}
+
+#[test]
+fn a_body_in_two_chunks(rt: HostRuntime) -> Result<(), Fail> {
+    let mut input = two_chunks(rt.alloc())?;
+    input.extend_from_slice(b"GET / HTTP/1.1\r\n")?;
+    let mut body = Vec::from_elem(rt.alloc(), b'a', 17)?;
+    body.resize(93, b'b')?;
+    for piece in [1, 7, 65_536] {
+        let outcome = read_all(rt.alloc(), input.as_slice(), piece, u64::MAX, TURN_LIMIT)?;
+        assert!(rt; outcome.came == Ok(Chunked::Whole));
+        assert!(rt; outcome.body.as_slice() == body.as_slice());
+        assert!(rt; outcome.left.as_slice() == b"GET / HTTP/1.1\r\n".as_slice());
+    }
+    Ok(())
+}
+
+#[test]
+fn an_end_or_a_failure_within(rt: HostRuntime) -> Result<(), Fail> {
+    let input = two_chunks(rt.alloc())?;
+    for len in 0..input.len() {
+        let cut = &input.as_slice()[..len];
+        let ended = read_all(rt.alloc(), cut, 7, u64::MAX, TURN_LIMIT)?;
+        assert!(rt; ended.came == Ok(Chunked::Lacking));
+    }
+    for call in 0..20 {
+        let failed = read_all(rt.alloc(), input.as_slice(), 7, call, TURN_LIMIT)?;
+        assert!(rt; failed.came == Err(WireFault::Read));
+        let stopped = read_all(rt.alloc(), input.as_slice(), 7, u64::MAX, call)?;
+        assert!(rt; stopped.came == Err(WireFault::TurnLimit));
+    }
+    Ok(())
+}
+
+/// Inputs, and what comes of them.
+const CHUNKS: [(&[u8], Chunked); 17] = [
+    (b"0\r\n\r\n", Chunked::Whole),
+    (b"1 \t;\"\r\nx\r\n000\r\nA: b\n\n", Chunked::Whole),
+    (b"g", Chunked::Refused(Fault::BadChunk)),
+    (b"\r\n", Chunked::Refused(Fault::BadChunk)),
+    (b";x\r\n", Chunked::Refused(Fault::BadChunk)),
+    (b"1\nx\r\n0\r\n\r\n", Chunked::Refused(Fault::BadChunk)),
+    (
+        b"00000000000000001\r\nx\r\n0\r\n\r\n",
+        Chunked::Refused(Fault::BadChunk),
+    ),
+    (b"0000000000000001\r\nx\r\n0\r\n\r\n", Chunked::Whole),
+    (
+        b"ffffffffffffffff\r\n",
+        Chunked::Refused(Fault::BodyTooLarge),
+    ),
+    (b"2000001\r\n", Chunked::Refused(Fault::BodyTooLarge)),
+    (
+        b"1\r\nx\r\n2000000\r\n",
+        Chunked::Refused(Fault::BodyTooLarge),
+    ),
+    (b"1\r\nx\r\n1FFFFFF\r\n", Chunked::Lacking),
+    (b"1\r\nx\n", Chunked::Refused(Fault::BadChunk)),
+    (b"1\r\nx\r0", Chunked::Refused(Fault::BadChunk)),
+    (b"1\r\nxy", Chunked::Refused(Fault::BadChunk)),
+    (b"0\r\nA b\r\n\r\n", Chunked::Refused(Fault::BadHead)),
+    (b"0\r\n\r", Chunked::Lacking),
+];
+
+#[test]
+fn worked_chunks(rt: HostRuntime) -> Result<(), Fail> {
+    for (input, came) in CHUNKS {
+        for piece in [1, 7, 65_536] {
+            let outcome = read_all(rt.alloc(), input, piece, u64::MAX, TURN_LIMIT)?;
+            assert!(rt; outcome.came == Ok(came));
+        }
+    }
+    Ok(())
+}
+
+#[test]
+fn long_lines_and_trailers(rt: HostRuntime) -> Result<(), Fail> {
+    for (len, came) in [
+        (254, Chunked::Whole),
+        (255, Chunked::Refused(Fault::BadChunk)),
+    ] {
+        let mut input = Vec::from_slice(rt.alloc(), b"0;")?;
+        input.resize(len, b'x')?;
+        input.extend_from_slice(b"\r\n\r\n")?;
+        let outcome = read_all(rt.alloc(), input.as_slice(), 65_536, u64::MAX, TURN_LIMIT)?;
+        assert!(rt; outcome.came == Ok(came));
+    }
+    for (lines, came) in [
+        (64, Chunked::Whole),
+        (65, Chunked::Refused(Fault::HeadTooLarge)),
+    ] {
+        let mut input = Vec::from_slice(rt.alloc(), b"0\r\n")?;
+        for _ in 0..lines {
+            input.extend_from_slice(b"A: b\r\n")?;
+        }
+        input.extend_from_slice(b"\r\n")?;
+        for piece in [1, 65_536] {
+            let outcome = read_all(rt.alloc(), input.as_slice(), piece, u64::MAX, TURN_LIMIT)?;
+            assert!(rt; outcome.came == Ok(came));
+        }
+    }
+    Ok(())
+}

@@ -1,0 +1,469 @@
+//! Worked heads and answers, in pieces, with failures.
+
+use byte_stream::sink::{WriteFault, WriteSink};
+use byte_stream::source::ReadSource;
+use http::{Method, StatusCode};
+use http_wire::fault::{Fault, RequestFault};
+use http_wire::inbox::Inbox;
+use http_wire::request::{Incoming, TURN_LIMIT, read_request};
+use http_wire::response::{ContentType, Outbox, Response, write_response};
+use std::alloc::{AllocError, Global};
+use std::io;
+use std::io::{ErrorKind, Read, Write};
+use std::test::Fail;
+
+/// Gives its bytes in pieces, is interrupted at each third call, and fails at one.
+#[derive(Drop)]
+pub struct Pieces<'a> {
+    pub bytes: &'a [u8],
+    pub piece: usize,
+    pub calls: u64,
+    pub fails_at: u64,
+}
+
+impl Read for Pieces<'_> {
+    fn read(&mut self, buf: &mut [u8]) -> io::Result<usize> {
+        let call = self.calls;
+        self.calls = call.saturating_add(1);
+        if call == self.fails_at {
+            return Err(io::Error::from(ErrorKind::BrokenPipe));
+        }
+        if call % 3 == 2 {
+            return Err(io::Error::from(ErrorKind::Interrupted));
+        }
+        let bytes = self.bytes;
+        let n = self.piece.min(buf.len()).min(bytes.len());
+        buf[..n].copy_from_slice(&bytes[..n]);
+        self.bytes = &bytes[n..];
+        Ok(n)
+    }
+}
+
+/// What a stream gave: its requests' bodies joined, how many there were, and how it ended.
+#[derive(Drop)]
+struct Stream {
+    requests: u64,
+    bodies: Vec<u8>,
+    targets: Vec<u8>,
+    closing: u64,
+    refused: Option<(Fault, bool)>,
+    fault: Option<RequestFault>,
+}
+
+fn read_stream(
+    alloc: Global,
+    bytes: &[u8],
+    piece: usize,
+    fails_at: u64,
+) -> Result<Stream, AllocError> {
+    let mut reader = ReadSource::new(Pieces {
+        bytes,
+        piece,
+        calls: 0,
+        fails_at,
+    });
+    let mut writer = WriteSink::new(Vec::new(alloc));
+    let mut inbox = Inbox::new(alloc)?;
+    let mut turns = TURN_LIMIT;
+    let mut stream = Stream {
+        requests: 0,
+        bodies: Vec::new(alloc),
+        targets: Vec::new(alloc),
+        closing: 0,
+        refused: None,
+        fault: None,
+    };
+    for _ in 0..100 {
+        match read_request(alloc, &mut reader, &mut writer, &mut inbox, &mut turns) {
+            Ok(Incoming::Request(request)) => {
+                stream.requests = stream.requests.saturating_add(1);
+                stream.bodies.extend_from_slice(request.body.as_slice())?;
+                stream.targets.extend_from_slice(request.target.as_slice())?;
+                stream.closing = stream.closing.saturating_add(request.closes as u64);
+            }
+            Ok(Incoming::Refused { fault, bare }) => {
+                stream.refused = Some((fault, bare));
+                return Ok(stream);
+            }
+            Ok(Incoming::End) | Ok(Incoming::Starved { .. }) => return Ok(stream),
+            Err(fault) => {
+                stream.fault = Some(fault);
+                return Ok(stream);
+            }
+        }
+    }
+    Ok(stream)
+}
+
+/// Inputs, the number of their requests, and their fault.
+const HEADS: [(&[u8], u64, Option<Fault>); 27] = [
+    (b"GET /plans HTTP/1.1\r\nHost: d\r\n\r\n", 1, None),
+    (
+        b"\r\n\nGET / HTTP/1.1\nhOST:\n\nBREW /pot HTTP/1.1\r\nHost: d\r\n\r\n\r\n",
+        2,
+        None,
+    ),
+    (b"", 0, None),
+    (b"GET /plans HTTP/1.1\r\nHo", 0, None),
+    (b"GET /plans HTTP/1.1\r\n\r\n", 0, Some(Fault::BadHost)),
+    (
+        b"GET / HTTP/1.1\r\nHost: d\r\nHost: d\r\n\r\n",
+        0,
+        Some(Fault::BadHost),
+    ),
+    (b"GET / HTTP/1.0\r\nHost: d\r\n\r\n", 1, None),
+    (
+        b"GET / HTTP/1.0\r\nHost: d\r\nHost: d\r\n\r\n",
+        0,
+        Some(Fault::BadHost),
+    ),
+    (
+        b"GET / HTTP/1.0\r\nTransfer-Encoding: gzip, chunked\r\n\r\n",
+        0,
+        Some(Fault::BadLength),
+    ),
+    (b"G(T ", 0, Some(Fault::BadHead)),
+    (
+        b"GET /\xff HTTP/1.1\r\nHost: d\r\n\r\n",
+        0,
+        Some(Fault::BadHead),
+    ),
+    (
+        b"GET /\xc3\xa9 HTTP/1.1\r\nHost: d\r\n\r\n",
+        0,
+        Some(Fault::BadTarget),
+    ),
+    (
+        b"OPTIONS * HTTP/1.1\r\nHost: d\r\n\r\n",
+        0,
+        Some(Fault::BadTarget),
+    ),
+    (
+        b"PUT / HTTP/1.1\r\nHost: d\r\nContent-Length: 5\r\n\r\nfour",
+        0,
+        None,
+    ),
+    (
+        b"PUT / HTTP/1.1\r\nHost: d\r\nContent-Length: +5\r\n\r\n",
+        0,
+        Some(Fault::BadLength),
+    ),
+    (
+        b"PUT / HTTP/1.1\r\nHost: d\r\nContent-Length: 0\r\nTransfer-Encoding: chunked\r\n\r\n",
+        0,
+        Some(Fault::BadLength),
+    ),
+    (
+        b"PUT / HTTP/1.1\r\nHost: d\r\nTransfer-Encoding: gzip,\tChunked\r\n\r\n",
+        0,
+        Some(Fault::BadCoding),
+    ),
+    (
+        b"PUT / HTTP/1.1\r\nHost: d\r\nTransfer-Encoding: chunked\r\nTransfer-Encoding: chunked\r\n\r\n",
+        0,
+        Some(Fault::BadCoding),
+    ),
+    (
+        b"PUT / HTTP/1.1\r\nHost: d\r\nTransfer-Encoding: ,chunked\r\n\r\n",
+        0,
+        Some(Fault::BadCoding),
+    ),
+    (
+        b"PUT / HTTP/1.1\r\nHost: d\r\nTransfer-Encoding: chunked,\r\n\r\n",
+        0,
+        Some(Fault::BadLength),
+    ),
+    (
+        b"PUT / HTTP/1.1\r\nHost: d\r\nTransfer-Encoding: chunked\r\nTransfer-Encoding: gzip\r\n\r\n",
+        0,
+        Some(Fault::BadLength),
+    ),
+    (
+        b"PUT / HTTP/1.1\r\nHost: d\r\nTransfer-Encoding: chunked;q=1\r\n\r\n",
+        0,
+        Some(Fault::BadLength),
+    ),
+    (
+        b"PUT / HTTP/1.1\r\nHost: d\r\nTransfer-Encoding: CHUNKED\r\n\r\n3\r\nabc\r\n0\r\n\r\nGET / HTTP/1.1\r\nHost: d\r\n\r\n",
+        2,
+        None,
+    ),
+    (
+        b"PUT / HTTP/1.1\r\nHost: d\r\nTransfer-Encoding: chunked\r\n\r\n3\r\nabc\r\n0\r\nA b\r\n\r\n",
+        0,
+        Some(Fault::BadHead),
+    ),
+    (
+        b"PUT / HTTP/1.1\r\nHost: d\r\nTransfer-Encoding: chunked\r\n\r\n3\r\nabcd",
+        0,
+        Some(Fault::BadChunk),
+    ),
+    (
+        b"PUT / HTTP/1.1\r\nHost: d\r\nContent-Length: 33554433\r\n\r\n",
+        0,
+        Some(Fault::BodyTooLarge),
+    ),
+    (
+        b"PUT / HTTP/1.1\r\nHost: d\r\nContent-Length: 18446744073709551616\r\n\r\n",
+        0,
+        Some(Fault::BodyTooLarge),
+    ),
+];
+
+fn fault_of(stream: &Stream) -> Option<Fault> {
+    match stream.refused {
+        Some((fault, _)) => Some(fault),
+        None => None,
+    }
+}
+
+/// Inputs of one request each, what its target asks for, and whether the answer ends the connection.
+const TARGETS: [(&[u8], &[u8], u64); 10] = [
+    (b"GET /a?b HTTP/1.1\r\nHost: d\r\n\r\n", b"/a?b", 0),
+    (b"GET http://d?x=1 HTTP/1.1\r\nHost: e\r\n\r\n", b"/?x=1", 0),
+    (b"GET hTTp://u@d:1/a HTTP/1.1\r\nHost: e\r\n\r\n", b"/a", 0),
+    (b"GET http:// HTTP/1.1\r\nHost: e\r\n\r\n", b"/", 0),
+    (b"GET http://d/a?b/c HTTP/1.0\r\n\r\n", b"/a?b/c", 1),
+    (
+        b"GET / HTTP/1.1\r\nHost: d\r\nConnection: keep-alive\t, \tClOsE \r\n\r\n",
+        b"/",
+        1,
+    ),
+    (
+        b"GET / HTTP/1.1\r\nHost: d\r\nConnection: a\r\nConnection: close\r\n\r\n",
+        b"/",
+        1,
+    ),
+    (
+        b"GET / HTTP/1.1\r\nHost: d\r\nConnection: close;x, closed, \"close\", clo se\r\n\r\n",
+        b"/",
+        0,
+    ),
+    (
+        b"GET / HTTP/1.1\r\nHost: d\r\nConnection:\r\nX: close\r\n\r\n",
+        b"/",
+        0,
+    ),
+    (b"GET / HTTP/1.0\r\nConnection: keep-alive\r\n\r\n", b"/", 1),
+];
+
+#[test]
+fn worked_targets(rt: HostRuntime) -> Result<(), Fail> {
+    for (input, target, closing) in TARGETS {
+        let stream = read_stream(rt.alloc(), input, 11, u64::MAX)?;
+        assert_eq!(rt; stream.requests, 1);
+        assert!(rt; stream.targets.as_slice() == target);
+        assert_eq!(rt; stream.closing, closing);
+    }
+    Ok(())
+}
+
+/// Inputs whose first request is refused, and whether the answer has no body.
+const BARE: [(&[u8], Fault, bool); 4] = [
+    (b"HEAD / HTTP/1.1\r\n\r\n", Fault::BadHost, true),
+    (
+        b"HEAD https://d/ HTTP/1.1\r\nHost: d\r\n\r\n",
+        Fault::BadTarget,
+        true,
+    ),
+    (
+        b"GET https://d/ HTTP/1.1\r\nHost: d\r\n\r\n",
+        Fault::BadTarget,
+        false,
+    ),
+    (b"HEAD / HTTP/2.0\r\n\r\n", Fault::BadHead, false),
+];
+
+#[test]
+fn refused_heads(rt: HostRuntime) -> Result<(), Fail> {
+    for (input, fault, bare) in BARE {
+        let stream = read_stream(rt.alloc(), input, 5, u64::MAX)?;
+        assert!(rt; stream.refused == Some((fault, bare)));
+    }
+    Ok(())
+}
+
+#[test]
+fn worked_heads(rt: HostRuntime) -> Result<(), Fail> {
+    for (input, requests, refused) in HEADS {
+        for piece in [1, 7, 65_536] {
+            let stream = read_stream(rt.alloc(), input, piece, u64::MAX)?;
+            assert_eq!(rt; stream.requests, requests);
+            assert!(rt; fault_of(&stream) == refused);
+            assert!(rt; stream.fault.is_none());
+        }
+    }
+    Ok(())
+}
+
+/// A head of so many header lines and so many bytes.
+fn head_of(alloc: Global, lines: usize, len: usize) -> Result<Vec<u8>, AllocError> {
+    let mut head = Vec::from_slice(alloc, b"GET / HTTP/1.1\r\nHost: d\r\n")?;
+    for _ in 1..lines {
+        head.extend_from_slice(b"X: y\r\n")?;
+    }
+    if head.len().saturating_add(5) < len {
+        head.resize(len.saturating_sub(5), b'z')?;
+        head.extend_from_slice(b":\r\n")?;
+    }
+    head.extend_from_slice(b"\r\n")?;
+    Ok(head)
+}
+
+#[test]
+fn limits(rt: HostRuntime) -> Result<(), Fail> {
+    let table = [
+        (64, 0, 1, None),
+        (65, 0, 0, Some(Fault::HeadTooLarge)),
+        (1, 16_384, 1, None),
+        (1, 16_385, 0, Some(Fault::HeadTooLarge)),
+    ];
+    for (lines, len, requests, refused) in table {
+        let head = head_of(rt.alloc(), lines, len)?;
+        assert!(rt; len == 0 || head.len() == len);
+        for piece in [100, 65_536] {
+            let stream = read_stream(rt.alloc(), head.as_slice(), piece, u64::MAX)?;
+            assert_eq!(rt; stream.requests, requests);
+            assert!(rt; fault_of(&stream) == refused);
+        }
+    }
+    Ok(())
+}
+
+/// Two requests with a long and a short body.
+fn two_requests(alloc: Global) -> Result<Vec<u8>, AllocError> {
+    let mut input = Vec::from_slice(
+        alloc,
+        b"POST /a HTTP/1.1\r\nHost: d\r\nContent-Length: 100000\r\n\r\n",
+    )?;
+    let len = input.len();
+    input.resize(len.saturating_add(100_000), b'a')?;
+    input.extend_from_slice(b"POST /b HTTP/1.1\r\nHost: d\r\nContent-Length: 3\r\n\r\nbbb")?;
+    Ok(input)
+}
+
+#[test]
+fn bodies_in_pieces(rt: HostRuntime) -> Result<(), Fail> {
+    let input = two_requests(rt.alloc())?;
+    let mut bodies = Vec::from_elem(rt.alloc(), b'a', 100_000)?;
+    bodies.extend_from_slice(b"bbb")?;
+    for piece in [1, 999, 1_000_000] {
+        let stream = read_stream(rt.alloc(), input.as_slice(), piece, u64::MAX)?;
+        assert_eq!(rt; stream.requests, 2);
+        assert!(rt; stream.bodies.as_slice() == bodies.as_slice());
+    }
+    Ok(())
+}
+
+#[test]
+fn a_read_that_fails(rt: HostRuntime) -> Result<(), Fail> {
+    let input = two_requests(rt.alloc())?;
+    let mut ended = false;
+    for call in 0..200 {
+        let stream = read_stream(rt.alloc(), input.as_slice(), 2_000, call)?;
+        assert!(rt; stream.refused.is_none());
+        if stream.fault.is_none() {
+            ended = true;
+            assert_eq!(rt; stream.requests, 2);
+        } else {
+            assert!(rt; stream.fault == Some(RequestFault::Read));
+            assert!(rt; stream.requests < 2 || call > 50);
+        }
+    }
+    assert!(rt; ended);
+    Ok(())
+}
+
+/// Takes so many bytes a call, is interrupted before each, and fails once so many were written.
+#[derive(Drop)]
+struct Slow {
+    bytes: Vec<u8>,
+    piece: usize,
+    limit: usize,
+    interrupts: bool,
+}
+
+impl Write for Slow {
+    fn write(&mut self, buf: &[u8]) -> io::Result<usize> {
+        self.interrupts = !self.interrupts;
+        if self.interrupts {
+            return Err(io::Error::from(ErrorKind::Interrupted));
+        }
+        let n = self
+            .piece
+            .min(buf.len())
+            .min(self.limit.saturating_sub(self.bytes.len()));
+        self.bytes.extend_from_slice(&buf[..n])?;
+        Ok(n)
+    }
+
+    fn flush(&mut self) -> io::Result<()> {
+        Ok(())
+    }
+}
+
+#[test]
+fn worked_answers(rt: HostRuntime) -> Result<(), Fail> {
+    let mut outbox = Outbox::new(rt.alloc())?;
+    let mut writer = WriteSink::new(Vec::new(rt.alloc()));
+    let list = Response {
+        status: StatusCode::OK,
+        kind: ContentType::Json,
+        allow: None,
+        closes: false,
+        bare: false,
+        body: b"{\"plans\":[]}",
+    };
+    assert!(rt; write_response(&mut writer, &mut outbox, &list).is_ok());
+    let refusal = Response {
+        status: StatusCode::METHOD_NOT_ALLOWED,
+        kind: ContentType::PlainText,
+        allow: Some("GET, HEAD"),
+        closes: true,
+        bare: true,
+        body: b"text",
+    };
+    assert!(rt; write_response(&mut writer, &mut outbox, &refusal).is_ok());
+    assert!(rt; outbox.flush(&mut writer).is_ok());
+    let written = writer.into_inner();
+    let first =
+        b"HTTP/1.1 200 OK\r\nContent-Type: application/json\r\nContent-Length: 12\r\n\r\n{\"plans\":[]}";
+    let second =
+        b"HTTP/1.1 405 Method Not Allowed\r\nContent-Type: text/plain\r\nContent-Length: 4\r\nAllow: GET, HEAD\r\nConnection: close\r\n\r\n";
+    let mut wanted = Vec::from_slice(rt.alloc(), first)?;
+    wanted.extend_from_slice(second)?;
+    assert!(rt; written.as_slice() == wanted.as_slice());
+    Ok(())
+}
+
+#[test]
+fn a_write_that_fails(rt: HostRuntime) -> Result<(), Fail> {
+    let body = Vec::from_elem(rt.alloc(), b'x', 40_000)?;
+    let answer = Response {
+        status: StatusCode::OK,
+        kind: ContentType::PlainText,
+        allow: None,
+        closes: false,
+        bare: false,
+        body: body.as_slice(),
+    };
+    for limit in [0, 1, 100, 16_383, 16_384, 16_385, 30_000, 50_000] {
+        let mut outbox = Outbox::new(rt.alloc())?;
+        let mut writer = WriteSink::new(Slow {
+            bytes: Vec::new(rt.alloc()),
+            piece: 5_000,
+            limit,
+            interrupts: false,
+        });
+        let result = write_response(&mut writer, &mut outbox, &answer);
+        let written = writer.into_inner();
+        if limit < 40_000 {
+            assert!(rt; result == Err(WriteFault));
+            assert_eq!(rt; written.bytes.len(), limit);
+        } else {
+            assert!(rt; result.is_ok());
+            assert_eq!(rt; written.bytes.len(), 40_000 + 68);
+        }
+    }
+    Ok(())
+}

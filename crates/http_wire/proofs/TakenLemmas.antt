@@ -1,0 +1,49 @@
+-- A request that is there whole.
+use Rattle.std.proofs.Common.{◌≡◌, ℕ, ◌≤◌, Bool, true, false, List, [], ◌++◌, length, take, drop, Ok, sym, ap, subst, ◌∙◌, append-nil, take-append-drop, length-take-le}
+use Rattle.httparse.specs.Spans.{span_bytes}
+use Rattle.http_wire.specs.declared.chunks.Chunked.TheVariants as chunked
+use Rattle.http_wire.specs.declared.fault.Fault.{Fault}
+use Rattle.http_wire.specs.declared.head.Framing.{Framing}
+use Rattle.http_wire.specs.declared.head.Framing.TheVariants.{Sized}
+use Rattle.http_wire.specs.declared.look.Head.{Head}
+use Rattle.http_wire.specs.declared.request.Incoming.TheVariants as came
+use Rattle.http_wire.specs.declared.request.Request.{Request}
+use Rattle.http_wire.specs.Chunks.{ChunkLaw}
+use Rattle.http_wire.specs.Front.{HasBody, RefusesFront}
+use Rattle.http_wire.specs.Incoming.{Came, Taken, IsNoEnd, IsTargetOf, targeted}
+use Rattle.http_wire.specs.Interim.{continue_text, asks_to_continue}
+use Rattle.http_wire.specs.Look.{IsFound}
+use Rattle.http_wire.proofs.InterimLemmas.{found_asks, refused_front}
+use Rattle.http_wire.proofs.RequestLemmas.{rest_reads, starved, due}
+
+no_end : (r : Request) (good bare : Bool) → IsNoEnd (targeted r good bare)
+no_end r true bare = tt
+no_end r false bare = tt
+
+plainly : (input : List ℕ) (found : Head) (f : IsFound input found) → found.expects ≡ false → [] ≡ continue_text (asks_to_continue f.head)
+plainly input found f plain = sym (ap continue_text plain) ∙ found_asks input found f
+
+-- the body that was cut off, and what is left
+pub body_cut : (left body rest bytes start inbox : List ℕ) (n : ℕ) → body ≡ start ++ take n bytes → start ≡ [] → bytes ≡ inbox → inbox ≡ left → rest ≡ drop n inbox → n ≤ length left
+    → (left ≡ body ++ rest) × (length body ≡ n)
+body_cut left body rest bytes start inbox n e none held same tail within =
+    let b : body ≡ take n left = e ∙ ap (λ (xs : List ℕ). xs ++ take n bytes) none ∙ ap (take n) (held ∙ same) in
+    let r : rest ≡ drop n left = tail ∙ ap (drop n) same in (
+      sym (take-append-drop n left) ∙ ap (λ (xs : List ℕ). xs ++ drop n left) (sym b) ∙ ap (λ (xs : List ℕ). body ++ xs) (sym r),
+      ap length b ∙ length-take-le n left within,
+    )
+
+pub taken_whole : ChunkLaw → (input : List ℕ) (found : Head) (r : Request) (good : Bool) (n : ℕ) (rest : List ℕ) → IsFound input found → found.expects ≡ false → found.framing ≡ Sized n
+    → r.method ≡ span_bytes input found.method → IsTargetOf (span_bytes input found.target) good r.target.items → r.closes ≡ found.closes → drop found.len input ≡ r.body.items ++ rest → length r.body.items ≡ n
+    → Taken input (targeted r good found.bare) rest
+taken_whole law input found r good n rest f plain framing method target closes cut len =
+    let body : HasBody found.framing (drop found.len input ++ []) r.body.items rest = subst (λ (m : Framing). HasBody m (drop found.len input ++ []) r.body.items rest) (sym framing) (append-nil (drop found.len input) ∙ cut, len) in
+    let x = rest_reads law input [] found r good (Ok chunked.Whole) rest [] f method target closes body (plainly input found f plain) in
+    (no_end r good found.bare, subst (λ (xs : List ℕ). Came xs (targeted r good found.bare) rest []) (append-nil input) x)
+
+pub taken_starved : (input rest : List ℕ) (found : Head) → IsFound input found → found.expects ≡ false → Taken input (came.Starved found.bare) rest
+taken_starved input rest found f plain =
+    (tt, subst (λ (xs : List ℕ). Came xs (came.Starved found.bare) rest []) (append-nil input) (starved input [] found f, due input [] [] found f (plainly input found f plain)))
+
+pub taken_refused : (xs ys rest : List ℕ) (f : Fault) (bare : Bool) → xs ≡ ys → RefusesFront xs f bare → Taken ys (came.Refused f bare) rest
+taken_refused xs ys rest f bare e x = (tt, refused_front xs ys f bare e x)

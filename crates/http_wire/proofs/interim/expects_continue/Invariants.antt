@@ -1,0 +1,8 @@
+use Rattle.std.proofs.Common.{◌≡◌, map, drop}
+use Rattle.std.specs.List.{list_any}
+use Rattle.httparse.specs.Spans.{header_bytes}
+use Rattle.http_wire.specs.Interim.{is_expecting}
+use Rattle.http_wire.proofs.interim.expects_continue.Given as goal
+
+abbrev pub invariant-loop-h : goal.invariant-loop-h
+invariant-loop-h l = list_any is_expecting (map (header_bytes l.buf) (drop l.h-index l.headers)) ≡ list_any is_expecting (map (header_bytes l.buf) l.headers)

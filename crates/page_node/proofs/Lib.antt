@@ -1,0 +1,5 @@
+pub mod Standing
+pub mod Scanning
+pub mod Editing
+pub mod Writing
+pub mod Splitting

@@ -1,0 +1,345 @@
+-- A page's entries, read one after the other.
+use Rattle.std.proofs.Common.{◌≡◌, ◌≢◌, ℕ, ◌+◌, ◌-◌, ◌*◌, ◌/◌, ◌%◌, ◌<◌, ◌≤◌, List, [], ◌∷◌, ◌++◌, length, take, drop, get_or, set, refl, sym, ap, subst, ◌∙◌, arith, suc, length-take, ◌⊎◌, inl, inr, get_or-set_other, get_or-set_same}
+use Rattle.std.specs.List.{All}
+use Rattle.std.proofs.lemmas.Bool.{cases_eq}
+use Rattle.std.proofs.lemmas.List.{take_all, drop-drop, take-append-le, drop-append-le, drop_more, length-take-le, length-drop, append-nil, get_or-drop, take_more, length-set}
+use Rattle.std.proofs.lemmas.List.Elements.{All-more, All-nil, All-same}
+use Rattle.std.proofs.Math.Seq.{take-add}
+use Rattle.page_node.specs.Entries.{Entry, IsEntry, key_at, value_at, entry_bytes, entry_size, body_of, size_of, first_of, behind, read_from, key_length, value_length}
+use Rattle.page_node.specs.EntryLists.{body-append, length-body, length-read, value_length-entry, first-entry, read_at, size-take_more, drop_three}
+use Rattle.page_node.specs.Node.{Node, IsNode, count_in}
+use Rattle.page_node.specs.Held.{held_node, IsHeld}
+use Rattle.page_node.specs.Bytes.{LiesAt, LiesNot}
+use Rattle.std.specs.Prelude.{false, true, Result, Ok, Err, IfOk, OnErr, Some}
+use Rattle.std.specs.Option.{option_map}
+use Rattle.std.specs.Ordering.{is_gt}
+use Rattle.std.specs.declared.cmp.Ordering.{Ordering}
+use Rattle.std.specs.declared.cmp.Ordering.TheVariants.{Less, Equal, Greater}
+use Rattle.page_node.specs.Places.{key_cmp, floor}
+use Rattle.page_node.specs.Entries.{child_in}
+use Rattle.page_node.proofs.Standing.{Stands, nothing, entry_there, end_below, to_held, view_of}
+
+-- ---- the first entry of bytes
+pub take_three : (k a b c : ℕ) (xs : List ℕ) → take (3 + k) (a ∷ b ∷ c ∷ xs) ≡ a ∷ b ∷ c ∷ take k xs
+take_three k a b c xs = take-add 3 k (a ∷ b ∷ c ∷ xs)
+
+pub record Lying (bytes : List ℕ) : Type 0 where
+  pub key : length (first_of bytes).0 ≡ key_length bytes
+  pub value : length (first_of bytes).1 ≡ value_length bytes
+  pub whole : take (3 + key_length bytes + value_length bytes) bytes ≡ entry_bytes (first_of bytes)
+
+halves : (b c : ℕ) → c < 256 → ((256 * b + c) / 256 ≡ b) × ((256 * b + c) % 256 ≡ c)
+halves b c few = (omega arith, omega arith)
+
+pub lying : (bytes : List ℕ) → ((i : ℕ) → get_or bytes i 0 < 256) → 3 + key_length bytes + value_length bytes ≤ length bytes → Lying bytes
+lying [] small long = absurd (omega arith)
+lying (a ∷ []) small long = absurd (omega arith)
+lying (a ∷ b ∷ []) small long = absurd (omega arith)
+lying (a ∷ b ∷ c ∷ xs) small long =
+    let n : ℕ = 256 * b + c in
+    let bytes : List ℕ = a ∷ b ∷ c ∷ xs in
+    let few : c < 256 = small 2 in
+    let parts = halves b c few in
+    let key : length (take a xs) ≡ a = length-take-le a xs (omega arith) in
+    let later : drop (3 + a) bytes ≡ drop a xs = drop_three a a b c xs in
+    let rest = length-drop a xs in
+    let value : length (take n (drop (3 + a) bytes)) ≡ n = ap (λ l. length (take n l)) later ∙ length-take-le n (drop a xs) (omega arith) in
+    let sum : 3 + a + n ≡ 3 + (a + n) = omega arith in
+    record {
+      key = key;
+      value = value;
+      whole = ap (λ k. take k bytes) sum ∙ take_three (a + n) a b c xs ∙ ap (λ l. a ∷ b ∷ c ∷ l) (take-add a n xs)
+          ∙ sym (λ x. key x ∷ (ap (λ m. m / 256) value ∙ parts.0) x ∷ (ap (λ m. m % 256) value ∙ parts.1) x ∷ (take a xs ++ take n (later x)));
+    }
+
+-- ---- an entry of a page's node
+pub record IsEntryOf (page : List ℕ) (es : List Entry) (k at : ℕ) : Type 0 where
+  pub key : key_length (drop at page) ≡ length (key_at es k)
+  pub value : value_length (drop at page) ≡ length (value_at es k)
+  pub first : first_of (drop at page) ≡ get_or es k nothing
+  pub within : at + entry_size (get_or es k nothing) ≤ 4096
+  pub entry : IsEntry (get_or es k nothing)
+  pub next : at + entry_size (get_or es k nothing) ≡ 4 + size_of (take (k + 1) es)
+
+pub entry_of : (page : List ℕ) (node : Node) (k at : ℕ) → IsNode page node → k < length node.entries → at ≡ 4 + size_of (take k node.entries) → IsEntryOf page node.entries k at
+entry_of page node k at is within place =
+    let es : List Entry = node.entries in
+    let there = entry_there es page k is.body within in
+    let here : drop at page ≡ entry_bytes (get_or es k nothing) ++ there.0 = ap (λ n. drop n page) place ∙ there.1 in
+    let below = end_below es k within in
+    let fits = is.fits in
+    let more = size-take_more es k nothing within in
+    record {
+      key = ap key_length here;
+      value = ap value_length here ∙ value_length-entry (get_or es k nothing) there.0;
+      first = ap first_of here ∙ first-entry (get_or es k nothing) there.0;
+      within = omega arith;
+      entry = is.shape.entries k nothing within;
+      next = omega arith;
+    }
+
+-- an entry that is one of the node's is found to lie in the page
+pub lies_there : (page : List ℕ) (node : Node) (k at : ℕ) → IsNode page node → k < length node.entries → at ≡ 4 + size_of (take k node.entries) → LiesNot page at → ⊥
+lies_there page node k at is within place not_there =
+    let e = entry_of page node k at is within place in
+    let key = e.key in
+    let value = e.value in
+    let room = e.within in
+    let short = e.entry.0 in
+    let narrow = e.entry.1 in
+    not_there (omega arith) (omega arith) (omega arith)
+
+-- where it ends, and what its parts are
+pub end_there : (page : List ℕ) (es : List Entry) (k at value end : ℕ) → IsEntryOf page es k at → LiesAt page at value end → end ≡ 4 + size_of (take (k + 1) es)
+end_there page es k at value end e lies =
+    let long = e.key in
+    let wide = e.value in
+    let next = e.next in
+    let value_is = lies.value_is in
+    let end_is = lies.end_is in
+    omega arith
+
+pub key_there : (page : List ℕ) (at value end : ℕ) → LiesAt page at value end → take (value - (at + 3)) (drop (at + 3) page) ≡ (first_of (drop at page)).0
+key_there page at value end lies =
+    let value_is = lies.value_is in
+    let long : value - (at + 3) ≡ key_length (drop at page) = omega arith in
+    ap (λ n. take n (drop (at + 3) page)) long ∙ ap (take (key_length (drop at page))) (sym (drop-drop 3 at page))
+
+pub value_there : (page : List ℕ) (at value end : ℕ) → LiesAt page at value end → take (end - value) (drop value page) ≡ (first_of (drop at page)).1
+value_there page at value end lies =
+    let value_is = lies.value_is in
+    let end_is = lies.end_is in
+    let long : end - value ≡ value_length (drop at page) = omega arith in
+    let sum : value ≡ at + (3 + key_length (drop at page)) = omega arith in
+    ap (λ n. take n (drop value page)) long ∙ ap (take (value_length (drop at page))) (ap (λ n. drop n page) sum ∙ sym (drop-drop (3 + key_length (drop at page)) at page))
+
+-- ---- a page's entries, as far as k
+pub record IsScanned (level count : ℕ) (page marks : List ℕ) (k at : ℕ) : Type 0 where
+  pub long : length marks ≡ 1366
+  pub within : at ≤ 4096
+  pub at_is : at ≡ 4 + size_of (take k (read_from count (drop 4 page)))
+  pub rest : drop k (read_from count (drop 4 page)) ≡ read_from (count - k) (drop at page)
+  pub body : take (size_of (take k (read_from count (drop 4 page)))) (drop 4 page) ≡ body_of (take k (read_from count (drop 4 page)))
+  pub entries : All IsEntry (take k (read_from count (drop 4 page)))
+  pub children : 0 < level → All (λ e. length e.1 ≡ 4) (take k (read_from count (drop 4 page)))
+  pub places : (j : ℕ) → j ≤ k → get_or marks j 0 ≡ 4 + size_of (take j (read_from count (drop 4 page)))
+
+pub scanned_start : (level count : ℕ) (page marks : List ℕ) → length marks ≡ 1366 → get_or marks 0 0 ≡ 4 → IsScanned level count page marks 0 4
+scanned_start level count page marks long first =
+    let none : count ≡ count - 0 = omega arith in
+    record {
+      long = long;
+      within = omega arith;
+      at_is = refl;
+      rest = ap (λ n. read_from n (drop 4 page)) none;
+      body = refl;
+      entries = All-nil IsEntry;
+      children = λ inner. All-nil (λ (e : Entry). length e.1 ≡ 4);
+      places = λ j le. let zero_is : 0 ≡ j = omega arith in let P : ℕ → Type 0 = λ q. get_or marks q 0 ≡ 4 + size_of (take q (read_from count (drop 4 page))) in subst P zero_is first;
+    }
+
+pub scanned_next : (level count : ℕ) (page marks : List ℕ) (k at value end : ℕ) → IsScanned level count page marks k at → k < count → k + 1 < length marks → length page ≡ 4096 → ((i : ℕ) → get_or page i 0 < 256)
+    → LiesAt page at value end → (0 < level → end - value ≡ 4) → IsScanned level count page (set marks (k + 1) end) (k + 1) end
+scanned_next level count page marks k at value end s within room size small lies child =
+    let all : List Entry = read_from count (drop 4 page) in
+    let e : Entry = first_of (drop at page) in
+    let n = length-read count (drop 4 page) in
+    let inside : k < length all = omega arith in
+    let value_is = lies.value_is in
+    let end_is = lies.end_is in
+    let end_within = lies.within in
+    let long = length-drop at page in
+    let l = lying (drop at page) (λ i. let P : ℕ → Type 0 = λ b. b < 256 in subst P (sym (get_or-drop at page i 0)) (small (at + i))) (omega arith) in
+    let key = l.key in
+    let wide = l.value in
+    let size_e : entry_size e ≡ 3 + key_length (drop at page) + value_length (drop at page) = omega arith in
+    let one_more : count - k ≡ suc (count - (k + 1)) = omega arith in
+    let rest : drop k all ≡ e ∷ read_from (count - (k + 1)) (behind (drop at page)) = s.rest ∙ ap (λ m. read_from m (drop at page)) one_more in
+    let parts : get_or all k nothing ∷ drop (k + 1) all ≡ e ∷ read_from (count - (k + 1)) (behind (drop at page)) = sym (drop_more all k nothing inside) ∙ rest in
+    let here : get_or all k nothing ≡ e = head_is parts in
+    let later : drop (k + 1) all ≡ read_from (count - (k + 1)) (behind (drop at page)) = tail_is parts in
+    let sum : at + (3 + key_length (drop at page) + value_length (drop at page)) ≡ end = omega arith in
+    let end_at : end ≡ at + entry_size e = omega arith in
+    let more : size_of (take (k + 1) all) ≡ size_of (take k all) + entry_size e = size-take_more all k nothing inside ∙ ap (λ f. size_of (take k all) + entry_size f) here in
+    let at_is = s.at_is in
+    let new_at : end ≡ 4 + size_of (take (k + 1) all) = omega arith in
+    let place : drop (size_of (take k all)) (drop 4 page) ≡ drop at page = drop-drop (size_of (take k all)) 4 page ∙ ap (λ m. drop m page) (sym at_is) in
+    let entry_body : take (entry_size e) (drop (size_of (take k all)) (drop 4 page)) ≡ entry_bytes e = ap (take (entry_size e)) place ∙ ap (λ m. take m (drop at page)) size_e ∙ l.whole in
+    let taken : take (k + 1) all ≡ take k all ++ e ∷ [] = take_more all k nothing inside ∙ ap (λ f. take k all ++ f ∷ []) here in
+    record {
+      long = length-set marks (k + 1) end ∙ s.long;
+      within = end_within;
+      at_is = new_at;
+      rest = later ∙ ap (read_from (count - (k + 1))) (drop-drop (3 + key_length (drop at page) + value_length (drop at page)) at page ∙ ap (λ m. drop m page) sum);
+      body = ap (λ m. take m (drop 4 page)) more
+          ∙ take-add (size_of (take k all)) (entry_size e) (drop 4 page)
+          ∙ (λ x. s.body x ++ entry_body x)
+          ∙ ap (λ b. body_of (take k all) ++ b) (sym (append-nil (entry_bytes e)))
+          ∙ sym (ap body_of taken ∙ body-append (take k all) (e ∷ []));
+      entries = All-more IsEntry all k nothing inside s.entries (subst IsEntry (sym here) lies.entry);
+      children = λ inner. All-more (λ (f : Entry). length f.1 ≡ 4) all k nothing inside (s.children inner) (let P : Entry → Type 0 = λ f. length f.1 ≡ 4 in let four = child inner in subst P (sym here) (wide ∙ omega arith));
+      places = λ j le. elim (cases_eq j (k + 1)) [
+        | inl same ↦ let P : ℕ → Type 0 = λ q. get_or (set marks (k + 1) end) q 0 ≡ 4 + size_of (take q all) in subst P (sym same) (get_or-set_same marks (k + 1) end 0 room ∙ new_at)
+        | inr other ↦ get_or-set_other marks (k + 1) j end 0 other ∙ s.places j (omega arith)
+      ];
+    }
+  where
+    head_is : {x y : Entry} {xs ys : List Entry} → x ∷ xs ≡ y ∷ ys → x ≡ y
+    head_is e = cc
+
+    tail_is : {x y : Entry} {xs ys : List Entry} → x ∷ xs ≡ y ∷ ys → xs ≡ ys
+    tail_is e = cc
+
+-- the entries of a node that the page stands for
+pub scanned_place : (level count : ℕ) (page marks : List ℕ) (k at : ℕ) (node : Node) → IsScanned level count page marks k at → count ≡ count_in page → IsNode page node → (at ≡ 4 + size_of (take k node.entries)) × (count ≡ length node.entries)
+scanned_place level count page marks k at node s counted is =
+    let long : count ≡ length node.entries = counted ∙ is.count in
+    let same : read_from count (drop 4 page) ≡ node.entries = ap (λ n. read_from n (drop 4 page)) long ∙ read_at node.entries (drop 4 page) is.body in
+    (s.at_is ∙ ap (λ l. 4 + size_of (take k l)) same, long)
+
+pub scanned_not : (level count : ℕ) (page marks : List ℕ) (k at : ℕ) → IsScanned level count page marks k at → k < count → count ≡ count_in page → LiesNot page at → (node : Node) → IsNode page node → ⊥
+scanned_not level count page marks k at s within counted not_there node is =
+    let place = scanned_place level count page marks k at node s counted is in
+    let long = place.1 in
+    lies_there page node k at is (omega arith) place.0 not_there
+
+pub scanned_no_child : (level count : ℕ) (page marks : List ℕ) (k at value end : ℕ) → IsScanned level count page marks k at → k < count → count ≡ count_in page → level ≡ get_or page 0 0 → LiesAt page at value end → 0 < level → end - value ≢ 4 → (node : Node) → IsNode page node → ⊥
+scanned_no_child level count page marks k at value end s within counted is_level lies inner differs node is =
+    let place = scanned_place level count page marks k at node s counted is in
+    let long = place.1 in
+    let e = entry_of page node k at is (omega arith) place.0 in
+    let level_is = is.level in
+    let four = is.shape.children (omega arith) k nothing (omega arith) in
+    let wide = e.value in
+    let end_is = lies.end_is in
+    differs (omega arith)
+
+pub scanned_all : (level count : ℕ) (page marks : List ℕ) (at : ℕ) → IsScanned level count page marks count at → level ≤ 5 → count ≤ 1364 → IsHeld level count marks page
+scanned_all level count page marks at s low few =
+    let all : List Entry = read_from count (drop 4 page) in
+    let n = length-read count (drop 4 page) in
+    let same : take count all ≡ all = take_all count all (omega arith) in
+    let within = s.within in
+    let at_is : at ≡ 4 + size_of all = s.at_is ∙ ap (λ l. 4 + size_of l) same in
+    record {
+      shape = record {
+        level = low;
+        entries = All-same IsEntry all (take count all) (sym same) s.entries;
+        children = λ inner. All-same (λ (e : Entry). length e.1 ≡ 4) all (take count all) (sym same) (s.children inner);
+      };
+      few = omega arith;
+      body = let P : List Entry → Type 0 = λ l. take (size_of l) (drop 4 page) ≡ body_of l in subst P same s.body;
+      room = omega arith;
+      places = s.places;
+    }
+
+pub scanned_end : (level count : ℕ) (page marks : List ℕ) (k at : ℕ) → IsScanned level count page marks k at → k ≡ count → level ≤ 5 → count ≤ 1364 → IsHeld level count marks page
+scanned_end level count page marks k at s is low few = let P : ℕ → Type 0 = λ q. IsScanned level count page marks q at in scanned_all level count page marks at (subst P is s) low few
+
+-- ---- a page in a buffer
+pub held_size : (level count : ℕ) (marks page : List ℕ) → length page ≡ 4096 → IsHeld level count marks page → size_of (read_from count (drop 4 page)) ≤ 4092
+held_size level count marks page long held =
+    let n = size_of (read_from count (drop 4 page)) in
+    let a : length (take n (drop 4 page)) ≡ n = ap length held.body ∙ length-body (read_from count (drop 4 page)) in
+    let b = length-take n (drop 4 page) in
+    let c = length-drop 4 page in
+    omega arith
+
+pub page_stands : (level count : ℕ) (marks page rest : List ℕ) → length page ≡ 4096 → IsHeld level count marks page → Stands level (read_from count (drop 4 page)) marks (page ++ rest)
+page_stands level count marks page rest long held =
+    let es : List Entry = read_from count (drop 4 page) in
+    let small = held_size level count marks page long held in
+    let n = length-read count (drop 4 page) in
+    let few = held.few in
+    let behind_four = length-drop 4 page in
+    record {
+      shape = held.shape;
+      few = omega arith;
+      body = ap (take (size_of es)) (drop-append-le 4 page rest (omega arith)) ∙ take-append-le (size_of es) (drop 4 page) rest (omega arith) ∙ held.body;
+      room = held.room;
+      places = λ k le. held.places k (omega arith);
+    }
+
+pub page_node : (level count : ℕ) (marks page : List ℕ) (node : Node) → length page ≡ 4096 → IsHeld level count marks page → level ≡ get_or page 0 0 → count ≡ count_in page → node ≡ record { level = level; entries = read_from count (drop 4 page) } → IsNode page node
+page_node level count marks page node long held is_level counted is =
+    subst (IsNode page) (sym is) (record {
+      level = sym is_level;
+      count = sym counted ∙ sym (length-read count (drop 4 page));
+      body = held.body;
+      shape = held.shape;
+      fits = held_size level count marks page long held;
+    })
+
+pub read_held : (count level : ℕ) (marks page moved rest : List ℕ) → moved ≡ page → length page ≡ 4096 → IsHeld level count marks page → IsHeld level count marks (moved ++ rest)
+read_held count level marks page moved rest same long held =
+    let P : List ℕ → Type 0 = λ b. IsHeld level count marks (b ++ rest) in
+    subst P (sym same) (to_held level (read_from count (drop 4 page)) marks (page ++ rest) count (page_stands level count marks page rest long held) (sym (length-read count (drop 4 page))))
+
+pub read_node : (count : ℕ) (marks page moved rest : List ℕ) → moved ≡ page → length page ≡ 4096 → IsHeld (get_or page 0 0) count marks page → count ≡ count_in page → IsNode page (held_node (get_or page 0 0) count (moved ++ rest))
+read_node count marks page moved rest same long held counted =
+    let P : List ℕ → Type 0 = λ b. IsNode page (held_node (get_or page 0 0) count (b ++ rest)) in
+    subst P (sym same) (page_node (get_or page 0 0) count marks page _ long held refl counted
+    (view_of (get_or page 0 0) (read_from count (drop 4 page)) marks (page ++ rest) count (page_stands (get_or page 0 0) count marks page rest long held) (sym (length-read count (drop 4 page)))))
+
+-- ---- a search for the last key that isn't above a key
+pub record IsLast (page key : List ℕ) (es : List Entry) (k value at : ℕ) : Type 0 where
+  pub place : at ≡ 4 + size_of (take k es)
+  pub below : (j : ℕ) → 0 < j → j < k → is_gt (key_cmp (key_at es j) key) ≡ false
+  pub none : k ≡ 0 → value ≡ 0
+  pub some : 0 < k → (0 < value) × (value + length (value_at es (k - 1)) ≡ at) × (take (at - value) (drop value page) ≡ value_at es (k - 1))
+
+pub last_start : (page key : List ℕ) (es : List Entry) → IsLast page key es 0 0 4
+last_start page key es = record { place = refl; below = λ j some less. absurd (omega arith); none = λ _. refl; some = λ some. absurd (omega arith) }
+
+-- the key and the value of an entry that lies in the page
+pub key_part : (page : List ℕ) (es : List Entry) (k at value end : ℕ) → IsEntryOf page es k at → LiesAt page at value end → take (value - (at + 3)) (drop (at + 3) page) ≡ key_at es k
+key_part page es k at value end e lies = key_there page at value end lies ∙ ap (λ (f : Entry). f.0) e.first
+
+pub value_part : (page : List ℕ) (es : List Entry) (k at value end : ℕ) → IsEntryOf page es k at → LiesAt page at value end → take (end - value) (drop value page) ≡ value_at es k
+value_part page es k at value end e lies = value_there page at value end lies ∙ ap (λ (f : Entry). f.1) e.first
+
+pub last_next : (page key : List ℕ) (es : List Entry) (k value at new_value end : ℕ) → IsLast page key es k value at → IsEntryOf page es k at → LiesAt page at new_value end → (0 < k → is_gt (key_cmp (key_at es k) key) ≡ false) → IsLast page key es (k + 1) new_value end
+last_next page key es k value at new_value end l e lies here =
+    let one : k + 1 - 1 ≡ k = omega arith in
+    let value_is = lies.value_is in
+    let end_is = lies.end_is in
+    let wide = e.value in
+    let sum : new_value + length (value_at es k) ≡ end = omega arith in
+    record {
+      place = end_there page es k at new_value end e lies;
+      below = λ j some less. elim (cases_eq j k) [
+        | inl same ↦ let P : ℕ → Type 0 = λ q. is_gt (key_cmp (key_at es q) key) ≡ false in subst P (sym same) (here (omega arith))
+        | inr other ↦ l.below j some (omega arith)
+      ];
+      none = λ none. absurd (omega arith);
+      some = λ _. let P : ℕ → Type 0 = λ q. (0 < new_value) × (new_value + length (value_at es q) ≡ end) × (take (end - new_value) (drop new_value page) ≡ value_at es q) in
+          subst P (sym one) (omega arith, sum, value_part page es k at new_value end e lies);
+    }
+
+-- the child that was found, and why none was
+pub child_ok : {E : Type 0} (page key : List ℕ) (es : List Entry) (k value at : ℕ) (r : Result ℕ E) → IsLast page key es k value at → IfOk r (λ child. (0 < value) × (value + 4 ≡ at) × (child ≡ child_in (take 4 (drop value page))))
+    → (0 < k → floor key es ≡ Some (value_at es (k - 1))) → IfOk r (λ child. option_map child_in (floor key es) ≡ Some child)
+child_ok page key es k value at (Err e) l ok known = tt
+child_ok page key es k value at (Ok child) l ok known = elim (cases_eq k 0) [
+  | inl zero_is ↦ let none = l.none zero_is in let some = ok.0 in absurd (omega arith)
+  | inr other ↦
+      let last = l.some (omega arith) in
+      let end = ok.1 in
+      let four : 4 ≡ at - value = omega arith in
+      let same : take 4 (drop value page) ≡ value_at es (k - 1) = ap (λ n. take n (drop value page)) four ∙ last.2 in
+      ap (option_map child_in) (known (omega arith)) ∙ ap Some (sym (ok.2 ∙ ap child_in same))
+]
+
+pub child_err : {A E : Type 0} (page key : List ℕ) (node : Node) (k value at : ℕ) (r : Result A E) → IsNode page node → IsLast page key node.entries k value at → k ≤ length node.entries → 0 < k → 0 < node.level → OnErr r ((value ≡ 0) ⊎ (value + 4 ≢ at)) → OnErr r ⊥
+child_err page key node k value at (Ok x) is l within some inner why = tt
+child_err page key node k value at (Err e) is l within some inner why =
+    let last = l.some some in
+    let four = is.shape.children inner (k - 1) nothing (omega arith) in
+    let positive = last.0 in
+    let sum = last.1 in
+    elim why [ inl none ↦ omega arith | inr differs ↦ differs (omega arith) ]
+
+pub above_true : (r : Ordering) → is_gt r ≡ true → r ≡ Greater
+above_true Less h = cc
+above_true Equal h = cc
+above_true Greater h = refl

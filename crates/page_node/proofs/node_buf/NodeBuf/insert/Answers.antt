@@ -1,0 +1,65 @@
+use Rattle.std.specs.Prelude.{insert}
+use Rattle.std.specs.List.{copy_within}
+use Rattle.std.proofs.Common.{◌≡◌, ◌+◌, ◌≤◌, length, get_or, arith, ap, ◌∙◌}
+use Rattle.std.proofs.lemmas.List.Edits.{length-insert}
+use Rattle.page_node.specs.Entries.{size_of}
+use Rattle.page_node.proofs.Standing.{Stands, to_held}
+use Rattle.page_node.proofs.Editing.{opened, closed, bounds_of, mark_most, insert_stands}
+use Rattle.page_node.proofs.node_buf.NodeBuf.insert.Goals as goal
+
+pub offset_bounds-self-inside-i : goal.offset_bounds-self-inside-i
+offset_bounds-self-inside-i c = let o = opened _ _ _ _ _ c.self.invariant c.self.view_is in let few = o.stands.few in let within = c.requires.within in omega arith
+
+pub bounds-self-inside-i : goal.bounds-self-inside-i
+bounds-self-inside-i c = let o = opened _ _ _ _ _ c.self.invariant c.self.view_is in let few = o.stands.few in let within = c.requires.within in omega arith
+
+pub move_bytes-requires-clause-order : goal.move_bytes-requires-clause-order
+move_bytes-requires-clause-order c = let o = opened _ _ _ _ _ c.self.invariant c.self.view_is in let b = bounds_of _ _ _ _ _ c.args.i o.stands o.count_of c.requires.within in omega arith
+
+pub move_bytes-requires-clause-end : goal.move_bytes-requires-clause-end
+move_bytes-requires-clause-end c = let o = opened _ _ _ _ _ c.self.invariant c.self.view_is in let b = bounds_of _ _ _ _ _ c.args.i o.stands o.count_of c.requires.within in omega arith
+
+pub move_bytes-requires-clause-to : goal.move_bytes-requires-clause-to
+move_bytes-requires-clause-to c = let fits : size_of c.args.self.now.entries ≤ 4092 = c.requires.fits in let key = c.requires.key in let value = c.requires.value in let o = opened _ _ _ _ _ c.self.invariant c.self.view_is in let b = bounds_of _ _ _ _ _ c.args.i o.stands o.count_of c.requires.within in omega arith
+
+pub put_entry-requires-clause-room : goal.put_entry-requires-clause-room
+put_entry-requires-clause-room c = let fits : size_of c.args.self.now.entries ≤ 4092 = c.requires.fits in let key = c.requires.key in let value = c.requires.value in let o = opened _ _ _ _ _ c.self.invariant c.self.view_is in let b = bounds_of _ _ _ _ _ c.args.i o.stands o.count_of c.requires.within in omega arith
+
+pub insert_end-requires-clause-within : goal.insert_end-requires-clause-within
+insert_end-requires-clause-within c = let o = opened _ _ _ _ _ c.self.invariant c.self.view_is in let n = o.count_of in let within = c.requires.within in omega arith
+
+pub insert_end-requires-clause-room : goal.insert_end-requires-clause-room
+insert_end-requires-clause-room c = let fits : size_of c.args.self.now.entries ≤ 4092 = c.requires.fits in let o = opened _ _ _ _ _ c.self.invariant c.self.view_is in let n = o.count_of in let b = bounds_of _ _ _ _ _ c.args.i o.stands o.count_of c.requires.within in omega arith
+
+pub insert_end-requires-clause-fits : goal.insert_end-requires-clause-fits
+insert_end-requires-clause-fits c = λ k le.
+    let fits : size_of c.args.self.now.entries ≤ 4092 = c.requires.fits in
+    let key = c.requires.key in
+    let value = c.requires.value in
+    let o = opened _ _ _ _ _ c.self.invariant c.self.view_is in
+    let n = o.count_of in
+    let most = mark_most _ _ _ _ o.stands k (omega arith) in
+    omega arith
+
+stands : (c : goal.After-self-1) → Stands c.self.inside.level (insert c.args.self.now.entries c.args.i (c.args.key.now, c.args.value.now)) c.insert_end.new.ends c.put_entry.new.bytes
+stands c =
+    let o = opened _ _ _ _ _ c.self.invariant c.self.view_is in
+    let n = o.count_of in
+    let level = o.level_of in
+    insert_stands _ _ c.self.inside.ends c.self.inside.bytes c.move_bytes.new.bytes c.put_entry.new.bytes c.insert_end.new.ends c.args.i (c.args.key.now, c.args.value.now) o.stands c.requires.within c.self.told.0 c.requires.fits (c.requires.key, c.requires.value)
+    (λ inner. c.requires.child (omega arith))
+    (c.move_bytes.ensures ∙ ap (λ k. copy_within c.self.inside.bytes (get_or c.self.inside.ends c.args.i 0) (get_or c.self.inside.ends k 0) (get_or c.self.inside.ends c.args.i 0 + (3 + length c.args.key.now + length c.args.value.now))) n)
+    c.put_entry.ensures c.insert_end.ensures.kept (λ k low le. c.insert_end.ensures.moved k low (omega arith))
+
+longer : (c : goal.After-self-1) → c.self.inside.count + 1 ≡ length (insert c.args.self.now.entries c.args.i (c.args.key.now, c.args.value.now))
+longer c =
+    let o = opened _ _ _ _ _ c.self.invariant c.self.view_is in
+    let n = o.count_of in
+    let more = length-insert c.args.self.now.entries c.args.i (c.args.key.now, c.args.value.now) c.requires.within in
+    omega arith
+
+pub invariant_of-self : goal.invariant_of-self
+invariant_of-self c = to_held _ _ _ _ _ (stands c) (longer c)
+
+pub returns : goal.returns
+returns c = let o = opened _ _ _ _ _ c.self.invariant c.self.view_is in closed _ _ c.insert_end.new.ends _ _ _ (stands c) (longer c) o.level_of

@@ -1,0 +1,96 @@
+use Rattle.std.specs.List.{copy_within}
+use Rattle.std.proofs.Common.{◌≡◌, ◌+◌, ◌≤◌, length, get_or, set, arith, ap, ◌∙◌}
+use Rattle.std.proofs.lemmas.List.{length-set}
+use Rattle.page_node.specs.Entries.{size_of}
+use Rattle.page_node.proofs.Standing.{Stands, to_held}
+use Rattle.page_node.proofs.Editing.{opened, closed, bounds_of, marks_rise, mark_most, set_stands}
+use Rattle.page_node.proofs.node_buf.NodeBuf.set_entry.Goals as goal
+
+pub offset_bounds-self-inside-i : goal.offset_bounds-self-inside-i
+offset_bounds-self-inside-i c = let o = opened _ _ _ _ _ c.self.invariant c.self.view_is in let few = o.stands.few in let within = c.requires.within in omega arith
+
+pub bounds-self-inside-i : goal.bounds-self-inside-i
+bounds-self-inside-i c = let o = opened _ _ _ _ _ c.self.invariant c.self.view_is in let few = o.stands.few in let within = c.requires.within in omega arith
+
+pub overflow_add-end : goal.overflow_add-end
+overflow_add-end c = let o = opened _ _ _ _ _ c.self.invariant c.self.view_is in let few = o.stands.few in let within = c.requires.within in omega arith
+
+pub offset_bounds-self-inside-i-2 : goal.offset_bounds-self-inside-i-2
+offset_bounds-self-inside-i-2 c = let o = opened _ _ _ _ _ c.self.invariant c.self.view_is in let few = o.stands.few in let within = c.requires.within in omega arith
+
+pub bounds-self-inside-i-2 : goal.bounds-self-inside-i-2
+bounds-self-inside-i-2 c = let o = opened _ _ _ _ _ c.self.invariant c.self.view_is in let few = o.stands.few in let within = c.requires.within in omega arith
+
+pub move_bytes-requires-clause-order : goal.move_bytes-requires-clause-order
+move_bytes-requires-clause-order c = let within = c.requires.within in let o = opened _ _ _ _ _ c.self.invariant c.self.view_is in let b = bounds_of _ _ _ _ _ (c.args.i + 1) o.stands o.count_of (omega arith) in omega arith
+
+pub move_bytes-requires-clause-end : goal.move_bytes-requires-clause-end
+move_bytes-requires-clause-end c = let within = c.requires.within in let o = opened _ _ _ _ _ c.self.invariant c.self.view_is in let b = bounds_of _ _ _ _ _ (c.args.i + 1) o.stands o.count_of (omega arith) in omega arith
+
+pub move_bytes-requires-clause-to : goal.move_bytes-requires-clause-to
+move_bytes-requires-clause-to c =
+    let fits : size_of c.args.self.now.entries ≤ 4092 = c.requires.fits in
+    let key = c.requires.key in
+    let value = c.requires.value in
+    let within = c.requires.within in
+    let o = opened _ _ _ _ _ c.self.invariant c.self.view_is in
+    let b = bounds_of _ _ _ _ _ (c.args.i + 1) o.stands o.count_of (omega arith) in
+    let rise = marks_rise _ _ _ _ o.stands c.args.i (c.args.i + 1) (omega arith) (omega arith) in
+    omega arith
+
+pub put_entry-requires-clause-room : goal.put_entry-requires-clause-room
+put_entry-requires-clause-room c =
+    let fits : size_of c.args.self.now.entries ≤ 4092 = c.requires.fits in
+    let key = c.requires.key in
+    let value = c.requires.value in
+    let within = c.requires.within in
+    let o = opened _ _ _ _ _ c.self.invariant c.self.view_is in
+    let b = bounds_of _ _ _ _ _ c.args.i o.stands o.count_of (omega arith) in
+    omega arith
+
+pub overflow_sub-end : goal.overflow_sub-end
+overflow_sub-end c = let within = c.requires.within in let o = opened _ _ _ _ _ c.self.invariant c.self.view_is in marks_rise _ _ _ _ o.stands c.args.i (c.args.i + 1) (omega arith) (omega arith)
+
+pub resize_end-requires-clause-within : goal.resize_end-requires-clause-within
+resize_end-requires-clause-within c = let within = c.requires.within in let o = opened _ _ _ _ _ c.self.invariant c.self.view_is in let n = o.count_of in omega arith
+
+pub resize_end-requires-clause-large : goal.resize_end-requires-clause-large
+resize_end-requires-clause-large c = λ k low le.
+    let o = opened _ _ _ _ _ c.self.invariant c.self.view_is in
+    let n = o.count_of in
+    let rise = marks_rise _ _ _ _ o.stands (c.args.i + 1) k (omega arith) (omega arith) in
+    omega arith
+
+pub resize_end-requires-clause-fits : goal.resize_end-requires-clause-fits
+resize_end-requires-clause-fits c = λ k low le.
+    let fits : size_of c.args.self.now.entries ≤ 4092 = c.requires.fits in
+    let key = c.requires.key in
+    let value = c.requires.value in
+    let o = opened _ _ _ _ _ c.self.invariant c.self.view_is in
+    let n = o.count_of in
+    let most = mark_most _ _ _ _ o.stands k (omega arith) in
+    omega arith
+
+stands : (c : goal.After-resize_end) → Stands c.self.inside.level (set c.args.self.now.entries c.args.i (c.args.key.now, c.args.value.now)) c.resize_end.new.ends c.put_entry.new.bytes
+stands c =
+    let o = opened _ _ _ _ _ c.self.invariant c.self.view_is in
+    let n = o.count_of in
+    let level = o.level_of in
+    set_stands _ _ c.self.inside.ends c.self.inside.bytes c.move_bytes.new.bytes c.put_entry.new.bytes c.resize_end.new.ends c.args.i (get_or c.self.inside.ends c.args.i 0 + 3 + length c.args.key.now + length c.args.value.now) (c.args.key.now, c.args.value.now) o.stands c.requires.within c.self.told.0 c.requires.fits (c.requires.key, c.requires.value)
+    (λ inner. c.requires.child (omega arith))
+    (omega arith)
+    (c.move_bytes.ensures ∙ ap (λ k. copy_within c.self.inside.bytes (get_or c.self.inside.ends (c.args.i + 1) 0) (get_or c.self.inside.ends k 0) (get_or c.self.inside.ends c.args.i 0 + 3 + length c.args.key.now + length c.args.value.now)) n)
+    c.put_entry.ensures c.resize_end.ensures.kept (λ k low le. c.resize_end.ensures.moved k low (omega arith))
+
+as_long : (c : goal.After-resize_end) → c.self.inside.count ≡ length (set c.args.self.now.entries c.args.i (c.args.key.now, c.args.value.now))
+as_long c =
+    let o = opened _ _ _ _ _ c.self.invariant c.self.view_is in
+    let n = o.count_of in
+    let same = length-set c.args.self.now.entries c.args.i (c.args.key.now, c.args.value.now) in
+    omega arith
+
+pub invariant_of-self : goal.invariant_of-self
+invariant_of-self c = to_held _ _ _ _ _ (stands c) (as_long c)
+
+pub returns : goal.returns
+returns c = let o = opened _ _ _ _ _ c.self.invariant c.self.view_is in closed _ _ c.resize_end.new.ends _ _ _ (stands c) (as_long c) o.level_of

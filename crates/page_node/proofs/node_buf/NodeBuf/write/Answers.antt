@@ -1,0 +1,27 @@
+use Rattle.std.proofs.Common.{◌≡◌, ℕ, ◌≤◌, List, length, arith, sym, subst, ◌∙◌}
+use Rattle.page_node.specs.Entries.{size_of}
+use Rattle.page_node.specs.Node.{IsNode, IsShape, bytes_of}
+use Rattle.page_node.specs.Laws.{node_written}
+use Rattle.page_node.proofs.Editing.{opened, bounds_of}
+use Rattle.page_node.proofs.Writing.{page_written}
+use Rattle.page_node.proofs.node_buf.NodeBuf.write.Goals as goal
+
+pub put_body-requires-clause-low : goal.put_body-requires-clause-low
+put_body-requires-clause-low c = let o = opened _ _ _ _ _ c.self.invariant c.self.view_is in let n = o.count_of in let b = bounds_of _ _ _ _ _ (length c.args.self.now.entries) o.stands o.count_of (omega arith) in omega arith
+
+pub put_body-requires-clause-high : goal.put_body-requires-clause-high
+put_body-requires-clause-high c = let fits : size_of c.args.self.now.entries ≤ 4092 = c.requires in let o = opened _ _ _ _ _ c.self.invariant c.self.view_is in let b = bounds_of _ _ _ _ _ (length c.args.self.now.entries) o.stands o.count_of (omega arith) in omega arith
+
+written : (c : goal.After-put_body) → c.put_body.new.page ≡ bytes_of c.args.self.now
+written c =
+    let o = opened _ _ _ _ _ c.self.invariant c.self.view_is in
+    page_written _ _ _ c.self.inside.ends c.self.inside.bytes c.args.page.now c.put_body.new.page o.stands o.count_of c.requires c.told-page c.put_body.ensures
+    ∙ (λ x. bytes_of (record { level = o.level_of x; entries = c.args.self.now.entries }))
+
+pub returns-clause-bytes : goal.returns-clause-bytes
+returns-clause-bytes c = written c
+
+pub returns-clause-node : goal.returns-clause-node
+returns-clause-node c =
+    let P : List ℕ → Type 0 = λ b. IsNode b c.args.self.now in
+    subst P (sym (written c)) (node_written c.args.self.now (subst IsShape c.self.view_is c.self.invariant.shape) c.requires)

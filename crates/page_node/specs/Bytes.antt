@@ -1,0 +1,18 @@
+-- Entries as they lie in bytes.
+use Rattle.std.specs.Prelude.{◌≡◌, ◌≤◌, ◌+◌, ℕ, List, ◌++◌, take, drop}
+use Rattle.page_node.specs.Entries.{Entry, IsEntry, key_length, value_length, first_of, entry_bytes, entry_size}
+
+-- the entry at a place lies in the page: its value begins at one place and ends at another
+pub record LiesAt (page : List ℕ) (at value end : ℕ) : Type 0 where
+  pub value_is : value ≡ at + 3 + key_length (drop at page)
+  pub end_is : end ≡ value + value_length (drop at page)
+  pub within : end ≤ 4096
+  pub entry : IsEntry (first_of (drop at page))
+
+-- it doesn't
+abbrev pub LiesNot : List ℕ → ℕ → Type 0
+LiesNot page at = at + 3 + key_length (drop at page) + value_length (drop at page) ≤ 4096 → key_length (drop at page) ≤ 72 → value_length (drop at page) ≤ 1024 → ⊥
+
+-- bytes with an entry written at a place
+abbrev pub with_entry : List ℕ → ℕ → Entry → List ℕ
+with_entry bytes at e = take at bytes ++ (entry_bytes e ++ drop (at + entry_size e) bytes)

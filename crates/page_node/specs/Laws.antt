@@ -1,0 +1,190 @@
+-- Laws of nodes and of places, for the layers above.
+use Rattle.std.specs.Prelude.{insert}
+use Rattle.std.proofs.Common.{◌≡◌, ℕ, ◌+◌, ◌-◌, ◌^◌, ◌<◌, ◌≤◌, List, [], ◌∷◌, length, drop, set, replicate, Bool, true, false, cond, ◌&&◌, refl, sym, ap, ◌∙◌, arith, zero, suc}
+use Rattle.std.specs.Prelude.{Option, Some, None}
+use Rattle.std.specs.Ordering.{is_gt, is_lt, is_eq, ordering_reverse, eq_by_cmp}
+use Rattle.std.specs.Cmp.Lexicographic.{nat_list_cmp_total}
+use Rattle.std.specs.declared.cmp.Ordering.{Ordering}
+use Rattle.std.specs.declared.cmp.Ordering.TheVariants.{Less, Equal, Greater}
+use Rattle.std.specs.FinMap.{is_sorted, find, put, slice_cmp-IsAntisymmetric, nat_cmp-IsAntisymmetric}
+use Rattle.std.specs.FinMap.Entries.{below_all}
+use Rattle.std.proofs.Common.{◌⊎◌, inl, inr}
+use Rattle.std.proofs.lemmas.Bool.{cases_eq}
+use Rattle.std.proofs.lemmas.Cmp.{tied_itself}
+use Rattle.std.proofs.lemmas.List.{take_at}
+use Rattle.std.proofs.lemmas.Nat.{from_be_bytes-to_be_bytes_4}
+use Rattle.page_node.specs.Entries.{Entry, key_at, value_at, body_of, size_of, read_from, child_in, child_bytes}
+use Rattle.page_node.specs.EntryLists.{length-body, read_at}
+use Rattle.page_node.specs.Node.{Node, IsNode, IsShape, Fits, bytes_of, node_in, count_in}
+use Rattle.page_node.specs.Places.{key_cmp, Rises, IsFound, IsGap, floor, floor_from}
+
+-- ---- nodes
+-- a page stands for one node at most
+pub node_is : (page : List ℕ) (node : Node) → IsNode page node → node_in page ≡ node
+node_is page node is =
+    let entries : read_from (count_in page) (drop 4 page) ≡ node.entries = ap (λ n. read_from n (drop 4 page)) is.count ∙ read_at node.entries (drop 4 page) is.body in
+    λ i. record { level = is.level i; entries = entries i }
+
+pub node_unique : (page : List ℕ) (m n : Node) → IsNode page m → IsNode page n → m ≡ n
+node_unique page m n one other = sym (node_is page m one) ∙ node_is page n other
+
+-- and what is written for one stands for it
+pub node_written : (node : Node) → IsShape node → Fits node → IsNode (bytes_of node) node
+node_written node shape fits = record {
+  level = refl;
+  count = omega arith;
+  body = take_at (body_of node.entries) (replicate (4092 - size_of node.entries) 0) (size_of node.entries) (length-body node.entries);
+  shape = shape;
+  fits = fits;
+}
+
+pub child_written : (page : ℕ) → page < 2 ^ 32 → child_in (child_bytes page) ≡ page
+child_written page few = from_be_bytes-to_be_bytes_4 page few
+
+-- ---- keys
+pub flip_less : (x y : List ℕ) → key_cmp x y ≡ Less → key_cmp y x ≡ Greater
+flip_less x y less = nat_list_cmp_total.antisymm y x ∙ ap ordering_reverse less
+
+pub flip_greater : (x y : List ℕ) → key_cmp x y ≡ Greater → key_cmp y x ≡ Less
+flip_greater x y greater = nat_list_cmp_total.antisymm y x ∙ ap ordering_reverse greater
+
+pub less_trans : (x y z : List ℕ) → key_cmp x y ≡ Less → key_cmp y z ≡ Less → key_cmp x z ≡ Less
+less_trans x y z one other = nat_list_cmp_total.trans x y z one other
+
+pub same_key : (x y : List ℕ) → key_cmp x y ≡ Equal → x ≡ y
+same_key x y tied = slice_cmp-IsAntisymmetric nat_cmp-IsAntisymmetric x y tied
+
+first_so : (b c : Bool) → (b && c) ≡ true → b ≡ true
+first_so true c h = refl
+first_so false c h = h
+
+second_so : (b c : Bool) → (b && c) ≡ true → c ≡ true
+second_so true c h = h
+second_so false c h = cc
+
+is_less : (r : Ordering) → is_lt r ≡ true → r ≡ Less
+is_less Less h = refl
+is_less Equal h = cc
+is_less Greater h = cc
+
+below_at : (x : List ℕ) (es : List Entry) (j : ℕ) → below_all key_cmp x es ≡ true → j < length es → key_cmp x (key_at es j) ≡ Less
+below_at x [] j h within = absurd (omega arith)
+below_at x (e ∷ es) zero h within = is_less (key_cmp x e.0) (first_so (is_lt (key_cmp x e.0)) (below_all key_cmp x es) h)
+below_at x (e ∷ es) (suc j) h within = below_at x es j (second_so (is_lt (key_cmp x e.0)) (below_all key_cmp x es) h) (omega arith)
+
+-- a key stands below each later one
+pub rises_at : (es : List Entry) (i j : ℕ) → Rises es → i < j → j < length es → key_cmp (key_at es i) (key_at es j) ≡ Less
+rises_at [] i j rises less within = absurd (omega arith)
+rises_at (e ∷ es) i zero rises less within = absurd (omega arith)
+rises_at (e ∷ es) zero (suc j) rises less within = below_at e.0 es j (first_so (below_all key_cmp e.0 es) (is_sorted key_cmp es) rises) (omega arith)
+rises_at (e ∷ es) (suc i) (suc j) rises less within = rises_at es i j (second_so (below_all key_cmp e.0 es) (is_sorted key_cmp es) rises) (omega arith) (omega arith)
+
+lt_or_same : (j m : ℕ) → j ≤ m → (j < m) ⊎ (j ≡ m)
+lt_or_same j m le = elim (cases_eq j m) [ inl same ↦ inr same | inr other ↦ inl (omega arith) ]
+
+-- where one key is below a key, so are those before it
+pub below_middle : (es : List Entry) (key : List ℕ) (m : ℕ) → Rises es → m < length es → key_cmp (key_at es m) key ≡ Less → (j : ℕ) → j ≤ m → key_cmp (key_at es j) key ≡ Less
+below_middle es key m rises within less j le = elim (lt_or_same j m le) [
+  | inl before ↦ less_trans (key_at es j) (key_at es m) key (rises_at es j m rises before within) less
+  | inr same ↦ ap (λ k. key_cmp (key_at es k) key) same ∙ less
+]
+
+-- and where one is above, so are those behind it
+pub above_middle : (es : List Entry) (key : List ℕ) (m : ℕ) → Rises es → key_cmp (key_at es m) key ≡ Greater → (j : ℕ) → m ≤ j → j < length es → key_cmp (key_at es j) key ≡ Greater
+above_middle es key m rises greater j le within = elim (lt_or_same m j le) [
+  | inl behind ↦ flip_less key (key_at es j) (less_trans key (key_at es m) (key_at es j) (flip_greater (key_at es m) key greater) (rises_at es m j rises behind within))
+  | inr same ↦ ap (λ k. key_cmp (key_at es k) key) (sym same) ∙ greater
+]
+
+pub found_here : (es : List Entry) (key : List ℕ) (m : ℕ) → Rises es → m < length es → key_at es m ≡ key → IsFound key es m
+found_here es key m rises within here = record {
+  within = within;
+  here = here;
+  below = λ j less. ap (key_cmp (key_at es j)) (sym here) ∙ rises_at es j m rises less within;
+  above = λ j less long. ap (key_cmp (key_at es j)) (sym here) ∙ flip_less (key_at es m) (key_at es j) (rises_at es m j rises less long);
+}
+
+-- ---- what maps say
+ties_not : (x key : List ℕ) (r : Ordering) → key_cmp x key ≡ r → is_eq (ordering_reverse r) ≡ false → eq_by_cmp key_cmp key x ≡ false
+ties_not x key r is differs = ap is_eq (nat_list_cmp_total.antisymm key x ∙ ap ordering_reverse is) ∙ differs
+
+pub find_at : (key : List ℕ) (es : List Entry) (i : ℕ) → i < length es → key_at es i ≡ key → ((j : ℕ) → j < i → key_cmp (key_at es j) key ≡ Less) → find key_cmp key es ≡ Some (value_at es i)
+find_at key [] i within here below = absurd (omega arith)
+find_at key (e ∷ es) zero within here below =
+    let tied : eq_by_cmp key_cmp key e.0 ≡ true = ap (λ k. eq_by_cmp key_cmp key k) here ∙ ap is_eq (tied_itself nat_list_cmp_total key) in
+    ap (λ b. cond b (Some e.1) (find key_cmp key es)) tied
+find_at key (e ∷ es) (suc i) within here below =
+    ap (λ b. cond b (Some e.1) (find key_cmp key es)) (ties_not e.0 key Less (below 0 (omega arith)) refl)
+    ∙ find_at key es i (omega arith) here (λ j less. below (suc j) (omega arith))
+
+pub find_none : (key : List ℕ) (es : List Entry) (i : ℕ) → ((j : ℕ) → j < i → j < length es → key_cmp (key_at es j) key ≡ Less) → ((j : ℕ) → i ≤ j → j < length es → key_cmp (key_at es j) key ≡ Greater) → find key_cmp key es ≡ None
+find_none key [] i below above = refl
+find_none key (e ∷ es) zero below above =
+    ap (λ b. cond b (Some e.1) (find key_cmp key es)) (ties_not e.0 key Greater (above 0 (omega arith) (omega arith)) refl)
+    ∙ find_none key es zero (λ j less within. absurd (omega arith)) (λ j le within. above (suc j) (omega arith) (omega arith))
+find_none key (e ∷ es) (suc i) below above =
+    ap (λ b. cond b (Some e.1) (find key_cmp key es)) (ties_not e.0 key Less (below 0 (omega arith) (omega arith)) refl)
+    ∙ find_none key es i (λ j less within. below (suc j) (omega arith) (omega arith)) (λ j le within. above (suc j) (omega arith) (omega arith))
+
+pub found_find : (key : List ℕ) (es : List Entry) (i : ℕ) → IsFound key es i → find key_cmp key es ≡ Some (value_at es i)
+found_find key es i found = find_at key es i found.within found.here found.below
+
+pub gap_find : (key : List ℕ) (es : List Entry) (i : ℕ) → IsGap key es i → find key_cmp key es ≡ None
+gap_find key es i gap = find_none key es i (λ j less within. gap.below j less) gap.above
+
+put_at : (key value : List ℕ) (es : List Entry) (i : ℕ) → i < length es → key_at es i ≡ key → ((j : ℕ) → j < i → key_cmp (key_at es j) key ≡ Less) → put key_cmp key value es ≡ set es i (key_at es i, value)
+put_at key value [] i within here below = absurd (omega arith)
+put_at key value (e ∷ es) zero within here below =
+    let tied : key_cmp key e.0 ≡ Equal = ap (key_cmp key) here ∙ tied_itself nat_list_cmp_total key in
+    rw tied refl
+put_at key value (e ∷ es) (suc i) within here below =
+    let above : key_cmp key e.0 ≡ Greater = flip_less e.0 key (below 0 (omega arith)) in
+    rw above (ap (λ l. e ∷ l) (put_at key value es i (omega arith) here (λ j less. below (suc j) (omega arith))))
+
+put_new : (key value : List ℕ) (es : List Entry) (i : ℕ) → i ≤ length es → ((j : ℕ) → j < i → key_cmp (key_at es j) key ≡ Less) → ((j : ℕ) → i ≤ j → j < length es → key_cmp (key_at es j) key ≡ Greater) → put key_cmp key value es ≡ insert es i (key, value)
+put_new key value [] zero within below above = refl
+put_new key value [] (suc i) within below above = absurd (omega arith)
+put_new key value (e ∷ es) zero within below above =
+    let less : key_cmp key e.0 ≡ Less = flip_greater e.0 key (above 0 (omega arith) (omega arith)) in
+    rw less refl
+put_new key value (e ∷ es) (suc i) within below above =
+    let greater : key_cmp key e.0 ≡ Greater = flip_less e.0 key (below 0 (omega arith)) in
+    rw greater (ap (λ l. e ∷ l) (put_new key value es i (omega arith) (λ j less. below (suc j) (omega arith)) (λ j le long. above (suc j) (omega arith) (omega arith))))
+
+pub found_put : (key value : List ℕ) (es : List Entry) (i : ℕ) → IsFound key es i → put key_cmp key value es ≡ set es i (key_at es i, value)
+found_put key value es i found = put_at key value es i found.within found.here found.below
+
+pub gap_put : (key value : List ℕ) (es : List Entry) (i : ℕ) → IsGap key es i → put key_cmp key value es ≡ insert es i (key, value)
+gap_put key value es i gap = put_new key value es i gap.within gap.below gap.above
+
+-- ---- the last key that isn't above
+pub floor_all_above : (last : Option (List ℕ)) (key : List ℕ) (es : List Entry) → ((j : ℕ) → j < length es → key_cmp (key_at es j) key ≡ Greater) → floor_from last key es ≡ last
+floor_all_above last key [] above = refl
+floor_all_above last key (e ∷ es) above = ap (λ r. cond (is_gt r) last (floor_from (Some e.1) key es)) (above 0 (omega arith))
+
+pub floor_at : (last : Option (List ℕ)) (key : List ℕ) (es : List Entry) (i : ℕ) → i < length es → ((j : ℕ) → j ≤ i → is_gt (key_cmp (key_at es j) key) ≡ false) → ((j : ℕ) → i < j → j < length es → key_cmp (key_at es j) key ≡ Greater) → floor_from last key es ≡ Some (value_at es i)
+floor_at last key [] i within below above = absurd (omega arith)
+floor_at last key (e ∷ es) zero within below above =
+    ap (λ b. cond b last (floor_from (Some e.1) key es)) (below 0 (omega arith))
+    ∙ floor_all_above (Some e.1) key es (λ j long. above (suc j) (omega arith) (omega arith))
+floor_at last key (e ∷ es) (suc i) within below above =
+    ap (λ b. cond b last (floor_from (Some e.1) key es)) (below 0 (omega arith))
+    ∙ floor_at (Some e.1) key es i (omega arith) (λ j le. below (suc j) (omega arith)) (λ j less long. above (suc j) (omega arith) (omega arith))
+
+pub floor_is : (key : List ℕ) (es : List Entry) (i : ℕ) → i < length es → ((j : ℕ) → 0 < j → j ≤ i → is_gt (key_cmp (key_at es j) key) ≡ false) → ((j : ℕ) → i < j → j < length es → key_cmp (key_at es j) key ≡ Greater) → floor key es ≡ Some (value_at es i)
+floor_is key [] i within below above = absurd (omega arith)
+floor_is key (e ∷ es) zero within below above = floor_all_above (Some e.1) key es (λ j long. above (suc j) (omega arith) (omega arith))
+floor_is key (e ∷ es) (suc i) within below above =
+    floor_at (Some e.1) key es i (omega arith) (λ j le. below (suc j) (omega arith) (omega arith)) (λ j less long. above (suc j) (omega arith) (omega arith))
+
+pub found_floor : (key : List ℕ) (es : List Entry) (i : ℕ) → IsFound key es i → floor key es ≡ Some (value_at es i)
+found_floor key es i found = floor_is key es i found.within (λ j some le. elim (lt_or_same j i le) [
+  | inl less ↦ ap is_gt (found.below j less)
+  | inr same ↦ ap is_gt (ap (λ k. key_cmp (key_at es k) key) same ∙ ap (λ k. key_cmp k key) found.here ∙ tied_itself nat_list_cmp_total key)
+]) found.above
+
+pub gap_floor : (key : List ℕ) (es : List Entry) (i : ℕ) → IsGap key es (i + 1) → floor key es ≡ Some (value_at es i)
+gap_floor key es i gap = let within = gap.within in floor_is key es i (omega arith) (λ j some le. ap is_gt (gap.below j (omega arith))) (λ j less long. gap.above j (omega arith) long)
+
+pub gap_first_floor : (key : List ℕ) (es : List Entry) → 0 < length es → IsGap key es 0 → floor key es ≡ Some (value_at es 0)
+gap_first_floor key es some gap = floor_is key es 0 some (λ j more le. absurd (omega arith)) (λ j less long. gap.above j (omega arith) long)

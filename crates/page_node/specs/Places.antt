@@ -1,0 +1,39 @@
+-- Where a key stands among entries whose keys rise.
+use Rattle.std.specs.Prelude.{◌≡◌, ◌≤◌, ◌<◌, ℕ, true, List, [], ◌∷◌, length, Option, Some, None, cond}
+use Rattle.std.specs.Ordering.{nat_cmp, is_gt}
+use Rattle.std.specs.Cmp.Lexicographic.{slice_cmp}
+use Rattle.std.specs.declared.cmp.Ordering.{Ordering}
+use Rattle.std.specs.declared.cmp.Ordering.TheVariants.{Less, Greater}
+use Rattle.std.specs.FinMap.{is_sorted}
+use Rattle.page_node.specs.Entries.{Entry, key_at}
+
+-- keys in the order of their bytes, a key before its longer continuations
+abbrev pub key_cmp : List ℕ → List ℕ → Ordering
+key_cmp = slice_cmp nat_cmp
+
+-- keys rise strictly
+abbrev pub Rises : List Entry → Type 0
+Rises es = is_sorted key_cmp es ≡ true
+
+-- the key stands at this place
+pub record IsFound (key : List ℕ) (es : List Entry) (i : ℕ) : Type 0 where
+  pub within : i < length es
+  pub here : key_at es i ≡ key
+  pub below : (j : ℕ) → j < i → key_cmp (key_at es j) key ≡ Less
+  pub above : (j : ℕ) → i < j → j < length es → key_cmp (key_at es j) key ≡ Greater
+
+-- it stands nowhere, and this is its place
+pub record IsGap (key : List ℕ) (es : List Entry) (i : ℕ) : Type 0 where
+  pub within : i ≤ length es
+  pub below : (j : ℕ) → j < i → key_cmp (key_at es j) key ≡ Less
+  pub above : (j : ℕ) → i ≤ j → j < length es → key_cmp (key_at es j) key ≡ Greater
+
+-- the value of the last entry whose key isn't above this one, or the last that was known
+abbrev pub floor_from : Option (List ℕ) → List ℕ → List Entry → Option (List ℕ)
+floor_from last key [] = last
+floor_from last key (e ∷ es) = cond (is_gt (key_cmp e.0 key)) last (floor_from (Some e.1) key es)
+
+-- the same, where the first entry's key says nothing
+abbrev pub floor : List ℕ → List Entry → Option (List ℕ)
+floor key [] = None
+floor key (e ∷ es) = floor_from (Some e.1) key es

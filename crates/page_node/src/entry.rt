@@ -1,0 +1,98 @@
+//! Entries as they lie in bytes.
+ghost use Rattle.std.specs.Prelude.{◌≡◌, ◌≤◌, ◌<◌, ◌+◌, ◌*◌, ◌-◌, ◌++◌, ℕ, length, take, drop, replicate, IfSome, IfNone};
+ghost use Rattle.std.specs.List.{copy_within};
+ghost use Rattle.page_node.specs.Entries.{key_length, value_length};
+ghost use Rattle.page_node.specs.Bytes.{LiesAt, LiesNot, with_entry};
+
+/// Where the value of an entry begins and ends. Its key stands before the value.
+#[derive(Clone, Copy, Drop)]
+pub struct Bounds {
+    pub value: usize,
+    pub end: usize,
+}
+
+/// The entry at a place in a page, if it lies in the page and is in the limits.
+pub fn bounds_in(page: &[u8; 4096], at: usize) -> Option<Bounds>
+    requires { at ≤ 4096 }
+    ensures some { IfSome result (λ b. LiesAt page.now at b.value b.end) }
+    ensures none { IfNone result (LiesNot page.now at) }
+{
+    if at + 3 > 4096 {
+        return None;
+    }
+    let key = page[at] as usize;
+    let length = 256 * page[at + 1] as usize + page[at + 2] as usize;
+    let value = at + 3 + key;
+    let end = value + length;
+    if key > 72 || length > 1024 || end > 4096 {
+        return None;
+    }
+    Some(Bounds { value, end })
+}
+
+/// The key of the entry at a place.
+pub fn key_in(bytes: &[u8; 5200], at: usize) -> &[u8]
+    requires { at + 3 + key_length (drop at bytes.now) ≤ 5200 }
+    ensures { result.now ≡ take (key_length (drop at bytes.now)) (drop (at + 3) bytes.now) }
+{
+    let key = at + 3;
+    &bytes[key..key + bytes[at] as usize]
+}
+
+/// The value of the entry at a place.
+pub fn value_in(bytes: &[u8; 5200], at: usize) -> &[u8]
+    requires { at + 3 + key_length (drop at bytes.now) + value_length (drop at bytes.now) ≤ 5200 }
+    ensures { result.now ≡ take (value_length (drop at bytes.now)) (drop (at + 3 + key_length (drop at bytes.now)) bytes.now) }
+{
+    let value = at + 3 + bytes[at] as usize;
+    let length = 256 * bytes[at + 1] as usize + bytes[at + 2] as usize;
+    &bytes[value..value + length]
+}
+
+/// Moves the bytes between two places to another one.
+pub fn move_bytes(bytes: &mut [u8; 5200], from: usize, end: usize, to: usize)
+    requires order { from ≤ end }
+    requires end { end ≤ 5200 }
+    requires to { to + (end - from) ≤ 5200 }
+    ensures { bytes.new ≡ copy_within bytes.old from end to }
+{
+    if from == to {
+        return;
+    }
+    bytes.copy_within(from..end, to);
+}
+
+/// Writes an entry at a place.
+pub fn put_entry(bytes: &mut [u8; 5200], at: usize, key: &[u8], value: &[u8])
+    requires key { length key.now ≤ 72 }
+    requires value { length value.now ≤ 1024 }
+    requires room { at + 3 + length key.now + length value.now ≤ 5200 }
+    ensures { bytes.new ≡ with_entry bytes.old at (key.now, value.now) }
+{
+    let value_at = at + 3 + key.len();
+    bytes[at] = key.len() as u8;
+    bytes[at + 1] = (value.len() / 256) as u8;
+    bytes[at + 2] = (value.len() % 256) as u8;
+    bytes[at + 3..value_at].copy_from_slice(key);
+    bytes[value_at..value_at + value.len()].copy_from_slice(value);
+}
+
+/// Writes the entries up to a place into a page, and zeros behind them.
+pub fn put_body(page: &mut [u8; 4096], bytes: &[u8; 5200], used: usize)
+    requires low { 4 ≤ used }
+    requires high { used ≤ 4096 }
+    ensures { page.new ≡ take 4 page.old ++ (take (used - 4) (drop 4 bytes.now) ++ replicate (4096 - used) 0) }
+{
+    page[4..used].copy_from_slice(&bytes[4..used]);
+    page[used..].fill(0);
+}
+
+/// Copies the entries between two places to the front of other bytes.
+pub fn copy_body(bytes: &[u8; 5200], from: usize, end: usize, to: &mut [u8; 5200])
+    requires low { 4 ≤ from }
+    requires order { from ≤ end }
+    requires high { end ≤ 5200 }
+    ensures { take (end - from) (drop 4 to.new) ≡ take (end - from) (drop from bytes.now) }
+{
+    to[4..4 + (end - from)].copy_from_slice(&bytes[from..end]);
+}

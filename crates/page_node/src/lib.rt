@@ -1,0 +1,12 @@
+//! The nodes of a tree of keys, and the bytes of the pages that hold them.
+#![tactic(auto)]
+
+mod ends;
+mod entry;
+mod node_buf;
+mod scan;
+mod search;
+
+pub use node_buf::NodeBuf;
+pub use scan::NotANode;
+pub use search::{child_for, level_of, value_for};

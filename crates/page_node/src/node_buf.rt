@@ -1,0 +1,278 @@
+//! A node that is read once from a page, edited in place, and written once.
+use crate::ends::{copy_ends, cut_at, insert_end, remove_end, resize_end};
+use crate::entry::{copy_body, key_in, move_bytes, put_body, put_entry, value_in};
+use crate::scan::{NotANode, scan};
+use std::cmp::Ordering;
+use std::marker::Model;
+
+/// A node with room for one entry more than a page has.
+#[derive(Drop)]
+pub struct NodeBuf {
+    bytes: [u8; 5200],
+    /// Where the first k entries end.
+    ends: [u16; 1366],
+    count: usize,
+    level: u8,
+}
+
+impl Model for NodeBuf {
+    ghost use Rattle.page_node.specs.Node.{Node};
+    ghost use Rattle.page_node.specs.Held.{node_code, held_node, IsHeld};
+
+    ghost Value = { Node };
+
+    ghost coded = { node_code };
+
+    ghost view = { λ b. held_node b.level b.count b.bytes };
+
+    ghost invariant = { λ b. IsHeld b.level b.count b.ends b.bytes };
+}
+
+impl NodeBuf {
+    ghost use Rattle.std.specs.Prelude.{◌≡◌, ◌≤◌, ◌<◌, ◌+◌, ◌*◌, ◌↔◌, ℕ, List, [], ◌++◌, length, take, insert, remove, slice_set, IsTrue, OnOk, OnErr, IfOk, IfErr, MatchResult};
+    ghost use Rattle.page_node.specs.Entries.{key_at, value_at, child_in, size_of};
+    ghost use Rattle.page_node.specs.Node.{Node, IsNode, IsShape, Fits, bytes_of};
+    ghost use Rattle.page_node.specs.Places.{Rises, IsFound, IsGap};
+
+    /// A leaf without entries.
+    pub fn empty() -> Self
+        ensures { result ≡ record { level = 0; entries = [] } }
+    {
+        NodeBuf {
+            bytes: [0; 5200],
+            ends: [4; 1366],
+            count: 0,
+            level: 0,
+        }
+    }
+
+    /// Makes it a node of a level, without entries.
+    pub fn clear(&mut self, level: u8)
+        requires { level ≤ 5 }
+        ensures { self.new ≡ record { level = level; entries = [] } }
+    {
+        self.level = level;
+        self.count = 0;
+    }
+
+    /// Reads the node that a page stands for. Where it stands for none, the buffer is a leaf without entries.
+    pub fn read(&mut self, page: &[u8; 4096]) -> Result<(), NotANode>
+        ensures read { OnOk result (IsNode page.now self.new) }
+        ensures refused { OnErr result ((node : Node) → IsNode page.now node → ⊥) }
+        ensures nothing { OnErr result (self.new ≡ record { level = 0; entries = [] }) }
+    {
+        match scan(page, &mut self.ends) {
+            Some(count) => {
+                self.bytes[..4096].copy_from_slice(page);
+                self.count = count;
+                self.level = page[0];
+                Ok(())
+            }
+            None => {
+                self.level = 0;
+                self.count = 0;
+                Err(NotANode)
+            }
+        }
+    }
+
+    /// Its level, 0 for a leaf.
+    pub fn level(&self) -> u8
+        ensures level { result ≡ self.now.level }
+        ensures shape { IsShape self.now }
+    {
+        self.level
+    }
+
+    /// How many entries it has.
+    pub fn len(&self) -> usize
+        ensures len { result ≡ length self.now.entries }
+        ensures shape { IsShape self.now }
+    {
+        self.count
+    }
+
+    /// Whether it has no entries.
+    pub fn is_empty(&self) -> bool
+        ensures { IsTrue result ↔ (self.now.entries ≡ []) }
+    {
+        self.count == 0
+    }
+
+    /// How many bytes its entries take. A page has room for 4,092.
+    pub fn size(&self) -> usize
+        ensures size { result ≡ size_of self.now.entries }
+        ensures room { result ≤ 5191 }
+    {
+        self.ends[self.count] as usize - 4
+    }
+
+    /// Whether its entries have no room in a page.
+    pub fn overflows(&self) -> bool
+        ensures { IsTrue result ↔ (4092 < size_of self.now.entries) }
+    {
+        self.size() > 4092
+    }
+
+    /// Finds a key where keys rise: its place, or that which it would have.
+    pub fn find(&self, key: &[u8]) -> Result<usize, usize>
+        ensures within { MatchResult result (λ i. i < length self.now.entries) (λ i. i ≤ length self.now.entries) }
+        ensures here { IfOk result (λ i. key_at self.now.entries i ≡ key.now) }
+        ensures place { Rises self.now.entries → MatchResult result (λ i. IsFound key.now self.now.entries i) (λ i. IsGap key.now self.now.entries i) }
+    {
+        let mut low = 0;
+        let mut high = self.count;
+        while low < high {
+            let middle = low + (high - low) / 2;
+            match self.key(middle).cmp(key) {
+                Ordering::Less => low = middle + 1,
+                Ordering::Greater => high = middle,
+                Ordering::Equal => return Ok(middle),
+            }
+        }
+        Err(low)
+    }
+
+    /// The key of an entry.
+    pub fn key(&self, i: usize) -> &[u8]
+        requires { i < length self.now.entries }
+        ensures key { result.now ≡ key_at self.now.entries i }
+        ensures short { length result.now ≤ 72 }
+    {
+        key_in(&self.bytes, self.ends[i] as usize)
+    }
+
+    /// The value of an entry.
+    pub fn value(&self, i: usize) -> &[u8]
+        requires { i < length self.now.entries }
+        ensures value { result.now ≡ value_at self.now.entries i }
+        ensures short { length result.now ≤ 1024 }
+        ensures child { 0 < self.now.level → length result.now ≡ 4 }
+    {
+        value_in(&self.bytes, self.ends[i] as usize)
+    }
+
+    /// The page of a child.
+    pub fn child(&self, i: usize) -> u32
+        requires inner { 0 < self.now.level }
+        requires within { i < length self.now.entries }
+        ensures { result ≡ child_in (value_at self.now.entries i) }
+    {
+        let value = self.value(i);
+        u32::from_be_bytes([value[0], value[1], value[2], value[3]])
+    }
+
+    /// Puts an entry before the one at a place. The node may then overflow, and it is to be split.
+    pub fn insert(&mut self, i: usize, key: &[u8], value: &[u8])
+        requires fits { Fits self.old }
+        requires within { i ≤ length self.old.entries }
+        requires key { length key.now ≤ 72 }
+        requires value { length value.now ≤ 1024 }
+        requires child { 0 < self.old.level → length value.now ≡ 4 }
+        ensures { self.new ≡ record self.old { entries = insert self.old.entries i (key.now, value.now) } }
+    {
+        let used = self.ends[self.count] as usize;
+        let at = self.ends[i] as usize;
+        let size = 3 + key.len() + value.len();
+        move_bytes(&mut self.bytes, at, used, at + size);
+        put_entry(&mut self.bytes, at, key, value);
+        insert_end(&mut self.ends, i, self.count, size as u16);
+        self.count += 1;
+    }
+
+    /// Replaces the value of an entry. The node may then overflow, and it is to be split.
+    pub fn replace(&mut self, i: usize, value: &[u8])
+        requires fits { Fits self.old }
+        requires within { i < length self.old.entries }
+        requires value { length value.now ≤ 1024 }
+        requires child { 0 < self.old.level → length value.now ≡ 4 }
+        ensures { self.new ≡ record self.old { entries = slice_set self.old.entries i (key_at self.old.entries i, value.now) } }
+    {
+        let mut key = [0; 72];
+        let length = self.copy_key(i, &mut key);
+        self.set_entry(i, &key[..length], value);
+    }
+
+    /// Copies the key of an entry, and tells its length.
+    fn copy_key(&self, i: usize, key: &mut [u8; 72]) -> usize
+        requires { i < length self.now.entries }
+        ensures short { result ≤ 72 }
+        ensures key { take result key.new ≡ key_at self.now.entries i }
+    {
+        let held = self.key(i);
+        key[..held.len()].copy_from_slice(held);
+        held.len()
+    }
+
+    /// Replaces an entry.
+    fn set_entry(&mut self, i: usize, key: &[u8], value: &[u8])
+        requires fits { Fits self.old }
+        requires within { i < length self.old.entries }
+        requires key { length key.now ≤ 72 }
+        requires value { length value.now ≤ 1024 }
+        requires child { 0 < self.old.level → length value.now ≡ 4 }
+        ensures { self.new ≡ record self.old { entries = slice_set self.old.entries i (key.now, value.now) } }
+    {
+        let used = self.ends[self.count] as usize;
+        let at = self.ends[i] as usize;
+        let end = self.ends[i + 1] as usize;
+        let new_end = at + 3 + key.len() + value.len();
+        move_bytes(&mut self.bytes, end, used, new_end);
+        put_entry(&mut self.bytes, at, key, value);
+        resize_end(
+            &mut self.ends,
+            i,
+            self.count,
+            (end - at) as u16,
+            (new_end - at) as u16,
+        );
+    }
+
+    /// Removes an entry.
+    pub fn remove(&mut self, i: usize)
+        requires { i < length self.old.entries }
+        ensures { self.new ≡ record self.old { entries = remove self.old.entries i } }
+    {
+        let used = self.ends[self.count] as usize;
+        let at = self.ends[i] as usize;
+        let end = self.ends[i + 1] as usize;
+        move_bytes(&mut self.bytes, end, used, at);
+        remove_end(&mut self.ends, i, self.count, (end - at) as u16);
+        self.count -= 1;
+    }
+
+    /// Moves the upper entries to another buffer, so that both fit and neither is empty. Where the entry that was added is the
+    /// last, it moves alone, and rising keys fill their pages. Else the node is cut at the first end at or past half its bytes.
+    pub fn split(&mut self, added: usize, right: &mut NodeBuf)
+        requires { 2198 < size_of self.old.entries }
+        ensures entries { self.new.entries ++ right.new.entries ≡ self.old.entries }
+        ensures level { (self.new.level ≡ self.old.level) × (right.new.level ≡ self.old.level) }
+        ensures some { (0 < length self.new.entries) × (0 < length right.new.entries) }
+        ensures fits { Fits self.new × Fits right.new }
+        ensures last { added + 1 ≡ length self.old.entries → size_of (take added self.old.entries) ≤ 4092 → self.new.entries ≡ take added self.old.entries }
+        ensures half { (added + 1 ≡ length self.old.entries → 4092 < size_of (take added self.old.entries)) → (size_of self.old.entries ≤ 2 * size_of self.new.entries) × (2 * size_of self.new.entries < size_of self.old.entries + 2198) }
+    {
+        let used = self.ends[self.count] as usize;
+        let cut = cut_at(&self.ends, self.count, added);
+        let start = self.ends[cut] as usize;
+        copy_body(&self.bytes, start, used, &mut right.bytes);
+        copy_ends(&self.ends, cut, self.count, &mut right.ends);
+        right.count = self.count - cut;
+        right.level = self.level;
+        self.count = cut;
+    }
+
+    /// Writes the page that stands for the node.
+    pub fn write(&self, page: &mut [u8; 4096])
+        requires { Fits self.now }
+        ensures bytes { page.new ≡ bytes_of self.now }
+        ensures node { IsNode page.new self.now }
+    {
+        let used = self.ends[self.count] as usize;
+        page[0] = self.level;
+        page[1] = 0;
+        page[2] = (self.count / 256) as u8;
+        page[3] = (self.count % 256) as u8;
+        put_body(page, &self.bytes, used);
+    }
+}

@@ -1,0 +1,36 @@
+//! A page's entries, read in one pass.
+ghost use Rattle.std.specs.Prelude.{◌≡◌, ◌≤◌, IfSome, IfNone};
+ghost use Rattle.std.proofs.Common.{get_or};
+ghost use Rattle.page_node.specs.Node.{Node, IsNode, count_in};
+ghost use Rattle.page_node.specs.Held.{IsHeld};
+
+use crate::entry::bounds_in;
+
+/// The bytes of a page stand for no node.
+#[derive(Clone, Copy, Debug, Drop, PartialEq, Eq)]
+pub struct NotANode;
+
+/// How many entries the page has, and where they end, if it stands for a node.
+pub fn scan(page: &[u8; 4096], ends: &mut [u16; 1366]) -> Option<usize>
+    requires { get_or ends.old 0 0 ≡ 4 }
+    ensures first { get_or ends.new 0 0 ≡ 4 }
+    ensures count { IfSome result (λ count. count ≡ count_in page.now) }
+    ensures held { IfSome result (λ count. IsHeld (get_or page.now 0 0) count ends.new page.now) }
+    ensures none { IfNone result ((node : Node) → IsNode page.now node → ⊥) }
+{
+    let level = page[0];
+    let count = 256 * page[2] as usize + page[3] as usize;
+    if level > 5 || count > 1364 {
+        return None;
+    }
+    let mut at = 4;
+    for k in 0..count {
+        let bounds = bounds_in(page, at)?;
+        if level > 0 && bounds.end - bounds.value != 4 {
+            return None;
+        }
+        at = bounds.end;
+        ends[k + 1] = at as u16;
+    }
+    Some(count)
+}

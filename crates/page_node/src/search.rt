@@ -1,0 +1,116 @@
+//! Keys searched in a page where they lie.
+ghost use Rattle.std.specs.Prelude.{◌≡◌, ◌≢◌, ◌<◌, ◌≤◌, ◌+◌, ◌-◌, ◌⊎◌, take, drop, IfOk, OnErr};
+ghost use Rattle.std.specs.Option.{option_copied, option_map};
+ghost use Rattle.std.specs.FinMap.{find};
+ghost use Rattle.std.specs.Ordering.{is_gt};
+ghost use Rattle.std.proofs.Common.{get_or};
+ghost use Rattle.page_node.specs.Entries.{child_in};
+ghost use Rattle.page_node.specs.Node.{Node, IsNode, count_in};
+ghost use Rattle.page_node.specs.Places.{key_cmp, Rises, floor};
+
+use crate::entry::bounds_in;
+use crate::scan::NotANode;
+use std::cmp::Ordering;
+
+/// The level that a page says, 0 for a leaf.
+pub fn level_of(page: &[u8; 4096]) -> u8
+    ensures { (node : Node) → IsNode page.now node → result ≡ node.level }
+{
+    page[0]
+}
+
+/// How many entries a page says that it has.
+fn count_of(page: &[u8; 4096]) -> usize
+    ensures { result ≡ count_in page.now }
+{
+    256 * page[2] as usize + page[3] as usize
+}
+
+/// A part of a page.
+fn part(page: &[u8; 4096], from: usize, end: usize) -> &[u8]
+    requires order { from ≤ end }
+    requires end { end ≤ 4096 }
+    ensures { result.now ≡ take (end - from) (drop from page.now) }
+{
+    &page[from..end]
+}
+
+/// Compares a part of a page with a key.
+fn compare_part(page: &[u8; 4096], from: usize, end: usize, key: &[u8]) -> Ordering
+    requires order { from ≤ end }
+    requires end { end ≤ 4096 }
+    ensures { result ≡ key_cmp (take (end - from) (drop from page.now)) key.now }
+{
+    part(page, from, end).cmp(key)
+}
+
+/// Whether a part of a page is above a key.
+fn is_above(page: &[u8; 4096], from: usize, end: usize, key: &[u8]) -> bool
+    requires order { from ≤ end }
+    requires end { end ≤ 4096 }
+    ensures { result ≡ is_gt (key_cmp (take (end - from) (drop from page.now)) key.now) }
+{
+    compare_part(page, from, end, key).is_gt()
+}
+
+/// The value of a key in a page whose keys rise, if the key is there.
+pub fn value_for<'a>(page: &'a [u8; 4096], key: &[u8]) -> Result<Option<&'a [u8]>, NotANode>
+    ensures value { (node : Node) → IsNode page.now node → Rises node.entries → IfOk result (λ found. option_copied found ≡ find key_cmp key.now node.entries) }
+    ensures err { OnErr result ((node : Node) → IsNode page.now node → ⊥) }
+{
+    let count = count_of(page);
+    let mut at = 4;
+    for k in 0..count {
+        let bounds = match bounds_in(page, at) {
+            None => return Err(NotANode),
+            Some(bounds) => bounds,
+        };
+        match compare_part(page, at + 3, bounds.value, key) {
+            Ordering::Less => at = bounds.end,
+            Ordering::Greater => return Ok(None),
+            Ordering::Equal => return Ok(Some(part(page, bounds.value, bounds.end))),
+        }
+    }
+    Ok(None)
+}
+
+/// The number in a value, which begins and ends at these places, if it is that of a page.
+fn child_at(page: &[u8; 4096], value: usize, end: usize) -> Result<u32, NotANode>
+    requires end { end ≤ 4096 }
+    requires value { value ≤ 4096 }
+    ensures ok { IfOk result (λ child. (0 < value) × (value + 4 ≡ end) × (child ≡ child_in (take 4 (drop value page.now)))) }
+    ensures err { OnErr result (value ≡ 0 ⊎ value + 4 ≢ end) }
+{
+    if value == 0 || value + 4 != end {
+        return Err(NotANode);
+    }
+    Ok(u32::from_be_bytes([
+        page[value],
+        page[value + 1],
+        page[value + 2],
+        page[value + 3],
+    ]))
+}
+
+/// The child that a key belongs to, in a page whose keys rise: that of the last key that isn't above it. The first key is not
+/// looked at.
+pub fn child_for(page: &[u8; 4096], key: &[u8]) -> Result<u32, NotANode>
+    ensures child { (node : Node) → IsNode page.now node → Rises node.entries → IfOk result (λ child. option_map child_in (floor key.now node.entries) ≡ Some child) }
+    ensures err { OnErr result ((node : Node) → IsNode page.now node → 0 < node.level → floor key.now node.entries ≡ None) }
+{
+    let count = count_of(page);
+    let mut value = 0;
+    let mut at = 4;
+    for k in 0..count {
+        let bounds = match bounds_in(page, at) {
+            None => return Err(NotANode),
+            Some(bounds) => bounds,
+        };
+        if k > 0 && is_above(page, at + 3, bounds.value, key) {
+            return child_at(page, value, at);
+        }
+        value = bounds.value;
+        at = bounds.end;
+    }
+    child_at(page, value, at)
+}

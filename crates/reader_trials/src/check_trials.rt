@@ -1,0 +1,440 @@
+//! `check` over the sample's files: whole, with one fault each, cut short, and with a read or a write that fails.
+use crate::lines::put_line;
+use crate::page::{NEVER, Page, ROOM};
+use crate::pieces::Pieces;
+use byte_stream::sink::WriteSink;
+use byte_stream::source::ReadSource;
+use check_command::census::CensusFiles;
+use check_command::check::check;
+use check_command::fault::OpenFault;
+use check_command::status::Status;
+use std::alloc::{AllocError, Global};
+use std::test::Fail;
+
+/// How the sample's files are made.
+#[derive(Clone, Copy)]
+pub struct Shape {
+    /// A line of the header that is left out, 0 for none.
+    pub header_without: usize,
+    /// How many fields line 2 of the header has.
+    pub second_fields: usize,
+    /// Field 88 of the header's blocks.
+    pub mark: &'static [u8],
+    /// The people of the state record.
+    pub state_people: &'static [u8],
+    /// The people of the blocks.
+    pub people: [&'static [u8]; 4],
+    /// A line of segment 2 that is left out, 0 for none.
+    pub segment_without: usize,
+    pub end: &'static [u8],
+}
+
+pub const SAMPLE: Shape = Shape {
+    header_without: 0,
+    second_fields: 97,
+    mark: b"",
+    state_people: b"2000",
+    people: [b"505", b"505", b"495", b"495"],
+    segment_without: 0,
+    end: b"\n",
+};
+
+/// The fields of the header that have a value.
+const PLACES: [usize; 10] = [3, 5, 8, 13, 15, 30, 31, 33, 35, 88];
+
+const HEADER: [[&[u8]; 9]; 5] = [
+    [b"040", b"00", b"0000001", b"19", b"", b"", b"", b"", b""],
+    [
+        b"750", b"00", b"0000002", b"19", b"001", b"00100", b"C1", b"000100", b"1001",
+    ],
+    [
+        b"750", b"00", b"0000003", b"19", b"001", b"00100", b"C1", b"000100", b"1002",
+    ],
+    [
+        b"750", b"00", b"0000004", b"19", b"003", b"00100", b"C1", b"000100", b"1001",
+    ],
+    [
+        b"750", b"00", b"0000005", b"19", b"003", b"00300", b"U1", b"000100", b"1002",
+    ],
+];
+
+const NUMBERS: [&[u8]; 5] = [b"0000001", b"0000002", b"0000003", b"0000004", b"0000005"];
+
+const COUNTS: &[u8] = b"blocks 4\ncounties 2\npopulation 2000\ncounty 001 1010\ncounty 003 990\n";
+
+fn put_header_line(
+    alloc: Global,
+    text: &mut Vec<u8>,
+    shape: &Shape,
+    number: usize,
+    line: &[&[u8]],
+) -> Result<(), AllocError> {
+    let mut values: Vec<(usize, &[u8])> = Vec::new(alloc);
+    for (place, value) in PLACES.iter().zip(line) {
+        values.push((*place, *value))?;
+    }
+    values.push((88, shape.mark))?;
+    let fields = if number == 2 { shape.second_fields } else { 97 };
+    put_line(text, fields, b"", values.as_slice(), shape.end)
+}
+
+fn header(alloc: Global, shape: &Shape) -> Result<Vec<u8>, AllocError> {
+    let mut text = Vec::new(alloc);
+    let mut number = 0usize;
+    for line in &HEADER {
+        number = number.saturating_add(1);
+        if number != shape.header_without {
+            put_header_line(alloc, &mut text, shape, number, line.as_slice())?;
+        }
+    }
+    Ok(text)
+}
+
+/// A segment of so many fields, with people in field 6 of segment 1.
+fn segment(
+    alloc: Global,
+    shape: &Shape,
+    part: usize,
+    fields: usize,
+) -> Result<Vec<u8>, AllocError> {
+    let mut text = Vec::new(alloc);
+    let mut line = 0usize;
+    let [a, b, c, d] = shape.people;
+    for (number, people) in NUMBERS.iter().zip(&[shape.state_people, a, b, c, d]) {
+        line = line.saturating_add(1);
+        let people = if part == 1 { *people } else { b"0" };
+        if part != 2 || line != shape.segment_without {
+            put_line(
+                &mut text,
+                fields,
+                b"0",
+                &[(5, *number), (6, people)],
+                shape.end,
+            )?;
+        }
+    }
+    Ok(text)
+}
+
+/// What `check` is given.
+#[derive(Clone, Copy)]
+struct Given<'a> {
+    geo: Result<&'a [u8], OpenFault>,
+    seg1: Result<&'a [u8], OpenFault>,
+    seg2: Result<&'a [u8], OpenFault>,
+    seg3: Result<&'a [u8], OpenFault>,
+    /// How many bytes a read gives.
+    piece: usize,
+    /// The call of reading the header that fails.
+    fails_at: u64,
+    /// How many bytes can be written.
+    room: usize,
+}
+
+pub fn reader(
+    opened: Result<&[u8], OpenFault>,
+    piece: usize,
+    fails_at: u64,
+) -> Result<ReadSource<Pieces<'_>>, OpenFault> {
+    let bytes = opened?;
+    let mut pieces = Pieces::of(bytes, piece);
+    pieces.fails = fails_at.saturating_add(1);
+    Ok(ReadSource::new(pieces))
+}
+
+/// What it came to.
+#[derive(Drop)]
+pub struct Ended {
+    pub status: Status,
+    pub output: Vec<u8>,
+    pub errors: Vec<u8>,
+}
+
+pub fn end_of(status: Status, writer: Page, errors: Page) -> Ended {
+    let Page {
+        bytes: output,
+        room: _,
+    } = writer;
+    let Page {
+        bytes: errors,
+        room: _,
+    } = errors;
+    Ended {
+        status,
+        output,
+        errors,
+    }
+}
+
+fn run(alloc: Global, given: Given<'_>) -> Ended {
+    let mut files = CensusFiles {
+        geo: reader(given.geo, given.piece, given.fails_at),
+        seg1: reader(given.seg1, given.piece, NEVER),
+        seg2: reader(given.seg2, given.piece, NEVER),
+        seg3: reader(given.seg3, given.piece, NEVER),
+    };
+    let mut writer = WriteSink::new(Page {
+        bytes: Vec::new(alloc),
+        room: given.room,
+    });
+    let mut errors = WriteSink::new(Page {
+        bytes: Vec::new(alloc),
+        room: ROOM,
+    });
+    let status = check(alloc, &mut files, &mut writer, &mut errors);
+    end_of(status, writer.into_inner(), errors.into_inner())
+}
+
+/// The sample's files, made in that shape.
+#[derive(Drop)]
+pub struct Files {
+    geo: Vec<u8>,
+    seg1: Vec<u8>,
+    seg2: Vec<u8>,
+    seg3: Vec<u8>,
+}
+
+impl Files {
+    pub fn make(alloc: Global, shape: &Shape) -> Result<Files, AllocError> {
+        Ok(Files {
+            geo: header(alloc, shape)?,
+            seg1: segment(alloc, shape, 1, 149)?,
+            seg2: segment(alloc, shape, 2, 152)?,
+            seg3: segment(alloc, shape, 3, 15)?,
+        })
+    }
+
+    pub fn readers(&self) -> CensusFiles<ReadSource<Pieces<'_>>> {
+        CensusFiles {
+            geo: reader(Ok(self.geo.as_slice()), 1000, NEVER),
+            seg1: reader(Ok(self.seg1.as_slice()), 1000, NEVER),
+            seg2: reader(Ok(self.seg2.as_slice()), 1000, NEVER),
+            seg3: reader(Ok(self.seg3.as_slice()), 1000, NEVER),
+        }
+    }
+
+    fn given(&self) -> Given<'_> {
+        Given {
+            geo: Ok(self.geo.as_slice()),
+            seg1: Ok(self.seg1.as_slice()),
+            seg2: Ok(self.seg2.as_slice()),
+            seg3: Ok(self.seg3.as_slice()),
+            piece: 1000,
+            fails_at: NEVER,
+            room: ROOM,
+        }
+    }
+}
+
+#[test]
+fn the_sample_is_counted(rt: HostRuntime) -> Result<(), Fail> {
+    let alloc = rt.alloc();
+    let marked = Shape {
+        mark: b"\xf1",
+        ..SAMPLE
+    };
+    let with_returns = Shape {
+        end: b"\r\n",
+        ..SAMPLE
+    };
+    for shape in [SAMPLE, marked, with_returns] {
+        let files = Files::make(alloc, &shape)?;
+        for piece in [1, 7, 1000] {
+            let ended = run(
+                alloc,
+                Given {
+                    piece,
+                    ..files.given()
+                },
+            );
+            assert_eq!(rt; ended.output.as_slice(), COUNTS);
+            assert!(rt; ended.errors.is_empty());
+            assert!(rt; ended.status == Status::Done);
+        }
+    }
+    Ok(())
+}
+
+#[test]
+fn the_first_fault_is_told(rt: HostRuntime) -> Result<(), Fail> {
+    let alloc = rt.alloc();
+    let faults: [(Shape, &[u8]); 4] = [
+        (
+            Shape {
+                second_fields: 96,
+                ..SAMPLE
+            },
+            b"plandesk: geo: G1 line 2\n",
+        ),
+        (
+            Shape {
+                segment_without: 3,
+                ..SAMPLE
+            },
+            b"plandesk: join: S7 3 2\n",
+        ),
+        (
+            Shape {
+                state_people: b"2001",
+                ..SAMPLE
+            },
+            b"plandesk: join: S8 2001 2000\n",
+        ),
+        (
+            Shape {
+                header_without: 5,
+                ..SAMPLE
+            },
+            b"plandesk: join: S8 2000 1505\n",
+        ),
+    ];
+    for (shape, told) in faults {
+        let files = Files::make(alloc, &shape)?;
+        let ended = run(alloc, files.given());
+        assert_eq!(rt; ended.errors.as_slice(), told);
+        assert!(rt; ended.output.is_empty());
+        assert!(rt; ended.status == Status::Refused);
+    }
+    Ok(())
+}
+
+#[test]
+fn files_that_are_not_opened_are_told(rt: HostRuntime) -> Result<(), Fail> {
+    let alloc = rt.alloc();
+    let files = Files::make(alloc, &SAMPLE)?;
+    let given = files.given();
+    let none = Err(OpenFault::Unreadable);
+    let cases: [(Given<'_>, &[u8], Status); 6] = [
+        (
+            Given {
+                geo: none,
+                seg2: none,
+                ..given
+            },
+            b"plandesk: geo: Unreadable\n",
+            Status::Refused,
+        ),
+        (
+            Given {
+                seg1: none,
+                ..given
+            },
+            b"plandesk: seg1: Unreadable\n",
+            Status::Refused,
+        ),
+        (
+            Given {
+                seg2: none,
+                ..given
+            },
+            b"plandesk: seg2: Unreadable\n",
+            Status::Refused,
+        ),
+        (
+            Given {
+                seg3: none,
+                ..given
+            },
+            b"plandesk: seg3: Unreadable\n",
+            Status::Refused,
+        ),
+        (
+            Given {
+                geo: Ok(b"|"),
+                seg3: none,
+                ..given
+            },
+            b"plandesk: geo: G1 line 1\n",
+            Status::Refused,
+        ),
+        (
+            Given {
+                seg2: Err(OpenFault::Memory),
+                ..given
+            },
+            b"plandesk: seg2: Memory\n",
+            Status::Memory,
+        ),
+    ];
+    for (given, told, status) in cases {
+        let ended = run(alloc, given);
+        assert_eq!(rt; ended.errors.as_slice(), told);
+        assert!(rt; ended.output.is_empty());
+        assert!(rt; ended.status == status);
+    }
+    Ok(())
+}
+
+#[test]
+fn a_line_is_cut_anywhere(rt: HostRuntime) -> Result<(), Fail> {
+    let alloc = rt.alloc();
+    let files = Files::make(alloc, &SAMPLE)?;
+    let short = Files::make(
+        alloc,
+        &Shape {
+            header_without: 5,
+            ..SAMPLE
+        },
+    )?;
+    let whole = files.geo.as_slice();
+    let start = short.geo.len();
+    for cut in start..=whole.len() {
+        let Some(front) = whole.get(..cut) else {
+            return Ok(());
+        };
+        let ended = run(
+            alloc,
+            Given {
+                geo: Ok(front),
+                ..files.given()
+            },
+        );
+        let told = if cut == start {
+            b"plandesk: join: S8 2000 1505\n".as_slice()
+        } else if cut.saturating_add(1) >= whole.len() {
+            b"".as_slice()
+        } else {
+            b"plandesk: geo: G1 line 5\n".as_slice()
+        };
+        assert_eq!(rt; ended.errors.as_slice(), told);
+    }
+    Ok(())
+}
+
+#[test]
+fn reads_and_writes_fail(rt: HostRuntime) -> Result<(), Fail> {
+    let alloc = rt.alloc();
+    let files = Files::make(alloc, &SAMPLE)?;
+    for fails_at in 0..3 {
+        let ended = run(
+            alloc,
+            Given {
+                fails_at,
+                ..files.given()
+            },
+        );
+        let told = if fails_at == 0 {
+            b"plandesk: geo: G8 line 1\n".as_slice()
+        } else {
+            b"plandesk: geo: G8 line 6\n".as_slice()
+        };
+        let told = if fails_at == 2 { b"".as_slice() } else { told };
+        assert_eq!(rt; ended.errors.as_slice(), told);
+    }
+    for room in 0..COUNTS.len() {
+        let ended = run(
+            alloc,
+            Given {
+                room,
+                ..files.given()
+            },
+        );
+        assert_eq!(rt; ended.output.as_slice(), &COUNTS[..room]);
+        assert_eq!(rt;
+            ended.errors.as_slice(),
+            b"plandesk: check: WriteFault\n".as_slice()
+        );
+        assert!(rt; ended.status == Status::Stream);
+    }
+    Ok(())
+}

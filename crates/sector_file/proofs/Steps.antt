@@ -1,0 +1,60 @@
+use Rattle.std.proofs.Common.{◌≡◌, ◌≢◌, ◌<◌, ◌+◌, ◌∙◌, ℕ, zero, suc, Bool, length, cond, get_or, true, false, List, [], ◌∷◌, refl, ap, subst, inl, inr, nat_eq, arith, IsTrue, ◌&&◌}
+use Rattle.std.proofs.lemmas.Bool.{cases_eq}
+use Rattle.std.proofs.lemmas.Bool.Decides.{nat_tests}
+use Rattle.sector_file.specs.Told.{Told, same_bytes, held_from, after_opening, step, after_read, after_fault, after_write, after_torn}
+
+not_true : IsTrue false → ⊥
+not_true is = cc
+
+pub bytes_same : (h : Bool) (xs ys : List ℕ) → IsTrue (h && same_bytes xs ys) → xs ≡ ys
+bytes_same false xs ys is = absurd (not_true is)
+bytes_same true [] [] is = refl
+bytes_same true [] (y ∷ ys) is = absurd (not_true is)
+bytes_same true (x ∷ xs) [] is = absurd (not_true is)
+bytes_same true (x ∷ xs) (y ∷ ys) is = elim (cases_eq x y) [
+  | inl e ↦
+      let yes : nat_eq x y ≡ true = grind (arith, nat_tests) in
+      let rest = bytes_same true xs ys (subst (λ b. IsTrue (b && same_bytes xs ys)) yes is) in
+      λ i. e i ∷ rest i
+  | inr ne ↦
+      let no : nat_eq x y ≡ false = grind (arith, nat_tests) in
+      absurd (not_true (subst (λ b. IsTrue (b && same_bytes xs ys)) no is))
+]
+
+module _ (sector : ℕ → List ℕ) where
+  pub length_held : (from count : ℕ) → length (held_from sector from count) ≡ count
+  length_held from zero = refl
+  length_held from (suc n) = ap suc (length_held (from + 1) n)
+
+  held_at : (from count i : ℕ) → i < count → get_or (held_from sector from count) i [] ≡ sector (from + i)
+  held_at from zero i less = absurd (omega (arith, less))
+  held_at from (suc n) zero less =
+      let e : from ≡ from + 0 = omega arith in
+      ap sector e
+  held_at from (suc n) (suc i) less =
+      let e : from + 1 + i ≡ from + suc i = omega arith in
+      held_at (from + 1) n i (omega (arith, less)) ∙ ap sector e
+
+  pub first_at : (t : Told) (count : ℕ) → t ≡ after_opening sector count → (i : ℕ) → i < count → get_or t.0 i [] ≡ sector i
+  first_at t count is i less =
+      let e : 0 + i ≡ i = omega arith in
+      ap (λ (u : Told). get_or u.0 i []) is ∙ held_at 0 count i less ∙ ap sector e
+
+is_4096 : (n : ℕ) → n ≡ 4096 → nat_eq n 4096 ≡ true
+is_4096 n is = grind (arith, nat_tests)
+
+not_4096 : (n : ℕ) → n ≢ 4096 → nat_eq n 4096 ≡ false
+not_4096 n is = grind (arith, nat_tests)
+
+module _ (sector : ℕ → List ℕ) (t : Told) (i n : ℕ) (bytes : List ℕ) where
+  pub whole_read : n ≡ 4096 → step sector t (0 ∷ i ∷ n ∷ []) bytes ≡ after_read t i bytes
+  whole_read is = ap (λ (b : Bool). cond b (after_read t i bytes) (after_fault t)) (is_4096 n is)
+
+  pub short_read : n ≢ 4096 → step sector t (0 ∷ i ∷ n ∷ []) bytes ≡ after_fault t
+  short_read is = ap (λ (b : Bool). cond b (after_read t i bytes) (after_fault t)) (not_4096 n is)
+
+  pub whole_write : n ≡ 4096 → step sector t (1 ∷ i ∷ n ∷ []) bytes ≡ after_write t i bytes
+  whole_write is = ap (λ (b : Bool). cond b (after_write t i bytes) (after_torn t i)) (is_4096 n is)
+
+  pub torn_write : n ≢ 4096 → step sector t (1 ∷ i ∷ n ∷ []) bytes ≡ after_torn t i
+  torn_write is = ap (λ (b : Bool). cond b (after_write t i bytes) (after_torn t i)) (not_4096 n is)

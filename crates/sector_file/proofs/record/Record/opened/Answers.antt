@@ -1,0 +1,7 @@
+use Rattle.std.proofs.Common.{◌∙◌, length, ap}
+use Rattle.sector_file.specs.Told.{Told}
+use Rattle.sector_file.proofs.Steps.{length_held}
+use Rattle.sector_file.proofs.record.Record.opened.Goals as goal
+
+pub returns-clause-count : goal.returns-clause-count
+returns-clause-count g c = ap (λ (t : Told). length t.0) c.tell.ensures ∙ length_held g.S.Contents.sector 0 c.args.count

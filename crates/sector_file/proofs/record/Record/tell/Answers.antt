@@ -1,0 +1,6 @@
+use Rattle.std.proofs.Common.{ap}
+use Rattle.sector_file.specs.Told.{replay}
+use Rattle.sector_file.proofs.record.Record.tell.Goals as goal
+
+pub returns : goal.returns
+returns g c = ap (replay g.S.Contents.sector) c.note.ensures

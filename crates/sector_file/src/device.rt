@@ -1,0 +1,157 @@
+//! A file as a device.
+ghost use Rattle.std.specs.Prelude.{◌≡◌, ◌<◌, ◌*◌, ◌^◌, length, IfErr};
+ghost use Rattle.sector_file.specs.Told.{replay};
+
+use crate::contents::Contents;
+use crate::error::{FileError, of_making, of_opening};
+use crate::record::Record;
+use sector_device::{DeviceFault, SectorDevice};
+use std::fs::{File, OpenOptions};
+use std::io;
+use std::marker::PhantomData;
+use std::os::unix::fs::FileExt;
+
+/// A device whose sectors lie in a file of the operating system, one behind the other. `S` says what they held as the file
+/// was opened.
+#[derive(Drop)]
+pub struct FileDevice<S: Contents> {
+    file: File,
+    count: u32,
+    /// The bytes that the file has, as the system told.
+    size: u64,
+    log: Record,
+    start: PhantomData<S>,
+    ghost few: { length (replay S.Contents.sector log.calls).0 < 2 ^ 32 },
+    ghost counted: { length (replay S.Contents.sector log.calls).0 ≡ count },
+    ghost whole: { size ≡ 4096 * count },
+}
+
+/// How many bytes went or came, and none at a failure.
+fn moved(answer: io::Result<usize>) -> usize {
+    match answer {
+        Ok(n) => n,
+        Err(_) => 0,
+    }
+}
+
+/// The size that the system tells of an open file.
+fn size_of(file: &File) -> Result<u64, FileError>
+    ensures { IfErr result (λ e. e ≡ FileError.DeviceFault) }
+{
+    match file.metadata() {
+        Ok(found) => Ok(found.len()),
+        Err(_) => Err(FileError::DeviceFault),
+    }
+}
+
+impl<S: Contents> FileDevice<S> {
+    ghost use Rattle.std.specs.Prelude.{◌≡◌, ◌≢◌, ◌<◌, ◌*◌, ℕ, IfOk, IfErr};
+    ghost use Rattle.sector_file.specs.Device.{file_disk};
+
+    /// The device of an open file of this size.
+    fn of_size(file: File, size: u64, count: u32) -> Result<FileDevice<S>, FileError>
+        ensures ok { IfOk result (λ device. (size ≡ 4096 * count) × ((file_disk device).sectors ≡ count)) }
+        ensures held { IfOk result (λ device. (i : ℕ) → i < count → (file_disk device).reads i ≡ S.Contents.sector i) }
+        ensures honest { IfOk result (λ device. (file_disk device).is_honest) }
+        ensures err { IfErr result (λ e. (e ≡ FileError.WrongSize) × (size ≢ 4096 * count)) }
+    {
+        if size != 4096 * count as u64 {
+            return Err(FileError::WrongSize);
+        }
+        Ok(FileDevice {
+            file,
+            count,
+            size,
+            log: Record::opened::<S>(count),
+            start: PhantomData,
+        })
+    }
+
+    /// Opens a file that has just so many sectors. The first of these that applies is the answer: NotFound, WrongSize,
+    /// DeviceFault. The start is used up, so that code over any `S` opens one file.
+    pub fn open(
+        rt: &HostRuntime,
+        path: &str,
+        count: u32,
+        _start: S,
+    ) -> Result<FileDevice<S>, FileError>
+        ensures count { IfOk result (λ device. (file_disk device).sectors ≡ count) }
+        ensures held { IfOk result (λ device. (i : ℕ) → i < count → (file_disk device).reads i ≡ S.Contents.sector i) }
+        ensures honest { IfOk result (λ device. (file_disk device).is_honest) }
+        ensures err { IfErr result (λ e. e ≢ FileError.Exists) }
+    {
+        let file = match OpenOptions::new().read(true).write(true).open(rt, path) {
+            Ok(file) => file,
+            Err(error) => return Err(of_opening(&error)),
+        };
+        let size = size_of(&file)?;
+        FileDevice::of_size(file, size, count)
+    }
+
+    /// Makes a file of so many sectors, where there is none. What it holds is for the caller to write. The start is used up,
+    /// as in `open`.
+    pub fn create(
+        rt: &HostRuntime,
+        path: &str,
+        count: u32,
+        _start: S,
+    ) -> Result<FileDevice<S>, FileError>
+        ensures count { IfOk result (λ device. (file_disk device).sectors ≡ count) }
+        ensures held { IfOk result (λ device. (i : ℕ) → i < count → (file_disk device).reads i ≡ S.Contents.sector i) }
+        ensures honest { IfOk result (λ device. (file_disk device).is_honest) }
+    {
+        let file = match OpenOptions::new()
+            .read(true)
+            .write(true)
+            .create_new(true)
+            .open(rt, path)
+        {
+            Ok(file) => file,
+            Err(error) => return Err(of_making(&error)),
+        };
+        if file.set_len(4096 * count as u64).is_err() || file.sync_all().is_err() {
+            return Err(FileError::DeviceFault);
+        }
+        let size = size_of(&file)?;
+        FileDevice::of_size(file, size, count)
+    }
+}
+
+impl<S: Contents> SectorDevice for FileDevice<S> {
+    ghost use Rattle.sector_file.specs.Device.{file_disk};
+
+    ghost disk = { file_disk };
+
+    fn count(&self) -> u32 {
+        self.count
+    }
+
+    fn read(&mut self, i: u32, sector: &mut [u8; 4096]) -> Result<(), DeviceFault> {
+        let got = moved(self.file.read_at(sector, 4096 * i as u64));
+        self.log.read::<S>(i, got, sector);
+        if got == 4096 {
+            Ok(())
+        } else {
+            Err(DeviceFault)
+        }
+    }
+
+    fn write(&mut self, i: u32, sector: &[u8; 4096]) -> Result<(), DeviceFault> {
+        let put = moved(self.file.write_at(sector, 4096 * i as u64));
+        self.log.written::<S>(i, put, sector);
+        if put == 4096 {
+            Ok(())
+        } else {
+            Err(DeviceFault)
+        }
+    }
+
+    fn sync(&mut self) -> Result<(), DeviceFault> {
+        if self.file.sync_data().is_err() {
+            self.log.not_synced::<S>();
+            return Err(DeviceFault);
+        }
+        self.log.synced::<S>();
+        Ok(())
+    }
+}

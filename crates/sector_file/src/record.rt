@@ -1,0 +1,97 @@
+//! What a file was told and what it answered. It takes no memory, and only clauses read it.
+ghost use Rattle.std.specs.Prelude.{ℕ, List};
+ghost use Rattle.std.specs.Borrow.{ftrue};
+
+use crate::contents::Contents;
+use std::marker::{Model, PhantomData};
+
+/// A sector was read: the sector, how many bytes came, and the bytes.
+const READ: u64 = 0;
+
+/// A sector was written: the sector, how many bytes went, and the bytes.
+const WRITTEN: u64 = 1;
+
+/// The file was synced.
+const SYNCED: u64 = 2;
+
+/// It was not.
+const NOT_SYNCED: u64 = 3;
+
+/// The file was opened: how many sectors it has.
+const OPENED: u64 = 4;
+
+#[derive(Drop)]
+pub struct Record {
+    marker: PhantomData<u8>,
+    pub ghost calls: { List (List ℕ × List ℕ) },
+}
+
+impl Model for Record {
+    ghost also_owns = { λ _. ftrue };
+}
+
+impl Record {
+    ghost use Rattle.std.specs.Prelude.{◌≡◌, ◌≢◌, [], ◌∷◌, length};
+    ghost use Rattle.sector_file.specs.Told.{replay, step, after_opening, after_read, after_fault, after_write, after_torn, after_sync};
+
+    fn new() -> Record
+        ensures { result.calls ≡ [] }
+    {
+        Record {
+            marker: PhantomData,
+        }
+    }
+
+    /// Notes a call of the system and its answer.
+    fn note(&mut self, _numbers: &[u64], _bytes: &[u8])
+        ensures { self.new.calls ≡ (_numbers.now, _bytes.now) ∷ self.old.calls }
+    {}
+
+    /// The same, said of a file that held what `S` says.
+    fn tell<S: Contents>(&mut self, numbers: &[u64], bytes: &[u8])
+        ensures { replay S.Contents.sector self.new.calls ≡ step S.Contents.sector (replay S.Contents.sector self.old.calls) numbers.now bytes.now }
+    {
+        self.note(numbers, bytes);
+    }
+
+    /// The record of a file that was opened with so many sectors. What they hold is what `S` says, and none is known to be
+    /// on the disk.
+    pub(crate) fn opened<S: Contents>(count: u32) -> Record
+        ensures opened { replay S.Contents.sector result.calls ≡ after_opening S.Contents.sector count }
+        ensures count { length (replay S.Contents.sector result.calls).0 ≡ count }
+    {
+        let mut log = Record::new();
+        log.tell::<S>(&[OPENED, count as u64], &[]);
+        log
+    }
+
+    /// A read gave so many bytes of a sector.
+    pub(crate) fn read<S: Contents>(&mut self, i: u32, got: usize, sector: &[u8; 4096])
+        ensures whole { got ≡ 4096 → replay S.Contents.sector self.new.calls ≡ after_read (replay S.Contents.sector self.old.calls) i sector.now }
+        ensures short { got ≢ 4096 → replay S.Contents.sector self.new.calls ≡ after_fault (replay S.Contents.sector self.old.calls) }
+    {
+        self.tell::<S>(&[READ, i as u64, got as u64], sector);
+    }
+
+    /// A write took so many bytes of a sector.
+    pub(crate) fn written<S: Contents>(&mut self, i: u32, put: usize, sector: &[u8; 4096])
+        ensures whole { put ≡ 4096 → replay S.Contents.sector self.new.calls ≡ after_write (replay S.Contents.sector self.old.calls) i sector.now }
+        ensures torn { put ≢ 4096 → replay S.Contents.sector self.new.calls ≡ after_torn (replay S.Contents.sector self.old.calls) i }
+    {
+        self.tell::<S>(&[WRITTEN, i as u64, put as u64], sector);
+    }
+
+    /// A sync passed.
+    pub(crate) fn synced<S: Contents>(&mut self)
+        ensures { replay S.Contents.sector self.new.calls ≡ after_sync (replay S.Contents.sector self.old.calls) }
+    {
+        self.tell::<S>(&[SYNCED], &[]);
+    }
+
+    /// A sync failed.
+    pub(crate) fn not_synced<S: Contents>(&mut self)
+        ensures { replay S.Contents.sector self.new.calls ≡ after_fault (replay S.Contents.sector self.old.calls) }
+    {
+        self.tell::<S>(&[NOT_SYNCED], &[]);
+    }
+}
