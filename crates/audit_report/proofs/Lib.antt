@@ -1,6 +1,5 @@
 pub mod Counting
 pub mod Lists
-pub mod Members
 pub mod Naming
 pub mod Padded
 pub mod Reporting

@@ -1,6 +1,7 @@
 pub mod Assembled
 pub mod Clauses
 pub mod Figures
+pub mod Keys
 pub mod Pieces
 pub mod Report
 pub mod ReportText

@@ -3,8 +3,7 @@ use Rattle.std.specs.Prelude.{ℕ, List, map, codes, Option, Some, None}
 use Rattle.serde_json.specs.Data.{Data, null, number, unsigned, string, array, item, no_items, object, member, no_members}
 use Rattle.serde_json.specs.View.{items_of}
 use Rattle.serde_json.specs.Written.{compact_text}
-use Rattle.desk_model.specs.declared.kind.Kind.{Kind}
-use Rattle.desk_model.specs.declared.kind.Kind.TheVariants.{Congress, Senate, House}
+use Rattle.desk_model.specs.Kind.{kind_name}
 use Rattle.desk_model.specs.Baf.{padded_decimal}
 use Rattle.audit_population.specs.declared.clauses.Extremes.{Extremes}
 use Rattle.audit_contiguity.specs.declared.breaks.Gap.{Gap}
@@ -12,11 +11,6 @@ use Rattle.audit_contiguity.specs.declared.breaks.Break.{Break}
 use Rattle.audit_report.specs.declared.clause.Clause.{Clause}
 use Rattle.audit_report.specs.Clauses.{clause_name}
 use Rattle.audit_report.specs.Figures.{Figures}
-
-abbrev pub kind_text : Kind → List ℕ
-kind_text Congress = codes "congress"
-kind_text Senate = codes "senate"
-kind_text House = codes "house"
 
 abbrev pub clause_data : Clause → Data
 clause_data clause = string (clause_name clause)
@@ -55,7 +49,7 @@ report_data r =
     (member (codes "contiguity") (list_data break_data r.contiguity)
     (member (codes "counties") (list_data (code_data 3) r.counties)
     (member (codes "districts") (number_data r.districts)
-    (member (codes "kind") (string (kind_text r.kind))
+    (member (codes "kind") (string (kind_name r.kind))
     (member (codes "nesting") (list_data number_data r.nesting)
     (member (codes "not_asked") (list_data clause_data r.not_asked)
     (member (codes "population") (number_data r.population)

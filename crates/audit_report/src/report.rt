@@ -1,17 +1,18 @@
 //! The report of an audit.
 ghost use Rattle.std.specs.Prelude.{◌≡◌, IfOk, string_bytes};
-ghost use Rattle.serde_json.specs.View.{view};
+ghost use Rattle.serde_json.specs.View.{view, members_view};
 ghost use Rattle.audit_report.specs.ReportText.{report_data, report_text};
+ghost use Rattle.audit_report.specs.Keys.{last_members, middle_members, first_members};
 
 use crate::clause::Clause;
 use crate::values::{
-    Values, breaks_value, cities_value, clauses_value, counties_value, districts_value,
-    people_value, range_value, report_value,
+    breaks_value, cities_value, clauses_value, counties_value, districts_value, people_value,
+    range_value,
 };
 use audit_contiguity::breaks::Break;
 use audit_population::clauses::Extremes;
 use desk_model::kind::Kind;
-use serde_json::Value;
+use serde_json::{Map, Value, put};
 use std::alloc::{AllocError, Global};
 use std::marker::Model;
 
@@ -71,27 +72,88 @@ impl Model for Report {
 }
 
 impl Report {
-    /// The report as JSON.
+    /// Puts in the keys from `not_asked` on.
+    fn put_last(&self, alloc: Global, map: &mut Map<String, Value>) -> Result<(), AllocError>
+        ensures { IfOk result (λ _. members_view map.new.entries ≡ last_members self.now (members_view map.old.entries)) }
+    {
+        put(map, alloc, "unassigned", Value::from(self.unassigned))?;
+        put(map, alloc, "range", range_value(alloc, self.range)?)?;
+        let populations = people_value(alloc, self.populations.as_slice())?;
+        put(map, alloc, "populations", populations)?;
+        put(map, alloc, "population", Value::from(self.population))?;
+        put(
+            map,
+            alloc,
+            "not_asked",
+            clauses_value(alloc, self.not_asked.as_slice())?,
+        )?;
+        Ok(())
+    }
+
+    /// Puts in the keys from `contiguity` to `nesting`.
+    fn put_middle(&self, alloc: Global, map: &mut Map<String, Value>) -> Result<(), AllocError>
+        ensures { IfOk result (λ _. members_view map.new.entries ≡ middle_members self.now (members_view map.old.entries)) }
+    {
+        put(
+            map,
+            alloc,
+            "nesting",
+            districts_value(alloc, self.nesting.as_slice())?,
+        )?;
+        let kind = String::from_str(alloc, self.kind.name())?;
+        put(map, alloc, "kind", Value::String(kind))?;
+        put(map, alloc, "districts", Value::from(self.districts))?;
+        put(
+            map,
+            alloc,
+            "counties",
+            counties_value(alloc, self.counties.as_slice())?,
+        )?;
+        put(
+            map,
+            alloc,
+            "contiguity",
+            breaks_value(alloc, self.contiguity.as_slice())?,
+        )?;
+        Ok(())
+    }
+
+    /// Puts in the keys up to `congress`.
+    fn put_first(&self, alloc: Global, map: &mut Map<String, Value>) -> Result<(), AllocError>
+        ensures { IfOk result (λ _. members_view map.new.entries ≡ first_members self.now (members_view map.old.entries)) }
+    {
+        put(
+            map,
+            alloc,
+            "congress",
+            districts_value(alloc, self.congress.as_slice())?,
+        )?;
+        let cities_in_county = cities_value(alloc, self.cities_in_county.as_slice())?;
+        put(map, alloc, "cities_in_county", cities_in_county)?;
+        put(
+            map,
+            alloc,
+            "cities",
+            cities_value(alloc, self.cities.as_slice())?,
+        )?;
+        put(
+            map,
+            alloc,
+            "broken",
+            clauses_value(alloc, self.broken.as_slice())?,
+        )?;
+        Ok(())
+    }
+
+    /// The report as JSON. A key is put in before those that are there.
     fn to_value(&self, alloc: Global) -> Result<Value, AllocError>
         ensures { IfOk result (λ v. view v ≡ report_data self.now) }
     {
-        let values = Values {
-            broken: clauses_value(alloc, self.broken.as_slice())?,
-            cities: cities_value(alloc, self.cities.as_slice())?,
-            cities_in_county: cities_value(alloc, self.cities_in_county.as_slice())?,
-            congress: districts_value(alloc, self.congress.as_slice())?,
-            contiguity: breaks_value(alloc, self.contiguity.as_slice())?,
-            counties: counties_value(alloc, self.counties.as_slice())?,
-            districts: self.districts,
-            kind: self.kind,
-            nesting: districts_value(alloc, self.nesting.as_slice())?,
-            not_asked: clauses_value(alloc, self.not_asked.as_slice())?,
-            population: self.population,
-            populations: people_value(alloc, self.populations.as_slice())?,
-            range: range_value(alloc, self.range)?,
-            unassigned: self.unassigned,
-        };
-        report_value(alloc, values)
+        let mut map = Map::new(alloc);
+        self.put_last(alloc, &mut map)?;
+        self.put_middle(alloc, &mut map)?;
+        self.put_first(alloc, &mut map)?;
+        Ok(Value::Object(map))
     }
 
     /// The report as compact JSON, its keys in byte order, each always there.

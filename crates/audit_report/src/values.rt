@@ -1,47 +1,15 @@
 //! The parts of a report as JSON.
-ghost use Rattle.std.specs.Prelude.{◌≡◌, IfOk, string_bytes, map, codes};
-ghost use Rattle.serde_json.specs.Data.{string, object, member, no_members};
+ghost use Rattle.std.specs.Prelude.{◌≡◌, IfOk, string_bytes};
 ghost use Rattle.serde_json.specs.View.{view};
 ghost use Rattle.desk_model.specs.Baf.{padded_decimal};
-ghost use Rattle.audit_report.specs.ReportText.{kind_text, clause_data, code_data, number_data, list_data, break_data, range_data};
+ghost use Rattle.audit_report.specs.ReportText.{clause_data, code_data, number_data, list_data, break_data, range_data};
 
 use crate::clause::Clause;
 use audit_contiguity::breaks::Break;
 use audit_population::clauses::Extremes;
 use desk_model::block::BlockId;
-use desk_model::kind::Kind;
-use serde_json::{Map, Value, json, put};
+use serde_json::{Value, json};
 use std::alloc::{AllocError, Global};
-
-/// A report, its lists as JSON.
-#[derive(Drop)]
-pub struct Values {
-    pub broken: Value,
-    pub cities: Value,
-    pub cities_in_county: Value,
-    pub congress: Value,
-    pub contiguity: Value,
-    pub counties: Value,
-    pub districts: u16,
-    pub kind: Kind,
-    pub nesting: Value,
-    pub not_asked: Value,
-    pub population: u32,
-    pub populations: Value,
-    pub range: Value,
-    pub unassigned: u32,
-}
-
-/// The word for a kind.
-fn kind_word(kind: Kind) -> &'static str
-    ensures { result.now ≡ kind_text kind }
-{
-    match kind {
-        Kind::Congress => "congress",
-        Kind::Senate => "senate",
-        Kind::House => "house",
-    }
-}
 
 fn county_text(alloc: Global, county: u16) -> Result<String, AllocError>
     ensures { IfOk result (λ s. string_bytes s ≡ padded_decimal 3 county) }
@@ -147,57 +115,4 @@ pub fn range_value(alloc: Global, range: Option<Extremes>) -> Result<Value, Allo
         None => Ok(Value::Null),
         Some(extremes) => json!(in alloc; [extremes.most, extremes.least]),
     }
-}
-
-/// The whole report. A key is put in before those that are there.
-pub fn report_value(alloc: Global, values: Values) -> Result<Value, AllocError>
-    ensures { IfOk result (λ v. view v ≡
-        object (member (codes "broken") (view values.broken)
-        (member (codes "cities") (view values.cities)
-        (member (codes "cities_in_county") (view values.cities_in_county)
-        (member (codes "congress") (view values.congress)
-        (member (codes "contiguity") (view values.contiguity)
-        (member (codes "counties") (view values.counties)
-        (member (codes "districts") (number_data values.districts)
-        (member (codes "kind") (string (kind_text values.kind))
-        (member (codes "nesting") (view values.nesting)
-        (member (codes "not_asked") (view values.not_asked)
-        (member (codes "population") (number_data values.population)
-        (member (codes "populations") (view values.populations)
-        (member (codes "range") (view values.range)
-        (member (codes "unassigned") (number_data values.unassigned) no_members))))))))))))))) }
-{
-    let Values {
-        broken,
-        cities,
-        cities_in_county,
-        congress,
-        contiguity,
-        counties,
-        districts,
-        kind,
-        nesting,
-        not_asked,
-        population,
-        populations,
-        range,
-        unassigned,
-    } = values;
-    let kind = String::from_str(alloc, kind_word(kind))?;
-    let mut map = Map::new(alloc);
-    put(&mut map, alloc, "unassigned", Value::from(unassigned))?;
-    put(&mut map, alloc, "range", range)?;
-    put(&mut map, alloc, "populations", populations)?;
-    put(&mut map, alloc, "population", Value::from(population))?;
-    put(&mut map, alloc, "not_asked", not_asked)?;
-    put(&mut map, alloc, "nesting", nesting)?;
-    put(&mut map, alloc, "kind", Value::String(kind))?;
-    put(&mut map, alloc, "districts", Value::from(districts))?;
-    put(&mut map, alloc, "counties", counties)?;
-    put(&mut map, alloc, "contiguity", contiguity)?;
-    put(&mut map, alloc, "congress", congress)?;
-    put(&mut map, alloc, "cities_in_county", cities_in_county)?;
-    put(&mut map, alloc, "cities", cities)?;
-    put(&mut map, alloc, "broken", broken)?;
-    Ok(Value::Object(map))
 }
