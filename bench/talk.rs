@@ -1,6 +1,11 @@
 // The plain counterpart of `plandesk talk`, for bench/talk alone: the same answers to the requests that bench/talk makes.
 use std::collections::BTreeMap;
+use std::collections::btree_map::Entry;
+use std::fmt::Write as _;
+use std::fs::File;
 use std::io::{self, Read, Write};
+use std::mem::ManuallyDrop;
+use std::os::fd::FromRawFd;
 
 const LIST: &str = "GET /plans HTTP/1.1\r\nHost: d\r\n\r\n";
 
@@ -12,7 +17,7 @@ fn make_lists(count: usize, out: &mut impl Write) {
 
 // names in a shuffled order, all of them different
 fn name(i: usize, count: usize) -> String {
-    format!("plan-{:05}", (i * 40_503 + 7) % count)
+    format!("plan-{:05}", (i * 40_507 + 7) % count)
 }
 
 fn make_creates(count: usize, out: &mut impl Write) {
@@ -35,6 +40,11 @@ fn make_body(size: usize, out: &mut impl Write) {
     }
 }
 
+// the head of such a request, whose body never comes
+fn make_promise(size: usize, out: &mut impl Write) {
+    write!(out, "GET /plans HTTP/1.1\r\nHost: d\r\nContent-Length: {size}\r\n\r\n").unwrap();
+}
+
 // the same body in chunks of 4,096 bytes
 fn make_chunks(size: usize, out: &mut impl Write) {
     write!(out, "GET /plans HTTP/1.1\r\nHost: d\r\nTransfer-Encoding: chunked\r\n\r\n").unwrap();
@@ -50,45 +60,57 @@ fn make_chunks(size: usize, out: &mut impl Write) {
     out.write_all(b"0\r\n\r\n").unwrap();
 }
 
-struct Head {
+struct Head<'a> {
     list: bool,
-    target: String,
+    target: &'a str,
     length: usize,
     chunked: bool,
     size: usize,
 }
 
-fn head_of(bytes: &[u8]) -> Option<Head> {
-    let end = bytes.windows(4).position(|w| w == b"\r\n\r\n")?;
-    let text = std::str::from_utf8(&bytes[..end]).ok()?;
-    let mut lines = text.split("\r\n");
-    let mut words = lines.next()?.split(' ');
-    let (method, target) = (words.next()?, words.next()?);
+// one pass over the head, line by line
+fn head_of(bytes: &[u8]) -> Option<Head<'_>> {
+    let mut at = 0;
+    let mut line = || {
+        let end = at + bytes[at..].iter().position(|b| *b == b'\n')?;
+        let line = bytes[at..end].strip_suffix(b"\r")?;
+        at = end + 1;
+        Some(line)
+    };
+    let mut words = line()?.split(|b| *b == b' ');
+    let (method, target) = (words.next()?, std::str::from_utf8(words.next()?).ok()?);
     let (mut hosts, mut length, mut chunked) = (0, 0, false);
-    for line in lines {
-        let (key, value) = line.split_once(':')?;
-        if key.eq_ignore_ascii_case("host") {
+    loop {
+        let line = line()?;
+        if line.is_empty() {
+            break;
+        }
+        let colon = line.iter().position(|b| *b == b':')?;
+        let (key, value) = (&line[..colon], line[colon + 1..].trim_ascii());
+        if key.eq_ignore_ascii_case(b"host") {
             hosts += 1;
-        } else if key.eq_ignore_ascii_case("content-length") {
-            length = value.trim().parse().ok()?;
-        } else if key.eq_ignore_ascii_case("transfer-encoding") {
-            chunked = value.trim().eq_ignore_ascii_case("chunked");
+        } else if key.eq_ignore_ascii_case(b"content-length") {
+            length = std::str::from_utf8(value).ok()?.parse().ok()?;
+        } else if key.eq_ignore_ascii_case(b"transfer-encoding") {
+            chunked = value.eq_ignore_ascii_case(b"chunked");
         }
     }
     assert_eq!(hosts, 1);
-    Some(Head { list: method == "GET", target: target.to_string(), length, chunked, size: end + 4 })
+    Some(Head { list: method == b"GET", target, length, chunked, size: at })
 }
 
-fn answer(plans: &mut BTreeMap<String, (String, u16)>, list: bool, target: &str, out: &mut Vec<u8>) {
+// puts the answer behind those that wait
+fn answer(plans: &mut BTreeMap<String, (String, u16)>, list: bool, target: &str, body: &mut String, out: &mut Vec<u8>) {
     let (path, query) = target.split_once('?').unwrap_or((target, ""));
-    let (status, body) = if list && path == "/plans" {
-        let mut body = String::from("{\"plans\":[");
+    body.clear();
+    let status = if list && path == "/plans" {
+        *body += "{\"plans\":[";
         for (i, (name, (kind, n))) in plans.iter().enumerate() {
             let comma = if i == 0 { "" } else { "," };
-            body += &format!("{comma}{{\"districts\":{n},\"kind\":\"{kind}\",\"name\":\"{name}\",\"revisions\":0}}");
+            write!(body, "{comma}{{\"districts\":{n},\"kind\":\"{kind}\",\"name\":\"{name}\",\"revisions\":0}}").unwrap();
         }
-        body += "]}";
-        ("200 OK", body)
+        *body += "]}";
+        "200 OK"
     } else {
         let name = path.strip_prefix("/plans/").unwrap();
         let (mut kind, mut n) = ("", 0);
@@ -99,15 +121,23 @@ fn answer(plans: &mut BTreeMap<String, (String, u16)>, list: bool, target: &str,
                 _ => unreachable!(),
             }
         }
-        if plans.contains_key(name) {
-            ("409 Conflict", String::from("{\"error\":\"PlanExists\"}"))
-        } else {
-            plans.insert(name.to_string(), (kind.to_string(), n));
-            ("201 Created", format!("{{\"plan\":\"{name}\",\"revisions\":0}}"))
+        match plans.entry(name.to_string()) {
+            Entry::Occupied(_) => {
+                *body += "{\"error\":\"PlanExists\"}";
+                "409 Conflict"
+            }
+            Entry::Vacant(place) => {
+                place.insert((kind.to_string(), n));
+                write!(body, "{{\"plan\":\"{name}\",\"revisions\":0}}").unwrap();
+                "201 Created"
+            }
         }
     };
-    out.clear();
-    write!(out, "HTTP/1.1 {status}\r\nContent-Type: application/json\r\nContent-Length: {}\r\n\r\n{body}", body.len()).unwrap();
+    for part in ["HTTP/1.1 ", status, "\r\nContent-Type: application/json\r\nContent-Length: "] {
+        out.extend_from_slice(part.as_bytes());
+    }
+    io::Write::write_fmt(out, format_args!("{}\r\n\r\n", body.len())).unwrap();
+    out.extend_from_slice(body.as_bytes());
 }
 
 // bytes that have come, from start to end
@@ -131,16 +161,23 @@ impl Inbox {
         n > 0
     }
 
-    // adds the next bytes to the body
-    fn take(&mut self, input: &mut impl Read, body: &mut Vec<u8>, n: usize) {
+    // adds the next bytes to the body, in room that grows with what comes: whether they all came
+    fn take(&mut self, input: &mut impl Read, body: &mut Vec<u8>, n: usize) -> bool {
         let here = n.min(self.end - self.start);
         body.extend_from_slice(&self.bytes()[..here]);
         self.start += here;
-        if here < n {
+        let mut left = n - here;
+        while left > 0 {
             let filled = body.len();
-            body.resize(filled + n - here, 0);
-            input.read_exact(&mut body[filled..]).unwrap();
+            body.resize(filled + left.min(filled.max(65_536)), 0);
+            let came = input.read(&mut body[filled..]).unwrap();
+            body.truncate(filled + came);
+            if came == 0 {
+                return false;
+            }
+            left -= came;
         }
+        true
     }
 
     // the next line without its end
@@ -162,7 +199,7 @@ impl Inbox {
                 break;
             }
             assert!(body.len() + size <= 33_554_432);
-            self.take(input, body, size);
+            assert!(self.take(input, body, size));
             assert!(self.line(input).is_empty());
         }
         while !self.line(input).is_empty() {}
@@ -170,33 +207,47 @@ impl Inbox {
 }
 
 fn talk() {
-    let (mut input, mut output) = (io::stdin().lock(), io::stdout().lock());
+    let (mut input, mut output) = (io::stdin().lock(), straight());
     let mut plans = BTreeMap::new();
     let mut inbox = Inbox { buffer: vec![0; 65_536], start: 0, end: 0 };
-    let mut out = Vec::new();
+    let (mut target, mut text) = (String::new(), String::new());
+    // answers wait here, and are sent before more is read and where they fill it
+    let mut out = Vec::with_capacity(16_384);
+    let mut send = |out: &mut Vec<u8>| {
+        output.write_all(out).unwrap();
+        out.clear();
+    };
     loop {
         if let Some(head) = head_of(inbox.bytes()) {
-            inbox.start += head.size;
-            let mut body = Vec::with_capacity(head.length);
-            if head.chunked {
-                inbox.take_chunks(&mut input, &mut body);
-            } else {
-                inbox.take(&mut input, &mut body, head.length);
+            let Head { list, length, chunked, size, .. } = head;
+            target.clear();
+            target.push_str(head.target);
+            inbox.start += size;
+            if chunked || length > inbox.end - inbox.start {
+                send(&mut out);
             }
-            answer(&mut plans, head.list, &head.target, &mut out);
-            // one write an answer, as the desk does
-            writeln_all(&mut output, &out);
+            let mut body = Vec::with_capacity(length.min(65_536));
+            if chunked {
+                inbox.take_chunks(&mut input, &mut body);
+            } else if !inbox.take(&mut input, &mut body, length) {
+                return;
+            }
+            answer(&mut plans, list, &target, &mut text, &mut out);
+            if out.len() > 15_884 {
+                send(&mut out);
+            }
             continue;
         }
+        send(&mut out);
         if !inbox.fill(&mut input) {
             return;
         }
     }
 }
 
-fn writeln_all(output: &mut impl Write, bytes: &[u8]) {
-    output.write_all(bytes).unwrap();
-    output.flush().unwrap();
+// standard output, with no buffer of its own
+fn straight() -> ManuallyDrop<File> {
+    ManuallyDrop::new(unsafe { File::from_raw_fd(1) })
 }
 
 fn main() {
@@ -207,6 +258,7 @@ fn main() {
         "make-lists" => make_lists(count(), &mut out),
         "make-creates" => make_creates(count(), &mut out),
         "make-body" => make_body(count(), &mut out),
+        "make-promise" => make_promise(count(), &mut out),
         "make-chunks" => make_chunks(count(), &mut out),
         _ => {
             drop(out);

@@ -7,7 +7,6 @@ use http_wire::fault::{Fault, WireFault};
 use http_wire::inbox::Inbox;
 use http_wire::request::TURN_LIMIT;
 use std::alloc::{AllocError, Global};
-use std::test::Fail;
 
 /// What came, and the bytes that stay behind it.
 #[derive(Drop)]
@@ -51,35 +50,44 @@ fn two_chunks(alloc: Global) -> Result<Vec<u8>, AllocError> {
 }
 
 #[test]
-fn a_body_in_two_chunks(rt: HostRuntime) -> Result<(), Fail> {
-    let mut input = two_chunks(rt.alloc())?;
-    input.extend_from_slice(b"GET / HTTP/1.1\r\n")?;
-    let mut body = Vec::from_elem(rt.alloc(), b'a', 17)?;
-    body.resize(93, b'b')?;
+fn a_body_in_two_chunks(rt: HostRuntime) {
+    let mut input = two_chunks(rt.alloc()).expect(&rt, "no memory");
+    input
+        .extend_from_slice(b"GET / HTTP/1.1\r\n")
+        .expect(&rt, "no memory");
+    let mut body = Vec::from_elem(rt.alloc(), b'a', 17).expect(&rt, "no memory");
+    body.resize(93, b'b').expect(&rt, "no memory");
     for piece in [1, 7, 65_536] {
-        let outcome = read_all(rt.alloc(), input.as_slice(), piece, u64::MAX, TURN_LIMIT)?;
+        let outcome = read_all(rt.alloc(), input.as_slice(), piece, u64::MAX, TURN_LIMIT).expect(
+            &rt,
+            "no memory",
+        );
         assert!(rt; outcome.came == Ok(Chunked::Whole));
         assert!(rt; outcome.body.as_slice() == body.as_slice());
         assert!(rt; outcome.left.as_slice() == b"GET / HTTP/1.1\r\n".as_slice());
     }
-    Ok(())
 }
 
 #[test]
-fn an_end_or_a_failure_within(rt: HostRuntime) -> Result<(), Fail> {
-    let input = two_chunks(rt.alloc())?;
+fn an_end_or_a_failure_within(rt: HostRuntime) {
+    let input = two_chunks(rt.alloc()).expect(&rt, "no memory");
     for len in 0..input.len() {
         let cut = &input.as_slice()[..len];
-        let ended = read_all(rt.alloc(), cut, 7, u64::MAX, TURN_LIMIT)?;
+        let ended = read_all(rt.alloc(), cut, 7, u64::MAX, TURN_LIMIT).expect(&rt, "no memory");
         assert!(rt; ended.came == Ok(Chunked::Lacking));
     }
     for call in 0..20 {
-        let failed = read_all(rt.alloc(), input.as_slice(), 7, call, TURN_LIMIT)?;
+        let failed = read_all(rt.alloc(), input.as_slice(), 7, call, TURN_LIMIT).expect(
+            &rt,
+            "no memory",
+        );
         assert!(rt; failed.came == Err(WireFault::Read));
-        let stopped = read_all(rt.alloc(), input.as_slice(), 7, u64::MAX, call)?;
+        let stopped = read_all(rt.alloc(), input.as_slice(), 7, u64::MAX, call).expect(
+            &rt,
+            "no memory",
+        );
         assert!(rt; stopped.came == Err(WireFault::TurnLimit));
     }
-    Ok(())
 }
 
 /// Inputs, and what comes of them.
@@ -113,41 +121,84 @@ const CHUNKS: [(&[u8], Chunked); 17] = [
 ];
 
 #[test]
-fn worked_chunks(rt: HostRuntime) -> Result<(), Fail> {
+fn worked_chunks(rt: HostRuntime) {
     for (input, came) in CHUNKS {
         for piece in [1, 7, 65_536] {
-            let outcome = read_all(rt.alloc(), input, piece, u64::MAX, TURN_LIMIT)?;
+            let outcome = read_all(rt.alloc(), input, piece, u64::MAX, TURN_LIMIT).expect(
+                &rt,
+                "no memory",
+            );
             assert!(rt; outcome.came == Ok(came));
         }
     }
-    Ok(())
 }
 
 #[test]
-fn long_lines_and_trailers(rt: HostRuntime) -> Result<(), Fail> {
+fn long_lines_and_trailers(rt: HostRuntime) {
     for (len, came) in [
         (254, Chunked::Whole),
         (255, Chunked::Refused(Fault::BadChunk)),
     ] {
-        let mut input = Vec::from_slice(rt.alloc(), b"0;")?;
-        input.resize(len, b'x')?;
-        input.extend_from_slice(b"\r\n\r\n")?;
-        let outcome = read_all(rt.alloc(), input.as_slice(), 65_536, u64::MAX, TURN_LIMIT)?;
+        let mut input = Vec::from_slice(rt.alloc(), b"0;").expect(&rt, "no memory");
+        input.resize(len, b'x').expect(&rt, "no memory");
+        input
+            .extend_from_slice(b"\r\n\r\n")
+            .expect(&rt, "no memory");
+        let outcome = read_all(rt.alloc(), input.as_slice(), 65_536, u64::MAX, TURN_LIMIT).expect(
+            &rt,
+            "no memory",
+        );
         assert!(rt; outcome.came == Ok(came));
     }
     for (lines, came) in [
         (64, Chunked::Whole),
         (65, Chunked::Refused(Fault::HeadTooLarge)),
     ] {
-        let mut input = Vec::from_slice(rt.alloc(), b"0\r\n")?;
+        let mut input = Vec::from_slice(rt.alloc(), b"0\r\n").expect(&rt, "no memory");
         for _ in 0..lines {
-            input.extend_from_slice(b"A: b\r\n")?;
+            input
+                .extend_from_slice(b"A: b\r\n")
+                .expect(&rt, "no memory");
         }
-        input.extend_from_slice(b"\r\n")?;
+        input.extend_from_slice(b"\r\n").expect(&rt, "no memory");
         for piece in [1, 65_536] {
-            let outcome = read_all(rt.alloc(), input.as_slice(), piece, u64::MAX, TURN_LIMIT)?;
+            let outcome = read_all(
+                rt.alloc(),
+                input.as_slice(),
+                piece,
+                u64::MAX,
+                TURN_LIMIT,
+            ).expect(&rt, "no memory");
             assert!(rt; outcome.came == Ok(came));
         }
     }
-    Ok(())
+}
+
+/// The last chunk, and trailers of so many bytes, the empty line among them.
+fn trailers_of(alloc: Global, len: usize) -> Result<Vec<u8>, AllocError> {
+    let mut input = Vec::from_slice(alloc, b"0\r\nA: ")?;
+    input.resize(len.saturating_sub(1), b'b')?;
+    input.extend_from_slice(b"\r\n\r\n")?;
+    Ok(input)
+}
+
+#[test]
+fn long_trailers(rt: HostRuntime) {
+    for (len, came) in [
+        (16_384, Chunked::Whole),
+        (16_385, Chunked::Refused(Fault::HeadTooLarge)),
+    ] {
+        let input = trailers_of(rt.alloc(), len).expect(&rt, "no memory");
+        assert_eq!(rt; input.len(), len + 3);
+        for piece in [1000, 65_536] {
+            let outcome = read_all(
+                rt.alloc(),
+                input.as_slice(),
+                piece,
+                u64::MAX,
+                TURN_LIMIT,
+            ).expect(&rt, "no memory");
+            assert!(rt; outcome.came == Ok(came));
+        }
+    }
 }

@@ -218,6 +218,10 @@ fn a_post_is_refused(rt: HostRuntime) {
             Refusal::NotSealed
         )
     );
+    let patched = unsealed.command(alloc, patch(&rt, alloc, plan, 0, PATCH));
+    assert!(rt; is_refused(&patched, Refusal::NotSealed));
+    let retired = unsealed.command(alloc, Command::Retire { plan });
+    assert!(rt; is_refused(&retired, Refusal::NotSealed));
     assert!(rt; is_refused(&unsealed.ask(alloc, Query::Blocks), Refusal::NotSealed));
     let asked = unsealed.ask(alloc, Query::Revision { plan, k: 1 });
     assert!(rt; is_refused(&asked, Refusal::NotSealed));

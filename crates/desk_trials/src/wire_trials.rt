@@ -10,7 +10,6 @@ use http_wire::response::{ContentType, Outbox, Response, write_response};
 use std::alloc::{AllocError, Global};
 use std::io;
 use std::io::{ErrorKind, Read, Write};
-use std::test::Fail;
 
 /// Gives its bytes in pieces, is interrupted at each third call, and fails at one.
 #[derive(Drop)]
@@ -248,14 +247,13 @@ const TARGETS: [(&[u8], &[u8], u64); 10] = [
 ];
 
 #[test]
-fn worked_targets(rt: HostRuntime) -> Result<(), Fail> {
+fn worked_targets(rt: HostRuntime) {
     for (input, target, closing) in TARGETS {
-        let stream = read_stream(rt.alloc(), input, 11, u64::MAX)?;
+        let stream = read_stream(rt.alloc(), input, 11, u64::MAX).expect(&rt, "no memory");
         assert_eq!(rt; stream.requests, 1);
         assert!(rt; stream.targets.as_slice() == target);
         assert_eq!(rt; stream.closing, closing);
     }
-    Ok(())
 }
 
 /// Inputs whose first request is refused, and whether the answer has no body.
@@ -275,25 +273,23 @@ const BARE: [(&[u8], Fault, bool); 4] = [
 ];
 
 #[test]
-fn refused_heads(rt: HostRuntime) -> Result<(), Fail> {
+fn refused_heads(rt: HostRuntime) {
     for (input, fault, bare) in BARE {
-        let stream = read_stream(rt.alloc(), input, 5, u64::MAX)?;
+        let stream = read_stream(rt.alloc(), input, 5, u64::MAX).expect(&rt, "no memory");
         assert!(rt; stream.refused == Some((fault, bare)));
     }
-    Ok(())
 }
 
 #[test]
-fn worked_heads(rt: HostRuntime) -> Result<(), Fail> {
+fn worked_heads(rt: HostRuntime) {
     for (input, requests, refused) in HEADS {
         for piece in [1, 7, 65_536] {
-            let stream = read_stream(rt.alloc(), input, piece, u64::MAX)?;
+            let stream = read_stream(rt.alloc(), input, piece, u64::MAX).expect(&rt, "no memory");
             assert_eq!(rt; stream.requests, requests);
             assert!(rt; fault_of(&stream) == refused);
             assert!(rt; stream.fault.is_none());
         }
     }
-    Ok(())
 }
 
 /// A head of so many header lines and so many bytes.
@@ -311,7 +307,7 @@ fn head_of(alloc: Global, lines: usize, len: usize) -> Result<Vec<u8>, AllocErro
 }
 
 #[test]
-fn limits(rt: HostRuntime) -> Result<(), Fail> {
+fn limits(rt: HostRuntime) {
     let table = [
         (64, 0, 1, None),
         (65, 0, 0, Some(Fault::HeadTooLarge)),
@@ -319,15 +315,17 @@ fn limits(rt: HostRuntime) -> Result<(), Fail> {
         (1, 16_385, 0, Some(Fault::HeadTooLarge)),
     ];
     for (lines, len, requests, refused) in table {
-        let head = head_of(rt.alloc(), lines, len)?;
+        let head = head_of(rt.alloc(), lines, len).expect(&rt, "no memory");
         assert!(rt; len == 0 || head.len() == len);
         for piece in [100, 65_536] {
-            let stream = read_stream(rt.alloc(), head.as_slice(), piece, u64::MAX)?;
+            let stream = read_stream(rt.alloc(), head.as_slice(), piece, u64::MAX).expect(
+                &rt,
+                "no memory",
+            );
             assert_eq!(rt; stream.requests, requests);
             assert!(rt; fault_of(&stream) == refused);
         }
     }
-    Ok(())
 }
 
 /// Two requests with a long and a short body.
@@ -343,24 +341,29 @@ fn two_requests(alloc: Global) -> Result<Vec<u8>, AllocError> {
 }
 
 #[test]
-fn bodies_in_pieces(rt: HostRuntime) -> Result<(), Fail> {
-    let input = two_requests(rt.alloc())?;
-    let mut bodies = Vec::from_elem(rt.alloc(), b'a', 100_000)?;
-    bodies.extend_from_slice(b"bbb")?;
+fn bodies_in_pieces(rt: HostRuntime) {
+    let input = two_requests(rt.alloc()).expect(&rt, "no memory");
+    let mut bodies = Vec::from_elem(rt.alloc(), b'a', 100_000).expect(&rt, "no memory");
+    bodies.extend_from_slice(b"bbb").expect(&rt, "no memory");
     for piece in [1, 999, 1_000_000] {
-        let stream = read_stream(rt.alloc(), input.as_slice(), piece, u64::MAX)?;
+        let stream = read_stream(rt.alloc(), input.as_slice(), piece, u64::MAX).expect(
+            &rt,
+            "no memory",
+        );
         assert_eq!(rt; stream.requests, 2);
         assert!(rt; stream.bodies.as_slice() == bodies.as_slice());
     }
-    Ok(())
 }
 
 #[test]
-fn a_read_that_fails(rt: HostRuntime) -> Result<(), Fail> {
-    let input = two_requests(rt.alloc())?;
+fn a_read_that_fails(rt: HostRuntime) {
+    let input = two_requests(rt.alloc()).expect(&rt, "no memory");
     let mut ended = false;
     for call in 0..200 {
-        let stream = read_stream(rt.alloc(), input.as_slice(), 2_000, call)?;
+        let stream = read_stream(rt.alloc(), input.as_slice(), 2_000, call).expect(
+            &rt,
+            "no memory",
+        );
         assert!(rt; stream.refused.is_none());
         if stream.fault.is_none() {
             ended = true;
@@ -371,7 +374,6 @@ fn a_read_that_fails(rt: HostRuntime) -> Result<(), Fail> {
         }
     }
     assert!(rt; ended);
-    Ok(())
 }
 
 /// Takes so many bytes a call, is interrupted before each, and fails once so many were written.
@@ -403,8 +405,8 @@ impl Write for Slow {
 }
 
 #[test]
-fn worked_answers(rt: HostRuntime) -> Result<(), Fail> {
-    let mut outbox = Outbox::new(rt.alloc())?;
+fn worked_answers(rt: HostRuntime) {
+    let mut outbox = Outbox::new(rt.alloc()).expect(&rt, "no memory");
     let mut writer = WriteSink::new(Vec::new(rt.alloc()));
     let list = Response {
         status: StatusCode::OK,
@@ -430,15 +432,14 @@ fn worked_answers(rt: HostRuntime) -> Result<(), Fail> {
         b"HTTP/1.1 200 OK\r\nContent-Type: application/json\r\nContent-Length: 12\r\n\r\n{\"plans\":[]}";
     let second =
         b"HTTP/1.1 405 Method Not Allowed\r\nContent-Type: text/plain\r\nContent-Length: 4\r\nAllow: GET, HEAD\r\nConnection: close\r\n\r\n";
-    let mut wanted = Vec::from_slice(rt.alloc(), first)?;
-    wanted.extend_from_slice(second)?;
+    let mut wanted = Vec::from_slice(rt.alloc(), first).expect(&rt, "no memory");
+    wanted.extend_from_slice(second).expect(&rt, "no memory");
     assert!(rt; written.as_slice() == wanted.as_slice());
-    Ok(())
 }
 
 #[test]
-fn a_write_that_fails(rt: HostRuntime) -> Result<(), Fail> {
-    let body = Vec::from_elem(rt.alloc(), b'x', 40_000)?;
+fn a_write_that_fails(rt: HostRuntime) {
+    let body = Vec::from_elem(rt.alloc(), b'x', 40_000).expect(&rt, "no memory");
     let answer = Response {
         status: StatusCode::OK,
         kind: ContentType::PlainText,
@@ -448,7 +449,7 @@ fn a_write_that_fails(rt: HostRuntime) -> Result<(), Fail> {
         body: body.as_slice(),
     };
     for limit in [0, 1, 100, 16_383, 16_384, 16_385, 30_000, 50_000] {
-        let mut outbox = Outbox::new(rt.alloc())?;
+        let mut outbox = Outbox::new(rt.alloc()).expect(&rt, "no memory");
         let mut writer = WriteSink::new(Slow {
             bytes: Vec::new(rt.alloc()),
             piece: 5_000,
@@ -465,5 +466,4 @@ fn a_write_that_fails(rt: HostRuntime) -> Result<(), Fail> {
             assert_eq!(rt; written.bytes.len(), 40_000 + 68);
         }
     }
-    Ok(())
 }

@@ -1,5 +1,5 @@
-pub mod Adds
 pub mod BodyLemmas
 pub mod NextLemmas
+pub mod ShortLemmas
 pub mod TalkLemmas
 pub mod TurnLemmas

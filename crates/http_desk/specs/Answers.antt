@@ -9,10 +9,10 @@ use Rattle.http_wire.specs.declared.fault.Fault.TheVariants as fault
 use Rattle.http_wire.specs.declared.response.ContentType.{ContentType}
 use Rattle.http_wire.specs.declared.response.ContentType.TheVariants.{Json, PlainText}
 use Rattle.http_wire.specs.Answer.{answer_text}
-use Rattle.http_desk.specs.declared.order.Error.{Error}
-use Rattle.http_desk.specs.declared.order.Error.TheVariants as error
-use Rattle.http_desk.specs.declared.method.Methods.{Methods}
-use Rattle.http_desk.specs.Methods.{methods_text}
+use Rattle.http_orders.specs.declared.order.Error.{Error}
+use Rattle.http_orders.specs.declared.order.Error.TheVariants as error
+use Rattle.http_orders.specs.declared.method.Methods.{Methods}
+use Rattle.http_orders.specs.Methods.{methods_text}
 use Rattle.http_desk.specs.Bodies.{plans_body, created_body, retired_body, error_body, refusal_body}
 
 -- what an answer says, whichever request it is for
@@ -23,8 +23,8 @@ pub record Message : Type 0 where
   pub body : List ℕ
 
 -- its bytes: whether the connection closes after it, and whether its body is left out
-abbrev pub text_of : (closes bare : Bool) → Message → List ℕ
-text_of closes bare m = answer_text m.status m.kind m.allow closes bare m.body
+abbrev pub bytes_of : (closes bare : Bool) → Message → List ℕ
+bytes_of closes bare m = answer_text m.status m.kind m.allow closes bare m.body
 
 abbrev pub saying : ℕ → ContentType → List ℕ → Message
 saying n type text = record { status = n; kind = type; allow = None; body = text }
@@ -34,7 +34,7 @@ memory_message = saying 503 Json (error_body (codes "Memory"))
 
 -- memory for an answer was refused; the connection closes
 abbrev pub memory_text : (bare : Bool) → List ℕ
-memory_text bare = text_of true bare memory_message
+memory_text bare = bytes_of true bare memory_message
 
 abbrev pub refusal_status : Refusal → ℕ
 refusal_status NoPlan = 404
@@ -152,5 +152,5 @@ MayStarve (reply.Refused refusal) = ⊥
 -- an answer to a reply, for a request that asks to close or not: its own, or that memory is wanting
 abbrev pub Tells : Reply → (closing bare : Bool) → (text : List ℕ) → (shut : Bool) → Type 0
 Tells r closing bare text shut =
-    ((text ≡ text_of (closes_after r || closing) bare (message_of r)) × (shut ≡ (closes_after r || closing)))
+    ((text ≡ bytes_of (closes_after r || closing) bare (message_of r)) × (shut ≡ (closes_after r || closing)))
     ⊎ (MayStarve r × (text ≡ memory_text bare) × (shut ≡ true))

@@ -3,25 +3,17 @@ use Rattle.std.specs.Prelude.{ℕ, List, ◌++◌, map, codes, decimal}
 use Rattle.serde_json.specs.Data.{Data, number, unsigned, string, array, object, member, no_members}
 use Rattle.serde_json.specs.View.{items_of}
 use Rattle.serde_json.specs.Written.{compact_text}
-use Rattle.desk_model.specs.declared.kind.Kind.{Kind}
-use Rattle.desk_model.specs.declared.kind.Kind.TheVariants.{Congress, Senate, House}
 use Rattle.desk_model.specs.declared.reply.PlanRow.{PlanRow}
 use Rattle.desk_model.specs.declared.reply.Refusal.{Refusal}
 use Rattle.desk_model.specs.declared.reply.Refusal.TheVariants.{NoPlan, NoRevision, PlanExists, Stale, BadBody, NotWholeCounty, BadCompanion, Limit, Full, Memory, Halted, NotSealed}
-use Rattle.desk_model.specs.declared.reply.BodyFault.{BodyFault}
-use Rattle.desk_model.specs.declared.reply.BodyFault.TheVariants.{Header, Shape, UnknownBlock, RepeatedBlock, OutOfRange}
-use Rattle.desk_model.specs.Baf.{padded_decimal}
-
-abbrev pub kind_text : Kind → List ℕ
-kind_text Congress = codes "congress"
-kind_text Senate = codes "senate"
-kind_text House = codes "house"
+use Rattle.desk_model.specs.Baf.{fault_code, padded_decimal}
+use Rattle.desk_model.specs.Kind.{kind_name}
 
 -- a line of the list of plans
 abbrev pub row_data : PlanRow → Data
 row_data row =
     object (member (codes "districts") (number (unsigned row.n))
-    (member (codes "kind") (string (kind_text row.kind))
+    (member (codes "kind") (string (kind_name row.kind))
     (member (codes "name") (string row.name)
     (member (codes "revisions") (number (unsigned row.revisions)) no_members))))
 
@@ -42,13 +34,6 @@ retired_body name = codes "{\"plan\":\"" ++ name ++ codes "\",\"retired\":true}"
 -- an error by its name
 abbrev pub error_body : List ℕ → List ℕ
 error_body name = codes "{\"error\":\"" ++ name ++ codes "\"}"
-
-abbrev pub fault_code : BodyFault → List ℕ
-fault_code Header = codes "B1"
-fault_code Shape = codes "B2"
-fault_code UnknownBlock = codes "B3"
-fault_code RepeatedBlock = codes "B4"
-fault_code OutOfRange = codes "B5"
 
 -- why a command or a query is refused
 abbrev pub refusal_body : Refusal → List ℕ

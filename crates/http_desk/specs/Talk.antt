@@ -7,10 +7,10 @@ use Rattle.httparse.specs.Grammar.{RequestHead}
 use Rattle.http_wire.specs.declared.fault.Fault.{Fault}
 use Rattle.http_wire.specs.Front.{HasRequest, HasFault, IsStarved, IsIncomplete, closes_after as closes_after_head, is_head}
 use Rattle.http_wire.specs.Interim.{Interim, continue_text, asks_to_continue}
-use Rattle.http_desk.specs.declared.order.Order.{Order}
-use Rattle.http_desk.specs.declared.order.Order.TheVariants as order
-use Rattle.http_desk.specs.Orders.{order_of}
-use Rattle.http_desk.specs.Answers.{text_of, memory_text, error_message, fault_message, Tells}
+use Rattle.http_orders.specs.declared.order.Order.{Order}
+use Rattle.http_orders.specs.declared.order.Order.TheVariants as order
+use Rattle.http_orders.specs.Orders.{order_of}
+use Rattle.http_desk.specs.Answers.{bytes_of, memory_text, error_message, fault_message, Tells}
 
 -- Generic in what answers: the two relations say which reply a command or a query may have, and what it leaves.
 module _ {X : Type 0} (commands : X → Command → Reply → X → Type 0) (asks : X → Query → Reply → X → Type 0) where
@@ -19,7 +19,7 @@ module _ {X : Type 0} (commands : X → Command → Reply → X → Type 0) (ask
   abbrev pub MayAnswer : X → Order → (closing bare : Bool) → (text : List ℕ) → (shut : Bool) → X → Type 0
   MayAnswer x (order.Command c) closing bare text shut y = (r : Reply) × commands x c r y × Tells r closing bare text shut
   MayAnswer x (order.Query q) closing bare text shut y = (r : Reply) × asks x q r y × Tells r closing bare text shut
-  MayAnswer x (order.Refused e) closing bare text shut y = (text ≡ text_of closing bare (error_message e)) × (shut ≡ closing) × (y ≡ x)
+  MayAnswer x (order.Refused e) closing bare text shut y = (text ≡ bytes_of closing bare (error_message e)) × (shut ≡ closing) × (y ≡ x)
 
   -- the same of a request with this head
   abbrev pub AnswersHead : X → (h : RequestHead) → (target body text : List ℕ) → (shut : Bool) → X → Type 0
@@ -34,7 +34,7 @@ module _ {X : Type 0} (commands : X → Command → Reply → X → Type 0) (ask
     ended : (x : X) (input interim : List ℕ) → IsIncomplete input → Interim input interim → Talk x input interim 0 false x
     -- memory for the request was refused, before it came to the counter
     starved : (x : X) (input interim : List ℕ) (bare : Bool) → IsStarved input bare → Interim input interim → Talk x input (interim ++ memory_text bare) 1 true x
-    refused : (x : X) (input interim : List ℕ) (f : Fault) (bare : Bool) → HasFault input f bare → Interim input interim → Talk x input (interim ++ text_of true bare (fault_message f)) 1 true x
+    refused : (x : X) (input interim : List ℕ) (f : Fault) (bare : Bool) → HasFault input f bare → Interim input interim → Talk x input (interim ++ bytes_of true bare (fault_message f)) 1 true x
     closed : (x : X) (input : List ℕ) (h : RequestHead) (target body rest text : List ℕ) (y : X) → HasRequest input h target body rest
         → AnswersHead x h target body text true y → Talk x input (continue_text (asks_to_continue h) ++ text) 1 true y
     went : (x : X) (input : List ℕ) (h : RequestHead) (target body rest text : List ℕ) (y : X) (output : List ℕ) (n : ℕ) (shut : Bool) (z : X) → HasRequest input h target body rest

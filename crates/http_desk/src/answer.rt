@@ -4,16 +4,16 @@ ghost use Rattle.byte_stream.specs.Sends.{failures_with};
 ghost use Rattle.http_wire.specs.Queue.{Queues};
 ghost use Rattle.http_wire.specs.Answer.{allowed_len};
 ghost use Rattle.http_desk.specs.Bodies.{error_body};
-ghost use Rattle.http_desk.specs.Methods.{methods_text};
-ghost use Rattle.http_desk.specs.Answers.{text_of, saying, message_of, closes_after, error_message, error_name as error_name_of, error_status as error_status_of, error_allow as error_allow_of, fault_message, fault_name as fault_name_of, fault_status as fault_status_of, memory_text, refusal_status as refusal_status_of, refusal_closes, MayStarve, Tells};
+ghost use Rattle.http_orders.specs.Methods.{methods_text};
+ghost use Rattle.http_desk.specs.Answers.{bytes_of, saying, message_of, closes_after, error_message, error_name as error_name_of, error_status as error_status_of, error_allow as error_allow_of, fault_message, fault_name as fault_name_of, fault_status as fault_status_of, memory_text, refusal_status as refusal_status_of, refusal_closes, MayStarve, Tells};
 
 use crate::body::plans_text;
-use crate::method::Methods;
-use crate::order::Error;
 use crate::short::{SHORT, put_created, put_error, put_refusal, put_retired};
 use byte_stream::sink::{Sink, WriteFault};
 use desk_model::reply::{Refusal, Reply};
 use http::StatusCode;
+use http_orders::method::Methods;
+use http_orders::order::Error;
 use http_wire::fault::Fault;
 use http_wire::response::{ContentType, Outbox, Response, write_response};
 use std::alloc::{AllocError, Global};
@@ -41,7 +41,7 @@ pub struct Answer {
 impl Model for Answer {
     ghost use Rattle.std.specs.Prelude.{List, ℕ, option_map, if◌then◌else◌, ◌≤◌, vec_capacity};
     ghost use Rattle.http_wire.specs.Answer.{answer_text};
-    ghost use Rattle.http_desk.specs.Methods.{methods_text};
+    ghost use Rattle.http_orders.specs.Methods.{methods_text};
 
     ghost Value = { List ℕ };
 
@@ -199,7 +199,7 @@ impl Answer {
     /// Puts a JSON error by its name.
     fn put_named(&mut self, status: StatusCode, name: &[u8], closes: bool, bare: bool)
         requires { length name.now ≤ 64 }
-        ensures { self.new ≡ text_of closes bare (saying status ContentType.Json (error_body name.now)) }
+        ensures { self.new ≡ bytes_of closes bare (saying status ContentType.Json (error_body name.now)) }
     {
         put_error(&mut self.short, name);
         self.head = json(status, closes, bare);
@@ -215,7 +215,7 @@ impl Answer {
 
     /// Puts the answer to a request that asks for nothing.
     pub fn put_order_error(&mut self, error: Error, closes: bool, bare: bool)
-        ensures { self.new ≡ text_of closes bare (error_message error) }
+        ensures { self.new ≡ bytes_of closes bare (error_message error) }
     {
         put_error(&mut self.short, error_name(error));
         self.head = Head {
@@ -230,14 +230,14 @@ impl Answer {
 
     /// Puts the answer to a fault of the front.
     pub fn put_fault(&mut self, fault: Fault, bare: bool)
-        ensures { self.new ≡ text_of true bare (fault_message fault) }
+        ensures { self.new ≡ bytes_of true bare (fault_message fault) }
     {
         self.put_named(fault_status(fault), fault_name(fault), true, bare);
     }
 
     /// Puts a body that may be long.
     fn put_long(&mut self, kind: ContentType, body: Vec<u8>, closes: bool, bare: bool)
-        ensures { self.new ≡ text_of closes bare (saying 200 kind body.items) }
+        ensures { self.new ≡ bytes_of closes bare (saying 200 kind body.items) }
     {
         self.long = body;
         self.head = Head {
@@ -259,7 +259,7 @@ impl Answer {
         closing: bool,
         bare: bool,
     ) -> Result<bool, AllocError>
-        ensures text { OnOk result (self.new ≡ text_of (closes_after reply || closing) bare (message_of reply)) }
+        ensures text { OnOk result (self.new ≡ bytes_of (closes_after reply || closing) bare (message_of reply)) }
         ensures closes { IfOk result (λ closes. closes ≡ (closes_after reply || closing)) }
         ensures starved { OnErr result (MayStarve reply) }
     {

@@ -2,23 +2,11 @@
 ghost use Rattle.std.specs.Prelude.{◌≡◌, ◌≤◌, ◌<◌, ◌++◌, length, map, codes, IfOk, OnOk, string_bytes, vec_capacity, vec_len};
 ghost use Rattle.serde_json.specs.Data.{array, object, member, no_members};
 ghost use Rattle.serde_json.specs.View.{view, items_of};
-ghost use Rattle.http_desk.specs.Bodies.{row_data, plans_body, kind_text, created_body, error_body, refusal_body};
+ghost use Rattle.http_desk.specs.Bodies.{row_data, plans_body};
 
-use desk_model::kind::Kind;
 use desk_model::reply::PlanRow;
 use serde_json::{Value, json};
 use std::alloc::{AllocError, Global};
-
-/// The word for a kind.
-fn kind_word(kind: Kind) -> &'static str
-    ensures { result.now ≡ kind_text kind }
-{
-    match kind {
-        Kind::Congress => "congress",
-        Kind::Senate => "senate",
-        Kind::House => "house",
-    }
-}
 
 /// A line of the list of plans.
 fn row_value(alloc: Global, row: &PlanRow) -> Result<Value, AllocError>
@@ -26,7 +14,7 @@ fn row_value(alloc: Global, row: &PlanRow) -> Result<Value, AllocError>
 {
     json!(in alloc; {
         "districts": row.n,
-        "kind": kind_word(row.kind),
+        "kind": row.kind.name(),
         "name": row.name.as_str(),
         "revisions": row.revisions,
     })

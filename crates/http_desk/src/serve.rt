@@ -6,8 +6,8 @@ ghost use Rattle.http_wire.specs.Budget.{read_failures_of, write_failures_of, re
 ghost use Rattle.http_wire.specs.Front.{is_head};
 ghost use Rattle.byte_stream.specs.Counts.{counted};
 ghost use Rattle.http_wire.specs.Budget.{Spends};
-ghost use Rattle.http_desk.specs.Orders.{order_of as order_of_request};
-ghost use Rattle.http_desk.specs.Routes.{the_routes};
+ghost use Rattle.http_orders.specs.Orders.{order_of as order_of_request};
+ghost use Rattle.http_orders.specs.Routes.{the_routes};
 ghost use Rattle.http_desk.specs.Serving.{Serves, Exchanges, Closes, Leaves, Waits, NextCame, read_failures, write_failures, TakesSome};
 ghost use Rattle.http_wire.specs.Incoming.{EndsAt, TakesSome as RequestTakes};
 ghost use Rattle.http_wire.specs.Queue.{Queued};
@@ -15,11 +15,12 @@ ghost use Rattle.http_desk.specs.Talk.{Handles};
 
 use crate::answer::Answer;
 use crate::counter::Counter;
-use crate::order::{Order, order_of};
-use crate::route::{Page, router};
 use byte_stream::sink::Sink;
 use byte_stream::source::Source;
 use desk_model::gate::Gate;
+use http::Method;
+use http_orders::order::{Order, order_of};
+use http_orders::route::{Page, router};
 use http_wire::fault::RequestFault;
 use http_wire::inbox::Inbox;
 use http_wire::request::{Incoming, Request, TURN_LIMIT, read_request, take_request};
@@ -85,9 +86,8 @@ fn handle<C: Counter>(
         closes,
         body,
     } = request;
-    let method = method.as_str().as_bytes();
-    let bare = method == b"HEAD".as_slice();
-    let Ok(order) = order_of(alloc, router, method, target.as_slice(), body) else {
+    let bare = method == Method::HEAD;
+    let Ok(order) = order_of(alloc, router, &method, target.as_slice(), body) else {
         answer.put_memory(bare);
         return true;
     };

@@ -1,9 +1,10 @@
 //! Short bodies, put together in a buffer that was made first, so that they take no memory.
 ghost use Rattle.std.specs.Prelude.{◌≡◌, ◌≤◌, ◌+◌, ◌-◌, ◌++◌, length, replicate, decimal, vec_capacity, vec_len, codes};
-ghost use Rattle.http_desk.specs.Bodies.{created_body, retired_body, error_body, refusal_body, fault_code};
+ghost use Rattle.http_desk.specs.Bodies.{created_body, retired_body, error_body, refusal_body};
 ghost use Rattle.desk_model.specs.Baf.{padded_decimal};
 ghost use Rattle.desk_model.specs.declared.reply.Refusal.TheVariants.{BadBody, Stale, NotWholeCounty};
 
+use desk_model::decimal::Padded;
 use desk_model::name::PlanName;
 use desk_model::reply::{BodyFault, Refusal};
 use itoa::Buffer;
@@ -76,21 +77,8 @@ pub fn put_error(buffer: &mut Vec<u8>, name: &[u8])
     add(buffer, b"\"}");
 }
 
-/// The code of a body's fault.
-fn code_of(fault: BodyFault) -> &'static [u8]
-    ensures text { result.now ≡ fault_code fault }
-    ensures short { length result.now ≤ 2 }
-{
-    match fault {
-        BodyFault::Header => b"B1",
-        BodyFault::Shape => b"B2",
-        BodyFault::UnknownBlock => b"B3",
-        BodyFault::RepeatedBlock => b"B4",
-        BodyFault::OutOfRange => b"B5",
-    }
-}
-
 /// A body's first fault and its line.
+#[tactic(auto, using(crate::proofs::ShortLemmas::code_short))]
 fn put_bad_body(buffer: &mut Vec<u8>, fault: BodyFault, line: u64)
     requires { SHORT ≤ vec_capacity buffer.old }
     ensures text { buffer.new.items ≡ refusal_body (BadBody fault line) }
@@ -99,7 +87,7 @@ fn put_bad_body(buffer: &mut Vec<u8>, fault: BodyFault, line: u64)
 {
     buffer.clear();
     add(buffer, b"{\"code\":\"");
-    add(buffer, code_of(fault));
+    add(buffer, fault.code().as_bytes());
     add(buffer, b"\",\"error\":\"BadBody\",\"line\":");
     add_number(buffer, line);
     add(buffer, b"}");
@@ -118,21 +106,8 @@ fn put_stale(buffer: &mut Vec<u8>, current: u32)
     add(buffer, b",\"error\":\"Stale\"}");
 }
 
-/// The zeros before a number of three digits.
-fn zeros_before(number: u16) -> &'static [u8]
-    ensures zeros { result.now ≡ replicate (3 - length (decimal number)) 48 }
-    ensures short { length result.now ≤ 2 }
-{
-    if number < 10 {
-        return b"00";
-    }
-    if number < 100 {
-        return b"0";
-    }
-    &[]
-}
-
 /// Three digits, or more where the number has more.
+#[tactic(auto, using(crate::proofs::ShortLemmas::padded_short))]
 fn add_three_digits(buffer: &mut Vec<u8>, number: u16)
     requires room { SHORT ≤ vec_capacity buffer.old }
     requires short { vec_len buffer.old + 22 ≤ SHORT }
@@ -140,8 +115,7 @@ fn add_three_digits(buffer: &mut Vec<u8>, number: u16)
     ensures len { vec_len buffer.new ≤ vec_len buffer.old + 22 }
     ensures room { SHORT ≤ vec_capacity buffer.new }
 {
-    add(buffer, zeros_before(number));
-    add_number(buffer, number as u64);
+    add(buffer, Padded::new(number as u64, 3).as_slice());
 }
 
 /// The least county of which only a part is listed.

@@ -1,10 +1,10 @@
 -- The methods that pages take.
 use Rattle.std.specs.Prelude.{ℕ, Bool, ◌||◌, List, codes}
 use Rattle.std.specs.Str.{bytes_eq}
-use Rattle.http_desk.specs.declared.method.Methods.{Methods}
-use Rattle.http_desk.specs.declared.method.Methods.TheVariants.{Look, Make, Post}
-use Rattle.http_desk.specs.declared.route.Page.{Page}
-use Rattle.http_desk.specs.declared.route.Page.TheVariants as page
+use Rattle.http_orders.specs.declared.method.Methods.{Methods}
+use Rattle.http_orders.specs.declared.method.Methods.TheVariants.{Look, Make, Post}
+use Rattle.http_orders.specs.declared.route.Page.{Page}
+use Rattle.http_orders.specs.declared.route.Page.TheVariants as page
 
 -- the method is the word; case matters (RFC 9110, section 9.1)
 abbrev pub is_method : List ℕ → List ℕ → Bool

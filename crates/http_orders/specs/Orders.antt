@@ -7,15 +7,16 @@ use Rattle.desk_model.specs.declared.kind.Kind.{Kind}
 use Rattle.desk_model.specs.declared.command.Query.{Query}
 use Rattle.desk_model.specs.declared.command.Command.TheVariants.{Create, Whole, Counties, Retire}
 use Rattle.desk_model.specs.declared.command.Query.TheVariants.{Plans, Blocks, Revision, Audit}
-use Rattle.http_desk.specs.declared.route.Page.{Page}
-use Rattle.http_desk.specs.declared.route.Page.TheVariants as page
-use Rattle.http_desk.specs.declared.order.Order.{Order}
-use Rattle.http_desk.specs.declared.order.Order.TheVariants as order
-use Rattle.http_desk.specs.declared.order.Error.TheVariants.{UnknownMethod, NoRoute, MethodNotAllowed, BadName, BadNumber, BadQuery}
-use Rattle.http_desk.specs.Methods.{is_method, is_known, methods_of, takes}
-use Rattle.http_desk.specs.Routes.{page_of, plan_part, revision_part}
+use Rattle.http_orders.specs.declared.route.Page.{Page}
+use Rattle.http_orders.specs.declared.route.Page.TheVariants as page
+use Rattle.http_orders.specs.declared.order.Order.{Order}
+use Rattle.http_orders.specs.declared.order.Order.TheVariants as order
+use Rattle.http_orders.specs.declared.order.Error.TheVariants.{UnknownMethod, NoRoute, MethodNotAllowed, BadName, BadNumber, BadQuery}
+use Rattle.http_orders.specs.declared.method.Methods.TheVariants.{Make}
+use Rattle.http_orders.specs.Methods.{is_method, is_known, methods_of, takes}
+use Rattle.http_orders.specs.Routes.{page_of, plan_part, revision_part}
 use Rattle.field_text.specs.Digits.{number_of}
-use Rattle.http_desk.specs.Queries.{create_query, after_query, senate_query, is_no_query}
+use Rattle.http_orders.specs.Queries.{create_query, after_query, senate_query, is_no_query}
 
 -- the path is what stands before the first question mark, and the query what stands behind it (RFC 9112, section 3.2.1)
 abbrev pub path_of : List ℕ → List ℕ
@@ -66,9 +67,12 @@ audit_order (Some name) None senate = order.Refused BadNumber
 audit_order (Some name) (Some k) None = order.Refused BadQuery
 audit_order (Some name) (Some k) (Some senate) = order.Query (Audit name k senate)
 
--- a plan is taken away or made
+-- a plan is made or taken away
 abbrev pub plan_order : (method path query : List ℕ) → Order
-plan_order method path query = if is_method (codes "DELETE") method then retire_order (name_in path) query else create_order (name_in path) (create_query query)
+plan_order method path query =
+    if is_method (codes "PUT") method then create_order (name_in path) (create_query query)
+    else if is_method (codes "DELETE") method then retire_order (name_in path) query
+    else order.Refused (MethodNotAllowed Make)
 
 -- what one of the page's methods asks for
 abbrev pub order_on : Page → (method path query body : List ℕ) → Order

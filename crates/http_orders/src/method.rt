@@ -1,8 +1,9 @@
 //! The methods that pages take.
 ghost use Rattle.std.specs.Prelude.{◌≡◌, ◌≤◌, length};
-ghost use Rattle.http_desk.specs.Methods.{is_known as is_known_method, methods_of as methods_of_page, takes as takes_method, methods_text};
+ghost use Rattle.http_orders.specs.Methods.{is_known as is_known_method, methods_of as methods_of_page, takes as takes_method, methods_text};
 
 use crate::route::Page;
+use http::Method;
 
 /// The methods of a page.
 #[derive(Clone, Copy, Debug, PartialEq, Eq)]
@@ -17,13 +18,13 @@ pub enum Methods {
 
 impl Methods {
     /// Whether the method is one of them.
-    pub fn takes(self, method: &[u8]) -> bool
+    pub fn takes(self, method: &Method) -> bool
         ensures { result ≡ takes_method self method.now }
     {
         match self {
-            Methods::Look => method == b"GET".as_slice() || method == b"HEAD".as_slice(),
-            Methods::Make => method == b"PUT".as_slice() || method == b"DELETE".as_slice(),
-            Methods::Post => method == b"POST".as_slice(),
+            Methods::Look => *method == Method::GET || *method == Method::HEAD,
+            Methods::Make => *method == Method::PUT || *method == Method::DELETE,
+            Methods::Post => *method == Method::POST,
         }
     }
 
@@ -52,12 +53,12 @@ pub fn methods_of(page: Page) -> Methods
 }
 
 /// Whether the method is one of the desk's.
-pub fn is_known(method: &[u8]) -> bool
+pub fn is_known(method: &Method) -> bool
     ensures { result ≡ is_known_method method.now }
 {
-    method == b"GET".as_slice()
-        || method == b"HEAD".as_slice()
-        || method == b"PUT".as_slice()
-        || method == b"POST".as_slice()
-        || method == b"DELETE".as_slice()
+    *method == Method::GET
+        || *method == Method::HEAD
+        || *method == Method::PUT
+        || *method == Method::POST
+        || *method == Method::DELETE
 }

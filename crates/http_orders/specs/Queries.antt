@@ -10,11 +10,11 @@ use Rattle.desk_model.specs.declared.kind.Kind.{Kind}
 use Rattle.desk_model.specs.Kind.{kind_named, sized}
 
 -- the text that a name or a value of the form stands for
-abbrev pub text_of : List ℕ → List ℕ
-text_of bytes = utf8_lossy (decode bytes)
+abbrev pub form_text : List ℕ → List ℕ
+form_text bytes = utf8_lossy (decode bytes)
 
 abbrev pub texts_of : List ℕ × List ℕ → List ℕ × List ℕ
-texts_of p = (text_of p.0, text_of p.1)
+texts_of p = (form_text p.0, form_text p.1)
 
 -- the names and values of a query
 abbrev pub pairs_of : List ℕ → List (List ℕ × List ℕ)

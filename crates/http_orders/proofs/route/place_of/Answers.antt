@@ -1,6 +1,6 @@
 use Rattle.std.proofs.Common.{◌≡◌, ◌==◌, true, get_or, length, sym, arith}
 use Rattle.std.proofs.lemmas.List.Sums.{position_or_len_is}
-use Rattle.http_desk.proofs.route.place_of.Goals as goal
+use Rattle.http_orders.proofs.route.place_of.Goals as goal
 
 pub returns-then-b-byte-clause-place : goal.returns-then-b-byte-clause-place
 returns-then-b-byte-clause-place c =

@@ -4,8 +4,8 @@ use Rattle.matchit.specs.Rows.{RowsOf}
 use Rattle.matchit.specs.Route.{Scan}
 use Rattle.matchit.specs.Router.{RouteOf, InsertsRead}
 use Rattle.matchit.specs.declared.InsertError.{InsertError}
-use Rattle.http_desk.specs.declared.route.Page.{Page}
-use Rattle.http_desk.specs.Routes.{with_read}
+use Rattle.http_orders.specs.declared.route.Page.{Page}
+use Rattle.http_orders.specs.Routes.{with_read}
 
 pub added : (read : Result Scan InsertError) (page : Page) (old new : RowsOf (RouteOf Page)) (r : Result (Unit {0}) InsertError) (u : Unit {0}) → r ≡ Ok u → InsertsRead read page old new r → new ≡ with_read read page old
 added (Ok s) page old new (Ok w) u e i = i.1

@@ -1,9 +1,9 @@
 //! Requests to commands and queries.
 ghost use Rattle.std.specs.Prelude.{◌≡◌, Some, IfOk};
 ghost use Rattle.std.specs.Str.{IsAscii};
-ghost use Rattle.http_desk.specs.Routes.{the_routes};
-ghost use Rattle.http_desk.specs.Orders.{order_of as order_of_request, order_at, order_on, name_in as name_in_path, create_order as create_order_of, whole_order as whole_order_of, counties_order as counties_order_of, retire_order as retire_order_of, plan_order as plan_order_of, plain_query as plain_query_of, revision_order as revision_order_of, audit_order as audit_order_of, number_in as number_in_path};
-ghost use Rattle.http_desk.specs.Queries.{create_query as create_query_of, after_query as after_query_of, senate_query as senate_query_of};
+ghost use Rattle.http_orders.specs.Routes.{the_routes};
+ghost use Rattle.http_orders.specs.Orders.{order_of as order_of_request, order_at, order_on, name_in as name_in_path, create_order as create_order_of, whole_order as whole_order_of, counties_order as counties_order_of, retire_order as retire_order_of, plan_order as plan_order_of, plain_query as plain_query_of, revision_order as revision_order_of, audit_order as audit_order_of, number_in as number_in_path};
+ghost use Rattle.http_orders.specs.Queries.{create_query as create_query_of, after_query as after_query_of, senate_query as senate_query_of};
 
 use crate::method::{Methods, is_known, methods_of};
 use crate::query::{after_query, create_query, is_no_query, senate_query, short_number};
@@ -11,6 +11,7 @@ use crate::route::{Page, around, page_of, plan_part, revision_part};
 use desk_model::command::{Command, Query};
 use desk_model::name::PlanName;
 use desk_model::text::Text;
+use http::Method;
 use matchit::Router;
 use percent_encoding::percent_decode;
 use std::alloc::{AllocError, Global};
@@ -156,21 +157,29 @@ fn audit_order(alloc: Global, path: &[u8], query: &[u8]) -> Result<Order, AllocE
     Ok(Order::Query(Query::Audit { plan, k, senate }))
 }
 
-/// What is asked for at `/plans/{p}`, by DELETE or by PUT.
-fn plan_order(alloc: Global, method: &[u8], path: &[u8], query: &[u8]) -> Result<Order, AllocError>
+/// What is asked for at `/plans/{p}`, by PUT or by DELETE.
+fn plan_order(
+    alloc: Global,
+    method: &Method,
+    path: &[u8],
+    query: &[u8],
+) -> Result<Order, AllocError>
     ensures { IfOk result (λ order. order ≡ plan_order_of method.now path.now query.now) }
 {
-    if method == b"DELETE".as_slice() {
+    if *method == Method::PUT {
+        return create_order(alloc, path, query);
+    }
+    if *method == Method::DELETE {
         return retire_order(alloc, path, query);
     }
-    create_order(alloc, path, query)
+    Ok(Order::Refused(Error::MethodNotAllowed(Methods::Make)))
 }
 
 /// What one of the page's methods asks for.
 fn order_on_page(
     alloc: Global,
     page: Page,
-    method: &[u8],
+    method: &Method,
     path: &[u8],
     query: &[u8],
     body: Vec<u8>,
@@ -192,7 +201,7 @@ fn order_on_page(
 fn order_at_page(
     alloc: Global,
     page: Page,
-    method: &[u8],
+    method: &Method,
     path: &[u8],
     query: &[u8],
     body: Vec<u8>,
@@ -210,7 +219,7 @@ fn order_at_page(
 pub fn order_of(
     alloc: Global,
     router: &Router<Page>,
-    method: &[u8],
+    method: &Method,
     target: &[u8],
     body: Vec<u8>,
 ) -> Result<Order, AllocError>

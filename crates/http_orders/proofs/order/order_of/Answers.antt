@@ -1,5 +1,5 @@
 use Rattle.std.proofs.lemmas.Str.{IsUtf8-from_ascii, IsAscii-take}
-use Rattle.http_desk.proofs.order.order_of.Goals as goal
+use Rattle.http_orders.proofs.order.order_of.Goals as goal
 
 pub unreachable-requires : goal.unreachable-requires
 unreachable-requires c =

@@ -1,7 +1,7 @@
 //! The table of paths.
 ghost use Rattle.std.specs.Prelude.{◌≡◌, ◌==◌, ◌≤◌, IfOk, OnOk, length};
 ghost use Rattle.std.specs.List.{before_first, after_first, position_or_len};
-ghost use Rattle.http_desk.specs.Routes.{the_routes, with_route, page_of as page_of_path, plan_part as plan_part_of, revision_part as revision_part_of};
+ghost use Rattle.http_orders.specs.Routes.{the_routes, with_route, page_of as page_of_path, plan_part as plan_part_of, revision_part as revision_part_of};
 
 use matchit::{InsertError, Router};
 use std::alloc::Global;

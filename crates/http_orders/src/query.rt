@@ -3,8 +3,8 @@ ghost use Rattle.std.specs.Prelude.{◌≡◌, ℕ, List, [], ◌∷◌, length,
 ghost use Rattle.std.specs.Str.{bytes_eq};
 ghost use Rattle.std.specs.Cow.{cow_str_bytes};
 ghost use Rattle.form_urlencoded.specs.Form.{raw_pairs as raw_pairs_of, pair_text};
-ghost use Rattle.http_desk.specs.Queries.{text_of, size_of as size_of_texts, create_query as create_query_of, after_query as after_query_of, address_of as address_of_text, senate_query as senate_query_of, is_no_query as has_no_pair};
-ghost use Rattle.http_desk.specs.Pairs.{HasOne, HasTwo};
+ghost use Rattle.http_orders.specs.Queries.{form_text, size_of as size_of_texts, create_query as create_query_of, after_query as after_query_of, address_of as address_of_text, senate_query as senate_query_of, is_no_query as has_no_pair};
+ghost use Rattle.http_orders.specs.Pairs.{HasOne, HasTwo};
 ghost use Rattle.field_text.specs.Digits.{number_of};
 
 use crate::route::around;
@@ -31,7 +31,7 @@ fn two_pairs(query: &[u8]) -> Option<((&[u8], &[u8]), (&[u8], &[u8]))>
 
 /// The text of a name or a value.
 fn text(alloc: Global, bytes: &[u8]) -> Result<CowStr<'_>, AllocError>
-    ensures { IfOk result (λ s. cow_str_bytes s ≡ text_of bytes.now) }
+    ensures { IfOk result (λ s. cow_str_bytes s ≡ form_text bytes.now) }
 {
     decode(alloc, bytes)
 }

@@ -7,8 +7,8 @@ use Rattle.matchit.specs.Order.{placed}
 use Rattle.matchit.specs.Router.{RouteOf, route_from}
 use Rattle.matchit.specs.Seek.{first}
 use Rattle.matchit.specs.declared.InsertError.{InsertError}
-use Rattle.http_desk.specs.declared.route.Page.{Page}
-use Rattle.http_desk.specs.declared.route.Page.TheVariants.{Blocks, Plans, Plan, Revisions, Counties, Revision, Audit}
+use Rattle.http_orders.specs.declared.route.Page.{Page}
+use Rattle.http_orders.specs.declared.route.Page.TheVariants.{Blocks, Plans, Plan, Revisions, Counties, Revision, Audit}
 
 -- the rows with one more route
 abbrev pub with_read : Result Scan InsertError → Page → RowsOf (RouteOf Page) → RowsOf (RouteOf Page)

@@ -1,0 +1,135 @@
+//! The gate of a served stream: passed once between the reading and the answering of each request.
+use byte_stream::sink::WriteSink;
+use byte_stream::source::ReadSource;
+use desk_model::command::{Command, Query};
+use desk_model::gate::Gate;
+use desk_model::reply::{PlanRows, Refusal, Reply};
+use http_desk::counter::Counter;
+use http_desk::serve::serve;
+use std::alloc::Global;
+use std::cell::Cell;
+use std::io;
+use std::io::Read;
+
+/// How many reads, passes and replies there were, and whether one came out of its order.
+#[derive(Drop)]
+struct Notes {
+    reads: Cell<u32>,
+    passes: Cell<u32>,
+    replies: Cell<u32>,
+    is_wrong: Cell<bool>,
+}
+
+impl Notes {
+    /// Notes that a step comes behind so many of each.
+    fn expect(&self, reads: u32, passes: u32, replies: u32) {
+        if self.reads.get() != reads
+            || self.passes.get() != passes
+            || self.replies.get() != replies
+        {
+            self.is_wrong.set(true);
+        }
+    }
+}
+
+const LIST: &[u8] = b"GET /plans HTTP/1.1\r\nHost: d\r\n\r\n";
+
+const RETIRE: &[u8] = b"DELETE /plans/a HTTP/1.1\r\nHost: d\r\n\r\n";
+
+const LISTED: &[u8] =
+    b"HTTP/1.1 200 OK\r\nContent-Type: application/json\r\nContent-Length: 12\r\n\r\n{\"plans\":[]}";
+
+/// Gives a request a call, a list and the end of a plan in turn, so many in all.
+#[derive(Drop)]
+struct Asking<'a> {
+    notes: &'a Notes,
+    requests: u32,
+}
+
+impl Read for Asking<'_> {
+    fn read(&mut self, buf: &mut [u8]) -> io::Result<usize> {
+        let read = self.notes.reads.get();
+        self.notes.expect(read, read, read);
+        if read >= self.requests {
+            return Ok(0);
+        }
+        let request = if read % 2 == 0 { LIST } else { RETIRE };
+        let n = request.len().min(buf.len());
+        buf[..n].copy_from_slice(&request[..n]);
+        self.notes.reads.set(read.saturating_add(1));
+        Ok(n)
+    }
+}
+
+/// Notes each pass.
+#[derive(Drop)]
+struct Noting<'a> {
+    notes: &'a Notes,
+}
+
+impl Gate for Noting<'_> {
+    fn pass(&self, worker: u32, piece: u32) {
+        self.notes.expect(piece.saturating_add(1), piece, piece);
+        if worker != 0 {
+            self.notes.is_wrong.set(true);
+        }
+        self.notes.passes.set(piece.saturating_add(1));
+    }
+}
+
+/// Has no plan, and notes each reply.
+#[derive(Drop)]
+struct Noted<'a> {
+    notes: &'a Notes,
+}
+
+impl Noted<'_> {
+    fn reply(&self) {
+        let replied = self.notes.replies.get();
+        let next = replied.saturating_add(1);
+        self.notes.expect(next, next, replied);
+        self.notes.replies.set(next);
+    }
+}
+
+impl<'a> Counter for Noted<'a> {
+    // What it answers is told by the test.
+    ghost commands = { λ _ _ _ _. Unit {0} };
+
+    ghost asks = { λ _ _ _ _. Unit {0} };
+
+    const ALONE: bool = true;
+
+    fn command(&mut self, _alloc: Global, _command: Command) -> Reply {
+        self.reply();
+        Reply::Refused(Refusal::NoPlan)
+    }
+
+    fn ask(&mut self, alloc: Global, _query: Query) -> Reply {
+        self.reply();
+        Reply::Plans(PlanRows::from_vec(Vec::new(alloc)))
+    }
+}
+
+#[test]
+fn a_gate_is_passed_once_a_request(rt: HostRuntime) {
+    let notes = Notes {
+        reads: Cell::new(0),
+        passes: Cell::new(0),
+        replies: Cell::new(0),
+        is_wrong: Cell::new(false),
+    };
+    let mut reader = ReadSource::new(Asking {
+        notes: &notes,
+        requests: 5,
+    });
+    let mut writer = WriteSink::new(Vec::new(rt.alloc()));
+    let mut counter = Noted { notes: &notes };
+    let gate = Noting { notes: &notes };
+    let served = serve(rt.alloc(), &mut reader, &mut writer, &mut counter, &gate);
+    let _ = reader.into_inner();
+    assert!(rt; writer.into_inner().as_slice().starts_with(LISTED));
+    assert!(rt; matches!(served, Ok(served) if served.requests == 5));
+    assert!(rt; notes.passes.get() == 5 && notes.replies.get() == 5);
+    assert!(rt; !notes.is_wrong.get());
+}

@@ -1,0 +1,18 @@
+-- Codes of faults and padded numbers are short.
+use Rattle.std.proofs.Common.{ℕ, ◌+◌, ◌-◌, ◌<◌, ◌≤◌, ◌^◌, length, replicate, decimal, arith, length-append}
+use Rattle.std.proofs.lemmas.List.{length-replicate}
+use Rattle.std.proofs.lemmas.Fmt.{length-decimal-le}
+use Rattle.desk_model.specs.declared.reply.BodyFault.{BodyFault}
+use Rattle.desk_model.specs.declared.reply.BodyFault.TheVariants.{Header, Shape, UnknownBlock, RepeatedBlock, OutOfRange}
+use Rattle.desk_model.specs.Baf.{fault_code, padded_decimal}
+
+pub code_short : (fault : BodyFault) → length (fault_code fault) ≤ 2
+code_short Header = omega arith
+code_short Shape = omega arith
+code_short UnknownBlock = omega arith
+code_short RepeatedBlock = omega arith
+code_short OutOfRange = omega arith
+
+pub padded_short : (n : ℕ) → n < 65536 → length (padded_decimal 3 n) ≤ 22
+padded_short n small =
+    omega (arith, length-append (replicate (3 - length (decimal n)) 48) (decimal n), length-replicate {A = ℕ} (3 - length (decimal n)) 48, length-decimal-le 5 n (omega arith) (omega arith) (omega arith))

@@ -1,0 +1,5 @@
+pub mod Methods
+pub mod Orders
+pub mod Pairs
+pub mod Queries
+pub mod Routes
