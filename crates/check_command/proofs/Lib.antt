@@ -1,4 +1,1 @@
 pub mod Counted
-pub mod Numbers
-pub mod Pieces
-pub mod Plans

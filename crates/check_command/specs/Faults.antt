@@ -7,14 +7,14 @@ use Rattle.pl94_segment.specs.declared.join.JoinFault.{JoinFault}
 use Rattle.pl94_segment.specs.declared.join.JoinFault.TheVariants as join
 use Rattle.gal_text.specs.declared.fault.GalFault.{GalFault}
 use Rattle.gal_text.specs.declared.fault.GalFault.TheVariants as gal
-use Rattle.check_command.specs.declared.fault.OpenFault.{OpenFault}
-use Rattle.check_command.specs.declared.fault.OpenFault.TheVariants as opening
-use Rattle.check_command.specs.declared.fault.PlanFault.{PlanFault}
-use Rattle.check_command.specs.declared.fault.PlanFault.TheVariants as plan
-use Rattle.check_command.specs.declared.fault.CheckFault.{CheckFault}
-use Rattle.check_command.specs.declared.fault.CheckFault.TheVariants.{NoHeader, Header, NoSegment, Segment, Join, NoGal, Gal, Plan}
-use Rattle.check_command.specs.declared.status.Status.{Status}
-use Rattle.check_command.specs.declared.status.Status.TheVariants.{Refused, Memory}
+use Rattle.state_files.specs.declared.fault.OpenFault.{OpenFault}
+use Rattle.state_files.specs.declared.fault.OpenFault.TheVariants as opening
+use Rattle.state_files.specs.declared.fault.PlanFault.{PlanFault}
+use Rattle.state_files.specs.declared.fault.PlanFault.TheVariants as plan
+use Rattle.state_files.specs.declared.fault.FileFault.{FileFault}
+use Rattle.state_files.specs.declared.fault.FileFault.TheVariants.{NoHeader, Header, NoSegment, Segment, Join, NoGal, Gal, Plan}
+use Rattle.exit_status.specs.declared.status.Status.{Status}
+use Rattle.exit_status.specs.declared.status.Status.TheVariants.{Refused, Memory}
 
 -- 5 where memory was refused, and 3 for all else
 abbrev pub status_of_open : OpenFault → Status
@@ -54,7 +54,7 @@ status_of_plan plan.TooLarge = Refused
 status_of_plan (plan.Body fault line) = Refused
 status_of_plan plan.Memory = Memory
 
-abbrev pub status_of_fault : CheckFault → Status
+abbrev pub status_of_fault : FileFault → Status
 status_of_fault (NoHeader fault) = status_of_open fault
 status_of_fault (Header fault) = status_of_geo fault
 status_of_fault (NoSegment part fault) = status_of_open fault

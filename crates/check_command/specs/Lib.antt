@@ -2,11 +2,5 @@ pub mod Auditing
 pub mod Checking
 pub mod Counts
 pub mod Faults
-pub mod Opening
-pub mod Opens
-pub mod Options
-pub mod PlanFiles
-pub mod Statuses
 pub mod Telling
-pub mod Whole
 pub mod Writing

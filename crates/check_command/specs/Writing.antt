@@ -2,8 +2,8 @@
 use Rattle.std.specs.Prelude.{◌≡◌, ℕ, List, codes, Option, Result, Ok, Err}
 use Rattle.byte_stream.specs.Sends.{Sends, failures_with}
 use Rattle.byte_stream.specs.declared.sink.WriteFault.{WriteFault}
-use Rattle.check_command.specs.declared.status.Status.{Status}
-use Rattle.check_command.specs.declared.status.Status.TheVariants.{Stream}
+use Rattle.exit_status.specs.declared.status.Status.{Status}
+use Rattle.exit_status.specs.declared.status.Status.TheVariants.{Stream}
 
 -- what a writer holds, where that is known, and how often it failed
 pub record Written : Type 0 where

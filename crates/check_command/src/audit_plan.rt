@@ -4,27 +4,18 @@ ghost use Rattle.audit_report.specs.Clauses.{is_house};
 ghost use Rattle.check_command.specs.Writing.{written_of};
 ghost use Rattle.check_command.specs.Auditing.{openings_of, AuditsState, report_status as status_of_report, EndsAudit, Audits};
 
-use crate::census::{CensusFiles, read_state};
-use crate::fault::{CheckFault, OpenFault, PlanFile};
-use crate::ground::read_ground;
-use crate::plan_file::{Companion, districts_of, read_companion, read_plan};
 use crate::report::{Audited, report_of};
-use crate::status::Status;
 use crate::telling::{print, tell};
 use byte_stream::sink::Sink;
 use byte_stream::source::Source;
 use desk_model::kind::Kind;
+use exit_status::status::Status;
+use state_files::census::read_state;
+use state_files::fault::{FileFault, PlanFile};
+use state_files::ground::read_ground;
+use state_files::open::AuditFiles;
+use state_files::plan_file::{districts_of, read_companion, read_plan};
 use std::alloc::Global;
-
-/// The openings of all files of an audit.
-#[derive(Drop)]
-pub struct AuditFiles<R> {
-    pub census: CensusFiles<R>,
-    pub gal: Result<R, OpenFault>,
-    pub plan: Result<R, OpenFault>,
-    /// A senate plan beside a house plan.
-    pub senate: Option<Companion<R>>,
-}
 
 /// The report of the plan that the files say, or their first fault.
 fn audit_of<R: Source>(
@@ -32,7 +23,7 @@ fn audit_of<R: Source>(
     files: &mut AuditFiles<R>,
     kind: Kind,
     districts: u16,
-) -> Result<Audited, CheckFault>
+) -> Result<Audited, FileFault>
     requires some { 1 ≤ districts }
     requires few { districts ≤ 999 }
     requires companion { IsSome files.old.senate → IsTrue (is_house kind) }
@@ -62,7 +53,7 @@ fn report_status(broken: bool) -> Status
 /// Writes the report, or tells the files' fault.
 fn end_audit<W: Sink, E: Sink>(
     alloc: Global,
-    outcome: Result<Audited, CheckFault>,
+    outcome: Result<Audited, FileFault>,
     writer: &mut W,
     errors: &mut E,
 ) -> Status

@@ -1,34 +1,34 @@
 //! `check`: the counts of a state's census files.
 ghost use Rattle.std.specs.Prelude.{◌≡◌};
-ghost use Rattle.check_command.specs.Opening.{census_of};
+ghost use Rattle.state_files.specs.Opening.{census_of};
 ghost use Rattle.check_command.specs.Writing.{written_of};
 ghost use Rattle.check_command.specs.Checking.{CountsState, Counts, Ends};
 
-use crate::census::{CensusFiles, read_state};
 use crate::counts::print_counts;
-use crate::fault::CheckFault;
-use crate::status::Status;
 use crate::telling::{print, tell};
 use byte_stream::sink::Sink;
 use byte_stream::source::Source;
+use exit_status::status::Status;
 use pl94_segment::join::JoinFault;
+use state_files::census::{CensusFiles, read_state};
+use state_files::fault::FileFault;
 use std::alloc::Global;
 
 /// What is printed of a state's files.
-fn counts_of<R: Source>(alloc: Global, files: &mut CensusFiles<R>) -> Result<Vec<u8>, CheckFault>
+fn counts_of<R: Source>(alloc: Global, files: &mut CensusFiles<R>) -> Result<Vec<u8>, FileFault>
     ensures { CountsState (census_of R.remaining R.turns R.failures files.old) (census_of R.remaining R.turns R.failures files.new) result }
 {
     let rows = read_state(alloc, files)?;
     match print_counts(alloc, rows.as_slice()) {
         Ok(text) => Ok(text),
-        Err(_) => Err(CheckFault::Join(JoinFault::Memory)),
+        Err(_) => Err(FileFault::Join(JoinFault::Memory)),
     }
 }
 
 /// Writes what was made of the files, or tells their fault.
 fn end<W: Sink, E: Sink>(
     alloc: Global,
-    outcome: Result<Vec<u8>, CheckFault>,
+    outcome: Result<Vec<u8>, FileFault>,
     writer: &mut W,
     errors: &mut E,
 ) -> Status

@@ -3,15 +3,8 @@
 #![tactic(auto)]
 
 pub mod audit_plan;
-pub mod census;
 pub mod check;
 pub mod counts;
-pub mod fault;
-pub mod ground;
-pub mod open;
-pub mod options;
-pub mod plan_file;
+pub mod fault_status;
 pub mod report;
-pub mod status;
 pub mod telling;
-pub mod whole;

@@ -4,10 +4,10 @@ ghost use Rattle.std.specs.Option.{option_copied};
 ghost use Rattle.audit_report.specs.Clauses.{is_house};
 ghost use Rattle.check_command.specs.Auditing.{IsAudited, Reports};
 
-use crate::fault::{CheckFault, PlanFault, PlanFile};
 use audit_report::audit::audit;
 use desk_model::geography::Geography;
 use desk_model::kind::Kind;
+use state_files::fault::{FileFault, PlanFault, PlanFile};
 use std::alloc::{AllocError, Global};
 
 /// A report's text and its LF, and whether it names a clause that is broken.
@@ -47,7 +47,7 @@ pub fn report_of(
     n: u16,
     plan: &[u16],
     companion: Option<&[u16]>,
-) -> Result<Audited, CheckFault>
+) -> Result<Audited, FileFault>
     requires some { 1 ≤ n }
     requires few { n ≤ 999 }
     requires beside { length plan.now ≡ length geography.now.blocks }
@@ -57,6 +57,6 @@ pub fn report_of(
 {
     match print_report(alloc, geography, kind, n, plan, companion) {
         Ok(audited) => Ok(audited),
-        Err(_) => Err(CheckFault::Plan(PlanFile::Plan, PlanFault::Memory)),
+        Err(_) => Err(FileFault::Plan(PlanFile::Plan, PlanFault::Memory)),
     }
 }

@@ -1,16 +1,18 @@
 //! What is printed, and the line that is told of a fault.
 ghost use Rattle.std.specs.Prelude.{◌≡◌, IfOk, string_bytes};
-ghost use Rattle.check_command.specs.Telling.{segment_file, plan_file, memory_at, fault_line, memory_line, Tells};
+ghost use Rattle.state_files.specs.Texts.{segment_file, plan_file};
+ghost use Rattle.check_command.specs.Telling.{memory_at, fault_line, memory_line, Tells};
 ghost use Rattle.check_command.specs.Writing.{written_of, write_fault_line, Told, Prints};
 
-use crate::fault::{CheckFault, PlanFile};
-use crate::status::Status;
+use crate::fault_status::fault_status;
 use byte_stream::sink::Sink;
+use exit_status::status::Status;
 use pl94_segment::record::Part;
+use state_files::fault::{FileFault, PlanFile};
 use std::alloc::{AllocError, Global};
 
 /// The line of a fault, as `plandesk: geo: G1 line 2`.
-fn line_of(alloc: Global, fault: &CheckFault) -> Result<String, AllocError>
+fn line_of(alloc: Global, fault: &FileFault) -> Result<String, AllocError>
     ensures { IfOk result (λ text. string_bytes text ≡ fault_line fault.now) }
 {
     format!(in alloc; "plandesk: {fault}\n")
@@ -36,16 +38,16 @@ fn plan_memory(file: PlanFile) -> &'static [u8]
 }
 
 /// The line of want of memory at a fault's file.
-fn memory_line_of(fault: &CheckFault) -> &'static [u8]
+fn memory_line_of(fault: &FileFault) -> &'static [u8]
     ensures { result.now ≡ memory_line fault.now }
 {
     match *fault {
-        CheckFault::NoHeader(_) | CheckFault::Header(_) => b"plandesk: geo: Memory\n",
-        CheckFault::NoSegment(part, _) => segment_memory(part),
-        CheckFault::Segment(part, _) => segment_memory(part),
-        CheckFault::Join(_) => b"plandesk: join: Memory\n",
-        CheckFault::NoGal(_) | CheckFault::Gal(_) => b"plandesk: gal: Memory\n",
-        CheckFault::Plan(file, _) => plan_memory(file),
+        FileFault::NoHeader(_) | FileFault::Header(_) => b"plandesk: geo: Memory\n",
+        FileFault::NoSegment(part, _) => segment_memory(part),
+        FileFault::Segment(part, _) => segment_memory(part),
+        FileFault::Join(_) => b"plandesk: join: Memory\n",
+        FileFault::NoGal(_) | FileFault::Gal(_) => b"plandesk: gal: Memory\n",
+        FileFault::Plan(file, _) => plan_memory(file),
     }
 }
 
@@ -75,20 +77,20 @@ pub fn print<W: Sink, E: Sink>(text: &[u8], good: Status, writer: &mut W, errors
     }
 }
 
-fn tell_memory<E: Sink>(fault: &CheckFault, errors: &mut E)
+fn tell_memory<E: Sink>(fault: &FileFault, errors: &mut E)
     ensures { Told (written_of E.contents E.failures errors.old) (written_of E.contents E.failures errors.new) (memory_line fault.now) }
 {
     send_line(errors, memory_line_of(fault));
 }
 
 /// Tells a fault, as far as that can be written. Where memory for its line is refused, that is told in its place.
-pub fn tell<E: Sink>(alloc: Global, fault: CheckFault, errors: &mut E) -> Status
+pub fn tell<E: Sink>(alloc: Global, fault: FileFault, errors: &mut E) -> Status
     ensures { Tells fault result (written_of E.contents E.failures errors.old) (written_of E.contents E.failures errors.new) }
 {
     match line_of(alloc, &fault) {
         Ok(line) => {
             send_line(errors, line.as_bytes());
-            fault.status()
+            fault_status(&fault)
         }
         Err(_) => {
             tell_memory(&fault, errors);

@@ -2,11 +2,12 @@
 use crate::check_trials::{Ended, Files, SAMPLE, Shape, end_of, reader};
 use crate::page::{NEVER, Page, ROOM};
 use byte_stream::sink::WriteSink;
-use check_command::audit_plan::{AuditFiles, audit_plan};
-use check_command::fault::OpenFault;
-use check_command::plan_file::Companion;
-use check_command::status::Status;
+use check_command::audit_plan::audit_plan;
 use desk_model::kind::Kind;
+use exit_status::status::Status;
+use state_files::fault::OpenFault;
+use state_files::open::AuditFiles;
+use state_files::plan_file::Companion;
 use std::alloc::Global;
 use std::test::Fail;
 

@@ -4,10 +4,10 @@ use crate::page::{NEVER, Page, ROOM};
 use crate::pieces::Pieces;
 use byte_stream::sink::WriteSink;
 use byte_stream::source::ReadSource;
-use check_command::census::CensusFiles;
 use check_command::check::check;
-use check_command::fault::OpenFault;
-use check_command::status::Status;
+use exit_status::status::Status;
+use state_files::census::CensusFiles;
+use state_files::fault::OpenFault;
 use std::alloc::{AllocError, Global};
 use std::test::Fail;
 

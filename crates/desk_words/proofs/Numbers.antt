@@ -1,0 +1,35 @@
+-- A number digit by digit, which stops at a limit.
+use Rattle.std.proofs.Common.{◌≡◌, ℕ, ◌+◌, ◌-◌, ◌*◌, ◌<◌, ◌≤◌, Bool, true, ◌&&◌, List, length, take, get_or, min, refl, sym, ap, ◌∙◌, arith}
+use Rattle.std.proofs.lemmas.List.Folds.{list_all_more}
+use Rattle.std.specs.List.{list_all}
+use Rattle.std.specs.Char.{is_ascii_digit}
+use Rattle.std.specs.Str.Parse.{digits_value}
+use Rattle.std.proofs.lemmas.Bool.Decides.{nat_tests}
+use Rattle.std.proofs.lemmas.Str.{digit_value_digit}
+use Rattle.std.proofs.lemmas.Int.Digits.{digits_value_more}
+
+pub digit_low : (c : ℕ) → is_ascii_digit c ≡ true → 48 ≤ c
+digit_low c is = grind (arith, nat_tests)
+
+pub digit_high : (c : ℕ) → is_ascii_digit c ≡ true → c ≤ 57
+digit_high c is = grind (arith, nat_tests)
+
+value_more : (bytes : List ℕ) (n i : ℕ) → n ≡ digits_value 10 (take i bytes) → i < length bytes → is_ascii_digit (get_or bytes i 0) ≡ true
+    → n * 10 + (get_or bytes i 0 - 48) ≡ digits_value 10 (take (i + 1) bytes)
+value_more bytes n i value inside is =
+    let low = digit_low (get_or bytes i 0) is in
+    let high = digit_high (get_or bytes i 0) is in
+    let more = digits_value_more 10 bytes i inside in
+    let digit = digit_value_digit (get_or bytes i 0) (low, high) in
+    sym (rw (more, ← value) (omega arith))
+
+pub stopped_more : (bytes : List ℕ) (n i : ℕ) → n ≡ min (digits_value 10 (take i bytes)) 1000 → i < length bytes → is_ascii_digit (get_or bytes i 0) ≡ true
+    → min (n * 10 + (get_or bytes i 0 - 48)) 1000 ≡ min (digits_value 10 (take (i + 1) bytes)) 1000
+stopped_more bytes n i value inside is =
+    let exact = value_more bytes (digits_value 10 (take i bytes)) i refl inside is in
+    omega arith
+
+pub digits_more : (bytes : List ℕ) (i : ℕ) → list_all is_ascii_digit (take i bytes) ≡ true → i < length bytes → is_ascii_digit (get_or bytes i 0) ≡ true
+    → list_all is_ascii_digit (take (i + 1) bytes) ≡ true
+digits_more bytes i were inside is =
+    list_all_more is_ascii_digit bytes i 0 inside ∙ ap (λ (b : Bool). b && is_ascii_digit (get_or bytes i 0)) were ∙ is

@@ -1,0 +1,61 @@
+-- Which options of `check` go together, and the values of those that aren't paths.
+use Rattle.std.specs.Prelude.{◌≡◌, false, ℕ, ◌≤◌, Bool, ◌&&◌, ◌||◌, nat_le, if◌then◌else◌, List, Option, Some, None, is_some, IsSome, IsTrue, option_map, option_and_then}
+use Rattle.std.specs.Char.{is_ascii_digit}
+use Rattle.std.specs.List.{list_all}
+use Rattle.std.specs.Str.Parse.{digits_value}
+use Rattle.desk_model.specs.declared.kind.Kind.{Kind}
+use Rattle.desk_model.specs.Kind.{kind_named, most_districts}
+use Rattle.audit_report.specs.Clauses.{is_house}
+use Rattle.desk_words.specs.declared.options.Terms.{Terms}
+use Rattle.desk_words.specs.declared.options.Form.{Form}
+use Rattle.desk_words.specs.declared.options.Form.TheVariants.{Counts, Audit}
+
+-- the number that digits alone write, however many, where it is 1 to `most`
+abbrev pub number_to : ℕ → List ℕ → Option ℕ
+number_to most text =
+    if list_all is_ascii_digit text && nat_le 1 (digits_value 10 text) && nat_le (digits_value 10 text) most then Some (digits_value 10 text)
+    else None
+
+-- the districts of a senate plan, which goes with a house plan alone, and where both of its options are there
+abbrev pub senate_read : Kind → Bool → Option (List ℕ) → Option (Option ℕ)
+senate_read k senate None = if senate then None else Some None
+senate_read k senate (Some text) = if senate && is_house k then option_map Some (number_to 999 text) else None
+
+abbrev pub terms_with : Kind → ℕ → Option (Option ℕ) → Option Terms
+terms_with k n None = None
+terms_with k n (Some senate) = Some (record { kind = k; districts = n; senate_districts = senate })
+
+abbrev pub terms_counted : Kind → Option ℕ → Bool → Option (List ℕ) → Option Terms
+terms_counted k None senate senate_districts = None
+terms_counted k (Some n) senate senate_districts = terms_with k n (senate_read k senate senate_districts)
+
+abbrev pub terms_of_kind : Option Kind → List ℕ → Bool → Option (List ℕ) → Option Terms
+terms_of_kind None districts senate senate_districts = None
+terms_of_kind (Some k) districts senate senate_districts = terms_counted k (number_to (most_districts k) districts) senate senate_districts
+
+-- what is audited, where the words say it
+abbrev pub terms_read : (word districts : List ℕ) → Bool → Option (List ℕ) → Option Terms
+terms_read word districts senate senate_districts = terms_of_kind (kind_named word) districts senate senate_districts
+
+-- The form of the command: with the neighbour file, the plan, its kind and its number of districts the audit; with no option but the census files the counts.
+abbrev pub form_read : (gal plan : Bool) (word districts : Option (List ℕ)) → Bool → Option (List ℕ) → Option Form
+form_read gal plan None None senate senate_districts = if gal || plan || senate || is_some senate_districts then None else Some Counts
+form_read gal plan None (Some districts) senate senate_districts = None
+form_read gal plan (Some word) None senate senate_districts = None
+form_read gal plan (Some word) (Some districts) senate senate_districts =
+    if gal && plan then option_map Audit (terms_read word districts senate senate_districts) else None
+
+-- what an audit may be asked for
+pub record AreTerms (t : Terms) : Type 0 where
+  pub some : 1 ≤ t.districts
+  pub few : t.districts ≤ 999
+  pub of_house : IsSome t.senate_districts → IsTrue (is_house t.kind)
+
+-- the terms have a senate plan exactly where one is given
+abbrev pub IsBeside : Bool → Form → Type 0
+IsBeside senate Counts = senate ≡ false
+IsBeside senate (Audit terms) = is_some terms.senate_districts ≡ senate
+
+abbrev pub IsForm : Form → Type 0
+IsForm Counts = Unit {0}
+IsForm (Audit terms) = AreTerms terms

@@ -1,0 +1,125 @@
+//! Which options of `check` go together, and the values of those that aren't paths.
+ghost use Rattle.std.specs.Prelude.{◌≡◌, ◌≤◌, IfSome, IsSome, IsTrue, IsSomeAnd, is_some};
+ghost use Rattle.std.specs.Option.{option_copied};
+ghost use Rattle.audit_report.specs.Clauses.{is_house as is_house_kind};
+ghost use Rattle.desk_words.specs.Options.{number_to as number_in, senate_read, terms_read, form_read, AreTerms, IsForm, IsBeside};
+
+use desk_model::kind::Kind;
+
+/// What is audited: a plan of so many districts, and beside a house plan a senate plan of so many.
+#[derive(Clone, Copy, Debug, PartialEq, Eq)]
+pub struct Terms {
+    pub kind: Kind,
+    pub districts: u16,
+    pub senate_districts: Option<u16>,
+}
+
+/// What `check` is asked for.
+#[derive(Clone, Copy, Debug, PartialEq, Eq)]
+pub enum Form {
+    /// The counts of the census files.
+    Counts,
+    /// The audit of a plan.
+    Audit(Terms),
+}
+
+fn is_house(kind: Kind) -> bool
+    ensures { result ≡ is_house_kind kind }
+{
+    match kind {
+        Kind::Congress => false,
+        Kind::Senate => false,
+        Kind::House => true,
+    }
+}
+
+/// The number that digits alone write, where it is 1 to `most`. Leading zeros are digits like others.
+fn number_to(most: u16, text: &[u8]) -> Option<u16>
+    requires { most ≤ 999 }
+    ensures value { result ≡ number_in most text.now }
+    ensures some { IfSome result (λ n. 1 ≤ n) }
+    ensures few { IfSome result (λ n. n ≤ most) }
+{
+    let mut value: u16 = 0;
+    for digit in text {
+        if !digit.is_ascii_digit() {
+            return None;
+        }
+        value = (value * 10 + (*digit - b'0') as u16).min(1000);
+    }
+    if value < 1 || value > most {
+        return None;
+    }
+    Some(value)
+}
+
+/// The districts of the senate plan, where there is one. `None` where its options don't go with the others.
+fn senate_districts(kind: Kind, senate: bool, districts: Option<&[u8]>) -> Option<Option<u16>>
+    ensures value { result ≡ senate_read kind senate (option_copied districts.entry) }
+    ensures of_house { IfSome result (λ n. IsSome n → IsTrue (is_house_kind kind)) }
+    ensures beside { IfSome result (λ n. is_some n ≡ senate) }
+{
+    let Some(text) = districts else {
+        if senate {
+            return None;
+        }
+        return Some(None);
+    };
+    if !senate || !is_house(kind) {
+        return None;
+    }
+    let count = number_to(999, text)?;
+    Some(Some(count))
+}
+
+fn read_terms(
+    word: &[u8],
+    districts: &[u8],
+    senate: bool,
+    of_senate: Option<&[u8]>,
+) -> Option<Terms>
+    ensures value { result ≡ terms_read word.now districts.now senate (option_copied of_senate.entry) }
+    ensures valid { IfSome result AreTerms }
+    ensures beside { IfSome result (λ terms. is_some terms.senate_districts ≡ senate) }
+{
+    let kind = Kind::from_name(word)?;
+    let districts = number_to(kind.most_districts(), districts)?;
+    let senate_districts = senate_districts(kind, senate, of_senate)?;
+    Some(Terms {
+        kind,
+        districts,
+        senate_districts,
+    })
+}
+
+/// What is asked for: by whether there is a neighbour file, a plan and a senate plan, and by the words for the kind and
+/// the numbers of districts. `None` where the options don't go together or a word is wrong.
+pub fn read_form(
+    gal: bool,
+    plan: bool,
+    word: Option<&[u8]>,
+    districts: Option<&[u8]>,
+    senate: bool,
+    of_senate: Option<&[u8]>,
+) -> Option<Form>
+    ensures value { result ≡ form_read gal plan (option_copied word.entry) (option_copied districts.entry) senate (option_copied of_senate.entry) }
+    ensures valid { IfSome result IsForm }
+    ensures beside { IfSome result (IsBeside senate) }
+{
+    match (word, districts) {
+        (None, None) => {
+            if gal || plan || senate || of_senate.is_some() {
+                return None;
+            }
+            Some(Form::Counts)
+        }
+        (Some(word), Some(districts)) => {
+            if !gal || !plan {
+                return None;
+            }
+            let terms = read_terms(word, districts, senate, of_senate)?;
+            Some(Form::Audit(terms))
+        }
+        _ => None,
+    }
+}

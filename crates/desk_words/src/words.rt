@@ -1,0 +1,286 @@
+//! The words of the command line.
+ghost use Rattle.std.specs.Prelude.{IfOk, IfSome};
+ghost use Rattle.clap.specs.Matches.{found_of};
+ghost use Rattle.desk_words.specs.Jobs.{IsJob, AreCensusPaths, HasPaths};
+
+use crate::options::{Form, Terms, read_form};
+use clap::builder::ValueParser;
+use clap::error::ErrorKind;
+use clap::{Arg, ArgAction, ArgMatches, Command};
+use exit_status::status::Status;
+use state_files::open::{AuditPaths, CensusPaths};
+use std::alloc::{AllocError, Global};
+
+/// What the program is asked to do.
+#[derive(Clone, Copy, Debug)]
+pub enum Job<'a> {
+    Talk,
+    /// `check` with the census files alone.
+    Counts(CensusPaths<'a>),
+    /// `check` with a plan.
+    Audit(AuditPaths<'a>, Terms),
+}
+
+/// Why it does nothing: help or the version was asked for, the words are wrong, or memory was refused.
+#[derive(Drop)]
+pub struct Mistake {
+    status: Status,
+    text: Option<String>,
+}
+
+impl Mistake {
+    /// 0 where help or the version was asked for, else 2 or 5.
+    pub fn status(&self) -> Status {
+        self.status
+    }
+
+    /// What is told: on standard output with status 0, and else on standard error.
+    pub fn text(&self) -> &str {
+        match &self.text {
+            Some(text) => text.as_str(),
+            None => "plandesk: Memory\n",
+        }
+    }
+}
+
+const VERSION: &str = "0.1.0";
+
+/// The kinds of plans, as they are written.
+const KINDS: &[&str] = &["congress", "senate", "house"];
+
+const ONLY_BESIDE_HOUSE: &str = "error: '--senate <FILE>' goes with '--kind house' alone\n";
+
+const WRONG_NUMBER: &str =
+    "error: a number of districts is digits alone, 1 to 99 for a congress plan and 1 to 999 for others\n";
+
+const STATUSES: &str = "Statuses:
+  0  done; help or the version was told
+  1  a report names a broken clause
+  2  the command line is wrong; nothing was opened
+  3  a file was refused; its fault is told with the file's name
+  5  memory was refused
+  6  standard input or output failed";
+
+const CHECK_HELP: &str =
+    "With the census files alone it prints the numbers of blocks, counties and people, and the people of
+each county; with a plan its audit under Iowa Code 42.4, as one line of JSON. The files are judged in the order
+geo, seg1, seg2, seg3, gal, plan, senate, and the first fault ends the run.
+
+Examples, in the folder 'example':
+  ../plandesk check --geo geo.pl --seg1 seg1.pl --seg2 seg2.pl --seg3 seg3.pl
+  ../plandesk check --geo geo.pl --seg1 seg1.pl --seg2 seg2.pl --seg3 seg3.pl --gal neighbours.gal \\
+    --plan house.txt --kind house --districts 2
+
+Statuses:
+  0  counts, or a report that names no clause
+  1  a report that names a broken clause
+  2  the command line is wrong; nothing was opened
+  3  a file was refused; its fault is told with the file's name
+  5  memory was refused
+  6  standard output failed";
+
+const TALK_HELP: &str = "Example:
+  printf 'GET /plans HTTP/1.1\\r\\nHost: d\\r\\n\\r\\n' | ./plandesk talk
+
+Statuses:
+  0  the input ended, or an answer closed the talk
+  2  the command line is wrong; nothing was read
+  5  memory was refused
+  6  standard input or output failed";
+
+fn memory() -> Mistake {
+    Mistake {
+        status: Status::Memory,
+        text: None,
+    }
+}
+
+/// An option with one value.
+fn option<'a>(alloc: Global, name: &'a str, value: &'a str, help: &'a str) -> Arg<'a> {
+    Arg::new(alloc, name)
+        .long(name)
+        .value_name(value)
+        .help(help)
+        .action(ArgAction::Set)
+}
+
+/// An option with a path, which has to be there.
+fn path_option<'a>(alloc: Global, name: &'a str, help: &'a str) -> Arg<'a> {
+    option(alloc, name, "FILE", help).required(true)
+}
+
+/// An option with a number of districts.
+fn count_option<'a>(alloc: Global, name: &'a str, help: &'a str) -> Arg<'a> {
+    option(alloc, name, "N", help).value_parser(ValueParser::unsigned(1, 999))
+}
+
+/// The options of the audited plan, which go together: each requires the next, and the last the first.
+fn with_plan_options<'a>(alloc: Global, command: Command<'a>) -> Result<Command<'a>, AllocError> {
+    let gal = option(alloc, "gal", "FILE", "The neighbour file (GAL)");
+    let plan = option(
+        alloc,
+        "plan",
+        "FILE",
+        "The plan to be audited, a block assignment file",
+    );
+    let kind = option(alloc, "kind", "KIND", "The plan's kind").value_parser(KINDS);
+    let districts = count_option(
+        alloc,
+        "districts",
+        "The plan's number of districts: 1 to 99 for congress, else 1 to 999",
+    );
+    command
+        .arg(gal.requires_arg("plan")?)?
+        .arg(plan.requires_arg("kind")?)?
+        .arg(kind.requires_arg("districts")?)?
+        .arg(districts.requires_arg("gal")?)
+}
+
+/// The options of a senate plan beside a house plan, which go together.
+fn with_senate_options<'a>(alloc: Global, command: Command<'a>) -> Result<Command<'a>, AllocError> {
+    let senate = option(
+        alloc,
+        "senate",
+        "FILE",
+        "The senate plan that a house plan is nested in",
+    );
+    let districts = count_option(
+        alloc,
+        "senate-districts",
+        "The senate plan's number of districts: 1 to 999",
+    );
+    command
+        .arg(senate.requires_arg("senate-districts")?)?
+        .arg(districts.requires_arg("senate")?.requires_arg("plan")?)
+}
+
+fn check_command<'a>(alloc: Global) -> Result<Command<'a>, AllocError> {
+    let command = Command::new(alloc, "check")
+        .about("Prints the counts of a state's census files, or with a plan its audit")
+        .after_help(CHECK_HELP)
+        .arg(path_option(alloc, "geo", "The geographic header"))?
+        .arg(path_option(alloc, "seg1", "Segment 1"))?
+        .arg(path_option(alloc, "seg2", "Segment 2"))?
+        .arg(path_option(alloc, "seg3", "Segment 3"))?;
+    let command = with_plan_options(alloc, command)?;
+    with_senate_options(alloc, command)
+}
+
+/// The command line, as clap sees it.
+fn command<'a>(alloc: Global) -> Result<Command<'a>, AllocError> {
+    let talk = Command::new(alloc, "talk")
+        .about("Serves HTTP/1.1 from standard input to standard output, over a sample geography")
+        .after_help(TALK_HELP);
+    Command::new(alloc, "plandesk")
+        .about("The plan desk of a state: census blocks, district plans, and their audits")
+        .version(VERSION)
+        .after_help(STATUSES)
+        .subcommand_required(true)
+        .subcommand(check_command(alloc)?)?
+        .subcommand(talk)
+}
+
+/// The paths that `check` is given, where all are there.
+fn census_paths<'a>(matches: &ArgMatches<'a>) -> Option<CensusPaths<'a>>
+    ensures { IfSome result (AreCensusPaths (found_of matches.now)) }
+{
+    Some(CensusPaths {
+        geo: matches.get_str("geo")?,
+        seg1: matches.get_str("seg1")?,
+        seg2: matches.get_str("seg2")?,
+        seg3: matches.get_str("seg3")?,
+    })
+}
+
+fn bytes_of(text: Option<&str>) -> Option<&[u8]> {
+    match text {
+        Some(text) => Some(text.as_bytes()),
+        None => None,
+    }
+}
+
+/// What `check` is asked for, where its options go together.
+fn check_job<'a>(matches: &ArgMatches<'a>) -> Option<Job<'a>>
+    ensures valid { IfSome result IsJob }
+    ensures paths { IfSome result (HasPaths (found_of matches.now)) }
+{
+    let census = census_paths(matches)?;
+    let gal = matches.get_str("gal");
+    let plan = matches.get_str("plan");
+    let senate = matches.get_str("senate");
+    let form = read_form(
+        gal.is_some(),
+        plan.is_some(),
+        bytes_of(matches.get_str("kind")),
+        bytes_of(matches.get_str("districts")),
+        senate.is_some(),
+        bytes_of(matches.get_str("senate-districts")),
+    )?;
+    match form {
+        Form::Counts => Some(Job::Counts(census)),
+        Form::Audit(terms) => {
+            let gal = gal?;
+            let plan = plan?;
+            let paths = AuditPaths {
+                census,
+                gal,
+                plan,
+                senate,
+            };
+            Some(Job::Audit(paths, terms))
+        }
+    }
+}
+
+/// A mistake that is told so, or want of memory where the text has none.
+fn telling(status: Status, text: Result<String, AllocError>) -> Mistake {
+    match text {
+        Ok(text) => Mistake {
+            status,
+            text: Some(text),
+        },
+        Err(_) => memory(),
+    }
+}
+
+fn usage(alloc: Global, text: &str) -> Mistake {
+    telling(Status::Usage, String::from_str(alloc, text))
+}
+
+/// What is wrong with options that clap lets pass.
+fn wrong_options<'a>(matches: &ArgMatches<'a>) -> &'static str {
+    if matches.get_str("senate").is_some() && matches.get_str("kind") != Some("house") {
+        return ONLY_BESIDE_HOUSE;
+    }
+    WRONG_NUMBER
+}
+
+fn mistake_of(alloc: Global, error: &clap::Error) -> Mistake {
+    let status = match error.kind() {
+        ErrorKind::OutOfMemory => Status::Memory,
+        ErrorKind::DisplayHelp | ErrorKind::DisplayVersion => Status::Done,
+        _ => Status::Usage,
+    };
+    telling(status, format!(in alloc; "{error}"))
+}
+
+/// What the words ask for; the first is the program's name.
+pub fn job_of<'a>(alloc: Global, words: &'a [&'a str]) -> Result<Job<'a>, Mistake>
+    ensures { IfOk result IsJob }
+{
+    let Ok(command) = command(alloc) else {
+        return Err(memory());
+    };
+    let matches = match command.try_get_matches_from(words) {
+        Ok(matches) => matches,
+        Err(error) => return Err(mistake_of(alloc, &error)),
+    };
+    match matches.subcommand() {
+        Some(("talk", _)) => Ok(Job::Talk),
+        Some((_, options)) => match check_job(options) {
+            Some(job) => Ok(job),
+            None => Err(usage(alloc, wrong_options(options))),
+        },
+        None => Err(usage(alloc, "error: a command is missing\n")),
+    }
+}

@@ -1,0 +1,4 @@
+//! How a command of the program ends.
+#![tactic(auto)]
+
+pub mod status;

@@ -1,0 +1,17 @@
+use Rattle.std.proofs.Common.{◌≡◌, ◌+◌, ◌<◌, ◌∙◌, ap, length, take, drop, vec_len, arith, length-drop}
+use Rattle.state_files.proofs.Pieces.{piece_more, put_back, none_came}
+use Rattle.state_files.proofs.whole.read_piece.Goals as goal
+
+pub returns-in-Read-clause-bytes : goal.returns-in-Read-clause-bytes
+returns-in-Read-clause-bytes g c =
+    let came = c.in-Read.ensures.bytes in
+    let buffer = c.read_after.new.buffer in
+    let filled = c.args.filled in
+    let same : length buffer ≡ vec_len c.args.text.now = omega (arith, c.read_after.auto.buffer, c.as_mut_slice.ensures.len) in
+    let some : 0 < length (drop filled buffer) = omega (arith, length-drop filled buffer) in (
+      take c.in-Read.n (drop filled buffer),
+      came.1,
+      c.truncate.ensures.items ∙ ap (take (filled + c.in-Read.n)) (put_back (vec_len c.args.text.now) buffer c.args.text.now.items same)
+          ∙ piece_more filled c.in-Read.n c.args.text.now.items buffer (c.in-Read.ensures.front ∙ ap (take filled) c.as_mut_slice.ensures.value),
+      λ none. (came.2 none some, none_came _ _ none),
+    )

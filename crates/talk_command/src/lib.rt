@@ -1,0 +1,4 @@
+//! `talk`: the desk over HTTP/1.1 from a reader to a writer.
+#![tactic(auto)]
+
+pub mod talk;

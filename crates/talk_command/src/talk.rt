@@ -1,0 +1,81 @@
+//! `talk`: serves standard input to standard output, with a clerk alone over the sample geography.
+ghost use Rattle.std.specs.Prelude.{◌≡◌, ◌+◌, ◌≤◌, Err, IfSome};
+ghost use Rattle.byte_stream.specs.Counts.{counted};
+ghost use Rattle.http_desk.specs.Serving.{read_failures, write_failures};
+ghost use Rattle.desk_model.specs.Sample.{sample_desk};
+ghost use Rattle.talk_command.specs.Talking.{Talks, ServesSample, status_of as status_of_served};
+
+use byte_stream::sink::Sink;
+use byte_stream::source::Source;
+use desk_model::gate::NoGate;
+use desk_model::geography::sample;
+use desk_store::clerk::Clerk;
+use exit_status::status::Status;
+use http_desk::serve::{ServeFault, Served, serve};
+use std::alloc::Global;
+use std::io::Write;
+use std::sync::Arc;
+
+/// The clerk of the sample geography, or `None` where memory is refused.
+fn sample_clerk(alloc: Global) -> Option<Clerk>
+    ensures { IfSome result (λ clerk. clerk ≡ sample_desk) }
+{
+    let geography = sample(alloc).ok()?;
+    let shared = Arc::new(alloc, geography).ok()?;
+    Clerk::plain(alloc, Some(shared)).ok()
+}
+
+/// Serves the sample desk.
+fn serve_sample<R: Source, W: Sink>(
+    alloc: Global,
+    reader: &mut R,
+    writer: &mut W,
+) -> Result<Served, ServeFault>
+    ensures serves { ServesSample result (R.remaining reader.old) (R.remaining reader.new) (W.contents writer.old) (W.contents writer.new) }
+    ensures read_failures { R.failures reader.new ≡ read_failures (R.failures reader.old) result }
+    ensures write_failures { W.failures writer.new ≡ write_failures (W.failures writer.old) result }
+    ensures turns { result ≡ Err ServeFault.TurnLimit → R.turns reader.new ≡ counted (R.turns reader.old) 4294967296 }
+{
+    match sample_clerk(alloc) {
+        Some(mut clerk) => serve(alloc, reader, writer, &mut clerk, &NoGate),
+        None => Err(ServeFault::Memory),
+    }
+}
+
+fn status_of(served: Result<Served, ServeFault>) -> Status
+    ensures { result ≡ status_of_served served }
+{
+    match served {
+        Ok(_) => Status::Done,
+        Err(ServeFault::Memory) => Status::Memory,
+        Err(ServeFault::Read | ServeFault::Write | ServeFault::TurnLimit) => Status::Stream,
+    }
+}
+
+/// What is told of a fault on standard error.
+fn fault_line(fault: ServeFault) -> &'static [u8] {
+    match fault {
+        ServeFault::Read => b"plandesk: talk: ReadFault\n",
+        ServeFault::Write => b"plandesk: talk: WriteFault\n",
+        ServeFault::Memory => b"plandesk: talk: Memory\n",
+        ServeFault::TurnLimit => b"plandesk: talk: TurnLimit\n",
+    }
+}
+
+/// Serves the reader to the writer until its end or a closing answer: 0. 5 where memory for the desk or the first
+/// buffers is refused, before anything is read; 6 where a read or a write fails, or the turns of reading are used up.
+pub fn talk<R: Source, W: Sink, E: Write>(
+    alloc: Global,
+    reader: &mut R,
+    writer: &mut W,
+    errors: &mut E,
+) -> Status
+    ensures { Talks result (R.remaining reader.old) (R.remaining reader.new) (W.contents writer.old) (W.contents writer.new)
+        (R.failures reader.old) (R.failures reader.new) (W.failures writer.old) (W.failures writer.new) (R.turns reader.old) (R.turns reader.new) }
+{
+    let served = serve_sample(alloc, reader, writer);
+    if let Err(fault) = served {
+        let _ = errors.write_all(fault_line(fault));
+    }
+    status_of(served)
+}
