@@ -3,6 +3,7 @@ pub mod DigitLemmas
 pub mod JudgedLemmas
 pub mod NthLemmas
 pub mod ReadingLemmas
+pub mod ScanLemmas
 pub mod TextLemmas
 pub mod WordLemmas
 pub mod WordSteps

@@ -4,20 +4,15 @@ ghost use Rattle.std.specs.List.{slice_get};
 ghost use Rattle.std.specs.Option.{option_copied};
 ghost use Rattle.field_text.specs.Fields.{fields};
 
-use crate::lines::cut;
+use crate::lines::cut_near;
+use crate::scan::count_bars;
 use std::marker::Model;
 
 /// How many fields a line has.
 pub fn count_fields(line: &[u8]) -> usize
     ensures { result ≡ length (fields line.now) }
 {
-    let mut bars = 0usize;
-    for b in line {
-        if *b == b'|' {
-            bars += 1;
-        }
-    }
-    bars + 1
+    count_bars(line) + 1
 }
 
 /// The fields of a line that are left. A line without bytes has one field, which is empty.
@@ -53,7 +48,7 @@ impl<'t> Fields<'t> {
         if self.is_over {
             return None;
         }
-        match cut(self.rest, b'|') {
+        match cut_near(self.rest, b'|') {
             Some((field, rest)) => {
                 self.rest = rest;
                 Some(field)

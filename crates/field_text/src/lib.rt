@@ -5,4 +5,5 @@ pub mod digits;
 pub mod fields;
 pub mod lines;
 pub mod reader;
+mod scan;
 pub mod words;

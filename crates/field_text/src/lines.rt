@@ -2,7 +2,7 @@
 ghost use Rattle.std.specs.Prelude.{◌≡◌, ◌+◌, ◌==◌, ◌<◌, ◌++◌, ◌∷◌, ◌^◌, [], All, false, length, MatchOption};
 ghost use Rattle.std.specs.Str.Lines.{lines, strip_carriage_return};
 
-use memchr::memchr;
+use crate::scan::{place_far, place_near};
 use std::marker::Model;
 
 /// The bytes before the first `byte`, and the bytes after it.
@@ -10,7 +10,22 @@ pub fn cut(text: &[u8], byte: u8) -> Option<(&[u8], &[u8])>
     ensures { MatchOption result (All (λ b. (b == byte) ≡ false) text.now)
         (λ p. (text.now ≡ p.0.now ++ byte ∷ p.1.now) × All (λ b. (b == byte) ≡ false) p.0.now) }
 {
-    let at = memchr(byte, text)?;
+    let at = place_far(text, byte);
+    if at == text.len() {
+        return None;
+    }
+    Some((&text[..at], &text[at + 1..]))
+}
+
+/// The same, for a `byte` that is likely to be near.
+pub fn cut_near(text: &[u8], byte: u8) -> Option<(&[u8], &[u8])>
+    ensures { MatchOption result (All (λ b. (b == byte) ≡ false) text.now)
+        (λ p. (text.now ≡ p.0.now ++ byte ∷ p.1.now) × All (λ b. (b == byte) ≡ false) p.0.now) }
+{
+    let at = place_near(text, byte);
+    if at == text.len() {
+        return None;
+    }
     Some((&text[..at], &text[at + 1..]))
 }
 
