@@ -115,7 +115,7 @@ pub fn pair_value(pair: (u32, u32)) -> [u8; 8]
 }
 
 /// The number of 8 bytes, the highest first.
-fn eight(bytes: &[u8]) -> u64
+pub fn eight(bytes: &[u8]) -> u64
     requires { length bytes.now ≡ 8 }
     ensures { in_eight result ≡ bytes.now }
 {
@@ -133,7 +133,7 @@ fn four(bytes: &[u8]) -> u32
 }
 
 /// The number of 2 bytes, the highest first.
-fn two(bytes: &[u8]) -> u16
+pub fn two(bytes: &[u8]) -> u16
     requires { length bytes.now ≡ 2 }
     ensures { in_two result ≡ bytes.now }
 {

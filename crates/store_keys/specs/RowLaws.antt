@@ -1,5 +1,5 @@
--- A row is read back from its key.
-use Rattle.std.proofs.Common.{◌≡◌, ◌<◌, ◌^◌, ◌%◌, ℕ, List, [], ◌∷◌, ◌++◌, drop, get_or, if◌then◌else◌, nat_eq, refl, sym, ap, ◌∙◌, w16, w32, w64, arith}
+-- A row is read back from its key, so different rows have different keys.
+use Rattle.std.proofs.Common.{◌≡◌, ◌%◌, ℕ, List, [], ◌∷◌, drop, get_or, if◌then◌else◌, nat_eq, refl, sym, ap, ◌∙◌, w16, w32, w64, arith}
 use Rattle.std.specs.Int.{from_be_bytes}
 use Rattle.std.proofs.lemmas.Nat.{from_be_bytes-to_be_bytes_2, from_be_bytes-to_be_bytes_4, from_be_bytes-to_be_bytes_8}
 use Rattle.store_keys.specs.Keys.{RowKey, counters, retired, begun, named, part, seal, block, pair, chunk, key_of, Fits}

@@ -1,0 +1,4 @@
+pub mod OneList
+pub mod OneChunk
+pub mod OneGeography
+pub mod OneDesk

@@ -1,0 +1,9 @@
+pub mod Rows
+pub mod GeographyRows
+pub mod RevisionRows
+pub mod DeskRows
+pub mod Tidy
+pub mod Frames
+pub mod Puts
+pub mod ChunkRows
+pub mod Laws

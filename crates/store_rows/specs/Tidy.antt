@@ -1,0 +1,78 @@
+-- What is kept from the first day on, so that rows which nothing needs can be told from those that something does, and so that
+-- no number is used again.
+use Rattle.std.specs.Prelude.{◌≡◌, ◌⊎◌, ◌<◌, ◌^◌, ℕ, List, [], Some, None, Contains, MatchOption}
+use Rattle.std.specs.FinMap as map_of
+use Rattle.store_keys.specs.Keys.{RowKey, key_of, Fits, counters, retired, begun, named, part, seal, block, pair, chunk}
+use Rattle.store_keys.specs.Values.{counters_bytes, plan_bytes, seal_bytes}
+use Rattle.store_keys.specs.Lists.{chunks_bytes, AreChunks}
+use Rattle.store_keys.specs.declared.value.Counters.{Counters}
+use Rattle.store_keys.specs.declared.value.PlanRow.{PlanRow}
+use Rattle.store_keys.specs.declared.value.SealRow.{SealRow}
+use Rattle.store_rows.specs.Rows.{KeyMap, row_in, Has}
+
+-- before the first row of counters no number was given
+abbrev pub no_numbers : Counters
+no_numbers = record { plan = 0; chunk = 0; load = 0 }
+
+-- the numbers that the next plan, chunk and load get
+abbrev pub IsNext : KeyMap → Counters → Type 0
+IsNext m next = MatchOption (row_in m counters) (next ≡ no_numbers) (λ value. value ≡ counters_bytes next)
+
+-- the row of a plan that has this number
+pub record IsNumbered (m : KeyMap) (name : List ℕ) (number : ℕ) : Type 0 where
+  pub plan : PlanRow
+  pub row : Has m (named name) (plan_bytes plan)
+  pub is : plan.number ≡ number
+  pub fits : number < 2 ^ 64
+
+-- a part of a revision of this plan names the chunk
+pub record IsNamedBy (m : KeyMap) (plan number : ℕ) : Type 0 where
+  pub revision : ℕ
+  pub index : ℕ
+  pub part_fits : Fits (part plan revision index)
+  pub numbers : List ℕ
+  pub chunks : AreChunks numbers
+  pub row : Has m (part plan revision index) (chunks_bytes numbers)
+  pub among : Contains numbers number
+
+-- each key is that of a row
+abbrev pub AreRows : KeyMap → Type 0
+AreRows m = (key value : List ℕ) → map_of.get m key ≡ Some value → (row : RowKey) × Fits row × (key ≡ key_of row)
+
+-- numbers in use are below those that come next
+pub record AreBelow (m : KeyMap) (next : Counters) : Type 0 where
+  pub plans : (name : List ℕ) (number : ℕ) → IsNumbered m name number → number < next.plan
+  pub retired_plans : (plan : ℕ) (value : List ℕ) → Fits (retired plan) → Has m (retired plan) value → plan < next.plan
+  pub named_chunks : (plan number : ℕ) → IsNamedBy m plan number → number < next.chunk
+  pub begun_loads : (load : ℕ) (value : List ℕ) → Fits (begun load) → Has m (begun load) value → load < next.load
+  pub sealed_load : (sealed : SealRow) → sealed.load < 2 ^ 64 → Has m seal (seal_bytes sealed) → sealed.load < next.load
+
+-- a plan's number is that of a plan that is there, or of one that was taken away
+abbrev pub IsKnown : KeyMap → ℕ → Type 0
+IsKnown m plan = ((name : List ℕ) × IsNumbered m name plan) ⊎ Has m (retired plan) []
+
+-- a load is the sealed one, or was begun
+abbrev pub IsLoad : KeyMap → ℕ → Type 0
+IsLoad m load = ((sealed : SealRow) × Has m seal (seal_bytes sealed) × (sealed.load ≡ load)) ⊎ Has m (begun load) []
+
+-- no row without what it belongs to
+pub record AreOwned (m : KeyMap) : Type 0 where
+  pub one : (name other : List ℕ) (number : ℕ) → IsNumbered m name number → IsNumbered m other number → name ≡ other
+  pub gone : (name : List ℕ) (number : ℕ) → IsNumbered m name number → row_in m (retired number) ≡ None
+  pub parts : (plan revision index : ℕ) (value : List ℕ) → Fits (part plan revision index) → Has m (part plan revision index) value → IsKnown m plan
+  pub chunks : (number index : ℕ) (value : List ℕ) → Fits (chunk number index) → Has m (chunk number index) value → (plan : ℕ) × IsNamedBy m plan number
+  pub blocks : (load place : ℕ) (value : List ℕ) → Fits (block load place) → Has m (block load place) value → IsLoad m load
+  pub pairs : (load place : ℕ) (value : List ℕ) → Fits (pair load place) → Has m (pair load place) value → IsLoad m load
+
+-- each chunk belongs to one plan
+pub record HasOwners (m : KeyMap) : Type 0 where
+  pub owner : ℕ → ℕ
+  pub is : (plan number : ℕ) → IsNamedBy m plan number → owner number ≡ plan
+
+pub record Tidy (m : KeyMap) : Type 0 where
+  pub next : Counters
+  pub is_next : IsNext m next
+  pub rows : AreRows m
+  pub below : AreBelow m next
+  pub owned : AreOwned m
+  pub owners : HasOwners m

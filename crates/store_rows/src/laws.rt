@@ -1,0 +1,26 @@
+//! What holds of all rows.
+ghost use Rattle.store_rows.specs.Laws.{ChunksArePut, DeskIsOne, DeskStays, TagsStay};
+
+use desk_model::laws::lists_are_cut;
+
+/// A row that is put or removed leaves the rows of every other tag.
+pub fn tags_stay()
+    ensures { TagsStay }
+{}
+
+/// Rows of counters, of retired plans and of loads that were begun say nothing of the desk.
+pub fn desk_stays()
+    ensures { DeskStays }
+{}
+
+/// A chunk whose rows are put under a free number is there, and the others stay.
+pub fn chunks_are_put()
+    ensures { ChunksArePut }
+{}
+
+/// A map of rows holds one desk at most.
+pub fn desk_is_one()
+    ensures { DeskIsOne }
+{
+    lists_are_cut();
+}
