@@ -21,7 +21,7 @@ use Rattle.store_rows.specs.DeskRows.{HasPlan, IsPlanAt, IsDesk}
 pub same_key : (x y : List ℕ) → key_cmp x y ≡ Equal → x ≡ y
 same_key x y tied = slice_cmp-IsAntisymmetric nat_cmp-IsAntisymmetric x y tied
 
-is_equal : (r : Ordering) → is_eq r ≡ true → r ≡ Equal
+pub is_equal : (r : Ordering) → is_eq r ≡ true → r ≡ Equal
 is_equal Less h = cc
 is_equal Equal h = refl
 is_equal Greater h = cc
@@ -30,12 +30,12 @@ either_way : (b : Bool) (P : Type 0) → (b ≡ true → P) → (b ≡ false →
 either_way true P yes_so no_so = yes_so refl
 either_way false P yes_so no_so = no_so refl
 
-differs : (x y : List ℕ) → (x ≡ y → ⊥) → eq_by_cmp key_cmp x y ≡ false
+pub differs : (x y : List ℕ) → (x ≡ y → ⊥) → eq_by_cmp key_cmp x y ≡ false
 differs x y other = either_way (eq_by_cmp key_cmp x y) (eq_by_cmp key_cmp x y ≡ false)
     (λ same. absurd (other (same_key x y (is_equal (key_cmp x y) same))))
     (λ apart. apart)
 
-itself : (x : List ℕ) → eq_by_cmp key_cmp x x ≡ true
+pub itself : (x : List ℕ) → eq_by_cmp key_cmp x x ≡ true
 itself x = ap is_eq (tied_itself nat_list_cmp_total x)
 
 pub put_is_there : (m : KeyMap) (key value : List ℕ) → get (insert m key value) key ≡ Some value

@@ -6,4 +6,5 @@ pub mod Tidy
 pub mod Frames
 pub mod Puts
 pub mod ChunkRows
+pub mod Changes
 pub mod Laws

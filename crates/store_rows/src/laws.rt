@@ -1,5 +1,5 @@
 //! What holds of all rows.
-ghost use Rattle.store_rows.specs.Laws.{ChunksArePut, DeskIsOne, DeskStays, TagsStay};
+ghost use Rattle.store_rows.specs.Laws.{ChunksArePut, DeskIsOne, DeskStays, PlansComeAndGo, RevisionsAreAdded, TagsStay};
 
 use desk_model::laws::lists_are_cut;
 
@@ -24,3 +24,13 @@ pub fn desk_is_one()
 {
     lists_are_cut();
 }
+
+/// A plan's row makes the desk with that plan, and without it the desk is the one without the plan.
+pub fn plans_come_and_go()
+    ensures { PlansComeAndGo }
+{}
+
+/// Rows that add one revision of a plan make the desk with that revision, and no other revision changes.
+pub fn revisions_are_added()
+    ensures { RevisionsAreAdded }
+{}
