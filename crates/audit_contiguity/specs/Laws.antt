@@ -1,5 +1,6 @@
 -- Laws of the breaks of a plan.
-use Rattle.std.specs.Prelude.{◌≡◌, ℕ, ◌+◌, ◌≤◌, ◌++◌, List}
+use Rattle.std.specs.Prelude.{◌≡◌, ℕ, ◌+◌, ◌≤◌, ◌++◌, List, Contains}
+use Rattle.std.specs.List.Sorted.{IsStrictlyIncreasing}
 use Rattle.desk_model.specs.Geography.{Ground}
 use Rattle.audit_contiguity.specs.declared.breaks.Break.{Break}
 use Rattle.audit_contiguity.specs.Breaks.{AreBreaks}
@@ -13,3 +14,9 @@ abbrev pub BreaksFollow : Type 0
 BreaksFollow =
     (g : Ground) (plan : List ℕ) (first middle last : ℕ) (one other : List Break) → first ≤ middle + 1 → middle ≤ last → AreBreaks g plan first middle one
     → AreBreaks g plan (middle + 1) last other → AreBreaks g plan first last (one ++ other)
+
+-- lists that rise and have the same members are one list
+abbrev pub RisingListsAreOne : Type 0
+RisingListsAreOne =
+    (one other : List ℕ) → IsStrictlyIncreasing one → IsStrictlyIncreasing other → ((member : ℕ) → Contains one member → Contains other member)
+    → ((member : ℕ) → Contains other member → Contains one member) → one ≡ other

@@ -1,5 +1,5 @@
 //! Laws of the definitions.
-ghost use Rattle.audit_contiguity.specs.Laws.{BreaksAreOneList, BreaksFollow};
+ghost use Rattle.audit_contiguity.specs.Laws.{BreaksAreOneList, BreaksFollow, RisingListsAreOne};
 
 /// The breaks of a plan's districts are one list: what tells them tells the same.
 pub fn breaks_are_one_list()
@@ -9,4 +9,9 @@ pub fn breaks_are_one_list()
 /// The breaks of the districts up to one and those of the districts behind it are together the breaks of them all.
 pub fn breaks_follow()
     ensures { BreaksFollow }
+{}
+
+/// Numbers that rise are one list: lists with the same members are the same.
+pub fn rising_lists_are_one()
+    ensures { RisingListsAreOne }
 {}

@@ -24,7 +24,7 @@ named_none Holds = record {
   all = λ c less holds. absurd (omega arith);
 }
 
-clause_at : ℕ → Clause
+pub clause_at : ℕ → Clause
 clause_at zero = Complete
 clause_at (suc zero) = Mean
 clause_at (suc (suc zero)) = Range
@@ -32,7 +32,7 @@ clause_at (suc (suc (suc zero))) = Congress
 clause_at (suc (suc (suc (suc zero)))) = Contiguous
 clause_at (suc (suc (suc (suc (suc k))))) = Nested
 
-at_rank : (c : Clause) → clause_at (rank c) ≡ c
+pub at_rank : (c : Clause) → clause_at (rank c) ≡ c
 unfolding clause_at
 at_rank Complete = refl
 at_rank Mean = refl

@@ -21,9 +21,9 @@ use Rattle.audit_report.specs.declared.clause.Clause.TheVariants.{Complete, Mean
 use Rattle.audit_report.specs.declared.pieces.Pieces.{Pieces}
 use Rattle.audit_report.specs.Clauses.{is_house, is_congress, is_legislative, RangeBreaks, CongressBreaks, ContiguityBreaks, NestingBreaks, IsNamed, AreExactlyClauses}
 use Rattle.audit_report.specs.Figures.{Figures}
-use Rattle.audit_report.specs.Report.{congress_of, AreExtremes, IsRange, IsNesting, not_asked_of, IsReport}
-use Rattle.audit_report.specs.Pieces.{ArePeople, AreSplits}
-use Rattle.audit_report.specs.Assembled.{is_listed, found_clauses, assembled}
+use Rattle.audit_report.specs.Report.{congress_of, AreExtremes, IsRange, IsNesting, not_asked_of}
+use Rattle.audit_report.specs.Pieces.{ArePeople, ReportsPieces}
+use Rattle.audit_report.specs.Assembled.{is_listed, found_clauses}
 use Rattle.audit_report.proofs.Counting.{has_from_count, count_from_has, filter_from_district, first_filtered}
 use Rattle.audit_report.proofs.Naming.{named_none, named_more, named_all}
 
@@ -136,22 +136,36 @@ named g k n plan companion p of_house people nesting contiguity =
     total : ℕ
     total = state_people g.blocks
 
-pub report_is : (g : Ground) (k : Kind) (n : ℕ) (plan : List ℕ) (companion : Option (List ℕ)) (p : Pieces) (with_companion : Bool) (report : Figures)
-    → with_companion ≡ is_some companion → (IsTrue (is_some companion) → IsTrue (is_house k)) → ArePeople g k n plan p.people → AreSplits g plan p.splits
-    → IsNesting n plan companion p.nesting.items → AreBreaks g plan 1 n p.contiguity.items → report ≡ assembled k n with_companion p → IsReport g k n plan companion report
-report_is g k n plan companion p with_companion report same of_house people splits nesting contiguity is = rw is (record {
-  broken = named g k n plan companion p of_house people nesting contiguity;
-  cities = splits.cities;
-  cities_in_county = splits.cities_in_county;
-  congress = people.congress;
-  contiguity = contiguity;
-  counties = splits.counties;
+pub report_is : (k : Kind) (n : ℕ) (with_companion : Bool) (p : Pieces) (broken not_asked : List Clause) → broken ≡ found_clauses p → not_asked ≡ not_asked_of k with_companion
+    → ReportsPieces k n with_companion p (record {
+      broken = broken;
+      cities = p.splits.cities.items;
+      cities_in_county = p.splits.cities_in_county.items;
+      congress = p.people.congress.items;
+      contiguity = p.contiguity.items;
+      counties = p.splits.counties.items;
+      districts = n;
+      kind = k;
+      nesting = p.nesting.items;
+      not_asked = not_asked;
+      population = p.people.total;
+      populations = p.people.populations.items;
+      range = p.people.range;
+      unassigned = p.people.unassigned;
+    })
+report_is k n with_companion p broken not_asked found wanting g plan companion same of_house pieces = record {
+  broken = rw found (named g k n plan companion p of_house pieces.people pieces.nesting pieces.contiguity);
+  cities = pieces.splits.cities;
+  cities_in_county = pieces.splits.cities_in_county;
+  congress = pieces.people.congress;
+  contiguity = pieces.contiguity;
+  counties = pieces.splits.counties;
   districts = refl;
   kind_is = refl;
-  nesting = nesting;
-  not_asked = ap (not_asked_of k) same;
-  population = people.total;
-  populations = people.populations;
-  range = people.range;
-  unassigned = people.unassigned;
-})
+  nesting = pieces.nesting;
+  not_asked = wanting ∙ ap (not_asked_of k) same;
+  population = pieces.people.total;
+  populations = pieces.people.populations;
+  range = pieces.people.range;
+  unassigned = pieces.people.unassigned;
+}

@@ -1,15 +1,18 @@
 -- What the pieces of the work found.
-use Rattle.std.specs.Prelude.{◌≡◌, ℕ, Bool, IsTrue, List}
+use Rattle.std.specs.Prelude.{◌≡◌, ℕ, Bool, IsTrue, List, Option, is_some, IsSome}
 use Rattle.desk_model.specs.declared.kind.Kind.{Kind}
 use Rattle.desk_model.specs.Geography.{Ground}
 use Rattle.audit_population.specs.People.{populations_of, state_people}
 use Rattle.audit_population.specs.Clauses.{MeanBreaks}
+use Rattle.audit_contiguity.specs.Breaks.{AreBreaks}
 use Rattle.audit_splits_nesting.specs.Exactly.{AreExactly}
 use Rattle.audit_splits_nesting.specs.Divided.{IsDividedCounty, IsDividedCity, IsDividedWithinCounty}
 use Rattle.audit_report.specs.declared.pieces.People.{People}
 use Rattle.audit_report.specs.declared.pieces.Splits.{Splits}
-use Rattle.audit_report.specs.Clauses.{is_legislative}
-use Rattle.audit_report.specs.Report.{unassigned_of, congress_of, IsRange}
+use Rattle.audit_report.specs.declared.pieces.Pieces.{Pieces}
+use Rattle.audit_report.specs.Clauses.{is_house, is_legislative}
+use Rattle.audit_report.specs.Figures.{Figures}
+use Rattle.audit_report.specs.Report.{unassigned_of, congress_of, IsRange, IsNesting, IsReport}
 
 -- whether the clause of the mean applies and is broken
 pub record IsMean (kind : Kind) (populations : List ℕ) (total : ℕ) (told : Bool) : Type 0 where
@@ -29,3 +32,15 @@ pub record AreSplits (g : Ground) (plan : List ℕ) (s : Splits) : Type 0 where
   pub counties : AreExactly (IsDividedCounty g.blocks plan) s.counties.items
   pub cities : AreExactly (IsDividedCity g.blocks plan) s.cities.items
   pub cities_in_county : AreExactly (IsDividedWithinCounty g.blocks plan) s.cities_in_county.items
+
+pub record ArePieces (g : Ground) (kind : Kind) (n : ℕ) (plan : List ℕ) (companion : Option (List ℕ)) (p : Pieces) : Type 0 where
+  pub people : ArePeople g kind n plan p.people
+  pub splits : AreSplits g plan p.splits
+  pub nesting : IsNesting n plan companion p.nesting.items
+  pub contiguity : AreBreaks g plan 1 n p.contiguity.items
+
+-- the report of each plan of which these are the pieces; a companion is a house plan's
+abbrev pub ReportsPieces : Kind → ℕ → Bool → Pieces → Figures → Type 0
+ReportsPieces kind n with_companion p report =
+    (g : Ground) (plan : List ℕ) (companion : Option (List ℕ)) → with_companion ≡ is_some companion → (IsSome companion → IsTrue (is_house kind))
+    → ArePieces g kind n plan companion p → IsReport g kind n plan companion report

@@ -1,8 +1,9 @@
 //! The audit.
 ghost use Rattle.std.specs.Prelude.{◌≡◌, ◌≤◌, ◌++◌, length, is_some, IfOk, IfSome, IsTrue, OnOk, IsSome};
 ghost use Rattle.std.specs.Option.{option_copied};
-ghost use Rattle.audit_report.specs.Assembled.{noted, found_clauses, assembled};
+ghost use Rattle.audit_report.specs.Assembled.{noted, found_clauses};
 ghost use Rattle.audit_report.specs.Clauses.{is_house};
+ghost use Rattle.audit_report.specs.Pieces.{ReportsPieces};
 ghost use Rattle.audit_report.specs.Report.{not_asked_of, IsReport};
 
 use crate::clause::Clause;
@@ -53,15 +54,15 @@ fn clauses_not_asked(
     Ok(not_asked)
 }
 
-/// Puts the report together.
-fn assemble(
+/// The report of any plan of which these are the pieces.
+pub fn assemble(
     alloc: Global,
     kind: Kind,
     count: u16,
     with_companion: bool,
     pieces: Pieces,
 ) -> Result<Report, AllocError>
-    ensures { IfOk result (λ r. r ≡ assembled kind count with_companion pieces) }
+    ensures { IfOk result (ReportsPieces kind count with_companion pieces) }
 {
     let broken = broken_clauses(alloc, &pieces)?;
     let not_asked = clauses_not_asked(alloc, kind, with_companion)?;

@@ -3,6 +3,7 @@
 
 pub mod audit;
 pub mod clause;
-mod pieces;
+pub mod laws;
+pub mod pieces;
 pub mod report;
 mod values;

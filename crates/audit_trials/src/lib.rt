@@ -9,3 +9,5 @@ mod population_trials;
 mod report_trials;
 #[cfg(test)]
 mod splits_trials;
+#[cfg(test)]
+mod workers_trials;

@@ -1,0 +1,2 @@
+pub mod Share
+pub mod Work

@@ -1,0 +1,35 @@
+-- What the workers found, each in its own pieces: those that leave the worker's number when they are divided by the number of workers.
+use Rattle.std.specs.Prelude.{◌≡◌, ◌↔◌, ℕ, ◌+◌, ◌*◌, ◌/◌, ◌%◌, ◌<◌, List, length, get_or, set, remove, Vec}
+use Rattle.std.specs.declared.alloc.Global.{Global}
+use Rattle.audit_workers.specs.declared.work.Found.{Found}
+use Rattle.audit_workers.specs.Work.{Audit, IsPieceOf, IsFound}
+
+-- the pieces are numbered below this
+abbrev pub AreNumberedBelow : ℕ → ℕ → Type 0
+AreNumberedBelow count pieces = (piece : ℕ) → (piece < pieces) ↔ IsPieceOf count piece
+
+-- what the piece found stands at that place
+pub record IsHeld (a : Audit) (piece place : ℕ) (held : List Found) : Type 0 where
+  pub within : place < length held
+  pub is : (d : Found) → IsFound a piece (get_or held place d)
+
+-- a worker holds its pieces below a number, in their order
+abbrev pub IsShare : Audit → ℕ → ℕ → ℕ → List Found → Type 0
+IsShare a pieces workers worker held = (place : ℕ) → worker + place * workers < pieces → IsHeld a (worker + place * workers) place held
+
+-- all workers together hold the pieces below a number
+pub record AreShares (a : Audit) (pieces workers : ℕ) (shares : List (Vec Found Global)) : Type 0 where
+  pub wide : length shares ≡ workers
+  pub each : (piece : ℕ) (s : Vec Found Global) → piece < pieces → IsHeld a piece (piece / workers) (get_or shares (piece % workers) s).items
+
+-- what the piece found was there, and is no more
+pub record IsTaken (piece workers : ℕ) (old new : List (Vec Found Global)) (found : Found) : Type 0 where
+  pub share : Vec Found Global
+  pub was : (s : Vec Found Global) (d : Found) → get_or (get_or old (piece % workers) s).items (piece / workers) d ≡ found
+  pub left : (s : Vec Found Global) → share.items ≡ remove (get_or old (piece % workers) s).items (piece / workers)
+  pub is : new ≡ set old (piece % workers) share
+
+-- the share in which a piece lies reaches to its place
+pub record IsThere (piece workers : ℕ) (shares : List (Vec Found Global)) : Type 0 where
+  pub wide : length shares ≡ workers
+  pub within : (s : Vec Found Global) → piece / workers < length (get_or shares (piece % workers) s).items

@@ -1,0 +1,127 @@
+//! The pieces of an audit's work, by their numbers.
+ghost use Rattle.std.specs.Prelude.{◌≡◌, ◌+◌, ◌-◌, ◌*◌, ◌<◌, ◌≤◌, length, IfOk, IfSome, IsSome, IsTrue};
+ghost use Rattle.std.specs.Option.{option_copied};
+ghost use Rattle.audit_contiguity.specs.Parts.{AreParts};
+ghost use Rattle.audit_workers.specs.Share.{AreNumberedBelow};
+ghost use Rattle.audit_workers.specs.Work.{IsFound, IsPieceOf, breaks_in};
+
+use audit_contiguity::breaks::Break;
+use audit_contiguity::parts::{Part, part_breaks};
+use audit_report::pieces::{People, Splits, find_nesting, find_people, find_splits};
+use desk_model::geography::Geography;
+use desk_model::kind::Kind;
+use std::alloc::{AllocError, Global};
+use std::marker::Model;
+
+/// What a piece of the work found.
+#[derive(Drop)]
+pub enum Found {
+    People(People),
+    Splits(Splits),
+    Nesting(Vec<u16>),
+    Breaks(Vec<Break>),
+}
+
+impl Found {
+    /// The breaks that the piece found; none, where it isn't of districts' contiguity.
+    pub fn breaks(&self) -> &[Break]
+        ensures { result.now ≡ breaks_in self.now }
+    {
+        match self {
+            Found::Breaks(breaks) => breaks.as_slice(),
+            Found::People(_) | Found::Splits(_) | Found::Nesting(_) => &[],
+        }
+    }
+}
+
+/// A plan with what it is judged by, its districts in parts.
+#[derive(Drop)]
+pub struct Work<'a> {
+    geography: &'a Geography,
+    kind: Kind,
+    count: u16,
+    plan: &'a [u16],
+    companion: Option<&'a [u16]>,
+    parts: &'a [Part],
+}
+
+impl<'a> Model for Work<'a> {
+    ghost use Rattle.audit_workers.specs.Work.{Audit, IsAudit};
+    ghost use Rattle.audit_contiguity.specs.Parts.{AreParts};
+    ghost use Rattle.std.specs.Option.{option_copied};
+
+    ghost Value = { Audit };
+
+    ghost view = { λ a. record {
+      geography = a.geography.now;
+      kind = a.kind;
+      count = a.count;
+      plan = a.plan.now;
+      companion = option_copied a.companion;
+    } };
+
+    ghost invariant = { λ a.
+        IsAudit (record { geography = a.geography.now; kind = a.kind; count = a.count; plan = a.plan.now; companion = option_copied a.companion })
+        × AreParts a.geography.now a.plan.now a.count a.parts.now };
+}
+
+impl<'a> Work<'a> {
+    /// A plan of `count` districts beside its geography, with the parts of its districts.
+    pub fn new(
+        geography: &'a Geography,
+        kind: Kind,
+        count: u16,
+        plan: &'a [u16],
+        companion: Option<&'a [u16]>,
+        parts: &'a [Part],
+    ) -> Work<'a>
+        requires some { 1 ≤ count }
+        requires few { count ≤ 999 }
+        requires beside { length plan.now ≡ length geography.now.blocks }
+        requires companion_beside { IfSome (option_copied companion) (λ c. length c ≡ length geography.now.blocks) }
+        requires parts { AreParts geography.now plan.now count parts.now }
+        ensures { result ≡ record { geography = geography.now; kind = kind; count = count; plan = plan.now; companion = option_copied companion.entry } }
+    {
+        Work {
+            geography,
+            kind,
+            count,
+            plan,
+            companion,
+            parts,
+        }
+    }
+
+    /// The pieces are numbered below this: 0 is the populations and their clauses, 1 the divided counties and cities, 2 the
+    /// nesting, and from 3 on the contiguity of the parts of the districts.
+    pub fn pieces(&self) -> u32
+        ensures numbered { AreNumberedBelow self.now.count result }
+        ensures three { 3 ≤ result }
+        ensures few { result ≤ 66 }
+    {
+        3 + self.parts.len() as u32
+    }
+
+    /// What the piece of that number finds.
+    pub fn find(&self, alloc: Global, piece: u32) -> Result<Found, AllocError>
+        requires { IsPieceOf self.now.count piece }
+        ensures { IfOk result (IsFound self.now piece) }
+    {
+        match piece {
+            0 => {
+                let people = find_people(alloc, self.geography, self.kind, self.count, self.plan)?;
+                Ok(Found::People(people))
+            }
+            1 => Ok(Found::Splits(find_splits(alloc, self.geography, self.plan)?)),
+            2 => {
+                let nesting = find_nesting(alloc, self.count, self.plan, self.companion)?;
+                Ok(Found::Nesting(nesting))
+            }
+            _ => {
+                let part = &self.parts[piece as usize - 3];
+                let breaks = part_breaks(alloc, self.geography, self.plan, part)?;
+                Ok(Found::Breaks(breaks))
+            }
+        }
+    }
+}
