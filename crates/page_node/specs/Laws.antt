@@ -1,6 +1,6 @@
 -- Laws of nodes and of places, for the layers above.
 use Rattle.std.specs.Prelude.{insert}
-use Rattle.std.proofs.Common.{◌≡◌, ℕ, ◌+◌, ◌-◌, ◌^◌, ◌<◌, ◌≤◌, List, [], ◌∷◌, length, drop, set, replicate, Bool, true, false, cond, ◌&&◌, refl, sym, ap, ◌∙◌, arith, zero, suc}
+use Rattle.std.proofs.Common.{◌≡◌, ℕ, ◌+◌, ◌-◌, ◌^◌, ◌<◌, ◌≤◌, List, [], ◌∷◌, length, drop, set, replicate, Bool, true, false, cond, ◌&&◌, refl, sym, ap, subst, ◌∙◌, arith, zero, suc}
 use Rattle.std.specs.Prelude.{Option, Some, None}
 use Rattle.std.specs.Ordering.{is_gt, is_lt, is_eq, ordering_reverse, eq_by_cmp}
 use Rattle.std.specs.Cmp.Lexicographic.{nat_list_cmp_total}
@@ -188,3 +188,25 @@ gap_floor key es i gap = let within = gap.within in floor_is key es i (omega ari
 
 pub gap_first_floor : (key : List ℕ) (es : List Entry) → 0 < length es → IsGap key es 0 → floor key es ≡ Some (value_at es 0)
 gap_first_floor key es some gap = floor_is key es 0 some (λ j more le. absurd (omega arith)) (λ j less long. gap.above j (omega arith) long)
+
+-- the walk stops at the first key above
+floor_first : (last : Option (List ℕ)) (key : List ℕ) (es : List Entry) → (0 < length es → is_gt (key_cmp (key_at es 0) key) ≡ true) → floor_from last key es ≡ last
+floor_first last key [] above = refl
+floor_first last key (e ∷ es) above = ap (λ b. cond b last (floor_from (Some e.1) key es)) (above (omega arith))
+
+floor_from_stop : (last : Option (List ℕ)) (key : List ℕ) (es : List Entry) (i : ℕ) → i < length es → ((j : ℕ) → j ≤ i → is_gt (key_cmp (key_at es j) key) ≡ false) → (i + 1 < length es → is_gt (key_cmp (key_at es (i + 1)) key) ≡ true) → floor_from last key es ≡ Some (value_at es i)
+floor_from_stop last key [] i within below above = absurd (omega arith)
+floor_from_stop last key (e ∷ es) zero within below above =
+    ap (λ b. cond b last (floor_from (Some e.1) key es)) (below 0 (omega arith))
+    ∙ floor_first (Some e.1) key es (λ some. above (omega arith))
+floor_from_stop last key (e ∷ es) (suc i) within below above =
+    let e2 : suc i + 1 ≡ suc (i + 1) = omega arith in
+    ap (λ b. cond b last (floor_from (Some e.1) key es)) (below 0 (omega arith))
+    ∙ floor_from_stop (Some e.1) key es i (omega arith) (λ j le. below (suc j) (omega arith)) (λ long. subst (λ k. is_gt (key_cmp (key_at (e ∷ es) k) key) ≡ true) e2 (above (omega arith)))
+
+pub floor_stop : (key : List ℕ) (es : List Entry) (i : ℕ) → i < length es → ((j : ℕ) → 0 < j → j ≤ i → is_gt (key_cmp (key_at es j) key) ≡ false) → (i + 1 < length es → is_gt (key_cmp (key_at es (i + 1)) key) ≡ true) → floor key es ≡ Some (value_at es i)
+floor_stop key [] i within below above = absurd (omega arith)
+floor_stop key (e ∷ es) zero within below above = floor_first (Some e.1) key es (λ some. above (omega arith))
+floor_stop key (e ∷ es) (suc i) within below above =
+    let e2 : suc i + 1 ≡ suc (i + 1) = omega arith in
+    floor_from_stop (Some e.1) key es i (omega arith) (λ j le. below (suc j) (omega arith) (omega arith)) (λ long. subst (λ k. is_gt (key_cmp (key_at (e ∷ es) k) key) ≡ true) e2 (above (omega arith)))

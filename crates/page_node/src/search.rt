@@ -14,7 +14,8 @@ use std::cmp::Ordering;
 
 /// The level that a page says, 0 for a leaf.
 pub fn level_of(page: &[u8; 4096]) -> u8
-    ensures { (node : Node) → IsNode page.now node → result ≡ node.level }
+    ensures level { (node : Node) → IsNode page.now node → result ≡ node.level }
+    ensures byte { result ≡ get_or page.now 0 0 }
 {
     page[0]
 }
@@ -92,10 +93,10 @@ fn child_at(page: &[u8; 4096], value: usize, end: usize) -> Result<u32, NotANode
     ]))
 }
 
-/// The child that a key belongs to, in a page whose keys rise: that of the last key that isn't above it. The first key is not
-/// looked at.
+/// The child that a key belongs to: that of the entry before the first one whose key is above it. The first key is not looked
+/// at.
 pub fn child_for(page: &[u8; 4096], key: &[u8]) -> Result<u32, NotANode>
-    ensures child { (node : Node) → IsNode page.now node → Rises node.entries → IfOk result (λ child. option_map child_in (floor key.now node.entries) ≡ Some child) }
+    ensures child { (node : Node) → IsNode page.now node → IfOk result (λ child. option_map child_in (floor key.now node.entries) ≡ Some child) }
     ensures err { OnErr result ((node : Node) → IsNode page.now node → 0 < node.level → floor key.now node.entries ≡ None) }
 {
     let count = count_of(page);

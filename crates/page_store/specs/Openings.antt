@@ -1,5 +1,5 @@
 -- What an image of a store with pages is.
-use Rattle.std.specs.Prelude.{◌≡◌, ◌<◌, ◌+◌, ℕ, true, length}
+use Rattle.std.specs.Prelude.{◌≡◌, ◌+◌, ℕ, true, length}
 use Rattle.sector_device.specs.Disk.{Disk, Image}
 use Rattle.sector_device.specs.declared.SectorDevice.{Ghosts}
 use Rattle.gate_journal.specs.Store.{home, IsStore, IsSettled, pages}

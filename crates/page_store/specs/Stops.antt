@@ -1,12 +1,12 @@
 -- What the layers above need of a stop where a call read at most.
 use Rattle.std.specs.Prelude.{◌≡◌, ◌⊎◌, ℕ, Bool, true, false}
-use Rattle.std.proofs.Common.{inl, inr, refl, sym, subst, arith}
+use Rattle.std.proofs.Common.{inl, inr, refl, sym, ap, subst, ◌∙◌, arith}
 use Rattle.sector_device.specs.Disk.{Disk, Image, Touches, Nowhere}
-use Rattle.sector_device.specs.Moments.{LeavesOnly, now_but, leaves_still}
+use Rattle.sector_device.specs.Moments.{LeavesOnly, now_but, leaves_still, touches_none, touches_more}
 use Rattle.sector_device.specs.declared.SectorDevice.{Ghosts}
 use Rattle.gate_journal.specs.Store.{Opens}
 use Rattle.gate_journal.specs.Contents.{content, page_count, journal_size, is_halted}
-use Rattle.page_store.specs.Transactions.{stored, disk_in, has_halted, IsQuiet, IsKept}
+use Rattle.page_store.specs.Transactions.{stored, disk_in, has_halted, IsQuiet, IsKept, HasFailed, Passed}
 use Rattle.page_store.specs.declared.pages.Pages.{Pages}
 
 -- a run that begins now has left what a stop now may leave
@@ -42,3 +42,50 @@ module _ {D : Type 0} {g : Ghosts D} (old new : Pages D g) (quiet : IsQuiet old 
     | inl halted ↦ subst (λ j. LeavesOnly P a (g.disk j.device)) (sym (quiet.still halted)) left
     | inr working ↦ leaves_still P a (disk_in old) (disk_in new) left (quiet.moves honest working)
   ]
+
+-- ---- calls that follow one another
+module _ {D : Type 0} {g : Ghosts D} where
+  -- nothing was read
+  pub quiet_none : (a : Pages D g) → IsQuiet a a
+  quiet_none a = record {
+    count = refl;
+    journal = refl;
+    honest = λ honest. honest;
+    same = λ honest. refl;
+    moves = λ honest working. touches_none Nowhere (disk_in a) honest;
+    still = λ halted. refl;
+  }
+
+  pub quiet_more : (a b c : Pages D g) → IsQuiet a b → IsQuiet b c → IsQuiet a c
+  quiet_more a b c ab bc = record {
+    count = bc.count ∙ ab.count;
+    journal = bc.journal ∙ ab.journal;
+    honest = λ honest. ab.honest (bc.honest honest);
+    same = λ honest. bc.same honest ∙ ab.same (bc.honest honest);
+    moves = λ honest working. elim (either (has_halted b)) [
+      | inl halted ↦ subst (λ j. Touches Nowhere (disk_in a) (g.disk j.device)) (sym (bc.still halted)) (ab.moves (bc.honest honest) working)
+      | inr on ↦ touches_more Nowhere Nowhere (disk_in a) (disk_in b) (disk_in c) (λ i t. t) (ab.moves (bc.honest honest) working) (bc.moves honest on)
+    ];
+    still = λ halted. elim (either (has_halted b)) [
+      | inl on ↦ bc.still on ∙ ab.still halted
+      | inr working ↦ bc.still (ap (λ j. is_halted j) (ab.still halted) ∙ halted) ∙ ab.still halted
+    ];
+  }
+
+  pub passed_none : (a : Pages D g) → Passed a a
+  passed_none a = record { quiet = quiet_none a; halted = refl; faults = λ honest. refl }
+
+  pub passed_more : (a b c : Pages D g) → Passed a b → Passed b c → Passed a c
+  passed_more a b c ab bc = record {
+    quiet = quiet_more a b c ab.quiet bc.quiet;
+    halted = bc.halted ∙ ab.halted;
+    faults = λ honest. bc.faults honest ∙ ab.faults (bc.quiet.honest honest);
+  }
+
+  -- calls that met no fault, and then one that failed
+  pub failed_more : (a b c : Pages D g) → Passed a b → IsQuiet b c → HasFailed b c → HasFailed a c
+  failed_more a b c ab bc failed = record {
+    worked = sym ab.halted ∙ failed.worked;
+    halted = failed.halted;
+    rose = λ honest. let rose = failed.rose honest in let same = ab.faults (bc.honest honest) in omega arith;
+  }

@@ -100,6 +100,16 @@ module _ {D : Type 0} {g : Ghosts D} where
     -- from a fault on nothing changes
     pub still : is_halted old.journal ≡ true → new.journal ≡ old.journal
 
+  -- a fault, and from then on only refusals
+  abbrev pub HasFailed : Pages D g → Pages D g → Type 0
+  HasFailed old new = HasHalted old.journal new.journal
+
+  -- a call that read at most, and met no fault
+  pub record Passed (old new : Pages D g) : Type 0 where
+    pub quiet : IsQuiet old new
+    pub halted : is_halted new.journal ≡ is_halted old.journal
+    pub faults : (disk_of new.journal).is_honest → (disk_of new.journal).faults ≡ (disk_of old.journal).faults
+
   -- why a page is not read
   abbrev pub ReadErr : Pages D g → Pages D g → PageError → Type 0
   ReadErr old new DeviceFault = HasHalted old.journal new.journal

@@ -40,7 +40,7 @@ pub struct Prepared {
 }
 
 impl Txn {
-    ghost use Rattle.std.specs.Prelude.{◌≡◌, ◌≢◌, ◌⊎◌, ◌<◌, ◌≤◌, ◌+◌, ◌-◌, ◌∷◌, ℕ, length, OnOk, OnErr, IfOk, IfErr};
+    ghost use Rattle.std.specs.Prelude.{◌≡◌, ◌≢◌, ◌⊎◌, ◌<◌, ◌≤◌, ◌+◌, ◌-◌, ◌∷◌, ℕ, length, OnOk, OnErr, IfOk, IfErr, MatchResult};
     ghost use Rattle.sector_device.specs.Disk.{Image};
     ghost use Rattle.gate_journal.specs.Store.{put};
     ghost use Rattle.page_store.specs.Chain.{chain, IsIn, AreFree, IsPages, root_in, free_in};
@@ -82,6 +82,7 @@ impl Txn {
         ensures err { IfErr result (λ e. e ≡ Memory) }
         ensures same { OnErr result ((P : Image) → (over self.new P ≡ over self.old P) × (free_over self.new P ≡ free_over self.old P)) }
         ensures unwritten { OnErr result (txn_list self.new ≡ txn_list self.old) }
+        ensures count { txn_free self.new ≡ txn_free self.old }
     {
         self.writes.put(p, bytes)?;
         Ok(())
@@ -125,6 +126,7 @@ impl Txn {
         ensures ok { OnOk result (has_halted pages.new ≡ has_halted pages.old) }
         ensures err { IfErr result (λ e. TakeErr self.old pages.old pages.new e) }
         ensures same { OnErr result ((P : Image) → free_over self.new P ≡ free_over self.old P) }
+        ensures count { MatchResult result (λ _. txn_free self.new + 1 ≡ txn_free self.old) (λ _. txn_free self.new ≡ txn_free self.old) }
     {
         if self.free == 0 {
             return Err(PageError::NoPages);
@@ -150,6 +152,7 @@ impl Txn {
         ensures err { IfErr result (λ e. GiveErr self.old p e) }
         ensures same { OnErr result ((P : Image) → (over self.new P ≡ over self.old P) × (free_over self.new P ≡ free_over self.old P)) }
         ensures unwritten { OnErr result (txn_list self.new ≡ txn_list self.old) }
+        ensures count { MatchResult result (λ _. txn_free self.new ≡ txn_free self.old + 1) (λ _. txn_free self.new ≡ txn_free self.old) }
     {
         if self.free + 1 >= self.pages {
             return Err(PageError::DeviceFault);
@@ -194,9 +197,17 @@ impl Txn {
         })
     }
 
+    /// How many pages the store has.
+    pub fn page_count(&self) -> u32
+        ensures { result ≡ txn_pages self.now }
+    {
+        self.pages
+    }
+
     /// The root that the meta page is to name. Page 0 stands for none.
     pub fn root(&self) -> u32
-        ensures { result ≡ txn_root self.now }
+        ensures root { result ≡ txn_root self.now }
+        ensures below { result < txn_pages self.now }
     {
         self.root
     }
@@ -209,6 +220,7 @@ impl Txn {
         ensures writes { txn_writes self.new ≡ txn_writes self.old }
         ensures list { txn_list self.new ≡ txn_list self.old }
         ensures same { (P : Image) → (over self.new P ≡ over self.old P) × (free_over self.new P ≡ free_over self.old P) }
+        ensures count { txn_free self.new ≡ txn_free self.old }
     {
         self.root = root;
     }

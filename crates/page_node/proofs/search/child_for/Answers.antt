@@ -1,10 +1,9 @@
-use Rattle.std.proofs.Common.{◌≡◌, ◌-◌, arith, sym, ap, ◌∙◌}
+use Rattle.std.proofs.Common.{◌≡◌, ◌+◌, ◌-◌, true, arith, sym, ap, ◌∙◌}
 use Rattle.std.specs.Ordering.{is_gt}
-use Rattle.std.specs.declared.cmp.Ordering.TheVariants.{Greater}
 use Rattle.page_node.specs.Entries.{key_at}
 use Rattle.page_node.specs.Places.{key_cmp}
-use Rattle.page_node.specs.Laws.{above_middle, floor_is}
-use Rattle.page_node.proofs.Scanning.{lies_there, entry_of, key_part, last_next, child_ok, above_true}
+use Rattle.page_node.specs.Laws.{floor_stop}
+use Rattle.page_node.proofs.Scanning.{lies_there, entry_of, key_part, last_next, child_ok}
 use Rattle.page_node.proofs.search.child_for.Goals as goal
 use Rattle.page_node.proofs.search.child_for.Goals.{else-k-gt0-via-then-k-gt0+else-is_above, else-k-gt0-via-else-k-gt0}
 
@@ -15,13 +14,14 @@ returns-in-None-clause-err c = λ node is inner.
     absurd (lies_there _ node c.loop-k.k c.loop-k.at is (omega arith) last.place c.in-None.ensures.none)
 
 pub returns-then-is_above-clause-child : goal.returns-then-is_above-clause-child
-returns-then-is_above-clause-child c = λ node is rises.
+returns-then-is_above-clause-child c = λ node is.
     let last = c.loop-k.invariant.2 node is in
     let n = is.count in
     let e = entry_of _ node c.loop-k.k c.loop-k.at is (omega arith) last.place in
-    let greater : key_cmp (key_at node.entries c.loop-k.k) c.args.key.now ≡ Greater = ap (λ l. key_cmp l c.args.key.now) (sym (key_part _ _ _ _ _ _ e c.in-Some.ensures.some)) ∙ above_true _ (sym c.is_above.ensures ∙ c.if-is_above.true) in
+    let above : is_gt (key_cmp (key_at node.entries c.loop-k.k) c.args.key.now) ≡ true = ap (λ l. is_gt (key_cmp l c.args.key.now)) (sym (key_part _ _ _ _ _ _ e c.in-Some.ensures.some)) ∙ sym c.is_above.ensures ∙ c.if-is_above.true in
+    let next : c.loop-k.k - 1 + 1 ≡ c.loop-k.k = omega arith in
     child_ok _ c.args.key.now node.entries c.loop-k.k _ _ c.child_at.result last c.child_at.ensures.ok
-    (λ some. floor_is c.args.key.now node.entries (c.loop-k.k - 1) (omega arith) (λ j more le. last.below j more (omega arith)) (λ j less long. above_middle node.entries c.args.key.now c.loop-k.k rises greater j (omega arith) long))
+    (λ some. floor_stop c.args.key.now node.entries (c.loop-k.k - 1) (omega arith) (λ j more le. last.below j more (omega arith)) (λ long. ap (λ k. is_gt (key_cmp (key_at node.entries k) c.args.key.now)) next ∙ above))
 
 pub loop-k-preserved : goal.loop-k-preserved
 loop-k-preserved c =
@@ -41,8 +41,8 @@ loop-k-preserved c =
     )
 
 pub returns-clause-child : goal.returns-clause-child
-returns-clause-child c = λ node is rises.
+returns-clause-child c = λ node is.
     let last = c.loop-k.invariant.2 node is in
     let n = is.count in
     child_ok _ c.args.key.now node.entries c.loop-k.k _ _ c.child_at-2.result last c.child_at-2.ensures.ok
-    (λ some. floor_is c.args.key.now node.entries (c.loop-k.k - 1) (omega arith) (λ j more le. last.below j more (omega arith)) (λ j less long. absurd (omega arith)))
+    (λ some. floor_stop c.args.key.now node.entries (c.loop-k.k - 1) (omega arith) (λ j more le. last.below j more (omega arith)) (λ long. absurd (omega arith)))

@@ -1,4 +1,4 @@
-use Rattle.std.proofs.Common.{◌≡◌, ◌≢◌, ◌∙◌, ◌<◌, ◌≤◌, ℕ, arith}
+use Rattle.std.proofs.Common.{◌∙◌, ◌≤◌, ℕ, arith}
 use Rattle.gate_journal.specs.Store.{overlay}
 use Rattle.gate_journal.specs.Writes.{writes_of, room_of}
 use Rattle.gate_journal.proofs.Images.{put_off}

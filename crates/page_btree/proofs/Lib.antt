@@ -1,0 +1,14 @@
+pub mod Images
+pub mod Linking
+pub mod Placing
+pub mod Outcomes
+pub mod Failing
+pub mod Counting
+pub mod Rows
+pub mod Within
+pub mod Joined
+pub mod Chosen
+pub mod Raised
+pub mod Leaves
+pub mod Roots
+pub mod Down

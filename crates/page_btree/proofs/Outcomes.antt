@@ -1,0 +1,36 @@
+-- What is said of a result, said of it by cases.
+use Rattle.std.proofs.Common.{◌≡◌, Ok, Err, subst, sym}
+use Rattle.std.specs.Prelude.{Result, IfOk, IfErr, IsErrAnd, MatchResult}
+
+pub when_err : {T E : Type 0} (r : Result T E) (Q P : E → Type 0) → IsErrAnd r Q → ((e : E) → Q e → P e) → IfErr r P
+when_err (Ok x) Q P is f = absurd is
+when_err (Err e) Q P is f = f e is
+
+pub when_match : {T E : Type 0} (r : Result T E) (A : T → Type 0) (Q P : E → Type 0) → IsErrAnd r Q → ((e : E) → Q e → P e) → MatchResult r A P
+when_match (Ok x) A Q P is f = absurd is
+when_match (Err e) A Q P is f = f e is
+
+pub when_no : {T E : Type 0} (r : Result T E) (A : T → Type 0) (Q : E → Type 0) → IsErrAnd r Q → IfOk r A
+when_no (Ok x) A Q is = absurd is
+when_no (Err e) A Q is = tt
+
+pub map_ok : {T E : Type 0} (r : Result T E) (A B : T → Type 0) → ((x : T) → A x → B x) → IfOk r A → IfOk r B
+map_ok (Ok x) A B f h = f x h
+map_ok (Err e) A B f h = tt
+
+pub map_err : {T E : Type 0} (r : Result T E) (A B : E → Type 0) → ((e : E) → A e → B e) → IfErr r A → IfErr r B
+map_err (Ok x) A B f h = tt
+map_err (Err e) A B f h = f e h
+
+pub map_both : {T E : Type 0} (r : Result T E) (A B : T → Type 0) (P Q : E → Type 0) → ((x : T) → A x → B x) → ((e : E) → P e → Q e) → MatchResult r A P → MatchResult r B Q
+map_both (Ok x) A B P Q f k h = f x h
+map_both (Err e) A B P Q f k h = k e h
+
+-- an error that is known
+pub err_of : {T E : Type 0} (r : Result T E) (x : E) (P : E → Type 0) → IsErrAnd r (λ e. e ≡ x) → P x → IfErr r P
+err_of (Ok y) x P is h = absurd is
+err_of (Err e) x P is h = subst P (sym is) h
+
+pub match_of : {T E : Type 0} (r : Result T E) (A : T → Type 0) (x : E) (P : E → Type 0) → IsErrAnd r (λ e. e ≡ x) → P x → MatchResult r A P
+match_of (Ok y) A x P is h = absurd is
+match_of (Err e) A x P is h = subst P (sym is) h

@@ -1,0 +1,156 @@
+-- What keeps a map, and that pages hold one map alone.
+use Rattle.std.specs.Prelude.{◌≡◌, ◌≢◌, ◌⊎◌, ◌<◌, ◌≤◌, ◌+◌, ◌-◌, ◌^◌, ◌++◌, ℕ, List, [], ◌∷◌, length, Option, Some, None}
+use Rattle.std.proofs.Common.{inl, inr, ⊎_elim, refl, sym, ap, subst, ◌∙◌, arith}
+use Rattle.std.specs.FinMap.{entries, empty, len-entries, len-empty, same_entries_map}
+use Rattle.sector_device.specs.Disk.{Disk, Image}
+use Rattle.sector_device.specs.Moments.{LeavesOnly, leaves_wider}
+use Rattle.gate_journal.specs.Store.{home, IsBeforeOrAfter, overlay}
+use Rattle.page_store.specs.Chain.{IsPages, root_in, free_in}
+use Rattle.page_store.specs.Transactions.{txn_pages, txn_root, over, free_over}
+use Rattle.page_store.specs.declared.txn.Txn.{Txn}
+use Rattle.page_node.specs.Entries.{Entry, child_bytes, child_in}
+use Rattle.page_node.specs.Node.{Node, IsNode}
+use Rattle.page_node.specs.Laws.{node_unique, child_written}
+use Rattle.page_node.specs.Places.{key_cmp}
+use Rattle.page_btree.specs.Keys.{KeyMap}
+use Rattle.page_btree.specs.Tree.{Tree, Forest, leaf, inner, one, more, first_key, links, page_of, rows, forest_rows, owns, forest_owns, IsTree, AreTrees}
+use Rattle.page_btree.specs.Map.{Holds, InTxn, OpensMap}
+
+-- pages that agree on a tree's own hold it both
+mutual
+  pub tree_same : (P Q : Image) (d : ℕ) (low : List ℕ) (high : Option (List ℕ)) (t : Tree) → ((q : ℕ) → owns t q → Q q ≡ P q) → IsTree P d low high t → IsTree Q d low high t
+  tree_same P Q d low high (leaf p es) same is = (
+    is.0,
+    record {
+      node = subst (λ bytes. IsNode bytes (record { level = 0; entries = es })) (sym (same p refl)) is.1.node;
+      rises = is.1.rises;
+      within = is.1.within;
+      some = is.1.some;
+    },
+  )
+  tree_same P Q d low high (inner p f) same is = (
+    is.0,
+    subst (λ bytes. IsNode bytes (record { level = d; entries = links f })) (sym (same p (inl refl))) is.1,
+    trees_same P Q (d - 1) low high f (λ q own. same q (inr own)) is.2,
+  )
+
+  pub trees_same : (P Q : Image) (d : ℕ) (low : List ℕ) (high : Option (List ℕ)) (f : Forest) → ((q : ℕ) → forest_owns f q → Q q ≡ P q) → AreTrees P d low high f → AreTrees Q d low high f
+  trees_same P Q d low high (one k t) same is = tree_same P Q d low high t same is
+  trees_same P Q d low high (more k t f) same is = (
+    tree_same P Q d low (Some (first_key f)) t (λ q own. same q (inl own)) is.0,
+    is.1,
+    trees_same P Q d (first_key f) high f (λ q own. same q (inr own)) is.2,
+  )
+
+-- only page 0 changed
+pub holds_same : (n : ℕ) (P Q : Image) (root : ℕ) (free : List ℕ) (m : KeyMap) → ((q : ℕ) → q ≢ 0 → Q q ≡ P q) → Holds n P root free m → Holds n Q root free m
+holds_same n P Q root free m same holds = record {
+  free_are = holds.free_are;
+  held = ⊎_elim (λ bare. inl bare) (λ r. inr (record {
+    tree = r.tree;
+    level = r.level;
+    few = r.few;
+    stands = tree_same P Q r.level [] None r.tree (λ q own. same q (λ is. let some = (r.sound.below q own).0 in omega arith)) r.stands;
+    root_is = r.root_is;
+    sound = r.sound;
+    rows_are = r.rows_are;
+    whole = r.whole;
+  })) holds.held;
+}
+
+-- a commit's pages hold what the transaction reads
+pub prepared_holds : (t : Txn) (P Q : Image) (m : KeyMap) → InTxn t P m → ((q : ℕ) → q ≢ 0 → Q q ≡ over t P q) → root_in Q ≡ txn_root t → free_in Q ≡ free_over t P → Holds (txn_pages t) Q (root_in Q) (free_in Q) m
+prepared_holds t P Q m holds same root free =
+    subst (λ (r : ℕ). Holds (txn_pages t) Q r (free_in Q) m) (sym root) (subst (λ (f : List ℕ). Holds (txn_pages t) Q (txn_root t) f m) (sym free) (holds_same (txn_pages t) (over t P) Q (txn_root t) (free_over t P) m same holds))
+
+-- and a new transaction reads what the pages hold
+pub begun_holds : (t : Txn) (P : Image) (m : KeyMap) → Holds (txn_pages t) P (root_in P) (free_in P) m → ((q : ℕ) → over t P q ≡ P q) → txn_root t ≡ root_in P → free_over t P ≡ free_in P → InTxn t P m
+begun_holds t P m holds same root free =
+    subst (λ (r : ℕ). Holds (txn_pages t) (over t P) r (free_over t P) m) (sym root) (subst (λ (f : List ℕ). Holds (txn_pages t) (over t P) (root_in P) f m) (sym free) (holds_same (txn_pages t) P (over t P) (root_in P) (free_in P) m (λ q some. same q) holds))
+
+-- an image with the pages before a commit or those after it opens to the map before or to the map after
+pub opens_maps : (sectors J n : ℕ) (ws : List (ℕ × List ℕ)) (P : Image) (m next : KeyMap) (c : Image) → home J + n ≡ sectors → Holds n P (root_in P) (free_in P) m → Holds n (overlay ws P) (root_in (overlay ws P)) (free_in (overlay ws P)) next
+    → IsBeforeOrAfter J n ws P c → OpensMap sectors m c ⊎ OpensMap sectors next c
+opens_maps sectors J n ws P m next c whole holds holds_then is = ⊎_elim
+    (λ opens. inl (record { J = J; n = n; P = P; whole = whole; opens = opens; holds = holds }))
+    (λ opens. inr (record { J = J; n = n; P = overlay ws P; whole = whole; opens = opens; holds = holds_then })) is
+
+-- so does each that a stop leaves in the midst of it
+pub leaves_maps : (sectors J n : ℕ) (ws : List (ℕ × List ℕ)) (P : Image) (m next : KeyMap) (old new : Disk) → home J + n ≡ sectors → Holds n P (root_in P) (free_in P) m → Holds n (overlay ws P) (root_in (overlay ws P)) (free_in (overlay ws P)) next
+    → LeavesOnly (IsBeforeOrAfter J n ws P) old new → LeavesOnly (λ c. OpensMap sectors m c ⊎ OpensMap sectors next c) old new
+leaves_maps sectors J n ws P m next old new whole holds holds_then left =
+    leaves_wider (IsBeforeOrAfter J n ws P) (λ c. OpensMap sectors m c ⊎ OpensMap sectors next c) old new (λ c is. opens_maps sectors J n ws P m next c whole holds holds_then is) left
+
+no_rows : (es : List Entry) → length es ≡ 0 → es ≡ []
+no_rows [] none = refl
+no_rows (e ∷ es) none = absurd (omega arith)
+
+-- a new store holds the map without rows
+pub new_holds : (n : ℕ) (P : Image) → root_in P ≡ 0 → IsPages n P → length (free_in P) + 1 ≡ n → Holds n P (root_in P) (free_in P) empty
+new_holds n P root sound whole = record {
+  free_are = sound.free;
+  held = inl (record { root_is = root; none = no_rows (entries empty) (sym (len-entries {R = key_cmp} empty) ∙ len-empty key_cmp (List ℕ)); whole = whole });
+}
+
+-- ---- one map
+page_is : (p q : ℕ) → p < 2 ^ 32 → q < 2 ^ 32 → child_bytes p ≡ child_bytes q → p ≡ q
+page_is p q a b same = sym (child_written p a) ∙ ap child_in same ∙ child_written q b
+
+abbrev value_of : List Entry → List ℕ
+value_of [] = []
+value_of (e ∷ es) = e.1
+
+abbrev rest_of : List Entry → List Entry
+rest_of [] = []
+rest_of (e ∷ es) = es
+
+some_links : (f : Forest) → 0 < length (links f)
+some_links (one k t) = omega arith
+some_links (more k t f) = omega arith
+
+own_page : (t : Tree) → owns t (page_of t)
+own_page (leaf p es) = refl
+own_page (inner p f) = inl refl
+
+abbrev AreSmall : Tree → Type 0
+AreSmall t = (q : ℕ) → owns t q → q < 2 ^ 32
+
+abbrev AllSmall : Forest → Type 0
+AllSmall f = (q : ℕ) → forest_owns f q → q < 2 ^ 32
+
+mutual
+  rows_one : (P : Image) (d e : ℕ) (low low' : List ℕ) (high high' : Option (List ℕ)) (t u : Tree) → AreSmall t → AreSmall u → IsTree P d low high t → IsTree P e low' high' u → page_of t ≡ page_of u → rows t ≡ rows u
+  rows_one P d e low low' high high' (leaf p es) (leaf q fs) small small' is is' same =
+      ap (λ (n : Node). n.entries) (node_unique (P q) (record { level = 0; entries = es }) (record { level = 0; entries = fs }) (subst (λ (x : ℕ). IsNode (P x) (record { level = 0; entries = es })) same is.1.node) is'.1.node)
+  rows_one P d e low low' high high' (leaf p es) (inner q f) small small' is is' same = absurd (
+      let level : 0 ≡ e = ap (λ (n : Node). n.level) (node_unique (P q) (record { level = 0; entries = es }) (record { level = e; entries = links f }) (subst (λ (x : ℕ). IsNode (P x) (record { level = 0; entries = es })) same is.1.node) is'.1) in
+      let some = is'.0 in omega arith)
+  rows_one P d e low low' high high' (inner p f) (leaf q fs) small small' is is' same = absurd (
+      let level : d ≡ 0 = ap (λ (n : Node). n.level) (node_unique (P q) (record { level = d; entries = links f }) (record { level = 0; entries = fs }) (subst (λ (x : ℕ). IsNode (P x) (record { level = d; entries = links f })) same is.1) is'.1.node) in
+      let some = is.0 in omega arith)
+  rows_one P d e low low' high high' (inner p f) (inner q g) small small' is is' same =
+      let node = node_unique (P q) (record { level = d; entries = links f }) (record { level = e; entries = links g }) (subst (λ (x : ℕ). IsNode (P x) (record { level = d; entries = links f })) same is.1) is'.1 in
+      rows_all P (d - 1) (e - 1) low low' high high' f g (λ x own. small x (inr own)) (λ x own. small' x (inr own)) is.2 is'.2 (ap (λ (n : Node). n.entries) node)
+
+  rows_all : (P : Image) (d e : ℕ) (low low' : List ℕ) (high high' : Option (List ℕ)) (f g : Forest) → AllSmall f → AllSmall g → AreTrees P d low high f → AreTrees P e low' high' g → links f ≡ links g → forest_rows f ≡ forest_rows g
+  rows_all P d e low low' high high' (one k t) (one q u) small small' is is' same =
+      rows_one P d e low low' high high' t u small small' is is' (page_is (page_of t) (page_of u) (small _ (own_page t)) (small' _ (own_page u)) (ap value_of same))
+  rows_all P d e low low' high high' (one k t) (more q u g) small small' is is' same = absurd (let n : 0 ≡ length (links g) = ap (λ (l : List Entry). length (rest_of l)) same in let some = some_links g in omega arith)
+  rows_all P d e low low' high high' (more k t f) (one q u) small small' is is' same = absurd (let n : length (links f) ≡ 0 = ap (λ (l : List Entry). length (rest_of l)) same in let some = some_links f in omega arith)
+  rows_all P d e low low' high high' (more k t f) (more q u g) small small' is is' same =
+      let here = rows_one P d e low low' (Some (first_key f)) (Some (first_key g)) t u (λ x own. small x (inl own)) (λ x own. small' x (inl own)) is.0 is'.0 (page_is (page_of t) (page_of u) (small _ (inl (own_page t))) (small' _ (inl (own_page u))) (ap value_of same)) in
+      let rest = rows_all P d e (first_key f) (first_key g) high high' f g (λ x own. small x (inr own)) (λ x own. small' x (inr own)) is.2 is'.2 (ap rest_of same) in
+      λ i. here i ++ rest i
+
+-- pages with a root and free pages hold one map at most
+pub one_map : (n : ℕ) (P : Image) (root : ℕ) (free : List ℕ) (m m' : KeyMap) → n ≤ 2 ^ 32 → Holds n P root free m → Holds n P root free m' → m ≡ m'
+one_map n P root free m m' few holds holds' = same_entries_map m m' (elim holds.held [
+  | inl a ↦ elim holds'.held [
+    | inl b ↦ a.none ∙ sym b.none
+    | inr b ↦ absurd (let low = (b.sound.below (page_of b.tree) (own_page b.tree)).0 in let is = b.root_is in let none = a.root_is in omega arith)
+  ]
+  | inr a ↦ elim holds'.held [
+    | inl b ↦ absurd (let low = (a.sound.below (page_of a.tree) (own_page a.tree)).0 in let is = a.root_is in let none = b.root_is in omega arith)
+    | inr b ↦ sym a.rows_are ∙ rows_one P a.level b.level [] [] None None a.tree b.tree (λ q own. let x = (a.sound.below q own).1 in omega arith) (λ q own. let x = (b.sound.below q own).1 in omega arith) a.stands b.stands (a.root_is ∙ sym b.root_is) ∙ b.rows_are
+  ]
+])

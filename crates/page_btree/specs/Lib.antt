@@ -1,0 +1,6 @@
+pub mod Keys
+pub mod Tree
+pub mod Map
+pub mod Errors
+pub mod Putting
+pub mod Laws

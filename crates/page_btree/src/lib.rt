@@ -1,0 +1,11 @@
+//! A finite map of byte keys to byte values in the pages of a store, which changes by transactions alone.
+#![tactic(auto)]
+
+mod error;
+mod kept;
+mod puts;
+mod tree;
+
+pub use error::TreeError;
+pub use kept::laws;
+pub use puts::put;

@@ -1,0 +1,252 @@
+//! Puts a row.
+ghost use Rattle.std.specs.Prelude.{◌≡◌, ◌≤◌, ◌<◌, ◌+◌, ℕ, List, [], ◌∷◌, length, Option, Some, None, is_some, OnOk, IfOk, IfErr, IfSome, MatchResult};
+ghost use Rattle.std.specs.FinMap.{find, get, insert, contains_key, put as put_entry};
+ghost use Rattle.page_store.specs.Chain.{IsIn, AreFree};
+ghost use Rattle.page_store.specs.Transactions.{stored, disk_in, count_of, txn_pages, txn_root, txn_free, txn_writes, over, free_over, IsQuiet, Passed};
+ghost use Rattle.page_node.specs.Entries.{Entry, key_at, child_bytes};
+ghost use Rattle.page_node.specs.Node.{Node, IsNode};
+ghost use Rattle.page_node.specs.Places.{key_cmp, Rises};
+ghost use Rattle.page_btree.specs.Keys.{KeyMap, IsKey};
+ghost use Rattle.page_btree.specs.Tree.{Tree, rows};
+ghost use Rattle.page_btree.specs.Map.{InTxn};
+ghost use Rattle.page_btree.specs.Errors.{PutErr, PlaceErr, WriteErr, RowErr, LinkErr, GrowErr, IsNoWant};
+ghost use Rattle.page_btree.specs.Putting.{CanPut, CanPutSome, IsRaised, IsGrown, IsWritten, linked, AreFew};
+ghost use Rattle.page_btree.specs.declared.error.TreeError.TheVariants.{NoPages};
+
+use crate::error::TreeError;
+use crate::tree::{Room, make_room, place_behind, settle, step_down, write_node};
+use page_node::level_of;
+use page_store::{Pages, Txn};
+use sector_device::SectorDevice;
+
+/// What a put into a tree at a page did: whether the key was there, and the page of the upper half where the node was cut.
+#[derive(Clone, Copy, Drop)]
+struct Placed {
+    had: bool,
+    right: Option<u32>,
+}
+
+/// Puts a row, and tells whether its key was there. A key has 1 to 72 bytes, a value at most 1,024. At most 11 pages are written
+/// and 6 taken; none is taken where a value of the same length is replaced. After an error the transaction can only be
+/// abandoned: `NoPages` comes where fewer than six pages were free and none is left, `TooDeep` where the tree has six levels,
+/// `Memory` from a growth of the transaction, `DeviceFault` and `Halted` from the device.
+pub fn put<D: SectorDevice>(
+    txn: &mut Txn,
+    pages: &mut Pages<D>,
+    key: &[u8],
+    value: &[u8],
+) -> Result<bool, TreeError>
+    requires begun { txn_pages txn.old ≡ count_of pages.old }
+    requires key { IsKey key.now }
+    requires value { length value.now ≤ 1024 }
+    ensures quiet { IsQuiet pages.old pages.new }
+    ensures pages { txn_pages txn.new ≡ txn_pages txn.old }
+    ensures put { (disk_in pages.new).is_honest → (m : KeyMap) → InTxn txn.old (stored pages.old) m → IfOk result (λ had. InTxn txn.new (stored pages.old) (insert m key.now value.now) × (had ≡ contains_key m key.now)) }
+    ensures writes { OnOk result (txn_writes txn.new ≤ txn_writes txn.old + 11) }
+    ensures taken { OnOk result (txn_free txn.old ≤ txn_free txn.new + 6) }
+    ensures fixed { (disk_in pages.new).is_honest → (m : KeyMap) (held : List ℕ) → InTxn txn.old (stored pages.old) m → get m key.now ≡ Some held → length held ≡ length value.now → MatchResult result (λ _. txn_free txn.new ≡ txn_free txn.old) (λ e. IsNoWant e) }
+    ensures passed { OnOk result (Passed pages.old pages.new) }
+    ensures spent { IfErr result (λ e. e ≡ NoPages → txn_free txn.new ≡ 0) }
+    ensures err { IfErr result (λ e. PutErr txn.old pages.old pages.new e) }
+{
+    let mut room = make_room();
+    let root = txn.root();
+    if root == 0 {
+        put_first(txn, pages, &mut room, key, value)?;
+        return Ok(false);
+    }
+    txn.read(pages, root, &mut room.page)?;
+    let level = level_of(&room.page);
+    if level > 5 {
+        return Err(TreeError::DeviceFault);
+    }
+    let placed = put_at(txn, pages, &mut room, root, level, key, value)?;
+    match placed.right {
+        None => Ok(placed.had),
+        Some(right) => {
+            grow(txn, pages, &mut room, root, right, level)?;
+            Ok(placed.had)
+        }
+    }
+}
+
+/// Puts the first row of a map without rows.
+fn put_first<D: SectorDevice>(
+    txn: &mut Txn,
+    pages: &mut Pages<D>,
+    room: &mut Room,
+    key: &[u8],
+    value: &[u8],
+) -> Result<(), TreeError>
+    requires begun { txn_pages txn.old ≡ count_of pages.old }
+    requires key { IsKey key.now }
+    requires value { length value.now ≤ 1024 }
+    ensures quiet { IsQuiet pages.old pages.new }
+    ensures pages { txn_pages txn.new ≡ txn_pages txn.old }
+    ensures put { (disk_in pages.new).is_honest → (m : KeyMap) → txn_root txn.old ≡ 0 → InTxn txn.old (stored pages.old) m → OnOk result (InTxn txn.new (stored pages.old) (insert m key.now value.now)) }
+    ensures writes { OnOk result (txn_writes txn.new ≤ txn_writes txn.old + 1) }
+    ensures taken { OnOk result (txn_free txn.old ≡ txn_free txn.new + 1) }
+    ensures passed { OnOk result (Passed pages.old pages.new) }
+    ensures spent { IfErr result (λ e. e ≡ NoPages → txn_free txn.new ≡ 0) }
+    ensures err { IfErr result (λ e. WriteErr txn.old pages.old pages.new e) }
+{
+    let page = txn.take_page(pages)?;
+    room.node.clear(0);
+    room.node.insert(0, key, value);
+    write_node(txn, &mut room.page, page, &room.node)?;
+    txn.set_root(page);
+    Ok(())
+}
+
+/// Makes a root above one that was cut.
+fn grow<D: SectorDevice>(
+    txn: &mut Txn,
+    pages: &mut Pages<D>,
+    room: &mut Room,
+    root: u32,
+    right: u32,
+    level: u8,
+) -> Result<(), TreeError>
+    requires begun { txn_pages txn.old ≡ count_of pages.old }
+    requires level { level ≤ 5 }
+    requires upper { 0 < length room.old.upper.entries }
+    ensures quiet { IsQuiet pages.old pages.new }
+    ensures pages { txn_pages txn.new ≡ txn_pages txn.old }
+    ensures grown { (disk_in pages.new).is_honest → AreFree (txn_pages txn.old) (free_over txn.old (stored pages.old)) → OnOk result (IsGrown (over txn.old (stored pages.old)) (over txn.new (stored pages.old)) (free_over txn.old (stored pages.old)) (free_over txn.new (stored pages.old)) root right level (key_at room.old.upper.entries 0) (txn_root txn.new)) }
+    ensures writes { OnOk result (txn_writes txn.new ≤ txn_writes txn.old + 1) }
+    ensures taken { OnOk result (txn_free txn.old ≡ txn_free txn.new + 1) }
+    ensures few { OnOk result (level ≤ 4) }
+    ensures passed { OnOk result (Passed pages.old pages.new) }
+    ensures spent { IfErr result (λ e. e ≡ NoPages → txn_free txn.new ≡ 0) }
+    ensures err { IfErr result (λ e. GrowErr level txn.old pages.old pages.new e) }
+{
+    if level == 5 {
+        return Err(TreeError::TooDeep);
+    }
+    let top = txn.take_page(pages)?;
+    room.node.clear(level + 1);
+    room.node.insert(0, &[], &root.to_be_bytes());
+    room.node.insert(1, room.upper.key(0), &right.to_be_bytes());
+    write_node(txn, &mut room.page, top, &room.node)?;
+    txn.set_root(top);
+    Ok(())
+}
+
+/// Puts a row into the tree at a page, which is in the room.
+fn put_at<D: SectorDevice>(
+    txn: &mut Txn,
+    pages: &mut Pages<D>,
+    room: &mut Room,
+    page: u32,
+    level: u8,
+    key: &[u8],
+    value: &[u8],
+) -> Result<Placed, TreeError>
+    requires begun { txn_pages txn.old ≡ count_of pages.old }
+    requires page { page < txn_pages txn.old }
+    requires level { level ≤ 5 }
+    requires key { IsKey key.now }
+    requires value { length value.now ≤ 1024 }
+    ensures quiet { IsQuiet pages.old pages.new }
+    ensures pages { txn_pages txn.new ≡ txn_pages txn.old }
+    ensures root { txn_root txn.new ≡ txn_root txn.old }
+    ensures passed { OnOk result (Passed pages.old pages.new) }
+    ensures put { (disk_in pages.new).is_honest → (low : List ℕ) (high : Option (List ℕ)) (t : Tree) → CanPut (txn_pages txn.old) (over txn.old (stored pages.old)) level low high (free_over txn.old (stored pages.old)) page room.old.page key.now t → IfOk result (λ placed. (k : List ℕ) → IsRaised (over txn.old (stored pages.old)) (over txn.new (stored pages.old)) level low high (free_over txn.old (stored pages.old)) (free_over txn.new (stored pages.old)) key.now value.now placed.had k page t placed.right room.new.upper) }
+    ensures fixed { (disk_in pages.new).is_honest → (low : List ℕ) (high : Option (List ℕ)) (t : Tree) (held : List ℕ) → CanPut (txn_pages txn.old) (over txn.old (stored pages.old)) level low high (free_over txn.old (stored pages.old)) page room.old.page key.now t → find key_cmp key.now (rows t) ≡ Some held → length held ≡ length value.now → MatchResult result (λ placed. (placed.right ≡ None) × (txn_free txn.new ≡ txn_free txn.old)) (λ e. IsNoWant e) }
+    ensures few { IfOk result (λ placed. AreFew level txn.old txn.new placed.right) }
+    ensures some { IfOk result (λ placed. IfSome placed.right (λ right. (right < txn_pages txn.old) × (0 < length room.new.upper.entries))) }
+    ensures spent { IfErr result (λ e. e ≡ NoPages → txn_free txn.new ≡ 0) }
+    ensures err { IfErr result (λ e. PlaceErr level (CanPutSome (txn_pages txn.old) (over txn.old) level (free_over txn.old) page room.old.page key.now) txn.old pages.old pages.new e) }
+{
+    if level == 0 {
+        return put_row(txn, pages, room, page, key, value);
+    }
+    let child = step_down(txn, pages, &mut room.page, page, level, key)?;
+    let below = put_at(txn, pages, room, child, level - 1, key, value)?;
+    match below.right {
+        None => Ok(below),
+        Some(right) => {
+            let cut = link(txn, pages, room, page, key, right)?;
+            Ok(Placed {
+                had: below.had,
+                right: cut,
+            })
+        }
+    }
+}
+
+/// Puts a row into the leaf in the room.
+fn put_row<D: SectorDevice>(
+    txn: &mut Txn,
+    pages: &mut Pages<D>,
+    room: &mut Room,
+    page: u32,
+    key: &[u8],
+    value: &[u8],
+) -> Result<Placed, TreeError>
+    requires begun { txn_pages txn.old ≡ count_of pages.old }
+    requires page { page < txn_pages txn.old }
+    requires key { IsKey key.now }
+    requires value { length value.now ≤ 1024 }
+    ensures quiet { IsQuiet pages.old pages.new }
+    ensures pages { txn_pages txn.new ≡ txn_pages txn.old }
+    ensures root { txn_root txn.new ≡ txn_root txn.old }
+    ensures passed { OnOk result (Passed pages.old pages.new) }
+    ensures put { (disk_in pages.new).is_honest → (es : List Entry) → IsNode room.old.page (record { level = 0; entries = es }) → Rises es → AreFree (txn_pages txn.old) (free_over txn.old (stored pages.old)) → (IsIn page (free_over txn.old (stored pages.old)) → ⊥) → IfOk result (λ placed. (placed.had ≡ is_some (find key_cmp key.now es)) × IsWritten (over txn.old (stored pages.old)) (over txn.new (stored pages.old)) (free_over txn.old (stored pages.old)) (free_over txn.new (stored pages.old)) page placed.right (record { level = 0; entries = put_entry key_cmp key.now value.now es }) room.new.upper) }
+    ensures fixed { (es : List Entry) (held : List ℕ) → IsNode room.old.page (record { level = 0; entries = es }) → Rises es → find key_cmp key.now es ≡ Some held → length held ≡ length value.now → MatchResult result (λ placed. placed.right ≡ None) (λ e. IsNoWant e) }
+    ensures few { IfOk result (λ placed. AreFew 0 txn.old txn.new placed.right) }
+    ensures some { IfOk result (λ placed. IfSome placed.right (λ right. (right < txn_pages txn.old) × (0 < length room.new.upper.entries))) }
+    ensures spent { IfErr result (λ e. e ≡ NoPages → txn_free txn.new ≡ 0) }
+    ensures err { IfErr result (λ e. RowErr room.old.page txn.old pages.old pages.new e) }
+{
+    room.node.read(&room.page)?;
+    if room.node.level() != 0 {
+        return Err(TreeError::DeviceFault);
+    }
+    match room.node.find(key) {
+        Ok(i) => {
+            room.node.replace(i, value);
+            let right = settle(txn, pages, room, page, i)?;
+            Ok(Placed { had: true, right })
+        }
+        Err(i) => {
+            room.node.insert(i, key, value);
+            let right = settle(txn, pages, room, page, i)?;
+            Ok(Placed { had: false, right })
+        }
+    }
+}
+
+/// Puts the link to the upper half of a child behind that child's, and tells the page of the node's own upper half where the
+/// node was cut.
+fn link<D: SectorDevice>(
+    txn: &mut Txn,
+    pages: &mut Pages<D>,
+    room: &mut Room,
+    page: u32,
+    key: &[u8],
+    right: u32,
+) -> Result<Option<u32>, TreeError>
+    requires begun { txn_pages txn.old ≡ count_of pages.old }
+    requires page { page < txn_pages txn.old }
+    requires upper { 0 < length room.old.upper.entries }
+    ensures quiet { IsQuiet pages.old pages.new }
+    ensures pages { txn_pages txn.new ≡ txn_pages txn.old }
+    ensures root { txn_root txn.new ≡ txn_root txn.old }
+    ensures passed { OnOk result (Passed pages.old pages.new) }
+    ensures linked { (disk_in pages.new).is_honest → (node : Node) → IsNode (over txn.old (stored pages.old) page) node → 0 < length node.entries → AreFree (txn_pages txn.old) (free_over txn.old (stored pages.old)) → (IsIn page (free_over txn.old (stored pages.old)) → ⊥) → IfOk result (λ cut. IsWritten (over txn.old (stored pages.old)) (over txn.new (stored pages.old)) (free_over txn.old (stored pages.old)) (free_over txn.new (stored pages.old)) page cut (record node { entries = linked key.now ((key_at room.old.upper.entries 0, child_bytes right) ∷ []) node.entries }) room.new.upper) }
+    ensures few { IfOk result (λ cut. AreFew 0 txn.old txn.new cut) }
+    ensures some { IfOk result (λ cut. IfSome cut (λ q. (q < txn_pages txn.old) × (0 < length room.new.upper.entries))) }
+    ensures spent { IfErr result (λ e. e ≡ NoPages → txn_free txn.new ≡ 0) }
+    ensures err { IfErr result (λ e. LinkErr page txn.old pages.old pages.new e) }
+{
+    txn.read(pages, page, &mut room.page)?;
+    room.node.read(&room.page)?;
+    if room.node.is_empty() {
+        return Err(TreeError::DeviceFault);
+    }
+    let place = place_behind(&room.node, key);
+    room.node
+        .insert(place, room.upper.key(0), &right.to_be_bytes());
+    settle(txn, pages, room, page, place)
+}
