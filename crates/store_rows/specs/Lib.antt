@@ -7,4 +7,5 @@ pub mod Frames
 pub mod Puts
 pub mod ChunkRows
 pub mod Changes
+pub mod Staging
 pub mod Laws
