@@ -2,9 +2,11 @@
 
 use crate::wire_trials::Pieces;
 use byte_stream::source::ReadSource;
-use http_wire::chunks::{Chunked, read_chunks};
-use http_wire::fault::{Fault, WireFault};
-use http_wire::inbox::Inbox;
+use http_chunks::chunks::{Chunked, read_chunks};
+use http_chunks::fault::Fault;
+use http_intake::fault::WireFault;
+use http_intake::inbox::Inbox;
+use http_intake::intake::Intake;
 use http_wire::request::TURN_LIMIT;
 use std::alloc::{AllocError, Global};
 
@@ -32,7 +34,12 @@ fn read_all(
     let mut inbox = Inbox::new(alloc)?;
     let mut turns = turn_limit;
     let mut body = Vec::new(alloc);
-    let came = read_chunks(&mut reader, &mut inbox, &mut turns, &mut body);
+    let mut intake = Intake {
+        reader: &mut reader,
+        inbox: &mut inbox,
+        turns: &mut turns,
+    };
+    let came = read_chunks(&mut intake, &mut body);
     let mut left = inbox.as_slice().to_vec(alloc)?;
     let pieces = reader.into_inner();
     left.extend_from_slice(pieces.bytes)?;

@@ -3,10 +3,11 @@
 use byte_stream::sink::{WriteFault, WriteSink};
 use byte_stream::source::ReadSource;
 use http::{Method, StatusCode};
-use http_wire::fault::{Fault, RequestFault};
-use http_wire::inbox::Inbox;
+use http_answer::response::{ContentType, Outbox, Response, write_response};
+use http_chunks::fault::Fault;
+use http_intake::inbox::Inbox;
+use http_wire::fault::RequestFault;
 use http_wire::request::{Incoming, TURN_LIMIT, read_request};
-use http_wire::response::{ContentType, Outbox, Response, write_response};
 use std::alloc::{AllocError, Global};
 use std::io;
 use std::io::{ErrorKind, Read, Write};

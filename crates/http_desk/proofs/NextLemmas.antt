@@ -5,9 +5,9 @@ use Rattle.http_wire.specs.declared.fault.RequestFault.{RequestFault}
 use Rattle.http_wire.specs.declared.fault.RequestFault.TheVariants as fault
 use Rattle.http_wire.specs.declared.request.Incoming.{Incoming}
 use Rattle.http_wire.specs.declared.request.Incoming.TheVariants as came
-use Rattle.http_wire.specs.Budget.{reading_left}
+use Rattle.http_intake.specs.Budget.{reading_left}
 use Rattle.http_wire.specs.Incoming.{ReadsFront, Taken, TakesSome}
-use Rattle.http_wire.specs.Queue.{Queued}
+use Rattle.http_answer.specs.Queue.{Queued}
 use Rattle.http_desk.specs.Serving.{NextCame, Waits}
 use Rattle.http_desk.proofs.TalkLemmas.{Appends-none, Appends-then}
 

@@ -6,7 +6,7 @@ use Rattle.httparse.specs.Grammar.{RequestHead}
 use Rattle.http_wire.specs.Front.{HasRequest, IsIncomplete, IsStarved, closes_after as closes_after_head, is_head}
 use Rattle.http_wire.specs.Incoming.{IsRequestOf}
 use Rattle.http_wire.specs.Interim.{Interim, continue_text, asks_to_continue}
-use Rattle.http_wire.specs.Queue.{Queued}
+use Rattle.http_answer.specs.Queue.{Queued}
 use Rattle.http_wire.specs.declared.request.Request.{Request}
 use Rattle.desk_model.specs.declared.command.Command.{Command}
 use Rattle.desk_model.specs.declared.command.Query.{Query}

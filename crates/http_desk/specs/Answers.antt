@@ -4,11 +4,11 @@ use Rattle.desk_model.specs.declared.reply.Reply.{Reply}
 use Rattle.desk_model.specs.declared.reply.Reply.TheVariants as reply
 use Rattle.desk_model.specs.declared.reply.Refusal.{Refusal}
 use Rattle.desk_model.specs.declared.reply.Refusal.TheVariants.{NoPlan, NoRevision, PlanExists, Stale, BadBody, NotWholeCounty, BadCompanion, Limit, Full, Memory, Halted, NotSealed}
-use Rattle.http_wire.specs.declared.fault.Fault.{Fault}
-use Rattle.http_wire.specs.declared.fault.Fault.TheVariants as fault
-use Rattle.http_wire.specs.declared.response.ContentType.{ContentType}
-use Rattle.http_wire.specs.declared.response.ContentType.TheVariants.{Json, PlainText}
-use Rattle.http_wire.specs.Answer.{answer_text}
+use Rattle.http_chunks.specs.declared.fault.Fault.{Fault}
+use Rattle.http_chunks.specs.declared.fault.Fault.TheVariants as fault
+use Rattle.http_answer.specs.declared.response.ContentType.{ContentType}
+use Rattle.http_answer.specs.declared.response.ContentType.TheVariants.{Json, PlainText}
+use Rattle.http_answer.specs.Answer.{answer_text}
 use Rattle.http_orders.specs.declared.order.Error.{Error}
 use Rattle.http_orders.specs.declared.order.Error.TheVariants as error
 use Rattle.http_orders.specs.declared.method.Methods.{Methods}

@@ -10,7 +10,7 @@ use Rattle.http_desk.specs.declared.serve.Next.TheVariants as next
 use Rattle.http_desk.specs.declared.serve.ServeFault.{ServeFault}
 use Rattle.http_desk.specs.declared.serve.ServeFault.TheVariants as fault
 use Rattle.byte_stream.specs.Counts.{counted}
-use Rattle.http_wire.specs.Queue.{Queued}
+use Rattle.http_answer.specs.Queue.{Queued}
 use Rattle.http_wire.specs.Front.{IsIncomplete}
 use Rattle.http_wire.specs.Incoming.{Came}
 use Rattle.http_wire.specs.Interim.{Interim}

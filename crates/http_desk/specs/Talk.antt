@@ -4,7 +4,7 @@ use Rattle.desk_model.specs.declared.command.Command.{Command}
 use Rattle.desk_model.specs.declared.command.Query.{Query}
 use Rattle.desk_model.specs.declared.reply.Reply.{Reply}
 use Rattle.httparse.specs.Grammar.{RequestHead}
-use Rattle.http_wire.specs.declared.fault.Fault.{Fault}
+use Rattle.http_chunks.specs.declared.fault.Fault.{Fault}
 use Rattle.http_wire.specs.Front.{HasRequest, HasFault, IsStarved, IsIncomplete, closes_after as closes_after_head, is_head}
 use Rattle.http_wire.specs.Interim.{Interim, continue_text, asks_to_continue}
 use Rattle.http_orders.specs.declared.order.Order.{Order}

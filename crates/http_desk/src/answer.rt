@@ -1,8 +1,8 @@
 //! The answer to a request, put together before its first byte is written.
 ghost use Rattle.std.specs.Prelude.{◌≡◌, ◌≤◌, ◌||◌, [], ℕ, length, codes, OnOk, OnErr, IfOk, Some, None, option_map, true, false, if◌then◌else◌};
 ghost use Rattle.byte_stream.specs.Sends.{failures_with};
-ghost use Rattle.http_wire.specs.Queue.{Queues};
-ghost use Rattle.http_wire.specs.Answer.{allowed_len};
+ghost use Rattle.http_answer.specs.Queue.{Queues};
+ghost use Rattle.http_answer.specs.Answer.{allowed_len};
 ghost use Rattle.http_desk.specs.Bodies.{error_body};
 ghost use Rattle.http_orders.specs.Methods.{methods_text};
 ghost use Rattle.http_desk.specs.Answers.{bytes_of, saying, message_of, closes_after, error_message, error_name as error_name_of, error_status as error_status_of, error_allow as error_allow_of, fault_message, fault_name as fault_name_of, fault_status as fault_status_of, memory_text, refusal_status as refusal_status_of, refusal_closes, MayStarve, Tells};
@@ -12,10 +12,10 @@ use crate::short::{SHORT, put_created, put_error, put_refusal, put_retired};
 use byte_stream::sink::{Sink, WriteFault};
 use desk_model::reply::{Refusal, Reply};
 use http::StatusCode;
+use http_answer::response::{ContentType, Outbox, Response, write_response};
+use http_chunks::fault::Fault;
 use http_orders::method::Methods;
 use http_orders::order::Error;
-use http_wire::fault::Fault;
-use http_wire::response::{ContentType, Outbox, Response, write_response};
 use std::alloc::{AllocError, Global};
 use std::marker::Model;
 
@@ -40,7 +40,7 @@ pub struct Answer {
 
 impl Model for Answer {
     ghost use Rattle.std.specs.Prelude.{List, ℕ, option_map, if◌then◌else◌, ◌≤◌, vec_capacity};
-    ghost use Rattle.http_wire.specs.Answer.{answer_text};
+    ghost use Rattle.http_answer.specs.Answer.{answer_text};
     ghost use Rattle.http_orders.specs.Methods.{methods_text};
 
     ghost Value = { List ℕ };

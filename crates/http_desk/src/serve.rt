@@ -2,15 +2,16 @@
 ghost use Rattle.std.specs.Prelude.{◌≡◌, ◌≤◌, ◌<◌, ◌++◌, ℕ, List, [], Ok, Err, IfSome};
 ghost use Rattle.std.specs.Str.{IsAscii};
 ghost use Rattle.std.specs.Io.KnownBytes.{Consumes};
-ghost use Rattle.http_wire.specs.Budget.{read_failures_of, write_failures_of, reading_left};
+ghost use Rattle.http_intake.specs.Budget.{reading_left};
+ghost use Rattle.http_wire.specs.Budget.{read_failures_of, write_failures_of};
 ghost use Rattle.http_wire.specs.Front.{is_head};
 ghost use Rattle.byte_stream.specs.Counts.{counted};
-ghost use Rattle.http_wire.specs.Budget.{Spends};
+ghost use Rattle.http_intake.specs.Budget.{Spends};
 ghost use Rattle.http_orders.specs.Orders.{order_of as order_of_request};
 ghost use Rattle.http_orders.specs.Routes.{the_routes};
 ghost use Rattle.http_desk.specs.Serving.{Serves, Exchanges, Closes, Leaves, Waits, NextCame, read_failures, write_failures, TakesSome};
 ghost use Rattle.http_wire.specs.Incoming.{EndsAt, TakesSome as RequestTakes};
-ghost use Rattle.http_wire.specs.Queue.{Queued};
+ghost use Rattle.http_answer.specs.Queue.{Queued};
 ghost use Rattle.http_desk.specs.Talk.{Handles};
 
 use crate::answer::Answer;
@@ -19,12 +20,12 @@ use byte_stream::sink::Sink;
 use byte_stream::source::Source;
 use desk_model::gate::Gate;
 use http::Method;
+use http_answer::response::Outbox;
+use http_intake::inbox::Inbox;
 use http_orders::order::{Order, order_of};
 use http_orders::route::{Page, router};
 use http_wire::fault::RequestFault;
-use http_wire::inbox::Inbox;
 use http_wire::request::{Incoming, Request, TURN_LIMIT, read_request, take_request};
-use http_wire::response::Outbox;
 use matchit::Router;
 use std::alloc::Global;
 

@@ -1,22 +1,19 @@
 -- The front of an input is one thing alone.
-use Rattle.std.proofs.Common.{◌≡◌, ◌⊎◌, ℕ, ◌+◌, ◌-◌, Bool, false, Some, None, List, [], ◌++◌, length, take, drop, Ok, Err, refl, sym, ap, subst, ◌∙◌, arith, inl, inr, take-append-drop, length-append}
-use Rattle.std.proofs.Math.Seq.{take-append-add, take-append_seam}
-use Rattle.std.proofs.lemmas.List.{append_cancel_left}
+use Rattle.std.proofs.Common.{◌≡◌, ◌⊎◌, ℕ, ◌+◌, ◌-◌, Bool, false, Some, None, List, [], ◌++◌, length, take, drop, Ok, Err, refl, sym, ap, subst, ◌∙◌, arith, inl, inr, length-append}
+use Rattle.std.proofs.Math.Seq.{take-append-add}
 use Rattle.httparse.specs.Grammar.{RequestHead, ReadsRequest, MayBecomeRequest, print_request}
 use Rattle.httparse.proofs.GrammarLemmas.{request_unique}
-use Rattle.http_wire.specs.declared.fault.Fault.{Fault}
-use Rattle.http_wire.specs.declared.fault.Fault.TheVariants.{BadHead, HeadTooLarge, BadHost, BadLength, BadCoding, BodyTooLarge, BadTarget, BadChunk}
-use Rattle.http_wire.specs.Limits.{window}
+use Rattle.http_chunks.specs.declared.fault.Fault.{Fault}
+use Rattle.http_chunks.specs.declared.fault.Fault.TheVariants.{BadHead, HeadTooLarge, BadHost, BadLength, BadCoding, BodyTooLarge, BadTarget, BadChunk}
+use Rattle.http_chunks.specs.Limits.{window}
 use Rattle.http_wire.specs.Front.{HasHead, HasMessage, HasRequest, IsNoHead, IsTooLong, HasTooManyLines, RefusesBytes, RefusesHead, RefusesBody, RefusesTarget, HasFault, HasBody, Lacks, IsFaulty, IsOpen, LacksBody, IsIncomplete, judged_head, is_head}
-use Rattle.http_wire.specs.Chunks as chunks
-use Rattle.http_wire.specs.Chunks.{ChunkLaw}
+use Rattle.http_chunks.specs.Chunks as chunks
+use Rattle.http_chunks.specs.Chunks.{ChunkLaw}
+use Rattle.http_chunks.specs.Fronts.{window_rest, same_cut}
 use Rattle.http_wire.specs.Law.{HasTwoHeadFaults, HasTwoBodyFaults, HasTwoFaults}
 use Rattle.http_wire.specs.declared.head.Framing.{Framing}
 use Rattle.http_wire.specs.declared.head.Framing.TheVariants.{Sized, Chunked}
 use Rattle.http_wire.specs.Target.{target_of}
-
-pub window_rest : (input : List ℕ) → window input ++ drop 16384 input ≡ input
-window_rest input = take-append-drop 16384 input
 
 -- a head within its limit stands in the window
 pub head_in_window : (input : List ℕ) (h : RequestHead) (rest : List ℕ) → HasHead input h rest → (r : List ℕ) × ReadsRequest (window input) h r
@@ -71,12 +68,6 @@ same_framing m n h k same a b = cc
 
 same_fault : (f g : Fault) (h k : RequestHead) → h ≡ k → judged_head h ≡ Err f → judged_head k ≡ Err g → f ≡ g
 same_fault f g h k same a b = cc
-
--- a list of a known length ends in one place
-pub same_cut : (b c r q : List ℕ) → b ++ r ≡ c ++ q → length b ≡ length c → (b ≡ c) × (r ≡ q)
-same_cut b c r q e len =
-    let same : b ≡ c = sym (take-append_seam b r) ∙ ap (λ k. take k (b ++ r)) len ∙ ap (take (length c)) e ∙ take-append_seam c q in
-    (same, append_cancel_left c r q (ap (λ (xs : List ℕ). xs ++ r) (sym same) ∙ e))
 
 same_target : (t u : List ℕ) (h k : RequestHead) → h ≡ k → target_of h.target ≡ Some t → target_of k.target ≡ Some u → t ≡ u
 same_target t u h k same a b = cc

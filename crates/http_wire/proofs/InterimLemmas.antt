@@ -1,20 +1,17 @@
 -- What is written before the answer to a front.
-use Rattle.std.proofs.Common.{◌≡◌, ℕ, zero, suc, ◌+◌, ◌-◌, ◌<◌, ◌≤◌, ◌&&◌, Bool, true, false, None, List, [], ◌++◌, length, take, drop, codes, Ok, Err, refl, sym, ap, subst, ◌∙◌, arith, inl, inr, append_assoc, append-nil, take-append-drop, length-append, length-drop}
-use Rattle.std.proofs.lemmas.List.Sums.{AllPass-from_list_all}
-use Rattle.std.proofs.lemmas.List.Elements.{All-nil}
-use Rattle.std.specs.Char.{is_ascii_hexdigit}
-use Rattle.httparse.specs.Grammar.{RequestHead, print_request, is_ows, AllPass, ChunkLine, IsChunkLine, print_chunk_line, MayBecomeChunkLine}
-use Rattle.http_wire.specs.declared.fault.Fault.{Fault}
+use Rattle.std.proofs.Common.{◌≡◌, ℕ, zero, suc, ◌+◌, ◌≤◌, ◌&&◌, Bool, true, false, Option, List, [], ◌++◌, length, take, drop, Ok, Err, refl, sym, ap, subst, ◌∙◌, arith, inl, inr, append_assoc, append-nil, take-append-drop, length-append, length-drop}
+use Rattle.std.specs.Io.KnownBytes.{Appends, Consumes}
+use Rattle.httparse.specs.Grammar.{RequestHead, print_request}
+use Rattle.http_chunks.specs.declared.fault.Fault.{Fault}
 use Rattle.http_wire.specs.declared.head.Framing.{Framing}
 use Rattle.http_wire.specs.declared.head.Framing.TheVariants.{Sized, Chunked}
 use Rattle.http_wire.specs.declared.look.Head.{Head}
-use Rattle.http_wire.specs.Chunks.{IsOpenLine, no_line}
+use Rattle.http_chunks.specs.Chunks.{ChunkLaw}
+use Rattle.http_chunks.specs.Fronts.{same_cut}
 use Rattle.http_wire.specs.Front.{HasHead, HasFault, Lacks, IsOpen, IsIncomplete, RefusesFront, judged_head}
 use Rattle.http_wire.specs.Interim.{Interim, IsCutInterim, continue_text, asks_by, asks_to_continue, has_body}
 use Rattle.http_wire.specs.Look.{IsFound}
-use Rattle.http_wire.proofs.ChunkLookLemmas.{some_line}
-use Rattle.http_wire.proofs.FrontLemmas.{bytes_no_head, open_no_head, same_cut}
-use Rattle.http_wire.proofs.RequestLemmas.{head_before}
+use Rattle.http_wire.proofs.FrontLemmas.{bytes_no_head, open_no_head}
 
 pub open_asks : (input : List ℕ) → IsOpen input → Interim input []
 open_asks input o = inr (record { none = λ h rest s. open_no_head input h rest o s; nothing = refl })
@@ -43,34 +40,11 @@ found_asked h m expects j e = ap continue_text (e ∙ sym (ap (λ r. asks_by r h
 pub found_asks : (input : List ℕ) (found : Head) (f : IsFound input found) → continue_text found.expects ≡ continue_text (asks_to_continue f.head)
 found_asks input found f = found_asked f.head found.framing found.expects f.judges f.expects
 
--- a line that ends a body in chunks
-abbrev line : ChunkLine
-line = record { digits = codes "0"; pad = []; extension = None }
-
-line_ok : IsChunkLine line
-unfolding lib.Utf8.encode
-line_ok = record {
-  digits = (omega arith, omega arith, AllPass-from_list_all is_ascii_hexdigit (codes "0") refl);
-  pad = AllPass-from_list_all is_ows [] refl;
-  extension = tt;
-}
-
-may_begin : MayBecomeChunkLine []
-unfolding print_chunk_line
-may_begin = (print_chunk_line line, line, (line_ok, sym (append-nil (print_chunk_line line))))
-
-open_line : IsOpenLine []
-open_line = record {
-  short = omega arith;
-  none = λ l rest reads. absurd (omega (arith, ap length reads.1, length-append (print_chunk_line l) rest, some_line l reads.0));
-  goes_on = may_begin;
-}
-
 -- a body has some bytes
-nothing_came : (m : Framing) → has_body m ≡ true → Lacks m []
-nothing_came (Sized zero) some = absurd (cc)
-nothing_came (Sized (suc n)) some = omega arith
-nothing_came Chunked some = no_line 0 [] open_line
+nothing_came : ChunkLaw → (m : Framing) → has_body m ≡ true → Lacks m []
+nothing_came law (Sized zero) some = absurd (cc)
+nothing_came law (Sized (suc n)) some = omega arith
+nothing_came law Chunked some = law.nothing_lacks 0
 
 both_left : (a b : Bool) → (a && b) ≡ true → a ≡ true
 both_left true b e = refl
@@ -88,8 +62,8 @@ head_alone input h n within s =
     record { reads = (s.reads.0, front.0 ∙ sym (append-nil (print_request h))); short = s.short; few = s.few }
 
 -- the writer failed within the line, behind the head
-pub found_cut : (input more : List ℕ) (found : Head) (sent unwritten : List ℕ) → IsFound input found → found.expects ≡ true → continue_text found.expects ≡ sent ++ unwritten → IsCutInterim (input ++ more) sent
-found_cut input more found sent unwritten f expects cut =
+pub found_cut : ChunkLaw → (input more : List ℕ) (found : Head) (sent unwritten : List ℕ) → IsFound input found → found.expects ≡ true → continue_text found.expects ≡ sent ++ unwritten → IsCutInterim (input ++ more) sent
+found_cut law input more found sent unwritten f expects cut =
     let alone = head_alone input f.head found.len f.within f.stands in
     record {
       front = take found.len input;
@@ -101,10 +75,17 @@ found_cut input more found sent unwritten f expects cut =
         framing = found.framing;
         stands = alone;
         judges = f.judges;
-        lacks = nothing_came found.framing (with_body found.framing f.head (sym f.expects ∙ expects));
+        lacks = nothing_came law found.framing (with_body found.framing f.head (sym f.expects ∙ expects));
       });
       due = continue_text found.expects;
       interim = inl (record { head = f.head; rest = []; stands = alone; asked = found_asked f.head found.framing found.expects f.judges f.expects });
       unwritten = unwritten;
       written = cut;
     }
+
+-- what an intake says of its parts once they are known by other names
+pub as_parameters : (Says : (input rest sent : List ℕ) → Type 0) (u v w a b : Option (List ℕ)) (start held inbox : List ℕ) → w ≡ v → inbox ≡ held
+    → (sent : List ℕ) × Appends a b sent × ((more : List ℕ) × Consumes u v more × Says (start ++ more) held sent)
+    → (more : List ℕ) × (sent : List ℕ) × Consumes u w more × Appends a b sent × Says (start ++ more) inbox sent
+as_parameters Says u v w a b start held inbox e f x =
+    (x.2.0, x.0, subst (λ z. Consumes u z x.2.0) (sym e) x.2.1, x.1, subst (λ (xs : List ℕ). Says (start ++ x.2.0) xs x.0) (sym f) x.2.2)

@@ -1,6 +1,7 @@
 -- The law of fronts.
-use Rattle.http_wire.specs.Chunks.{ChunkLaw}
+use Rattle.http_chunks.specs.Chunks.{ChunkLaw}
 use Rattle.http_wire.specs.Law.{FrontLaw}
+use Rattle.http_wire.proofs.CaseLemmas.{some_front}
 use Rattle.http_wire.proofs.FrontLemmas.{one_request, one_fault, request_or_fault, message_or_incomplete, fault_or_incomplete}
 use Rattle.http_wire.proofs.RequestLemmas.{request_front}
 use Rattle.http_wire.proofs.StayLemmas.{request_stays, fault_stays}
@@ -12,6 +13,7 @@ front_law law = record {
   request_or_fault = request_or_fault law;
   request_or_incomplete = λ input h t b r x. message_or_incomplete law input h b r x.message;
   fault_or_incomplete = fault_or_incomplete law;
+  some_case = some_front law;
   request_stays = request_stays law;
   fault_stays = fault_stays law;
   request_front = request_front law;

@@ -1,21 +1,19 @@
 -- A head that has come, and then its body.
-use Rattle.std.proofs.Common.{◌≡◌, ℕ, Bool, true, false, cond, List, ◌++◌, drop, Result, Ok, Err, refl, sym, ap, subst, ◌∙◌, inl, inr, append_assoc}
+use Rattle.std.proofs.Common.{◌≡◌, ℕ, Bool, true, false, List, ◌++◌, drop, Result, Ok, Err, refl, sym, ap, subst, ◌∙◌, inl, inr, append_assoc}
 use Rattle.httparse.specs.Grammar.{RequestHead, print_request}
 use Rattle.httparse.specs.Spans.{span_bytes}
 use Rattle.httparse.proofs.GrammarLemmas.{ReadsRequest-append}
-use Rattle.http_wire.specs.declared.fault.Fault.TheVariants.{BadTarget}
-use Rattle.http_wire.specs.declared.fault.WireFault.{WireFault}
-use Rattle.http_wire.specs.declared.fault.WireFault.TheVariants as fault
+use Rattle.http_intake.specs.declared.fault.WireFault.{WireFault}
+use Rattle.http_intake.specs.declared.fault.WireFault.TheVariants as fault
 use Rattle.http_wire.specs.declared.look.Head.{Head}
-use Rattle.http_wire.specs.declared.request.Incoming.TheVariants as came
 use Rattle.http_wire.specs.declared.request.Request.{Request}
-use Rattle.http_wire.specs.Chunked.{BodyRead}
-use Rattle.http_wire.specs.Chunks.{ChunkLaw}
-use Rattle.http_wire.specs.declared.chunks.Chunked.{Chunked}
-use Rattle.http_wire.specs.declared.chunks.Chunked.TheVariants as chunked
+use Rattle.http_wire.specs.Framed.{BodyRead}
+use Rattle.http_chunks.specs.Chunks.{ChunkLaw}
+use Rattle.http_chunks.specs.declared.chunks.Chunked.{Chunked}
+use Rattle.http_chunks.specs.declared.chunks.Chunked.TheVariants as chunked
 use Rattle.http_wire.specs.declared.head.Framing.{Framing}
 use Rattle.http_wire.specs.declared.head.Framing.TheVariants as framing
-use Rattle.http_wire.specs.declared.fault.Fault.{Fault}
+use Rattle.http_chunks.specs.declared.fault.Fault.{Fault}
 use Rattle.http_wire.specs.Front.{HasHead, HasMessage, HasRequest, HasBody, HasFault, Lacks, IsFaulty, IsIncomplete, IsStarved, closes_after, is_head}
 use Rattle.http_wire.proofs.TargetTexts.{target_ascii}
 use Rattle.http_wire.specs.Incoming.{ReadsFront, IsTargetOf, finished, targeted}

@@ -1,5 +1,5 @@
 -- A request and a fault stay, whatever bytes follow.
-use Rattle.std.proofs.Common.{◌≡◌, ◌⊎◌, ℕ, suc, ◌+◌, ◌-◌, ◌<◌, ◌≤◌, true, Bool, List, [], ◌∷◌, ◌++◌, length, take, drop, codes, refl, sym, ap, subst, ◌∙◌, arith, inl, inr, ⊎_elim, append_assoc, append-nil, take_all, take-append-drop, length-append}
+use Rattle.std.proofs.Common.{◌≡◌, ◌⊎◌, ℕ, suc, ◌+◌, ◌-◌, ◌<◌, ◌≤◌, true, Bool, List, [], ◌∷◌, ◌++◌, length, take, drop, codes, refl, sym, ap, subst, ◌∙◌, arith, inl, inr, ⊎_elim, append_assoc, append-nil, take-append-drop, length-append}
 use Rattle.std.proofs.lemmas.Bool.{cases_lt}
 use Rattle.std.proofs.lemmas.List.{take-append-le}
 use Rattle.std.proofs.lemmas.List.Elements.{All-nil, All-take}
@@ -8,46 +8,24 @@ use Rattle.std.proofs.Math.Seq.{take-append-add, take-append_seam}
 use Rattle.httparse.specs.Grammar.{is_uri_byte, AllPass, IsToken, IsField, LineEnd, lf, print_blank, RequestHead, IsRequestHead, ReadsRequest, HasNoRequest, NeverHasRequest, MayBecomeRequest, EndsInTarget, print_request}
 use Rattle.httparse.specs.Spans.{RequestOverflows}
 use Rattle.httparse.proofs.GrammarLemmas.{print_request-append}
-use Rattle.http_wire.specs.declared.fault.Fault.{Fault}
-use Rattle.http_wire.specs.declared.fault.Fault.TheVariants.{BadHead, HeadTooLarge}
-use Rattle.http_wire.specs.Limits.{window}
+use Rattle.http_chunks.specs.declared.fault.Fault.{Fault}
+use Rattle.http_chunks.specs.declared.fault.Fault.TheVariants.{BadHead, HeadTooLarge}
+use Rattle.http_chunks.specs.Limits.{window}
 use Rattle.http_wire.specs.Front.{HasMessage, HasRequest, IsNoHead, IsTooLong, HasTooManyLines, RefusesBytes, HasFault, HasBody, IsFaulty}
-use Rattle.http_wire.specs.Lines.{lines_come}
-use Rattle.http_wire.specs.Chunks.{ChunkLaw}
+use Rattle.http_chunks.specs.Lines.{head_lines}
+use Rattle.http_chunks.specs.Chunks.{ChunkLaw}
 use Rattle.http_wire.specs.declared.head.Framing.{Framing}
 use Rattle.http_wire.specs.declared.head.Framing.TheVariants.{Sized, Chunked}
+use Rattle.http_chunks.specs.Fronts.{window_grows, window_full}
 use Rattle.http_wire.proofs.FrontLemmas.{bytes_are}
-use Rattle.http_wire.proofs.LineLemmas.{lines_take}
+use Rattle.http_chunks.specs.LineLemmas.{head_lines_grow}
 use Rattle.http_wire.proofs.RequestLemmas.{head_before}
-
--- the first bytes of more bytes begin with the first bytes
-pub take_grows : (k : ℕ) (input more : List ℕ) → (y : List ℕ) × (take k (input ++ more) ≡ take k input ++ y)
-take_grows k input more = ⊎_elim short long (cases_lt (length input) k)
-  where
-    short : length input < k → (y : List ℕ) × (take k (input ++ more) ≡ take k input ++ y)
-    short h =
-        let n = k - length input in
-        let whole : k ≡ length input + n = omega arith in
-        (take n more, ap (λ m. take m (input ++ more)) whole ∙ take-append-add input more n ∙ ap (λ (xs : List ℕ). xs ++ take n more) (sym (take_all k input (omega arith))))
-
-    long : k ≤ length input → (y : List ℕ) × (take k (input ++ more) ≡ take k input ++ y)
-    long h = ([], take-append-le k input more h ∙ sym (append-nil (take k input)))
-
--- the window of more bytes begins with the window
-pub window_grows : (input more : List ℕ) → (y : List ℕ) × (window (input ++ more) ≡ window input ++ y)
-window_grows input more = take_grows 16384 input more
-
-pub window_full : (input more : List ℕ) → 16384 ≤ length input → window (input ++ more) ≡ window input
-window_full input more h = take-append-le 16384 input more h
 
 never_grows : (w y : List ℕ) → NeverHasRequest w → NeverHasRequest (w ++ y)
 never_grows w y never more h rest reads = never (y ++ more) h rest (subst (λ xs. ReadsRequest xs h rest) (append_assoc w y more) reads)
 
 overflows_grows : (w y : List ℕ) → RequestOverflows 64 w → RequestOverflows 64 (w ++ y)
 overflows_grows w y o more h rest reads = o (y ++ more) h rest (subst (λ xs. ReadsRequest xs h rest) (append_assoc w y more) reads)
-
-lines_grow : (w y : List ℕ) → lines_come w ≤ lines_come (w ++ y)
-lines_grow w y = subst (λ xs. lines_come xs ≤ lines_come (w ++ y)) (take-append_seam w y) (lines_take (length w) (w ++ y))
 
 -- what follows a method, to make a head of it
 abbrev ending : List ℕ
@@ -132,7 +110,7 @@ too_many_stays input more x =
     let g = window_grows input more in
     let w = window input in
     record {
-      lines = subst (λ xs. 66 ≤ lines_come xs) (sym g.1) (omega (arith, x.lines, lines_grow w g.0));
+      lines = subst (λ xs. 66 ≤ head_lines xs) (sym g.1) (omega (arith, x.lines, head_lines_grow w g.0));
       exceeds = subst (RequestOverflows 64) (sym g.1) (overflows_grows w g.0 x.exceeds);
     }
 

@@ -5,15 +5,15 @@ use Rattle.std.specs.Char.{is_ascii_digit}
 use Rattle.std.specs.Str.{bytes_eq}
 use Rattle.httparse.specs.Grammar.{RequestHead, ReadsRequest, NeverHasRequest, HasNoRequest, MayBecomeRequest, EndsInTarget, print_request}
 use Rattle.httparse.specs.Spans.{name_and_value, RequestOverflows}
-use Rattle.http_wire.specs.Lines.{lines_come}
-use Rattle.http_wire.specs.Limits.{head_limit, field_limit, body_limit, window}
+use Rattle.http_chunks.specs.Lines.{head_lines}
+use Rattle.http_chunks.specs.Limits.{head_limit, field_limit, body_limit, window}
 use Rattle.http_wire.specs.Target.{is_word, target_of}
 use Rattle.http_wire.specs.Connection.{asks_to_close, parts, ends_in}
-use Rattle.http_wire.specs.Chunks.{HasChunks, LacksChunks, HasChunkFault}
+use Rattle.http_chunks.specs.Chunks.{HasChunks, LacksChunks, HasChunkFault}
 use Rattle.http_wire.specs.declared.head.Framing.{Framing}
 use Rattle.http_wire.specs.declared.head.Framing.TheVariants.{Sized, Chunked}
-use Rattle.http_wire.specs.declared.fault.Fault.{Fault}
-use Rattle.http_wire.specs.declared.fault.Fault.TheVariants.{BadHead, HeadTooLarge, BadHost, BadLength, BadCoding, BodyTooLarge, BadTarget, BadChunk}
+use Rattle.http_chunks.specs.declared.fault.Fault.{Fault}
+use Rattle.http_chunks.specs.declared.fault.Fault.TheVariants.{BadHead, HeadTooLarge, BadHost, BadLength, BadCoding, BodyTooLarge, BadTarget, BadChunk}
 
 -- a field's value, if it has that name
 abbrev pub named_value : List ℕ → List ℕ × List ℕ → Option (List ℕ)
@@ -123,9 +123,9 @@ pub record IsTooLong (input : List ℕ) : Type 0 where
   pub none : HasNoRequest (window input)
   pub goes_on : MayBecomeRequest (window input)
 
--- the request line and 65 header lines have come, and no head has at most 64
+-- the request line and 65 header lines have come before an empty line, and no head has at most 64
 pub record HasTooManyLines (input : List ℕ) : Type 0 where
-  pub lines : field_limit + 2 ≤ lines_come (window input)
+  pub lines : field_limit + 2 ≤ head_lines (window input)
   pub exceeds : RequestOverflows field_limit (window input)
 
 -- whatever follows, no head stands at the front. That bytes which end in a target are text shows only at its end
@@ -193,7 +193,7 @@ pub record IsOpen (input : List ℕ) : Type 0 where
   pub short : length input < head_limit
   pub none : HasNoRequest (window input)
   pub goes_on : MayBecomeRequest (window input)
-  pub few : lines_come (window input) < field_limit + 2
+  pub few : head_lines (window input) < field_limit + 2
 
 -- a head, and not all of its body
 pub record LacksBody (input : List ℕ) : Type 0 where

@@ -5,17 +5,21 @@ use Rattle.httparse.specs.Grammar.{RequestHead}
 use Rattle.http_wire.specs.declared.request.Incoming.{Incoming}
 use Rattle.http_wire.specs.declared.request.Incoming.TheVariants as came
 use Rattle.http_wire.specs.declared.request.Request.{Request}
-use Rattle.http_wire.specs.declared.fault.WireFault.{WireFault}
-use Rattle.http_wire.specs.declared.fault.WireFault.TheVariants as wire
+use Rattle.http_intake.specs.declared.fault.WireFault.{WireFault}
+use Rattle.http_intake.specs.declared.fault.WireFault.TheVariants as wire
 use Rattle.http_wire.specs.declared.fault.RequestFault.{RequestFault}
 use Rattle.http_wire.specs.declared.fault.RequestFault.TheVariants as fault
 use Rattle.http_wire.specs.Interim.{Interim, IsCutInterim, continue_text, asks_to_continue}
 use Rattle.http_wire.specs.Target.{target_of}
-use Rattle.http_wire.specs.declared.chunks.Chunked.{Chunked}
-use Rattle.http_wire.specs.declared.chunks.Chunked.TheVariants as chunked
+use Rattle.http_chunks.specs.declared.chunks.Chunked.{Chunked}
+use Rattle.http_chunks.specs.declared.chunks.Chunked.TheVariants as chunked
 use Rattle.http_wire.specs.Front.{HasRequest, HasFault, IsStarved, IsIncomplete, closes_after}
 use Rattle.std.specs.Str.{IsAscii}
-use Rattle.http_wire.specs.declared.fault.Fault.TheVariants.{BadTarget}
+use Rattle.http_intake.specs.declared.intake.Intake.{Intake}
+use Rattle.http_intake.specs.Budget.{Spends}
+use Rattle.http_intake.specs.Draws.{SameParts, left_of}
+use Rattle.http_wire.specs.Budget.{read_failures_of}
+use Rattle.http_chunks.specs.declared.fault.Fault.TheVariants.{BadTarget}
 
 -- the text is what the target asks for, if it may stand
 abbrev pub IsTargetOf : List ℕ → Bool → List ℕ → Type 0
@@ -86,3 +90,11 @@ finished r is_good bare (Ok (chunked.Refused f)) = Ok (came.Refused f bare)
 finished r is_good bare (Err wire.Read) = Err fault.Read
 finished r is_good bare (Err wire.Memory) = Ok (came.Starved bare)
 finished r is_good bare (Err wire.TurnLimit) = Err fault.TurnLimit
+
+-- reading it takes turns of the budget; the reader failed where a failed read is told, and the turns are used up where that is told
+pub record DrawsRequest {R : Type 0} (turned failed : R → ℕ) (old new : Intake R) (result : Result Incoming RequestFault) : Type 0 where
+  pub same : SameParts old new
+  pub failures : failed new.reader.now ≡ read_failures_of (failed old.reader.now) result
+  pub spends : Spends old.turns.now new.turns.now (turned old.reader.now) (turned new.reader.now)
+  pub limit : result ≡ Err fault.TurnLimit → new.turns.now ≡ 0
+  pub left : TakesSome result (left_of old) (left_of new)

@@ -6,7 +6,7 @@ use Rattle.httparse.specs.Spans.{name_and_value}
 use Rattle.http_wire.specs.Target.{is_word}
 use Rattle.http_wire.specs.declared.head.Framing.{Framing}
 use Rattle.http_wire.specs.declared.head.Framing.TheVariants.{Sized, Chunked}
-use Rattle.http_wire.specs.declared.fault.Fault.{Fault}
+use Rattle.http_chunks.specs.declared.fault.Fault.{Fault}
 use Rattle.http_wire.specs.Front.{HasHead, IsIncomplete, judged_head}
 
 abbrev pub continue_line : List ℕ

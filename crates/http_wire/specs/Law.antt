@@ -1,9 +1,9 @@
 -- The front of an input is one thing alone.
 use Rattle.std.specs.Prelude.{◌≡◌, ◌⊎◌, ℕ, Bool, true, false, List, [], ◌++◌, codes}
 use Rattle.httparse.specs.Grammar.{RequestHead}
-use Rattle.http_wire.specs.declared.fault.Fault.{Fault}
-use Rattle.http_wire.specs.declared.fault.Fault.TheVariants.{BadHost, BadLength}
-use Rattle.http_wire.specs.Chunks as chunks
+use Rattle.http_chunks.specs.declared.fault.Fault.{Fault}
+use Rattle.http_chunks.specs.declared.fault.Fault.TheVariants.{BadHost, BadLength}
+use Rattle.http_chunks.specs.Chunks as chunks
 use Rattle.http_wire.specs.Front.{HasHead, HasRequest, HasFault, closes_after, IsIncomplete, HasTooManyLines, IsNoHead}
 
 -- more than 64 lines have come, and no head can stand, whatever follows
@@ -21,14 +21,21 @@ pub record HasTwoBodyFaults (input : List ℕ) : Type 0 where
 abbrev pub HasTwoFaults : List ℕ → Type 0
 HasTwoFaults input = HasTwoHeadFaults input ⊎ HasTwoBodyFaults input
 
--- A front is one request, or has one fault, or is incomplete; reading tells which. Where more than 64 lines of a head or of
--- trailers have come and none of these can stand whatever follows, either fault may be told.
+-- no request, no fault, and not incomplete either. The law is that there is no such front
+pub record IsNoFront (input : List ℕ) : Type 0 where
+  pub request : (h : RequestHead) (t b r : List ℕ) → HasRequest input h t b r → ⊥
+  pub fault : (f : Fault) (bare : Bool) → HasFault input f bare → ⊥
+  pub incomplete : IsIncomplete input → ⊥
+
+-- Every front is exactly one of these: a request, one fault, or incomplete; reading tells which. Where more than 64 lines of a head
+-- or of trailers have come before an empty one, and no head or trailers can stand whatever follows, either of these faults may be told.
 pub record FrontLaw : Type 0 where
   pub one_request : (input : List ℕ) (h k : RequestHead) (t u b c r q : List ℕ) → HasRequest input h t b r → HasRequest input k u c q → (h ≡ k) × (t ≡ u) × (b ≡ c) × (r ≡ q)
   pub one_fault : (input : List ℕ) (f g : Fault) (a b : Bool) → HasFault input f a → HasFault input g b → ((f ≡ g) × (a ≡ b)) ⊎ HasTwoFaults input
   pub request_or_fault : (input : List ℕ) (h : RequestHead) (t b r : List ℕ) (f : Fault) (bare : Bool) → HasRequest input h t b r → HasFault input f bare → ⊥
   pub request_or_incomplete : (input : List ℕ) (h : RequestHead) (t b r : List ℕ) → HasRequest input h t b r → IsIncomplete input → ⊥
   pub fault_or_incomplete : (input : List ℕ) (f : Fault) (bare : Bool) → HasFault input f bare → IsIncomplete input → ⊥
+  pub some_case : (input : List ℕ) → IsNoFront input → ⊥
   -- and what is told of the bytes so far stays, whatever follows
   pub request_stays : (input : List ℕ) (h : RequestHead) (t b r more : List ℕ) → HasRequest input h t b r → HasRequest (input ++ more) h t b (r ++ more)
   -- the front of the input that the request is

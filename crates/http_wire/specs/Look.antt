@@ -1,14 +1,13 @@
 -- What a look at the bytes tells.
-use Rattle.std.specs.Prelude.{◌≡◌, ℕ, ◌<◌, ◌≤◌, List, map, length, drop, All, Option, Result, Ok, Err}
-use Rattle.std.specs.Io.KnownBytes.{IsAtEnd}
+use Rattle.std.specs.Prelude.{◌≡◌, ℕ, ◌<◌, ◌≤◌, List, map, length, drop, All, Ok}
 use Rattle.httparse.specs.Grammar.{RequestHead}
 use Rattle.httparse.specs.Spans.{header_bytes, name_and_value, span_bytes, IsWithin, IsHeaderWithin}
 use Rattle.httparse.specs.declared.spans.HeaderSpan.{HeaderSpan}
 use Rattle.httparse.specs.declared.spans.RequestSpans.{RequestSpans}
-use Rattle.http_wire.specs.declared.fault.WireFault.{WireFault}
 use Rattle.http_wire.specs.declared.look.Head.{Head}
-use Rattle.http_wire.specs.declared.look.Look.{Look}
-use Rattle.http_wire.specs.declared.look.Look.TheVariants.{Found, Refused, Wanting}
+use Rattle.http_wire.specs.declared.look.Refusal.{Refusal}
+use Rattle.http_intake.specs.declared.sought.Seen.{Seen}
+use Rattle.http_intake.specs.declared.sought.Seen.TheVariants.{Found, Refused, Wanting}
 use Rattle.http_wire.specs.Interim.{asks_by}
 use Rattle.http_wire.specs.Front.{HasHead, RefusesFront, IsOpen, judged_head, closes_after, is_head}
 
@@ -41,19 +40,8 @@ pub record IsFound (bytes : List ℕ) (found : Head) : Type 0 where
   pub shown : found.bare ≡ is_head head.method
   pub expects : found.expects ≡ asks_by (Ok found.framing) head
 
-abbrev pub Sees : List ℕ → Look → Type 0
+-- what a look for a head tells
+abbrev pub Sees : List ℕ → Seen Head Refusal → Type 0
 Sees bytes (Found found) = IsFound bytes found
-Sees bytes (Refused fault bare) = RefusesFront bytes fault bare
+Sees bytes (Refused refusal) = RefusesFront bytes refusal.fault refusal.bare
 Sees bytes Wanting = IsOpen bytes
-
--- what is known of the bytes once reading a head has ended so
-abbrev pub SeesFront : List ℕ → Result Look WireFault → Type 0
-SeesFront bytes (Ok look) = Sees bytes look
-SeesFront bytes (Err e) = IsOpen bytes
-
--- more bytes are wanted in vain only at the reader's end
-abbrev pub WantsAtEnd : Option (List ℕ) → Result Look WireFault → Type 0
-WantsAtEnd left (Ok (Found found)) = Unit {0}
-WantsAtEnd left (Ok (Refused f bare)) = Unit {0}
-WantsAtEnd left (Ok Wanting) = IsAtEnd left
-WantsAtEnd left (Err e) = Unit {0}

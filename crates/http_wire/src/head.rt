@@ -4,15 +4,12 @@ ghost use Rattle.std.specs.Char.{is_ascii_digit};
 ghost use Rattle.std.specs.List.{list_all, flat_map};
 ghost use Rattle.httparse.specs.Spans.{header_bytes, IsHeaderWithin};
 ghost use Rattle.http_wire.specs.Front.{is_length as is_length_text, number_of, values, length_of as length_by, lengths_of, sized as sized_by, framing_of as framing_by, is_host_count as is_host_count_of, judged};
-ghost use Rattle.http_wire.specs.Target.{is_word};
 ghost use Rattle.http_wire.specs.Connection.{parts, ends_in};
 
-use crate::connection::{ends_in_chunked, is_one};
-use crate::fault::Fault;
+use crate::lists::{ends_in_chunked, is_named, is_one};
+use http_chunks::fault::Fault;
+use http_chunks::limits::BODY_LIMIT;
 use httparse::spans::HeaderSpan;
-
-/// Bodies are at most this long.
-pub const BODY_LIMIT: usize = 33_554_432;
 
 /// How a body is framed (RFC 9112, section 6).
 #[derive(Clone, Copy, Debug, PartialEq, Eq)]
@@ -21,13 +18,6 @@ pub enum Framing {
     Sized(usize),
     /// It comes in chunks.
     Chunked,
-}
-
-/// Whether a field's name is the word, in any case.
-pub(crate) fn is_named(word: &[u8], name: &[u8]) -> bool
-    ensures { result ≡ is_word word.now name.now }
-{
-    name.eq_ignore_ascii_case(word)
 }
 
 /// How many of the headers have that name, and the first one's value.

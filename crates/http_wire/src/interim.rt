@@ -4,7 +4,8 @@ ghost use Rattle.httparse.specs.Spans.{header_bytes, IsHeaderWithin};
 ghost use Rattle.byte_stream.specs.Sends.{Sends, failures_with};
 ghost use Rattle.http_wire.specs.Interim.{continue_text, has_body as has_body_by, expects_continue as expects_continue_in};
 
-use crate::head::{Framing, is_named};
+use crate::head::Framing;
+use crate::lists::is_named;
 use byte_stream::sink::{Sink, WriteFault};
 use httparse::spans::HeaderSpan;
 

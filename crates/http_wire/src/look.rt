@@ -1,26 +1,22 @@
 //! A look at the bytes that have come, for a head.
 ghost use Rattle.std.specs.Prelude.{◌≡◌, ◌<◌, ◌≤◌, ◌+◌, length, true, false, drop};
 ghost use Rattle.httparse.specs.Grammar.{HasNoRequest, NeverHasRequest, MayBecomeRequest};
-ghost use Rattle.http_wire.specs.Limits.{window};
+ghost use Rattle.http_chunks.specs.Limits.{window};
 ghost use Rattle.http_wire.specs.Front.{is_head as is_head_method};
 ghost use Rattle.http_wire.specs.Look.{IsParsed, Sees};
-ghost use Rattle.http_wire.specs.Lines.{line_feeds as line_feeds_in, lines_come as lines_come_in};
 ghost use Rattle.http_wire.specs.InTarget.{in_method, in_blank};
 ghost use Rattle.httparse.specs.Grammar.{EndsInTarget, is_uri_byte};
 ghost use Rattle.std.specs.List.{list_all};
 
 use crate::connection::asks_to_close;
-use crate::fault::Fault;
 use crate::head::{Framing, judge};
 use crate::interim::{expects_continue, has_body};
+use http_chunks::fault::Fault;
+use http_chunks::limits::{FIELD_LIMIT, HEAD_LIMIT};
+use http_chunks::lines::head_lines;
+use http_intake::sought::{Seen, Sought};
 use httparse::spans::{EMPTY_HEADER_SPAN, HeaderSpan, RequestSpans, Span, parse_request};
 use httparse::{Error, Status, is_method_token, is_uri_token};
-
-/// A head is looked for in so many bytes.
-pub const HEAD_LIMIT: usize = 16_384;
-
-/// So many header lines at most.
-pub const FIELD_LIMIT: usize = 64;
 
 /// Where the parts of a head are, counted from the front of the bytes.
 #[derive(Clone, Copy, Debug)]
@@ -39,40 +35,11 @@ pub struct Head {
     pub expects: bool,
 }
 
-/// What stands at the front.
+/// Why no head that may stand is at the front. The answer has no body where it is bare.
 #[derive(Clone, Copy, Debug)]
-pub enum Look {
-    /// A head that may stand.
-    Found(Head),
-    /// The answer to it has no body where it is bare.
-    Refused { fault: Fault, bare: bool },
-    /// More bytes are wanted.
-    Wanting,
-}
-
-/// How many LF there are.
-pub(crate) fn line_feeds(bytes: &[u8]) -> usize
-    ensures { result ≡ line_feeds_in bytes.now }
-{
-    let mut count = 0usize;
-    for b in bytes {
-        if *b == b'\n' {
-            count += 1;
-        }
-    }
-    count
-}
-
-/// How many lines have ended, but for the empty ones at the front.
-fn lines_come(bytes: &[u8]) -> usize
-    ensures { result ≡ lines_come_in bytes.now }
-{
-    for (i, b) in bytes.iter().enumerate() {
-        if *b != b'\r' && *b != b'\n' {
-            return line_feeds(&bytes[i..]);
-        }
-    }
-    0
+pub struct Refusal {
+    pub fault: Fault,
+    pub bare: bool,
 }
 
 fn all_of_target(bytes: &[u8]) -> bool
@@ -124,14 +91,19 @@ fn is_head(method: &[u8]) -> bool
 }
 
 /// A head that was parsed: what it says.
-fn after_parse(bytes: &[u8], part: &[u8], head: RequestSpans, headers: &[HeaderSpan]) -> Look
+fn after_parse(
+    bytes: &[u8],
+    part: &[u8],
+    head: RequestSpans,
+    headers: &[HeaderSpan],
+) -> Seen<Head, Refusal>
     requires { IsParsed bytes.now part.now headers.now head }
     ensures { Sees bytes.now result }
 {
     let bare = is_head(head.method.of(bytes));
     match judge(head.version, part, headers) {
-        Err(fault) => Look::Refused { fault, bare },
-        Ok(framing) => Look::Found(Head {
+        Err(fault) => Seen::Refused(Refusal { fault, bare }),
+        Ok(framing) => Seen::Found(Head {
             method: head.method,
             target: head.path,
             len: head.len,
@@ -144,29 +116,29 @@ fn after_parse(bytes: &[u8], part: &[u8], head: RequestSpans, headers: &[HeaderS
 }
 
 /// No head has come: whether one still may.
-fn unfinished(bytes: &[u8], part: &[u8]) -> Look
+fn unfinished(bytes: &[u8], part: &[u8]) -> Seen<Head, Refusal>
     requires part_is { part.now ≡ window bytes.now }
     requires none { HasNoRequest part.now }
     requires goes_on { MayBecomeRequest part.now }
     ensures { Sees bytes.now result }
 {
     if bytes.len() >= HEAD_LIMIT {
-        return Look::Refused {
+        return Seen::Refused(Refusal {
             fault: Fault::HeadTooLarge,
             bare: false,
-        };
+        });
     }
-    if lines_come(part) >= FIELD_LIMIT + 2 {
-        return Look::Refused {
+    if head_lines(part) >= FIELD_LIMIT + 2 {
+        return Seen::Refused(Refusal {
             fault: Fault::HeadTooLarge,
             bare: false,
-        };
+        });
     }
-    Look::Wanting
+    Seen::Wanting
 }
 
 /// No head can come, which only the end of a target would show where the bytes end in one.
-fn after_error(bytes: &[u8], part: &[u8]) -> Look
+fn after_error(bytes: &[u8], part: &[u8]) -> Seen<Head, Refusal>
     requires part_is { part.now ≡ window bytes.now }
     requires never { NeverHasRequest part.now }
     ensures { Sees bytes.now result }
@@ -174,14 +146,14 @@ fn after_error(bytes: &[u8], part: &[u8]) -> Look
     if ends_in_target(part) {
         return unfinished(bytes, part);
     }
-    Look::Refused {
+    Seen::Refused(Refusal {
         fault: Fault::BadHead,
         bare: false,
-    }
+    })
 }
 
 /// Looks for a head at the front of the bytes.
-pub fn look_at(bytes: &[u8]) -> Look
+pub fn look_at(bytes: &[u8]) -> Seen<Head, Refusal>
     ensures { Sees bytes.now result }
 {
     let mut headers = [EMPTY_HEADER_SPAN; FIELD_LIMIT];
@@ -192,10 +164,28 @@ pub fn look_at(bytes: &[u8]) -> Look
             after_parse(bytes, part, head, &headers[..count])
         }
         Ok(Status::Partial) => unfinished(bytes, part),
-        Err(Error::TooManyHeaders) => Look::Refused {
+        Err(Error::TooManyHeaders) => Seen::Refused(Refusal {
             fault: Fault::HeadTooLarge,
             bare: false,
-        },
+        }),
         Err(_) => after_error(bytes, part),
+    }
+}
+
+/// A head is looked for.
+pub struct HeadSought;
+
+impl Sought for HeadSought {
+    ghost use Rattle.http_wire.specs.Look.{Sees};
+
+    type Part = Head;
+
+    type Refusal = Refusal;
+
+    ghost sees = { Sees };
+
+    #[tactic(auto, using(crate::proofs::LookLemmas::sees_short))]
+    fn look(&self, bytes: &[u8]) -> Seen<Head, Refusal> {
+        look_at(bytes)
     }
 }

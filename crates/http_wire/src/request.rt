@@ -1,26 +1,33 @@
 //! Requests from a reader, however its bytes are cut.
-ghost use Rattle.std.specs.Prelude.{◌≡◌, ◌≢◌, ℕ, ◌+◌, ◌<◌, ◌≤◌, List, [], ◌++◌, length, Ok, Err, None, false, IfOk, IfSome};
+ghost use Rattle.std.specs.Prelude.{◌≡◌, ℕ, ◌+◌, ◌≤◌, List, [], ◌++◌, length, Ok, Err, None, false, IfOk, IfSome};
 ghost use Rattle.httparse.specs.Spans.{span_bytes, IsWithin};
 ghost use Rattle.std.specs.Io.KnownBytes.{Appends, Consumes};
-ghost use Rattle.http_wire.specs.Chunked.{BodyRead, LacksChunksAtEnd};
-ghost use Rattle.http_wire.specs.Budget.{failures_of, read_failures_of, write_failures_of, reading_left};
 ghost use Rattle.std.specs.Option.{option_map};
-ghost use Rattle.http_wire.specs.Incoming.{ReadsFront, EndsAt, TakesSome, Taken, finished, targeted as targeted_by, IsTargetOf};
-ghost use Rattle.http_wire.specs.Look.{SeesFront, WantsAtEnd, IsFound};
+ghost use Rattle.http_intake.specs.Budget.{reading_left, Spends};
+ghost use Rattle.http_intake.specs.Draws.{Draws, Reads};
+ghost use Rattle.http_chunks.specs.Chunked.{LacksChunksAtEnd};
+ghost use Rattle.http_wire.specs.Budget.{read_failures_of, write_failures_of};
+ghost use Rattle.http_wire.specs.Framed.{BodyRead};
+ghost use Rattle.http_wire.specs.Incoming.{ReadsFront, EndsAt, TakesSome, Taken, DrawsRequest, finished, targeted as targeted_by, IsTargetOf};
+ghost use Rattle.http_wire.specs.Look.{IsFound};
 ghost use Rattle.http_wire.specs.Target.{target_of};
-ghost use Rattle.http_wire.specs.Budget.{Spends};
 
-use crate::body::read_body;
-use crate::chunks::{Chunked, read_chunks};
-use crate::fault::{Fault, RequestFault, WireFault};
+use crate::fault::RequestFault;
 use crate::head::Framing;
-use crate::inbox::{INBOX_LEN, Inbox};
 use crate::interim::write_interim;
-use crate::look::{Head, Look, look_at};
+use crate::look::{Head, HeadSought, Refusal, look_at};
 use crate::target::{Target, read_target};
 use byte_stream::sink::Sink;
 use byte_stream::source::Source;
 use http::Method;
+use http_chunks::chunks::{Chunked, read_chunks};
+use http_chunks::fault::Fault;
+use http_chunks::law::chunk_law;
+use http_intake::body::read_body;
+use http_intake::fault::WireFault;
+use http_intake::inbox::{INBOX_LEN, Inbox};
+use http_intake::intake::Intake;
+use http_intake::sought::{Seen, read_front};
 use std::alloc::{AllocError, Global};
 
 /// The turns of a whole stream, from which each call takes its own.
@@ -47,35 +54,6 @@ pub enum Incoming {
     Starved { bare: bool },
     /// The input ended, perhaps inside a request.
     End,
-}
-
-/// Reads up to the end of the next head. `Wanting` is the end of the input.
-fn read_head<R: Source>(
-    reader: &mut R,
-    inbox: &mut Inbox,
-    turns: &mut u64,
-) -> Result<Look, WireFault>
-    ensures read { (more : List ℕ) × Consumes (R.remaining reader.old) (R.remaining reader.new) more × (inbox.new ≡ inbox.old ++ more) }
-    ensures sees { SeesFront inbox.new result }
-    ensures end { WantsAtEnd (R.remaining reader.new) result }
-    ensures failures { R.failures reader.new ≡ failures_of (R.failures reader.old) result }
-    ensures turns { Spends turns.old turns.new (R.turns reader.old) (R.turns reader.new) }
-    ensures limit { result ≡ Err WireFault.TurnLimit → turns.new ≡ 0 }
-    ensures never { result ≢ Err WireFault.Memory }
-    ensures left { reading_left turns.new inbox.new ≤ reading_left turns.old inbox.old }
-{
-    loop {
-        match look_at(inbox.as_slice()) {
-            Look::Found(head) => return Ok(Look::Found(head)),
-            Look::Refused { fault, bare } => return Ok(Look::Refused { fault, bare }),
-            Look::Wanting => {}
-        }
-        match inbox.fill(reader, turns) {
-            Ok(true) => return Ok(Look::Wanting),
-            Ok(false) => {}
-            Err(fault) => return Err(fault),
-        }
-    }
 }
 
 /// A request whose body is still to come.
@@ -175,65 +153,88 @@ fn finish(
     }
 }
 
+/// The front has this fault.
+fn refused(refusal: Refusal) -> Incoming
+    ensures { result ≡ Incoming.Refused refusal.fault refusal.bare }
+{
+    Incoming::Refused {
+        fault: refusal.fault,
+        bare: refusal.bare,
+    }
+}
+
 /// Reads a body as it is framed.
 fn read_framed<R: Source>(
-    reader: &mut R,
-    inbox: &mut Inbox,
-    turns: &mut u64,
+    intake: &mut Intake<'_, R>,
     body: &mut Vec<u8>,
     framing: Framing,
 ) -> Result<Chunked, WireFault>
     requires { body.old.items ≡ [] }
-    ensures read { (more : List ℕ) × Consumes (R.remaining reader.old) (R.remaining reader.new) more × BodyRead framing (inbox.old ++ more) result body.new.items inbox.new }
-    ensures end { LacksChunksAtEnd (R.remaining reader.new) result }
-    ensures failures { R.failures reader.new ≡ failures_of (R.failures reader.old) result }
-    ensures turns { Spends turns.old turns.new (R.turns reader.old) (R.turns reader.new) }
-    ensures limit { result ≡ Err WireFault.TurnLimit → turns.new ≡ 0 }
-    ensures left { reading_left turns.new inbox.new ≤ reading_left turns.old inbox.old }
+    ensures read { Reads R.remaining intake.old intake.new (λ input rest. BodyRead framing input result body.new.items rest) }
+    ensures end { LacksChunksAtEnd (R.remaining intake.new.reader.now) result }
+    ensures draws { Draws R.turns R.failures intake.old intake.new result }
 {
     match framing {
-        Framing::Sized(n) => match read_body(reader, inbox, turns, body, n) {
+        Framing::Sized(n) => match read_body(intake, body, n) {
             Ok(true) => Ok(Chunked::Whole),
             Ok(false) => Ok(Chunked::Lacking),
             Err(fault) => Err(fault),
         },
-        Framing::Chunked => read_chunks(reader, inbox, turns, body),
+        Framing::Chunked => read_chunks(intake, body),
     }
 }
 
 /// The rest of a request whose head has come: writes the interim answer where it is asked for, and reads the body.
 fn read_rest<R: Source, W: Sink>(
     alloc: Global,
-    reader: &mut R,
+    intake: &mut Intake<'_, R>,
     writer: &mut W,
-    inbox: &mut Inbox,
-    turns: &mut u64,
     head: Head,
 ) -> Result<Incoming, RequestFault>
-    requires { IsFound inbox.old head }
-    ensures read { (more : List ℕ) × (sent : List ℕ) × Consumes (R.remaining reader.old) (R.remaining reader.new) more
-        × Appends (W.contents writer.old) (W.contents writer.new) sent × ReadsFront (inbox.old ++ more) result inbox.new sent }
-    ensures end { EndsAt (R.remaining reader.new) result }
-    ensures failures { R.failures reader.new ≡ read_failures_of (R.failures reader.old) result }
+    requires { IsFound intake.old.inbox.now head }
+    ensures read { (sent : List ℕ) × Appends (W.contents writer.old) (W.contents writer.new) sent
+        × Reads R.remaining intake.old intake.new (λ input rest. ReadsFront input result rest sent) }
+    ensures end { EndsAt (R.remaining intake.new.reader.now) result }
     ensures write_failures { W.failures writer.new ≡ write_failures_of (W.failures writer.old) result }
-    ensures turns { Spends turns.old turns.new (R.turns reader.old) (R.turns reader.new) }
-    ensures limit { result ≡ Err RequestFault.TurnLimit → turns.new ≡ 0 }
-    ensures left { TakesSome result (reading_left turns.old inbox.old) (reading_left turns.new inbox.new) }
+    ensures draws { DrawsRequest R.turns R.failures intake.old intake.new result }
 {
+    chunk_law();
     match write_interim(writer, head.expects) {
         Ok(()) => {}
         Err(_) => return Err(RequestFault::Write),
     }
-    let Ok(begun) = begin(alloc, inbox.as_slice(), head) else {
+    let Ok(begun) = begin(alloc, intake.held(), head) else {
         return Ok(Incoming::Starved { bare: head.bare });
     };
     let Begun {
         mut request,
         is_good,
     } = begun;
-    inbox.consume(head.len);
-    let came = read_framed(reader, inbox, turns, &mut request.body, head.framing);
+    intake.consume(head.len);
+    let came = read_framed(intake, &mut request.body, head.framing);
     finish(request, is_good, head.bare, came)
+}
+
+/// Reads the next request, as `read_request` does.
+fn read_next<R: Source, W: Sink>(
+    alloc: Global,
+    intake: &mut Intake<'_, R>,
+    writer: &mut W,
+) -> Result<Incoming, RequestFault>
+    ensures read { (sent : List ℕ) × Appends (W.contents writer.old) (W.contents writer.new) sent
+        × Reads R.remaining intake.old intake.new (λ input rest. ReadsFront input result rest sent) }
+    ensures end { EndsAt (R.remaining intake.new.reader.now) result }
+    ensures write_failures { W.failures writer.new ≡ write_failures_of (W.failures writer.old) result }
+    ensures draws { DrawsRequest R.turns R.failures intake.old intake.new result }
+{
+    match read_front(intake, &HeadSought) {
+        Ok(Seen::Wanting) => Ok(Incoming::End),
+        Ok(Seen::Refused(refusal)) => Ok(refused(refusal)),
+        Ok(Seen::Found(head)) => read_rest(alloc, intake, writer, head),
+        Err(WireFault::Read) => Err(RequestFault::Read),
+        Err(WireFault::TurnLimit) => Err(RequestFault::TurnLimit),
+        Err(WireFault::Memory) => unreachable!(),
+    }
 }
 
 /// Reads the next request, in as many turns as it needs. Where its head asks for the interim answer 100 (RFC 9110, section
@@ -257,14 +258,12 @@ pub fn read_request<R: Source, W: Sink>(
     // A bound for a loop over requests.
     ensures left { TakesSome result (reading_left turns.old inbox.old) (reading_left turns.new inbox.new) }
 {
-    match read_head(reader, inbox, turns) {
-        Ok(Look::Wanting) => Ok(Incoming::End),
-        Ok(Look::Refused { fault, bare }) => Ok(Incoming::Refused { fault, bare }),
-        Ok(Look::Found(head)) => read_rest(alloc, reader, writer, inbox, turns, head),
-        Err(WireFault::Read) => Err(RequestFault::Read),
-        Err(WireFault::TurnLimit) => Err(RequestFault::TurnLimit),
-        Err(WireFault::Memory) => unreachable!(),
-    }
+    let mut intake = Intake {
+        reader,
+        inbox,
+        turns,
+    };
+    read_next(alloc, &mut intake, writer)
 }
 
 /// A request whose head asks for no interim answer, and whose body of n bytes is there.
@@ -277,6 +276,7 @@ fn take_found(alloc: Global, inbox: &mut Inbox, head: Head, n: usize) -> Incomin
     ensures taken { Taken inbox.old result inbox.new }
     ensures less { TakesSome (Ok result) (length inbox.old) (length inbox.new) }
 {
+    chunk_law();
     let Ok(begun) = begin(alloc, inbox.as_slice(), head) else {
         return Incoming::Starved { bare: head.bare };
     };
@@ -301,9 +301,9 @@ pub fn take_request(alloc: Global, inbox: &mut Inbox) -> Option<Incoming>
     ensures none { result ≡ None → inbox.new ≡ inbox.old }
 {
     match look_at(inbox.as_slice()) {
-        Look::Wanting => None,
-        Look::Refused { fault, bare } => Some(Incoming::Refused { fault, bare }),
-        Look::Found(head) => {
+        Seen::Wanting => None,
+        Seen::Refused(refusal) => Some(refused(refusal)),
+        Seen::Found(head) => {
             let Framing::Sized(n) = head.framing else {
                 return None;
             };

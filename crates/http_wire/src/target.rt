@@ -3,7 +3,7 @@ ghost use Rattle.std.specs.Prelude.{◌≡◌, IfOk};
 ghost use Rattle.std.specs.Option.{option_map};
 ghost use Rattle.http_wire.specs.Target.{is_ascii as is_ascii_text, begins_with_slash as begins_with_slash_in, behind_authority as behind_authority_of, behind_scheme as behind_scheme_of, with_slash, target_of};
 
-use crate::head::is_named;
+use crate::lists::is_named;
 use std::alloc::{AllocError, Global};
 
 /// A path and a query as they lie in a head. An empty path lacks its slash.

@@ -1,7 +1,8 @@
 use Rattle.std.proofs.Common.{◌≤◌, inl, inr, subst, refl, arith}
 use Rattle.httparse.specs.Spans.{RequestOverflows}
-use Rattle.http_wire.specs.Lines.{lines_come}
-use Rattle.http_wire.proofs.LookLemmas.{window_is, parsed_at, exceeds_lines}
+use Rattle.http_chunks.specs.Lines.{head_lines}
+use Rattle.http_chunks.specs.Fronts.{window_is}
+use Rattle.http_wire.proofs.LookLemmas.{parsed_at, exceeds_lines}
 use Rattle.http_wire.proofs.look.look_at.Goals as goal
 
 pub after_parse-requires : goal.after_parse-requires
@@ -22,7 +23,7 @@ returns-in-Err-TooManyHeaders c =
     let many = (rw c.in-Err-TooManyHeaders.field-0-is at c.in-Err-TooManyHeaders.ensures.too_many) refl in
     inl (
       inr (record {
-        lines = subst (λ xs. 66 ≤ lines_come xs) same (exceeds_lines _ many);
+        lines = subst (λ xs. 66 ≤ head_lines xs) same (exceeds_lines _ many);
         exceeds = subst (RequestOverflows 64) same c.in-Err-TooManyHeaders.ensures.no_room;
       }),
       refl,

@@ -1,7 +1,7 @@
 use Rattle.std.proofs.Common.{◌≤◌, inl, inr, subst, refl, arith}
 use Rattle.httparse.specs.Grammar.{HasNoRequest, MayBecomeRequest}
 use Rattle.httparse.specs.Spans.{RequestOverflows}
-use Rattle.http_wire.specs.Lines.{lines_come}
+use Rattle.http_chunks.specs.Lines.{head_lines}
 use Rattle.http_wire.proofs.LookLemmas.{overflows_at}
 use Rattle.http_wire.proofs.look.unfinished.Goals as goal
 
@@ -15,12 +15,12 @@ returns-then-bytes-ge-HEAD_LIMIT c = inl (
   refl,
 )
 
-pub returns-then-lines_come : goal.returns-then-lines_come
-returns-then-lines_come c =
-    let lines : 66 ≤ lines_come c.args.part.now = omega (arith, c.lines_come.ensures, c.if-lines_come.true) in
+pub returns-then-head_lines : goal.returns-then-head_lines
+returns-then-head_lines c =
+    let lines : 66 ≤ head_lines c.args.part.now = omega (arith, c.head_lines.ensures, c.if-head_lines.true) in
     inl (
       inr (record {
-        lines = subst (λ xs. 66 ≤ lines_come xs) c.requires.part_is lines;
+        lines = subst (λ xs. 66 ≤ head_lines xs) c.requires.part_is lines;
         exceeds = subst (RequestOverflows 64) c.requires.part_is (overflows_at c.args.part.now c.requires.none lines);
       }),
       refl,

@@ -1,5 +1,9 @@
+use Rattle.std.proofs.Common.{subst, sym}
+use Rattle.http_wire.specs.Incoming.{Taken}
 use Rattle.http_wire.proofs.TakenLemmas.{taken_refused}
 use Rattle.http_wire.proofs.request.take_request.Goals as goal
 
 pub returns-in-Refused-clause-taken : goal.returns-in-Refused-clause-taken
-returns-in-Refused-clause-taken c = taken_refused c.as_slice.result.now c.args.inbox.now c.args.inbox.now c.in-Refused.fault c.in-Refused.bare c.as_slice.ensures c.in-Refused.ensures
+returns-in-Refused-clause-taken c =
+    let inbox = c.args.inbox.now in
+    subst (λ x. Taken inbox x inbox) (sym c.refused.ensures) (taken_refused c.as_slice.result.now inbox inbox c.in-Refused.refusal.fault c.in-Refused.refusal.bare c.as_slice.ensures c.in-Refused.ensures)

@@ -1,7 +1,7 @@
 use Rattle.std.proofs.Common.{◌≡◌, ◌⊎◌, ◌||◌, inl, inr, refl, ◌∙◌, ap, Bool, List, ℕ}
 use Rattle.desk_model.specs.declared.reply.Reply.{Reply}
 use Rattle.desk_model.specs.declared.reply.Reply.TheVariants as reply
-use Rattle.http_wire.specs.declared.response.ContentType.TheVariants.{Json, PlainText}
+use Rattle.http_answer.specs.declared.response.ContentType.TheVariants.{Json, PlainText}
 use Rattle.http_desk.specs.Answers.{bytes_of, saying, message_of, closes_after}
 use Rattle.http_desk.proofs.answer.Answer.put_reply.Goals as goal
 

@@ -1,0 +1,3 @@
+pub mod Phrases
+pub mod Answer
+pub mod Queue

@@ -1,0 +1,295 @@
+//! Answers to bytes (RFC 9112, section 4).
+ghost use Rattle.std.specs.Prelude.{◌≡◌, ℕ, ◌+◌, ◌<◌, ◌≤◌, List, [], ◌++◌, length, true, Option, option_map, vec_len, vec_capacity, decimal, IfOk, codes};
+ghost use Rattle.byte_stream.specs.Sends.{Sends, failures_with};
+ghost use Rattle.http_answer.specs.Queue.{Queues};
+ghost use Rattle.http_answer.specs.Phrases.{phrase_of};
+ghost use Rattle.http_answer.specs.Answer.{status_line, type_line, length_line, allow_line, close_line, line_end, head_text, response_text, sent_body, allowed, allowed_len};
+
+use byte_stream::sink::{Sink, WriteFault};
+use http::StatusCode;
+use itoa::Buffer;
+use std::alloc::{AllocError, Global};
+use std::marker::Model;
+
+/// The media type of a body.
+#[derive(Clone, Copy, Debug, PartialEq, Eq)]
+pub enum ContentType {
+    /// `application/json`
+    Json,
+    /// `text/plain`
+    PlainText,
+}
+
+/// An answer.
+#[derive(Clone, Copy, Debug)]
+pub struct Response<'a> {
+    pub status: StatusCode,
+    pub kind: ContentType,
+    /// The methods that an Allow line names.
+    pub allow: Option<&'a str>,
+    /// Whether the connection closes after it.
+    pub closes: bool,
+    /// Whether its body is left out, though its length is told: it answers HEAD.
+    pub bare: bool,
+    pub body: &'a [u8],
+}
+
+/// So many bytes of answers wait at most, and go out in one piece.
+pub const OUTBOX_LEN: usize = 16_384;
+
+/// Room for a head, in bytes.
+const HEAD_LEN: usize = 500;
+
+/// The buffer in which answers are built and wait until they are sent together, with all the room that it ever takes.
+#[derive(Drop)]
+pub struct Outbox {
+    bytes: Vec<u8>,
+}
+
+impl Model for Outbox {
+    ghost use Rattle.std.specs.Prelude.{List, ℕ, ◌≤◌, vec_capacity, vec_len};
+
+    ghost Value = { List ℕ };
+
+    ghost view = { λ a. a.bytes.items };
+
+    ghost invariant = { λ a. (16384 ≤ vec_capacity a.bytes) × (vec_len a.bytes ≤ 16384) };
+}
+
+impl Outbox {
+    /// An empty one, with all the room that it ever takes.
+    pub fn new(alloc: Global) -> Result<Outbox, AllocError>
+        ensures { IfOk result (λ outbox. outbox ≡ []) }
+    {
+        Ok(Outbox {
+            bytes: Vec::with_capacity(alloc, OUTBOX_LEN)?,
+        })
+    }
+
+    /// Sends what waits. After a fault nothing waits either.
+    pub fn flush<W: Sink>(&mut self, writer: &mut W) -> Result<(), WriteFault>
+        ensures bytes { Sends (W.contents writer.old) (W.contents writer.new) result self.old }
+        ensures emptied { self.new ≡ [] }
+        ensures failures { W.failures writer.new ≡ failures_with (W.failures writer.old) result }
+    {
+        if self.bytes.is_empty() {
+            return Ok(());
+        }
+        let result = writer.send(self.bytes.as_slice());
+        self.bytes.clear();
+        result
+    }
+
+    /// Whether a head and so many bytes have room behind what waits.
+    fn has_room(&self, len: usize) -> bool
+        ensures { result ≡ true → length self.now + 500 + len ≤ 16384 }
+    {
+        len <= OUTBOX_LEN - HEAD_LEN && self.bytes.len() <= OUTBOX_LEN - HEAD_LEN - len
+    }
+
+    /// Puts a head and a body behind what waits.
+    fn put_answer(&mut self, response: &Response<'_>, body: &[u8])
+        requires room { length self.old + 500 + length body.now ≤ 16384 }
+        requires short { allowed_len (allowed response.now) ≤ 64 }
+        ensures { self.new ≡ self.old ++ (head_text response.now.status response.now.kind (allowed response.now) response.now.closes (length response.now.body.now) ++ body.now) }
+    {
+        put_head(&mut self.bytes, response);
+        put(&mut self.bytes, body);
+    }
+
+    /// Writes a head and a body that have no room together. Nothing waits before or after it.
+    fn write_long<W: Sink>(
+        &mut self,
+        writer: &mut W,
+        response: &Response<'_>,
+        body: &[u8],
+    ) -> Result<(), WriteFault>
+        requires { allowed_len (allowed response.now) ≤ 64 }
+        ensures bytes { Sends (W.contents writer.old) (W.contents writer.new) result
+            (head_text response.now.status response.now.kind (allowed response.now) response.now.closes (length response.now.body.now) ++ body.now) }
+        ensures emptied { self.new ≡ [] }
+        ensures failures { W.failures writer.new ≡ failures_with (W.failures writer.old) result }
+    {
+        let result = write_parts(writer, &mut self.bytes, response, body);
+        self.bytes.clear();
+        result
+    }
+}
+
+/// The phrase of a status that the desk answers; other statuses have none.
+fn phrase(status: StatusCode) -> &'static str
+    ensures phrase { result.now ≡ phrase_of status }
+    ensures short { length result.now ≤ 31 }
+{
+    match status.as_u16() {
+        200 => "OK",
+        201 => "Created",
+        400 => "Bad Request",
+        404 => "Not Found",
+        405 => "Method Not Allowed",
+        409 => "Conflict",
+        413 => "Content Too Large",
+        422 => "Unprocessable Content",
+        431 => "Request Header Fields Too Large",
+        501 => "Not Implemented",
+        503 => "Service Unavailable",
+        507 => "Insufficient Storage",
+        _ => "",
+    }
+}
+
+/// Adds a text for which there is room.
+fn put(bytes: &mut Vec<u8>, text: &[u8])
+    requires { vec_len bytes.old + length text.now ≤ vec_capacity bytes.old }
+    ensures items { bytes.new.items ≡ bytes.old.items ++ text.now }
+    ensures len { vec_len bytes.new ≡ vec_len bytes.old + length text.now }
+    ensures room { vec_capacity bytes.old ≤ vec_capacity bytes.new }
+{
+    let _ = bytes.extend_from_slice(text);
+}
+
+/// The line of the status.
+fn put_status(bytes: &mut Vec<u8>, status: StatusCode)
+    requires { vec_len bytes.old + 100 ≤ vec_capacity bytes.old }
+    ensures items { bytes.new.items ≡ bytes.old.items ++ status_line status }
+    ensures len { vec_len bytes.new ≤ vec_len bytes.old + 100 }
+    ensures room { vec_capacity bytes.old ≤ vec_capacity bytes.new }
+{
+    put(bytes, b"HTTP/1.1 ");
+    put(bytes, status.as_str().as_bytes());
+    put(bytes, b" ");
+    put(bytes, phrase(status).as_bytes());
+    put(bytes, b"\r\n");
+}
+
+/// The line of the media type.
+fn put_type(bytes: &mut Vec<u8>, kind: ContentType)
+    requires { vec_len bytes.old + 100 ≤ vec_capacity bytes.old }
+    ensures items { bytes.new.items ≡ bytes.old.items ++ type_line kind }
+    ensures len { vec_len bytes.new ≤ vec_len bytes.old + 100 }
+    ensures room { vec_capacity bytes.old ≤ vec_capacity bytes.new }
+{
+    match kind {
+        ContentType::Json => put(bytes, b"Content-Type: application/json\r\n"),
+        ContentType::PlainText => put(bytes, b"Content-Type: text/plain\r\n"),
+    }
+}
+
+/// The line of the body's length.
+fn put_length(bytes: &mut Vec<u8>, n: usize)
+    requires { vec_len bytes.old + 100 ≤ vec_capacity bytes.old }
+    ensures items { bytes.new.items ≡ bytes.old.items ++ length_line n }
+    ensures len { vec_len bytes.new ≤ vec_len bytes.old + 100 }
+    ensures room { vec_capacity bytes.old ≤ vec_capacity bytes.new }
+{
+    let mut digits = Buffer::new();
+    put(bytes, b"Content-Length: ");
+    put(bytes, digits.format(n).as_bytes());
+    put(bytes, b"\r\n");
+}
+
+/// The line of the allowed methods, if there is one.
+fn put_allow(bytes: &mut Vec<u8>, allow: Option<&str>)
+    requires room { vec_len bytes.old + 100 ≤ vec_capacity bytes.old }
+    requires short { allowed_len (option_map (λ methods. methods.now) allow) ≤ 64 }
+    ensures items { bytes.new.items ≡ bytes.old.items ++ allow_line (option_map (λ methods. methods.now) allow.entry) }
+    ensures len { vec_len bytes.new ≤ vec_len bytes.old + 100 }
+    ensures room { vec_capacity bytes.old ≤ vec_capacity bytes.new }
+{
+    if let Some(methods) = allow {
+        put(bytes, b"Allow: ");
+        put(bytes, methods.as_bytes());
+        put(bytes, b"\r\n");
+    }
+}
+
+/// The line that tells that the connection closes, where it does, and the empty line.
+fn put_end(bytes: &mut Vec<u8>, closes: bool)
+    requires { vec_len bytes.old + 100 ≤ vec_capacity bytes.old }
+    ensures items { bytes.new.items ≡ bytes.old.items ++ close_line closes ++ line_end }
+    ensures len { vec_len bytes.new ≤ vec_len bytes.old + 100 }
+    ensures room { vec_capacity bytes.old ≤ vec_capacity bytes.new }
+{
+    if closes {
+        put(bytes, b"Connection: close\r\n\r\n");
+    } else {
+        put(bytes, b"\r\n");
+    }
+}
+
+/// The head.
+fn put_head(bytes: &mut Vec<u8>, response: &Response<'_>)
+    requires room { vec_len bytes.old + 500 ≤ vec_capacity bytes.old }
+    requires short { allowed_len (allowed response.now) ≤ 64 }
+    ensures items { bytes.new.items ≡ bytes.old.items ++ head_text response.now.status response.now.kind (allowed response.now) response.now.closes (length response.now.body.now) }
+    ensures len { vec_len bytes.new ≤ vec_len bytes.old + 500 }
+    ensures room { vec_capacity bytes.old ≤ vec_capacity bytes.new }
+{
+    put_status(bytes, response.status);
+    put_type(bytes, response.kind);
+    put_length(bytes, response.body.len());
+    put_allow(bytes, response.allow);
+    put_end(bytes, response.closes);
+}
+
+/// The part of the body that is sent.
+fn sent<'a>(response: &Response<'a>) -> &'a [u8]
+    ensures { result.now ≡ sent_body response.now.bare response.now.body.now }
+{
+    if response.bare { &[] } else { response.body }
+}
+
+/// Writes the head of an answer and a body behind it, by a buffer whose bytes it drops.
+fn write_parts<W: Sink>(
+    writer: &mut W,
+    bytes: &mut Vec<u8>,
+    response: &Response<'_>,
+    body: &[u8],
+) -> Result<(), WriteFault>
+    requires room { 16384 ≤ vec_capacity bytes.old }
+    requires short { allowed_len (allowed response.now) ≤ 64 }
+    ensures bytes { Sends (W.contents writer.old) (W.contents writer.new) result
+        (head_text response.now.status response.now.kind (allowed response.now) response.now.closes (length response.now.body.now) ++ body.now) }
+    ensures room { 16384 ≤ vec_capacity bytes.new }
+    ensures failures { W.failures writer.new ≡ failures_with (W.failures writer.old) result }
+{
+    bytes.clear();
+    put_head(bytes, response);
+    let fits = body.len().min(OUTBOX_LEN - bytes.len());
+    put(bytes, &body[..fits]);
+    let Ok(()) = writer.send(bytes.as_slice()) else {
+        return Err(WriteFault);
+    };
+    if fits == body.len() {
+        return Ok(());
+    }
+    writer.send(&body[fits..])
+}
+
+/// Puts an answer behind those that wait, and takes no memory for it. Where it has no room these are sent first; one that
+/// has no room in the empty buffer either is written at once, its head with as much of its body as has room, and then the
+/// rest. The names of the allowed methods have 64 bytes at most.
+pub fn write_response<W: Sink>(
+    writer: &mut W,
+    outbox: &mut Outbox,
+    response: &Response<'_>,
+) -> Result<(), WriteFault>
+    requires { allowed_len (allowed response.now) ≤ 64 }
+    ensures bytes { Queues (W.contents writer.old) (W.contents writer.new) outbox.old outbox.new result (response_text response.now) }
+    ensures failures { W.failures writer.new ≡ failures_with (W.failures writer.old) result }
+{
+    let body = sent(response);
+    if outbox.has_room(body.len()) {
+        outbox.put_answer(response, body);
+        return Ok(());
+    }
+    match outbox.flush(writer) {
+        Ok(()) => {}
+        Err(_) => return Err(WriteFault),
+    }
+    if outbox.has_room(body.len()) {
+        outbox.put_answer(response, body);
+        return Ok(());
+    }
+    outbox.write_long(writer, response, body)
+}

@@ -1,0 +1,6 @@
+mod ChunkLookLemmas
+mod ChunkReadLemmas
+mod ChunkLemmas
+mod ChunkStays
+mod ChunkCases
+mod ChunkTruths

@@ -1,0 +1,2 @@
+mod InboxLemmas
+mod BodyLemmas

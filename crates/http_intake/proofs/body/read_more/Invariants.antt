@@ -1,0 +1,20 @@
+use Rattle.std.proofs.Common.{◌≡◌, ◌≤◌, List, ℕ, ◌++◌, take, vec_len}
+use Rattle.std.specs.Io.KnownBytes.{Consumes}
+use Rattle.http_intake.specs.Budget.{Spends}
+use Rattle.http_intake.specs.Draws.{SameParts, left_of}
+use Rattle.http_intake.proofs.body.read_more.Given as goal
+
+abbrev pub invariant-loop-filled : goal.invariant-loop-filled
+invariant-loop-filled g l = record {
+  ordered : l.filled ≤ vec_len l.body;
+  within : vec_len l.body ≤ l.n;
+  came : (more : List ℕ) × Consumes (g.R.Source.remaining l.fn.intake.reader.now) (g.R.Source.remaining l.intake.reader.now) more × (take l.filled l.body.items ≡ l.fn.body.items ++ more);
+  inbox : l.intake.inbox.now ≡ l.fn.intake.inbox.now;
+  same : SameParts l.fn.intake l.intake;
+  failures : g.R.Source.failures l.intake.reader.now ≡ g.R.Source.failures l.fn.intake.reader.now;
+  spends : Spends l.fn.intake.turns.now l.intake.turns.now (g.R.Source.turns l.fn.intake.reader.now) (g.R.Source.turns l.intake.reader.now);
+  less : left_of l.intake ≤ left_of l.fn.intake;
+}
+
+abbrev pub decreases-loop-filled : goal.decreases-loop-filled
+decreases-loop-filled g l = l.intake.turns.now

@@ -1,0 +1,44 @@
+-- What a call may do to an intake.
+use Rattle.std.specs.Prelude.{◌≡◌, ℕ, ◌≤◌, List, ◌++◌, Option, Result, Ok, Err, ⊤}
+use Rattle.std.specs.Io.KnownBytes.{Consumes, IsAtEnd}
+use Rattle.http_intake.specs.declared.fault.WireFault.{WireFault}
+use Rattle.http_intake.specs.declared.fault.WireFault.TheVariants as fault
+use Rattle.http_intake.specs.declared.intake.Intake.{Intake}
+use Rattle.http_intake.specs.declared.sought.Seen.{Seen}
+use Rattle.http_intake.specs.declared.sought.Seen.TheVariants.{Found, Refused, Wanting}
+use Rattle.http_intake.specs.Budget.{failures_of, reading_left, Spends}
+
+-- it stays over the same reader, the same bytes and the same turns
+pub record SameParts {R : Type 0} (old new : Intake R) : Type 0 where
+  pub reader : new.reader.ghost_name ≡ old.reader.ghost_name
+  pub inbox : new.inbox.ghost_name ≡ old.inbox.ghost_name
+  pub turns : new.turns.ghost_name ≡ old.turns.ghost_name
+
+-- what it can still give
+abbrev pub left_of : {R : Type 0} → Intake R → ℕ
+left_of i = reading_left i.turns.now i.inbox.now
+
+-- A call that ended so takes turns of the budget, each one turn of the reader; the reader failed where a failed read is told, and the
+-- turns are used up where that is told
+pub record Draws {R A : Type 0} (turned failed : R → ℕ) (old new : Intake R) (result : Result A WireFault) : Type 0 where
+  pub same : SameParts old new
+  pub failures : failed new.reader.now ≡ failures_of (failed old.reader.now) result
+  pub spends : Spends old.turns.now new.turns.now (turned old.reader.now) (turned new.reader.now)
+  pub limit : result ≡ Err fault.TurnLimit → new.turns.now ≡ 0
+  pub left : left_of new ≤ left_of old
+
+-- the bytes that it held and those that came since are this input, of which the rest is held
+abbrev pub Reads : {R : Type 0} → (R → Option (List ℕ)) → (old new : Intake R) → ((input rest : List ℕ) → Type 0) → Type 0
+Reads remaining old new Says = (more : List ℕ) × Consumes (remaining old.reader.now) (remaining new.reader.now) more × Says (old.inbox.now ++ more) new.inbox.now
+
+-- what is known of the bytes once looking for a part has ended so
+abbrev pub SeesFront : {A E : Type 0} → (Seen A E → Type 0) → Result (Seen A E) WireFault → Type 0
+SeesFront sees (Ok seen) = sees seen
+SeesFront sees (Err e) = sees Wanting
+
+-- more bytes are wanted in vain only at the reader's end
+abbrev pub WantsAtEnd : {A E : Type 0} → Option (List ℕ) → Result (Seen A E) WireFault → Type 0
+WantsAtEnd left (Ok (Found a)) = ⊤
+WantsAtEnd left (Ok (Refused e)) = ⊤
+WantsAtEnd left (Ok Wanting) = IsAtEnd left
+WantsAtEnd left (Err e) = ⊤

@@ -1,0 +1,4 @@
+pub mod Budget
+pub mod Body
+pub mod Draws
+pub mod DrawsLemmas

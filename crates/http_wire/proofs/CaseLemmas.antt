@@ -1,0 +1,88 @@
+-- No front is none of its cases.
+use Rattle.std.proofs.Common.{◌≡◌, ℕ, ◌<◌, ◌≤◌, false, Option, Some, None, Result, Ok, Err, List, ◌++◌, length, take, drop, refl, sym, ap, subst, ◌∙◌, arith, inl, inr, ⊎_elim, append-nil, take-append-drop, length-take-le, length-append}
+use Rattle.std.proofs.lemmas.Bool.{cases_lt}
+use Rattle.httparse.specs.Grammar.{RequestHead, ReadsRequest, HasNoRequest, MayBecomeRequest, print_request}
+use Rattle.httparse.proofs.GrammarLemmas.{request_unique, ReadsRequest-append}
+use Rattle.http_chunks.specs.declared.fault.Fault.{Fault}
+use Rattle.http_chunks.specs.declared.fault.Fault.TheVariants.{BadHead, HeadTooLarge, BadTarget}
+use Rattle.http_wire.specs.declared.head.Framing.{Framing}
+use Rattle.http_wire.specs.declared.head.Framing.TheVariants.{Sized, Chunked}
+use Rattle.http_chunks.specs.Lines.{head_lines}
+use Rattle.http_chunks.specs.Limits.{window}
+use Rattle.http_wire.specs.Target.{target_of}
+use Rattle.http_wire.specs.Front.{HasHead, HasMessage, RefusesBytes, IsOpen, HasBody, IsFaulty, Lacks, judged_head, is_head}
+use Rattle.http_wire.specs.Law.{IsNoFront}
+use Rattle.http_chunks.specs.Fronts.{window_rest, window_short, either_front}
+use Rattle.http_chunks.specs.Chunks.{ChunkLaw}
+use Rattle.http_chunks.specs.LineLemmas.{lines_of_head, head_lines_grow}
+use Rattle.http_wire.proofs.LookLemmas.{overflows_at}
+
+-- ---- a head
+
+module _ (input : List ℕ) (none_has : (h : RequestHead) (rest : List ℕ) → HasHead input h rest → ⊥) (no_fault : (f : Fault) → RefusesBytes input f → ⊥) (not_open : IsOpen input → ⊥) where
+  no_request : HasNoRequest (window input)
+  no_request h rest reads = ⊎_elim many few (cases_lt 64 (length h.fields))
+    where
+      few : length h.fields ≤ 64 → ⊥
+      few le = none_has h (rest ++ drop 16384 input) (record {
+        reads = subst (λ xs. ReadsRequest xs h (rest ++ drop 16384 input)) (window_rest input) (ReadsRequest-append (window input) h rest (drop 16384 input) reads);
+        short = omega (arith, ap length reads.1, length-append (print_request h) rest, window_short input);
+        few = le;
+      })
+
+      many : 64 < length h.fields → ⊥
+      many lt = no_fault HeadTooLarge (inr (record {
+        lines = omega (arith, lt, lines_of_head h reads.0, head_lines_grow (print_request h) rest, ap head_lines reads.1);
+        exceeds = λ more k behind other.
+            let same = request_unique (window input ++ more) h k (rest ++ more) behind (ReadsRequest-append (window input) h rest more reads) other in
+            omega (arith, lt, ap (λ (g : RequestHead). length g.fields) same.0);
+      }))
+
+  head_may : MayBecomeRequest (window input) → ⊥
+  head_may goes_on = ⊎_elim short (λ long. no_fault HeadTooLarge (inl (record { long = long; none = no_request; goes_on = goes_on }))) (cases_lt (length input) 16384)
+    where
+      short : length input < 16384 → ⊥
+      short lt = ⊎_elim (λ few. not_open (record { short = lt; none = no_request; goes_on = goes_on; few = few }))
+          (λ many. no_fault HeadTooLarge (inr (record { lines = many; exceeds = overflows_at (window input) no_request many }))) (cases_lt (head_lines (window input)) 66)
+
+  head_case : ⊥
+  head_case = no_fault BadHead (record {
+    never = λ more h rest reads. ⊎_elim (λ x. no_request h x.0 (reads.0, x.1)) (λ x. head_may (inl (x.0, h, (reads.0, x.1 ∙ sym (append-nil (print_request h))))))
+        (either_front (window input) more (print_request h) rest reads.1);
+    past_target = λ e. head_may (inr e);
+  })
+
+-- ---- what follows it
+
+module _ (law : ChunkLaw) (input : List ℕ) (x : IsNoFront input) (h : RequestHead) (rest : List ℕ) (s : HasHead input h rest) where
+  whole_case : (b r : List ℕ) → HasMessage input h b r → ⊥
+  whole_case b r m = told (target_of h.target) refl
+    where
+      told : (t : Option (List ℕ)) → target_of h.target ≡ t → ⊥
+      told (Some t) e = x.request h t b r (record { message = m; target_is = e })
+      told None e = x.fault BadTarget (is_head h.method) (inr (inr (inr (record { head = h; body = b; rest = r; message = m; bad = e; named = refl; shown = refl }))))
+
+  module _ (framing : Framing) (judges : judged_head h ≡ Ok framing) where
+    framed_whole : (b r : List ℕ) → HasBody framing rest b r → ⊥
+    framed_whole b r y = whole_case b r (record { text = rest; head = s; framing = framing; judges = judges; stands = y })
+
+    framed_fault : (f : Fault) → IsFaulty framing rest f → ⊥
+    framed_fault f y = x.fault f (is_head h.method) (inr (inr (inl (record { head = h; rest = rest; framing = framing; stands = s; judges = judges; faulty = y; shown = refl }))))
+
+    framed_lack : Lacks framing rest → ⊥
+    framed_lack y = x.incomplete (inr (record { head = h; rest = rest; framing = framing; stands = s; judges = judges; lacks = y }))
+
+  framed_case : (framing : Framing) → judged_head h ≡ Ok framing → ⊥
+  framed_case (Sized n) e = ⊎_elim (λ short. framed_lack (Sized n) e short)
+      (λ long. framed_whole (Sized n) e (take n rest) (drop n rest) (sym (take-append-drop n rest), length-take-le n rest long)) (cases_lt (length rest) n)
+  framed_case Chunked e = law.some_case 0 rest (omega arith) (record { whole = framed_whole Chunked e; fault = framed_fault Chunked e; lack = framed_lack Chunked e })
+
+  behind_case : ⊥
+  behind_case = told (judged_head h) refl
+    where
+      told : (j : Result Framing Fault) → judged_head h ≡ j → ⊥
+      told (Ok framing) e = framed_case framing e
+      told (Err f) e = x.fault f (is_head h.method) (inr (inl (record { head = h; rest = rest; stands = s; judges = e; shown = refl })))
+
+pub some_front : ChunkLaw → (input : List ℕ) → IsNoFront input → ⊥
+some_front law input x = head_case input (λ h rest s. behind_case law input x h rest s) (λ f bad. x.fault f false (inl (bad, refl))) (λ o. x.incomplete (inl o))

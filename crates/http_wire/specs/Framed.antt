@@ -1,0 +1,17 @@
+-- What reading a body gives, as it is framed.
+use Rattle.std.specs.Prelude.{List, ℕ, Result, Ok, Err, ⊤}
+use Rattle.http_chunks.specs.declared.chunks.Chunked.{Chunked}
+use Rattle.http_chunks.specs.declared.chunks.Chunked.TheVariants.{Whole, Lacking, Refused}
+use Rattle.http_intake.specs.declared.fault.WireFault.{WireFault}
+use Rattle.http_intake.specs.declared.fault.WireFault.TheVariants as fault
+use Rattle.http_wire.specs.declared.head.Framing.{Framing}
+use Rattle.http_wire.specs.Front.{HasBody, Lacks, IsFaulty}
+
+-- what stands at the front of the input, as the body is framed
+abbrev pub BodyRead : Framing → List ℕ → Result Chunked WireFault → List ℕ → List ℕ → Type 0
+BodyRead framing input (Ok Whole) body rest = HasBody framing input body rest
+BodyRead framing input (Ok Lacking) body rest = Lacks framing input
+BodyRead framing input (Ok (Refused f)) body rest = IsFaulty framing input f
+BodyRead framing input (Err fault.Read) body rest = Lacks framing input
+BodyRead framing input (Err fault.TurnLimit) body rest = Lacks framing input
+BodyRead framing input (Err fault.Memory) body rest = ⊤
