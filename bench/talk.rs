@@ -20,13 +20,25 @@ fn name(i: usize, count: usize) -> String {
     format!("plan-{:05}", (i * 40_507 + 7) % count)
 }
 
+fn make_create(i: usize, count: usize, out: &mut impl Write) {
+    write!(out, "PUT /plans/{}?kind=congress&districts=4 HTTP/1.1\r\nHost: d\r\n\r\n", name(i, count)).unwrap();
+}
+
 fn make_creates(count: usize, out: &mut impl Write) {
-    for round in 0..2 {
-        for i in 0..count {
-            let i = if round == 0 { i } else { count - 1 - i };
-            write!(out, "PUT /plans/{}?kind=congress&districts=4 HTTP/1.1\r\nHost: d\r\n\r\n", name(i, count)).unwrap();
-        }
+    for i in 0..count {
+        make_create(i, count, out);
     }
+    for i in (0..count).rev() {
+        make_create(i, count, out);
+    }
+}
+
+// so many plans, and ten lists of them
+fn make_listed(count: usize, out: &mut impl Write) {
+    for i in 0..count {
+        make_create(i, count, out);
+    }
+    make_lists(10, out);
 }
 
 fn make_body(size: usize, out: &mut impl Write) {
@@ -257,6 +269,7 @@ fn main() {
     match words[1].as_str() {
         "make-lists" => make_lists(count(), &mut out),
         "make-creates" => make_creates(count(), &mut out),
+        "make-listed" => make_listed(count(), &mut out),
         "make-body" => make_body(count(), &mut out),
         "make-promise" => make_promise(count(), &mut out),
         "make-chunks" => make_chunks(count(), &mut out),

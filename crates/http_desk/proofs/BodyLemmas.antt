@@ -1,22 +1,109 @@
--- The list of plans as JSON.
-use Rattle.std.proofs.Common.{◌≡◌, false, List, [], ◌∷◌, map, Result, Ok, Err, IfOk, refl, ap, ◌∙◌, string_bytes}
-use Rattle.std.specs.Prelude.{String}
-use Rattle.std.specs.declared.alloc.AllocError.{AllocError}
-use Rattle.std.specs.declared.alloc.Global.{Global}
-use Rattle.serde_json.specs.Data.{Data}
+-- The list of plans, part by part.
+use Rattle.std.proofs.Common.{◌≡◌, ◌≤◌, ◌<◌, ◌+◌, ℕ, drop, get_or, true, false, Bool, nat_le, ◌&&◌, List, [], ◌∷◌, ◌++◌, map, length, refl, ap, sym, ◌∙◌, arith, append_assoc, decimal, codes}
+use Rattle.std.specs.List.{list_all}
+use Rattle.std.proofs.lemmas.Bool.{and_parts}
+use Rattle.std.proofs.lemmas.List.{drop_more}
+use Rattle.std.proofs.lemmas.Bool.Decides.{nat_tests}
+use Rattle.json.specs.Print.{escape_byte, escape}
+use Rattle.json.proofs.Printed.Strings.{escape_byte_plain}
 use Rattle.serde_json.specs.View.{items_of}
-use Rattle.serde_json.specs.Written.{has_float, items_have_float, compact_text}
+use Rattle.serde_json.specs.Written.{compact_text, comma_if, items_text}
+use Rattle.desk_model.specs.declared.kind.Kind.{Kind}
+use Rattle.desk_model.specs.declared.kind.Kind.TheVariants.{Congress, Senate, House}
 use Rattle.desk_model.specs.declared.reply.PlanRow.{PlanRow}
-use Rattle.http_desk.specs.Bodies.{row_data, plans_data, plans_body}
+use Rattle.desk_model.specs.Kind.{kind_name}
+use Rattle.desk_model.specs.Name.{is_name_byte, IsPlanName}
+use Rattle.http_desk.specs.Bodies.{row_data, plans_body}
 
-rows_have_no_float : (rows : List PlanRow) → items_have_float (items_of (map row_data rows)) ≡ false
-rows_have_no_float [] = refl
-rows_have_no_float (row ∷ rows) = rows_have_no_float rows
+not_quote : (b : ℕ) → is_name_byte b ≡ true → b ≡ 34 → ⊥
+not_quote b is e = grind (arith, nat_tests)
 
-plans_have_no_float : (rows : List PlanRow) → has_float (plans_data rows) ≡ false
-plans_have_no_float rows = rw (rows_have_no_float rows) refl
+not_backslash : (b : ℕ) → is_name_byte b ≡ true → b ≡ 92 → ⊥
+not_backslash b is e = grind (arith, nat_tests)
 
-pub text_is : (d : Data) (rows : List PlanRow) (r : Result (String Global) AllocError) → d ≡ plans_data rows
-    → IfOk r (λ s. has_float d ≡ false → string_bytes s ≡ compact_text d) → IfOk r (λ s. string_bytes s ≡ plans_body rows)
-text_is d rows (Ok s) same text = text (ap has_float same ∙ plans_have_no_float rows) ∙ ap compact_text same
-text_is d rows (Err e) same text = tt
+not_control : (b : ℕ) → is_name_byte b ≡ true → 32 ≤ b
+not_control b is = grind (arith, nat_tests)
+
+plain_bytes : (bytes : List ℕ) → list_all is_name_byte bytes ≡ true → escape bytes ≡ bytes
+plain_bytes [] e = refl
+plain_bytes (b ∷ bytes) e =
+    let here = (and_parts (is_name_byte b) (list_all is_name_byte bytes) e).0 in
+    rw (escape_byte_plain b (not_quote b here) (not_backslash b here) (not_control b here), plain_bytes bytes (and_parts (is_name_byte b) (list_all is_name_byte bytes) e).1) refl
+
+-- a name has nothing to escape
+pub plain_name : (name : List ℕ) → IsPlanName name → escape name ≡ name
+plain_name name is = plain_bytes name (and_parts (nat_le 1 (length name) && nat_le (length name) 64) (list_all is_name_byte name) is).1
+
+plain_kind : (kind : Kind) → escape (kind_name kind) ≡ kind_name kind
+unfolding escape_byte
+plain_kind Congress = refl
+plain_kind Senate = refl
+plain_kind House = refl
+
+-- the bytes of a line
+abbrev pub line_of : PlanRow → List ℕ
+line_of row =
+    codes "{\"districts\":" ++ (decimal row.n ++ (codes ",\"kind\":\"" ++ (kind_name row.kind ++ (codes "\",\"name\":\"" ++ (row.name ++ (codes "\",\"revisions\":" ++ (decimal row.revisions ++ codes "}")))))))
+
+open_line : (row : PlanRow)
+    → compact_text (row_data row) ≡ codes "{\"districts\":" ++ (decimal row.n ++ (codes ",\"kind\":\"" ++ ((escape (kind_name row.kind) ++ 34 ∷ []) ++ (codes ",\"name\":\"" ++ ((escape row.name ++ 34 ∷ []) ++ (codes ",\"revisions\":" ++ (decimal row.revisions ++ codes "}")))))))
+unfolding escape_byte
+open_line row = refl
+
+pub line_is : (row : PlanRow) → IsPlanName row.name → compact_text (row_data row) ≡ line_of row
+line_is row is =
+    rw (
+      open_line row,
+      plain_kind row.kind,
+      plain_name row.name is,
+      append_assoc (kind_name row.kind) (34 ∷ []) (codes ",\"name\":\"" ++ ((row.name ++ 34 ∷ []) ++ (codes ",\"revisions\":" ++ (decimal row.revisions ++ codes "}")))),
+      append_assoc row.name (34 ∷ []) (codes ",\"revisions\":" ++ (decimal row.revisions ++ codes "}")),
+    ) refl
+
+-- what is still to be written of the list
+abbrev pub rest_of : Bool → List PlanRow → List ℕ
+rest_of later rows = items_text later (items_of (map row_data rows)) ++ codes "}"
+
+pub begins : (rows : List PlanRow) → plans_body rows ≡ codes "{\"plans\":[" ++ rest_of false rows
+unfolding escape_byte
+begins rows = refl
+
+-- one line less
+pub goes_on : (text : List ℕ) (later : Bool) (row : PlanRow) (rows : List PlanRow) → (text ++ (comma_if later ++ compact_text (row_data row))) ++ rest_of true rows ≡ text ++ rest_of later (row ∷ rows)
+goes_on text later row rows =
+    append_assoc text (comma_if later ++ compact_text (row_data row)) (rest_of true rows)
+    ∙ ap (λ (t : List ℕ). text ++ t) (
+    append_assoc (comma_if later) (compact_text (row_data row)) (rest_of true rows)
+    ∙ ap (λ (t : List ℕ). comma_if later ++ t) (sym (append_assoc (compact_text (row_data row)) (items_text true (items_of (map row_data rows))) (codes "}")))
+    ∙ sym (append_assoc (comma_if later) (compact_text (row_data row) ++ items_text true (items_of (map row_data rows))) (codes "}"))
+    )
+
+-- a line that was written part by part
+pub line_written : (row : PlanRow) (kind name t a b c d e f g h i : List ℕ) → kind ≡ kind_name row.kind → name ≡ row.name → IsPlanName row.name
+    → a ≡ t ++ codes "{\"districts\":" → b ≡ a ++ decimal row.n → c ≡ b ++ codes ",\"kind\":\"" → d ≡ c ++ kind → e ≡ d ++ codes "\",\"name\":\"" → f ≡ e ++ name
+    → g ≡ f ++ codes "\",\"revisions\":" → h ≡ g ++ decimal row.revisions → i ≡ h ++ codes "}" → i ≡ t ++ compact_text (row_data row)
+line_written row kind name t a b c d e f g h i k n is a1 b1 c1 d1 e1 f1 g1 h1 i1 =
+    let end : List ℕ = codes "}" in
+    let r : List ℕ = decimal row.revisions in
+    let v : List ℕ = codes "\",\"revisions\":" in
+    let m : List ℕ = codes "\",\"name\":\"" in
+    let q : List ℕ = codes ",\"kind\":\"" in
+    i1 ∙ ap (λ (x : List ℕ). x ++ end) h1 ∙ append_assoc g r end
+    ∙ ap (λ (x : List ℕ). x ++ (r ++ end)) g1 ∙ append_assoc f v (r ++ end)
+    ∙ ap (λ (x : List ℕ). x ++ (v ++ (r ++ end))) (f1 ∙ ap (λ (x : List ℕ). e ++ x) n) ∙ append_assoc e row.name (v ++ (r ++ end))
+    ∙ ap (λ (x : List ℕ). x ++ (row.name ++ (v ++ (r ++ end)))) e1 ∙ append_assoc d m (row.name ++ (v ++ (r ++ end)))
+    ∙ ap (λ (x : List ℕ). x ++ (m ++ (row.name ++ (v ++ (r ++ end))))) (d1 ∙ ap (λ (x : List ℕ). c ++ x) k) ∙ append_assoc c (kind_name row.kind) (m ++ (row.name ++ (v ++ (r ++ end))))
+    ∙ ap (λ (x : List ℕ). x ++ (kind_name row.kind ++ (m ++ (row.name ++ (v ++ (r ++ end)))))) c1 ∙ append_assoc b q (kind_name row.kind ++ (m ++ (row.name ++ (v ++ (r ++ end)))))
+    ∙ ap (λ (x : List ℕ). x ++ (q ++ (kind_name row.kind ++ (m ++ (row.name ++ (v ++ (r ++ end))))))) b1 ∙ append_assoc a (decimal row.n) (q ++ (kind_name row.kind ++ (m ++ (row.name ++ (v ++ (r ++ end))))))
+    ∙ ap (λ (x : List ℕ). x ++ (decimal row.n ++ (q ++ (kind_name row.kind ++ (m ++ (row.name ++ (v ++ (r ++ end)))))))) a1
+    ∙ append_assoc t (codes "{\"districts\":") (decimal row.n ++ (q ++ (kind_name row.kind ++ (m ++ (row.name ++ (v ++ (r ++ end)))))))
+    ∙ ap (λ (x : List ℕ). t ++ x) (sym (line_is row is))
+
+-- what is still to be written, behind one line more
+pub kept : (text new all : List ℕ) (later : Bool) (row : PlanRow) (rows : List PlanRow) (k : ℕ) → k < length rows → row ≡ get_or rows k row
+    → new ≡ text ++ (comma_if later ++ compact_text (row_data row)) → text ++ rest_of later (drop k rows) ≡ all → new ++ rest_of true (drop (k + 1) rows) ≡ all
+kept text new all later row rows k within is wrote before =
+    ap (λ (t : List ℕ). t ++ rest_of true (drop (k + 1) rows)) wrote
+    ∙ goes_on text later row (drop (k + 1) rows)
+    ∙ ap (λ (rs : List PlanRow). text ++ rest_of later rs) (sym (drop_more rows k row within ∙ ap (λ (x : PlanRow). x ∷ drop (k + 1) rows) (sym is)))
+    ∙ before

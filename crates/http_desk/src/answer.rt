@@ -278,7 +278,7 @@ impl Answer {
             }
             Reply::Plans(rows) => {
                 let text = plans_text(alloc, rows.as_slice())?;
-                self.put_long(ContentType::Json, text.into_bytes(), closing, bare);
+                self.put_long(ContentType::Json, text, closing, bare);
                 Ok(closing)
             }
             Reply::Blocks(text) | Reply::Baf(text) => {

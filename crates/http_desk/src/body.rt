@@ -1,40 +1,58 @@
-//! The bodies of answers.
-ghost use Rattle.std.specs.Prelude.{◌≡◌, ◌≤◌, ◌<◌, ◌++◌, length, map, codes, IfOk, OnOk, string_bytes, vec_capacity, vec_len};
-ghost use Rattle.serde_json.specs.Data.{array, object, member, no_members};
-ghost use Rattle.serde_json.specs.View.{view, items_of};
+//! The list of plans, as JSON.
+ghost use Rattle.std.specs.Prelude.{◌≡◌, ◌++◌, decimal, IfOk, OnOk};
+ghost use Rattle.serde_json.specs.Written.{compact_text, comma_if};
 ghost use Rattle.http_desk.specs.Bodies.{row_data, plans_body};
 
 use desk_model::reply::PlanRow;
-use serde_json::{Value, json};
+use itoa::Buffer;
 use std::alloc::{AllocError, Global};
 
-/// A line of the list of plans.
-fn row_value(alloc: Global, row: &PlanRow) -> Result<Value, AllocError>
-    ensures { IfOk result (λ v. view v ≡ row_data row.now) }
+/// Appends a number.
+fn put_number(text: &mut Vec<u8>, number: u64) -> Result<(), AllocError>
+    ensures { OnOk result (text.new.items ≡ text.old.items ++ decimal number) }
 {
-    json!(in alloc; {
-        "districts": row.n,
-        "kind": row.kind.name(),
-        "name": row.name.as_str(),
-        "revisions": row.revisions,
-    })
+    let mut digits = Buffer::new();
+    text.extend_from_slice(digits.format(number).as_bytes())?;
+    Ok(())
 }
 
-/// An object with the lines of the list.
-fn plans_value(alloc: Global, rows: Vec<Value>) -> Result<Value, AllocError>
-    ensures { IfOk result (λ v. view v ≡ object (member (codes "plans") (array (items_of (map view rows.items))) no_members)) }
+/// Appends a line of the list.
+fn put_row(text: &mut Vec<u8>, row: &PlanRow) -> Result<(), AllocError>
+    ensures { OnOk result (text.new.items ≡ text.old.items ++ compact_text (row_data row.now)) }
 {
-    json!(in alloc; {"plans": Value::Array(rows)})
+    text.extend_from_slice(b"{\"districts\":")?;
+    put_number(text, row.n as u64)?;
+    text.extend_from_slice(b",\"kind\":\"")?;
+    text.extend_from_slice(row.kind.name().as_bytes())?;
+    text.extend_from_slice(b"\",\"name\":\"")?;
+    text.extend_from_slice(row.name.as_slice())?;
+    text.extend_from_slice(b"\",\"revisions\":")?;
+    put_number(text, row.revisions as u64)?;
+    text.extend_from_slice(b"}")?;
+    Ok(())
+}
+
+/// Appends a line, behind a comma where it isn't the first.
+fn put_item(text: &mut Vec<u8>, row: &PlanRow, is_later: bool) -> Result<(), AllocError>
+    ensures { OnOk result (text.new.items ≡ text.old.items ++ (comma_if is_later ++ compact_text (row_data row.now))) }
+{
+    if is_later {
+        text.push(b',')?;
+    }
+    put_row(text, row)?;
+    Ok(())
 }
 
 /// The list of plans.
-pub fn plans_text(alloc: Global, rows: &[PlanRow]) -> Result<String, AllocError>
-    ensures { IfOk result (λ s. string_bytes s ≡ plans_body rows.now) }
+pub fn plans_text(alloc: Global, rows: &[PlanRow]) -> Result<Vec<u8>, AllocError>
+    ensures { IfOk result (λ text. text.items ≡ plans_body rows.now) }
 {
-    let mut values = Vec::with_capacity(alloc, rows.len())?;
+    let mut text = Vec::from_slice(alloc, b"{\"plans\":[")?;
+    let mut is_later = false;
     for row in rows {
-        values.push(row_value(alloc, row)?)?;
+        put_item(&mut text, row, is_later)?;
+        is_later = true;
     }
-    let plans = plans_value(alloc, values)?;
-    plans.to_string(alloc)
+    text.extend_from_slice(b"]}")?;
+    Ok(text)
 }

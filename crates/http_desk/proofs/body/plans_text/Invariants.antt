@@ -1,7 +1,7 @@
-use Rattle.std.proofs.Common.{◌≡◌, map, take}
-use Rattle.serde_json.specs.View.{view}
-use Rattle.http_desk.specs.Bodies.{row_data}
+use Rattle.std.proofs.Common.{◌≡◌, ◌++◌, drop}
+use Rattle.http_desk.specs.Bodies.{plans_body}
+use Rattle.http_desk.proofs.BodyLemmas.{rest_of}
 use Rattle.http_desk.proofs.body.plans_text.Given as goal
 
 abbrev pub invariant-loop-row : goal.invariant-loop-row
-invariant-loop-row l = map view l.values.items ≡ map row_data (take l.row-index l.rows)
+invariant-loop-row l = l.text.items ++ rest_of l.is_later (drop l.row-index l.rows) ≡ plans_body l.rows

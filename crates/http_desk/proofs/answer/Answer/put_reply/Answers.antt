@@ -12,7 +12,7 @@ file_text r text closing bare (inr e) = rw e refl
 
 pub returns-in_ok-text-in-Plans-clause-text : goal.returns-in_ok-text-in-Plans-clause-text
 returns-in_ok-text-in-Plans-clause-text c =
-    rw (c.in-Plans.is, ← c.as_slice.ensures) (rw c.into_bytes.ensures.value at c.put_long.ensures ∙ ap (λ (body : List ℕ). bytes_of c.args.closing c.args.bare (saying 200 Json body)) c.in_ok-text-in-Plans.ensures)
+    rw (c.in-Plans.is, ← c.as_slice.ensures) (c.put_long.ensures ∙ ap (λ (body : List ℕ). bytes_of c.args.closing c.args.bare (saying 200 Json body)) c.in_ok-text-in-Plans.ensures)
 
 pub returns-in-Audited-clause-text : goal.returns-in-Audited-clause-text
 returns-in-Audited-clause-text c = rw (c.in-Audited.is, ← c.into_vec.ensures) c.put_long-in-Audited.ensures
