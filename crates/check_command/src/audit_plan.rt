@@ -16,14 +16,18 @@ use state_files::ground::read_ground;
 use state_files::open::AuditFiles;
 use state_files::plan_file::{districts_of, read_companion, read_plan};
 use std::alloc::Global;
+use std::thread::Threads;
 
 /// The report of the plan that the files say, or their first fault.
-fn audit_of<R: Source>(
+fn audit_of<T: Threads + Sync, R: Source>(
+    rt: &T,
     alloc: Global,
+    workers: u32,
     files: &mut AuditFiles<R>,
     kind: Kind,
     districts: u16,
 ) -> Result<Audited, FileFault>
+    requires working { 1 ≤ workers }
     requires some { 1 ≤ districts }
     requires few { districts ≤ 999 }
     requires companion { IsSome files.old.senate → IsTrue (is_house kind) }
@@ -40,7 +44,16 @@ fn audit_of<R: Source>(
     )?;
     let companion = read_companion(alloc, &geography, &mut files.senate)?;
     let beside = districts_of(&companion);
-    report_of(alloc, &geography, kind, districts, plan.as_slice(), beside)
+    report_of(
+        rt,
+        alloc,
+        workers,
+        &geography,
+        kind,
+        districts,
+        plan.as_slice(),
+        beside,
+    )
 }
 
 /// The status that goes with a report.
@@ -68,21 +81,24 @@ fn end_audit<W: Sink, E: Sink>(
     }
 }
 
-/// Prints the report of a plan of so many districts: 1 where it names a broken clause, else 0. 3 where a file is refused
+/// Prints the report of a plan of so many districts, which doesn't depend on the number of workers: 1 where it names a broken clause, else 0. 3 where a file is refused
 /// and 5 where memory is, with the file and its fault told and nothing printed; 6 where the writing fails.
-pub fn audit_plan<R: Source, W: Sink, E: Sink>(
+pub fn audit_plan<T: Threads + Sync, R: Source, W: Sink, E: Sink>(
+    rt: &T,
     alloc: Global,
+    workers: u32,
     files: &mut AuditFiles<R>,
     kind: Kind,
     districts: u16,
     writer: &mut W,
     errors: &mut E,
 ) -> Status
+    requires working { 1 ≤ workers }
     requires some { 1 ≤ districts }
     requires few { districts ≤ 999 }
     requires companion { IsSome files.old.senate → IsTrue (is_house kind) }
     ensures { Audits (openings_of R.remaining R.turns R.failures files.old) (openings_of R.remaining R.turns R.failures files.new) kind districts result (written_of W.contents W.failures writer.old) (written_of W.contents W.failures writer.new) (written_of E.contents E.failures errors.old) (written_of E.contents E.failures errors.new) }
 {
-    let outcome = audit_of(alloc, files, kind, districts);
+    let outcome = audit_of(rt, alloc, workers, files, kind, districts);
     end_audit(alloc, outcome, writer, errors)
 }

@@ -1,5 +1,5 @@
 //! Runs `check` in both of its forms on the files of a small state that lie in `data/`: the counts of its census files, and the audit
-//! of a house plan beside the senate plan that it isn't nested in.
+//! of a house plan beside the senate plan that it isn't nested in, by two workers.
 #![tactic(auto)]
 
 use desk_model::kind::Kind;
@@ -33,6 +33,6 @@ fn main(rt: HostRuntime) -> ExitCode {
         districts: 2,
         senate_districts: Some(2),
     };
-    let audited = check_plan(&rt, paths, terms);
+    let audited = check_plan(&rt, &rt, paths, terms, 2);
     ExitCode::from(audited.code())
 }

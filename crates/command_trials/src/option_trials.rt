@@ -43,7 +43,18 @@ fn words_are_read(rt: HostRuntime) {
 fn options_that_go_together(rt: HostRuntime) -> Result<(), Fail> {
     let alloc = rt.alloc();
     let counts = [
-        "plandesk", "check", "--seg3", "3", "--seg2", "2", "--seg1", "1", "--geo", "g",
+        "plandesk",
+        "check",
+        "--seg3",
+        "3",
+        "--seg2",
+        "2",
+        "--seg1",
+        "1",
+        "--geo",
+        "g",
+        "--workers",
+        "2",
     ];
     match job_of(alloc, &counts) {
         Ok(Job::Counts(paths)) => {
@@ -62,29 +73,33 @@ fn options_that_go_together(rt: HostRuntime) -> Result<(), Fail> {
                 districts: 99,
                 senate_districts: None,
             },
+            1,
         ),
         (
-            "--gal=n --plan=p --kind=senate --districts=0000000000000000000000002",
+            "--gal=n --plan=p --kind=senate --districts=0000000000000000000000002 --workers=003",
             Terms {
                 kind: Kind::Senate,
                 districts: 2,
                 senate_districts: None,
             },
+            3,
         ),
         (
-            "--gal n --plan p --kind house --districts 999 --senate s --senate-districts 050",
+            "--workers 64 --gal n --plan p --kind house --districts 999 --senate s --senate-districts 050",
             Terms {
                 kind: Kind::House,
                 districts: 999,
                 senate_districts: Some(50),
             },
+            64,
         ),
     ];
-    for (more, wanted) in asked {
+    for (more, wanted, by) in asked {
         let words = words(alloc, more)?;
         match job_of(alloc, words.as_slice()) {
-            Ok(Job::Audit(paths, terms)) => {
+            Ok(Job::Audit(paths, terms, workers)) => {
                 assert!(rt; terms == wanted);
+                assert_eq!(rt; workers, by);
                 assert_eq!(rt; paths.census.geo, "g");
                 assert_eq!(rt; paths.census.seg1, "1");
                 assert_eq!(rt; paths.census.seg2, "2");
@@ -119,7 +134,15 @@ fn options_that_do_not(rt: HostRuntime) -> Result<(), Fail> {
         "--gal n --plan p --kind house --districts +2",
         "--gal n --plan p --kind House --districts 2",
         "--gal n --plan p --kind house --districts 2 --districts 2",
-        "--gal n --plan p --kind house --districts 2 --workers 2",
+        "--gal n --plan p --kind house --districts 2 --workers 0",
+        "--gal n --plan p --kind house --districts 2 --workers 65",
+        "--gal n --plan p --kind house --districts 2 --workers x",
+        "--gal n --plan p --kind house --districts 2 --workers +2",
+        "--gal n --plan p --kind house --districts 2 --workers 2 --workers 2",
+        "--workers 0",
+        "--workers 65",
+        "--workers x",
+        "--workers 2 --workers 2",
     ];
     for more in wrong {
         let words = words(alloc, more)?;

@@ -1,5 +1,5 @@
 //! `check` over the file system and the standard streams.
-ghost use Rattle.std.specs.Prelude.{◌≡◌, is_some};
+ghost use Rattle.std.specs.Prelude.{◌≡◌, ◌≤◌, is_some};
 ghost use Rattle.desk_words.specs.Options.{AreTerms};
 
 use crate::files::Files;
@@ -12,6 +12,7 @@ use exit_status::status::Status;
 use state_files::census::CensusFiles;
 use state_files::open::{AuditFiles, AuditPaths, CensusPaths, open_audit, open_census};
 use std::fs::File;
+use std::thread::Threads;
 
 /// Prints the counts of the census files at these paths.
 pub fn check_counts(rt: &HostRuntime, paths: CensusPaths<'_>) -> Status {
@@ -25,8 +26,15 @@ pub fn check_counts(rt: &HostRuntime, paths: CensusPaths<'_>) -> Status {
     status
 }
 
-/// Prints the audit of a plan from the files at these paths.
-pub fn check_plan(rt: &HostRuntime, paths: AuditPaths<'_>, terms: Terms) -> Status
+/// Prints the audit of a plan from the files at these paths, by so many workers.
+pub fn check_plan<T: Threads + Sync>(
+    rt: &HostRuntime,
+    threads: &T,
+    paths: AuditPaths<'_>,
+    terms: Terms,
+    workers: u16,
+) -> Status
+    requires working { 1 ≤ workers }
     requires terms { AreTerms terms }
     requires beside { is_some paths.senate ≡ is_some terms.senate_districts }
 {
@@ -40,7 +48,9 @@ pub fn check_plan(rt: &HostRuntime, paths: AuditPaths<'_>, terms: Terms) -> Stat
     let mut writer = WriteSink::new(rt.stdout());
     let mut errors = WriteSink::new(rt.stderr());
     let status = audit_plan(
+        threads,
         rt.alloc(),
+        workers as u32,
         &mut files,
         kind,
         districts,

@@ -5,6 +5,7 @@ use byte_stream::source::ReadSource;
 use desk_words::words::{Job, Mistake, job_of};
 use exit_status::status::Status;
 use std::io::Write;
+use std::thread::Threads;
 use talk_command::talk::talk;
 
 /// Tells a text on standard error, as far as that can be written.
@@ -36,12 +37,12 @@ fn end_mistake(rt: &HostRuntime, mistake: &Mistake) -> Status {
     }
 }
 
-/// Does what the words ask for; the first is the program's name.
-pub fn run(rt: &HostRuntime, words: &[&str]) -> Status {
+/// Does what the words ask for; the first is the program's name. `threads` starts the workers of an audit.
+pub fn run<T: Threads + Sync>(rt: &HostRuntime, threads: &T, words: &[&str]) -> Status {
     match job_of(rt.alloc(), words) {
         Ok(Job::Talk) => serve_talk(rt),
         Ok(Job::Counts(paths)) => check_counts(rt, paths),
-        Ok(Job::Audit(paths, terms)) => check_plan(rt, paths, terms),
+        Ok(Job::Audit(paths, terms, workers)) => check_plan(rt, threads, paths, terms, workers),
         Err(mistake) => end_mistake(rt, &mistake),
     }
 }

@@ -1,5 +1,5 @@
 -- What the program may be asked for.
-use Rattle.std.specs.Prelude.{◌≡◌, is_some, codes, Some}
+use Rattle.std.specs.Prelude.{◌≡◌, ◌≤◌, is_some, codes, Some}
 use Rattle.std.specs.Option.{option_copied}
 use Rattle.clap.specs.Matches.{first_value}
 use Rattle.clap.specs.declared.parser.matches.Found.{Found}
@@ -8,11 +8,11 @@ use Rattle.desk_words.specs.Options.{AreTerms}
 use Rattle.desk_words.specs.declared.words.Job.{Job}
 use Rattle.desk_words.specs.declared.words.Job.TheVariants.{Talk, Counts, Audit}
 
--- an audit is asked for with its terms in range, and a senate plan's file goes with its number of districts
+-- an audit is asked for with its terms in range and 1 to 64 workers, and a senate plan's file goes with its number of districts
 abbrev pub IsJob : Job → Type 0
 IsJob Talk = Unit {0}
 IsJob (Counts paths) = Unit {0}
-IsJob (Audit paths terms) = AreTerms terms × (is_some paths.senate ≡ is_some terms.senate_districts)
+IsJob (Audit paths terms workers) = AreTerms terms × (is_some paths.senate ≡ is_some terms.senate_districts) × (1 ≤ workers) × (workers ≤ 64)
 
 -- each census file is the one that its option names
 pub record AreCensusPaths (found : Found) (paths : CensusPaths) : Type 0 where
@@ -25,7 +25,7 @@ pub record AreCensusPaths (found : Found) (paths : CensusPaths) : Type 0 where
 abbrev pub HasPaths : Found → Job → Type 0
 HasPaths found Talk = Unit {0}
 HasPaths found (Counts paths) = AreCensusPaths found paths
-HasPaths found (Audit paths terms) = AreCensusPaths found paths.census
+HasPaths found (Audit paths terms workers) = AreCensusPaths found paths.census
     × (first_value found (codes "gal") ≡ Some paths.gal.now)
     × (first_value found (codes "plan") ≡ Some paths.plan.now)
     × (first_value found (codes "senate") ≡ option_copied paths.senate)

@@ -16,6 +16,11 @@ number_to most text =
     if list_all is_ascii_digit text && nat_le 1 (digits_value 10 text) && nat_le (digits_value 10 text) most then Some (digits_value 10 text)
     else None
 
+-- the number of workers, one where nothing says it
+abbrev pub workers_read : Option (List ℕ) → Option ℕ
+workers_read None = Some 1
+workers_read (Some text) = number_to 64 text
+
 -- the districts of a senate plan, which goes with a house plan alone, and where both of its options are there
 abbrev pub senate_read : Kind → Bool → Option (List ℕ) → Option (Option ℕ)
 senate_read k senate None = if senate then None else Some None

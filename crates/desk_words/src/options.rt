@@ -2,7 +2,7 @@
 ghost use Rattle.std.specs.Prelude.{◌≡◌, ◌≤◌, IfSome, IsSome, IsTrue, IsSomeAnd, is_some};
 ghost use Rattle.std.specs.Option.{option_copied};
 ghost use Rattle.audit_report.specs.Clauses.{is_house as is_house_kind};
-ghost use Rattle.desk_words.specs.Options.{number_to as number_in, senate_read, terms_read, form_read, AreTerms, IsForm, IsBeside};
+ghost use Rattle.desk_words.specs.Options.{number_to as number_in, senate_read, terms_read, form_read, AreTerms, IsForm, IsBeside, workers_read};
 
 use desk_model::kind::Kind;
 
@@ -51,6 +51,18 @@ fn number_to(most: u16, text: &[u8]) -> Option<u16>
         return None;
     }
     Some(value)
+}
+
+/// The number of workers that a word asks for, 1 to 64: digits alone. One where there is no word.
+pub fn read_workers(word: Option<&[u8]>) -> Option<u16>
+    ensures value { result ≡ workers_read (option_copied word.entry) }
+    ensures some { IfSome result (λ n. 1 ≤ n) }
+    ensures few { IfSome result (λ n. n ≤ 64) }
+{
+    match word {
+        None => Some(1),
+        Some(text) => number_to(64, text),
+    }
 }
 
 /// The districts of the senate plan, where there is one. `None` where its options don't go with the others.

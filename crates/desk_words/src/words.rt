@@ -3,7 +3,7 @@ ghost use Rattle.std.specs.Prelude.{IfOk, IfSome};
 ghost use Rattle.clap.specs.Matches.{found_of};
 ghost use Rattle.desk_words.specs.Jobs.{IsJob, AreCensusPaths, HasPaths};
 
-use crate::options::{Form, Terms, read_form};
+use crate::options::{Form, Terms, read_form, read_workers};
 use clap::builder::ValueParser;
 use clap::error::ErrorKind;
 use clap::{Arg, ArgAction, ArgMatches, Command};
@@ -17,8 +17,8 @@ pub enum Job<'a> {
     Talk,
     /// `check` with the census files alone.
     Counts(CensusPaths<'a>),
-    /// `check` with a plan.
-    Audit(AuditPaths<'a>, Terms),
+    /// `check` with a plan, by so many workers.
+    Audit(AuditPaths<'a>, Terms, u16),
 }
 
 /// Why it does nothing: help or the version was asked for, the words are wrong, or memory was refused.
@@ -52,6 +52,8 @@ const ONLY_BESIDE_HOUSE: &str = "error: '--senate <FILE>' goes with '--kind hous
 
 const WRONG_NUMBER: &str =
     "error: a number of districts is digits alone, 1 to 99 for a congress plan and 1 to 999 for others\n";
+
+const WRONG_WORKERS: &str = "error: a number of workers is digits alone, 1 to 64\n";
 
 const STATUSES: &str = "Statuses:
   0  done; help or the version was told
@@ -114,6 +116,17 @@ fn count_option<'a>(alloc: Global, name: &'a str, help: &'a str) -> Arg<'a> {
     option(alloc, name, "N", help).value_parser(ValueParser::unsigned(1, 999))
 }
 
+/// How many threads audit: the bytes that are printed don't depend on it.
+fn workers_option<'a>(alloc: Global) -> Arg<'a> {
+    option(
+        alloc,
+        "workers",
+        "N",
+        "How many threads audit the plan: 1 to 64, by default 1",
+    )
+    .value_parser(ValueParser::unsigned(1, 64))
+}
+
 /// The options of the audited plan, which go together: each requires the next, and the last the first.
 fn with_plan_options<'a>(alloc: Global, command: Command<'a>) -> Result<Command<'a>, AllocError> {
     let gal = option(alloc, "gal", "FILE", "The neighbour file (GAL)");
@@ -163,7 +176,7 @@ fn check_command<'a>(alloc: Global) -> Result<Command<'a>, AllocError> {
         .arg(path_option(alloc, "seg2", "Segment 2"))?
         .arg(path_option(alloc, "seg3", "Segment 3"))?;
     let command = with_plan_options(alloc, command)?;
-    with_senate_options(alloc, command)
+    with_senate_options(alloc, command)?.arg(workers_option(alloc))
 }
 
 /// The command line, as clap sees it.
@@ -208,6 +221,7 @@ fn check_job<'a>(matches: &ArgMatches<'a>) -> Option<Job<'a>>
     let gal = matches.get_str("gal");
     let plan = matches.get_str("plan");
     let senate = matches.get_str("senate");
+    let workers = read_workers(bytes_of(matches.get_str("workers")))?;
     let form = read_form(
         gal.is_some(),
         plan.is_some(),
@@ -227,7 +241,7 @@ fn check_job<'a>(matches: &ArgMatches<'a>) -> Option<Job<'a>>
                 plan,
                 senate,
             };
-            Some(Job::Audit(paths, terms))
+            Some(Job::Audit(paths, terms, workers))
         }
     }
 }
@@ -251,6 +265,9 @@ fn usage(alloc: Global, text: &str) -> Mistake {
 fn wrong_options<'a>(matches: &ArgMatches<'a>) -> &'static str {
     if matches.get_str("senate").is_some() && matches.get_str("kind") != Some("house") {
         return ONLY_BESIDE_HOUSE;
+    }
+    if read_workers(bytes_of(matches.get_str("workers"))).is_none() {
+        return WRONG_WORKERS;
     }
     WRONG_NUMBER
 }

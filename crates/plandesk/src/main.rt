@@ -6,6 +6,7 @@ use exit_status::status::Status;
 use std::env;
 use std::io::ErrorKind;
 use std::process::ExitCode;
+use std::thread::Threads;
 
 /// The words of the command line, the program's name first.
 fn all_words(rt: &HostRuntime) -> Result<Vec<String>, Status> {
@@ -28,7 +29,7 @@ fn all_words(rt: &HostRuntime) -> Result<Vec<String>, Status> {
     }
 }
 
-fn run_words(rt: &HostRuntime) -> Result<Status, Status> {
+fn run_words<T: Threads + Sync>(rt: &HostRuntime, threads: &T) -> Result<Status, Status> {
     let words = all_words(rt)?;
     let mut texts = Vec::with_capacity(rt.alloc(), words.len())?;
     for word in &words {
@@ -36,11 +37,11 @@ fn run_words(rt: &HostRuntime) -> Result<Status, Status> {
             return Err(Status::Memory);
         }
     }
-    Ok(run(rt, texts.as_slice()))
+    Ok(run(rt, threads, texts.as_slice()))
 }
 
 fn main(rt: HostRuntime) -> ExitCode {
-    match run_words(&rt) {
+    match run_words(&rt, &rt) {
         Ok(status) => ExitCode::from(status.code()),
         Err(status) => ExitCode::from(status.code()),
     }

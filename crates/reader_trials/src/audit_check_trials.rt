@@ -10,6 +10,7 @@ use state_files::open::AuditFiles;
 use state_files::plan_file::Companion;
 use std::alloc::Global;
 use std::test::Fail;
+use std::thread::Threads;
 
 /// The two by two blocks of the sample; the same with the diagonals; the first row alone, one way.
 const GRID: &[u8] =
@@ -59,7 +60,7 @@ const HOUSE: Given<'static> = Given {
     room: ROOM,
 };
 
-fn run(alloc: Global, census: &Files, given: Given<'_>) -> Ended {
+fn run<T: Threads + Sync>(rt: &T, alloc: Global, census: &Files, given: Given<'_>) -> Ended {
     let senate = match given.senate {
         Some((opened, districts)) if given.kind == Kind::House => Some(Companion {
             opened: reader(opened, 1000, NEVER),
@@ -82,7 +83,16 @@ fn run(alloc: Global, census: &Files, given: Given<'_>) -> Ended {
         room: ROOM,
     });
     let (kind, districts) = (given.kind, given.districts.clamp(1, 999));
-    let status = audit_plan(alloc, &mut files, kind, districts, &mut writer, &mut errors);
+    let status = audit_plan(
+        rt,
+        alloc,
+        2,
+        &mut files,
+        kind,
+        districts,
+        &mut writer,
+        &mut errors,
+    );
     end_of(status, writer.into_inner(), errors.into_inner())
 }
 
@@ -212,7 +222,7 @@ fn worked_plans_are_reported(rt: HostRuntime) -> Result<(), Fail> {
     let alloc = rt.alloc();
     for one in &REPORTS {
         let files = Files::make(alloc, &one.people)?;
-        let ended = run(alloc, &files, one.given);
+        let ended = run(&rt, alloc, &files, one.given);
         assert!(rt; ended.errors.is_empty());
         assert_eq!(rt; ended.output.as_slice(), one.report.as_bytes());
         assert!(rt; ended.status == one.status);
@@ -306,7 +316,7 @@ fn the_first_fault_behind_the_census_is_told(rt: HostRuntime) -> Result<(), Fail
         },
     ];
     for one in &faults {
-        let ended = run(rt.alloc(), &files, one.given);
+        let ended = run(&rt, rt.alloc(), &files, one.given);
         assert_eq!(rt; ended.errors.as_slice(), one.line);
         assert!(rt; ended.output.is_empty());
         assert!(rt; ended.status == one.status);
@@ -337,7 +347,7 @@ fn a_plans_file_may_be_too_large(rt: HostRuntime) -> Result<(), Fail> {
         },
     ];
     for one in &faults {
-        let ended = run(rt.alloc(), &files, one.given);
+        let ended = run(&rt, rt.alloc(), &files, one.given);
         assert_eq!(rt; ended.errors.as_slice(), one.line);
         assert!(rt; ended.status == one.status);
     }
