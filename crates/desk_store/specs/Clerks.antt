@@ -9,7 +9,7 @@ use Rattle.desk_model.specs.Desk.{Desk}
 use Rattle.desk_model.specs.Step.{step, revision_limit}
 use Rattle.desk_model.specs.declared.reply.Refusal.{Refusal}
 use Rattle.desk_model.specs.Outcome.{IsAcceptance, CommandMay, RefusalMay}
-use Rattle.desk_store.specs.Places.{Row}
+use Rattle.desk_plans.specs.Rows.{Row}
 
 -- a command with the desk after it
 pub record Made : Type 0 where

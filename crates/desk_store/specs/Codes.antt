@@ -1,24 +1,16 @@
--- How plans and desks are told apart.
-use Rattle.std.specs.Prelude.{ℕ, List, Option, refl}
-use Rattle.std.specs.Coded.{Coded, code_by, coded×, coded_ℕ, coded_list, coded_option}
+-- How desks are told apart.
+use Rattle.std.specs.Prelude.{Option, refl}
+use Rattle.std.specs.Coded.{Coded, code_by, coded×, coded_option}
 use Rattle.std.specs.FinMap as map_of
-use Rattle.desk_model.specs.contracts.kind.Kind as kind
 use Rattle.desk_model.specs.contracts.geography.Geography as geography
-use Rattle.desk_model.specs.declared.kind.Kind.{Kind}
 use Rattle.desk_model.specs.contracts.command.Command as command
 use Rattle.desk_model.specs.contracts.reply.Reply as reply
 use Rattle.desk_model.specs.declared.command.Command.{Command}
 use Rattle.desk_model.specs.declared.reply.Reply.{Reply}
 use Rattle.desk_model.specs.Geography.{Ground}
 use Rattle.desk_model.specs.Desk.{Plan, Desk, name_cmp}
+use Rattle.desk_plans.specs.Codes.{coded_plans}
 use Rattle.desk_store.specs.Clerks.{Made, Prepared}
-
-abbrev pub coded_plan : Coded Plan
-coded_plan = code_by (Kind × (ℕ × List (List ℕ))) (coded× kind.the_row.coded (coded× coded_ℕ (coded_list (coded_list coded_ℕ))))
-    (λ p. (p.kind, (p.n, p.revisions))) (λ c. record { kind = c.0; n = c.1.0; revisions = c.1.1 }) (λ _. refl)
-
-abbrev pub coded_plans : Coded (map_of.FinMap name_cmp Plan)
-coded_plans = map_of.code (coded_list coded_ℕ) coded_plan
 
 abbrev pub coded_desk : Coded Desk
 coded_desk = code_by (Option Ground × map_of.FinMap name_cmp Plan) (coded× (coded_option geography.the_row.coded) coded_plans)

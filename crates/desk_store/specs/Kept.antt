@@ -1,19 +1,12 @@
 -- What is kept of revisions.
-use Rattle.std.specs.Prelude.{◌≡◌, ℕ, List, map, length, All, Option, Some, Result, Err, IfSome}
+use Rattle.std.specs.Prelude.{◌≡◌, ℕ, List, length, All, Option, Some, Result, Err, IfSome}
 use Rattle.std.specs.FinMap as map_of
-use Rattle.std.specs.declared.sync.Arc.{Arc}
-use Rattle.std.specs.declared.vec.Vec.{Vec}
-use Rattle.std.specs.declared.alloc.Global.{Global}
 use Rattle.desk_model.specs.Desk.{Plan, name_cmp}
 use Rattle.desk_model.specs.Subject.{revision_at}
 use Rattle.desk_model.specs.Baf.{Values, Fault}
 use Rattle.desk_model.specs.Geography.{Ground}
 use Rattle.desk_model.specs.declared.reply.Refusal.{Refusal}
 use Rattle.desk_model.specs.declared.reply.Refusal.TheVariants.{NoPlan, NoRevision, PlanExists, Stale, BadBody, NotWholeCounty, BadCompanion, Limit, Full, Memory, Halted, NotSealed}
-
--- the shared lists
-abbrev pub lists : List (Arc (Vec ℕ Global) Global) → List (List ℕ)
-lists = map (λ d. d.value.items)
 
 -- every revision of a plan has a district for each block
 abbrev pub AreWhole : Option Ground → map_of.FinMap name_cmp Plan → Type 0

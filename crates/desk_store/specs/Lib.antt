@@ -3,5 +3,3 @@ pub mod Clerks
 pub mod Codes
 pub mod Kept
 pub mod Patches
-pub mod Places
-pub mod Shelves

@@ -10,11 +10,8 @@ ghost use Rattle.desk_store.specs.Kept.{AreWhole, HasWhole, IsWhole};
 
 use crate::blocks::blocks_text;
 use crate::patch::patched_districts;
-use crate::plans::Plans;
 use crate::posted::districts_of;
 use crate::report::report;
-use crate::revisions::REVISION_LIMIT;
-use crate::shelf::Entry;
 use baf_text::writing::write;
 use desk_model::command::{Command, Query};
 use desk_model::geography::Geography;
@@ -23,6 +20,8 @@ use desk_model::name::PlanName;
 use desk_model::reply::{Refusal, Reply};
 use desk_model::size::PlanSize;
 use desk_model::text::Text;
+use desk_plans::entry::{Entry, REVISION_LIMIT};
+use desk_plans::plans::Plans;
 use std::alloc::{AllocError, Global};
 use std::marker::Model;
 use std::sync::Arc;
@@ -55,12 +54,12 @@ impl Model for Catalogue {
 
 impl Catalogue {
     /// A catalogue with no plan.
-    pub fn new(alloc: Global, geography: Option<Arc<Geography>>) -> Catalogue
+    pub fn new(geography: Option<Arc<Geography>>) -> Catalogue
         ensures { result ≡ record { geography = option_map (λ g. g.value) geography; plans = map_of.empty } }
     {
         Catalogue {
             geography,
-            plans: Plans::new(alloc),
+            plans: Plans::new(),
         }
     }
 
@@ -216,10 +215,7 @@ impl Catalogue {
         if self.plans.len() >= PLAN_LIMIT {
             return Err(Refusal::Limit);
         }
-        let Ok(entry) = Entry::new(alloc, name, size) else {
-            return Err(Refusal::Memory);
-        };
-        let Ok(plans) = self.plans.insert(alloc, entry) else {
+        let Ok(plans) = self.plans.insert(alloc, Entry::new(alloc, name, size)) else {
             return Err(Refusal::Memory);
         };
         self.with_plans(plans)

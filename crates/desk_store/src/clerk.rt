@@ -142,7 +142,7 @@ impl Clerk {
         ensures { IfOk result (λ clerk. clerk ≡ record { geography = option_map (λ g. g.value) geography; plans = map_of.empty }) }
     {
         Ok(Clerk {
-            catalogue: Arc::new(alloc, Catalogue::new(alloc, geography))?,
+            catalogue: Arc::new(alloc, Catalogue::new(geography))?,
         })
     }
 

@@ -1,0 +1,3 @@
+pub mod AsMap
+pub mod Rising
+pub mod Splits

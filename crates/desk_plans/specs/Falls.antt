@@ -1,0 +1,21 @@
+-- Each side of a tree has fewer plans than the tree.
+use Rattle.std.specs.Prelude.{ℕ, ◌≤◌, List, [], ◌∷◌, ◌++◌, Option, Some, None, length}
+use Rattle.std.proofs.Common.{arith, length-append}
+use Rattle.std.specs.declared.sync.Arc.{Arc}
+use Rattle.std.specs.declared.alloc.Global.{Global}
+use Rattle.desk_plans.specs.Rows.{Row}
+use Rattle.desk_plans.specs.declared.tree.Tree.{Tree}
+use Rattle.desk_plans.specs.declared.tree.Tree.TheInside.{Inside}
+use Rattle.desk_plans.specs.declared.tree.Tree.TheDeep.{deep-Tree}
+use Rattle.desk_plans.specs.Tree.{rows_of}
+
+by_sides : (left right : Option (Arc Tree Global)) (entry : Arc Row Global) (height : ℕ)
+    → deep-Tree (record { left = left; entry = entry; height = height; right = right }) ≤ length (rows_of left ++ entry.value ∷ rows_of right)
+by_sides None None entry height = omega arith
+by_sides None (Some r) entry height = omega arith
+by_sides (Some l) None entry height = omega (arith, length-append l.value (entry.value ∷ []))
+by_sides (Some l) (Some r) entry height = omega (arith, length-append l.value (entry.value ∷ r.value))
+
+-- no side is deeper than the tree has plans
+pub falls : (a : Inside) → deep-Tree a ≤ length (rows_of a.left ++ a.entry.value ∷ rows_of a.right)
+falls a = by_sides a.left a.right a.entry a.height

@@ -1,0 +1,60 @@
+-- Plans in the order of their names, and where a name stands among them.
+use Rattle.std.specs.Prelude.{◌≡◌, ℕ, List, [], ◌∷◌, ◌++◌, length, true, Option, IsTrue}
+use Rattle.std.specs.Option.{option_to_list}
+use Rattle.std.specs.Ordering.{is_lt}
+use Rattle.std.specs.FinMap.{is_sorted}
+use Rattle.std.specs.declared.cmp.Ordering.TheVariants.{Equal}
+use Rattle.desk_model.specs.Desk.{Plan, name_cmp}
+
+-- a plan under its name
+abbrev pub Row : Type 0
+Row = List ℕ × Plan
+
+-- the last of them is below the name
+abbrev pub EndsBelow : List ℕ → List Row → Type 0
+EndsBelow name [] = Unit {0}
+EndsBelow name (e ∷ []) = IsTrue (is_lt (name_cmp e.0 name))
+EndsBelow name (e ∷ f ∷ es) = EndsBelow name (f ∷ es)
+
+-- the first of them is above the name
+abbrev pub StartsAbove : List ℕ → List Row → Type 0
+StartsAbove name [] = Unit {0}
+StartsAbove name (e ∷ es) = is_lt (name_cmp name e.0) ≡ true
+
+-- between these rows stands the row of the name, or none where they are next to where it would stand
+abbrev pub StandsAt : List ℕ → List Row → List Row → List Row → Type 0
+StandsAt name front [] back = EndsBelow name front × StartsAbove name back
+StandsAt name front (e ∷ []) back = name_cmp name e.0 ≡ Equal
+StandsAt name front (e ∷ f ∷ es) back = ⊥
+
+-- the rows before a name's place, the name's row or none, and the rows behind
+pub record IsSplit (name : List ℕ) (rows front here back : List Row) : Type 0 where
+  pub all : rows ≡ front ++ (here ++ back)
+  pub stands : StandsAt name front here back
+
+-- the row has come to its name's place, where it is the only one of the name
+pub record IsPut (row : Row) (old new : List Row) : Type 0 where
+  pub front : List Row
+  pub here : List Row
+  pub back : List Row
+  pub split : IsSplit row.0 old front here back
+  pub new_is : new ≡ front ++ row ∷ back
+
+-- the row of the name, if there is one, is gone
+pub record IsRemoved (name : List ℕ) (old new : List Row) : Type 0 where
+  pub front : List Row
+  pub here : List Row
+  pub back : List Row
+  pub split : IsSplit name old front here back
+  pub new_is : new ≡ front ++ back
+
+-- the row of the name, or none where there is none
+pub record IsFound (name : List ℕ) (rows : List Row) (found : Option Row) : Type 0 where
+  pub front : List Row
+  pub back : List Row
+  pub split : IsSplit name rows front (option_to_list found) back
+
+-- the rows rise by name, and there are so many
+pub record AreRows (all : List Row) (number : ℕ) : Type 0 where
+  pub rising : IsTrue (is_sorted name_cmp all)
+  pub count : number ≡ length all

@@ -1,0 +1,115 @@
+//! A plan with its name and its revisions.
+ghost use Rattle.std.specs.Prelude.{◌≡◌, ◌<◌, ◌≤◌, ◌++◌, ◌∷◌, [], length, IfOk};
+ghost use Rattle.std.specs.Option.{option_copied};
+ghost use Rattle.desk_model.specs.Step.{plan_row, revision_limit};
+ghost use Rattle.desk_model.specs.Subject.{revision_at};
+
+use desk_model::kind::Kind;
+use desk_model::name::PlanName;
+use desk_model::reply::PlanRow;
+use desk_model::size::PlanSize;
+use shared_list::SharedList;
+use std::alloc::{AllocError, Global};
+use std::marker::Model;
+
+/// A plan has this many revisions at most.
+pub const REVISION_LIMIT: u32 = 65_535;
+
+/// A plan under its name. Each of its revisions is the district of each block, rising, 0 for none.
+#[derive(Drop)]
+pub struct Entry {
+    name: PlanName,
+    size: PlanSize,
+    revisions: SharedList<Vec<u16>>,
+}
+
+impl Model for Entry {
+    ghost use Rattle.std.specs.Prelude.{ℕ, List, length, ◌≤◌};
+    ghost use Rattle.desk_model.specs.Desk.{Plan};
+    ghost use Rattle.desk_model.specs.Step.{revision_limit};
+    ghost use Rattle.desk_plans.specs.Revisions.{lists};
+
+    ghost Value = { List ℕ × Plan };
+
+    ghost view = { λ a. (a.name, record { kind = a.size.0; n = a.size.1; revisions = lists a.revisions }) };
+
+    ghost invariant = { λ a. length a.revisions ≤ revision_limit };
+}
+
+impl Entry {
+    /// A plan with no revision.
+    pub fn new(alloc: Global, name: PlanName, size: PlanSize) -> Entry
+        ensures { result ≡ (name, record { kind = size.0; n = size.1; revisions = [] }) }
+    {
+        Entry {
+            name,
+            size,
+            revisions: SharedList::new(alloc),
+        }
+    }
+
+    pub fn name(&self) -> &PlanName
+        ensures { result.now ≡ self.now.0 }
+    {
+        &self.name
+    }
+
+    pub fn kind(&self) -> Kind
+        ensures { result ≡ self.now.1.kind }
+    {
+        self.size.kind()
+    }
+
+    /// The number of districts.
+    pub fn n(&self) -> u16
+        ensures value { result ≡ self.now.1.n }
+        ensures some { 1 ≤ self.now.1.n }
+        ensures few { self.now.1.n ≤ 999 }
+    {
+        self.size.n()
+    }
+
+    /// How many revisions there are.
+    pub fn count(&self) -> u32
+        ensures { result ≡ length self.now.1.revisions }
+    {
+        self.revisions.len() as u32
+    }
+
+    /// Revision `k`, from 1: the district of each block, rising.
+    pub fn revision(&self, k: u32) -> Option<&[u16]>
+        ensures { option_copied result ≡ revision_at self.now.1 k }
+    {
+        if k == 0 {
+            return None;
+        }
+        match self.revisions.get(k as usize - 1) {
+            Some(districts) => Some(districts.as_slice()),
+            None => None,
+        }
+    }
+
+    /// The plan's line in the list of plans.
+    pub fn row(&self) -> PlanRow
+        ensures { result ≡ plan_row self.now }
+    {
+        PlanRow {
+            name: self.name,
+            kind: self.size.kind(),
+            n: self.size.n(),
+            revisions: self.count(),
+        }
+    }
+
+    /// The plan with one more revision, which shares those before it.
+    pub fn revised(&self, alloc: Global, districts: Vec<u16>) -> Result<Entry, AllocError>
+        requires { length self.now.1.revisions < revision_limit }
+        ensures { IfOk result (λ e. e ≡ (self.now.0, record self.now.1 { revisions = self.now.1.revisions ++ districts.items ∷ [] })) }
+    {
+        Ok(Entry {
+            name: self.name,
+            size: self.size,
+            revisions: self.revisions.with(alloc, districts)?,
+        })
+    }
+}
