@@ -12,3 +12,6 @@ pub mod Raised
 pub mod Leaves
 pub mod Roots
 pub mod Down
+pub mod Descent
+pub mod Tops
+pub mod Refusals

@@ -4,3 +4,4 @@ pub mod Map
 pub mod Errors
 pub mod Putting
 pub mod Laws
+pub mod Getting

@@ -2,10 +2,12 @@
 #![tactic(auto)]
 
 mod error;
+mod gets;
 mod kept;
 mod puts;
 mod tree;
 
 pub use error::TreeError;
+pub use gets::get;
 pub use kept::laws;
 pub use puts::put;

@@ -1,0 +1,153 @@
+-- The child that a key belongs to, for a look-up.
+use Rattle.std.proofs.Common.{◌≡◌, ◌⊎◌, inl, inr, ℕ, suc, ◌-◌, ◌<◌, ◌≤◌, ◌^◌, List, [], ◌∷◌, length, Bool, true, false, cond, refl, sym, ap, subst, ◌∙◌, arith}
+use Rattle.std.specs.Prelude.{Option, Some, None}
+use Rattle.std.specs.Option.{option_map}
+use Rattle.std.specs.List.{All}
+use Rattle.std.specs.Ordering.{is_gt, eq_by_cmp}
+use Rattle.std.specs.FinMap.{find}
+use Rattle.sector_device.specs.Disk.{Image}
+use Rattle.page_node.specs.Entries.{Entry, IsEntry, child_bytes, child_in}
+use Rattle.page_node.specs.Node.{Node, IsNode}
+use Rattle.page_node.specs.Places.{key_cmp, Rises, floor}
+use Rattle.page_node.specs.Laws.{child_written}
+use Rattle.page_btree.specs.Keys.{IsBetween}
+use Rattle.page_btree.specs.Tree.{Tree, Forest, leaf, inner, one, more, page_of, first_key, links, rows, forest_rows, owns, forest_owns, IsTree, AreTrees}
+use Rattle.page_btree.specs.Getting.{CanGet, IsLevel}
+use Rattle.page_btree.proofs.Rows.{find_left, find_right, key_before}
+use Rattle.page_btree.proofs.Within.{rows_behind, rows_before}
+
+floor_links : (k key : List ℕ) (t : Tree) (f : Forest) → floor key (links (more k t f)) ≡ cond (is_gt (key_cmp (first_key f) key)) (Some (child_bytes (page_of t))) (floor key (links f))
+floor_links k key t (one q u) = refl
+floor_links k key t (more q u f) = refl
+
+pub record ChildFor (P : Image) (d : ℕ) (key : List ℕ) (f : Forest) : Type 0 where
+  pub child : Tree
+  pub its_low : List ℕ
+  pub its_high : Option (List ℕ)
+  pub stands : IsTree P d its_low its_high child
+  pub between : IsBetween its_low its_high key
+  pub floor_is : floor key (links f) ≡ Some (child_bytes (page_of child))
+  pub found : find key_cmp key (rows child) ≡ find key_cmp key (forest_rows f)
+  pub owned : (q : ℕ) → owns child q → forest_owns f q
+
+either : (b : Bool) → (b ≡ true) ⊎ (b ≡ false)
+either true = inl refl
+either false = inr refl
+
+pub child_of : (P : Image) (d : ℕ) (low : List ℕ) (high : Option (List ℕ)) (key : List ℕ) (f : Forest) → AreTrees P d low high f → IsBetween low high key → ChildFor P d key f
+child_of P d low high key (one k t) trees between = record {
+  child = t;
+  its_low = low;
+  its_high = high;
+  stands = trees;
+  between = between;
+  floor_is = refl;
+  found = refl;
+  owned = λ q own. own;
+}
+child_of P d low high key (more k t f) trees between = elim (either (is_gt (key_cmp (first_key f) key))) [
+  | inl above ↦ record {
+    child = t;
+    its_low = low;
+    its_high = Some (first_key f);
+    stands = trees.0;
+    between = record { from = between.from; under = key_before (first_key f) key above };
+    floor_is = floor_links k key t f ∙ ap (λ (b : Bool). cond b (Some (child_bytes (page_of t))) (floor key (links f))) above;
+    found = sym (find_left key (rows t) (forest_rows f) (rows_before P d (first_key f) high key f trees.2 (key_before (first_key f) key above)));
+    owned = λ q own. inl own;
+  }
+  | inr from ↦
+      let rest = child_of P d (first_key f) high key f trees.2 (record { from = from; under = between.under }) in record {
+        child = rest.child;
+        its_low = rest.its_low;
+        its_high = rest.its_high;
+        stands = rest.stands;
+        between = rest.between;
+        floor_is = floor_links k key t f ∙ ap (λ (b : Bool). cond b (Some (child_bytes (page_of t))) (floor key (links f))) from ∙ rest.floor_is;
+        found = rest.found ∙ sym (find_right key (rows t) (forest_rows f) (rows_behind P d low (first_key f) key t trees.0 from));
+        owned = λ q own. inr (rest.owned q own);
+      }
+]
+
+pub owns_page : (t : Tree) → owns t (page_of t)
+owns_page (leaf p es) = refl
+owns_page (inner p f) = inl refl
+
+-- the node of a tree's page
+pub node_of : (P : Image) (d : ℕ) (low : List ℕ) (high : Option (List ℕ)) (t : Tree) → IsTree P d low high t → (node : Node) × IsNode (P (page_of t)) node × (node.level ≡ d)
+node_of P d low high (leaf p es) is = (record { level = 0; entries = es }, is.1.node, sym is.0)
+node_of P d low high (inner p f) is = (record { level = d; entries = links f }, is.1, refl)
+
+-- at a leaf's page
+pub at_leaf : (P : Image) (d : ℕ) (low : List ℕ) (high : Option (List ℕ)) (t : Tree) → d ≡ 0 → IsTree P d low high t → IsNode (P (page_of t)) (record { level = 0; entries = rows t }) × Rises (rows t)
+at_leaf P d low high (leaf p es) none is = (is.1.node, is.1.rises)
+at_leaf P d low high (inner p f) none is = absurd (let some = is.0 in omega arith)
+
+pub leaf_page : (n : ℕ) (P : Image) (d : ℕ) (key page : List ℕ) (can : CanGet n P d key page) → d ≡ 0 → IsNode page (record { level = 0; entries = rows can.tree }) × Rises (rows can.tree)
+leaf_page n P d key page can none =
+    let there = at_leaf P d can.low can.high can.tree none can.tree_is in
+    (subst (λ bytes. IsNode bytes (record { level = 0; entries = rows can.tree })) (sym can.page_is) there.0, there.1)
+
+-- above it: the node's links name a page, at which the look-up goes on
+pub record GoesOn (n : ℕ) (P : Image) (d : ℕ) (key page : List ℕ) (all : List Entry) (child : ℕ) : Type 0 where
+  pub next : (bytes : List ℕ) → bytes ≡ P child → CanGet n P (d - 1) key bytes
+  pub level : IsLevel n P (d - 1) child
+  pub found : (bytes : List ℕ) (is : bytes ≡ P child) → find key_cmp key (rows (next bytes is).tree) ≡ find key_cmp key all
+
+pub named : (f : Option (List ℕ)) (page child : ℕ) → f ≡ Some (child_bytes page) → page < 2 ^ 32 → option_map child_in f ≡ Some child → child ≡ page
+named f page child is few told =
+    let there : Some child ≡ Some page = sym told ∙ ap (option_map child_in) is ∙ ap Some (child_written page few) in
+    cc
+
+-- what `child_for` names, in a node above the leaves
+pub goes_on : (n : ℕ) (P : Image) (d : ℕ) (key page : List ℕ) (can : CanGet n P d key page) (child : ℕ) → 0 < d → n ≤ 2 ^ 32 → ((node : Node) → IsNode page node → option_map child_in (floor key node.entries) ≡ Some child) → GoesOn n P d key page (rows can.tree) child
+goes_on n P d key page can child some few told = step can.tree can.low can.high can.tree_is can.page_is can.below can.between
+  where
+    step : (t : Tree) (low : List ℕ) (high : Option (List ℕ)) → IsTree P d low high t → page ≡ P (page_of t) → ((q : ℕ) → owns t q → q < n) → IsBetween low high key → GoesOn n P d key page (rows t) child
+    step (leaf p es) low high is page_is below between = absurd (let none = is.0 in omega arith)
+    step (inner p f) low high is page_is below between =
+        let down = child_of P (d - 1) low high key f is.2 between in
+        let its_page : page_of down.child < n = below (page_of down.child) (inr (down.owned (page_of down.child) (owns_page down.child))) in
+        let same : child ≡ page_of down.child = named (floor key (links f)) (page_of down.child) child down.floor_is (omega arith) (told (record { level = d; entries = links f }) (subst (λ bytes. IsNode bytes (record { level = d; entries = links f })) (sym page_is) is.1)) in
+        let node = node_of P (d - 1) down.its_low down.its_high down.child down.stands in
+        record {
+          next = λ bytes there. record {
+            tree = down.child;
+            low = down.its_low;
+            high = down.its_high;
+            tree_is = down.stands;
+            page_is = there ∙ ap P same;
+            below = λ q own. below q (inr (down.owned q own));
+            between = down.between;
+          };
+          level = record {
+            node = node.0;
+            node_is = subst (λ (q : ℕ). IsNode (P q) node.0) (sym same) node.1;
+            level_is = node.2;
+            below = omega arith;
+          };
+          found = λ bytes there. down.found;
+        }
+
+-- and it names one
+pub some_child : (n : ℕ) (P : Image) (d : ℕ) (key page : List ℕ) → CanGet n P d key page → 0 < d → ((node : Node) → IsNode page node → 0 < node.level → floor key node.entries ≡ None) → ⊥
+some_child n P d key page can some told = step can.tree can.low can.high can.tree_is can.page_is can.between
+  where
+    step : (t : Tree) (low : List ℕ) (high : Option (List ℕ)) → IsTree P d low high t → page ≡ P (page_of t) → IsBetween low high key → ⊥
+    step (leaf p es) low high is page_is between = absurd (let none = is.0 in omega arith)
+    step (inner p f) low high is page_is between =
+        let down = child_of P (d - 1) low high key f is.2 between in
+        let none = told (record { level = d; entries = links f }) (subst (λ bytes. IsNode bytes (record { level = d; entries = links f })) (sym page_is) is.1) some in
+        let clash : Some (child_bytes (page_of down.child)) ≡ None = sym down.floor_is ∙ none in
+        cc
+
+-- a found value is short
+pub short_value : (key : List ℕ) (es : List Entry) (value : List ℕ) → All IsEntry es → find key_cmp key es ≡ Some value → length value ≤ 1024
+short_value key [] value all found = cc
+short_value key (e ∷ es) value all found = elim (either (eq_by_cmp key_cmp key e.0)) [
+  | inl tied ↦
+      let there : Some e.1 ≡ Some value = sym (ap (λ (b : Bool). cond b (Some e.1) (find key_cmp key es)) tied) ∙ found in
+      let same : e.1 ≡ value = cc in
+      subst (λ (v : List ℕ). length v ≤ 1024) same (all 0 e (omega arith)).1
+  | inr not ↦ short_value key es value (λ k d less. all (suc k) d (omega arith)) (sym (ap (λ (b : Bool). cond b (Some e.1) (find key_cmp key es)) not) ∙ found)
+]

@@ -1,0 +1,47 @@
+-- A refusal of a look-up or a remove below, told above.
+use Rattle.std.proofs.Common.{inl, inr, ⊎_elim, sym, ◌∙◌}
+use Rattle.sector_device.specs.Disk.{Image}
+use Rattle.sector_device.specs.declared.SectorDevice.{Ghosts}
+use Rattle.page_store.specs.Transactions.{stored, disk_in, IsQuiet, Passed, ReadErr}
+use Rattle.page_store.specs.Stops.{failed_more}
+use Rattle.page_store.specs.declared.error.PageError.{PageError}
+use Rattle.page_store.specs.declared.error.PageError.TheVariants as page
+use Rattle.page_store.specs.declared.pages.Pages.{Pages}
+use Rattle.page_store.specs.declared.txn.Txn.{Txn}
+use Rattle.page_btree.specs.Errors.{tree_error, GetErr}
+use Rattle.page_btree.specs.Getting.{ReadsErr}
+use Rattle.page_btree.specs.Keys.{KeyMap}
+use Rattle.page_btree.specs.Map.{InTxn}
+use Rattle.page_btree.specs.declared.error.TreeError.{TreeError}
+use Rattle.page_btree.specs.declared.error.TreeError.TheVariants.{DeviceFault, Halted, NoPages, TooDeep, Memory}
+
+module _ {D : Type 0} {g : Ghosts D} where
+  pub read_fails : (can : Image → Type 0) (old new : Pages D g) (e : PageError) → ReadErr old new e → ReadsErr can old new (tree_error e)
+  read_fails can old new page.DeviceFault why = inl why
+  read_fails can old new page.Halted why = why
+  read_fails can old new page.NotAStore why = absurd why
+  read_fails can old new page.TooManyPages why = absurd why
+  read_fails can old new page.TooSmall why = absurd why
+  read_fails can old new page.NoPages why = absurd why
+  read_fails can old new page.Memory why = absurd why
+
+  pub reads_more : (can below : Image → Type 0) (old mid new : Pages D g) → Passed old mid → IsQuiet mid new → ((disk_in new).is_honest → can (stored old) → below (stored mid)) → (e : TreeError) → ReadsErr below mid new e → ReadsErr can old new e
+  reads_more can below old mid new passed quiet also DeviceFault why = ⊎_elim (λ failed. inl (failed_more old mid new passed quiet failed)) (λ no. inr (λ honest is. no honest (also honest is))) why
+  reads_more can below old mid new passed quiet also Halted why = sym passed.halted ∙ why
+  reads_more can below old mid new passed quiet also NoPages why = why
+  reads_more can below old mid new passed quiet also TooDeep why = why
+  reads_more can below old mid new passed quiet also Memory why = why
+
+  pub get_fails : (below : Image → Type 0) (t : Txn) (old mid new : Pages D g) → Passed old mid → IsQuiet mid new → ((disk_in new).is_honest → (m : KeyMap) → InTxn t (stored old) m → below (stored mid)) → (e : TreeError) → ReadsErr below mid new e → GetErr t old new e
+  get_fails below t old mid new passed quiet also DeviceFault why = ⊎_elim (λ failed. inl (failed_more old mid new passed quiet failed)) (λ no. inr (λ honest m is. no honest (also honest m is))) why
+  get_fails below t old mid new passed quiet also Halted why = sym passed.halted ∙ why
+  get_fails below t old mid new passed quiet also NoPages why = why
+  get_fails below t old mid new passed quiet also TooDeep why = why
+  get_fails below t old mid new passed quiet also Memory why = why
+
+  pub same_fails : (can below : Image → Type 0) (old new : Pages D g) → ((disk_in new).is_honest → can (stored old) → below (stored old)) → (e : TreeError) → ReadsErr below old new e → ReadsErr can old new e
+  same_fails can below old new also DeviceFault why = ⊎_elim (λ failed. inl failed) (λ no. inr (λ honest is. no honest (also honest is))) why
+  same_fails can below old new also Halted why = why
+  same_fails can below old new also NoPages why = why
+  same_fails can below old new also TooDeep why = why
+  same_fails can below old new also Memory why = why

@@ -1,0 +1,47 @@
+-- Where a look-up begins.
+use Rattle.std.proofs.Common.{◌≡◌, ◌≢◌, ⊎_elim, ℕ, List, [], ◌∷◌, refl, sym, ap, subst, ◌∙◌, arith}
+use Rattle.std.specs.Prelude.{None}
+use Rattle.std.specs.FinMap.{find, get, get-entries}
+use Rattle.sector_device.specs.Disk.{Image}
+use Rattle.page_node.specs.Node.{Node, IsNode}
+use Rattle.page_node.specs.Places.{key_cmp}
+use Rattle.page_btree.specs.Keys.{KeyMap, IsBetween}
+use Rattle.page_btree.specs.Tree.{IsTree, page_of, rows}
+use Rattle.page_btree.specs.Map.{IsRooted, Holds}
+use Rattle.page_btree.specs.Getting.{CanGet}
+use Rattle.page_btree.proofs.Descent.{node_of, owns_page}
+
+pub every_key : (key : List ℕ) → IsBetween [] None key
+every_key [] = record { from = refl; under = tt }
+every_key (k ∷ ks) = record { from = refl; under = tt }
+
+-- pages that hold a map, at whose root a tree stands
+pub rooted : (n : ℕ) (P : Image) (root : ℕ) (free : List ℕ) (m : KeyMap) → Holds n P root free m → root ≢ 0 → IsRooted n P root free m
+rooted n P root free m holds some = ⊎_elim (λ bare. absurd (some bare.root_is)) (λ r. r) holds.held
+
+-- no root: a map without rows
+pub no_root : (n : ℕ) (P : Image) (root : ℕ) (free : List ℕ) (m : KeyMap) (key : List ℕ) → Holds n P root free m → root ≡ 0 → get m key ≡ None
+no_root n P root free m key holds none = get-entries m key ∙ ap (find key_cmp key) (⊎_elim
+    (λ bare. bare.none)
+    (λ r. let some = (r.sound.below (page_of r.tree) (owns_page r.tree)).0 in let there = r.root_is in absurd (omega arith))
+    holds.held)
+
+-- the level that the root's page says
+pub level_there : (n : ℕ) (P : Image) (root : ℕ) (free : List ℕ) (m : KeyMap) (r : IsRooted n P root free m) (bytes : List ℕ) (level : ℕ) → bytes ≡ P root → ((node : Node) → IsNode bytes node → level ≡ node.level) → level ≡ r.level
+level_there n P root free m r bytes level there told =
+    let node = node_of P r.level [] None r.tree r.stands in
+    told node.0 (subst (λ b. IsNode b node.0) (sym (there ∙ ap P (sym r.root_is))) node.1) ∙ node.2
+
+abbrev pub can_get : (n : ℕ) (P : Image) (root : ℕ) (free : List ℕ) (m : KeyMap) (r : IsRooted n P root free m) (key bytes : List ℕ) (level : ℕ) → bytes ≡ P root → level ≡ r.level → CanGet n P level key bytes
+can_get n P root free m r key bytes level there same = record {
+  tree = r.tree;
+  low = [];
+  high = None;
+  tree_is = subst (λ d. IsTree P d [] None r.tree) (sym same) r.stands;
+  page_is = there ∙ ap P (sym r.root_is);
+  below = λ q own. (r.sound.below q own).1;
+  between = every_key key;
+}
+
+pub found_rows : (n : ℕ) (P : Image) (root : ℕ) (free : List ℕ) (m : KeyMap) (r : IsRooted n P root free m) (key : List ℕ) → find key_cmp key (rows r.tree) ≡ get m key
+found_rows n P root free m r key = ap (find key_cmp key) r.rows_are ∙ sym (get-entries m key)

@@ -1,0 +1,42 @@
+-- What a look-up below a page needs.
+use Rattle.std.specs.Prelude.{◌≡◌, ◌⊎◌, ◌<◌, ℕ, List, take, Option, true}
+use Rattle.std.specs.Option.{option_map}
+use Rattle.sector_device.specs.Disk.{Image}
+use Rattle.sector_device.specs.declared.SectorDevice.{Ghosts}
+use Rattle.page_store.specs.Transactions.{stored, disk_in, has_halted, HasFailed}
+use Rattle.page_store.specs.declared.pages.Pages.{Pages}
+use Rattle.page_node.specs.Node.{Node, IsNode}
+use Rattle.page_btree.specs.Keys.{IsBetween}
+use Rattle.page_btree.specs.Tree.{Tree, IsTree, page_of, owns}
+use Rattle.page_btree.specs.declared.error.TreeError.{TreeError}
+use Rattle.page_btree.specs.declared.error.TreeError.TheVariants.{DeviceFault, Halted, NoPages, TooDeep, Memory}
+
+-- the bytes are those of a tree's page, whose range has the key
+pub record CanGet (n : ℕ) (P : Image) (d : ℕ) (key page : List ℕ) : Type 0 where
+  pub tree : Tree
+  pub low : List ℕ
+  pub high : Option (List ℕ)
+  pub tree_is : IsTree P d low high tree
+  pub page_is : page ≡ P (page_of tree)
+  pub below : (q : ℕ) → owns tree q → q < n
+  pub between : IsBetween low high key
+
+-- the value is the front of a buffer, or there is none
+abbrev pub IsCopied : Option ℕ → List ℕ → Option (List ℕ) → Type 0
+IsCopied length_is into value = option_map (λ length. take length into) length_is ≡ value
+
+module _ {D : Type 0} {g : Ghosts D} where
+  -- why a call that reads is refused, where the pages are such
+  abbrev pub ReadsErr : (Image → Type 0) → Pages D g → Pages D g → TreeError → Type 0
+  ReadsErr can old new DeviceFault = HasFailed old new ⊎ ((disk_in new).is_honest → can (stored old) → ⊥)
+  ReadsErr can old new Halted = has_halted old ≡ true
+  ReadsErr can old new NoPages = ⊥
+  ReadsErr can old new TooDeep = ⊥
+  ReadsErr can old new Memory = ⊥
+
+-- a page of n is one of a node of a level
+pub record IsLevel (n : ℕ) (P : Image) (d page : ℕ) : Type 0 where
+  pub node : Node
+  pub node_is : IsNode (P page) node
+  pub level_is : node.level ≡ d
+  pub below : page < n

@@ -1,0 +1,122 @@
+//! Looks a key up.
+ghost use Rattle.std.specs.Prelude.{◌≡◌, ◌≤◌, ◌<◌, ◌-◌, ◌^◌, ℕ, List, Option, Some, None, OnOk, OnErr, IfOk, IfErr, IfSome};
+ghost use Rattle.std.specs.FinMap.{find, get as row_at};
+ghost use Rattle.sector_device.specs.Disk.{Image};
+ghost use Rattle.page_store.specs.Transactions.{stored, disk_in, count_of, txn_pages, over, IsQuiet, Passed};
+ghost use Rattle.page_node.specs.Entries.{Entry};
+ghost use Rattle.page_node.specs.Node.{Node, IsNode};
+ghost use Rattle.page_node.specs.Places.{key_cmp, Rises};
+ghost use Rattle.page_btree.specs.Keys.{KeyMap};
+ghost use Rattle.page_btree.specs.Tree.{rows};
+ghost use Rattle.page_btree.specs.Map.{InTxn};
+ghost use Rattle.page_btree.specs.Errors.{GetErr};
+ghost use Rattle.page_btree.specs.Getting.{CanGet, IsCopied, IsLevel, ReadsErr};
+
+use crate::error::TreeError;
+use page_node::{child_for, level_of, value_for};
+use page_store::{Pages, Txn};
+use sector_device::SectorDevice;
+
+/// Looks a key up, and copies its value to the front of a buffer: how many bytes it has, or none where the key isn't there. It
+/// takes no memory. An error is `DeviceFault`, where the device failed or holds what no store has, or `Halted`, where it had
+/// failed before.
+pub fn get<D: SectorDevice>(
+    txn: &Txn,
+    pages: &mut Pages<D>,
+    key: &[u8],
+    into: &mut [u8; 1024],
+) -> Result<Option<usize>, TreeError>
+    requires begun { txn_pages txn.now ≡ count_of pages.old }
+    ensures quiet { IsQuiet pages.old pages.new }
+    ensures get { (disk_in pages.new).is_honest → (m : KeyMap) → InTxn txn.now (stored pages.old) m → IfOk result (λ found. IsCopied found into.new (row_at m key.now)) }
+    ensures short { IfOk result (λ found. IfSome found (λ length_is. length_is ≤ 1024)) }
+    ensures passed { OnOk result (Passed pages.old pages.new) }
+    ensures err { IfErr result (λ e. GetErr txn.now pages.old pages.new e) }
+{
+    let root = txn.root();
+    if root == 0 {
+        return Ok(None);
+    }
+    let mut page = [0; 4096];
+    txn.read(pages, root, &mut page)?;
+    let level = level_of(&page);
+    if level > 5 {
+        return Err(TreeError::DeviceFault);
+    }
+    get_below(txn, pages, &mut page, level, key, into)
+}
+
+/// Looks a key up below a page, whose bytes were read and which is one of a node of this level.
+fn get_below<D: SectorDevice>(
+    txn: &Txn,
+    pages: &mut Pages<D>,
+    page: &mut [u8; 4096],
+    level: u8,
+    key: &[u8],
+    into: &mut [u8; 1024],
+) -> Result<Option<usize>, TreeError>
+    requires begun { txn_pages txn.now ≡ count_of pages.old }
+    ensures value { (disk_in pages.new).is_honest → (can : CanGet (txn_pages txn.now) (over txn.now (stored pages.old)) level key.now page.old) → IfOk result (λ found. IsCopied found into.new (find key_cmp key.now (rows can.tree))) }
+    ensures quiet { IsQuiet pages.old pages.new }
+    ensures short { IfOk result (λ found. IfSome found (λ length_is. length_is ≤ 1024)) }
+    ensures passed { OnOk result (Passed pages.old pages.new) }
+    ensures err { IfErr result (λ e. ReadsErr (λ P. CanGet (txn_pages txn.now) (over txn.now P) level key.now page.old) pages.old pages.new e) }
+{
+    if level == 0 {
+        let found = copy_value(page, key, into)?;
+        return Ok(found);
+    }
+    let child = child_for(page, key)?;
+    read_level(txn, pages, child, level - 1, page)?;
+    get_below(txn, pages, page, level - 1, key, into)
+}
+
+/// Copies the value of a key in a leaf.
+fn copy_value(
+    page: &[u8; 4096],
+    key: &[u8],
+    into: &mut [u8; 1024],
+) -> Result<Option<usize>, TreeError>
+    ensures value { (node : Node) → IsNode page.now node → Rises node.entries → IfOk result (λ found. IsCopied found into.new (find key_cmp key.now node.entries)) }
+    ensures short { IfOk result (λ found. IfSome found (λ length_is. length_is ≤ 1024)) }
+    ensures err { IfErr result (λ e. e ≡ TreeError.DeviceFault) }
+    ensures refused { OnErr result ((node : Node) → IsNode page.now node → Rises node.entries → ⊥) }
+{
+    match value_for(page, key)? {
+        None => Ok(None),
+        Some(value) => {
+            if value.len() > 1024 {
+                return Err(TreeError::DeviceFault);
+            }
+            into[..value.len()].copy_from_slice(value);
+            Ok(Some(value.len()))
+        }
+    }
+}
+
+/// Reads the page of a node of this level.
+pub(crate) fn read_level<D: SectorDevice>(
+    txn: &Txn,
+    pages: &mut Pages<D>,
+    p: u32,
+    level: u8,
+    page: &mut [u8; 4096],
+) -> Result<(), TreeError>
+    requires begun { txn_pages txn.now ≡ count_of pages.old }
+    ensures quiet { IsQuiet pages.old pages.new }
+    ensures reads { (disk_in pages.new).is_honest → OnOk result (page.new ≡ over txn.now (stored pages.old) p) }
+    ensures below { OnOk result (p < txn_pages txn.now) }
+    ensures few { txn_pages txn.now ≤ 2 ^ 32 }
+    ensures passed { OnOk result (Passed pages.old pages.new) }
+    ensures err { IfErr result (λ e. ReadsErr (λ P. IsLevel (txn_pages txn.now) (over txn.now P) level p) pages.old pages.new e) }
+{
+    let count = txn.page_count();
+    if p >= count {
+        return Err(TreeError::DeviceFault);
+    }
+    txn.read(pages, p, page)?;
+    if level_of(page) != level {
+        return Err(TreeError::DeviceFault);
+    }
+    Ok(())
+}
