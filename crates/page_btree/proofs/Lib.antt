@@ -15,3 +15,7 @@ pub mod Down
 pub mod Descent
 pub mod Tops
 pub mod Refusals
+pub mod Edits
+pub mod Removals
+pub mod Steps
+pub mod Lefts

@@ -5,3 +5,4 @@ pub mod Errors
 pub mod Putting
 pub mod Laws
 pub mod Getting
+pub mod Removing

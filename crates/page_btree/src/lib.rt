@@ -5,9 +5,11 @@ mod error;
 mod gets;
 mod kept;
 mod puts;
+mod removes;
 mod tree;
 
 pub use error::TreeError;
 pub use gets::get;
 pub use kept::laws;
 pub use puts::put;
+pub use removes::remove;
