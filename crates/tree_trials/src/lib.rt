@@ -2,4 +2,6 @@
 #![tactic(auto)]
 
 #[cfg(test)]
+mod long_trials;
+#[cfg(test)]
 mod row_trials;
