@@ -1,5 +1,2 @@
-pub mod Audits
 pub mod Clerks
 pub mod Codes
-pub mod Kept
-pub mod Patches

@@ -3,10 +3,11 @@ ghost use Rattle.std.specs.Prelude.{◌≡◌, ◌≤◌, IfOk, IfErr};
 ghost use Rattle.std.specs.Option.{option_map};
 ghost use Rattle.std.specs.FinMap as map_of;
 ghost use Rattle.desk_model.specs.Step.{step, revision_limit};
-ghost use Rattle.desk_store.specs.Audits.{AskMay};
-ghost use Rattle.desk_store.specs.Clerks.{ClerkMay, ClerkRefuses, IsPrepared, acceptance, revisions_after};
+ghost use Rattle.desk_catalogue.specs.Accepting.{acceptance, revisions_after};
+ghost use Rattle.desk_catalogue.specs.Audits.{AskMay};
+ghost use Rattle.desk_store.specs.Clerks.{ClerkMay, ClerkRefuses, IsPrepared};
 
-use crate::catalogue::Catalogue;
+use desk_catalogue::catalogue::Catalogue;
 use desk_model::command::{Command, Query};
 use desk_model::geography::Geography;
 use desk_model::reply::{Refusal, Reply};
@@ -57,7 +58,8 @@ pub struct Ready {
 impl Model for Ready {
     ghost use Rattle.std.specs.Prelude.{◌≤◌};
     ghost use Rattle.desk_model.specs.Step.{revision_limit};
-    ghost use Rattle.desk_store.specs.Clerks.{Prepared, acceptance, revisions_after};
+    ghost use Rattle.desk_catalogue.specs.Accepting.{acceptance, revisions_after};
+    ghost use Rattle.desk_store.specs.Clerks.{Prepared};
     ghost use Rattle.desk_store.specs.Codes.{coded_prepared};
 
     ghost Value = { Prepared };
@@ -127,7 +129,7 @@ pub struct Clerk {
 
 impl Model for Clerk {
     ghost use Rattle.desk_model.specs.Desk.{Desk};
-    ghost use Rattle.desk_store.specs.Codes.{coded_desk};
+    ghost use Rattle.desk_catalogue.specs.Codes.{coded_desk};
 
     ghost Value = { Desk };
 

@@ -1,9 +1,4 @@
-//! The desk's plans and its clerk: a catalogue that answers queries, and a clerk that changes what it shows.
+//! The desk's clerk, who changes what is shown and answers queries.
 #![tactic(auto)]
 
-mod blocks;
-pub mod catalogue;
 pub mod clerk;
-mod patch;
-mod posted;
-mod report;

@@ -1,7 +1,7 @@
 //! The clerk at the counter, alone with the desk.
 ghost use Rattle.std.specs.Prelude.{◌≡◌};
 ghost use Rattle.desk_store.specs.Clerks.{ClerkMay};
-ghost use Rattle.desk_store.specs.Audits.{AskMay};
+ghost use Rattle.desk_catalogue.specs.Audits.{AskMay};
 
 use crate::counter::Counter;
 use desk_model::command::{Command, Query};

@@ -2,3 +2,17 @@ pub mod OneList
 pub mod OneChunk
 pub mod OneGeography
 pub mod OneDesk
+pub mod TidyParts
+pub mod TidyPlans
+pub mod TidyLoads
+pub mod TidyFree
+pub mod PartNumbers
+pub mod TidyRevisions
+pub mod PutAll
+pub mod RevisionPuts
+pub mod SweepPlans
+pub mod SweepLoads
+pub mod NewChunks
+pub mod RevisionDesk
+pub mod Clean
+pub mod SweepRows

@@ -3,9 +3,14 @@ pub mod GeographyRows
 pub mod RevisionRows
 pub mod DeskRows
 pub mod Tidy
+pub mod Steps
 pub mod Frames
 pub mod Puts
 pub mod ChunkRows
+pub mod NameRows
 pub mod Changes
 pub mod Staging
+pub mod RevisionSteps
 pub mod Laws
+pub mod TidyLaws
+pub mod SweepLaws

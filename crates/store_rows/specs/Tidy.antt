@@ -1,10 +1,10 @@
 -- What is kept from the first day on, so that rows which nothing needs can be told from those that something does, and so that
 -- no number is used again.
-use Rattle.std.specs.Prelude.{◌≡◌, ◌⊎◌, ◌<◌, ◌^◌, ℕ, List, [], Some, None, Contains, MatchOption}
+use Rattle.std.specs.Prelude.{◌≡◌, ◌⊎◌, ◌<◌, ◌≤◌, ◌^◌, ℕ, List, [], Some, None, Contains, MatchOption}
 use Rattle.std.specs.FinMap as map_of
 use Rattle.store_keys.specs.Keys.{RowKey, key_of, Fits, counters, retired, begun, named, part, seal, block, pair, chunk}
 use Rattle.store_keys.specs.Values.{counters_bytes, plan_bytes, seal_bytes}
-use Rattle.store_keys.specs.Lists.{chunks_bytes, AreChunks}
+use Rattle.store_keys.specs.Lists.{chunks_bytes, districts_bytes, AreChunks, AreDistricts}
 use Rattle.store_keys.specs.declared.value.Counters.{Counters}
 use Rattle.store_keys.specs.declared.value.PlanRow.{PlanRow}
 use Rattle.store_keys.specs.declared.value.SealRow.{SealRow}
@@ -17,6 +17,12 @@ no_numbers = record { plan = 0; chunk = 0; load = 0 }
 -- the numbers that the next plan, chunk and load get
 abbrev pub IsNext : KeyMap → Counters → Type 0
 IsNext m next = MatchOption (row_in m counters) (next ≡ no_numbers) (λ value. value ≡ counters_bytes next)
+
+-- they fit in their row, so that the row tells them
+pub record CountersFit (next : Counters) : Type 0 where
+  pub plan_fits : next.plan < 2 ^ 64
+  pub chunk_fits : next.chunk < 2 ^ 64
+  pub load_fits : next.load < 2 ^ 64
 
 -- the row of a plan that has this number
 pub record IsNumbered (m : KeyMap) (name : List ℕ) (number : ℕ) : Type 0 where
@@ -63,16 +69,39 @@ pub record AreOwned (m : KeyMap) : Type 0 where
   pub chunks : (number index : ℕ) (value : List ℕ) → Fits (chunk number index) → Has m (chunk number index) value → (plan : ℕ) × IsNamedBy m plan number
   pub blocks : (load place : ℕ) (value : List ℕ) → Fits (block load place) → Has m (block load place) value → IsLoad m load
   pub pairs : (load place : ℕ) (value : List ℕ) → Fits (pair load place) → Has m (pair load place) value → IsLoad m load
+  -- the sealed load is none of those that were begun
+  pub ended : (sealed : SealRow) → sealed.load < 2 ^ 64 → Has m seal (seal_bytes sealed) → row_in m (begun sealed.load) ≡ None
 
 -- each chunk belongs to one plan
 pub record HasOwners (m : KeyMap) : Type 0 where
   pub owner : ℕ → ℕ
   pub is : (plan number : ℕ) → IsNamedBy m plan number → owner number ≡ plan
 
+-- the value of a part of a revision, and of a piece of a chunk
+abbrev pub IsPart : List ℕ → Type 0
+IsPart value = (numbers : List ℕ) × AreChunks numbers × (value ≡ chunks_bytes numbers)
+
+abbrev pub IsPiece : List ℕ → Type 0
+IsPiece value = (districts : List ℕ) × AreDistricts districts × (value ≡ districts_bytes districts)
+
+-- Each part of a revision says which chunks it names, and each piece of a chunk its districts, also where no plan has them any more.
+-- A plan that is there has no part beyond the revisions that its row counts.
+pub record AreCounted (m : KeyMap) : Type 0 where
+  pub parts : (plan revision index : ℕ) (value : List ℕ) → Fits (part plan revision index) → Has m (part plan revision index) value → IsPart value
+  pub pieces : (number piece : ℕ) (value : List ℕ) → Fits (chunk number piece) → Has m (chunk number piece) value → IsPiece value
+  pub counted : (name : List ℕ) (p : PlanRow) → p.number < 2 ^ 64 → p.revisions < 2 ^ 32 → Has m (named name) (plan_bytes p)
+      → (revision index : ℕ) (value : List ℕ) → Fits (part p.number revision index) → Has m (part p.number revision index) value → (0 < revision) × (revision ≤ p.revisions)
+
 pub record Tidy (m : KeyMap) : Type 0 where
   pub next : Counters
   pub is_next : IsNext m next
+  pub fits : CountersFit next
   pub rows : AreRows m
   pub below : AreBelow m next
   pub owned : AreOwned m
   pub owners : HasOwners m
+  pub counted : AreCounted m
+
+-- and these are its counters
+abbrev pub TidyWith : KeyMap → Counters → Type 0
+TidyWith m next = (tidy : Tidy m) × (tidy.next ≡ next)

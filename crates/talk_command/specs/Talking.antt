@@ -6,7 +6,7 @@ use Rattle.desk_model.specs.declared.reply.Reply.{Reply}
 use Rattle.desk_model.specs.Desk.{Desk}
 use Rattle.desk_model.specs.Sample.{sample_desk}
 use Rattle.desk_store.specs.Clerks.{ClerkMay}
-use Rattle.desk_store.specs.Audits.{AskMay}
+use Rattle.desk_catalogue.specs.Audits.{AskMay}
 use Rattle.byte_stream.specs.Counts.{counted}
 use Rattle.http_desk.specs.Serving.{Serves, read_failures, write_failures}
 use Rattle.http_desk.specs.declared.serve.Served.{Served}

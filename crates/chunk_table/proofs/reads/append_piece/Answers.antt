@@ -1,0 +1,38 @@
+use Rattle.std.proofs.Common.{◌≡◌, ◌<◌, ◌*◌, ◌++◌, List, ℕ, length, take, drop, Some, inr, ap, sym, subst, ◌∙◌, arith}
+use Rattle.std.specs.FinMap.{get}
+use Rattle.store_keys.specs.Lists.{districts_bytes}
+use Rattle.store_keys.specs.ListLaws.{districts_differ}
+use Rattle.row_table.specs.Outcomes.{match_of}
+use Rattle.row_table.specs.Reading.{HasRow, one_value}
+use Rattle.row_table.specs.Appending.{HasAppended, AppendErr, unread_unappended}
+use Rattle.chunk_table.specs.Reading.{IsChunk}
+use Rattle.chunk_table.proofs.Pieces.{piece_there, piece_is}
+use Rattle.chunk_table.proofs.reads.append_piece.Goals as goal
+
+pub returns-in_err-length-clause-append : goal.returns-in_err-length-clause-append
+returns-in_err-length-clause-append g c =
+    let says = IsChunk c.args.number c.args.count in
+    let error = c.in_err-length.field-0.0 in
+    let a = c.args.pages.now in
+    let b = c.read_row.new.pages in
+    match_of c.from_residual.result (λ _. HasAppended says (λ districts. take 512 (drop (512 * c.args.index) districts)) c.args.txn.now a b c.args.into.now.items c.args.into.now.items) error (λ e. AppendErr says c.args.txn.now a b e) c.from_residual.ensures.1
+    (unread_unappended (HasRow c.chunk.result) says c.args.txn.now a b error
+    (λ m districts said. (districts_bytes (take 512 (drop (512 * c.args.index) districts)), piece_there m c.args.number c.args.count c.args.index districts c.chunk.result said c.chunk.ensures c.requires.index c.requires.within))
+    c.in_err-length.ensures.err)
+
+pub returns-in_default-clause-append : goal.returns-in_default-clause-append
+returns-in_default-clause-append g c = inr (λ honest m districts holds said.
+    let piece = take 512 (drop (512 * c.args.index) districts) in
+    let read = one_value c.chunk.result _ (districts_bytes piece) m (c.in_ok-length.ensures.read honest m holds) (piece_there m c.args.number c.args.count c.args.index districts c.chunk.result said c.chunk.ensures c.requires.index c.requires.within) in
+    c.in_default.ensures piece (piece_is m c.args.number c.args.count c.args.index districts said c.requires.within) (sym read))
+
+pub returns-in-Ok-clause-append : goal.returns-in-Ok-clause-append
+returns-in-Ok-clause-append g c = record {
+  passed = c.in_ok-length.ensures.passed;
+  appended = λ honest m districts holds said.
+      let piece = take 512 (drop (512 * c.args.index) districts) in
+      let read = one_value c.chunk.result _ (districts_bytes piece) m (c.in_ok-length.ensures.read honest m holds) (piece_there m c.args.number c.args.count c.args.index districts c.chunk.result said c.chunk.ensures c.requires.index c.requires.within) in
+      let told = c.in-Some.ensures in
+      let same : c.in-Some.piece.items ≡ piece = districts_differ c.in-Some.piece.items piece told.0 (piece_is m c.args.number c.args.count c.args.index districts said c.requires.within) (told.1 ∙ read) in
+      c.in-Ok.ensures.items ∙ ap (λ (l : List ℕ). c.args.into.now.items ++ l) (c.as_slice.ensures.value ∙ same);
+}

@@ -1,0 +1,65 @@
+-- Revisions that have a district for each block.
+use Rattle.std.proofs.Common.{◌≡◌, ℕ, zero, suc, Bool, true, false, cond, List, [], ◌∷◌, ◌++◌, length, map, All, Option, Some, None, Result, Ok, Err, IsOkAnd, arith, refl, ap, sym, ◌∙◌}
+use Rattle.std.specs.Prelude.{unwrap_or}
+use Rattle.std.specs.FinMap as map_of
+use Rattle.std.specs.FinMap.{get-empty, get-insert, get-remove}
+use Rattle.std.specs.Ordering.{eq_by_cmp}
+use Rattle.std.specs.Cmp.Lexicographic.{nat_list_cmp_total}
+use Rattle.std.proofs.lemmas.List.Elements.{All-append}
+use Rattle.desk_model.specs.declared.block.BlockRow.{BlockRow}
+use Rattle.desk_model.specs.Baf.{Values, Fault, value_at}
+use Rattle.desk_model.specs.Geography.{Ground, ids_of}
+use Rattle.desk_model.specs.Desk.{Plan, name_cmp}
+use Rattle.desk_model.specs.Step.{whole}
+use Rattle.baf_text.specs.Listed.{listed_of}
+use Rattle.desk_catalogue.specs.Kept.{AreWhole, IsWhole}
+
+pub none_whole : (geography : Option Ground) → AreWhole geography map_of.empty
+none_whole geography g name p geo there = let clash : None ≡ Some p = sym (get-empty name_cmp name) ∙ there in absurd (cc)
+
+module _ (geography : Option Ground) (plans : map_of.FinMap name_cmp Plan) (name : List ℕ) (v : Plan) (was : AreWhole geography plans)
+    (is : (g : Ground) → geography ≡ Some g → All (λ (d : List ℕ). length d ≡ length g.blocks) v.revisions) where
+  by_name : (g : Ground) (q : List ℕ) (p : Plan) → geography ≡ Some g → (b : Bool) → cond b (Some v) (map_of.get plans q) ≡ Some p
+      → All (λ (d : List ℕ). length d ≡ length g.blocks) p.revisions
+  by_name g q p geo true same = let e : v ≡ p = cc in rw e at (is g geo)
+  by_name g q p geo false there = was g q p geo there
+
+  pub inserted_whole : AreWhole geography (map_of.insert plans name v)
+  inserted_whole g q p geo there = by_name g q p geo (eq_by_cmp name_cmp q name) (sym (get-insert nat_list_cmp_total plans name v q) ∙ there)
+
+-- a plan less
+pub removed_whole : (geography : Option Ground) (plans : map_of.FinMap name_cmp Plan) (name : List ℕ) → AreWhole geography plans → AreWhole geography (map_of.remove plans name)
+removed_whole geography plans name was g q p geo there = by_name (eq_by_cmp name_cmp q name) (sym (get-remove nat_list_cmp_total plans name q) ∙ there)
+  where
+    by_name : (b : Bool) → cond b None (map_of.get plans q) ≡ Some p → All (λ (d : List ℕ). length d ≡ length g.blocks) p.revisions
+    by_name true clash = absurd (cc)
+    by_name false found = was g q p geo found
+
+-- no revision
+pub no_revision : (g : Ground) → All (λ (d : List ℕ). length d ≡ length g.blocks) []
+no_revision g k d less = absurd (omega arith)
+
+-- one revision more
+revision_more : (g : Ground) (revisions : List (List ℕ)) (districts : List ℕ) → length districts ≡ length g.blocks → All (λ (d : List ℕ). length d ≡ length g.blocks) revisions
+    → All (λ (d : List ℕ). length d ≡ length g.blocks) (revisions ++ districts ∷ [])
+revision_more g revisions districts is were = All-append (λ (d : List ℕ). length d ≡ length g.blocks) revisions (districts ∷ []) were one
+  where
+    one : All (λ (d : List ℕ). length d ≡ length g.blocks) (districts ∷ [])
+    one zero d less = is
+    one (suc k) d less = absurd (omega arith)
+
+-- a plan with one revision more
+pub revised_whole : (geography : Option Ground) (plans : map_of.FinMap name_cmp Plan) (name : List ℕ) (p : Plan) (districts : List ℕ) → AreWhole geography plans
+    → map_of.get plans name ≡ Some p → IsWhole geography (Some districts) → AreWhole geography (map_of.insert plans name (record p { revisions = p.revisions ++ districts ∷ [] }))
+revised_whole geography plans name p districts was found is =
+    inserted_whole geography plans name (record p { revisions = p.revisions ++ districts ∷ [] }) was (λ g there. revision_more g p.revisions districts (is g districts there refl) (was g name p there found))
+
+pub in_turn : (values : Values) (blocks : List BlockRow) → map (λ (d : Option ℕ). unwrap_or d 0) (map (value_at values) (ids_of blocks)) ≡ map (λ (b : BlockRow). unwrap_or (value_at values b.id) 0) blocks
+in_turn values [] = refl
+in_turn values (b ∷ bs) = ap (λ (more : List ℕ). unwrap_or (value_at values b.id) 0 ∷ more) (in_turn values bs)
+
+-- what was read is the assignment of the whole
+pub read_whole : (reading : Result Values Fault) (g : Ground) (listed : List (Option ℕ)) (districts : List ℕ) → IsOkAnd reading (λ values. listed ≡ listed_of g values)
+    → districts ≡ map (λ (d : Option ℕ). unwrap_or d 0) listed → IsOkAnd reading (λ values. districts ≡ whole g values)
+read_whole (Err f) g listed districts said is = said
+read_whole (Ok values) g listed districts said is = is ∙ ap (map (λ (d : Option ℕ). unwrap_or d 0)) said ∙ in_turn values g.blocks

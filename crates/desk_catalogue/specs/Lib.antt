@@ -1,0 +1,5 @@
+pub mod Audits
+pub mod Accepting
+pub mod Codes
+pub mod Kept
+pub mod Patches

@@ -1,0 +1,342 @@
+//! A desk that doesn't change: what is shown.
+ghost use Rattle.std.specs.Prelude.{◌≡◌, ℕ, ◌<◌, List, ◌++◌, ◌∷◌, [], length, IfOk, IfErr, IsSome, IsTrue, Some, Ok, Err};
+ghost use Rattle.std.specs.Option.{option_map, option_copied};
+ghost use Rattle.std.specs.FinMap as map_of;
+ghost use Rattle.desk_model.specs.Step.{revision_limit};
+ghost use Rattle.desk_model.specs.Subject.{senate_companion as senate_companion_of, senate_revision as senate_revision_of, takes_senate};
+ghost use Rattle.desk_catalogue.specs.Audits.{AskMay};
+ghost use Rattle.desk_catalogue.specs.Accepting.{IsAfter, IsRevisable, StepRefuses};
+ghost use Rattle.desk_catalogue.specs.Kept.{AreWhole, HasWhole, IsWhole};
+
+use crate::blocks::blocks_text;
+use crate::patch::patched_districts;
+use crate::posted::districts_of;
+use crate::report::report;
+use baf_text::writing::write;
+use desk_model::command::{Command, Query};
+use desk_model::geography::Geography;
+use desk_model::kind::Kind;
+use desk_model::name::PlanName;
+use desk_model::reply::{Refusal, Reply};
+use desk_model::size::PlanSize;
+use desk_model::text::Text;
+use desk_plans::entry::{Entry, REVISION_LIMIT};
+use desk_plans::plans::Plans;
+use std::alloc::{AllocError, Global};
+use std::marker::Model;
+use std::sync::Arc;
+
+/// A desk has this many plans at most.
+pub const PLAN_LIMIT: usize = 65_535;
+
+/// A geography or none, and plans by their names. Catalogues share what didn't change between them.
+#[derive(Drop)]
+pub struct Catalogue {
+    geography: Option<Arc<Geography>>,
+    plans: Plans,
+}
+
+impl Model for Catalogue {
+    ghost use Rattle.std.specs.Option.{option_map};
+    ghost use Rattle.desk_model.specs.Desk.{Desk};
+    ghost use Rattle.desk_catalogue.specs.Codes.{coded_desk};
+
+    ghost Value = { Desk };
+
+    ghost coded = { coded_desk };
+
+    ghost use Rattle.desk_catalogue.specs.Kept.{AreWhole};
+
+    ghost view = { λ a. record { geography = option_map (λ g. g.value) a.geography; plans = a.plans } };
+
+    ghost invariant = { λ a. AreWhole (option_map (λ g. g.value) a.geography) a.plans };
+}
+
+impl Catalogue {
+    /// A catalogue with no plan.
+    pub fn new(geography: Option<Arc<Geography>>) -> Catalogue
+        ensures { result ≡ record { geography = option_map (λ g. g.value) geography; plans = map_of.empty } }
+    {
+        Catalogue {
+            geography,
+            plans: Plans::new(),
+        }
+    }
+
+    /// The geography that is sealed.
+    pub fn geography(&self) -> Option<&Geography>
+        ensures { option_copied result ≡ self.now.geography }
+    {
+        match &self.geography {
+            Some(geography) => Some(geography),
+            None => None,
+        }
+    }
+
+    /// The answer to a query; Memory only where memory for it was refused.
+    pub fn ask(&self, alloc: Global, query: Query) -> Reply
+        ensures { AskMay self.now query result }
+    {
+        match query {
+            Query::Plans => match self.plans.rows(alloc) {
+                Ok(rows) => Reply::Plans(rows),
+                Err(_) => Reply::Refused(Refusal::Memory),
+            },
+            Query::Blocks => self.blocks(alloc),
+            Query::Revision { plan, k } => self.revision(alloc, &plan, k),
+            Query::Audit { plan, k, senate } => self.audited(alloc, &plan, k, senate),
+        }
+    }
+
+    /// The answer on the blocks.
+    fn blocks(&self, alloc: Global) -> Reply
+        ensures { AskMay self.now Query.Blocks result }
+    {
+        let Some(geography) = self.geography() else {
+            return Reply::Refused(Refusal::NotSealed);
+        };
+        match blocks_text(alloc, geography) {
+            Ok(text) => Reply::Blocks(Text::from_vec(text)),
+            Err(_) => Reply::Refused(Refusal::Memory),
+        }
+    }
+
+    /// The answer on a revision of a plan.
+    fn revision(&self, alloc: Global, name: &PlanName, k: u32) -> Reply
+        ensures { AskMay self.now (Query.Revision name.now k) result }
+    {
+        let Some(geography) = self.geography() else {
+            return Reply::Refused(Refusal::NotSealed);
+        };
+        let Some(entry) = self.plans.get(name) else {
+            return Reply::Refused(Refusal::NoPlan);
+        };
+        let Some(districts) = entry.revision(k) else {
+            return Reply::Refused(Refusal::NoRevision);
+        };
+        match write(alloc, districts, geography, entry.kind()) {
+            Ok(text) => Reply::Baf(Text::from_vec(text)),
+            Err(_) => Reply::Refused(Refusal::Memory),
+        }
+    }
+
+    /// Revision `j` of a senate plan, from 1.
+    fn senate_revision(&self, name: &PlanName, j: u32) -> Option<&[u16]>
+        ensures value { option_copied result ≡ senate_revision_of (map_of.get self.now.plans name.now) j }
+        ensures whole { IsWhole self.now.geography (option_copied result) }
+    {
+        let entry = self.plans.get(name)?;
+        if entry.kind() != Kind::Senate {
+            return None;
+        }
+        entry.revision(j)
+    }
+
+    /// The districts of the senate companion that is asked for, if one is, of a plan of the kind.
+    fn senate_companion(
+        &self,
+        kind: Kind,
+        asked: Option<(PlanName, u32)>,
+    ) -> Result<Option<&[u16]>, Refusal>
+        ensures ok { IfOk result (λ senate. senate_companion_of self.now kind asked ≡ Ok (option_copied senate)) }
+        ensures err { IfErr result (λ refusal. senate_companion_of self.now kind asked ≡ Err refusal) }
+        ensures whole { IfOk result (λ senate. IsWhole self.now.geography (option_copied senate)) }
+        ensures of_house { IfOk result (λ senate. IsSome senate → IsTrue (takes_senate kind)) }
+    {
+        let Some((name, j)) = asked else {
+            return Ok(None);
+        };
+        if kind != Kind::House {
+            return Err(Refusal::BadCompanion);
+        }
+        match self.senate_revision(&name, j) {
+            Some(districts) => Ok(Some(districts)),
+            None => Err(Refusal::BadCompanion),
+        }
+    }
+
+    /// The answer to an audit of a revision of a plan, beside the senate companion that is asked for.
+    fn audited(
+        &self,
+        alloc: Global,
+        name: &PlanName,
+        k: u32,
+        asked: Option<(PlanName, u32)>,
+    ) -> Reply
+        ensures { AskMay self.now (Query.Audit name.now k asked) result }
+    {
+        let Some(geography) = self.geography() else {
+            return Reply::Refused(Refusal::NotSealed);
+        };
+        let Some(entry) = self.plans.get(name) else {
+            return Reply::Refused(Refusal::NoPlan);
+        };
+        let Some(districts) = entry.revision(k) else {
+            return Reply::Refused(Refusal::NoRevision);
+        };
+        let senate = match self.senate_companion(entry.kind(), asked) {
+            Ok(senate) => senate,
+            Err(refusal) => return Reply::Refused(refusal),
+        };
+        match report(alloc, geography, entry.kind(), entry.n(), districts, senate) {
+            Ok(text) => Reply::Audited(text),
+            Err(_) => Reply::Refused(Refusal::Memory),
+        }
+    }
+
+    /// The catalogue after a command: Ok where it is accepted, and else its refusal; Memory only where memory for
+    /// the catalogue was refused.
+    pub fn after(&self, alloc: Global, command: &Command) -> Result<Catalogue, Refusal>
+        ensures ok { IfOk result (IsAfter self.now command.now) }
+        ensures err { IfErr result (λ refusal. StepRefuses self.now command.now refusal) }
+    {
+        if self.geography.is_none() {
+            return Err(Refusal::NotSealed);
+        }
+        match command {
+            Command::Create { plan, size } => self.with_plan(alloc, *plan, *size),
+            Command::Whole { plan, after, body } => self.with_whole(alloc, plan, *after, body),
+            Command::Counties { plan, after, body } => self.with_counties(
+                alloc, plan, *after, body,
+            ),
+            Command::Retire { plan } => self.without_plan(alloc, plan),
+        }
+    }
+
+    /// The catalogue with one more plan.
+    fn with_plan(&self, alloc: Global, name: PlanName, size: PlanSize) -> Result<Catalogue, Refusal>
+        requires { IsSome self.now.geography }
+        ensures ok { IfOk result (IsAfter self.now (Command.Create name size)) }
+        ensures err { IfErr result (λ refusal. StepRefuses self.now (Command.Create name size) refusal) }
+    {
+        if self.plans.get(&name).is_some() {
+            return Err(Refusal::PlanExists);
+        }
+        if self.plans.len() >= PLAN_LIMIT {
+            return Err(Refusal::Limit);
+        }
+        let Ok(plans) = self.plans.insert(alloc, Entry::new(alloc, name, size)) else {
+            return Err(Refusal::Memory);
+        };
+        self.with_plans(plans)
+    }
+
+    /// The plan of that name, where it has so many revisions and may have one more.
+    fn revisable(&self, name: &PlanName, after: u32) -> Result<&Entry, Refusal>
+        requires { IsSome self.now.geography }
+        ensures ok { IfOk result (λ entry. IsRevisable self.now name.now after entry.now) }
+        ensures kept { IfOk result (λ entry. HasWhole self.now.geography entry.now.1) }
+        ensures whole { IfErr result (λ refusal. (body : List ℕ) → StepRefuses self.now (Command.Whole name.now after body) refusal) }
+        ensures counties { IfErr result (λ refusal. (body : List ℕ) → StepRefuses self.now (Command.Counties name.now after body) refusal) }
+    {
+        let Some(entry) = self.plans.get(name) else {
+            return Err(Refusal::NoPlan);
+        };
+        let current = entry.count();
+        if after != current {
+            return Err(Refusal::Stale { current });
+        }
+        if current >= REVISION_LIMIT {
+            return Err(Refusal::Limit);
+        }
+        Ok(entry)
+    }
+
+    /// The catalogue with a revision of a plan that a body says whole.
+    fn with_whole(
+        &self,
+        alloc: Global,
+        name: &PlanName,
+        after: u32,
+        body: &Text,
+    ) -> Result<Catalogue, Refusal>
+        ensures ok { IfOk result (IsAfter self.now (Command.Whole name.now after body.now)) }
+        ensures err { IfErr result (λ refusal. StepRefuses self.now (Command.Whole name.now after body.now) refusal) }
+    {
+        let Some(geography) = self.geography() else {
+            return Err(Refusal::NotSealed);
+        };
+        let entry = self.revisable(name, after)?;
+        let districts = districts_of(alloc, body.as_slice(), geography, entry.n())?;
+        self.with_revision(alloc, entry, districts)
+    }
+
+    /// The catalogue with a revision of a plan in which only the counties change that a body lists.
+    fn with_counties(
+        &self,
+        alloc: Global,
+        name: &PlanName,
+        after: u32,
+        body: &Text,
+    ) -> Result<Catalogue, Refusal>
+        ensures ok { IfOk result (IsAfter self.now (Command.Counties name.now after body.now)) }
+        ensures err { IfErr result (λ refusal. StepRefuses self.now (Command.Counties name.now after body.now) refusal) }
+    {
+        let Some(geography) = self.geography() else {
+            return Err(Refusal::NotSealed);
+        };
+        let entry = self.revisable(name, after)?;
+        let last = entry.revision(after);
+        let districts = patched_districts(alloc, body.as_slice(), geography, entry.n(), last)?;
+        self.with_revision(alloc, entry, districts)
+    }
+
+    /// The catalogue with one more revision of a plan that is there.
+    fn with_revision(
+        &self,
+        alloc: Global,
+        entry: &Entry,
+        districts: Vec<u16>,
+    ) -> Result<Catalogue, Refusal>
+        requires found { map_of.get self.now.plans entry.now.0 ≡ Some entry.now.1 }
+        requires few { length entry.now.1.revisions < revision_limit }
+        requires whole { IsWhole self.now.geography (Some districts.items) }
+        ensures ok { IfOk result (λ next. next ≡ record self.now { plans = map_of.insert self.now.plans entry.now.0 (record entry.now.1 { revisions = entry.now.1.revisions ++ districts.items ∷ [] }) }) }
+        ensures err { IfErr result (λ refusal. refusal ≡ Refusal.Memory) }
+    {
+        let Ok(entry) = entry.revised(alloc, districts) else {
+            return Err(Refusal::Memory);
+        };
+        let Ok(plans) = self.plans.replace(alloc, entry) else {
+            return Err(Refusal::Memory);
+        };
+        self.with_plans(plans)
+    }
+
+    /// The catalogue without a plan.
+    fn without_plan(&self, alloc: Global, name: &PlanName) -> Result<Catalogue, Refusal>
+        requires { IsSome self.now.geography }
+        ensures ok { IfOk result (IsAfter self.now (Command.Retire name.now)) }
+        ensures err { IfErr result (λ refusal. StepRefuses self.now (Command.Retire name.now) refusal) }
+    {
+        if self.plans.get(name).is_none() {
+            return Err(Refusal::NoPlan);
+        }
+        let Ok(plans) = self.plans.remove(alloc, name) else {
+            return Err(Refusal::Memory);
+        };
+        self.with_plans(plans)
+    }
+
+    /// The catalogue of the same geography with these plans.
+    fn with_plans(&self, plans: Plans) -> Result<Catalogue, Refusal>
+        requires { AreWhole self.now.geography plans }
+        ensures ok { IfOk result (λ next. next ≡ record self.now { plans = plans }) }
+        ensures err { IfErr result (λ refusal. refusal ≡ Refusal.Memory) }
+    {
+        match shared(&self.geography) {
+            Ok(geography) => Ok(Catalogue { geography, plans }),
+            Err(_) => Err(Refusal::Memory),
+        }
+    }
+}
+
+/// The same geography.
+fn shared(geography: &Option<Arc<Geography>>) -> Result<Option<Arc<Geography>>, AllocError>
+    ensures { IfOk result (λ same. option_map (λ g. g.value) same ≡ option_map (λ g. g.value) geography.now) }
+{
+    match geography {
+        Some(geography) => Ok(Some(geography.clone()?)),
+        None => Ok(None),
+    }
+}

@@ -1,0 +1,8 @@
+use Rattle.desk_pages.specs.Laws.{begun_desk, prepared_desk}
+use Rattle.desk_pages.proofs.laws.desks_are_kept.Goals as goal
+
+pub returns-clause-begun : goal.returns-clause-begun
+returns-clause-begun c = begun_desk
+
+pub returns-clause-prepared : goal.returns-clause-prepared
+returns-clause-prepared c = prepared_desk

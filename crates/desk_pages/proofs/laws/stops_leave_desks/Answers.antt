@@ -1,0 +1,5 @@
+use Rattle.desk_pages.specs.Laws.{opens_desks}
+use Rattle.desk_pages.proofs.laws.stops_leave_desks.Goals as goal
+
+pub returns : goal.returns
+returns c = opens_desks

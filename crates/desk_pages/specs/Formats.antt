@@ -1,0 +1,18 @@
+-- What a format leaves.
+use Rattle.std.specs.Prelude.{◌≡◌, ◌≤◌, ◌<◌, ◌+◌, ℕ}
+use Rattle.sector_device.specs.Disk.{Disk, Image}
+use Rattle.sector_device.specs.declared.SectorDevice.{Ghosts}
+use Rattle.gate_journal.specs.Store.{home}
+use Rattle.desk_pages.specs.Desks.{OpensDesk, new_desk}
+use Rattle.desk_pages.specs.declared.formatting.FormatError.{FormatError}
+use Rattle.desk_pages.specs.declared.formatting.FormatError.TheVariants.{TooSmall, Memory, DeviceFault}
+
+-- each image that a stop may leave opens to the desk without geography and plans
+abbrev pub OpensNew : Disk → Type 0
+OpensNew disk = (c : Image) → disk.leaves c → OpensDesk disk.sectors new_desk c
+
+-- why a device is not formatted: after the first two it is as it was
+abbrev pub FormatErr : {D : Type 0} (g : Ghosts D) → ℕ → D → D → FormatError → Type 0
+FormatErr g J old new TooSmall = ((g.disk old).sectors < home J + 64) × (new ≡ old)
+FormatErr g J old new Memory = (home J + 64 ≤ (g.disk old).sectors) × (new ≡ old)
+FormatErr g J old new DeviceFault = (home J + 64 ≤ (g.disk old).sectors) × ((g.disk new).is_honest → (g.disk old).faults < (g.disk new).faults)

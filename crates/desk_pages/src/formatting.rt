@@ -1,0 +1,43 @@
+//! Makes a device a store without geography and plans.
+ghost use Rattle.std.specs.Prelude.{◌≡◌, ◌≤◌, ◌+◌, OnOk, IfErr};
+ghost use Rattle.gate_journal.specs.Store.{home};
+ghost use Rattle.desk_pages.specs.Formats.{FormatErr, OpensNew};
+
+use page_store::PageError;
+use sector_device::SectorDevice;
+use std::alloc::Global;
+
+/// Why a device is not formatted.
+#[derive(Clone, Copy, Debug, Drop, PartialEq, Eq)]
+pub enum FormatError {
+    /// Fewer than 64 pages would remain. The device is as it was.
+    TooSmall,
+    /// A growth was refused. The device is as it was.
+    Memory,
+    /// The device failed. It is to be formatted again.
+    DeviceFault,
+}
+
+/// Makes a device a store with so many journal pages, 256 to 65,536, whose desk has no geography and no plan. What the device
+/// held is gone; a stop before the end isn't covered: it is formatted again.
+pub fn format<D: SectorDevice>(
+    alloc: Global,
+    device: &mut D,
+    journal_pages: u32,
+) -> Result<(), FormatError>
+    requires least { 256 ≤ journal_pages }
+    requires most { journal_pages ≤ 65536 }
+    ensures sectors { (D.disk device.new).sectors ≡ (D.disk device.old).sectors }
+    ensures honest { (D.disk device.new).is_honest → (D.disk device.old).is_honest }
+    ensures new { (D.disk device.new).is_honest → OnOk result (OpensNew (D.disk device.new)) }
+    ensures passed { (D.disk device.new).is_honest → OnOk result ((D.disk device.new).faults ≡ (D.disk device.old).faults) }
+    ensures ok { OnOk result (home journal_pages + 64 ≤ (D.disk device.old).sectors) }
+    ensures err { IfErr result (λ e. FormatErr D.SectorDevice journal_pages device.old device.new e) }
+{
+    match page_store::format(alloc, device, journal_pages) {
+        Ok(()) => Ok(()),
+        Err(PageError::TooSmall) => Err(FormatError::TooSmall),
+        Err(PageError::Memory) => Err(FormatError::Memory),
+        Err(_) => Err(FormatError::DeviceFault),
+    }
+}

@@ -1,0 +1,7 @@
+//! How many rows a revision writes into a store, county by county.
+#![tactic(auto)]
+
+pub mod laws;
+mod rows;
+
+pub use rows::{differs_in, part_of, revision_rows};

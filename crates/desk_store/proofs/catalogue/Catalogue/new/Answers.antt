@@ -1,5 +1,0 @@
-use Rattle.desk_store.proofs.Whole.{none_whole}
-use Rattle.desk_store.proofs.catalogue.Catalogue.new.Goals as goal
-
-pub invariant_of-result : goal.invariant_of-result
-invariant_of-result c = rw c.new.ensures (none_whole _)

@@ -1,0 +1,32 @@
+use Rattle.std.proofs.Common.{◌≡◌, ◌+◌, ℕ, subst, arith}
+use Rattle.store_rows.specs.Puts.{Row}
+use Rattle.page_store.specs.Stops.{quiet_more}
+use Rattle.row_table.specs.Puts.{HasPut, PutsErr, told_more, told_not_put}
+use Rattle.geo_tables.specs.Rows.{staged_row, staged_rows}
+use Rattle.geo_tables.specs.Staging.{Stages, more_stage}
+use Rattle.geo_tables.proofs.Outcomes.{match_of}
+use Rattle.geo_tables.proofs.puts.put_batch.Goals as goal
+
+pub returns-in_err-put_place-clause-quiet : goal.returns-in_err-put_place-clause-quiet
+returns-in_err-put_place-clause-quiet g c = quiet_more c.args.pages.now c.loop-k.pages c.put_place.new.pages c.loop-k.invariant.put.passed.quiet c.put_place.ensures.quiet
+
+pub returns-in_err-put_place-clause-put : goal.returns-in_err-put_place-clause-put
+returns-in_err-put_place-clause-put g c =
+    let all = staged_rows c.args.load c.args.geography.now c.args.done c.args.rows in
+    let row : ℕ → Row = λ k. staged_row c.args.load c.args.geography.now (c.args.done + k) in
+    match_of c.from_residual.result (λ _. HasPut all c.args.txn.now c.put_place.new.txn c.args.pages.now c.put_place.new.pages) c.in_err-put_place.field-0.0 (PutsErr all c.args.txn.now c.args.pages.now c.put_place.new.pages) c.from_residual.ensures.1
+    (told_not_put row c.loop-k.k c.args.rows c.args.txn.now c.loop-k.txn c.args.pages.now c.loop-k.pages c.put_place.new.pages c.in_err-put_place.field-0.0 c.loop-k-test.true c.loop-k.invariant.put c.put_place.ensures.quiet c.in_err-put_place.ensures.put)
+
+pub loop-k-preserved : goal.loop-k-preserved
+loop-k-preserved g c =
+    let row : ℕ → Row = λ k. staged_row c.args.load c.args.geography.now (c.args.done + k) in
+    record {
+      put = told_more row c.loop-k.k c.args.txn.now c.loop-k.txn c.put_place.new.txn c.args.pages.now c.loop-k.pages c.put_place.new.pages c.loop-k.invariant.put c.in_ok-put_place.ensures.put;
+      begun = c.put_place.ensures.begun;
+      staged = more_stage c.args.load c.args.geography.now c.args.done c.loop-k.k c.loop-k.invariant.staged c.put_place.ensures.staged;
+    }
+
+pub returns-clause-staged : goal.returns-clause-staged
+returns-clause-staged g c =
+    let whole : c.loop-k.k ≡ c.args.rows = omega arith in
+    subst (λ (n : ℕ). Stages c.args.load c.args.geography.now c.args.done n) whole c.loop-k.invariant.staged

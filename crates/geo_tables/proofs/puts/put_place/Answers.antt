@@ -1,0 +1,39 @@
+use Rattle.std.proofs.Common.{[], ◌∷◌, ◌≡◌, ◌<◌, ◌≤◌, ◌-◌, ◌+◌, length, get_or, subst, ap, arith}
+use Rattle.std.specs.Prelude.{MatchResult}
+use Rattle.desk_model.specs.declared.geography.Pair.{Pair}
+use Rattle.store_rows.specs.Puts.{Row}
+use Rattle.row_table.specs.Puts.{HasPut, PutsErr}
+use Rattle.geo_tables.specs.Staging.{read_at, had_at, row_more, block_is, pair_is, fits_here, no_block}
+use Rattle.geo_tables.proofs.puts.put_place.Goals as goal
+
+pub returns-then-place-blocks-clause-put : goal.returns-then-place-blocks-clause-put
+returns-then-place-blocks-clause-put g c =
+    subst (λ (row : Row). MatchResult c.put_block.result (λ _. HasPut (row ∷ []) c.args.txn.now c.put_block.new.txn c.args.pages.now c.put_block.new.pages) (λ e. PutsErr (row ∷ []) c.args.txn.now c.args.pages.now c.put_block.new.pages e))
+    (block_is c.args.load c.args.geography.now c.args.place c.index-blocks-place.result
+    (read_at c.blocks-blocks.result.now c.args.geography.now.blocks c.args.place c.index-blocks-place.result c.blocks-blocks.ensures.value c.if-place-blocks.true c.index-blocks-place.is)) c.put_block.ensures.put
+
+pub returns-then-place-blocks-clause-staged : goal.returns-then-place-blocks-clause-staged
+returns-then-place-blocks-clause-staged g c = λ m staged.
+    let few = c.blocks-blocks.ensures.valid.few in
+    row_more m c.args.load c.args.geography.now c.args.place c.ranges.load.fits (omega arith) (omega arith)
+    (fits_here c.args.geography.now c.args.place c.index-blocks-place.result
+    (read_at c.blocks-blocks.result.now c.args.geography.now.blocks c.args.place c.index-blocks-place.result c.blocks-blocks.ensures.value c.if-place-blocks.true c.index-blocks-place.is) c.put_block.ensures.fits)
+    c.requires.within staged
+
+pub returns-clause-put : goal.returns-clause-put
+returns-clause-put g c =
+    let xs = c.pairs-pairs.result.now in
+    let behind = c.args.place - length c.blocks-blocks.result.now in
+    let none : Pair = record { first = 0; second = 0 } in
+    let some : behind < length xs = omega (arith, ap length c.blocks-blocks.ensures.value, ap length c.pairs-pairs.ensures.value) in
+    let whole : length c.args.geography.now.blocks + behind ≡ c.args.place = omega (arith, ap length c.blocks-blocks.ensures.value) in
+    subst (λ (row : Row). MatchResult c.put_pair.result (λ _. HasPut (row ∷ []) c.args.txn.now c.put_pair.new.txn c.args.pages.now c.put_pair.new.pages) (λ e. PutsErr (row ∷ []) c.args.txn.now c.args.pages.now c.put_pair.new.pages e))
+    (pair_is c.args.load c.args.geography.now c.args.place behind (get_or xs behind none) whole
+    (had_at xs c.args.geography.now.pairs behind none c.pairs-pairs.ensures.value some)) c.put_pair.ensures.put
+
+pub returns-clause-staged : goal.returns-clause-staged
+returns-clause-staged g c = λ m staged.
+    let few = c.blocks-blocks.ensures.valid.few in
+    let more : length c.args.geography.now.blocks ≤ c.args.place = omega (arith, ap length c.blocks-blocks.ensures.value) in
+    row_more m c.args.load c.args.geography.now c.args.place c.ranges.load.fits (omega arith) (omega arith)
+    (no_block c.args.geography.now c.args.place more) c.requires.within staged

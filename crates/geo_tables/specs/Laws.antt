@@ -1,0 +1,48 @@
+-- What holds of the rows of loads.
+use Rattle.std.specs.Prelude.{◌<◌, ◌^◌, ℕ, [], length}
+use Rattle.std.specs.FinMap.{FinMap}
+use Rattle.desk_model.specs.Geography.{Ground, IsGround}
+use Rattle.desk_model.specs.Desk.{Desk, Plan, name_cmp}
+use Rattle.store_keys.specs.Keys.{begun, block, pair, seal}
+use Rattle.store_keys.specs.declared.value.Counters.{Counters}
+use Rattle.store_rows.specs.Rows.{KeyMap, Has, Lacks}
+use Rattle.store_rows.specs.Puts.{put_rows}
+use Rattle.store_rows.specs.GeographyRows.{IsSealed, IsStaged, geography_rows}
+use Rattle.store_rows.specs.DeskRows.{IsDesk}
+use Rattle.store_rows.specs.Changes.{desk_with}
+use Rattle.store_rows.specs.Staging.{desk_without}
+use Rattle.store_rows.specs.Tidy.{IsNext}
+use Rattle.geo_tables.specs.Rows.{begun_rows, load_taken, staged_rows}
+use Rattle.geo_tables.specs.Loads.{sealed_rows}
+
+-- A load that is begun is marked, and the next load gets another number. The desk stays. No row of the load is staged where
+-- none stood under its number.
+pub record LoadBegins (m : KeyMap) (next : Counters) : Type 0 where
+  pub desk : (d : Desk) → IsDesk m d → IsDesk (put_rows m (begun_rows next)) d
+  pub mark : Has (put_rows m (begun_rows next)) (begun next.load) []
+  pub next_is : IsNext (put_rows m (begun_rows next)) (load_taken next)
+  pub unsealed : Lacks m seal → Lacks (put_rows m (begun_rows next)) seal
+  pub staged : (g : Ground) → ((place : ℕ) → place < 2 ^ 32 → Lacks m (block next.load place)) → ((place : ℕ) → place < 2 ^ 32 → Lacks m (pair next.load place)) → IsStaged (put_rows m (begun_rows next)) next.load g 0
+
+abbrev pub LoadsBegin : Type 0
+LoadsBegin = (m : KeyMap) (next : Counters) → LoadBegins m next
+
+-- A batch is no part of the desk, and leaves marks, numbers and the seal as they are.
+pub record BatchIsUnseen (m : KeyMap) (load : ℕ) (g : Ground) (done rows : ℕ) : Type 0 where
+  pub desk : (plans : FinMap name_cmp Plan) → IsDesk m (desk_without plans) → IsDesk (put_rows m (staged_rows load g done rows)) (desk_without plans)
+  pub mark : (other : ℕ) → Has m (begun other) [] → Has (put_rows m (staged_rows load g done rows)) (begun other) []
+  pub next_is : (next : Counters) → IsNext m next → IsNext (put_rows m (staged_rows load g done rows)) next
+  pub unsealed : Lacks m seal → Lacks (put_rows m (staged_rows load g done rows)) seal
+
+abbrev pub BatchesAreUnseen : Type 0
+BatchesAreUnseen = (m : KeyMap) (load : ℕ) (g : Ground) (done rows : ℕ) → BatchIsUnseen m load g done rows
+
+-- Once all rows of a geography are staged, the seal makes it the store's, and that of the desk.
+pub record LoadIsSealed (m : KeyMap) (load : ℕ) (g : Ground) : Type 0 where
+  pub sealed : IsSealed (sealed_rows load g m) load g
+  pub desk : (plans : FinMap name_cmp Plan) → IsDesk m (desk_without plans) → IsDesk (sealed_rows load g m) (desk_with g plans)
+  pub unmarked : Lacks (sealed_rows load g m) (begun load)
+  pub next_is : (next : Counters) → IsNext m next → IsNext (sealed_rows load g m) next
+
+abbrev pub LoadsAreSealed : Type 0
+LoadsAreSealed = (m : KeyMap) (load : ℕ) (g : Ground) → IsStaged m load g (geography_rows g) → IsGround g → load < 2 ^ 64 → length g.pairs < 2 ^ 32 → LoadIsSealed m load g

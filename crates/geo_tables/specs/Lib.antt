@@ -1,0 +1,5 @@
+pub mod Rows
+pub mod Staging
+pub mod Loads
+pub mod LoadRows
+pub mod Laws

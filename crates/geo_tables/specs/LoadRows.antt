@@ -1,0 +1,107 @@
+-- What the rows of a load leave as it is.
+use Rattle.std.specs.Prelude.{◌≡◌, ◌<◌, ◌≤◌, ◌+◌, ◌^◌, ℕ, List, [], ◌∷◌, length, Option, Some, None, MatchOption}
+use Rattle.std.proofs.Common.{zero, suc, refl, sym, ap, subst, ◌∙◌, inl, inr, arith}
+use Rattle.std.specs.FinMap.{FinMap, get, insert, remove}
+use Rattle.std.proofs.lemmas.Bool.{cases_lt}
+use Rattle.desk_model.specs.Geography.{Ground, IsGround}
+use Rattle.desk_model.specs.Desk.{Desk, Plan, name_cmp}
+use Rattle.store_keys.specs.Keys.{key_of, begun, block, counters, in_eight, pair, seal}
+use Rattle.store_keys.specs.Values.{counters_bytes, seal_bytes}
+use Rattle.store_keys.specs.declared.value.Counters.{Counters}
+use Rattle.store_rows.specs.Rows.{KeyMap, SameTag, Has, Lacks, row_in}
+use Rattle.store_rows.specs.Puts.{Row, put_rows, put_rows-append, told_keep}
+use Rattle.store_rows.specs.GeographyRows.{IsSealed, IsStaged, geography_rows}
+use Rattle.store_rows.specs.DeskRows.{IsDesk}
+use Rattle.store_rows.specs.Changes.{desk_with}
+use Rattle.store_rows.specs.Tidy.{IsNext, no_numbers}
+use Rattle.store_rows.specs.Staging.{desk_without, load_sealed, none_staged, staged_unseen}
+use Rattle.store_rows.specs.Frames.{desk_stays, put_is_there, put_keeps_tag, remove_keeps_tag, removed_is_gone, staged_stays, tag_follows}
+use Rattle.geo_tables.specs.Rows.{begun_rows, load_taken, seal_row, staged_row, staged_rows}
+use Rattle.geo_tables.specs.Staging.{is_block, is_pair}
+use Rattle.geo_tables.specs.Loads.{sealed_rows}
+
+-- ---- a load that is begun
+module _ (m : KeyMap) (next : Counters) where
+  begun_tag : (tag : ℕ) → (tag ≡ 76 → ⊥) → (tag ≡ 65 → ⊥) → SameTag tag m (put_rows m (begun_rows next))
+  begun_tag tag not_begun not_counters =
+      let first = insert m (key_of (begun next.load)) [] in
+      tag_follows tag m first (put_rows m (begun_rows next)) (put_keeps_tag m tag 76 (in_eight next.load) [] not_begun) (put_keeps_tag first tag 65 [] (counters_bytes (load_taken next)) not_counters)
+
+  pub begun_desk : (d : Desk) → IsDesk m d → IsDesk (put_rows m (begun_rows next)) d
+  begun_desk d is = desk_stays m (put_rows m (begun_rows next)) d (begun_tag 80 (λ same. absurd (omega arith)) (λ same. absurd (omega arith))) (begun_tag 82 (λ same. absurd (omega arith)) (λ same. absurd (omega arith))) (begun_tag 83 (λ same. absurd (omega arith)) (λ same. absurd (omega arith))) (begun_tag 103 (λ same. absurd (omega arith)) (λ same. absurd (omega arith))) (begun_tag 107 (λ same. absurd (omega arith)) (λ same. absurd (omega arith))) is
+
+  pub begun_mark : Has (put_rows m (begun_rows next)) (begun next.load) []
+  begun_mark =
+      let first = insert m (key_of (begun next.load)) [] in
+      put_keeps_tag first 76 65 [] (counters_bytes (load_taken next)) (λ same. absurd (omega arith)) (in_eight next.load) ∙ put_is_there m (key_of (begun next.load)) []
+
+  pub begun_next : IsNext (put_rows m (begun_rows next)) (load_taken next)
+  begun_next =
+      let first = insert m (key_of (begun next.load)) [] in
+      subst (λ (row : Option (List ℕ)). MatchOption row (load_taken next ≡ no_numbers) (λ value. value ≡ counters_bytes (load_taken next))) (sym (put_is_there first (key_of counters) (counters_bytes (load_taken next)))) refl
+
+  pub begun_unsealed : Lacks m seal → Lacks (put_rows m (begun_rows next)) seal
+  begun_unsealed none = begun_tag 83 (λ same. absurd (omega arith)) (λ same. absurd (omega arith)) [] ∙ none
+
+  pub begun_staged : (g : Ground) → ((place : ℕ) → place < 2 ^ 32 → Lacks m (block next.load place)) → ((place : ℕ) → place < 2 ^ 32 → Lacks m (pair next.load place)) → IsStaged (put_rows m (begun_rows next)) next.load g 0
+  begun_staged g blocks pairs = none_staged (put_rows m (begun_rows next)) next.load g
+      (λ place small. begun_tag 103 (λ same. absurd (omega arith)) (λ same. absurd (omega arith)) _ ∙ blocks place small)
+      (λ place small. begun_tag 103 (λ same. absurd (omega arith)) (λ same. absurd (omega arith)) _ ∙ pairs place small)
+
+-- ---- a batch of its rows
+not_there : (tag : ℕ) (rest more : List ℕ) → (tag ≡ 103 → ⊥) → tag ∷ rest ≡ 103 ∷ more → ⊥
+not_there tag rest more apart same = apart (cc)
+
+not_staged : (load : ℕ) (g : Ground) (place tag : ℕ) (rest : List ℕ) → (tag ≡ 103 → ⊥) → tag ∷ rest ≡ (staged_row load g place).0 → ⊥
+not_staged load g place tag rest apart same = elim (cases_lt place (length g.blocks)) [
+  | inl less ↦ not_there tag rest _ apart (same ∙ ap (λ (r : Row). r.0) (is_block load g place less))
+  | inr more ↦ not_there tag rest _ apart (same ∙ ap (λ (r : Row). r.0) (is_pair load g place more))
+]
+
+pub batch_tag : (m : KeyMap) (load : ℕ) (g : Ground) (done rows tag : ℕ) → (tag ≡ 103 → ⊥) → SameTag tag m (put_rows m (staged_rows load g done rows))
+batch_tag m load g done rows tag apart rest = told_keep m (λ k. staged_row load g (done + k)) rows (tag ∷ rest) (λ k less same. not_staged load g (done + k) tag rest apart same)
+
+row_unseen : (m : KeyMap) (load : ℕ) (g : Ground) (place : ℕ) (plans : FinMap name_cmp Plan) → IsDesk m (desk_without plans) → IsDesk (put_rows m (staged_row load g place ∷ [])) (desk_without plans)
+row_unseen m load g place plans is = elim (cases_lt place (length g.blocks)) [
+  | inl less ↦ subst (λ (r : Row). IsDesk (put_rows m (r ∷ [])) (desk_without plans)) (sym (is_block load g place less)) (staged_unseen m plans _ _ is)
+  | inr more ↦ subst (λ (r : Row). IsDesk (put_rows m (r ∷ [])) (desk_without plans)) (sym (is_pair load g place more)) (staged_unseen m plans _ _ is)
+]
+
+pub batch_unseen : (m : KeyMap) (load : ℕ) (g : Ground) (done rows : ℕ) (plans : FinMap name_cmp Plan) → IsDesk m (desk_without plans) → IsDesk (put_rows m (staged_rows load g done rows)) (desk_without plans)
+batch_unseen m load g done zero plans is = is
+batch_unseen m load g done (suc rows) plans is =
+    subst (λ (n : KeyMap). IsDesk n (desk_without plans)) (sym (put_rows-append m (staged_rows load g done rows) (staged_row load g (done + rows) ∷ [])))
+    (row_unseen (put_rows m (staged_rows load g done rows)) load g (done + rows) plans (batch_unseen m load g done rows plans is))
+
+pub batch_next : (m : KeyMap) (load : ℕ) (g : Ground) (done rows : ℕ) (next : Counters) → IsNext m next → IsNext (put_rows m (staged_rows load g done rows)) next
+batch_next m load g done rows next is = subst (λ (row : Option (List ℕ)). MatchOption row (next ≡ no_numbers) (λ value. value ≡ counters_bytes next)) (sym (batch_tag m load g done rows 65 (λ same. absurd (omega arith)) [])) is
+
+-- ---- the seal
+module _ (m : KeyMap) (load : ℕ) (g : Ground) where
+  seal_tag : (tag : ℕ) → (tag ≡ 83 → ⊥) → (tag ≡ 76 → ⊥) → SameTag tag m (sealed_rows load g m)
+  seal_tag tag not_seal not_begun =
+      let first = insert m (key_of seal) (seal_row load g).1 in
+      tag_follows tag m first (sealed_rows load g m) (put_keeps_tag m tag 83 [] (seal_row load g).1 not_seal) (remove_keeps_tag first tag 76 (in_eight load) not_begun)
+
+  pub sealed_is : IsStaged m load g (geography_rows g) → IsGround g → load < 2 ^ 64 → length g.pairs < 2 ^ 32 → IsSealed (sealed_rows load g m) load g
+  sealed_is staged sound load_fits pairs_fit =
+      let first = insert m (key_of seal) (seal_row load g).1 in
+      record {
+        sound = sound;
+        load_fits = load_fits;
+        pairs_fit = pairs_fit;
+        named = remove_keeps_tag first 83 76 (in_eight load) (λ same. absurd (omega arith)) [] ∙ put_is_there m (key_of seal) (seal_row load g).1;
+        rows = staged_stays m (sealed_rows load g m) load g (geography_rows g) (seal_tag 103 (λ same. absurd (omega arith)) (λ same. absurd (omega arith))) staged;
+      }
+
+  pub sealed_desk : (plans : FinMap name_cmp Plan) → IsStaged m load g (geography_rows g) → IsGround g → load < 2 ^ 64 → length g.pairs < 2 ^ 32 → IsDesk m (desk_without plans) → IsDesk (sealed_rows load g m) (desk_with g plans)
+  sealed_desk plans staged sound load_fits pairs_fit is =
+      let first = insert m (key_of seal) (seal_row load g).1 in
+      let keeps = λ (tag : ℕ) (apart : tag ≡ 76 → ⊥). remove_keeps_tag first tag 76 (in_eight load) apart in
+      desk_stays first (sealed_rows load g m) (desk_with g plans) (keeps 80 (λ same. absurd (omega arith))) (keeps 82 (λ same. absurd (omega arith))) (keeps 83 (λ same. absurd (omega arith))) (keeps 103 (λ same. absurd (omega arith))) (keeps 107 (λ same. absurd (omega arith))) (load_sealed m plans load g is staged sound load_fits pairs_fit)
+
+  pub sealed_unmarked : Lacks (sealed_rows load g m) (begun load)
+  sealed_unmarked = removed_is_gone (insert m (key_of seal) (seal_row load g).1) (key_of (begun load))
+
+  pub sealed_next : (next : Counters) → IsNext m next → IsNext (sealed_rows load g m) next
+  sealed_next next is = subst (λ (row : Option (List ℕ)). MatchOption row (next ≡ no_numbers) (λ value. value ≡ counters_bytes next)) (sym (seal_tag 65 (λ same. absurd (omega arith)) (λ same. absurd (omega arith)) [])) is

@@ -1,0 +1,139 @@
+//! Puts the rows of a geography.
+ghost use Rattle.std.specs.Prelude.{◌≡◌, ◌≤◌, ◌<◌, ◌+◌, ◌^◌, ◌↔◌, [], ◌∷◌, length, IfSome, IsTrue, MatchResult, OnOk};
+ghost use Rattle.page_store.specs.Transactions.{count_of, txn_pages, IsQuiet};
+ghost use Rattle.store_keys.specs.Keys.{key_of, block, pair};
+ghost use Rattle.store_keys.specs.Values.{block_bytes};
+ghost use Rattle.store_rows.specs.Rows.{KeyMap};
+ghost use Rattle.store_rows.specs.Puts.{put_rows};
+ghost use Rattle.store_rows.specs.GeographyRows.{IsBlockRow, IsStaged, geography_rows, neighbours_bytes};
+ghost use Rattle.row_table.specs.Puts.{HasPut, PutsErr};
+ghost use Rattle.geo_tables.specs.Rows.{staged_row, staged_rows};
+ghost use Rattle.geo_tables.specs.Staging.{Stages};
+
+use desk_model::block::{BlockId, BlockRow};
+use desk_model::geography::{Geography, Pair};
+use page_store::{Pages, Txn};
+use row_table::{TreeError, put_row};
+use sector_device::SectorDevice;
+use store_keys::{Key, block_value, pair_value};
+
+/// The number of a block is in its range.
+fn number_fits(id: BlockId)
+    ensures { id < 10 ^ 15 }
+{}
+
+/// A number of 32 bits is in its range.
+fn code_fits(code: u32)
+    ensures { code < 2 ^ 32 }
+{}
+
+/// The city of a block is in its range.
+fn city_fits(city: Option<u32>)
+    ensures { IfSome city (λ code. code < 2 ^ 32) }
+{
+    match city {
+        Some(code) => code_fits(code),
+        None => {}
+    }
+}
+
+/// The numbers of a block fit in its row.
+fn block_fits(row: &BlockRow)
+    ensures { IsBlockRow row.now }
+{
+    number_fits(row.id);
+    city_fits(row.city);
+    code_fits(row.population);
+}
+
+/// Puts the row of a block.
+fn put_block<D: SectorDevice>(
+    txn: &mut Txn,
+    pages: &mut Pages<D>,
+    load: u64,
+    place: u32,
+    row: &BlockRow,
+) -> Result<(), TreeError>
+    requires begun { txn_pages txn.old ≡ count_of pages.old }
+    ensures quiet { IsQuiet pages.old pages.new }
+    ensures begun { txn_pages txn.new ≡ count_of pages.new }
+    ensures put { MatchResult result (λ _. HasPut ((key_of (block load place), block_bytes row.now) ∷ []) txn.old txn.new pages.old pages.new) (λ e. PutsErr ((key_of (block load place), block_bytes row.now) ∷ []) txn.old pages.old pages.new e) }
+    ensures fits { IsBlockRow row.now }
+{
+    block_fits(row);
+    put_row(txn, pages, &Key::block(load, place), &block_value(row))
+}
+
+/// Puts the row of a pair of neighbours.
+fn put_pair<D: SectorDevice>(
+    txn: &mut Txn,
+    pages: &mut Pages<D>,
+    load: u64,
+    place: u32,
+    neighbours: &Pair,
+) -> Result<(), TreeError>
+    requires begun { txn_pages txn.old ≡ count_of pages.old }
+    ensures quiet { IsQuiet pages.old pages.new }
+    ensures begun { txn_pages txn.new ≡ count_of pages.new }
+    ensures put { MatchResult result (λ _. HasPut ((key_of (pair load place), neighbours_bytes neighbours.now) ∷ []) txn.old txn.new pages.old pages.new) (λ e. PutsErr ((key_of (pair load place), neighbours_bytes neighbours.now) ∷ []) txn.old pages.old pages.new e) }
+{
+    let value = pair_value((neighbours.first, neighbours.second));
+    put_row(txn, pages, &Key::pair(load, place), &value)
+}
+
+/// Puts the row at a place among those of a geography.
+fn put_place<D: SectorDevice>(
+    txn: &mut Txn,
+    pages: &mut Pages<D>,
+    load: u64,
+    geography: &Geography,
+    place: usize,
+) -> Result<(), TreeError>
+    requires begun { txn_pages txn.old ≡ count_of pages.old }
+    requires few { length geography.now.pairs < 2 ^ 32 }
+    requires within { place < geography_rows geography.now }
+    ensures quiet { IsQuiet pages.old pages.new }
+    ensures begun { txn_pages txn.new ≡ count_of pages.new }
+    ensures put { MatchResult result (λ _. HasPut (staged_row load geography.now place ∷ []) txn.old txn.new pages.old pages.new) (λ e. PutsErr (staged_row load geography.now place ∷ []) txn.old pages.old pages.new e) }
+    ensures staged { (m : KeyMap) → IsStaged m load geography.now place → IsStaged (put_rows m (staged_row load geography.now place ∷ [])) load geography.now (place + 1) }
+{
+    let blocks = geography.blocks();
+    if place < blocks.len() {
+        return put_block(txn, pages, load, place as u32, &blocks[place]);
+    }
+    let pairs = geography.pairs();
+    let behind = place - blocks.len();
+    put_pair(txn, pages, load, behind as u32, &pairs[behind])
+}
+
+/// Whether the places of a geography's pairs fit in keys of rows: fewer than 2^32. Its blocks always are few enough.
+pub fn has_small_places(geography: &Geography) -> bool
+    ensures { IsTrue result ↔ length geography.now.pairs < 2 ^ 32 }
+{
+    geography.pairs().len() < 0x1_0000_0000
+}
+
+/// Puts so many rows of a geography under a load's number, from a place among its rows on: blocks rising, then pairs rising. The
+/// number is one that `begin_rows` gave. After an error the transaction can only be abandoned.
+pub fn put_batch<D: SectorDevice>(
+    txn: &mut Txn,
+    pages: &mut Pages<D>,
+    load: u64,
+    geography: &Geography,
+    done: usize,
+    rows: usize,
+) -> Result<(), TreeError>
+    requires begun { txn_pages txn.old ≡ count_of pages.old }
+    requires few { length geography.now.pairs < 2 ^ 32 }
+    requires left { done + rows ≤ geography_rows geography.now }
+    ensures quiet { IsQuiet pages.old pages.new }
+    ensures begun { txn_pages txn.new ≡ count_of pages.new }
+    ensures put { MatchResult result (λ _. HasPut (staged_rows load geography.now done rows) txn.old txn.new pages.old pages.new) (λ e. PutsErr (staged_rows load geography.now done rows) txn.old pages.old pages.new e) }
+    ensures staged { OnOk result (Stages load geography.now done rows) }
+{
+    let _blocks = geography.blocks();
+    for k in 0..rows {
+        put_place(txn, pages, load, geography, done + k)?;
+    }
+    Ok(())
+}

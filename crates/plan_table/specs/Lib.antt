@@ -1,0 +1,3 @@
+pub mod PlanRows
+pub mod Outcomes
+pub mod Laws

@@ -1,0 +1,124 @@
+//! Changes of plans.
+ghost use Rattle.std.specs.Prelude.{◌≡◌, ◌<◌, ◌+◌, IfErr, MatchResult};
+ghost use Rattle.page_store.specs.Transactions.{count_of, txn_pages, txn_free, IsQuiet};
+ghost use Rattle.page_btree.specs.declared.error.TreeError.TheVariants.{NoPages};
+ghost use Rattle.store_rows.specs.DeskRows.{most_revisions};
+ghost use Rattle.row_table.specs.Puts.{HasPut, PutsErr};
+ghost use Rattle.plan_table.specs.PlanRows.{plan_rows, created_rows, revised_rows, HasPlanNumber, HasChunkNumbers};
+ghost use Rattle.plan_table.specs.Outcomes.{IsChanged, ChangeErr, HasRetired, RetireErr};
+
+use crate::change::Change;
+use desk_model::kind::Kind;
+use desk_model::name::PlanName;
+use page_btree::remove;
+use page_store::{Pages, Txn};
+use row_table::{TreeError, next_numbers, put_row};
+use sector_device::SectorDevice;
+use store_keys::{Counters, Key, PlanRow, counters_value, plan_value};
+
+/// Puts a plan's row and the row of the numbers.
+fn put_plan<D: SectorDevice>(
+    txn: &mut Txn,
+    pages: &mut Pages<D>,
+    name: &PlanName,
+    row: &PlanRow,
+    next: &Counters,
+) -> Result<(), TreeError>
+    requires begun { txn_pages txn.old ≡ count_of pages.old }
+    ensures quiet { IsQuiet pages.old pages.new }
+    ensures begun { txn_pages txn.new ≡ count_of pages.new }
+    ensures put { MatchResult result (λ _. HasPut (plan_rows name.now row.now next.now) txn.old txn.new pages.old pages.new) (λ e. PutsErr (plan_rows name.now row.now next.now) txn.old pages.old pages.new e) }
+    ensures spent { IfErr result (λ e. e ≡ NoPages → txn_free txn.new ≡ 0) }
+{
+    put_row(txn, pages, &Key::named(name), &plan_value(row))?;
+    put_row(txn, pages, &Key::counters(), &counters_value(next))
+}
+
+/// Creates a plan without revisions, under the number that is next. The name is for the caller to choose: one under which no plan
+/// stands. After an error the transaction can only be abandoned; each comes as from `put_row`, `DeviceFault` also where the
+/// store holds what are no numbers.
+pub fn create_plan<D: SectorDevice>(
+    txn: &mut Txn,
+    pages: &mut Pages<D>,
+    name: &PlanName,
+    kind: Kind,
+    districts: u16,
+) -> Result<Change, TreeError>
+    requires begun { txn_pages txn.old ≡ count_of pages.old }
+    ensures quiet { IsQuiet pages.old pages.new }
+    ensures begun { txn_pages txn.new ≡ count_of pages.new }
+    ensures create { MatchResult result (λ change. IsChanged HasPlanNumber (created_rows name.now kind districts) txn.old txn.new pages.old pages.new change) (λ e. ChangeErr (created_rows name.now kind districts) txn.old pages.old pages.new e) }
+    ensures spent { IfErr result (λ e. e ≡ NoPages → txn_free txn.new ≡ 0) }
+{
+    let next = next_numbers(txn, pages)?;
+    if next.plan == u64::MAX {
+        return Ok(Change::Spent);
+    }
+    let row = PlanRow {
+        number: next.plan,
+        kind,
+        districts,
+        revisions: 0,
+    };
+    let then = Counters {
+        plan: next.plan + 1,
+        chunk: next.chunk,
+        load: next.load,
+    };
+    put_plan(txn, pages, name, &row, &then)?;
+    Ok(Change::Made)
+}
+
+/// Puts the row of a plan with one revision more, and moves the chunks' number on by those that the revision took. The row is
+/// the one that stands under the name. Errors come as from `create_plan`.
+pub fn revise_plan<D: SectorDevice>(
+    txn: &mut Txn,
+    pages: &mut Pages<D>,
+    name: &PlanName,
+    row: &PlanRow,
+    chunks_used: u64,
+) -> Result<Change, TreeError>
+    requires begun { txn_pages txn.old ≡ count_of pages.old }
+    requires room { row.now.revisions < most_revisions }
+    ensures quiet { IsQuiet pages.old pages.new }
+    ensures begun { txn_pages txn.new ≡ count_of pages.new }
+    ensures revise { MatchResult result (λ change. IsChanged (HasChunkNumbers chunks_used) (revised_rows name.now row.now chunks_used) txn.old txn.new pages.old pages.new change) (λ e. ChangeErr (revised_rows name.now row.now chunks_used) txn.old pages.old pages.new e) }
+    ensures spent { IfErr result (λ e. e ≡ NoPages → txn_free txn.new ≡ 0) }
+{
+    let next = next_numbers(txn, pages)?;
+    if chunks_used > u64::MAX - next.chunk {
+        return Ok(Change::Spent);
+    }
+    let revised = PlanRow {
+        number: row.number,
+        kind: row.kind,
+        districts: row.districts,
+        revisions: row.revisions + 1,
+    };
+    let then = Counters {
+        plan: next.plan,
+        chunk: next.chunk + chunks_used,
+        load: next.load,
+    };
+    put_plan(txn, pages, name, &revised, &then)?;
+    Ok(Change::Made)
+}
+
+/// Takes the row of a plan away, and marks its number: that of the row under the name. After an error the transaction can only
+/// be abandoned; `Memory` comes from its growth, the others as from `put_row`.
+pub fn retire_plan<D: SectorDevice>(
+    txn: &mut Txn,
+    pages: &mut Pages<D>,
+    name: &PlanName,
+    number: u64,
+) -> Result<(), TreeError>
+    requires begun { txn_pages txn.old ≡ count_of pages.old }
+    ensures quiet { IsQuiet pages.old pages.new }
+    ensures begun { txn_pages txn.new ≡ count_of pages.new }
+    ensures retire { MatchResult result (λ _. HasRetired name.now number txn.old txn.new pages.old pages.new) (λ e. RetireErr name.now number txn.old pages.old pages.new e) }
+    ensures spent { IfErr result (λ e. e ≡ NoPages → txn_free txn.new ≡ 0) }
+{
+    let key = Key::named(name);
+    remove(txn, pages, key.as_slice())?;
+    put_row(txn, pages, &Key::retired(number), &[])
+}

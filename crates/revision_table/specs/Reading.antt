@@ -1,0 +1,28 @@
+-- What is read of a revision.
+use Rattle.std.specs.Prelude.{◌≡◌, ◌<◌, ◌≤◌, ◌*◌, ◌^◌, ℕ, List, [], length, get_or, map, All}
+use Rattle.desk_model.specs.declared.cuts.Cut.{Cut}
+use Rattle.store_rows.specs.Rows.{KeyMap}
+use Rattle.store_rows.specs.RevisionRows.{HasChunk, NamesChunks, HasRevision}
+
+-- the revision names these chunks, and they are so many
+pub record AreNames (plan revision count : ℕ) (m : KeyMap) (numbers : List ℕ) : Type 0 where
+  pub names : NamesChunks m plan revision numbers
+  pub long : length numbers ≡ count
+
+-- each county has as many districts as its cut says
+abbrev pub AreLong : List Cut → List (List ℕ) → Type 0
+AreLong cuts counties = map length counties ≡ map (λ c. c.count) cuts
+
+-- the numbers name the districts of the counties
+pub record AreCounties (numbers : List ℕ) (cuts : List Cut) (m : KeyMap) (counties : List (List ℕ)) : Type 0 where
+  pub long : AreLong cuts counties
+  pub chunks : (county : ℕ) → county < length counties → HasChunk m (get_or numbers county 0) (get_or counties county [])
+
+-- the revision has these districts, county by county
+pub record IsRevision (plan revision : ℕ) (cuts : List Cut) (m : KeyMap) (counties : List (List ℕ)) : Type 0 where
+  pub has : HasRevision m plan revision counties
+  pub long : AreLong cuts counties
+
+-- no county has more than a chunk holds
+abbrev pub AreChunkSized : List Cut → Type 0
+AreChunkSized cuts = All (λ c. c.count ≤ 512 * 2 ^ 16) cuts

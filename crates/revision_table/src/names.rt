@@ -1,0 +1,59 @@
+//! Reads which chunks a revision names.
+ghost use Rattle.std.specs.Prelude.{◌≡◌, ◌≤◌, ◌*◌, ◌<◌, ◌^◌, take, drop, MatchResult};
+ghost use Rattle.page_store.specs.Transactions.{count_of, txn_pages, IsQuiet};
+ghost use Rattle.row_table.specs.Appending.{HasAppended, AppendErr};
+ghost use Rattle.revision_table.specs.Reading.{AreNames};
+
+use page_store::{Pages, Txn};
+use row_table::{TreeError, read_row};
+use sector_device::SectorDevice;
+use store_keys::{Key, PART_CHUNKS, read_chunks};
+
+/// Appends a part of the numbers of a revision's chunks, which are so many.
+fn append_part<D: SectorDevice>(
+    txn: &Txn,
+    pages: &mut Pages<D>,
+    plan: u64,
+    revision: u32,
+    count: usize,
+    index: usize,
+    into: &mut Vec<u64>,
+) -> Result<(), TreeError>
+    requires begun { txn_pages txn.now ≡ count_of pages.old }
+    requires index { index < 2 ^ 8 }
+    requires within { 128 * index < count }
+    ensures quiet { IsQuiet pages.old pages.new }
+    ensures append { MatchResult result (λ _. HasAppended (AreNames plan revision count) (λ numbers. take 128 (drop (128 * index) numbers)) txn.now pages.old pages.new into.old.items into.new.items) (λ e. AppendErr (AreNames plan revision count) txn.now pages.old pages.new e) }
+{
+    let mut bytes = [0; 1024];
+    let length = read_row(txn, pages, &Key::part(plan, revision, index as u8), &mut bytes)?;
+    let Some(part) = read_chunks(&bytes[..length]) else {
+        return Err(TreeError::DeviceFault);
+    };
+    match into.extend_from_slice(part.as_slice()) {
+        Ok(_) => Ok(()),
+        Err(_) => Err(TreeError::Memory),
+    }
+}
+
+/// Appends the numbers of a revision's chunks, which are so many. After an error the list may hold some of them: `DeviceFault` comes
+/// also where the store has no such revision, `Memory` where the list's growth was refused.
+pub fn append_names<D: SectorDevice>(
+    txn: &Txn,
+    pages: &mut Pages<D>,
+    plan: u64,
+    revision: u32,
+    count: usize,
+    into: &mut Vec<u64>,
+) -> Result<(), TreeError>
+    requires begun { txn_pages txn.now ≡ count_of pages.old }
+    requires few { count ≤ 128 * 2 ^ 8 }
+    ensures quiet { IsQuiet pages.old pages.new }
+    ensures append { MatchResult result (λ _. HasAppended (AreNames plan revision count) (λ numbers. numbers) txn.now pages.old pages.new into.old.items into.new.items) (λ e. AppendErr (AreNames plan revision count) txn.now pages.old pages.new e) }
+{
+    let parts = (count + (PART_CHUNKS - 1)) / PART_CHUNKS;
+    for index in 0..parts {
+        append_part(txn, pages, plan, revision, count, index, into)?;
+    }
+    Ok(())
+}

@@ -1,0 +1,43 @@
+//! What is read back from a row.
+use store_keys::{Counters, PlanRow, SealRow, read_counters, read_plan, read_seal};
+
+/// A value of a row, which is told by its bytes.
+pub trait RowValue: Drop + Sized {
+    ghost use Rattle.std.specs.Prelude.{◌≡◌, ℕ, List, MatchOption};
+
+    ghost bytes_of: { Self → List ℕ };
+
+    /// The value with these bytes; None where there is none.
+    fn read(bytes: &[u8]) -> Option<Self>
+        ensures { MatchOption result ((value : Self) → bytes_of value ≡ bytes.now → ⊥) (λ value. bytes_of value ≡ bytes.now) };
+}
+
+impl RowValue for Counters {
+    ghost use Rattle.store_keys.specs.Values.{counters_bytes};
+
+    ghost bytes_of = { counters_bytes };
+
+    fn read(bytes: &[u8]) -> Option<Counters> {
+        read_counters(bytes)
+    }
+}
+
+impl RowValue for PlanRow {
+    ghost use Rattle.store_keys.specs.Values.{plan_bytes};
+
+    ghost bytes_of = { plan_bytes };
+
+    fn read(bytes: &[u8]) -> Option<PlanRow> {
+        read_plan(bytes)
+    }
+}
+
+impl RowValue for SealRow {
+    ghost use Rattle.store_keys.specs.Values.{seal_bytes};
+
+    ghost bytes_of = { seal_bytes };
+
+    fn read(bytes: &[u8]) -> Option<SealRow> {
+        read_seal(bytes)
+    }
+}

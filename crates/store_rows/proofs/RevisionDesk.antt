@@ -1,0 +1,182 @@
+-- The rows of one revision more make the desk with that revision.
+use Rattle.std.proofs.Common.{All, ◌≡◌, ◌<◌, ◌≤◌, ◌+◌, ◌-◌, ◌*◌, ◌^◌, ℕ, cond, List, [], ◌∷◌, length, get_or, take, drop, Option, Some, None, refl, sym, ap, subst, ◌∙◌, inl, inr, arith, length-append}
+use Rattle.std.specs.FinMap.{FinMap, get}
+use Rattle.std.proofs.lemmas.Bool.{lt-ltb}
+use Rattle.std.proofs.lemmas.List.{get_or_default}
+use Rattle.desk_model.specs.Geography.{Ground}
+use Rattle.desk_model.specs.Cuts.{cut}
+use Rattle.desk_model.specs.Desk.{Plan, name_cmp}
+use Rattle.store_keys.specs.Keys.{Fits, named}
+use Rattle.store_keys.specs.Values.{plan_bytes}
+use Rattle.store_keys.specs.Lists.{districts_bytes}
+use Rattle.store_keys.specs.declared.value.Counters.{Counters}
+use Rattle.store_keys.specs.declared.value.PlanRow.{PlanRow}
+use Rattle.store_rows.specs.Rows.{KeyMap, Has}
+use Rattle.store_rows.specs.RevisionRows.{HasChunk, NamesChunks, HasRevision}
+use Rattle.store_rows.specs.Puts.{put_rows}
+use Rattle.store_rows.specs.DeskRows.{HasPlan, IsDesk, most_revisions}
+use Rattle.store_rows.specs.Changes.{IsRevised, RevisionsStay, desk_with, plan_row_of, with_revision, plan_revised}
+use Rattle.store_rows.specs.Frames.{chunk_stays}
+use Rattle.store_rows.specs.Steps.{chunks_more}
+use Rattle.store_rows.specs.RevisionSteps.{IsGiven, AreItsChunks, AddsRevision, IsChunkList, AreKept, IsDrawn, new_chunk_rows, rows_of_revision}
+use Rattle.store_rows.specs.Tidy.{IsNumbered, IsNamedBy, Tidy}
+use Rattle.store_rows.specs.TidyLaws.{MakesRevision}
+use Rattle.store_rows.proofs.OneChunk.{one_naming}
+use Rattle.store_rows.proofs.SweepPlans.{numbers_named}
+use Rattle.store_rows.proofs.OneGeography.{no_value}
+use Rattle.store_rows.proofs.TidyParts.{name_fits}
+use Rattle.store_rows.proofs.TidyFree.{free_chunk}
+use Rattle.store_rows.proofs.TidyRevisions.{revised_tidy}
+use Rattle.store_rows.proofs.RevisionPuts.{revision_put, chunks_put}
+use Rattle.store_rows.proofs.NewChunks.{new_there}
+
+-- ---- the numbers that are drawn are the plan's own, or given
+its_chunks : (m : KeyMap) (next : Counters) (plan : ℕ) (lists : List (List ℕ)) (numbers : List ℕ) (counties : List (List ℕ)) → IsDrawn m next plan lists numbers counties → AreItsChunks m next (length lists) plan numbers
+its_chunks m next plan lists numbers counties drawn = record {
+  few = drawn.few;
+  own = λ number (k, within, is).
+      let same : get_or numbers k 0 ≡ number = get_or_default numbers k 0 number within ∙ is in
+      let inside : k < length counties = (let count = drawn.count in omega arith) in
+      elim (drawn.each k inside) [
+        | inl kept ↦ inl (subst (λ x. IsNamedBy m plan x) same kept.own)
+        | inr new ↦ (let here = new.is in let less = new.within in inr (omega arith, omega arith))
+      ];
+  whole = λ number given.
+      let from = given.0 in
+      let below = given.1 in
+      let place = number - next.chunk in
+      let (county, inside, is) = drawn.used place (omega arith) in
+      let within : county < length numbers = (let count = drawn.count in omega arith) in
+      let same : next.chunk + place ≡ number = omega arith in
+      (county, within, get_or_default numbers county number 0 within ∙ is ∙ same);
+}
+
+-- ---- what is there stays
+-- a chunk that is there has a number that was given before
+chunk_below : (m : KeyMap) (tidy : Tidy m) (given number : ℕ) (districts : List ℕ) → HasChunk m number districts → IsGiven tidy.next given number → ⊥
+chunk_below m tidy given number districts has is =
+    let some : 512 * 0 < length districts = (let some = has.some in omega arith) in
+    let row = has.pieces 0 (omega arith) ∙ ap (λ b. cond b (Some (districts_bytes (take 512 (drop (512 * 0) districts)))) None) (lt-ltb (512 * 0) (length districts) some) in
+    no_value (districts_bytes (take 512 (drop (512 * 0) districts))) (sym row ∙ free_chunk m tidy number is.0 has.number_fits 0 (omega arith))
+
+module _ (m n : KeyMap) (tidy : Tidy m) (given : ℕ) (name : List ℕ) (p : PlanRow) (numbers : List ℕ) (adds : AddsRevision m n tidy.next given name p numbers) where
+  chunk_moves : (number : ℕ) (districts : List ℕ) → HasChunk m number districts → HasChunk n number districts
+  chunk_moves number districts has = record {
+    number_fits = has.number_fits;
+    some = has.some;
+    few = has.few;
+    each = has.each;
+    pieces = λ index small. adds.other_chunks number index (has.number_fits, small) (chunk_below m tidy given number districts has) ∙ has.pieces index small;
+  }
+
+  revision_moves : (plan revision : ℕ) (counties : List (List ℕ)) → plan < 2 ^ 64 → revision < 2 ^ 32 → ((plan ≡ p.number) × (revision ≡ p.revisions + 1) → ⊥) → HasRevision m plan revision counties → HasRevision n plan revision counties
+  revision_moves plan revision counties plan_fits revision_fits apart has = record {
+    numbers = has.numbers;
+    names = record {
+      few = has.names.few;
+      each = has.names.each;
+      parts = λ index small. adds.other_parts plan revision index (plan_fits, revision_fits, small) apart ∙ has.names.parts index small;
+    };
+    count = has.count;
+    chunks = λ county within. chunk_moves (get_or has.numbers county 0) (get_or counties county []) (has.chunks county within);
+  }
+
+  revision_added : (lists counties : List (List ℕ)) → IsDrawn m tidy.next p.number lists numbers counties → tidy.next.chunk + length lists < 2 ^ 64 → ((place : ℕ) → place < length lists → HasChunk n (tidy.next.chunk + place) (get_or lists place [])) → HasRevision n p.number (p.revisions + 1) counties
+  revision_added lists counties drawn room there = record {
+    numbers = numbers;
+    names = record {
+      few = drawn.few;
+      each = λ k d within.
+          let inside : k < length counties = (let count = drawn.count in omega arith) in
+          let same : get_or numbers k 0 ≡ get_or numbers k d = get_or_default numbers k 0 d within in
+          elim (drawn.each k inside) [
+            | inl kept ↦ (let fits = kept.there.number_fits in omega arith)
+            | inr new ↦ (let here = new.is in let less = new.within in omega arith)
+          ];
+      parts = adds.parts;
+    };
+    count = drawn.count;
+    chunks = λ county within. elim (drawn.each county within) [
+      | inl kept ↦ chunk_moves (get_or numbers county 0) (get_or counties county []) kept.there
+      | inr new ↦ subst (λ x. HasChunk n x (get_or counties county [])) (sym new.is)
+          (subst (λ (l : List ℕ). HasChunk n (tidy.next.chunk + new.place) l) new.same (there new.place new.within))
+    ];
+  }
+
+-- ---- the desk
+some_is : (p q : Plan) → ◌≡◌ {A = Option Plan} (Some p) (Some q) → p ≡ q
+some_is p q same = cc
+
+module _ (m n : KeyMap) (tidy : Tidy m) (g : Ground) (plans : FinMap name_cmp Plan) (name : List ℕ) (number : ℕ) (p : Plan) (districts : List ℕ) (lists : List (List ℕ)) (numbers : List ℕ) (there : get plans name ≡ Some p) (has : HasPlan m g name number p) (few : length p.revisions < most_revisions) (room : tidy.next.chunk + length lists < 2 ^ 64) (drawn : IsDrawn m tidy.next number lists numbers (cut g districts)) (adds : AddsRevision m n tidy.next (length lists) name (plan_row_of number p) numbers) (made : (place : ℕ) → place < length lists → HasChunk n (tidy.next.chunk + place) (get_or lists place [])) where
+  abbrev row : PlanRow
+  row = plan_row_of number p
+
+  few_more : row.revisions + 1 < 2 ^ 32
+  few_more = omega arith
+
+  -- a revision that is there is not the new one
+  not_new : (other : List ℕ) (plan : ℕ) (q : Plan) (revision : ℕ) → get plans other ≡ Some q → HasPlan m g other plan q → revision ≤ length q.revisions → (plan ≡ number) × (revision ≡ length p.revisions + 1) → ⊥
+  not_new other plan q revision found held within is =
+      let here : IsNumbered m name number = record { plan = row; row = has.row; is = refl; fits = has.number_fits } in
+      let also : IsNumbered m other number = record { plan = plan_row_of plan q; row = held.row; is = is.0; fits = has.number_fits } in
+      let same : other ≡ name = tidy.owned.one other name number also here in
+      let equal : q ≡ p = some_is q p (sym found ∙ ap (get plans) same ∙ there) in
+      let count : length q.revisions ≡ length p.revisions = ap (λ (r : Plan). length r.revisions) equal in
+      let last = is.1 in
+      absurd (omega arith)
+
+  stays : (other : List ℕ) (plan : ℕ) (q : Plan) → get plans other ≡ Some q → HasPlan m g other plan q → RevisionsStay m n plan (length q.revisions)
+  stays other plan q found held revision counties some within was =
+      let limit = held.few in
+      revision_moves m n tidy (length lists) name row numbers adds plan revision counties held.number_fits (omega arith) (not_new other plan q revision found held within) was
+
+  new_row : Has n (named name) (plan_bytes (plan_row_of number (with_revision p districts)))
+  new_row = adds.row ∙ ap (λ k. Some (plan_bytes (record { number = number; kind = p.kind; districts = p.n; revisions = k }))) (sym (length-append p.revisions (districts ∷ [])))
+
+  is_revised : IsRevised m n g plans name number p districts
+  is_revised = record {
+    seals = adds.seals;
+    rows = adds.loads;
+    others = adds.others;
+    row = new_row;
+    earlier = stays;
+    added = revision_added m n tidy (length lists) name row numbers adds lists (cut g districts) drawn room made;
+  }
+
+  pub revision_made : IsDesk m (desk_with g plans) → length districts ≡ length g.blocks → MakesRevision g plans name p districts (chunks_more tidy.next (length lists)) n
+  revision_made is long = record {
+    desk = plan_revised m n g plans name number p districts is there has long few is_revised;
+    tidy = revised_tidy m n tidy (length lists) name row numbers has.number_fits few_more room has.row (its_chunks m tidy.next number lists numbers (cut g districts) drawn) adds;
+  }
+
+-- ---- its rows, as they are listed
+module _ (m : KeyMap) (tidy : Tidy m) (name : List ℕ) (p : PlanRow) (lists : List (List ℕ)) (numbers : List ℕ) (number_fits : p.number < 2 ^ 64) (few_more : p.revisions + 1 < 2 ^ 32) (room : tidy.next.chunk + length lists < 2 ^ 64) (has : Has m (named name) (plan_bytes p)) (few : length numbers ≤ 128 * 2 ^ 8) (sound : All IsChunkList lists) where
+  abbrev after : KeyMap
+  after = put_rows m (rows_of_revision tidy.next name p lists numbers)
+
+  fits_key : Fits (named name)
+  fits_key = name_fits m name (plan_bytes p) tidy.rows has
+
+  pub rows_add : AddsRevision m after tidy.next (length lists) name p numbers
+  rows_add = revision_put m tidy name p lists numbers number_fits few_more fits_key room has few sound
+
+  pub rows_make : (place : ℕ) → place < length lists → HasChunk after (tidy.next.chunk + place) (get_or lists place [])
+  rows_make place within = chunk_stays (put_rows m (new_chunk_rows tidy.next.chunk lists)) after (tidy.next.chunk + place) (get_or lists place [])
+      (chunks_put m tidy name p lists numbers number_fits few_more fits_key room has few sound)
+      (new_there m tidy.next.chunk lists place sound room (free_chunk m tidy) within)
+
+-- ---- chunks of the revision before
+pub before_kept : (m : KeyMap) (plan revision : ℕ) (numbers : List ℕ) (counties : List (List ℕ)) → plan < 2 ^ 64 → revision < 2 ^ 32 → NamesChunks m plan revision numbers → HasRevision m plan revision counties → AreKept m plan numbers counties
+before_kept m plan revision numbers counties plan_fits revision_fits names has =
+    let same : has.numbers ≡ numbers = one_naming m plan revision has.numbers numbers has.names names in
+    let count : length numbers ≡ length counties = sym (ap length same) ∙ has.count in
+    record {
+      count = count;
+      each = λ county within.
+          let inside : county < length numbers = omega arith in
+          let number = get_or numbers county 0 in
+          record {
+            own = numbers_named m plan revision numbers plan_fits revision_fits names number (county, inside, get_or_default numbers county number 0 inside);
+            there = subst (λ (l : List ℕ). HasChunk m (get_or l county 0) (get_or counties county [])) same (has.chunks county within);
+          };
+    }

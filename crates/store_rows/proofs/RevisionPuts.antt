@@ -1,0 +1,220 @@
+-- The rows of one revision more, put one after the other, are what such rows are to be.
+use Rattle.std.proofs.Common.{◌≡◌, ◌<◌, ◌≤◌, ◌+◌, ◌*◌, ◌^◌, ℕ, suc, cond, List, [], ◌∷◌, ◌++◌, length, take, drop, All, Some, None, refl, sym, ap, subst, ◌∙◌, inl, inr, arith}
+use Rattle.std.proofs.lemmas.Bool.{cases_lt, le-ltb}
+use Rattle.std.proofs.lemmas.List.Elements.{All-cons, All-nil, All-append}
+use Rattle.std.specs.FinMap.{get, insert}
+use Rattle.desk_model.specs.Room.{rows_for}
+use Rattle.store_keys.specs.Keys.{RowKey, key_of, Fits, counters, retired, begun, named, part, seal, block, pair, chunk}
+use Rattle.store_keys.specs.Values.{plan_bytes, counters_bytes}
+use Rattle.store_keys.specs.Lists.{chunks_bytes}
+use Rattle.store_keys.specs.RowLaws.{keys_differ}
+use Rattle.store_keys.specs.declared.value.Counters.{Counters}
+use Rattle.store_keys.specs.declared.value.PlanRow.{PlanRow}
+use Rattle.store_rows.specs.Rows.{KeyMap, row_in, Has, SameTag, part_row}
+use Rattle.store_rows.specs.Frames.{put_is_there, put_keeps, other_tag}
+use Rattle.store_rows.specs.Puts.{Row, put_rows, put_rows-append, told_are, told_keep}
+use Rattle.store_rows.specs.ChunkRows.{piece_row, chunk_rows}
+use Rattle.store_rows.specs.NameRows.{name_row, name_rows}
+use Rattle.store_rows.specs.Steps.{chunks_more, one_revision_more}
+use Rattle.store_rows.specs.RevisionSteps.{IsGiven, AddsRevision, IsChunkList, new_chunk_rows, rows_of_revision}
+use Rattle.store_rows.specs.Tidy.{IsPiece, Tidy}
+use Rattle.store_rows.proofs.OneGeography.{no_value}
+use Rattle.store_rows.proofs.NewChunks.{pieces_are}
+use Rattle.store_rows.proofs.PartNumbers.{part_there}
+use Rattle.store_rows.proofs.PutAll.{IsRowOf, told_all, keeps_key, keeps_row, keeps_rows, tells_value}
+use Rattle.store_rows.proofs.TidyFree.{free_revision, free_chunk}
+
+-- the rows that are put
+abbrev IsPut : Counters → ℕ → List ℕ → PlanRow → RowKey → Type 0
+IsPut next given name p counters = Unit {0}
+IsPut next given name p (retired plan) = ⊥
+IsPut next given name p (begun load) = ⊥
+IsPut next given name p (named other) = other ≡ name
+IsPut next given name p (part plan revision index) = (plan ≡ p.number) × (revision ≡ p.revisions + 1)
+IsPut next given name p seal = ⊥
+IsPut next given name p (block load place) = ⊥
+IsPut next given name p (pair load place) = ⊥
+IsPut next given name p (chunk number piece) = IsGiven next given number
+
+-- of these, the rows of new chunks
+abbrev IsNewPiece : Counters → ℕ → RowKey → Type 0
+IsNewPiece next given counters = ⊥
+IsNewPiece next given (retired plan) = ⊥
+IsNewPiece next given (begun load) = ⊥
+IsNewPiece next given (named other) = ⊥
+IsNewPiece next given (part plan revision index) = ⊥
+IsNewPiece next given seal = ⊥
+IsNewPiece next given (block load place) = ⊥
+IsNewPiece next given (pair load place) = ⊥
+IsNewPiece next given (chunk number piece) = IsGiven next given number
+
+-- ---- which rows these are
+few_pieces : (n i : ℕ) → n ≤ 512 * 2 ^ 16 → i < rows_for 512 n → i < 2 ^ 16
+few_pieces n i few less = omega arith
+
+few_parts : (n i : ℕ) → n ≤ 128 * 2 ^ 8 → i < rows_for 128 n → i < 2 ^ 8
+few_parts n i few less = omega arith
+
+short : (lists : List (List ℕ)) → All IsChunkList lists → All (λ districts. length districts ≤ 512 * 2 ^ 16) lists
+short lists sound k d within = (sound k d within).few
+
+chunks_are : (Q : RowKey → Type 0) (next : Counters) (given : ℕ) → ((number piece : ℕ) → IsGiven next given number → Q (chunk number piece)) → next.chunk + given < 2 ^ 64
+    → (first : ℕ) (lists : List (List ℕ)) → next.chunk ≤ first → first + length lists ≤ next.chunk + given → All (λ districts. length districts ≤ 512 * 2 ^ 16) lists → All (IsRowOf Q) (new_chunk_rows first lists)
+chunks_are Q next given told room first [] from within few = All-nil (IsRowOf Q)
+chunks_are Q next given told room first (districts ∷ lists) from within few =
+    let small : length districts ≤ 512 * 2 ^ 16 = few 0 districts (omega arith) in
+    All-append (IsRowOf Q) (chunk_rows first districts) (new_chunk_rows (first + 1) lists)
+    (told_all (IsRowOf Q) (piece_row first districts) (rows_for 512 (length districts)) (λ k less. record {
+      key = chunk first k;
+      fits = (omega arith, few_pieces (length districts) k small less);
+      is = refl;
+      holds = told first k (from, omega arith);
+    }))
+    (chunks_are Q next given told room (first + 1) lists (omega arith) (omega arith) (λ k d less. few (suc k) d (omega arith)))
+
+module _ (next : Counters) (given : ℕ) (name : List ℕ) (p : PlanRow) (number_fits : p.number < 2 ^ 64) (few_revisions : p.revisions + 1 < 2 ^ 32) (name_fits : Fits (named name)) where
+  parts_are : (numbers : List ℕ) → length numbers ≤ 128 * 2 ^ 8 → All (IsRowOf (IsPut next given name p)) (name_rows p.number (p.revisions + 1) numbers)
+  parts_are numbers few = told_all (IsRowOf (IsPut next given name p)) (name_row p.number (p.revisions + 1) numbers) (rows_for 128 (length numbers)) (λ k less. record {
+    key = part p.number (p.revisions + 1) k;
+    fits = (number_fits, few_revisions, few_parts (length numbers) k few less);
+    is = refl;
+    holds = (refl, refl);
+  })
+
+  ends_are : (plan_value counters_value : List ℕ) → All (IsRowOf (IsPut next given name p)) ((key_of (named name), plan_value) ∷ (key_of counters, counters_value) ∷ [])
+  ends_are plan_value counters_value =
+      All-cons (IsRowOf (IsPut next given name p)) (key_of (named name), plan_value) ((key_of counters, counters_value) ∷ []) (record { key = named name; fits = name_fits; is = refl; holds = refl })
+      (All-cons (IsRowOf (IsPut next given name p)) (key_of counters, counters_value) [] (record { key = counters; fits = tt; is = refl; holds = tt }) (All-nil (IsRowOf (IsPut next given name p))))
+
+  -- keys of other tags, and of other plans, are none of them
+  other_tags : (tag : ℕ) (rest : List ℕ) → (tag ≡ 65 → ⊥) → (tag ≡ 80 → ⊥) → (tag ≡ 82 → ⊥) → (tag ≡ 107 → ⊥) → (k : RowKey) → Fits k → IsPut next given name p k → tag ∷ rest ≡ key_of k → ⊥
+  other_tags tag rest a b c d counters fits holds same = other_tag tag 65 rest _ a same
+  other_tags tag rest a b c d (retired plan) fits holds same = holds
+  other_tags tag rest a b c d (begun load) fits holds same = holds
+  other_tags tag rest a b c d (named other) fits holds same = other_tag tag 80 rest _ b same
+  other_tags tag rest a b c d (part plan revision index) fits holds same = other_tag tag 82 rest _ c same
+  other_tags tag rest a b c d seal fits holds same = holds
+  other_tags tag rest a b c d (block load place) fits holds same = holds
+  other_tags tag rest a b c d (pair load place) fits holds same = holds
+  other_tags tag rest a b c d (chunk number piece) fits holds same = other_tag tag 107 rest _ d same
+
+  other_names : (other : List ℕ) → (other ≡ name → ⊥) → (k : RowKey) → Fits k → IsPut next given name p k → key_of (named other) ≡ key_of k → ⊥
+  other_names other apart counters fits holds same = other_tag 80 65 other _ (λ e. absurd (omega arith)) same
+  other_names other apart (retired plan) fits holds same = holds
+  other_names other apart (begun load) fits holds same = holds
+  other_names other apart (named x) fits holds same = apart (ap (drop 1) same ∙ holds)
+  other_names other apart (part plan revision index) fits holds same = other_tag 80 82 other _ (λ e. absurd (omega arith)) same
+  other_names other apart seal fits holds same = holds
+  other_names other apart (block load place) fits holds same = holds
+  other_names other apart (pair load place) fits holds same = holds
+  other_names other apart (chunk number piece) fits holds same = other_tag 80 107 other _ (λ e. absurd (omega arith)) same
+
+one_part : (plan revision i j : ℕ) → Fits (part plan revision i) → Fits (part plan revision j) → key_of (part plan revision i) ≡ key_of (part plan revision j) → i ≡ j
+one_part plan revision i j fits also same = (let rows : part plan revision i ≡ part plan revision j = keys_differ (part plan revision i) (part plan revision j) fits also same in cc)
+
+module _ (m : KeyMap) (tidy : Tidy m) (name : List ℕ) (p : PlanRow) (lists : List (List ℕ)) (numbers : List ℕ) (number_fits : p.number < 2 ^ 64) (few_revisions : p.revisions + 1 < 2 ^ 32) (name_fits : Fits (named name)) (room : tidy.next.chunk + length lists < 2 ^ 64) (has : Has m (named name) (plan_bytes p)) (few : length numbers ≤ 128 * 2 ^ 8) (sound : All IsChunkList lists) where
+  abbrev Q : RowKey → Type 0
+  Q = IsPut tidy.next (length lists) name p
+
+  abbrev plan_row : Row
+  plan_row = (key_of (named name), plan_bytes (one_revision_more p))
+
+  abbrev counters_row : Row
+  counters_row = (key_of counters, counters_bytes (chunks_more tidy.next (length lists)))
+
+  abbrev after : KeyMap
+  after = put_rows m (rows_of_revision tidy.next name p lists numbers)
+
+  abbrev with_chunks : KeyMap
+  with_chunks = put_rows m (new_chunk_rows tidy.next.chunk lists)
+
+  abbrev with_parts : KeyMap
+  with_parts = put_rows with_chunks (name_rows p.number (p.revisions + 1) numbers)
+
+  in_steps : after ≡ insert (insert with_parts plan_row.0 plan_row.1) counters_row.0 counters_row.1
+  in_steps = put_rows-append m (new_chunk_rows tidy.next.chunk lists) (name_rows p.number (p.revisions + 1) numbers ++ plan_row ∷ counters_row ∷ [])
+      ∙ put_rows-append with_chunks (name_rows p.number (p.revisions + 1) numbers) (plan_row ∷ counters_row ∷ [])
+
+  new_are : All (IsRowOf Q) (new_chunk_rows tidy.next.chunk lists)
+  new_are = chunks_are Q tidy.next (length lists) (λ number piece is. is) room tidy.next.chunk lists (omega arith) (omega arith) (short lists sound)
+
+  all_are : All (IsRowOf Q) (rows_of_revision tidy.next name p lists numbers)
+  all_are = All-append (IsRowOf Q) (new_chunk_rows tidy.next.chunk lists) (name_rows p.number (p.revisions + 1) numbers ++ plan_row ∷ counters_row ∷ []) new_are
+      (All-append (IsRowOf Q) (name_rows p.number (p.revisions + 1) numbers) (plan_row ∷ counters_row ∷ []) (parts_are tidy.next (length lists) name p number_fits few_revisions name_fits numbers few)
+      (ends_are tidy.next (length lists) name p number_fits few_revisions name_fits plan_row.1 counters_row.1))
+
+  tag_stays : (tag : ℕ) → (tag ≡ 65 → ⊥) → (tag ≡ 80 → ⊥) → (tag ≡ 82 → ⊥) → (tag ≡ 107 → ⊥) → SameTag tag m after
+  tag_stays tag a b c d rest = keeps_key Q m (rows_of_revision tidy.next name p lists numbers) (tag ∷ rest) all_are (other_tags tidy.next (length lists) name p number_fits few_revisions name_fits tag rest a b c d)
+
+  named_row : Has after (named name) (plan_bytes (one_revision_more p))
+  named_row = ap (λ n. row_in n (named name)) in_steps
+      ∙ put_keeps (insert with_parts plan_row.0 plan_row.1) counters_row.0 counters_row.1 (key_of (named name)) (other_tag 80 65 name [] (λ e. absurd (omega arith)))
+      ∙ put_is_there with_parts plan_row.0 plan_row.1
+
+  counters_there : Has after counters (counters_bytes (chunks_more tidy.next (length lists)))
+  counters_there = ap (λ n. row_in n counters) in_steps ∙ put_is_there (insert with_parts plan_row.0 plan_row.1) counters_row.0 counters_row.1
+
+  -- the parts are those of the list of numbers
+  in_parts : (index : ℕ) → row_in after (part p.number (p.revisions + 1) index) ≡ row_in with_parts (part p.number (p.revisions + 1) index)
+  in_parts index = ap (λ n. row_in n (part p.number (p.revisions + 1) index)) in_steps
+      ∙ put_keeps (insert with_parts plan_row.0 plan_row.1) counters_row.0 counters_row.1 (key_of (part p.number (p.revisions + 1) index)) (other_tag 82 65 _ [] (λ e. absurd (omega arith)))
+      ∙ put_keeps with_parts plan_row.0 plan_row.1 (key_of (part p.number (p.revisions + 1) index)) (other_tag 82 80 _ name (λ e. absurd (omega arith)))
+
+  part_fits : (index : ℕ) → index < 2 ^ 8 → Fits (part p.number (p.revisions + 1) index)
+  part_fits index less = (number_fits, few_revisions, less)
+
+  no_part : (index : ℕ) → index < 2 ^ 8 → row_in with_chunks (part p.number (p.revisions + 1) index) ≡ row_in m (part p.number (p.revisions + 1) index)
+  no_part index less = keeps_row (IsNewPiece tidy.next (length lists)) m (new_chunk_rows tidy.next.chunk lists) (part p.number (p.revisions + 1) index)
+      (chunks_are (IsNewPiece tidy.next (length lists)) tidy.next (length lists) (λ number piece is. is) room tidy.next.chunk lists (omega arith) (omega arith) (short lists sound)) (part_fits index less) (λ none. none)
+
+  part_is : (index : ℕ) → index < 2 ^ 8 → row_in with_parts (part p.number (p.revisions + 1) index) ≡ part_row 128 chunks_bytes numbers index
+  part_is index less = elim (cases_lt index (rows_for 128 (length numbers))) [
+    | inl within ↦ told_are with_chunks (name_row p.number (p.revisions + 1) numbers) (rows_for 128 (length numbers)) index
+        (λ i j one other same. one_part p.number (p.revisions + 1) i j (part_fits i (few_parts (length numbers) i few one)) (part_fits j (few_parts (length numbers) j few other)) same) within
+        ∙ sym (part_there numbers index (omega arith))
+    | inr past ↦ told_keep with_chunks (name_row p.number (p.revisions + 1) numbers) (rows_for 128 (length numbers)) (key_of (part p.number (p.revisions + 1) index))
+        (λ k within same. let one : index ≡ k = one_part p.number (p.revisions + 1) index k (part_fits index less) (part_fits k (few_parts (length numbers) k few within)) same in omega arith)
+        ∙ no_part index less
+        ∙ free_revision m tidy name p number_fits (omega arith) has (p.revisions + 1) index (omega arith) (part_fits index less)
+        ∙ sym (ap (λ b. cond b (Some (chunks_bytes (take 128 (drop (128 * index) numbers)))) None) (le-ltb (128 * index) (length numbers) (omega arith)))
+  ]
+
+  -- the rows of chunks are those of the new ones
+  chunk_rows_stay : SameTag 107 with_chunks after
+  chunk_rows_stay rest = ap (λ n. get n (107 ∷ rest)) in_steps
+      ∙ put_keeps (insert with_parts plan_row.0 plan_row.1) counters_row.0 counters_row.1 (107 ∷ rest) (other_tag 107 65 rest [] (λ e. absurd (omega arith)))
+      ∙ put_keeps with_parts plan_row.0 plan_row.1 (107 ∷ rest) (other_tag 107 80 rest name (λ e. absurd (omega arith)))
+      ∙ told_keep with_chunks (name_row p.number (p.revisions + 1) numbers) (rows_for 128 (length numbers)) (107 ∷ rest) (λ k less. other_tag 107 82 rest _ (λ e. absurd (omega arith)))
+
+  -- what they hold is pieces of chunks
+  new_piece : (number piece : ℕ) (value : List ℕ) → Fits (chunk number piece) → IsGiven tidy.next (length lists) number → Has after (chunk number piece) value → IsPiece value
+  new_piece number piece value fits given there = elim (tells_value (λ row. IsPiece row.1) m (new_chunk_rows tidy.next.chunk lists) (key_of (chunk number piece)) value (pieces_are tidy.next.chunk lists sound) (sym (chunk_rows_stay _) ∙ there)) [
+    | inl put ↦ subst (λ (v : List ℕ). IsPiece v) put.2 put.1
+    | inr before ↦ absurd (no_value value (sym before ∙ free_chunk m tidy number given.0 fits.0 piece fits.1))
+  ]
+
+  adds_revision : AddsRevision m after tidy.next (length lists) name p numbers
+  adds_revision = record {
+    rows = keeps_rows Q m (rows_of_revision tidy.next name p lists numbers) all_are tidy.rows;
+    moved = counters_there;
+    row = named_row;
+    others = λ other apart. keeps_key Q m (rows_of_revision tidy.next name p lists numbers) (key_of (named other)) all_are (other_names tidy.next (length lists) name p number_fits few_revisions name_fits other apart);
+    marks = tag_stays 68 (λ e. absurd (omega arith)) (λ e. absurd (omega arith)) (λ e. absurd (omega arith)) (λ e. absurd (omega arith));
+    starts = tag_stays 76 (λ e. absurd (omega arith)) (λ e. absurd (omega arith)) (λ e. absurd (omega arith)) (λ e. absurd (omega arith));
+    seals = tag_stays 83 (λ e. absurd (omega arith)) (λ e. absurd (omega arith)) (λ e. absurd (omega arith)) (λ e. absurd (omega arith));
+    loads = tag_stays 103 (λ e. absurd (omega arith)) (λ e. absurd (omega arith)) (λ e. absurd (omega arith)) (λ e. absurd (omega arith));
+    parts = λ index less. in_parts index ∙ part_is index less;
+    other_parts = λ plan revision index fits apart. keeps_row Q m (rows_of_revision tidy.next name p lists numbers) (part plan revision index) all_are fits apart;
+    pieces = new_piece;
+    other_chunks = λ number piece fits apart. keeps_row Q m (rows_of_revision tidy.next name p lists numbers) (chunk number piece) all_are fits apart;
+  }
+
+-- rows as a revision puts them are rows that add it
+pub revision_put : (m : KeyMap) (tidy : Tidy m) (name : List ℕ) (p : PlanRow) (lists : List (List ℕ)) (numbers : List ℕ) → p.number < 2 ^ 64 → p.revisions + 1 < 2 ^ 32 → Fits (named name) → tidy.next.chunk + length lists < 2 ^ 64
+    → Has m (named name) (plan_bytes p) → length numbers ≤ 128 * 2 ^ 8 → All IsChunkList lists → AddsRevision m (put_rows m (rows_of_revision tidy.next name p lists numbers)) tidy.next (length lists) name p numbers
+revision_put m tidy name p lists numbers number_fits few_revisions name_fits room has few sound = adds_revision m tidy name p lists numbers number_fits few_revisions name_fits room has few sound
+
+-- and the chunks that it has behind them are those of its new ones
+pub chunks_put : (m : KeyMap) (tidy : Tidy m) (name : List ℕ) (p : PlanRow) (lists : List (List ℕ)) (numbers : List ℕ) → p.number < 2 ^ 64 → p.revisions + 1 < 2 ^ 32 → Fits (named name) → tidy.next.chunk + length lists < 2 ^ 64
+    → Has m (named name) (plan_bytes p) → length numbers ≤ 128 * 2 ^ 8 → All IsChunkList lists → SameTag 107 (put_rows m (new_chunk_rows tidy.next.chunk lists)) (put_rows m (rows_of_revision tidy.next name p lists numbers))
+chunks_put m tidy name p lists numbers number_fits few_revisions name_fits room has few sound = chunk_rows_stay m tidy name p lists numbers number_fits few_revisions name_fits room has few sound

@@ -1,0 +1,111 @@
+-- A map without rows is tidy; in a tidy map the numbers that come next are free, and it has one row of counters' numbers.
+use Rattle.std.proofs.Common.{◌≡◌, ◌<◌, ◌≤◌, ◌^◌, ℕ, List, [], drop, Option, Some, None, refl, sym, ap, ◌∙◌, inl, inr, w64, arith}
+use Rattle.std.specs.Int.{from_be_bytes}
+use Rattle.std.specs.Prelude.{MatchOption}
+use Rattle.std.specs.FinMap.{get, empty, get-empty}
+use Rattle.std.proofs.lemmas.Nat.{from_be_bytes-to_be_bytes_8}
+use Rattle.store_keys.specs.Keys.{key_of, Fits, counters, retired, begun, named, part, block, pair, chunk}
+use Rattle.store_keys.specs.Values.{plan_bytes, counters_bytes}
+use Rattle.store_keys.specs.declared.value.Counters.{Counters}
+use Rattle.store_keys.specs.declared.value.PlanRow.{PlanRow}
+use Rattle.store_keys.specs.Order.{key_cmp}
+use Rattle.store_rows.specs.Rows.{KeyMap, row_in, Has, Lacks}
+use Rattle.store_rows.specs.ChunkRows.{IsFreeChunk}
+use Rattle.store_rows.specs.Tidy.{no_numbers, IsNext, CountersFit, IsKnown, IsLoad, Tidy, TidyWith}
+use Rattle.store_rows.proofs.OneGeography.{no_value}
+use Rattle.store_rows.proofs.TidyParts.{some_or_none, AllKept, tidy_at}
+
+-- ---- no rows
+nothing_there : (key : List ℕ) → get {K = List ℕ} {X = List ℕ} {R = key_cmp} empty key ≡ None
+nothing_there key = get-empty key_cmp key
+
+never : (key value : List ℕ) → get {K = List ℕ} {X = List ℕ} {R = key_cmp} empty key ≡ Some value → ⊥
+never key value there = no_value value (sym there ∙ nothing_there key)
+
+pub empty_tidy : TidyWith empty no_numbers
+empty_tidy =
+    let m : KeyMap = empty in
+    let is : IsNext m no_numbers = rw (nothing_there (key_of counters)) refl in
+    let kept : AllKept m no_numbers = record {
+      rows = λ key value there. absurd (never key value there);
+      plans = record {
+        below = λ name number is. absurd (never _ _ is.row);
+        marks_below = λ plan value fits has. absurd (never _ _ has);
+        one = λ name other number is also. absurd (never _ _ is.row);
+        gone = λ name number is. absurd (never _ _ is.row);
+        parts = λ plan revision index value fits has. absurd (never _ _ has);
+        told = λ plan revision index value fits has. absurd (never _ _ has);
+        counted = λ name p fits small has revision index value part_fits there. absurd (never _ _ has);
+      };
+      chunks = record {
+        below = λ plan number is. absurd (never _ _ is.row);
+        chunks = λ number index value fits has. absurd (never _ _ has);
+        pieces = λ number piece value fits has. absurd (never _ _ has);
+        owners = record { owner = λ number. 0; is = λ plan number is. absurd (never _ _ is.row) };
+      };
+      loads = record {
+        below = λ load value fits has. absurd (never _ _ has);
+        sealed_below = λ sealed fits has. absurd (never _ _ has);
+        blocks = λ load place value fits has. absurd (never _ _ has);
+        pairs = λ load place value fits has. absurd (never _ _ has);
+        ended = λ sealed fits has. absurd (never _ _ has);
+      };
+    } in
+    tidy_at m no_numbers is (record { plan_fits = omega arith; chunk_fits = omega arith; load_fits = omega arith }) kept
+
+-- ---- one row of counters
+counters_say : (a b : Counters) → CountersFit a → CountersFit b → counters_bytes a ≡ counters_bytes b → a ≡ b
+counters_say a b fa fb same =
+    let plan : a.plan ≡ b.plan = sym (from_be_bytes-to_be_bytes_8 a.plan fa.plan_fits) ∙ ap (from_be_bytes w64) same ∙ from_be_bytes-to_be_bytes_8 b.plan fb.plan_fits in
+    let chunk : a.chunk ≡ b.chunk = sym (from_be_bytes-to_be_bytes_8 a.chunk fa.chunk_fits) ∙ ap (λ l. from_be_bytes w64 (drop 8 l)) same ∙ from_be_bytes-to_be_bytes_8 b.chunk fb.chunk_fits in
+    let load : a.load ≡ b.load = sym (from_be_bytes-to_be_bytes_8 a.load fa.load_fits) ∙ ap (λ l. from_be_bytes w64 (drop 16 l)) same ∙ from_be_bytes-to_be_bytes_8 b.load fb.load_fits in
+    λ i. record { plan = plan i; chunk = chunk i; load = load i }
+
+next_by : (o : Option (List ℕ)) (a b : Counters) → CountersFit a → CountersFit b → MatchOption o (a ≡ no_numbers) (λ value. value ≡ counters_bytes a) → MatchOption o (b ≡ no_numbers) (λ value. value ≡ counters_bytes b) → a ≡ b
+next_by None a b fa fb is also = is ∙ sym also
+next_by (Some value) a b fa fb is also = counters_say a b fa fb (sym is ∙ also)
+
+pub one_next : (m : KeyMap) (a b : Counters) → CountersFit a → CountersFit b → IsNext m a → IsNext m b → a ≡ b
+one_next m a b fa fb is also = next_by (row_in m counters) a b fa fb is also
+
+-- ---- numbers that come next
+known_below : (m : KeyMap) (tidy : Tidy m) (plan : ℕ) → plan < 2 ^ 64 → IsKnown m plan → plan < tidy.next.plan
+known_below m tidy plan fits (inl (name, is)) = tidy.below.plans name plan is
+known_below m tidy plan fits (inr mark) = tidy.below.retired_plans plan [] fits mark
+
+load_below : (m : KeyMap) (tidy : Tidy m) (load : ℕ) → load < 2 ^ 64 → IsLoad m load → load < tidy.next.load
+load_below m tidy load fits (inl (sealed, row, is)) = (let below = tidy.below.sealed_load sealed (omega arith) row in omega arith)
+load_below m tidy load fits (inr mark) = tidy.below.begun_loads load [] fits mark
+
+pub free_chunk : (m : KeyMap) (tidy : Tidy m) (number : ℕ) → tidy.next.chunk ≤ number → number < 2 ^ 64 → IsFreeChunk m number
+free_chunk m tidy number more fits index few = some_or_none (row_in m (chunk number index)) (λ value there.
+    let is = tidy.owned.chunks number index value (fits, few) there in
+    let below = tidy.below.named_chunks is.0 number is.1 in
+    absurd (omega arith))
+
+pub free_mark : (m : KeyMap) (tidy : Tidy m) (plan : ℕ) → tidy.next.plan ≤ plan → plan < 2 ^ 64 → Lacks m (retired plan)
+free_mark m tidy plan more fits = some_or_none (row_in m (retired plan)) (λ value there. let below = tidy.below.retired_plans plan value fits there in absurd (omega arith))
+
+pub free_part : (m : KeyMap) (tidy : Tidy m) (plan revision index : ℕ) → tidy.next.plan ≤ plan → Fits (part plan revision index) → Lacks m (part plan revision index)
+free_part m tidy plan revision index more fits = some_or_none (row_in m (part plan revision index)) (λ value there.
+    let below = known_below m tidy plan fits.0 (tidy.owned.parts plan revision index value fits there) in
+    absurd (omega arith))
+
+pub free_revision : (m : KeyMap) (tidy : Tidy m) (name : List ℕ) (p : PlanRow) → p.number < 2 ^ 64 → p.revisions < 2 ^ 32 → Has m (named name) (plan_bytes p)
+    → (revision index : ℕ) → p.revisions < revision → Fits (part p.number revision index) → Lacks m (part p.number revision index)
+free_revision m tidy name p fits small has revision index more part_fits = some_or_none (row_in m (part p.number revision index)) (λ value there.
+    let few = (tidy.counted.counted name p fits small has revision index value part_fits there).1 in
+    absurd (omega arith))
+
+pub free_load : (m : KeyMap) (tidy : Tidy m) (load : ℕ) → tidy.next.load ≤ load → load < 2 ^ 64 → Lacks m (begun load)
+free_load m tidy load more fits = some_or_none (row_in m (begun load)) (λ value there. let below = tidy.below.begun_loads load value fits there in absurd (omega arith))
+
+pub free_block : (m : KeyMap) (tidy : Tidy m) (load place : ℕ) → tidy.next.load ≤ load → Fits (block load place) → Lacks m (block load place)
+free_block m tidy load place more fits = some_or_none (row_in m (block load place)) (λ value there.
+    let below = load_below m tidy load fits.0 (tidy.owned.blocks load place value fits there) in
+    absurd (omega arith))
+
+pub free_pair : (m : KeyMap) (tidy : Tidy m) (load place : ℕ) → tidy.next.load ≤ load → Fits (pair load place) → Lacks m (pair load place)
+free_pair m tidy load place more fits = some_or_none (row_in m (pair load place)) (λ value there.
+    let below = load_below m tidy load fits.0 (tidy.owned.pairs load place value fits there) in
+    absurd (omega arith))

@@ -1,0 +1,187 @@
+-- Loads are begun, staged and sealed, and the rows stay tidy.
+use Rattle.std.proofs.Common.{◌≡◌, ◌<◌, ◌+◌, ◌^◌, ℕ, suc, List, [], ◌∷◌, ◌++◌, All, None, refl, sym, ap, subst, ◌∙◌, inl, inr, arith}
+use Rattle.std.proofs.lemmas.Bool.{cases_eq}
+use Rattle.std.specs.FinMap.{insert, remove}
+use Rattle.store_keys.specs.Keys.{RowKey, key_of, Fits, counters, begun, seal, block, pair, in_eight, in_four}
+use Rattle.store_keys.specs.Values.{seal_bytes, counters_bytes}
+use Rattle.store_keys.specs.RowLaws.{keys_differ}
+use Rattle.store_keys.specs.declared.value.SealRow.{SealRow}
+use Rattle.store_rows.specs.Rows.{KeyMap, row_in, Has, Lacks, SameTag}
+use Rattle.store_rows.specs.Changes.{cases_key}
+use Rattle.store_rows.specs.Frames.{put_is_there, put_keeps, put_keeps_tag, put_keeps_row, removed_is_gone, remove_keeps_row, remove_keeps_tag, tag_follows}
+use Rattle.store_rows.specs.Puts.{Row, put_rows}
+use Rattle.store_rows.specs.Steps.{one_load_more, IsLoadKey}
+use Rattle.store_rows.specs.Tidy.{IsLoad, Tidy, TidyWith}
+use Rattle.store_rows.proofs.OneGeography.{value_is, no_value, seal_load}
+use Rattle.store_rows.proofs.TidyParts.{load_moves, LoadsKept, AllKept, kept_of, plans_stay, chunks_stay, rows_put, rows_removed, counters_put, stays_tidy}
+
+other_load : (load other : ℕ) → (load ≡ other → ⊥) → begun load ≡ begun other → ⊥
+other_load load other apart same = apart (cc)
+
+-- ---- a load is begun
+module _ (m : KeyMap) (limit : ℕ) (kept : LoadsKept m limit) (fits : limit < 2 ^ 64) where
+  abbrev started : KeyMap
+  started = insert m (key_of (begun limit)) []
+
+  started_seal : SameTag 83 m started
+  started_seal = put_keeps_tag m 83 76 _ [] (λ e. absurd (omega arith))
+
+  started_rows : SameTag 103 m started
+  started_rows = put_keeps_tag m 103 76 _ [] (λ e. absurd (omega arith))
+
+  others_begun : (load : ℕ) → load < 2 ^ 64 → (load ≡ limit → ⊥) → row_in started (begun load) ≡ row_in m (begun load)
+  others_begun load few apart = put_keeps_row m (begun limit) [] (begun load) fits few (other_load load limit apart)
+
+  load_there : (load : ℕ) → load < 2 ^ 64 → IsLoad m load → IsLoad started load
+  load_there load few (inl (sealed, row, is)) = inl (sealed, started_seal _ ∙ row, is)
+  load_there load few (inr mark) = (let below = kept.below load [] few mark in inr (others_begun load few (λ e. absurd (omega arith)) ∙ mark))
+
+  loads_started : LoadsKept started (limit + 1)
+  loads_started = record {
+    below = λ load value few there. elim (cases_eq load limit) [
+      | inl same ↦ omega arith
+      | inr apart ↦ (let below = kept.below load value few (sym (others_begun load few apart) ∙ there) in omega arith)
+    ];
+    sealed_below = λ sealed few there. let below = kept.sealed_below sealed few (sym (started_seal _) ∙ there) in omega arith;
+    blocks = λ load place value few there. load_there load few.0 (kept.blocks load place value few (sym (started_rows _) ∙ there));
+    pairs = λ load place value few there. load_there load few.0 (kept.pairs load place value few (sym (started_rows _) ∙ there));
+    ended = λ sealed few there.
+        let before : Has m seal (seal_bytes sealed) = sym (started_seal _) ∙ there in
+        let below = kept.sealed_below sealed few before in
+        others_begun sealed.load few (λ e. absurd (omega arith)) ∙ kept.ended sealed few before;
+  }
+
+pub begun_tidy : (m : KeyMap) (tidy : Tidy m) → tidy.next.load + 1 < 2 ^ 64
+    → TidyWith (insert (insert m (key_of (begun tidy.next.load)) []) (key_of counters) (counters_bytes (one_load_more tidy.next))) (one_load_more tidy.next)
+begun_tidy m tidy room =
+    let next = tidy.next in
+    let kept = kept_of m tidy in
+    let n = insert m (key_of (begun next.load)) [] in
+    let same = λ (tag : ℕ) (apart : tag ≡ 76 → ⊥). put_keeps_tag m tag 76 (in_eight next.load) [] apart in
+    let plan_fits = tidy.fits.plan_fits in
+    let chunk_fits = tidy.fits.chunk_fits in
+    counters_put n (one_load_more next) (record { plan_fits = plan_fits; chunk_fits = chunk_fits; load_fits = room }) (record {
+      rows = rows_put m (begun next.load) [] tidy.fits.load_fits kept.rows;
+      plans = plans_stay m n next.plan next.plan (omega arith) (same 80 (λ e. absurd (omega arith))) (same 68 (λ e. absurd (omega arith))) (same 82 (λ e. absurd (omega arith))) kept.plans;
+      chunks = chunks_stay m n next.chunk next.chunk (omega arith) (same 82 (λ e. absurd (omega arith))) (same 107 (λ e. absurd (omega arith))) kept.chunks;
+      loads = loads_started m next.load kept.loads tidy.fits.load_fits;
+    })
+
+-- ---- a row of a load is put
+-- a row of a load is that of a block or of a pair of the load
+pub load_row_tidy : (m : KeyMap) (tidy : Tidy m) (load : ℕ) (row : RowKey) (rest value : List ℕ) → key_of row ≡ 103 ∷ rest → Fits row → IsLoad m load
+    → ((other place : ℕ) → Fits (block other place) → row ≡ block other place → other ≡ load) → ((other place : ℕ) → Fits (pair other place) → row ≡ pair other place → other ≡ load)
+    → TidyWith (insert m (key_of row) value) tidy.next
+load_row_tidy m tidy load row rest value tagged fits is block_load pair_load =
+    let next = tidy.next in
+    let kept = kept_of m tidy in
+    let n = insert m (key_of row) value in
+    let same = λ (tag : ℕ) (apart : tag ≡ 103 → ⊥). subst (λ (k : List ℕ). SameTag tag m (insert m k value)) (sym tagged) (put_keeps_tag m tag 103 rest value apart) in
+    let seals : SameTag 83 m n = same 83 (λ e. absurd (omega arith)) in
+    let marks : SameTag 76 m n = same 76 (λ e. absurd (omega arith)) in
+    let loads : LoadsKept n next.load = record {
+      below = λ other got few there. kept.loads.below other got few (sym (marks _) ∙ there);
+      sealed_below = λ sealed few there. kept.loads.sealed_below sealed few (sym (seals _) ∙ there);
+      blocks = λ other place got few there. load_moves m n other seals marks (elim (cases_key (key_of (block other place)) (key_of row)) [
+        | inl equal ↦ subst (λ k. IsLoad m k) (sym (block_load other place few (sym (keys_differ (block other place) row few fits equal)))) is
+        | inr apart ↦ kept.loads.blocks other place got few (sym (put_keeps m (key_of row) value (key_of (block other place)) apart) ∙ there)
+      ]);
+      pairs = λ other place got few there. load_moves m n other seals marks (elim (cases_key (key_of (pair other place)) (key_of row)) [
+        | inl equal ↦ subst (λ k. IsLoad m k) (sym (pair_load other place few (sym (keys_differ (pair other place) row few fits equal)))) is
+        | inr apart ↦ kept.loads.pairs other place got few (sym (put_keeps m (key_of row) value (key_of (pair other place)) apart) ∙ there)
+      ]);
+      ended = λ sealed few there. marks _ ∙ kept.loads.ended sealed few (sym (seals _) ∙ there);
+    } in
+    let here : AllKept n next = record {
+      rows = rows_put m row value fits kept.rows;
+      plans = plans_stay m n next.plan next.plan (omega arith) (same 80 (λ e. absurd (omega arith))) (same 68 (λ e. absurd (omega arith))) (same 82 (λ e. absurd (omega arith))) kept.plans;
+      chunks = chunks_stay m n next.chunk next.chunk (omega arith) (same 82 (λ e. absurd (omega arith))) (same 107 (λ e. absurd (omega arith))) kept.chunks;
+      loads = loads;
+    } in
+    stays_tidy m n tidy (same 65 (λ e. absurd (omega arith)) []) here
+
+pub block_tidy : (m : KeyMap) (tidy : Tidy m) (load place : ℕ) (value : List ℕ) → Fits (block load place) → IsLoad m load → TidyWith (insert m (key_of (block load place)) value) tidy.next
+block_tidy m tidy load place value fits is = load_row_tidy m tidy load (block load place) (in_eight load ++ (98 ∷ in_four place)) value refl fits is (λ other at few same. cc) (λ other at few same. cc)
+
+pub pair_tidy : (m : KeyMap) (tidy : Tidy m) (load place : ℕ) (value : List ℕ) → Fits (pair load place) → IsLoad m load → TidyWith (insert m (key_of (pair load place)) value) tidy.next
+pair_tidy m tidy load place value fits is = load_row_tidy m tidy load (pair load place) (in_eight load ++ (112 ∷ in_four place)) value refl fits is (λ other at few same. cc) (λ other at few same. cc)
+
+-- ---- rows of a load, one after the other
+one_staged : (m : KeyMap) (tidy : Tidy m) (load : ℕ) (key value : List ℕ) → load < 2 ^ 64 → IsLoad m load → IsLoadKey load key → TidyWith (insert m key value) tidy.next
+one_staged m tidy load key value fits is (inl (place, few, same)) = subst (λ (k : List ℕ). TidyWith (insert m k value) tidy.next) (sym same) (block_tidy m tidy load place value (fits, few) is)
+one_staged m tidy load key value fits is (inr (place, few, same)) = subst (λ (k : List ℕ). TidyWith (insert m k value) tidy.next) (sym same) (pair_tidy m tidy load place value (fits, few) is)
+
+still_there : (m : KeyMap) (load other : ℕ) (key value : List ℕ) → IsLoadKey load key → IsLoad m other → IsLoad (insert m key value) other
+still_there m load other key value (inl (place, few, same)) is = subst (λ (k : List ℕ). IsLoad (insert m k value) other) (sym same)
+    (load_moves m (insert m (key_of (block load place)) value) other (put_keeps_tag m 83 103 (in_eight load ++ (98 ∷ in_four place)) value (λ e. absurd (omega arith))) (put_keeps_tag m 76 103 (in_eight load ++ (98 ∷ in_four place)) value (λ e. absurd (omega arith))) is)
+still_there m load other key value (inr (place, few, same)) is = subst (λ (k : List ℕ). IsLoad (insert m k value) other) (sym same)
+    (load_moves m (insert m (key_of (pair load place)) value) other (put_keeps_tag m 83 103 (in_eight load ++ (112 ∷ in_four place)) value (λ e. absurd (omega arith))) (put_keeps_tag m 76 103 (in_eight load ++ (112 ∷ in_four place)) value (λ e. absurd (omega arith))) is)
+
+pub staged_tidy : (m : KeyMap) (tidy : Tidy m) (load : ℕ) (rows : List Row) → load < 2 ^ 64 → IsLoad m load → All (λ row. IsLoadKey load row.0) rows → TidyWith (put_rows m rows) tidy.next
+staged_tidy m tidy load [] fits is all = (tidy, refl)
+staged_tidy m tidy load (row ∷ rows) fits is all =
+    let first : IsLoadKey load row.0 = all 0 row (omega arith) in
+    let one : TidyWith (insert m row.0 row.1) tidy.next = one_staged m tidy load row.0 row.1 fits is first in
+    let rest : TidyWith (put_rows (insert m row.0 row.1) rows) one.0.next = staged_tidy (insert m row.0 row.1) one.0 load rows fits (still_there m load load row.0 row.1 first is) (λ k d within. all (suc k) d (omega arith)) in
+    (rest.0, rest.1 ∙ one.1)
+
+-- ---- a load is sealed
+module _ (m : KeyMap) (limit : ℕ) (s : SealRow) (kept : LoadsKept m limit) (fits : s.load < 2 ^ 64) (lacks : Lacks m seal) (mark : Has m (begun s.load) []) where
+  abbrev with_seal : KeyMap
+  with_seal = insert m (key_of seal) (seal_bytes s)
+
+  abbrev closed : KeyMap
+  closed = remove with_seal (key_of (begun s.load))
+
+  sealed_row : Has closed seal (seal_bytes s)
+  sealed_row = remove_keeps_tag with_seal 83 76 _ (λ e. absurd (omega arith)) [] ∙ put_is_there m (key_of seal) (seal_bytes s)
+
+  closed_rows : SameTag 103 m closed
+  closed_rows = tag_follows 103 m with_seal closed (put_keeps_tag m 103 83 [] (seal_bytes s) (λ e. absurd (omega arith))) (remove_keeps_tag with_seal 103 76 _ (λ e. absurd (omega arith)))
+
+  seal_marks : SameTag 76 m with_seal
+  seal_marks = put_keeps_tag m 76 83 [] (seal_bytes s) (λ e. absurd (omega arith))
+
+  ended_mark : row_in closed (begun s.load) ≡ None
+  ended_mark = removed_is_gone with_seal (key_of (begun s.load))
+
+  others_open : (load : ℕ) → load < 2 ^ 64 → (load ≡ s.load → ⊥) → row_in closed (begun load) ≡ row_in m (begun load)
+  others_open load few apart = remove_keeps_row with_seal (begun s.load) (begun load) fits few (other_load load s.load apart) ∙ seal_marks _
+
+  -- the seal names this load alone
+  seal_says : (sealed : SealRow) → sealed.load < 2 ^ 64 → Has closed seal (seal_bytes sealed) → sealed.load ≡ s.load
+  seal_says sealed few there = seal_load sealed s few fits (value_is (seal_bytes sealed) (seal_bytes s) (sym there ∙ sealed_row))
+
+  still_load : (load : ℕ) → load < 2 ^ 64 → IsLoad m load → IsLoad closed load
+  still_load load few (inl (sealed, row, is)) = absurd (no_value (seal_bytes sealed) (sym row ∙ lacks))
+  still_load load few (inr open_mark) = elim (cases_eq load s.load) [
+    | inl same ↦ inl (s, sealed_row, sym same)
+    | inr apart ↦ inr (others_open load few apart ∙ open_mark)
+  ]
+
+  loads_closed : LoadsKept closed limit
+  loads_closed = record {
+    below = λ load value few there. elim (cases_eq load s.load) [
+      | inl same ↦ absurd (no_value value (sym there ∙ ap (λ k. row_in closed (begun k)) same ∙ ended_mark))
+      | inr apart ↦ kept.below load value few (sym (others_open load few apart) ∙ there)
+    ];
+    sealed_below = λ sealed few there. let same = seal_says sealed few there in let below = kept.below s.load [] fits mark in omega arith;
+    blocks = λ load place value few there. still_load load few.0 (kept.blocks load place value few (sym (closed_rows _) ∙ there));
+    pairs = λ load place value few there. still_load load few.0 (kept.pairs load place value few (sym (closed_rows _) ∙ there));
+    ended = λ sealed few there. ap (λ k. row_in closed (begun k)) (seal_says sealed few there) ∙ ended_mark;
+  }
+
+pub sealed_tidy : (m : KeyMap) (tidy : Tidy m) (s : SealRow) → s.load < 2 ^ 64 → Lacks m seal → Has m (begun s.load) [] → TidyWith (remove (insert m (key_of seal) (seal_bytes s)) (key_of (begun s.load))) tidy.next
+sealed_tidy m tidy s fits lacks mark =
+    let next = tidy.next in
+    let kept = kept_of m tidy in
+    let mid = insert m (key_of seal) (seal_bytes s) in
+    let n = remove mid (key_of (begun s.load)) in
+    let same = λ (tag : ℕ) (not_seal : tag ≡ 83 → ⊥) (not_mark : tag ≡ 76 → ⊥). tag_follows tag m mid n (put_keeps_tag m tag 83 [] (seal_bytes s) not_seal) (remove_keeps_tag mid tag 76 (in_eight s.load) not_mark) in
+    let here : AllKept n next = record {
+      rows = rows_removed mid (key_of (begun s.load)) (rows_put m seal (seal_bytes s) tt kept.rows);
+      plans = plans_stay m n next.plan next.plan (omega arith) (same 80 (λ e. absurd (omega arith)) (λ e. absurd (omega arith))) (same 68 (λ e. absurd (omega arith)) (λ e. absurd (omega arith))) (same 82 (λ e. absurd (omega arith)) (λ e. absurd (omega arith))) kept.plans;
+      chunks = chunks_stay m n next.chunk next.chunk (omega arith) (same 82 (λ e. absurd (omega arith)) (λ e. absurd (omega arith))) (same 107 (λ e. absurd (omega arith)) (λ e. absurd (omega arith))) kept.chunks;
+      loads = loads_closed m next.load s kept.loads fits lacks mark;
+    } in
+    stays_tidy m n tidy (same 65 (λ e. absurd (omega arith)) (λ e. absurd (omega arith)) []) here

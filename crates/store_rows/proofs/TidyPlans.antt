@@ -1,0 +1,206 @@
+-- Plans come and go, and the rows stay tidy.
+use Rattle.std.proofs.Common.{◌≡◌, ◌⊎◌, ◌<◌, ◌+◌, ◌^◌, ℕ, List, [], None, sym, ap, subst, ◌∙◌, inl, inr, arith}
+use Rattle.std.proofs.lemmas.Bool.{cases_eq}
+use Rattle.std.specs.FinMap.{insert, remove}
+use Rattle.store_keys.specs.Keys.{key_of, Fits, counters, retired, named}
+use Rattle.store_keys.specs.Values.{plan_bytes, counters_bytes}
+use Rattle.store_keys.specs.declared.value.PlanRow.{PlanRow}
+use Rattle.store_rows.specs.Rows.{KeyMap, row_in, Has, Lacks, SameTag}
+use Rattle.store_rows.specs.Changes.{cases_key, other_row}
+use Rattle.store_rows.specs.Frames.{put_is_there, put_keeps, put_keeps_tag, put_keeps_row, removed_is_gone, remove_keeps, remove_keeps_tag, tag_follows}
+use Rattle.store_rows.specs.Steps.{one_plan_more}
+use Rattle.store_rows.specs.Tidy.{IsNumbered, IsKnown, Tidy, TidyWith}
+use Rattle.store_rows.proofs.OneGeography.{value_is, no_value}
+use Rattle.store_rows.proofs.OneDesk.{row_number}
+use Rattle.store_rows.proofs.TidyParts.{PlansKept, AllKept, kept_of, some_or_none, numbered_moves, chunks_stay, loads_stay, rows_put, rows_removed, counters_put, stays_tidy}
+
+-- ---- one row, one plan
+pub row_says : (m : KeyMap) (name : List ℕ) (p q : PlanRow) → Has m (named name) (plan_bytes p) → Has m (named name) (plan_bytes q) → plan_bytes p ≡ plan_bytes q
+row_says m name p q has also = value_is (plan_bytes p) (plan_bytes q) (sym has ∙ also)
+
+pub number_says : (m : KeyMap) (name : List ℕ) (p : PlanRow) (number : ℕ) → p.number < 2 ^ 64 → Has m (named name) (plan_bytes p) → IsNumbered m name number → p.number ≡ number
+number_says m name p number fits has is =
+    let same : is.plan.number ≡ number = is.is in
+    let small : is.plan.number < 2 ^ 64 = (let also = is.fits in omega arith) in
+    row_number p is.plan fits small (row_says m name p is.plan has is.row) ∙ same
+
+numbers_agree : (m : KeyMap) (name : List ℕ) (one other : ℕ) → IsNumbered m name one → IsNumbered m name other → one ≡ other
+numbers_agree m name one other is also =
+    let small : is.plan.number < 2 ^ 64 = (let same = is.is in let fits = is.fits in omega arith) in
+    sym is.is ∙ number_says m name is.plan other small is.row also
+
+-- ---- a plan is created
+module _ (m : KeyMap) (limit : ℕ) (name : List ℕ) (p : PlanRow) (kept : PlansKept m limit) (lacks : Lacks m (named name)) (is : p.number ≡ limit) (none : p.revisions ≡ 0) (fits : limit < 2 ^ 64) where
+  abbrev made : KeyMap
+  made = insert m (key_of (named name)) (plan_bytes p)
+
+  new_row : Has made (named name) (plan_bytes p)
+  new_row = put_is_there m (key_of (named name)) (plan_bytes p)
+
+  other_there : (other : List ℕ) → (other ≡ name → ⊥) → row_in made (named other) ≡ row_in m (named other)
+  other_there other apart = put_keeps m (key_of (named name)) (plan_bytes p) (key_of (named other)) (other_row name other apart)
+
+  marks : SameTag 68 m made
+  marks = put_keeps_tag m 68 80 name (plan_bytes p) (λ e. absurd (omega arith))
+
+  parts : SameTag 82 m made
+  parts = put_keeps_tag m 82 80 name (plan_bytes p) (λ e. absurd (omega arith))
+
+  -- a plan that is there is the new one, or was there
+  came : (other : List ℕ) (number : ℕ) → IsNumbered made other number → ((other ≡ name) × (number ≡ limit)) ⊎ IsNumbered m other number
+  came other number there = elim (cases_key other name) [
+    | inl same ↦ inl (same, sym (number_says made name p number (omega arith) new_row (subst (λ o. IsNumbered made o number) same there)) ∙ is)
+    | inr apart ↦ inr (numbered_moves made m other number (sym (other_there other apart)) there)
+  ]
+
+  stayed : (other : List ℕ) (number : ℕ) → IsNumbered m other number → IsNumbered made other number
+  stayed other number there = elim (cases_key other name) [
+    | inl same ↦ absurd (no_value (plan_bytes there.plan) (sym there.row ∙ ap (λ o. row_in m (named o)) same ∙ lacks))
+    | inr apart ↦ numbered_moves m made other number (other_there other apart) there
+  ]
+
+  known : (plan : ℕ) → IsKnown m plan → IsKnown made plan
+  known plan (inl (other, there)) = inl (other, stayed other plan there)
+  known plan (inr mark) = inr (marks _ ∙ mark)
+
+  not_known : IsKnown m limit → ⊥
+  not_known (inl (other, there)) = (let less = kept.below other limit there in absurd (omega arith))
+  not_known (inr mark) = (let less = kept.marks_below limit [] fits mark in absurd (omega arith))
+
+  no_mark : (number : ℕ) → number ≡ limit → row_in m (retired number) ≡ None
+  no_mark number same = some_or_none (row_in m (retired number)) (λ value there.
+      let less = kept.marks_below number value (omega arith) there in
+      absurd (omega arith))
+
+  plans_made : PlansKept made (limit + 1)
+  plans_made = record {
+    below = λ other number there. elim (came other number there) [
+      | inl new ↦ (let same = new.1 in omega arith)
+      | inr old ↦ (let less = kept.below other number old in omega arith)
+    ];
+    marks_below = λ plan value few there. let less = kept.marks_below plan value few (sym (marks _) ∙ there) in omega arith;
+    one = λ one other number there also. elim (came one number there) [
+      | inl new ↦ elim (came other number also) [
+        | inl newer ↦ new.0 ∙ sym newer.0
+        | inr old ↦ (let same = new.1 in let less = kept.below other number old in absurd (omega arith))
+      ]
+      | inr old ↦ elim (came other number also) [
+        | inl newer ↦ (let same = newer.1 in let less = kept.below one number old in absurd (omega arith))
+        | inr older ↦ kept.one one other number old older
+      ]
+    ];
+    gone = λ other number there. marks _ ∙ elim (came other number there) [
+      | inl new ↦ no_mark number new.1
+      | inr old ↦ kept.gone other number old
+    ];
+    parts = λ plan revision index value few there. known plan (kept.parts plan revision index value few (sym (parts _) ∙ there));
+    told = λ plan revision index value few there. kept.told plan revision index value few (sym (parts _) ∙ there);
+    counted = λ other q q_fits small has revision index value few there. elim (cases_key other name) [
+      | inl same ↦ absurd (
+          let bytes : plan_bytes p ≡ plan_bytes q = row_says made name p q new_row (subst (λ o. Has made (named o) (plan_bytes q)) same has) in
+          let number : q.number ≡ limit = sym (row_number p q (omega arith) q_fits bytes) ∙ is in
+          not_known (subst (λ k. IsKnown m k) number (kept.parts q.number revision index value few (sym (parts _) ∙ there))))
+      | inr apart ↦ kept.counted other q q_fits small (sym (other_there other apart) ∙ has) revision index value few (sym (parts _) ∙ there)
+    ];
+  }
+
+-- so the rows stay tidy, with the counters one plan further
+pub created_tidy : (m : KeyMap) (tidy : Tidy m) (name : List ℕ) (p : PlanRow) → Fits (named name) → Lacks m (named name) → p.number ≡ tidy.next.plan → p.revisions ≡ 0 → tidy.next.plan + 1 < 2 ^ 64
+    → TidyWith (insert (insert m (key_of (named name)) (plan_bytes p)) (key_of counters) (counters_bytes (one_plan_more tidy.next))) (one_plan_more tidy.next)
+created_tidy m tidy name p fits lacks is none room =
+    let next = tidy.next in
+    let kept = kept_of m tidy in
+    let value = plan_bytes p in
+    let n = insert m (key_of (named name)) value in
+    let same = λ (tag : ℕ) (apart : tag ≡ 80 → ⊥). put_keeps_tag m tag 80 name value apart in
+    let chunk_fits = tidy.fits.chunk_fits in
+    let load_fits = tidy.fits.load_fits in
+    counters_put n (one_plan_more next) (record { plan_fits = room; chunk_fits = chunk_fits; load_fits = load_fits }) (record {
+      rows = rows_put m (named name) value fits kept.rows;
+      plans = plans_made m next.plan name p kept.plans lacks is none (omega arith);
+      chunks = chunks_stay m n next.chunk next.chunk (omega arith) (same 82 (λ e. absurd (omega arith))) (same 107 (λ e. absurd (omega arith))) kept.chunks;
+      loads = loads_stay m n next.load next.load (omega arith) (same 76 (λ e. absurd (omega arith))) (same 83 (λ e. absurd (omega arith))) (same 103 (λ e. absurd (omega arith))) kept.loads;
+    })
+
+-- ---- a plan is taken away
+other_mark : (plan number : ℕ) → plan < 2 ^ 64 → number < 2 ^ 64 → (plan ≡ number → ⊥) → retired plan ≡ retired number → ⊥
+other_mark plan number plan_fits fits apart same = apart (cc)
+
+module _ (m : KeyMap) (limit : ℕ) (name : List ℕ) (number : ℕ) (kept : PlansKept m limit) (is : IsNumbered m name number) where
+  abbrev less : KeyMap
+  less = remove m (key_of (named name))
+
+  abbrev left : KeyMap
+  left = insert less (key_of (retired number)) []
+
+  left_names : SameTag 80 less left
+  left_names = put_keeps_tag less 80 68 _ [] (λ e. absurd (omega arith))
+
+  gone_row : row_in left (named name) ≡ None
+  gone_row = left_names _ ∙ removed_is_gone m (key_of (named name))
+
+  other_left : (other : List ℕ) → (other ≡ name → ⊥) → row_in left (named other) ≡ row_in m (named other)
+  other_left other apart = left_names _ ∙ remove_keeps m (key_of (named name)) (key_of (named other)) (other_row name other apart)
+
+  less_marks : SameTag 68 m less
+  less_marks = remove_keeps_tag m 68 80 name (λ e. absurd (omega arith))
+
+  left_parts : SameTag 82 m left
+  left_parts = tag_follows 82 m less left (remove_keeps_tag m 82 80 name (λ e. absurd (omega arith))) (put_keeps_tag less 82 68 _ [] (λ e. absurd (omega arith)))
+
+  marked : Has left (retired number) []
+  marked = put_is_there less (key_of (retired number)) []
+
+  other_marks : (plan : ℕ) → plan < 2 ^ 64 → (plan ≡ number → ⊥) → row_in left (retired plan) ≡ row_in m (retired plan)
+  other_marks plan fits apart = put_keeps_row less (retired number) [] (retired plan) is.fits fits (other_mark plan number fits is.fits apart) ∙ less_marks _
+
+  -- a plan that is still there was there, under another name
+  apart_from : (other : List ℕ) (value : List ℕ) → Has left (named other) value → other ≡ name → ⊥
+  apart_from other value there same = no_value value (sym there ∙ ap (λ o. row_in left (named o)) same ∙ gone_row)
+
+  was : (other : List ℕ) (plan : ℕ) → IsNumbered left other plan → IsNumbered m other plan
+  was other plan there = numbered_moves left m other plan (sym (other_left other (apart_from other (plan_bytes there.plan) there.row))) there
+
+  still_known : (plan : ℕ) → plan < 2 ^ 64 → IsKnown m plan → IsKnown left plan
+  still_known plan fits (inl (other, there)) = elim (cases_key other name) [
+    | inl same ↦ inr (subst (λ k. Has left (retired k) []) (numbers_agree m name number plan is (subst (λ o. IsNumbered m o plan) same there)) marked)
+    | inr apart ↦ inl (other, numbered_moves m left other plan (other_left other apart) there)
+  ]
+  still_known plan fits (inr mark) = elim (cases_eq plan number) [
+    | inl same ↦ inr (subst (λ k. Has left (retired k) []) (sym same) marked)
+    | inr apart ↦ inr (other_marks plan fits apart ∙ mark)
+  ]
+
+  plans_left : PlansKept left limit
+  plans_left = record {
+    below = λ other plan there. kept.below other plan (was other plan there);
+    marks_below = λ plan value few there. elim (cases_eq plan number) [
+      | inl same ↦ (let small = kept.below name number is in omega arith)
+      | inr apart ↦ kept.marks_below plan value few (sym (other_marks plan few apart) ∙ there)
+    ];
+    one = λ one other plan there also. kept.one one other plan (was one plan there) (was other plan also);
+    gone = λ other plan there. elim (cases_eq plan number) [
+      | inl same ↦ absurd (apart_from other (plan_bytes there.plan) there.row (kept.one other name number (subst (λ k. IsNumbered m other k) same (was other plan there)) is))
+      | inr apart ↦ other_marks plan there.fits apart ∙ kept.gone other plan (was other plan there)
+    ];
+    parts = λ plan revision index value few there. still_known plan few.0 (kept.parts plan revision index value few (sym (left_parts _) ∙ there));
+    told = λ plan revision index value few there. kept.told plan revision index value few (sym (left_parts _) ∙ there);
+    counted = λ other q q_fits small has revision index value few there.
+        kept.counted other q q_fits small (sym (other_left other (apart_from other (plan_bytes q) has)) ∙ has) revision index value few (sym (left_parts _) ∙ there);
+  }
+
+-- so the rows stay tidy, with the same counters
+pub retired_tidy : (m : KeyMap) (tidy : Tidy m) (name : List ℕ) (number : ℕ) → IsNumbered m name number → TidyWith (insert (remove m (key_of (named name))) (key_of (retired number)) []) tidy.next
+retired_tidy m tidy name number is =
+    let next = tidy.next in
+    let kept = kept_of m tidy in
+    let mid = remove m (key_of (named name)) in
+    let n = insert mid (key_of (retired number)) [] in
+    let same = λ (tag : ℕ) (not_name : tag ≡ 80 → ⊥) (not_mark : tag ≡ 68 → ⊥). tag_follows tag m mid n (remove_keeps_tag m tag 80 name not_name) (put_keeps_tag mid tag 68 _ [] not_mark) in
+    let here : AllKept n next = record {
+      rows = rows_put mid (retired number) [] is.fits (rows_removed m (key_of (named name)) kept.rows);
+      plans = plans_left m next.plan name number kept.plans is;
+      chunks = chunks_stay m n next.chunk next.chunk (omega arith) (same 82 (λ e. absurd (omega arith)) (λ e. absurd (omega arith))) (same 107 (λ e. absurd (omega arith)) (λ e. absurd (omega arith))) kept.chunks;
+      loads = loads_stay m n next.load next.load (omega arith) (same 76 (λ e. absurd (omega arith)) (λ e. absurd (omega arith))) (same 83 (λ e. absurd (omega arith)) (λ e. absurd (omega arith))) (same 103 (λ e. absurd (omega arith)) (λ e. absurd (omega arith))) kept.loads;
+    } in
+    stays_tidy m n tidy (same 65 (λ e. absurd (omega arith)) (λ e. absurd (omega arith)) []) here

@@ -1,0 +1,243 @@
+-- A plan gets one revision more, and the rows stay tidy.
+use Rattle.std.proofs.Common.{◌≡◌, ◌⊎◌, ◌<◌, ◌≤◌, ◌+◌, ◌^◌, ℕ, cond, List, get_or, All, Some, refl, sym, ap, subst, ◌∙◌, inl, inr, arith}
+use Rattle.std.specs.Prelude.{Contains}
+use Rattle.std.proofs.Math.Dec.{ltb}
+use Rattle.std.proofs.lemmas.Bool.{cases_eq, cases_lt, lt-ltb, le-ltb}
+use Rattle.std.proofs.lemmas.List.{get_or_default}
+use Rattle.store_keys.specs.Keys.{Fits, counters, named, part, chunk}
+use Rattle.store_keys.specs.Values.{plan_bytes, counters_bytes}
+use Rattle.store_keys.specs.Lists.{chunks_bytes}
+use Rattle.store_keys.specs.ListLaws.{chunks_differ}
+use Rattle.store_keys.specs.declared.value.Counters.{Counters}
+use Rattle.store_keys.specs.declared.value.PlanRow.{PlanRow}
+use Rattle.store_rows.specs.Rows.{KeyMap, row_in, Has, part_row}
+use Rattle.store_rows.specs.Changes.{cases_key}
+use Rattle.store_rows.specs.Steps.{chunks_more, one_revision_more}
+use Rattle.store_rows.specs.RevisionSteps.{IsGiven, AreItsChunks, AddsRevision}
+use Rattle.store_rows.specs.Tidy.{IsNext, IsNumbered, IsNamedBy, IsPart, IsPiece, IsKnown, Tidy, TidyWith}
+use Rattle.store_rows.proofs.OneDesk.{row_number, row_revisions}
+use Rattle.store_rows.proofs.PartNumbers.{part_at, part_there, part_within, part_says, part_chunks, part_among, among_part}
+use Rattle.store_rows.proofs.TidyParts.{PlansKept, ChunksKept, kept_of, tidy_at, numbered_moves, loads_stay}
+use Rattle.store_rows.proofs.TidyPlans.{row_says, number_says}
+
+-- whether a number of chunks was given
+given_or_not : (next : Counters) (given number : ℕ) → IsGiven next given number ⊎ (IsGiven next given number → ⊥)
+given_or_not next given number = elim (cases_lt number next.chunk) [
+  | inl below ↦ inr (λ is. let more = is.0 in absurd (omega arith))
+  | inr from ↦ elim (cases_lt number (next.chunk + given)) [
+    | inl less ↦ inl (from, less)
+    | inr beyond ↦ inr (λ is. let less = is.1 in absurd (omega arith))
+  ]
+]
+
+module _ (m n : KeyMap) (next : Counters) (given : ℕ) (name : List ℕ) (p : PlanRow) (numbers : List ℕ) (plans : PlansKept m next.plan) (kept : ChunksKept m next.chunk) (number_fits : p.number < 2 ^ 64) (few_revisions : p.revisions + 1 < 2 ^ 32) (room : next.chunk + given < 2 ^ 64) (has : Has m (named name) (plan_bytes p)) (its : AreItsChunks m next given p.number numbers) (adds : AddsRevision m n next given name p numbers) where
+  abbrev IsNew : ℕ → ℕ → Type 0
+  IsNew plan revision = (plan ≡ p.number) × (revision ≡ p.revisions + 1)
+
+  new_or_not : (plan revision : ℕ) → IsNew plan revision ⊎ (IsNew plan revision → ⊥)
+  new_or_not plan revision = elim (cases_eq plan p.number) [
+    | inl same ↦ elim (cases_eq revision (p.revisions + 1)) [
+      | inl last ↦ inl (same, last)
+      | inr other ↦ inr (λ is. other is.1)
+    ]
+    | inr apart ↦ inr (λ is. apart is.0)
+  ]
+
+  -- ---- numbers of plans are as they were
+  numbered : IsNumbered m name p.number
+  numbered = record { plan = p; row = has; is = refl; fits = number_fits }
+
+  numbered_now : IsNumbered n name p.number
+  numbered_now = record { plan = one_revision_more p; row = adds.row; is = refl; fits = number_fits }
+
+  was_numbered : (other : List ℕ) (number : ℕ) → IsNumbered n other number → IsNumbered m other number
+  was_numbered other number there = elim (cases_key other name) [
+    | inl same ↦ (let equal : p.number ≡ number = number_says n name (one_revision_more p) number number_fits adds.row (subst (λ o. IsNumbered n o number) same there) in
+        subst (λ o. IsNumbered m o number) (sym same) (subst (λ k. IsNumbered m name k) equal numbered))
+    | inr apart ↦ numbered_moves n m other number (sym (adds.others other apart)) there
+  ]
+
+  stays_numbered : (other : List ℕ) (number : ℕ) → IsNumbered m other number → IsNumbered n other number
+  stays_numbered other number there = elim (cases_key other name) [
+    | inl same ↦ (let equal : p.number ≡ number = number_says m name p number number_fits has (subst (λ o. IsNumbered m o number) same there) in
+        subst (λ o. IsNumbered n o number) (sym same) (subst (λ k. IsNumbered n name k) equal numbered_now))
+    | inr apart ↦ numbered_moves m n other number (adds.others other apart) there
+  ]
+
+  stays_known : (plan : ℕ) → IsKnown m plan → IsKnown n plan
+  stays_known plan (inl (other, there)) = inl (other, stays_numbered other plan there)
+  stays_known plan (inr mark) = inr (adds.marks _ ∙ mark)
+
+  -- ---- parts
+  none_before : (index : ℕ) (value : List ℕ) → Fits (part p.number (p.revisions + 1) index) → Has m (part p.number (p.revisions + 1) index) value → ⊥
+  none_before index value fits there = (let few = (plans.counted name p number_fits (omega arith) has (p.revisions + 1) index value fits there).1 in absurd (omega arith))
+
+  new_part : (plan revision index : ℕ) (value : List ℕ) → IsNew plan revision → Fits (part plan revision index) → Has n (part plan revision index) value → part_row 128 chunks_bytes numbers index ≡ Some value
+  new_part plan revision index value is fits there =
+      let moved : row_in n (part plan revision index) ≡ row_in n (part p.number (p.revisions + 1) index) = (λ i. row_in n (part (is.0 i) (is.1 i) index)) in
+      sym (adds.parts index fits.2) ∙ sym moved ∙ there
+
+  each_fits : All (λ x. x < 2 ^ 64) numbers
+  each_fits k d within =
+      let x = get_or numbers k d in
+      let here : Contains numbers x = (k, within, get_or_default numbers k x d within) in
+      elim (its.own x here) [
+        | inl old ↦ (let less = kept.below p.number x old in omega arith)
+        | inr new ↦ (let less = new.1 in omega arith)
+      ]
+
+  told_now : (plan revision index : ℕ) (value : List ℕ) → Fits (part plan revision index) → Has n (part plan revision index) value → IsPart value
+  told_now plan revision index value fits there = elim (new_or_not plan revision) [
+    | inl new ↦ (let is = new_part plan revision index value new fits there in
+        (part_at numbers index, part_chunks numbers index each_fits (part_within numbers index value is), part_says numbers index value is))
+    | inr old ↦ plans.told plan revision index value fits (sym (adds.other_parts plan revision index fits old) ∙ there)
+  ]
+
+  known_now : (plan revision index : ℕ) (value : List ℕ) → Fits (part plan revision index) → Has n (part plan revision index) value → IsKnown n plan
+  known_now plan revision index value fits there = elim (new_or_not plan revision) [
+    | inl new ↦ inl (name, subst (λ k. IsNumbered n name k) (sym new.0) numbered_now)
+    | inr old ↦ stays_known plan (plans.parts plan revision index value fits (sym (adds.other_parts plan revision index fits old) ∙ there))
+  ]
+
+  counted_here : (q : PlanRow) → q.number < 2 ^ 64 → q.revisions < 2 ^ 32 → Has n (named name) (plan_bytes q) → (revision index : ℕ) (value : List ℕ) → Fits (part q.number revision index) → Has n (part q.number revision index) value → (0 < revision) × (revision ≤ q.revisions)
+  counted_here q fits small there revision index value part_fits row =
+      let bytes : plan_bytes (one_revision_more p) ≡ plan_bytes q = row_says n name (one_revision_more p) q adds.row there in
+      let same : p.number ≡ q.number = row_number (one_revision_more p) q number_fits fits bytes in
+      let count : p.revisions + 1 ≡ q.revisions = row_revisions (one_revision_more p) q few_revisions small bytes in
+      elim (new_or_not q.number revision) [
+        | inl new ↦ (let last = new.1 in (omega arith, omega arith))
+        | inr old ↦ (let here : Has m (part q.number revision index) value = sym (adds.other_parts q.number revision index part_fits old) ∙ row in
+            let before = plans.counted name p number_fits (omega arith) has revision index value (subst (λ k. Fits (part k revision index)) (sym same) part_fits) (subst (λ k. Has m (part k revision index) value) (sym same) here) in
+            let some = before.0 in
+            let few = before.1 in
+            (some, omega arith))
+      ]
+
+  counted_there : (other : List ℕ) (q : PlanRow) → (other ≡ name → ⊥) → q.number < 2 ^ 64 → q.revisions < 2 ^ 32 → Has n (named other) (plan_bytes q) → (revision index : ℕ) (value : List ℕ) → Fits (part q.number revision index) → Has n (part q.number revision index) value → (0 < revision) × (revision ≤ q.revisions)
+  counted_there other q apart fits small there revision index value part_fits row =
+      let before : Has m (named other) (plan_bytes q) = sym (adds.others other apart) ∙ there in
+      elim (new_or_not q.number revision) [
+        | inl new ↦ absurd (apart (plans.one other name p.number (record { plan = q; row = before; is = new.0; fits = number_fits }) numbered))
+        | inr old ↦ plans.counted other q fits small before revision index value part_fits (sym (adds.other_parts q.number revision index part_fits old) ∙ row)
+      ]
+
+  plans_revised : PlansKept n next.plan
+  plans_revised = record {
+    below = λ other number there. plans.below other number (was_numbered other number there);
+    marks_below = λ plan value fits there. plans.marks_below plan value fits (sym (adds.marks _) ∙ there);
+    one = λ one other number there also. plans.one one other number (was_numbered one number there) (was_numbered other number also);
+    gone = λ other number there. adds.marks _ ∙ plans.gone other number (was_numbered other number there);
+    parts = known_now;
+    told = told_now;
+    counted = λ other q fits small there revision index value part_fits row. elim (cases_key other name) [
+      | inl same ↦ counted_here q fits small (subst (λ o. Has n (named o) (plan_bytes q)) same there) revision index value part_fits row
+      | inr apart ↦ counted_there other q apart fits small there revision index value part_fits row
+    ];
+  }
+
+  -- ---- chunks
+  -- what a part names now is named by the new revision, or was named by the same plan
+  came : (plan number : ℕ) → IsNamedBy n plan number → ((plan ≡ p.number) × Contains numbers number) ⊎ IsNamedBy m plan number
+  came plan number is = elim (new_or_not plan is.revision) [
+    | inl new ↦ (let row = new_part plan is.revision is.index (chunks_bytes is.numbers) new is.part_fits is.row in
+        let within = part_within numbers is.index (chunks_bytes is.numbers) row in
+        let same : is.numbers ≡ part_at numbers is.index = chunks_differ is.numbers (part_at numbers is.index) is.chunks (part_chunks numbers is.index each_fits within) (part_says numbers is.index (chunks_bytes is.numbers) row) in
+        inl (new.0, part_among numbers is.index number within (subst (λ (l : List ℕ). Contains l number) same is.among)))
+    | inr old ↦ inr (record {
+      revision = is.revision;
+      index = is.index;
+      part_fits = is.part_fits;
+      numbers = is.numbers;
+      chunks = is.chunks;
+      row = sym (adds.other_parts plan is.revision is.index is.part_fits old) ∙ is.row;
+      among = is.among;
+    })
+  ]
+
+  stays_named : (plan number : ℕ) → IsNamedBy m plan number → IsNamedBy n plan number
+  stays_named plan number is = record {
+    revision = is.revision;
+    index = is.index;
+    part_fits = is.part_fits;
+    numbers = is.numbers;
+    chunks = is.chunks;
+    row = adds.other_parts plan is.revision is.index is.part_fits (λ new. none_before is.index (chunks_bytes is.numbers) (subst (λ k. Fits (part k (p.revisions + 1) is.index)) new.0 (subst (λ r. Fits (part plan r is.index)) new.1 is.part_fits))
+        (subst (λ k. Has m (part k (p.revisions + 1) is.index) (chunks_bytes is.numbers)) new.0 (subst (λ r. Has m (part plan r is.index) (chunks_bytes is.numbers)) new.1 is.row))) ∙ is.row;
+    among = is.among;
+  }
+
+  named_now : (number : ℕ) → Contains numbers number → IsNamedBy n p.number number
+  named_now number among =
+      let (index, small, within, here) = among_part numbers number its.few among in
+      record {
+        revision = p.revisions + 1;
+        index = index;
+        part_fits = (number_fits, few_revisions, small);
+        numbers = part_at numbers index;
+        chunks = part_chunks numbers index each_fits within;
+        row = adds.parts index small ∙ part_there numbers index within;
+        among = here;
+      }
+
+  below_now : (plan number : ℕ) → IsNamedBy n plan number → number < next.chunk + given
+  below_now plan number is = elim (came plan number is) [
+    | inl new ↦ elim (its.own number new.1) [
+      | inl own ↦ (let less = kept.below p.number number own in omega arith)
+      | inr made ↦ made.1
+    ]
+    | inr old ↦ (let less = kept.below plan number old in omega arith)
+  ]
+
+  chunk_named : (number index : ℕ) (value : List ℕ) → Fits (chunk number index) → Has n (chunk number index) value → (plan : ℕ) × IsNamedBy n plan number
+  chunk_named number index value fits there = elim (given_or_not next given number) [
+    | inl is ↦ (p.number, named_now number (its.whole number is))
+    | inr other ↦ (let before = kept.chunks number index value fits (sym (adds.other_chunks number index fits other) ∙ there) in (before.0, stays_named before.0 number before.1))
+  ]
+
+  piece_now : (number piece : ℕ) (value : List ℕ) → Fits (chunk number piece) → Has n (chunk number piece) value → IsPiece value
+  piece_now number piece value fits there = elim (given_or_not next given number) [
+    | inl is ↦ adds.pieces number piece value fits is there
+    | inr other ↦ kept.pieces number piece value fits (sym (adds.other_chunks number piece fits other) ∙ there)
+  ]
+
+  -- a new chunk is this plan's
+  abbrev owner_now : ℕ → ℕ
+  owner_now number = cond (ltb number next.chunk) (kept.owners.owner number) p.number
+
+  owner_before : (number : ℕ) → number < next.chunk → owner_now number ≡ kept.owners.owner number
+  owner_before number less = ap (λ b. cond b (kept.owners.owner number) p.number) (lt-ltb number next.chunk less)
+
+  owner_given : (number : ℕ) → next.chunk ≤ number → owner_now number ≡ p.number
+  owner_given number more = ap (λ b. cond b (kept.owners.owner number) p.number) (le-ltb number next.chunk more)
+
+  owned_before : (plan number : ℕ) → IsNamedBy m plan number → owner_now number ≡ plan
+  owned_before plan number is = owner_before number (kept.below plan number is) ∙ kept.owners.is plan number is
+
+  owned_now : (plan number : ℕ) → IsNamedBy n plan number → owner_now number ≡ plan
+  owned_now plan number is = elim (came plan number is) [
+    | inl new ↦ elim (its.own number new.1) [
+      | inl own ↦ owned_before p.number number own ∙ sym new.0
+      | inr made ↦ owner_given number made.0 ∙ sym new.0
+    ]
+    | inr old ↦ owned_before plan number old
+  ]
+
+  chunks_revised : ChunksKept n (next.chunk + given)
+  chunks_revised = record { below = below_now; chunks = chunk_named; pieces = piece_now; owners = record { owner = owner_now; is = owned_now } }
+
+pub revised_tidy : (m n : KeyMap) (tidy : Tidy m) (given : ℕ) (name : List ℕ) (p : PlanRow) (numbers : List ℕ) → p.number < 2 ^ 64 → p.revisions + 1 < 2 ^ 32 → tidy.next.chunk + given < 2 ^ 64
+    → Has m (named name) (plan_bytes p) → AreItsChunks m tidy.next given p.number numbers → AddsRevision m n tidy.next given name p numbers → TidyWith n (chunks_more tidy.next given)
+revised_tidy m n tidy given name p numbers number_fits few room has its adds =
+    let next = tidy.next in
+    let kept = kept_of m tidy in
+    let more = chunks_more next given in
+    let plan_fits = tidy.fits.plan_fits in
+    let load_fits = tidy.fits.load_fits in
+    let row : Some (counters_bytes more) ≡ row_in n counters = sym adds.moved in
+    let is : IsNext n more = rw (← row) refl in
+    tidy_at n more is (record { plan_fits = plan_fits; chunk_fits = room; load_fits = load_fits }) (record {
+      rows = adds.rows;
+      plans = plans_revised m n next given name p numbers kept.plans kept.chunks number_fits few room has its adds;
+      chunks = chunks_revised m n next given name p numbers kept.plans kept.chunks number_fits few room has its adds;
+      loads = loads_stay m n next.load next.load (omega arith) adds.starts adds.seals adds.loads kept.loads;
+    })

@@ -1,0 +1,81 @@
+-- The rows that change as one revision of a plan is added.
+use Rattle.std.specs.Prelude.{◌≡◌, ◌⊎◌, ◌<◌, ◌≤◌, ◌+◌, ◌*◌, ◌^◌, ℕ, List, [], ◌∷◌, ◌++◌, length, get_or, All, Contains}
+use Rattle.store_keys.specs.Keys.{key_of, Fits, counters, named, part, chunk}
+use Rattle.store_keys.specs.Values.{counters_bytes, plan_bytes}
+use Rattle.store_keys.specs.Lists.{chunks_bytes}
+use Rattle.store_keys.specs.declared.value.Counters.{Counters}
+use Rattle.store_keys.specs.declared.value.PlanRow.{PlanRow}
+use Rattle.store_rows.specs.Rows.{KeyMap, row_in, Has, SameTag, part_row}
+use Rattle.store_rows.specs.RevisionRows.{HasChunk}
+use Rattle.store_rows.specs.Puts.{Row}
+use Rattle.store_rows.specs.ChunkRows.{chunk_rows}
+use Rattle.store_rows.specs.NameRows.{name_rows}
+use Rattle.store_rows.specs.Steps.{chunks_more, one_revision_more}
+use Rattle.store_rows.specs.Tidy.{IsNamedBy, IsPiece, AreRows}
+
+-- so many numbers from the counter on are given to new chunks
+abbrev pub IsGiven : Counters → ℕ → ℕ → Type 0
+IsGiven next given number = (next.chunk ≤ number) × (number < next.chunk + given)
+
+-- A revision names chunks that a part of its own plan names already, and new ones: each number that is given is named.
+pub record AreItsChunks (m : KeyMap) (next : Counters) (given plan : ℕ) (numbers : List ℕ) : Type 0 where
+  pub few : length numbers ≤ 128 * 2 ^ 8
+  pub own : (number : ℕ) → Contains numbers number → IsNamedBy m plan number ⊎ IsGiven next given number
+  pub whole : (number : ℕ) → IsGiven next given number → Contains numbers number
+
+-- The plan's row tells one revision more, and the counters that the numbers were given; the parts of the new revision name its
+-- chunks, and chunks are put under numbers that are given. All else stays.
+pub record AddsRevision (m n : KeyMap) (next : Counters) (given : ℕ) (name : List ℕ) (p : PlanRow) (numbers : List ℕ) : Type 0 where
+  pub rows : AreRows n
+  pub moved : Has n counters (counters_bytes (chunks_more next given))
+  pub row : Has n (named name) (plan_bytes (one_revision_more p))
+  pub others : (other : List ℕ) → (other ≡ name → ⊥) → row_in n (named other) ≡ row_in m (named other)
+  pub marks : SameTag 68 m n
+  pub starts : SameTag 76 m n
+  pub seals : SameTag 83 m n
+  pub loads : SameTag 103 m n
+  pub parts : (index : ℕ) → index < 2 ^ 8 → row_in n (part p.number (p.revisions + 1) index) ≡ part_row 128 chunks_bytes numbers index
+  pub other_parts : (plan revision index : ℕ) → Fits (part plan revision index) → ((plan ≡ p.number) × (revision ≡ p.revisions + 1) → ⊥) → row_in n (part plan revision index) ≡ row_in m (part plan revision index)
+  pub pieces : (number piece : ℕ) (value : List ℕ) → Fits (chunk number piece) → IsGiven next given number → Has n (chunk number piece) value → IsPiece value
+  pub other_chunks : (number piece : ℕ) → Fits (chunk number piece) → (IsGiven next given number → ⊥) → row_in n (chunk number piece) ≡ row_in m (chunk number piece)
+
+-- the rows of new chunks, numbered from one on
+abbrev pub new_chunk_rows : ℕ → List (List ℕ) → List Row
+new_chunk_rows first [] = []
+new_chunk_rows first (districts ∷ lists) = chunk_rows first districts ++ new_chunk_rows (first + 1) lists
+
+-- the rows of one revision more: its new chunks, its parts, the plan's row and the counters
+abbrev pub rows_of_revision : Counters → List ℕ → PlanRow → List (List ℕ) → List ℕ → List Row
+rows_of_revision next name p lists numbers = new_chunk_rows next.chunk lists ++ (name_rows p.number (p.revisions + 1) numbers
+    ++ (key_of (named name), plan_bytes (one_revision_more p)) ∷ (key_of counters, counters_bytes (chunks_more next (length lists))) ∷ [])
+
+-- the districts of one chunk
+pub record IsChunkList (districts : List ℕ) : Type 0 where
+  pub some : 0 < length districts
+  pub few : length districts ≤ 512 * 2 ^ 16
+  pub each : All (λ d. d < 2 ^ 16) districts
+
+-- a chunk of the plan's that is there already
+pub record IsKeptChunk (m : KeyMap) (plan number : ℕ) (districts : List ℕ) : Type 0 where
+  pub own : IsNamedBy m plan number
+  pub there : HasChunk m number districts
+
+-- the chunks of a revision that is there
+pub record AreKept (m : KeyMap) (plan : ℕ) (numbers : List ℕ) (counties : List (List ℕ)) : Type 0 where
+  pub count : length numbers ≡ length counties
+  pub each : (county : ℕ) → county < length counties → IsKeptChunk m plan (get_or numbers county 0) (get_or counties county [])
+
+-- one of those that are put, by its place among them
+pub record IsNewChunk (next : Counters) (lists : List (List ℕ)) (number : ℕ) (districts : List ℕ) : Type 0 where
+  pub place : ℕ
+  pub within : place < length lists
+  pub is : number ≡ next.chunk + place
+  pub same : get_or lists place [] ≡ districts
+
+-- County by county, a revision has a chunk that its plan named already, or a new one, and each new one serves some county.
+pub record IsDrawn (m : KeyMap) (next : Counters) (plan : ℕ) (lists : List (List ℕ)) (numbers : List ℕ) (counties : List (List ℕ)) : Type 0 where
+  pub few : length numbers ≤ 128 * 2 ^ 8
+  pub count : length numbers ≡ length counties
+  pub sound : All IsChunkList lists
+  pub each : (county : ℕ) → county < length counties → IsKeptChunk m plan (get_or numbers county 0) (get_or counties county []) ⊎ IsNewChunk next lists (get_or numbers county 0) (get_or counties county [])
+  pub used : (place : ℕ) → place < length lists → (county : ℕ) × (county < length counties) × (get_or numbers county 0 ≡ next.chunk + place)

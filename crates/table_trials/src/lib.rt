@@ -1,0 +1,5 @@
+//! Tables of rows tried on a store in memory.
+#![tactic(auto)]
+
+#[cfg(test)]
+mod plans;
