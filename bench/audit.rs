@@ -1,10 +1,11 @@
-// The plain counterpart of crates/bench_programs, for bench/audit alone: the same audits of the same made state.
+// The plain counterpart of crates/bench_programs, for bench/audit alone: the same audits of the same made state; with a third word
+// the whole audit.
 use std::env;
 use std::time::Instant;
 
 const WIDTH: usize = 419;
 
-struct Block { id: u64, _city: Option<u32>, population: u32 }
+struct Block { id: u64, city: Option<u32>, population: u32 }
 
 struct Pair { first: u32, second: u32 }
 
@@ -107,6 +108,39 @@ fn populations(blocks: &[Block], districts: u16, plan: &[u16]) -> Vec<u32> {
     people
 }
 
+// whether each county has blocks of two districts, and each city, in one pass
+fn divided(blocks: &[Block], plan: &[u16]) -> (Vec<u16>, Vec<u32>) {
+    let cities = blocks.iter().filter_map(|b| b.city).max().map_or(0, |c| c as usize + 1);
+    let (mut county, mut city) = (vec![(None, false); 1000], vec![(None, false); cities]);
+    let note = |mark: &mut (Option<u16>, bool), district: u16| mark.1 |= *mark.0.get_or_insert(district) != district;
+    for (block, district) in blocks.iter().zip(plan) {
+        note(&mut county[(block.id / 10_000_000_000 % 1000) as usize], *district);
+        if let Some(code) = block.city { note(&mut city[code as usize], *district); }
+    }
+    ((0..1000).filter(|c| county[*c as usize].1).collect(), (0..cities as u32).filter(|c| city[*c as usize].1).collect())
+}
+
+// what the whole audit of a senate plan finds, as a number
+fn report(blocks: &[Block], pairs: &[Pair], districts: u16, plan: &[u16]) -> u64 {
+    let people = populations(blocks, districts, plan);
+    let total: u32 = blocks.iter().map(|b| b.population).sum();
+    let ideal = total as u64 / districts as u64;
+    let off: u64 = people.iter().map(|p| (*p as u64).abs_diff(ideal)).sum();
+    let (counties, cities) = divided(blocks, plan);
+    let broken = breaks(blocks, pairs, districts, plan);
+    let unassigned = plan.iter().filter(|d| **d == 0).count() as u64;
+    std::hint::black_box((off, people.iter().max(), people.iter().min(), cities));
+    let mut told = unassigned;
+    let mut add = |n: u64| told = told.wrapping_mul(31).wrapping_add(n);
+    for part in &broken {
+        add(part.district as u64);
+        if let Some((from, to)) = part.gap { add(from); add(to); }
+    }
+    for number in &people { add(*number as u64); }
+    for county in &counties { add(*county as u64); }
+    told
+}
+
 fn told_of(broken: &[Break], people: &[u32]) -> u64 {
     let mut told = 0u64;
     let mut add = |n: u64| told = told.wrapping_mul(31).wrapping_add(n);
@@ -121,7 +155,7 @@ fn told_of(broken: &[Break], people: &[u32]) -> u64 {
 fn main() {
     let words: Vec<String> = env::args().collect();
     let (count, districts): (usize, u16) = (words[1].parse().unwrap(), words[2].parse().unwrap());
-    let blocks: Vec<Block> = (0..count).map(|i| Block { id: 190_010_000_000_000 + i as u64, _city: None, population: (i % 97) as u32 }).collect();
+    let blocks: Vec<Block> = (0..count).map(|i| Block { id: 190_010_000_000_000 + i as u64, city: None, population: (i % 97) as u32 }).collect();
     let mut pairs = Vec::new();
     for i in 0..count {
         if (i + 1) % WIDTH != 0 && i + 1 < count { pairs.push(Pair { first: i as u32, second: i as u32 + 1 }); }
@@ -139,6 +173,14 @@ fn main() {
     eprintln!("{} blocks, {} pairs", count, pairs.len());
     for (name, stripes) in [("whole", districts as u64), ("parted", 2 * districts as u64)] {
         let plan: Vec<u16> = (0..count as u64).map(|i| (i * stripes / count as u64 % districts as u64) as u16 + 1).collect();
+        if words.len() > 3 {
+            let (mut best, mut told) = (u128::MAX, 0);
+            for _ in 0..20 {
+                let t = Instant::now(); told = report(&blocks, &pairs, districts, &plan); best = best.min(t.elapsed().as_nanos());
+            }
+            println!("{name} {best} {told}");
+            continue;
+        }
         let (mut joined, mut filled, mut counted, mut told) = (u128::MAX, u128::MAX, u128::MAX, 0);
         for _ in 0..20 {
             let t = Instant::now(); let broken = breaks(&blocks, &pairs, districts, &plan); joined = joined.min(t.elapsed().as_nanos());

@@ -5,7 +5,9 @@ use std::fmt::Write as _;
 use std::fs::File;
 use std::io::{self, Read, Write};
 use std::mem::ManuallyDrop;
-use std::os::fd::FromRawFd;
+use std::os::fd::{FromRawFd, OwnedFd};
+use std::os::unix::net::UnixDatagram;
+use std::process::Command;
 
 const LIST: &str = "GET /plans HTTP/1.1\r\nHost: d\r\n\r\n";
 
@@ -55,6 +57,32 @@ fn make_body(size: usize, out: &mut impl Write) {
 // the head of such a request, whose body never comes
 fn make_promise(size: usize, out: &mut impl Write) {
     write!(out, "GET /plans HTTP/1.1\r\nHost: d\r\nContent-Length: {size}\r\n\r\n").unwrap();
+}
+
+// a head of so many bytes and 64 header lines
+fn make_head(size: usize, out: &mut impl Write) {
+    let start = "GET /plans HTTP/1.1\r\nHost: d\r\n";
+    let per = (size - start.len() - 2) / 63;
+    let last = size - start.len() - 2 - 62 * per;
+    write!(out, "{start}").unwrap();
+    for i in 0..63 {
+        let len = if i < 62 { per } else { last };
+        write!(out, "X: {}\r\n", "v".repeat(len - 5)).unwrap();
+    }
+    write!(out, "\r\n").unwrap();
+}
+
+// runs a command whose reads of its input give a byte of the file each
+fn send_pieces(file: &str, command: &[String]) {
+    let bytes = std::fs::read(file).unwrap();
+    let (here, there) = UnixDatagram::pair().unwrap();
+    let mut child = Command::new(&command[0]).args(&command[1..]).stdin(OwnedFd::from(there)).spawn().unwrap();
+    for byte in &bytes {
+        here.send(std::slice::from_ref(byte)).unwrap();
+    }
+    // a read of no bytes is the end
+    here.send(&[]).unwrap();
+    assert!(child.wait().unwrap().success());
 }
 
 // the same body in chunks of 4,096 bytes
@@ -272,6 +300,8 @@ fn main() {
         "make-listed" => make_listed(count(), &mut out),
         "make-body" => make_body(count(), &mut out),
         "make-promise" => make_promise(count(), &mut out),
+        "make-head" => make_head(count(), &mut out),
+        "pieces" => send_pieces(&words[2], &words[3..]),
         "make-chunks" => make_chunks(count(), &mut out),
         _ => {
             drop(out);

@@ -376,6 +376,7 @@ fn run(rows: u64, shuffled: bool) {
         store.commit();
     }
     println!("{name} put {}", start.elapsed().as_nanos());
+    println!("{name} pages {}", 16_383 - store.free);
     let start = Instant::now();
     for i in 0..rows {
         if let Some(value) = store.get(&key_of(i, shuffled)) {
@@ -384,10 +385,12 @@ fn run(rows: u64, shuffled: bool) {
     }
     println!("{name} get {}", start.elapsed().as_nanos());
     let start = Instant::now();
+    let mut scanned = 0u64;
     store.scan(store.root, &mut |key, value| {
-        told = told.wrapping_mul(31).wrapping_add(key[19] as u64 + value[7] as u64);
+        scanned = scanned.wrapping_mul(31).wrapping_add(key[19] as u64 + value[7] as u64);
     });
     println!("{name} scan {}", start.elapsed().as_nanos());
+    println!("{name} scanned {scanned}");
     let start = Instant::now();
     for from in (0..rows).step_by(BATCH as usize) {
         for i in from..rows.min(from + BATCH) {

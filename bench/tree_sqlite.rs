@@ -33,16 +33,16 @@ impl Db {
         made
     }
 
-    /// One step with these values, in commits of 512.
-    fn each(&self, text: &str, rows: u64, commits: bool, mut step: impl FnMut(*mut c_void, u64)) {
+    /// One step with these values, in transactions of 512.
+    fn each(&self, text: &str, rows: u64, mut step: impl FnMut(*mut c_void, u64)) {
         let made = self.made(text);
         for i in 0..rows {
-            if commits && i % 512 == 0 {
+            if i % 512 == 0 {
                 self.run("BEGIN");
             }
             step(made, i);
             unsafe { sqlite3_reset(made) };
-            if commits && (i % 512 == 511 || i + 1 == rows) {
+            if i % 512 == 511 || i + 1 == rows {
                 self.run("COMMIT");
             }
         }
@@ -77,7 +77,7 @@ fn run(path: &str, rows: u64, shuffled: bool) {
     db.run("CREATE TABLE rows (k BLOB PRIMARY KEY, v BLOB) WITHOUT ROWID");
     let mut told = 0u64;
     let start = Instant::now();
-    db.each("INSERT OR REPLACE INTO rows VALUES (?1, ?2)", rows, true, |made, i| {
+    db.each("INSERT OR REPLACE INTO rows VALUES (?1, ?2)", rows, |made, i| {
         let (key, value) = (key_of(i, shuffled), value_of(i));
         bind(made, 1, &key);
         bind(made, 2, &value);
@@ -85,7 +85,7 @@ fn run(path: &str, rows: u64, shuffled: bool) {
     });
     println!("{name} put {}", start.elapsed().as_nanos());
     let start = Instant::now();
-    db.each("SELECT v FROM rows WHERE k = ?1", rows, false, |made, i| {
+    db.each("SELECT v FROM rows WHERE k = ?1", rows, |made, i| {
         let key = key_of(i, shuffled);
         bind(made, 1, &key);
         if unsafe { sqlite3_step(made) } == ROW {
@@ -94,15 +94,17 @@ fn run(path: &str, rows: u64, shuffled: bool) {
     });
     println!("{name} get {}", start.elapsed().as_nanos());
     let start = Instant::now();
+    let mut scanned = 0u64;
     let made = db.made("SELECT k, v FROM rows ORDER BY k");
     while unsafe { sqlite3_step(made) } == ROW {
         let (key, value) = unsafe { (*sqlite3_column_blob(made, 0).add(19), *sqlite3_column_blob(made, 1).add(7)) };
-        told = told.wrapping_mul(31).wrapping_add(key as u64 + value as u64);
+        scanned = scanned.wrapping_mul(31).wrapping_add(key as u64 + value as u64);
     }
     unsafe { sqlite3_finalize(made) };
     println!("{name} scan {}", start.elapsed().as_nanos());
+    println!("{name} scanned {scanned}");
     let start = Instant::now();
-    db.each("DELETE FROM rows WHERE k = ?1", rows, true, |made, i| {
+    db.each("DELETE FROM rows WHERE k = ?1", rows, |made, i| {
         let key = key_of(i, shuffled);
         bind(made, 1, &key);
         unsafe { sqlite3_step(made) };

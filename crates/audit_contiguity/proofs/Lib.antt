@@ -1,10 +1,8 @@
 pub mod Climb
 pub mod Growth
+pub mod Keeping
 pub mod Noting
 pub mod OneList
-pub mod Parting
 pub mod Rooting
-pub mod Shelving
-pub mod Sharing
 pub mod Telling
 pub mod Walks

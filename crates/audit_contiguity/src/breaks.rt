@@ -45,7 +45,7 @@ impl Break {
 }
 
 /// Tells the districts from `first` on of which the lowest roots are given.
-fn tell(
+pub(crate) fn tell(
     alloc: Global,
     geography: &Geography,
     plan: &[u16],

@@ -53,7 +53,7 @@ fn join_pairs(parents: &mut [u32], pairs: &[Pair], plan: &[u16], first: u16, las
 {
     for pair in pairs {
         let district = plan[pair.first as usize];
-        if district == plan[pair.second as usize] && first <= district && district <= last {
+        if first <= district && district <= last && district == plan[pair.second as usize] {
             join(parents, pair.first, pair.second);
         }
     }

@@ -16,17 +16,21 @@ pub enum Mark {
 }
 
 impl Mark {
-    /// The mark once a block more is seen.
-    pub fn with(self, part: u16, value: u16) -> Mark
-        ensures { result ≡ marked self part value }
+    /// Notes a block more. What stays the same isn't written.
+    pub fn note(&mut self, part: u16, value: u16)
+        ensures { self.new ≡ marked self.old part value }
     {
-        match self {
+        match *self {
             Mark::Seen {
                 part: last,
                 value: known,
-            } if last == part => { if known == value { self } else { Mark::Divided } }
-            Mark::Unseen | Mark::Seen { .. } => Mark::Seen { part, value },
-            Mark::Divided => Mark::Divided,
+            } if last == part => {
+                if known != value {
+                    *self = Mark::Divided;
+                }
+            }
+            Mark::Unseen | Mark::Seen { .. } => *self = Mark::Seen { part, value },
+            Mark::Divided => {}
         }
     }
 }

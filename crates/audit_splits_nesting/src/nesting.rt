@@ -16,7 +16,7 @@ fn mark_districts(plan: &[u16], companion: &[u16], marks: &mut [Mark])
     for (i, district) in plan.iter().enumerate() {
         let district = *district as usize;
         if district < marks.len() {
-            marks[district] = marks[district].with(0, companion[i]);
+            marks[district].note(0, companion[i]);
         }
     }
 }

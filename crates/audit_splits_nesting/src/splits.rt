@@ -22,7 +22,7 @@ fn mark_counties(blocks: &[BlockRow], plan: &[u16], marks: &mut [Mark])
 {
     for (i, block) in blocks.iter().enumerate() {
         let county = block.id.county() as usize;
-        marks[county] = marks[county].with(0, plan[i]);
+        marks[county].note(0, plan[i]);
     }
 }
 
@@ -51,7 +51,7 @@ fn mark_cities(blocks: &[BlockRow], plan: &[u16], marks: &mut [Mark])
 {
     for (i, block) in blocks.iter().enumerate() {
         if let Some(city) = block.city {
-            marks[city as usize] = marks[city as usize].with(0, plan[i]);
+            marks[city as usize].note(0, plan[i]);
         }
     }
 }
@@ -66,7 +66,7 @@ fn mark_cities_by_county(blocks: &[BlockRow], plan: &[u16], marks: &mut [Mark])
 {
     for (i, block) in blocks.iter().enumerate() {
         if let Some(city) = block.city {
-            marks[city as usize] = marks[city as usize].with(block.id.county(), plan[i]);
+            marks[city as usize].note(block.id.county(), plan[i]);
         }
     }
 }

@@ -1,19 +1,19 @@
 -- What a worker found so far, and all workers together.
-use Rattle.std.proofs.Common.{◌≡◌, ℕ, ◌+◌, ◌*◌, ◌/◌, ◌%◌, ◌<◌, ◌≤◌, List, [], ◌∷◌, ◌++◌, length, map, get_or, Result, Ok, IfOk, sym, ap, ◌∙◌, subst, arith, ⊎_elim}
+use Rattle.std.proofs.Common.{◌≡◌, ℕ, ◌+◌, ◌-◌, ◌*◌, ◌/◌, ◌%◌, ◌<◌, ◌≤◌, min, Bool, true, false, List, [], ◌∷◌, ◌++◌, length, map, get_or, Result, Ok, IfOk, sym, ap, ◌∙◌, subst, arith, ⊎_elim}
 use Rattle.std.specs.Prelude.{Vec}
 use Rattle.std.specs.declared.alloc.AllocError.{AllocError}
 use Rattle.std.specs.declared.alloc.Global.{Global}
-use Rattle.std.proofs.Math.Nat.{add-mul, mul-le-mul_right, div-add-mod, mod-lt, mul_comm}
+use Rattle.std.proofs.Math.Nat.{add_comm, add-mul, mul-le-mul_right, div-add-mod, mod-lt, mul_comm}
 use Rattle.std.proofs.lemmas.Bool.{cases_lt}
+use Rattle.std.proofs.lemmas.Nat.{mod-mul-add}
 use Rattle.std.proofs.lemmas.List.{length-map, length_push, get_or-map, get_or_push, get_or_append_left}
+use Rattle.audit_contiguity.specs.declared.breaks.Break.{Break}
+use Rattle.audit_contiguity.specs.Breaks.{AreBreaks}
+use Rattle.audit_contiguity.specs.Parts.{Shown}
 use Rattle.audit_workers.specs.declared.work.Found.{Found}
-use Rattle.audit_workers.specs.Work.{Audit, IsFound}
-use Rattle.audit_workers.specs.Share.{IsHeld, IsShare, AreShares}
-
--- what the worker found so far stands in the order of its pieces, and this is the next of them
-pub record AreNext (a : Audit) (workers worker piece : ℕ) (held : List Found) : Type 0 where
-  pub next : piece ≡ worker + length held * workers
-  pub each : (place : ℕ) → place < length held → IsHeld a (worker + place * workers) place held
+use Rattle.audit_workers.specs.declared.work.Found.TheVariants as found
+use Rattle.audit_workers.specs.Work.{Audit, IsFound, shown_of}
+use Rattle.audit_workers.specs.Share.{IsHeld, IsShare, AreNext, AreOwnParts, AreShares}
 
 pub next_none : (a : Audit) (workers worker : ℕ) (held : List Found) → held ≡ [] → AreNext a workers worker worker held
 next_none a workers worker held none = record {
@@ -68,3 +68,31 @@ shares_all a pieces workers shares results some wide same each = record {
   where
     long : length shares ≡ workers
     long = sym (length-map shares Ok) ∙ ap length same ∙ wide
+
+-- which of the parts so far are own
+pub record AreOwnSoFar (workers worker piece : ℕ) (own : List Bool) : Type 0 where
+  pub long : length own + 3 ≡ piece
+  pub each : AreOwnParts piece workers worker own
+
+pub own_more : (workers worker piece : ℕ) (own : List Bool) (b : Bool) → (piece % workers ≡ worker → b ≡ true) → AreOwnSoFar workers worker piece own
+    → AreOwnSoFar workers worker (piece + 1) (own ++ b ∷ [])
+own_more workers worker piece own b is was = record {
+  long = omega (arith, length_push own b, was.long);
+  each = λ part less of. ⊎_elim
+      (λ (before : part < length own). get_or_append_left own (b ∷ []) false part before ∙ was.each part (omega (arith, was.long)) of)
+      (λ (last : length own ≤ part).
+      let at : length own ≡ part = omega (arith, less, was.long) in
+      let here : part + 3 ≡ piece = omega (arith, was.long) in
+      get_or_push own b false part at ∙ is (sym (ap (λ p. p % workers) here) ∙ of))
+      (cases_lt part (length own));
+}
+
+-- the piece that is next is one of the worker's
+pub next_is_own : (a : Audit) (workers worker piece : ℕ) (held : List Found) → worker < workers → AreNext a workers worker piece held → piece % workers ≡ worker
+next_is_own a workers worker piece held own was =
+    ap (λ p. p % workers) (was.next ∙ add_comm worker (length held * workers)) ∙ mod-mul-add (length held) workers worker own
+
+pub breaks_of_piece : (a : Audit) (own : List Bool) (shown : Shown) (piece : ℕ) (v : Vec Break Global) → 3 ≤ piece → shown ≡ shown_of a own
+    → AreBreaks shown.geography shown.plan (16 * (piece - 3) + 1) (min (16 * (piece - 3) + 16) shown.count) v.items → IsFound a piece (found.Breaks v)
+breaks_of_piece a own shown piece v behind is are =
+    (behind, subst (λ (s : Shown). AreBreaks s.geography s.plan (16 * (piece - 3) + 1) (min (16 * (piece - 3) + 16) s.count) v.items) is are)

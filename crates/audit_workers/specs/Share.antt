@@ -1,5 +1,5 @@
 -- What the workers found, each in its own pieces: those that leave the worker's number when they are divided by the number of workers.
-use Rattle.std.specs.Prelude.{◌≡◌, ◌↔◌, ℕ, ◌+◌, ◌*◌, ◌/◌, ◌%◌, ◌<◌, List, length, get_or, set, remove, Vec}
+use Rattle.std.specs.Prelude.{◌≡◌, ◌↔◌, ℕ, ◌+◌, ◌*◌, ◌/◌, ◌%◌, ◌<◌, Bool, false, IsTrue, List, length, get_or, set, remove, Vec}
 use Rattle.std.specs.declared.alloc.Global.{Global}
 use Rattle.audit_workers.specs.declared.work.Found.{Found}
 use Rattle.audit_workers.specs.Work.{Audit, IsPieceOf, IsFound}
@@ -17,6 +17,11 @@ pub record IsHeld (a : Audit) (piece place : ℕ) (held : List Found) : Type 0 w
 abbrev pub IsShare : Audit → ℕ → ℕ → ℕ → List Found → Type 0
 IsShare a pieces workers worker held = (place : ℕ) → worker + place * workers < pieces → IsHeld a (worker + place * workers) place held
 
+-- what the worker found so far stands in the order of its pieces, and this is the next of them
+pub record AreNext (a : Audit) (workers worker piece : ℕ) (held : List Found) : Type 0 where
+  pub next : piece ≡ worker + length held * workers
+  pub each : (place : ℕ) → place < length held → IsHeld a (worker + place * workers) place held
+
 -- all workers together hold the pieces below a number
 pub record AreShares (a : Audit) (pieces workers : ℕ) (shares : List (Vec Found Global)) : Type 0 where
   pub wide : length shares ≡ workers
@@ -33,3 +38,7 @@ pub record IsTaken (piece workers : ℕ) (old new : List (Vec Found Global)) (fo
 pub record IsThere (piece workers : ℕ) (shares : List (Vec Found Global)) : Type 0 where
   pub wide : length shares ≡ workers
   pub within : (s : Vec Found Global) → piece / workers < length (get_or shares (piece % workers) s).items
+
+-- the parts of the worker's pieces are own
+abbrev pub AreOwnParts : ℕ → ℕ → ℕ → List Bool → Type 0
+AreOwnParts pieces workers worker own = (part : ℕ) → part + 3 < pieces → (part + 3) % workers ≡ worker → IsTrue (get_or own part false)

@@ -1,9 +1,10 @@
 -- An audit's work in numbered pieces.
-use Rattle.std.specs.Prelude.{◌≡◌, ℕ, ◌+◌, ◌-◌, ◌*◌, ◌<◌, ◌≤◌, min, List, [], length, Option, IfSome}
+use Rattle.std.specs.Prelude.{◌≡◌, ℕ, ◌+◌, ◌-◌, ◌*◌, ◌<◌, ◌≤◌, min, List, [], length, Bool, Option, IfSome}
 use Rattle.desk_model.specs.declared.kind.Kind.{Kind}
 use Rattle.desk_model.specs.Geography.{Ground}
 use Rattle.audit_contiguity.specs.declared.breaks.Break.{Break}
 use Rattle.audit_contiguity.specs.Breaks.{AreBreaks}
+use Rattle.audit_contiguity.specs.Parts.{Shown}
 use Rattle.audit_report.specs.Report.{IsNesting}
 use Rattle.audit_report.specs.declared.pieces.Pieces.{Pieces}
 use Rattle.audit_report.specs.Pieces.{ArePeople, AreSplits, ArePieces}
@@ -46,3 +47,7 @@ breaks_in (found.People x) = []
 breaks_in (found.Splits x) = []
 breaks_in (found.Nesting x) = []
 breaks_in (found.Breaks x) = x.items
+
+-- the audit's plan with the parts that are own
+abbrev pub shown_of : Audit → List Bool → Shown
+shown_of a own = record { geography = a.geography; plan = a.plan; count = a.count; own = own }

@@ -7,7 +7,6 @@ ghost use Rattle.audit_report.specs.Report.{IsReport};
 use crate::gather::gather;
 use crate::share::find_shares;
 use crate::work::Work;
-use audit_contiguity::parts::parts;
 use audit_report::audit::assemble;
 use audit_report::report::Report;
 use desk_model::gate::Gate;
@@ -39,8 +38,7 @@ pub fn audit_with<R: Threads + Sync, G: Gate + Sync>(
     requires companion_of_house { IsSome companion → IsTrue (is_house kind) }
     ensures { IfOk result (IsReport geography.now kind count plan.now (option_copied companion.entry)) }
 {
-    let parts = parts(alloc, geography, count, plan)?;
-    let work = Work::new(geography, kind, count, plan, companion, parts.as_slice());
+    let work = Work::new(geography, kind, count, plan, companion);
     let pieces = work.pieces();
     let workers = workers.min(pieces);
     let shares = find_shares(rt, alloc, gate, &work, pieces, workers)?;

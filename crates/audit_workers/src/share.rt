@@ -1,12 +1,56 @@
 //! What the workers find, each in its own pieces of the work.
-ghost use Rattle.std.specs.Prelude.{◌≡◌, ◌+◌, ◌^◌, ◌<◌, ◌≤◌, Ok, map, IfOk};
-ghost use Rattle.audit_workers.specs.Share.{AreNumberedBelow, AreShares, IsShare};
+ghost use Rattle.std.specs.Prelude.{◌≡◌, ◌+◌, ◌<◌, ◌≤◌, Ok, map, IfOk};
+ghost use Rattle.audit_workers.specs.Share.{AreNext, AreNumberedBelow, AreOwnParts, AreShares, IsShare};
 
 use crate::work::{Found, Work};
 use desk_model::gate::Gate;
 use std::alloc::{AllocError, Global};
 use std::thread;
 use std::thread::Threads;
+
+/// Which parts of the districts are pieces of a worker.
+fn own_parts(alloc: Global, pieces: u32, workers: u32, worker: u32) -> Result<Vec<bool>, AllocError>
+    requires some { 0 < workers }
+    ensures { IfOk result (λ own. AreOwnParts pieces workers worker own.items) }
+{
+    let mut own = Vec::with_capacity(alloc, pieces as usize)?;
+    for piece in 3..pieces {
+        own.push(piece % workers == worker)?;
+    }
+    Ok(own)
+}
+
+/// What a worker finds in the pieces of the districts' contiguity, from its first on, over one forest for them all.
+fn find_parts<G: Gate>(
+    alloc: Global,
+    gate: &G,
+    work: &Work,
+    pieces: u32,
+    workers: u32,
+    worker: u32,
+    first: u32,
+    mut found: Vec<Found>,
+) -> Result<Vec<Found>, AllocError>
+    requires pieces { AreNumberedBelow work.now.count pieces }
+    requires some { 0 < workers }
+    requires few { pieces ≤ 66 }
+    requires fewer { workers ≤ pieces }
+    requires own { worker < workers }
+    requires behind { 3 ≤ first }
+    requires next { AreNext work.now workers worker first found.items }
+    ensures { IfOk result (λ v. IsShare work.now pieces workers worker v.items) }
+{
+    let own = own_parts(alloc, pieces, workers, worker)?;
+    let trees = work.trees(alloc, own)?;
+    let mut piece = first;
+    while piece < pieces {
+        gate.pass(worker, piece);
+        let breaks = trees.breaks(alloc, (piece - 3) as u16)?;
+        found.push(Found::Breaks(breaks))?;
+        piece += workers;
+    }
+    Ok(found)
+}
 
 /// What a worker finds in its pieces: those that leave its number when they are divided by the number of workers, rising, each
 /// after the gate.
@@ -19,17 +63,22 @@ fn find_share<G: Gate>(
     worker: u32,
 ) -> Result<Vec<Found>, AllocError>
     requires pieces { AreNumberedBelow work.now.count pieces }
+    requires three { 3 ≤ pieces }
     requires some { 0 < workers }
-    requires few { pieces + workers < 2 ^ 32 }
+    requires few { pieces ≤ 66 }
+    requires fewer { workers ≤ pieces }
     requires own { worker < workers }
     ensures { IfOk result (λ v. IsShare work.now pieces workers worker v.items) }
 {
     let mut found = Vec::with_capacity(alloc, (pieces / workers) as usize + 1)?;
     let mut piece = worker;
-    while piece < pieces {
+    while piece < 3 {
         gate.pass(worker, piece);
         found.push(work.find(alloc, piece)?)?;
         piece += workers;
+    }
+    if piece < pieces {
+        return find_parts(alloc, gate, work, pieces, workers, worker, piece, found);
     }
     Ok(found)
 }
@@ -59,12 +108,14 @@ pub fn find_shares<R: Threads + Sync, G: Gate + Sync>(
     workers: u32,
 ) -> Result<Vec<Vec<Found>>, AllocError>
     requires pieces { AreNumberedBelow work.now.count pieces }
+    requires three { 3 ≤ pieces }
     requires some { 0 < workers }
-    requires few { pieces + workers < 2 ^ 32 }
+    requires few { pieces ≤ 66 }
+    requires fewer { workers ≤ pieces }
     ensures { IfOk result (λ v. AreShares work.now pieces workers v.items) }
 {
     let share_of = |worker: usize| -> Result<Vec<Found>, AllocError>
-        requires { (worker < workers) × (pieces + workers < 2 ^ 32) × AreNumberedBelow work.now.count pieces }
+        requires { (worker < workers) × (pieces ≤ 66) × (workers ≤ pieces) × (3 ≤ pieces) × AreNumberedBelow work.now.count pieces }
         ensures { IfOk result (λ v. IsShare work.entry.now pieces workers worker v.items) }
     { find_share(alloc, gate, work, pieces, workers, worker as u32) };
     let results = thread::map_indices(rt, alloc, workers as usize, &share_of)?;

@@ -1,12 +1,11 @@
 //! The pieces of an audit's work, by their numbers.
 ghost use Rattle.std.specs.Prelude.{◌≡◌, ◌+◌, ◌-◌, ◌*◌, ◌<◌, ◌≤◌, length, IfOk, IfSome, IsSome, IsTrue};
 ghost use Rattle.std.specs.Option.{option_copied};
-ghost use Rattle.audit_contiguity.specs.Parts.{AreParts};
 ghost use Rattle.audit_workers.specs.Share.{AreNumberedBelow};
-ghost use Rattle.audit_workers.specs.Work.{IsFound, IsPieceOf, breaks_in};
+ghost use Rattle.audit_workers.specs.Work.{IsFound, breaks_in, shown_of};
 
 use audit_contiguity::breaks::Break;
-use audit_contiguity::parts::{Part, part_breaks};
+use audit_contiguity::parts::{Trees, part_count};
 use audit_report::pieces::{People, Splits, find_nesting, find_people, find_splits};
 use desk_model::geography::Geography;
 use desk_model::kind::Kind;
@@ -34,7 +33,7 @@ impl Found {
     }
 }
 
-/// A plan with what it is judged by, its districts in parts.
+/// A plan with what it is judged by.
 #[derive(Drop)]
 pub struct Work<'a> {
     geography: &'a Geography,
@@ -42,12 +41,10 @@ pub struct Work<'a> {
     count: u16,
     plan: &'a [u16],
     companion: Option<&'a [u16]>,
-    parts: &'a [Part],
 }
 
 impl<'a> Model for Work<'a> {
     ghost use Rattle.audit_workers.specs.Work.{Audit, IsAudit};
-    ghost use Rattle.audit_contiguity.specs.Parts.{AreParts};
     ghost use Rattle.std.specs.Option.{option_copied};
 
     ghost Value = { Audit };
@@ -61,25 +58,22 @@ impl<'a> Model for Work<'a> {
     } };
 
     ghost invariant = { λ a.
-        IsAudit (record { geography = a.geography.now; kind = a.kind; count = a.count; plan = a.plan.now; companion = option_copied a.companion })
-        × AreParts a.geography.now a.plan.now a.count a.parts.now };
+        IsAudit (record { geography = a.geography.now; kind = a.kind; count = a.count; plan = a.plan.now; companion = option_copied a.companion }) };
 }
 
 impl<'a> Work<'a> {
-    /// A plan of `count` districts beside its geography, with the parts of its districts.
+    /// A plan of `count` districts beside its geography.
     pub fn new(
         geography: &'a Geography,
         kind: Kind,
         count: u16,
         plan: &'a [u16],
         companion: Option<&'a [u16]>,
-        parts: &'a [Part],
     ) -> Work<'a>
         requires some { 1 ≤ count }
         requires few { count ≤ 999 }
         requires beside { length plan.now ≡ length geography.now.blocks }
         requires companion_beside { IfSome (option_copied companion) (λ c. length c ≡ length geography.now.blocks) }
-        requires parts { AreParts geography.now plan.now count parts.now }
         ensures { result ≡ record { geography = geography.now; kind = kind; count = count; plan = plan.now; companion = option_copied companion.entry } }
     {
         Work {
@@ -88,7 +82,6 @@ impl<'a> Work<'a> {
             count,
             plan,
             companion,
-            parts,
         }
     }
 
@@ -99,12 +92,12 @@ impl<'a> Work<'a> {
         ensures three { 3 ≤ result }
         ensures few { result ≤ 66 }
     {
-        3 + self.parts.len() as u32
+        3 + part_count(self.count) as u32
     }
 
-    /// What the piece of that number finds.
+    /// What one of the first three pieces finds.
     pub fn find(&self, alloc: Global, piece: u32) -> Result<Found, AllocError>
-        requires { IsPieceOf self.now.count piece }
+        requires { piece < 3 }
         ensures { IfOk result (IsFound self.now piece) }
     {
         match piece {
@@ -113,15 +106,17 @@ impl<'a> Work<'a> {
                 Ok(Found::People(people))
             }
             1 => Ok(Found::Splits(find_splits(alloc, self.geography, self.plan)?)),
-            2 => {
+            _ => {
                 let nesting = find_nesting(alloc, self.count, self.plan, self.companion)?;
                 Ok(Found::Nesting(nesting))
             }
-            _ => {
-                let part = &self.parts[piece as usize - 3];
-                let breaks = part_breaks(alloc, self.geography, self.plan, part)?;
-                Ok(Found::Breaks(breaks))
-            }
         }
+    }
+
+    /// The trees of the parts of districts that are own by their numbers.
+    pub fn trees(&self, alloc: Global, own: Vec<bool>) -> Result<Trees<'a>, AllocError>
+        ensures { IfOk result (λ t. t ≡ shown_of self.now own.items) }
+    {
+        Trees::new(alloc, self.geography, self.count, self.plan, own)
     }
 }

@@ -1,14 +1,12 @@
 //! Times the audits of plans.
 ghost use Rattle.std.specs.Prelude.{◌≡◌, length};
 
-use crate::made::{made_blocks, made_pairs, made_plan};
+use crate::made::{WIDTH, made_blocks, made_pairs, made_plan};
 use audit_contiguity::breaks::breaks;
 use audit_population::people::populations;
 use desk_model::geography::Geography;
 use std::io;
 use std::time::Instant;
-
-const WIDTH: usize = 419;
 
 /// The best of 20 times of both audits, with what they tell.
 fn measure(

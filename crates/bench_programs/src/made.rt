@@ -6,6 +6,9 @@ ghost use Rattle.desk_model.specs.Geography.{AreBlocks, AreDifferentBlocks};
 use desk_model::block::{BlockId, BlockRow};
 use std::alloc::{AllocError, Global};
 
+/// Blocks in a row.
+pub const WIDTH: usize = 419;
+
 /// Blocks of one state with consecutive numbers.
 pub fn made_blocks(alloc: Global, count: usize) -> Result<Vec<BlockRow>, AllocError>
     requires some { 0 < count }

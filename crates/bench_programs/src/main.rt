@@ -1,6 +1,7 @@
 //! The timed programs of `bench/`, by the first word: `commit` with the numbers of pages, up to 208, and of commits; `baf`;
-//! `audit` with the numbers of blocks, up to 262,144, and of districts, up to 999; `gal` with the path of a neighbour file and
-//! the number of its blocks. With no words it does nothing.
+//! `audit` with the numbers of blocks, up to 262,144, and of districts, up to 999, and `workers` likewise; `gal` with the path of a
+//! neighbour file and the number of its blocks; `plans` with the numbers of creates and of the step between their names, or of
+//! posts to one plan and 0; `tree` with the number of rows and `rising` or `shuffled`. With no words it does nothing.
 #![tactic(auto)]
 
 mod audits;
@@ -8,6 +9,9 @@ mod bafs;
 mod commits;
 mod made;
 mod neighbours;
+mod plans;
+mod rows;
+mod workers;
 
 use std::{env, io};
 
@@ -29,6 +33,9 @@ fn main(rt: HostRuntime) -> io::Result<()> {
     let number = second.parse().unwrap_or(0);
     match job.as_str() {
         "commit" => commits::run(&rt, first.parse().unwrap_or(0), number),
+        "plans" => plans::run(&rt, first.parse().unwrap_or(0), number),
+        "tree" => rows::run(&rt, first.parse().unwrap_or(0), second.as_str()),
+        "workers" => workers::run(&rt, &rt, first.parse().unwrap_or(0), (number % 1000) as u16),
         "gal" => neighbours::run(&rt, first.as_str(), number as usize),
         _ => audits::run(&rt, first.parse().unwrap_or(0), (number % 1000) as u16),
     }

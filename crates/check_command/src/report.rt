@@ -4,6 +4,7 @@ ghost use Rattle.std.specs.Option.{option_copied};
 ghost use Rattle.audit_report.specs.Clauses.{is_house};
 ghost use Rattle.check_command.specs.Auditing.{IsAudited, Reports};
 
+use audit_report::audit::audit;
 use audit_workers::audit::audit_with;
 use desk_model::gate::NoGate;
 use desk_model::geography::Geography;
@@ -37,9 +38,13 @@ fn print_report<T: Threads + Sync>(
     requires companion_of_house { IsSome companion → IsTrue (is_house kind) }
     ensures { IfOk result (IsAudited geography.now kind n plan.now (option_copied companion.entry)) }
 {
-    let report = audit_with(
-        rt, alloc, workers, &NoGate, geography, kind, n, plan, companion,
-    )?;
+    let report = if workers == 1 {
+        audit(alloc, geography, kind, n, plan, companion)?
+    } else {
+        audit_with(
+            rt, alloc, workers, &NoGate, geography, kind, n, plan, companion,
+        )?
+    };
     let broken = report.broken.len() > 0;
     let mut text = report.to_json(alloc)?;
     text.push_str("\n")?;

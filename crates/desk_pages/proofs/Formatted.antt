@@ -1,5 +1,5 @@
 -- A new store holds the desk without geography and plans.
-use Rattle.std.proofs.Common.{◌≡◌, ℕ, List, Option, Some, None, refl, sym, subst, ◌∙◌}
+use Rattle.std.proofs.Common.{ℕ, List, Option, None, sym, subst}
 use Rattle.std.specs.FinMap.{empty, get, get-empty}
 use Rattle.sector_device.specs.Disk.{Disk}
 use Rattle.gate_journal.specs.Store.{pages}

@@ -1,1 +1,2 @@
 pub mod Formatted
+pub mod Committed

@@ -1,3 +1,4 @@
 pub mod Desks
 pub mod Laws
 pub mod Formats
+pub mod Commits

@@ -2,7 +2,9 @@
 //! which holds the desk without geography and plans.
 #![tactic(auto)]
 
+mod commits;
 mod formatting;
 pub mod laws;
 
+pub use commits::{commit, prepare};
 pub use formatting::{FormatError, format};

@@ -1,2 +1,6 @@
-mod Outcomes
+mod Along
 mod Begins
+mod Grounds
+mod Ids
+mod OneMore
+mod Seals

@@ -1,14 +1,14 @@
 -- What the rows of a load leave as it is.
-use Rattle.std.specs.Prelude.{◌≡◌, ◌<◌, ◌≤◌, ◌+◌, ◌^◌, ℕ, List, [], ◌∷◌, length, Option, Some, None, MatchOption}
+use Rattle.std.specs.Prelude.{◌≡◌, ◌<◌, ◌+◌, ◌^◌, ℕ, List, [], ◌∷◌, length, Option, MatchOption}
 use Rattle.std.proofs.Common.{zero, suc, refl, sym, ap, subst, ◌∙◌, inl, inr, arith}
-use Rattle.std.specs.FinMap.{FinMap, get, insert, remove}
+use Rattle.std.specs.FinMap.{FinMap, insert}
 use Rattle.std.proofs.lemmas.Bool.{cases_lt}
 use Rattle.desk_model.specs.Geography.{Ground, IsGround}
 use Rattle.desk_model.specs.Desk.{Desk, Plan, name_cmp}
 use Rattle.store_keys.specs.Keys.{key_of, begun, block, counters, in_eight, pair, seal}
-use Rattle.store_keys.specs.Values.{counters_bytes, seal_bytes}
+use Rattle.store_keys.specs.Values.{counters_bytes}
 use Rattle.store_keys.specs.declared.value.Counters.{Counters}
-use Rattle.store_rows.specs.Rows.{KeyMap, SameTag, Has, Lacks, row_in}
+use Rattle.store_rows.specs.Rows.{KeyMap, SameTag, Has, Lacks}
 use Rattle.store_rows.specs.Puts.{Row, put_rows, put_rows-append, told_keep}
 use Rattle.store_rows.specs.GeographyRows.{IsSealed, IsStaged, geography_rows}
 use Rattle.store_rows.specs.DeskRows.{IsDesk}

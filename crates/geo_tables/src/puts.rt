@@ -23,7 +23,7 @@ fn number_fits(id: BlockId)
 {}
 
 /// A number of 32 bits is in its range.
-fn code_fits(code: u32)
+pub(crate) fn code_fits(code: u32)
     ensures { code < 2 ^ 32 }
 {}
 
@@ -38,7 +38,7 @@ fn city_fits(city: Option<u32>)
 }
 
 /// The numbers of a block fit in its row.
-fn block_fits(row: &BlockRow)
+pub(crate) fn block_fits(row: &BlockRow)
     ensures { IsBlockRow row.now }
 {
     number_fits(row.id);

@@ -148,8 +148,8 @@ fn put(bytes: &mut Vec<u8>, text: &[u8])
     let _ = bytes.extend_from_slice(text);
 }
 
-/// The line of the status.
-fn put_status(bytes: &mut Vec<u8>, status: StatusCode)
+/// The line of a status, part by part.
+fn put_status_parts(bytes: &mut Vec<u8>, status: StatusCode)
     requires { vec_len bytes.old + 100 ≤ vec_capacity bytes.old }
     ensures items { bytes.new.items ≡ bytes.old.items ++ status_line status }
     ensures len { vec_len bytes.new ≤ vec_len bytes.old + 100 }
@@ -160,6 +160,20 @@ fn put_status(bytes: &mut Vec<u8>, status: StatusCode)
     put(bytes, b" ");
     put(bytes, phrase(status).as_bytes());
     put(bytes, b"\r\n");
+}
+
+/// The line of the status. Those of accepted requests are put in one piece.
+fn put_status(bytes: &mut Vec<u8>, status: StatusCode)
+    requires { vec_len bytes.old + 100 ≤ vec_capacity bytes.old }
+    ensures items { bytes.new.items ≡ bytes.old.items ++ status_line status }
+    ensures len { vec_len bytes.new ≤ vec_len bytes.old + 100 }
+    ensures room { vec_capacity bytes.old ≤ vec_capacity bytes.new }
+{
+    match status.as_u16() {
+        200 => put(bytes, b"HTTP/1.1 200 OK\r\n"),
+        201 => put(bytes, b"HTTP/1.1 201 Created\r\n"),
+        _ => put_status_parts(bytes, status),
+    }
 }
 
 /// The line of the media type.

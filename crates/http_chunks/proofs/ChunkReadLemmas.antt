@@ -13,9 +13,12 @@ use Rattle.http_chunks.specs.declared.fault.Fault.{Fault}
 use Rattle.http_chunks.specs.declared.fault.Fault.TheVariants.{BodyTooLarge}
 use Rattle.http_intake.specs.declared.fault.WireFault.{WireFault}
 use Rattle.http_intake.specs.declared.fault.WireFault.TheVariants as fault
+use Rattle.http_intake.specs.declared.sought.Seen.TheVariants.{Wanting}
+use Rattle.http_intake.specs.Draws.{IsPutOff}
+use Rattle.http_intake.specs.DrawsLemmas.{not_put_off}
 use Rattle.http_chunks.specs.Chunked.{ChunksCame}
-use Rattle.http_chunks.specs.Chunks.{HasLine, IsOpenLine, HasDataLine, HasLastLine, HasChunk, HasChunks, HasChunkFault, LacksChunks}
-use Rattle.http_chunks.specs.ChunkParts.{IsLineAt, EndCame, TrailersCame, HasData, LacksData, DataCame, StepCame, after_trailers, after_data}
+use Rattle.http_chunks.specs.Chunks.{HasLine, IsOpenLine, IsOpenEnd, AreOpenTrailers, HasDataLine, HasLastLine, HasChunk, HasChunks, HasChunkFault, LacksChunks}
+use Rattle.http_chunks.specs.ChunkParts.{IsLineAt, SeesLine, SeesEnd, SeesTrailers, EndCame, TrailersCame, HasData, LacksData, DataCame, StepCame, after_trailers, after_data}
 
 line_before : (input : List ℕ) (l : ChunkLine) (rest more : List ℕ) → HasLine input l rest → HasLine (input ++ more) l (rest ++ more)
 line_before input l rest more s = record { reads = ReadsChunkLine-append input l rest more s.reads; short = s.short }
@@ -27,6 +30,27 @@ chunk_before n input l bytes rest more c = record {
   size = c.size;
   within = c.within;
 }
+
+-- ---- a part
+
+module _ (held : List ℕ) (new rest : List ℕ) where
+  -- reading CR LF failed
+  pub end_failed : (e : WireFault) → IsPutOff (λ front. SeesEnd front Wanting) (λ b. ⊥) held → EndCame held (Err e) rest
+  end_failed fault.Read x = not_put_off IsOpenEnd held x
+  end_failed fault.TurnLimit x = not_put_off IsOpenEnd held x
+  end_failed fault.Memory x = tt
+
+  -- reading trailers failed
+  pub trailers_failed : (e : WireFault) → IsPutOff (λ front. SeesTrailers front Wanting) (λ b. ⊥) held → TrailersCame held (Err e) rest
+  trailers_failed fault.Read x = not_put_off AreOpenTrailers held x
+  trailers_failed fault.TurnLimit x = not_put_off AreOpenTrailers held x
+  trailers_failed fault.Memory x = tt
+
+  -- reading a line failed
+  pub line_failed : (old : List ℕ) (e : WireFault) → IsPutOff (λ front. SeesLine front Wanting) (λ b. ⊥) held → StepCame old held (Err e) new rest
+  line_failed old fault.Read x = LacksChunks.no_line _ _ (not_put_off IsOpenLine held x)
+  line_failed old fault.TurnLimit x = LacksChunks.no_line _ _ (not_put_off IsOpenLine held x)
+  line_failed old fault.Memory x = tt
 
 -- ---- one chunk
 
@@ -46,12 +70,6 @@ data_line n input more found s some room = record {
   some = omega (arith, s.size, some);
   within = omega (arith, s.size, room);
 }
-
--- reading the line failed
-pub line_failed : (old input new rest : List ℕ) (e : WireFault) → IsOpenLine input → StepCame old input (Err e) new rest
-line_failed old input new rest fault.Read x = LacksChunks.no_line _ _ x
-line_failed old input new rest fault.TurnLimit x = LacksChunks.no_line _ _ x
-line_failed old input new rest fault.Memory x = tt
 
 -- its size passes what a body may have
 pub line_too_large : (n : ℕ) (input more : List ℕ) (found : Line) → IsLineAt input found → 33554432 < n + found.size → HasChunkFault n (input ++ more) BodyTooLarge

@@ -1,13 +1,13 @@
 -- How many lines a head has, and a front of one.
 use Rattle.std.proofs.Common.{◌≡◌, ◌≢◌, ℕ, ◌+◌, ◌<◌, ◌≤◌, ◌==◌, Bool, true, false, ◌||◌, ◌&&◌, cond, List, [], ◌∷◌, ◌++◌, length, refl, sym, ap, ◌∙◌, arith, append_assoc, append-nil}
-use Rattle.std.proofs.lemmas.List.Elements.{All-head, All-tail}
-use Rattle.std.proofs.lemmas.Bool.{false≢true, ne_eqb}
-use Rattle.std.specs.List.{flat_map}
+use Rattle.std.proofs.lemmas.List.Elements.{All-head, All-tail, All-nil, All-cons}
+use Rattle.std.proofs.lemmas.Bool.{false≢true, ne_eqb, eqb-false}
+use Rattle.std.specs.List.{flat_map, list_any}
 use Rattle.std.specs.Prelude.{All}
 use Rattle.httparse.specs.Grammar.{is_token_byte, is_uri_byte, is_value_byte, AllPass, LineEnd, crlf, lf, print_end, print_blank, print_version, Field, print_field, IsField, print_section, RequestHead, IsRequestHead, print_request}
 use Rattle.httparse.proofs.GrammarLemmas.{print_request-append}
 use Rattle.httparse.proofs.PieceLemmas.{token_is_no_newline}
-use Rattle.http_chunks.specs.Lines.{is_newline, begins_empty, lines_end, section_lines, head_lines}
+use Rattle.http_chunks.specs.Lines.{IsWithinLine, is_newline, begins_empty, lines_end, section_lines, head_lines}
 
 -- a byte that is no LF
 other_end : (b : ℕ) (xs : List ℕ) → b ≢ 10 → lines_end (b ∷ xs) ≡ lines_end xs
@@ -160,3 +160,14 @@ section_lines_grow xs ys = section_grows xs ys (ends_grow xs ys)
 pub head_lines_grow : (xs ys : List ℕ) → head_lines xs ≤ head_lines (xs ++ ys)
 head_lines_grow [] ys = omega arith
 head_lines_grow (b ∷ xs) ys = cond_le (is_newline b) _ _ _ _ (head_lines_grow xs ys) (ends_grow xs ys)
+
+both_false : (a b : Bool) → (a || b) ≡ false → (a ≡ false) × (b ≡ false)
+both_false true b e = absurd (cc)
+both_false false b e = (refl, e)
+
+-- bytes in which no line ends
+pub no_line_ends : (xs : List ℕ) → list_any (λ b. b == 10) xs ≡ false → All IsWithinLine xs
+no_line_ends [] e = All-nil IsWithinLine
+no_line_ends (b ∷ xs) e =
+    let each = both_false (b == 10) (list_any (λ c. c == 10) xs) e in
+    All-cons IsWithinLine b xs (eqb-false b 10 each.0) (no_line_ends xs each.1)

@@ -1,5 +1,9 @@
 -- The lines that have come, up to the first empty one: a line ends in LF, with or without a CR before it.
-use Rattle.std.specs.Prelude.{ℕ, ◌+◌, Bool, false, List, [], ◌∷◌, ◌||◌, ◌&&◌, ◌==◌, if◌then◌else◌}
+use Rattle.std.specs.Prelude.{◌≢◌, ℕ, ◌+◌, Bool, false, List, [], ◌∷◌, ◌||◌, ◌&&◌, ◌==◌, if◌then◌else◌}
+
+-- a byte that ends no line
+abbrev pub IsWithinLine : ℕ → Type 0
+IsWithinLine b = b ≢ 10
 
 -- CR or LF
 abbrev pub is_newline : ℕ → Bool

@@ -37,7 +37,13 @@ impl Sought for EndSought {
 
     ghost sees = { SeesEnd };
 
+    ghost waits = { λ b. ⊥ };
+
     fn look(&self, bytes: &[u8]) -> Seen<usize, Fault> {
         look_at_end(bytes)
+    }
+
+    fn is_due(&self, _more: &[u8]) -> bool {
+        true
     }
 }

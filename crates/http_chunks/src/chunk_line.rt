@@ -48,7 +48,13 @@ impl Sought for LineSought {
 
     ghost sees = { SeesLine };
 
+    ghost waits = { λ b. ⊥ };
+
     fn look(&self, bytes: &[u8]) -> Seen<Line, Fault> {
         look_at_line(bytes)
+    }
+
+    fn is_due(&self, _more: &[u8]) -> bool {
+        true
     }
 }

@@ -1,5 +1,6 @@
 //! The lines that have come, up to the first empty one.
-ghost use Rattle.std.specs.Prelude.{◌≡◌};
+ghost use Rattle.std.specs.Prelude.{◌≡◌, ◌==◌};
+ghost use Rattle.std.specs.List.{list_any};
 ghost use Rattle.http_chunks.specs.Lines.{begins_empty as begins_empty_line, lines_end as lines_end_in, section_lines as section_lines_in, head_lines as head_lines_in};
 
 /// Whether the line that begins here is empty.
@@ -51,4 +52,11 @@ pub fn head_lines(bytes: &[u8]) -> usize
         }
     }
     0
+}
+
+/// Whether a line ends in them.
+pub fn ends_line(bytes: &[u8]) -> bool
+    ensures { result ≡ list_any (λ b. b == 10) bytes.now }
+{
+    bytes.iter().any(|b| *b == b'\n')
 }

@@ -55,7 +55,13 @@ impl Sought for TrailersSought {
 
     ghost sees = { SeesTrailers };
 
+    ghost waits = { λ b. ⊥ };
+
     fn look(&self, bytes: &[u8]) -> Seen<usize, Fault> {
         look_at_trailers(bytes)
+    }
+
+    fn is_due(&self, _more: &[u8]) -> bool {
+        true
     }
 }

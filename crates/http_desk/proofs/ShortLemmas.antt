@@ -1,5 +1,5 @@
 -- Codes of faults and padded numbers are short.
-use Rattle.std.proofs.Common.{ℕ, ◌+◌, ◌-◌, ◌<◌, ◌≤◌, ◌^◌, length, replicate, decimal, arith, length-append}
+use Rattle.std.proofs.Common.{ℕ, ◌-◌, ◌<◌, ◌≤◌, length, replicate, decimal, arith, length-append}
 use Rattle.std.proofs.lemmas.List.{length-replicate}
 use Rattle.std.proofs.lemmas.Fmt.{length-decimal-le}
 use Rattle.desk_model.specs.declared.reply.BodyFault.{BodyFault}

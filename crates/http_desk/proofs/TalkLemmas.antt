@@ -5,7 +5,7 @@ use Rattle.std.specs.Io.KnownBytes.{Appends, Consumes}
 use Rattle.httparse.specs.Grammar.{RequestHead}
 use Rattle.http_wire.specs.Front.{HasRequest, IsIncomplete, IsStarved, closes_after as closes_after_head, is_head}
 use Rattle.http_wire.specs.Incoming.{IsRequestOf}
-use Rattle.http_wire.specs.Interim.{Interim, continue_text, asks_to_continue}
+use Rattle.http_wire.specs.Interim.{Interim, IsCutShort, continue_text, asks_to_continue}
 use Rattle.http_answer.specs.Queue.{Queued}
 use Rattle.http_wire.specs.declared.request.Request.{Request}
 use Rattle.desk_model.specs.declared.command.Command.{Command}
@@ -16,7 +16,7 @@ use Rattle.http_desk.specs.declared.serve.Next.TheVariants as next
 use Rattle.http_desk.specs.declared.serve.ServeFault.{ServeFault}
 use Rattle.http_desk.specs.declared.serve.ServeFault.TheVariants as fault
 use Rattle.http_orders.specs.Orders.{order_of}
-use Rattle.http_desk.specs.Serving.{Closes, CutsNext, Exchanges, IsCutTalk, IsFrontTalk, GoesOn, Leaves, ServesTo}
+use Rattle.http_desk.specs.Serving.{Closes, CutsNext, Exchanges, IsCutTalk, IsFrontTalk, IsCutInHead, IsShortTalk, GoesOn, Leaves, ServesTo}
 use Rattle.http_desk.specs.Talk.{Talk, Handles, over, ended, starved, closed, went}
 
 pub Appends-none : (u : Option (List ℕ)) → Appends u u []
@@ -118,6 +118,18 @@ module _ {X : Type 0} (commands : X → Command → Reply → X → Type 0) (ask
       nothing (inl (none, same)) = moved x x false [] c.front [] interim 0 0 (sym none) (sym same) refl (over x)
       nothing (inr (lacks, due)) = ended x c.front interim lacks due
 
+  -- reading was cut short before an answer
+  pub cut_short : (x : X) (input interim : List ℕ) → IsCutShort input interim → IsShortTalk commands asks x input interim x
+  cut_short x input interim (inl c) = inl (0, ended x input interim c.0 c.1)
+  cut_short x input interim (inr (c, none)) = inr (record {
+    taken = [];
+    rest = input;
+    read = refl;
+    cut = c;
+    count = 0;
+    on = λ later more n shut z talk. moved x z shut later later more (interim ++ more) n (0 + n) refl (ap (λ (t : List ℕ). t ++ more) (sym none)) (omega arith) talk;
+  })
+
   -- a closing answer, written whole or in part
   pub closing : (x y : X) (old mid new left : Option (List ℕ)) (input rest before pending unsent interim text end : List ℕ) (result : Result Next ServeFault) → Talk commands asks x input (interim ++ text) 1 true y
       → Queued old mid before unsent interim → unsent ≡ pending → Closes mid new pending result text
@@ -184,6 +196,28 @@ module _ {X : Type 0} (commands : X → Command → Reply → X → Type 0) (ask
     s.on (inbox ++ came) sent n shut y talk,
   )
 
+  -- or where reading was cut short
+  ends_short : (x0 x y : X) (u v w b0 b1 b2 : Option (List ℕ)) (inbox pending came sent unsent : List ℕ) (requests : ℕ) → Stands x0 u v b0 b1 x inbox pending requests → Consumes v w came
+      → Queued b1 b2 pending unsent sent → unsent ≡ [] → IsShortTalk commands asks x (inbox ++ came) sent y
+      → (input : List ℕ) × (output : List ℕ) × Consumes u w input × Appends b0 b2 output × IsShortTalk commands asks x0 input output y
+  ends_short x0 x y u v w b0 b1 b2 inbox pending came sent unsent requests s read write none (inl (n, talk)) =
+      let all = ends x0 x y u v w b0 b1 b2 inbox pending came sent unsent requests n false s read write none talk in (all.0, all.1, all.2, all.3, inl (requests + n, all.4))
+  ends_short x0 x y u v w b0 b1 b2 inbox pending came sent unsent requests s read write none (inr c) = (
+    s.taken ++ (inbox ++ came),
+    s.output ++ sent,
+    all_read u v w s.taken inbox came s.read read,
+    queued_all b0 b2 (s.output ++ sent) (queued_as b0 b2 [] unsent [] (s.output ++ sent) none (queued_then b0 b1 b2 [] pending unsent s.output sent s.written write)),
+    inr (record {
+      taken = s.taken ++ c.taken;
+      rest = c.rest;
+      read = ap (λ (t : List ℕ). s.taken ++ t) c.read ∙ sym (append_assoc s.taken c.taken c.rest);
+      cut = c.cut;
+      count = requests + c.count;
+      on = λ later more n shut z talk. moved x0 z shut _ _ _ _ (requests + (c.count + n)) ((requests + c.count) + n) (sym (append_assoc s.taken c.taken later)) (sym (append_assoc s.output sent more)) (omega arith)
+          (s.on (c.taken ++ later) (sent ++ more) (c.count + n) shut z (c.on later more n shut z talk));
+    }),
+  )
+
   -- or within an answer
   pub ends_cut : (x0 x y : X) (u v w b0 b1 b2 : Option (List ℕ)) (inbox pending came sent unsent : List ℕ) (requests : ℕ) → Stands x0 u v b0 b1 x inbox pending requests → Consumes v w came
       → Queued b1 b2 pending unsent sent → IsFrontTalk commands asks x (inbox ++ came) sent y
@@ -213,9 +247,7 @@ module _ {X : Type 0} (commands : X → Command → Reply → X → Type 0) (ask
   pub fails : (x0 x y : X) (u v w b0 b1 b2 : Option (List ℕ)) (inbox rest pending after came sent unsent : List ℕ) (requests : ℕ) (e : ServeFault) → Stands x0 u v b0 b1 x inbox pending requests → Consumes v w came
       → Queued b1 b2 pending unsent sent → Exchanges commands asks x (Err e) w (inbox ++ came) rest sent y → Leaves (Err e) unsent after
       → (input : List ℕ) × (output : List ℕ) × Consumes u w input × Appends b0 b2 output × ServesTo commands asks x0 (Err e) w input output y
-  fails x0 x y u v w b0 b1 b2 inbox rest pending after came sent unsent requests fault.Read s read write t none =
-      let all = ends x0 x y u v w b0 b1 b2 inbox pending came sent unsent requests 0 false s read write none t in (all.0, all.1, all.2, all.3, (requests + 0, all.4))
-  fails x0 x y u v w b0 b1 b2 inbox rest pending after came sent unsent requests fault.TurnLimit s read write t none =
-      let all = ends x0 x y u v w b0 b1 b2 inbox pending came sent unsent requests 0 false s read write none t in (all.0, all.1, all.2, all.3, (requests + 0, all.4))
+  fails x0 x y u v w b0 b1 b2 inbox rest pending after came sent unsent requests fault.Read s read write t none = ends_short x0 x y u v w b0 b1 b2 inbox pending came sent unsent requests s read write none t
+  fails x0 x y u v w b0 b1 b2 inbox rest pending after came sent unsent requests fault.TurnLimit s read write t none = ends_short x0 x y u v w b0 b1 b2 inbox pending came sent unsent requests s read write none t
   fails x0 x y u v w b0 b1 b2 inbox rest pending after came sent unsent requests fault.Write s read write t none = ends_cut x0 x y u v w b0 b1 b2 inbox pending came sent unsent requests s read write t
   fails x0 x y u v w b0 b1 b2 inbox rest pending after came sent unsent requests fault.Memory s read write t none = absurd t

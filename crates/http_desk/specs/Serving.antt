@@ -1,5 +1,5 @@
 -- What a served stream comes to.
-use Rattle.std.specs.Prelude.{◌≡◌, ◌⊎◌, ⊤, ℕ, suc, ◌<◌, ◌≤◌, Bool, true, false, List, [], ◌++◌, Option, Result, Ok, Err}
+use Rattle.std.specs.Prelude.{◌≡◌, ◌⊎◌, ⊤, ℕ, suc, ◌+◌, ◌<◌, ◌≤◌, Bool, true, false, List, [], ◌++◌, Option, Result, Ok, Err}
 use Rattle.std.specs.Io.KnownBytes.{Appends, Consumes, IsAtEnd}
 use Rattle.desk_model.specs.declared.command.Command.{Command}
 use Rattle.desk_model.specs.declared.command.Query.{Query}
@@ -13,7 +13,7 @@ use Rattle.byte_stream.specs.Counts.{counted}
 use Rattle.http_answer.specs.Queue.{Queued}
 use Rattle.http_wire.specs.Front.{IsIncomplete}
 use Rattle.http_wire.specs.Incoming.{Came}
-use Rattle.http_wire.specs.Interim.{Interim}
+use Rattle.http_wire.specs.Interim.{Interim, IsCutHead, IsCutShort}
 use Rattle.http_wire.specs.declared.fault.RequestFault.{RequestFault}
 use Rattle.http_wire.specs.declared.fault.RequestFault.TheVariants as request
 use Rattle.http_wire.specs.declared.request.Incoming.{Incoming}
@@ -83,8 +83,8 @@ pub record CutsNext (input interim : List ℕ) : Type 0 where
 -- what came next, and the interim line that was written or waits
 abbrev pub NextCame : List ℕ → Result Incoming RequestFault → (rest interim : List ℕ) → Type 0
 NextCame input (Ok incoming) rest interim = Came input incoming rest interim
-NextCame input (Err request.Read) rest interim = IsIncomplete input × Interim input interim
-NextCame input (Err request.TurnLimit) rest interim = IsIncomplete input × Interim input interim
+NextCame input (Err request.Read) rest interim = IsCutShort input interim
+NextCame input (Err request.TurnLimit) rest interim = IsCutShort input interim
 NextCame input (Err request.Write) rest interim = CutsNext input interim
 
 module _ {X : Type 0} (commands : X → Command → Reply → X → Type 0) (asks : X → Query → Reply → X → Type 0) where
@@ -104,11 +104,25 @@ module _ {X : Type 0} (commands : X → Command → Reply → X → Type 0) (ask
     pub written : answers ≡ output ++ unwritten
     pub over_front : IsFrontTalk x input answers y
 
+  -- Reading was cut short within a line of a head: all requests before the head are answered, whatever talk goes on behind them is one
+  -- from before, and no line ends behind what was last looked at
+  pub record IsCutInHead (x : X) (input answers : List ℕ) (y : X) : Type 0 where
+    pub taken : List ℕ
+    pub rest : List ℕ
+    pub read : input ≡ taken ++ rest
+    pub cut : IsCutHead rest
+    pub count : ℕ
+    pub on : (later more : List ℕ) (n : ℕ) (shut : Bool) (z : X) → Talk commands asks y later more n shut z → Talk commands asks x (taken ++ later) (answers ++ more) (count + n) shut z
+
+  -- reading was cut short: a talk over what was read, or over all of it but the beginning of a head
+  abbrev pub IsShortTalk : X → (input answers : List ℕ) → X → Type 0
+  IsShortTalk x input answers y = ((n : ℕ) × Talk commands asks x input answers n false y) ⊎ IsCutInHead x input answers y
+
   -- Ok comes only at the end of the input or after an answer that closes
   abbrev pub ServesTo : X → Result Served ServeFault → Option (List ℕ) → List ℕ → List ℕ → X → Type 0
   ServesTo x (Ok served) left input output y = (shut : Bool) × Talk commands asks x input output served.requests shut y × (shut ≡ false → IsAtEnd left)
-  ServesTo x (Err fault.Read) left input output y = (n : ℕ) × Talk commands asks x input output n false y
-  ServesTo x (Err fault.TurnLimit) left input output y = (n : ℕ) × Talk commands asks x input output n false y
+  ServesTo x (Err fault.Read) left input output y = IsShortTalk x input output y
+  ServesTo x (Err fault.TurnLimit) left input output y = IsShortTalk x input output y
   ServesTo x (Err fault.Write) left input output y = IsCutTalk x input output y
   ServesTo x (Err fault.Memory) left input output y = (input ≡ []) × (output ≡ []) × (y ≡ x)
 
@@ -122,8 +136,8 @@ module _ {X : Type 0} (commands : X → Command → Reply → X → Type 0) (ask
   Exchanges x (Ok next.Again) left input rest output y = GoesOn x input rest output y
   Exchanges x (Ok next.Last) left input rest output y = Talk commands asks x input output 1 true y
   Exchanges x (Ok next.End) left input rest output y = Talk commands asks x input output 0 false y × IsAtEnd left
-  Exchanges x (Err fault.Read) left input rest output y = Talk commands asks x input output 0 false y
-  Exchanges x (Err fault.TurnLimit) left input rest output y = Talk commands asks x input output 0 false y
+  Exchanges x (Err fault.Read) left input rest output y = IsShortTalk x input output y
+  Exchanges x (Err fault.TurnLimit) left input rest output y = IsShortTalk x input output y
   Exchanges x (Err fault.Write) left input rest output y = IsFrontTalk x input output y
   Exchanges x (Err fault.Memory) left input rest output y = ⊥
 

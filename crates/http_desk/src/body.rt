@@ -7,6 +7,9 @@ use desk_model::reply::PlanRow;
 use itoa::Buffer;
 use std::alloc::{AllocError, Global};
 
+/// Room for a list before its first line, so that a short one is written without making room again.
+const LIST_ROOM: usize = 256;
+
 /// Appends a number.
 fn put_number(text: &mut Vec<u8>, number: u64) -> Result<(), AllocError>
     ensures { OnOk result (text.new.items ≡ text.old.items ++ decimal number) }
@@ -47,7 +50,8 @@ fn put_item(text: &mut Vec<u8>, row: &PlanRow, is_later: bool) -> Result<(), All
 pub fn plans_text(alloc: Global, rows: &[PlanRow]) -> Result<Vec<u8>, AllocError>
     ensures { IfOk result (λ text. text.items ≡ plans_body rows.now) }
 {
-    let mut text = Vec::from_slice(alloc, b"{\"plans\":[")?;
+    let mut text = Vec::with_capacity(alloc, LIST_ROOM)?;
+    text.extend_from_slice(b"{\"plans\":[")?;
     let mut is_later = false;
     for row in rows {
         put_item(&mut text, row, is_later)?;

@@ -1,2 +1,3 @@
 mod InboxLemmas
 mod BodyLemmas
+mod LookLemmas

@@ -1,5 +1,5 @@
 -- What a call may do to an intake.
-use Rattle.std.specs.Prelude.{◌≡◌, ℕ, ◌≤◌, List, ◌++◌, Option, Result, Ok, Err, ⊤}
+use Rattle.std.specs.Prelude.{◌≡◌, ℕ, ◌≤◌, Bool, List, ◌++◌, All, Option, Result, Ok, Err, ⊤}
 use Rattle.std.specs.Io.KnownBytes.{Consumes, IsAtEnd}
 use Rattle.http_intake.specs.declared.fault.WireFault.{WireFault}
 use Rattle.http_intake.specs.declared.fault.WireFault.TheVariants as fault
@@ -31,10 +31,23 @@ pub record Draws {R A : Type 0} (turned failed : R → ℕ) (old new : Intake R)
 abbrev pub Reads : {R : Type 0} → (R → Option (List ℕ)) → (old new : Intake R) → ((input rest : List ℕ) → Type 0) → Type 0
 Reads remaining old new Says = (more : List ℕ) × Consumes (remaining old.reader.now) (remaining new.reader.now) more × Says (old.inbox.now ++ more) new.inbox.now
 
--- what is known of the bytes once looking for a part has ended so
-abbrev pub SeesFront : {A E : Type 0} → (Seen A E → Type 0) → Result (Seen A E) WireFault → Type 0
-SeesFront sees (Ok seen) = sees seen
-SeesFront sees (Err e) = sees Wanting
+-- this is said of a front of the bytes, and those behind it may come without a look
+pub record IsPutOff (Says : List ℕ → Type 0) (waits : ℕ → Type 0) (bytes : List ℕ) : Type 0 where
+  pub front : List ℕ
+  pub unread : List ℕ
+  pub cut : bytes ≡ front ++ unread
+  pub says : Says front
+  pub all : All waits unread
+
+-- a fault came with no look due since
+abbrev pub AddsWaiting : (ℕ → Type 0) → List ℕ → List ℕ → Result Bool WireFault → Type 0
+AddsWaiting waits old new (Ok ended) = ⊤
+AddsWaiting waits old new (Err e) = (unread : List ℕ) × (new ≡ old ++ unread) × All waits unread
+
+-- what is known of the bytes once looking for a part has ended so: at a fault more were wanted when they were last looked at
+abbrev pub SeesFront : {A E : Type 0} → (List ℕ → Seen A E → Type 0) → (ℕ → Type 0) → List ℕ → Result (Seen A E) WireFault → Type 0
+SeesFront sees waits bytes (Ok seen) = sees bytes seen
+SeesFront sees waits bytes (Err e) = IsPutOff (λ front. sees front Wanting) waits bytes
 
 -- more bytes are wanted in vain only at the reader's end
 abbrev pub WantsAtEnd : {A E : Type 0} → Option (List ℕ) → Result (Seen A E) WireFault → Type 0

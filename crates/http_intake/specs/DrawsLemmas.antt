@@ -1,5 +1,6 @@
 -- Calls on an intake, one after another.
-use Rattle.std.proofs.Common.{◌≡◌, ℕ, ◌+◌, ◌≤◌, false, List, ◌++◌, length, Option, Result, Ok, Err, refl, ◌∙◌, arith, subst, ap, append_assoc, length-append}
+use Rattle.std.proofs.Common.{◌≡◌, ℕ, ◌+◌, ◌≤◌, false, List, [], ◌∷◌, ◌++◌, length, Option, Result, Ok, Err, refl, ◌∙◌, arith, subst, sym, ap, append_assoc, append-nil, length-append}
+use Rattle.std.specs.Prelude.{All}
 use Rattle.std.specs.Io.KnownBytes.{Consumes}
 use Rattle.std.proofs.KnownBytes.{Consumes-trans}
 use Rattle.http_intake.specs.declared.fault.WireFault.{WireFault}
@@ -7,7 +8,7 @@ use Rattle.http_intake.specs.declared.fault.WireFault.TheVariants as fault
 use Rattle.http_intake.specs.declared.intake.Intake.{Intake}
 use Rattle.http_intake.specs.Budget.{failures_of, reading_left, Spends}
 use Rattle.http_intake.specs.Body.{Fills}
-use Rattle.http_intake.specs.Draws.{SameParts, Draws}
+use Rattle.http_intake.specs.Draws.{SameParts, Draws, IsPutOff}
 
 pub spends_more : (t u v a b c : ℕ) → Spends t u a b → Spends u v b c → Spends t v a c
 spends_more t u v a b c p q = record { fewer = omega (arith, p.fewer, q.fewer); taken = omega (arith, p.fewer, q.fewer, p.taken, q.taken) }
@@ -61,3 +62,11 @@ pub goes_on : (P : List ℕ → Type 0) (u v w : Option (List ℕ)) (start inbox
     → ((x : List ℕ) × Consumes v w x × P (inbox ++ x)) → (x : List ℕ) × Consumes u w x × P (start ++ x)
 goes_on P u v w start inbox came next =
     (came.0 ++ next.0, Consumes-trans u v w came.0 next.0 came.1 next.1, subst P (ap (λ (t : List ℕ). t ++ next.0) came.2 ∙ append_assoc start came.0 next.0) next.2)
+
+none_wait : (xs : List ℕ) → All (λ b. ⊥) xs → xs ≡ []
+none_wait [] all = refl
+none_wait (x ∷ xs) all = absurd (all 0 0 (omega arith))
+
+-- where no byte may wait it is said of all of them
+pub not_put_off : (Says : List ℕ → Type 0) (bytes : List ℕ) → IsPutOff Says (λ b. ⊥) bytes → Says bytes
+not_put_off Says bytes p = subst Says (sym (p.cut ∙ ap (λ (t : List ℕ). p.front ++ t) (none_wait p.unread p.all) ∙ append-nil p.front)) p.says

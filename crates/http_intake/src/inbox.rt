@@ -14,6 +14,9 @@ use std::marker::Model;
 /// The room for bytes that have come and belong to no request yet. One turn brings at most so many.
 pub const INBOX_LEN: usize = 65_536;
 
+/// So many bytes are looked at, whatever they are; a turn is taken where fewer have come.
+pub const LOOK_LIMIT: usize = 16_384;
+
 // From here on what is left is moved to the front. It leaves room for a head and more.
 const LAST_START: usize = 49_152;
 

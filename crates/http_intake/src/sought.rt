@@ -1,9 +1,11 @@
 //! What is looked for at the front of the bytes that have come.
-ghost use Rattle.std.specs.Prelude.{◌≡◌, ◌≢◌, ℕ, ◌<◌, ◌≤◌, List, ◌++◌, length, Err};
+ghost use Rattle.std.specs.Prelude.{◌≡◌, ◌≢◌, ℕ, ◌+◌, ◌<◌, ◌≤◌, List, ◌++◌, length, All, Ok, Err, false, true, OnOk};
+ghost use Rattle.std.specs.Io.KnownBytes.{IsAtEnd};
 ghost use Rattle.http_intake.specs.declared.sought.Seen.{Seen};
-ghost use Rattle.http_intake.specs.Draws.{Draws, Reads, SeesFront, WantsAtEnd};
+ghost use Rattle.http_intake.specs.Draws.{Draws, Reads, SeesFront, WantsAtEnd, AddsWaiting};
 
 use crate::fault::WireFault;
+use crate::inbox::LOOK_LIMIT;
 use crate::intake::Intake;
 use byte_stream::source::Source;
 
@@ -27,19 +29,54 @@ pub trait Sought {
     // What each look tells of the bytes.
     ghost sees: { List ℕ → Seen Self.Part Self.Refusal → Type 0 };
 
+    // The bytes that may come without a look.
+    ghost waits: { ℕ → Type 0 };
+
     /// Looks for it at the front of the bytes. Fewer than 16,384 bytes want more.
     fn look(&self, bytes: &[u8]) -> Seen<Self::Part, Self::Refusal>
         ensures sees { sees bytes.now result }
         ensures short { result ≡ Seen.Wanting → length bytes.now < 16384 };
+
+    /// Whether to look again once these bytes have come.
+    fn is_due(&self, more: &[u8]) -> bool
+        ensures { result ≡ false → All waits more.now };
 }
 
-/// Reads until the part has come, or cannot come. `Wanting` is the end of the input.
+/// Reads until a look is due: 16,384 bytes are always looked at. Answers whether the reader is at its end.
+fn read_until_due<S: Sought, R: Source>(
+    intake: &mut Intake<'_, R>,
+    sought: &S,
+) -> Result<bool, WireFault>
+    requires { length intake.old.inbox.now < 16384 }
+    ensures read { Reads R.remaining intake.old intake.new (λ input rest. rest ≡ input) }
+    ensures end { result ≡ Ok true → IsAtEnd (R.remaining intake.new.reader.now) }
+    ensures waiting { AddsWaiting S.waits intake.old.inbox.now intake.new.inbox.now result }
+    ensures draws { Draws R.turns R.failures intake.old intake.new result }
+    ensures never { result ≢ Err WireFault.Memory }
+    ensures fewer { OnOk result (intake.new.turns.now < intake.old.turns.now) }
+{
+    loop {
+        let looked = intake.held().len();
+        match intake.fill() {
+            Ok(true) => return Ok(true),
+            Ok(false) => {}
+            Err(fault) => return Err(fault),
+        }
+        let held = intake.held();
+        if held.len() >= LOOK_LIMIT || sought.is_due(&held[looked..]) {
+            return Ok(false);
+        }
+    }
+}
+
+/// Reads until the part has come, or cannot come. `Wanting` is the end of the input. A look is put off while only bytes come
+/// that may wait, so that many pieces of one line are looked at once.
 pub fn read_front<S: Sought, R: Source>(
     intake: &mut Intake<'_, R>,
     sought: &S,
 ) -> Result<Seen<S::Part, S::Refusal>, WireFault>
     ensures read { Reads R.remaining intake.old intake.new (λ input rest. rest ≡ input) }
-    ensures sees { SeesFront (S.sees intake.new.inbox.now) result }
+    ensures sees { SeesFront S.sees S.waits intake.new.inbox.now result }
     ensures end { WantsAtEnd (R.remaining intake.new.reader.now) result }
     ensures draws { Draws R.turns R.failures intake.old intake.new result }
     ensures never { result ≢ Err WireFault.Memory }
@@ -50,8 +87,8 @@ pub fn read_front<S: Sought, R: Source>(
             Seen::Refused(refusal) => return Ok(Seen::Refused(refusal)),
             Seen::Wanting => {}
         }
-        match intake.fill() {
-            Ok(true) => return Ok(Seen::Wanting),
+        match read_until_due(intake, sought) {
+            Ok(true) => return Ok(sought.look(intake.held())),
             Ok(false) => {}
             Err(fault) => return Err(fault),
         }

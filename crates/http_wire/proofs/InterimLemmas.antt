@@ -8,8 +8,10 @@ use Rattle.http_wire.specs.declared.head.Framing.TheVariants.{Sized, Chunked}
 use Rattle.http_wire.specs.declared.look.Head.{Head}
 use Rattle.http_chunks.specs.Chunks.{ChunkLaw}
 use Rattle.http_chunks.specs.Fronts.{same_cut}
+use Rattle.http_chunks.specs.Lines.{IsWithinLine}
+use Rattle.http_intake.specs.Draws.{IsPutOff}
 use Rattle.http_wire.specs.Front.{HasHead, HasFault, Lacks, IsOpen, IsIncomplete, RefusesFront, judged_head}
-use Rattle.http_wire.specs.Interim.{Interim, IsCutInterim, continue_text, asks_by, asks_to_continue, has_body}
+use Rattle.http_wire.specs.Interim.{Interim, IsCutInterim, IsCutShort, continue_text, asks_by, asks_to_continue, has_body}
 use Rattle.http_wire.specs.Look.{IsFound}
 use Rattle.http_wire.proofs.FrontLemmas.{bytes_no_head, open_no_head}
 
@@ -26,6 +28,10 @@ refused_asks input f bare (inr x) = inl (record { head = x.head; rest = x.rest; 
 -- the same once the bytes are known as others
 pub open_front : (xs ys : List ℕ) → xs ≡ ys → IsOpen xs → IsIncomplete ys × Interim ys []
 open_front xs ys e o = (subst IsIncomplete e (inl o), subst (λ (zs : List ℕ). Interim zs []) e (open_asks xs o))
+
+-- the same where a look was put off
+pub open_short : (held ys : List ℕ) → held ≡ ys → IsPutOff IsOpen IsWithinLine held → IsCutShort ys []
+open_short held ys e p = inr (record { head = p.front; unread = p.unread; read = sym e ∙ p.cut; lacks = p.says; line = p.all }, refl)
 
 fault_of : (input : List ℕ) (f : Fault) (bare : Bool) → RefusesFront input f bare → HasFault input f bare
 fault_of input f bare (inl x) = inl x

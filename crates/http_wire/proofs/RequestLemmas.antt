@@ -135,6 +135,6 @@ rest_reads law input more found r good (Ok chunked.Whole) rest sent f method tar
     judge_target law (input ++ more) r f.head rest sent good found.bare (subst (λ (raw : List ℕ). IsTargetOf raw good r.target.items) f.target target) (whole input more found r.body.items rest f b) (method ∙ f.method) (closes ∙ f.closes) f.shown asked
 rest_reads law input more found r good (Ok chunked.Lacking) rest sent f method target closes b asked = (lacks input more found f b, due input more sent found f asked)
 rest_reads law input more found r good (Ok (chunked.Refused fault)) rest sent f method target closes b asked = (faulty input more found fault f b, due input more sent found f asked)
-rest_reads law input more found r good (Err fault.Read) rest sent f method target closes b asked = (lacks input more found f b, due input more sent found f asked)
+rest_reads law input more found r good (Err fault.Read) rest sent f method target closes b asked = inl (lacks input more found f b, due input more sent found f asked)
 rest_reads law input more found r good (Err fault.Memory) rest sent f method target closes b asked = (starved input more found f, due input more sent found f asked)
-rest_reads law input more found r good (Err fault.TurnLimit) rest sent f method target closes b asked = (lacks input more found f b, due input more sent found f asked)
+rest_reads law input more found r good (Err fault.TurnLimit) rest sent f method target closes b asked = inl (lacks input more found f b, due input more sent found f asked)

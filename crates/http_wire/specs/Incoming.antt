@@ -9,7 +9,7 @@ use Rattle.http_intake.specs.declared.fault.WireFault.{WireFault}
 use Rattle.http_intake.specs.declared.fault.WireFault.TheVariants as wire
 use Rattle.http_wire.specs.declared.fault.RequestFault.{RequestFault}
 use Rattle.http_wire.specs.declared.fault.RequestFault.TheVariants as fault
-use Rattle.http_wire.specs.Interim.{Interim, IsCutInterim, continue_text, asks_to_continue}
+use Rattle.http_wire.specs.Interim.{Interim, IsCutInterim, IsCutShort, continue_text, asks_to_continue}
 use Rattle.http_wire.specs.Target.{target_of}
 use Rattle.http_chunks.specs.declared.chunks.Chunked.{Chunked}
 use Rattle.http_chunks.specs.declared.chunks.Chunked.TheVariants as chunked
@@ -45,11 +45,11 @@ Came input (came.Refused f bare) rest sent = HasFault input f bare × Interim in
 Came input (came.Starved bare) rest sent = IsStarved input bare × Interim input sent
 Came input came.End rest sent = IsIncomplete input × Interim input sent
 
--- of the input up to here
+-- of the input up to here; a look at the last line may have been put off where reading was cut short
 abbrev pub ReadsFront : List ℕ → Result Incoming RequestFault → (rest sent : List ℕ) → Type 0
 ReadsFront input (Ok incoming) rest sent = Came input incoming rest sent
-ReadsFront input (Err fault.Read) rest sent = IsIncomplete input × Interim input sent
-ReadsFront input (Err fault.TurnLimit) rest sent = IsIncomplete input × Interim input sent
+ReadsFront input (Err fault.Read) rest sent = IsCutShort input sent
+ReadsFront input (Err fault.TurnLimit) rest sent = IsCutShort input sent
 ReadsFront input (Err fault.Write) rest sent = IsCutInterim input sent
 
 abbrev pub IsNoEnd : Incoming → Type 0

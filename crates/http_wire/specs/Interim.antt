@@ -1,5 +1,5 @@
 -- The interim answer that asks for a body (RFC 9110, sections 10.1.1 and 15.2.1).
-use Rattle.std.specs.Prelude.{◌≡◌, ◌⊎◌, ℕ, ◌==◌, Bool, true, false, not, ◌&&◌, if◌then◌else◌, List, [], ◌++◌, map, Result, Ok, Err, codes}
+use Rattle.std.specs.Prelude.{◌≡◌, ◌⊎◌, ℕ, ◌==◌, Bool, true, false, not, ◌&&◌, if◌then◌else◌, List, [], ◌++◌, map, All, Result, Ok, Err, codes}
 use Rattle.std.specs.List.{list_any}
 use Rattle.httparse.specs.Grammar.{RequestHead}
 use Rattle.httparse.specs.Spans.{name_and_value}
@@ -7,7 +7,8 @@ use Rattle.http_wire.specs.Target.{is_word}
 use Rattle.http_wire.specs.declared.head.Framing.{Framing}
 use Rattle.http_wire.specs.declared.head.Framing.TheVariants.{Sized, Chunked}
 use Rattle.http_chunks.specs.declared.fault.Fault.{Fault}
-use Rattle.http_wire.specs.Front.{HasHead, IsIncomplete, judged_head}
+use Rattle.http_chunks.specs.Lines.{IsWithinLine}
+use Rattle.http_wire.specs.Front.{HasHead, IsOpen, IsIncomplete, judged_head}
 
 abbrev pub continue_line : List ℕ
 continue_line = codes "HTTP/1.1 100 Continue\r\n\r\n"
@@ -63,3 +64,16 @@ pub record IsCutInterim (input sent : List ℕ) : Type 0 where
   pub interim : Interim front due
   pub unwritten : List ℕ
   pub written : due ≡ sent ++ unwritten
+
+-- Reading was cut short within a line of a head, which was last looked at before that line: no head yet, and no line ends behind it.
+-- What stands there may be no head, which would be told at the line's end
+pub record IsCutHead (input : List ℕ) : Type 0 where
+  pub head : List ℕ
+  pub unread : List ℕ
+  pub read : input ≡ head ++ unread
+  pub lacks : IsOpen head
+  pub line : All IsWithinLine unread
+
+-- reading was cut short within a request
+abbrev pub IsCutShort : List ℕ → List ℕ → Type 0
+IsCutShort input sent = (IsIncomplete input × Interim input sent) ⊎ (IsCutHead input × (sent ≡ []))

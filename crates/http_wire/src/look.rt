@@ -13,7 +13,7 @@ use crate::head::{Framing, judge};
 use crate::interim::{expects_continue, has_body};
 use http_chunks::fault::Fault;
 use http_chunks::limits::{FIELD_LIMIT, HEAD_LIMIT};
-use http_chunks::lines::head_lines;
+use http_chunks::lines::{ends_line, head_lines};
 use http_intake::sought::{Seen, Sought};
 use httparse::spans::{EMPTY_HEADER_SPAN, HeaderSpan, RequestSpans, Span, parse_request};
 use httparse::{Error, Status, is_method_token, is_uri_token};
@@ -176,6 +176,7 @@ pub fn look_at(bytes: &[u8]) -> Seen<Head, Refusal>
 pub struct HeadSought;
 
 impl Sought for HeadSought {
+    ghost use Rattle.http_chunks.specs.Lines.{IsWithinLine};
     ghost use Rattle.http_wire.specs.Look.{Sees};
 
     type Part = Head;
@@ -184,8 +185,16 @@ impl Sought for HeadSought {
 
     ghost sees = { Sees };
 
+    ghost waits = { IsWithinLine };
+
     #[tactic(auto, using(crate::proofs::LookLemmas::sees_short))]
     fn look(&self, bytes: &[u8]) -> Seen<Head, Refusal> {
         look_at(bytes)
+    }
+
+    // A head is judged once for each of its lines, however many pieces they come in.
+    #[tactic(auto, using(http_chunks::specs::LineLemmas::no_line_ends))]
+    fn is_due(&self, more: &[u8]) -> bool {
+        ends_line(more)
     }
 }

@@ -39,4 +39,4 @@ none_some (Some r) q none some = cc
 
 pub few_some_taken : (d : ℕ) (t u : Txn) (q : ℕ) (right : Option ℕ) → right ≡ Some q → AreFew d t u right → txn_free t ≤ txn_free u + (d + 1)
 few_some_taken d t u q None is few = cc
-few_some_taken d t u q (Some r) is few = few.1
+few_some_taken d t u q (Some r) is few = let b = few.1 in omega arith

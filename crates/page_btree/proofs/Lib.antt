@@ -13,6 +13,7 @@ pub mod Leaves
 pub mod Roots
 pub mod Down
 pub mod Descent
+pub mod Seeking
 pub mod Tops
 pub mod Refusals
 pub mod Edits

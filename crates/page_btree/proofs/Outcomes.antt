@@ -1,6 +1,8 @@
 -- What is said of a result, said of it by cases.
 use Rattle.std.proofs.Common.{◌≡◌, Ok, Err, subst, sym}
-use Rattle.std.specs.Prelude.{Result, IfOk, IfErr, IsErrAnd, MatchResult}
+use Rattle.std.specs.Prelude.{Result, IfOk, IfErr, OnErr, IsErrAnd, MatchResult}
+use Rattle.page_btree.specs.declared.error.TreeError.{TreeError}
+use Rattle.page_btree.specs.declared.error.TreeError.TheVariants.{DeviceFault}
 
 pub when_err : {T E : Type 0} (r : Result T E) (Q P : E → Type 0) → IsErrAnd r Q → ((e : E) → Q e → P e) → IfErr r P
 when_err (Ok x) Q P is f = absurd is
@@ -34,3 +36,12 @@ err_of (Err e) x P is h = subst P (sym is) h
 pub match_of : {T E : Type 0} (r : Result T E) (A : T → Type 0) (x : E) (P : E → Type 0) → IsErrAnd r (λ e. e ≡ x) → P x → MatchResult r A P
 match_of (Ok y) A x P is h = absurd is
 match_of (Err e) A x P is h = subst P (sym is) h
+
+pub on_err : {T E : Type 0} (r : Result T E) (A B : Type 0) → (A → B) → OnErr r A → OnErr r B
+on_err (Ok x) A B f h = tt
+on_err (Err e) A B f h = f h
+
+-- a fault, where the error can only be one
+pub fault_of : {T : Type 0} (r : Result T TreeError) (P : TreeError → Type 0) → IfErr r (λ e. e ≡ DeviceFault) → OnErr r (P DeviceFault) → IfErr r P
+fault_of (Ok x) P is h = tt
+fault_of (Err e) P is h = subst P (sym is) h

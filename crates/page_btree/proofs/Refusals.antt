@@ -1,5 +1,5 @@
 -- A refusal of a look-up or a remove below, told above.
-use Rattle.std.proofs.Common.{◌<◌, ℕ, List, inl, inr, ⊎_elim, sym, ◌∙◌, length}
+use Rattle.std.proofs.Common.{◌<◌, ℕ, List, inl, inr, ⊎_elim, sym, subst, ◌∙◌, length}
 use Rattle.sector_device.specs.Disk.{Image}
 use Rattle.sector_device.specs.declared.SectorDevice.{Ghosts}
 use Rattle.page_store.specs.Chain.{IsIn, AreFree}
@@ -50,6 +50,13 @@ module _ {D : Type 0} {g : Ghosts D} where
   get_fails below t old mid new passed quiet also NoPages why = why
   get_fails below t old mid new passed quiet also TooDeep why = why
   get_fails below t old mid new passed quiet also Memory why = why
+
+  pub get_more : (t : Txn) (old mid new : Pages D g) → Passed old mid → IsQuiet mid new → (e : TreeError) → GetErr t mid new e → GetErr t old new e
+  get_more t old mid new passed quiet DeviceFault why = ⊎_elim (λ failed. inl (failed_more old mid new passed quiet failed)) (λ none. inr (λ honest m is. none honest m (subst (λ (S : Image). InTxn t S m) (sym (passed.quiet.same (quiet.honest honest))) is))) why
+  get_more t old mid new passed quiet Halted why = sym passed.halted ∙ why
+  get_more t old mid new passed quiet NoPages why = why
+  get_more t old mid new passed quiet TooDeep why = why
+  get_more t old mid new passed quiet Memory why = why
 
   pub get_read_fails : (t : Txn) (old new : Pages D g) (e : PageError) → ReadErr old new e → GetErr t old new (tree_error e)
   get_read_fails t old new page.DeviceFault why = inl why

@@ -1,6 +1,6 @@
 -- What keeps a map, and that pages hold one map alone.
-use Rattle.std.specs.Prelude.{◌≡◌, ◌≢◌, ◌⊎◌, ◌<◌, ◌≤◌, ◌+◌, ◌-◌, ◌^◌, ◌++◌, ℕ, List, [], ◌∷◌, length, Option, Some, None}
-use Rattle.std.proofs.Common.{inl, inr, ⊎_elim, refl, sym, ap, subst, ◌∙◌, arith}
+use Rattle.std.specs.Prelude.{◌≡◌, ◌≢◌, ◌⊎◌, ◌<◌, ◌≤◌, ◌+◌, ◌-◌, ◌*◌, ◌^◌, ◌++◌, ℕ, List, [], ◌∷◌, length, Option, Some, None}
+use Rattle.std.proofs.Common.{inl, inr, ⊎_elim, refl, sym, ap, subst, ◌∙◌, arith, length-append}
 use Rattle.std.specs.FinMap.{entries, empty, len-entries, len-empty, same_entries_map}
 use Rattle.sector_device.specs.Disk.{Disk, Image}
 use Rattle.sector_device.specs.Moments.{LeavesOnly, leaves_wider}
@@ -8,12 +8,12 @@ use Rattle.gate_journal.specs.Store.{home, IsBeforeOrAfter, overlay}
 use Rattle.page_store.specs.Chain.{IsPages, root_in, free_in}
 use Rattle.page_store.specs.Transactions.{txn_pages, txn_root, over, free_over}
 use Rattle.page_store.specs.declared.txn.Txn.{Txn}
-use Rattle.page_node.specs.Entries.{Entry, child_bytes, child_in}
+use Rattle.page_node.specs.Entries.{Entry, size_of, child_bytes, child_in}
 use Rattle.page_node.specs.Node.{Node, IsNode}
 use Rattle.page_node.specs.Laws.{node_unique, child_written}
 use Rattle.page_node.specs.Places.{key_cmp}
 use Rattle.page_btree.specs.Keys.{KeyMap}
-use Rattle.page_btree.specs.Tree.{Tree, Forest, leaf, inner, one, more, first_key, links, page_of, rows, forest_rows, owns, forest_owns, IsTree, AreTrees}
+use Rattle.page_btree.specs.Tree.{Tree, Forest, leaf, inner, one, more, first_key, links, page_of, rows, forest_rows, owns, forest_owns, size, forest_size, IsTree, AreTrees}
 use Rattle.page_btree.specs.Map.{Holds, InTxn, OpensMap}
 
 -- pages that agree on a tree's own hold it both
@@ -154,3 +154,32 @@ one_map n P root free m m' few holds holds' = same_entries_map m m' (elim holds.
     | inr b ↦ sym a.rows_are ∙ rows_one P a.level b.level [] [] None None a.tree b.tree (λ q own. let x = (a.sound.below q own).1 in omega arith) (λ q own. let x = (b.sound.below q own).1 in omega arith) a.stands b.stands (a.root_is ∙ sym b.root_is) ∙ b.rows_are
   ]
 ])
+
+-- ---- few rows
+few_entries : (es : List Entry) → 3 * length es ≤ size_of es
+few_entries [] = omega arith
+few_entries (e ∷ es) = let rest = few_entries es in omega arith
+
+mutual
+  few_in : (P : Image) (d : ℕ) (low : List ℕ) (high : Option (List ℕ)) (t : Tree) → IsTree P d low high t → length (rows t) ≤ 1364 * size t
+  few_in P d low high (leaf p es) is = let fits = is.1.node.fits in let few = few_entries es in omega arith
+  few_in P d low high (inner p f) is = let few = few_in_all P (d - 1) low high f is.2 in omega arith
+
+  few_in_all : (P : Image) (d : ℕ) (low : List ℕ) (high : Option (List ℕ)) (f : Forest) → AreTrees P d low high f → length (forest_rows f) ≤ 1364 * forest_size f
+  few_in_all P d low high (one k t) is = few_in P d low high t is
+  few_in_all P d low high (more k t f) is =
+      let here = few_in P d low (Some (first_key f)) t is.0 in
+      let rest = few_in_all P d (first_key f) high f is.2 in
+      let both = length-append (rows t) (forest_rows f) in
+      omega arith
+
+-- a page has 1,364 rows at most
+pub few_rows : (n : ℕ) (P : Image) (root : ℕ) (free : List ℕ) (m : KeyMap) → Holds n P root free m → length (entries m) ≤ 1364 * n
+few_rows n P root free m holds = ⊎_elim
+    (λ bare. let none : length (entries m) ≡ 0 = ap (λ (es : List Entry). length es) bare.none in omega arith)
+    (λ r.
+    let same : length (rows r.tree) ≡ length (entries m) = ap (λ (es : List Entry). length es) r.rows_are in
+    let few = few_in P r.level [] None r.tree r.stands in
+    let whole = r.whole in
+    omega arith)
+    holds.held

@@ -6,3 +6,4 @@ pub mod Putting
 pub mod Laws
 pub mod Getting
 pub mod Removing
+pub mod Seeking

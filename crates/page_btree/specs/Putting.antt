@@ -88,10 +88,10 @@ pub record CanPut (n : ℕ) (P : Image) (d : ℕ) (low : List ℕ) (high : Optio
 abbrev pub CanPutSome : ℕ → (Image → Image) → ℕ → (Image → List ℕ) → ℕ → List ℕ → List ℕ → Image → Type 0
 CanPutSome n over_it d free_in_it page bytes key P = (low : List ℕ) × (high : Option (List ℕ)) × (t : Tree) × CanPut n (over_it P) d low high (free_in_it P) page bytes key t
 
--- how many pages were written and taken; none was given back
+-- how many pages were written and taken; none was given back. A node that was cut took one at each level
 abbrev pub AreFew : ℕ → Txn → Txn → Option ℕ → Type 0
 AreFew d old new None = (txn_writes new ≤ txn_writes old + (2 * d + 1)) × (txn_free old ≤ txn_free new + d) × (txn_free new ≤ txn_free old)
-AreFew d old new (Some right) = (txn_writes new ≤ txn_writes old + (2 * d + 2)) × (txn_free old ≤ txn_free new + (d + 1)) × (txn_free new ≤ txn_free old)
+AreFew d old new (Some right) = (txn_writes new ≤ txn_writes old + (2 * d + 2)) × (txn_free old ≡ txn_free new + (d + 1)) × (txn_free new ≤ txn_free old)
 
 -- a new root stands on a page that was free, above two nodes
 pub record IsGrown (P Q : Image) (free left : List ℕ) (root right d : ℕ) (bound : List ℕ) (top : ℕ) : Type 0 where

@@ -6,6 +6,8 @@ mod gets;
 mod kept;
 mod puts;
 mod removes;
+mod seeks;
+mod small_bytes;
 mod tree;
 
 pub use error::TreeError;
@@ -13,3 +15,5 @@ pub use gets::get;
 pub use kept::laws;
 pub use puts::put;
 pub use removes::remove;
+pub use seeks::{Leaf, leaf_from};
+pub use small_bytes::SmallBytes;

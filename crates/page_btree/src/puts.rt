@@ -11,11 +11,11 @@ ghost use Rattle.page_btree.specs.Tree.{Tree, rows};
 ghost use Rattle.page_btree.specs.Map.{InTxn};
 ghost use Rattle.page_btree.specs.Errors.{PutErr, PlaceErr, WriteErr, RowErr, LinkErr, GrowErr, IsNoWant};
 ghost use Rattle.page_btree.specs.Putting.{CanPut, CanPutSome, IsRaised, IsGrown, IsWritten, linked, AreFew};
-ghost use Rattle.page_btree.specs.declared.error.TreeError.TheVariants.{NoPages};
+ghost use Rattle.page_btree.specs.declared.error.TreeError.TheVariants.{NoPages, TooDeep};
 
 use crate::error::TreeError;
-use crate::tree::{Room, make_room, place_behind, settle, step_down, write_node};
-use page_node::level_of;
+use crate::tree::{Room, place_behind, settle, step_down, write_node};
+use page_node::{NodeBuf, level_of};
 use page_store::{Pages, Txn};
 use sector_device::SectorDevice;
 
@@ -28,8 +28,8 @@ struct Placed {
 
 /// Puts a row, and tells whether its key was there. A key has 1 to 72 bytes, a value at most 1,024. At most 11 pages are written
 /// and 6 taken; none is taken where a value of the same length is replaced. After an error the transaction can only be
-/// abandoned: `NoPages` comes where fewer than six pages were free and none is left, `TooDeep` where the tree has six levels,
-/// `Memory` from a growth of the transaction, `DeviceFault` and `Halted` from the device.
+/// abandoned: `NoPages` comes where fewer than six pages were free and none is left, `TooDeep` where the tree has six
+/// levels and a node of each was cut, `Memory` from a growth of the transaction, `DeviceFault` and `Halted` from the device.
 pub fn put<D: SectorDevice>(
     txn: &mut Txn,
     pages: &mut Pages<D>,
@@ -47,9 +47,14 @@ pub fn put<D: SectorDevice>(
     ensures fixed { (disk_in pages.new).is_honest → (m : KeyMap) (held : List ℕ) → InTxn txn.old (stored pages.old) m → get m key.now ≡ Some held → length held ≡ length value.now → MatchResult result (λ _. txn_free txn.new ≡ txn_free txn.old) (λ e. IsNoWant e) }
     ensures passed { OnOk result (Passed pages.old pages.new) }
     ensures spent { IfErr result (λ e. e ≡ NoPages → txn_free txn.new ≡ 0) }
+    ensures deep { IfErr result (λ e. e ≡ TooDeep → txn_free txn.old ≡ txn_free txn.new + 6) }
     ensures err { IfErr result (λ e. PutErr txn.old pages.old pages.new e) }
 {
-    let mut room = make_room();
+    let mut room = Room {
+        page: [0; 4096],
+        node: NodeBuf::EMPTY,
+        upper: NodeBuf::EMPTY,
+    };
     let root = txn.root();
     if root == 0 {
         put_first(txn, pages, &mut room, key, value)?;
@@ -118,6 +123,7 @@ fn grow<D: SectorDevice>(
     ensures few { OnOk result (level ≤ 4) }
     ensures passed { OnOk result (Passed pages.old pages.new) }
     ensures spent { IfErr result (λ e. e ≡ NoPages → txn_free txn.new ≡ 0) }
+    ensures deep { IfErr result (λ e. e ≡ TooDeep → txn_free txn.new ≡ txn_free txn.old) }
     ensures err { IfErr result (λ e. GrowErr level txn.old pages.old pages.new e) }
 {
     if level == 5 {

@@ -116,7 +116,7 @@ fn remove_row(
     ensures given { OnOk result (txn_free txn.old ≤ txn_free txn.new) }
     ensures err { IfErr result (λ e. LinkErr txn.old p page.old e) }
 {
-    let mut node = NodeBuf::empty();
+    let mut node = NodeBuf::EMPTY;
     node.read(page)?;
     match node.find(key) {
         Err(_) => Ok(Removed::Absent),
@@ -144,7 +144,7 @@ fn remove_link(
     ensures given { OnOk result (txn_free txn.old ≤ txn_free txn.new) }
     ensures err { IfErr result (λ e. LinkErr txn.old p page.old e) }
 {
-    let mut node = NodeBuf::empty();
+    let mut node = NodeBuf::EMPTY;
     node.read(page)?;
     if node.is_empty() {
         return Err(TreeError::DeviceFault);

@@ -24,15 +24,6 @@ pub(crate) struct Room {
     pub(crate) upper: NodeBuf,
 }
 
-/// Room for a put.
-pub(crate) fn make_room() -> Room {
-    Room {
-        page: [0; 4096],
-        node: NodeBuf::empty(),
-        upper: NodeBuf::empty(),
-    }
-}
-
 /// Writes a node.
 pub(crate) fn write_node(
     txn: &mut Txn,

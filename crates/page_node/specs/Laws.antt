@@ -16,7 +16,7 @@ use Rattle.std.proofs.lemmas.Nat.{from_be_bytes-to_be_bytes_4}
 use Rattle.page_node.specs.Entries.{Entry, key_at, value_at, body_of, size_of, read_from, child_in, child_bytes}
 use Rattle.page_node.specs.EntryLists.{length-body, read_at}
 use Rattle.page_node.specs.Node.{Node, IsNode, IsShape, Fits, bytes_of, node_in, count_in}
-use Rattle.page_node.specs.Places.{key_cmp, Rises, IsFound, IsGap, floor, floor_from}
+use Rattle.page_node.specs.Places.{key_cmp, Rises, IsFound, IsGap, floor, floor_from, ceiling, ceiling_from, is_from, entries_from}
 
 -- ---- nodes
 -- a page stands for one node at most
@@ -62,7 +62,7 @@ second_so : (b c : Bool) → (b && c) ≡ true → c ≡ true
 second_so true c h = h
 second_so false c h = cc
 
-is_less : (r : Ordering) → is_lt r ≡ true → r ≡ Less
+pub is_less : (r : Ordering) → is_lt r ≡ true → r ≡ Less
 is_less Less h = refl
 is_less Equal h = cc
 is_less Greater h = cc
@@ -210,3 +210,64 @@ floor_stop key (e ∷ es) zero within below above = floor_first (Some e.1) key e
 floor_stop key (e ∷ es) (suc i) within below above =
     let e2 : suc i + 1 ≡ suc (i + 1) = omega arith in
     floor_from_stop (Some e.1) key es i (omega arith) (λ j le. below (suc j) (omega arith) (omega arith)) (λ long. subst (λ k. is_gt (key_cmp (key_at (e ∷ es) k) key) ≡ true) e2 (above (omega arith)))
+
+-- ---- the first key that is above
+ceiling_from_at : (key : List ℕ) (es : List Entry) (i : ℕ) → i < length es → ((j : ℕ) → j < i → is_gt (key_cmp (key_at es j) key) ≡ false) → is_gt (key_cmp (key_at es i) key) ≡ true → ceiling_from key es ≡ Some (key_at es i)
+ceiling_from_at key [] i within below above = absurd (omega arith)
+ceiling_from_at key (e ∷ es) zero within below above = ap (λ b. cond b (Some e.0) (ceiling_from key es)) above
+ceiling_from_at key (e ∷ es) (suc i) within below above =
+    ap (λ b. cond b (Some e.0) (ceiling_from key es)) (below 0 (omega arith))
+    ∙ ceiling_from_at key es i (omega arith) (λ j less. below (suc j) (omega arith)) above
+
+pub ceiling_at : (key : List ℕ) (es : List Entry) (i : ℕ) → 0 < i → i < length es → ((j : ℕ) → 0 < j → j < i → is_gt (key_cmp (key_at es j) key) ≡ false) → is_gt (key_cmp (key_at es i) key) ≡ true → ceiling key es ≡ Some (key_at es i)
+ceiling_at key [] i some within below above = absurd (omega arith)
+ceiling_at key (e ∷ es) zero some within below above = absurd (omega arith)
+ceiling_at key (e ∷ es) (suc i) some within below above = ceiling_from_at key es i (omega arith) (λ j less. below (suc j) (omega arith) (omega arith)) above
+
+ceiling_from_none : (key : List ℕ) (es : List Entry) → ((j : ℕ) → j < length es → is_gt (key_cmp (key_at es j) key) ≡ false) → ceiling_from key es ≡ None
+ceiling_from_none key [] below = refl
+ceiling_from_none key (e ∷ es) below =
+    ap (λ b. cond b (Some e.0) (ceiling_from key es)) (below 0 (omega arith))
+    ∙ ceiling_from_none key es (λ j less. below (suc j) (omega arith))
+
+pub ceiling_none : (key : List ℕ) (es : List Entry) → ((j : ℕ) → 0 < j → j < length es → is_gt (key_cmp (key_at es j) key) ≡ false) → ceiling key es ≡ None
+ceiling_none key [] below = refl
+ceiling_none key (e ∷ es) below = ceiling_from_none key es (λ j less. below (suc j) (omega arith) (omega arith))
+
+-- ---- entries from a key on
+from_below : (key : List ℕ) (e : Entry) → key_cmp e.0 key ≡ Less → is_from key e ≡ false
+from_below key e less = ap (λ r. cond (is_gt r) false true) (flip_less e.0 key less)
+
+is_lower : (x y z : List ℕ) (r : Ordering) → key_cmp x y ≡ r → is_gt r ≡ false → key_cmp y z ≡ Less → is_gt (key_cmp x z) ≡ false
+is_lower x y z Less is from less = ap is_gt (less_trans x y z is less)
+is_lower x y z Equal is from less = ap (λ k. is_gt (key_cmp k z)) (same_key x y is) ∙ ap is_gt less
+is_lower x y z Greater is from less = cc
+
+pub from_all_at : (key : List ℕ) (es : List Entry) → ((j : ℕ) → j < length es → is_gt (key_cmp key (key_at es j)) ≡ false) → entries_from key es ≡ es
+from_all_at key [] from = refl
+from_all_at key (e ∷ es) from =
+    ap (λ b. cond (cond b false true) (e ∷ entries_from key es) (entries_from key es)) (from 0 (omega arith))
+    ∙ ap (λ l. e ∷ l) (from_all_at key es (λ j less. from (suc j) (omega arith)))
+
+pub entries_from_at : (key : List ℕ) (es : List Entry) (k : ℕ) → k ≤ length es → ((j : ℕ) → j < k → key_cmp (key_at es j) key ≡ Less) → ((j : ℕ) → k ≤ j → j < length es → is_gt (key_cmp key (key_at es j)) ≡ false) → entries_from key es ≡ drop k es
+entries_from_at key [] zero within below from = refl
+entries_from_at key [] (suc k) within below from = absurd (omega arith)
+entries_from_at key (e ∷ es) zero within below from = from_all_at key (e ∷ es) (λ j less. from j (omega arith) less)
+entries_from_at key (e ∷ es) (suc k) within below from =
+    ap (λ b. cond b (e ∷ entries_from key es) (entries_from key es)) (from_below key e (below 0 (omega arith)))
+    ∙ entries_from_at key es k (omega arith) (λ j less. below (suc j) (omega arith)) (λ j le less. from (suc j) (omega arith) (omega arith))
+
+-- where one isn't below the key, none behind it is
+pub from_middle : (es : List Entry) (key : List ℕ) (k : ℕ) → Rises es → is_gt (key_cmp key (key_at es k)) ≡ false → (j : ℕ) → k ≤ j → j < length es → is_gt (key_cmp key (key_at es j)) ≡ false
+from_middle es key k rises from j le within = elim (lt_or_same k j le) [
+  | inl behind ↦ is_lower key (key_at es k) (key_at es j) (key_cmp key (key_at es k)) refl from (rises_at es k j rises behind within)
+  | inr same ↦ ap (λ q. is_gt (key_cmp key (key_at es q))) (sym same) ∙ from
+]
+
+not_greater : (r : Ordering) → is_lt r ≡ false → is_gt (ordering_reverse r) ≡ false
+not_greater Less h = cc
+not_greater Equal h = refl
+not_greater Greater h = refl
+
+pub not_below : (x key : List ℕ) → is_lt (key_cmp x key) ≡ false → is_gt (key_cmp key x) ≡ false
+not_below x key h = ap is_gt (nat_list_cmp_total.antisymm key x) ∙ not_greater (key_cmp x key) h

@@ -5,3 +5,4 @@ pub mod Node
 pub mod Held
 pub mod Bytes
 pub mod Places
+pub mod Walking

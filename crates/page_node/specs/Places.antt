@@ -1,5 +1,6 @@
 -- Where a key stands among entries whose keys rise.
-use Rattle.std.specs.Prelude.{◌≡◌, ◌≤◌, ◌<◌, ℕ, true, List, [], ◌∷◌, length, Option, Some, None, cond}
+use Rattle.std.specs.Prelude.{◌≡◌, ◌≤◌, ◌<◌, ℕ, Bool, true, false, List, [], ◌∷◌, length, Option, Some, None, cond}
+use Rattle.std.specs.List.{filter}
 use Rattle.std.specs.Ordering.{nat_cmp, is_gt}
 use Rattle.std.specs.Cmp.Lexicographic.{slice_cmp}
 use Rattle.std.specs.declared.cmp.Ordering.{Ordering}
@@ -37,3 +38,20 @@ floor_from last key (e ∷ es) = cond (is_gt (key_cmp e.0 key)) last (floor_from
 abbrev pub floor : List ℕ → List Entry → Option (List ℕ)
 floor key [] = None
 floor key (e ∷ es) = floor_from (Some e.1) key es
+
+-- the first key that is above this one, or none
+abbrev pub ceiling_from : List ℕ → List Entry → Option (List ℕ)
+ceiling_from key [] = None
+ceiling_from key (e ∷ es) = cond (is_gt (key_cmp e.0 key)) (Some e.0) (ceiling_from key es)
+
+-- the same, where the first entry's key says nothing
+abbrev pub ceiling : List ℕ → List Entry → Option (List ℕ)
+ceiling key [] = None
+ceiling key (e ∷ es) = ceiling_from key es
+
+-- the entries from a key on
+abbrev pub is_from : List ℕ → Entry → Bool
+is_from key e = cond (is_gt (key_cmp key e.0)) false true
+
+abbrev pub entries_from : List ℕ → List Entry → List Entry
+entries_from key es = filter (is_from key) es

@@ -13,11 +13,10 @@ pub struct Bounds {
 
 /// The entry at a place in a page, if it lies in the page and is in the limits.
 pub fn bounds_in(page: &[u8; 4096], at: usize) -> Option<Bounds>
-    requires { at ≤ 4096 }
     ensures some { IfSome result (λ b. LiesAt page.now at b.value b.end) }
     ensures none { IfNone result (LiesNot page.now at) }
 {
-    if at + 3 > 4096 {
+    if at > 4093 {
         return None;
     }
     let key = page[at] as usize;

@@ -7,6 +7,7 @@ mod node_buf;
 mod scan;
 mod search;
 
+pub use entry::{Bounds, bounds_in};
 pub use node_buf::NodeBuf;
 pub use scan::NotANode;
-pub use search::{child_for, level_of, value_for};
+pub use search::{Place, bound_for, child_for, level_of, place_from, value_for};

@@ -34,16 +34,19 @@ impl NodeBuf {
     ghost use Rattle.page_node.specs.Node.{Node, IsNode, IsShape, Fits, bytes_of};
     ghost use Rattle.page_node.specs.Places.{Rises, IsFound, IsGap};
 
+    /// A leaf without entries. It is a constant, since what a function makes is copied to where it stands.
+    pub const EMPTY: NodeBuf = NodeBuf {
+        bytes: [0; 5200],
+        ends: [4; 1366],
+        count: 0,
+        level: 0,
+    };
+
     /// A leaf without entries.
     pub fn empty() -> Self
         ensures { result ≡ record { level = 0; entries = [] } }
     {
-        NodeBuf {
-            bytes: [0; 5200],
-            ends: [4; 1366],
-            count: 0,
-            level: 0,
-        }
+        Self::EMPTY
     }
 
     /// Makes it a node of a level, without entries.

@@ -1,12 +1,13 @@
 //! Keys searched in a page where they lie.
-ghost use Rattle.std.specs.Prelude.{◌≡◌, ◌≢◌, ◌<◌, ◌≤◌, ◌+◌, ◌-◌, ◌⊎◌, take, drop, IfOk, OnErr};
+ghost use Rattle.std.specs.Prelude.{◌≡◌, ◌≢◌, ◌<◌, ◌≤◌, ◌+◌, ◌-◌, ◌⊎◌, take, drop, length, IfOk, IfSome, OnErr};
 ghost use Rattle.std.specs.Option.{option_copied, option_map};
 ghost use Rattle.std.specs.FinMap.{find};
-ghost use Rattle.std.specs.Ordering.{is_gt};
+ghost use Rattle.std.specs.Ordering.{is_gt, is_lt};
 ghost use Rattle.std.proofs.Common.{get_or};
 ghost use Rattle.page_node.specs.Entries.{child_in};
 ghost use Rattle.page_node.specs.Node.{Node, IsNode, count_in};
-ghost use Rattle.page_node.specs.Places.{key_cmp, Rises, floor};
+ghost use Rattle.page_node.specs.Places.{key_cmp, Rises, floor, ceiling, entries_from};
+ghost use Rattle.page_node.specs.Walking.{IsAhead};
 
 use crate::entry::bounds_in;
 use crate::scan::NotANode;
@@ -52,6 +53,15 @@ fn is_above(page: &[u8; 4096], from: usize, end: usize, key: &[u8]) -> bool
     ensures { result ≡ is_gt (key_cmp (take (end - from) (drop from page.now)) key.now) }
 {
     compare_part(page, from, end, key).is_gt()
+}
+
+/// Whether a part of a page is below a key.
+fn is_below(page: &[u8; 4096], from: usize, end: usize, key: &[u8]) -> bool
+    requires order { from ≤ end }
+    requires end { end ≤ 4096 }
+    ensures { result ≡ is_lt (key_cmp (take (end - from) (drop from page.now)) key.now) }
+{
+    compare_part(page, from, end, key).is_lt()
 }
 
 /// The value of a key in a page whose keys rise, if the key is there.
@@ -114,4 +124,56 @@ pub fn child_for(page: &[u8; 4096], key: &[u8]) -> Result<u32, NotANode>
         at = bounds.end;
     }
     child_at(page, value, at)
+}
+
+/// Where the children of a node end that a key's own child is one of: the first key above it, if there is one. The first key is
+/// not looked at.
+pub fn bound_for<'a>(page: &'a [u8; 4096], key: &[u8]) -> Result<Option<&'a [u8]>, NotANode>
+    ensures bound { (node : Node) → IsNode page.now node → IfOk result (λ found. option_copied found ≡ ceiling key.now node.entries) }
+    ensures short { IfOk result (λ found. IfSome found (λ bound. length bound.now ≤ 72)) }
+    ensures err { OnErr result ((node : Node) → IsNode page.now node → ⊥) }
+{
+    let count = count_of(page);
+    let mut at = 4;
+    for k in 0..count {
+        let bounds = match bounds_in(page, at) {
+            None => return Err(NotANode),
+            Some(bounds) => bounds,
+        };
+        if k > 0 && is_above(page, at + 3, bounds.value, key) {
+            return Ok(Some(part(page, at + 3, bounds.value)));
+        }
+        at = bounds.end;
+    }
+    Ok(None)
+}
+
+/// Where in a page entries begin, and how many they are.
+#[derive(Clone, Copy, Drop)]
+pub struct Place {
+    pub at: usize,
+    pub left: usize,
+}
+
+/// Where the entries from a key on begin in a page whose keys rise.
+pub fn place_from(page: &[u8; 4096], key: &[u8]) -> Result<Place, NotANode>
+    ensures place { (node : Node) → IsNode page.now node → Rises node.entries → IfOk result (λ place. IsAhead page.now place.at (entries_from key.now node.entries) × (place.left ≡ length (entries_from key.now node.entries))) }
+    ensures err { OnErr result ((node : Node) → IsNode page.now node → ⊥) }
+{
+    let count = count_of(page);
+    let mut at = 4;
+    for k in 0..count {
+        let bounds = match bounds_in(page, at) {
+            None => return Err(NotANode),
+            Some(bounds) => bounds,
+        };
+        if !is_below(page, at + 3, bounds.value, key) {
+            return Ok(Place {
+                at,
+                left: count - k,
+            });
+        }
+        at = bounds.end;
+    }
+    Ok(Place { at, left: 0 })
 }

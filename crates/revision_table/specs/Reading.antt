@@ -1,5 +1,5 @@
 -- What is read of a revision.
-use Rattle.std.specs.Prelude.{◌≡◌, ◌<◌, ◌≤◌, ◌*◌, ◌^◌, ℕ, List, [], length, get_or, map, All}
+use Rattle.std.specs.Prelude.{◌≡◌, ◌<◌, ℕ, List, [], length, get_or, map}
 use Rattle.desk_model.specs.declared.cuts.Cut.{Cut}
 use Rattle.store_rows.specs.Rows.{KeyMap}
 use Rattle.store_rows.specs.RevisionRows.{HasChunk, NamesChunks, HasRevision}
@@ -22,7 +22,3 @@ pub record AreCounties (numbers : List ℕ) (cuts : List Cut) (m : KeyMap) (coun
 pub record IsRevision (plan revision : ℕ) (cuts : List Cut) (m : KeyMap) (counties : List (List ℕ)) : Type 0 where
   pub has : HasRevision m plan revision counties
   pub long : AreLong cuts counties
-
--- no county has more than a chunk holds
-abbrev pub AreChunkSized : List Cut → Type 0
-AreChunkSized cuts = All (λ c. c.count ≤ 512 * 2 ^ 16) cuts

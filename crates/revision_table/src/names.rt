@@ -26,7 +26,12 @@ fn append_part<D: SectorDevice>(
     ensures append { MatchResult result (λ _. HasAppended (AreNames plan revision count) (λ numbers. take 128 (drop (128 * index) numbers)) txn.now pages.old pages.new into.old.items into.new.items) (λ e. AppendErr (AreNames plan revision count) txn.now pages.old pages.new e) }
 {
     let mut bytes = [0; 1024];
-    let length = read_row(txn, pages, &Key::part(plan, revision, index as u8), &mut bytes)?;
+    let length = read_row(
+        txn,
+        pages,
+        &Key::part(plan, revision, index as u8),
+        &mut bytes,
+    )?;
     let Some(part) = read_chunks(&bytes[..length]) else {
         return Err(TreeError::DeviceFault);
     };
@@ -37,7 +42,7 @@ fn append_part<D: SectorDevice>(
 }
 
 /// Appends the numbers of a revision's chunks, which are so many. After an error the list may hold some of them: `DeviceFault` comes
-/// also where the store has no such revision, `Memory` where the list's growth was refused.
+/// also where the store has no such revision, as none has more than 32,768, and `Memory` where the list's growth was refused.
 pub fn append_names<D: SectorDevice>(
     txn: &Txn,
     pages: &mut Pages<D>,
@@ -47,10 +52,12 @@ pub fn append_names<D: SectorDevice>(
     into: &mut Vec<u64>,
 ) -> Result<(), TreeError>
     requires begun { txn_pages txn.now ≡ count_of pages.old }
-    requires few { count ≤ 128 * 2 ^ 8 }
     ensures quiet { IsQuiet pages.old pages.new }
     ensures append { MatchResult result (λ _. HasAppended (AreNames plan revision count) (λ numbers. numbers) txn.now pages.old pages.new into.old.items into.new.items) (λ e. AppendErr (AreNames plan revision count) txn.now pages.old pages.new e) }
 {
+    if count > PART_CHUNKS * 256 {
+        return Err(TreeError::DeviceFault);
+    }
     let parts = (count + (PART_CHUNKS - 1)) / PART_CHUNKS;
     for index in 0..parts {
         append_part(txn, pages, plan, revision, count, index, into)?;

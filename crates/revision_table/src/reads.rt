@@ -3,7 +3,7 @@ ghost use Rattle.std.specs.Prelude.{◌≡◌, ◌≤◌, ◌*◌, ◌<◌, ◌^
 ghost use Rattle.std.specs.List.{concat};
 ghost use Rattle.page_store.specs.Transactions.{count_of, txn_pages, IsQuiet};
 ghost use Rattle.row_table.specs.Appending.{HasAppended, AppendErr};
-ghost use Rattle.revision_table.specs.Reading.{AreChunkSized, AreCounties, IsRevision};
+ghost use Rattle.revision_table.specs.Reading.{AreCounties, IsRevision};
 
 use crate::names::append_names;
 use chunk_table::append_chunk;
@@ -24,11 +24,16 @@ fn append_county<D: SectorDevice>(
     requires begun { txn_pages txn.now ≡ count_of pages.old }
     requires each { length numbers.now ≡ length cuts.now }
     requires within { county < length cuts.now }
-    requires sized { AreChunkSized cuts.now }
     ensures quiet { IsQuiet pages.old pages.new }
     ensures append { MatchResult result (λ _. HasAppended (AreCounties numbers.now cuts.now) (λ counties. get_or counties county []) txn.now pages.old pages.new into.old.items into.new.items) (λ e. AppendErr (AreCounties numbers.now cuts.now) txn.now pages.old pages.new e) }
 {
-    append_chunk(txn, pages, numbers[county], cuts[county].count as usize, into)
+    append_chunk(
+        txn,
+        pages,
+        numbers[county],
+        cuts[county].count as usize,
+        into,
+    )
 }
 
 /// Appends the districts of all counties, whose chunks have these numbers.
@@ -41,7 +46,6 @@ fn append_counties<D: SectorDevice>(
 ) -> Result<(), TreeError>
     requires begun { txn_pages txn.now ≡ count_of pages.old }
     requires each { length numbers.now ≡ length cuts.now }
-    requires sized { AreChunkSized cuts.now }
     ensures quiet { IsQuiet pages.old pages.new }
     ensures append { MatchResult result (λ _. HasAppended (AreCounties numbers.now cuts.now) concat txn.now pages.old pages.new into.old.items into.new.items) (λ e. AppendErr (AreCounties numbers.now cuts.now) txn.now pages.old pages.new e) }
 {
@@ -64,8 +68,6 @@ pub fn append_revision<D: SectorDevice>(
     into: &mut Vec<u16>,
 ) -> Result<(), TreeError>
     requires begun { txn_pages txn.now ≡ count_of pages.old }
-    requires few { length cuts.now ≤ 128 * 2 ^ 8 }
-    requires sized { AreChunkSized cuts.now }
     ensures quiet { IsQuiet pages.old pages.new }
     ensures append { MatchResult result (λ _. HasAppended (IsRevision plan revision cuts.now) concat txn.now pages.old pages.new into.old.items into.new.items) (λ e. AppendErr (IsRevision plan revision cuts.now) txn.now pages.old pages.new e) }
 {

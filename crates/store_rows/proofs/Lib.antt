@@ -16,3 +16,4 @@ pub mod NewChunks
 pub mod RevisionDesk
 pub mod Clean
 pub mod SweepRows
+pub mod Drawing

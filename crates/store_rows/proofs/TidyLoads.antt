@@ -2,6 +2,7 @@
 use Rattle.std.proofs.Common.{◌≡◌, ◌<◌, ◌+◌, ◌^◌, ℕ, suc, List, [], ◌∷◌, ◌++◌, All, None, refl, sym, ap, subst, ◌∙◌, inl, inr, arith}
 use Rattle.std.proofs.lemmas.Bool.{cases_eq}
 use Rattle.std.specs.FinMap.{insert, remove}
+use Rattle.desk_model.specs.Geography.{Ground}
 use Rattle.store_keys.specs.Keys.{RowKey, key_of, Fits, counters, begun, seal, block, pair, in_eight, in_four}
 use Rattle.store_keys.specs.Values.{seal_bytes, counters_bytes}
 use Rattle.store_keys.specs.RowLaws.{keys_differ}
@@ -11,8 +12,11 @@ use Rattle.store_rows.specs.Changes.{cases_key}
 use Rattle.store_rows.specs.Frames.{put_is_there, put_keeps, put_keeps_tag, put_keeps_row, removed_is_gone, remove_keeps_row, remove_keeps_tag, tag_follows}
 use Rattle.store_rows.specs.Puts.{Row, put_rows}
 use Rattle.store_rows.specs.Steps.{one_load_more, IsLoadKey}
+use Rattle.store_rows.specs.GeographyRows.{IsStaged}
+use Rattle.store_rows.specs.Staging.{none_staged}
 use Rattle.store_rows.specs.Tidy.{IsLoad, Tidy, TidyWith}
 use Rattle.store_rows.proofs.OneGeography.{value_is, no_value, seal_load}
+use Rattle.store_rows.proofs.TidyFree.{free_block, free_pair}
 use Rattle.store_rows.proofs.TidyParts.{load_moves, LoadsKept, AllKept, kept_of, plans_stay, chunks_stay, rows_put, rows_removed, counters_put, stays_tidy}
 
 other_load : (load other : ℕ) → (load ≡ other → ⊥) → begun load ≡ begun other → ⊥
@@ -66,6 +70,18 @@ begun_tidy m tidy room =
       chunks = chunks_stay m n next.chunk next.chunk (omega arith) (same 82 (λ e. absurd (omega arith))) (same 107 (λ e. absurd (omega arith))) kept.chunks;
       loads = loads_started m next.load kept.loads tidy.fits.load_fits;
     })
+
+-- no row stands under its number
+pub begun_unstaged : (m : KeyMap) (tidy : Tidy m) (g : Ground) → IsStaged (insert (insert m (key_of (begun tidy.next.load)) []) (key_of counters) (counters_bytes (one_load_more tidy.next))) tidy.next.load g 0
+begun_unstaged m tidy g =
+    let load = tidy.next.load in
+    let value = counters_bytes (one_load_more tidy.next) in
+    let mid = insert m (key_of (begun load)) [] in
+    let n = insert mid (key_of counters) value in
+    let rows : SameTag 103 m n = tag_follows 103 m mid n (put_keeps_tag m 103 76 (in_eight load) [] (λ e. absurd (omega arith))) (put_keeps_tag mid 103 65 [] value (λ e. absurd (omega arith))) in
+    none_staged n load g
+    (λ place small. rows _ ∙ free_block m tidy load place (omega arith) (tidy.fits.load_fits, small))
+    (λ place small. rows _ ∙ free_pair m tidy load place (omega arith) (tidy.fits.load_fits, small))
 
 -- ---- a row of a load is put
 -- a row of a load is that of a block or of a pair of the load

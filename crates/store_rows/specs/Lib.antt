@@ -12,5 +12,6 @@ pub mod Changes
 pub mod Staging
 pub mod RevisionSteps
 pub mod Laws
+pub mod Draws
 pub mod TidyLaws
 pub mod SweepLaws

@@ -39,7 +39,7 @@ pub record AddsRevision (m n : KeyMap) (next : Counters) (given : ℕ) (name : L
   pub pieces : (number piece : ℕ) (value : List ℕ) → Fits (chunk number piece) → IsGiven next given number → Has n (chunk number piece) value → IsPiece value
   pub other_chunks : (number piece : ℕ) → Fits (chunk number piece) → (IsGiven next given number → ⊥) → row_in n (chunk number piece) ≡ row_in m (chunk number piece)
 
--- the rows of new chunks, numbered from one on
+-- the rows of new chunks, under rising numbers from the first on
 abbrev pub new_chunk_rows : ℕ → List (List ℕ) → List Row
 new_chunk_rows first [] = []
 new_chunk_rows first (districts ∷ lists) = chunk_rows first districts ++ new_chunk_rows (first + 1) lists

@@ -13,6 +13,7 @@ use Rattle.store_keys.specs.declared.value.PlanRow.{PlanRow}
 use Rattle.store_keys.specs.declared.value.SealRow.{SealRow}
 use Rattle.store_rows.specs.Rows.{KeyMap, Has, Lacks}
 use Rattle.store_rows.specs.Puts.{Row, put_rows, rows_told}
+use Rattle.store_rows.specs.GeographyRows.{IsStaged}
 use Rattle.store_rows.specs.RevisionRows.{HasChunk, NamesChunks, HasRevision}
 use Rattle.store_rows.specs.ChunkRows.{IsFreeChunk}
 use Rattle.store_rows.specs.DeskRows.{HasPlan, IsDesk, most_revisions}
@@ -52,9 +53,10 @@ pub record PlansLeaveTidy (m : KeyMap) (next : Counters) (name : List ℕ) : Typ
 abbrev pub PlansComeAndGoTidily : Type 0
 PlansComeAndGoTidily = (m : KeyMap) (tidy : Tidy m) (name : List ℕ) → PlansLeaveTidy m tidy.next name
 
--- a load is begun, its rows are put, and it is sealed where none was
+-- a load is begun, with no row yet, its rows are put, and it is sealed where none was
 pub record LoadsLeaveTidy (m : KeyMap) (next : Counters) : Type 0 where
   pub started : next.load + 1 < 2 ^ 64 → TidyWith (insert (insert m (key_of (begun next.load)) []) (key_of counters) (counters_bytes (one_load_more next))) (one_load_more next)
+  pub unstaged : (g : Ground) → IsStaged (insert (insert m (key_of (begun next.load)) []) (key_of counters) (counters_bytes (one_load_more next))) next.load g 0
   pub staged : (load : ℕ) (rows : List Row) → load < 2 ^ 64 → IsLoad m load → All (λ row. IsLoadKey load row.0) rows → TidyWith (put_rows m rows) next
   pub told : (load : ℕ) (row : ℕ → Row) (count : ℕ) → load < 2 ^ 64 → IsLoad m load → ((k : ℕ) → k < count → IsLoadKey load (row k).0) → TidyWith (put_rows m (rows_told row count)) next
   pub sealed : (s : SealRow) → s.load < 2 ^ 64 → Lacks m seal → Has m (begun s.load) [] → TidyWith (remove (insert m (key_of seal) (seal_bytes s)) (key_of (begun s.load))) next

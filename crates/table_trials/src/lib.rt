@@ -2,4 +2,6 @@
 #![tactic(auto)]
 
 #[cfg(test)]
+mod geographies;
+#[cfg(test)]
 mod plans;

@@ -5,3 +5,7 @@
 mod long_trials;
 #[cfg(test)]
 mod row_trials;
+#[cfg(test)]
+mod scan_trials;
+#[cfg(test)]
+mod stop_trials;

@@ -3,18 +3,19 @@ ghost use Rattle.std.specs.Prelude.{◌≤◌};
 
 use page_btree::{TreeError, get, put};
 use page_store::{Pages, format};
+use sector_device::SectorDevice;
 use sector_memory::MemoryDevice;
 use std::alloc::Global;
 use std::test::Fail;
 
-fn made(alloc: Global, sectors: u32) -> Result<Pages<MemoryDevice>, Fail> {
+pub fn made(alloc: Global, sectors: u32) -> Result<Pages<MemoryDevice>, Fail> {
     let mut device = MemoryDevice::new(alloc, sectors)?;
     format(alloc, &mut device, 256)?;
     Ok(Pages::open(device).ok().ok_or("not opened")?)
 }
 
 /// A key of 72 bytes, whose first ones tell its number.
-fn long_key(n: u32) -> [u8; 72] {
+pub fn long_key(n: u32) -> [u8; 72] {
     let mut key = [7; 72];
     let [a, b, c, d] = n.to_be_bytes();
     key[0] = a;
@@ -24,14 +25,24 @@ fn long_key(n: u32) -> [u8; 72] {
     key
 }
 
-fn put_long(alloc: Global, pages: &mut Pages<MemoryDevice>, n: u32) -> Result<bool, TreeError> {
+/// Puts a row whose key has 72 bytes and whose value has 1,024: a leaf has room for three.
+pub fn put_long<D: SectorDevice>(
+    alloc: Global,
+    pages: &mut Pages<D>,
+    n: u32,
+) -> Result<bool, TreeError> {
     let mut txn = pages.begin(alloc);
     let had = put(&mut txn, pages, &long_key(n), &[(n % 256) as u8; 1024])?;
     txn.prepare()?.commit(pages)?;
     Ok(had)
 }
 
-fn has_long(alloc: Global, pages: &mut Pages<MemoryDevice>, n: u32) -> Result<bool, TreeError> {
+/// Whether such a row is there as it was put.
+pub fn has_long<D: SectorDevice>(
+    alloc: Global,
+    pages: &mut Pages<D>,
+    n: u32,
+) -> Result<bool, TreeError> {
     let txn = pages.begin(alloc);
     let mut into = [0; 1024];
     let found = get(&txn, pages, &long_key(n), &mut into)?;

@@ -6,11 +6,6 @@ use Rattle.audit_splits_nesting.proofs.Places.{in_city, in_no_city, one_city}
 use Rattle.audit_splits_nesting.proofs.splits.mark_cities.Goals as goal
 use Rattle.audit_splits_nesting.proofs.splits.mark_cities.Goals.{in-Some, in_default}
 
-pub slice_copy_out-with : goal.slice_copy_out-with
-slice_copy_out-with c =
-    let here = in_city c.args.blocks.now c.loop-i.i c.in-Some.city c.index-blocks-i.result (omega arith) c.index-blocks-i.is c.in-Some.is in
-    omega (arith, c.requires.wide c.in-Some.city c.loop-i.i here)
-
 pub bounds-marks-city : goal.bounds-marks-city
 bounds-marks-city c =
     let here = in_city c.args.blocks.now c.loop-i.i c.in-Some.city c.index-blocks-i.result (omega arith) c.index-blocks-i.is c.in-Some.is in
@@ -24,7 +19,7 @@ loop-i-preserved c =
       | in-Some w ↦
           let city = w.in-Some.city in
           let here = in_city blocks c.loop-i.i city c.index-blocks-i.result (omega arith) c.index-blocks-i.is w.in-Some.is in
-          rw (w.marks-is, w.with.ensures)
+          rw (w.marks-is, w.note.ensures)
           (marks_take (IsInCity blocks) one_part (value_at c.args.plan.now) c.loop-i.i wide city c.loop-i.marks (c.requires.wide city c.loop-i.i here) here
           (λ k lies. one_city blocks k city c.loop-i.i lies here) (λ i less lies. omega arith) c.loop-i.invariant)
       | in_default w ↦

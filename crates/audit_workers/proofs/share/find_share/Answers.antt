@@ -9,4 +9,4 @@ loop-piece-preserved g c =
 
 pub returns : goal.returns
 returns g c =
-    next_all c.args.work.now c.args.pieces c.args.workers c.args.worker c.loop-piece.piece c.loop-piece.found.items (omega (arith, c.loop-piece-test.false)) c.loop-piece.invariant
+    next_all c.args.work.now c.args.pieces c.args.workers c.args.worker c.loop-piece.piece c.loop-piece.found.items (omega (arith, c.if-piece-pieces.false)) c.loop-piece.invariant

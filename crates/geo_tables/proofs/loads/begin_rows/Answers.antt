@@ -5,7 +5,7 @@ use Rattle.row_table.specs.Reading.{HasNext, put_after, not_put_after, not_read_
 use Rattle.geo_tables.specs.Rows.{begun_rows}
 use Rattle.geo_tables.specs.Loads.{BeginErr}
 use Rattle.geo_tables.specs.declared.error.LoadError.TheVariants.{Tree}
-use Rattle.geo_tables.proofs.Outcomes.{err_of}
+use Rattle.row_table.specs.Outcomes.{err_of}
 use Rattle.geo_tables.proofs.loads.begin_rows.Goals as goal
 
 pub returns-in_err-next-clause-quiet : goal.returns-in_err-next-clause-quiet

@@ -6,7 +6,7 @@ use Rattle.store_keys.specs.Values.{counters_bytes}
 use Rattle.store_rows.specs.Puts.{Row}
 use Rattle.row_table.specs.Puts.{HasPut, PutsErr, front_not_put}
 use Rattle.geo_tables.specs.Rows.{begun_rows, load_taken}
-use Rattle.geo_tables.proofs.Outcomes.{match_of}
+use Rattle.row_table.specs.Outcomes.{match_of}
 use Rattle.geo_tables.proofs.Begins.{then_put}
 use Rattle.geo_tables.proofs.loads.put_begun.Goals as goal
 

@@ -5,7 +5,7 @@ use Rattle.store_rows.specs.Rows.{KeyMap}
 use Rattle.row_table.specs.Reading.{StandsAs, less_unread}
 use Rattle.geo_tables.specs.Loads.{HasSeal, BeginErr}
 use Rattle.geo_tables.specs.declared.error.LoadError.TheVariants.{Tree}
-use Rattle.geo_tables.proofs.Outcomes.{err_of}
+use Rattle.row_table.specs.Outcomes.{err_of}
 use Rattle.geo_tables.proofs.loads.refuse_sealed.Goals as goal
 
 pub returns-in_err-found-clause-err : goal.returns-in_err-found-clause-err

@@ -12,7 +12,7 @@ use Rattle.store_keys.specs.Values.{seal_bytes}
 use Rattle.store_rows.specs.Puts.{Row}
 use Rattle.row_table.specs.Puts.{HasPut, PutsErr}
 use Rattle.geo_tables.specs.Rows.{seal_row}
-use Rattle.geo_tables.proofs.Outcomes.{err_of}
+use Rattle.row_table.specs.Outcomes.{err_of}
 use Rattle.geo_tables.proofs.Begins.{then_not_removed}
 use Rattle.geo_tables.proofs.loads.seal_rows.Goals as goal
 

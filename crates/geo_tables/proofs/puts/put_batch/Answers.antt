@@ -4,7 +4,7 @@ use Rattle.page_store.specs.Stops.{quiet_more}
 use Rattle.row_table.specs.Puts.{HasPut, PutsErr, told_more, told_not_put}
 use Rattle.geo_tables.specs.Rows.{staged_row, staged_rows}
 use Rattle.geo_tables.specs.Staging.{Stages, more_stage}
-use Rattle.geo_tables.proofs.Outcomes.{match_of}
+use Rattle.row_table.specs.Outcomes.{match_of}
 use Rattle.geo_tables.proofs.puts.put_batch.Goals as goal
 
 pub returns-in_err-put_place-clause-quiet : goal.returns-in_err-put_place-clause-quiet

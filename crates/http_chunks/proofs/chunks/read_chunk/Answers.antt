@@ -32,5 +32,5 @@ returns-in-Err-clause-read g c =
     let body = c.args.body.now.items in (
       read.0,
       read.1,
-      subst (λ (xs : List ℕ). StepCame body xs (Err c.in-Err.fault) body c.read_front.new.intake.inbox.now) read.2 (line_failed body c.read_front.new.intake.inbox.now body c.read_front.new.intake.inbox.now c.in-Err.fault c.in-Err.ensures.sees),
+      subst (λ (xs : List ℕ). StepCame body xs (Err c.in-Err.fault) body c.read_front.new.intake.inbox.now) read.2 (line_failed c.read_front.new.intake.inbox.now body c.read_front.new.intake.inbox.now body c.in-Err.fault c.in-Err.ensures.sees),
     )

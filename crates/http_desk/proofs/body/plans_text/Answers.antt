@@ -1,9 +1,9 @@
-use Rattle.std.proofs.Common.{arith, sym}
+use Rattle.std.proofs.Common.{arith, sym, ◌∙◌}
 use Rattle.http_desk.proofs.BodyLemmas.{begins, kept}
 use Rattle.http_desk.proofs.body.plans_text.Goals as goal
 
 pub loop-row-init : goal.loop-row-init
-loop-row-init c = rw c.in_ok-text.ensures.items (sym (begins c.args.rows.now))
+loop-row-init c = rw (c.in_ok-extend_from_slice.ensures.items, c.in_ok-text.ensures.items) (sym (begins c.args.rows.now))
 
 pub loop-row-preserved : goal.loop-row-preserved
 loop-row-preserved c =

@@ -3,18 +3,18 @@ use Rattle.http_desk.specs.Talk.{Talk, ended, starved, refused}
 use Rattle.http_desk.specs.Serving.{Exchanges, IsFrontTalk}
 use Rattle.http_desk.specs.declared.serve.Next.TheVariants as next
 use Rattle.std.proofs.Common.{Ok}
-use Rattle.http_desk.proofs.TalkLemmas.{of_head, last, on, cut, cut_next, closing, queued_then, queued_as}
+use Rattle.http_desk.proofs.TalkLemmas.{of_head, last, on, cut, cut_next, cut_short, closing, queued_then, queued_as}
 use Rattle.http_desk.proofs.serve.exchange.Goals as goal
 
 pub returns-in-Err-Read-clause-talks : goal.returns-in-Err-Read-clause-talks
 returns-in-Err-Read-clause-talks g c =
     let read = rw c.in-Err-Read.field-0-is at c.in-Err-Read.ensures.read in
-    (read.0, read.1, read.2, read.3, read.4, ended c.args.counter.now (c.args.stream.now.inbox ++ read.0) read.1 read.5.0 read.5.1, read.6)
+    (read.0, read.1, read.2, read.3, read.4, cut_short g.C.Counter.commands g.C.Counter.asks c.args.counter.now (c.args.stream.now.inbox ++ read.0) read.1 read.5, read.6)
 
 pub returns-in-Err-TurnLimit-clause-talks : goal.returns-in-Err-TurnLimit-clause-talks
 returns-in-Err-TurnLimit-clause-talks g c =
     let read = rw c.in-Err-TurnLimit.field-0-is at c.in-Err-TurnLimit.ensures.read in
-    (read.0, read.1, read.2, read.3, read.4, ended c.args.counter.now (c.args.stream.now.inbox ++ read.0) read.1 read.5.0 read.5.1, read.6)
+    (read.0, read.1, read.2, read.3, read.4, cut_short g.C.Counter.commands g.C.Counter.asks c.args.counter.now (c.args.stream.now.inbox ++ read.0) read.1 read.5, read.6)
 
 pub returns-in-Err-Write-clause-talks : goal.returns-in-Err-Write-clause-talks
 returns-in-Err-Write-clause-talks g c =

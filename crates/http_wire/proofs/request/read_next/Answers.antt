@@ -2,7 +2,7 @@ use Rattle.std.proofs.Common.{[], ◌++◌, Ok, subst, sym}
 use Rattle.std.proofs.KnownBytes.{Appends-nil}
 use Rattle.http_intake.specs.DrawsLemmas.{goes_on}
 use Rattle.http_wire.specs.Incoming.{ReadsFront}
-use Rattle.http_wire.proofs.InterimLemmas.{open_front, refused_front}
+use Rattle.http_wire.proofs.InterimLemmas.{open_front, open_short, refused_front}
 use Rattle.http_wire.proofs.request.read_next.Goals as goal
 
 pub returns-in-Ok-Found-clause-read : goal.returns-in-Ok-Found-clause-read
@@ -30,10 +30,10 @@ pub returns-in-Err-Read-clause-read : goal.returns-in-Err-Read-clause-read
 returns-in-Err-Read-clause-read g c =
     let read = c.in-Err-Read.ensures.read in
     let sees = c.in-Err-Read.ensures.sees in
-    ([], Appends-nil (g.W.Sink.contents c.args.writer.now), (read.0, read.1, open_front _ _ read.2 sees))
+    ([], Appends-nil (g.W.Sink.contents c.args.writer.now), (read.0, read.1, open_short _ _ read.2 sees))
 
 pub returns-in-Err-TurnLimit-clause-read : goal.returns-in-Err-TurnLimit-clause-read
 returns-in-Err-TurnLimit-clause-read g c =
     let read = c.in-Err-TurnLimit.ensures.read in
     let sees = c.in-Err-TurnLimit.ensures.sees in
-    ([], Appends-nil (g.W.Sink.contents c.args.writer.now), (read.0, read.1, open_front _ _ read.2 sees))
+    ([], Appends-nil (g.W.Sink.contents c.args.writer.now), (read.0, read.1, open_short _ _ read.2 sees))

@@ -22,7 +22,7 @@ loop-index-preserved g c =
     let says = AreNames c.args.plan c.args.revision c.args.count in
     record {
       appended = more_appended says (λ l. take (128 * i) l) (λ l. take 128 (drop (128 * i) l)) (λ l. take (128 * (i + 1)) l) c.args.txn.now c.args.pages.now c.loop-index.pages c.append_part.new.pages c.args.into.now.items c.loop-index.into.items c.append_part.new.into.items
-      (λ m l said. parts_more 128 i l) before.appended c.in_ok-append_part.ensures.append;
+          (λ m l said. parts_more 128 i l) before.appended c.in_ok-append_part.ensures.append;
       begun = before.begun ∙ sym c.in_ok-append_part.ensures.quiet.count;
     }
 

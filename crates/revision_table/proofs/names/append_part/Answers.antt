@@ -1,5 +1,4 @@
-use Rattle.std.proofs.Common.{◌≡◌, ◌<◌, ◌*◌, ◌++◌, List, ℕ, length, take, drop, Some, inr, ap, sym, subst, ◌∙◌, arith}
-use Rattle.std.specs.FinMap.{get}
+use Rattle.std.proofs.Common.{◌≡◌, ◌*◌, ◌++◌, List, ℕ, take, drop, inr, ap, sym, ◌∙◌}
 use Rattle.store_keys.specs.Lists.{chunks_bytes}
 use Rattle.store_keys.specs.ListLaws.{chunks_differ}
 use Rattle.row_table.specs.Outcomes.{match_of}

@@ -1,4 +1,4 @@
-use Rattle.std.proofs.Common.{◌≡◌, ◌<◌, ◌≤◌, ◌+◌, ◌++◌, List, ℕ, [], length, get_or, take, sym, ap, ◌∙◌, take_all, arith}
+use Rattle.std.proofs.Common.{◌<◌, ◌≤◌, ◌+◌, ◌++◌, List, ℕ, [], length, get_or, take, sym, ap, ◌∙◌, take_all, arith}
 use Rattle.std.specs.List.{concat}
 use Rattle.page_store.specs.Stops.{quiet_more}
 use Rattle.row_table.specs.Outcomes.{match_of}
@@ -25,11 +25,11 @@ loop-county-preserved g c =
     let says = AreCounties c.args.numbers.now c.args.cuts.now in
     record {
       appended = more_appended says (λ l. concat (take i l)) (λ l. get_or l i []) (λ l. concat (take (i + 1) l)) c.args.txn.now c.args.pages.now c.loop-county.pages c.append_county.new.pages c.args.into.now.items c.loop-county.into.items c.append_county.new.into.items
-      (λ m l said.
-      let many = as_many c.args.cuts.now l said.long in
-      let within : i < length l = omega arith in
-      one_county_more l i within)
-      before.appended c.in_ok-append_county.ensures.append;
+          (λ m l said.
+          let many = as_many c.args.cuts.now l said.long in
+          let within : i < length l = omega arith in
+          one_county_more l i within)
+          before.appended c.in_ok-append_county.ensures.append;
       begun = before.begun ∙ sym c.in_ok-append_county.ensures.quiet.count;
     }
 

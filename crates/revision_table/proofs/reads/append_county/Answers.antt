@@ -1,8 +1,7 @@
-use Rattle.std.proofs.Common.{◌≡◌, ◌<◌, List, ℕ, [], length, get_or, refl, arith}
+use Rattle.std.proofs.Common.{◌<◌, [], length, get_or, refl, arith}
 use Rattle.page_store.specs.Stops.{passed_none}
 use Rattle.row_table.specs.Outcomes.{map_both}
 use Rattle.row_table.specs.Appending.{HasAppended, AppendErr, then_appended, then_unappended}
-use Rattle.chunk_table.specs.Reading.{IsChunk}
 use Rattle.revision_table.specs.Reading.{AreCounties}
 use Rattle.revision_table.proofs.Counties.{as_many, as_long}
 use Rattle.revision_table.proofs.reads.append_county.Goals as goal

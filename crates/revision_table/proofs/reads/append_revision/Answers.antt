@@ -1,4 +1,4 @@
-use Rattle.std.proofs.Common.{◌≡◌, ◌++◌, List, ℕ, length, inr, refl, ap, ◌∙◌}
+use Rattle.std.proofs.Common.{◌++◌, List, ℕ, length, inr, refl, ap, ◌∙◌}
 use Rattle.std.specs.List.{concat}
 use Rattle.page_store.specs.Stops.{quiet_more, passed_none}
 use Rattle.row_table.specs.Outcomes.{match_of, map_both}

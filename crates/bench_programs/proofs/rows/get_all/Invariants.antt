@@ -1,0 +1,6 @@
+use Rattle.std.proofs.Common.{◌≡◌}
+use Rattle.page_store.specs.Transactions.{txn_pages, count_of}
+use Rattle.bench_programs.proofs.rows.get_all.Given as goal
+
+abbrev pub invariant-loop-i : goal.invariant-loop-i
+invariant-loop-i l = txn_pages l.txn ≡ count_of l.pages

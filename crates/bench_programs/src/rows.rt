@@ -1,0 +1,183 @@
+//! Times rows put, got, scanned and removed in a tree of pages in memory.
+ghost use Rattle.std.specs.Prelude.{◌≡◌};
+ghost use Rattle.page_store.specs.Transactions.{count_of, txn_pages};
+
+use btree_scan::{Row, Scan};
+use page_btree::{TreeError, get, put, remove};
+use page_store::{Pages, Txn, format};
+use sector_memory::MemoryDevice;
+use std::alloc::Global;
+use std::io;
+use std::time::Instant;
+
+/// The pages of the store, those of its journal, and the sectors of both with header, gate and list.
+const PAGES: u32 = 16_384;
+
+const JOURNAL: u32 = 8_192;
+
+const SECTORS: u32 = 2 + 9 + JOURNAL + PAGES;
+
+/// The rows of a commit.
+const BATCH: u32 = 512;
+
+/// The keys of a table, of which the last eight bytes rise with the row or are shuffled.
+fn key_of(i: u32, shuffled: bool) -> [u8; 20] {
+    let mut key = *b"block.......00000000";
+    let n = if shuffled {
+        (i as u64).wrapping_mul(0x9e37_79b9_7f4a_7c15)
+    } else {
+        i as u64
+    };
+    key[12..].copy_from_slice(&n.to_be_bytes());
+    key
+}
+
+fn value_of(i: u32) -> [u8; 16] {
+    let mut value = [0; 16];
+    value[..8].copy_from_slice(&(i as u64).to_be_bytes());
+    value
+}
+
+/// Puts or removes a row, and tells whether its key was there.
+fn change(
+    txn: &mut Txn,
+    pages: &mut Pages<MemoryDevice>,
+    i: u32,
+    shuffled: bool,
+    puts: bool,
+) -> Result<bool, TreeError>
+    requires { txn_pages txn.old ≡ count_of pages.old }
+    ensures { txn_pages txn.new ≡ count_of pages.new }
+{
+    let key = key_of(i, shuffled);
+    if puts {
+        put(txn, pages, &key, &value_of(i))
+    } else {
+        remove(txn, pages, &key)
+    }
+}
+
+/// Puts or removes some rows in one commit: how many keys were there.
+fn change_batch(
+    alloc: Global,
+    pages: &mut Pages<MemoryDevice>,
+    from: u32,
+    end: u32,
+    shuffled: bool,
+    puts: bool,
+) -> Result<u64, TreeError> {
+    let mut txn = pages.begin(alloc);
+    let mut there = 0u64;
+    for i in from..end {
+        if change(&mut txn, pages, i, shuffled, puts)? {
+            there = there.wrapping_add(1);
+        }
+    }
+    txn.prepare()?.commit(pages)?;
+    Ok(there)
+}
+
+/// Puts or removes all rows: how many keys were there.
+fn change_all(
+    alloc: Global,
+    pages: &mut Pages<MemoryDevice>,
+    rows: u32,
+    shuffled: bool,
+    puts: bool,
+) -> Result<u64, TreeError> {
+    let mut there = 0u64;
+    for batch in 0..rows.div_ceil(BATCH) {
+        let from = batch * BATCH;
+        let end = rows.min(from.saturating_add(BATCH));
+        let found = change_batch(alloc, pages, from, end, shuffled, puts)?;
+        there = there.wrapping_add(found);
+    }
+    Ok(there)
+}
+
+/// Gets all rows: a sum over a byte of each.
+fn get_all(
+    alloc: Global,
+    pages: &mut Pages<MemoryDevice>,
+    rows: u32,
+    shuffled: bool,
+) -> Result<u64, TreeError> {
+    let txn = pages.begin(alloc);
+    let mut into = [0; 1024];
+    let mut told = 0u64;
+    for i in 0..rows {
+        if get(&txn, pages, &key_of(i, shuffled), &mut into)? == Some(16) {
+            told = told.wrapping_add(into[7] as u64);
+        }
+    }
+    txn.abandon();
+    Ok(told)
+}
+
+/// What a sum over the rows before and a row make.
+fn told_with(told: u64, row: &Row) -> u64 {
+    let key = row.key.as_slice();
+    let value = row.value.as_slice();
+    if key.len() == 20 && value.len() == 16 {
+        told.wrapping_mul(31)
+            .wrapping_add(key[19] as u64 + value[7] as u64)
+    } else {
+        told
+    }
+}
+
+/// Scans all rows: a sum over two bytes of each.
+fn scan_all(alloc: Global, pages: &mut Pages<MemoryDevice>, rows: u32) -> Result<u64, TreeError> {
+    let txn = pages.begin(alloc);
+    let mut scan = Scan::new(b"block");
+    let mut row = Row::empty();
+    let mut told = 0u64;
+    for _ in 0..rows {
+        if !scan.next(&txn, pages, &mut row) {
+            break;
+        }
+        told = told_with(told, &row);
+    }
+    txn.abandon();
+    match scan.fault() {
+        Some(fault) => Err(fault),
+        None => Ok(told),
+    }
+}
+
+fn made(alloc: Global) -> Option<Pages<MemoryDevice>> {
+    let mut device = MemoryDevice::new(alloc, SECTORS).ok()?;
+    format(alloc, &mut device, JOURNAL).ok()?;
+    Pages::open(device).ok()
+}
+
+fn refused(_: TreeError) -> io::Error {
+    io::Error::from(io::ErrorKind::Other)
+}
+
+/// Prints the nanoseconds of the puts, gets, scan and removes, the pages that the rows take, and a sum that other programs print too.
+pub fn run(rt: &HostRuntime, rows: u32, order: &str) -> io::Result<()> {
+    let shuffled = order == "shuffled";
+    let name = if shuffled { "shuffled" } else { "rising" };
+    let Some(mut pages) = made(rt.alloc()) else {
+        return Err(io::Error::from(io::ErrorKind::Other));
+    };
+    let free = pages.free_pages();
+    let start = Instant::now(rt)?;
+    let had = change_all(rt.alloc(), &mut pages, rows, shuffled, true).map_err(refused)?;
+    println!(rt; "{name} put {}", start.elapsed(rt)?.as_nanos())?;
+    println!(rt; "{name} pages {}", free.saturating_sub(pages.free_pages()))?;
+    let start = Instant::now(rt)?;
+    let got = get_all(rt.alloc(), &mut pages, rows, shuffled).map_err(refused)?;
+    println!(rt; "{name} get {}", start.elapsed(rt)?.as_nanos())?;
+    let start = Instant::now(rt)?;
+    let scanned = scan_all(rt.alloc(), &mut pages, rows).map_err(refused)?;
+    println!(rt; "{name} scan {}", start.elapsed(rt)?.as_nanos())?;
+    println!(rt; "{name} scanned {scanned}")?;
+    let start = Instant::now(rt)?;
+    let removed = change_all(rt.alloc(), &mut pages, rows, shuffled, false).map_err(refused)?;
+    println!(rt; "{name} remove {}", start.elapsed(rt)?.as_nanos())?;
+    let told = had.wrapping_add(got).wrapping_add(removed);
+    println!(rt; "{name} told {told} free {}", pages.free_pages())?;
+    Ok(())
+}

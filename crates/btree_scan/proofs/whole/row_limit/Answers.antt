@@ -1,0 +1,11 @@
+use Rattle.std.proofs.Common.{arith}
+use Rattle.page_store.specs.Transactions.{txn_pages, over, txn_root, free_over}
+use Rattle.page_btree.specs.Laws.{few_rows}
+use Rattle.btree_scan.proofs.whole.row_limit.Goals as goal
+
+pub returns : goal.returns
+returns c = λ P m holds.
+    let t = c.args.txn.now in
+    let few = few_rows (txn_pages t) (over t P) (txn_root t) (free_over t P) m holds in
+    let count = c.page_count.ensures in
+    omega arith

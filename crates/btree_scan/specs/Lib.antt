@@ -1,0 +1,4 @@
+pub mod Scanning
+pub mod Prefixes
+pub mod Taken
+pub mod Refused

@@ -1,0 +1,53 @@
+//! Takes a row out of a leaf.
+ghost use Rattle.std.specs.Prelude.{◌≡◌, ◌<◌, ◌+◌, List, ◌∷◌, OnOk, OnErr, IfErr};
+ghost use Rattle.page_node.specs.Entries.{Entry};
+ghost use Rattle.page_node.specs.Walking.{IsAhead};
+ghost use Rattle.page_btree.specs.Seeking.{bound_in};
+ghost use Rattle.page_btree.specs.declared.error.TreeError.TheVariants.{DeviceFault};
+ghost use Rattle.btree_scan.specs.Scanning.{IsTakenRow};
+
+use page_btree::{Leaf, SmallBytes, TreeError};
+use page_node::bounds_in;
+
+/// A row, held in place.
+#[derive(Drop)]
+pub struct Row {
+    pub key: SmallBytes,
+    pub value: SmallBytes,
+}
+
+impl Row {
+    ghost use Rattle.std.specs.Prelude.{◌≡◌, []};
+
+    /// A row without bytes.
+    pub fn empty() -> Self
+        ensures key { result.key ≡ [] }
+        ensures value { result.value ≡ [] }
+    {
+        Row {
+            key: SmallBytes::empty(),
+            value: SmallBytes::empty(),
+        }
+    }
+}
+
+/// Takes the row before which a leaf stands, and stands behind it.
+pub(crate) fn take_row(leaf: &mut Leaf, row: &mut Row) -> Result<(), TreeError>
+    requires { 0 < leaf.old.left }
+    ensures taken { (e : Entry) (es : List Entry) → IsAhead leaf.old.page leaf.old.at (e ∷ es) → OnOk result (IsTakenRow e es row.new leaf.new) }
+    ensures left { OnOk result (leaf.new.left + 1 ≡ leaf.old.left) }
+    ensures bound { bound_in leaf.new ≡ bound_in leaf.old }
+    ensures err { IfErr result (λ e. e ≡ DeviceFault) }
+    ensures refused { OnErr result ((e : Entry) (es : List Entry) → IsAhead leaf.old.page leaf.old.at (e ∷ es) → ⊥) }
+{
+    match bounds_in(&leaf.page, leaf.at) {
+        None => Err(TreeError::DeviceFault),
+        Some(bounds) => {
+            row.key.set(&leaf.page[leaf.at + 3..bounds.value]);
+            row.value.set(&leaf.page[bounds.value..bounds.end]);
+            leaf.at = bounds.end;
+            leaf.left -= 1;
+            Ok(())
+        }
+    }
+}

@@ -1,0 +1,125 @@
+//! Scans the rows under a prefix.
+ghost use Rattle.std.specs.Prelude.{◌≡◌, ◌≤◌, ℕ, List, [], true, false, length, Option, None, Some, OnOk, IfOk, IfErr, IfSome};
+ghost use Rattle.std.specs.FinMap.{entries};
+ghost use Rattle.page_store.specs.Transactions.{stored, disk_in, count_of, txn_pages, IsQuiet, Passed};
+ghost use Rattle.page_node.specs.Entries.{Entry};
+ghost use Rattle.page_btree.specs.Keys.{KeyMap};
+ghost use Rattle.page_btree.specs.Map.{InTxn};
+ghost use Rattle.page_btree.specs.Errors.{GetErr};
+ghost use Rattle.btree_scan.specs.Prefixes.{under};
+ghost use Rattle.btree_scan.specs.Scanning.{Rest, IsReady, IsStep, IsNextRow, has_ended, fault_in, CanScan, CanStep, ScanErr};
+
+use crate::rows::{Row, take_row};
+use page_btree::{Leaf, SmallBytes, TreeError, leaf_from};
+use page_store::{Pages, Txn};
+use sector_device::SectorDevice;
+
+/// Gives the rows of a map whose keys begin with a prefix, rising, each once. Its calls are of one transaction, in which nothing is
+/// written between them.
+#[derive(Drop)]
+pub struct Scan {
+    prefix: SmallBytes,
+    leaf: Leaf,
+    ended: bool,
+    fault: Option<TreeError>,
+}
+
+impl Scan {
+    /// A scan before the first row.
+    pub fn new(prefix: &[u8]) -> Self
+        requires { length prefix.now ≤ 1024 }
+        ensures rows { (m : KeyMap) → Rest result (entries m) (under prefix.now (entries m)) }
+        ensures fault { fault_in result ≡ None }
+    {
+        let mut scan = Scan {
+            prefix: SmallBytes::empty(),
+            leaf: Leaf::empty(),
+            ended: false,
+            fault: None,
+        };
+        scan.prefix.set(prefix);
+        scan.leaf.bound.set(prefix);
+        scan.leaf.bounded = true;
+        scan
+    }
+
+    /// Copies the next row, or tells that none comes: none is left, or there was a fault, which is kept. It takes no memory.
+    pub fn next<D: SectorDevice>(&mut self, txn: &Txn, pages: &mut Pages<D>, row: &mut Row) -> bool
+        requires begun { txn_pages txn.now ≡ count_of pages.old }
+        ensures quiet { IsQuiet pages.old pages.new }
+        ensures rows { (disk_in pages.new).is_honest → (m : KeyMap) (rest : List Entry) → InTxn txn.now (stored pages.old) m → Rest self.old (entries m) rest → IsNextRow result self.new row.new (entries m) rest }
+        ensures passed { fault_in self.new ≡ None → Passed pages.old pages.new }
+        ensures fault { fault_in self.old ≡ None → IfSome (fault_in self.new) (λ e. ScanErr (CanScan self.old) txn.now pages.old pages.new e) }
+        ensures going { result ≡ true → (has_ended self.new ≡ false) × (fault_in self.new ≡ fault_in self.old) }
+        ensures ended { result ≡ false → has_ended self.new ≡ true }
+        ensures kept { has_ended self.old ≡ true → (self.new ≡ self.old) × (pages.new ≡ pages.old) }
+    {
+        if self.ended {
+            return false;
+        }
+        match step(txn, pages, &self.prefix, &mut self.leaf, row) {
+            Ok(true) => true,
+            Ok(false) => {
+                self.ended = true;
+                false
+            }
+            Err(fault) => {
+                self.ended = true;
+                self.fault = Some(fault);
+                false
+            }
+        }
+    }
+
+    /// The fault that ended it, if there was one.
+    pub fn fault(&self) -> Option<TreeError>
+        ensures { result ≡ fault_in self.now }
+    {
+        self.fault
+    }
+}
+
+/// Takes the next row: whether its key begins with the prefix, if there is one.
+fn step<D: SectorDevice>(
+    txn: &Txn,
+    pages: &mut Pages<D>,
+    prefix: &SmallBytes,
+    leaf: &mut Leaf,
+    row: &mut Row,
+) -> Result<bool, TreeError>
+    requires begun { txn_pages txn.now ≡ count_of pages.old }
+    ensures quiet { IsQuiet pages.old pages.new }
+    ensures rows { (disk_in pages.new).is_honest → (m : KeyMap) (rest : List Entry) → InTxn txn.now (stored pages.old) m → IsReady prefix.now leaf.old (entries m) rest → IfOk result (λ found. IsStep found prefix.now leaf.new row.new (entries m) rest) }
+    ensures passed { OnOk result (Passed pages.old pages.new) }
+    ensures err { IfErr result (λ e. ScanErr (CanStep prefix.now leaf.old) txn.now pages.old pages.new e) }
+{
+    refill(txn, pages, leaf)?;
+    if leaf.left == 0 {
+        return Ok(false);
+    }
+    take_row(leaf, row)?;
+    Ok(row.key.as_slice().starts_with(prefix.as_slice()))
+}
+
+/// Reads the next leaf where no row of this one is left.
+fn refill<D: SectorDevice>(
+    txn: &Txn,
+    pages: &mut Pages<D>,
+    leaf: &mut Leaf,
+) -> Result<(), TreeError>
+    requires begun { txn_pages txn.now ≡ count_of pages.old }
+    ensures quiet { IsQuiet pages.old pages.new }
+    ensures rows { (disk_in pages.new).is_honest → (m : KeyMap) (prefix : List ℕ) (rest : List Entry) → InTxn txn.now (stored pages.old) m → IsReady prefix leaf.old (entries m) rest → OnOk result (IsReady prefix leaf.new (entries m) rest × (leaf.new.left ≡ 0 → rest ≡ [])) }
+    ensures passed { OnOk result (Passed pages.old pages.new) }
+    ensures err { IfErr result (λ e. GetErr txn.now pages.old pages.new e) }
+{
+    if leaf.left > 0 {
+        return Ok(());
+    }
+    if !leaf.bounded {
+        return Ok(());
+    }
+    let mut from = SmallBytes::empty();
+    from.set(leaf.bound.as_slice());
+    leaf_from(txn, pages, from.as_slice(), leaf)
+}

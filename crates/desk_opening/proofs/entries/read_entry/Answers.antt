@@ -1,0 +1,56 @@
+use Rattle.std.proofs.Common.{◌<◌, ◌≤◌, ◌+◌, List, ℕ, [], length, get_or, sym, ap, subst, ◌∙◌, take_all, arith}
+use Rattle.desk_model.specs.Desk.{Plan}
+use Rattle.page_store.specs.Stops.{quiet_more, passed_more}
+use Rattle.page_btree.specs.Map.{InTxn}
+use Rattle.row_table.specs.Outcomes.{match_of}
+use Rattle.row_table.specs.Appending.{AppendErr, then_unappended}
+use Rattle.desk_opening.specs.Reading.{HasRead, IsPlanRow, IsOfBlocks}
+use Rattle.desk_opening.proofs.Revisions.{of_blocks, one_revision_more}
+use Rattle.desk_opening.proofs.entries.read_entry.Goals as goal
+
+pub returns-in_err-entry-clause-quiet : goal.returns-in_err-entry-clause-quiet
+returns-in_err-entry-clause-quiet g c = quiet_more c.args.pages.now c.loop-before.pages c.with_next.new.pages c.loop-before.invariant.read.passed.quiet c.in_err-entry.ensures.quiet
+
+pub returns-in_err-entry-clause-read : goal.returns-in_err-entry-clause-read
+returns-in_err-entry-clause-read g c =
+    let says = IsPlanRow c.args.geography.now c.args.name c.args.row.now in
+    let i = c.loop-before.before in
+    let error = c.in_err-entry.field-0.0 in
+    match_of c.from_residual.result (λ entry. HasRead says (λ (plan : Plan). (c.args.name, plan)) c.args.txn.now c.args.pages.now c.with_next.new.pages entry) error (λ e. AppendErr says c.args.txn.now c.args.pages.now c.with_next.new.pages e) c.from_residual.ensures.1
+    (then_unappended says (IsOfBlocks c.args.geography.now c.args.row.now.number (i + 1)) c.args.txn.now c.args.pages.now c.loop-before.pages c.with_next.new.pages error
+    (λ honest m p holds said. (get_or p.revisions i [], of_blocks c.args.geography.now c.args.name c.args.row.now m p i said c.loop-before-test.true))
+    c.loop-before.invariant.read.passed c.in_err-entry.ensures.quiet c.in_err-entry.ensures.read)
+
+pub loop-before-preserved : goal.loop-before-preserved
+loop-before-preserved g c =
+    let before = c.loop-before.invariant in
+    let now = c.in_ok-entry.ensures in
+    let i = c.loop-before.before in
+    let less = c.loop-before-test.true in
+    record {
+      read = record {
+        passed = passed_more c.args.pages.now c.loop-before.pages c.with_next.new.pages before.read.passed now.read.passed;
+        read = λ honest m p holds said.
+            let then = now.quiet.honest honest in
+            let still = subst (λ P. InTxn c.args.txn.now P m) (sym (before.read.passed.quiet.same then)) holds in
+            let many = said.revisions in
+            let within : i < length p.revisions = omega arith in
+            one_revision_more c.args.name p i c.loop-before.entry c.in_ok-entry.entry within (before.read.read then m p holds said)
+            (now.read.read honest m (get_or p.revisions i []) still (of_blocks c.args.geography.now c.args.name c.args.row.now m p i said less));
+      };
+      named = now.named ∙ before.named;
+      many = now.longer ∙ ap (λ n. n + 1) before.many;
+      begun = before.begun ∙ sym now.quiet.count;
+    }
+
+pub returns-clause-read : goal.returns-clause-read
+returns-clause-read g c =
+    let read = c.loop-before.invariant.read in
+    let last = c.loop-before-test.false in
+    record {
+      passed = read.passed;
+      read = λ honest m p holds said.
+          let many = said.revisions in
+          let end : length p.revisions ≤ c.loop-before.before = omega arith in
+          read.read honest m p holds said ∙ ap (λ (l : List (List ℕ)). (c.args.name, record p { revisions = l })) (take_all c.loop-before.before p.revisions end);
+    }

@@ -1,0 +1,34 @@
+-- What is read back of a desk.
+use Rattle.std.specs.Prelude.{◌≡◌, ◌≤◌, ℕ, List, length}
+use Rattle.sector_device.specs.declared.SectorDevice.{Ghosts}
+use Rattle.desk_model.specs.Geography.{Ground}
+use Rattle.desk_model.specs.Cuts.{cut}
+use Rattle.desk_model.specs.Desk.{Plan}
+use Rattle.desk_model.specs.Kind.{most_districts}
+use Rattle.page_store.specs.Transactions.{stored, disk_in, Passed}
+use Rattle.page_store.specs.declared.pages.Pages.{Pages}
+use Rattle.page_store.specs.declared.txn.Txn.{Txn}
+use Rattle.page_btree.specs.Map.{InTxn}
+use Rattle.store_keys.specs.declared.value.PlanRow.{PlanRow}
+use Rattle.store_rows.specs.Rows.{KeyMap}
+use Rattle.store_rows.specs.RevisionRows.{HasRevision}
+use Rattle.store_rows.specs.DeskRows.{HasPlan}
+
+-- `says` is what a map is to say of a value, and `told` what is read where it says that
+pub record HasRead {D : Type 0} {g : Ghosts D} {X V : Type 0} (says : KeyMap → X → Type 0) (told : X → V) (t : Txn) (old new : Pages D g) (value : V) : Type 0 where
+  pub passed : Passed old new
+  pub read : (disk_in new).is_honest → (m : KeyMap) (x : X) → InTxn t (stored old) m → says m x → value ≡ told x
+
+-- a revision of a plan has a district for each block
+pub record IsOfBlocks (g : Ground) (plan revision : ℕ) (m : KeyMap) (districts : List ℕ) : Type 0 where
+  pub has : HasRevision m plan revision (cut g districts)
+  pub whole : length districts ≡ length g.blocks
+
+-- the plan stands under the name with this row, and its size is one that plans may have
+pub record IsPlanRow (g : Ground) (name : List ℕ) (row : PlanRow) (m : KeyMap) (p : Plan) : Type 0 where
+  pub has : HasPlan m g name row.number p
+  pub kind : row.kind ≡ p.kind
+  pub districts : row.districts ≡ p.n
+  pub revisions : row.revisions ≡ length p.revisions
+  pub some : 1 ≤ p.n
+  pub few : p.n ≤ most_districts p.kind

@@ -1,0 +1,45 @@
+//! Reads plans into those that were read before.
+ghost use Rattle.std.specs.Prelude.{◌≡◌, ◌<◌, MatchResult, None};
+ghost use Rattle.std.specs.FinMap as map_of;
+ghost use Rattle.desk_model.specs.Cuts.{cuts_of};
+ghost use Rattle.desk_model.specs.Step.{plan_limit};
+ghost use Rattle.page_store.specs.Transactions.{count_of, txn_pages, IsQuiet};
+ghost use Rattle.row_table.specs.Appending.{AppendErr};
+ghost use Rattle.desk_opening.specs.Reading.{HasRead, IsPlanRow};
+
+use crate::entries::read_entry;
+use desk_model::cuts::Cut;
+use desk_model::geography::Geography;
+use desk_model::name::PlanName;
+use desk_plans::plans::Plans;
+use page_store::{Pages, Txn};
+use row_table::TreeError;
+use sector_device::SectorDevice;
+use std::alloc::Global;
+use store_keys::PlanRow;
+
+/// These plans with the one that stands under a name with this row. `cuts` and `names` are as `read_entry` has them.
+pub fn add_plan<D: SectorDevice>(
+    alloc: Global,
+    txn: &Txn,
+    pages: &mut Pages<D>,
+    geography: &Geography,
+    cuts: &[Cut],
+    names: &mut Vec<u64>,
+    plans: &Plans,
+    name: PlanName,
+    row: &PlanRow,
+) -> Result<Plans, TreeError>
+    requires begun { txn_pages txn.now ≡ count_of pages.old }
+    requires cut { cuts.now ≡ cuts_of geography.now }
+    requires missing { map_of.get plans.now name ≡ None }
+    requires room { map_of.len plans.now < plan_limit }
+    ensures quiet { IsQuiet pages.old pages.new }
+    ensures read { MatchResult result (λ all. HasRead (IsPlanRow geography.now name row.now) (λ plan. map_of.insert plans.now name plan) txn.now pages.old pages.new all) (λ e. AppendErr (IsPlanRow geography.now name row.now) txn.now pages.old pages.new e) }
+{
+    let entry = read_entry(alloc, txn, pages, geography, cuts, names, name, row)?;
+    match plans.insert(alloc, entry) {
+        Ok(all) => Ok(all),
+        Err(_) => Err(TreeError::Memory),
+    }
+}

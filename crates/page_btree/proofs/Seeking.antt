@@ -1,0 +1,311 @@
+-- The leaf in whose range a key falls, among all rows.
+use Rattle.std.proofs.Common.{◌≡◌, ◌⊎◌, ◌<◌, ◌-◌, inl, inr, ℕ, List, [], ◌∷◌, ◌++◌, length, Bool, true, false, cond, refl, sym, ap, subst, ◌∙◌, arith, append_assoc}
+use Rattle.std.specs.Prelude.{Option, Some, None, Result, Ok, Err, OnOk}
+use Rattle.std.specs.Ordering.{is_gt}
+use Rattle.std.specs.Cmp.Lexicographic.{nat_list_cmp_total}
+use Rattle.std.specs.List.{AllByRecursion}
+use Rattle.std.specs.declared.cmp.Ordering.{Ordering}
+use Rattle.std.specs.declared.cmp.Ordering.TheVariants.{Less, Equal, Greater}
+use Rattle.std.proofs.lemmas.Cmp.{tied_itself}
+use Rattle.std.proofs.lemmas.List.{append-nil}
+use Rattle.std.proofs.lemmas.List.Elements.{filter-append}
+use Rattle.sector_device.specs.Disk.{Image}
+use Rattle.page_node.specs.Entries.{Entry, IsEntry}
+use Rattle.page_node.specs.Node.{Node, IsNode}
+use Rattle.page_node.specs.Places.{key_cmp, is_from, entries_from}
+use Rattle.page_node.specs.Walking.{IsAhead}
+use Rattle.page_node.specs.Laws.{flip_less, flip_greater, less_trans, same_key}
+use Rattle.std.specs.FinMap.{entries}
+use Rattle.std.proofs.lemmas.List.Elements.{All-nil}
+use Rattle.page_btree.specs.Keys.{KeyMap, IsBetween, IsUnder}
+use Rattle.page_btree.specs.Map.{IsBare, IsRooted}
+use Rattle.page_btree.specs.Tree.{Tree, Forest, leaf, inner, one, more, first_key, rows, forest_rows, IsTree, AreTrees}
+use Rattle.page_btree.specs.Getting.{CanGet}
+use Rattle.page_btree.specs.Seeking.{bound_in, leaf_of, forest_leaf, bound_of, forest_bound, IsRead, IsNext, IsFrom}
+use Rattle.page_btree.specs.declared.seeks.Leaf.{Leaf}
+use Rattle.page_btree.specs.declared.error.TreeError.{TreeError}
+use Rattle.page_btree.proofs.Descent.{node_of}
+use Rattle.page_btree.proofs.Tops.{every_key}
+use Rattle.page_btree.proofs.Rows.{Each, all_map, all_append, all_front, all_rest, less_from, from_then, less_is_from, key_before, wider_under}
+use Rattle.page_btree.proofs.Within.{within_trees, rows_behind}
+
+-- ---- on the way down
+-- the node of a page in whose range a key falls
+pub its_node : (n : ℕ) (P : Image) (d : ℕ) (key page : List ℕ) → CanGet n P d key page → (node : Node) × IsNode page node
+its_node n P d key page can =
+    let node = node_of P d can.low can.high can.tree can.tree_is in
+    (node.0, subst (λ bytes. IsNode bytes node.0) (sym can.page_is) node.1)
+
+pub read_more : (t u : Tree) (up below : Option (List ℕ)) (key : List ℕ) (held : Leaf) → leaf_of u key ≡ leaf_of t key → bound_of u below key ≡ bound_of t up key → IsRead u below key held → IsRead t up key held
+read_more t u up below key held same bound is = record {
+  ahead = subst (λ (es : List Entry). IsAhead held.page held.at (entries_from key es)) same is.ahead;
+  left_is = is.left_is ∙ ap (λ (es : List Entry). length (entries_from key es)) same;
+  bound_is = is.bound_is ∙ bound;
+}
+
+at_leaf : (t : Tree) (P : Image) (d : ℕ) (low : List ℕ) (high up : Option (List ℕ)) (key : List ℕ) (held : Leaf) → d ≡ 0 → IsTree P d low high t → bound_in held ≡ up → IsAhead held.page held.at (entries_from key (rows t)) → held.left ≡ length (entries_from key (rows t)) → IsRead t up key held
+at_leaf (leaf p es) P d low high up key held none is bound ahead left = record { ahead = ahead; left_is = left; bound_is = bound }
+at_leaf (inner p f) P d low high up key held none is bound ahead left = absurd (let some = is.0 in omega arith)
+
+pub read_at_leaf : (n : ℕ) (P : Image) (d : ℕ) (key page : List ℕ) (can : CanGet n P d key page) → d ≡ 0 → {T : Type 0} (r : Result T TreeError) (held : Leaf) (up : Option (List ℕ)) → bound_in held ≡ up → OnOk r (IsAhead held.page held.at (entries_from key (rows can.tree))) → OnOk r (held.left ≡ length (entries_from key (rows can.tree))) → OnOk r (IsRead can.tree up key held)
+read_at_leaf n P d key page can none (Ok x) held up bound ahead left = at_leaf can.tree P d can.low can.high up key held none can.tree_is bound ahead left
+read_at_leaf n P d key page can none (Err e) held up bound ahead left = tt
+
+-- ---- between bounds
+-- from a bound on; nothing is behind the last leaf
+abbrev IsBehind : Option (List ℕ) → List ℕ → Type 0
+IsBehind None x = ⊥
+IsBehind (Some bound) x = is_gt (key_cmp bound x) ≡ false
+
+abbrev IsWithin : Option (List ℕ) → Option (List ℕ) → Type 0
+IsWithin bound None = Unit {0}
+IsWithin None (Some high) = ⊥
+IsWithin (Some bound) (Some high) = is_gt (key_cmp bound high) ≡ false
+
+lower_of : (x y z : List ℕ) (r : Ordering) → key_cmp x y ≡ r → is_gt r ≡ false → is_gt (key_cmp y z) ≡ false → is_gt (key_cmp x z) ≡ false
+lower_of x y z Less is from lower = less_is_from x z (less_from x y z is lower)
+lower_of x y z Equal is from lower = ap (λ k. is_gt (key_cmp k z)) (same_key x y is) ∙ lower
+lower_of x y z Greater is from lower = cc
+
+behind_high : (bound : Option (List ℕ)) (q : List ℕ) → IsWithin bound (Some q) → (x : List ℕ) → is_gt (key_cmp q x) ≡ false → IsBehind bound x
+behind_high None q within x from = within
+behind_high (Some b) q within x from = lower_of b q x (key_cmp b q) refl within from
+
+within_wider : (bound : Option (List ℕ)) (q : List ℕ) (high : Option (List ℕ)) → IsWithin bound (Some q) → IsUnder q high → IsWithin bound high
+within_wider bound q None within under = tt
+within_wider None q (Some h) within under = within
+within_wider (Some b) q (Some h) within under = less_is_from b h (from_then b q h (key_cmp b q) refl within under)
+
+within_itself : (high : Option (List ℕ)) → IsWithin high high
+within_itself None = tt
+within_itself (Some h) = ap is_gt (tied_itself nat_list_cmp_total h)
+
+-- ---- a leaf among a tree's rows
+pub record IsParted (key : List ℕ) (high : Option (List ℕ)) (all here : List Entry) (bound : Option (List ℕ)) : Type 0 where
+  pub before : List Entry
+  pub behind : List Entry
+  pub whole : all ≡ before ++ (here ++ behind)
+  pub below : Each Greater key before
+  pub under : AllByRecursion (λ e. IsUnder e.0 bound) here
+  pub rest : AllByRecursion (λ e. IsBehind bound e.0) behind
+  pub above : IsUnder key bound
+  pub within : IsWithin bound high
+  pub some : 0 < length here
+
+parted_where : (b : Bool) (key : List ℕ) (high : Option (List ℕ)) (all this that : List Entry) (near far : Option (List ℕ)) → (b ≡ true → IsParted key high all this near) → (b ≡ false → IsParted key high all that far) → IsParted key high all (cond b this that) (cond b near far)
+parted_where true key high all this that near far first other = first refl
+parted_where false key high all this that near far first other = other refl
+
+mutual
+  pub parted : (P : Image) (d : ℕ) (low : List ℕ) (high : Option (List ℕ)) (key : List ℕ) (t : Tree) → IsTree P d low high t → IsBetween low high key → IsParted key high (rows t) (leaf_of t key) (bound_of t high key)
+  parted P d low high key (leaf p es) is between = record {
+    before = [];
+    behind = [];
+    whole = sym (append-nil es);
+    below = tt;
+    under = all_map (λ e. IsBetween low high e.0) (λ e. IsUnder e.0 high) (λ e b. b.under) es is.1.within;
+    rest = tt;
+    above = between.under;
+    within = within_itself high;
+    some = is.1.some;
+  }
+  parted P d low high key (inner p f) is between = parted_all P (d - 1) low high key f is.2 between
+
+  pub parted_all : (P : Image) (d : ℕ) (low : List ℕ) (high : Option (List ℕ)) (key : List ℕ) (f : Forest) → AreTrees P d low high f → IsBetween low high key → IsParted key high (forest_rows f) (forest_leaf f key) (forest_bound f high key)
+  parted_all P d low high key (one k t) is between = parted P d low high key t is between
+  parted_all P d low high key (more k t f) is between =
+      parted_where (is_gt (key_cmp (first_key f) key)) key high (rows t ++ forest_rows f) (leaf_of t key) (forest_leaf f key) (bound_of t (Some (first_key f)) key) (forest_bound f high key)
+      (λ above.
+      let s = parted P d low (Some (first_key f)) key t is.0 (record { from = between.from; under = key_before (first_key f) key above }) in
+      record {
+        before = s.before;
+        behind = s.behind ++ forest_rows f;
+        whole = ap (λ (l : List Entry). l ++ forest_rows f) s.whole
+            ∙ append_assoc s.before (leaf_of t key ++ s.behind) (forest_rows f)
+            ∙ ap (λ (l : List Entry). s.before ++ l) (append_assoc (leaf_of t key) s.behind (forest_rows f));
+        below = s.below;
+        under = s.under;
+        rest = all_append (λ e. IsBehind (bound_of t (Some (first_key f)) key) e.0) s.behind (forest_rows f) s.rest
+            (all_map (λ e. IsBetween (first_key f) high e.0) (λ e. IsBehind (bound_of t (Some (first_key f)) key) e.0) (λ e b. behind_high (bound_of t (Some (first_key f)) key) (first_key f) s.within e.0 b.from) (forest_rows f) (within_trees P d (first_key f) high f is.2));
+        above = s.above;
+        within = within_wider (bound_of t (Some (first_key f)) key) (first_key f) high s.within is.1.under;
+        some = s.some;
+      })
+      (λ from.
+      let s = parted_all P d (first_key f) high key f is.2 (record { from = from; under = between.under }) in
+      record {
+        before = rows t ++ s.before;
+        behind = s.behind;
+        whole = ap (λ (l : List Entry). rows t ++ l) s.whole ∙ sym (append_assoc (rows t) s.before (forest_leaf f key ++ s.behind));
+        below = all_append (λ e. key_cmp key e.0 ≡ Greater) (rows t) s.before (rows_behind P d low (first_key f) key t is.0 from) s.below;
+        under = s.under;
+        rest = s.rest;
+        above = s.above;
+        within = s.within;
+        some = s.some;
+      })
+
+-- ---- the leaf that begins at a bound
+abbrev AllFrom : List ℕ → List Entry → Type 0
+AllFrom b es = AllByRecursion (λ e. is_gt (key_cmp b e.0) ≡ false) es
+
+pub record IsStart (low : List ℕ) (high : Option (List ℕ)) (b : List ℕ) (here : List Entry) : Type 0 where
+  pub from : is_gt (key_cmp low b) ≡ false
+  pub under : IsUnder b high
+  pub all : AllFrom b here
+
+either : (b : Bool) → (b ≡ true) ⊎ (b ≡ false)
+either true = inl refl
+either false = inr refl
+
+-- a forest's leaf at its lower end
+first_start : (P : Image) (d : ℕ) (low q : List ℕ) (high : Option (List ℕ)) (k : List ℕ) (t : Tree) (f : Forest) → AreTrees P d low high (more k t f) → first_key f ≡ q → IsStart low high q (forest_leaf (more k t f) q)
+first_start P d low q high k t f is same = subst (λ (b : List ℕ). IsStart low high b (forest_leaf (more k t f) b)) same (
+    let tied : is_gt (key_cmp (first_key f) (first_key f)) ≡ false = ap is_gt (tied_itself nat_list_cmp_total (first_key f)) in
+    let s = parted_all P d (first_key f) high (first_key f) f is.2 (record { from = tied; under = is.1.under }) in
+    let all = within_trees P d (first_key f) high f is.2 in
+    let each = all_map (λ e. IsBetween (first_key f) high e.0) (λ e. is_gt (key_cmp (first_key f) e.0) ≡ false) (λ e b. b.from) (forest_rows f) all in
+    let there = subst (AllFrom (first_key f)) s.whole each in
+    record {
+      from = less_is_from low (first_key f) is.1.above;
+      under = is.1.under;
+      all = subst (AllFrom (first_key f)) (sym (ap (λ (b : Bool). cond b (leaf_of t (first_key f)) (forest_leaf f (first_key f))) tied))
+          (all_front (λ e. is_gt (key_cmp (first_key f) e.0) ≡ false) (forest_leaf f (first_key f)) s.behind (all_rest (λ e. is_gt (key_cmp (first_key f) e.0) ≡ false) s.before (forest_leaf f (first_key f) ++ s.behind) there));
+    })
+
+mutual
+  pub starts : (P : Image) (d : ℕ) (low : List ℕ) (high : Option (List ℕ)) (key b : List ℕ) (t : Tree) → IsTree P d low high t → IsBetween low high key → bound_of t high key ≡ Some b → (high ≡ Some b) ⊎ IsStart low high b (leaf_of t b)
+  starts P d low high key b (leaf p es) is between e = inl e
+  starts P d low high key b (inner p f) is between e = starts_all P (d - 1) low high key b f is.2 between e
+
+  pub starts_all : (P : Image) (d : ℕ) (low : List ℕ) (high : Option (List ℕ)) (key b : List ℕ) (f : Forest) → AreTrees P d low high f → IsBetween low high key → forest_bound f high key ≡ Some b → (high ≡ Some b) ⊎ IsStart low high b (forest_leaf f b)
+  starts_all P d low high key b (one k t) is between e = starts P d low high key b t is between e
+  starts_all P d low high key b (more k t f) is between e = elim (either (is_gt (key_cmp (first_key f) key))) [
+    | inl above ↦
+        let told : bound_of t (Some (first_key f)) key ≡ Some b = sym (ap (λ (c : Bool). cond c (bound_of t (Some (first_key f)) key) (forest_bound f high key)) above) ∙ e in
+        elim (starts P d low (Some (first_key f)) key b t is.0 (record { from = between.from; under = key_before (first_key f) key above }) told) [
+          | inl same ↦ let q_is : first_key f ≡ b = cc in inr (first_start P d low b high k t f is q_is)
+          | inr s ↦
+              let up : is_gt (key_cmp (first_key f) b) ≡ true = ap is_gt (flip_less b (first_key f) s.under) in
+              inr (record {
+                from = s.from;
+                under = wider_under b (first_key f) high s.under is.1.under;
+                all = subst (AllFrom b) (sym (ap (λ (c : Bool). cond c (leaf_of t b) (forest_leaf f b)) up)) s.all;
+              })
+        ]
+    | inr from ↦
+        let told : forest_bound f high key ≡ Some b = sym (ap (λ (c : Bool). cond c (bound_of t (Some (first_key f)) key) (forest_bound f high key)) from) ∙ e in
+        elim (starts_all P d (first_key f) high key b f is.2 (record { from = from; under = between.under }) told) [
+          | inl same ↦ inl same
+          | inr s ↦ inr (record {
+            from = less_is_from low b (less_from low (first_key f) b is.1.above s.from);
+            under = s.under;
+            all = subst (AllFrom b) (sym (ap (λ (c : Bool). cond c (leaf_of t b) (forest_leaf f b)) s.from)) s.all;
+          })
+        ]
+  ]
+
+-- ---- rows from a key on
+from_none : (key : List ℕ) (es : List Entry) → Each Greater key es → entries_from key es ≡ []
+from_none key [] below = refl
+from_none key (e ∷ es) below = ap (λ (r : Ordering). cond (cond (is_gt r) false true) (e ∷ entries_from key es) (entries_from key es)) below.0 ∙ from_none key es below.1
+
+pub from_all : (key : List ℕ) (es : List Entry) → AllFrom key es → entries_from key es ≡ es
+from_all key [] from = refl
+from_all key (e ∷ es) from = ap (λ (b : Bool). cond (cond b false true) (e ∷ entries_from key es) (entries_from key es)) from.0 ∙ ap (λ (l : List Entry). e ∷ l) (from_all key es from.1)
+
+pub record IsLeafAt (key : List ℕ) (all here : List Entry) (bound : Option (List ℕ)) : Type 0 where
+  pub behind : List Entry
+  pub rows_are : entries_from key all ≡ entries_from key here ++ behind
+  pub next : IsNext bound all behind
+
+from_three : (key : List ℕ) (xs ys zs : List Entry) → entries_from key (xs ++ (ys ++ zs)) ≡ entries_from key xs ++ (entries_from key ys ++ entries_from key zs)
+from_three key xs ys zs = filter-append (is_from key) xs (ys ++ zs) ∙ ap (λ (l : List Entry). entries_from key xs ++ l) (filter-append (is_from key) ys zs)
+
+parts_from : (key : List ℕ) (xs ys zs : List Entry) → Each Greater key xs → AllFrom key zs → entries_from key (xs ++ (ys ++ zs)) ≡ entries_from key ys ++ zs
+parts_from key xs ys zs below from = from_three key xs ys zs ∙ (λ i. from_none key xs below i ++ (entries_from key ys ++ from_all key zs from i))
+
+pub leaf_at : (key : List ℕ) (all here : List Entry) (bound : Option (List ℕ)) → IsParted key None all here bound → IsLeafAt key all here bound
+leaf_at key all here None p = record {
+  behind = [];
+  rows_are = ap (entries_from key) p.whole ∙ parts_from key p.before here p.behind p.below (all_map (λ e. ⊥) (λ e. is_gt (key_cmp key e.0) ≡ false) (λ e none. absurd none) p.behind p.rest) ∙ ap (λ (l : List Entry). entries_from key here ++ l) (nothing p.behind p.rest);
+  next = refl;
+}
+  where
+    nothing : (es : List Entry) → AllByRecursion (λ e. ⊥) es → es ≡ []
+    nothing [] none = refl
+    nothing (e ∷ es) none = absurd none.0
+leaf_at key all here (Some b) p = record {
+  behind = p.behind;
+  rows_are = ap (entries_from key) p.whole ∙ parts_from key p.before here p.behind p.below (all_map (λ e. is_gt (key_cmp b e.0) ≡ false) (λ e. is_gt (key_cmp key e.0) ≡ false) (λ e from. less_is_from key e.0 (less_from key b e.0 p.above from)) p.behind p.rest);
+  next = sym (ap (entries_from b) p.whole
+      ∙ parts_from b p.before here p.behind (all_map (λ e. key_cmp key e.0 ≡ Greater) (λ e. key_cmp b e.0 ≡ Greater) (λ e below. flip_less e.0 b (less_trans e.0 key b (flip_greater key e.0 below) p.above)) p.before p.below) p.rest
+      ∙ ap (λ (l : List Entry). l ++ p.behind) (from_none b here (all_map (λ e. IsUnder e.0 (Some b)) (λ e. key_cmp b e.0 ≡ Greater) (λ e less. flip_less e.0 b less) here p.under)));
+}
+
+-- ---- from the root
+top_parted : (n : ℕ) (P : Image) (root : ℕ) (free : List ℕ) (m : KeyMap) (r : IsRooted n P root free m) (key : List ℕ) → IsParted key None (entries m) (leaf_of r.tree key) (bound_of r.tree None key)
+top_parted n P root free m r key = subst (λ (all : List Entry). IsParted key None all (leaf_of r.tree key) (bound_of r.tree None key)) r.rows_are (parted P r.level [] None key r.tree r.stands (every_key key))
+
+top_leaf : (n : ℕ) (P : Image) (root : ℕ) (free : List ℕ) (m : KeyMap) (r : IsRooted n P root free m) (key : List ℕ) → IsLeafAt key (entries m) (leaf_of r.tree key) (bound_of r.tree None key)
+top_leaf n P root free m r key = leaf_at key (entries m) (leaf_of r.tree key) (bound_of r.tree None key) (top_parted n P root free m r key)
+
+pub from_read : (n : ℕ) (P : Image) (root : ℕ) (free : List ℕ) (m : KeyMap) (r : IsRooted n P root free m) (key : List ℕ) (held : Leaf) → IsRead r.tree None key held → (held.left ≡ 0 → bound_in held ≡ None) → IsFrom key (entries m) held
+from_read n P root free m r key held is last =
+    let at = top_leaf n P root free m r key in
+    let next = subst (λ (b : Option (List ℕ)). IsNext b (entries m) at.behind) (sym is.bound_is) at.next in
+    record {
+      here = entries_from key (leaf_of r.tree key);
+      behind = at.behind;
+      ahead = is.ahead;
+      left_is = is.left_is;
+      rows_are = at.rows_are;
+      next = next;
+      some = λ none. subst (λ (b : Option (List ℕ)). IsNext b (entries m) at.behind) (last none) next;
+    }
+
+no_entries : (es : List Entry) → length es ≡ 0 → es ≡ []
+no_entries [] none = refl
+no_entries (e ∷ es) none = absurd (omega arith)
+
+pub from_behind : (n : ℕ) (P : Image) (root : ℕ) (free : List ℕ) (m : KeyMap) (r : IsRooted n P root free m) (key b : List ℕ) (first held : Leaf) → IsRead r.tree None key first → first.left ≡ 0 → bound_in first ≡ Some b → IsRead r.tree None b held → 0 < held.left → IsFrom key (entries m) held
+from_behind n P root free m r key b first held is none bound there some =
+    let at = top_leaf n P root free m r key in
+    let then = top_leaf n P root free m r b in
+    let ahead : entries_from key (leaf_of r.tree key) ≡ [] = no_entries (entries_from key (leaf_of r.tree key)) (sym is.left_is ∙ none) in
+    let behind : at.behind ≡ entries_from b (entries m) = subst (λ (c : Option (List ℕ)). IsNext c (entries m) at.behind) (sym is.bound_is ∙ bound) at.next in
+    record {
+      here = entries_from b (leaf_of r.tree b);
+      behind = then.behind;
+      ahead = there.ahead;
+      left_is = there.left_is;
+      rows_are = at.rows_are ∙ ap (λ (l : List Entry). l ++ at.behind) ahead ∙ behind ∙ then.rows_are;
+      next = subst (λ (c : Option (List ℕ)). IsNext c (entries m) then.behind) (sym there.bound_is) then.next;
+      some = λ nothing. absurd (omega arith);
+    }
+
+-- a leaf that begins at a bound has a row
+pub some_behind : (n : ℕ) (P : Image) (root : ℕ) (free : List ℕ) (m : KeyMap) (r : IsRooted n P root free m) (key b : List ℕ) (first held : Leaf) → IsRead r.tree None key first → bound_in first ≡ Some b → IsRead r.tree None b held → 0 < held.left
+some_behind n P root free m r key b first held is bound there = elim (starts P r.level [] None key b r.tree r.stands (every_key key) (sym is.bound_is ∙ bound)) [
+  | inl none ↦ absurd (clash none)
+  | inr s ↦
+      let all = from_all b (leaf_of r.tree b) s.all in
+      let long : length (entries_from b (leaf_of r.tree b)) ≡ length (leaf_of r.tree b) = ap (λ (l : List Entry). length l) all in
+      let some = (top_parted n P root free m r b).some in
+      let left_is = there.left_is in
+      omega arith
+]
+  where
+    clash : None ≡ Some b → ⊥
+    clash e = cc
+
+pub from_bare : (n root : ℕ) (free : List ℕ) (m : KeyMap) (key : List ℕ) (held : Leaf) → IsBare n root free m → held.at ≡ 0 → held.left ≡ 0 → bound_in held ≡ None → IsFrom key (entries m) held
+from_bare n root free m key held bare at left bound = record {
+  here = [];
+  behind = [];
+  ahead = record { body = refl; entries = All-nil IsEntry; within = omega arith };
+  left_is = left;
+  rows_are = ap (entries_from key) bare.none;
+  next = subst (λ (b : Option (List ℕ)). IsNext b (entries m) []) (sym bound) refl;
+  some = λ none. refl;
+}

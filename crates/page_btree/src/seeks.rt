@@ -1,0 +1,186 @@
+//! Finds the leaf from which rows are read one after the other.
+ghost use Rattle.std.specs.Prelude.{◌≡◌, length, None, OnOk, OnErr, IfErr};
+ghost use Rattle.std.specs.FinMap.{entries};
+ghost use Rattle.sector_device.specs.Disk.{Image};
+ghost use Rattle.page_store.specs.Transactions.{stored, disk_in, count_of, txn_pages, txn_root, over, free_over, IsQuiet, Passed};
+ghost use Rattle.page_node.specs.Entries.{Entry};
+ghost use Rattle.page_node.specs.Node.{Node, IsNode};
+ghost use Rattle.page_node.specs.Places.{Rises, ceiling, entries_from};
+ghost use Rattle.page_node.specs.Walking.{IsAhead};
+ghost use Rattle.page_btree.specs.Keys.{KeyMap};
+ghost use Rattle.page_btree.specs.Map.{InTxn, IsRooted};
+ghost use Rattle.page_btree.specs.Errors.{GetErr};
+ghost use Rattle.page_btree.specs.Getting.{CanGet, ReadsErr};
+ghost use Rattle.page_btree.specs.Seeking.{bound_in, nearer, IsRead, IsFrom};
+ghost use Rattle.page_btree.specs.declared.error.TreeError.TheVariants.{DeviceFault};
+
+use crate::error::TreeError;
+use crate::gets::read_level;
+use crate::small_bytes::SmallBytes;
+use page_node::{bound_for, child_for, level_of, place_from};
+use page_store::{Pages, Txn};
+use sector_device::SectorDevice;
+
+/// A leaf that is read, from a place in it on.
+#[derive(Drop)]
+pub struct Leaf {
+    /// Its page.
+    pub page: [u8; 4096],
+    /// Where the next row stands in the page.
+    pub at: usize,
+    /// How many rows stand there.
+    pub left: usize,
+    /// Whether other leaves follow.
+    pub bounded: bool,
+    /// Where they do, their rows are those from this key on.
+    pub bound: SmallBytes,
+}
+
+impl Leaf {
+    ghost use Rattle.std.specs.Prelude.{◌≡◌, [], false};
+
+    /// No leaf.
+    pub fn empty() -> Self
+        ensures at { result.at ≡ 0 }
+        ensures left { result.left ≡ 0 }
+        ensures bounded { result.bounded ≡ false }
+        ensures bound { result.bound ≡ [] }
+    {
+        Leaf {
+            page: [0; 4096],
+            at: 0,
+            left: 0,
+            bounded: false,
+            bound: SmallBytes::empty(),
+        }
+    }
+}
+
+/// Reads the leaf with the first row that isn't below a key, and stands before that row. Where there is none, no row is left. It
+/// takes no memory. An error is `DeviceFault`, where the device failed or holds what no store has, or `Halted`, where it had
+/// failed before.
+pub fn leaf_from<D: SectorDevice>(
+    txn: &Txn,
+    pages: &mut Pages<D>,
+    key: &[u8],
+    leaf: &mut Leaf,
+) -> Result<(), TreeError>
+    requires begun { txn_pages txn.now ≡ count_of pages.old }
+    ensures quiet { IsQuiet pages.old pages.new }
+    ensures rows { (disk_in pages.new).is_honest → (m : KeyMap) → InTxn txn.now (stored pages.old) m → OnOk result (IsFrom key.now (entries m) leaf.new) }
+    ensures passed { OnOk result (Passed pages.old pages.new) }
+    ensures err { IfErr result (λ e. GetErr txn.now pages.old pages.new e) }
+{
+    leaf_for(txn, pages, key, leaf)?;
+    if leaf.left > 0 {
+        return Ok(());
+    }
+    if !leaf.bounded {
+        return Ok(());
+    }
+    leaf_behind(txn, pages, leaf)?;
+    if leaf.left == 0 {
+        return Err(TreeError::DeviceFault);
+    }
+    Ok(())
+}
+
+/// Reads the leaf at another's bound in its place.
+fn leaf_behind<D: SectorDevice>(
+    txn: &Txn,
+    pages: &mut Pages<D>,
+    leaf: &mut Leaf,
+) -> Result<(), TreeError>
+    requires begun { txn_pages txn.now ≡ count_of pages.old }
+    ensures quiet { IsQuiet pages.old pages.new }
+    ensures read { (disk_in pages.new).is_honest → (m : KeyMap) (r : IsRooted (txn_pages txn.now) (over txn.now (stored pages.old)) (txn_root txn.now) (free_over txn.now (stored pages.old)) m) → OnOk result (IsRead r.tree None leaf.old.bound leaf.new) }
+    ensures passed { OnOk result (Passed pages.old pages.new) }
+    ensures err { IfErr result (λ e. GetErr txn.now pages.old pages.new e) }
+{
+    let mut from = SmallBytes::empty();
+    from.set(leaf.bound.as_slice());
+    leaf_for(txn, pages, from.as_slice(), leaf)
+}
+
+/// Reads the leaf in whose range a key falls, and stands before the first of its rows that isn't below the key.
+fn leaf_for<D: SectorDevice>(
+    txn: &Txn,
+    pages: &mut Pages<D>,
+    key: &[u8],
+    leaf: &mut Leaf,
+) -> Result<(), TreeError>
+    requires begun { txn_pages txn.now ≡ count_of pages.old }
+    ensures quiet { IsQuiet pages.old pages.new }
+    ensures bare { txn_root txn.now ≡ 0 → OnOk result ((leaf.new.at ≡ 0) × (leaf.new.left ≡ 0) × (bound_in leaf.new ≡ None)) }
+    ensures read { (disk_in pages.new).is_honest → (m : KeyMap) (r : IsRooted (txn_pages txn.now) (over txn.now (stored pages.old)) (txn_root txn.now) (free_over txn.now (stored pages.old)) m) → OnOk result (IsRead r.tree None key.now leaf.new) }
+    ensures passed { OnOk result (Passed pages.old pages.new) }
+    ensures err { IfErr result (λ e. GetErr txn.now pages.old pages.new e) }
+{
+    leaf.at = 0;
+    leaf.left = 0;
+    leaf.bounded = false;
+    let root = txn.root();
+    if root == 0 {
+        return Ok(());
+    }
+    txn.read(pages, root, &mut leaf.page)?;
+    let level = level_of(&leaf.page);
+    if level > 5 {
+        return Err(TreeError::DeviceFault);
+    }
+    leaf_below(txn, pages, leaf, level, key)
+}
+
+/// Reads the leaf below a page, which was read and is one of a node of this level.
+fn leaf_below<D: SectorDevice>(
+    txn: &Txn,
+    pages: &mut Pages<D>,
+    leaf: &mut Leaf,
+    level: u8,
+    key: &[u8],
+) -> Result<(), TreeError>
+    requires begun { txn_pages txn.now ≡ count_of pages.old }
+    ensures quiet { IsQuiet pages.old pages.new }
+    ensures read { (disk_in pages.new).is_honest → (can : CanGet (txn_pages txn.now) (over txn.now (stored pages.old)) level key.now leaf.old.page) → OnOk result (IsRead can.tree (bound_in leaf.old) key.now leaf.new) }
+    ensures passed { OnOk result (Passed pages.old pages.new) }
+    ensures err { IfErr result (λ e. ReadsErr (λ P. CanGet (txn_pages txn.now) (over txn.now P) level key.now leaf.old.page) pages.old pages.new e) }
+{
+    if level == 0 {
+        return stand(leaf, key);
+    }
+    let child = child_for(&leaf.page, key)?;
+    keep_bound(leaf, key)?;
+    read_level(txn, pages, child, level - 1, &mut leaf.page)?;
+    leaf_below(txn, pages, leaf, level - 1, key)
+}
+
+/// Stands before the first row that isn't below a key.
+fn stand(leaf: &mut Leaf, key: &[u8]) -> Result<(), TreeError>
+    ensures rows { (node : Node) → IsNode leaf.old.page node → Rises node.entries → OnOk result (IsAhead leaf.new.page leaf.new.at (entries_from key.now node.entries)) }
+    ensures left { (node : Node) → IsNode leaf.old.page node → Rises node.entries → OnOk result (leaf.new.left ≡ length (entries_from key.now node.entries)) }
+    ensures bound { bound_in leaf.new ≡ bound_in leaf.old }
+    ensures err { IfErr result (λ e. e ≡ DeviceFault) }
+    ensures refused { OnErr result ((node : Node) → IsNode leaf.old.page node → ⊥) }
+{
+    let place = place_from(&leaf.page, key)?;
+    leaf.at = place.at;
+    leaf.left = place.left;
+    Ok(())
+}
+
+/// Keeps the first key in a node above the leaves that is above this one, as the bound.
+fn keep_bound(leaf: &mut Leaf, key: &[u8]) -> Result<(), TreeError>
+    ensures page { leaf.new.page ≡ leaf.old.page }
+    ensures bound { (node : Node) → IsNode leaf.old.page node → OnOk result (bound_in leaf.new ≡ nearer (ceiling key.now node.entries) (bound_in leaf.old)) }
+    ensures err { IfErr result (λ e. e ≡ DeviceFault) }
+    ensures refused { OnErr result ((node : Node) → IsNode leaf.old.page node → ⊥) }
+{
+    match bound_for(&leaf.page, key)? {
+        None => Ok(()),
+        Some(bound) => {
+            leaf.bound.set(bound);
+            leaf.bounded = true;
+            Ok(())
+        }
+    }
+}

@@ -1,0 +1,50 @@
+use Rattle.std.proofs.Common.{◌≡◌, ℕ, ◌+◌, ◌-◌, ◌<◌, ◌≤◌, List, length, take, drop, true, false, arith, sym, ap, ◌∙◌, subst, below_more}
+use Rattle.std.specs.Ordering.{is_gt, is_lt}
+use Rattle.std.specs.declared.cmp.Ordering.TheVariants.{Less}
+use Rattle.std.proofs.lemmas.List.{length-drop}
+use Rattle.page_node.specs.Entries.{Entry, key_at, size_of}
+use Rattle.page_node.specs.Node.{Node, IsNode}
+use Rattle.page_node.specs.Places.{key_cmp, entries_from}
+use Rattle.page_node.specs.Walking.{IsAhead, node_ahead_at}
+use Rattle.page_node.specs.Laws.{entries_from_at, from_middle, not_below, is_less}
+use Rattle.page_node.proofs.Scanning.{lies_there, entry_of, end_there, key_part}
+use Rattle.page_node.proofs.search.place_from.Goals as goal
+
+found : (page key : List ℕ) (node : Node) (k at left : ℕ) → IsNode page node → at ≡ 4 + size_of (take k node.entries) → k ≤ length node.entries → left ≡ length node.entries - k → ((j : ℕ) → j < k → key_cmp (key_at node.entries j) key ≡ Less) → ((j : ℕ) → k ≤ j → j < length node.entries → is_gt (key_cmp key (key_at node.entries j)) ≡ false)
+    → IsAhead page at (entries_from key node.entries) × (left ≡ length (entries_from key node.entries))
+found page key node k at left is place within left_is below from =
+    let same : entries_from key node.entries ≡ drop k node.entries = entries_from_at key node.entries k within below from in (
+      subst (λ (es : List Entry). IsAhead page at es) (sym same) (node_ahead_at page node k at is place),
+      left_is ∙ sym (length-drop k node.entries) ∙ ap (λ (es : List Entry). length es) (sym same),
+    )
+
+pub returns-in-None-clause-err : goal.returns-in-None-clause-err
+returns-in-None-clause-err c = λ node is.
+    let place = c.loop-k.invariant node is in
+    let n = is.count in
+    lies_there _ node c.loop-k.k c.loop-k.at is (omega arith) place.0 c.in-None.ensures.none
+
+pub returns-then-not-is_below-clause-place : goal.returns-then-not-is_below-clause-place
+returns-then-not-is_below-clause-place c = λ node is rises.
+    let place = c.loop-k.invariant node is in
+    let n = is.count in
+    let e = entry_of _ node c.loop-k.k c.loop-k.at is (omega arith) place.0 in
+    let there = key_part _ _ _ _ _ _ e c.in-Some.ensures.some in
+    let from : is_lt (key_cmp (key_at node.entries c.loop-k.k) c.args.key.now) ≡ false = ap (λ l. is_lt (key_cmp l c.args.key.now)) (sym there) ∙ sym c.is_below.ensures ∙ c.if-not-is_below.true in
+    found _ c.args.key.now node c.loop-k.k c.loop-k.at _ is place.0 (omega arith) (omega arith) place.1
+    (from_middle node.entries c.args.key.now c.loop-k.k rises (not_below (key_at node.entries c.loop-k.k) c.args.key.now from))
+
+pub loop-k-preserved : goal.loop-k-preserved
+loop-k-preserved c = λ node is.
+    let lies = c.in-Some.ensures.some in
+    let place = c.loop-k.invariant node is in
+    let n = is.count in
+    let e = entry_of _ node c.loop-k.k c.loop-k.at is (omega arith) place.0 in
+    let below : is_lt (key_cmp (key_at node.entries c.loop-k.k) c.args.key.now) ≡ true = ap (λ l. is_lt (key_cmp l c.args.key.now)) (sym (key_part _ _ _ _ _ _ e lies)) ∙ sym c.is_below.ensures ∙ c.if-not-is_below.false in
+    (end_there _ _ _ _ _ _ e lies, below_more _ _ place.1 (is_less _ below))
+
+pub returns-clause-place : goal.returns-clause-place
+returns-clause-place c = λ node is rises.
+    let place = c.loop-k.invariant node is in
+    let n = is.count in
+    found _ c.args.key.now node c.loop-k.k c.loop-k.at 0 is place.0 (omega arith) (omega arith) place.1 (λ j le less. absurd (omega arith))

@@ -1,0 +1,154 @@
+-- Chunks are drawn county by county.
+use Rattle.std.proofs.Common.{◌≡◌, ◌⊎◌, ◌<◌, ◌≤◌, ◌+◌, ◌*◌, ◌^◌, ℕ, zero, suc, cond, List, [], ◌∷◌, ◌++◌, map, length, get_or, All, Option, refl, sym, ap, subst, ◌∙◌, inl, inr, arith, length-append}
+use Rattle.std.specs.Prelude.{Bool, nat_eq, filter, sum_by}
+use Rattle.std.specs.List.{zip}
+use Rattle.std.specs.Cmp.Lexicographic.{pointwise, same_text}
+use Rattle.std.proofs.lemmas.Bool.{cases_Bool, not-false}
+use Rattle.std.proofs.lemmas.List.Elements.{All-nil, All-cons}
+use Rattle.std.proofs.lemmas.List.Sums.{sum_by-cons}
+use Rattle.desk_model.specs.Geography.{Ground}
+use Rattle.desk_model.specs.Cuts.{sizes}
+use Rattle.desk_model.specs.Room.{rows_for, differs, changed, revision_rows}
+use Rattle.store_keys.specs.Keys.{key_of, counters, named}
+use Rattle.store_keys.specs.Values.{plan_bytes, counters_bytes}
+use Rattle.store_keys.specs.declared.value.Counters.{Counters}
+use Rattle.store_keys.specs.declared.value.PlanRow.{PlanRow}
+use Rattle.store_rows.specs.Rows.{KeyMap}
+use Rattle.store_rows.specs.Puts.{Row, length-rows_told}
+use Rattle.store_rows.specs.ChunkRows.{piece_row, chunk_rows}
+use Rattle.store_rows.specs.NameRows.{name_row, name_rows}
+use Rattle.store_rows.specs.Steps.{chunks_more, one_revision_more}
+use Rattle.store_rows.specs.RevisionSteps.{IsChunkList, IsKeptChunk, AreKept, IsDrawn, new_chunk_rows, rows_of_revision}
+use Rattle.store_rows.specs.Draws.{draw, redrawn, draw_all}
+
+-- a county keeps its chunk where it is as before, or gets one of the new ones
+abbrev IsDrawnAt : ℕ → List ℕ → List (List ℕ) → List (List ℕ) → List ℕ → List (List ℕ) → ℕ → Type 0
+IsDrawnAt next numbers olds lists drawn news k = ((get_or drawn k 0 ≡ get_or numbers k 0) × (get_or olds k [] ≡ get_or news k []))
+    ⊎ ((place : ℕ) × (place < length lists) × (get_or drawn k 0 ≡ next + place) × (get_or lists place [] ≡ get_or news k []))
+
+record Draws (next : ℕ) (numbers : List ℕ) (olds lists : List (List ℕ)) (drawn : List ℕ) (news : List (List ℕ)) : Type 0 where
+  count : length drawn ≡ length news
+  each : (k : ℕ) → k < length news → IsDrawnAt next numbers olds lists drawn news k
+  used : (place : ℕ) → place < length lists → (k : ℕ) × (k < length news) × (get_or drawn k 0 ≡ next + place)
+  sound : All IsChunkList news → All IsChunkList lists
+
+rest_sound : (new : List ℕ) (news : List (List ℕ)) → All IsChunkList (new ∷ news) → All IsChunkList news
+rest_sound new news sound k d within = sound (suc k) d (omega arith)
+
+-- ---- one county more
+module _ (next number : ℕ) (numbers : List ℕ) (old new : List ℕ) (olds lists news : List (List ℕ)) (drawn : List ℕ) where
+  kept_each : Draws next numbers olds lists drawn news → old ≡ new → (k : ℕ) → k < length (new ∷ news) → IsDrawnAt next (number ∷ numbers) (old ∷ olds) lists (number ∷ drawn) (new ∷ news) k
+  kept_each draws same zero within = inl (refl, same)
+  kept_each draws same (suc k) within = draws.each k (omega arith)
+
+  kept_one : Draws next numbers olds lists drawn news → old ≡ new → Draws next (number ∷ numbers) (old ∷ olds) lists (number ∷ drawn) (new ∷ news)
+  kept_one draws same = record {
+    count = ap suc draws.count;
+    each = kept_each draws same;
+    used = λ place within. let (k, less, is) = draws.used place within in (suc k, omega arith, is);
+    sound = λ all. draws.sound (rest_sound new news all);
+  }
+
+  new_each : Draws (next + 1) numbers olds lists drawn news → (k : ℕ) → k < length (new ∷ news) → IsDrawnAt next (number ∷ numbers) (old ∷ olds) (new ∷ lists) (next ∷ drawn) (new ∷ news) k
+  new_each draws zero within = inr (zero, omega arith, omega arith, refl)
+  new_each draws (suc k) within = elim (draws.each k (omega arith)) [
+    | inl kept ↦ inl kept
+    | inr made ↦ (let place = made.0 in let less = made.1 in let is = made.2 in inr (suc place, omega arith, omega arith, made.3))
+  ]
+
+  new_used : Draws (next + 1) numbers olds lists drawn news → (place : ℕ) → place < length (new ∷ lists) → (k : ℕ) × (k < length (new ∷ news)) × (get_or (next ∷ drawn) k 0 ≡ next + place)
+  new_used draws zero within = (zero, omega arith, omega arith)
+  new_used draws (suc place) within = (let (k, less, is) = draws.used place (omega arith) in (suc k, omega arith, omega arith))
+
+  new_one : Draws (next + 1) numbers olds lists drawn news → Draws next (number ∷ numbers) (old ∷ olds) (new ∷ lists) (next ∷ drawn) (new ∷ news)
+  new_one draws = record {
+    count = ap suc draws.count;
+    each = new_each draws;
+    used = new_used draws;
+    sound = λ all. All-cons IsChunkList new lists (all 0 new (omega arith)) (draws.sound (rest_sound new news all));
+  }
+
+no_county : (next : ℕ) → Draws next [] [] [] [] []
+no_county next = record {
+  count = refl;
+  each = λ k within. absurd (omega arith);
+  used = λ place within. absurd (omega arith);
+  sound = λ all. All-nil IsChunkList;
+}
+
+all_drawn : (next : ℕ) (numbers : List ℕ) (olds news : List (List ℕ)) → length numbers ≡ length news → length olds ≡ length news → Draws next numbers olds (redrawn olds news) (draw next numbers olds news) news
+all_drawn next [] [] [] a b = no_county next
+all_drawn next [] [] (new ∷ news) a b = absurd (omega arith)
+all_drawn next [] (old ∷ olds) [] a b = absurd (omega arith)
+all_drawn next [] (old ∷ olds) (new ∷ news) a b = absurd (omega arith)
+all_drawn next (number ∷ numbers) [] [] a b = absurd (omega arith)
+all_drawn next (number ∷ numbers) [] (new ∷ news) a b = absurd (omega arith)
+all_drawn next (number ∷ numbers) (old ∷ olds) [] a b = absurd (omega arith)
+all_drawn next (number ∷ numbers) (old ∷ olds) (new ∷ news) a b =
+    let shape = λ (t : Bool). Draws next (number ∷ numbers) (old ∷ olds) (map (λ (e : List ℕ × List ℕ). e.1) (cond t ((old, new) ∷ filter differs (zip olds news)) (filter differs (zip olds news))))
+    (cond t (next ∷ draw (next + 1) numbers olds news) (number ∷ draw next numbers olds news)) (new ∷ news) in
+    elim (cases_Bool (differs (old, new))) [
+      | inl is ↦ subst shape (sym is) (new_one next number numbers old new olds (redrawn olds news) news (draw (next + 1) numbers olds news) (all_drawn (next + 1) numbers olds news (omega arith) (omega arith)))
+      | inr is ↦ subst shape (sym is) (kept_one next number numbers old new olds (redrawn olds news) news (draw next numbers olds news) (all_drawn next numbers olds news (omega arith) (omega arith))
+          (same_text old new (sym (not-false (pointwise nat_eq old new) is))))
+    ]
+
+pub changes_drawn : (m : KeyMap) (next : Counters) (plan : ℕ) (numbers : List ℕ) (olds news : List (List ℕ)) → AreKept m plan numbers olds → length olds ≡ length news → length news ≤ 128 * 2 ^ 8 → All IsChunkList news
+    → IsDrawn m next plan (redrawn olds news) (draw next.chunk numbers olds news) news
+changes_drawn m next plan numbers olds news kept same few sound =
+    let drawn = draw next.chunk numbers olds news in
+    let lists = redrawn olds news in
+    let long : length numbers ≡ length news = kept.count ∙ same in
+    let draws : Draws next.chunk numbers olds lists drawn news = all_drawn next.chunk numbers olds news long same in
+    record {
+      few = (let count = draws.count in omega arith);
+      count = draws.count;
+      sound = draws.sound sound;
+      each = λ k within. elim (draws.each k within) [
+        | inl as_before ↦ inl (subst (λ x. IsKeptChunk m plan x (get_or news k [])) (sym as_before.0) (subst (λ (l : List ℕ). IsKeptChunk m plan (get_or numbers k 0) l) as_before.1 (kept.each k (omega arith))))
+        | inr made ↦ inr (record { place = made.0; within = made.1; is = made.2; same = made.3 })
+      ];
+      used = draws.used;
+    }
+
+-- ---- the first revision
+all_at : (next : ℕ) (news : List (List ℕ)) (k : ℕ) → k < length news → get_or (draw_all next news) k 0 ≡ next + k
+all_at next [] k within = absurd (omega arith)
+all_at next (new ∷ news) zero within = omega arith
+all_at next (new ∷ news) (suc k) within = all_at (next + 1) news k (omega arith) ∙ omega arith
+
+length-draw_all : (next : ℕ) (news : List (List ℕ)) → length (draw_all next news) ≡ length news
+length-draw_all next [] = refl
+length-draw_all next (new ∷ news) = ap suc (length-draw_all (next + 1) news)
+
+pub firsts_drawn : (m : KeyMap) (next : Counters) (plan : ℕ) (counties : List (List ℕ)) → length counties ≤ 128 * 2 ^ 8 → All IsChunkList counties → IsDrawn m next plan counties (draw_all next.chunk counties) counties
+firsts_drawn m next plan counties few sound =
+    let count = length-draw_all next.chunk counties in
+    record {
+      few = omega arith;
+      count = count;
+      sound = sound;
+      each = λ k within. inr (record { place = k; within = within; is = all_at next.chunk counties k within; same = refl });
+      used = λ place within. (place, within, all_at next.chunk counties place within);
+    }
+
+-- ---- how many rows
+rows_of_chunks : (first : ℕ) (lists : List (List ℕ)) → length (new_chunk_rows first lists) ≡ sum_by (λ part. rows_for 512 (length part)) lists
+rows_of_chunks first [] = refl
+rows_of_chunks first (districts ∷ lists) =
+    length-append (chunk_rows first districts) (new_chunk_rows (first + 1) lists)
+    ∙ ap (λ n. n + length (new_chunk_rows (first + 1) lists)) (length-rows_told (piece_row first districts) (rows_for 512 (length districts)))
+    ∙ ap (λ n. rows_for 512 (length districts) + n) (rows_of_chunks (first + 1) lists)
+    ∙ sym (sum_by-cons (λ part. rows_for 512 (length part)) districts lists)
+
+pub rows_counted : (g : Ground) (last : Option (List ℕ)) (new : List ℕ) (next : Counters) (name : List ℕ) (p : PlanRow) (numbers : List ℕ) → length numbers ≡ length (sizes g)
+    → length (rows_of_revision next name p (changed g last new) numbers) ≡ revision_rows g last new
+rows_counted g last new next name p numbers long =
+    let lists = changed g last new in
+    let names = name_rows p.number (p.revisions + 1) numbers in
+    let ends : List Row = (key_of (named name), plan_bytes (one_revision_more p)) ∷ (key_of counters, counters_bytes (chunks_more next (length lists))) ∷ [] in
+    let whole : length (rows_of_revision next name p lists numbers) ≡ length (new_chunk_rows next.chunk lists) + length (names ++ ends) = length-append (new_chunk_rows next.chunk lists) (names ++ ends) in
+    let chunks : length (new_chunk_rows next.chunk lists) ≡ sum_by (λ part. rows_for 512 (length part)) lists = rows_of_chunks next.chunk lists in
+    let behind : length (names ++ ends) ≡ length names + 2 = length-append names ends in
+    let told : length names ≡ rows_for 128 (length (sizes g)) = length-rows_told (name_row p.number (p.revisions + 1) numbers) (rows_for 128 (length numbers)) ∙ ap (rows_for 128) long in
+    omega arith
