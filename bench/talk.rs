@@ -139,15 +139,33 @@ fn head_of(bytes: &[u8]) -> Option<Head<'_>> {
     Some(Head { list: method == b"GET", target, length, chunked, size: at })
 }
 
+// the digits of a number, without the machinery of `write!`
+fn put_number(text: &mut String, mut number: usize) {
+    let mut digits = [0u8; 20];
+    let mut at = digits.len();
+    loop {
+        at -= 1;
+        digits[at] = b'0' + (number % 10) as u8;
+        number /= 10;
+        if number == 0 {
+            break;
+        }
+    }
+    text.push_str(std::str::from_utf8(&digits[at..]).unwrap());
+}
+
 // puts the answer behind those that wait
-fn answer(plans: &mut BTreeMap<String, (String, u16)>, list: bool, target: &str, body: &mut String, out: &mut Vec<u8>) {
+fn answer(plans: &mut BTreeMap<String, (String, u16)>, list: bool, target: &str, body: &mut String, out: &mut String) {
     let (path, query) = target.split_once('?').unwrap_or((target, ""));
     body.clear();
     let status = if list && path == "/plans" {
         *body += "{\"plans\":[";
         for (i, (name, (kind, n))) in plans.iter().enumerate() {
-            let comma = if i == 0 { "" } else { "," };
-            write!(body, "{comma}{{\"districts\":{n},\"kind\":\"{kind}\",\"name\":\"{name}\",\"revisions\":0}}").unwrap();
+            body.push_str(if i == 0 { "{\"districts\":" } else { ",{\"districts\":" });
+            put_number(body, *n as usize);
+            for part in [",\"kind\":\"", kind, "\",\"name\":\"", name, "\",\"revisions\":0}"] {
+                body.push_str(part);
+            }
         }
         *body += "]}";
         "200 OK"
@@ -173,11 +191,12 @@ fn answer(plans: &mut BTreeMap<String, (String, u16)>, list: bool, target: &str,
             }
         }
     };
-    for part in ["HTTP/1.1 ", status, "\r\nContent-Type: application/json\r\nContent-Length: "] {
-        out.extend_from_slice(part.as_bytes());
-    }
-    io::Write::write_fmt(out, format_args!("{}\r\n\r\n", body.len())).unwrap();
-    out.extend_from_slice(body.as_bytes());
+    out.push_str("HTTP/1.1 ");
+    out.push_str(status);
+    out.push_str("\r\nContent-Type: application/json\r\nContent-Length: ");
+    put_number(out, body.len());
+    out.push_str("\r\n\r\n");
+    out.push_str(body);
 }
 
 // bytes that have come, from start to end
@@ -252,9 +271,9 @@ fn talk() {
     let mut inbox = Inbox { buffer: vec![0; 65_536], start: 0, end: 0 };
     let (mut target, mut text) = (String::new(), String::new());
     // answers wait here, and are sent before more is read and where they fill it
-    let mut out = Vec::with_capacity(16_384);
-    let mut send = |out: &mut Vec<u8>| {
-        output.write_all(out).unwrap();
+    let mut out = String::with_capacity(16_384);
+    let mut send = |out: &mut String| {
+        output.write_all(out.as_bytes()).unwrap();
         out.clear();
     };
     loop {

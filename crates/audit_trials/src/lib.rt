@@ -10,4 +10,6 @@ mod report_trials;
 #[cfg(test)]
 mod splits_trials;
 #[cfg(test)]
+mod states;
+#[cfg(test)]
 mod workers_trials;

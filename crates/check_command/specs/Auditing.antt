@@ -16,8 +16,9 @@ use Rattle.state_files.specs.declared.fault.PlanFile.TheVariants as file
 use Rattle.state_files.specs.declared.fault.PlanFault.TheVariants as plan
 use Rattle.state_files.specs.declared.fault.FileFault.{FileFault}
 use Rattle.state_files.specs.declared.fault.FileFault.TheVariants.{Plan}
-use Rattle.check_command.specs.Telling.{Tells}
-use Rattle.check_command.specs.Writing.{Written, Prints}
+use Rattle.told_lines.specs.Telling.{Tells}
+use Rattle.told_lines.specs.Writing.{Written}
+use Rattle.check_command.specs.Writing.{Prints}
 use Rattle.check_command.specs.declared.report.Audited.{Audited}
 
 -- the report of the plan, as text, and whether it names a clause

@@ -10,8 +10,9 @@ use Rattle.state_files.specs.State.{Then, NoFile, ReadsState}
 use Rattle.state_files.specs.declared.fault.FileFault.{FileFault}
 use Rattle.state_files.specs.declared.fault.FileFault.TheVariants.{Join}
 use Rattle.check_command.specs.Counts.{counts_text}
-use Rattle.check_command.specs.Telling.{Tells}
-use Rattle.check_command.specs.Writing.{Written, Prints}
+use Rattle.told_lines.specs.Telling.{Tells}
+use Rattle.told_lines.specs.Writing.{Written}
+use Rattle.check_command.specs.Writing.{Prints}
 
 -- the counts of the blocks
 abbrev pub PrintsCounts : Vec BlockRow Global → Result (Vec ℕ Global) FileFault → Type 0

@@ -1,36 +1,9 @@
--- What a writer is given.
-use Rattle.std.specs.Prelude.{◌≡◌, ℕ, List, codes, Option, Result, Ok, Err}
-use Rattle.byte_stream.specs.Sends.{Sends, failures_with}
-use Rattle.byte_stream.specs.declared.sink.WriteFault.{WriteFault}
+-- What `check` prints.
+use Rattle.std.specs.Prelude.{ℕ, List, codes}
 use Rattle.exit_status.specs.declared.status.Status.{Status}
-use Rattle.exit_status.specs.declared.status.Status.TheVariants.{Stream}
-
--- what a writer holds, where that is known, and how often it failed
-pub record Written : Type 0 where
-  pub held : Option (List ℕ)
-  pub failures : ℕ
-
-abbrev pub written_of : {W : Type 0} → (W → Option (List ℕ)) → (W → ℕ) → W → Written
-written_of held failures writer = record { held = held writer; failures = failures writer }
-
--- the whole text was written; or a front of it, and the writer failed once more
-abbrev pub Writes : (before after : Written) → List ℕ → Result (Unit {0}) WriteFault → Type 0
-Writes before after text sent = Sends before.held after.held sent text × (after.failures ≡ failures_with before.failures sent)
-
--- a line was written, as far as the writer did that
-abbrev pub Told : (before after : Written) → List ℕ → Type 0
-Told before after line = (sent : Result (Unit {0}) WriteFault) × Writes before after line sent
-
--- what is told where standard output fails
-abbrev pub write_fault_line : List ℕ
-write_fault_line = codes "plandesk: check: WriteFault\n"
-
--- the status after a text was written: this one, with nothing told; or that of a stream's fault, and that is told
-abbrev pub EndsWriting : Result (Unit {0}) WriteFault → Status → Status → (told_before told_after : Written) → Type 0
-EndsWriting (Ok u) good status told_before told_after = (status ≡ good) × (told_after ≡ told_before)
-EndsWriting (Err fault) good status told_before told_after = (status ≡ Stream) × Told told_before told_after write_fault_line
+use Rattle.told_lines.specs.Writing.{Written, write_fault_line, Prints as PrintsOr}
 
 -- a text is printed, and the status says how that ended
 abbrev pub Prints : List ℕ → Status → Status → (before after told_before told_after : Written) → Type 0
 Prints text good status before after told_before told_after =
-    (sent : Result (Unit {0}) WriteFault) × Writes before after text sent × EndsWriting sent good status told_before told_after
+    PrintsOr (write_fault_line (codes "check")) text good status before after told_before told_after

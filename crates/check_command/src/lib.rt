@@ -5,6 +5,5 @@
 pub mod audit_plan;
 pub mod check;
 pub mod counts;
-pub mod fault_status;
+mod printing;
 pub mod report;
-pub mod telling;

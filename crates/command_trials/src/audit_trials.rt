@@ -1,10 +1,8 @@
 //! Audits over `talk`: reports, companions that fit and that don't, and requests that ask for nothing.
-use crate::talk_trials::{NEVER, ROOM, run};
-use exit_status::status::Status;
-use std::test::Fail;
+use crate::talk_trials::are_answered_by_pieces;
 
 /// Streams and what is written for them, whole.
-const TABLE: [(&[u8], &[u8]); 3] = [
+static TABLE: [(&[u8], &[u8]); 3] = [
     (
         b"PUT /plans/a?kind=senate&districts=2 HTTP/1.1\r\nHost: d\r\n\r\nPOST /plans/a/revisions?after=0 HTTP/1.1\r\nHost: d\r\nContent-Length: 93\r\n\r\nBLOCKID|DISTRICT\n190010001001001|01\n190010001001002|02\n190030001001001|02\n190030001001002|01\nGET /plans/a/revisions/1/audit HTTP/1.1\r\nHost: d\r\n\r\n",
         b"HTTP/1.1 201 Created\r\nContent-Type: application/json\r\nContent-Length: 26\r\n\r\n{\"plan\":\"a\",\"revisions\":0}HTTP/1.1 201 Created\r\nContent-Type: application/json\r\nContent-Length: 26\r\n\r\n{\"plan\":\"a\",\"revisions\":1}HTTP/1.1 200 OK\r\nContent-Type: application/json\r\nContent-Length: 379\r\n\r\n{\"broken\":[\"42.4.3\"],\"cities\":[\"00100\"],\"cities_in_county\":[\"00100\"],\"congress\":[],\"contiguity\":[{\"district\":1,\"from\":\"190010001001001\",\"to\":\"190030001001002\"},{\"district\":2,\"from\":\"190010001001002\",\"to\":\"190030001001001\"}],\"counties\":[\"001\",\"003\"],\"districts\":2,\"kind\":\"senate\",\"nesting\":[],\"not_asked\":[],\"population\":2000,\"populations\":[1000,1000],\"range\":null,\"unassigned\":0}",
@@ -20,14 +18,6 @@ const TABLE: [(&[u8], &[u8]); 3] = [
 ];
 
 #[test]
-fn audits_are_answered_however_they_are_cut(rt: HostRuntime) -> Result<(), Fail> {
-    let alloc = rt.alloc();
-    for (input, output) in TABLE {
-        for piece in [1, 2, 3, 50, 99, 1000, 5000] {
-            let ran = run(alloc, input, piece, NEVER, ROOM)?;
-            assert_eq!(rt; ran.output.as_slice(), output);
-            assert!(rt; ran.status == Status::Done);
-        }
-    }
-    Ok(())
+fn audits_are_answered_however_they_are_cut(rt: HostRuntime) {
+    are_answered_by_pieces(&rt, rt.alloc(), &TABLE, &[1, 2, 3, 50, 99, 1000, 5000]);
 }

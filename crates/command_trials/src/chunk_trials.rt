@@ -1,10 +1,8 @@
 //! Bodies in chunks over `talk`: kept, passed over, refused and cut short.
-use crate::talk_trials::{NEVER, ROOM, run};
-use exit_status::status::Status;
-use std::test::Fail;
+use crate::talk_trials::are_answered_by_pieces;
 
 /// Streams and what is written for them, whole.
-const TABLE: [(&[u8], &[u8]); 9] = [
+static TABLE: [(&[u8], &[u8]); 9] = [
     (
         b"PUT /plans/a?kind=congress&districts=2 HTTP/1.1\r\nHost: d\r\n\r\nPOST /plans/a/revisions?after=0 HTTP/1.1\r\nHost: d\r\nTransfer-Encoding: chunked\r\n\r\n11\r\nBLOCKID|DISTRICT\n\r\n4c;x=y\r\n190010001001001|01\n190010001001002|01\n190030001001001|02\n190030001001002|02\n\r\n0\r\nDigest: none\r\n\r\nGET /plans/a/revisions/1 HTTP/1.1\r\nHost: d\r\nTransfer-Encoding: Chunked\r\n\r\n3\r\nabc\r\n000\r\n\r\nGET /plans HTTP/1.1\r\nHost: d\r\n\r\n",
         b"HTTP/1.1 201 Created\r\nContent-Type: application/json\r\nContent-Length: 26\r\n\r\n{\"plan\":\"a\",\"revisions\":0}HTTP/1.1 201 Created\r\nContent-Type: application/json\r\nContent-Length: 26\r\n\r\n{\"plan\":\"a\",\"revisions\":1}HTTP/1.1 200 OK\r\nContent-Type: text/plain\r\nContent-Length: 93\r\n\r\nBLOCKID|DISTRICT\n190010001001001|01\n190010001001002|01\n190030001001001|02\n190030001001002|02\nHTTP/1.1 200 OK\r\nContent-Type: application/json\r\nContent-Length: 70\r\n\r\n{\"plans\":[{\"districts\":2,\"kind\":\"congress\",\"name\":\"a\",\"revisions\":1}]}",
@@ -44,14 +42,6 @@ const TABLE: [(&[u8], &[u8]); 9] = [
 ];
 
 #[test]
-fn chunks_are_answered_however_they_are_cut(rt: HostRuntime) -> Result<(), Fail> {
-    let alloc = rt.alloc();
-    for (input, output) in TABLE {
-        for piece in [1, 2, 3, 7, 31, 100, 1000] {
-            let ran = run(alloc, input, piece, NEVER, ROOM)?;
-            assert_eq!(rt; ran.output.as_slice(), output);
-            assert!(rt; ran.status == Status::Done);
-        }
-    }
-    Ok(())
+fn chunks_are_answered_however_they_are_cut(rt: HostRuntime) {
+    are_answered_by_pieces(&rt, rt.alloc(), &TABLE, &[1, 2, 3, 7, 31, 100, 1000]);
 }

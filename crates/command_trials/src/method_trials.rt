@@ -1,10 +1,8 @@
 //! Methods, closing requests and targets over `talk`: HEAD, 405 with its methods, HTTP/1.0, Connection lines and absolute targets.
-use crate::talk_trials::{NEVER, ROOM, run};
-use exit_status::status::Status;
-use std::test::Fail;
+use crate::talk_trials::are_answered_by_pieces;
 
 /// Streams and what is written for them, whole.
-const TABLE: [(&[u8], &[u8]); 14] = [
+static TABLE: [(&[u8], &[u8]); 14] = [
     (
         b"DELETE /plans HTTP/1.1\r\nHost: d\r\n\r\nHEAD /plans/a HTTP/1.1\r\nHost: d\r\n\r\nGET /plans/%2F?x HTTP/1.1\r\nHost: d\r\n\r\nPOST /plans/a/revisions/x/audit?x HTTP/1.1\r\nHost: d\r\n\r\nGET /plans/a/counties HTTP/1.1\r\nHost: d\r\n\r\nHEAD /plans/%2F/revisions HTTP/1.1\r\nHost: d\r\n\r\nPUT /blocks HTTP/1.1\r\nHost: d\r\n\r\nGET /plans HTTP/1.1\r\nHost: d\r\n\r\n",
         b"HTTP/1.1 405 Method Not Allowed\r\nContent-Type: application/json\r\nContent-Length: 28\r\nAllow: GET, HEAD\r\n\r\n{\"error\":\"MethodNotAllowed\"}HTTP/1.1 405 Method Not Allowed\r\nContent-Type: application/json\r\nContent-Length: 28\r\nAllow: PUT, DELETE\r\n\r\nHTTP/1.1 405 Method Not Allowed\r\nContent-Type: application/json\r\nContent-Length: 28\r\nAllow: PUT, DELETE\r\n\r\n{\"error\":\"MethodNotAllowed\"}HTTP/1.1 405 Method Not Allowed\r\nContent-Type: application/json\r\nContent-Length: 28\r\nAllow: GET, HEAD\r\n\r\n{\"error\":\"MethodNotAllowed\"}HTTP/1.1 405 Method Not Allowed\r\nContent-Type: application/json\r\nContent-Length: 28\r\nAllow: POST\r\n\r\n{\"error\":\"MethodNotAllowed\"}HTTP/1.1 405 Method Not Allowed\r\nContent-Type: application/json\r\nContent-Length: 28\r\nAllow: POST\r\n\r\nHTTP/1.1 405 Method Not Allowed\r\nContent-Type: application/json\r\nContent-Length: 28\r\nAllow: GET, HEAD\r\n\r\n{\"error\":\"MethodNotAllowed\"}HTTP/1.1 200 OK\r\nContent-Type: application/json\r\nContent-Length: 12\r\n\r\n{\"plans\":[]}",
@@ -64,14 +62,6 @@ const TABLE: [(&[u8], &[u8]); 14] = [
 ];
 
 #[test]
-fn methods_are_answered_however_they_are_cut(rt: HostRuntime) -> Result<(), Fail> {
-    let alloc = rt.alloc();
-    for (input, output) in TABLE {
-        for piece in [1, 2, 3, 7, 31, 100, 1000] {
-            let ran = run(alloc, input, piece, NEVER, ROOM)?;
-            assert_eq!(rt; ran.output.as_slice(), output);
-            assert!(rt; ran.status == Status::Done);
-        }
-    }
-    Ok(())
+fn methods_are_answered_however_they_are_cut(rt: HostRuntime) {
+    are_answered_by_pieces(&rt, rt.alloc(), &TABLE, &[1, 2, 3, 7, 31, 100, 1000]);
 }

@@ -2,19 +2,19 @@
 use byte_stream::sink::WriteSink;
 use byte_stream::source::ReadSource;
 use exit_status::status::Status;
-use std::alloc::{AllocError, Global};
+use std::alloc::Global;
 use std::io;
 use std::io::{ErrorKind, Read, Write};
-use std::test::Fail;
+use std::process::Abort;
 use talk_command::talk::talk;
 
 /// Gives its bytes in pieces, and fails at one call.
 #[derive(Drop)]
-pub struct Pieces<'a> {
-    pub bytes: &'a [u8],
-    pub piece: usize,
-    pub calls: u64,
-    pub fails_at: u64,
+struct Pieces<'a> {
+    bytes: &'a [u8],
+    piece: usize,
+    calls: u64,
+    fails_at: u64,
 }
 
 impl Read for Pieces<'_> {
@@ -34,9 +34,9 @@ impl Read for Pieces<'_> {
 
 /// Takes so many bytes, and then fails.
 #[derive(Drop)]
-pub struct Page {
-    pub bytes: Vec<u8>,
-    pub room: usize,
+struct Page {
+    bytes: Vec<u8>,
+    room: usize,
 }
 
 impl Write for Page {
@@ -57,19 +57,13 @@ impl Write for Page {
 
 /// What a stream came to.
 #[derive(Drop)]
-pub struct Ran {
-    pub status: Status,
-    pub output: Vec<u8>,
-    pub errors: Vec<u8>,
+struct Ran {
+    status: Status,
+    output: Vec<u8>,
+    errors: Vec<u8>,
 }
 
-pub fn run(
-    alloc: Global,
-    input: &[u8],
-    piece: usize,
-    fails_at: u64,
-    room: usize,
-) -> Result<Ran, AllocError> {
+fn run(alloc: Global, input: &[u8], piece: usize, fails_at: u64, room: usize) -> Ran {
     let mut reader = ReadSource::new(Pieces {
         bytes: input,
         piece,
@@ -91,16 +85,53 @@ pub fn run(
         bytes: told,
         room: _,
     } = errors;
-    Ok(Ran {
+    Ran {
         status,
         output: bytes,
         errors: told,
-    })
+    }
 }
 
-pub const NEVER: u64 = u64::MAX;
+/// Asserts what is written for a stream that comes in pieces of so many bytes.
+fn is_answered<R: Abort>(rt: &R, alloc: Global, row: &(&[u8], &[u8]), piece: usize) {
+    let (input, output) = *row;
+    let ran = run(alloc, input, piece, NEVER, ROOM);
+    assert!(rt; ran.output.as_slice() == output);
+    assert!(rt; ran.status == Status::Done);
+    assert!(rt; ran.errors.is_empty());
+}
 
-pub const ROOM: usize = 100_000;
+/// Asserts what is written for each stream in pieces of each of these sizes.
+pub fn are_answered_by_pieces<R: Abort>(
+    rt: &R,
+    alloc: Global,
+    table: &[(&[u8], &[u8])],
+    pieces: &[usize],
+) {
+    for row in table {
+        for piece in pieces {
+            is_answered(rt, alloc, row, *piece);
+        }
+    }
+}
+
+/// Asserts what is written for each stream in pieces of each size below one.
+pub fn are_answered_by_pieces_to<R: Abort>(
+    rt: &R,
+    alloc: Global,
+    table: &[(&[u8], &[u8])],
+    end: usize,
+) {
+    for row in table {
+        for piece in 1..end {
+            is_answered(rt, alloc, row, piece);
+        }
+    }
+}
+
+const NEVER: u64 = u64::MAX;
+
+const ROOM: usize = 100_000;
 
 const FIRST: &[u8] = b"GET /plans HTTP/1.1\r\nHost: d\r\n\r\n";
 
@@ -114,7 +145,7 @@ const THREE_ANSWERS: &[u8] =
     b"HTTP/1.1 200 OK\r\nContent-Type: application/json\r\nContent-Length: 12\r\n\r\n{\"plans\":[]}HTTP/1.1 201 Created\r\nContent-Type: application/json\r\nContent-Length: 26\r\n\r\n{\"plan\":\"a\",\"revisions\":0}HTTP/1.1 409 Conflict\r\nContent-Type: application/json\r\nContent-Length: 22\r\n\r\n{\"error\":\"PlanExists\"}";
 
 /// Streams and what is written for them, whole.
-const TABLE: [(&[u8], &[u8]); 14] = [
+static TABLE: [(&[u8], &[u8]); 14] = [
     (b"", b""),
     (FIRST, FIRST_ANSWER),
     (THREE, THREE_ANSWERS),
@@ -162,46 +193,41 @@ const TABLE: [(&[u8], &[u8]); 14] = [
 ];
 
 #[test]
-fn streams_are_answered_however_they_are_cut(rt: HostRuntime) -> Result<(), Fail> {
-    let alloc = rt.alloc();
-    for (input, output) in TABLE {
-        for piece in 1..300 {
-            let ran = run(alloc, input, piece, NEVER, ROOM)?;
-            assert_eq!(rt; ran.output.as_slice(), output);
-            assert!(rt; ran.status == Status::Done);
-            assert!(rt; ran.errors.is_empty());
-        }
-    }
-    Ok(())
+fn streams_are_answered_however_they_are_cut(rt: HostRuntime) {
+    are_answered_by_pieces_to(&rt, rt.alloc(), &TABLE, 300);
+}
+
+/// Asserts that a stream ended by a failure that is told so.
+fn has_failed<R: Abort>(rt: &R, ran: &Ran, output: &[u8], errors: &[u8]) {
+    assert!(rt; ran.output.as_slice() == output);
+    assert!(rt; ran.status == Status::Stream);
+    assert!(rt; ran.errors.as_slice() == errors);
 }
 
 #[test]
-fn a_read_that_fails_ends_the_stream(rt: HostRuntime) -> Result<(), Fail> {
+fn a_read_that_fails_ends_the_stream(rt: HostRuntime) {
     let alloc = rt.alloc();
     for call in 0..THREE.len() {
-        let ran = run(alloc, THREE, 1, call as u64, ROOM)?;
-        let whole = run(alloc, &THREE[..call], 1, NEVER, ROOM)?;
-        assert_eq!(rt; ran.output.as_slice(), whole.output.as_slice());
-        assert!(rt; ran.status == Status::Stream);
-        assert_eq!(rt;
-            ran.errors.as_slice(),
-            b"plandesk: talk: ReadFault\n".as_slice()
+        let ran = run(alloc, THREE, 1, call as u64, ROOM);
+        let whole = run(alloc, &THREE[..call], 1, NEVER, ROOM);
+        has_failed(
+            &rt,
+            &ran,
+            whole.output.as_slice(),
+            b"plandesk: talk: ReadFault\n",
         );
     }
-    Ok(())
 }
 
 #[test]
-fn a_write_that_fails_leaves_a_front(rt: HostRuntime) -> Result<(), Fail> {
-    let alloc = rt.alloc();
+fn a_write_that_fails_leaves_a_front(rt: HostRuntime) {
     for room in 0..THREE_ANSWERS.len() {
-        let ran = run(alloc, THREE, 1000, NEVER, room)?;
-        assert_eq!(rt; ran.output.as_slice(), &THREE_ANSWERS[..room]);
-        assert!(rt; ran.status == Status::Stream);
-        assert_eq!(rt;
-            ran.errors.as_slice(),
-            b"plandesk: talk: WriteFault\n".as_slice()
+        let ran = run(rt.alloc(), THREE, 1000, NEVER, room);
+        has_failed(
+            &rt,
+            &ran,
+            &THREE_ANSWERS[..room],
+            b"plandesk: talk: WriteFault\n",
         );
     }
-    Ok(())
 }

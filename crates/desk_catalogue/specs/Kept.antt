@@ -1,5 +1,5 @@
 -- What is kept of revisions.
-use Rattle.std.specs.Prelude.{◌≡◌, ℕ, List, length, All, Option, Some, Result, Err, IfSome}
+use Rattle.std.specs.Prelude.{◌≡◌, ℕ, List, length, All, Option, Some, None, Result, Err, IfSome}
 use Rattle.std.specs.FinMap as map_of
 use Rattle.desk_model.specs.Desk.{Plan, name_cmp}
 use Rattle.desk_model.specs.Subject.{revision_at}
@@ -15,6 +15,11 @@ AreWhole geography plans = (g : Ground) (name : List ℕ) (p : Plan) → geograp
 -- and each revision of this plan has
 abbrev pub HasWhole : Option Ground → Plan → Type 0
 HasWhole geography p = (g : Ground) (k : ℕ) → geography ≡ Some g → IfSome (revision_at p k) (λ d. length d ≡ length g.blocks)
+
+-- revision k of a plan, from 1, where there is such a plan
+abbrev pub revision_in : Option Plan → ℕ → Option (List ℕ)
+revision_in None k = None
+revision_in (Some p) k = revision_at p k
 
 -- the districts, if there are any, have one for each block
 abbrev pub IsWhole : Option Ground → Option (List ℕ) → Type 0

@@ -6,7 +6,7 @@ ghost use Rattle.desk_model.specs.Step.{revision_limit};
 ghost use Rattle.desk_model.specs.Subject.{senate_companion as senate_companion_of, senate_revision as senate_revision_of, takes_senate};
 ghost use Rattle.desk_catalogue.specs.Audits.{AskMay};
 ghost use Rattle.desk_catalogue.specs.Accepting.{IsAfter, IsRevisable, StepRefuses};
-ghost use Rattle.desk_catalogue.specs.Kept.{AreWhole, HasWhole, IsWhole};
+ghost use Rattle.desk_catalogue.specs.Kept.{AreWhole, HasWhole, IsWhole, revision_in};
 
 use crate::blocks::blocks_text;
 use crate::patch::patched_districts;
@@ -63,6 +63,14 @@ impl Catalogue {
         }
     }
 
+    /// A catalogue of plans that were read back: each revision has a district for each block.
+    pub fn restored(geography: Option<Arc<Geography>>, plans: Plans) -> Catalogue
+        requires { AreWhole (option_map (λ g. g.value) geography) plans }
+        ensures { result ≡ record { geography = option_map (λ g. g.value) geography; plans = plans } }
+    {
+        Catalogue { geography, plans }
+    }
+
     /// The geography that is sealed.
     pub fn geography(&self) -> Option<&Geography>
         ensures { option_copied result ≡ self.now.geography }
@@ -71,6 +79,15 @@ impl Catalogue {
             Some(geography) => Some(geography),
             None => None,
         }
+    }
+
+    /// Revision `k` of a plan, from 1: the district of each block.
+    pub fn districts(&self, name: &PlanName, k: u32) -> Option<&[u16]>
+        ensures value { option_copied result ≡ revision_in (map_of.get self.now.plans name.now) k }
+        ensures whole { IsWhole self.now.geography (option_copied result) }
+    {
+        let entry = self.plans.get(name)?;
+        entry.revision(k)
     }
 
     /// The answer to a query; Memory only where memory for it was refused.

@@ -1,1 +1,7 @@
 pub mod Revisions
+pub mod Scanned
+pub mod Parts
+pub mod Wholes
+pub mod NewPlans
+pub mod Turns
+pub mod WholeDesks

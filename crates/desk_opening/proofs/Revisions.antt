@@ -1,5 +1,6 @@
 -- A revision of a geography's blocks, county by county.
-use Rattle.std.proofs.Common.{◌≡◌, ◌<◌, ◌+◌, ℕ, List, [], ◌∷◌, length, get_or, take, map, refl, sym, ap, ◌∙◌, arith}
+use Rattle.std.proofs.Common.{◌≡◌, ◌<◌, ◌+◌, ℕ, List, [], ◌∷◌, ◌++◌, length, get_or, take, map, refl, sym, ap, ◌∙◌, arith}
+use Rattle.std.specs.List.{concat}
 use Rattle.std.proofs.lemmas.List.{take_more}
 use Rattle.desk_model.specs.Geography.{Ground}
 use Rattle.desk_model.specs.Cuts.{cut, cuts_of, laid, sizes, ListsAreCut}
@@ -32,3 +33,7 @@ pub one_revision_more : (name : List ℕ) (p : Plan) (i : ℕ) (entry next : Lis
 one_revision_more name p i entry next within before is =
     is ∙ ap (λ (e : List ℕ × Plan). (e.0, with_revision e.1 (get_or p.revisions i []))) before
     ∙ ap (λ (l : List (List ℕ)). (name, record p { revisions = l })) (sym (take_more p.revisions i [] within))
+
+-- counties that were appended to nothing are the districts
+pub laid_out : (g : Ground) (districts items before : List ℕ) → ListsAreCut → length districts ≡ length g.blocks → before ≡ [] → items ≡ before ++ concat (cut g districts) → items ≡ districts
+laid_out g districts items before lists whole none is = is ∙ ap (λ (l : List ℕ). l ++ concat (cut g districts)) none ∙ (lists g districts whole).whole

@@ -1,5 +1,5 @@
 -- What is read back of a desk.
-use Rattle.std.specs.Prelude.{◌≡◌, ◌≤◌, ℕ, List, length}
+use Rattle.std.specs.Prelude.{◌≡◌, ◌≤◌, ℕ, List, length, All}
 use Rattle.sector_device.specs.declared.SectorDevice.{Ghosts}
 use Rattle.desk_model.specs.Geography.{Ground}
 use Rattle.desk_model.specs.Cuts.{cut}
@@ -23,6 +23,10 @@ pub record HasRead {D : Type 0} {g : Ghosts D} {X V : Type 0} (says : KeyMap →
 pub record IsOfBlocks (g : Ground) (plan revision : ℕ) (m : KeyMap) (districts : List ℕ) : Type 0 where
   pub has : HasRevision m plan revision (cut g districts)
   pub whole : length districts ≡ length g.blocks
+
+-- each revision of the plan has a district for each block
+abbrev pub IsWhole : Ground → Plan → Type 0
+IsWhole g p = All (λ districts. length districts ≡ length g.blocks) p.revisions
 
 -- the plan stands under the name with this row, and its size is one that plans may have
 pub record IsPlanRow (g : Ground) (name : List ℕ) (row : PlanRow) (m : KeyMap) (p : Plan) : Type 0 where

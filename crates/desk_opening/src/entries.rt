@@ -5,7 +5,7 @@ ghost use Rattle.desk_model.specs.Step.{revision_limit};
 ghost use Rattle.page_store.specs.Transactions.{count_of, txn_pages, IsQuiet};
 ghost use Rattle.store_rows.specs.Changes.{with_revision};
 ghost use Rattle.row_table.specs.Appending.{AppendErr};
-ghost use Rattle.desk_opening.specs.Reading.{HasRead, IsPlanRow, IsOfBlocks};
+ghost use Rattle.desk_opening.specs.Reading.{HasRead, IsPlanRow, IsOfBlocks, IsWhole};
 
 use desk_model::cuts::Cut;
 use desk_model::geography::Geography;
@@ -38,6 +38,7 @@ fn with_next<D: SectorDevice>(
     ensures quiet { IsQuiet pages.old pages.new }
     ensures named { IfOk result (λ next. next.0 ≡ entry.now.0) }
     ensures longer { IfOk result (λ next. length next.1.revisions ≡ length entry.now.1.revisions + 1) }
+    ensures whole { IfOk result (λ next. IsWhole geography.now entry.now.1 → IsWhole geography.now next.1) }
     ensures read { MatchResult result (λ next. HasRead (IsOfBlocks geography.now plan revision) (λ districts. (entry.now.0, with_revision entry.now.1 districts)) txn.now pages.old pages.new next) (λ e. AppendErr (IsOfBlocks geography.now plan revision) txn.now pages.old pages.new e) }
 {
     lists_are_cut();
@@ -45,6 +46,9 @@ fn with_next<D: SectorDevice>(
         return Err(TreeError::Memory);
     };
     append_revision(txn, pages, plan, revision, cuts, names, &mut districts)?;
+    if districts.len() != geography.blocks().len() {
+        return Err(TreeError::DeviceFault);
+    }
     match entry.revised(alloc, districts) {
         Ok(next) => Ok(next),
         Err(_) => Err(TreeError::Memory),
@@ -68,6 +72,7 @@ pub fn read_entry<D: SectorDevice>(
     requires cut { cuts.now ≡ cuts_of geography.now }
     ensures quiet { IsQuiet pages.old pages.new }
     ensures named { IfOk result (λ entry. entry.0 ≡ name) }
+    ensures whole { IfOk result (λ entry. IsWhole geography.now entry.1) }
     ensures read { MatchResult result (λ entry. HasRead (IsPlanRow geography.now name row.now) (λ plan. (name, plan)) txn.now pages.old pages.new entry) (λ e. AppendErr (IsPlanRow geography.now name row.now) txn.now pages.old pages.new e) }
 {
     if row.revisions > REVISION_LIMIT {

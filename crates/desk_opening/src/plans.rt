@@ -1,10 +1,11 @@
 //! Reads plans into those that were read before.
-ghost use Rattle.std.specs.Prelude.{◌≡◌, ◌<◌, MatchResult, None};
+ghost use Rattle.std.specs.Prelude.{◌≡◌, ◌<◌, IfOk, MatchResult, None, Some};
 ghost use Rattle.std.specs.FinMap as map_of;
 ghost use Rattle.desk_model.specs.Cuts.{cuts_of};
 ghost use Rattle.desk_model.specs.Step.{plan_limit};
 ghost use Rattle.page_store.specs.Transactions.{count_of, txn_pages, IsQuiet};
 ghost use Rattle.row_table.specs.Appending.{AppendErr};
+ghost use Rattle.desk_catalogue.specs.Kept.{AreWhole};
 ghost use Rattle.desk_opening.specs.Reading.{HasRead, IsPlanRow};
 
 use crate::entries::read_entry;
@@ -35,6 +36,7 @@ pub fn add_plan<D: SectorDevice>(
     requires missing { map_of.get plans.now name ≡ None }
     requires room { map_of.len plans.now < plan_limit }
     ensures quiet { IsQuiet pages.old pages.new }
+    ensures whole { IfOk result (λ all. AreWhole (Some geography.now) plans.now → AreWhole (Some geography.now) all) }
     ensures read { MatchResult result (λ all. HasRead (IsPlanRow geography.now name row.now) (λ plan. map_of.insert plans.now name plan) txn.now pages.old pages.new all) (λ e. AppendErr (IsPlanRow geography.now name row.now) txn.now pages.old pages.new e) }
 {
     let entry = read_entry(alloc, txn, pages, geography, cuts, names, name, row)?;

@@ -1,36 +1,63 @@
 -- What is held before and after a commit.
-use Rattle.std.proofs.Common.{◌≡◌, ◌≢◌, ◌⊎◌, ◌+◌, ℕ, Result, Ok, Err, OnOk, sym, subst, ◌∙◌}
+use Rattle.std.proofs.Common.{◌≡◌, ◌≢◌, ◌⊎◌, ◌<◌, ◌+◌, ℕ, false, List, length, Result, Ok, Err, OnOk, inl, inr, ⊎_elim, sym, ap, subst, ◌∙◌}
 use Rattle.std.specs.Prelude.{IfOk}
 use Rattle.sector_device.specs.Disk.{Disk, Image}
-use Rattle.sector_device.specs.Moments.{LeavesOnly}
+use Rattle.sector_device.specs.Moments.{LeavesOnly, leaves_wider}
 use Rattle.sector_device.specs.declared.SectorDevice.{Ghosts}
 use Rattle.gate_journal.specs.Store.{home, IsBeforeOrAfter}
-use Rattle.page_store.specs.Chain.{AreFree, root_in, free_in}
-use Rattle.page_store.specs.Transactions.{stored, count_of, txn_pages, txn_root, over, free_over, prepared_pages, prepared_writes, after, HasShape}
+use Rattle.page_store.specs.Chain.{AreFree, IsPages, root_in, free_in}
+use Rattle.page_store.proofs.Chains.{length_chain}
+use Rattle.page_store.specs.Transactions.{stored, disk_in, count_of, has_halted, txn_pages, txn_root, txn_first, txn_free, over, free_over, prepared_pages, prepared_writes, after, HasShape}
 use Rattle.page_store.specs.declared.error.PageError.{PageError}
 use Rattle.page_store.specs.declared.pages.Pages.{Pages}
 use Rattle.page_store.specs.declared.txn.Txn.{Txn}
 use Rattle.page_store.specs.declared.txn.Prepared.{Prepared}
-use Rattle.page_btree.specs.Laws.{prepared_holds, leaves_maps}
-use Rattle.page_btree.specs.Map.{Holds, InTxn, InPages, OpensMap}
+use Rattle.page_btree.specs.Laws.{prepared_holds}
+use Rattle.page_btree.specs.Map.{Holds, InTxn, InPages}
 use Rattle.store_rows.specs.Rows.{KeyMap}
-use Rattle.desk_pages.specs.Commits.{HoldsAfter}
+use Rattle.desk_pages.specs.Commits.{HoldsAfter, OpensRows}
 
 pub holds_after : (t : Txn) (r : Result Prepared PageError) → IfOk r (λ made. prepared_pages made ≡ txn_pages t) → IfOk r (λ made. (P : Image) (q : ℕ) → q ≢ 0 → after made P q ≡ over t P q) → IfOk r (λ made. (P : Image) → root_in (after made P) ≡ txn_root t)
-    → IfOk r (λ made. (P : Image) → AreFree (txn_pages t) (free_over t P) → free_in (after made P) ≡ free_over t P) → IfOk r (λ made. (P : Image) (m : KeyMap) → InTxn t P m → HoldsAfter made P m)
-holds_after t (Err e) pages same root free = tt
-holds_after t (Ok made) pages same root free = λ P m holds.
-    subst (λ n. Holds n (after made P) (root_in (after made P)) (free_in (after made P)) m) (sym pages)
-    (prepared_holds t P (after made P) m holds (same P) (root P) (free P holds.free_are))
+    → IfOk r (λ made. (P : Image) → AreFree (txn_pages t) (free_over t P) → free_in (after made P) ≡ free_over t P) → IfOk r (λ made. (P : Image) → AreFree (txn_pages t) (free_over t P) → IsPages (txn_pages t) (after made P)) → IfOk r (λ made. (P : Image) (m : KeyMap) → InTxn t P m → HoldsAfter made P m)
+holds_after t (Err e) pages same root free sound = tt
+holds_after t (Ok made) pages same root free sound = λ P m holds. record {
+  rows = subst (λ n. Holds n (after made P) (root_in (after made P)) (free_in (after made P)) m) (sym pages) (prepared_holds t P (after made P) m holds (same P) (root P) (free P holds.free_are));
+  sound = subst (λ n. IsPages n (after made P)) (sym pages) (sound P holds.free_are);
+}
 
-pub stops_between : (sectors J n : ℕ) (P : Image) (made : Prepared) (m next : KeyMap) (old new : Disk) → home J + n ≡ sectors → prepared_pages made ≡ n → Holds n P (root_in P) (free_in P) m → HoldsAfter made P next
-    → LeavesOnly (IsBeforeOrAfter J n (prepared_writes made) P) old new → LeavesOnly (λ c. OpensMap sectors m c ⊎ OpensMap sectors next c) old new
-stops_between sectors J n P made m next old new whole pages holds then left =
-    leaves_maps sectors J n (prepared_writes made) P m next old new whole holds (subst (λ k. Holds k (after made P) (root_in (after made P)) (free_in (after made P)) next) pages then) left
+-- the pages that are free afterwards are as many as the transaction counts
+pub free_after : (t : Txn) (r : Result Prepared PageError) → IfOk r (λ made. (P : Image) → AreFree (txn_pages t) (free_over t P) → free_in (after made P) ≡ free_over t P) → IfOk r (λ made. (P : Image) (m : KeyMap) → InTxn t P m → length (free_in (after made P)) ≡ txn_free t)
+free_after t (Err e) free = tt
+free_after t (Ok made) free = λ P m holds. ap (λ (l : List ℕ). length l) (free P holds.free_are) ∙ length_chain (over t P) (txn_first t) (txn_free t)
+
+-- an image with the pages before a commit or those after it opens to the one map or to the other
+between : (sectors J n : ℕ) (P : Image) (made : Prepared) (m next : KeyMap) → home J + n ≡ sectors → prepared_pages made ≡ n → IsPages n P → Holds n P (root_in P) (free_in P) m → HoldsAfter made P next → (c : Image) → IsBeforeOrAfter J n (prepared_writes made) P c → OpensRows sectors m c ⊎ OpensRows sectors next c
+between sectors J n P made m next whole pages sound holds then c is = ⊎_elim
+    (λ opens. inl (record { map = record { J = J; n = n; P = P; whole = whole; opens = opens; holds = holds }; sound = sound }))
+    (λ opens. inr (record {
+      map = record { J = J; n = n; P = after made P; whole = whole; opens = opens; holds = subst (λ k. Holds k (after made P) (root_in (after made P)) (free_in (after made P)) next) pages then.rows };
+      sound = subst (λ k. IsPages k (after made P)) pages then.sound;
+    })) is
+
+pub stops_between : (sectors J n : ℕ) (P : Image) (made : Prepared) (m next : KeyMap) (old new : Disk) → home J + n ≡ sectors → prepared_pages made ≡ n → IsPages n P → Holds n P (root_in P) (free_in P) m → HoldsAfter made P next
+    → LeavesOnly (IsBeforeOrAfter J n (prepared_writes made) P) old new → LeavesOnly (λ c. OpensRows sectors m c ⊎ OpensRows sectors next c) old new
+stops_between sectors J n P made m next old new whole pages sound holds then left =
+    leaves_wider (IsBeforeOrAfter J n (prepared_writes made) P) (λ c. OpensRows sectors m c ⊎ OpensRows sectors next c) old new (between sectors J n P made m next whole pages sound holds then) left
 
 module _ {D : Type 0} {g : Ghosts D} where
+  -- pages that no fault has stopped hold a root and free pages
+  pub pages_sound : (ps : Pages D g) → has_halted ps ≡ false → (disk_in ps).is_honest → AreFree (count_of ps) (free_in (stored ps)) → IsPages (count_of ps) (stored ps)
+  pages_sound ps working honest free =
+      let meta = ps.meta working honest in
+      record {
+        root = subst (λ (k : ℕ). k < count_of ps) (sym meta.root_is) ps.root_below;
+        first = subst (λ (k : ℕ). k < count_of ps) (sym meta.first_is) ps.first_below;
+        count = subst (λ (k : ℕ). k < count_of ps) (sym meta.count_is) ps.free_below;
+        free = free;
+      }
+
   pub held_then : {E : Type 0} (made : Prepared) (old new : Pages D g) (r : Result (Unit {0}) E) → prepared_pages made ≡ count_of old → HasShape old new → OnOk r (stored new ≡ after made (stored old)) → OnOk r ((next : KeyMap) → HoldsAfter made (stored old) next → InPages new next)
   held_then made old new (Err e) pages shape same = tt
   held_then made old new (Ok x) pages shape same = λ next then.
       subst (λ n. Holds n (stored new) (root_in (stored new)) (free_in (stored new)) next) (pages ∙ sym shape.pages)
-      (subst (λ (Q : Image). Holds (prepared_pages made) Q (root_in Q) (free_in Q) next) (sym same) then)
+      (subst (λ (Q : Image). Holds (prepared_pages made) Q (root_in Q) (free_in Q) next) (sym same) then.rows)

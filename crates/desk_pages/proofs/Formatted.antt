@@ -1,6 +1,6 @@
 -- A new store holds the desk without geography and plans.
-use Rattle.std.proofs.Common.{ℕ, List, Option, None, sym, subst}
-use Rattle.std.specs.FinMap.{empty, get, get-empty}
+use Rattle.std.proofs.Common.{◌≡◌, ℕ, List, Option, Some, None, sym, ◌∙◌, subst, arith}
+use Rattle.std.specs.FinMap.{empty, get, len, get-empty, len-empty}
 use Rattle.sector_device.specs.Disk.{Disk}
 use Rattle.gate_journal.specs.Store.{pages}
 use Rattle.gate_journal.proofs.Commit.{settled_opens}
@@ -12,7 +12,7 @@ use Rattle.store_keys.specs.Order.{key_cmp}
 use Rattle.store_rows.specs.Rows.{KeyMap}
 use Rattle.store_rows.specs.DeskRows.{IsPlanAt, IsDesk}
 use Rattle.store_rows.proofs.TidyFree.{empty_tidy}
-use Rattle.desk_pages.specs.Desks.{new_desk}
+use Rattle.desk_pages.specs.Desks.{new_desk, IsSized, IsWithinLimits}
 use Rattle.desk_pages.specs.Formats.{OpensNew}
 
 abbrev none : KeyMap
@@ -23,6 +23,12 @@ no_plan name = subst (λ (p : Option Plan). IsPlanAt none None name p) (sym (get
 
 pub no_rows_desk : IsDesk none new_desk
 no_rows_desk = record { geography = get-empty key_cmp (key_of seal); plans = no_plan }
+
+no_size : (name : List ℕ) (p : Plan) → get (empty {X = Plan} {R = name_cmp}) name ≡ Some p → IsSized p
+no_size name p is = absurd (cc (sym (get-empty {X = Plan} name_cmp name) ∙ is))
+
+no_plans_within : IsWithinLimits new_desk
+no_plans_within = let none : len new_desk.plans ≡ 0 = len-empty name_cmp Plan in record { few = omega arith; sizes = no_size }
 
 -- each image of it opens to that desk
 pub new_opens : (J : ℕ) (disk : Disk) → IsNew J disk → OpensNew disk
@@ -35,6 +41,7 @@ new_opens J disk new c leaves = record {
   holds = record {
     m = none;
     holds = new_holds new.n (pages J disk.reads) new.root new.sound new.free;
-    is = record { desk = no_rows_desk; tidy = empty_tidy.0 };
+    is = record { desk = no_rows_desk; tidy = empty_tidy.0; limits = no_plans_within };
   };
+  sound = new.sound;
 }

@@ -1,23 +1,36 @@
 -- Pages that hold a desk.
-use Rattle.std.specs.Prelude.{◌≡◌, ◌+◌, ℕ, List, None}
+use Rattle.std.specs.Prelude.{◌≡◌, ◌≤◌, ◌+◌, ℕ, List, Some, None}
 use Rattle.std.specs.FinMap as map_of
 use Rattle.sector_device.specs.Disk.{Image}
 use Rattle.sector_device.specs.declared.SectorDevice.{Ghosts}
 use Rattle.gate_journal.specs.Store.{home, Opens}
-use Rattle.page_store.specs.Chain.{root_in, free_in}
+use Rattle.page_store.specs.Chain.{root_in, free_in, IsPages}
 use Rattle.page_store.specs.Transactions.{stored, count_of, txn_pages, txn_root, over, free_over}
 use Rattle.page_store.specs.declared.pages.Pages.{Pages}
 use Rattle.page_store.specs.declared.txn.Txn.{Txn}
 use Rattle.page_btree.specs.Map.{Holds}
-use Rattle.desk_model.specs.Desk.{Desk}
+use Rattle.desk_model.specs.Kind.{most_districts}
+use Rattle.desk_model.specs.Desk.{Plan, Desk}
+use Rattle.desk_model.specs.Step.{plan_limit}
 use Rattle.store_rows.specs.Rows.{KeyMap}
 use Rattle.store_rows.specs.DeskRows.{IsDesk}
 use Rattle.store_rows.specs.Tidy.{Tidy}
+
+-- a number of districts that a plan of its kind may have
+pub record IsSized (p : Plan) : Type 0 where
+  pub some : 1 ≤ p.n
+  pub most : p.n ≤ most_districts p.kind
+
+-- a desk has so many plans at most, and each is of a size that plans may have
+pub record IsWithinLimits (d : Desk) : Type 0 where
+  pub few : map_of.len d.plans ≤ plan_limit
+  pub sizes : (name : List ℕ) (p : Plan) → map_of.get d.plans name ≡ Some p → IsSized p
 
 -- the rows are those of the desk, and no others but what is staged or was left behind
 pub record IsDeskMap (m : KeyMap) (d : Desk) : Type 0 where
   pub desk : IsDesk m d
   pub tidy : Tidy m
+  pub limits : IsWithinLimits d
 
 -- n pages with a root and free pages hold the desk
 pub record HoldsDesk (n : ℕ) (P : Image) (root : ℕ) (free : List ℕ) (d : Desk) : Type 0 where
@@ -41,6 +54,7 @@ pub record OpensDesk (sectors : ℕ) (d : Desk) (c : Image) : Type 0 where
   pub whole : home J + n ≡ sectors
   pub opens : Opens J n P c
   pub holds : HoldsDesk n P (root_in P) (free_in P) d
+  pub sound : IsPages n P
 
 -- a desk that nothing was told
 abbrev pub new_desk : Desk

@@ -4,7 +4,7 @@ use Rattle.std.proofs.Common.{inl, inr, ⊎_elim, subst}
 use Rattle.sector_device.specs.Disk.{Disk, Image}
 use Rattle.sector_device.specs.Moments.{LeavesOnly, leaves_wider}
 use Rattle.gate_journal.specs.Store.{home, IsBeforeOrAfter, overlay}
-use Rattle.page_store.specs.Chain.{root_in, free_in}
+use Rattle.page_store.specs.Chain.{root_in, free_in, IsPages}
 use Rattle.page_store.specs.Transactions.{txn_pages, txn_root, over, free_over}
 use Rattle.page_store.specs.declared.txn.Txn.{Txn}
 use Rattle.page_btree.specs.Laws.{begun_holds, prepared_holds, one_map}
@@ -23,17 +23,17 @@ pub prepared_desk : (t : Txn) (P Q : Image) (d : Desk) → InTxn t P d → ((q :
 prepared_desk t P Q d holds same root free = record { m = holds.m; holds = prepared_holds t P Q holds.m holds.holds same root free; is = holds.is }
 
 -- an image with the pages before a commit or those after it opens to the desk before or to the desk after
-pub opens_desks : (sectors J n : ℕ) (ws : List (ℕ × List ℕ)) (P : Image) (d next : Desk) (c : Image) → home J + n ≡ sectors → HoldsDesk n P (root_in P) (free_in P) d → HoldsDesk n (overlay ws P) (root_in (overlay ws P)) (free_in (overlay ws P)) next
+pub opens_desks : (sectors J n : ℕ) (ws : List (ℕ × List ℕ)) (P : Image) (d next : Desk) (c : Image) → home J + n ≡ sectors → HoldsDesk n P (root_in P) (free_in P) d → HoldsDesk n (overlay ws P) (root_in (overlay ws P)) (free_in (overlay ws P)) next → IsPages n P → IsPages n (overlay ws P)
     → IsBeforeOrAfter J n ws P c → OpensDesk sectors d c ⊎ OpensDesk sectors next c
-opens_desks sectors J n ws P d next c whole holds holds_then is = ⊎_elim
-    (λ opens. inl (record { J = J; n = n; P = P; whole = whole; opens = opens; holds = holds }))
-    (λ opens. inr (record { J = J; n = n; P = overlay ws P; whole = whole; opens = opens; holds = holds_then })) is
+opens_desks sectors J n ws P d next c whole holds holds_then sound sound_then is = ⊎_elim
+    (λ opens. inl (record { J = J; n = n; P = P; whole = whole; opens = opens; holds = holds; sound = sound }))
+    (λ opens. inr (record { J = J; n = n; P = overlay ws P; whole = whole; opens = opens; holds = holds_then; sound = sound_then })) is
 
 -- so does each that a stop leaves in the midst of it
-pub leaves_desks : (sectors J n : ℕ) (ws : List (ℕ × List ℕ)) (P : Image) (d next : Desk) (old new : Disk) → home J + n ≡ sectors → HoldsDesk n P (root_in P) (free_in P) d → HoldsDesk n (overlay ws P) (root_in (overlay ws P)) (free_in (overlay ws P)) next
+pub leaves_desks : (sectors J n : ℕ) (ws : List (ℕ × List ℕ)) (P : Image) (d next : Desk) (old new : Disk) → home J + n ≡ sectors → HoldsDesk n P (root_in P) (free_in P) d → HoldsDesk n (overlay ws P) (root_in (overlay ws P)) (free_in (overlay ws P)) next → IsPages n P → IsPages n (overlay ws P)
     → LeavesOnly (IsBeforeOrAfter J n ws P) old new → LeavesOnly (λ c. OpensDesk sectors d c ⊎ OpensDesk sectors next c) old new
-leaves_desks sectors J n ws P d next old new whole holds holds_then left =
-    leaves_wider (IsBeforeOrAfter J n ws P) (λ c. OpensDesk sectors d c ⊎ OpensDesk sectors next c) old new (λ c is. opens_desks sectors J n ws P d next c whole holds holds_then is) left
+leaves_desks sectors J n ws P d next old new whole holds holds_then sound sound_then left =
+    leaves_wider (IsBeforeOrAfter J n ws P) (λ c. OpensDesk sectors d c ⊎ OpensDesk sectors next c) old new (λ c is. opens_desks sectors J n ws P d next c whole holds holds_then sound sound_then is) left
 
 -- pages with a root and free pages hold one desk at most
 pub one_desk : DeskIsOne → (n : ℕ) (P : Image) (root : ℕ) (free : List ℕ) (d e : Desk) → n ≤ 2 ^ 32 → HoldsDesk n P root free d → HoldsDesk n P root free e → d ≡ e

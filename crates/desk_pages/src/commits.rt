@@ -1,13 +1,16 @@
 //! Makes a transaction's rows lasting.
-ghost use Rattle.std.specs.Prelude.{◌≡◌, ◌≤◌, ◌+◌, ◌⊎◌, ℕ, length, false, OnOk, IfOk, IfErr};
+ghost use Rattle.std.specs.Prelude.{◌≡◌, ◌≤◌, ◌+◌, ◌⊎◌, ℕ, length, true, false, Err, OnOk, IfOk, IfErr, IsErr};
 ghost use Rattle.sector_device.specs.Disk.{Image};
 ghost use Rattle.sector_device.specs.Moments.{LeavesOnly};
 ghost use Rattle.gate_journal.specs.Store.{home};
-ghost use Rattle.page_store.specs.Transactions.{stored, disk_in, count_of, journal_of, has_halted, txn_pages, txn_writes, prepared_pages, prepared_writes, HasShape, IsKept, CommitErr};
+ghost use Rattle.page_store.specs.Chain.{free_in};
+ghost use Rattle.page_store.specs.Transactions.{stored, disk_in, count_of, journal_of, has_halted, txn_pages, txn_writes, txn_free, prepared_pages, prepared_writes, after, HasShape, IsSame, IsKept, CommitErr};
 ghost use Rattle.page_store.specs.declared.error.PageError.TheVariants.{Memory};
-ghost use Rattle.page_btree.specs.Map.{InTxn, InPages, OpensMap};
+ghost use Rattle.page_btree.specs.Map.{InTxn, InPages};
 ghost use Rattle.store_rows.specs.Rows.{KeyMap};
-ghost use Rattle.desk_pages.specs.Commits.{HoldsAfter};
+ghost use Rattle.desk_model.specs.Desk.{Desk};
+ghost use Rattle.desk_pages.specs.Commits.{HoldsAfter, OpensRows, TxnErr};
+ghost use Rattle.desk_pages.specs.Desks.{InTxn as DeskInTxn, InPages as DeskInPages, OpensDesk};
 
 use page_store::{PageError, Pages, Prepared, Txn};
 use sector_device::SectorDevice;
@@ -17,6 +20,7 @@ pub fn prepare(txn: Txn) -> Result<Prepared, PageError>
     ensures pages { IfOk result (λ made. prepared_pages made ≡ txn_pages txn) }
     ensures held { IfOk result (λ made. (P : Image) (m : KeyMap) → InTxn txn P m → HoldsAfter made P m) }
     ensures more { IfOk result (λ made. length (prepared_writes made) ≤ txn_writes txn + 1) }
+    ensures free { IfOk result (λ made. (P : Image) (m : KeyMap) → InTxn txn P m → length (free_in (after made P)) ≡ txn_free txn) }
     ensures err { IfErr result (λ e. e ≡ Memory) }
 {
     txn.prepare()
@@ -28,12 +32,32 @@ pub fn commit<D: SectorDevice>(prepared: Prepared, pages: &mut Pages<D>) -> Resu
     requires { prepared_pages prepared ≡ count_of pages.old }
     ensures shape { HasShape pages.old pages.new }
     ensures honest { (disk_in pages.new).is_honest → (disk_in pages.old).is_honest }
-    ensures any_moment { (disk_in pages.new).is_honest → has_halted pages.old ≡ false → (sectors : ℕ) (m next : KeyMap) → home (journal_of pages.old) + count_of pages.old ≡ sectors → InPages pages.old m → HoldsAfter prepared (stored pages.old) next → LeavesOnly (λ c. OpensMap sectors m c ⊎ OpensMap sectors next c) (disk_in pages.old) (disk_in pages.new) }
+    ensures any_moment { (disk_in pages.new).is_honest → has_halted pages.old ≡ false → (sectors : ℕ) (m next : KeyMap) → home (journal_of pages.old) + count_of pages.old ≡ sectors → InPages pages.old m → HoldsAfter prepared (stored pages.old) next → LeavesOnly (λ c. OpensRows sectors m c ⊎ OpensRows sectors next c) (disk_in pages.old) (disk_in pages.new) }
     ensures held { (disk_in pages.new).is_honest → OnOk result ((next : KeyMap) → HoldsAfter prepared (stored pages.old) next → InPages pages.new next) }
+    ensures after { (disk_in pages.new).is_honest → OnOk result (stored pages.new ≡ after prepared (stored pages.old)) }
     ensures kept { (disk_in pages.new).is_honest → OnOk result (IsKept pages.new) }
     ensures passed { (disk_in pages.new).is_honest → OnOk result ((disk_in pages.new).faults ≡ (disk_in pages.old).faults) }
     ensures ok { OnOk result ((has_halted pages.old ≡ false) × (has_halted pages.new ≡ false)) }
+    ensures still { has_halted pages.old ≡ true → (result ≡ Err PageError.Halted) × IsSame pages.old pages.new }
     ensures err { IfErr result (λ e. CommitErr (length (prepared_writes prepared)) pages.old pages.new e) }
 {
     prepared.commit(pages)
+}
+
+/// Prepares a transaction and commits it at once. A stop at any moment of it leaves the desk before or the desk that the
+/// transaction reads.
+pub fn commit_txn<D: SectorDevice>(txn: Txn, pages: &mut Pages<D>) -> Result<(), PageError>
+    requires { txn_pages txn ≡ count_of pages.old }
+    ensures shape { HasShape pages.old pages.new }
+    ensures honest { (disk_in pages.new).is_honest → (disk_in pages.old).is_honest }
+    ensures any_moment { (disk_in pages.new).is_honest → has_halted pages.old ≡ false → (sectors : ℕ) (d next : Desk) → home (journal_of pages.old) + count_of pages.old ≡ sectors → DeskInPages pages.old d → DeskInTxn txn (stored pages.old) next → LeavesOnly (λ c. OpensDesk sectors d c ⊎ OpensDesk sectors next c) (disk_in pages.old) (disk_in pages.new) }
+    ensures held { (disk_in pages.new).is_honest → OnOk result ((m : KeyMap) → InTxn txn (stored pages.old) m → InPages pages.new m) }
+    ensures kept { (disk_in pages.new).is_honest → OnOk result (IsKept pages.new) }
+    ensures passed { (disk_in pages.new).is_honest → OnOk result ((disk_in pages.new).faults ≡ (disk_in pages.old).faults) }
+    ensures ok { OnOk result ((has_halted pages.old ≡ false) × (has_halted pages.new ≡ false)) }
+    ensures still { has_halted pages.old ≡ true → IsErr result × IsSame pages.old pages.new }
+    ensures err { IfErr result (λ e. TxnErr txn pages.old pages.new e) }
+{
+    let prepared = prepare(txn)?;
+    commit(prepared, pages)
 }

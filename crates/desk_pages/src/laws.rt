@@ -2,7 +2,7 @@
 ghost use Rattle.std.specs.Prelude.{◌≡◌, ◌≢◌, ◌≤◌, ◌+◌, ◌⊎◌, ◌^◌, ℕ, List};
 ghost use Rattle.sector_device.specs.Disk.{Image};
 ghost use Rattle.gate_journal.specs.Store.{home, IsBeforeOrAfter, overlay};
-ghost use Rattle.page_store.specs.Chain.{root_in, free_in};
+ghost use Rattle.page_store.specs.Chain.{root_in, free_in, IsPages};
 ghost use Rattle.page_store.specs.Transactions.{txn_pages, txn_root, over, free_over};
 ghost use Rattle.page_store.specs.declared.txn.Txn.{Txn};
 ghost use Rattle.desk_model.specs.Desk.{Desk};
@@ -26,5 +26,5 @@ pub fn desks_are_kept()
 /// An image with the pages before a commit or those after it opens to the desk before it or to the desk after it. So does each
 /// that a stop leaves at any moment of it (`leaves_desks` in specs/ says it of a device's moments).
 pub fn stops_leave_desks()
-    ensures { (sectors J n : ℕ) (ws : List (ℕ × List ℕ)) (P : Image) (d next : Desk) (c : Image) → home J + n ≡ sectors → HoldsDesk n P (root_in P) (free_in P) d → HoldsDesk n (overlay ws P) (root_in (overlay ws P)) (free_in (overlay ws P)) next → IsBeforeOrAfter J n ws P c → OpensDesk sectors d c ⊎ OpensDesk sectors next c }
+    ensures { (sectors J n : ℕ) (ws : List (ℕ × List ℕ)) (P : Image) (d next : Desk) (c : Image) → home J + n ≡ sectors → HoldsDesk n P (root_in P) (free_in P) d → HoldsDesk n (overlay ws P) (root_in (overlay ws P)) (free_in (overlay ws P)) next → IsPages n P → IsPages n (overlay ws P) → IsBeforeOrAfter J n ws P c → OpensDesk sectors d c ⊎ OpensDesk sectors next c }
 {}

@@ -6,5 +6,5 @@ mod commits;
 mod formatting;
 pub mod laws;
 
-pub use commits::{commit, prepare};
+pub use commits::{commit, commit_txn, prepare};
 pub use formatting::{FormatError, format};

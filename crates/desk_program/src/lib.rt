@@ -5,3 +5,4 @@
 pub mod checks;
 pub mod files;
 pub mod run;
+pub mod stores;

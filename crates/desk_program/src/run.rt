@@ -1,5 +1,6 @@
 //! What the words ask for, done.
 use crate::checks::{check_counts, check_plan};
+use crate::stores::{format_store, load_state};
 use byte_stream::sink::WriteSink;
 use byte_stream::source::ReadSource;
 use desk_words::words::{Job, Mistake, job_of};
@@ -43,6 +44,8 @@ pub fn run<T: Threads + Sync>(rt: &HostRuntime, threads: &T, words: &[&str]) -> 
         Ok(Job::Talk) => serve_talk(rt),
         Ok(Job::Counts(paths)) => check_counts(rt, paths),
         Ok(Job::Audit(paths, terms, workers)) => check_plan(rt, threads, paths, terms, workers),
+        Ok(Job::Format(name, size)) => format_store(rt, name, size),
+        Ok(Job::Load(name, paths, neighbours)) => load_state(rt, name, paths, neighbours),
         Err(mistake) => end_mistake(rt, &mistake),
     }
 }

@@ -6,7 +6,7 @@ use desk_model::name::PlanName;
 use desk_model::reply::{BodyFault, PlanRow, PlanRows, Refusal, Reply};
 use desk_model::size::PlanSize;
 use desk_model::text::Text;
-use desk_store::clerk::Clerk;
+use desk_store::clerk::{Change, Clerk};
 use std::alloc::Global;
 use std::process::Abort;
 use std::sync::Arc;
@@ -56,57 +56,27 @@ fn house(plan: PlanName) -> Command {
     }
 }
 
-fn listed<R: Abort>(rt: &R, reply: Reply) -> PlanRows {
-    match reply {
-        Reply::Plans(rows) => rows,
-        _ => panic!(rt; "no list"),
-    }
+fn is_made(reply: Reply, name: &PlanName) -> bool {
+    has_revisions(reply, name, 0)
 }
 
-fn is_made(reply: &Reply, name: &PlanName) -> bool {
+fn has_revisions(reply: Reply, name: &PlanName, number: u32) -> bool {
     match reply {
-        Reply::Created { plan, revisions } => plan == name && *revisions == 0,
+        Reply::Created { plan, revisions } => plan == *name && revisions == number,
         _ => false,
     }
 }
 
-/// A post of a body after so many revisions.
-fn post<R: Abort>(rt: &R, alloc: Global, plan: PlanName, after: u32, body: &[u8]) -> Command {
-    let body = Vec::from_slice(alloc, body).expect(rt, "no memory");
-    Command::Whole {
-        plan,
-        after,
-        body: Text::from_vec(body),
-    }
-}
-
-/// A patch after so many revisions.
-fn patch<R: Abort>(rt: &R, alloc: Global, plan: PlanName, after: u32, body: &[u8]) -> Command {
-    let body = Vec::from_slice(alloc, body).expect(rt, "no memory");
-    Command::Counties {
-        plan,
-        after,
-        body: Text::from_vec(body),
-    }
-}
-
-fn has_revisions(reply: &Reply, name: &PlanName, number: u32) -> bool {
-    match reply {
-        Reply::Created { plan, revisions } => plan == name && *revisions == number,
-        _ => false,
-    }
-}
-
-fn is_text(reply: &Reply, wanted: &[u8]) -> bool {
+fn is_text(reply: Reply, wanted: &[u8]) -> bool {
     match reply {
         Reply::Blocks(text) | Reply::Baf(text) => text.as_slice() == wanted,
         _ => false,
     }
 }
 
-fn is_refused(reply: &Reply, why: Refusal) -> bool {
+fn is_refused(reply: Reply, why: Refusal) -> bool {
     match reply {
-        Reply::Refused(refusal) => *refusal == why,
+        Reply::Refused(refusal) => refusal == why,
         _ => false,
     }
 }
@@ -115,154 +85,238 @@ fn is_row(row: &PlanRow, name: &PlanName) -> bool {
     row.name == *name && row.kind == Kind::House && row.n == 100 && row.revisions == 0
 }
 
+fn is_empty_list(reply: Reply) -> bool {
+    match reply {
+        Reply::Plans(rows) => rows.as_slice().is_empty(),
+        _ => false,
+    }
+}
+
+/// Whether just one new house plan is listed.
+fn is_listed_alone(reply: Reply, name: &PlanName) -> bool {
+    match reply {
+        Reply::Plans(rows) => rows.as_slice().len() == 1 && is_row(&rows.as_slice()[0], name),
+        _ => false,
+    }
+}
+
+/// The reply to a post of a body after so many revisions.
+fn post<R: Abort>(
+    rt: &R,
+    alloc: Global,
+    clerk: &mut Clerk,
+    plan: PlanName,
+    after: u32,
+    body: &[u8],
+) -> Reply {
+    let body = Vec::from_slice(alloc, body).expect(rt, "no memory");
+    let command = Command::Whole {
+        plan,
+        after,
+        body: Text::from_vec(body),
+    };
+    clerk.command(alloc, command)
+}
+
+/// The reply to a patch after so many revisions.
+fn patch<R: Abort>(
+    rt: &R,
+    alloc: Global,
+    clerk: &mut Clerk,
+    plan: PlanName,
+    after: u32,
+    body: &[u8],
+) -> Reply {
+    let body = Vec::from_slice(alloc, body).expect(rt, "no memory");
+    let command = Command::Counties {
+        plan,
+        after,
+        body: Text::from_vec(body),
+    };
+    clerk.command(alloc, command)
+}
+
+/// Asserts that a post after so many revisions is kept.
+fn posts<R: Abort>(
+    rt: &R,
+    alloc: Global,
+    clerk: &mut Clerk,
+    plan: PlanName,
+    after: u32,
+    body: &[u8],
+) {
+    let reply = post(rt, alloc, clerk, plan, after, body);
+    assert!(rt; has_revisions(reply, &plan, after.saturating_add(1)));
+}
+
+/// Asserts that a patch after so many revisions is kept.
+fn patches<R: Abort>(
+    rt: &R,
+    alloc: Global,
+    clerk: &mut Clerk,
+    plan: PlanName,
+    after: u32,
+    body: &[u8],
+) {
+    let reply = patch(rt, alloc, clerk, plan, after, body);
+    assert!(rt; has_revisions(reply, &plan, after.saturating_add(1)));
+}
+
+/// Asserts that a revision is shown so.
+fn shows<R: Abort>(rt: &R, alloc: Global, clerk: &Clerk, plan: PlanName, k: u32, wanted: &[u8]) {
+    assert!(rt; is_text(revision(alloc, clerk, plan, k), wanted));
+}
+
+/// A clerk of the sample with a congress plan of two districts.
+fn clerk_with_congress<R: Abort>(rt: &R, alloc: Global, plan: PlanName) -> Clerk {
+    let mut clerk = clerk_of_sample(rt, alloc);
+    let reply = create_congress(alloc, &mut clerk, plan);
+    assert!(rt; is_made(reply, &plan));
+    clerk
+}
+
+/// The reply to the creation of a house plan.
+fn create_house(alloc: Global, clerk: &mut Clerk, plan: PlanName) -> Reply {
+    clerk.command(alloc, house(plan))
+}
+
+/// The reply to the creation of a congress plan of two districts.
+fn create_congress(alloc: Global, clerk: &mut Clerk, plan: PlanName) -> Reply {
+    let size = PlanSize::new(Kind::Congress, 2);
+    clerk.command(alloc, Command::Create { plan, size })
+}
+
+fn revision(alloc: Global, clerk: &Clerk, plan: PlanName, k: u32) -> Reply {
+    clerk.ask(alloc, Query::Revision { plan, k })
+}
+
+fn ask(alloc: Global, clerk: &Clerk, query: Query) -> Reply {
+    clerk.ask(alloc, query)
+}
+
+fn unsealed<R: Abort>(rt: &R, alloc: Global) -> Clerk {
+    Clerk::plain(alloc, None).expect(rt, "no memory")
+}
+
+/// Makes a house plan: what was changed.
+fn commit_house<R: Abort>(rt: &R, alloc: Global, clerk: &mut Clerk, name: PlanName) -> Change {
+    let Ok(ready) = clerk.prepare(alloc, house(name)) else {
+        panic!(rt; "refused");
+    };
+    assert!(rt; is_made(ready.reply(), &name));
+    let change = ready.change().expect(rt, "no memory");
+    assert!(rt; is_made(ready.commit(clerk), &name));
+    change
+}
+
+/// The list of plans after a change.
+fn list_after<R: Abort>(rt: &R, alloc: Global, change: &Change) -> Reply {
+    let shown = change.after().expect(rt, "no memory");
+    shown.ask(alloc, Query::Plans)
+}
+
+/// The list of plans that is shown.
+fn list_shown<R: Abort>(rt: &R, alloc: Global, clerk: &Clerk) -> Reply {
+    let shown = clerk.published().expect(rt, "no memory");
+    shown.ask(alloc, Query::Plans)
+}
+
 #[test]
 fn a_plan_is_prepared_and_committed(rt: HostRuntime) {
     let alloc = rt.alloc();
     let mut clerk = clerk_of_sample(&rt, alloc);
     let name = named(&rt, "a");
     drop(clerk.prepare(alloc, house(name)).ok());
-    assert!(rt;
-        listed(&rt, clerk.ask(alloc, Query::Plans))
-            .as_slice()
-            .is_empty()
-    );
-    let Ok(ready) = clerk.prepare(alloc, house(name)) else {
-        panic!(rt; "refused");
-    };
-    assert!(rt; is_made(&ready.reply(), &name));
-    let change = ready.change().expect(&rt, "no memory");
-    assert!(rt; is_made(&ready.commit(&mut clerk), &name));
-    for shown in [
-        change.after().expect(&rt, "no memory"),
-        clerk.published().expect(&rt, "no memory"),
-    ] {
-        let rows = listed(&rt, shown.ask(alloc, Query::Plans));
-        assert!(rt; rows.as_slice().len() == 1);
-        assert!(rt; is_row(&rows.as_slice()[0], &name));
+    assert!(rt; is_empty_list(ask(alloc, &clerk, Query::Plans)));
+    let change = commit_house(&rt, alloc, &mut clerk, name);
+    assert!(rt; is_listed_alone(list_after(&rt, alloc, &change), &name));
+    assert!(rt; is_listed_alone(list_shown(&rt, alloc, &clerk), &name));
+    let again = create_house(alloc, &mut clerk, name);
+    assert!(rt; is_refused(again, Refusal::PlanExists));
+    let mut none = unsealed(&rt, alloc);
+    assert!(rt; is_refused(create_house(alloc, &mut none, name), Refusal::NotSealed));
+}
+
+/// Asserts that 600 plans are listed, numbered from 0.
+fn are_listed<R: Abort>(rt: &R, rows: &PlanRows) {
+    let rows = rows.as_slice();
+    assert!(rt; rows.len() == 600);
+    for (i, row) in rows.iter().enumerate() {
+        assert!(rt; is_row(row, &numbered(rt, i as u16)));
     }
-    assert!(rt; is_refused(&clerk.command(alloc, house(name)), Refusal::PlanExists));
-    assert!(rt;
-        is_refused(
-            &Clerk::plain(alloc, None)
-                .expect(&rt, "no memory")
-                .command(alloc, house(name)),
-            Refusal::NotSealed
-        )
-    );
 }
 
 #[test]
 fn many_plans_are_listed_in_order(rt: HostRuntime) {
     let alloc = rt.alloc();
     let mut clerk = clerk_of_sample(&rt, alloc);
-    for i in 0..600u16 {
-        let name = numbered(&rt, (i as u32 * 37 % 600) as u16);
-        assert!(rt; is_made(&clerk.command(alloc, house(name)), &name));
+    for i in 0..600u32 {
+        let name = numbered(&rt, (i * 37 % 600) as u16);
+        assert!(rt; is_made(create_house(alloc, &mut clerk, name), &name));
     }
-    let rows = listed(&rt, clerk.ask(alloc, Query::Plans));
-    assert!(rt; rows.as_slice().len() == 600);
-    for (i, row) in rows.as_slice().iter().enumerate() {
-        assert!(rt; is_row(row, &numbered(&rt, i as u16)));
+    match ask(alloc, &clerk, Query::Plans) {
+        Reply::Plans(rows) => are_listed(&rt, &rows),
+        _ => panic!(rt; "no list"),
     }
 }
 
 #[test]
 fn revisions_are_kept(rt: HostRuntime) {
     let alloc = rt.alloc();
-    let mut clerk = clerk_of_sample(&rt, alloc);
     let plan = named(&rt, "a");
-    let create = Command::Create {
-        plan,
-        size: PlanSize::new(Kind::Congress, 2),
-    };
-    assert!(rt; is_made(&clerk.command(alloc, create), &plan));
-    assert!(rt;
-        has_revisions(
-            &clerk.command(alloc, post(&rt, alloc, plan, 0, COUNTIES)),
-            &plan,
-            1
-        )
-    );
-    assert!(rt;
-        is_refused(
-            &clerk.command(alloc, post(&rt, alloc, plan, 0, COUNTIES)),
-            Refusal::Stale { current: 1 }
-        )
-    );
-    assert!(rt;
-        has_revisions(
-            &clerk.command(alloc, post(&rt, alloc, plan, 1, DIAGONAL)),
-            &plan,
-            2
-        )
-    );
-    let first = clerk.ask(alloc, Query::Revision { plan, k: 1 });
-    assert!(rt; is_text(&first, COUNTIES));
-    let second = clerk.ask(alloc, Query::Revision { plan, k: 2 });
-    assert!(rt; is_text(&second, DIAGONAL));
-    let none = clerk.ask(alloc, Query::Revision { plan, k: 0 });
-    assert!(rt; is_refused(&none, Refusal::NoRevision));
-    let past = clerk.ask(alloc, Query::Revision { plan, k: 3 });
-    assert!(rt; is_refused(&past, Refusal::NoRevision));
-    assert!(rt; is_text(&clerk.ask(alloc, Query::Blocks), BLOCKS));
+    let mut clerk = clerk_with_congress(&rt, alloc, plan);
+    posts(&rt, alloc, &mut clerk, plan, 0, COUNTIES);
+    let stale = post(&rt, alloc, &mut clerk, plan, 0, COUNTIES);
+    assert!(rt; is_refused(stale, Refusal::Stale { current: 1 }));
+    posts(&rt, alloc, &mut clerk, plan, 1, DIAGONAL);
+    shows(&rt, alloc, &clerk, plan, 1, COUNTIES);
+    shows(&rt, alloc, &clerk, plan, 2, DIAGONAL);
+    for k in [0, 3] {
+        assert!(rt; is_refused(revision(alloc, &clerk, plan, k), Refusal::NoRevision));
+    }
+    assert!(rt; is_text(ask(alloc, &clerk, Query::Blocks), BLOCKS));
+}
+
+/// Asserts what a clerk without a geography refuses.
+fn refuses_unsealed<R: Abort>(rt: &R, alloc: Global, plan: PlanName) {
+    let mut clerk = unsealed(rt, alloc);
+    let why = Refusal::NotSealed;
+    assert!(rt; is_refused(post(rt, alloc, &mut clerk, plan, 0, COUNTIES), why));
+    assert!(rt; is_refused(patch(rt, alloc, &mut clerk, plan, 0, PATCH), why));
+    let retired = clerk.command(alloc, Command::Retire { plan });
+    assert!(rt; is_refused(retired, why));
+    assert!(rt; is_refused(ask(alloc, &clerk, Query::Blocks), why));
+    assert!(rt; is_refused(revision(alloc, &clerk, plan, 1), why));
 }
 
 #[test]
 fn a_post_is_refused(rt: HostRuntime) {
     let alloc = rt.alloc();
     let plan = named(&rt, "a");
-    let mut unsealed = Clerk::plain(alloc, None).expect(&rt, "no memory");
-    assert!(rt;
-        is_refused(
-            &unsealed.command(alloc, post(&rt, alloc, plan, 0, COUNTIES)),
-            Refusal::NotSealed
-        )
-    );
-    let patched = unsealed.command(alloc, patch(&rt, alloc, plan, 0, PATCH));
-    assert!(rt; is_refused(&patched, Refusal::NotSealed));
-    let retired = unsealed.command(alloc, Command::Retire { plan });
-    assert!(rt; is_refused(&retired, Refusal::NotSealed));
-    assert!(rt; is_refused(&unsealed.ask(alloc, Query::Blocks), Refusal::NotSealed));
-    let asked = unsealed.ask(alloc, Query::Revision { plan, k: 1 });
-    assert!(rt; is_refused(&asked, Refusal::NotSealed));
+    refuses_unsealed(&rt, alloc, plan);
     let mut clerk = clerk_of_sample(&rt, alloc);
-    assert!(rt;
-        is_refused(
-            &clerk.command(alloc, post(&rt, alloc, plan, 0, COUNTIES)),
-            Refusal::NoPlan
-        )
-    );
-    assert!(rt; is_made(&clerk.command(alloc, house(plan)), &plan));
-    let bad = clerk.command(
-        alloc,
-        post(&rt, alloc, plan, 0, b"BLOCKID|DISTRICT\nx|01\n"),
-    );
+    let none = post(&rt, alloc, &mut clerk, plan, 0, COUNTIES);
+    assert!(rt; is_refused(none, Refusal::NoPlan));
+    assert!(rt; is_made(create_house(alloc, &mut clerk, plan), &plan));
+    let bad = post(&rt, alloc, &mut clerk, plan, 0, b"BLOCKID|DISTRICT\nx|01\n");
     let why = Refusal::BadBody {
         code: BodyFault::Shape,
         line: 2,
     };
-    assert!(rt; is_refused(&bad, why));
+    assert!(rt; is_refused(bad, why));
 }
 
 #[test]
 fn counties_are_patched(rt: HostRuntime) {
     let alloc = rt.alloc();
-    let mut clerk = clerk_of_sample(&rt, alloc);
     let plan = named(&rt, "a");
-    let create = Command::Create {
-        plan,
-        size: PlanSize::new(Kind::Congress, 2),
-    };
-    assert!(rt; is_made(&clerk.command(alloc, create), &plan));
-    let whole = clerk.command(alloc, post(&rt, alloc, plan, 0, COUNTIES));
-    assert!(rt; has_revisions(&whole, &plan, 1));
-    let part = clerk.command(alloc, patch(&rt, alloc, plan, 1, PART));
-    assert!(rt; is_refused(&part, Refusal::NotWholeCounty { county: 3 }));
-    let patched = clerk.command(alloc, patch(&rt, alloc, plan, 1, PATCH));
-    assert!(rt; has_revisions(&patched, &plan, 2));
-    let same = clerk.command(alloc, patch(&rt, alloc, plan, 2, NOTHING));
-    assert!(rt; has_revisions(&same, &plan, 3));
-    for (k, wanted) in [(1, COUNTIES), (2, PATCHED), (3, PATCHED)] {
-        assert!(rt; is_text(&clerk.ask(alloc, Query::Revision { plan, k }), wanted));
-    }
+    let mut clerk = clerk_with_congress(&rt, alloc, plan);
+    posts(&rt, alloc, &mut clerk, plan, 0, COUNTIES);
+    let part = patch(&rt, alloc, &mut clerk, plan, 1, PART);
+    assert!(rt; is_refused(part, Refusal::NotWholeCounty { county: 3 }));
+    patches(&rt, alloc, &mut clerk, plan, 1, PATCH);
+    patches(&rt, alloc, &mut clerk, plan, 2, NOTHING);
+    shows(&rt, alloc, &clerk, plan, 1, COUNTIES);
+    shows(&rt, alloc, &clerk, plan, 2, PATCHED);
+    shows(&rt, alloc, &clerk, plan, 3, PATCHED);
 }

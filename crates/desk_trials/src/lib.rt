@@ -2,6 +2,8 @@
 #![tactic(auto)]
 
 #[cfg(test)]
+mod answer_trials;
+#[cfg(test)]
 mod chunk_trials;
 #[cfg(test)]
 mod clerk_trials;

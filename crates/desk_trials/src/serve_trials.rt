@@ -8,9 +8,10 @@ use desk_model::name::PlanName;
 use desk_model::reply::Reply;
 use desk_store::clerk::Clerk;
 use http_desk::serve::{ServeFault, serve};
-use std::alloc::{AllocError, Global};
+use std::alloc::Global;
 use std::io;
 use std::io::{ErrorKind, Read, Write};
+use std::process::Abort;
 use std::sync::Arc;
 
 /// Gives its bytes in two pieces, and counts the calls.
@@ -66,9 +67,10 @@ struct Ran {
     is_posted: bool,
 }
 
-fn clerk_of_sample(alloc: Global) -> Result<Clerk, AllocError> {
-    let geography = Arc::new(alloc, sample(alloc)?)?;
-    Clerk::plain(alloc, Some(geography))
+fn clerk_of_sample<R: Abort>(rt: &R, alloc: Global) -> Clerk {
+    let state = sample(alloc).expect(rt, "no memory");
+    let geography = Arc::new(alloc, state).expect(rt, "no memory");
+    Clerk::plain(alloc, Some(geography)).expect(rt, "no memory")
 }
 
 fn is_posted(alloc: Global, clerk: &Clerk) -> bool {
@@ -81,8 +83,8 @@ fn is_posted(alloc: Global, clerk: &Clerk) -> bool {
     }
 }
 
-fn run(alloc: Global, input: &[u8], first: usize, room: usize) -> Result<Ran, AllocError> {
-    let mut clerk = clerk_of_sample(alloc)?;
+fn run<R: Abort>(rt: &R, alloc: Global, input: &[u8], first: usize, room: usize) -> Ran {
+    let mut clerk = clerk_of_sample(rt, alloc);
     let mut reader = ReadSource::new(Halves {
         bytes: input,
         first,
@@ -98,19 +100,19 @@ fn run(alloc: Global, input: &[u8], first: usize, room: usize) -> Result<Ran, Al
         Ok(served) => (None, served.requests),
         Err(fault) => (Some(fault), 0),
     };
-    Ok(Ran {
+    Ran {
         fault,
         answers,
         output: bytes,
         unread,
         is_posted: is_posted(alloc, &clerk),
-    })
+    }
 }
 
 const ROOM: usize = 100_000;
 
 /// Streams, the number of their answers, and what is written for them.
-const ROWS: [(&[u8], u64, &[u8]); 9] = [
+static ROWS: [(&[u8], u64, &[u8]); 9] = [
     (
         b"HEAD /plans HTTP/1.1\r\nHost: d\r\n\r\n",
         1,
@@ -169,10 +171,11 @@ const ASKED_ENDS: [usize; 2] = [102, 127];
 
 #[test]
 fn rows_cut_after_each_byte(rt: HostRuntime) {
-    for (input, answers, output) in ROWS {
+    for row in &ROWS {
+        let (input, answers, output) = *row;
         for first in 1..=input.len() {
-            let ran = run(rt.alloc(), input, first, ROOM).expect(&rt, "no memory");
-            assert_eq!(rt; ran.output.as_slice(), output);
+            let ran = run(&rt, rt.alloc(), input, first, ROOM);
+            assert!(rt; ran.output.as_slice() == output);
             assert!(rt; ran.fault.is_none() && ran.answers == answers);
         }
     }
@@ -196,8 +199,8 @@ fn asked_by(end: usize) -> &'static [u8] {
 fn fronts_of_a_stream(rt: HostRuntime) {
     for end in 0..=ASKING.len() {
         for first in [1, 1000] {
-            let ran = run(rt.alloc(), &ASKING[..end], first, ROOM).expect(&rt, "no memory");
-            assert_eq!(rt; ran.output.as_slice(), asked_by(end));
+            let ran = run(&rt, rt.alloc(), &ASKING[..end], first, ROOM);
+            assert!(rt; ran.output.as_slice() == asked_by(end));
             assert!(rt; ran.fault.is_none() && ran.is_posted == (end == ASKING.len()));
         }
     }
@@ -206,9 +209,9 @@ fn fronts_of_a_stream(rt: HostRuntime) {
 #[test]
 fn a_write_that_fails_at_the_interim_line(rt: HostRuntime) {
     for room in 0..ASKED.len() {
-        let ran = run(rt.alloc(), ASKING, 1000, room).expect(&rt, "no memory");
+        let ran = run(&rt, rt.alloc(), ASKING, 1000, room);
         assert!(rt; ran.fault == Some(ServeFault::Write));
-        assert_eq!(rt; ran.output.as_slice(), &ASKED[..room]);
+        assert!(rt; ran.output.as_slice() == &ASKED[..room]);
         assert!(rt; ran.is_posted == (room >= ASKED_ENDS[1]));
     }
 }
@@ -219,6 +222,6 @@ const TOO_LARGE: &[u8] =
 
 #[test]
 fn nothing_is_read_behind_a_body_that_is_too_large(rt: HostRuntime) {
-    let ran = run(rt.alloc(), TOO_LARGE, TOO_LARGE.len() - 4, ROOM).expect(&rt, "no memory");
+    let ran = run(&rt, rt.alloc(), TOO_LARGE, TOO_LARGE.len() - 4, ROOM);
     assert!(rt; ran.answers == 1 && ran.unread == 4);
 }

@@ -1,16 +1,15 @@
-//! Worked heads and answers, in pieces, with failures.
+//! Worked heads, in pieces, with failures.
 
-use byte_stream::sink::{WriteFault, WriteSink};
+use byte_stream::sink::WriteSink;
 use byte_stream::source::ReadSource;
-use http::{Method, StatusCode};
-use http_answer::response::{ContentType, Outbox, Response, write_response};
 use http_chunks::fault::Fault;
 use http_intake::inbox::Inbox;
 use http_wire::fault::RequestFault;
-use http_wire::request::{Incoming, TURN_LIMIT, read_request};
-use std::alloc::{AllocError, Global};
+use http_wire::request::{Incoming, Request, TURN_LIMIT, read_request};
+use std::alloc::Global;
 use std::io;
-use std::io::{ErrorKind, Read, Write};
+use std::io::{ErrorKind, Read};
+use std::process::Abort;
 
 /// Gives its bytes in pieces, is interrupted at each third call, and fails at one.
 #[derive(Drop)]
@@ -50,12 +49,43 @@ struct Stream {
     fault: Option<RequestFault>,
 }
 
-fn read_stream(
+/// Notes what came: whether the stream ends there.
+fn ends<R: Abort>(rt: &R, stream: &mut Stream, came: Result<Incoming, RequestFault>) -> bool {
+    match came {
+        Ok(Incoming::Request(request)) => {
+            note(rt, stream, &request);
+            return false;
+        }
+        Ok(Incoming::Refused { fault, bare }) => stream.refused = Some((fault, bare)),
+        Ok(Incoming::End) | Ok(Incoming::Starved { .. }) => {}
+        Err(fault) => stream.fault = Some(fault),
+    }
+    true
+}
+
+/// Notes a request.
+fn note<R: Abort>(rt: &R, stream: &mut Stream, request: &Request) {
+    stream.requests = stream.requests.saturating_add(1);
+    stream.closing = stream.closing.saturating_add(request.closes as u64);
+    let body = request.body.as_slice();
+    stream
+        .bodies
+        .extend_from_slice(body)
+        .expect(rt, "no memory");
+    let target = request.target.as_slice();
+    stream
+        .targets
+        .extend_from_slice(target)
+        .expect(rt, "no memory");
+}
+
+fn read_stream<R: Abort>(
+    rt: &R,
     alloc: Global,
     bytes: &[u8],
     piece: usize,
     fails_at: u64,
-) -> Result<Stream, AllocError> {
+) -> Stream {
     let mut reader = ReadSource::new(Pieces {
         bytes,
         piece,
@@ -63,7 +93,7 @@ fn read_stream(
         fails_at,
     });
     let mut writer = WriteSink::new(Vec::new(alloc));
-    let mut inbox = Inbox::new(alloc)?;
+    let mut inbox = Inbox::new(alloc).expect(rt, "no memory");
     let mut turns = TURN_LIMIT;
     let mut stream = Stream {
         requests: 0,
@@ -74,29 +104,16 @@ fn read_stream(
         fault: None,
     };
     for _ in 0..100 {
-        match read_request(alloc, &mut reader, &mut writer, &mut inbox, &mut turns) {
-            Ok(Incoming::Request(request)) => {
-                stream.requests = stream.requests.saturating_add(1);
-                stream.bodies.extend_from_slice(request.body.as_slice())?;
-                stream.targets.extend_from_slice(request.target.as_slice())?;
-                stream.closing = stream.closing.saturating_add(request.closes as u64);
-            }
-            Ok(Incoming::Refused { fault, bare }) => {
-                stream.refused = Some((fault, bare));
-                return Ok(stream);
-            }
-            Ok(Incoming::End) | Ok(Incoming::Starved { .. }) => return Ok(stream),
-            Err(fault) => {
-                stream.fault = Some(fault);
-                return Ok(stream);
-            }
+        let came = read_request(alloc, &mut reader, &mut writer, &mut inbox, &mut turns);
+        if ends(rt, &mut stream, came) {
+            break;
         }
     }
-    Ok(stream)
+    stream
 }
 
 /// Inputs, the number of their requests, and their fault.
-const HEADS: [(&[u8], u64, Option<Fault>); 27] = [
+static HEADS: [(&[u8], u64, Option<Fault>); 27] = [
     (b"GET /plans HTTP/1.1\r\nHost: d\r\n\r\n", 1, None),
     (
         b"\r\n\nGET / HTTP/1.1\nhOST:\n\nBREW /pot HTTP/1.1\r\nHost: d\r\n\r\n\r\n",
@@ -218,7 +235,7 @@ fn fault_of(stream: &Stream) -> Option<Fault> {
 }
 
 /// Inputs of one request each, what its target asks for, and whether the answer ends the connection.
-const TARGETS: [(&[u8], &[u8], u64); 10] = [
+static TARGETS: [(&[u8], &[u8], u64); 10] = [
     (b"GET /a?b HTTP/1.1\r\nHost: d\r\n\r\n", b"/a?b", 0),
     (b"GET http://d?x=1 HTTP/1.1\r\nHost: e\r\n\r\n", b"/?x=1", 0),
     (b"GET hTTp://u@d:1/a HTTP/1.1\r\nHost: e\r\n\r\n", b"/a", 0),
@@ -249,16 +266,17 @@ const TARGETS: [(&[u8], &[u8], u64); 10] = [
 
 #[test]
 fn worked_targets(rt: HostRuntime) {
-    for (input, target, closing) in TARGETS {
-        let stream = read_stream(rt.alloc(), input, 11, u64::MAX).expect(&rt, "no memory");
-        assert_eq!(rt; stream.requests, 1);
+    for row in &TARGETS {
+        let (input, target, closing) = *row;
+        let stream = read_stream(&rt, rt.alloc(), input, 11, u64::MAX);
+        assert!(rt; stream.requests == 1);
         assert!(rt; stream.targets.as_slice() == target);
-        assert_eq!(rt; stream.closing, closing);
+        assert!(rt; stream.closing == closing);
     }
 }
 
 /// Inputs whose first request is refused, and whether the answer has no body.
-const BARE: [(&[u8], Fault, bool); 4] = [
+static BARE: [(&[u8], Fault, bool); 4] = [
     (b"HEAD / HTTP/1.1\r\n\r\n", Fault::BadHost, true),
     (
         b"HEAD https://d/ HTTP/1.1\r\nHost: d\r\n\r\n",
@@ -275,18 +293,20 @@ const BARE: [(&[u8], Fault, bool); 4] = [
 
 #[test]
 fn refused_heads(rt: HostRuntime) {
-    for (input, fault, bare) in BARE {
-        let stream = read_stream(rt.alloc(), input, 5, u64::MAX).expect(&rt, "no memory");
+    for row in &BARE {
+        let (input, fault, bare) = *row;
+        let stream = read_stream(&rt, rt.alloc(), input, 5, u64::MAX);
         assert!(rt; stream.refused == Some((fault, bare)));
     }
 }
 
 #[test]
 fn worked_heads(rt: HostRuntime) {
-    for (input, requests, refused) in HEADS {
+    for row in &HEADS {
+        let (input, requests, refused) = *row;
         for piece in [1, 7, 65_536] {
-            let stream = read_stream(rt.alloc(), input, piece, u64::MAX).expect(&rt, "no memory");
-            assert_eq!(rt; stream.requests, requests);
+            let stream = read_stream(&rt, rt.alloc(), input, piece, u64::MAX);
+            assert!(rt; stream.requests == requests);
             assert!(rt; fault_of(&stream) == refused);
             assert!(rt; stream.fault.is_none());
         }
@@ -294,177 +314,97 @@ fn worked_heads(rt: HostRuntime) {
 }
 
 /// A head of so many header lines and so many bytes.
-fn head_of(alloc: Global, lines: usize, len: usize) -> Result<Vec<u8>, AllocError> {
-    let mut head = Vec::from_slice(alloc, b"GET / HTTP/1.1\r\nHost: d\r\n")?;
+fn head_of<R: Abort>(rt: &R, alloc: Global, lines: usize, len: usize) -> Vec<u8> {
+    let mut head = Vec::from_slice(alloc, b"GET / HTTP/1.1\r\nHost: d\r\n").expect(rt, "no memory");
     for _ in 1..lines {
-        head.extend_from_slice(b"X: y\r\n")?;
+        head.extend_from_slice(b"X: y\r\n").expect(rt, "no memory");
     }
     if head.len().saturating_add(5) < len {
-        head.resize(len.saturating_sub(5), b'z')?;
-        head.extend_from_slice(b":\r\n")?;
+        head.resize(len.saturating_sub(5), b'z')
+            .expect(rt, "no memory");
+        head.extend_from_slice(b":\r\n").expect(rt, "no memory");
     }
-    head.extend_from_slice(b"\r\n")?;
-    Ok(head)
+    head.extend_from_slice(b"\r\n").expect(rt, "no memory");
+    head
+}
+
+/// How many header lines and bytes a head has, how many requests are read, and the fault.
+static LIMITS: [(usize, usize, u64, Option<Fault>); 4] = [
+    (64, 0, 1, None),
+    (65, 0, 0, Some(Fault::HeadTooLarge)),
+    (1, 16_384, 1, None),
+    (1, 16_385, 0, Some(Fault::HeadTooLarge)),
+];
+
+/// Asserts what comes of a head in pieces of so many bytes.
+fn is_limited<R: Abort>(
+    rt: &R,
+    alloc: Global,
+    head: &[u8],
+    piece: usize,
+    requests: u64,
+    refused: Option<Fault>,
+) {
+    let stream = read_stream(rt, alloc, head, piece, u64::MAX);
+    assert!(rt; stream.requests == requests);
+    assert!(rt; fault_of(&stream) == refused);
 }
 
 #[test]
 fn limits(rt: HostRuntime) {
-    let table = [
-        (64, 0, 1, None),
-        (65, 0, 0, Some(Fault::HeadTooLarge)),
-        (1, 16_384, 1, None),
-        (1, 16_385, 0, Some(Fault::HeadTooLarge)),
-    ];
-    for (lines, len, requests, refused) in table {
-        let head = head_of(rt.alloc(), lines, len).expect(&rt, "no memory");
+    for row in &LIMITS {
+        let (lines, len, requests, refused) = *row;
+        let head = head_of(&rt, rt.alloc(), lines, len);
         assert!(rt; len == 0 || head.len() == len);
         for piece in [100, 65_536] {
-            let stream = read_stream(rt.alloc(), head.as_slice(), piece, u64::MAX).expect(
-                &rt,
-                "no memory",
-            );
-            assert_eq!(rt; stream.requests, requests);
-            assert!(rt; fault_of(&stream) == refused);
+            is_limited(&rt, rt.alloc(), head.as_slice(), piece, requests, refused);
         }
     }
 }
 
 /// Two requests with a long and a short body.
-fn two_requests(alloc: Global) -> Result<Vec<u8>, AllocError> {
+fn two_requests<R: Abort>(rt: &R, alloc: Global) -> Vec<u8> {
     let mut input = Vec::from_slice(
         alloc,
         b"POST /a HTTP/1.1\r\nHost: d\r\nContent-Length: 100000\r\n\r\n",
-    )?;
+    )
+    .expect(rt, "no memory");
     let len = input.len();
-    input.resize(len.saturating_add(100_000), b'a')?;
-    input.extend_from_slice(b"POST /b HTTP/1.1\r\nHost: d\r\nContent-Length: 3\r\n\r\nbbb")?;
-    Ok(input)
+    input
+        .resize(len.saturating_add(100_000), b'a')
+        .expect(rt, "no memory");
+    input
+        .extend_from_slice(b"POST /b HTTP/1.1\r\nHost: d\r\nContent-Length: 3\r\n\r\nbbb")
+        .expect(rt, "no memory");
+    input
 }
 
 #[test]
 fn bodies_in_pieces(rt: HostRuntime) {
-    let input = two_requests(rt.alloc()).expect(&rt, "no memory");
+    let input = two_requests(&rt, rt.alloc());
     let mut bodies = Vec::from_elem(rt.alloc(), b'a', 100_000).expect(&rt, "no memory");
     bodies.extend_from_slice(b"bbb").expect(&rt, "no memory");
     for piece in [1, 999, 1_000_000] {
-        let stream = read_stream(rt.alloc(), input.as_slice(), piece, u64::MAX).expect(
-            &rt,
-            "no memory",
-        );
-        assert_eq!(rt; stream.requests, 2);
+        let stream = read_stream(&rt, rt.alloc(), input.as_slice(), piece, u64::MAX);
+        assert!(rt; stream.requests == 2);
         assert!(rt; stream.bodies.as_slice() == bodies.as_slice());
     }
 }
 
 #[test]
 fn a_read_that_fails(rt: HostRuntime) {
-    let input = two_requests(rt.alloc()).expect(&rt, "no memory");
+    let input = two_requests(&rt, rt.alloc());
     let mut ended = false;
     for call in 0..200 {
-        let stream = read_stream(rt.alloc(), input.as_slice(), 2_000, call).expect(
-            &rt,
-            "no memory",
-        );
+        let stream = read_stream(&rt, rt.alloc(), input.as_slice(), 2_000, call);
         assert!(rt; stream.refused.is_none());
         if stream.fault.is_none() {
             ended = true;
-            assert_eq!(rt; stream.requests, 2);
+            assert!(rt; stream.requests == 2);
         } else {
             assert!(rt; stream.fault == Some(RequestFault::Read));
             assert!(rt; stream.requests < 2 || call > 50);
         }
     }
     assert!(rt; ended);
-}
-
-/// Takes so many bytes a call, is interrupted before each, and fails once so many were written.
-#[derive(Drop)]
-struct Slow {
-    bytes: Vec<u8>,
-    piece: usize,
-    limit: usize,
-    interrupts: bool,
-}
-
-impl Write for Slow {
-    fn write(&mut self, buf: &[u8]) -> io::Result<usize> {
-        self.interrupts = !self.interrupts;
-        if self.interrupts {
-            return Err(io::Error::from(ErrorKind::Interrupted));
-        }
-        let n = self
-            .piece
-            .min(buf.len())
-            .min(self.limit.saturating_sub(self.bytes.len()));
-        self.bytes.extend_from_slice(&buf[..n])?;
-        Ok(n)
-    }
-
-    fn flush(&mut self) -> io::Result<()> {
-        Ok(())
-    }
-}
-
-#[test]
-fn worked_answers(rt: HostRuntime) {
-    let mut outbox = Outbox::new(rt.alloc()).expect(&rt, "no memory");
-    let mut writer = WriteSink::new(Vec::new(rt.alloc()));
-    let list = Response {
-        status: StatusCode::OK,
-        kind: ContentType::Json,
-        allow: None,
-        closes: false,
-        bare: false,
-        body: b"{\"plans\":[]}",
-    };
-    assert!(rt; write_response(&mut writer, &mut outbox, &list).is_ok());
-    let refusal = Response {
-        status: StatusCode::METHOD_NOT_ALLOWED,
-        kind: ContentType::PlainText,
-        allow: Some("GET, HEAD"),
-        closes: true,
-        bare: true,
-        body: b"text",
-    };
-    assert!(rt; write_response(&mut writer, &mut outbox, &refusal).is_ok());
-    assert!(rt; outbox.flush(&mut writer).is_ok());
-    let written = writer.into_inner();
-    let first =
-        b"HTTP/1.1 200 OK\r\nContent-Type: application/json\r\nContent-Length: 12\r\n\r\n{\"plans\":[]}";
-    let second =
-        b"HTTP/1.1 405 Method Not Allowed\r\nContent-Type: text/plain\r\nContent-Length: 4\r\nAllow: GET, HEAD\r\nConnection: close\r\n\r\n";
-    let mut wanted = Vec::from_slice(rt.alloc(), first).expect(&rt, "no memory");
-    wanted.extend_from_slice(second).expect(&rt, "no memory");
-    assert!(rt; written.as_slice() == wanted.as_slice());
-}
-
-#[test]
-fn a_write_that_fails(rt: HostRuntime) {
-    let body = Vec::from_elem(rt.alloc(), b'x', 40_000).expect(&rt, "no memory");
-    let answer = Response {
-        status: StatusCode::OK,
-        kind: ContentType::PlainText,
-        allow: None,
-        closes: false,
-        bare: false,
-        body: body.as_slice(),
-    };
-    for limit in [0, 1, 100, 16_383, 16_384, 16_385, 30_000, 50_000] {
-        let mut outbox = Outbox::new(rt.alloc()).expect(&rt, "no memory");
-        let mut writer = WriteSink::new(Slow {
-            bytes: Vec::new(rt.alloc()),
-            piece: 5_000,
-            limit,
-            interrupts: false,
-        });
-        let result = write_response(&mut writer, &mut outbox, &answer);
-        let written = writer.into_inner();
-        if limit < 40_000 {
-            assert!(rt; result == Err(WriteFault));
-            assert_eq!(rt; written.bytes.len(), limit);
-        } else {
-            assert!(rt; result.is_ok());
-            assert_eq!(rt; written.bytes.len(), 40_000 + 68);
-        }
-    }
 }

@@ -23,8 +23,8 @@ value_more bytes n i value inside is =
     let digit = digit_value_digit (get_or bytes i 0) (low, high) in
     sym (rw (more, ← value) (omega arith))
 
-pub stopped_more : (bytes : List ℕ) (n i : ℕ) → n ≡ min (digits_value 10 (take i bytes)) 1000 → i < length bytes → is_ascii_digit (get_or bytes i 0) ≡ true
-    → min (n * 10 + (get_or bytes i 0 - 48)) 1000 ≡ min (digits_value 10 (take (i + 1) bytes)) 1000
+pub stopped_more : (bytes : List ℕ) (n i : ℕ) → n ≡ min (digits_value 10 (take i bytes)) 4294967296 → i < length bytes → is_ascii_digit (get_or bytes i 0) ≡ true
+    → min (n * 10 + (get_or bytes i 0 - 48)) 4294967296 ≡ min (digits_value 10 (take (i + 1) bytes)) 4294967296
 stopped_more bytes n i value inside is =
     let exact = value_more bytes (digits_value 10 (take i bytes)) i refl inside is in
     omega arith

@@ -4,15 +4,17 @@ use Rattle.std.specs.Option.{option_copied}
 use Rattle.clap.specs.Matches.{first_value}
 use Rattle.clap.specs.declared.parser.matches.Found.{Found}
 use Rattle.state_files.specs.declared.open.CensusPaths.{CensusPaths}
-use Rattle.desk_words.specs.Options.{AreTerms}
+use Rattle.desk_words.specs.Options.{AreTerms, IsSize, size_read}
 use Rattle.desk_words.specs.declared.words.Job.{Job}
-use Rattle.desk_words.specs.declared.words.Job.TheVariants.{Talk, Counts, Audit}
+use Rattle.desk_words.specs.declared.words.Job.TheVariants.{Talk, Counts, Audit, Format, Load}
 
 -- an audit is asked for with its terms in range and 1 to 64 workers, and a senate plan's file goes with its number of districts
 abbrev pub IsJob : Job → Type 0
 IsJob Talk = Unit {0}
 IsJob (Counts paths) = Unit {0}
 IsJob (Audit paths terms workers) = AreTerms terms × (is_some paths.senate ≡ is_some terms.senate_districts) × (1 ≤ workers) × (workers ≤ 64)
+IsJob (Format store size) = IsSize size
+IsJob (Load store census gal) = Unit {0}
 
 -- each census file is the one that its option names
 pub record AreCensusPaths (found : Found) (paths : CensusPaths) : Type 0 where
@@ -29,3 +31,8 @@ HasPaths found (Audit paths terms workers) = AreCensusPaths found paths.census
     × (first_value found (codes "gal") ≡ Some paths.gal.now)
     × (first_value found (codes "plan") ≡ Some paths.plan.now)
     × (first_value found (codes "senate") ≡ option_copied paths.senate)
+HasPaths found (Format store size) = (first_value found (codes "store") ≡ Some store.now)
+    × (size_read (first_value found (codes "sectors")) (first_value found (codes "journal")) ≡ Some size)
+HasPaths found (Load store census gal) = AreCensusPaths found census
+    × (first_value found (codes "store") ≡ Some store.now)
+    × (first_value found (codes "gal") ≡ Some gal.now)

@@ -6,6 +6,7 @@ use Rattle.std.specs.Str.Parse.{digits_value}
 use Rattle.desk_model.specs.declared.kind.Kind.{Kind}
 use Rattle.desk_model.specs.Kind.{kind_named, most_districts}
 use Rattle.audit_report.specs.Clauses.{is_house}
+use Rattle.desk_words.specs.declared.options.Size.{Size}
 use Rattle.desk_words.specs.declared.options.Terms.{Terms}
 use Rattle.desk_words.specs.declared.options.Form.{Form}
 use Rattle.desk_words.specs.declared.options.Form.TheVariants.{Counts, Audit}
@@ -15,6 +16,27 @@ abbrev pub number_to : ℕ → List ℕ → Option ℕ
 number_to most text =
     if list_all is_ascii_digit text && nat_le 1 (digits_value 10 text) && nat_le (digits_value 10 text) most then Some (digits_value 10 text)
     else None
+
+-- the sizes of a store
+abbrev pub size_with : Option ℕ → Option ℕ → Option Size
+size_with None journal = None
+size_with (Some sectors) None = None
+size_with (Some sectors) (Some journal) = Some (record { sectors = sectors; journal_pages = journal })
+
+abbrev pub at_least : ℕ → Option ℕ → Option ℕ
+at_least least None = None
+at_least least (Some n) = if nat_le least n then Some n else None
+
+-- its number of sectors, and that of its journal's pages, where both are there and in range
+abbrev pub size_read : Option (List ℕ) → Option (List ℕ) → Option Size
+size_read None journal = None
+size_read (Some sectors) None = None
+size_read (Some sectors) (Some journal) = size_with (number_to 4294967295 sectors) (at_least 256 (number_to 65536 journal))
+
+pub record IsSize (size : Size) : Type 0 where
+  pub some : 1 ≤ size.sectors
+  pub least : 256 ≤ size.journal_pages
+  pub most : size.journal_pages ≤ 65536
 
 -- the number of workers, one where nothing says it
 abbrev pub workers_read : Option (List ℕ) → Option ℕ

@@ -2,7 +2,7 @@
 ghost use Rattle.std.specs.Prelude.{◌≡◌, ◌≤◌, IfSome, IsSome, IsTrue, IsSomeAnd, is_some};
 ghost use Rattle.std.specs.Option.{option_copied};
 ghost use Rattle.audit_report.specs.Clauses.{is_house as is_house_kind};
-ghost use Rattle.desk_words.specs.Options.{number_to as number_in, senate_read, terms_read, form_read, AreTerms, IsForm, IsBeside, workers_read};
+ghost use Rattle.desk_words.specs.Options.{number_to as number_in, senate_read, terms_read, form_read, AreTerms, IsForm, IsBeside, workers_read, at_least, size_read, IsSize};
 
 use desk_model::kind::Kind;
 
@@ -33,24 +33,70 @@ fn is_house(kind: Kind) -> bool
     }
 }
 
+/// How large a store is.
+#[derive(Clone, Copy, Debug, PartialEq, Eq)]
+pub struct Size {
+    pub sectors: u32,
+    pub journal_pages: u32,
+}
+
 /// The number that digits alone write, where it is 1 to `most`. Leading zeros are digits like others.
-fn number_to(most: u16, text: &[u8]) -> Option<u16>
-    requires { most ≤ 999 }
+fn number_up_to(most: u32, text: &[u8]) -> Option<u32>
     ensures value { result ≡ number_in most text.now }
     ensures some { IfSome result (λ n. 1 ≤ n) }
     ensures few { IfSome result (λ n. n ≤ most) }
 {
-    let mut value: u16 = 0;
+    let mut value: u64 = 0;
     for digit in text {
         if !digit.is_ascii_digit() {
             return None;
         }
-        value = (value * 10 + (*digit - b'0') as u16).min(1000);
+        value = (value * 10 + (*digit - b'0') as u64).min(4_294_967_296);
     }
-    if value < 1 || value > most {
+    if value < 1 || value > most as u64 {
         return None;
     }
-    Some(value)
+    Some(value as u32)
+}
+
+/// The same of a smaller number.
+fn number_to(most: u16, text: &[u8]) -> Option<u16>
+    ensures value { result ≡ number_in most text.now }
+    ensures some { IfSome result (λ n. 1 ≤ n) }
+    ensures few { IfSome result (λ n. n ≤ most) }
+{
+    match number_up_to(most as u32, text) {
+        None => None,
+        Some(number) => Some(number as u16),
+    }
+}
+
+/// The number of a journal's pages, 256 to 65,536.
+fn read_journal(text: &[u8]) -> Option<u32>
+    ensures value { result ≡ at_least 256 (number_in 65536 text.now) }
+    ensures least { IfSome result (λ n. 256 ≤ n) }
+    ensures most { IfSome result (λ n. n ≤ 65536) }
+{
+    let pages = number_up_to(65_536, text)?;
+    if pages < 256 {
+        return None;
+    }
+    Some(pages)
+}
+
+/// How large a store is to be. `None` where a number is missing, isn't digits alone, or is out of its range.
+pub fn read_size(sectors: Option<&[u8]>, journal: Option<&[u8]>) -> Option<Size>
+    ensures value { result ≡ size_read (option_copied sectors.entry) (option_copied journal.entry) }
+    ensures valid { IfSome result IsSize }
+{
+    let sectors = sectors?;
+    let journal = journal?;
+    let sectors = number_up_to(4_294_967_295, sectors)?;
+    let journal_pages = read_journal(journal)?;
+    Some(Size {
+        sectors,
+        journal_pages,
+    })
 }
 
 /// The number of workers that a word asks for, 1 to 64: digits alone. One where there is no word.

@@ -1,9 +1,10 @@
 //! The words of the command line.
-ghost use Rattle.std.specs.Prelude.{IfOk, IfSome};
+ghost use Rattle.std.specs.Prelude.{◌≡◌, IfOk, IfSome};
+ghost use Rattle.std.specs.Option.{option_copied};
 ghost use Rattle.clap.specs.Matches.{found_of};
 ghost use Rattle.desk_words.specs.Jobs.{IsJob, AreCensusPaths, HasPaths};
 
-use crate::options::{Form, Terms, read_form, read_workers};
+use crate::options::{Form, Size, Terms, read_form, read_size, read_workers};
 use clap::builder::ValueParser;
 use clap::error::ErrorKind;
 use clap::{Arg, ArgAction, ArgMatches, Command};
@@ -19,6 +20,10 @@ pub enum Job<'a> {
     Counts(CensusPaths<'a>),
     /// `check` with a plan, by so many workers.
     Audit(AuditPaths<'a>, Terms, u16),
+    /// `format`: a store of so many sectors, with so many journal pages.
+    Format(&'a str, Size),
+    /// `load`: a store is filled with what the census files and the neighbour file say.
+    Load(&'a str, CensusPaths<'a>, &'a str),
 }
 
 /// Why it does nothing: help or the version was asked for, the words are wrong, or memory was refused.
@@ -60,8 +65,40 @@ const STATUSES: &str = "Statuses:
   1  a report names a broken clause
   2  the command line is wrong; nothing was opened
   3  a file was refused; its fault is told with the file's name
+  4  the store was refused, or its device failed
   5  memory was refused
   6  standard input or output failed";
+
+const FORMAT_HELP: &str =
+    "Where it ends with 4 or 5 after the file was made, the file is no store: remove it before the next format.
+
+Example:
+  ./plandesk format state.store --sectors 2000 --journal 256
+
+Statuses:
+  0  the store is made
+  2  the command line is wrong; nothing was made
+  4  the store was refused, or its device failed
+  5  memory was refused
+  6  standard output failed";
+
+const LOAD_HELP: &str =
+    "The files are judged in the order geo, seg1, seg2, seg3, gal, and the first fault ends the run; the store
+is opened after them all.
+
+Example, in the folder 'example':
+  ../plandesk load state.store --geo geo.pl --seg1 seg1.pl --seg2 seg2.pl --seg3 seg3.pl --gal neighbours.gal
+
+Statuses:
+  0  the geography is sealed in the store
+  2  the command line is wrong; nothing was opened
+  3  a file was refused; its fault is told with the file's name
+  4  the store was refused, or its device failed
+  5  memory was refused
+  6  standard output failed; the geography is sealed in the store";
+
+const WRONG_SIZE: &str =
+    "error: a number of sectors is digits alone, 1 to 4294967295, and of journal pages 256 to 65536\n";
 
 const CHECK_HELP: &str =
     "With the census files alone it prints the numbers of blocks, counties and people, and the people of
@@ -167,16 +204,62 @@ fn with_senate_options<'a>(alloc: Global, command: Command<'a>) -> Result<Comman
         .arg(districts.requires_arg("senate")?.requires_arg("plan")?)
 }
 
-fn check_command<'a>(alloc: Global) -> Result<Command<'a>, AllocError> {
-    let command = Command::new(alloc, "check")
-        .about("Prints the counts of a state's census files, or with a plan its audit")
-        .after_help(CHECK_HELP)
+/// The options of a state's census files.
+fn with_census_options<'a>(alloc: Global, command: Command<'a>) -> Result<Command<'a>, AllocError> {
+    command
         .arg(path_option(alloc, "geo", "The geographic header"))?
         .arg(path_option(alloc, "seg1", "Segment 1"))?
         .arg(path_option(alloc, "seg2", "Segment 2"))?
-        .arg(path_option(alloc, "seg3", "Segment 3"))?;
+        .arg(path_option(alloc, "seg3", "Segment 3"))
+}
+
+fn check_command<'a>(alloc: Global) -> Result<Command<'a>, AllocError> {
+    let command = Command::new(alloc, "check")
+        .about("Prints the counts of a state's census files, or with a plan its audit")
+        .after_help(CHECK_HELP);
+    let command = with_census_options(alloc, command)?;
     let command = with_plan_options(alloc, command)?;
     with_senate_options(alloc, command)?.arg(workers_option(alloc))
+}
+
+/// The file of a store.
+fn store_word<'a>(alloc: Global) -> Arg<'a> {
+    Arg::new(alloc, "store")
+        .value_name("STORE")
+        .help("The store's file")
+        .required(true)
+}
+
+fn format_command<'a>(alloc: Global) -> Result<Command<'a>, AllocError> {
+    let sectors = option(alloc, "sectors", "N", "How many sectors of 4,096 bytes");
+    let journal = option(
+        alloc,
+        "journal",
+        "J",
+        "How many pages a commit may write: 256 to 65536",
+    );
+    Command::new(alloc, "format")
+        .about("Makes an empty store in a new file")
+        .after_help(FORMAT_HELP)
+        .arg(store_word(alloc))?
+        .arg(
+            sectors
+                .required(true)
+                .value_parser(ValueParser::unsigned(1, 4_294_967_295)),
+        )?
+        .arg(
+            journal
+                .required(true)
+                .value_parser(ValueParser::unsigned(256, 65_536)),
+        )
+}
+
+fn load_command<'a>(alloc: Global) -> Result<Command<'a>, AllocError> {
+    let command = Command::new(alloc, "load")
+        .about("Fills an empty store with a state's blocks and neighbours")
+        .after_help(LOAD_HELP)
+        .arg(store_word(alloc))?;
+    with_census_options(alloc, command)?.arg(path_option(alloc, "gal", "The neighbour file (GAL)"))
 }
 
 /// The command line, as clap sees it.
@@ -190,6 +273,8 @@ fn command<'a>(alloc: Global) -> Result<Command<'a>, AllocError> {
         .after_help(STATUSES)
         .subcommand_required(true)
         .subcommand(check_command(alloc)?)?
+        .subcommand(format_command(alloc)?)?
+        .subcommand(load_command(alloc)?)?
         .subcommand(talk)
 }
 
@@ -205,7 +290,9 @@ fn census_paths<'a>(matches: &ArgMatches<'a>) -> Option<CensusPaths<'a>>
     })
 }
 
-fn bytes_of(text: Option<&str>) -> Option<&[u8]> {
+fn bytes_of(text: Option<&str>) -> Option<&[u8]>
+    ensures { option_copied result ≡ option_copied text.entry }
+{
     match text {
         Some(text) => Some(text.as_bytes()),
         None => None,
@@ -244,6 +331,28 @@ fn check_job<'a>(matches: &ArgMatches<'a>) -> Option<Job<'a>>
             Some(Job::Audit(paths, terms, workers))
         }
     }
+}
+
+/// What `format` is asked for, where its numbers are in range.
+fn format_job<'a>(matches: &ArgMatches<'a>) -> Option<Job<'a>>
+    ensures valid { IfSome result IsJob }
+    ensures paths { IfSome result (HasPaths (found_of matches.now)) }
+{
+    let store = matches.get_str("store")?;
+    let size = read_size(
+        bytes_of(matches.get_str("sectors")),
+        bytes_of(matches.get_str("journal")),
+    )?;
+    Some(Job::Format(store, size))
+}
+
+/// What `load` is asked for.
+fn load_job<'a>(matches: &ArgMatches<'a>) -> Option<Job<'a>>
+    ensures valid { IfSome result IsJob }
+    ensures paths { IfSome result (HasPaths (found_of matches.now)) }
+{
+    let census = census_paths(matches)?;
+    Some(Job::Load(matches.get_str("store")?, census, matches.get_str("gal")?))
 }
 
 /// A mistake that is told so, or want of memory where the text has none.
@@ -294,6 +403,14 @@ pub fn job_of<'a>(alloc: Global, words: &'a [&'a str]) -> Result<Job<'a>, Mistak
     };
     match matches.subcommand() {
         Some(("talk", _)) => Ok(Job::Talk),
+        Some(("format", options)) => match format_job(options) {
+            Some(job) => Ok(job),
+            None => Err(usage(alloc, WRONG_SIZE)),
+        },
+        Some(("load", options)) => match load_job(options) {
+            Some(job) => Ok(job),
+            None => Err(usage(alloc, "error: a file is missing\n")),
+        },
         Some((_, options)) => match check_job(options) {
             Some(job) => Ok(job),
             None => Err(usage(alloc, wrong_options(options))),

@@ -15,6 +15,8 @@ pub enum Status {
     Usage,
     /// 3: an input file was refused.
     Refused,
+    /// 4: the store, or its device.
+    Store,
     /// 5: memory was refused.
     Memory,
     /// 6: a socket, or standard input or output.
@@ -30,6 +32,7 @@ impl Status {
             Status::Broken => 1,
             Status::Usage => 2,
             Status::Refused => 3,
+            Status::Store => 4,
             Status::Memory => 5,
             Status::Stream => 6,
         }

@@ -30,7 +30,8 @@ impl PageWrites {
     ghost use Rattle.std.specs.Prelude.{◌≡◌, ◌<◌, ◌≤◌, ◌+◌, ◌++◌, ◌⊎◌, ℕ, [], ◌∷◌, length, OnOk, OnErr, IfOk, IsOk, MatchOption};
     ghost use Rattle.sector_device.specs.Disk.{Image};
     ghost use Rattle.gate_journal.specs.Store.{Writes, IsWithin, IsOnce, overlay, put};
-    ghost use Rattle.gate_journal.specs.Writes.{writes_of, room_of, IsLast};
+    ghost use Rattle.std.specs.Fn.{FnOnceReturnsAtMut};
+    ghost use Rattle.gate_journal.specs.Writes.{writes_of, room_of, IsLast, IsEdited};
 
     pub fn new(alloc: Global) -> PageWrites
         ensures { writes_of result ≡ [] }
@@ -95,6 +96,20 @@ impl PageWrites {
     {
         let k = self.place(page)?;
         Some(&self.list[k].1)
+    }
+
+    /// Changes the bytes of a page that is written where they lie, and tells what that told; none where the page isn't written.
+    pub fn edit<R, F: FnOnce(&mut [u8; 4096]) -> R>(&mut self, page: u32, change: F) -> Option<R>
+        requires { F.IsAlwaysCallable change }
+        ensures edited { MatchOption result ((Writes (writes_of self.old) page → ⊥) × (self.new ≡ self.old)) (λ told. Writes (writes_of self.old) page × IsEdited (FnOnceReturnsAtMut F.FnOnce change) told (writes_of self.old) (writes_of self.new) page) }
+        ensures within { (n : ℕ) → IsWithin (writes_of self.old) n → IsWithin (writes_of self.new) n }
+        ensures same { length (writes_of self.new) ≡ length (writes_of self.old) }
+        ensures noted { (q : ℕ) → Writes (writes_of self.old) q → Writes (writes_of self.new) q }
+        ensures room { room_of self.new ≡ room_of self.old }
+    {
+        let k = self.place(page)?;
+        let write = &mut self.list[k];
+        Some(change(&mut write.1))
     }
 
     /// Gives a page its bytes: in place where it is written, and else as a further write.

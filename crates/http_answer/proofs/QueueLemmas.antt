@@ -1,18 +1,30 @@
 -- Answers that wait, one after another.
-use Rattle.std.proofs.Common.{◌≡◌, ℕ, List, [], ◌++◌, Option, Result, Ok, Err, sym, ap, ◌∙◌, append_assoc, append-nil}
+use Rattle.std.proofs.Common.{◌≡◌, ℕ, List, [], ◌++◌, Option, Some, None, Result, Ok, Err, codes, sym, ap, ◌∙◌, append_assoc, append-nil}
 use Rattle.std.proofs.KnownBytes.{Appends-trans, Appends-nil}
 use Rattle.std.specs.Io.KnownBytes.{Appends}
 use Rattle.byte_stream.specs.Sends.{Sends}
+use Rattle.http_answer.specs.Answer.{allow_line, behind_line, line_end}
 use Rattle.http_answer.specs.Queue.{Queued, Queues}
 
--- the parts of a head, one behind another
-pub head_built : (old s t l a c e x1 x2 x3 x4 x5 : List ℕ) → x1 ≡ old ++ s → x2 ≡ x1 ++ t → x3 ≡ x2 ++ l → x4 ≡ x3 ++ a → x5 ≡ (x4 ++ c) ++ e → x5 ≡ old ++ (((((s ++ t) ++ l) ++ a) ++ c) ++ e)
-head_built old s t l a c e x1 x2 x3 x4 x5 p q r u v =
-    let two : x2 ≡ old ++ (s ++ t) = q ∙ ap (λ (xs : List ℕ). xs ++ t) p ∙ append_assoc old s t in
-    let three : x3 ≡ old ++ ((s ++ t) ++ l) = r ∙ ap (λ (xs : List ℕ). xs ++ l) two ∙ append_assoc old (s ++ t) l in
-    let four : x4 ≡ old ++ (((s ++ t) ++ l) ++ a) = u ∙ ap (λ (xs : List ℕ). xs ++ a) three ∙ append_assoc old ((s ++ t) ++ l) a in
-    let five : x4 ++ c ≡ old ++ ((((s ++ t) ++ l) ++ a) ++ c) = ap (λ (xs : List ℕ). xs ++ c) four ∙ append_assoc old (((s ++ t) ++ l) ++ a) c in
-    v ∙ ap (λ (xs : List ℕ). xs ++ e) five ∙ append_assoc old ((((s ++ t) ++ l) ++ a) ++ c) e
+-- a head in four pieces: what stands before the length in its line, the length, the allowed methods, and the end
+pub head_built : (old s t c d k x1 x2 x3 x4 : List ℕ) (allow : Option (List ℕ)) → x1 ≡ old ++ ((s ++ t) ++ c) → x2 ≡ x1 ++ d → x3 ≡ x2 ++ behind_line allow → x4 ≡ x3 ++ ((line_end ++ k) ++ line_end)
+    → x4 ≡ old ++ (((((s ++ t) ++ ((c ++ d) ++ line_end)) ++ allow_line allow) ++ k) ++ line_end)
+head_built old s t c d k x1 x2 x3 x4 allow p q r u =
+    let front = (s ++ t) ++ (c ++ d) in
+    let two : x2 ≡ old ++ front = q ∙ ap (λ (xs : List ℕ). xs ++ d) p ∙ append_assoc old ((s ++ t) ++ c) d ∙ ap (λ (xs : List ℕ). old ++ xs) (append_assoc (s ++ t) c d) in
+    let three : x3 ≡ old ++ (front ++ behind_line allow) = r ∙ ap (λ (xs : List ℕ). xs ++ behind_line allow) two ∙ append_assoc old front (behind_line allow) in
+    let four : x4 ≡ old ++ ((front ++ behind_line allow) ++ ((line_end ++ k) ++ line_end)) = u ∙ ap (λ (xs : List ℕ). xs ++ ((line_end ++ k) ++ line_end)) three ∙ append_assoc old (front ++ behind_line allow) ((line_end ++ k) ++ line_end) in
+    four ∙ ap (λ (xs : List ℕ). old ++ xs) (ends front k allow) ∙ ap (λ (xs : List ℕ). old ++ (((xs ++ allow_line allow) ++ k) ++ line_end)) (append_assoc (s ++ t) (c ++ d) line_end)
+  where
+    joined : (a e k : List ℕ) → a ++ ((e ++ k) ++ e) ≡ ((a ++ e) ++ k) ++ e
+    joined a e k = sym (append_assoc a (e ++ k) e) ∙ ap (λ (xs : List ℕ). xs ++ e) (sym (append_assoc a e k))
+
+    moved : (f e a m : List ℕ) → (f ++ ((e ++ a) ++ m)) ++ e ≡ (f ++ e) ++ ((a ++ m) ++ e)
+    moved f e a m = ap (λ (xs : List ℕ). xs ++ e) (ap (λ (xs : List ℕ). f ++ xs) (append_assoc e a m) ∙ sym (append_assoc f e (a ++ m))) ∙ append_assoc (f ++ e) (a ++ m) e
+
+    ends : (f k : List ℕ) (allow : Option (List ℕ)) → (f ++ behind_line allow) ++ ((line_end ++ k) ++ line_end) ≡ (((f ++ line_end) ++ allow_line allow) ++ k) ++ line_end
+    ends f k None = joined (f ++ []) line_end k ∙ ap (λ (xs : List ℕ). (xs ++ k) ++ line_end) (ap (λ (xs : List ℕ). xs ++ line_end) (append-nil f) ∙ sym (append-nil (f ++ line_end)))
+    ends f k (Some m) = joined (f ++ behind_line (Some m)) line_end k ∙ ap (λ (xs : List ℕ). (xs ++ k) ++ line_end) (moved f line_end (codes "Allow: ") m)
 
 -- a head and then a body
 pub put_both : (new mid old head body : List ℕ) → new ≡ mid ++ body → mid ≡ old ++ head → new ≡ old ++ (head ++ body)

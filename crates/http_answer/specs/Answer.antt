@@ -37,6 +37,15 @@ abbrev pub close_line : Bool → List ℕ
 close_line true = codes "Connection: close" ++ line_end
 close_line false = []
 
+-- the first two lines, and what stands before the length in the third
+abbrev pub start_text : ℕ → ContentType → List ℕ
+start_text status kind = status_line status ++ type_line kind ++ codes "Content-Length: "
+
+-- the end of the line before, and the line of the allowed methods but for its own end
+abbrev pub behind_line : Option (List ℕ) → List ℕ
+behind_line None = []
+behind_line (Some methods) = line_end ++ codes "Allow: " ++ methods
+
 -- the head of an answer whose body has n bytes
 abbrev pub head_text : ℕ → ContentType → Option (List ℕ) → Bool → ℕ → List ℕ
 head_text status kind allow closes n = status_line status ++ type_line kind ++ length_line n ++ allow_line allow ++ close_line closes ++ line_end

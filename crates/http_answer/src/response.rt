@@ -3,7 +3,7 @@ ghost use Rattle.std.specs.Prelude.{◌≡◌, ℕ, ◌+◌, ◌<◌, ◌≤◌,
 ghost use Rattle.byte_stream.specs.Sends.{Sends, failures_with};
 ghost use Rattle.http_answer.specs.Queue.{Queues};
 ghost use Rattle.http_answer.specs.Phrases.{phrase_of};
-ghost use Rattle.http_answer.specs.Answer.{status_line, type_line, length_line, allow_line, close_line, line_end, head_text, response_text, sent_body, allowed, allowed_len};
+ghost use Rattle.http_answer.specs.Answer.{status_line, type_line, start_text, behind_line, close_line, line_end, head_text, response_text, sent_body, allowed, allowed_len};
 
 use byte_stream::sink::{Sink, WriteFault};
 use http::StatusCode;
@@ -148,8 +148,8 @@ fn put(bytes: &mut Vec<u8>, text: &[u8])
     let _ = bytes.extend_from_slice(text);
 }
 
-/// The line of a status, part by part.
-fn put_status_parts(bytes: &mut Vec<u8>, status: StatusCode)
+/// The line of a status.
+fn put_status(bytes: &mut Vec<u8>, status: StatusCode)
     requires { vec_len bytes.old + 100 ≤ vec_capacity bytes.old }
     ensures items { bytes.new.items ≡ bytes.old.items ++ status_line status }
     ensures len { vec_len bytes.new ≤ vec_len bytes.old + 100 }
@@ -160,20 +160,6 @@ fn put_status_parts(bytes: &mut Vec<u8>, status: StatusCode)
     put(bytes, b" ");
     put(bytes, phrase(status).as_bytes());
     put(bytes, b"\r\n");
-}
-
-/// The line of the status. Those of accepted requests are put in one piece.
-fn put_status(bytes: &mut Vec<u8>, status: StatusCode)
-    requires { vec_len bytes.old + 100 ≤ vec_capacity bytes.old }
-    ensures items { bytes.new.items ≡ bytes.old.items ++ status_line status }
-    ensures len { vec_len bytes.new ≤ vec_len bytes.old + 100 }
-    ensures room { vec_capacity bytes.old ≤ vec_capacity bytes.new }
-{
-    match status.as_u16() {
-        200 => put(bytes, b"HTTP/1.1 200 OK\r\n"),
-        201 => put(bytes, b"HTTP/1.1 201 Created\r\n"),
-        _ => put_status_parts(bytes, status),
-    }
 }
 
 /// The line of the media type.
@@ -189,45 +175,70 @@ fn put_type(bytes: &mut Vec<u8>, kind: ContentType)
     }
 }
 
-/// The line of the body's length.
+/// What stands before the body's length. Where a request for JSON is accepted it is put in one piece.
+fn put_start(bytes: &mut Vec<u8>, status: StatusCode, kind: ContentType)
+    requires { vec_len bytes.old + 220 ≤ vec_capacity bytes.old }
+    ensures items { bytes.new.items ≡ bytes.old.items ++ start_text status kind }
+    ensures len { vec_len bytes.new ≤ vec_len bytes.old + 220 }
+    ensures room { vec_capacity bytes.old ≤ vec_capacity bytes.new }
+{
+    match (status.as_u16(), kind) {
+        (200, ContentType::Json) => {
+            put(
+                bytes,
+                b"HTTP/1.1 200 OK\r\nContent-Type: application/json\r\nContent-Length: ",
+            );
+        }
+        (201, ContentType::Json) => {
+            put(
+                bytes,
+                b"HTTP/1.1 201 Created\r\nContent-Type: application/json\r\nContent-Length: ",
+            );
+        }
+        _ => {
+            put_status(bytes, status);
+            put_type(bytes, kind);
+            put(bytes, b"Content-Length: ");
+        }
+    }
+}
+
+/// The body's length.
 fn put_length(bytes: &mut Vec<u8>, n: usize)
-    requires { vec_len bytes.old + 100 ≤ vec_capacity bytes.old }
-    ensures items { bytes.new.items ≡ bytes.old.items ++ length_line n }
-    ensures len { vec_len bytes.new ≤ vec_len bytes.old + 100 }
+    requires { vec_len bytes.old + 20 ≤ vec_capacity bytes.old }
+    ensures items { bytes.new.items ≡ bytes.old.items ++ decimal n }
+    ensures len { vec_len bytes.new ≤ vec_len bytes.old + 20 }
     ensures room { vec_capacity bytes.old ≤ vec_capacity bytes.new }
 {
     let mut digits = Buffer::new();
-    put(bytes, b"Content-Length: ");
     put(bytes, digits.format(n).as_bytes());
-    put(bytes, b"\r\n");
 }
 
-/// The line of the allowed methods, if there is one.
+/// The end of a line and then the allowed methods, if there are any.
 fn put_allow(bytes: &mut Vec<u8>, allow: Option<&str>)
     requires room { vec_len bytes.old + 100 ≤ vec_capacity bytes.old }
     requires short { allowed_len (option_map (λ methods. methods.now) allow) ≤ 64 }
-    ensures items { bytes.new.items ≡ bytes.old.items ++ allow_line (option_map (λ methods. methods.now) allow.entry) }
+    ensures items { bytes.new.items ≡ bytes.old.items ++ behind_line (option_map (λ methods. methods.now) allow.entry) }
     ensures len { vec_len bytes.new ≤ vec_len bytes.old + 100 }
     ensures room { vec_capacity bytes.old ≤ vec_capacity bytes.new }
 {
     if let Some(methods) = allow {
-        put(bytes, b"Allow: ");
+        put(bytes, b"\r\nAllow: ");
         put(bytes, methods.as_bytes());
-        put(bytes, b"\r\n");
     }
 }
 
-/// The line that tells that the connection closes, where it does, and the empty line.
+/// The end of a line, the line that tells that the connection closes, where it does, and the empty line.
 fn put_end(bytes: &mut Vec<u8>, closes: bool)
     requires { vec_len bytes.old + 100 ≤ vec_capacity bytes.old }
-    ensures items { bytes.new.items ≡ bytes.old.items ++ close_line closes ++ line_end }
+    ensures items { bytes.new.items ≡ bytes.old.items ++ (line_end ++ close_line closes ++ line_end) }
     ensures len { vec_len bytes.new ≤ vec_len bytes.old + 100 }
     ensures room { vec_capacity bytes.old ≤ vec_capacity bytes.new }
 {
     if closes {
-        put(bytes, b"Connection: close\r\n\r\n");
+        put(bytes, b"\r\nConnection: close\r\n\r\n");
     } else {
-        put(bytes, b"\r\n");
+        put(bytes, b"\r\n\r\n");
     }
 }
 
@@ -239,8 +250,7 @@ fn put_head(bytes: &mut Vec<u8>, response: &Response<'_>)
     ensures len { vec_len bytes.new ≤ vec_len bytes.old + 500 }
     ensures room { vec_capacity bytes.old ≤ vec_capacity bytes.new }
 {
-    put_status(bytes, response.status);
-    put_type(bytes, response.kind);
+    put_start(bytes, response.status, response.kind);
     put_length(bytes, response.body.len());
     put_allow(bytes, response.allow);
     put_end(bytes, response.closes);

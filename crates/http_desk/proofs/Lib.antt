@@ -3,3 +3,4 @@ pub mod NextLemmas
 pub mod ShortLemmas
 pub mod TalkLemmas
 pub mod TurnLemmas
+pub mod ListLemmas

@@ -7,7 +7,7 @@ ghost use Rattle.http_desk.specs.Bodies.{error_body};
 ghost use Rattle.http_orders.specs.Methods.{methods_text};
 ghost use Rattle.http_desk.specs.Answers.{bytes_of, saying, message_of, closes_after, error_message, error_name as error_name_of, error_status as error_status_of, error_allow as error_allow_of, fault_message, fault_name as fault_name_of, fault_status as fault_status_of, memory_text, refusal_status as refusal_status_of, refusal_closes, MayStarve, Tells};
 
-use crate::body::plans_text;
+use crate::body::put_plans;
 use crate::short::{SHORT, put_created, put_error, put_refusal, put_retired};
 use byte_stream::sink::{Sink, WriteFault};
 use desk_model::reply::{Refusal, Reply};
@@ -252,13 +252,7 @@ impl Answer {
 
     /// Puts the answer to a reply, and tells whether it closes: where the request asks for it, or where the reply itself
     /// does. Only an answer that may be long takes memory.
-    fn put_reply(
-        &mut self,
-        alloc: Global,
-        reply: Reply,
-        closing: bool,
-        bare: bool,
-    ) -> Result<bool, AllocError>
+    fn put_reply(&mut self, reply: Reply, closing: bool, bare: bool) -> Result<bool, AllocError>
         ensures text { OnOk result (self.new ≡ bytes_of (closes_after reply || closing) bare (message_of reply)) }
         ensures closes { IfOk result (λ closes. closes ≡ (closes_after reply || closing)) }
         ensures starved { OnErr result (MayStarve reply) }
@@ -277,8 +271,9 @@ impl Answer {
                 Ok(closing)
             }
             Reply::Plans(rows) => {
-                let text = plans_text(alloc, rows.as_slice())?;
-                self.put_long(ContentType::Json, text, closing, bare);
+                put_plans(&mut self.long, rows.as_slice())?;
+                self.head = json(StatusCode::OK, closing, bare);
+                self.is_long = true;
                 Ok(closing)
             }
             Reply::Blocks(text) | Reply::Baf(text) => {
@@ -300,10 +295,10 @@ impl Answer {
     }
 
     /// Puts the answer to a reply, or that memory is wanting for it, and tells whether the connection closes after it.
-    pub fn tell(&mut self, alloc: Global, reply: Reply, closing: bool, bare: bool) -> bool
+    pub fn tell(&mut self, reply: Reply, closing: bool, bare: bool) -> bool
         ensures { Tells reply closing bare self.new result }
     {
-        let Ok(closes) = self.put_reply(alloc, reply, closing, bare) else {
+        let Ok(closes) = self.put_reply(reply, closing, bare) else {
             self.put_memory(bare);
             return true;
         };

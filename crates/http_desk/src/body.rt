@@ -1,14 +1,11 @@
 //! The list of plans, as JSON.
-ghost use Rattle.std.specs.Prelude.{◌≡◌, ◌++◌, decimal, IfOk, OnOk};
+ghost use Rattle.std.specs.Prelude.{◌≡◌, ◌++◌, decimal, OnOk};
 ghost use Rattle.serde_json.specs.Written.{compact_text, comma_if};
 ghost use Rattle.http_desk.specs.Bodies.{row_data, plans_body};
 
 use desk_model::reply::PlanRow;
 use itoa::Buffer;
-use std::alloc::{AllocError, Global};
-
-/// Room for a list before its first line, so that a short one is written without making room again.
-const LIST_ROOM: usize = 256;
+use std::alloc::AllocError;
 
 /// Appends a number.
 fn put_number(text: &mut Vec<u8>, number: u64) -> Result<(), AllocError>
@@ -46,17 +43,17 @@ fn put_item(text: &mut Vec<u8>, row: &PlanRow, is_later: bool) -> Result<(), All
     Ok(())
 }
 
-/// The list of plans.
-pub fn plans_text(alloc: Global, rows: &[PlanRow]) -> Result<Vec<u8>, AllocError>
-    ensures { IfOk result (λ text. text.items ≡ plans_body rows.now) }
+/// Writes the list of plans in place of what was there.
+pub fn put_plans(text: &mut Vec<u8>, rows: &[PlanRow]) -> Result<(), AllocError>
+    ensures { OnOk result (text.new.items ≡ plans_body rows.now) }
 {
-    let mut text = Vec::with_capacity(alloc, LIST_ROOM)?;
+    text.clear();
     text.extend_from_slice(b"{\"plans\":[")?;
     let mut is_later = false;
     for row in rows {
-        put_item(&mut text, row, is_later)?;
+        put_item(text, row, is_later)?;
         is_later = true;
     }
     text.extend_from_slice(b"]}")?;
-    Ok(text)
+    Ok(())
 }

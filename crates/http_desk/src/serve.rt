@@ -1,5 +1,5 @@
 //! One stream of requests, from its reader to its writer.
-ghost use Rattle.std.specs.Prelude.{◌≡◌, ◌≤◌, ◌<◌, ◌++◌, ℕ, List, [], Ok, Err, IfSome};
+ghost use Rattle.std.specs.Prelude.{◌≡◌, ◌≤◌, ◌<◌, ◌++◌, ℕ, List, [], length, codes, false, Ok, Err, None, IfSome};
 ghost use Rattle.std.specs.Str.{IsAscii};
 ghost use Rattle.std.specs.Io.KnownBytes.{Consumes};
 ghost use Rattle.http_intake.specs.Budget.{reading_left};
@@ -12,20 +12,24 @@ ghost use Rattle.http_orders.specs.Routes.{the_routes};
 ghost use Rattle.http_desk.specs.Serving.{Serves, Exchanges, Closes, Leaves, Waits, NextCame, read_failures, write_failures, TakesSome};
 ghost use Rattle.http_wire.specs.Incoming.{EndsAt, TakesSome as RequestTakes};
 ghost use Rattle.http_answer.specs.Queue.{Queued};
+ghost use Rattle.http_wire.specs.Plain.{IsPlain};
 ghost use Rattle.http_desk.specs.Talk.{Handles};
 
 use crate::answer::Answer;
 use crate::counter::Counter;
 use byte_stream::sink::Sink;
 use byte_stream::source::Source;
+use desk_model::command::Query;
 use desk_model::gate::Gate;
-use http::Method;
 use http_answer::response::Outbox;
 use http_intake::inbox::Inbox;
+use http_orders::law::list_law;
 use http_orders::order::{Order, order_of};
 use http_orders::route::{Page, router};
 use http_wire::fault::RequestFault;
+use http_wire::plain::take_plain;
 use http_wire::request::{Incoming, Request, TURN_LIMIT, read_request, take_request};
+use http_wire::room::HeadRoom;
 use matchit::Router;
 use std::alloc::Global;
 
@@ -65,6 +69,7 @@ struct Stream {
     answer: Answer,
     outbox: Outbox,
     router: Router<Page>,
+    room: HeadRoom,
     turns: u64,
     ghost routes: { router ≡ the_routes },
 }
@@ -87,7 +92,7 @@ fn handle<C: Counter>(
         closes,
         body,
     } = request;
-    let bare = method == Method::HEAD;
+    let bare = method.as_str() == "HEAD";
     let Ok(order) = order_of(alloc, router, &method, target.as_slice(), body) else {
         answer.put_memory(bare);
         return true;
@@ -100,7 +105,7 @@ fn handle<C: Counter>(
         Order::Query(query) => counter.ask(alloc, query),
         Order::Command(command) => counter.command(alloc, command),
     };
-    answer.tell(alloc, reply, closes, bare)
+    answer.tell(reply, closes, bare)
 }
 
 /// Writes the last answer, and those that wait before it.
@@ -135,7 +140,7 @@ fn next_request<R: Source, W: Sink>(
     ensures limit { result ≡ Err RequestFault.TurnLimit → stream.new.turns ≡ 0 }
     ensures left { RequestTakes result (reading_left stream.old.turns stream.old.inbox) (reading_left stream.new.turns stream.new.inbox) }
 {
-    match take_request(alloc, &mut stream.inbox) {
+    match take_request(alloc, &mut stream.inbox, &mut stream.room) {
         Some(incoming) => return Ok(incoming),
         None => {}
     }
@@ -146,8 +151,8 @@ fn next_request<R: Source, W: Sink>(
     read_request(alloc, reader, writer, &mut stream.inbox, &mut stream.turns)
 }
 
-/// Reads one request and answers it.
-fn exchange<R: Source, W: Sink, C: Counter, G: Gate>(
+/// Reads one request, whatever it asks for, and answers it.
+fn exchange_any<R: Source, W: Sink, C: Counter, G: Gate>(
     alloc: Global,
     reader: &mut R,
     writer: &mut W,
@@ -192,6 +197,61 @@ fn exchange<R: Source, W: Sink, C: Counter, G: Gate>(
     }
 }
 
+/// Takes the next request where it asks for the list of plans, and tells whether its answer closes.
+fn take_list(inbox: &mut Inbox, room: &mut HeadRoom) -> Option<bool>
+    ensures taken { IfSome result (λ closes. IsPlain inbox.old (codes "GET") (codes "/plans") closes inbox.new) }
+    ensures less { IfSome result (λ _. length inbox.new < length inbox.old) }
+    ensures none { result ≡ None → inbox.new ≡ inbox.old }
+{
+    // Where another request stands first, no head is looked at for nothing.
+    if !inbox.as_slice().starts_with(b"GET /plans ") {
+        return None;
+    }
+    take_plain(inbox, room, b"GET", b"/plans")
+}
+
+/// Answers with the list of plans, and tells whether the connection closes after it.
+fn list<C: Counter>(alloc: Global, counter: &mut C, answer: &mut Answer, closes: bool) -> bool
+    ensures { Handles C.commands C.asks counter.old (order_of_request (codes "GET") (codes "/plans") []) closes false answer.new result counter.new }
+{
+    list_law();
+    let reply = counter.ask(alloc, Query::Plans);
+    answer.tell(reply, closes, false)
+}
+
+/// Reads one request and answers it. The list of plans, which is asked for most, is answered without a copy of its request.
+fn exchange<R: Source, W: Sink, C: Counter, G: Gate>(
+    alloc: Global,
+    reader: &mut R,
+    writer: &mut W,
+    counter: &mut C,
+    gate: &G,
+    stream: &mut Stream,
+    piece: u32,
+) -> Result<Next, ServeFault>
+    ensures talks { (more : List ℕ) × (output : List ℕ) × (unsent : List ℕ) × Consumes (R.remaining reader.old) (R.remaining reader.new) more
+        × Queued (W.contents writer.old) (W.contents writer.new) stream.old.outbox unsent output
+        × Exchanges C.commands C.asks counter.old result (R.remaining reader.new) (stream.old.inbox ++ more) stream.new.inbox output counter.new
+        × Leaves result unsent stream.new.outbox }
+    ensures read_failures { R.failures reader.new ≡ read_failures (R.failures reader.old) result }
+    ensures write_failures { W.failures writer.new ≡ write_failures (W.failures writer.old) result }
+    ensures turns { Spends stream.old.turns stream.new.turns (R.turns reader.old) (R.turns reader.new) }
+    ensures limit { result ≡ Err ServeFault.TurnLimit → stream.new.turns ≡ 0 }
+    ensures left { TakesSome result (reading_left stream.old.turns stream.old.inbox) (reading_left stream.new.turns stream.new.inbox) }
+{
+    let Some(closes) = take_list(&mut stream.inbox, &mut stream.room) else {
+        return exchange_any(alloc, reader, writer, counter, gate, stream, piece);
+    };
+    gate.pass(0, piece);
+    if list(alloc, counter, &mut stream.answer, closes) {
+        return close(writer, &stream.answer, &mut stream.outbox);
+    }
+    match stream.answer.send(writer, &mut stream.outbox) {
+        Ok(()) => Ok(Next::Again),
+        Err(_) => Err(ServeFault::Write),
+    }
+}
+
 /// The buffers and the table of a stream, or `None` where memory for them is refused.
 fn start(alloc: Global) -> Option<Stream>
     ensures { IfSome result (λ s. (s.inbox ≡ []) × (s.outbox ≡ []) × (s.turns ≡ TURN_LIMIT)) }
@@ -213,6 +273,7 @@ fn start(alloc: Global) -> Option<Stream>
         answer,
         outbox,
         router,
+        room: HeadRoom::new(),
         turns: TURN_LIMIT,
     })
 }

@@ -9,7 +9,7 @@ use Rattle.http_wire.specs.declared.head.Framing.{Framing}
 use Rattle.http_wire.specs.declared.head.Framing.TheVariants.{Sized, Chunked}
 use Rattle.http_chunks.specs.Lines.{head_lines}
 use Rattle.http_chunks.specs.Limits.{window}
-use Rattle.http_wire.specs.Target.{target_of}
+use Rattle.http_target.specs.Target.{target_of}
 use Rattle.http_wire.specs.Front.{HasHead, HasMessage, RefusesBytes, IsOpen, HasBody, IsFaulty, Lacks, judged_head, is_head}
 use Rattle.http_wire.specs.Law.{IsNoFront}
 use Rattle.http_chunks.specs.Fronts.{window_rest, window_short, either_front}

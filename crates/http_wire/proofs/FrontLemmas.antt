@@ -13,7 +13,7 @@ use Rattle.http_chunks.specs.Fronts.{window_rest, same_cut}
 use Rattle.http_wire.specs.Law.{HasTwoHeadFaults, HasTwoBodyFaults, HasTwoFaults}
 use Rattle.http_wire.specs.declared.head.Framing.{Framing}
 use Rattle.http_wire.specs.declared.head.Framing.TheVariants.{Sized, Chunked}
-use Rattle.http_wire.specs.Target.{target_of}
+use Rattle.http_target.specs.Target.{target_of}
 
 -- a head within its limit stands in the window
 pub head_in_window : (input : List ℕ) (h : RequestHead) (rest : List ℕ) → HasHead input h rest → (r : List ℕ) × ReadsRequest (window input) h r

@@ -1,12 +1,12 @@
 mod FieldLemmas
 mod TargetLemmas
-mod TargetTexts
 mod ConnectionLemmas
 mod FrontLemmas
 mod LookLemmas
 mod RequestLemmas
 mod InterimLemmas
 mod TakenLemmas
+mod PlainLemmas
 mod WorkedLemmas
 mod StayLemmas
 mod CaseLemmas

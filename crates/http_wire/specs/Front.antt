@@ -7,7 +7,7 @@ use Rattle.httparse.specs.Grammar.{RequestHead, ReadsRequest, NeverHasRequest, H
 use Rattle.httparse.specs.Spans.{name_and_value, RequestOverflows}
 use Rattle.http_chunks.specs.Lines.{head_lines}
 use Rattle.http_chunks.specs.Limits.{head_limit, field_limit, body_limit, window}
-use Rattle.http_wire.specs.Target.{is_word, target_of}
+use Rattle.http_target.specs.Target.{is_word, target_of}
 use Rattle.http_wire.specs.Connection.{asks_to_close, parts, ends_in}
 use Rattle.http_chunks.specs.Chunks.{HasChunks, LacksChunks, HasChunkFault}
 use Rattle.http_wire.specs.declared.head.Framing.{Framing}

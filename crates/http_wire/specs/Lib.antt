@@ -1,6 +1,5 @@
 pub mod Budget
 pub mod InTarget
-pub mod Target
 pub mod Connection
 pub mod Front
 pub mod Interim
@@ -8,3 +7,4 @@ pub mod Law
 pub mod Framed
 pub mod Look
 pub mod Incoming
+pub mod Plain

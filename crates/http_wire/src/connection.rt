@@ -3,7 +3,8 @@ ghost use Rattle.std.specs.Prelude.{◌≡◌, length, map, All};
 ghost use Rattle.httparse.specs.Spans.{header_bytes, IsHeaderWithin};
 ghost use Rattle.http_wire.specs.Connection.{asks_to_close as asks_to_close_in};
 
-use crate::lists::{is_named, names_close};
+use crate::lists::names_close;
+use http_target::word::is_named;
 use httparse::spans::HeaderSpan;
 
 /// Whether the answer to a request of this version and these fields ends the connection.

@@ -6,9 +6,10 @@ ghost use Rattle.httparse.specs.Spans.{header_bytes, IsHeaderWithin};
 ghost use Rattle.http_wire.specs.Front.{is_length as is_length_text, number_of, values, length_of as length_by, lengths_of, sized as sized_by, framing_of as framing_by, is_host_count as is_host_count_of, judged};
 ghost use Rattle.http_wire.specs.Connection.{parts, ends_in};
 
-use crate::lists::{ends_in_chunked, is_named, is_one};
+use crate::lists::{ends_in_chunked, is_one};
 use http_chunks::fault::Fault;
 use http_chunks::limits::BODY_LIMIT;
+use http_target::word::is_named;
 use httparse::spans::HeaderSpan;
 
 /// How a body is framed (RFC 9112, section 6).

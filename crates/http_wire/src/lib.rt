@@ -8,5 +8,6 @@ mod interim;
 pub mod law;
 mod lists;
 mod look;
+pub mod plain;
 pub mod request;
-mod target;
+pub mod room;

@@ -4,16 +4,9 @@ ghost use Rattle.std.specs.List.{position_or_len};
 ghost use Rattle.std.specs.Option.{option_copied};
 ghost use Rattle.httparse.specs.Grammar.{skip_ows, trim_ows};
 ghost use Rattle.http_wire.specs.Connection.{IsCut, parts, ends_in, names_close as names_close_in};
-ghost use Rattle.http_wire.specs.Target.{is_word};
 
+use http_target::word::is_named;
 use httparse::is_space_or_tab;
-
-/// Whether a field's name is the word, in any case.
-pub fn is_named(word: &[u8], name: &[u8]) -> bool
-    ensures { result ≡ is_word word.now name.now }
-{
-    name.eq_ignore_ascii_case(word)
-}
 
 fn trim_start(mut s: &[u8]) -> &[u8]
     ensures { result.now ≡ skip_ows s.now }

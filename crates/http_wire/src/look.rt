@@ -152,13 +152,13 @@ fn after_error(bytes: &[u8], part: &[u8]) -> Seen<Head, Refusal>
     })
 }
 
-/// Looks for a head at the front of the bytes.
-pub fn look_at(bytes: &[u8]) -> Seen<Head, Refusal>
+/// Looks for a head at the front of the bytes, with room for where its lines are.
+pub fn look_at(bytes: &[u8], headers: &mut [HeaderSpan]) -> Seen<Head, Refusal>
+    requires { length headers.old ≡ 64 }
     ensures { Sees bytes.now result }
 {
-    let mut headers = [EMPTY_HEADER_SPAN; FIELD_LIMIT];
     let part = &bytes[..bytes.len().min(HEAD_LIMIT)];
-    match parse_request(part, &mut headers) {
+    match parse_request(part, headers) {
         Ok(Status::Complete(head)) => {
             let count = head.headers;
             after_parse(bytes, part, head, &headers[..count])
@@ -189,7 +189,8 @@ impl Sought for HeadSought {
 
     #[tactic(auto, using(crate::proofs::LookLemmas::sees_short))]
     fn look(&self, bytes: &[u8]) -> Seen<Head, Refusal> {
-        look_at(bytes)
+        let mut headers = [EMPTY_HEADER_SPAN; FIELD_LIMIT];
+        look_at(bytes, &mut headers)
     }
 
     // A head is judged once for each of its lines, however many pieces they come in.

@@ -10,13 +10,13 @@ ghost use Rattle.http_wire.specs.Budget.{read_failures_of, write_failures_of};
 ghost use Rattle.http_wire.specs.Framed.{BodyRead};
 ghost use Rattle.http_wire.specs.Incoming.{ReadsFront, EndsAt, TakesSome, Taken, DrawsRequest, finished, targeted as targeted_by, IsTargetOf};
 ghost use Rattle.http_wire.specs.Look.{IsFound};
-ghost use Rattle.http_wire.specs.Target.{target_of};
+ghost use Rattle.http_target.specs.Target.{target_of};
 
 use crate::fault::RequestFault;
 use crate::head::Framing;
 use crate::interim::write_interim;
 use crate::look::{Head, HeadSought, Refusal, look_at};
-use crate::target::{Target, read_target};
+use crate::room::HeadRoom;
 use byte_stream::sink::Sink;
 use byte_stream::source::Source;
 use http::Method;
@@ -28,6 +28,7 @@ use http_intake::fault::WireFault;
 use http_intake::inbox::{INBOX_LEN, Inbox};
 use http_intake::intake::Intake;
 use http_intake::sought::{Seen, read_front};
+use http_target::target::{Target, read_target};
 use std::alloc::{AllocError, Global};
 
 /// The turns of a whole stream, from which each call takes its own.
@@ -295,12 +296,12 @@ fn take_found(alloc: Global, inbox: &mut Inbox, head: Head, n: usize) -> Incomin
 
 /// Takes the next request without a turn of reading, or tells why it is refused. `None` where a turn may be wanted, or the
 /// interim answer, or where the body comes in chunks: then nothing is taken, and `read_request` goes on.
-pub fn take_request(alloc: Global, inbox: &mut Inbox) -> Option<Incoming>
+pub fn take_request(alloc: Global, inbox: &mut Inbox, room: &mut HeadRoom) -> Option<Incoming>
     ensures taken { IfSome result (λ incoming. Taken inbox.old incoming inbox.new) }
     ensures less { IfSome result (λ incoming. TakesSome (Ok incoming) (length inbox.old) (length inbox.new)) }
     ensures none { result ≡ None → inbox.new ≡ inbox.old }
 {
-    match look_at(inbox.as_slice()) {
+    match look_at(inbox.as_slice(), &mut room.headers) {
         Seen::Wanting => None,
         Seen::Refused(refusal) => Some(refused(refusal)),
         Seen::Found(head) => {

@@ -20,3 +20,5 @@ pub mod Edits
 pub mod Removals
 pub mod Steps
 pub mod Lefts
+pub mod Fits
+pub mod Spares

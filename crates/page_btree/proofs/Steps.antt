@@ -17,7 +17,7 @@ use Rattle.page_btree.specs.Getting.{CanGet, IsLevel}
 use Rattle.page_btree.specs.Removing.{IsRemoved, AreRemoved, CanRemove, RemovesAt, Removes, RowRemoves, IsPutBack, IsDone, StaysAt, unlinked, links_left}
 use Rattle.page_btree.specs.declared.removes.Removed.{Removed}
 use Rattle.page_btree.specs.declared.removes.Removed.TheVariants.{Absent, Kept, Emptied}
-use Rattle.page_btree.proofs.Refusals.{HasNode}
+use Rattle.page_btree.proofs.Refusals.{HasRows}
 use Rattle.page_btree.proofs.Descent.{named, node_of, owns_page, at_leaf}
 use Rattle.page_btree.proofs.Removals.{owner_of, inner_written, inner_given, leaf_written, leaf_given}
 
@@ -181,17 +181,14 @@ as_get n P free d key p page can there = record {
   between = can.between;
 }
 
-some_rows : (P : Image) (d : ℕ) (low : List ℕ) (high : Option (List ℕ)) (t : Tree) → d ≡ 0 → IsTree P d low high t → 0 < length (rows t)
-some_rows P d low high (leaf p es) none is = is.1.some
-some_rows P d low high (inner p f) none is = absurd (let some = is.0 in omega arith)
-
-pub has_leaf : (S : Image) (t : Txn) (d : ℕ) (key : List ℕ) (p : ℕ) (page : List ℕ) → CanRemove (txn_pages t) (over t S) (free_over t S) d key p → page ≡ over t S p → d ≡ 0 → HasNode t S p page
-has_leaf S t d key p page can there none =
+pub has_rows : (S : Image) (t : Txn) (d : ℕ) (key : List ℕ) (p : ℕ) (page : List ℕ) → CanRemove (txn_pages t) (over t S) (free_over t S) d key p → page ≡ over t S p → d ≡ 0 → HasRows t S p page
+has_rows S t d key p page can there none =
     let own : owns can.tree p = subst (owns can.tree) can.page_is (owns_page can.tree) in
+    let l = leaf_there (txn_pages t) (over t S) (free_over t S) d key p can none in
     record {
-      node = record { level = 0; entries = rows can.tree };
-      node_is = subst (λ b. IsNode b (record { level = 0; entries = rows can.tree })) (sym there) (leaf_there (txn_pages t) (over t S) (free_over t S) d key p can none).0;
-      some = some_rows (over t S) d can.low can.high can.tree none can.tree_is;
+      rows = rows can.tree;
+      node_is = subst (λ b. IsNode b (record { level = 0; entries = rows can.tree })) (sym there) l.0;
+      rises = l.1;
       above = (can.sound.below p own).0;
       are = can.free_are;
       off = can.sound.used p own;

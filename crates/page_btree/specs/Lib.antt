@@ -7,3 +7,5 @@ pub mod Laws
 pub mod Getting
 pub mod Removing
 pub mod Seeking
+pub mod Fitting
+pub mod Sparing

@@ -10,7 +10,7 @@ use Rattle.page_store.specs.declared.pages.Pages.{Pages}
 use Rattle.page_store.specs.declared.txn.Txn.{Txn}
 use Rattle.page_node.specs.Entries.{Entry}
 use Rattle.page_node.specs.Node.{Node, IsNode}
-use Rattle.page_node.specs.Places.{key_cmp, IsFound}
+use Rattle.page_node.specs.Places.{key_cmp, IsFound, Rises}
 use Rattle.page_btree.specs.Keys.{IsBetween, Parts}
 use Rattle.page_btree.specs.Tree.{Tree, Forest, IsTree, AreTrees, IsApart, AreApart, page_of, first_key, links, rows, owns, size, forest_rows, forest_owns, forest_size}
 use Rattle.page_btree.specs.Map.{IsSound}
@@ -143,6 +143,14 @@ BackErr t p Halted = ⊥
 BackErr t p NoPages = ⊥
 BackErr t p TooDeep = ⊥
 BackErr t p Memory = Unit {0}
+
+-- or the page is that of no leaf whose keys rise
+abbrev pub TakenErr : Txn → ℕ → List ℕ → TreeError → Type 0
+TakenErr t p page DeviceFault = (P : Image) (es : List Entry) → IsNode page (record { level = 0; entries = es }) → Rises es → 0 < p → AreFree (txn_pages t) (free_over t P) → (IsIn p (free_over t P) → ⊥) → ⊥
+TakenErr t p page Halted = ⊥
+TakenErr t p page NoPages = ⊥
+TakenErr t p page TooDeep = ⊥
+TakenErr t p page Memory = Unit {0}
 
 -- or the page is that of no node with entries
 abbrev pub LinkErr : Txn → ℕ → List ℕ → TreeError → Type 0

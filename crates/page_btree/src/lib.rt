@@ -2,18 +2,20 @@
 #![tactic(auto)]
 
 mod error;
+mod fitting;
 mod gets;
 mod kept;
 mod puts;
 mod removes;
 mod seeks;
 mod small_bytes;
+mod takes;
 mod tree;
 
 pub use error::TreeError;
+pub use fitting::put;
 pub use gets::get;
 pub use kept::laws;
-pub use puts::put;
-pub use removes::remove;
 pub use seeks::{Leaf, leaf_from};
 pub use small_bytes::SmallBytes;
+pub use takes::remove;

@@ -1,4 +1,4 @@
-//! Puts a row.
+//! Puts a row through nodes that are read, and cut where they overflow.
 ghost use Rattle.std.specs.Prelude.{◌≡◌, ◌≤◌, ◌<◌, ◌+◌, ℕ, List, [], ◌∷◌, length, Option, Some, None, is_some, OnOk, IfOk, IfErr, IfSome, MatchResult};
 ghost use Rattle.std.specs.FinMap.{find, get, insert, contains_key, put as put_entry};
 ghost use Rattle.page_store.specs.Chain.{IsIn, AreFree};
@@ -26,11 +26,8 @@ struct Placed {
     right: Option<u32>,
 }
 
-/// Puts a row, and tells whether its key was there. A key has 1 to 72 bytes, a value at most 1,024. At most 11 pages are written
-/// and 6 taken; none is taken where a value of the same length is replaced. After an error the transaction can only be
-/// abandoned: `NoPages` comes where fewer than six pages were free and none is left, `TooDeep` where the tree has six
-/// levels and a node of each was cut, `Memory` from a growth of the transaction, `DeviceFault` and `Halted` from the device.
-pub fn put<D: SectorDevice>(
+/// Puts a row where nodes may have to be cut, and tells whether its key was there.
+pub(crate) fn put_cutting<D: SectorDevice>(
     txn: &mut Txn,
     pages: &mut Pages<D>,
     key: &[u8],

@@ -1,4 +1,4 @@
-//! Takes a key out.
+//! Takes a key out, and gives back the pages that are left without entries.
 ghost use Rattle.std.specs.Prelude.{◌≡◌, ◌≢◌, ◌≤◌, ◌<◌, ◌+◌, ℕ, List, [], length, remove as without, Option, Some, None, OnOk, IfOk, IfErr};
 ghost use Rattle.std.specs.FinMap.{find, contains_key, remove as remove_key};
 ghost use Rattle.sector_device.specs.Disk.{Image};
@@ -10,11 +10,11 @@ ghost use Rattle.page_node.specs.Places.{key_cmp, Rises, IsFound, IsGap};
 ghost use Rattle.page_btree.specs.Keys.{KeyMap, IsKey};
 ghost use Rattle.page_btree.specs.Map.{InTxn};
 ghost use Rattle.page_btree.specs.Errors.{RemoveErr};
-ghost use Rattle.page_btree.specs.Removing.{CanRemove, Removes, StaysAt, IsDone, IsPutBack, unlinked, RowRemoves, BackErr, LinkErr, BelowErr};
+ghost use Rattle.page_btree.specs.Removing.{CanRemove, Removes, StaysAt, IsDone, IsPutBack, unlinked, RowRemoves, BackErr, TakenErr, LinkErr, BelowErr};
 
 use crate::error::TreeError;
 use crate::gets::read_level;
-use page_node::{NodeBuf, child_for, level_of};
+use page_node::{NodeBuf, child_for, level_of, take_row};
 use page_store::{Pages, Txn};
 use sector_device::SectorDevice;
 
@@ -27,10 +27,8 @@ pub(crate) enum Removed {
     Emptied,
 }
 
-/// Takes a key out, and tells whether it was there. At most 6 pages are written, those that are given back among them, and none
-/// is taken. After an error the transaction can only be abandoned: `Memory` comes from a growth of the transaction,
-/// `DeviceFault` and `Halted` from the device.
-pub fn remove<D: SectorDevice>(
+/// Takes a key out where its leaf may be left without rows, and tells whether it was there.
+pub(crate) fn remove_through<D: SectorDevice>(
     txn: &mut Txn,
     pages: &mut Pages<D>,
     key: &[u8],
@@ -114,16 +112,11 @@ fn remove_row(
     ensures stays { IfOk result (λ did. StaysAt txn.old txn.new did) }
     ensures writes { OnOk result (txn_writes txn.new ≤ txn_writes txn.old + 1) }
     ensures given { OnOk result (txn_free txn.old ≤ txn_free txn.new) }
-    ensures err { IfErr result (λ e. LinkErr txn.old p page.old e) }
+    ensures err { IfErr result (λ e. TakenErr txn.old p page.old e) }
 {
-    let mut node = NodeBuf::EMPTY;
-    node.read(page)?;
-    match node.find(key) {
-        Err(_) => Ok(Removed::Absent),
-        Ok(i) => {
-            node.remove(i);
-            put_back(txn, p, page, &node)
-        }
+    match take_row(page, key)? {
+        None => Ok(Removed::Absent),
+        Some(left) => write_back(txn, p, page, left),
     }
 }
 
@@ -151,7 +144,8 @@ fn remove_link(
     }
     let i = link_of(&node, key);
     node.remove(i);
-    put_back(txn, p, page, &node)
+    node.write(page);
+    write_back(txn, p, page, node.len())
 }
 
 /// The place of the link that a key belongs to: before the first one whose key is above it. The first key is not looked at.
@@ -168,28 +162,22 @@ fn link_of(node: &NodeBuf, key: &[u8]) -> usize
     node.len() - 1
 }
 
-/// Writes a node, or gives its page back where it has no entries.
-fn put_back(
-    txn: &mut Txn,
-    p: u32,
-    page: &mut [u8; 4096],
-    node: &NodeBuf,
-) -> Result<Removed, TreeError>
+/// Writes the page of a node, or gives it back where no entries are left.
+fn write_back(txn: &mut Txn, p: u32, page: &[u8; 4096], left: usize) -> Result<Removed, TreeError>
     requires below { p < txn_pages txn.old }
-    requires fits { Fits node.now }
     ensures pages { txn_pages txn.new ≡ txn_pages txn.old }
     ensures root { txn_root txn.new ≡ txn_root txn.old }
-    ensures back { IfOk result (λ did. IsPutBack txn.old txn.new p node.now did) }
+    ensures back { (node : Node) → IsNode page.now node → left ≡ length node.entries → IfOk result (λ did. IsPutBack txn.old txn.new p node did) }
+    ensures done { IfOk result (λ did. IsDone did) }
     ensures elsewhere { OnOk result ((P : Image) (q : ℕ) → q ≢ p → over txn.new P q ≡ over txn.old P q) }
     ensures writes { OnOk result (txn_writes txn.new ≤ txn_writes txn.old + 1) }
     ensures given { OnOk result (txn_free txn.old ≤ txn_free txn.new) }
     ensures err { IfErr result (λ e. BackErr txn.old p e) }
 {
-    if node.is_empty() {
+    if left == 0 {
         txn.give_page(p)?;
         return Ok(Removed::Emptied);
     }
-    node.write(page);
     txn.write(p, page)?;
     Ok(Removed::Kept)
 }

@@ -50,7 +50,7 @@ edited_at level es marks bytes new i j mid added tail s i_in j_in long is_added 
     edited_bytes es bytes new i j mid added tail s.body long is_added
     (is ∙ (λ x. take (at x) bytes ++ (added ++ (take (rest x) (drop (from x) bytes) ++ tail))))
 
-single : (P : Entry → Type 0) (e : Entry) → P e → All P (e ∷ [])
+pub single : (P : Entry → Type 0) (e : Entry) → P e → All P (e ∷ [])
 single P e holds = All-cons P e [] holds (All-nil P)
 
 pub insert_stands : (level : ℕ) (es : List Entry) (marks bytes moved new new_marks : List ℕ) (i : ℕ) (e : Entry) → Stands level es marks bytes → i ≤ length es → length bytes ≡ 5200 → size_of es ≤ 4092 → IsEntry e → (0 < level → length e.1 ≡ 4)

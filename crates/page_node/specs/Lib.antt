@@ -6,3 +6,4 @@ pub mod Held
 pub mod Bytes
 pub mod Places
 pub mod Walking
+pub mod Spots

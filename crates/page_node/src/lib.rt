@@ -1,12 +1,15 @@
 //! The nodes of a tree of keys, and the bytes of the pages that hold them.
 #![tactic(auto)]
 
+mod edit;
 mod ends;
 mod entry;
 mod node_buf;
 mod scan;
 mod search;
+mod spot;
 
+pub use edit::{put_row, take_row, take_spare_row};
 pub use entry::{Bounds, bounds_in};
 pub use node_buf::NodeBuf;
 pub use scan::NotANode;

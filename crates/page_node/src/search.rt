@@ -22,8 +22,9 @@ pub fn level_of(page: &[u8; 4096]) -> u8
 }
 
 /// How many entries a page says that it has.
-fn count_of(page: &[u8; 4096]) -> usize
-    ensures { result ≡ count_in page.now }
+pub(crate) fn count_of(page: &[u8; 4096]) -> usize
+    ensures count { result ≡ count_in page.now }
+    ensures few { result ≤ 65535 }
 {
     256 * page[2] as usize + page[3] as usize
 }
@@ -38,7 +39,7 @@ fn part(page: &[u8; 4096], from: usize, end: usize) -> &[u8]
 }
 
 /// Compares a part of a page with a key.
-fn compare_part(page: &[u8; 4096], from: usize, end: usize, key: &[u8]) -> Ordering
+pub(crate) fn compare_part(page: &[u8; 4096], from: usize, end: usize, key: &[u8]) -> Ordering
     requires order { from ≤ end }
     requires end { end ≤ 4096 }
     ensures { result ≡ key_cmp (take (end - from) (drop from page.now)) key.now }

@@ -6,9 +6,12 @@ use Rattle.std.proofs.lemmas.Map.Steps.{length-le_from_distinct_below}
 use Rattle.std.specs.List.{AllByRecursion, IsDistinct, list_any}
 use lib.Dec.{eqb}
 use Rattle.sector_device.specs.Disk.{Image}
-use Rattle.gate_journal.specs.Store.{word, put}
+use Rattle.gate_journal.specs.Store.{word, put, overlay}
 use Rattle.gate_journal.proofs.Images.{put_on, put_off}
 use Rattle.page_store.specs.Chain.{chain, free_in, IsIn, AreFree, IsPages, IsMeta, next_of, AreLinked}
+use Rattle.std.specs.Prelude.{Option, Some, None, MatchOption}
+use Rattle.gate_journal.specs.Writes.{writes_of, IsEdited}
+use Rattle.gate_journal.specs.declared.writes.PageWrites.{PageWrites}
 
 pub length_chain : (P : Image) (first count : ℕ) → length (chain P first count) ≡ count
 length_chain P first zero = refl
@@ -155,3 +158,9 @@ batch_linked n from to P Q all same linked before q ge lt below = ⊎_elim
     (λ (early : q < from). ap (λ (s : List ℕ). word s 0) (same q early) ∙ before q ge early below)
     (λ (late : from ≤ q). linked q late (all q lt below) below)
     (cases_lt q from)
+
+-- a page that isn't free was changed, or none
+pub edited_free : {R : Type 0} (told : Option R) (A : Type 0) (B : Type 0) (step : List ℕ → R → List ℕ → Type 0) (old new : PageWrites) (p first count : ℕ) → MatchOption told (A × (new ≡ old)) (λ r. B × IsEdited step r (writes_of old) (writes_of new) p)
+    → (P : Image) → (IsIn p (chain (overlay (writes_of old) P) first count) → ⊥) → chain (overlay (writes_of new) P) first count ≡ chain (overlay (writes_of old) P) first count
+edited_free None A B step old new p first count is P off = ap (λ w. chain (overlay (writes_of w) P) first count) is.1
+edited_free (Some r) A B step old new p first count is P off = chain_put (overlay (writes_of old) P) _ p is.1.after first count (is.1.put_is P) off

@@ -1,5 +1,5 @@
 -- What the layers above need of a stop where a call read at most.
-use Rattle.std.specs.Prelude.{◌≡◌, ◌⊎◌, ℕ, Bool, true, false}
+use Rattle.std.specs.Prelude.{◌≡◌, ◌⊎◌, ◌<◌, ℕ, Bool, true, false}
 use Rattle.std.proofs.Common.{inl, inr, refl, sym, ap, subst, ◌∙◌, arith}
 use Rattle.sector_device.specs.Disk.{Disk, Image, Touches, Nowhere}
 use Rattle.sector_device.specs.Moments.{LeavesOnly, now_but, leaves_still, touches_none, touches_more}
@@ -54,6 +54,8 @@ module _ {D : Type 0} {g : Ghosts D} where
     same = λ honest. refl;
     moves = λ honest working. touches_none Nowhere (disk_in a) honest;
     still = λ halted. refl;
+    rose = λ working halted. absurd (let e : true ≡ false = sym halted ∙ working in cc);
+    calm = λ working honest. refl;
   }
 
   pub quiet_more : (a b c : Pages D g) → IsQuiet a b → IsQuiet b c → IsQuiet a c
@@ -69,6 +71,14 @@ module _ {D : Type 0} {g : Ghosts D} where
     still = λ halted. elim (either (has_halted b)) [
       | inl on ↦ bc.still on ∙ ab.still halted
       | inr working ↦ bc.still (ap (λ j. is_halted j) (ab.still halted) ∙ halted) ∙ ab.still halted
+    ];
+    rose = λ working halted honest. elim (either (has_halted b)) [
+      | inl on ↦ subst (λ j. (disk_in a).faults < (g.disk j.device).faults) (sym (bc.still on)) (ab.rose working on (bc.honest honest))
+      | inr off ↦ (let rises = bc.rose off halted honest in let same = ab.calm off (bc.honest honest) in omega (arith, rises, same))
+    ];
+    calm = λ working honest. elim (either (has_halted b)) [
+      | inl on ↦ absurd (let e : true ≡ false = sym on ∙ sym (ap (λ j. is_halted j) (bc.still on)) ∙ working in cc)
+      | inr off ↦ bc.calm working honest ∙ ab.calm off (bc.honest honest)
     ];
   }
 

@@ -99,6 +99,9 @@ module _ {D : Type 0} {g : Ghosts D} where
     pub moves : (disk_of new.journal).is_honest → is_halted old.journal ≡ false → Touches Nowhere (disk_of old.journal) (disk_of new.journal)
     -- from a fault on nothing changes
     pub still : is_halted old.journal ≡ true → new.journal ≡ old.journal
+    -- only a fault halts, and each one does
+    pub rose : is_halted old.journal ≡ false → is_halted new.journal ≡ true → (disk_of new.journal).is_honest → (disk_of old.journal).faults < (disk_of new.journal).faults
+    pub calm : is_halted new.journal ≡ false → (disk_of new.journal).is_honest → (disk_of new.journal).faults ≡ (disk_of old.journal).faults
 
   -- a fault, and from then on only refusals
   abbrev pub HasFailed : Pages D g → Pages D g → Type 0

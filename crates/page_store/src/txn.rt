@@ -40,9 +40,11 @@ pub struct Prepared {
 }
 
 impl Txn {
-    ghost use Rattle.std.specs.Prelude.{◌≡◌, ◌≢◌, ◌⊎◌, ◌<◌, ◌≤◌, ◌+◌, ◌-◌, ◌∷◌, ℕ, length, OnOk, OnErr, IfOk, IfErr, MatchResult};
+    ghost use Rattle.std.specs.Prelude.{◌≡◌, ◌≢◌, ◌⊎◌, ◌<◌, ◌≤◌, ◌+◌, ◌-◌, ◌∷◌, ℕ, length, OnOk, OnErr, IfOk, IfErr, MatchResult, MatchOption};
     ghost use Rattle.sector_device.specs.Disk.{Image};
+    ghost use Rattle.std.specs.Fn.{FnOnceReturnsAtMut};
     ghost use Rattle.gate_journal.specs.Store.{put};
+    ghost use Rattle.gate_journal.specs.Writes.{IsEdited};
     ghost use Rattle.page_store.specs.Chain.{chain, IsIn, AreFree, IsPages, root_in, free_in};
     ghost use Rattle.page_store.specs.Transactions.{stored, disk_in, count_of, has_halted, txn_pages, txn_list, txn_writes, IsWritten, txn_root, txn_first, txn_free, over, free_over, prepared_pages, prepared_writes, after, IsQuiet, ReadErr, TakeErr, GiveErr};
     ghost use Rattle.page_store.specs.declared.error.PageError.TheVariants.{Memory};
@@ -86,6 +88,21 @@ impl Txn {
     {
         self.writes.put(p, bytes)?;
         Ok(())
+    }
+
+    /// Changes a page that it writes, where that lies, and tells what the change told; none where it doesn't write the page.
+    pub fn edit<R, F: FnOnce(&mut [u8; 4096]) -> R>(&mut self, p: u32, change: F) -> Option<R>
+        requires { F.IsAlwaysCallable change }
+        ensures pages { txn_pages self.new ≡ txn_pages self.old }
+        ensures root { txn_root self.new ≡ txn_root self.old }
+        ensures first { txn_first self.new ≡ txn_first self.old }
+        ensures count { txn_free self.new ≡ txn_free self.old }
+        ensures writes { txn_writes self.new ≡ txn_writes self.old }
+        ensures edited { MatchOption result ((IsWritten self.old p → ⊥) × (self.new ≡ self.old)) (λ told. IsWritten self.old p × IsEdited (FnOnceReturnsAtMut F.FnOnce change) told (txn_list self.old) (txn_list self.new) p) }
+        ensures free { (P : Image) → (IsIn p (free_over self.old P) → ⊥) → free_over self.new P ≡ free_over self.old P }
+        ensures noted { (q : ℕ) → IsWritten self.old q → IsWritten self.new q }
+    {
+        self.writes.edit(p, change)
     }
 
     /// The free page after the first, or 0 where there is none.

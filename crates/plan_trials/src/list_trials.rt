@@ -16,11 +16,11 @@ fn counted<R: Abort>(rt: &R, alloc: Global, count: u32) -> SharedList<u32> {
 #[test]
 fn each_item_is_kept(rt: HostRuntime) {
     let list = counted(&rt, rt.alloc(), 2_200);
-    assert_eq!(rt; list.len(), 2_200);
+    assert!(rt; list.len() == 2_200);
     for number in 0..2_200 {
-        assert_eq!(rt; list.get(number as usize).copied(), Some(number));
+        assert!(rt; list.get(number as usize).copied() == Some(number));
     }
-    assert_eq!(rt; list.get(2_200).copied(), None);
+    assert!(rt; list.get(2_200).copied() == None);
 }
 
 #[test]
@@ -29,8 +29,8 @@ fn a_list_stays_as_it_was(rt: HostRuntime) {
         let list = counted(&rt, rt.alloc(), count);
         assert!(rt; list.len() < 1_000_000);
         let longer = list.with(rt.alloc(), 7).expect(&rt, "no memory");
-        assert_eq!(rt; list.len(), count as usize);
-        assert_eq!(rt; list.get(count as usize).copied(), None);
-        assert_eq!(rt; longer.get(count as usize).copied(), Some(7));
+        assert!(rt; list.len() == count as usize);
+        assert!(rt; list.get(count as usize).copied() == None);
+        assert!(rt; longer.get(count as usize).copied() == Some(7));
     }
 }

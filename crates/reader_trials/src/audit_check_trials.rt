@@ -9,7 +9,7 @@ use state_files::fault::OpenFault;
 use state_files::open::AuditFiles;
 use state_files::plan_file::Companion;
 use std::alloc::Global;
-use std::test::Fail;
+use std::process::Abort;
 use std::thread::Threads;
 
 /// The two by two blocks of the sample; the same with the diagonals; the first row alone, one way.
@@ -60,7 +60,7 @@ const HOUSE: Given<'static> = Given {
     room: ROOM,
 };
 
-fn run<T: Threads + Sync>(rt: &T, alloc: Global, census: &Files, given: Given<'_>) -> Ended {
+fn run<T: Threads + Sync>(rt: &T, alloc: Global, census: &Files, given: &Given<'_>) -> Ended {
     let senate = match given.senate {
         Some((opened, districts)) if given.kind == Kind::House => Some(Companion {
             opened: reader(opened, 1000, NEVER),
@@ -117,7 +117,7 @@ struct Wanted {
     status: Status,
 }
 
-const REPORTS: [Wanted; 11] = [
+static REPORTS: [Wanted; 11] = [
     Wanted {
         people: SAMPLE,
         given: HOUSE,
@@ -217,139 +217,142 @@ const REPORTS: [Wanted; 11] = [
     },
 ];
 
+/// Asserts that a plan is reported so.
+fn is_reported<R: Abort + Threads + Sync>(rt: &R, alloc: Global, one: &Wanted) {
+    let files = Files::make(rt, alloc, &one.people);
+    let ended = run(rt, alloc, &files, &one.given);
+    assert!(rt; ended.errors.is_empty());
+    assert!(rt; ended.output.as_slice() == one.report.as_bytes());
+    assert!(rt; ended.status == one.status);
+}
+
 #[test]
-fn worked_plans_are_reported(rt: HostRuntime) -> Result<(), Fail> {
-    let alloc = rt.alloc();
+fn worked_plans_are_reported(rt: HostRuntime) {
     for one in &REPORTS {
-        let files = Files::make(alloc, &one.people)?;
-        let ended = run(&rt, alloc, &files, one.given);
-        assert!(rt; ended.errors.is_empty());
-        assert_eq!(rt; ended.output.as_slice(), one.report.as_bytes());
-        assert!(rt; ended.status == one.status);
+        is_reported(&rt, rt.alloc(), one);
     }
-    Ok(())
 }
 
-/// A fault that is wanted.
-#[derive(Drop)]
-struct Told<'a> {
-    given: Given<'a>,
-    line: &'a [u8],
+/// Asserts that a fault is told so, and nothing else.
+fn is_told<R: Abort + Threads + Sync>(
+    rt: &R,
+    alloc: Global,
+    files: &Files,
+    given: &Given<'_>,
+    line: &[u8],
     status: Status,
+) {
+    let ended = run(rt, alloc, files, given);
+    assert!(rt; ended.errors.as_slice() == line);
+    assert!(rt; ended.output.is_empty());
+    assert!(rt; ended.status == status);
+}
+
+const NONE: Result<&'static [u8], OpenFault> = Err(OpenFault::Unreadable);
+
+/// What is given, the line that is told of it, and the status.
+static FAULTS: [(Given<'static>, &[u8], Status); 9] = [
+    (
+        Given {
+            gal: Ok(ONE_WAY),
+            plan: NONE,
+            ..HOUSE
+        },
+        b"plandesk: gal: A7 190010001001001 190010001001002\n",
+        Status::Refused,
+    ),
+    (
+        Given {
+            gal: Ok(b"4\n190010001001001 x"),
+            ..HOUSE
+        },
+        b"plandesk: gal: A2 word 2\n",
+        Status::Refused,
+    ),
+    (
+        Given {
+            gal: Ok(b"4\n190010001001001"),
+            ..HOUSE
+        },
+        b"plandesk: gal: A10\n",
+        Status::Refused,
+    ),
+    (
+        Given { gal: NONE, ..HOUSE },
+        b"plandesk: gal: Unreadable\n",
+        Status::Refused,
+    ),
+    (
+        Given {
+            plan: NONE,
+            senate: Some((NONE, 2)),
+            ..HOUSE
+        },
+        b"plandesk: plan: Unreadable\n",
+        Status::Refused,
+    ),
+    (
+        Given {
+            plan: Err(OpenFault::Memory),
+            ..HOUSE
+        },
+        b"plandesk: plan: Memory\n",
+        Status::Memory,
+    ),
+    (
+        Given {
+            fails_at: 1,
+            ..HOUSE
+        },
+        b"plandesk: plan: Unreadable\n",
+        Status::Refused,
+    ),
+    (
+        Given {
+            districts: 1,
+            ..HOUSE
+        },
+        b"plandesk: plan: B5 line 4\n",
+        Status::Refused,
+    ),
+    (
+        Given {
+            senate: Some((Ok(b"BLOCKID|DISTRICT\n190010001001001|3\n"), 2)),
+            ..HOUSE
+        },
+        b"plandesk: senate: B5 line 2\n",
+        Status::Refused,
+    ),
+];
+
+#[test]
+fn the_first_fault_behind_the_census_is_told(rt: HostRuntime) {
+    let alloc = rt.alloc();
+    let files = Files::make(&rt, alloc, &SAMPLE);
+    for (given, line, status) in &FAULTS {
+        is_told(&rt, alloc, &files, given, *line, *status);
+    }
+}
+
+/// What `check` comes to with this plan's file.
+fn run_with<T: Threads + Sync>(rt: &T, alloc: Global, files: &Files, plan: &[u8]) -> Ended {
+    let given = Given {
+        plan: Ok(plan),
+        ..HOUSE
+    };
+    run(rt, alloc, files, &given)
 }
 
 #[test]
-fn the_first_fault_behind_the_census_is_told(rt: HostRuntime) -> Result<(), Fail> {
-    let files = Files::make(rt.alloc(), &SAMPLE)?;
-    let none = Err(OpenFault::Unreadable);
-    let faults = [
-        Told {
-            given: Given {
-                gal: Ok(ONE_WAY),
-                plan: none,
-                ..HOUSE
-            },
-            line: b"plandesk: gal: A7 190010001001001 190010001001002\n",
-            status: Status::Refused,
-        },
-        Told {
-            given: Given {
-                gal: Ok(b"4\n190010001001001 x"),
-                ..HOUSE
-            },
-            line: b"plandesk: gal: A2 word 2\n",
-            status: Status::Refused,
-        },
-        Told {
-            given: Given {
-                gal: Ok(b"4\n190010001001001"),
-                ..HOUSE
-            },
-            line: b"plandesk: gal: A10\n",
-            status: Status::Refused,
-        },
-        Told {
-            given: Given { gal: none, ..HOUSE },
-            line: b"plandesk: gal: Unreadable\n",
-            status: Status::Refused,
-        },
-        Told {
-            given: Given {
-                plan: none,
-                senate: Some((none, 2)),
-                ..HOUSE
-            },
-            line: b"plandesk: plan: Unreadable\n",
-            status: Status::Refused,
-        },
-        Told {
-            given: Given {
-                plan: Err(OpenFault::Memory),
-                ..HOUSE
-            },
-            line: b"plandesk: plan: Memory\n",
-            status: Status::Memory,
-        },
-        Told {
-            given: Given {
-                fails_at: 1,
-                ..HOUSE
-            },
-            line: b"plandesk: plan: Unreadable\n",
-            status: Status::Refused,
-        },
-        Told {
-            given: Given {
-                districts: 1,
-                ..HOUSE
-            },
-            line: b"plandesk: plan: B5 line 4\n",
-            status: Status::Refused,
-        },
-        Told {
-            given: Given {
-                senate: Some((Ok(b"BLOCKID|DISTRICT\n190010001001001|3\n"), 2)),
-                ..HOUSE
-            },
-            line: b"plandesk: senate: B5 line 2\n",
-            status: Status::Refused,
-        },
-    ];
-    for one in &faults {
-        let ended = run(&rt, rt.alloc(), &files, one.given);
-        assert_eq!(rt; ended.errors.as_slice(), one.line);
-        assert!(rt; ended.output.is_empty());
-        assert!(rt; ended.status == one.status);
-    }
-    Ok(())
-}
-
-#[test]
-fn a_plans_file_may_be_too_large(rt: HostRuntime) -> Result<(), Fail> {
-    let files = Files::make(rt.alloc(), &SAMPLE)?;
-    let long = vec![in rt.alloc(); b'x'; 33_554_433]?;
-    let faults = [
-        Told {
-            given: Given {
-                plan: Ok(long.as_slice()),
-                ..HOUSE
-            },
-            line: b"plandesk: plan: TooLarge\n",
-            status: Status::Refused,
-        },
-        Told {
-            given: Given {
-                plan: Ok(&long[1..]),
-                ..HOUSE
-            },
-            line: b"plandesk: plan: B1 line 1\n",
-            status: Status::Refused,
-        },
-    ];
-    for one in &faults {
-        let ended = run(&rt, rt.alloc(), &files, one.given);
-        assert_eq!(rt; ended.errors.as_slice(), one.line);
-        assert!(rt; ended.status == one.status);
-    }
-    Ok(())
+fn a_plans_file_may_be_too_large(rt: HostRuntime) {
+    let alloc = rt.alloc();
+    let files = Files::make(&rt, alloc, &SAMPLE);
+    let long = vec![in alloc; b'x'; 33_554_433].expect(&rt, "no memory");
+    assert!(rt; long.len() == 33_554_433);
+    let ended = run_with(&rt, alloc, &files, long.as_slice());
+    assert!(rt; ended.errors.as_slice() == b"plandesk: plan: TooLarge\n".as_slice());
+    assert!(rt; ended.status == Status::Refused);
+    let ended = run_with(&rt, alloc, &files, &long.as_slice()[1..]);
+    assert!(rt; ended.errors.as_slice() == b"plandesk: plan: B1 line 1\n".as_slice());
+    assert!(rt; ended.status == Status::Refused);
 }

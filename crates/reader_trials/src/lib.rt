@@ -17,3 +17,5 @@ mod lines;
 mod page;
 #[cfg(test)]
 mod pieces;
+#[cfg(test)]
+mod states;

@@ -1,17 +1,18 @@
 //! Lines of census files.
-use std::alloc::AllocError;
+use std::process::Abort;
 
 /// Adds a line of so many fields: nothing in fields 1 to 4, and the fill in the others, but for those that have a value.
-pub fn put_line(
+pub fn put_line<R: Abort>(
+    rt: &R,
     text: &mut Vec<u8>,
     fields: usize,
     fill: &[u8],
     values: &[(usize, &[u8])],
     end: &[u8],
-) -> Result<(), AllocError> {
+) {
     for n in 1..=fields {
         if n > 1 {
-            text.push(b'|')?;
+            text.push(b'|').expect(rt, "no memory");
         }
         let mut shown = if n < 5 { b"".as_slice() } else { fill };
         for (place, value) in values {
@@ -19,7 +20,7 @@ pub fn put_line(
                 shown = *value;
             }
         }
-        text.extend_from_slice(shown)?;
+        text.extend_from_slice(shown).expect(rt, "no memory");
     }
-    text.extend_from_slice(end)
+    text.extend_from_slice(end).expect(rt, "no memory");
 }

@@ -1,5 +1,6 @@
 //! A commit and an opening, stopped and failing at each call.
-ghost use Rattle.std.specs.Prelude.{◌≤◌, ℕ, IfOk};
+ghost use Rattle.std.specs.Prelude.{◌≤◌, ℕ};
+ghost use Rattle.gate_journal.specs.Contents.{page_count};
 ghost use Rattle.gate_journal.specs.Store.{IsWithin};
 ghost use Rattle.gate_journal.specs.Writes.{writes_of};
 
@@ -7,8 +8,8 @@ use crate::recorder::{Recorder, SYNC};
 use gate_journal::{Journal, JournalError, PageWrites, format};
 use sector_device::SectorDevice;
 use sector_memory::{FailOnce, Fused, MemoryDevice};
-use std::alloc::{AllocError, Global};
-use std::test::Fail;
+use std::alloc::Global;
+use std::process::Abort;
 
 /// The sectors of the least store: header, gate, list, 256 copies and 64 pages.
 const LEAST: u32 = 323;
@@ -17,44 +18,58 @@ const LEAST: u32 = 323;
 const FILLS: [Option<u8>; 4] = [Some(0), Some(0xff), Some(0xa5), None];
 
 /// A pick of every sector.
-fn picks(alloc: Global, fill: Option<u8>) -> Result<Vec<(u64, [u8; 4096])>, AllocError> {
+fn picks<R: Abort>(rt: &R, alloc: Global, fill: Option<u8>) -> Vec<(u64, [u8; 4096])> {
     let mut all = Vec::new(alloc);
     if let Some(byte) = fill {
         for i in 0..LEAST {
-            all.push((i as u64, [byte; 4096]))?;
+            let pick = (i as u64, [byte; 4096]);
+            assert!(rt; all.push(pick).is_ok());
         }
     }
-    Ok(all)
+    all
 }
 
 /// The first pages of a store, each of this byte.
-fn first_pages(alloc: Global, count: u32, byte: u8) -> Result<PageWrites, AllocError>
-    ensures { IfOk result (λ writes. (n : ℕ) → count ≤ n → IsWithin (writes_of writes) n) }
+fn first_pages<R: Abort>(rt: &R, alloc: Global, count: u32, byte: u8) -> PageWrites
+    ensures { (n : ℕ) → count ≤ n → IsWithin (writes_of result) n }
 {
     let mut writes = PageWrites::new(alloc);
     for p in 0..count {
-        writes.put(p, &[byte; 4096])?;
+        writes.put(p, &[byte; 4096]).expect(rt, "no memory");
     }
-    Ok(writes)
+    writes
 }
 
 /// Page 5 and the last page of the least store, each of this byte.
-fn two_pages(alloc: Global, byte: u8) -> Result<PageWrites, AllocError>
-    ensures { IfOk result (λ writes. (n : ℕ) → 64 ≤ n → IsWithin (writes_of writes) n) }
+fn two_pages<R: Abort>(rt: &R, alloc: Global, byte: u8) -> PageWrites
+    ensures { (n : ℕ) → 64 ≤ n → IsWithin (writes_of result) n }
 {
     let mut writes = PageWrites::new(alloc);
-    writes.put(5, &[byte; 4096])?;
-    writes.put(63, &[byte; 4096])?;
-    Ok(writes)
+    writes.put(5, &[byte; 4096]).expect(rt, "no memory");
+    writes.put(63, &[byte; 4096]).expect(rt, "no memory");
+    writes
+}
+
+/// A new store of so many sectors, with this many pages.
+fn formatted<R: Abort>(rt: &R, alloc: Global, sectors: u32, pages: u32) -> MemoryDevice {
+    let mut device = MemoryDevice::new(alloc, sectors).expect(rt, "no memory");
+    let layout = format(&mut device, 256).expect(rt, "not formatted");
+    assert!(rt; layout.pages == pages && layout.journal_pages == 256);
+    device
+}
+
+fn opened<R: Abort, D: SectorDevice + Drop>(rt: &R, device: D) -> Journal<D>
+    ensures { 64 ≤ page_count result }
+{
+    Journal::open(device).ok().expect(rt, "not opened")
 }
 
 /// The least store, whose two pages are of ones.
-fn stored(alloc: Global) -> Result<MemoryDevice, Fail> {
-    let mut device = MemoryDevice::new(alloc, LEAST)?;
-    let _ = format(&mut device, 256)?;
-    let mut journal = Journal::open(device).ok().ok_or("not opened")?;
-    journal.commit(&two_pages(alloc, 1)?)?;
-    Ok(journal.into_device())
+fn stored<R: Abort>(rt: &R, alloc: Global) -> MemoryDevice {
+    let mut journal = opened(rt, formatted(rt, alloc, LEAST, 64));
+    let writes = two_pages(rt, alloc, 1);
+    journal.commit(&writes).expect(rt, "not committed");
+    journal.into_device()
 }
 
 /// The byte of the two pages, where the device opens and both are alike and whole.
@@ -72,164 +87,171 @@ fn reopened(device: MemoryDevice) -> Option<u8> {
     }
 }
 
-/// Writes twos, stopped after so many calls: whether it was acknowledged, and what stands then.
-fn stop_after(alloc: Global, calls: u64, fill: Option<u8>) -> Result<(bool, Option<u8>), Fail> {
-    let writes = two_pages(alloc, 2)?;
-    let (told, device) = match Journal::open(Fused::new(stored(alloc)?, calls)) {
+/// Writes twos where the device opens: whether that was acknowledged.
+fn write_twos<R: Abort>(rt: &R, alloc: Global, device: Fused) -> (bool, Fused) {
+    match Journal::open(device) {
         Ok(mut journal) => {
-            let told = journal.commit(&writes).is_ok();
+            let told = journal.commit(&two_pages(rt, alloc, 2)).is_ok();
             (told, journal.into_device())
         }
         Err((_, device)) => (false, device),
-    };
-    Ok((told, reopened(device.stop(&picks(alloc, fill)?))))
+    }
+}
+
+/// Writes twos, stopped after so many calls: whether it was acknowledged, and what stands then.
+fn stop_after<R: Abort>(rt: &R, alloc: Global, calls: u64, fill: Option<u8>) -> (bool, Option<u8>) {
+    let (told, device) = write_twos(rt, alloc, Fused::new(stored(rt, alloc), calls));
+    (told, reopened(device.stop(&picks(rt, alloc, fill))))
 }
 
 #[test]
-fn a_stop_leaves_all_pages_or_none(rt: HostRuntime) -> Result<(), Fail> {
+fn a_stop_leaves_all_pages_or_none(rt: HostRuntime) {
     for fill in FILLS {
         let mut ended = false;
         for calls in 0..20 {
-            let (told, byte) = stop_after(rt.alloc(), calls, fill)?;
-            assert!(rt;
-                byte == Some(2) || (byte == Some(1) && !told),
-                "after {calls} calls"
-            );
+            let (told, byte) = stop_after(&rt, rt.alloc(), calls, fill);
+            assert!(rt; byte == Some(2) || (byte == Some(1) && !told));
             ended = told;
         }
         assert!(rt; ended);
     }
-    Ok(())
+}
+
+/// Writes twos in a journal one of whose calls fails: whether all was as it must be.
+fn is_fair<R: Abort>(rt: &R, alloc: Global, journal: &mut Journal<FailOnce>) -> bool
+    requires { 64 ≤ page_count journal.old }
+{
+    let writes = two_pages(rt, alloc, 2);
+    match journal.commit(&writes) {
+        Ok(()) => !journal.is_halted(),
+        Err(e) => {
+            e == JournalError::DeviceFault
+                && journal.is_halted()
+                && journal.commit(&writes) == Err(JournalError::Halted)
+        }
+    }
 }
 
 /// Writes twos, where one call fails: whether all was as it must be in that run, and what stands then.
-fn fail_at(alloc: Global, call: u64, fill: Option<u8>) -> Result<(bool, Option<u8>), Fail> {
-    let writes = two_pages(alloc, 2)?;
-    let (fair, device) = match Journal::open(FailOnce::new(stored(alloc)?, call)) {
+fn fail_at<R: Abort>(rt: &R, alloc: Global, call: u64, fill: Option<u8>) -> (bool, Option<u8>) {
+    let (fair, device) = match Journal::open(FailOnce::new(stored(rt, alloc), call)) {
         Ok(mut journal) => {
-            let fair = match journal.commit(&writes) {
-                Ok(()) => !journal.is_halted(),
-                Err(e) => {
-                    e == JournalError::DeviceFault
-                        && journal.is_halted()
-                        && journal.commit(&writes) == Err(JournalError::Halted)
-                }
-            };
+            let fair = is_fair(rt, alloc, &mut journal);
             (fair, journal.into_device())
         }
         Err((e, device)) => (e == JournalError::DeviceFault, device),
     };
-    Ok((fair, reopened(device.stop(&picks(alloc, fill)?))))
+    (fair, reopened(device.stop(&picks(rt, alloc, fill))))
 }
 
 #[test]
-fn a_failure_halts_the_journal(rt: HostRuntime) -> Result<(), Fail> {
+fn a_failure_halts_the_journal(rt: HostRuntime) {
     for fill in FILLS {
         for call in 0..20 {
-            let (fair, byte) = fail_at(rt.alloc(), call, fill)?;
-            assert!(rt; fair, "call {call}");
-            assert!(rt; byte == Some(1) || byte == Some(2), "call {call}");
+            let (fair, byte) = fail_at(&rt, rt.alloc(), call, fill);
+            assert!(rt; fair);
+            assert!(rt; byte == Some(1) || byte == Some(2));
         }
     }
-    Ok(())
+}
+
+fn read_sector<R: Abort>(rt: &R, device: &mut MemoryDevice, i: u32, sector: &mut [u8; 4096]) {
+    assert!(rt; i < device.count());
+    device.read(i, sector).expect(rt, "not read");
+}
+
+/// A store whose gate stands open on the disk, as ten calls of opening and commit leave it.
+fn left_open<R: Abort>(rt: &R, alloc: Global, fill: Option<u8>) -> MemoryDevice {
+    let mut journal = opened(rt, Fused::new(stored(rt, alloc), 10));
+    assert!(rt; journal.commit(&two_pages(rt, alloc, 2)).is_err());
+    let mut device = journal.into_device().stop(&picks(rt, alloc, fill));
+    let mut gate = [0; 4096];
+    read_sector(rt, &mut device, 1, &mut gate);
+    assert!(rt; gate[0] == 0xa5);
+    device
 }
 
 /// Opens, stopped after so many calls.
-fn opening_stopped(
+fn opening_stopped<R: Abort>(
+    rt: &R,
     alloc: Global,
     device: MemoryDevice,
     calls: u64,
     fill: Option<u8>,
-) -> Result<MemoryDevice, AllocError> {
+) -> MemoryDevice {
     let device = match Journal::open(Fused::new(device, calls)) {
         Ok(journal) => journal.into_device(),
         Err((_, device)) => device,
     };
-    Ok(device.stop(&picks(alloc, fill)?))
+    device.stop(&picks(rt, alloc, fill))
 }
 
 #[test]
-fn a_stop_in_recovery_loses_nothing(rt: HostRuntime) -> Result<(), Fail> {
+fn a_stop_in_recovery_loses_nothing(rt: HostRuntime) {
     let alloc = rt.alloc();
     for fill in [Some(0xff), Some(0xa5)] {
         for first in 0..14 {
             for second in 0..14 {
-                // ten calls of opening and commit leave the gate open, on the disk
-                let mut journal = Journal::open(Fused::new(stored(alloc)?, 10))
-                    .ok()
-                    .ok_or("not opened")?;
-                assert!(rt; journal.commit(&two_pages(alloc, 2)?).is_err());
-                let mut device = journal.into_device().stop(&picks(alloc, fill)?);
-                let mut gate = [0; 4096];
-                if device.count() > 1 {
-                    device.read(1, &mut gate)?;
-                }
-                assert_eq!(rt; gate[0], 0xa5);
-                let device = opening_stopped(alloc, device, first, fill)?;
-                let device = opening_stopped(alloc, device, second, fill)?;
-                assert_eq!(rt; reopened(device), Some(2), "{first} and {second}");
+                let device = left_open(&rt, alloc, fill);
+                let device = opening_stopped(&rt, alloc, device, first, fill);
+                let device = opening_stopped(&rt, alloc, device, second, fill);
+                assert!(rt; reopened(device) == Some(2));
             }
         }
     }
-    Ok(())
+}
+
+/// Commits a page to a device that notes its calls.
+fn noted<R: Abort>(rt: &R, alloc: Global, device: MemoryDevice) -> Recorder {
+    let mut journal = opened(rt, Recorder::new(device));
+    let mut writes = PageWrites::new(alloc);
+    writes.put(5, &[7; 4096]).expect(rt, "no memory");
+    journal.commit(&writes).expect(rt, "not committed");
+    journal.into_device()
 }
 
 #[test]
-fn a_commit_makes_these_calls(rt: HostRuntime) -> Result<(), Fail> {
-    let mut device = MemoryDevice::new(rt.alloc(), 2000)?;
-    let layout = format(&mut device, 256)?;
-    assert_eq!(rt; layout.pages, 1741);
-    let mut journal = Journal::open(Recorder::new(device))
-        .ok()
-        .ok_or("not opened")?;
-    let mut writes = PageWrites::new(rt.alloc());
-    writes.put(5, &[7; 4096])?;
-    journal.commit(&writes)?;
-    let recorder = journal.into_device();
-    assert_eq!(rt; recorder.count(), 11);
+fn a_commit_makes_these_calls(rt: HostRuntime) {
+    let device = formatted(&rt, rt.alloc(), 2000, 1741);
+    let recorder = noted(&rt, rt.alloc(), device);
+    assert!(rt; recorder.count() == 11);
     let calls = [
         SYNC, SYNC, 2, 3, SYNC, 1, SYNC, 264, SYNC, 1, SYNC, 0, 0, 0, 0, 0,
     ];
     assert!(rt; recorder.calls() == calls);
     let mut device = recorder.into_device();
     let mut sector = [7; 4096];
-    if device.count() > 2 {
-        device.read(2, &mut sector)?;
-    }
-    assert_eq!(rt; sector[..8], [0, 0, 0, 1, 0, 0, 0, 5][..]);
-    Ok(())
+    read_sector(&rt, &mut device, 2, &mut sector);
+    assert!(rt; sector[..8] == [0, 0, 0, 1, 0, 0, 0, 5][..]);
 }
 
-#[test]
-fn the_least_store_and_the_most_pages(rt: HostRuntime) -> Result<(), Fail> {
-    let alloc = rt.alloc();
-    let mut device = MemoryDevice::new(alloc, LEAST - 1)?;
+/// A device with a sector too few is not formatted, and opens as no store.
+fn too_small<R: Abort>(rt: &R, alloc: Global) {
+    let mut device = MemoryDevice::new(alloc, LEAST - 1).expect(rt, "no memory");
     assert!(rt; matches!(format(&mut device, 256), Err(JournalError::TooSmall)));
-    let (e, mut device) = Journal::open(device).err().ok_or("opened")?;
-    assert_eq!(rt; e, JournalError::NotAStore);
+    let (e, mut device) = Journal::open(device).err().expect(rt, "opened");
+    assert!(rt; e == JournalError::NotAStore);
     assert!(rt; device.sync().is_ok());
-    let mut device = MemoryDevice::new(alloc, 2000)?;
-    let layout = format(&mut device, 256)?;
-    assert_eq!(rt; layout.journal_pages, 256);
-    let mut journal = Journal::open(device).ok().ok_or("not opened")?;
-    assert_eq!(rt; journal.page_count(), 1741);
-    assert_eq!(rt; journal.journal_pages(), 256);
-    assert_eq!(rt; journal.commit(&first_pages(alloc, 256, 1)?), Ok(()));
-    let too_many = first_pages(alloc, 257, 1)?;
-    assert_eq!(rt; too_many.len(), 257);
-    assert_eq!(rt; journal.commit(&too_many), Err(JournalError::TooManyPages));
-    Ok(())
 }
 
 #[test]
-fn a_new_store_has_its_header(rt: HostRuntime) -> Result<(), Fail> {
-    let mut device = MemoryDevice::new(rt.alloc(), 2000)?;
-    let layout = format(&mut device, 256)?;
-    assert_eq!(rt; layout.pages, 1741);
+fn the_least_store_and_the_most_pages(rt: HostRuntime) {
+    let alloc = rt.alloc();
+    too_small(&rt, alloc);
+    let mut journal = opened(&rt, formatted(&rt, alloc, 2000, 1741));
+    assert!(rt; journal.page_count() == 1741 && journal.journal_pages() == 256);
+    let writes = first_pages(&rt, alloc, 256, 1);
+    assert!(rt; journal.commit(&writes) == Ok(()));
+    let too_many = first_pages(&rt, alloc, 257, 1);
+    assert!(rt; too_many.len() == 257);
+    assert!(rt; journal.commit(&too_many) == Err(JournalError::TooManyPages));
+}
+
+#[test]
+fn a_new_store_has_its_header(rt: HostRuntime) {
+    let mut device = formatted(&rt, rt.alloc(), 2000, 1741);
     let mut sector = [7; 4096];
-    if device.count() > 0 {
-        device.read(0, &mut sector)?;
-    }
+    read_sector(&rt, &mut device, 0, &mut sector);
     let mut want = [0; 4096];
     want[..8].copy_from_slice(b"PLANDESK");
     want[11] = 1;
@@ -237,5 +259,4 @@ fn a_new_store_has_its_header(rt: HostRuntime) -> Result<(), Fail> {
     want[18] = 0x06;
     want[19] = 0xcd;
     assert!(rt; sector == want);
-    Ok(())
 }

@@ -1,42 +1,47 @@
 //! Devices in memory: what a stop leaves, and the call that fails.
 use sector_device::SectorDevice;
 use sector_memory::{FailOnce, Fused, MemoryDevice};
-use std::test::Fail;
+use std::process::Abort;
 
-#[test]
-fn a_stop_tears_what_is_not_synced(rt: HostRuntime) -> Result<(), Fail> {
-    let mut device = MemoryDevice::new(rt.alloc(), 8)?;
-    let mut sector = [7; 4096];
-    device.write(5, &sector)?;
-    device.sync()?;
-    device.write(6, &sector)?;
-    device.write(7, &sector)?;
-    let mut device = device.stop(&[(5, [255; 4096]), (6, [165; 4096]), (6, [255; 4096])]);
-    assert_eq!(rt; device.count(), 8);
-    device.read(5, &mut sector)?;
-    assert_eq!(rt; sector[9], 7);
-    device.read(6, &mut sector)?;
-    assert_eq!(rt; sector[9], 255);
-    device.read(7, &mut sector)?;
-    assert_eq!(rt; sector[9], 7);
-    Ok(())
+/// A byte of a sector.
+fn byte_of<R: Abort, D: SectorDevice>(rt: &R, device: &mut D, i: u32) -> u8 {
+    let mut sector = [0; 4096];
+    assert!(rt; i < device.count());
+    device.read(i, &mut sector).expect(rt, "not read");
+    sector[9]
+}
+
+/// Whether a sector of sevens was written.
+fn writes<R: Abort, D: SectorDevice>(rt: &R, device: &mut D, i: u32) -> bool {
+    assert!(rt; i < device.count());
+    device.write(i, &[7; 4096]).is_ok()
 }
 
 #[test]
-fn the_chosen_call_fails(rt: HostRuntime) -> Result<(), Fail> {
-    let sector = [7; 4096];
-    let mut device = Fused::new(MemoryDevice::new(rt.alloc(), 8)?, 1);
-    assert_eq!(rt; device.write(5, &sector), Ok(()));
+fn a_stop_tears_what_is_not_synced(rt: HostRuntime) {
+    let mut device = MemoryDevice::new(rt.alloc(), 8).expect(&rt, "no memory");
+    assert!(rt; writes(&rt, &mut device, 5));
+    assert!(rt; device.sync().is_ok());
+    assert!(rt; writes(&rt, &mut device, 6));
+    assert!(rt; writes(&rt, &mut device, 7));
+    let mut device = device.stop(&[(5, [255; 4096]), (6, [165; 4096]), (6, [255; 4096])]);
+    assert!(rt; device.count() == 8);
+    assert!(rt; byte_of(&rt, &mut device, 5) == 7);
+    assert!(rt; byte_of(&rt, &mut device, 6) == 255);
+    assert!(rt; byte_of(&rt, &mut device, 7) == 7);
+}
+
+#[test]
+fn the_chosen_call_fails(rt: HostRuntime) {
+    let device = MemoryDevice::new(rt.alloc(), 8).expect(&rt, "no memory");
+    let mut device = Fused::new(device, 1);
+    assert!(rt; writes(&rt, &mut device, 5));
     assert!(rt; device.sync().is_err());
     assert!(rt; device.sync().is_err());
     let mut device = FailOnce::new(device.stop(&[(5, [255; 4096])]), 1);
-    let mut torn = [0; 4096];
-    assert_eq!(rt; device.read(5, &mut torn), Ok(()));
-    assert_eq!(rt; torn[0], 255);
-    assert!(rt; device.write(6, &sector).is_err());
-    assert_eq!(rt; device.sync(), Ok(()));
+    assert!(rt; byte_of(&rt, &mut device, 5) == 255);
+    assert!(rt; !writes(&rt, &mut device, 6));
+    assert!(rt; device.sync().is_ok());
     let mut device = device.stop(&[(6, [255; 4096])]);
-    assert_eq!(rt; device.read(6, &mut torn), Ok(()));
-    assert_eq!(rt; torn[0], 0);
-    Ok(())
+    assert!(rt; byte_of(&rt, &mut device, 6) == 0);
 }

@@ -1,50 +1,84 @@
 //! Transactions over pages, in a store that is opened again.
-use page_store::{PageError, Pages, format};
-use sector_memory::MemoryDevice;
-use std::test::Fail;
+ghost use Rattle.std.specs.Prelude.{◌≡◌};
+ghost use Rattle.page_store.specs.Transactions.{count_of, txn_pages};
 
-#[test]
-fn a_transaction_changes_pages_at_its_commit_alone(rt: HostRuntime) -> Result<(), Fail> {
-    let alloc = rt.alloc();
-    let mut device = MemoryDevice::new(alloc, 323)?;
-    format(alloc, &mut device, 256)?;
-    let mut pages = Pages::open(device).ok().ok_or("not opened")?;
-    assert_eq!(rt; pages.free_pages(), 63);
-    assert_eq!(rt; pages.journal_pages(), 256);
-    let mut txn = pages.begin(alloc);
-    let page = txn.take_page(&mut pages)?;
-    txn.write(page, &[7; 4096])?;
+use page_store::{PageError, Pages, Txn, format};
+use sector_memory::MemoryDevice;
+use std::alloc::Global;
+use std::process::Abort;
+
+fn opened<R: Abort>(rt: &R, device: MemoryDevice) -> Pages<MemoryDevice> {
+    Pages::open(device).ok().expect(rt, "not opened")
+}
+
+/// The least store, new.
+fn made<R: Abort>(rt: &R, alloc: Global) -> Pages<MemoryDevice> {
+    let mut device = MemoryDevice::new(alloc, 323).expect(rt, "no memory");
+    format(alloc, &mut device, 256).expect(rt, "not formatted");
+    opened(rt, device)
+}
+
+/// Takes a page, and makes it the root of sevens.
+fn take_root<R: Abort>(rt: &R, txn: &mut Txn, pages: &mut Pages<MemoryDevice>) -> u32
+    requires { txn_pages txn.old ≡ count_of pages.old }
+    ensures { txn_pages txn.new ≡ count_of pages.new }
+{
+    let page = txn.take_page(pages).expect(rt, "no page");
+    txn.write(page, &[7; 4096]).expect(rt, "not written");
     txn.set_root(page);
     let mut bytes = [0; 4096];
-    txn.read(&mut pages, page, &mut bytes)?;
-    assert_eq!(rt; bytes[0], 7);
-    assert_eq!(rt; txn.free_pages(), 62);
-    assert_eq!(rt; pages.free_pages(), 63);
-    assert_eq!(rt; txn.prepare()?.commit(&mut pages), Ok(()));
-    assert_eq!(rt; pages.free_pages(), 62);
-    let mut pages = Pages::open(pages.into_device()).ok().ok_or("not opened")?;
-    assert_eq!(rt; pages.free_pages(), 62);
+    txn.read(pages, page, &mut bytes).expect(rt, "not read");
+    assert!(rt; bytes[0] == 7);
+    page
+}
+
+/// Commits a root: which page it is.
+fn commit_root<R: Abort>(rt: &R, alloc: Global, pages: &mut Pages<MemoryDevice>) -> u32 {
     let mut txn = pages.begin(alloc);
-    assert_eq!(rt; txn.root(), page);
-    txn.give_page(txn.root())?;
-    assert_eq!(rt; txn.free_pages(), 63);
-    let again = txn.take_page(&mut pages)?;
-    assert_eq!(rt; again, page);
+    let page = take_root(rt, &mut txn, pages);
+    assert!(rt; txn.free_pages() == 62);
+    assert!(rt; pages.free_pages() == 63);
+    let ready = txn.prepare().expect(rt, "not prepared");
+    assert!(rt; ready.commit(pages) == Ok(()));
+    page
+}
+
+/// Gives the root back and takes a page, without a commit: which page that is.
+fn give_and_take<R: Abort>(
+    rt: &R,
+    alloc: Global,
+    pages: &mut Pages<MemoryDevice>,
+    root: u32,
+) -> u32 {
+    let mut txn = pages.begin(alloc);
+    assert!(rt; txn.root() == root);
+    txn.give_page(txn.root()).expect(rt, "not given");
+    assert!(rt; txn.free_pages() == 63);
+    let again = txn.take_page(pages).expect(rt, "no page");
     txn.abandon();
-    assert_eq!(rt; pages.free_pages(), 62);
-    Ok(())
+    again
 }
 
 #[test]
-fn no_page_is_left(rt: HostRuntime) -> Result<(), Fail> {
+fn a_transaction_changes_pages_at_its_commit_alone(rt: HostRuntime) {
     let alloc = rt.alloc();
-    let mut device = MemoryDevice::new(alloc, 323)?;
-    format(alloc, &mut device, 256)?;
-    let mut pages = Pages::open(device).ok().ok_or("not opened")?;
-    let mut txn = pages.begin(alloc);
+    let mut pages = made(&rt, alloc);
+    assert!(rt; pages.free_pages() == 63);
+    assert!(rt; pages.journal_pages() == 256);
+    let page = commit_root(&rt, alloc, &mut pages);
+    assert!(rt; pages.free_pages() == 62);
+    let mut pages = opened(&rt, pages.into_device());
+    assert!(rt; pages.free_pages() == 62);
+    assert!(rt; give_and_take(&rt, alloc, &mut pages, page) == page);
+    assert!(rt; pages.free_pages() == 62);
+}
+
+#[test]
+fn no_page_is_left(rt: HostRuntime) {
+    let mut pages = made(&rt, rt.alloc());
+    let mut txn = pages.begin(rt.alloc());
     for p in 1..64 {
-        assert_eq!(rt; txn.take_page(&mut pages), Ok(p));
+        assert!(rt; txn.take_page(&mut pages) == Ok(p));
     }
-    assert_eq!(rt; txn.take_page(&mut pages), Err(PageError::NoPages));
-    Ok(())
+    assert!(rt; txn.take_page(&mut pages) == Err(PageError::NoPages));
 }

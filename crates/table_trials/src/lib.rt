@@ -4,4 +4,8 @@
 #[cfg(test)]
 mod geographies;
 #[cfg(test)]
+mod loads;
+#[cfg(test)]
 mod plans;
+#[cfg(test)]
+mod stores;

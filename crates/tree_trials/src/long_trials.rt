@@ -1,17 +1,25 @@
 //! The longest rows, keys that begin one another, and a store that is full.
-ghost use Rattle.std.specs.Prelude.{◌≤◌};
+ghost use Rattle.std.specs.Prelude.{◌≡◌, ◌≤◌};
+ghost use Rattle.page_store.specs.Transactions.{count_of, txn_pages};
 
 use page_btree::{TreeError, get, put};
-use page_store::{Pages, format};
+use page_store::{Pages, Txn, format};
 use sector_device::SectorDevice;
 use sector_memory::MemoryDevice;
 use std::alloc::Global;
-use std::test::Fail;
+use std::process::Abort;
 
-pub fn made(alloc: Global, sectors: u32) -> Result<Pages<MemoryDevice>, Fail> {
-    let mut device = MemoryDevice::new(alloc, sectors)?;
-    format(alloc, &mut device, 256)?;
-    Ok(Pages::open(device).ok().ok_or("not opened")?)
+pub fn made<R: Abort>(rt: &R, alloc: Global, sectors: u32) -> Pages<MemoryDevice> {
+    let mut device = MemoryDevice::new(alloc, sectors).expect(rt, "no memory");
+    format(alloc, &mut device, 256).expect(rt, "not formatted");
+    Pages::open(device).ok().expect(rt, "not opened")
+}
+
+pub fn store<D: SectorDevice>(txn: Txn, pages: &mut Pages<D>) -> Result<(), TreeError>
+    requires { txn_pages txn ≡ count_of pages.old }
+{
+    txn.prepare()?.commit(pages)?;
+    Ok(())
 }
 
 /// A key of 72 bytes, whose first ones tell its number.
@@ -33,7 +41,7 @@ pub fn put_long<D: SectorDevice>(
 ) -> Result<bool, TreeError> {
     let mut txn = pages.begin(alloc);
     let had = put(&mut txn, pages, &long_key(n), &[(n % 256) as u8; 1024])?;
-    txn.prepare()?.commit(pages)?;
+    store(txn, pages)?;
     Ok(had)
 }
 
@@ -61,74 +69,70 @@ fn fill(alloc: Global, pages: &mut Pages<MemoryDevice>) -> Option<(u32, TreeErro
 }
 
 /// How many of the first rows are there as they were put.
-fn count_long(alloc: Global, pages: &mut Pages<MemoryDevice>, rows: u32) -> Result<u32, TreeError> {
+fn count_long(alloc: Global, pages: &mut Pages<MemoryDevice>, rows: u32) -> u32 {
     let mut found = 0u32;
     for n in 0..rows {
-        if has_long(alloc, pages, n)? {
+        if has_long(alloc, pages, n) == Ok(true) {
             found = found.saturating_add(1);
         }
     }
-    Ok(found)
+    found
 }
 
 #[test]
-fn a_full_store_keeps_its_rows(rt: HostRuntime) -> Result<(), Fail> {
+fn a_full_store_keeps_its_rows(rt: HostRuntime) {
     let alloc = rt.alloc();
-    let mut pages = made(alloc, 330)?;
-    let Some((rows, error)) = fill(alloc, &mut pages) else {
-        return Err(Fail::from("never full"));
-    };
-    assert!(rt; matches!(error, TreeError::NoPages));
+    let mut pages = made(&rt, alloc, 330);
+    let (rows, error) = fill(alloc, &mut pages).expect(&rt, "never full");
+    assert!(rt; error == TreeError::NoPages);
     assert!(rt; rows > 100);
     let free = pages.free_pages();
-    let again = put_long(alloc, &mut pages, rows);
-    assert!(rt; matches!(again, Err(TreeError::NoPages)));
-    assert_eq!(rt; pages.free_pages(), free);
-    assert_eq!(rt; count_long(alloc, &mut pages, rows)?, rows);
-    Ok(())
+    assert!(rt; put_long(alloc, &mut pages, rows) == Err(TreeError::NoPages));
+    assert!(rt; pages.free_pages() == free);
+    assert!(rt; count_long(alloc, &mut pages, rows) == rows);
 }
 
 /// Puts a row under so many first bytes of a key, and tells how long they are.
-fn put_front(
+fn put_front<R: Abort>(
+    rt: &R,
     alloc: Global,
     pages: &mut Pages<MemoryDevice>,
     length: usize,
-) -> Result<bool, TreeError>
+) -> bool
     requires from { 1 ≤ length }
     requires to { length ≤ 72 }
 {
     let mut txn = pages.begin(alloc);
-    let had = put(&mut txn, pages, &[9; 72][..length], &[length as u8])?;
-    txn.prepare()?.commit(pages)?;
-    Ok(had)
+    let put = put(&mut txn, pages, &[9; 72][..length], &[length as u8]);
+    let had = put.expect(rt, "not put");
+    store(txn, pages).expect(rt, "not stored");
+    had
 }
 
-fn has_front(
+fn has_front<R: Abort>(
+    rt: &R,
     alloc: Global,
     pages: &mut Pages<MemoryDevice>,
     length: usize,
-) -> Result<bool, TreeError>
+) -> bool
     requires from { 1 ≤ length }
     requires to { length ≤ 72 }
 {
     let txn = pages.begin(alloc);
     let mut into = [0; 1024];
-    let found = get(&txn, pages, &[9; 72][..length], &mut into)?;
+    let found = get(&txn, pages, &[9; 72][..length], &mut into);
     txn.abandon();
-    Ok(found == Some(1) && into[0] == length as u8)
+    found.expect(rt, "not got") == Some(1) && into[0] == length as u8
 }
 
 #[test]
-fn keys_that_begin_one_another_are_told_apart(rt: HostRuntime) -> Result<(), Fail> {
+fn keys_that_begin_one_another_are_told_apart(rt: HostRuntime) {
     let alloc = rt.alloc();
-    let mut pages = made(alloc, 330)?;
+    let mut pages = made(&rt, alloc, 330);
     for i in 0..72usize {
-        let had = put_front(alloc, &mut pages, 72 - i)?;
-        assert!(rt; !had);
+        assert!(rt; !put_front(&rt, alloc, &mut pages, 72 - i));
     }
     for i in 0..72usize {
-        let found = has_front(alloc, &mut pages, i + 1)?;
-        assert!(rt; found);
+        assert!(rt; has_front(&rt, alloc, &mut pages, i + 1));
     }
-    Ok(())
 }

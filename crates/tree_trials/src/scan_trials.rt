@@ -1,14 +1,16 @@
 //! Rows scanned under prefixes, beside an ordered map.
 ghost use Rattle.std.specs.Prelude.{◌≤◌, length};
 
+use crate::long_trials::{made, store};
+use crate::row_trials::insert;
 use btree_scan::{Row, Scan};
 use page_btree::{TreeError, put};
-use page_store::{Pages, format};
+use page_store::Pages;
 use sector_device::SectorDevice;
 use sector_memory::{FailOnce, MemoryDevice};
 use std::alloc::Global;
 use std::collections::BTreeMap;
-use std::test::Fail;
+use std::process::Abort;
 
 const ROWS: u32 = 2000;
 
@@ -29,29 +31,22 @@ fn numbers_of(row: &Row) -> Option<(u32, u32)> {
     }
 }
 
-fn put_row(
-    alloc: Global,
-    pages: &mut Pages<MemoryDevice>,
-    n: u32,
-    value: u32,
-) -> Result<bool, TreeError> {
+fn put_row<R: Abort>(rt: &R, alloc: Global, pages: &mut Pages<MemoryDevice>, n: u32, value: u32) {
     let mut txn = pages.begin(alloc);
-    let had = put(&mut txn, pages, &key_of(n), &value.to_be_bytes())?;
-    txn.prepare()?.commit(pages)?;
-    Ok(had)
+    let put = put(&mut txn, pages, &key_of(n), &value.to_be_bytes());
+    let _ = put.expect(rt, "not put");
+    store(txn, pages).expect(rt, "not stored");
 }
 
 /// Rows in five groups of keys, put in no order.
-fn stored(alloc: Global, model: &mut BTreeMap<u32, u32>) -> Result<Pages<MemoryDevice>, Fail> {
-    let mut device = MemoryDevice::new(alloc, 700)?;
-    format(alloc, &mut device, 256)?;
-    let mut pages = Pages::open(device).ok().ok_or("not opened")?;
+fn stored<R: Abort>(rt: &R, alloc: Global, model: &mut BTreeMap<u32, u32>) -> Pages<MemoryDevice> {
+    let mut pages = made(rt, alloc, 700);
     for i in 0..ROWS {
         let n = (i % 5) * 0x10_0000 + i * 777 % ROWS;
-        let _ = put_row(alloc, &mut pages, n, i)?;
-        let _ = model.insert(n, i)?;
+        put_row(rt, alloc, &mut pages, n, i);
+        let _ = insert(model, n, i).expect(rt, "no memory");
     }
-    Ok(pages)
+    pages
 }
 
 /// How many rows come under a prefix that are those between two numbers in the map, whether another call gives none, and the fault.
@@ -81,26 +76,30 @@ fn scanned<D: SectorDevice>(
     (found, more, scan.fault())
 }
 
+/// Prefixes, the numbers in the map from one on to another, and how many they are.
+static PREFIXES: [(&[u8], u32, u32, u32); 9] = [
+    (&[], 0, 0x100_0000, 2000),
+    (&[0x00], 0, 0x1_0000, 400),
+    (&[0x20], 0x20_0000, 0x21_0000, 400),
+    (&[0x40], 0x40_0000, 0x41_0000, 400),
+    (&[0x10, 0x02], 0x10_0200, 0x10_0300, 52),
+    (&[0x30, 0x07, 0xcc], 0x30_07cc, 0x30_07cd, 1),
+    (&[0x30, 0x07, 0xcc, 0x00], 0, 0, 0),
+    (&[0x11], 0, 0, 0),
+    (&[0xff; 72], 0, 0, 0),
+];
+
 #[test]
-fn rows_under_a_prefix_are_a_maps_range(rt: HostRuntime) -> Result<(), Fail> {
+fn rows_under_a_prefix_are_a_maps_range(rt: HostRuntime) {
     let alloc = rt.alloc();
     let mut model = BTreeMap::new(alloc);
-    let mut pages = stored(alloc, &mut model)?;
-    for (prefix, from, to, count) in [
-        (&[][..], 0, 0x100_0000, 2000),
-        (&[0x00], 0, 0x1_0000, 400),
-        (&[0x20], 0x20_0000, 0x21_0000, 400),
-        (&[0x40], 0x40_0000, 0x41_0000, 400),
-        (&[0x10, 0x02], 0x10_0200, 0x10_0300, 52),
-        (&[0x30, 0x07, 0xcc], 0x30_07cc, 0x30_07cd, 1),
-        (&[0x30, 0x07, 0xcc, 0x00], 0, 0, 0),
-        (&[0x11], 0, 0, 0),
-        (&[0xff; 72], 0, 0, 0),
-    ] {
+    let mut pages = stored(&rt, alloc, &mut model);
+    for row in &PREFIXES {
+        let (prefix, from, to, count) = *row;
+        assert!(rt; prefix.len() <= 1024 && from <= to);
         let told = scanned(alloc, &mut pages, &model, prefix, from, to);
-        assert_eq!(rt; told, (count, false, None));
+        assert!(rt; told == (count, false, None));
     }
-    Ok(())
 }
 
 /// Scans all rows of a store, where one call of the device fails, and gives the device back.
@@ -120,22 +119,21 @@ fn fail_at(
 }
 
 #[test]
-fn a_fault_ends_the_scan_and_is_kept(rt: HostRuntime) -> Result<(), Fail> {
+fn a_fault_ends_the_scan_and_is_kept(rt: HostRuntime) {
     let alloc = rt.alloc();
     let mut model = BTreeMap::new(alloc);
-    let mut device = stored(alloc, &mut model)?.into_device();
+    let mut device = stored(&rt, alloc, &mut model).into_device();
     let mut midway = 0u32;
     for k in 0..80 {
         let ((found, more, fault), same) = fail_at(alloc, device, &model, k);
         device = same;
         assert!(rt; !more);
-        assert_eq!(rt; fault.is_none(), found == ROWS);
+        assert!(rt; fault.is_none() == (found == ROWS));
         if found > 0 && fault == Some(TreeError::DeviceFault) {
             midway = midway.saturating_add(1);
         }
     }
     assert!(rt; midway > 5);
     let (whole, _) = fail_at(alloc, device, &model, 1000);
-    assert_eq!(rt; whole, (ROWS, false, None));
-    Ok(())
+    assert!(rt; whole == (ROWS, false, None));
 }

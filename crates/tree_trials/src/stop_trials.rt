@@ -1,11 +1,11 @@
 //! The commits of a put and of a remove, stopped at each call of the device.
-use crate::long_trials::{has_long, long_key, made, put_long};
+use crate::long_trials::{has_long, long_key, made, put_long, store};
 use page_btree::{TreeError, remove};
 use page_store::Pages;
 use sector_device::SectorDevice;
 use sector_memory::{Fused, MemoryDevice};
-use std::alloc::{AllocError, Global};
-use std::test::Fail;
+use std::alloc::Global;
+use std::process::Abort;
 
 /// The sectors of the least store, which has 64 pages.
 const LEAST: u32 = 323;
@@ -15,30 +15,31 @@ const LEAST: u32 = 323;
 const FILLS: [(u8, u32); 5] = [(0, 1), (0xff, 1), (0xa5, 1), (0xa5, 2), (0, LEAST)];
 
 /// Picks for a stop.
-fn picks(alloc: Global, fill: (u8, u32)) -> Result<Vec<(u64, [u8; 4096])>, AllocError> {
+fn picks<R: Abort>(rt: &R, alloc: Global, fill: (u8, u32)) -> Vec<(u64, [u8; 4096])> {
     let mut all = Vec::new(alloc);
     for i in 0..LEAST {
         if fill.1 > 0 && i % fill.1 == 0 {
-            all.push((i as u64, [fill.0; 4096]))?;
+            let pick = (i as u64, [fill.0; 4096]);
+            assert!(rt; all.push(pick).is_ok());
         }
     }
-    Ok(all)
+    all
 }
 
 /// A store with so many rows. With three there is one leaf, which is full; a fourth one cuts it and makes a root above both.
-fn stored(alloc: Global, rows: u32) -> Result<MemoryDevice, Fail> {
-    let mut pages = made(alloc, LEAST)?;
+fn stored<R: Abort>(rt: &R, alloc: Global, rows: u32) -> MemoryDevice {
+    let mut pages = made(rt, alloc, LEAST);
     for n in 0..rows {
-        let _ = put_long(alloc, &mut pages, n)?;
+        assert!(rt; put_long(alloc, &mut pages, n).is_ok());
     }
-    Ok(pages.into_device())
+    pages.into_device()
 }
 
 /// Removes the fourth row, whose leaf is then given back.
 fn remove_fourth<D: SectorDevice>(alloc: Global, pages: &mut Pages<D>) -> Result<bool, TreeError> {
     let mut txn = pages.begin(alloc);
     let had = remove(&mut txn, pages, &long_key(3))?;
-    txn.prepare()?.commit(pages)?;
+    store(txn, pages)?;
     Ok(had)
 }
 
@@ -79,21 +80,28 @@ fn reopened(alloc: Global, device: MemoryDevice) -> Option<([bool; 5], u64)> {
     Some((rows, free))
 }
 
-/// A turn that is stopped after so many calls: whether it was acknowledged, and what stands then.
-fn stop_after(
-    alloc: Global,
-    rows: u32,
-    calls: u64,
-    fill: (u8, u32),
-) -> Result<(bool, Option<([bool; 5], u64)>), Fail> {
-    let (told, device) = match Pages::open(Fused::new(stored(alloc, rows)?, calls)) {
+/// A turn where the device opens: whether it was acknowledged.
+fn turned(alloc: Global, device: Fused, rows: u32) -> (bool, Fused) {
+    match Pages::open(device) {
         Ok(mut pages) => {
             let told = turn(alloc, &mut pages, rows);
             (told, pages.into_device())
         }
         Err((_, device)) => (false, device),
-    };
-    Ok((told, reopened(alloc, device.stop(&picks(alloc, fill)?))))
+    }
+}
+
+/// A turn that is stopped after so many calls: whether it was acknowledged, and what stands then.
+fn stop_after<R: Abort>(
+    rt: &R,
+    alloc: Global,
+    rows: u32,
+    calls: u64,
+    fill: (u8, u32),
+) -> (bool, Option<([bool; 5], u64)>) {
+    let device = Fused::new(stored(rt, alloc, rows), calls);
+    let (told, device) = turned(alloc, device, rows);
+    (told, reopened(alloc, device.stop(&picks(rt, alloc, fill))))
 }
 
 /// What stands: the first rows, so many, and these free pages, first this one, if it isn't 0, and then those from the other one on.
@@ -110,22 +118,18 @@ fn standing(rows: usize, first: u64, from: u64) -> Option<([bool; 5], u64)> {
 }
 
 #[test]
-fn a_stop_leaves_the_map_before_or_after(rt: HostRuntime) -> Result<(), Fail> {
+fn a_stop_leaves_the_map_before_or_after(rt: HostRuntime) {
     let put = (3, standing(3, 0, 2), standing(4, 0, 4));
     let removed = (4, standing(4, 0, 4), standing(3, 2, 4));
     for (rows, before, after) in [put, removed] {
         for fill in FILLS {
             let mut ended = false;
             for calls in 0..40 {
-                let (told, stands) = stop_after(rt.alloc(), rows, calls, fill)?;
-                assert!(rt;
-                    stands == after || (stands == before && !told),
-                    "{rows} rows, {calls} calls"
-                );
+                let (told, stands) = stop_after(&rt, rt.alloc(), rows, calls, fill);
+                assert!(rt; stands == after || (stands == before && !told));
                 ended = told;
             }
             assert!(rt; ended);
         }
     }
-    Ok(())
 }

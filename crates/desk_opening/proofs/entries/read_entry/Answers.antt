@@ -38,6 +38,7 @@ loop-before-preserved g c =
             one_revision_more c.args.name p i c.loop-before.entry c.in_ok-entry.entry within (before.read.read then m p holds said)
             (now.read.read honest m (get_or p.revisions i []) still (of_blocks c.args.geography.now c.args.name c.args.row.now m p i said less));
       };
+      whole = now.whole before.whole;
       named = now.named ∙ before.named;
       many = now.longer ∙ ap (λ n. n + 1) before.many;
       begun = before.begun ∙ sym now.quiet.count;

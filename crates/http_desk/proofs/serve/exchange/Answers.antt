@@ -1,99 +1,31 @@
-use Rattle.std.proofs.Common.{List, ℕ, ◌++◌, true, false, refl, sym, subst}
-use Rattle.http_desk.specs.Talk.{Talk, ended, starved, refused}
-use Rattle.http_desk.specs.Serving.{Exchanges, IsFrontTalk}
-use Rattle.http_desk.specs.declared.serve.Next.TheVariants as next
-use Rattle.std.proofs.Common.{Ok}
-use Rattle.http_desk.proofs.TalkLemmas.{of_head, last, on, cut, cut_next, cut_short, closing, queued_then, queued_as}
+use Rattle.std.proofs.KnownBytes.{Consumes-nil}
+use Rattle.http_desk.proofs.ListLemmas.{list_cut, list_ends, list_goes, told_from}
 use Rattle.http_desk.proofs.serve.exchange.Goals as goal
 
-pub returns-in-Err-Read-clause-talks : goal.returns-in-Err-Read-clause-talks
-returns-in-Err-Read-clause-talks g c =
-    let read = rw c.in-Err-Read.field-0-is at c.in-Err-Read.ensures.read in
-    (read.0, read.1, read.2, read.3, read.4, cut_short g.C.Counter.commands g.C.Counter.asks c.args.counter.now (c.args.stream.now.inbox ++ read.0) read.1 read.5, read.6)
+pub returns-in_default-clause-talks : goal.returns-in_default-clause-talks
+returns-in_default-clause-talks g c =
+    let new = c.exchange_any.new in
+    let stream = c.args.stream.now in
+    told_from g.C.Counter.commands g.C.Counter.asks (g.R.Source.remaining c.args.reader.now) (g.R.Source.remaining new.reader) (g.W.Sink.contents c.args.writer.now) (g.W.Sink.contents new.writer) c.args.counter.now new.counter c.exchange_any.result
+    c.take_list.new.inbox stream.inbox new.stream.inbox stream.outbox new.stream.outbox (c.take_list.ensures.none c.in_default.is) c.exchange_any.ensures.talks
 
-pub returns-in-Err-TurnLimit-clause-talks : goal.returns-in-Err-TurnLimit-clause-talks
-returns-in-Err-TurnLimit-clause-talks g c =
-    let read = rw c.in-Err-TurnLimit.field-0-is at c.in-Err-TurnLimit.ensures.read in
-    (read.0, read.1, read.2, read.3, read.4, cut_short g.C.Counter.commands g.C.Counter.asks c.args.counter.now (c.args.stream.now.inbox ++ read.0) read.1 read.5, read.6)
-
-pub returns-in-Err-Write-clause-talks : goal.returns-in-Err-Write-clause-talks
-returns-in-Err-Write-clause-talks g c =
-    let read = rw c.in-Err-Write.field-0-is at c.in-Err-Write.ensures.read in
-    (read.0, read.1, read.2, read.3, read.4, cut_next g.C.Counter.commands g.C.Counter.asks c.args.counter.now (c.args.stream.now.inbox ++ read.0) read.1 read.5, tt)
-
-pub returns-in-Ok-End-clause-talks : goal.returns-in-Ok-End-clause-talks
-returns-in-Ok-End-clause-talks g c =
-    let read = rw c.in-Ok-End.field-0-is at c.in-Ok-End.ensures.read in
-    (read.0, read.1, read.2, read.3, read.4, (ended c.args.counter.now (c.args.stream.now.inbox ++ read.0) read.1 read.5.0 read.5.1, rw c.in-Ok-End.field-0-is at c.in-Ok-End.ensures.end), read.6)
-
-pub returns-in-Ok-Starved-clause-talks : goal.returns-in-Ok-Starved-clause-talks
-returns-in-Ok-Starved-clause-talks g c =
-    let read = rw c.in-Ok-Starved.field-0-is at c.in-Ok-Starved.ensures.read in
-    let input = c.args.stream.now.inbox ++ read.0 in
-    let close = closing g.C.Counter.commands g.C.Counter.asks c.args.counter.now c.args.counter.now _ _ _ _ input c.next_request.new.stream.inbox c.args.stream.now.outbox c.next_request.new.stream.outbox read.2 read.1 _ c.close.new.outbox c.close.result
-    (starved c.args.counter.now input read.1 c.in-Ok-Starved.bare read.5.0 read.5.1) read.4 read.6 (rw c.put_memory.ensures at c.close.ensures.bytes) in
-    (read.0, close.0, close.1, read.3, close.2, close.3, close.4)
-
-pub returns-in-Ok-Refused-clause-talks : goal.returns-in-Ok-Refused-clause-talks
-returns-in-Ok-Refused-clause-talks g c =
-    let read = rw c.in-Ok-Refused.field-0-is at c.in-Ok-Refused.ensures.read in
-    let input = c.args.stream.now.inbox ++ read.0 in
-    let close = closing g.C.Counter.commands g.C.Counter.asks c.args.counter.now c.args.counter.now _ _ _ _ input c.next_request.new.stream.inbox c.args.stream.now.outbox c.next_request.new.stream.outbox read.2 read.1 _ c.close-in-Ok-Refused.new.outbox c.close-in-Ok-Refused.result
-    (refused c.args.counter.now input read.1 c.in-Ok-Refused.fault c.in-Ok-Refused.bare read.5.0 read.5.1) read.4 read.6 (rw c.put_fault.ensures at c.close-in-Ok-Refused.ensures.bytes) in
-    (read.0, close.0, close.1, read.3, close.2, close.3, close.4)
-
-pub returns-then-handle-clause-talks : goal.returns-then-handle-clause-talks
-returns-then-handle-clause-talks g c =
-    let read = rw c.in-Ok-Request.field-0-is at c.in-Ok-Request.ensures.read in
-    let handles = rw c.if-handle.true at c.handle.ensures in
-    let input = c.args.stream.now.inbox ++ read.0 in
-    let is = read.5.0 in
-    let request = c.in-Ok-Request.request in
-    let rest = c.next_request.new.stream.inbox in
-    let of = of_head g.C.Counter.commands g.C.Counter.asks c.args.counter.now c.handle.new.counter input rest c.handle.new.answer true request is handles in
-    let talk = last g.C.Counter.commands g.C.Counter.asks c.args.counter.now c.handle.new.counter input rest c.handle.new.answer is.head request.target.items request.body.items is.request of in
-    let close = closing g.C.Counter.commands g.C.Counter.asks c.args.counter.now c.handle.new.counter _ _ _ _ input rest c.args.stream.now.outbox c.next_request.new.stream.outbox read.2 read.1 c.handle.new.answer c.close-then-handle.new.outbox c.close-then-handle.result
-    (subst (λ (t : List ℕ). Talk g.C.Counter.commands g.C.Counter.asks c.args.counter.now input (t ++ c.handle.new.answer) 1 true c.handle.new.counter) (sym read.5.1) talk) read.4 read.6 c.close-then-handle.ensures.bytes in
-    (read.0, close.0, close.1, read.3, close.2, close.3, close.4)
+pub returns-then-list-clause-talks : goal.returns-then-list-clause-talks
+returns-then-list-clause-talks g c =
+    let stream = c.args.stream.now in
+    let answers = rw c.if-list.true at c.list.ensures in
+    list_ends g.C.Counter.commands g.C.Counter.asks c.args.counter.now c.list.new.counter (g.R.Source.remaining c.args.reader.now) (g.W.Sink.contents c.args.writer.now) (g.W.Sink.contents c.close.new.writer) stream.inbox c.take_list.new.inbox stream.outbox
+    c.close.new.outbox c.list.new.answer c.in-Some.closes c.close.result (Consumes-nil (g.R.Source.remaining c.args.reader.now)) c.in-Some.ensures.taken answers c.close.ensures.bytes
 
 pub returns-in-Ok-clause-talks : goal.returns-in-Ok-clause-talks
 returns-in-Ok-clause-talks g c =
-    let read = rw c.in-Ok-Request.field-0-is at c.in-Ok-Request.ensures.read in
-    let handles = rw c.if-handle.false at c.handle.ensures in
-    let input = c.args.stream.now.inbox ++ read.0 in
-    let is = read.5.0 in
-    let request = c.in-Ok-Request.request in
-    let rest = c.next_request.new.stream.inbox in
-    let text = c.handle.new.answer in
-    let of = of_head g.C.Counter.commands g.C.Counter.asks c.args.counter.now c.handle.new.counter input rest text false request is handles in
-    let left = g.R.Source.remaining c.next_request.new.reader in
-    let goes = on g.C.Counter.commands g.C.Counter.asks c.args.counter.now c.handle.new.counter left input rest text is.head request.target.items request.body.items is.front is.cut is.alone of in (
-      read.0,
-      read.1 ++ text,
-      c.send.new.outbox,
-      read.3,
-      queued_then _ _ _ c.args.stream.now.outbox c.next_request.new.stream.outbox c.send.new.outbox read.1 text (queued_as _ _ c.args.stream.now.outbox read.2 c.next_request.new.stream.outbox read.1 read.6 read.4) c.in-Ok.ensures.bytes,
-      subst (λ (t : List ℕ). Exchanges g.C.Counter.commands g.C.Counter.asks c.args.counter.now (Ok next.Again) left input rest (t ++ text) c.handle.new.counter) (sym read.5.1) goes,
-      refl,
-    )
+    let stream = c.args.stream.now in
+    let answers = rw c.if-list.false at c.list.ensures in
+    list_goes g.C.Counter.commands g.C.Counter.asks c.args.counter.now c.list.new.counter (g.R.Source.remaining c.args.reader.now) (g.W.Sink.contents c.args.writer.now) (g.W.Sink.contents c.send.new.writer) stream.inbox c.take_list.new.inbox stream.outbox
+    c.send.new.outbox c.list.new.answer c.in-Some.closes (Consumes-nil (g.R.Source.remaining c.args.reader.now)) c.in-Some.ensures.taken answers c.in-Ok.ensures.bytes
 
 pub returns-in-Err-clause-talks : goal.returns-in-Err-clause-talks
 returns-in-Err-clause-talks g c =
-    let read = rw c.in-Ok-Request.field-0-is at c.in-Ok-Request.ensures.read in
-    let handles = rw c.if-handle.false at c.handle.ensures in
-    let input = c.args.stream.now.inbox ++ read.0 in
-    let is = read.5.0 in
-    let request = c.in-Ok-Request.request in
-    let rest = c.next_request.new.stream.inbox in
-    let text = c.handle.new.answer in
-    let of = of_head g.C.Counter.commands g.C.Counter.asks c.args.counter.now c.handle.new.counter input rest text false request is handles in
-    let sent = c.in-Err.ensures.bytes in
-    let front = cut g.C.Counter.commands g.C.Counter.asks c.args.counter.now c.handle.new.counter input rest text is.head request.target.items request.body.items is.front is.cut is.alone of in (
-      read.0,
-      read.1 ++ text,
-      sent.0,
-      read.3,
-      queued_then _ _ _ c.args.stream.now.outbox c.next_request.new.stream.outbox sent.0 read.1 text (queued_as _ _ c.args.stream.now.outbox read.2 c.next_request.new.stream.outbox read.1 read.6 read.4) sent.1,
-      subst (λ (t : List ℕ). IsFrontTalk g.C.Counter.commands g.C.Counter.asks c.args.counter.now input (t ++ text) c.handle.new.counter) (sym read.5.1) front,
-      tt,
-    )
+    let stream = c.args.stream.now in
+    let answers = rw c.if-list.false at c.list.ensures in
+    list_cut g.C.Counter.commands g.C.Counter.asks c.args.counter.now c.list.new.counter (g.R.Source.remaining c.args.reader.now) (g.W.Sink.contents c.args.writer.now) (g.W.Sink.contents c.send.new.writer) stream.inbox c.take_list.new.inbox stream.outbox
+    c.send.new.outbox c.list.new.answer c.in-Some.closes (Consumes-nil (g.R.Source.remaining c.args.reader.now)) c.in-Some.ensures.taken answers c.in-Err.ensures.bytes

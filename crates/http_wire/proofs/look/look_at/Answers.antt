@@ -1,5 +1,5 @@
-use Rattle.std.proofs.Common.{◌≤◌, inl, inr, subst, refl, arith}
-use Rattle.httparse.specs.Spans.{RequestOverflows}
+use Rattle.std.proofs.Common.{◌≤◌, ℕ, length, take, inl, inr, subst, refl, arith}
+use Rattle.httparse.specs.Spans.{RequestOverflows, RequestExceeds}
 use Rattle.http_chunks.specs.Lines.{head_lines}
 use Rattle.http_chunks.specs.Fronts.{window_is}
 use Rattle.http_wire.proofs.LookLemmas.{parsed_at, exceeds_lines}
@@ -9,7 +9,7 @@ pub after_parse-requires : goal.after_parse-requires
 after_parse-requires c =
     let done = rw c.in-Ok-Complete.field-0-is at c.in-Ok-Complete.ensures.complete in
     let within = rw c.in-Ok-Complete.field-0-is at c.in-Ok-Complete.ensures.within in
-    parsed_at c.args.bytes.now c.min.result _ _ done.0 (omega (arith, c.min.ensures)) (omega (arith, c.parse_request.auto.headers)) within done.1
+    parsed_at c.args.bytes.now c.min.result _ _ done.0 (omega (arith, c.min.ensures)) (omega (arith, c.requires, c.parse_request.auto.headers)) within done.1
 
 pub unfinished-requires-clause-part_is : goal.unfinished-requires-clause-part_is
 unfinished-requires-clause-part_is c = window_is c.args.bytes.now c.min.result c.min.ensures
@@ -19,12 +19,14 @@ after_error-requires-clause-part_is c = window_is c.args.bytes.now c.min.result 
 
 pub returns-in-Err-TooManyHeaders : goal.returns-in-Err-TooManyHeaders
 returns-in-Err-TooManyHeaders c =
+    let part = take c.min.result c.args.bytes.now in
     let same = window_is c.args.bytes.now c.min.result c.min.ensures in
-    let many = (rw c.in-Err-TooManyHeaders.field-0-is at c.in-Err-TooManyHeaders.ensures.too_many) refl in
+    let many : RequestExceeds (length c.args.headers.now) part = (rw c.in-Err-TooManyHeaders.field-0-is at c.in-Err-TooManyHeaders.ensures.too_many) refl in
+    let room : RequestOverflows (length c.args.headers.now) part = c.in-Err-TooManyHeaders.ensures.no_room in
     inl (
       inr (record {
-        lines = subst (λ xs. 66 ≤ head_lines xs) same (exceeds_lines _ many);
-        exceeds = subst (RequestOverflows 64) same c.in-Err-TooManyHeaders.ensures.no_room;
+        lines = subst (λ xs. 66 ≤ head_lines xs) same (exceeds_lines part (subst (λ (n : ℕ). RequestExceeds n part) c.requires many));
+        exceeds = subst (RequestOverflows 64) same (subst (λ (n : ℕ). RequestOverflows n part) c.requires room);
       }),
       refl,
     )

@@ -6,12 +6,12 @@ use Rattle.page_store.specs.Stops.{quiet_more, passed_more}
 use Rattle.page_node.specs.Node.{Node, IsNode}
 use Rattle.page_btree.specs.Tree.{rows}
 use Rattle.page_btree.specs.Getting.{IsLevel}
-use Rattle.page_btree.specs.Removing.{CanRemove, Removes, RowRemoves, IsPutBack, IsDone, StaysAt, LinkErr, BelowErr, unlinked}
+use Rattle.page_btree.specs.Removing.{CanRemove, Removes, RowRemoves, IsPutBack, IsDone, StaysAt, TakenErr, LinkErr, BelowErr, unlinked}
 use Rattle.page_btree.specs.declared.error.TreeError.TheVariants.{DeviceFault}
 use Rattle.page_btree.proofs.Descent.{goes_on, some_child}
 use Rattle.page_btree.proofs.Outcomes.{err_of, map_ok, map_err}
-use Rattle.page_btree.proofs.Refusals.{level_fails, below_more, link_fails}
-use Rattle.page_btree.proofs.Steps.{row_removes, leaf_there, step_down, as_get, has_leaf, both_ok, on_any, done_stays}
+use Rattle.page_btree.proofs.Refusals.{level_fails, below_more, link_fails, row_fails}
+use Rattle.page_btree.proofs.Steps.{row_removes, leaf_there, step_down, as_get, has_rows, both_ok, on_any, done_stays}
 use Rattle.page_btree.proofs.removes.+remove_below.Goals as goal
 
 pub returns-then-level-eq0-clause-removed : goal.returns-then-level-eq0-clause-removed
@@ -27,8 +27,8 @@ returns-then-level-eq0-clause-removed g t c = λ honest there can.
 pub returns-then-level-eq0-clause-err : goal.returns-then-level-eq0-clause-err
 returns-then-level-eq0-clause-err g t c =
     let can = λ (S : Image). (c.args.page.now ≡ over c.args.txn.now S c.args.p) × CanRemove (txn_pages c.args.txn.now) (over c.args.txn.now S) (free_over c.args.txn.now S) c.args.level c.args.key.now c.args.p in
-    map_err c.remove_row.result (λ e. LinkErr c.args.txn.now c.args.p c.args.page.now e) (λ e. BelowErr can c.args.pages.now c.args.pages.now e)
-    (λ e why. link_fails can c.args.txn.now c.args.p c.args.page.now c.args.pages.now c.args.pages.now (λ honest is. has_leaf (stored c.args.pages.now) c.args.txn.now c.args.level c.args.key.now c.args.p c.args.page.now is.1 is.0 c.if-level-eq0.true) e why)
+    map_err c.remove_row.result (λ e. TakenErr c.args.txn.now c.args.p c.args.page.now e) (λ e. BelowErr can c.args.pages.now c.args.pages.now e)
+    (λ e why. row_fails can c.args.txn.now c.args.p c.args.page.now c.args.pages.now c.args.pages.now (λ honest is. has_rows (stored c.args.pages.now) c.args.txn.now c.args.level c.args.key.now c.args.p c.args.page.now is.1 is.0 c.if-level-eq0.true) e why)
     c.remove_row.ensures.err
 
 pub returns-in_err-child-clause-err : goal.returns-in_err-child-clause-err

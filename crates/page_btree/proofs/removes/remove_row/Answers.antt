@@ -1,32 +1,27 @@
-use Rattle.std.proofs.Common.{◌≡◌, ◌≤◌, sym, ap, subst, ◌∙◌, arith}
+use Rattle.std.proofs.Common.{refl, subst}
 use Rattle.std.specs.Prelude.{remove}
-use Rattle.std.specs.FinMap.{find}
-use Rattle.page_node.specs.Node.{Node, Fits}
-use Rattle.page_node.specs.Places.{key_cmp, Rises, IsFound}
-use Rattle.page_node.specs.Entries.{size_of}
-use Rattle.page_node.specs.Laws.{node_unique, gap_find}
-use Rattle.page_btree.specs.Removing.{IsPutBack, RowRemoves}
-use Rattle.page_btree.proofs.Edits.{size_remove}
-use Rattle.page_btree.proofs.Outcomes.{map_ok}
-use Rattle.page_btree.proofs.Steps.{row_done}
+use Rattle.page_node.specs.Spots.{IsRowTaken}
+use Rattle.page_btree.specs.Removing.{IsPutBack, RowRemoves, IsDone, StaysAt, BackErr, TakenErr}
+use Rattle.page_btree.specs.declared.error.TreeError.TheVariants.{DeviceFault}
+use Rattle.page_btree.proofs.Outcomes.{map_ok, map_err, err_of}
+use Rattle.page_btree.proofs.Steps.{row_done, done_stays}
+use Rattle.page_btree.proofs.Refusals.{back_taken}
 use Rattle.page_btree.proofs.removes.remove_row.Goals as goal
 
-pub put_back-requires-clause-fits : goal.put_back-requires-clause-fits
-put_back-requires-clause-fits c =
-    let less = size_remove c.read.new.self.entries c.in-Ok.i in
-    let fits : size_of c.read.new.self.entries ≤ 4092 = c.in_ok-read.ensures.read.fits in
-    subst Fits (sym c.remove.ensures) (omega arith)
+pub returns-in_err-take_row-clause-err : goal.returns-in_err-take_row-clause-err
+returns-in_err-take_row-clause-err c = err_of c.from_residual.result DeviceFault (TakenErr c.args.txn.now c.args.p c.args.page.now) c.from_residual.ensures.1 (λ P es is rises above are off. c.in_err-take_row.ensures.err es is rises)
 
-pub returns-in-Err-clause-row : goal.returns-in-Err-clause-row
-returns-in-Err-clause-row c = λ es is rises.
-    let same : c.read.new.self.entries ≡ es = ap (λ (n : Node). n.entries) (node_unique c.args.page.now c.read.new.self (record { level = 0; entries = es }) c.in_ok-read.ensures.read is) in
-    ap (find key_cmp c.args.key.now) (sym same) ∙ gap_find c.args.key.now c.read.new.self.entries c.in-Err.field-0 (c.in-Err.ensures.place (subst Rises (sym same) rises))
+pub returns-in-None-clause-row : goal.returns-in-None-clause-row
+returns-in-None-clause-row c = λ es is rises. (subst (IsRowTaken c.args.page.now c.take_row.new.page c.args.key.now es) c.in-None.is (c.in_ok-take_row.ensures.taken es is rises)).1
 
-pub returns-in-Ok-clause-row : goal.returns-in-Ok-clause-row
-returns-in-Ok-clause-row c = λ es is rises.
-    let same : c.read.new.self ≡ record { level = 0; entries = es } = node_unique c.args.page.now c.read.new.self (record { level = 0; entries = es }) c.in_ok-read.ensures.read is in
-    let listed : c.read.new.self.entries ≡ es = ap (λ (n : Node). n.entries) same in
-    let node : c.remove.new.self ≡ record { level = 0; entries = remove es c.in-Ok.i } = c.remove.ensures ∙ ap (λ (n : Node). record n { entries = remove n.entries c.in-Ok.i }) same in
-    let found : IsFound c.args.key.now es c.in-Ok.i = subst (λ l. IsFound c.args.key.now l c.in-Ok.i) listed (c.in-Ok.ensures.place (subst Rises (sym listed) rises)) in
-    map_ok c.put_back.result (λ did. IsPutBack c.args.txn.now c.put_back.new.txn c.args.p c.remove.new.self did) (λ did. RowRemoves c.args.txn.now c.put_back.new.txn c.args.p c.args.key.now es did)
-    (λ did back. row_done c.args.txn.now c.put_back.new.txn c.args.p c.args.key.now es c.in-Ok.i c.remove.new.self node found did back) c.put_back.ensures.back
+pub returns-in-Some-clause-row : goal.returns-in-Some-clause-row
+returns-in-Some-clause-row c = λ es is rises.
+    let taken = subst (IsRowTaken c.args.page.now c.take_row.new.page c.args.key.now es) c.in-Some.is (c.in_ok-take_row.ensures.taken es is rises) in
+    map_ok c.write_back.result (λ did. IsPutBack c.args.txn.now c.write_back.new.txn c.args.p (record { level = 0; entries = remove es taken.0 }) did) (λ did. RowRemoves c.args.txn.now c.write_back.new.txn c.args.p c.args.key.now es did)
+    (λ did back. row_done c.args.txn.now c.write_back.new.txn c.args.p c.args.key.now es taken.0 (record { level = 0; entries = remove es taken.0 }) refl taken.1 did back) (c.write_back.ensures.back _ taken.2 taken.3)
+
+pub returns-in-Some-clause-stays : goal.returns-in-Some-clause-stays
+returns-in-Some-clause-stays c = map_ok c.write_back.result IsDone (λ did. StaysAt c.args.txn.now c.write_back.new.txn did) (done_stays c.args.txn.now c.write_back.new.txn) c.write_back.ensures.done
+
+pub returns-in-Some-clause-err : goal.returns-in-Some-clause-err
+returns-in-Some-clause-err c = map_err c.write_back.result (BackErr c.args.txn.now c.args.p) (TakenErr c.args.txn.now c.args.p c.args.page.now) (back_taken c.args.txn.now c.args.p c.args.page.now) c.write_back.ensures.err

@@ -4,10 +4,10 @@ use Rattle.desk_model.specs.Desk.{Plan, name_cmp}
 use Rattle.desk_model.specs.Step.{plan_limit}
 use Rattle.revision_trials.proofs.entries.add.Goals as goal
 
-pub add_plan-requires-clause-missing : goal.add_plan-requires-clause-missing
-add_plan-requires-clause-missing c = ap (λ (p : FinMap name_cmp Plan). get p c.args.name) c.new-none.ensures ∙ get-empty name_cmp c.args.name
+pub add_plan-plans-requires-clause-missing : goal.add_plan-plans-requires-clause-missing
+add_plan-plans-requires-clause-missing g c = ap (λ (p : FinMap name_cmp Plan). get p c.args.name) c.new-none.ensures ∙ get-empty name_cmp c.args.name
 
-pub add_plan-requires-clause-room : goal.add_plan-requires-clause-room
-add_plan-requires-clause-room c =
+pub add_plan-plans-requires-clause-room : goal.add_plan-plans-requires-clause-room
+add_plan-plans-requires-clause-room g c =
     let count = ap (λ (p : FinMap name_cmp Plan). len p) c.new-none.ensures ∙ len-empty name_cmp Plan in
     omega arith

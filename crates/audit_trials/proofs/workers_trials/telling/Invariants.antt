@@ -1,5 +1,0 @@
-use Rattle.std.proofs.Common.{◌<◌}
-use Rattle.audit_trials.proofs.workers_trials.telling.Given as goal
-
-abbrev pub invariant-loop-workers : goal.invariant-loop-workers
-invariant-loop-workers g l = l.telling < l.workers

@@ -1,0 +1,14 @@
+//! What is printed.
+ghost use Rattle.told_lines.specs.Writing.{written_of};
+ghost use Rattle.check_command.specs.Writing.{Prints};
+
+use byte_stream::sink::Sink;
+use exit_status::status::Status;
+use told_lines::telling::print as print_or_tell;
+
+/// Prints a text: the status is `good`, or 6 where the writing fails, which is told.
+pub fn print<W: Sink, E: Sink>(text: &[u8], good: Status, writer: &mut W, errors: &mut E) -> Status
+    ensures { Prints text.now good result (written_of W.contents W.failures writer.old) (written_of W.contents W.failures writer.new) (written_of E.contents E.failures errors.old) (written_of E.contents E.failures errors.new) }
+{
+    print_or_tell(b"plandesk: check: WriteFault\n", text, good, writer, errors)
+}

@@ -1,0 +1,7 @@
+pub mod Kept
+pub mod Committed
+pub mod Prepared
+pub mod Done
+pub mod Moved
+pub mod Loaded
+pub mod Opened

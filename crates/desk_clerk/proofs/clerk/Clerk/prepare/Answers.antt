@@ -1,0 +1,8 @@
+use Rattle.std.proofs.Common.{refl}
+use Rattle.desk_clerk.proofs.Prepared.{ready_is}
+use Rattle.desk_clerk.proofs.clerk.Clerk.prepare.Goals as goal
+
+pub returns-in-Ok-new-2-clause-ready : goal.returns-in-Ok-new-2-clause-ready
+returns-in-Ok-new-2-clause-ready g c =
+    ready_is c.args.self.now c.put.new.self c.args.command c.in-Ok.after c.in-Ok-put.prepared _ c.put.ensures.reads c.in-Ok.ensures.after
+    c.in-Ok-put.ensures.put c.in-Ok-new-2.ensures.ok c.in-Ok-new.ensures.ok refl

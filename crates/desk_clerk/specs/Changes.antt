@@ -1,0 +1,8 @@
+-- A change of a desk, as it is shown.
+use Rattle.desk_model.specs.declared.command.Command.{Command}
+use Rattle.desk_model.specs.Desk.{Desk}
+
+-- a command with the desk after it
+pub record Made : Type 0 where
+  pub command : Command
+  pub after : Desk

@@ -1,0 +1,10 @@
+pub mod Keeping
+pub mod Clerks
+pub mod Changes
+pub mod Codes
+pub mod Commands
+pub mod Faults
+pub mod Loads
+pub mod LoadFaults
+pub mod Finding
+pub mod Openings

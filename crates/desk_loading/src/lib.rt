@@ -1,0 +1,6 @@
+//! Loads a whole geography at a clerk.
+#![tactic(auto)]
+
+mod loads;
+
+pub use loads::load_geography;

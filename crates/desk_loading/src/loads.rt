@@ -1,0 +1,75 @@
+//! Loads a geography by as many batches as it takes.
+ghost use Rattle.std.specs.Prelude.{◌≡◌, ◌≤◌, ◌+◌, ◌*◌, None, OnOk, OnErr, IfErr};
+ghost use Rattle.store_rows.specs.GeographyRows.{geography_rows};
+ghost use Rattle.geo_loads.specs.Loading.{ground_of, done_of};
+ghost use Rattle.desk_clerk.specs.Clerks.{desk_of, Keeps};
+ghost use Rattle.desk_clerk.specs.Keeping.{sealed_desk};
+ghost use Rattle.desk_clerk.specs.Loads.{Stages, IsLast};
+ghost use Rattle.desk_loading.specs.Loads.{GoesOn, LoadRefused, StageRefused};
+
+use desk_clerk::clerk::Clerk;
+use desk_clerk::loads::LoadError;
+use desk_model::geography::Geography;
+use geo_loads::Load;
+use sector_device::SectorDevice;
+use std::alloc::Global;
+use std::sync::Arc;
+
+/// How many rows a batch may have: 13 journal pages for each, and for the mark of the load, but one at least and 512 at most.
+fn batch_rows(journal_pages: u32) -> usize
+    ensures some { 1 ≤ result }
+    ensures few { result ≤ 512 }
+    ensures fits { 26 ≤ journal_pages → 13 * (result + 1) ≤ journal_pages }
+{
+    let rows = journal_pages as usize / 13;
+    if rows < 2 {
+        1
+    } else if rows > 512 {
+        512
+    } else {
+        rows - 1
+    }
+}
+
+/// Stages the rows that are left of a load.
+fn stage_rows<D: SectorDevice>(
+    alloc: Global,
+    clerk: &mut Clerk<D>,
+    load: &mut Load,
+) -> Result<(), LoadError>
+    requires last { IsLast clerk.old load.old }
+    requires unsealed { (desk_of clerk.old).geography ≡ None }
+    ensures desk { desk_of clerk.new ≡ desk_of clerk.old }
+    ensures keeps { Stages clerk.old load.old → Keeps clerk.new }
+    ensures on { OnOk result (GoesOn clerk.old load.old clerk.new load.new) }
+    ensures done { OnOk result (done_of load.new ≡ geography_rows (ground_of load.new)) }
+    ensures err { IfErr result (λ e. StageRefused e clerk.new) }
+{
+    let most = batch_rows(clerk.journal_pages());
+    let mut left = load.left();
+    while left > 0 {
+        left = clerk.load_batch(alloc, load, left.min(most))?;
+    }
+    Ok(())
+}
+
+/// Loads a geography, in place of a load that is under way: begins, stages its rows in batches, and seals. After a refusal the desk
+/// is as it was.
+pub fn load_geography<D: SectorDevice>(
+    alloc: Global,
+    clerk: &mut Clerk<D>,
+    geography: Arc<Geography>,
+) -> Result<(), LoadError>
+    ensures keeps { Keeps clerk.old → Keeps clerk.new }
+    ensures loaded { OnOk result (desk_of clerk.new ≡ sealed_desk geography.value) }
+    ensures unsealed { OnOk result ((desk_of clerk.old).geography ≡ None) }
+    ensures same { OnErr result (desk_of clerk.new ≡ desk_of clerk.old) }
+    ensures err { IfErr result (λ e. LoadRefused clerk.old e clerk.new) }
+{
+    let mut load = clerk.begin_load(alloc, geography)?;
+    stage_rows(alloc, clerk, &mut load)?;
+    match clerk.seal(alloc, load) {
+        Ok(()) => Ok(()),
+        Err((e, _)) => Err(e),
+    }
+}

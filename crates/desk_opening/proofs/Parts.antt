@@ -1,0 +1,145 @@
+-- Some of a desk's plans were read: those whose rows a scan took.
+use Rattle.std.proofs.Common.{◌≡◌, ◌<◌, ◌≤◌, ◌+◌, ◌-◌, ℕ, zero, suc, cond, List, [], ◌∷◌, ◌++◌, length, Some, None, refl, sym, ap, subst, ◌∙◌, inl, inr, arith}
+use Rattle.std.specs.Prelude.{Option, is_some, MatchOption}
+use Rattle.std.specs.Ordering.{eq_by_cmp}
+use Rattle.std.specs.Cmp.Lexicographic.{nat_list_cmp_total}
+use Rattle.std.specs.FinMap.{FinMap, empty, entries, find, get, insert, len, remove, empty_of_len, get-empty, get-entries, get-insert, get-remove, len-entries, len-insert, len-remove, same_map, slice_cmp-IsAntisymmetric, nat_cmp-IsAntisymmetric}
+use Rattle.std.specs.FinMap.Entries.{find-append}
+use Rattle.page_node.specs.Entries.{Entry}
+use Rattle.btree_scan.specs.Prefixes.{under}
+use Rattle.desk_model.specs.Geography.{Ground}
+use Rattle.desk_model.specs.Desk.{Plan, name_cmp}
+use Rattle.desk_model.specs.Step.{plan_limit}
+use Rattle.store_keys.specs.Keys.{key_of, named, plans_prefix}
+use Rattle.store_keys.specs.Order.{key_cmp}
+use Rattle.store_rows.specs.Rows.{KeyMap}
+use Rattle.store_rows.specs.DeskRows.{IsDesk, IsPlanAt}
+use Rattle.store_rows.specs.Changes.{cases_key, desk_with, other_row}
+use Rattle.store_rows.specs.Frames.{differs, itself}
+use Rattle.desk_opening.proofs.Scanned.{found_among}
+
+abbrev pub Plans : Type 0
+Plans = FinMap name_cmp Plan
+
+-- ---- maps of plans
+pub put_there : (m : Plans) (name : List ℕ) (p : Plan) → get (insert m name p) name ≡ Some p
+put_there m name p = get-insert nat_list_cmp_total m name p name ∙ ap (λ b. cond b (Some p) (get m name)) (itself name)
+
+pub put_keeps : (m : Plans) (name : List ℕ) (p : Plan) (other : List ℕ) → (other ≡ name → ⊥) → get (insert m name p) other ≡ get m other
+put_keeps m name p other apart = get-insert nat_list_cmp_total m name p other ∙ ap (λ b. cond b (Some p) (get m other)) (differs other name apart)
+
+gone : (m : Plans) (name : List ℕ) → get (remove m name) name ≡ None
+gone m name = get-remove nat_list_cmp_total m name name ∙ ap (λ b. cond b None (get m name)) (itself name)
+
+left : (m : Plans) (name other : List ℕ) → (other ≡ name → ⊥) → get (remove m name) other ≡ get m other
+left m name other apart = get-remove nat_list_cmp_total m name other ∙ ap (λ b. cond b None (get m other)) (differs other name apart)
+
+-- the plans of one are among those of the other
+abbrev pub AreAmong : Plans → Plans → Type 0
+AreAmong a b = (name : List ℕ) (p : Plan) → get a name ≡ Some p → get b name ≡ Some p
+
+still_among : (a b : Plans) (name : List ℕ) → AreAmong a b → AreAmong (remove a name) (remove b name)
+still_among a b name among other p there = elim (cases_key other name) [
+  | inl same ↦
+      let clash : ◌≡◌ {A = Option Plan} None (Some p) = sym (gone a name) ∙ ap (get (remove a name)) (sym same) ∙ there in
+      absurd (cc)
+  | inr apart ↦ left b name other apart ∙ among other p (sym (left a name other apart) ∙ there)
+]
+
+one_fewer : (m : Plans) (name : List ℕ) (p : Plan) → get m name ≡ Some p → len (remove m name) + 1 ≡ len m
+one_fewer m name p there =
+    let less : len (remove m name) ≡ len m - 1 = len-remove nat_list_cmp_total m name ∙ ap (λ (o : Option Plan). cond (is_some o) (len m - 1) (len m)) there in
+    let some : 0 < len m = some_there m name p there in
+    omega arith
+  where
+    some_at : (n : ℕ) (m : Plans) (name : List ℕ) (p : Plan) → len m ≡ n → get m name ≡ Some p → 0 < n
+    some_at zero m name p none there =
+        let clash : ◌≡◌ {A = Option Plan} None (Some p) = sym (get-empty name_cmp name) ∙ ap (λ (n : Plans). get n name) (sym (empty_of_len m none)) ∙ there in
+        absurd (cc)
+    some_at (suc n) m name p is there = omega arith
+
+    some_there : (m : Plans) (name : List ℕ) (p : Plan) → get m name ≡ Some p → 0 < len m
+    some_there m name p there = some_at (len m) m name p refl there
+
+first_of_all : (m : Plans) (es : List (List ℕ × Plan)) → entries m ≡ es → 0 < length es → (name : List ℕ) × (p : Plan) × (get m name ≡ Some p)
+first_of_all m [] is some = absurd (omega arith)
+first_of_all m (e ∷ es) is some =
+    (e.0, e.1, get-entries m e.0 ∙ ap (λ (l : List (List ℕ × Plan)). find name_cmp e.0 l) is ∙ ap (λ b. cond b (Some e.1) (find name_cmp e.0 es)) (itself e.0))
+
+fewer : (n : ℕ) (a b : Plans) → len a ≡ n → AreAmong a b → n ≤ len b
+fewer zero a b long among = omega arith
+fewer (suc n) a b long among =
+    let count = len-entries a in
+    let first = first_of_all a (entries a) refl (omega arith) in
+    let one = one_fewer a first.0 first.1 first.2 in
+    let other = one_fewer b first.0 first.1 (among first.0 first.1 first.2) in
+    let rest = fewer n (remove a first.0) (remove b first.0) (omega arith) (still_among a b first.0 among) in
+    omega arith
+
+-- ---- plans that were read
+-- a plan was read where its row was taken, and is that of all plans
+abbrev pub IsReadAt : List Entry → Plans → Plans → List ℕ → Type 0
+IsReadAt taken plans all name = MatchOption (find key_cmp (key_of (named name)) taken) (get plans name ≡ None) (λ _. get plans name ≡ get all name)
+
+pub record AreRead (taken : List Entry) (plans all : Plans) : Type 0 where
+  pub each : (name : List ℕ) → IsReadAt taken plans all name
+
+none_yet : (o : Option (List ℕ)) (a b : Option Plan) → o ≡ None → MatchOption o (a ≡ None) (λ _. a ≡ b) → a ≡ None
+none_yet None a b none is = is
+none_yet (Some row) a b none is = absurd (cc)
+
+same_then : (o : Option (List ℕ)) (a b : Option Plan) (row : List ℕ) → o ≡ Some row → MatchOption o (a ≡ None) (λ _. a ≡ b) → a ≡ b
+same_then None a b row there is = absurd (cc)
+same_then (Some other) a b row there is = is
+
+told_there : (o : Option (List ℕ)) (a b : Option Plan) (p : Plan) → MatchOption o (a ≡ None) (λ _. a ≡ b) → a ≡ Some p → b ≡ Some p
+told_there None a b p is there = absurd (cc)
+told_there (Some row) a b p is there = sym is ∙ there
+
+pub none_read : (all : Plans) → AreRead [] empty all
+none_read all = record { each = λ name. get-empty name_cmp name }
+
+module _ (taken : List Entry) (plans all : Plans) (read : AreRead taken plans all) where
+  pub not_read : (name : List ℕ) → find key_cmp (key_of (named name)) taken ≡ None → get plans name ≡ None
+  not_read name new = none_yet _ (get plans name) (get all name) new (read.each name)
+
+  are_among : AreAmong plans all
+  are_among name p there = told_there _ (get plans name) (get all name) p (read.each name) there
+
+  module _ (name : List ℕ) (p : Plan) (new : find key_cmp (key_of (named name)) taken ≡ None) (there : get all name ≡ Some p) where
+    more_among : AreAmong (insert plans name p) all
+    more_among other q is = elim (cases_key other name) [
+      | inl same ↦ ap (get all) same ∙ there ∙ sym (put_there plans name p) ∙ ap (get (insert plans name p)) (sym same) ∙ is
+      | inr apart ↦ are_among other q (sym (put_keeps plans name p other apart) ∙ is)
+    ]
+
+    -- there is room for one plan more
+    pub has_room : len all ≤ plan_limit → len plans < plan_limit
+    has_room few =
+        let longer : len (insert plans name p) ≡ len plans + 1 = len-insert nat_list_cmp_total plans name p ∙ ap (λ (o : Option Plan). cond (is_some o) (len plans) (len plans + 1)) (not_read name new) in
+        let fit = fewer (len plans + 1) (insert plans name p) all longer more_among in
+        omega arith
+
+    pub one_more_read : (value : List ℕ) → AreRead (taken ++ (key_of (named name), value) ∷ []) (insert plans name p) all
+    one_more_read value = record {
+      each = λ other. elim (cases_key other name) [
+        | inl same ↦ subst (λ (n : List ℕ). IsReadAt (taken ++ (key_of (named name), value) ∷ []) (insert plans name p) all n) (sym same)
+            (subst (λ (o : Option (List ℕ)). MatchOption o (get (insert plans name p) name ≡ None) (λ _. get (insert plans name p) name ≡ get all name)) (sym (here name ∙ ap (λ b. cond b (Some value) (find key_cmp (key_of (named name)) taken)) (itself (key_of (named name)))))
+            (put_there plans name p ∙ sym there))
+        | inr apart ↦
+            subst (λ (o : Option (List ℕ)). MatchOption o (get (insert plans name p) other ≡ None) (λ _. get (insert plans name p) other ≡ get all other)) (sym (here other ∙ ap (λ b. cond b (Some value) (find key_cmp (key_of (named other)) taken)) (differs (key_of (named other)) (key_of (named name)) (other_row name other apart))))
+            (subst (λ (q : Option Plan). MatchOption (find key_cmp (key_of (named other)) taken) (q ≡ None) (λ _. q ≡ get all other)) (sym (put_keeps plans name p other apart)) (read.each other))
+      ];
+    }
+      where
+        here : (n : List ℕ) → find key_cmp (key_of (named n)) (taken ++ (key_of (named name), value) ∷ []) ≡ cond (eq_by_cmp key_cmp (key_of (named n)) (key_of (named name))) (Some value) (find key_cmp (key_of (named n)) taken)
+        here n = find-append key_cmp nat_list_cmp_total taken (key_of (named name)) value (key_of (named n)) new
+
+-- ---- all of them
+module _ (m : KeyMap) (g : Ground) (taken : List Entry) (plans all : Plans) (is : IsDesk m (desk_with g all)) (read : AreRead taken plans all) (rows : under plans_prefix (entries m) ≡ taken) where
+  same_at : (name : List ℕ) (b : Option Plan) → IsPlanAt m (Some g) name b → MatchOption (find key_cmp (key_of (named name)) taken) (get plans name ≡ None) (λ _. get plans name ≡ b) → get plans name ≡ b
+  same_at name None lacks told = none_yet _ (get plans name) None (found_among m taken name rows ∙ lacks) told
+  same_at name (Some p) has told = same_then _ (get plans name) (Some p) _ (found_among m taken name rows ∙ has.1.row) told
+
+  pub all_read : plans ≡ all
+  all_read = same_map nat_list_cmp_total (slice_cmp-IsAntisymmetric nat_cmp-IsAntisymmetric) plans all (λ name. same_at name (get all name) (is.plans name) (read.each name))

@@ -1,0 +1,50 @@
+-- A row that a scan takes is that of the next plan.
+use Rattle.std.proofs.Common.{◌≡◌, ℕ, List, [], ◌∷◌, ◌++◌, Some, None, true, refl, sym, ap, subst, ◌∙◌}
+use Rattle.std.specs.Prelude.{Option}
+use Rattle.std.specs.FinMap.{entries, find, get, insert}
+use Rattle.page_node.specs.Entries.{Entry}
+use Rattle.page_node.specs.Places.{key_cmp}
+use Rattle.btree_scan.specs.Prefixes.{under}
+use Rattle.btree_scan.specs.Scanning.{IsNextRow}
+use Rattle.btree_scan.specs.Taken.{HasTaken}
+use Rattle.btree_scan.specs.declared.rows.Row.{Row}
+use Rattle.btree_scan.specs.declared.scans.Scan.{Scan}
+use Rattle.desk_model.specs.Geography.{Ground}
+use Rattle.desk_model.specs.Desk.{Plan}
+use Rattle.store_keys.specs.Keys.{key_of, named, plans_prefix}
+use Rattle.store_rows.specs.Rows.{KeyMap}
+use Rattle.store_rows.specs.DeskRows.{IsPlanAt}
+use Rattle.desk_opening.specs.Opening.{ArePlans, IsNewPlan}
+use Rattle.desk_opening.proofs.Parts.{Plans, AreRead, has_room, not_read, one_more_read}
+use Rattle.desk_opening.proofs.Scanned.{next_plan}
+
+-- a row that is there is that of a plan
+plan_at : (m : KeyMap) (g : Ground) (name value : List ℕ) (o : Option Plan) → IsPlanAt m (Some g) name o → get m (key_of (named name)) ≡ Some value → (p : Plan) × (o ≡ Some p)
+plan_at m g name value None lacks there =
+    let clash : ◌≡◌ {A = Option (List ℕ)} None (Some value) = sym lacks ∙ there in
+    absurd (cc)
+plan_at m g name value (Some p) has there = (p, refl)
+
+module _ (g : Ground) (m : KeyMap) (rows : List Entry) (old new : Scan) (row : Row) (plans all : Plans) (taken : HasTaken plans_prefix rows old (entries m)) (next : IsNextRow true new row (entries m) taken.rest) (are : ArePlans g m all) (read : AreRead rows plans all) where
+  pub new_plan : (plan : List ℕ × Plan) × IsNewPlan g plans row m plan × AreRead (rows ++ (row.key, row.value) ∷ []) (insert plans plan.0 plan.1) all
+  new_plan =
+      let e : Entry = (row.key, row.value) in
+      let whole : under plans_prefix (entries m) ≡ rows ++ e ∷ next.0 = taken.whole ∙ ap (λ (l : List Entry). rows ++ l) next.1 in
+      let at = next_plan m rows e next.0 whole in
+      let new_there = subst (λ (k : List ℕ). get m k ≡ Some row.value) at.key at.there in
+      let plan = plan_at m g at.name row.value (get all at.name) (are.desk.plans at.name) new_there in
+      let fresh = not_read rows plans all read at.name (subst (λ (k : List ℕ). find key_cmp k rows ≡ None) at.key at.new) in (
+        (at.name, plan.0),
+        record {
+          all = all;
+          desk = are.desk;
+          there = plan.1;
+          sized = are.limits.sizes at.name plan.0 plan.1;
+          key = at.key;
+          value = at.there;
+          new = fresh;
+          room = has_room rows plans all read at.name plan.0 (subst (λ (k : List ℕ). find key_cmp k rows ≡ None) at.key at.new) plan.1 are.limits.few;
+        },
+        subst (λ (k : List ℕ). AreRead (rows ++ (k, row.value) ∷ []) (insert plans at.name plan.0) all) (sym at.key)
+            (one_more_read rows plans all read at.name plan.0 (subst (λ (k : List ℕ). find key_cmp k rows ≡ None) at.key at.new) plan.1 row.value),
+      )

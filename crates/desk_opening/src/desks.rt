@@ -1,0 +1,38 @@
+//! Reads the desk of a store.
+ghost use Rattle.std.specs.Prelude.{◌≡◌, OnOk, IfOk, IfErr};
+ghost use Rattle.desk_model.specs.Desk.{Desk};
+ghost use Rattle.page_store.specs.Transactions.{stored, disk_in, count_of, txn_pages, IsQuiet, Passed};
+ghost use Rattle.desk_pages.specs.Desks.{InTxn};
+ghost use Rattle.desk_opening.specs.Opening.{OpenErr};
+
+use crate::rows::read_plans;
+use desk_catalogue::catalogue::Catalogue;
+use geo_tables::geography;
+use page_store::{Pages, Txn};
+use row_table::TreeError;
+use sector_device::SectorDevice;
+use std::alloc::Global;
+use std::sync::Arc;
+
+/// The desk that a transaction reads: its geography, and each plan with all its revisions. The pages are only read. An error is
+/// `Memory`, where a growth was refused, `DeviceFault`, where the device failed or holds no desk, or `Halted`.
+pub fn read_desk<D: SectorDevice>(
+    alloc: Global,
+    txn: &Txn,
+    pages: &mut Pages<D>,
+) -> Result<Catalogue, TreeError>
+    requires begun { txn_pages txn.now ≡ count_of pages.old }
+    ensures quiet { IsQuiet pages.old pages.new }
+    ensures passed { OnOk result (Passed pages.old pages.new) }
+    ensures read { (disk_in pages.new).is_honest → (d : Desk) → InTxn txn.now (stored pages.old) d → IfOk result (λ catalogue. catalogue ≡ d) }
+    ensures err { IfErr result (λ e. OpenErr txn.now pages.old pages.new e) }
+{
+    let Some(ground) = geography(alloc, txn, pages)? else {
+        return Ok(Catalogue::new(None));
+    };
+    let plans = read_plans(alloc, txn, pages, &ground)?;
+    match Arc::new(alloc, ground) {
+        Ok(shared) => Ok(Catalogue::restored(Some(shared), plans)),
+        Err(_) => Err(TreeError::Memory),
+    }
+}

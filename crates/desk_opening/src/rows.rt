@@ -1,0 +1,141 @@
+//! Reads plans out of the rows that a scan takes.
+ghost use Rattle.std.specs.Prelude.{◌≡◌, ◌<◌, ◌^◌, ℕ, List, Some, IfOk, MatchOption, MatchResult};
+ghost use Rattle.std.specs.FinMap as map_of;
+ghost use Rattle.desk_model.specs.Cuts.{cuts_of};
+ghost use Rattle.desk_model.specs.Name.{IsPlanName};
+ghost use Rattle.page_store.specs.Transactions.{count_of, txn_pages, IsQuiet};
+ghost use Rattle.store_keys.specs.Keys.{key_of, named};
+ghost use Rattle.row_table.specs.Appending.{AppendErr};
+ghost use Rattle.desk_catalogue.specs.Kept.{AreWhole};
+ghost use Rattle.plan_table.specs.Laws.{RowFits};
+ghost use Rattle.desk_opening.specs.Reading.{HasRead};
+ghost use Rattle.desk_opening.specs.Opening.{ArePlans, IsNewPlan};
+
+use crate::plans::add_plan;
+use btree_scan::{Row, Scan, row_limit};
+use desk_catalogue::catalogue::PLAN_LIMIT;
+use desk_model::cuts::{Cut, cuts};
+use desk_model::geography::Geography;
+use desk_model::name::PlanName;
+use desk_plans::plans::Plans;
+use page_store::{Pages, Txn};
+use plan_table::laws::plans_are_told;
+use row_table::TreeError;
+use sector_device::SectorDevice;
+use std::alloc::Global;
+use store_keys::{Key, PlanRow, read_plan};
+
+/// A number of 64 bits is in its range.
+fn number_fits(number: u64)
+    ensures { number < 2 ^ 64 }
+{}
+
+/// A number of districts is in its range.
+fn districts_fit(districts: u16)
+    ensures { districts < 2 ^ 16 }
+{}
+
+/// A number of revisions is in its range.
+fn revisions_fit(revisions: u32)
+    ensures { revisions < 2 ^ 32 }
+{}
+
+/// The numbers of a plan's row are in their ranges.
+fn row_fits(row: PlanRow)
+    ensures { RowFits row }
+{
+    number_fits(row.number);
+    districts_fit(row.districts);
+    revisions_fit(row.revisions);
+}
+
+/// The name of the plan whose row has this key; None where it is no plan's.
+fn name_in(key: &[u8]) -> Option<PlanName>
+    ensures { MatchOption result ((name : List ℕ) → IsPlanName name → key.now ≡ key_of (named name) → ⊥) (λ name. key.now ≡ key_of (named name)) }
+{
+    if key.is_empty() {
+        return None;
+    }
+    let name = PlanName::read(&key[1..])?;
+    if Key::named(&name).as_slice() != key {
+        return None;
+    }
+    Some(name)
+}
+
+/// These plans with the one whose row was taken.
+fn add_row<D: SectorDevice>(
+    alloc: Global,
+    txn: &Txn,
+    pages: &mut Pages<D>,
+    geography: &Geography,
+    cuts: &[Cut],
+    names: &mut Vec<u64>,
+    plans: &Plans,
+    row: &Row,
+) -> Result<Plans, TreeError>
+    requires begun { txn_pages txn.now ≡ count_of pages.old }
+    requires cut { cuts.now ≡ cuts_of geography.now }
+    ensures quiet { IsQuiet pages.old pages.new }
+    ensures whole { IfOk result (λ all. AreWhole (Some geography.now) plans.now → AreWhole (Some geography.now) all) }
+    ensures read { MatchResult result (λ all. HasRead (IsNewPlan geography.now plans.now row.now) (λ plan. map_of.insert plans.now plan.0 plan.1) txn.now pages.old pages.new all) (λ e. AppendErr (IsNewPlan geography.now plans.now row.now) txn.now pages.old pages.new e) }
+{
+    plans_are_told();
+    let Some(name) = name_in(row.key.as_slice()) else {
+        return Err(TreeError::DeviceFault);
+    };
+    let Some(plan) = read_plan(row.value.as_slice()) else {
+        return Err(TreeError::DeviceFault);
+    };
+    row_fits(plan);
+    if plans.get(&name).is_some() {
+        return Err(TreeError::DeviceFault);
+    }
+    if plans.len() >= PLAN_LIMIT {
+        return Err(TreeError::DeviceFault);
+    }
+    add_plan(
+        alloc, txn, pages, geography, cuts, names, plans, name, &plan,
+    )
+}
+
+/// All plans of a transaction's desk, which has this geography.
+pub(crate) fn read_plans<D: SectorDevice>(
+    alloc: Global,
+    txn: &Txn,
+    pages: &mut Pages<D>,
+    geography: &Geography,
+) -> Result<Plans, TreeError>
+    requires begun { txn_pages txn.now ≡ count_of pages.old }
+    ensures quiet { IsQuiet pages.old pages.new }
+    ensures whole { IfOk result (AreWhole (Some geography.now)) }
+    ensures read { MatchResult result (λ plans. HasRead (ArePlans geography.now) (λ all. all) txn.now pages.old pages.new plans) (λ e. AppendErr (ArePlans geography.now) txn.now pages.old pages.new e) }
+{
+    let Ok(cuts) = cuts(alloc, geography) else {
+        return Err(TreeError::Memory);
+    };
+    let mut names = Vec::new(alloc);
+    let mut plans = Plans::new();
+    let prefix = Key::plans();
+    let mut scan = Scan::new(prefix.as_slice());
+    let mut row = Row::empty();
+    for taken in 0..row_limit(txn) {
+        if !scan.next(txn, pages, &mut row) {
+            match scan.fault() {
+                None => return Ok(plans),
+                Some(fault) => return Err(fault),
+            }
+        }
+        plans = add_row(
+            alloc,
+            txn,
+            pages,
+            geography,
+            cuts.as_slice(),
+            &mut names,
+            &plans,
+            &row,
+        )?;
+    }
+    Err(TreeError::DeviceFault)
+}

@@ -1,0 +1,38 @@
+-- Pages that no fault has stopped, and what a transaction leaves of them.
+use Rattle.std.proofs.Common.{◌≡◌, ◌+◌, ℕ, Result, Ok, Err, OnOk, false}
+use Rattle.sector_device.specs.Disk.{Image}
+use Rattle.sector_device.specs.declared.SectorDevice.{Ghosts}
+use Rattle.gate_journal.specs.Store.{home}
+use Rattle.gate_journal.proofs.Commit.{settled_opens}
+use Rattle.page_store.specs.Transactions.{stored, disk_in, count_of, journal_of, has_halted, IsKept}
+use Rattle.page_store.specs.declared.pages.Pages.{Pages}
+use Rattle.page_store.specs.declared.txn.Txn.{Txn}
+use Rattle.page_store.specs.declared.txn.Prepared.{Prepared}
+use Rattle.page_btree.specs.Map.{InTxn as TxnHolds, InPages as PagesHold}
+use Rattle.desk_model.specs.Desk.{Desk}
+use Rattle.store_rows.specs.Rows.{KeyMap}
+use Rattle.desk_pages.specs.Commits.{HoldsAfter}
+use Rattle.desk_pages.specs.Desks.{InPages, OpensDesk}
+use Rattle.desk_pages.proofs.Committed.{pages_sound}
+
+module _ {D : Type 0} {g : Ghosts D} where
+  -- each image that a stop now leaves stands for them
+  pub kept_working : (ps : Pages D g) → has_halted ps ≡ false → (disk_in ps).is_honest → IsKept ps
+  kept_working ps working honest = settled_opens (journal_of ps) (count_of ps) (disk_in ps) (ps.journal.settled working honest)
+
+  -- so it opens to the desk that they hold
+  pub opens_now : (ps : Pages D g) → has_halted ps ≡ false → (disk_in ps).is_honest → (sectors : ℕ) (d : Desk) → home (journal_of ps) + count_of ps ≡ sectors → InPages ps d → (c : Image) → (disk_in ps).leaves c → OpensDesk sectors d c
+  opens_now ps working honest sectors d whole holds c left = record {
+    J = journal_of ps;
+    n = count_of ps;
+    P = stored ps;
+    whole = whole;
+    opens = kept_working ps working honest c left;
+    holds = holds;
+    sound = pages_sound ps working honest holds.holds.free_are;
+  }
+
+  pub rows_after : {E : Type 0} (t : Txn) (made : Prepared) (old new : Pages D g) (r : Result (Unit {0}) E) → ((P : Image) (m : KeyMap) → TxnHolds t P m → HoldsAfter made P m) → OnOk r ((next : KeyMap) → HoldsAfter made (stored old) next → PagesHold new next)
+      → OnOk r ((m : KeyMap) → TxnHolds t (stored old) m → PagesHold new m)
+  rows_after t made old new (Err e) after held = tt
+  rows_after t made old new (Ok x) after held = λ m holds. held m (after (stored old) m holds)

@@ -1,0 +1,96 @@
+-- What the rows of a load make of a map that is a desk's.
+use Rattle.std.proofs.Common.{◌≡◌, ◌<◌, ◌≤◌, ◌+◌, ◌-◌, ◌^◌, ℕ, List, [], length, Option, Some, None, refl, sym, ap, subst, ◌∙◌, inl, inr, arith}
+use Rattle.std.proofs.lemmas.Bool.{cases_lt}
+use Rattle.desk_model.specs.Geography.{Ground, IsGround}
+use Rattle.desk_model.specs.Desk.{Desk}
+use Rattle.store_keys.specs.Keys.{begun, seal}
+use Rattle.store_keys.specs.Values.{seal_bytes}
+use Rattle.store_keys.specs.declared.value.Counters.{Counters}
+use Rattle.store_keys.specs.declared.value.SealRow.{SealRow}
+use Rattle.store_rows.specs.Rows.{KeyMap, Has, Lacks}
+use Rattle.store_rows.specs.Puts.{Row, put_rows}
+use Rattle.store_rows.specs.GeographyRows.{IsGeography, IsStaged, geography_rows}
+use Rattle.store_rows.specs.DeskRows.{IsDesk}
+use Rattle.store_rows.specs.Changes.{desk_with}
+use Rattle.store_rows.specs.Staging.{desk_without}
+use Rattle.store_rows.specs.Steps.{IsLoadKey}
+use Rattle.store_rows.specs.Tidy.{IsNext, CountersFit, Tidy}
+use Rattle.store_rows.proofs.TidyFree.{one_next}
+use Rattle.store_rows.proofs.TidyLoads.{begun_tidy, begun_unstaged, sealed_tidy, staged_tidy}
+use Rattle.store_rows.proofs.PutAll.{told_all}
+use Rattle.geo_tables.specs.Rows.{begun_rows, staged_row, staged_rows}
+use Rattle.geo_tables.specs.Loads.{sealed_rows}
+use Rattle.geo_tables.specs.LoadRows.{begun_desk, batch_tag, batch_unseen, sealed_desk}
+use Rattle.geo_tables.specs.Staging.{is_block, is_pair}
+use Rattle.desk_pages.specs.Desks.{IsDeskMap}
+
+-- ---- what a desk's map says of the seal
+sealed_or_not : (m : KeyMap) (o : Option Ground) → IsGeography m o → Lacks m seal → o ≡ None
+sealed_or_not m None is none = refl
+sealed_or_not m (Some g) is none = let clash : ◌≡◌ {A = Option (List ℕ)} None (Some (seal_bytes (record { load = is.0; blocks = length g.blocks; pairs = length g.pairs }))) = sym none ∙ is.1.named in absurd (cc)
+
+pub no_geography : (m : KeyMap) (d : Desk) → IsDesk m d → Lacks m seal → d.geography ≡ None
+no_geography m d is none = sealed_or_not m d.geography is.geography none
+
+some_sealed : (m : KeyMap) (o : Option Ground) (value : List ℕ) → IsGeography m o → Has m seal value → (g : Ground) × (o ≡ Some g)
+some_sealed m None value is has = let clash : ◌≡◌ {A = Option (List ℕ)} None (Some value) = sym is ∙ has in absurd (cc)
+some_sealed m (Some g) value is has = (g, refl)
+
+pub has_geography : (m : KeyMap) (d : Desk) (value : List ℕ) → IsDesk m d → Has m seal value → (g : Ground) × (d.geography ≡ Some g)
+has_geography m d value is has = some_sealed m d.geography value is.geography has
+
+pub without : (d : Desk) → d.geography ≡ None → d ≡ desk_without d.plans
+without d none = λ i. record { geography = none i; plans = d.plans }
+
+-- a desk without a geography, whose rows change unseen
+unseen : (m n : KeyMap) (d : Desk) → IsDesk m d → Lacks m seal → (IsDesk m (desk_without d.plans) → IsDesk n (desk_without d.plans)) → IsDesk n d
+unseen m n d is none go =
+    let same = without d (no_geography m d is none) in
+    subst (λ (e : Desk). IsDesk n e) (sym same) (go (subst (λ (e : Desk). IsDesk m e) same is))
+
+-- ---- a load is begun
+pub begun_is : (m : KeyMap) (d : Desk) (next : Counters) → IsDeskMap m d → IsNext m next → CountersFit next → next.load + 1 < 2 ^ 64 → IsDeskMap (put_rows m (begun_rows next)) d
+begun_is m d next is is_next fits more =
+    let same : next ≡ is.tidy.next = one_next m next is.tidy.next fits is.tidy.fits is_next is.tidy.is_next in
+    record {
+      desk = begun_desk m next d is.desk;
+      tidy = subst (λ (c : Counters). Tidy (put_rows m (begun_rows c))) (sym same) (begun_tidy m is.tidy (subst (λ (c : Counters). c.load + 1 < 2 ^ 64) same more)).0;
+      limits = is.limits;
+    }
+
+pub begun_none : (m : KeyMap) (d : Desk) (next : Counters) (g : Ground) → IsDeskMap m d → IsNext m next → CountersFit next → next.load + 1 < 2 ^ 64 → IsStaged (put_rows m (begun_rows next)) next.load g 0
+begun_none m d next g is is_next fits more =
+    let same : next ≡ is.tidy.next = one_next m next is.tidy.next fits is.tidy.fits is_next is.tidy.is_next in
+    subst (λ (c : Counters). IsStaged (put_rows m (begun_rows c)) c.load g 0) (sym same) (begun_unstaged m is.tidy g)
+
+-- ---- a batch
+load_key : (load : ℕ) (g : Ground) (place : ℕ) → length g.blocks ≤ 2 ^ 32 → length g.pairs ≤ 2 ^ 32 → place < geography_rows g → IsLoadKey load (staged_row load g place).0
+load_key load g place blocks_few pairs_few within = elim (cases_lt place (length g.blocks)) [
+  | inl less ↦ inl (place, omega arith, ap (λ (r : Row). r.0) (is_block load g place less))
+  | inr more ↦ inr (place - length g.blocks, omega arith, ap (λ (r : Row). r.0) (is_pair load g place more))
+]
+
+module _ (m : KeyMap) (d : Desk) (load : ℕ) (g : Ground) (done rows : ℕ) (is : IsDeskMap m d) (mark : Has m (begun load) []) (unsealed : Lacks m seal) where
+  pub batch_is : load < 2 ^ 64 → length g.blocks ≤ 2 ^ 32 → length g.pairs ≤ 2 ^ 32 → done + rows ≤ geography_rows g → IsDeskMap (put_rows m (staged_rows load g done rows)) d
+  batch_is load_fits blocks_few pairs_few within = record {
+    desk = unseen m (put_rows m (staged_rows load g done rows)) d is.desk unsealed (batch_unseen m load g done rows d.plans);
+    tidy = (staged_tidy m is.tidy load (staged_rows load g done rows) load_fits (inr mark)
+        (told_all (λ row. IsLoadKey load row.0) (λ k. staged_row load g (done + k)) rows (λ k less. load_key load g (done + k) blocks_few pairs_few (omega arith)))).0;
+    limits = is.limits;
+  }
+
+  pub batch_mark : Has (put_rows m (staged_rows load g done rows)) (begun load) []
+  batch_mark = batch_tag m load g done rows 76 (λ same. absurd (omega arith)) _ ∙ mark
+
+  pub batch_unsealed : Lacks (put_rows m (staged_rows load g done rows)) seal
+  batch_unsealed = batch_tag m load g done rows 83 (λ same. absurd (omega arith)) [] ∙ unsealed
+
+-- ---- the seal
+pub seal_is : (m : KeyMap) (d : Desk) (load : ℕ) (g : Ground) → IsDeskMap m d → IsStaged m load g (geography_rows g) → Has m (begun load) [] → Lacks m seal → IsGround g → load < 2 ^ 64 → length g.pairs < 2 ^ 32 → IsDeskMap (sealed_rows load g m) (desk_with g d.plans)
+seal_is m d load g is staged mark unsealed sound load_fits pairs_fit =
+    let s : SealRow = record { load = load; blocks = length g.blocks; pairs = length g.pairs } in
+    record {
+      desk = sealed_desk m load g d.plans staged sound load_fits pairs_fit (subst (λ (e : Desk). IsDesk m e) (without d (no_geography m d is.desk unsealed)) is.desk);
+      tidy = (sealed_tidy m is.tidy s load_fits unsealed mark).0;
+      limits = record { few = is.limits.few; sizes = is.limits.sizes };
+    }

@@ -1,0 +1,4 @@
+pub mod Errors
+pub mod Loading
+pub mod Refusals
+pub mod Starting

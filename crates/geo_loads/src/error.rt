@@ -1,0 +1,35 @@
+//! Why a load goes no further.
+use row_table::TreeError;
+
+/// Why a load goes no further.
+#[derive(Clone, Copy, Debug, Drop, PartialEq, Eq)]
+pub enum LoadError {
+    /// A geography is sealed.
+    AlreadySealed,
+    /// The store has too few free pages or journal pages, no number is left for a load, the tree would be deeper than six
+    /// levels, or the geography has more pairs than a store can number. Nothing changed.
+    Full,
+    /// A growth was refused. Nothing changed.
+    Memory,
+    /// The device failed, or it holds what no store has. The pages answer `Halted` from a failure on.
+    DeviceFault,
+    /// The device failed since the pages were opened. Nothing changed.
+    Halted,
+}
+
+impl From<TreeError> for LoadError {
+    ghost use Rattle.std.specs.Prelude.{◌≡◌};
+    ghost use Rattle.geo_loads.specs.Errors.{tree_told};
+
+    ghost from_gives = { λ t e. e ≡ tree_told t };
+
+    fn from(error: TreeError) -> Self {
+        match error {
+            TreeError::DeviceFault => LoadError::DeviceFault,
+            TreeError::Halted => LoadError::Halted,
+            TreeError::NoPages => LoadError::Full,
+            TreeError::TooDeep => LoadError::Full,
+            TreeError::Memory => LoadError::Memory,
+        }
+    }
+}

@@ -1,0 +1,7 @@
+use Rattle.std.proofs.Common.{◌≡◌, ◌++◌, drop}
+use Rattle.http_desk.specs.Bodies.{plans_body}
+use Rattle.http_desk.proofs.BodyLemmas.{rest_of}
+use Rattle.http_desk.proofs.body.put_plans.Given as goal
+
+abbrev pub invariant-loop-row : goal.invariant-loop-row
+invariant-loop-row l = l.text.items ++ rest_of l.is_later (drop l.row-index l.rows) ≡ plans_body l.rows

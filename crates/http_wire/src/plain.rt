@@ -1,0 +1,53 @@
+//! Requests that are answered without a copy of them.
+ghost use Rattle.std.specs.Prelude.{◌≡◌, ◌<◌, ◌≤◌, length, true, Some, None, IfSome};
+ghost use Rattle.httparse.specs.Spans.{span_bytes, IsWithin};
+ghost use Rattle.http_target.specs.Target.{target_of};
+ghost use Rattle.http_wire.specs.declared.head.Framing.TheVariants.{Sized};
+ghost use Rattle.http_wire.specs.Plain.{IsPlain};
+
+use crate::head::Framing;
+use crate::look::{Head, look_at};
+use crate::room::HeadRoom;
+use http_chunks::law::chunk_law;
+use http_intake::inbox::Inbox;
+use http_intake::sought::Seen;
+
+/// Whether the head has just this method and this target, and no body.
+fn is_plain(bytes: &[u8], head: Head, method: &[u8], target: &[u8]) -> bool
+    requires method { IsWithin (length bytes.now) head.method }
+    requires target { IsWithin (length bytes.now) head.target }
+    ensures method { result ≡ true → span_bytes bytes.now head.method ≡ method.now }
+    ensures target { result ≡ true → span_bytes bytes.now head.target ≡ target.now }
+    ensures empty { result ≡ true → head.framing ≡ Sized 0 }
+{
+    match head.framing {
+        Framing::Sized(0) => head.method.of(bytes) == method && head.target.of(bytes) == target,
+        _ => false,
+    }
+}
+
+/// Takes the next request where it has come whole, with just this method and this target and without a body, and tells
+/// whether its answer closes. `None` where it is none of these, or not there yet: then nothing is taken, and `take_request`
+/// goes on.
+pub fn take_plain(
+    inbox: &mut Inbox,
+    room: &mut HeadRoom,
+    method: &[u8],
+    target: &[u8],
+) -> Option<bool>
+    requires { target_of target.now ≡ Some target.now }
+    ensures taken { IfSome result (λ closes. IsPlain inbox.old method.now target.now closes inbox.new) }
+    ensures less { IfSome result (λ _. length inbox.new < length inbox.old) }
+    ensures none { result ≡ None → inbox.new ≡ inbox.old }
+{
+    chunk_law();
+    let bytes = inbox.as_slice();
+    let Seen::Found(head) = look_at(bytes, &mut room.headers) else {
+        return None;
+    };
+    if !is_plain(bytes, head, method, target) {
+        return None;
+    }
+    inbox.consume(head.len);
+    Some(head.closes)
+}

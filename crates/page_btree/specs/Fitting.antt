@@ -1,0 +1,47 @@
+-- What a put needs that edits a leaf alone.
+use Rattle.std.specs.Prelude.{◌≡◌, ◌⊎◌, ◌<◌, ℕ, Bool, List, [], true, is_some}
+use Rattle.std.specs.FinMap.{find, put}
+use Rattle.sector_device.specs.Disk.{Image}
+use Rattle.sector_device.specs.declared.SectorDevice.{Ghosts}
+use Rattle.page_store.specs.Transactions.{stored, disk_in, has_halted, HasFailed, txn_pages, txn_root, txn_free, txn_writes, over, free_over}
+use Rattle.page_store.specs.Chain.{IsIn}
+use Rattle.page_store.specs.declared.pages.Pages.{Pages}
+use Rattle.page_store.specs.declared.txn.Txn.{Txn}
+use Rattle.page_node.specs.Entries.{Entry}
+use Rattle.page_node.specs.Node.{Node, IsNode}
+use Rattle.page_node.specs.Places.{key_cmp, Rises}
+use Rattle.page_btree.specs.Putting.{CanPutSome, IsWhole}
+use Rattle.page_btree.specs.declared.error.TreeError.{TreeError}
+use Rattle.page_btree.specs.declared.error.TreeError.TheVariants.{DeviceFault, Halted, NoPages, TooDeep, Memory}
+
+-- a leaf without rows, where a node says nothing
+abbrev pub nothing : Node
+nothing = record { level = 0; entries = [] }
+
+-- a tree stands at the page that has a place for the key, and above the leaves the bytes are the page's
+abbrev pub CanFit : ℕ → (Image → Image) → ℕ → (Image → List ℕ) → ℕ → List ℕ → List ℕ → Image → Type 0
+CanFit n over_it d free_in_it page bytes key P = CanPutSome n over_it d free_in_it page (over_it P page) key P × (0 < d → bytes ≡ over_it P page)
+
+-- what a transaction reads, takes and writes is the same
+pub record IsAlike (old new : Txn) : Type 0 where
+  pub pages : txn_pages new ≡ txn_pages old
+  pub root : txn_root new ≡ txn_root old
+  pub free : txn_free new ≡ txn_free old
+  pub writes : txn_writes new ≡ txn_writes old
+  pub over_is : (P : Image) → over new P ≡ over old P
+  pub free_is : (P : Image) → free_over new P ≡ free_over old P
+
+-- a row was put into the leaf at a page, where there is one
+abbrev pub IsLeafPut : Txn → Txn → Image → ℕ → List ℕ → List ℕ → Bool → Type 0
+IsLeafPut old new S page key value had =
+    (es : List Entry) → IsNode (over old S page) (record { level = 0; entries = es }) → Rises es → (IsIn page (free_over old S) → ⊥)
+    → (had ≡ is_some (find key_cmp key es)) × IsWhole (over old S) (over new S) (free_over old S) (free_over new S) page (record { level = 0; entries = put key_cmp key value es })
+
+module _ {D : Type 0} {g : Ghosts D} where
+  -- why a row isn't put into the leaf at a page
+  abbrev pub LeafErr : ℕ → Txn → Pages D g → Pages D g → TreeError → Type 0
+  LeafErr page t old new DeviceFault = HasFailed old new ⊎ ((disk_in new).is_honest → (es : List Entry) → IsNode (over t (stored old) page) (record { level = 0; entries = es }) → Rises es → ⊥)
+  LeafErr page t old new Halted = has_halted old ≡ true
+  LeafErr page t old new NoPages = ⊥
+  LeafErr page t old new TooDeep = ⊥
+  LeafErr page t old new Memory = Unit {0}

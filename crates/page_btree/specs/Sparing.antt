@@ -1,0 +1,29 @@
+-- What a remove needs that edits a leaf alone.
+use Rattle.std.specs.Prelude.{◌≡◌, ◌≢◌, ◌<◌, ℕ, Bool, true, false, List, length, remove, None}
+use Rattle.std.specs.FinMap.{find}
+use Rattle.sector_device.specs.Disk.{Image}
+use Rattle.page_store.specs.Chain.{IsIn}
+use Rattle.page_store.specs.Transactions.{over, free_over}
+use Rattle.page_store.specs.declared.txn.Txn.{Txn}
+use Rattle.page_node.specs.Entries.{Entry}
+use Rattle.page_node.specs.Node.{IsNode}
+use Rattle.page_node.specs.Places.{key_cmp, Rises, IsFound}
+use Rattle.page_btree.specs.Removing.{CanRemove}
+use Rattle.page_btree.specs.declared.removes.Removed.{Removed}
+use Rattle.page_btree.specs.declared.removes.Removed.TheVariants.{Absent, Kept}
+
+-- the key can be removed below the page, and above the leaves the bytes are the page's
+abbrev pub CanTake : ℕ → (Image → Image) → (Image → List ℕ) → ℕ → ℕ → List ℕ → List ℕ → Image → Type 0
+CanTake n over_it free_in_it d page bytes key P = CanRemove n (over_it P) (free_in_it P) d key page × (0 < d → bytes ≡ over_it P page)
+
+abbrev pub did_take : Bool → Removed
+did_take true = Kept
+did_take false = Absent
+
+-- a row was taken out of the leaf at a page, where there is one, or its key isn't there
+abbrev pub TakesRow : Txn → Txn → Image → ℕ → List ℕ → List Entry → Bool → Type 0
+TakesRow old new S page key es true = (i : ℕ) × IsFound key es i × (0 < length (remove es i)) × IsNode (over new S page) (record { level = 0; entries = remove es i }) × ((q : ℕ) → q ≢ page → over new S q ≡ over old S q) × ((IsIn page (free_over old S) → ⊥) → free_over new S ≡ free_over old S)
+TakesRow old new S page key es false = find key_cmp key es ≡ None
+
+abbrev pub IsLeafTaken : Txn → Txn → Image → ℕ → List ℕ → Bool → Type 0
+IsLeafTaken old new S page key had = (es : List Entry) → IsNode (over old S page) (record { level = 0; entries = es }) → Rises es → TakesRow old new S page key es had

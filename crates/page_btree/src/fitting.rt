@@ -1,0 +1,236 @@
+//! Puts a row, where its leaf has room by an edit of the leaf alone.
+ghost use Rattle.std.specs.Prelude.{◌≡◌, ◌≤◌, ◌<◌, ◌+◌, ◌-◌, ◌^◌, ℕ, List, length, Option, Some, None, OnOk, OnErr, IfOk, IfErr, IfSome, IfNone, MatchResult};
+ghost use Rattle.std.specs.Option.{option_map};
+ghost use Rattle.std.specs.FinMap.{get, insert, contains_key};
+ghost use Rattle.sector_device.specs.Disk.{Image};
+ghost use Rattle.page_store.specs.Transactions.{stored, disk_in, count_of, txn_pages, txn_root, txn_free, txn_writes, over, free_over, IsQuiet, Passed};
+ghost use Rattle.page_node.specs.Entries.{Entry, child_in};
+ghost use Rattle.page_node.specs.Node.{Node, IsNode};
+ghost use Rattle.page_node.specs.Places.{Rises, floor};
+ghost use Rattle.page_btree.specs.Keys.{KeyMap, IsKey};
+ghost use Rattle.page_btree.specs.Tree.{Tree};
+ghost use Rattle.page_btree.specs.Map.{InTxn};
+ghost use Rattle.page_btree.specs.Errors.{PutErr, PlaceErr, StepErr, IsNoWant};
+ghost use Rattle.page_btree.specs.Putting.{CanPut, IsRaised};
+ghost use Rattle.page_btree.specs.Fitting.{CanFit, IsAlike, IsLeafPut, LeafErr, nothing};
+ghost use Rattle.page_btree.specs.declared.error.TreeError.TheVariants.{NoPages, TooDeep};
+
+use crate::error::TreeError;
+use crate::gets::read_level;
+use crate::puts::put_cutting;
+use page_node::{NotANode, child_for, level_of, put_row};
+use page_store::{Pages, Txn};
+use sector_device::SectorDevice;
+
+/// Puts a row, and tells whether its key was there. A key has 1 to 72 bytes, a value at most 1,024. At most 11 pages are written
+/// and 6 taken; none is taken where a value of the same length is replaced. After an error the transaction can only be
+/// abandoned: `NoPages` comes where fewer than six pages were free and none is left, `TooDeep` where the tree has six
+/// levels and a node of each was cut, `Memory` from a growth of the transaction, `DeviceFault` and `Halted` from the device.
+pub fn put<D: SectorDevice>(
+    txn: &mut Txn,
+    pages: &mut Pages<D>,
+    key: &[u8],
+    value: &[u8],
+) -> Result<bool, TreeError>
+    requires begun { txn_pages txn.old ≡ count_of pages.old }
+    requires key { IsKey key.now }
+    requires value { length value.now ≤ 1024 }
+    ensures quiet { IsQuiet pages.old pages.new }
+    ensures pages { txn_pages txn.new ≡ txn_pages txn.old }
+    ensures put { (disk_in pages.new).is_honest → (m : KeyMap) → InTxn txn.old (stored pages.old) m → IfOk result (λ had. InTxn txn.new (stored pages.old) (insert m key.now value.now) × (had ≡ contains_key m key.now)) }
+    ensures writes { OnOk result (txn_writes txn.new ≤ txn_writes txn.old + 11) }
+    ensures taken { OnOk result (txn_free txn.old ≤ txn_free txn.new + 6) }
+    ensures fixed { (disk_in pages.new).is_honest → (m : KeyMap) (held : List ℕ) → InTxn txn.old (stored pages.old) m → get m key.now ≡ Some held → length held ≡ length value.now → MatchResult result (λ _. txn_free txn.new ≡ txn_free txn.old) (λ e. IsNoWant e) }
+    ensures passed { OnOk result (Passed pages.old pages.new) }
+    ensures spent { IfErr result (λ e. e ≡ NoPages → txn_free txn.new ≡ 0) }
+    ensures deep { IfErr result (λ e. e ≡ TooDeep → txn_free txn.old ≡ txn_free txn.new + 6) }
+    ensures err { IfErr result (λ e. PutErr txn.old pages.old pages.new e) }
+{
+    match put_fitting(txn, pages, key, value)? {
+        Some(had) => Ok(had),
+        None => put_cutting(txn, pages, key, value),
+    }
+}
+
+/// Puts a row where its leaf has room, and tells whether its key was there. Else the transaction stays as it is.
+fn put_fitting<D: SectorDevice>(
+    txn: &mut Txn,
+    pages: &mut Pages<D>,
+    key: &[u8],
+    value: &[u8],
+) -> Result<Option<bool>, TreeError>
+    requires begun { txn_pages txn.old ≡ count_of pages.old }
+    requires key { length key.now ≤ 72 }
+    requires value { length value.now ≤ 1024 }
+    ensures quiet { IsQuiet pages.old pages.new }
+    ensures pages { txn_pages txn.new ≡ txn_pages txn.old }
+    ensures put { (disk_in pages.new).is_honest → (m : KeyMap) → InTxn txn.old (stored pages.old) m → IfOk result (λ did. IfSome did (λ had. InTxn txn.new (stored pages.old) (insert m key.now value.now) × (had ≡ contains_key m key.now))) }
+    ensures kept { IfOk result (λ did. did ≡ None → IsAlike txn.old txn.new) }
+    ensures writes { OnOk result (txn_writes txn.new ≤ txn_writes txn.old + 1) }
+    ensures free { txn_free txn.new ≡ txn_free txn.old }
+    ensures passed { OnOk result (Passed pages.old pages.new) }
+    ensures err { IfErr result (λ e. PutErr txn.old pages.old pages.new e × IsNoWant e) }
+{
+    let root = txn.root();
+    if root == 0 {
+        return Ok(None);
+    }
+    let mut page = [0; 4096];
+    txn.read(pages, root, &mut page)?;
+    let level = level_of(&page);
+    if level > 5 {
+        return Err(TreeError::DeviceFault);
+    }
+    put_below(txn, pages, &mut page, root, level, key, value)
+}
+
+/// Puts a row below a page where its leaf has room. The bytes are those of the page, which is one of a node of this level;
+/// those of a leaf aren't looked at.
+fn put_below<D: SectorDevice>(
+    txn: &mut Txn,
+    pages: &mut Pages<D>,
+    bytes: &mut [u8; 4096],
+    page: u32,
+    level: u8,
+    key: &[u8],
+    value: &[u8],
+) -> Result<Option<bool>, TreeError>
+    requires begun { txn_pages txn.old ≡ count_of pages.old }
+    requires page { page < txn_pages txn.old }
+    requires key { length key.now ≤ 72 }
+    requires value { length value.now ≤ 1024 }
+    ensures quiet { IsQuiet pages.old pages.new }
+    ensures pages { txn_pages txn.new ≡ txn_pages txn.old }
+    ensures root { txn_root txn.new ≡ txn_root txn.old }
+    ensures put { (disk_in pages.new).is_honest → (0 < level → bytes.old ≡ over txn.old (stored pages.old) page) → IfOk result (λ did. IfSome did (λ had. (low : List ℕ) (high : Option (List ℕ)) (t : Tree) → CanPut (txn_pages txn.old) (over txn.old (stored pages.old)) level low high (free_over txn.old (stored pages.old)) page (over txn.old (stored pages.old) page) key.now t → (k : List ℕ) → IsRaised (over txn.old (stored pages.old)) (over txn.new (stored pages.old)) level low high (free_over txn.old (stored pages.old)) (free_over txn.new (stored pages.old)) key.now value.now had k page t None nothing)) }
+    ensures kept { IfOk result (λ did. did ≡ None → IsAlike txn.old txn.new) }
+    ensures writes { OnOk result (txn_writes txn.new ≤ txn_writes txn.old + 1) }
+    ensures free { txn_free txn.new ≡ txn_free txn.old }
+    ensures passed { OnOk result (Passed pages.old pages.new) }
+    ensures err { IfErr result (λ e. PlaceErr level (CanFit (txn_pages txn.old) (over txn.old) level (free_over txn.old) page bytes.old key.now) txn.old pages.old pages.new e × IsNoWant e) }
+{
+    if level == 0 {
+        return put_leaf(txn, pages, bytes, page, key, value);
+    }
+    let child = step_to(txn, pages, bytes, level, key)?;
+    put_below(txn, pages, bytes, child, level - 1, key, value)
+}
+
+/// Reads the page of the child that a key belongs to in place of its node's, which is of a level, unless it is a leaf's, and
+/// tells the child's page.
+pub(crate) fn step_to<D: SectorDevice>(
+    txn: &Txn,
+    pages: &mut Pages<D>,
+    bytes: &mut [u8; 4096],
+    level: u8,
+    key: &[u8],
+) -> Result<u32, TreeError>
+    requires begun { txn_pages txn.now ≡ count_of pages.old }
+    requires level { 0 < level }
+    ensures quiet { IsQuiet pages.old pages.new }
+    ensures passed { OnOk result (Passed pages.old pages.new) }
+    ensures below { IfOk result (λ child. child < txn_pages txn.now) }
+    ensures few { txn_pages txn.now ≤ 2 ^ 32 }
+    ensures told { IfOk result (λ child. (node : Node) → IsNode bytes.old node → option_map child_in (floor key.now node.entries) ≡ Some child) }
+    ensures reads { (disk_in pages.new).is_honest → IfOk result (λ child. 0 < level - 1 → bytes.new ≡ over txn.now (stored pages.old) child) }
+    ensures err { (page : ℕ) → IfErr result (λ e. StepErr (CanFit (txn_pages txn.now) (over txn.now) level (free_over txn.now) page bytes.old key.now) pages.old pages.new e) }
+{
+    let count = txn.page_count();
+    let child = child_for(bytes, key)?;
+    if child >= count {
+        return Err(TreeError::DeviceFault);
+    }
+    if level == 1 {
+        return Ok(child);
+    }
+    txn.read(pages, child, bytes)?;
+    if level_of(bytes) != level - 1 {
+        return Err(TreeError::DeviceFault);
+    }
+    Ok(child)
+}
+
+/// Puts a row into the leaf at a page where it has room: in its place where the transaction writes the page, and else in these
+/// bytes.
+fn put_leaf<D: SectorDevice>(
+    txn: &mut Txn,
+    pages: &mut Pages<D>,
+    bytes: &mut [u8; 4096],
+    page: u32,
+    key: &[u8],
+    value: &[u8],
+) -> Result<Option<bool>, TreeError>
+    requires begun { txn_pages txn.old ≡ count_of pages.old }
+    requires page { page < txn_pages txn.old }
+    requires key { length key.now ≤ 72 }
+    requires value { length value.now ≤ 1024 }
+    ensures quiet { IsQuiet pages.old pages.new }
+    ensures pages { txn_pages txn.new ≡ txn_pages txn.old }
+    ensures root { txn_root txn.new ≡ txn_root txn.old }
+    ensures put { (disk_in pages.new).is_honest → IfOk result (λ did. IfSome did (λ had. IsLeafPut txn.old txn.new (stored pages.old) page key.now value.now had)) }
+    ensures kept { IfOk result (λ did. did ≡ None → IsAlike txn.old txn.new) }
+    ensures writes { OnOk result (txn_writes txn.new ≤ txn_writes txn.old + 1) }
+    ensures free { txn_free txn.new ≡ txn_free txn.old }
+    ensures passed { OnOk result (Passed pages.old pages.new) }
+    ensures err { IfErr result (λ e. LeafErr page txn.old pages.old pages.new e) }
+{
+    match edit_leaf(txn, page, key, value) {
+        Some(Ok(did)) => Ok(did),
+        Some(Err(_)) => Err(TreeError::DeviceFault),
+        None => put_unwritten(txn, pages, bytes, page, key, value),
+    }
+}
+
+/// Puts a row into the leaf at a page in its place, if the transaction writes the page.
+fn edit_leaf(
+    txn: &mut Txn,
+    page: u32,
+    key: &[u8],
+    value: &[u8],
+) -> Option<Result<Option<bool>, NotANode>>
+    requires key { length key.now ≤ 72 }
+    requires value { length value.now ≤ 1024 }
+    ensures pages { txn_pages txn.new ≡ txn_pages txn.old }
+    ensures root { txn_root txn.new ≡ txn_root txn.old }
+    ensures free { txn_free txn.new ≡ txn_free txn.old }
+    ensures writes { txn_writes txn.new ≡ txn_writes txn.old }
+    ensures none { IfNone result (txn.new ≡ txn.old) }
+    ensures put { IfSome result (λ told. IfOk told (λ did. IfSome did (λ had. (S : Image) → IsLeafPut txn.old txn.new S page key.now value.now had))) }
+    ensures kept { IfSome result (λ told. IfOk told (λ did. did ≡ None → IsAlike txn.old txn.new)) }
+    ensures err { IfSome result (λ told. OnErr told ((S : Image) (es : List Entry) → IsNode (over txn.old S page) (record { level = 0; entries = es }) → Rises es → ⊥)) }
+{
+    txn.edit(page, |held| put_row(held, key, value))
+}
+
+/// Puts a row into the leaf at a page where it has room. It works in these bytes.
+fn put_unwritten<D: SectorDevice>(
+    txn: &mut Txn,
+    pages: &mut Pages<D>,
+    bytes: &mut [u8; 4096],
+    page: u32,
+    key: &[u8],
+    value: &[u8],
+) -> Result<Option<bool>, TreeError>
+    requires begun { txn_pages txn.old ≡ count_of pages.old }
+    requires page { page < txn_pages txn.old }
+    requires key { length key.now ≤ 72 }
+    requires value { length value.now ≤ 1024 }
+    ensures quiet { IsQuiet pages.old pages.new }
+    ensures pages { txn_pages txn.new ≡ txn_pages txn.old }
+    ensures root { txn_root txn.new ≡ txn_root txn.old }
+    ensures put { (disk_in pages.new).is_honest → IfOk result (λ did. IfSome did (λ had. IsLeafPut txn.old txn.new (stored pages.old) page key.now value.now had)) }
+    ensures kept { IfOk result (λ did. did ≡ None → IsAlike txn.old txn.new) }
+    ensures writes { OnOk result (txn_writes txn.new ≤ txn_writes txn.old + 1) }
+    ensures free { txn_free txn.new ≡ txn_free txn.old }
+    ensures passed { OnOk result (Passed pages.old pages.new) }
+    ensures err { IfErr result (λ e. LeafErr page txn.old pages.old pages.new e) }
+{
+    read_level(txn, pages, page, 0, bytes)?;
+    match put_row(bytes, key, value)? {
+        None => Ok(None),
+        Some(had) => {
+            txn.write(page, bytes)?;
+            Ok(Some(had))
+        }
+    }
+}

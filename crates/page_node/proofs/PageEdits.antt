@@ -1,0 +1,213 @@
+-- What the edits of a page leave.
+use Rattle.std.specs.Prelude.{insert, remove, Bool, true, false, cond, Option, Some, None, is_some, Result, Ok, Err, OnErr}
+use Rattle.std.specs.FinMap.{find, put}
+use Rattle.std.proofs.Common.{◌≡◌, ℕ, ◌+◌, ◌-◌, ◌*◌, ◌/◌, ◌%◌, ◌<◌, ◌≤◌, List, [], ◌∷◌, ◌++◌, length, take, drop, get_or, set, refl, sym, ap, subst, ◌∙◌, arith, suc, length-append}
+use Rattle.std.specs.List.{All, copy_within}
+use Rattle.std.proofs.lemmas.List.{length-take-le, length-drop, append-nil, set_split}
+use Rattle.std.proofs.lemmas.List.Elements.{All-nil}
+use Rattle.std.proofs.Math.Seq.{take-add}
+use Rattle.page_node.specs.Entries.{Entry, IsEntry, entry_bytes, entry_size, body_of, size_of}
+use Rattle.page_node.specs.EntryLists.{size-parts}
+use Rattle.page_node.specs.Node.{Node, IsNode, count_in}
+use Rattle.page_node.specs.Places.{key_cmp, IsFound, IsGap}
+use Rattle.page_node.specs.Laws.{found_put, found_find, gap_put, gap_find}
+use Rattle.page_node.specs.Spots.{IsSpot, Becomes, IsRowPut}
+use Rattle.page_node.proofs.Standing.{edited, edited_bytes, size-edited, length-edited, All-edited, size-take_from, moved_is}
+use Rattle.page_node.proofs.Editing.{single}
+
+-- ---- the head of a page that says another count
+abbrev pub headed : List ℕ → ℕ → List ℕ
+headed page count = set (set page 2 (count / 256)) 3 (count % 256)
+
+behind_head : (page : List ℕ) (count : ℕ) → drop 4 (headed page count) ≡ drop 4 page
+behind_head [] count = refl
+behind_head (a ∷ []) count = refl
+behind_head (a ∷ b ∷ []) count = refl
+behind_head (a ∷ b ∷ c ∷ []) count = refl
+behind_head (a ∷ b ∷ c ∷ d ∷ page) count = refl
+
+level_headed : (page : List ℕ) (count : ℕ) → get_or (headed page count) 0 0 ≡ get_or page 0 0
+level_headed [] count = refl
+level_headed (a ∷ []) count = refl
+level_headed (a ∷ b ∷ []) count = refl
+level_headed (a ∷ b ∷ c ∷ []) count = refl
+level_headed (a ∷ b ∷ c ∷ d ∷ page) count = refl
+
+halves : (n : ℕ) → 256 * (n / 256) + n % 256 ≡ n
+halves n = omega arith
+
+count_headed : (page : List ℕ) (count : ℕ) → 4 ≤ length page → count_in (headed page count) ≡ count
+count_headed [] count long = absurd (omega arith)
+count_headed (a ∷ []) count long = absurd (omega arith)
+count_headed (a ∷ b ∷ []) count long = absurd (omega arith)
+count_headed (a ∷ b ∷ c ∷ []) count long = absurd (omega arith)
+count_headed (a ∷ b ∷ c ∷ d ∷ page) count long = halves count
+
+-- ---- the head of a page whose front stays
+first_stays : (page rest : List ℕ) (n : ℕ) → 4 ≤ length page → get_or (take (4 + n) page ++ rest) 0 0 ≡ get_or page 0 0
+first_stays [] rest n long = absurd (omega arith)
+first_stays (a ∷ page) rest n long = ap (λ l. get_or (l ++ rest) 0 0) (take-add 4 n (a ∷ page))
+
+count_stays : (page rest : List ℕ) (n : ℕ) → 4 ≤ length page → count_in (take (4 + n) page ++ rest) ≡ count_in page
+count_stays [] rest n long = absurd (omega arith)
+count_stays (a ∷ []) rest n long = absurd (omega arith)
+count_stays (a ∷ b ∷ []) rest n long = absurd (omega arith)
+count_stays (a ∷ b ∷ c ∷ []) rest n long = absurd (omega arith)
+count_stays (a ∷ b ∷ c ∷ d ∷ page) rest n long = ap (λ l. count_in (l ++ rest)) (take-add 4 n (a ∷ b ∷ c ∷ d ∷ page))
+
+front_long : (page rest : List ℕ) (n : ℕ) → 4 ≤ length page → 4 ≤ length (take (4 + n) page ++ rest)
+front_long [] rest n long = absurd (omega arith)
+front_long (a ∷ []) rest n long = absurd (omega arith)
+front_long (a ∷ b ∷ []) rest n long = absurd (omega arith)
+front_long (a ∷ b ∷ c ∷ []) rest n long = absurd (omega arith)
+front_long (a ∷ b ∷ c ∷ d ∷ page) rest n long =
+    let m = ap length (take-add 4 n (a ∷ b ∷ c ∷ d ∷ page)) in
+    let e = length-append (take (4 + n) (a ∷ b ∷ c ∷ d ∷ page)) rest in
+    omega arith
+
+-- ---- entries from i up to j give way to others
+module _ (page : List ℕ) (node : Node) (is : IsNode page node) (long : length page ≡ 4096) (i j : ℕ) (mid : List Entry) (ordered : i ≤ j) (within : j ≤ length node.entries) (entries : All IsEntry mid) (children : 0 < node.level → All (λ e. length e.1 ≡ 4) mid) (fits : size_of (edited node.entries i j mid) ≤ 4092) where
+  es : List Entry
+  es = node.entries
+
+  -- the bytes, where the head says what it should
+  edited_node : (new : List ℕ) (added tail : List ℕ) → added ≡ body_of mid → (made : List ℕ)
+      → made ≡ take (4 + size_of (take i node.entries)) page ++ (added ++ (take (size_of (drop j node.entries)) (drop (4 + size_of (take j node.entries)) page) ++ tail))
+      → drop 4 new ≡ drop 4 made → get_or new 0 0 ≡ get_or page 0 0 → count_in new ≡ length (edited node.entries i j mid)
+      → IsNode new (record node { entries = edited node.entries i j mid })
+  edited_node new added tail is_added made is_made behind level count = record {
+    level = level ∙ is.level;
+    count = count;
+    body = ap (take (size_of (edited node.entries i j mid))) behind ∙ edited_bytes node.entries page made i j mid added tail is.body (omega arith) is_added is_made;
+    shape = record {
+      level = is.shape.level;
+      entries = All-edited IsEntry node.entries i j mid is.shape.entries entries;
+      children = λ inner. All-edited (λ e. length e.1 ≡ 4) node.entries i j mid (is.shape.children inner) (children inner);
+    };
+    fits = fits;
+  }
+
+  -- with a new count
+  pub edited_counted : (added tail : List ℕ) → added ≡ body_of mid → (made : List ℕ) (count : ℕ)
+      → made ≡ take (4 + size_of (take i node.entries)) page ++ (added ++ (take (size_of (drop j node.entries)) (drop (4 + size_of (take j node.entries)) page) ++ tail))
+      → count ≡ length (edited node.entries i j mid)
+      → IsNode (headed made count) (record node { entries = edited node.entries i j mid })
+  edited_counted added tail is_added made count is_made is_count =
+      let rest : List ℕ = added ++ (take (size_of (drop j node.entries)) (drop (4 + size_of (take j node.entries)) page) ++ tail) in
+      let made_long : 4 ≤ length made = let P : List ℕ → Type 0 = λ l. 4 ≤ length l in subst P (sym is_made) (front_long page rest (size_of (take i node.entries)) (omega arith)) in
+      edited_node (headed made count) added tail is_added made is_made (behind_head made count)
+      (level_headed made count ∙ ap (λ l. get_or l 0 0) is_made ∙ first_stays page rest (size_of (take i node.entries)) (omega arith))
+      (count_headed made count made_long ∙ is_count)
+
+  -- with as many entries as before
+  pub edited_alike : (added tail : List ℕ) → added ≡ body_of mid → (made : List ℕ)
+      → made ≡ take (4 + size_of (take i node.entries)) page ++ (added ++ (take (size_of (drop j node.entries)) (drop (4 + size_of (take j node.entries)) page) ++ tail))
+      → length (edited node.entries i j mid) ≡ length node.entries
+      → IsNode made (record node { entries = edited node.entries i j mid })
+  edited_alike added tail is_added made is_made same =
+      let rest : List ℕ = added ++ (take (size_of (drop j node.entries)) (drop (4 + size_of (take j node.entries)) page) ++ tail) in
+      edited_node made added tail is_added made is_made refl
+      (ap (λ l. get_or l 0 0) is_made ∙ first_stays page rest (size_of (take i node.entries)) (omega arith))
+      (ap count_in is_made ∙ count_stays page rest (size_of (take i node.entries)) (omega arith) ∙ is.count ∙ sym same)
+
+-- ---- the three edits, as the page's calls make them
+module _ (page : List ℕ) (node : Node) (is : IsNode page node) (long : length page ≡ 4096) (i at used : ℕ) (at_is : at ≡ 4 + size_of (take i node.entries)) (used_is : used ≡ 4 + size_of node.entries) where
+  pub inserted_size : (e : Entry) → size_of (insert node.entries i e) ≡ size_of node.entries + entry_size e
+  inserted_size e = let size = size-edited node.entries i i (e ∷ []) in let parts = size-parts i node.entries in omega arith
+
+  pub inserted_node : (e : Entry) (made : List ℕ) (count : ℕ) → i ≤ length node.entries → IsEntry e → (0 < node.level → length e.1 ≡ 4) → used + entry_size e ≤ 4096
+      → made ≡ take at page ++ (entry_bytes e ++ (take (used - at) (drop at page) ++ drop (at + entry_size e + (used - at)) page))
+      → count ≡ length node.entries + 1
+      → IsNode (headed made count) (record node { entries = insert node.entries i e })
+  inserted_node e made count within entry child room is_made is_count =
+      let size = inserted_size e in
+      let n = length-edited node.entries i i (e ∷ []) within in
+      let parts = size-parts i node.entries in
+      let rest : used - at ≡ size_of (drop i node.entries) = omega arith in
+      edited_counted page node is long i i (e ∷ []) (omega arith) within (single IsEntry e entry) (λ inner. single (λ (f : Entry). length f.1 ≡ 4) e (child inner)) (omega arith)
+      (entry_bytes e) (drop (at + entry_size e + (used - at)) page) (sym (append-nil (entry_bytes e))) made count
+      (is_made ∙ (λ x. take (at_is x) page ++ (entry_bytes e ++ (take (rest x) (drop (at_is x) page) ++ drop (at + entry_size e + (used - at)) page))))
+      (omega arith)
+
+  module _ (end : ℕ) (end_is : end ≡ 4 + size_of (take (i + 1) node.entries)) (within : i < length node.entries) where
+    next : end ≡ 4 + size_of (take (suc i) node.entries)
+    next = let one : i + 1 ≡ suc i = omega arith in end_is ∙ ap (λ k. 4 + size_of (take k node.entries)) one
+
+    rest_is : used - end ≡ size_of (drop (suc i) node.entries)
+    rest_is = let e = next in let parts = size-parts (suc i) node.entries in omega arith
+
+    pub replaced_size : (e : Entry) → size_of (set node.entries i e) + (end - at) ≡ size_of node.entries + entry_size e
+    replaced_size e =
+        let size = size-edited node.entries i (suc i) (e ∷ []) in
+        let parts = size-parts (suc i) node.entries in
+        let less = size-take_from node.entries i (suc i) (omega arith) in
+        let there = next in
+        let same = ap size_of (set_split node.entries i e within) in
+        omega arith
+
+    pub replaced_node : (e : Entry) (made : List ℕ) → IsEntry e → (0 < node.level → length e.1 ≡ 4) → at + entry_size e + (used - end) ≤ 4096
+        → made ≡ take at page ++ (entry_bytes e ++ (take (used - end) (drop end page) ++ drop (at + entry_size e + (used - end)) page))
+        → IsNode made (record node { entries = set node.entries i e })
+    replaced_node e made entry child room is_made =
+        let size = size-edited node.entries i (suc i) (e ∷ []) in
+        let n = length-edited node.entries i (suc i) (e ∷ []) (omega arith) in
+        let there = next in
+        let rest = rest_is in
+        subst (λ l. IsNode made (record node { entries = l })) (sym (set_split node.entries i e within))
+        (edited_alike page node is long i (suc i) (e ∷ []) (omega arith) (omega arith) (single IsEntry e entry) (λ inner. single (λ (f : Entry). length f.1 ≡ 4) e (child inner)) (omega arith)
+        (entry_bytes e) (drop (at + entry_size e + (used - end)) page) (sym (append-nil (entry_bytes e))) made
+        (is_made ∙ (λ x. take (at_is x) page ++ (entry_bytes e ++ (take (rest x) (drop (there x) page) ++ drop (at + entry_size e + (used - end)) page))))
+        (omega arith))
+
+    pub removed_node : (made : List ℕ) (count : ℕ) → made ≡ copy_within page end used at → count + 1 ≡ length node.entries
+        → IsNode (headed made count) (record node { entries = remove node.entries i }) × (count ≡ length (remove node.entries i))
+    removed_node made count is_made is_count =
+        let size = size-edited node.entries i (suc i) [] in
+        let n = length-edited node.entries i (suc i) [] (omega arith) in
+        let less = size-take_from node.entries i (suc i) (omega arith) in
+        let parts = size-parts (suc i) node.entries in
+        let fits = is.fits in
+        let there = next in
+        let rest = rest_is in (
+          edited_counted page node is long i (suc i) [] (omega arith) (omega arith) (All-nil IsEntry) (λ inner. All-nil (λ (f : Entry). length f.1 ≡ 4)) (omega arith)
+              [] (drop (at + (used - end)) page) refl made count
+              (is_made ∙ moved_is page end used at ∙ (λ x. take (at_is x) page ++ (take (rest x) (drop (there x) page) ++ drop (at + (used - end)) page)))
+              (omega arith),
+          omega arith,
+        )
+
+-- ---- what a row's call tells
+pub refused : {T E : Type 0} (r : Result T E) (A : Type 0) → A → OnErr r A
+refused (Ok x) A h = tt
+refused (Err e) A h = h
+
+pub none_told : (fits had : Bool) (did : Option Bool) → did ≡ cond fits (Some had) None → did ≡ None → fits ≡ false
+none_told true had did is none = cc
+none_told false had did is none = refl
+
+module _ (old new key : List ℕ) (es : List Entry) where
+  put_told : (value : List ℕ) (had fits : Bool) → had ≡ is_some (find key_cmp key es) → Becomes old new (record { level = 0; entries = put key_cmp key value es }) fits → IsRowPut old new key value es (cond fits (Some had) None)
+  put_told value had true there becomes = (becomes, there)
+  put_told value had false there becomes = becomes
+
+  pub put_found : (value : List ℕ) (i at end : ℕ) (found fits : Bool) (did : Option Bool) → found ≡ true → IsSpot key es found i at end → Becomes old new (record { level = 0; entries = set es i (key, value) }) fits → did ≡ cond fits (Some true) None → IsRowPut old new key value es did
+  put_found value i at end found fits did is spot becomes told =
+      let P : Bool → Type 0 = λ b. IsSpot key es b i at end in
+      let here : IsFound key es i = (subst P is spot).0 in
+      let same : set es i (key, value) ≡ put key_cmp key value es = ap (λ k. set es i (k, value)) (sym here.here) ∙ sym (found_put key value es i here) in
+      subst (IsRowPut old new key value es) (sym told) (put_told value true fits (sym (ap is_some (found_find key es i here))) (subst (λ l. Becomes old new (record { level = 0; entries = l }) fits) same becomes))
+
+  pub put_gap : (value : List ℕ) (i at end : ℕ) (found fits : Bool) (did : Option Bool) → found ≡ false → IsSpot key es found i at end → Becomes old new (record { level = 0; entries = insert es i (key, value) }) fits → did ≡ cond fits (Some false) None → IsRowPut old new key value es did
+  put_gap value i at end found fits did is spot becomes told =
+      let P : Bool → Type 0 = λ b. IsSpot key es b i at end in
+      let gap : IsGap key es i = (subst P is spot).0 in
+      let same : insert es i (key, value) ≡ put key_cmp key value es = sym (gap_put key value es i gap) in
+      subst (IsRowPut old new key value es) (sym told) (put_told value false fits (sym (ap is_some (gap_find key es i gap))) (subst (λ l. Becomes old new (record { level = 0; entries = l }) fits) same becomes))
+
+-- a list of two or more has some without one
+pub some_left : (es : List Entry) (i : ℕ) → i < length es → 1 < length es → 0 < length (remove es i)
+some_left es i within many =
+    let a = length-append (take i es) (drop (suc i) es) in
+    let b = length-take-le i es (omega arith) in
+    let c = length-drop (suc i) es in
+    omega arith

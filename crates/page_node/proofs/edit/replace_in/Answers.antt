@@ -1,0 +1,21 @@
+use Rattle.std.proofs.Common.{refl, arith}
+use Rattle.page_node.proofs.PageEdits.{replaced_node, replaced_size}
+use Rattle.page_node.proofs.edit.replace_in.Goals as goal
+
+pub returns-then-at-key-gt4096-clause-replaced : goal.returns-then-at-key-gt4096-clause-replaced
+returns-then-at-key-gt4096-clause-replaced c = λ node is child within at_is end_is. (
+  refl,
+  λ fits.
+      let used_is = c.in_ok-used.ensures.end node is (omega arith) end_is in
+      let size = replaced_size c.args.page.now node is c.told-page c.args.index c.args.at c.in_ok-used.used at_is used_is c.args.end end_is within (c.args.key.now, c.args.value.now) in
+      let over = c.if-at-key-gt4096.true in
+      let order = c.requires.order in
+      let behind = c.in_ok-used.ensures.order.0 in
+      omega arith,
+)
+
+pub returns-clause-replaced : goal.returns-clause-replaced
+returns-clause-replaced c = λ node is child within at_is end_is.
+    let used_is = c.in_ok-used.ensures.end node is (omega arith) end_is in
+    let room = c.if-at-key-gt4096.false in
+    replaced_node c.args.page.now node is c.told-page c.args.index c.args.at c.in_ok-used.used at_is used_is c.args.end end_is within (c.args.key.now, c.args.value.now) c.splice.new.page (c.requires.key, c.requires.value) child (omega arith) c.splice.ensures

@@ -1,0 +1,33 @@
+-- Where a row stands in a page, and what the edits of a page do.
+use Rattle.std.specs.Prelude.{◌≡◌, ◌<◌, ◌+◌, ℕ, Bool, true, false, List, length, take, remove, Option, Some, None, is_some}
+use Rattle.std.specs.FinMap.{find, put}
+use Rattle.page_node.specs.Entries.{Entry, size_of}
+use Rattle.page_node.specs.Node.{Node, IsNode, Fits}
+use Rattle.page_node.specs.Places.{key_cmp, IsFound, IsGap}
+
+-- the key's entry begins and ends at these places and has so many before it, or it isn't there and would begin there
+abbrev pub IsSpot : List ℕ → List Entry → Bool → ℕ → ℕ → ℕ → Type 0
+IsSpot key es true i at end = IsFound key es i × (at ≡ 4 + size_of (take i es)) × (end ≡ 4 + size_of (take (i + 1) es))
+IsSpot key es false i at end = IsGap key es i × (at ≡ 4 + size_of (take i es)) × (end ≡ 4 + size_of (take i es))
+
+-- the page stands for the node then, or the node has no room and the page is as it was
+abbrev pub Becomes : List ℕ → List ℕ → Node → Bool → Type 0
+Becomes old new node true = IsNode new node
+Becomes old new node false = (new ≡ old) × (Fits node → ⊥)
+
+-- a row was put into a leaf, or has no room there and the page is as it was
+abbrev pub IsRowPut : List ℕ → List ℕ → List ℕ → List ℕ → List Entry → Option Bool → Type 0
+IsRowPut old new key value es (Some had) = IsNode new (record { level = 0; entries = put key_cmp key value es }) × (had ≡ is_some (find key_cmp key es))
+IsRowPut old new key value es None = (new ≡ old) × (Fits (record { level = 0; entries = put key_cmp key value es }) → ⊥)
+
+-- a row was taken out of a leaf, which has so many left, or its key isn't there and the page is as it was
+abbrev pub IsRowTaken : List ℕ → List ℕ → List ℕ → List Entry → Option ℕ → Type 0
+IsRowTaken old new key es None = (new ≡ old) × (find key_cmp key es ≡ None)
+IsRowTaken old new key es (Some left) = (i : ℕ) × IsFound key es i × IsNode new (record { level = 0; entries = remove es i }) × (left ≡ length (remove es i))
+
+-- a row was taken out of a leaf, which has others, or its key isn't there; or it is the only one. But for the first, the page is as
+-- it was
+abbrev pub IsSpareTaken : List ℕ → List ℕ → List ℕ → List Entry → Option Bool → Type 0
+IsSpareTaken old new key es (Some true) = (i : ℕ) × IsFound key es i × IsNode new (record { level = 0; entries = remove es i }) × (0 < length (remove es i))
+IsSpareTaken old new key es (Some false) = (new ≡ old) × (find key_cmp key es ≡ None)
+IsSpareTaken old new key es None = (new ≡ old) × (length es ≡ 1)

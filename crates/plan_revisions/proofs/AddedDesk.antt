@@ -1,0 +1,149 @@
+-- The rows of one revision more make the next desk.
+use Rattle.std.proofs.Common.{◌≡◌, ◌<◌, ◌+◌, ◌-◌, ◌^◌, ℕ, Bool, true, false, cond, List, [], ◌∷◌, ◌++◌, length, get_or, Option, Some, None, refl, sym, ap, subst, ◌∙◌, inl, inr, arith, append_assoc, length-append}
+use Rattle.std.specs.Prelude.{MatchOption}
+use Rattle.std.specs.FinMap.{get, insert}
+use Rattle.std.specs.List.{slice_get}
+use Rattle.std.proofs.lemmas.Option.{get_or_from_slice_get, slice_get_cases}
+use Rattle.desk_model.specs.Cuts.{cut, cuts_of, CutsAreCounties, ListsAreCut, sizes}
+use Rattle.desk_model.specs.Desk.{Plan, Desk}
+use Rattle.desk_model.specs.Geography.{Ground}
+use Rattle.desk_model.specs.Room.{changed, last_revision, revision_rows}
+use Rattle.store_keys.specs.Values.{counters_bytes}
+use Rattle.store_keys.specs.declared.value.Counters.{Counters}
+use Rattle.store_keys.specs.declared.value.PlanRow.{PlanRow}
+use Rattle.store_rows.specs.Rows.{KeyMap, SameTag}
+use Rattle.store_rows.specs.Puts.{Row, put_rows, put_rows-append}
+use Rattle.store_rows.specs.ChunkRows.{chunk_rows}
+use Rattle.store_rows.specs.NameRows.{name_rows, names_keep_tag, chunks_keep_tag}
+use Rattle.store_rows.specs.RevisionRows.{HasRevision}
+use Rattle.store_rows.specs.DeskRows.{HasPlan}
+use Rattle.store_rows.specs.Changes.{plan_row_of, with_revision}
+use Rattle.store_rows.specs.Draws.{ChangesAreDrawn, FirstsAreDrawn, RowsAreCounted}
+use Rattle.store_rows.specs.RevisionSteps.{AreKept, IsDrawn, new_chunk_rows, rows_of_revision}
+use Rattle.store_rows.specs.Tidy.{IsNext, CountersFit, no_numbers}
+use Rattle.store_rows.specs.TidyLaws.{ChunksAreKept, NextIsOne, RevisionsMakeDesks}
+use Rattle.plan_table.specs.PlanRows.{revised_rows}
+use Rattle.plan_table.specs.Laws.{PlansAreTold}
+use Rattle.desk_pages.specs.Desks.{IsDeskMap}
+use Rattle.plan_revisions.specs.Plans.{TakesRevision, with_next, with_next_of}
+use Rattle.plan_revisions.specs.Counties.{drawn}
+use Rattle.plan_revisions.specs.Adding.{AreRead, front_rows}
+use Rattle.plan_revisions.specs.Laws.{CanAdd, StaysNext, first_rows, all_rows}
+use Rattle.plan_revisions.proofs.Limits.{with_another}
+use Rattle.plan_revisions.proofs.Desks.{is_with, is_still, numbers_are}
+use Rattle.plan_revisions.proofs.LastRevision.{told_plan, last_there, last_named, as_many, cuts_long}
+use Rattle.plan_revisions.proofs.Drawn.{firsts_drawn, changes_drawn, drawn_long}
+use Rattle.plan_revisions.proofs.ChunkLists.{few_counties, are_chunk_lists}
+
+-- ---- the numbers that come next stay
+new_chunks_keep : (tag : ℕ) → (tag ≡ 107 → ⊥) → (m : KeyMap) (first : ℕ) (lists : List (List ℕ)) → SameTag tag m (put_rows m (new_chunk_rows first lists))
+new_chunks_keep tag apart m first [] rest = refl
+new_chunks_keep tag apart m first (l ∷ ls) rest =
+    ap (λ n. get n (tag ∷ rest)) (put_rows-append m (chunk_rows first l) (new_chunk_rows (first + 1) ls))
+    ∙ new_chunks_keep tag apart (put_rows m (chunk_rows first l)) (first + 1) ls rest
+    ∙ chunks_keep_tag m first l tag apart rest
+
+front_keeps : (tag : ℕ) → (tag ≡ 107 → ⊥) → (tag ≡ 82 → ⊥) → (m : KeyMap) (first : ℕ) (lists : List (List ℕ)) (row : PlanRow) (numbers : List ℕ) → SameTag tag m (put_rows m (front_rows first lists row numbers))
+front_keeps tag no_chunk no_part m first lists row numbers rest =
+    ap (λ n. get n (tag ∷ rest)) (put_rows-append m (new_chunk_rows first lists) (name_rows row.number (row.revisions + 1) numbers))
+    ∙ names_keep_tag (put_rows m (new_chunk_rows first lists)) row.number (row.revisions + 1) numbers tag no_part rest
+    ∙ new_chunks_keep tag no_chunk m first lists rest
+
+pub numbers_stay : (m : KeyMap) (next : Counters) (first : ℕ) (lists : List (List ℕ)) (row : PlanRow) (numbers : List ℕ) → StaysNext m (put_rows m (front_rows first lists row numbers)) next
+numbers_stay m next first lists row numbers =
+    let same = front_keeps 65 (λ same. absurd (omega arith)) (λ same. absurd (omega arith)) m first lists row numbers [] in
+    record {
+      before = subst (λ (o : Option (List ℕ)). MatchOption o (next ≡ no_numbers) (λ value. value ≡ counters_bytes next)) same;
+      after = subst (λ (o : Option (List ℕ)). MatchOption o (next ≡ no_numbers) (λ value. value ≡ counters_bytes next)) (sym same);
+    }
+
+-- ---- how many rows
+pub rows_few : RowsAreCounted → (g : Ground) (last : Option (List ℕ)) (next : List ℕ) (row : PlanRow) (counters : Counters) (kept : List ℕ) → length (first_rows g last next row counters kept) + 2 ≡ revision_rows g last next
+rows_few counted g last next row counters kept =
+    let numbers = drawn counters.chunk 0 kept last next (cuts_of g) in
+    let long : length numbers ≡ length (sizes g) = drawn_long counters.chunk 0 kept last next (cuts_of g) ∙ cuts_long g in
+    let chunks = new_chunk_rows counters.chunk (changed g last next) in
+    let names = name_rows row.number (row.revisions + 1) numbers in
+    let two = revised_rows [] row (length (changed g last next)) counters in
+    sym (length-append (chunks ++ names) two) ∙ ap length (append_assoc chunks names two) ∙ counted g last next counters [] row numbers long
+
+-- ---- the chunks of the revision
+clash : (o : Option (List ℕ)) (x : List ℕ) → o ≡ None → o ≡ Some x → ⊥
+clash o x none some = let same : ◌≡◌ {A = Option (List ℕ)} None (Some x) = sym none ∙ some in cc
+
+pub record IsLast (revisions : List (List ℕ)) (last : List ℕ) : Type 0 where
+  pub some : 0 < length revisions
+  pub is : get_or revisions (length revisions - 1) [] ≡ last
+
+at_place : (revisions : List (List ℕ)) (last : List ℕ) → slice_get revisions (length revisions - 1) ≡ Some last → IsLast revisions last
+at_place revisions last there = elim (slice_get_cases revisions (length revisions - 1)).1 [
+  | inl found ↦ (let less = found.1 in record { some = omega arith; is = get_or_from_slice_get revisions (length revisions - 1) last [] there })
+  | inr past ↦ absurd (clash (slice_get revisions (length revisions - 1)) last past.1 there)
+]
+
+last_or_none : (b : Bool) (revisions : List (List ℕ)) (last : List ℕ) → cond b None (slice_get revisions (length revisions - 1)) ≡ Some last → IsLast revisions last
+last_or_none true revisions last there = absurd (clash None last refl there)
+last_or_none false revisions last there = at_place revisions last there
+
+module _ (kept_law : ChunksAreKept) (firsts : FirstsAreDrawn) (changes : ChangesAreDrawn) (counties : CutsAreCounties) (cut_law : ListsAreCut) (m : KeyMap) (g : Ground) (name : List ℕ) (next : List ℕ) (row : PlanRow) (counters : Counters) (kept : List ℕ) (p : Plan)
+    (told : row ≡ plan_row_of row.number p) (has : HasPlan m g name row.number p) (read : AreRead name (length (cuts_of g)) row counters kept m) where
+  pub is_drawn : (last : Option (List ℕ)) → last_revision p ≡ last → CanAdd g last next row counters → IsDrawn m counters row.number (changed g last next) (drawn counters.chunk 0 kept last next (cuts_of g)) (cut g next)
+  is_drawn None last_is can =
+      let few = few_counties counties g can.blocks in
+      let many = as_many g next in
+      subst (λ (numbers : List ℕ). IsDrawn m counters row.number (cut g next) numbers (cut g next)) (sym (firsts_drawn g counters.chunk kept next))
+      (firsts m counters row.number (cut g next) (omega arith) (are_chunk_lists counties cut_law g next can.blocks can.long can.each))
+  is_drawn (Some last) last_is can =
+      let at = last_or_none _ p.revisions last last_is in
+      let count : row.revisions ≡ length p.revisions = ap (λ (r : PlanRow). r.revisions) told in
+      let most = has.few in
+      let begun = at.some in
+      let some : 0 < row.revisions = omega arith in
+      let there = subst (λ (l : List ℕ). HasRevision m row.number row.revisions (cut g l)) at.is (last_there m g name row p told has some) in
+      let named = last_named m g row.number row.revisions last (length (cuts_of g)) refl there in
+      let same : kept ≡ there.numbers = read.names there.numbers some named in
+      let stay = kept_law m row.number row.revisions there.numbers (cut g last) can.row_fits.number_fits can.row_fits.revisions_fit there.names there in
+      let few = few_counties counties g can.blocks in
+      let many = as_many g next in
+      let also = as_many g last in
+      let long : length kept ≡ length (sizes g) = ap length same ∙ named.long ∙ cuts_long g in
+      subst (λ (numbers : List ℕ). IsDrawn m counters row.number (changed g (Some last) next) numbers (cut g next)) (sym (changes_drawn g counters.chunk kept last next long))
+      (changes m counters row.number kept (cut g last) (cut g next) (subst (λ (numbers : List ℕ). AreKept m row.number numbers (cut g last)) (sym same) stay) (also ∙ sym many) (omega arith) (are_chunk_lists counties cut_law g next can.blocks can.long can.each))
+
+-- ---- the rows, in the order in which they are put
+in_order : (counters after : Counters) (name : List ℕ) (row other : PlanRow) (lists : List (List ℕ)) (numbers : List ℕ) → counters ≡ after → row ≡ other
+    → front_rows counters.chunk lists row numbers ++ revised_rows name row (length lists) after ≡ rows_of_revision counters name other lists numbers
+in_order counters after name row other lists numbers same told =
+    append_assoc (new_chunk_rows counters.chunk lists) (name_rows row.number (row.revisions + 1) numbers) (revised_rows name row (length lists) after)
+    ∙ ap (λ (n : Counters). new_chunk_rows counters.chunk lists ++ (name_rows row.number (row.revisions + 1) numbers ++ revised_rows name row (length lists) n)) (sym same)
+    ∙ ap (λ (r : PlanRow). rows_of_revision counters name r lists numbers) told
+
+next_there : (d : Desk) (name : List ℕ) (next : List ℕ) (p : Plan) → get d.plans name ≡ Some p → record d { plans = insert d.plans name (with_revision p next) } ≡ with_next name next d
+next_there d name next p there = ap (λ (o : Option Plan). with_next_of d name next o) (sym there)
+
+module _ (told : PlansAreTold) (one : NextIsOne) (makes : RevisionsMakeDesks) (kept_law : ChunksAreKept) (firsts : FirstsAreDrawn) (changes : ChangesAreDrawn) (counties : CutsAreCounties) (cut_law : ListsAreCut) where
+  pub desks_added : (g : Ground) (name : List ℕ) (last : Option (List ℕ)) (next : List ℕ) (row : PlanRow) (counters : Counters) (kept : List ℕ) → CanAdd g last next row counters
+      → (m : KeyMap) (d : Desk) → IsDeskMap m d → TakesRevision g name last d → AreRead name (length (cuts_of g)) row counters kept m
+      → (after : Counters) → CountersFit after → IsNext (put_rows m (first_rows g last next row counters kept)) after
+      → IsDeskMap (put_rows m (all_rows g name last next row counters kept after)) (with_next name next d)
+  desks_added g name last next row counters kept can m d is says read after fit next_is =
+      let numbers = drawn counters.chunk 0 kept last next (cuts_of g) in
+      let lists = changed g last next in
+      let p = says.plan in
+      let row_is = told_plan told m d g name row p is.desk says.geography says.there read.found can.row_fits in
+      let first_are : is.tidy.next ≡ counters = numbers_are one m is.tidy counters can.fit read.is_next in
+      let last_are : is.tidy.next ≡ after = numbers_are one m is.tidy after fit ((numbers_stay m after counters.chunk lists row numbers).before next_is) in
+      let same : counters ≡ after = sym first_are ∙ last_are in
+      let draws = is_drawn kept_law firsts changes counties cut_law m g name next row counters kept p row_is.0 row_is.1 read last says.last_is can in
+      let made = (makes m is.tidy g d.plans name row.number p next lists numbers (is_with m d g says.geography is.desk) says.there row_is.1 can.long says.room
+      (subst (λ (n : Counters). n.chunk + length lists < 2 ^ 64) (sym first_are) can.room)
+      (subst (λ (n : Counters). IsDrawn m n row.number lists numbers (cut g next)) (sym first_are) draws)).put in
+      let order : all_rows g name last next row counters kept after ≡ rows_of_revision counters name (plan_row_of row.number p) lists numbers = in_order counters after name row (plan_row_of row.number p) lists numbers same row_is.0 in
+      let rows : all_rows g name last next row counters kept after ≡ rows_of_revision is.tidy.next name (plan_row_of row.number p) lists numbers = order ∙ ap (λ (n : Counters). rows_of_revision n name (plan_row_of row.number p) lists numbers) (sym first_are) in
+      let sized = is.limits.sizes name p says.there in
+      subst (λ (e : Desk). IsDeskMap (put_rows m (all_rows g name last next row counters kept after)) e) (next_there d name next p says.there)
+      (subst (λ (rs : List Row). IsDeskMap (put_rows m rs) (record d { plans = insert d.plans name (with_revision p next) })) (sym rows) (record {
+        desk = is_still _ d g _ says.geography made.desk;
+        tidy = made.tidy.0;
+        limits = with_another d name (with_revision p next) p says.there (record { some = sized.some; most = sized.most }) is.limits;
+      }))

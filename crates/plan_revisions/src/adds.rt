@@ -1,0 +1,78 @@
+//! Plans that get one revision more.
+ghost use Rattle.std.specs.Prelude.{◌≡◌, length, IfSome, MatchResult};
+ghost use Rattle.std.specs.Option.{option_copied};
+ghost use Rattle.desk_model.specs.Cuts.{cuts_of};
+ghost use Rattle.desk_model.specs.Room.{changed, revision_rows};
+ghost use Rattle.page_store.specs.Transactions.{count_of, txn_pages, IsQuiet};
+ghost use Rattle.plan_table.specs.PlanRows.{HasChunkNumbers};
+ghost use Rattle.plan_revisions.specs.Steps.{IsStepped, StepErr};
+ghost use Rattle.plan_revisions.specs.Plans.{TakesRevision, with_next};
+
+use crate::counties::{count_changes, draw};
+use crate::laws::{changes_are_new, counties_are_chunks, desks_are_added};
+use crate::reads::read_plan;
+use crate::revisions::put_revision;
+use desk_model::cuts::Cut;
+use desk_model::geography::Geography;
+use desk_model::name::PlanName;
+use desk_room::laws::cuts_are_within;
+use page_store::{Pages, Txn};
+use plan_table::Change;
+use row_table::TreeError;
+use sector_device::SectorDevice;
+use std::alloc::Global;
+use store_rows::upkeep::next_is_one;
+
+/// Adds a revision to a plan: the districts of all blocks. `cuts` are the geography's counties, and `last` is the plan's last revision,
+/// if it has one, which it is for the caller to know; a county that is as it was there takes no new chunk. `Spent` comes where the
+/// store has no number left for each chunk. After an error the transaction can only be abandoned; `DeviceFault` comes also where
+/// the store holds no such plan, or one that has no room for a revision.
+pub fn add<D: SectorDevice>(
+    alloc: Global,
+    txn: &mut Txn,
+    pages: &mut Pages<D>,
+    geography: &Geography,
+    cuts: &[Cut],
+    name: &PlanName,
+    last: Option<&[u16]>,
+    next: &[u16],
+) -> Result<Change, TreeError>
+    requires begun { txn_pages txn.old ≡ count_of pages.old }
+    requires cut { cuts.now ≡ cuts_of geography.now }
+    requires last { IfSome (option_copied last) (λ l. length l ≡ length geography.now.blocks) }
+    requires next { length next.now ≡ length geography.now.blocks }
+    ensures quiet { IsQuiet pages.old pages.new }
+    ensures begun { txn_pages txn.new ≡ count_of pages.new }
+    ensures add { MatchResult result (λ change. IsStepped (TakesRevision geography.now name.now (option_copied last.entry)) (with_next name.now next.now) (revision_rows geography.now (option_copied last.entry) next.now) (HasChunkNumbers (length (changed geography.now (option_copied last.entry) next.now))) txn.old txn.new pages.old pages.new change) (λ e. StepErr (TakesRevision geography.now name.now (option_copied last.entry)) (revision_rows geography.now (option_copied last.entry) next.now) txn.old pages.old pages.new e) }
+{
+    desks_are_added();
+    counties_are_chunks();
+    changes_are_new();
+    next_is_one();
+    cuts_are_within();
+    let _blocks = geography.blocks();
+    let read = read_plan(alloc, txn, pages, name, cuts.len())?;
+    let used = count_changes(cuts, last, next);
+    let first = read.next.chunk;
+    if used > u64::MAX - first {
+        return Ok(Change::Spent);
+    }
+    let Ok(numbers) = draw(alloc, cuts, last, next, read.kept.as_slice(), first) else {
+        return Err(TreeError::Memory);
+    };
+    match put_revision(
+        txn,
+        pages,
+        cuts,
+        name,
+        last,
+        next,
+        &read.row,
+        numbers.as_slice(),
+        first,
+        used,
+    )? {
+        Change::Made => Ok(Change::Made),
+        Change::Spent => Err(TreeError::DeviceFault),
+    }
+}

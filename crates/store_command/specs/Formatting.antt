@@ -1,0 +1,53 @@
+-- A store that is made.
+use Rattle.std.specs.Prelude.{◌≡◌, ◌⊎◌, ◌≤◌, ◌<◌, ◌+◌, ℕ, List, codes, Result, Ok, Err, Vec}
+use Rattle.std.specs.declared.alloc.Global.{Global}
+use Rattle.sector_device.specs.declared.SectorDevice.{Ghosts}
+use Rattle.gate_journal.specs.Store.{home}
+use Rattle.desk_pages.specs.Formats.{OpensNew, FormatErr}
+use Rattle.desk_pages.specs.declared.formatting.FormatError.{FormatError}
+use Rattle.exit_status.specs.declared.status.Status.{Status}
+use Rattle.told_lines.specs.Writing.{Written, write_fault_line}
+use Rattle.store_command.specs.Faults.{fault_of_format}
+use Rattle.store_command.specs.Telling.{EndsStore}
+use Rattle.store_command.specs.Texts.{formatted_text}
+use Rattle.store_command.specs.declared.fault.StoreFault.{StoreFault}
+use Rattle.store_command.specs.declared.fault.StoreFault.TheVariants.{TooSmall, Memory}
+
+module _ {D O : Type 0} (g : Ghosts D) (makes : O → List ℕ → ℕ → Result D StoreFault → O → Type 0) where
+  -- a device of so many sectors was made under the name, and it is a store whose desk has no geography and no plan
+  pub record IsStore (before : O) (name : List ℕ) (sectors J : ℕ) (after : O) : Type 0 where
+    pub device : D
+    pub made : makes before name sectors (Ok device) after
+    pub new : D
+    pub size : (g.disk new).sectors ≡ sectors
+    pub honest : (g.disk new).is_honest → (g.disk device).is_honest
+    pub opens : (g.disk new).is_honest → OpensNew (g.disk new)
+    pub room : home J + 64 ≤ sectors
+
+  -- one was made, and is no store, for this reason
+  pub record IsNoStore (before : O) (name : List ℕ) (sectors J : ℕ) (fault : StoreFault) (after : O) : Type 0 where
+    pub device : D
+    pub made : makes before name sectors (Ok device) after
+    pub size : (g.disk device).sectors ≡ sectors
+    pub new : D
+    pub error : FormatError
+    pub told : fault ≡ fault_of_format error
+    pub why : FormatErr g J device new error
+
+  -- Of too few sectors, and where memory is refused before, nothing is made.
+  abbrev pub MakeRefused : (before : O) → List ℕ → (sectors J : ℕ) → StoreFault → (after : O) → Type 0
+  MakeRefused before name sectors J fault after =
+      ((fault ≡ TooSmall) × (sectors < home J + 64) × (after ≡ before))
+      ⊎ ((home J + 64 ≤ sectors) × (((fault ≡ Memory) × (after ≡ before))
+      ⊎ (makes before name sectors (Err fault) after
+      ⊎ IsNoStore before name sectors J fault after)))
+
+  -- what comes of it, with the text that is printed
+  abbrev pub Makes : (before : O) → List ℕ → (sectors J : ℕ) → Result (Vec ℕ Global) StoreFault → (after : O) → Type 0
+  Makes before name sectors J (Ok text) after = (text.items ≡ formatted_text sectors J) × IsStore before name sectors J after
+  Makes before name sectors J (Err fault) after = MakeRefused before name sectors J fault after
+
+  -- a store of so many sectors, with so many journal pages, under the name
+  abbrev pub Formats : (stores stores_after : O) → List ℕ → (sectors J : ℕ) → Status → (before after told_before told_after : Written) → Type 0
+  Formats stores stores_after name sectors J status before after told_before told_after = (given : Result (Vec ℕ Global) StoreFault)
+      × Makes stores name sectors J given stores_after × EndsStore (write_fault_line (codes "format")) given status before after told_before told_after

@@ -1,0 +1,6 @@
+pub mod Faults
+pub mod Filling
+pub mod Formatting
+pub mod Loading
+pub mod Telling
+pub mod Texts

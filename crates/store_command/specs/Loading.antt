@@ -1,0 +1,67 @@
+-- A state that is loaded: its files are read and judged one after the other, and then a store is filled with what they say.
+use Rattle.std.specs.Prelude.{◌≡◌, ◌⊎◌, ℕ, List, Option, codes, Result, Ok, Err, Vec}
+use Rattle.std.specs.declared.alloc.Global.{Global}
+use Rattle.sector_device.specs.declared.SectorDevice.{Ghosts}
+use Rattle.desk_model.specs.Geography.{Ground}
+use Rattle.exit_status.specs.declared.status.Status.{Status}
+use Rattle.state_files.specs.Opening.{Opening, opening_of, Census, census_of}
+use Rattle.state_files.specs.State.{Then, ReadsState}
+use Rattle.state_files.specs.Grounds.{ReadsGround}
+use Rattle.state_files.specs.declared.fault.FileFault.{FileFault}
+use Rattle.told_lines.specs.Telling.{Tells}
+use Rattle.told_lines.specs.Writing.{Written, write_fault_line}
+use Rattle.desk_clerk.specs.declared.clerk.Clerk.{Clerk}
+use Rattle.store_command.specs.Filling.{HasLoaded, FillRefused}
+use Rattle.store_command.specs.Telling.{EndsStore}
+use Rattle.store_command.specs.Texts.{loaded_text}
+use Rattle.store_command.specs.declared.fault.StoreFault.{StoreFault}
+use Rattle.store_command.specs.declared.fault.StoreFault.TheVariants.{Memory}
+use Rattle.store_command.specs.declared.load.StateFiles.{StateFiles}
+
+-- the openings of the files, in the order in which they are judged
+pub record Openings : Type 0 where
+  pub census : Census
+  pub neighbours : Opening
+
+abbrev pub openings_of : {R : Type 0} → (R → Option (List ℕ)) → (R → ℕ) → (R → ℕ) → StateFiles R → Openings
+openings_of unread turns failures files = record {
+  census = census_of unread turns failures files.census;
+  neighbours = opening_of unread turns failures files.gal;
+}
+
+-- the files one after the other, and the geography that they say
+abbrev pub ReadsGeography : (before after : Openings) → Result Ground FileFault → Type 0
+ReadsGeography before after =
+    Then (ReadsState before.census after.census) (after.neighbours ≡ before.neighbours) (λ rows. ReadsGround rows.items before.neighbours after.neighbours)
+
+module _ {D O : Type 0} (g : Ghosts D) (opens : O → List ℕ → Result D StoreFault → O → Type 0) where
+  -- the store of the name was opened, and filled with the geography
+  pub record IsFilled (before : O) (name : List ℕ) (area : Ground) (after : O) : Type 0 where
+    pub device : D
+    pub opened : opens before name (Ok device) after
+    pub clerk : Clerk D g
+    pub loaded : HasLoaded device area clerk
+
+  -- it was opened, and isn't filled, for this reason
+  pub record IsUnfilled (before : O) (name : List ℕ) (fault : StoreFault) (after : O) : Type 0 where
+    pub device : D
+    pub opened : opens before name (Ok device) after
+    pub why : FillRefused g device fault
+
+  -- what comes of a store, with the text that is printed; where memory is refused before, none is opened
+  abbrev pub Fills : (before : O) → List ℕ → Ground → Result (Vec ℕ Global) StoreFault → (after : O) → Type 0
+  Fills before name area (Ok text) after = (text.items ≡ loaded_text area) × IsFilled before name area after
+  Fills before name area (Err fault) after =
+      ((fault ≡ Memory) × (after ≡ before)) ⊎ (opens before name (Err fault) after ⊎ IsUnfilled before name fault after)
+
+  -- what comes of the files: a store is filled with their geography; or none is touched, and their fault is told
+  abbrev pub EndsLoad : (stores stores_after : O) → List ℕ → Result Ground FileFault → Status → (before after told_before told_after : Written) → Type 0
+  EndsLoad stores stores_after name (Ok area) status before after told_before told_after = (given : Result (Vec ℕ Global) StoreFault)
+      × Fills stores name area given stores_after × EndsStore (write_fault_line (codes "load")) given status before after told_before told_after
+  EndsLoad stores stores_after name (Err fault) status before after told_before told_after =
+      (stores_after ≡ stores) × (after ≡ before) × Tells fault status told_before told_after
+
+  -- the geography that the files say, in the store of the name
+  abbrev pub Loads : (files left : Openings) (stores stores_after : O) → List ℕ → Status → (before after told_before told_after : Written) → Type 0
+  Loads files left stores stores_after name status before after told_before told_after = (read : Result Ground FileFault)
+      × ReadsGeography files left read × EndsLoad stores stores_after name read status before after told_before told_after

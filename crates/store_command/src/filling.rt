@@ -1,0 +1,37 @@
+//! Fills a store with a geography.
+ghost use Rattle.std.specs.Prelude.{IfOk, IfErr};
+ghost use Rattle.store_command.specs.Filling.{IsOpened, HasLoaded, IsUnopened, FillRefused};
+
+use crate::fault::{StoreFault, load_fault, open_fault};
+use desk_clerk::clerk::Clerk;
+use desk_loading::load_geography;
+use desk_model::geography::Geography;
+use sector_device::SectorDevice;
+use std::alloc::Global;
+use std::sync::Arc;
+
+fn open_clerk<D: SectorDevice + Drop>(alloc: Global, device: D) -> Result<Clerk<D>, StoreFault>
+    ensures ok { IfOk result (IsOpened device) }
+    ensures err { IfErr result (IsUnopened D.SectorDevice device) }
+{
+    match Clerk::open(alloc, device) {
+        Ok(clerk) => Ok(clerk),
+        Err((e, _)) => Err(open_fault(e)),
+    }
+}
+
+/// Fills the store that a device holds with a geography: the clerk who keeps it then.
+pub fn fill<D: SectorDevice + Drop>(
+    alloc: Global,
+    device: D,
+    geography: Arc<Geography>,
+) -> Result<Clerk<D>, StoreFault>
+    ensures ok { IfOk result (HasLoaded device geography.value) }
+    ensures err { IfErr result (FillRefused D.SectorDevice device) }
+{
+    let mut clerk = open_clerk(alloc, device)?;
+    match load_geography(alloc, &mut clerk, geography) {
+        Ok(()) => Ok(clerk),
+        Err(e) => Err(load_fault(e)),
+    }
+}

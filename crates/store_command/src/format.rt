@@ -1,0 +1,56 @@
+//! `format`: a store is made in a new file.
+ghost use Rattle.std.specs.Prelude.{◌≡◌, ◌≤◌};
+ghost use Rattle.told_lines.specs.Writing.{written_of};
+ghost use Rattle.store_command.specs.Formatting.{Makes, Formats};
+
+use crate::fault::{StoreFault, format_fault};
+use crate::stores::Stores;
+use crate::telling::end_store;
+use crate::texts::formatted_text;
+use byte_stream::sink::Sink;
+use exit_status::status::Status;
+use gate_journal::has_room;
+use sector_device::SectorDevice;
+use std::alloc::Global;
+
+/// Makes a store: what is printed of it.
+fn make_store<D: SectorDevice + Drop, O: Stores<D>>(
+    alloc: Global,
+    stores: &mut O,
+    name: &str,
+    sectors: u32,
+    journal_pages: u32,
+) -> Result<Vec<u8>, StoreFault>
+    requires least { 256 ≤ journal_pages }
+    requires most { journal_pages ≤ 65536 }
+    ensures { Makes D.SectorDevice O.makes stores.old name.now sectors journal_pages result stores.new }
+{
+    if !has_room(sectors, journal_pages) {
+        return Err(StoreFault::TooSmall);
+    }
+    let text = formatted_text(alloc, sectors, journal_pages)?;
+    let mut device = stores.make(name, sectors)?;
+    match desk_pages::format(alloc, &mut device, journal_pages) {
+        Ok(()) => Ok(text),
+        Err(e) => Err(format_fault(e)),
+    }
+}
+
+/// Makes a store of so many sectors and journal pages in a new file, and prints both: 0. 4 where the store is refused, and 5 where
+/// memory is, with the fault told and nothing printed; 6 where the writing fails. Of too few sectors no file is made.
+pub fn format<D: SectorDevice + Drop, O: Stores<D>, W: Sink, E: Sink>(
+    alloc: Global,
+    stores: &mut O,
+    name: &str,
+    sectors: u32,
+    journal_pages: u32,
+    writer: &mut W,
+    errors: &mut E,
+) -> Status
+    requires least { 256 ≤ journal_pages }
+    requires most { journal_pages ≤ 65536 }
+    ensures { Formats D.SectorDevice O.makes stores.old stores.new name.now sectors journal_pages result (written_of W.contents W.failures writer.old) (written_of W.contents W.failures writer.new) (written_of E.contents E.failures errors.old) (written_of E.contents E.failures errors.new) }
+{
+    let given = make_store(alloc, stores, name, sectors, journal_pages);
+    end_store(b"plandesk: format: WriteFault\n", given, writer, errors)
+}

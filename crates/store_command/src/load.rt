@@ -1,0 +1,96 @@
+//! `load`: a store is filled with what a state's files say.
+ghost use Rattle.std.specs.Prelude.{◌≡◌};
+ghost use Rattle.told_lines.specs.Writing.{written_of};
+ghost use Rattle.store_command.specs.Loading.{openings_of, ReadsGeography, Fills, EndsLoad, Loads};
+
+use crate::fault::StoreFault;
+use crate::filling::fill;
+use crate::stores::Stores;
+use crate::telling::end_store;
+use crate::texts::loaded_text;
+use byte_stream::sink::Sink;
+use byte_stream::source::Source;
+use desk_model::geography::Geography;
+use exit_status::status::Status;
+use sector_device::SectorDevice;
+use state_files::census::{CensusFiles, read_state};
+use state_files::fault::{FileFault, OpenFault};
+use state_files::ground::read_ground;
+use std::alloc::Global;
+use std::sync::Arc;
+use told_lines::telling::tell;
+
+/// The openings of a state's census files and of its neighbour file.
+#[derive(Drop)]
+pub struct StateFiles<R> {
+    pub census: CensusFiles<R>,
+    pub gal: Result<R, OpenFault>,
+}
+
+/// The geography that the files say, or their first fault.
+fn read_geography<R: Source>(
+    alloc: Global,
+    files: &mut StateFiles<R>,
+) -> Result<Geography, FileFault>
+    ensures { ReadsGeography (openings_of R.remaining R.turns R.failures files.old) (openings_of R.remaining R.turns R.failures files.new) result }
+{
+    let rows = read_state(alloc, &mut files.census)?;
+    read_ground(alloc, rows, &mut files.gal)
+}
+
+/// Fills the store of a name with a geography: what is printed of it.
+fn fill_store<D: SectorDevice + Drop, O: Stores<D>>(
+    alloc: Global,
+    stores: &mut O,
+    name: &str,
+    geography: Geography,
+) -> Result<Vec<u8>, StoreFault>
+    ensures { Fills D.SectorDevice O.opens stores.old name.now geography result stores.new }
+{
+    let text = loaded_text(alloc, &geography)?;
+    let Ok(geography) = Arc::new(alloc, geography) else {
+        return Err(StoreFault::Memory);
+    };
+    let device = stores.open(name)?;
+    match fill(alloc, device, geography) {
+        Ok(_) => Ok(text),
+        Err(fault) => Err(fault),
+    }
+}
+
+/// Fills the store of a name with the geography that the files say, or tells their fault.
+fn end_load<D: SectorDevice + Drop, O: Stores<D>, W: Sink, E: Sink>(
+    alloc: Global,
+    read: Result<Geography, FileFault>,
+    stores: &mut O,
+    name: &str,
+    writer: &mut W,
+    errors: &mut E,
+) -> Status
+    ensures { EndsLoad D.SectorDevice O.opens stores.old stores.new name.now read result (written_of W.contents W.failures writer.old) (written_of W.contents W.failures writer.new) (written_of E.contents E.failures errors.old) (written_of E.contents E.failures errors.new) }
+{
+    match read {
+        Ok(geography) => {
+            let given = fill_store(alloc, stores, name, geography);
+            end_store(b"plandesk: load: WriteFault\n", given, writer, errors)
+        }
+        Err(fault) => tell(alloc, fault, errors),
+    }
+}
+
+/// Fills a store with the geography that the files say, and prints its blocks, counties and people: 0. 3 where a file is refused, 4
+/// where the store is and 5 where memory is, with the fault told and nothing printed; 6 where the writing fails. The files are
+/// judged before the store is opened.
+pub fn load<R: Source, D: SectorDevice + Drop, O: Stores<D>, W: Sink, E: Sink>(
+    alloc: Global,
+    files: &mut StateFiles<R>,
+    stores: &mut O,
+    name: &str,
+    writer: &mut W,
+    errors: &mut E,
+) -> Status
+    ensures { Loads D.SectorDevice O.opens (openings_of R.remaining R.turns R.failures files.old) (openings_of R.remaining R.turns R.failures files.new) stores.old stores.new name.now result (written_of W.contents W.failures writer.old) (written_of W.contents W.failures writer.new) (written_of E.contents E.failures errors.old) (written_of E.contents E.failures errors.new) }
+{
+    let read = read_geography(alloc, files);
+    end_load(alloc, read, stores, name, writer, errors)
+}

@@ -1,0 +1,57 @@
+//! What is printed and told of a store.
+ghost use Rattle.std.specs.Prelude.{◌≡◌};
+ghost use Rattle.told_lines.specs.Writing.{written_of};
+ghost use Rattle.store_command.specs.Telling.{status_of, store_line as line_of_fault, TellsStore, EndsStore};
+
+use crate::fault::StoreFault;
+use byte_stream::sink::Sink;
+use exit_status::status::Status;
+use told_lines::telling::{print, send_line};
+
+fn store_line(fault: StoreFault) -> &'static [u8]
+    ensures { result.now ≡ line_of_fault fault }
+{
+    match fault {
+        StoreFault::NotFound => b"plandesk: store: NotFound\n",
+        StoreFault::WrongSize => b"plandesk: store: WrongSize\n",
+        StoreFault::Exists => b"plandesk: store: Exists\n",
+        StoreFault::TooSmall => b"plandesk: store: TooSmall\n",
+        StoreFault::NotAStore => b"plandesk: store: NotAStore\n",
+        StoreFault::AlreadySealed => b"plandesk: store: AlreadySealed\n",
+        StoreFault::Full => b"plandesk: store: Full\n",
+        StoreFault::DeviceFault => b"plandesk: store: DeviceFault\n",
+        StoreFault::Memory => b"plandesk: store: Memory\n",
+    }
+}
+
+fn store_status(fault: StoreFault) -> Status
+    ensures { result ≡ status_of fault }
+{
+    match fault {
+        StoreFault::Memory => Status::Memory,
+        _ => Status::Store,
+    }
+}
+
+/// Tells a fault, as far as that can be written.
+fn tell_store<E: Sink>(fault: StoreFault, errors: &mut E) -> Status
+    ensures { TellsStore fault result (written_of E.contents E.failures errors.old) (written_of E.contents E.failures errors.new) }
+{
+    send_line(errors, store_line(fault));
+    store_status(fault)
+}
+
+/// Prints the text, or tells the fault. Where standard output fails, this line is told.
+pub fn end_store<W: Sink, E: Sink>(
+    line: &[u8],
+    given: Result<Vec<u8>, StoreFault>,
+    writer: &mut W,
+    errors: &mut E,
+) -> Status
+    ensures { EndsStore line.now given result (written_of W.contents W.failures writer.old) (written_of W.contents W.failures writer.new) (written_of E.contents E.failures errors.old) (written_of E.contents E.failures errors.new) }
+{
+    match given {
+        Ok(text) => print(line, text.as_slice(), Status::Done, writer, errors),
+        Err(fault) => tell_store(fault, errors),
+    }
+}

@@ -1,0 +1,44 @@
+//! What is printed of a store.
+ghost use Rattle.std.specs.Prelude.{◌≡◌, ◌++◌, OnOk, IfOk};
+ghost use Rattle.store_command.specs.Texts.{number_after, formatted_text as text_of_store, loaded_text as text_of_geography};
+
+use audit_population::people::total;
+use desk_model::cuts::cuts;
+use desk_model::geography::Geography;
+use itoa::Buffer;
+use std::alloc::{AllocError, Global};
+
+/// Adds words and a number behind them.
+fn push_number(text: &mut Vec<u8>, words: &[u8], number: u64) -> Result<(), AllocError>
+    ensures { OnOk result (text.new.items ≡ text.old.items ++ number_after words.now number) }
+{
+    let mut digits = Buffer::new();
+    text.extend_from_slice(words)?;
+    text.extend_from_slice(digits.format(number).as_bytes())
+}
+
+pub fn formatted_text(
+    alloc: Global,
+    sectors: u32,
+    journal_pages: u32,
+) -> Result<Vec<u8>, AllocError>
+    ensures { IfOk result (λ text. text.items ≡ text_of_store sectors journal_pages) }
+{
+    let mut text = Vec::new(alloc);
+    push_number(&mut text, b"formatted ", sectors as u64)?;
+    push_number(&mut text, b" sectors, ", journal_pages as u64)?;
+    text.extend_from_slice(b" journal pages\n")?;
+    Ok(text)
+}
+
+pub fn loaded_text(alloc: Global, geography: &Geography) -> Result<Vec<u8>, AllocError>
+    ensures { IfOk result (λ text. text.items ≡ text_of_geography geography.now) }
+{
+    let counties = cuts(alloc, geography)?;
+    let mut text = Vec::new(alloc);
+    push_number(&mut text, b"loaded ", geography.blocks().len() as u64)?;
+    push_number(&mut text, b" blocks, ", counties.len() as u64)?;
+    push_number(&mut text, b" counties, ", total(geography) as u64)?;
+    text.extend_from_slice(b" people\n")?;
+    Ok(text)
+}
