@@ -2,7 +2,7 @@
 ghost use Rattle.std.specs.Prelude.{◌≡◌};
 ghost use Rattle.page_store.specs.Transactions.{count_of, txn_pages};
 
-use btree_scan::{Row, Scan};
+use btree_scan::Scan;
 use page_btree::{TreeError, get, put, remove};
 use page_store::{Pages, Txn, format};
 use sector_memory::MemoryDevice;
@@ -115,9 +115,7 @@ fn get_all(
 }
 
 /// What a sum over the rows before and a row make.
-fn told_with(told: u64, row: &Row) -> u64 {
-    let key = row.key.as_slice();
-    let value = row.value.as_slice();
+fn told_with(told: u64, key: &[u8], value: &[u8]) -> u64 {
     if key.len() == 20 && value.len() == 16 {
         told.wrapping_mul(31)
             .wrapping_add(key[19] as u64 + value[7] as u64)
@@ -130,13 +128,12 @@ fn told_with(told: u64, row: &Row) -> u64 {
 fn scan_all(alloc: Global, pages: &mut Pages<MemoryDevice>, rows: u32) -> Result<u64, TreeError> {
     let txn = pages.begin(alloc);
     let mut scan = Scan::new(b"block");
-    let mut row = Row::empty();
     let mut told = 0u64;
     for _ in 0..rows {
-        if !scan.next(&txn, pages, &mut row) {
+        if !scan.advance(&txn, pages) {
             break;
         }
-        told = told_with(told, &row);
+        told = told_with(told, scan.key(), scan.value());
     }
     txn.abandon();
     match scan.fault() {

@@ -1,4 +1,5 @@
 pub mod Scanning
+pub mod Parts
 pub mod Prefixes
 pub mod Taken
 pub mod Refused

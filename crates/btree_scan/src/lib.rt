@@ -1,6 +1,7 @@
 //! The rows of a map in pages whose keys begin with a prefix, rising.
 #![tactic(auto)]
 
+mod parts;
 mod rows;
 mod scans;
 mod whole;

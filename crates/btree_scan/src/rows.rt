@@ -1,11 +1,13 @@
 //! Takes a row out of a leaf.
-ghost use Rattle.std.specs.Prelude.{◌≡◌, ◌<◌, ◌+◌, List, ◌∷◌, OnOk, OnErr, IfErr};
+ghost use Rattle.std.specs.Prelude.{◌≡◌, ◌<◌, ◌+◌, List, ◌∷◌, OnOk, OnErr, IfOk, IfErr};
 ghost use Rattle.page_node.specs.Entries.{Entry};
 ghost use Rattle.page_node.specs.Walking.{IsAhead};
 ghost use Rattle.page_btree.specs.Seeking.{bound_in};
 ghost use Rattle.page_btree.specs.declared.error.TreeError.TheVariants.{DeviceFault};
 ghost use Rattle.btree_scan.specs.Scanning.{IsTakenRow};
+ghost use Rattle.btree_scan.specs.Parts.{row_at};
 
+use crate::parts::Parts;
 use page_btree::{Leaf, SmallBytes, TreeError};
 use page_node::bounds_in;
 
@@ -32,9 +34,9 @@ impl Row {
 }
 
 /// Takes the row before which a leaf stands, and stands behind it.
-pub(crate) fn take_row(leaf: &mut Leaf, row: &mut Row) -> Result<(), TreeError>
+pub(crate) fn take_row(leaf: &mut Leaf) -> Result<Parts, TreeError>
     requires { 0 < leaf.old.left }
-    ensures taken { (e : Entry) (es : List Entry) → IsAhead leaf.old.page leaf.old.at (e ∷ es) → OnOk result (IsTakenRow e es row.new leaf.new) }
+    ensures taken { (e : Entry) (es : List Entry) → IsAhead leaf.old.page leaf.old.at (e ∷ es) → IfOk result (λ parts. IsTakenRow e es (row_at leaf.new.page parts) leaf.new) }
     ensures left { OnOk result (leaf.new.left + 1 ≡ leaf.old.left) }
     ensures bound { bound_in leaf.new ≡ bound_in leaf.old }
     ensures err { IfErr result (λ e. e ≡ DeviceFault) }
@@ -43,11 +45,14 @@ pub(crate) fn take_row(leaf: &mut Leaf, row: &mut Row) -> Result<(), TreeError>
     match bounds_in(&leaf.page, leaf.at) {
         None => Err(TreeError::DeviceFault),
         Some(bounds) => {
-            row.key.set(&leaf.page[leaf.at + 3..bounds.value]);
-            row.value.set(&leaf.page[bounds.value..bounds.end]);
+            let key = leaf.at + 3;
             leaf.at = bounds.end;
             leaf.left -= 1;
-            Ok(())
+            Ok(Parts {
+                key,
+                value: bounds.value,
+                end: bounds.end,
+            })
         }
     }
 }

@@ -7,8 +7,10 @@ ghost use Rattle.page_btree.specs.Keys.{KeyMap};
 ghost use Rattle.page_btree.specs.Map.{InTxn};
 ghost use Rattle.page_btree.specs.Errors.{GetErr};
 ghost use Rattle.btree_scan.specs.Prefixes.{under};
+ghost use Rattle.btree_scan.specs.Parts.{row_at, row_of};
 ghost use Rattle.btree_scan.specs.Scanning.{Rest, IsReady, IsStep, IsNextRow, has_ended, fault_in, CanScan, CanStep, ScanErr};
 
+use crate::parts::Parts;
 use crate::rows::{Row, take_row};
 use page_btree::{Leaf, SmallBytes, TreeError, leaf_from};
 use page_store::{Pages, Txn};
@@ -20,6 +22,7 @@ use sector_device::SectorDevice;
 pub struct Scan {
     prefix: SmallBytes,
     leaf: Leaf,
+    parts: Parts,
     ended: bool,
     fault: Option<TreeError>,
 }
@@ -34,6 +37,11 @@ impl Scan {
         let mut scan = Scan {
             prefix: SmallBytes::empty(),
             leaf: Leaf::empty(),
+            parts: Parts {
+                key: 0,
+                value: 0,
+                end: 0,
+            },
             ended: false,
             fault: None,
         };
@@ -41,6 +49,50 @@ impl Scan {
         scan.leaf.bound.set(prefix);
         scan.leaf.bounded = true;
         scan
+    }
+
+    /// Stands at the next row, or tells that none comes: none is left, or there was a fault, which is kept. It takes no memory.
+    pub fn advance<D: SectorDevice>(&mut self, txn: &Txn, pages: &mut Pages<D>) -> bool
+        requires begun { txn_pages txn.now ≡ count_of pages.old }
+        ensures quiet { IsQuiet pages.old pages.new }
+        ensures rows { (disk_in pages.new).is_honest → (m : KeyMap) (rest : List Entry) → InTxn txn.now (stored pages.old) m → Rest self.old (entries m) rest → IsNextRow result self.new (row_of self.new) (entries m) rest }
+        ensures passed { fault_in self.new ≡ None → Passed pages.old pages.new }
+        ensures fault { fault_in self.old ≡ None → IfSome (fault_in self.new) (λ e. ScanErr (CanScan self.old) txn.now pages.old pages.new e) }
+        ensures going { result ≡ true → (has_ended self.new ≡ false) × (fault_in self.new ≡ fault_in self.old) }
+        ensures ended { result ≡ false → has_ended self.new ≡ true }
+        ensures kept { has_ended self.old ≡ true → (self.new ≡ self.old) × (pages.new ≡ pages.old) }
+    {
+        if self.ended {
+            return false;
+        }
+        match step(txn, pages, &self.prefix, &mut self.leaf, &mut self.parts) {
+            Ok(true) => true,
+            Ok(false) => {
+                self.ended = true;
+                false
+            }
+            Err(fault) => {
+                self.ended = true;
+                self.fault = Some(fault);
+                false
+            }
+        }
+    }
+
+    /// The key of the row that it stands at.
+    pub fn key(&self) -> &[u8]
+        ensures key { result.now ≡ (row_of self.now).key }
+        ensures short { length result.now ≤ 72 }
+    {
+        &self.leaf.page[self.parts.key..self.parts.value]
+    }
+
+    /// The value of the row that it stands at.
+    pub fn value(&self) -> &[u8]
+        ensures value { result.now ≡ (row_of self.now).value }
+        ensures short { length result.now ≤ 1024 }
+    {
+        &self.leaf.page[self.parts.value..self.parts.end]
     }
 
     /// Copies the next row, or tells that none comes: none is left, or there was a fault, which is kept. It takes no memory.
@@ -54,21 +106,12 @@ impl Scan {
         ensures ended { result ≡ false → has_ended self.new ≡ true }
         ensures kept { has_ended self.old ≡ true → (self.new ≡ self.old) × (pages.new ≡ pages.old) }
     {
-        if self.ended {
-            return false;
+        if self.advance(txn, pages) {
+            row.key.set(self.key());
+            row.value.set(self.value());
+            return true;
         }
-        match step(txn, pages, &self.prefix, &mut self.leaf, row) {
-            Ok(true) => true,
-            Ok(false) => {
-                self.ended = true;
-                false
-            }
-            Err(fault) => {
-                self.ended = true;
-                self.fault = Some(fault);
-                false
-            }
-        }
+        false
     }
 
     /// The fault that ended it, if there was one.
@@ -85,11 +128,11 @@ fn step<D: SectorDevice>(
     pages: &mut Pages<D>,
     prefix: &SmallBytes,
     leaf: &mut Leaf,
-    row: &mut Row,
+    parts: &mut Parts,
 ) -> Result<bool, TreeError>
     requires begun { txn_pages txn.now ≡ count_of pages.old }
     ensures quiet { IsQuiet pages.old pages.new }
-    ensures rows { (disk_in pages.new).is_honest → (m : KeyMap) (rest : List Entry) → InTxn txn.now (stored pages.old) m → IsReady prefix.now leaf.old (entries m) rest → IfOk result (λ found. IsStep found prefix.now leaf.new row.new (entries m) rest) }
+    ensures rows { (disk_in pages.new).is_honest → (m : KeyMap) (rest : List Entry) → InTxn txn.now (stored pages.old) m → IsReady prefix.now leaf.old (entries m) rest → IfOk result (λ found. IsStep found prefix.now leaf.new (row_at leaf.new.page parts.new) (entries m) rest) }
     ensures passed { OnOk result (Passed pages.old pages.new) }
     ensures err { IfErr result (λ e. ScanErr (CanStep prefix.now leaf.old) txn.now pages.old pages.new e) }
 {
@@ -97,8 +140,8 @@ fn step<D: SectorDevice>(
     if leaf.left == 0 {
         return Ok(false);
     }
-    take_row(leaf, row)?;
-    Ok(row.key.as_slice().starts_with(prefix.as_slice()))
+    *parts = take_row(leaf)?;
+    Ok(leaf.page[parts.key..parts.value].starts_with(prefix.as_slice()))
 }
 
 /// Reads the next leaf where no row of this one is left.

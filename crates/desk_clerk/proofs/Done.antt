@@ -121,6 +121,8 @@ module _ {D : Type 0} {g : Ghosts D} where
     outcome = why;
     free = λ keeps honest accepted. absurd accepted;
     spared = λ honest works other. free_same x y reads honest;
+    shown = λ other. reads.desk;
+    quiet = λ works other. reads.quiet;
   }
 
   -- one that was made ready, and then committed or not
@@ -146,6 +148,14 @@ module _ {D : Type 0} {g : Ghosts D} where
           | inr fault ↦ absurd (subst IsAcceptance fault.reply_is accepted)
         ];
         spared = λ honest off other. elim commits.outcome [
+          | inl made ↦ absurd (other (subst IsAcceptance (sym made.reply_is) (acceptance_is (command_of r))))
+          | inr fault ↦ absurd (let clash : true ≡ false = sym fault.halted ∙ off in cc)
+        ];
+        shown = λ other. elim commits.outcome [
+          | inl made ↦ absurd (other (subst IsAcceptance (sym made.reply_is) (acceptance_is (command_of r))))
+          | inr fault ↦ fault.desk ∙ reads.desk
+        ];
+        quiet = λ off other. elim commits.outcome [
           | inl made ↦ absurd (other (subst IsAcceptance (sym made.reply_is) (acceptance_is (command_of r))))
           | inr fault ↦ absurd (let clash : true ≡ false = sym fault.halted ∙ off in cc)
         ];

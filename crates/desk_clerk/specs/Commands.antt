@@ -3,7 +3,7 @@ use Rattle.std.specs.Prelude.{◌≡◌, ◌⊎◌, ◌≤◌, ◌<◌, ◌+◌,
 use Rattle.sector_device.specs.declared.SectorDevice.{Ghosts}
 use Rattle.page_store.specs.Chain.{free_in}
 use Rattle.page_store.specs.declared.pages.Pages.{Pages}
-use Rattle.page_store.specs.Transactions.{stored, disk_in, count_of, prepared_pages, prepared_writes, after}
+use Rattle.page_store.specs.Transactions.{stored, disk_in, count_of, prepared_pages, prepared_writes, after, IsQuiet}
 use Rattle.page_store.specs.declared.txn.Prepared.{Prepared as Written}
 use Rattle.page_store.specs.declared.txn.Txn.{Txn}
 use Rattle.page_btree.specs.Map.{InPages as HoldsRows}
@@ -124,5 +124,8 @@ module _ {D : Type 0} {g : Ghosts D} where
     -- an accepted command takes no more pages than it needs, and no other takes any
     pub free : Keeps x → (disk_of y).is_honest → IsAcceptance reply → free_of x ≤ free_of y + need (desk_of x) c
     pub spared : (disk_of y).is_honest → y.halted ≡ false → (IsAcceptance reply → ⊥) → free_of y ≡ free_of x
+    -- a command that isn't accepted leaves the desk, and without a fault it only reads: a stop at any moment of it leaves the desk before
+    pub shown : (IsAcceptance reply → ⊥) → desk_of y ≡ desk_of x
+    pub quiet : y.halted ≡ false → (IsAcceptance reply → ⊥) → IsQuiet x.pages y.pages
     -- a load that is under way stays so
     pub loading : y.loading ≡ x.loading

@@ -1,15 +1,16 @@
 //! A clerk over the sample geography: commands, queries, what is prepared and what is refused.
+use crate::stores::{clerk_of_sample, unsealed_clerk};
+use desk_clerk::change::Change;
+use desk_clerk::clerk::Clerk;
 use desk_model::command::{Command, Query};
-use desk_model::geography::sample;
 use desk_model::kind::Kind;
 use desk_model::name::PlanName;
 use desk_model::reply::{BodyFault, PlanRow, PlanRows, Refusal, Reply};
 use desk_model::size::PlanSize;
 use desk_model::text::Text;
-use desk_store::clerk::{Change, Clerk};
+use sector_memory::MemoryDevice;
 use std::alloc::Global;
 use std::process::Abort;
-use std::sync::Arc;
 
 const COUNTIES: &[u8] =
     b"BLOCKID|DISTRICT\n190010001001001|01\n190010001001002|01\n190030001001001|02\n190030001001002|02\n";
@@ -28,12 +29,6 @@ const NOTHING: &[u8] = b"BLOCKID|DISTRICT\n";
 
 const BLOCKS: &[u8] =
     b"BLOCKID|PLACE|POPULATION\n190010001001001|00100|505\n190010001001002|00100|505\n190030001001001|00100|495\n190030001001002||495\n";
-
-fn clerk_of_sample<R: Abort>(rt: &R, alloc: Global) -> Clerk {
-    let sample = sample(alloc).expect(rt, "no memory");
-    let geography = Arc::new(alloc, sample).expect(rt, "no memory");
-    Clerk::plain(alloc, Some(geography)).expect(rt, "no memory")
-}
 
 fn named<R: Abort>(rt: &R, text: &str) -> PlanName {
     PlanName::read(text.as_bytes()).expect(rt, "no name")
@@ -104,7 +99,7 @@ fn is_listed_alone(reply: Reply, name: &PlanName) -> bool {
 fn post<R: Abort>(
     rt: &R,
     alloc: Global,
-    clerk: &mut Clerk,
+    clerk: &mut Clerk<MemoryDevice>,
     plan: PlanName,
     after: u32,
     body: &[u8],
@@ -122,7 +117,7 @@ fn post<R: Abort>(
 fn patch<R: Abort>(
     rt: &R,
     alloc: Global,
-    clerk: &mut Clerk,
+    clerk: &mut Clerk<MemoryDevice>,
     plan: PlanName,
     after: u32,
     body: &[u8],
@@ -140,7 +135,7 @@ fn patch<R: Abort>(
 fn posts<R: Abort>(
     rt: &R,
     alloc: Global,
-    clerk: &mut Clerk,
+    clerk: &mut Clerk<MemoryDevice>,
     plan: PlanName,
     after: u32,
     body: &[u8],
@@ -153,7 +148,7 @@ fn posts<R: Abort>(
 fn patches<R: Abort>(
     rt: &R,
     alloc: Global,
-    clerk: &mut Clerk,
+    clerk: &mut Clerk<MemoryDevice>,
     plan: PlanName,
     after: u32,
     body: &[u8],
@@ -163,43 +158,51 @@ fn patches<R: Abort>(
 }
 
 /// Asserts that a revision is shown so.
-fn shows<R: Abort>(rt: &R, alloc: Global, clerk: &Clerk, plan: PlanName, k: u32, wanted: &[u8]) {
+fn shows<R: Abort>(
+    rt: &R,
+    alloc: Global,
+    clerk: &Clerk<MemoryDevice>,
+    plan: PlanName,
+    k: u32,
+    wanted: &[u8],
+) {
     assert!(rt; is_text(revision(alloc, clerk, plan, k), wanted));
 }
 
 /// A clerk of the sample with a congress plan of two districts.
-fn clerk_with_congress<R: Abort>(rt: &R, alloc: Global, plan: PlanName) -> Clerk {
-    let mut clerk = clerk_of_sample(rt, alloc);
+fn clerk_with_congress<R: Abort>(rt: &R, alloc: Global, plan: PlanName) -> Clerk<MemoryDevice> {
+    let mut clerk = clerk_of_sample(rt, alloc, 2000);
     let reply = create_congress(alloc, &mut clerk, plan);
     assert!(rt; is_made(reply, &plan));
     clerk
 }
 
 /// The reply to the creation of a house plan.
-fn create_house(alloc: Global, clerk: &mut Clerk, plan: PlanName) -> Reply {
+fn create_house(alloc: Global, clerk: &mut Clerk<MemoryDevice>, plan: PlanName) -> Reply {
     clerk.command(alloc, house(plan))
 }
 
 /// The reply to the creation of a congress plan of two districts.
-fn create_congress(alloc: Global, clerk: &mut Clerk, plan: PlanName) -> Reply {
+fn create_congress(alloc: Global, clerk: &mut Clerk<MemoryDevice>, plan: PlanName) -> Reply {
     let size = PlanSize::new(Kind::Congress, 2);
     clerk.command(alloc, Command::Create { plan, size })
 }
 
-fn revision(alloc: Global, clerk: &Clerk, plan: PlanName, k: u32) -> Reply {
+fn revision(alloc: Global, clerk: &Clerk<MemoryDevice>, plan: PlanName, k: u32) -> Reply {
     clerk.ask(alloc, Query::Revision { plan, k })
 }
 
-fn ask(alloc: Global, clerk: &Clerk, query: Query) -> Reply {
+fn ask(alloc: Global, clerk: &Clerk<MemoryDevice>, query: Query) -> Reply {
     clerk.ask(alloc, query)
 }
 
-fn unsealed<R: Abort>(rt: &R, alloc: Global) -> Clerk {
-    Clerk::plain(alloc, None).expect(rt, "no memory")
-}
-
 /// Makes a house plan: what was changed.
-fn commit_house<R: Abort>(rt: &R, alloc: Global, clerk: &mut Clerk, name: PlanName) -> Change {
+fn commit_house<R: Abort>(
+    rt: &R,
+    alloc: Global,
+    clerk: &mut Clerk<MemoryDevice>,
+    name: PlanName,
+) -> Change {
     let Ok(ready) = clerk.prepare(alloc, house(name)) else {
         panic!(rt; "refused");
     };
@@ -216,7 +219,7 @@ fn list_after<R: Abort>(rt: &R, alloc: Global, change: &Change) -> Reply {
 }
 
 /// The list of plans that is shown.
-fn list_shown<R: Abort>(rt: &R, alloc: Global, clerk: &Clerk) -> Reply {
+fn list_shown<R: Abort>(rt: &R, alloc: Global, clerk: &Clerk<MemoryDevice>) -> Reply {
     let shown = clerk.published().expect(rt, "no memory");
     shown.ask(alloc, Query::Plans)
 }
@@ -224,7 +227,7 @@ fn list_shown<R: Abort>(rt: &R, alloc: Global, clerk: &Clerk) -> Reply {
 #[test]
 fn a_plan_is_prepared_and_committed(rt: HostRuntime) {
     let alloc = rt.alloc();
-    let mut clerk = clerk_of_sample(&rt, alloc);
+    let mut clerk = clerk_of_sample(&rt, alloc, 2000);
     let name = named(&rt, "a");
     drop(clerk.prepare(alloc, house(name)).ok());
     assert!(rt; is_empty_list(ask(alloc, &clerk, Query::Plans)));
@@ -233,7 +236,7 @@ fn a_plan_is_prepared_and_committed(rt: HostRuntime) {
     assert!(rt; is_listed_alone(list_shown(&rt, alloc, &clerk), &name));
     let again = create_house(alloc, &mut clerk, name);
     assert!(rt; is_refused(again, Refusal::PlanExists));
-    let mut none = unsealed(&rt, alloc);
+    let mut none = unsealed_clerk(&rt, alloc, 400);
     assert!(rt; is_refused(create_house(alloc, &mut none, name), Refusal::NotSealed));
 }
 
@@ -249,7 +252,7 @@ fn are_listed<R: Abort>(rt: &R, rows: &PlanRows) {
 #[test]
 fn many_plans_are_listed_in_order(rt: HostRuntime) {
     let alloc = rt.alloc();
-    let mut clerk = clerk_of_sample(&rt, alloc);
+    let mut clerk = clerk_of_sample(&rt, alloc, 2000);
     for i in 0..600u32 {
         let name = numbered(&rt, (i * 37 % 600) as u16);
         assert!(rt; is_made(create_house(alloc, &mut clerk, name), &name));
@@ -279,7 +282,7 @@ fn revisions_are_kept(rt: HostRuntime) {
 
 /// Asserts what a clerk without a geography refuses.
 fn refuses_unsealed<R: Abort>(rt: &R, alloc: Global, plan: PlanName) {
-    let mut clerk = unsealed(rt, alloc);
+    let mut clerk = unsealed_clerk(rt, alloc, 400);
     let why = Refusal::NotSealed;
     assert!(rt; is_refused(post(rt, alloc, &mut clerk, plan, 0, COUNTIES), why));
     assert!(rt; is_refused(patch(rt, alloc, &mut clerk, plan, 0, PATCH), why));
@@ -294,7 +297,7 @@ fn a_post_is_refused(rt: HostRuntime) {
     let alloc = rt.alloc();
     let plan = named(&rt, "a");
     refuses_unsealed(&rt, alloc, plan);
-    let mut clerk = clerk_of_sample(&rt, alloc);
+    let mut clerk = clerk_of_sample(&rt, alloc, 2000);
     let none = post(&rt, alloc, &mut clerk, plan, 0, COUNTIES);
     assert!(rt; is_refused(none, Refusal::NoPlan));
     assert!(rt; is_made(create_house(alloc, &mut clerk, plan), &plan));

@@ -1,24 +1,24 @@
 //! Worked streams over the sample geography's clerk: cut after each byte, cut short, and with a write that fails.
+use crate::stores::clerk_of_sample;
 use byte_stream::sink::WriteSink;
 use byte_stream::source::ReadSource;
-use desk_model::command::Query;
+use desk_clerk::clerk::Clerk;
+use desk_model::command::{Command, Query};
 use desk_model::gate::NoGate;
-use desk_model::geography::sample;
 use desk_model::name::PlanName;
 use desk_model::reply::Reply;
-use desk_store::clerk::Clerk;
 use http_desk::serve::{ServeFault, serve};
+use sector_memory::MemoryDevice;
 use std::alloc::Global;
 use std::io;
 use std::io::{ErrorKind, Read, Write};
 use std::process::Abort;
-use std::sync::Arc;
 
 /// Gives its bytes in two pieces, and counts the calls.
 #[derive(Drop)]
-struct Halves<'a> {
-    bytes: &'a [u8],
-    first: usize,
+pub struct Halves<'a> {
+    pub bytes: &'a [u8],
+    pub first: usize,
 }
 
 impl Read for Halves<'_> {
@@ -34,9 +34,9 @@ impl Read for Halves<'_> {
 
 /// Takes so many bytes, and then fails.
 #[derive(Drop)]
-struct Sheet {
-    bytes: Vec<u8>,
-    room: usize,
+pub struct Sheet {
+    pub bytes: Vec<u8>,
+    pub room: usize,
 }
 
 impl Write for Sheet {
@@ -67,13 +67,7 @@ struct Ran {
     is_posted: bool,
 }
 
-fn clerk_of_sample<R: Abort>(rt: &R, alloc: Global) -> Clerk {
-    let state = sample(alloc).expect(rt, "no memory");
-    let geography = Arc::new(alloc, state).expect(rt, "no memory");
-    Clerk::plain(alloc, Some(geography)).expect(rt, "no memory")
-}
-
-fn is_posted(alloc: Global, clerk: &Clerk) -> bool {
+fn is_posted(alloc: Global, clerk: &Clerk<MemoryDevice>) -> bool {
     match PlanName::read(b"a") {
         Some(plan) => matches!(
             clerk.ask(alloc, Query::Revision { plan, k: 1 }),
@@ -83,8 +77,21 @@ fn is_posted(alloc: Global, clerk: &Clerk) -> bool {
     }
 }
 
-fn run<R: Abort>(rt: &R, alloc: Global, input: &[u8], first: usize, room: usize) -> Ran {
-    let mut clerk = clerk_of_sample(rt, alloc);
+/// Ends the plan a, if there is one: the desk has no plan then.
+fn clear(alloc: Global, clerk: &mut Clerk<MemoryDevice>) {
+    if let Some(plan) = PlanName::read(b"a") {
+        clerk.command(alloc, Command::Retire { plan });
+    }
+}
+
+/// Serves a stream to a clerk with no plan, and ends the plan that it made.
+fn run(
+    alloc: Global,
+    clerk: &mut Clerk<MemoryDevice>,
+    input: &[u8],
+    first: usize,
+    room: usize,
+) -> Ran {
     let mut reader = ReadSource::new(Halves {
         bytes: input,
         first,
@@ -93,23 +100,27 @@ fn run<R: Abort>(rt: &R, alloc: Global, input: &[u8], first: usize, room: usize)
         bytes: Vec::new(alloc),
         room,
     });
-    let served = serve(alloc, &mut reader, &mut writer, &mut clerk, &NoGate);
+    let served = serve(alloc, &mut reader, &mut writer, clerk, &NoGate);
     let unread = reader.into_inner().bytes.len();
     let Sheet { bytes, room: _ } = writer.into_inner();
     let (fault, answers) = match served {
         Ok(served) => (None, served.requests),
         Err(fault) => (Some(fault), 0),
     };
+    let is_posted = is_posted(alloc, clerk);
+    clear(alloc, clerk);
     Ran {
         fault,
         answers,
         output: bytes,
         unread,
-        is_posted: is_posted(alloc, &clerk),
+        is_posted,
     }
 }
 
 const ROOM: usize = 100_000;
+
+const SECTORS: u32 = 500;
 
 /// Streams, the number of their answers, and what is written for them.
 static ROWS: [(&[u8], u64, &[u8]); 9] = [
@@ -171,10 +182,11 @@ const ASKED_ENDS: [usize; 2] = [102, 127];
 
 #[test]
 fn rows_cut_after_each_byte(rt: HostRuntime) {
+    let mut clerk = clerk_of_sample(&rt, rt.alloc(), SECTORS);
     for row in &ROWS {
         let (input, answers, output) = *row;
         for first in 1..=input.len() {
-            let ran = run(&rt, rt.alloc(), input, first, ROOM);
+            let ran = run(rt.alloc(), &mut clerk, input, first, ROOM);
             assert!(rt; ran.output.as_slice() == output);
             assert!(rt; ran.fault.is_none() && ran.answers == answers);
         }
@@ -197,9 +209,10 @@ fn asked_by(end: usize) -> &'static [u8] {
 
 #[test]
 fn fronts_of_a_stream(rt: HostRuntime) {
+    let mut clerk = clerk_of_sample(&rt, rt.alloc(), SECTORS);
     for end in 0..=ASKING.len() {
         for first in [1, 1000] {
-            let ran = run(&rt, rt.alloc(), &ASKING[..end], first, ROOM);
+            let ran = run(rt.alloc(), &mut clerk, &ASKING[..end], first, ROOM);
             assert!(rt; ran.output.as_slice() == asked_by(end));
             assert!(rt; ran.fault.is_none() && ran.is_posted == (end == ASKING.len()));
         }
@@ -208,8 +221,9 @@ fn fronts_of_a_stream(rt: HostRuntime) {
 
 #[test]
 fn a_write_that_fails_at_the_interim_line(rt: HostRuntime) {
+    let mut clerk = clerk_of_sample(&rt, rt.alloc(), SECTORS);
     for room in 0..ASKED.len() {
-        let ran = run(&rt, rt.alloc(), ASKING, 1000, room);
+        let ran = run(rt.alloc(), &mut clerk, ASKING, 1000, room);
         assert!(rt; ran.fault == Some(ServeFault::Write));
         assert!(rt; ran.output.as_slice() == &ASKED[..room]);
         assert!(rt; ran.is_posted == (room >= ASKED_ENDS[1]));
@@ -222,6 +236,7 @@ const TOO_LARGE: &[u8] =
 
 #[test]
 fn nothing_is_read_behind_a_body_that_is_too_large(rt: HostRuntime) {
-    let ran = run(&rt, rt.alloc(), TOO_LARGE, TOO_LARGE.len() - 4, ROOM);
+    let mut clerk = clerk_of_sample(&rt, rt.alloc(), SECTORS);
+    let ran = run(rt.alloc(), &mut clerk, TOO_LARGE, TOO_LARGE.len() - 4, ROOM);
     assert!(rt; ran.answers == 1 && ran.unread == 4);
 }

@@ -1,18 +1,20 @@
 //! The clerk at the counter, alone with the desk.
 ghost use Rattle.std.specs.Prelude.{◌≡◌};
-ghost use Rattle.desk_store.specs.Clerks.{ClerkMay};
 ghost use Rattle.desk_catalogue.specs.Audits.{AskMay};
+ghost use Rattle.desk_clerk.specs.Clerks.{desk_of};
+ghost use Rattle.desk_clerk.specs.Commands.{Does};
 
 use crate::counter::Counter;
+use desk_clerk::clerk::Clerk;
 use desk_model::command::{Command, Query};
 use desk_model::reply::Reply;
-use desk_store::clerk::Clerk;
+use sector_device::SectorDevice;
 use std::alloc::Global;
 
-impl Counter for Clerk {
-    ghost commands = { λ desk command reply after. ClerkMay desk command reply after };
+impl<D: SectorDevice> Counter for Clerk<D> {
+    ghost commands = { λ clerk command reply after. Does clerk command reply after };
 
-    ghost asks = { λ desk query reply after. AskMay desk query reply × (after ≡ desk) };
+    ghost asks = { λ clerk query reply after. AskMay (desk_of clerk) query reply × (after ≡ clerk) };
 
     const ALONE: bool = true;
 

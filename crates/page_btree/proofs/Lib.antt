@@ -22,3 +22,4 @@ pub mod Steps
 pub mod Lefts
 pub mod Fits
 pub mod Spares
+pub mod Rising

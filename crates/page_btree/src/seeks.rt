@@ -1,11 +1,13 @@
 //! Finds the leaf from which rows are read one after the other.
-ghost use Rattle.std.specs.Prelude.{◌≡◌, length, None, OnOk, OnErr, IfErr};
+ghost use Rattle.std.specs.Prelude.{◌≡◌, ◌<◌, length, None, Some, OnOk, OnErr, IfOk, IfErr};
+ghost use Rattle.std.specs.Option.{option_map};
 ghost use Rattle.std.specs.FinMap.{entries};
 ghost use Rattle.sector_device.specs.Disk.{Image};
 ghost use Rattle.page_store.specs.Transactions.{stored, disk_in, count_of, txn_pages, txn_root, over, free_over, IsQuiet, Passed};
-ghost use Rattle.page_node.specs.Entries.{Entry};
+ghost use Rattle.page_node.specs.Entries.{Entry, child_in};
 ghost use Rattle.page_node.specs.Node.{Node, IsNode};
-ghost use Rattle.page_node.specs.Places.{Rises, ceiling, entries_from};
+ghost use Rattle.page_node.specs.Places.{Rises, floor, ceiling, entries_from};
+ghost use Rattle.page_node.specs.Searching.{RisesBehind};
 ghost use Rattle.page_node.specs.Walking.{IsAhead};
 ghost use Rattle.page_btree.specs.Keys.{KeyMap};
 ghost use Rattle.page_btree.specs.Map.{InTxn, IsRooted};
@@ -17,7 +19,7 @@ ghost use Rattle.page_btree.specs.declared.error.TreeError.TheVariants.{DeviceFa
 use crate::error::TreeError;
 use crate::gets::read_level;
 use crate::small_bytes::SmallBytes;
-use page_node::{bound_for, child_for, level_of, place_from};
+use page_node::{level_of, place_from, way_for};
 use page_store::{Pages, Txn};
 use sector_device::SectorDevice;
 
@@ -148,8 +150,7 @@ fn leaf_below<D: SectorDevice>(
     if level == 0 {
         return stand(leaf, key);
     }
-    let child = child_for(&leaf.page, key)?;
-    keep_bound(leaf, key)?;
+    let child = go_down(leaf, key)?;
     read_level(txn, pages, child, level - 1, &mut leaf.page)?;
     leaf_below(txn, pages, leaf, level - 1, key)
 }
@@ -168,19 +169,22 @@ fn stand(leaf: &mut Leaf, key: &[u8]) -> Result<(), TreeError>
     Ok(())
 }
 
-/// Keeps the first key in a node above the leaves that is above this one, as the bound.
-fn keep_bound(leaf: &mut Leaf, key: &[u8]) -> Result<(), TreeError>
+/// Finds the child of a node above the leaves that a key belongs to, and keeps the first key in it that is above this one, as the
+/// bound.
+fn go_down(leaf: &mut Leaf, key: &[u8]) -> Result<u32, TreeError>
     ensures page { leaf.new.page ≡ leaf.old.page }
-    ensures bound { (node : Node) → IsNode leaf.old.page node → OnOk result (bound_in leaf.new ≡ nearer (ceiling key.now node.entries) (bound_in leaf.old)) }
+    ensures child { (node : Node) → IsNode leaf.old.page node → RisesBehind node.entries → IfOk result (λ child. option_map child_in (floor key.now node.entries) ≡ Some child) }
+    ensures bound { (node : Node) → IsNode leaf.old.page node → RisesBehind node.entries → OnOk result (bound_in leaf.new ≡ nearer (ceiling key.now node.entries) (bound_in leaf.old)) }
     ensures err { IfErr result (λ e. e ≡ DeviceFault) }
-    ensures refused { OnErr result ((node : Node) → IsNode leaf.old.page node → ⊥) }
+    ensures refused { OnErr result ((node : Node) → IsNode leaf.old.page node → RisesBehind node.entries → 0 < node.level → floor key.now node.entries ≡ None) }
 {
-    match bound_for(&leaf.page, key)? {
-        None => Ok(()),
+    let way = way_for(&leaf.page, key)?;
+    match way.bound {
+        None => Ok(way.child),
         Some(bound) => {
             leaf.bound.set(bound);
             leaf.bounded = true;
-            Ok(())
+            Ok(way.child)
         }
     }
 }

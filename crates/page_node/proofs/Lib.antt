@@ -4,3 +4,4 @@ pub mod Editing
 pub mod Writing
 pub mod PageEdits
 pub mod Splitting
+pub mod Nearing

@@ -16,6 +16,7 @@ use Rattle.std.specs.Ordering.{is_gt}
 use Rattle.std.specs.declared.cmp.Ordering.{Ordering}
 use Rattle.std.specs.declared.cmp.Ordering.TheVariants.{Less, Equal, Greater}
 use Rattle.page_node.specs.Places.{key_cmp, floor}
+use Rattle.page_node.specs.Searching.{IsLast}
 use Rattle.page_node.specs.Entries.{child_in}
 use Rattle.page_node.proofs.Standing.{Stands, nothing, entry_there, end_below, to_held, view_of}
 
@@ -282,12 +283,6 @@ read_node count marks page moved rest same long held counted =
     (view_of (get_or page 0 0) (read_from count (drop 4 page)) marks (page ++ rest) count (page_stands (get_or page 0 0) count marks page rest long held) (sym (length-read count (drop 4 page)))))
 
 -- ---- a search for the last key that isn't above a key
-pub record IsLast (page key : List ℕ) (es : List Entry) (k value at : ℕ) : Type 0 where
-  pub place : at ≡ 4 + size_of (take k es)
-  pub below : (j : ℕ) → 0 < j → j < k → is_gt (key_cmp (key_at es j) key) ≡ false
-  pub none : k ≡ 0 → value ≡ 0
-  pub some : 0 < k → (0 < value) × (value + length (value_at es (k - 1)) ≡ at) × (take (at - value) (drop value page) ≡ value_at es (k - 1))
-
 pub last_start : (page key : List ℕ) (es : List Entry) → IsLast page key es 0 0 4
 last_start page key es = record { place = refl; below = λ j some less. absurd (omega arith); none = λ _. refl; some = λ some. absurd (omega arith) }
 

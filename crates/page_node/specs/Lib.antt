@@ -7,3 +7,4 @@ pub mod Bytes
 pub mod Places
 pub mod Walking
 pub mod Spots
+pub mod Searching

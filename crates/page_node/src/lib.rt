@@ -13,4 +13,4 @@ pub use edit::{put_row, take_row, take_spare_row};
 pub use entry::{Bounds, bounds_in};
 pub use node_buf::NodeBuf;
 pub use scan::NotANode;
-pub use search::{Place, bound_for, child_for, level_of, place_from, value_for};
+pub use search::{Place, Way, child_for, level_of, place_from, value_for, way_for};

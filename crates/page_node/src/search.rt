@@ -1,5 +1,5 @@
 //! Keys searched in a page where they lie.
-ghost use Rattle.std.specs.Prelude.{◌≡◌, ◌≢◌, ◌<◌, ◌≤◌, ◌+◌, ◌-◌, ◌⊎◌, take, drop, length, IfOk, IfSome, OnErr};
+ghost use Rattle.std.specs.Prelude.{◌≡◌, ◌≢◌, ◌<◌, ◌≤◌, ◌+◌, ◌-◌, ◌⊎◌, take, drop, length, IfOk, IfSome, IfNone, OnErr};
 ghost use Rattle.std.specs.Option.{option_copied, option_map};
 ghost use Rattle.std.specs.FinMap.{find};
 ghost use Rattle.std.specs.Ordering.{is_gt, is_lt};
@@ -8,6 +8,7 @@ ghost use Rattle.page_node.specs.Entries.{child_in};
 ghost use Rattle.page_node.specs.Node.{Node, IsNode, count_in};
 ghost use Rattle.page_node.specs.Places.{key_cmp, Rises, floor, ceiling, entries_from};
 ghost use Rattle.page_node.specs.Walking.{IsAhead};
+ghost use Rattle.page_node.specs.Searching.{IsLast, RisesBehind};
 
 use crate::entry::bounds_in;
 use crate::scan::NotANode;
@@ -127,26 +128,83 @@ pub fn child_for(page: &[u8; 4096], key: &[u8]) -> Result<u32, NotANode>
     child_at(page, value, at)
 }
 
-/// Where the children of a node end that a key's own child is one of: the first key above it, if there is one. The first key is
-/// not looked at.
-pub fn bound_for<'a>(page: &'a [u8; 4096], key: &[u8]) -> Result<Option<&'a [u8]>, NotANode>
-    ensures bound { (node : Node) → IsNode page.now node → IfOk result (λ found. option_copied found ≡ ceiling key.now node.entries) }
-    ensures short { IfOk result (λ found. IfSome found (λ bound. length bound.now ≤ 72)) }
-    ensures err { OnErr result ((node : Node) → IsNode page.now node → ⊥) }
+/// Where a search for a key goes on: before the entry of this number, at this place. The value of the one before it begins there.
+#[derive(Clone, Copy, Drop)]
+struct Near {
+    k: usize,
+    value: usize,
+    at: usize,
+}
+
+/// A place near the child that a key belongs to, in a page whose keys rise behind the first: no key before it is above this one.
+/// One key of eight is looked at.
+fn near_for(page: &[u8; 4096], key: &[u8]) -> Option<Near>
+    ensures within { IfSome result (λ near. (near.at ≤ 4096) × (near.value ≤ 4096) × (near.k ≤ count_in page.now)) }
+    ensures last { (node : Node) → IsNode page.now node → RisesBehind node.entries → IfSome result (λ near. IsLast page.now key.now node.entries near.k near.value near.at) }
+    ensures none { IfNone result ((node : Node) → IsNode page.now node → ⊥) }
 {
     let count = count_of(page);
+    let mut near = Near {
+        k: 0,
+        value: 0,
+        at: 4,
+    };
+    let mut value = 0;
     let mut at = 4;
     for k in 0..count {
+        let bounds = match bounds_in(page, at) {
+            None => return None,
+            Some(bounds) => bounds,
+        };
+        if k % 8 == 7 {
+            if is_above(page, at + 3, bounds.value, key) {
+                return Some(near);
+            }
+            near = Near { k, value, at };
+        }
+        value = bounds.value;
+        at = bounds.end;
+    }
+    Some(near)
+}
+
+/// The way down from a node: a child, and the first key of the children behind it, if there are some.
+#[derive(Clone, Copy, Drop)]
+pub struct Way<'a> {
+    pub child: u32,
+    pub bound: Option<&'a [u8]>,
+}
+
+/// The child that a key belongs to, as `child_for` finds it, with the first key above it, in a page whose keys rise behind the
+/// first, which is not looked at.
+pub fn way_for<'a>(page: &'a [u8; 4096], key: &[u8]) -> Result<Way<'a>, NotANode>
+    ensures child { (node : Node) → IsNode page.now node → RisesBehind node.entries → IfOk result (λ way. option_map child_in (floor key.now node.entries) ≡ Some way.child) }
+    ensures bound { (node : Node) → IsNode page.now node → RisesBehind node.entries → IfOk result (λ way. option_copied way.bound ≡ ceiling key.now node.entries) }
+    ensures short { IfOk result (λ way. IfSome way.bound (λ bound. length bound.now ≤ 72)) }
+    ensures err { OnErr result ((node : Node) → IsNode page.now node → RisesBehind node.entries → 0 < node.level → floor key.now node.entries ≡ None) }
+{
+    let count = count_of(page);
+    let near = match near_for(page, key) {
+        None => return Err(NotANode),
+        Some(near) => near,
+    };
+    let mut value = near.value;
+    let mut at = near.at;
+    for k in near.k..count {
         let bounds = match bounds_in(page, at) {
             None => return Err(NotANode),
             Some(bounds) => bounds,
         };
         if k > 0 && is_above(page, at + 3, bounds.value, key) {
-            return Ok(Some(part(page, at + 3, bounds.value)));
+            let child = child_at(page, value, at)?;
+            let bound = Some(part(page, at + 3, bounds.value));
+            return Ok(Way { child, bound });
         }
+        value = bounds.value;
         at = bounds.end;
     }
-    Ok(None)
+    let child = child_at(page, value, at)?;
+    Ok(Way { child, bound: None })
 }
 
 /// Where in a page entries begin, and how many they are.

@@ -1,28 +1,40 @@
 //! `talk`: serves standard input to standard output, with a clerk alone over the sample geography.
-ghost use Rattle.std.specs.Prelude.{◌≡◌, ◌+◌, ◌≤◌, Err, IfSome};
+ghost use Rattle.std.specs.Prelude.{◌≡◌, ◌+◌, ◌≤◌, false, Err, IfSome};
 ghost use Rattle.byte_stream.specs.Counts.{counted};
 ghost use Rattle.http_desk.specs.Serving.{read_failures, write_failures};
 ghost use Rattle.desk_model.specs.Sample.{sample_desk};
+ghost use Rattle.desk_clerk.specs.Clerks.{desk_of, is_halted, Keeps};
 ghost use Rattle.talk_command.specs.Talking.{Talks, ServesSample, status_of as status_of_served};
 
 use byte_stream::sink::Sink;
 use byte_stream::source::Source;
+use desk_clerk::clerk::Clerk;
+use desk_loading::start;
 use desk_model::gate::NoGate;
 use desk_model::geography::sample;
-use desk_store::clerk::Clerk;
 use exit_status::status::Status;
 use http_desk::serve::{ServeFault, Served, serve};
+use sector_device::SectorDevice;
+use sector_memory::MemoryDevice;
 use std::alloc::Global;
 use std::io::Write;
 use std::sync::Arc;
 
-/// The clerk of the sample geography, or `None` where memory is refused.
-fn sample_clerk(alloc: Global) -> Option<Clerk>
-    ensures { IfSome result (λ clerk. clerk ≡ sample_desk) }
+/// How many sectors the store in memory has, and how many of them a commit's journal.
+const SECTORS: u32 = 2000;
+
+const JOURNAL_PAGES: u32 = 256;
+
+/// A clerk with the sample geography in a store in memory, or `None` where memory is refused.
+fn sample_clerk(alloc: Global) -> Option<Clerk<MemoryDevice>>
+    ensures keeps { IfSome result Keeps }
+    ensures desk { IfSome result (λ clerk. desk_of clerk ≡ sample_desk) }
+    ensures working { IfSome result (λ clerk. is_halted clerk ≡ false) }
 {
     let geography = sample(alloc).ok()?;
     let shared = Arc::new(alloc, geography).ok()?;
-    Clerk::plain(alloc, Some(shared)).ok()
+    let device = MemoryDevice::new(alloc, SECTORS).ok()?;
+    start(alloc, device, JOURNAL_PAGES, shared).ok()
 }
 
 /// Serves the sample desk.
@@ -31,7 +43,7 @@ fn serve_sample<R: Source, W: Sink>(
     reader: &mut R,
     writer: &mut W,
 ) -> Result<Served, ServeFault>
-    ensures serves { ServesSample result (R.remaining reader.old) (R.remaining reader.new) (W.contents writer.old) (W.contents writer.new) }
+    ensures serves { ServesSample ⟦<MemoryDevice as SectorDevice>⟧ result (R.remaining reader.old) (R.remaining reader.new) (W.contents writer.old) (W.contents writer.new) }
     ensures read_failures { R.failures reader.new ≡ read_failures (R.failures reader.old) result }
     ensures write_failures { W.failures writer.new ≡ write_failures (W.failures writer.old) result }
     ensures turns { result ≡ Err ServeFault.TurnLimit → R.turns reader.new ≡ counted (R.turns reader.old) 4294967296 }
@@ -70,7 +82,7 @@ pub fn talk<R: Source, W: Sink, E: Write>(
     writer: &mut W,
     errors: &mut E,
 ) -> Status
-    ensures { Talks result (R.remaining reader.old) (R.remaining reader.new) (W.contents writer.old) (W.contents writer.new)
+    ensures { Talks ⟦<MemoryDevice as SectorDevice>⟧ result (R.remaining reader.old) (R.remaining reader.new) (W.contents writer.old) (W.contents writer.new)
         (R.failures reader.old) (R.failures reader.new) (W.failures writer.old) (W.failures writer.new) (R.turns reader.old) (R.turns reader.new) }
 {
     let served = serve_sample(alloc, reader, writer);

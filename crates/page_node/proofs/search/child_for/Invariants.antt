@@ -1,6 +1,6 @@
 use Rattle.std.proofs.Common.{◌≤◌}
 use Rattle.page_node.specs.Node.{Node, IsNode}
-use Rattle.page_node.proofs.Scanning.{IsLast}
+use Rattle.page_node.specs.Searching.{IsLast}
 use Rattle.page_node.proofs.search.child_for.Given as goal
 
 abbrev pub invariant-loop-k : goal.invariant-loop-k

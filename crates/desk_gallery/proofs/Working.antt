@@ -1,0 +1,123 @@
+-- A command at the clerk beside the writer.
+use Rattle.std.proofs.Common.{◌≡◌, ◌⊎◌, ◌+◌, Bool, true, false, List, [], ◌∷◌, ◌++◌, length, inl, inr, refl, sym, ap, subst, ◌∙◌, arith, length-append}
+use Rattle.sector_device.specs.declared.SectorDevice.{Ghosts}
+use Rattle.desk_model.specs.declared.command.Command.{Command}
+use Rattle.desk_model.specs.declared.reply.Reply.{Reply}
+use Rattle.desk_model.specs.declared.reply.Reply.TheVariants.{Refused}
+use Rattle.desk_model.specs.declared.reply.Refusal.{Refusal}
+use Rattle.desk_model.specs.declared.reply.Refusal.TheVariants.{Memory}
+use Rattle.desk_model.specs.Desk.{Desk}
+use Rattle.desk_model.specs.Outcome.{IsAcceptance}
+use Rattle.desk_model.specs.Step.{step}
+use Rattle.desk_clerk.specs.declared.clerk.Clerk.{Clerk}
+use Rattle.desk_clerk.specs.declared.ready.Ready.{Ready}
+use Rattle.desk_clerk.specs.Keeping.{IsLeft}
+use Rattle.desk_clerk.specs.Clerks.{desk_of, is_halted, sectors_of, Keeps, Reads}
+use Rattle.desk_clerk.specs.Commands.{command_of, MustBeFull, PrepareErr, IsReady, IsMade, IsNotMade, Commits, Does}
+use Rattle.desk_clerk.proofs.Kept.{acceptance_is}
+use Rattle.desk_clerk.proofs.Done.{refused_does, committed_does}
+use Rattle.desk_gallery.specs.After.{after}
+use Rattle.desk_gallery.specs.Fronts.{Kept, kept_of, IsClerk, Works, OpensShown}
+use Rattle.desk_gallery.specs.Outcomes.{OutcomeMay}
+use Rattle.desk_gallery.specs.Working.{Agree, Worked}
+use Rattle.desk_gallery.proofs.Afters.{after_more}
+use Rattle.desk_gallery.proofs.Outcomes.{outcome_is}
+
+either : (b : Bool) → (b ≡ true) ⊎ (b ≡ false)
+either true = inl refl
+either false = inr refl
+
+clash_of : (b : Bool) → b ≡ true → b ≡ false → ⊥
+clash_of b on off = let clash : true ≡ false = sym on ∙ off in cc
+
+module _ {D : Type 0} {g : Ghosts D} where
+  pub was_working : (x y : Clerk D g) → Reads x y → is_halted y ≡ false → is_halted x ≡ false
+  was_working x y reads works = elim (either x.halted) [
+    | inl on ↦ absurd (clash_of y.halted (reads.halts on) works)
+    | inr off ↦ off
+  ]
+
+  agree_read : (first : Desk) (x y : Clerk D g) (s : List Command × List Command) → Agree first x s → Reads x y → Agree first y s
+  agree_read first x y s agree reads = record {
+    desk = reads.desk ∙ agree.desk;
+    none = λ off. agree.none (was_working x y reads off);
+    few = agree.few;
+  }
+
+  -- a command that was refused before its change was appended
+  pub refused_work : (first : Desk) (x y : Clerk D g) (s : List Command × List Command) (c : Command) (r : Refusal) → Agree first x s → Reads x y → y.loading ≡ x.loading → PrepareErr x c r y → Worked first x s c (Refused r) y s
+  refused_work first x y s c r agree reads loading why = record {
+    does = refused_does x y c r reads loading why;
+    agree = agree_read first x y s agree reads;
+    joined = λ accepted. absurd accepted;
+    same = λ other. refl;
+  }
+
+  -- one that was ready, but for which memory was refused
+  pub unready_work : (first : Desk) (x y : Clerk D g) (s t : List Command × List Command) (c : Command) → Agree first x s → Reads x y → y.loading ≡ x.loading → is_halted y ≡ false → t ≡ s → Worked first x s c (Refused Memory) y t
+  unready_work first x y s t c agree reads loading works same =
+      subst (λ (l : List Command × List Command). Worked first x s c (Refused Memory) y l) (sym same)
+      (refused_work first x y s c Memory agree reads loading (λ on. clash_of y.halted on works, reads.desk))
+
+  made_work : (first : Desk) (x y z : Clerk D g) (s u : List Command × List Command) (c : Command) (r : Ready) (reply : Reply) → Does x c reply z → Agree first x s → Reads x y → IsReady y r → command_of r ≡ c
+      → IsMade y r reply z → u.0 ≡ s.0 ++ c ∷ [] → u.1 ≡ u.0 → Worked first x s c reply z u
+  made_work first x y z s u c r reply does agree reads ready is made grown whole =
+      let next : desk_of z ≡ (step (after first s.0) c).1 = made.desk ∙ (ready.accepted.desk ∙ (ap (λ (q : Command). (step (desk_of y) q).1) is ∙ ap (λ (d : Desk). (step d c).1) (reads.desk ∙ agree.desk))) in
+      record {
+        does = does;
+        agree = record {
+          desk = next ∙ (sym (after_more first s.0 c) ∙ ap (λ l. after first l) (sym grown));
+          none = λ off. whole;
+          few = let same : length u.1 ≡ length u.0 = ap length whole in omega (arith, same);
+        };
+        joined = λ accepted. grown;
+        same = λ other. absurd (other (subst IsAcceptance (sym made.reply_is) (acceptance_is (command_of r))));
+      }
+
+  unmade_work : (first : Desk) (x y z : Clerk D g) (s u : List Command × List Command) (c : Command) (reply : Reply) → Does x c reply z → Agree first x s → Reads x y
+      → IsNotMade y reply z → u.0 ≡ s.0 → u.1 ≡ s.0 ++ c ∷ [] → Worked first x s c reply z u
+  unmade_work first x y z s u c reply does agree reads fault still waits =
+      record {
+        does = does;
+        agree = record {
+          desk = fault.desk ∙ (reads.desk ∙ (agree.desk ∙ ap (λ l. after first l) (sym still)));
+          none = λ off. absurd (clash_of z.halted fault.halted off);
+          few = let longer : length u.1 ≡ length s.0 + 1 = ap length waits ∙ length-append s.0 (c ∷ []) in let same : length u.0 ≡ length s.0 = ap length still in omega (arith, longer, same);
+        };
+        joined = λ accepted. absurd (subst IsAcceptance fault.reply_is accepted);
+        same = λ other. still;
+      }
+
+  -- one whose change was appended, and which was then committed or not
+  pub settled_work : (first : Desk) (x y z : Clerk D g) (s t u : List Command × List Command) (c : Command) (r : Ready) (reply : Reply) → Agree first x s → Reads x y → y.loading ≡ x.loading → IsReady y r → command_of r ≡ c → (MustBeFull x c → ⊥) → is_halted y ≡ false
+      → t ≡ (s.0, s.1 ++ command_of r ∷ []) → Commits y r reply z → (is_halted z ≡ false → u ≡ (t.1, t.1)) → (is_halted z ≡ true → u ≡ t) → Worked first x s c reply z u
+  settled_work first x y z s t u c r reply agree reads loading ready is room works appended commits shown hidden =
+      let does = committed_does x y z c r reply reads loading ready is room works commits in
+      let none : s.1 ≡ s.0 = agree.none (was_working x y reads works) in
+      let all : t.1 ≡ s.0 ++ c ∷ [] = ap (λ p. p.1) appended ∙ (ap (λ l. l ++ command_of r ∷ []) none ∙ ap (λ (q : Command). s.0 ++ q ∷ []) is) in
+      elim commits.outcome [
+        | inl made ↦ made_work first x y z s u c r reply does agree reads ready is made (ap (λ p. p.0) (shown made.works) ∙ all) (ap (λ p. p.1) (shown made.works) ∙ sym (ap (λ p. p.0) (shown made.works)))
+        | inr fault ↦ unmade_work first x y z s u c reply does agree reads fault (ap (λ p. p.0) (hidden fault.halted) ∙ ap (λ p. p.0) appended) (ap (λ p. p.1) (hidden fault.halted) ∙ all)
+      ]
+
+  is_clerk : (first : Desk) (x : Clerk D g) (s : List Command × List Command) → Agree first x s → IsClerk first (kept_of x s) x
+  is_clerk first x s agree = record { device = refl; halted = refl; sectors = refl; room = refl; free = refl; desk = agree.desk }
+
+  pub is_clerk_of : (first : Desk) (x : Clerk D g) (s : List Command × List Command) (f : Kept D) → kept_of x s ≡ f → Agree first x s → IsClerk first f x
+  is_clerk_of first x s f is agree = subst (λ (k : Kept D). IsClerk first k x) is (is_clerk first x s agree)
+
+  pub works_of : (first : Desk) (x y : Clerk D g) (s t : List Command × List Command) (old : Kept D) (c : Command) (reply : Reply) → kept_of x s ≡ old → Agree first x s → Worked first x s c reply y t → Works g first old c reply (kept_of y t)
+  works_of first x y s t old c reply was agree worked = record {
+    clerk = x;
+    is = is_clerk_of first x s old was agree;
+    next = y;
+    is_next = is_clerk first y t worked.agree;
+    does = worked.does;
+  }
+
+  pub outcome_of : (first : Desk) (x y : Clerk D g) (s t : List Command × List Command) (c : Command) (reply : Reply) → Agree first x s → Worked first x s c reply y t → OutcomeMay (after first s.0) c reply (after first t.0)
+  outcome_of first x y s t c reply agree worked =
+      subst (λ (d : Desk). OutcomeMay d c reply (after first t.0)) agree.desk (subst (λ (e : Desk). OutcomeMay (desk_of x) c reply e) worked.agree.desk (outcome_is _ _ _ (desk_of x) c reply (desk_of y) worked.does.outcome))
+
+  pub opens_shown : (first : Desk) (x : Clerk D g) (s : List Command × List Command) → Agree first x s → Keeps x → OpensShown g first (kept_of x s)
+  opens_shown first x s agree keeps honest c leaves = subst (λ (d : Desk). IsLeft (is_halted x) (sectors_of x) d c) agree.desk (keeps.left honest c leaves)

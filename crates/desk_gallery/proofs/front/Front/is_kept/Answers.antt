@@ -1,0 +1,13 @@
+use Rattle.std.proofs.Common.{◌≡◌, ◌≤◌, ◌+◌, false, length, subst}
+use Rattle.desk_gallery.specs.Fronts.{Kept, OpensShown}
+use Rattle.desk_gallery.proofs.Working.{opens_shown}
+use Rattle.desk_gallery.proofs.front.Front.is_kept.Goals as goal
+
+pub returns-clause-kept : goal.returns-clause-kept
+returns-clause-kept g c sound = subst (λ (k : Kept g.row.D.Denot). OpensShown g.D.SectorDevice g.J.Room.first k) c.self.view_is (opens_shown g.J.Room.first c.self.inside.clerk c.self.inside.shower c.self.invariant.0 (c.self.invariant.1 sound))
+
+pub returns-clause-none : goal.returns-clause-none
+returns-clause-none g c = subst (λ (k : Kept g.row.D.Denot). k.halted ≡ false → k.all ≡ k.shown) c.self.view_is c.self.invariant.0.none
+
+pub returns-clause-few : goal.returns-clause-few
+returns-clause-few g c = subst (λ (k : Kept g.row.D.Denot). length k.all ≤ length k.shown + 1) c.self.view_is c.self.invariant.0.few

@@ -1,0 +1,48 @@
+-- What lies under an office's lock, as the layers above see it.
+use Rattle.std.specs.Prelude.{◌≡◌, ℕ, Bool, List}
+use Rattle.sector_device.specs.Disk.{Image}
+use Rattle.sector_device.specs.declared.SectorDevice.{Ghosts}
+use Rattle.page_store.specs.Transactions.{device_in}
+use Rattle.desk_model.specs.declared.command.Command.{Command}
+use Rattle.desk_model.specs.declared.reply.Reply.{Reply}
+use Rattle.desk_model.specs.Desk.{Desk}
+use Rattle.desk_clerk.specs.declared.clerk.Clerk.{Clerk}
+use Rattle.desk_clerk.specs.Keeping.{IsLeft}
+use Rattle.desk_clerk.specs.Clerks.{desk_of, is_halted, sectors_of, room_of, free_of}
+use Rattle.desk_clerk.specs.Commands.{Does}
+use Rattle.desk_gallery.specs.After.{after}
+
+-- the store's device, whether it has halted, its sizes, the changes that are shown, and these with what is pending behind them
+pub record Kept (D : Type 0) : Type 0 where
+  pub device : D
+  pub halted : Bool
+  pub sectors : ℕ
+  pub room : ℕ
+  pub free : ℕ
+  pub shown : List Command
+  pub all : List Command
+
+module _ {D : Type 0} {g : Ghosts D} where
+  abbrev pub kept_of : Clerk D g → List Command × List Command → Kept D
+  kept_of x lists = record { device = device_in x.pages; halted = is_halted x; sectors = sectors_of x; room = room_of x; free = free_of x; shown = lists.0; all = lists.1 }
+
+  -- such a clerk lies there, and shows the desk after the changes that are shown
+  pub record IsClerk (first : Desk) (f : Kept D) (x : Clerk D g) : Type 0 where
+    pub device : device_in x.pages ≡ f.device
+    pub halted : is_halted x ≡ f.halted
+    pub sectors : sectors_of x ≡ f.sectors
+    pub room : room_of x ≡ f.room
+    pub free : free_of x ≡ f.free
+    pub desk : desk_of x ≡ after first f.shown
+
+-- what became of a command, at the clerk that lies there
+pub record Works {D : Type 0} (g : Ghosts D) (first : Desk) (old : Kept D) (c : Command) (reply : Reply) (new : Kept D) : Type 0 where
+  pub clerk : Clerk D g
+  pub is : IsClerk first old clerk
+  pub next : Clerk D g
+  pub is_next : IsClerk first new next
+  pub does : Does clerk c reply next
+
+-- each image that a stop may leave opens to the desk that is shown, or after a halt to that or to the desk after one change more
+abbrev pub OpensShown : {D : Type 0} → Ghosts D → Desk → Kept D → Type 0
+OpensShown g first f = (g.disk f.device).is_honest → (c : Image) → (g.disk f.device).leaves c → IsLeft f.halted f.sectors (after first f.shown) c

@@ -1,0 +1,6 @@
+pub mod After
+pub mod Rules
+pub mod Shelves
+pub mod Outcomes
+pub mod Fronts
+pub mod Working

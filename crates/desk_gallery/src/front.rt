@@ -1,0 +1,151 @@
+//! The clerk with the writer of the gallery.
+ghost use Rattle.std.specs.Prelude.{◌≡◌, false, true};
+ghost use Rattle.desk_clerk.specs.Clerks.{is_halted};
+ghost use Rattle.desk_clerk.specs.Commands.{IsReady, Commits};
+ghost use Rattle.desk_gallery.specs.Working.{Agree, Worked};
+
+use crate::book::Room;
+use crate::shower::Shower;
+use crate::visitor::Told;
+use desk_clerk::clerk::Clerk;
+use desk_clerk::ready::Ready;
+use desk_model::command::Command;
+use desk_model::reply::{Refusal, Reply};
+use sector_device::SectorDevice;
+use std::alloc::Global;
+use std::marker::Model;
+use std::sync::Wait;
+
+/// Commits a command whose change waits to be shown, and shows it once the commit is done. A fault leaves it pending.
+fn settle<J: Room, D: SectorDevice, R: Wait>(
+    rt: &R,
+    clerk: &mut Clerk<D>,
+    shower: &mut Shower<J>,
+    ready: Ready,
+) -> Reply
+    requires { IsReady clerk.old ready }
+    ensures commits { Commits clerk.old ready result clerk.new }
+    ensures shown { is_halted clerk.new ≡ false → shower.new ≡ (shower.old.1, shower.old.1) }
+    ensures hidden { is_halted clerk.new ≡ true → shower.new ≡ shower.old }
+{
+    let reply = ready.commit(clerk);
+    if !clerk.halted() {
+        shower.show(rt);
+    }
+    reply
+}
+
+/// The outcome of a command; its change is shown once its commit is done.
+fn work<J: Room, D: SectorDevice, R: Wait>(
+    rt: &R,
+    alloc: Global,
+    clerk: &mut Clerk<D>,
+    shower: &mut Shower<J>,
+    command: Command,
+) -> Reply
+    requires { Agree J.first clerk.old shower.old }
+    ensures { Worked J.first clerk.old shower.old command result clerk.new shower.new }
+{
+    let ready = match clerk.prepare(alloc, command) {
+        Ok(ready) => ready,
+        Err(refusal) => return Reply::Refused(refusal),
+    };
+    let Ok(change) = ready.change() else {
+        return Reply::Refused(Refusal::Memory);
+    };
+    if shower.append(change).is_err() {
+        return Reply::Refused(Refusal::Memory);
+    }
+    settle(rt, clerk, shower, ready)
+}
+
+/// What lies under an office's lock: a clerk, and the writer that shows its desk.
+///
+/// It is not `Drop`: end it by `close`.
+pub struct Front<J: Room, D: SectorDevice> {
+    pub(crate) clerk: Clerk<D>,
+    pub(crate) shower: Shower<J>,
+}
+
+impl<J: Room, D: SectorDevice> Model for Front<J, D> {
+    ghost use Rattle.desk_clerk.specs.Clerks.{Keeps};
+    ghost use Rattle.desk_gallery.specs.Fronts.{Kept, kept_of};
+    ghost use Rattle.desk_gallery.specs.Working.{Agree};
+
+    ghost Value = { Kept D };
+
+    ghost view = { λ f. kept_of f.clerk f.shower };
+
+    ghost invariant = { λ f. Agree J.first f.clerk f.shower × (J.sound → Keeps f.clerk) };
+}
+
+impl<J: Room, D: SectorDevice> Front<J, D> {
+    ghost use Rattle.std.specs.Prelude.{◌≡◌, ◌≤◌, ◌+◌, ◌∷◌, ◌++◌, [], false, length};
+    ghost use Rattle.desk_model.specs.Outcome.{IsAcceptance};
+    ghost use Rattle.desk_clerk.specs.Clerks.{desk_of, is_halted, Keeps};
+    ghost use Rattle.desk_gallery.specs.After.{after};
+    ghost use Rattle.desk_gallery.specs.Fronts.{kept_of, IsClerk, Works, OpensShown};
+    ghost use Rattle.desk_gallery.specs.Outcomes.{OutcomeMay};
+
+    /// Of a clerk and a writer that shows its desk, with nothing pending.
+    pub fn new(clerk: Clerk<D>, shower: Shower<J>) -> Front<J, D>
+        requires none { shower.1 ≡ shower.0 }
+        requires same { desk_of clerk ≡ after J.first shower.0 }
+        requires kept { J.sound → Keeps clerk }
+        ensures { result ≡ kept_of clerk shower }
+    {
+        Front { clerk, shower }
+    }
+
+    /// How many changes are shown.
+    pub fn shown(&self) -> u128
+        ensures { result ≡ length self.now.shown }
+    {
+        u128::from(self.shower.shown())
+    }
+
+    /// What is shown.
+    pub fn tell(&self) -> Told<J>
+        ensures { result ≡ self.now.shown }
+    {
+        self.shower.tell()
+    }
+
+    /// Whether the device has failed.
+    pub fn halted(&self) -> bool
+        ensures { result ≡ self.now.halted }
+    {
+        self.clerk.halted()
+    }
+
+    /// Nothing that was shown is lost: what the store keeps opens to it. Only a halt leaves a change pending, one at most.
+    pub fn is_kept(&self)
+        ensures kept { J.sound → OpensShown D.SectorDevice J.first self.now }
+        ensures none { self.now.halted ≡ false → self.now.all ≡ self.now.shown }
+        ensures few { length self.now.all ≤ length self.now.shown + 1 }
+    {
+        let _ = &self.clerk;
+    }
+
+    /// The outcome of a command, and what is shown then. A change is shown once its commit is done.
+    pub fn command<R: Wait>(&mut self, rt: &R, alloc: Global, command: Command) -> (Reply, Told<J>)
+        ensures works { Works D.SectorDevice J.first self.old command result.0 self.new }
+        ensures outcome { OutcomeMay (after J.first self.old.shown) command result.0 (after J.first self.new.shown) }
+        ensures joined { IsAcceptance result.0 → self.new.shown ≡ self.old.shown ++ command ∷ [] }
+        ensures same { ¬ IsAcceptance result.0 → self.new.shown ≡ self.old.shown }
+        ensures told { result.1 ≡ self.new.shown }
+    {
+        let reply = work(rt, alloc, &mut self.clerk, &mut self.shower, command);
+        (reply, self.shower.tell())
+    }
+
+    /// The clerk. It waits for those that are visiting.
+    pub fn close<R: Wait>(self, rt: &R) -> Clerk<D>
+        ensures clerk { IsClerk J.first self result }
+        ensures kept { J.sound → Keeps result }
+    {
+        let Front { clerk, shower } = self;
+        shower.close(rt);
+        clerk
+    }
+}

@@ -1,0 +1,80 @@
+//! The opening of a gallery.
+ghost use Rattle.std.specs.Prelude.{◌≡◌, ◌<◌, ◌^◌, [], All, length, IfOk};
+
+use crate::book::{Opened, Room};
+use crate::shelf::Shelf;
+use crate::shower::Shower;
+use crate::tied::Copies;
+use crate::visitor::Visitor;
+use desk_catalogue::catalogue::Catalogue;
+use std::alloc::{AllocError, Global};
+use std::sync::Arc;
+
+/// Why no gallery was opened, or not for all its visitors.
+pub enum GalleryFault<J: Room> {
+    Memory,
+    /// A reader's place wasn't given.
+    Refused(Shower<J>),
+}
+
+/// The writer, with room for so many visitors.
+fn shower<J: Room>(
+    alloc: Global,
+    opened: Opened,
+    catalogue: Arc<Catalogue>,
+    visitors: usize,
+) -> Result<Shower<J>, AllocError>
+    requires book { opened.seen.book ≡ J.book }
+    requires first { catalogue.value ≡ J.first }
+    requires visitors { (0 < visitors) × (visitors < 2 ^ 32) }
+    ensures { IfOk result (λ s. s ≡ ([], [])) }
+{
+    let (book, past) = opened.named::<J>();
+    let mark = past.mark();
+    let second = Shelf {
+        shown: catalogue.clone()?,
+        past: mark.again(),
+    };
+    let first = Shelf {
+        shown: catalogue,
+        past: mark,
+    };
+    let copies: Copies<J> = Copies::new(alloc, first, second, visitors)?;
+    Ok(Shower::over(copies, book, past))
+}
+
+/// A writer and its visitors.
+pub struct Gallery;
+
+impl Gallery {
+    ghost use Rattle.std.specs.Prelude.{◌≡◌, ◌<◌, ◌^◌, [], All, length, IfOk};
+
+    /// Opens a gallery of the list that has a name: nothing was changed, and the catalogue is shown.
+    pub fn new<J: Room>(
+        alloc: Global,
+        opened: Opened,
+        catalogue: Arc<Catalogue>,
+        visitors: usize,
+    ) -> Result<(Shower<J>, Vec<Visitor<J>>), GalleryFault<J>>
+        requires book { opened.seen.book ≡ J.book }
+        requires first { catalogue.value ≡ J.first }
+        requires visitors { (0 < visitors) × (visitors < 2 ^ 32) }
+        ensures { IfOk result (λ g. (g.0 ≡ ([], [])) × All (λ v. v ≡ []) g.1.items × (length g.1.items ≡ visitors)) }
+    {
+        let Ok(mut seats) = Vec::with_capacity(alloc, visitors) else {
+            return Err(GalleryFault::Memory);
+        };
+        let Ok(shower) = shower::<J>(alloc, opened, catalogue, visitors) else {
+            return Err(GalleryFault::Memory);
+        };
+        for _ in 0..visitors {
+            let Ok(visitor) = shower.visitor() else {
+                return Err(GalleryFault::Refused(shower));
+            };
+            if seats.push(visitor).is_err() {
+                return Err(GalleryFault::Refused(shower));
+            }
+        }
+        Ok((shower, seats))
+    }
+}

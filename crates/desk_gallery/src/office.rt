@@ -1,0 +1,42 @@
+//! A front behind one lock.
+ghost use Rattle.std.specs.Prelude.{◌≡◌};
+ghost use Rattle.desk_clerk.specs.Clerks.{desk_of, Keeps};
+ghost use Rattle.desk_gallery.specs.After.{after};
+
+use crate::book::Room;
+use crate::front::Front;
+use crate::shower::Shower;
+use desk_clerk::clerk::Clerk;
+use sector_device::SectorDevice;
+use std::sync::{Mutex, MutexGuard, Wait};
+
+/// The clerk and the writer, for one thread at a time.
+pub struct Office<J: Room, D: SectorDevice> {
+    front: Mutex<Front<J, D>>,
+}
+
+impl<J: Room, D: SectorDevice> Office<J, D> {
+    /// Puts a clerk and a writer that shows its desk behind a lock.
+    pub fn new(clerk: Clerk<D>, shower: Shower<J>) -> Office<J, D>
+        requires none { shower.1 ≡ shower.0 }
+        requires same { desk_of clerk ≡ after J.first shower.0 }
+        requires kept { J.sound → Keeps clerk }
+    {
+        Office {
+            front: Mutex::new(Front::new(clerk, shower)),
+        }
+    }
+
+    /// Lends the front. It waits for whoever has it.
+    pub fn lock<R: Wait>(&self, rt: &R) -> MutexGuard<'_, Front<J, D>> {
+        self.front.lock(rt)
+    }
+
+    /// The clerk, once nobody has the front.
+    pub fn close<R: Wait>(self, rt: &R) -> Clerk<D>
+        ensures { J.sound → Keeps result }
+    {
+        let Office { front } = self;
+        front.into_inner().close(rt)
+    }
+}

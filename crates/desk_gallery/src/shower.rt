@@ -1,0 +1,164 @@
+//! The writer of a gallery.
+ghost use Rattle.std.specs.Prelude.{◌≡◌, List, ◌∷◌, ◌++◌, [], length, drop, IfOk, IfErr, MatchResult};
+ghost use mathlib.Core.List.{IsPrefix};
+ghost use Rattle.desk_model.specs.Step.{step};
+ghost use Rattle.desk_model.specs.declared.command.Command.{Command};
+ghost use Rattle.desk_gallery.specs.After.{after};
+ghost use Rattle.desk_gallery.specs.Shelves.{Stands, WaitsFor};
+
+use crate::book::{Book, Past, Room};
+use crate::shelf::Shelf;
+use crate::tied::{Copies, Tied};
+use crate::visitor::{Told, Visitor};
+use core::mem::replace_with;
+use desk_clerk::change::Change;
+use std::alloc::AllocError;
+use std::marker::Model;
+use std::sync::Wait;
+
+/// Appends a shelf to copies that lack none; tries until there is memory.
+fn push<J: Room, R: Wait>(rt: &R, copies: &mut Copies<J>, shelf: Shelf)
+    requires { drop copies.old.behind copies.old.log.items ≡ [] }
+    ensures desk { copies.new.desk ≡ copies.old.desk }
+    ensures pending { drop copies.new.behind copies.new.log.items ≡ shelf ∷ [] }
+{
+    let mut shelf = shelf;
+    for _ in rt.forever() {
+        match copies.append(shelf) {
+            Ok(()) => return,
+            Err(back) => shelf = back,
+        }
+    }
+    unreachable!()
+}
+
+/// Shows the shelf that waits, or changes nothing.
+fn publish_once<J: Room, R: Wait>(copies: Copies<J>, rt: &R) -> (Copies<J>, Result<(), AllocError>)
+    requires { (changes : List Command) × WaitsFor J.book J.first (drop copies.behind copies.log.items) changes }
+    ensures ok { (changes : List Command) → WaitsFor J.book J.first (drop copies.behind copies.log.items) changes
+        → IfOk result.1 (λ _. (result.0.desk.shown.value.past.seen.log ≡ changes) × Stands J.book J.first result.0.desk.shown.value × (drop result.0.behind result.0.log.items ≡ [])) }
+    ensures err { IfErr result.1 (λ _. drop result.0.behind result.0.log.items ≡ drop copies.behind copies.log.items) }
+{
+    copies.publish_as::<Tied<J>, R>(rt)
+}
+
+/// Shows the shelf that waits; tries until it can.
+fn publish<J: Room, R: Wait>(rt: &R, copies: &mut Copies<J>)
+    requires { (changes : List Command) × WaitsFor J.book J.first (drop copies.old.behind copies.old.log.items) changes }
+    ensures { (changes : List Command) → WaitsFor J.book J.first (drop copies.old.behind copies.old.log.items) changes
+        → (copies.new.desk.shown.value.past.seen.log ≡ changes) × Stands J.book J.first copies.new.desk.shown.value × (drop copies.new.behind copies.new.log.items ≡ []) }
+{
+    for _ in rt.forever() {
+        if replace_with(copies, rt, publish_once).is_ok() {
+            return;
+        }
+    }
+    unreachable!()
+}
+
+/// Shows changes. Contracts see it as the list that is shown and the list with what is pending behind it.
+///
+/// It is not `Drop`: end it by `close`.
+pub struct Shower<J: Room> {
+    copies: Copies<J>,
+    book: Book<J>,
+    head: Past<J>,
+    pending: Option<Shelf>,
+}
+
+impl<J: Room> Model for Shower<J> {
+    ghost use Rattle.std.specs.Prelude.{◌≡◌, List, [], drop};
+    ghost use mathlib.Core.List.{IsPrefix};
+    ghost use Rattle.desk_model.specs.declared.command.Command.{Command};
+    ghost use Rattle.desk_gallery.specs.Shelves.{Stands, Waits};
+
+    ghost Value = { List Command × List Command };
+
+    ghost view = { λ s. (s.copies.desk.shown.value.past.seen.log, s.head) };
+
+    ghost invariant = { λ s. Stands J.book J.first s.copies.desk.shown.value × IsPrefix s.copies.desk.shown.value.past.seen.log s.head × (drop s.copies.behind s.copies.log.items ≡ []) × Waits J.book J.first s.pending s.copies.desk.shown.value.past.seen.log s.head };
+}
+
+impl<J: Room> Shower<J> {
+    /// Of copies, a word and a list with nothing pending.
+    pub(crate) fn over(copies: Copies<J>, book: Book<J>, head: Past<J>) -> Shower<J>
+        requires shown { copies.desk.shown.value.past.seen.log ≡ head }
+        requires stands { Stands J.book J.first copies.desk.shown.value }
+        requires none { drop copies.behind copies.log.items ≡ [] }
+        ensures { result ≡ (head, head) }
+    {
+        Shower {
+            copies,
+            book,
+            head,
+            pending: None,
+        }
+    }
+
+    /// A visitor that has heard of nothing. Err where no place is left.
+    pub(crate) fn visitor(&self) -> Result<Visitor<J>, AllocError>
+        requires { self.now.0 ≡ [] }
+        ensures { IfOk result (λ v. v ≡ []) }
+    {
+        let reader = self.copies.factory().reader()?;
+        Ok(Visitor::over(reader, Past::of(self.copies.published().past.again())))
+    }
+
+    /// How many changes are shown.
+    pub fn shown(&self) -> u64
+        ensures { result ≡ length self.now.0 }
+    {
+        self.copies.published().past.number
+    }
+
+    /// Appends a change to the list. Err where one more owner is refused, or the list has 2^64 - 1 changes; nothing pending
+    /// has changed then.
+    pub fn append(&mut self, change: Change) -> Result<(), AllocError>
+        requires { change.after ≡ (step (after J.first self.old.1) change.command).1 }
+        ensures { MatchResult result (λ _. self.new ≡ (self.old.0, self.old.1 ++ change.command ∷ [])) (λ _. self.new ≡ self.old) }
+    {
+        if self.head.len() == u64::MAX {
+            return Err(AllocError);
+        }
+        let after = change.after()?;
+        let mut head = self.head.again();
+        if !head.add(&self.book, change.command()) {
+            return Err(AllocError);
+        }
+        self.pending = Some(Shelf {
+            shown: after,
+            past: head.mark(),
+        });
+        self.head = head;
+        Ok(())
+    }
+
+    /// Shows the appended changes, all at once.
+    pub fn show<R: Wait>(&mut self, rt: &R)
+        ensures { self.new ≡ (self.old.1, self.old.1) }
+    {
+        let Some(shelf) = self.pending.take() else {
+            return;
+        };
+        push(rt, &mut self.copies, shelf);
+        publish(rt, &mut self.copies);
+    }
+
+    /// The list that is shown, for visitors to learn.
+    pub fn tell(&self) -> Told<J>
+        ensures { result ≡ self.now.0 }
+    {
+        Told::of(Past::of(self.copies.published().past.again()))
+    }
+
+    /// Ends it. It waits for those that are visiting.
+    pub fn close<R: Wait>(self, rt: &R) {
+        let Shower {
+            copies,
+            book: _,
+            head: _,
+            pending: _,
+        } = self;
+        copies.take(rt);
+    }
+}

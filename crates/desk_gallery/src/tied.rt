@@ -1,0 +1,32 @@
+//! The rule of a gallery's copies.
+use crate::book::Room;
+use crate::shelf::Shelf;
+use crossbeam_utils::rule::{Outcome, Protocol};
+use left_right::reader::Reader;
+use left_right::writer::Writer;
+use std::marker::PhantomData;
+
+/// What is shown is led to by the changes beside it, from the gallery's first desk.
+pub struct Tied<J> {
+    of: PhantomData<J>,
+}
+
+impl<J: Room> Protocol<Shelf, ()> for Tied<J> {
+    ghost use Rattle.desk_gallery.specs.Shelves.{Stands};
+
+    ghost holds = { λ s _. Stands J.book J.first s };
+
+    ghost first = { tt };
+}
+
+impl<J: Room> Outcome<Shelf, ()> for Tied<J> {
+    ghost use Rattle.desk_gallery.specs.Shelves.{Stands};
+
+    ghost then = { λ _ x y _. Stands J.book J.first x × Stands J.book J.first y };
+}
+
+/// The two copies, in the writer's hands.
+pub type Copies<J> = Writer<Shelf, Shelf, (), Tied<J>>;
+
+/// A reader of the copies.
+pub type Eye<J> = Reader<Shelf, (), Tied<J>>;

@@ -1,0 +1,62 @@
+-- A command that the desk refuses leaves the desk.
+use Rattle.std.specs.Prelude.{◌==◌, not, nat_le}
+use Rattle.std.specs.FinMap as map_of
+use Rattle.std.proofs.Common.{◌≡◌, ◌⊎◌, ℕ, Bool, true, false, if◌then◌else◌, List, [], length, Option, Some, None, Result, Ok, Err, inl, inr, ⊎_elim, refl}
+use Rattle.desk_model.specs.declared.kind.Kind.{Kind}
+use Rattle.desk_model.specs.declared.command.Command.{Command}
+use Rattle.desk_model.specs.declared.command.Command.TheVariants.{Create, Whole, Counties, Retire}
+use Rattle.desk_model.specs.declared.reply.Reply.TheVariants as reply
+use Rattle.desk_model.specs.declared.reply.Refusal.TheVariants.{Stale, Limit}
+use Rattle.desk_model.specs.Baf.{Values, Fault, body_read}
+use Rattle.desk_model.specs.Geography.{Ground}
+use Rattle.desk_model.specs.Desk.{Plan, Desk}
+use Rattle.desk_model.specs.Outcome.{IsAcceptance}
+use Rattle.desk_model.specs.Step.{Outcome, refused, plan_limit, create, revision_limit, on_revisions, whole_read, partly_listed, county_patched, patch_read, retired, step_on, step_at, step}
+
+-- accepted, or the desk is as it was
+abbrev Moved : Desk → Outcome → Type 0
+Moved d o = IsAcceptance o.0 ⊎ (o.1 ≡ d)
+
+moved_if : (d : Desk) (b : Bool) (x y : Outcome) → Moved d x → Moved d y → Moved d (if b then x else y)
+moved_if d true x y first second = first
+moved_if d false x y first second = second
+
+create_moved : (d : Desk) (name : List ℕ) (kind : Kind) (n : ℕ) (p : Option Plan) → Moved d (create d name kind n p)
+create_moved d name kind n (Some p) = inr refl
+create_moved d name kind n None =
+    moved_if d (nat_le plan_limit (map_of.len d.plans)) (refused d Limit) (reply.Created name 0, record d { plans = map_of.insert d.plans name (record { kind = kind; n = n; revisions = [] }) }) (inr refl) (inl tt)
+
+revisions_moved : (d : Desk) (p : Option Plan) (k : ℕ) (go : Plan → Outcome) → ((q : Plan) → Moved d (go q)) → Moved d (on_revisions d p k go)
+revisions_moved d None k go moved = inr refl
+revisions_moved d (Some p) k go moved =
+    moved_if d (not (k == length p.revisions)) (refused d (Stale (length p.revisions))) (if nat_le revision_limit (length p.revisions) then refused d Limit else go p) (inr refl)
+    (moved_if d (nat_le revision_limit (length p.revisions)) (refused d Limit) (go p) (inr refl) (moved p))
+
+whole_moved : (g : Ground) (d : Desk) (name : List ℕ) (p : Plan) (read : Result Values Fault) → Moved d (whole_read g d name p read)
+whole_moved g d name p (Err f) = inr refl
+whole_moved g d name p (Ok listed) = inl tt
+
+county_moved : (g : Ground) (d : Desk) (name : List ℕ) (p : Plan) (listed : Values) (partly : Option ℕ) → Moved d (county_patched g d name p listed partly)
+county_moved g d name p listed (Some county) = inr refl
+county_moved g d name p listed None = inl tt
+
+patch_moved : (g : Ground) (d : Desk) (name : List ℕ) (p : Plan) (read : Result Values Fault) → Moved d (patch_read g d name p read)
+patch_moved g d name p (Err f) = inr refl
+patch_moved g d name p (Ok listed) = county_moved g d name p listed (partly_listed g listed)
+
+retired_moved : (d : Desk) (name : List ℕ) (p : Option Plan) → Moved d (retired d name p)
+retired_moved d name None = inr refl
+retired_moved d name (Some p) = inl tt
+
+step_on_moved : (g : Ground) (d : Desk) (c : Command) → Moved d (step_on g d c)
+step_on_moved g d (Create name size) = create_moved d name size.0 size.1 (map_of.get d.plans name)
+step_on_moved g d (Whole name after body) = revisions_moved d (map_of.get d.plans name) after (λ p. whole_read g d name p (body_read g p.n body)) (λ p. whole_moved g d name p (body_read g p.n body))
+step_on_moved g d (Counties name after body) = revisions_moved d (map_of.get d.plans name) after (λ p. patch_read g d name p (body_read g p.n body)) (λ p. patch_moved g d name p (body_read g p.n body))
+step_on_moved g d (Retire name) = retired_moved d name (map_of.get d.plans name)
+
+step_moved : (g : Option Ground) (d : Desk) (c : Command) → Moved d (step_at g d c)
+step_moved None d c = inr refl
+step_moved (Some g) d c = step_on_moved g d c
+
+pub refused_same : (d : Desk) (c : Command) → (IsAcceptance (step d c).0 → ⊥) → (step d c).1 ≡ d
+refused_same d c never = ⊎_elim (λ accepted. absurd (never accepted)) (λ same. same) (step_moved d.geography d c)

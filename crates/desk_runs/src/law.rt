@@ -1,0 +1,12 @@
+//! The law of runs.
+ghost use Rattle.desk_runs.specs.Runs.{SurvivesEachRun};
+
+use desk_clerk::clerk::Clerk;
+use sector_device::SectorDevice;
+
+/// Of whatever commands a clerk is given from now on: there is a list of moments that don't fall, one for each acknowledged
+/// command, and each image that a stop since one of them may leave opens to the desk after the acknowledged commands up to it
+/// and some of those that follow.
+pub fn runs_survive<D: SectorDevice>(clerk: &Clerk<D>)
+    ensures { SurvivesEachRun clerk.now }
+{}

@@ -1,2 +1,0 @@
-pub mod Clerks
-pub mod Codes

@@ -1,0 +1,2 @@
+mod Core
+mod Worlds

@@ -1,0 +1,4 @@
+pub mod Codes
+pub mod Law
+pub mod Steps
+pub mod World

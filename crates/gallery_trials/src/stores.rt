@@ -1,0 +1,48 @@
+//! Clerks over stores in memory, and what a visitor finds.
+use desk_clerk::clerk::Clerk;
+use desk_gallery::book::Room;
+use desk_gallery::visitor::Visitor;
+use desk_loading::start;
+use desk_model::command::{Command, Query};
+use desk_model::geography::sample;
+use desk_model::kind::Kind;
+use desk_model::name::PlanName;
+use desk_model::reply::{Refusal, Reply};
+use desk_model::size::PlanSize;
+use sector_memory::MemoryDevice;
+use std::alloc::Global;
+use std::process::Abort;
+use std::sync::Arc;
+
+/// A clerk with the sample geography.
+pub fn clerk_of_sample<R: Abort>(rt: &R, alloc: Global) -> Clerk<MemoryDevice> {
+    let state = sample(alloc).expect(rt, "no memory");
+    let geography = Arc::new(alloc, state).expect(rt, "no memory");
+    let device = MemoryDevice::new(alloc, 600).expect(rt, "no memory");
+    start(alloc, device, 256, geography).expect(rt, "no clerk")
+}
+
+/// The command that makes a plan under a name.
+pub fn create<R: Abort>(rt: &R, name: &[u8]) -> Command {
+    Command::Create {
+        plan: PlanName::read(name).expect(rt, "no name"),
+        size: PlanSize::new(Kind::Congress, 2),
+    }
+}
+
+pub fn is_created(reply: &Reply) -> bool {
+    matches!(reply, Reply::Created { .. })
+}
+
+pub fn is_halted(reply: &Reply) -> bool {
+    matches!(reply, Reply::Refused(Refusal::Halted))
+}
+
+/// How many plans a visitor finds.
+pub fn plans_seen<J: Room, R: Abort>(rt: &R, alloc: Global, visitor: &mut Visitor<J>) -> usize {
+    let shown = visitor.visit().expect(rt, "no visit");
+    match shown.ask(alloc, Query::Plans) {
+        Reply::Plans(rows) => rows.as_slice().len(),
+        _ => panic!(rt; "no plans"),
+    }
+}

@@ -1,0 +1,66 @@
+//! What two visitors see of a clerk's commands.
+ghost use Rattle.std.specs.Prelude.{◌≡◌};
+ghost use Rattle.desk_clerk.specs.Clerks.{desk_of, Keeps};
+
+use crate::stores::{clerk_of_sample, create, is_created, plans_seen};
+use desk_catalogue::catalogue::Catalogue;
+use desk_clerk::clerk::Clerk;
+use desk_gallery::book::{Opened, Room};
+use desk_gallery::front::Front;
+use desk_gallery::gallery::{Gallery, GalleryFault};
+use sector_memory::MemoryDevice;
+use std::alloc::Global;
+use std::marker::Brand;
+use std::process::Abort;
+use std::sync::{Arc, Wait};
+use std::test::Fail;
+
+/// One visitor is told of each of two plans, the other of neither.
+fn two_visitors<J: Room, R: Wait + Abort>(
+    rt: &R,
+    alloc: Global,
+    opened: Opened,
+    clerk: Clerk<MemoryDevice>,
+    catalogue: Arc<Catalogue>,
+) -> Result<(), Fail>
+    requires book { opened.seen.book ≡ J.book }
+    requires first { catalogue.value ≡ J.first }
+    requires same { desk_of clerk ≡ J.first }
+    requires kept { J.sound → Keeps clerk }
+{
+    let (shower, visitors) = match Gallery::new::<J>(alloc, opened, catalogue, 2) {
+        Ok(gallery) => gallery,
+        Err(GalleryFault::Memory) => return Err("memory")?,
+        Err(GalleryFault::Refused(shower)) => {
+            shower.close(rt);
+            return Err("refused")?;
+        }
+    };
+    let mut front = Front::new(clerk, shower);
+    let mut visitors = visitors;
+    let mut other = visitors.pop().expect(rt, "no visitor");
+    let mut visitor = visitors.pop().expect(rt, "no visitor");
+    assert!(rt; plans_seen(rt, alloc, &mut visitor) == 0);
+    for (name, so_far) in [(b"a", 1), (b"b", 2)] {
+        let (reply, told) = front.command(rt, alloc, create(rt, name));
+        assert!(rt; is_created(&reply));
+        visitor.learn(told);
+        assert!(rt; visitor.heard() == so_far as u128 && front.shown() == so_far as u128);
+        assert!(rt; plans_seen(rt, alloc, &mut visitor) == so_far);
+    }
+    let (again, told) = front.command(rt, alloc, create(rt, b"a"));
+    assert!(rt; !is_created(&again));
+    visitor.learn(told);
+    assert!(rt; visitor.heard() == 2 && other.heard() == 0);
+    assert!(rt; plans_seen(rt, alloc, &mut other) == 2 && other.heard() == 2);
+    front.close(rt);
+    Ok(())
+}
+
+#[test]
+fn visitors_see_what_was_committed(rt: HostRuntime) -> Result<(), Fail> {
+    let alloc = rt.alloc();
+    let clerk = clerk_of_sample(&rt, alloc);
+    let catalogue = clerk.published()?;
+    two_visitors::<Brand, _>(&rt, alloc, Opened::new(), clerk, catalogue)
+}

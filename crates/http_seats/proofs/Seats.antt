@@ -1,0 +1,31 @@
+-- What a command leaves on a seat.
+use Rattle.std.proofs.Common.{◌≡◌, ◌≤◌, ◌⊎◌, inl, inr, List, [], ◌∷◌, ◌++◌, ⊎_elim, refl, sym, subst, ◌∙◌}
+use mathlib.Core.List.{IsPrefix}
+use Rattle.desk_model.specs.declared.command.Command.{Command}
+use Rattle.desk_model.specs.declared.reply.Reply.{Reply}
+use Rattle.desk_model.specs.declared.reply.Reply.TheVariants as reply
+use Rattle.desk_model.specs.Outcome.{IsAcceptance}
+use Rattle.desk_gallery.proofs.Pasts.{prefix_self, prefix_trans, prefix_length, prefix_whole}
+
+accepted_or_not : (r : Reply) → IsAcceptance r ⊎ (IsAcceptance r → ⊥)
+accepted_or_not (reply.Created name revisions) = inl tt
+accepted_or_not (reply.Retired name) = inl tt
+accepted_or_not (reply.Plans rows) = inr (λ x. x)
+accepted_or_not (reply.Blocks text) = inr (λ x. x)
+accepted_or_not (reply.Baf text) = inr (λ x. x)
+accepted_or_not (reply.Audited text) = inr (λ x. x)
+accepted_or_not (reply.Refused refusal) = inr (λ x. x)
+
+-- what was there before is shown afterwards
+pub shown_grows : (r : Reply) (list new : List Command) (c : Command) → (IsAcceptance r → new ≡ list ++ c ∷ []) → ((IsAcceptance r → ⊥) → new ≡ list) → IsPrefix list new
+shown_grows r list new c grown same = ⊎_elim
+    (λ (a : IsAcceptance r). (c ∷ [], sym (grown a)))
+    (λ (a : IsAcceptance r → ⊥). subst (λ (l : List Command). IsPrefix list l) (sym (same a)) (prefix_self list)) (accepted_or_not r)
+
+-- the note is all that is heard of then
+pub heard_is_told : (before list new heard : List Command) → IsPrefix before list → IsPrefix list new → IsPrefix new heard → (heard ≡ before) ⊎ (heard ≡ new) → heard ≡ new
+heard_is_told before list new heard p q r one = ⊎_elim
+    (λ (e : heard ≡ before).
+    let back : IsPrefix heard new = subst (λ (l : List Command). IsPrefix l new) (sym e) (prefix_trans before list new p q) in
+    prefix_whole heard new back (prefix_length new heard r))
+    (λ (e : heard ≡ new). e) one

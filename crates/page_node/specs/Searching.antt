@@ -1,0 +1,16 @@
+-- A search in a page from its first entry on.
+use Rattle.std.specs.Prelude.{◌≡◌, ◌<◌, ◌+◌, ◌-◌, ℕ, false, List, length, take, drop}
+use Rattle.std.specs.Ordering.{is_gt}
+use Rattle.page_node.specs.Entries.{Entry, key_at, value_at, size_of}
+use Rattle.page_node.specs.Places.{key_cmp, Rises}
+
+-- the keys rise, where the first says nothing
+abbrev pub RisesBehind : List Entry → Type 0
+RisesBehind es = Rises (drop 1 es)
+
+-- the search stands before the entry k, no key before which is above this one; the value before it begins there
+pub record IsLast (page key : List ℕ) (es : List Entry) (k value at : ℕ) : Type 0 where
+  pub place : at ≡ 4 + size_of (take k es)
+  pub below : (j : ℕ) → 0 < j → j < k → is_gt (key_cmp (key_at es j) key) ≡ false
+  pub none : k ≡ 0 → value ≡ 0
+  pub some : 0 < k → (0 < value) × (value + length (value_at es (k - 1)) ≡ at) × (take (at - value) (drop value page) ≡ value_at es (k - 1))

@@ -1,0 +1,5 @@
+//! Served streams as runs of the clerk.
+#![tactic(auto)]
+
+pub mod law;
+pub mod serve;

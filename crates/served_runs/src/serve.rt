@@ -1,0 +1,32 @@
+//! A stream served at a clerk, whose acknowledged commands outlive each stop.
+ghost use Rattle.std.specs.Prelude.{◌≡◌, Err};
+ghost use Rattle.byte_stream.specs.Counts.{counted};
+ghost use Rattle.http_desk.specs.Serving.{read_failures, write_failures};
+ghost use Rattle.served_runs.specs.Served.{ServesDurably};
+
+use crate::law::streams_survive;
+use byte_stream::sink::Sink;
+use byte_stream::source::Source;
+use desk_clerk::clerk::Clerk;
+use desk_model::gate::Gate;
+use http_desk::serve::{ServeFault, Served, serve};
+use sector_device::SectorDevice;
+use std::alloc::Global;
+
+/// Serves a stream at a clerk, as `serve` does. However it ends, and at whatever moment a stop comes: since a command of it was
+/// acknowledged, each image that the stop may leave opens to the desk after that command and all before it.
+pub fn serve_clerk<R: Source, W: Sink, D: SectorDevice, G: Gate>(
+    alloc: Global,
+    reader: &mut R,
+    writer: &mut W,
+    clerk: &mut Clerk<D>,
+    gate: &G,
+) -> Result<Served, ServeFault>
+    ensures serves { ServesDurably clerk.old result clerk.new (R.remaining reader.old) (R.remaining reader.new) (W.contents writer.old) (W.contents writer.new) }
+    ensures read_failures { R.failures reader.new ≡ read_failures (R.failures reader.old) result }
+    ensures write_failures { W.failures writer.new ≡ write_failures (W.failures writer.old) result }
+    ensures turn_limit { result ≡ Err ServeFault.TurnLimit → R.turns reader.new ≡ counted (R.turns reader.old) 4294967296 }
+{
+    streams_survive(clerk);
+    serve(alloc, reader, writer, clerk, gate)
+}

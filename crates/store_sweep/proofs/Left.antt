@@ -1,0 +1,175 @@
+-- Rows that are found under a prefix are left over.
+use Rattle.std.proofs.Common.{◌≡◌, ◌<◌, ◌^◌, ℕ, List, [], length, drop, nat_eq, true, Some, None, refl, sym, ap, subst, ◌∙◌}
+use Rattle.std.specs.Prelude.{Contains, Option}
+use Rattle.std.specs.List.{starts_with}
+use Rattle.std.specs.FinMap.{get}
+use Rattle.btree_scan.specs.declared.rows.Row.{Row}
+use Rattle.store_keys.specs.Keys.{RowKey, key_of, Fits, counters, retired, begun, named, part, seal, block, pair, chunk, in_eight, retired_prefix, begun_prefix, plan_parts_prefix, load_prefix, chunk_prefix}
+use Rattle.store_keys.specs.Lists.{AreChunks, chunks_bytes}
+use Rattle.store_keys.specs.RowLaws.{keys_differ}
+use Rattle.store_rows.specs.Rows.{KeyMap, Has}
+use Rattle.store_rows.specs.ChunkRows.{IsFreeChunk}
+use Rattle.store_rows.specs.Tidy.{AreRows, Tidy}
+use Rattle.store_sweep.specs.Leftovers.{IsOfLoad, IsSpared, IsSweptClean}
+use Rattle.store_sweep.specs.Finding.{IsUnder, IsMark, IsPieceOf, IsLeftKey, HasPlanMark, HasLoadMark, spared_key}
+use Rattle.store_sweep.proofs.Keys.{retired_is, begun_is, part_is, piece_is, staged_is, IsStagedRow, of_block, of_pair, starts_retired, starts_begun, starts_part, starts_piece, starts_block, starts_pair, tag_number}
+
+abbrev pub NoneUnder : List ℕ → KeyMap → Type 0
+NoneUnder prefix m = (key : List ℕ) → starts_with nat_eq key prefix ≡ true → get m key ≡ None
+
+-- no load's
+abbrev pub IsNoLoads : RowKey → Type 0
+IsNoLoads row = (load : ℕ) → IsOfLoad load row → ⊥
+
+module _ (m : KeyMap) where
+  -- ---- pieces
+  pub piece_row : (numbers : List ℕ) (number : ℕ) → number < 2 ^ 64 → Contains numbers number → AreRows m → (row : Row) → IsUnder (chunk_prefix number) row m → IsPieceOf numbers row.key m
+  piece_row numbers number few among rows row is =
+      let (of, fits, same) = rows row.key row.value is.there in
+      let (piece, kind) = piece_is number few of fits (subst (λ (k : List ℕ). starts_with nat_eq k (chunk_prefix number) ≡ true) same is.under) in
+      record {
+        number = number;
+        piece = piece;
+        among = among;
+        fits = subst Fits kind fits;
+        key_is = same ∙ ap key_of kind;
+      }
+
+  pub none_free : (number : ℕ) → NoneUnder (chunk_prefix number) m → IsFreeChunk m number
+  none_free number none = λ index small. none (key_of (chunk number index)) (starts_piece number index)
+
+  -- ---- parts
+  pub record IsPartRow (plan : ℕ) (row : Row) : Type 0 where
+    pub revision : ℕ
+    pub index : ℕ
+    pub fits : Fits (part plan revision index)
+    pub key_is : row.key ≡ key_of (part plan revision index)
+    pub there : Has m (part plan revision index) row.value
+
+  pub part_row : (plan : ℕ) → plan < 2 ^ 64 → AreRows m → (row : Row) → IsUnder (plan_parts_prefix plan) row m → IsPartRow plan row
+  part_row plan few rows row is =
+      let (of, fits, same) = rows row.key row.value is.there in
+      let (revision, index, kind) = part_is plan few of fits (subst (λ (k : List ℕ). starts_with nat_eq k (plan_parts_prefix plan) ≡ true) same is.under) in
+      let key = same ∙ ap key_of kind in
+      record {
+        revision = revision;
+        index = index;
+        fits = subst Fits kind fits;
+        key_is = key;
+        there = ap (λ (k : List ℕ). get m k) (sym key) ∙ is.there;
+      }
+
+  -- its value names chunks
+  pub part_told : (plan : ℕ) → plan < 2 ^ 64 → HasPlanMark plan m → (row : Row) → IsUnder (plan_parts_prefix plan) row m → ((numbers : List ℕ) → AreChunks numbers → chunks_bytes numbers ≡ row.value → ⊥) → ⊥
+  part_told plan few has row is none =
+      let at = part_row plan few has.0.rows row is in
+      let (numbers, chunks, value) = has.0.counted.parts plan at.revision at.index row.value at.fits at.there in
+      none numbers chunks (sym value)
+
+  pub part_left : (plan : ℕ) → plan < 2 ^ 64 → HasPlanMark plan m → (row : Row) → IsUnder (plan_parts_prefix plan) row m → (numbers : List ℕ) → AreChunks numbers → chunks_bytes numbers ≡ row.value → ((number : ℕ) → Contains numbers number → IsFreeChunk m number) → IsLeftKey m row.key IsNoLoads
+  part_left plan few has row is numbers chunks value gone =
+      let at = part_row plan few has.0.rows row is in
+      record {
+        row = part plan at.revision at.index;
+        fits = at.fits;
+        key_is = at.key_is;
+        left = (has.1, record { numbers = numbers; chunks = chunks; row = at.there ∙ ap Some (sym value); gone = gone });
+        is_apart = λ load of. of;
+      }
+
+  pub piece_left : (plan : ℕ) → plan < 2 ^ 64 → HasPlanMark plan m → (row : Row) → IsUnder (plan_parts_prefix plan) row m → (numbers : List ℕ) → AreChunks numbers → chunks_bytes numbers ≡ row.value → (key : List ℕ) → IsPieceOf numbers key m → IsLeftKey m key IsNoLoads
+  piece_left plan few has row is numbers chunks value key piece =
+      let at = part_row plan few has.0.rows row is in
+      record {
+        row = chunk piece.number piece.piece;
+        fits = piece.fits;
+        key_is = piece.key_is;
+        left = (plan, has.1, record { revision = at.revision; index = at.index; part_fits = at.fits; numbers = numbers; chunks = chunks; row = at.there ∙ ap Some (sym value); among = piece.among });
+        is_apart = λ load of. of;
+      }
+
+  pub plan_mark_left : (plan : ℕ) → plan < 2 ^ 64 → HasPlanMark plan m → NoneUnder (plan_parts_prefix plan) m → IsLeftKey m (key_of (retired plan)) IsNoLoads
+  plan_mark_left plan few has none = record {
+    row = retired plan;
+    fits = few;
+    key_is = refl;
+    left = (has.1, λ revision index fits. none (key_of (part plan revision index)) (starts_part plan revision index));
+    is_apart = λ load of. of;
+  }
+
+  -- ---- loads
+  staged_left : (load : ℕ) (row : RowKey) → Fits row → Has m (begun load) [] → (key : List ℕ) → key ≡ key_of row → IsStagedRow load row → IsLeftKey m key (IsOfLoad load)
+  staged_left load _ fits mark key same (of_block place) = record { row = block load place; fits = fits; key_is = same; left = mark; is_apart = refl }
+  staged_left load _ fits mark key same (of_pair place) = record { row = pair load place; fits = fits; key_is = same; left = mark; is_apart = refl }
+
+  pub load_left : (load : ℕ) → load < 2 ^ 64 → HasLoadMark load m → (row : Row) → IsUnder (load_prefix load) row m → IsLeftKey m row.key (IsOfLoad load)
+  load_left load few has row is =
+      let (of, fits, same) = has.0.rows row.key row.value is.there in
+      staged_left load of fits has.1 row.key same (staged_is load few of fits (subst (λ (k : List ℕ). starts_with nat_eq k (load_prefix load) ≡ true) same is.under))
+
+  pub load_mark_left : (load : ℕ) → load < 2 ^ 64 → HasLoadMark load m → NoneUnder (load_prefix load) m → IsLeftKey m (key_of (begun load)) (IsOfLoad load)
+  load_mark_left load few has none = record {
+    row = begun load;
+    fits = few;
+    key_is = refl;
+    left = (has.1, λ place small. (none (key_of (block load place)) (starts_block load place), none (key_of (pair load place)) (starts_pair load place)));
+    is_apart = refl;
+  }
+
+  -- ---- marks
+  pub retired_long : AreRows m → (spared : List ℕ) (row : Row) → IsMark retired_prefix spared row m → length row.key ≡ 9
+  retired_long rows spared row is =
+      let (of, fits, same) = rows row.key [] is.there in
+      let (plan, few, kind) = retired_is of fits (subst (λ (k : List ℕ). starts_with nat_eq k retired_prefix ≡ true) same is.under) in
+      ap (λ (k : List ℕ). length k) (same ∙ ap key_of kind)
+
+  pub retired_mark : Tidy m → (spared : List ℕ) (row : Row) (plan : ℕ) → drop 1 row.key ≡ in_eight plan → IsMark retired_prefix spared row m → HasPlanMark plan m
+  retired_mark tidy spared row plan told is = (tidy, ap (λ (k : List ℕ). get m k) (sym (tag_number row.key 68 plan is.under told)) ∙ is.there)
+
+  pub begun_long : AreRows m → (spared : List ℕ) (row : Row) → IsMark begun_prefix spared row m → length row.key ≡ 9
+  begun_long rows spared row is =
+      let (of, fits, same) = rows row.key [] is.there in
+      let (load, few, kind) = begun_is of fits (subst (λ (k : List ℕ). starts_with nat_eq k begun_prefix ≡ true) same is.under) in
+      ap (λ (k : List ℕ). length k) (same ∙ ap key_of kind)
+
+  pub begun_mark : Tidy m → (spared : List ℕ) (row : Row) (load : ℕ) → drop 1 row.key ≡ in_eight load → IsMark begun_prefix spared row m → HasLoadMark load m
+  begun_mark tidy spared row load told is = (tidy, ap (λ (k : List ℕ). get m k) (sym (tag_number row.key 76 load is.under told)) ∙ is.there)
+
+  -- none without a value is left but the one that is spared
+  pub no_retired : ((key : List ℕ) → starts_with nat_eq key retired_prefix ≡ true → (key ≡ key_of counters → ⊥) → get m key ≡ Some [] → ⊥) → (plan : ℕ) → plan < 2 ^ 64 → Has m (retired plan) [] → ⊥
+  no_retired none plan few there = none (key_of (retired plan)) (starts_retired plan) (λ same. other (keys_differ (retired plan) counters few tt same)) there
+    where
+      other : retired plan ≡ counters → ⊥
+      other same = cc
+
+  begun_same : (a b : ℕ) → begun a ≡ begun b → a ≡ b
+  begun_same a b same = cc
+
+  spared_is : (running : Option ℕ) (load : ℕ) → load < 2 ^ 64 → ((l : ℕ) → running ≡ Some l → l < 2 ^ 64) → (IsSpared running (begun load) → ⊥) → key_of (begun load) ≡ spared_key running → ⊥
+  spared_is None load few fits apart same = other (keys_differ (begun load) counters few tt same)
+    where
+      other : begun load ≡ counters → ⊥
+      other e = cc
+  spared_is (Some l) load few fits apart same = apart (begun_same load l (keys_differ (begun load) (begun l) few (fits l refl) same))
+
+  pub no_begun : (running : Option ℕ) → ((l : ℕ) → running ≡ Some l → l < 2 ^ 64) → ((key : List ℕ) → starts_with nat_eq key begun_prefix ≡ true → (key ≡ spared_key running → ⊥) → get m key ≡ Some [] → ⊥) → (load : ℕ) → load < 2 ^ 64 → (IsSpared running (begun load) → ⊥) → Has m (begun load) [] → ⊥
+  no_begun running fits none load few apart there = none (key_of (begun load)) (starts_begun load) (spared_is running load few fits apart) there
+
+  -- a row of a load that isn't spared
+  pub apart_mark : (running : Option ℕ) (load : ℕ) (row : Row) → drop 1 row.key ≡ in_eight load → IsMark begun_prefix (spared_key running) row m → (left : RowKey) → IsOfLoad load left → IsSpared running left → ⊥
+  apart_mark None load row told is left of spared = spared
+  apart_mark (Some l) load row told is left of spared = is.apart (tag_number row.key 76 load is.under told ∙ ap (λ (n : ℕ). key_of (begun n)) (same_load load l left of spared))
+    where
+      same_load : (a b : ℕ) (left : RowKey) → IsOfLoad a left → IsOfLoad b left → a ≡ b
+      same_load a b counters x y = absurd x
+      same_load a b (retired plan) x y = absurd x
+      same_load a b (begun other) x y = sym x ∙ y
+      same_load a b (named name) x y = absurd x
+      same_load a b (part plan revision index) x y = absurd x
+      same_load a b seal x y = absurd x
+      same_load a b (block other place) x y = sym x ∙ y
+      same_load a b (pair other place) x y = sym x ∙ y
+      same_load a b (chunk number piece) x y = absurd x
+
+  pub load_next_left : (running : Option ℕ) (load : ℕ) (row : Row) → drop 1 row.key ≡ in_eight load → IsMark begun_prefix (spared_key running) row m → (key : List ℕ) → IsLeftKey m key (IsOfLoad load) → IsLeftKey m key (λ of. IsSpared running of → ⊥)
+  load_next_left running load row told is key found = record { row = found.row; fits = found.fits; key_is = found.key_is; left = found.left; is_apart = apart_mark running load row told is found.row found.is_apart }

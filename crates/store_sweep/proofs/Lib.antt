@@ -1,0 +1,6 @@
+mod Keys
+mod Scanned
+mod Left
+mod Taken
+mod Refused
+mod Stepped

@@ -1,0 +1,56 @@
+-- What isn't read of a mark that was found, and what both finders tell.
+use Rattle.std.proofs.Common.{◌≡◌, ℕ, List, Bool, true, false, Option, Some, None, Ok, Err, Result, IfOk, IfErr, OnOk, inl, inr, sym, subst, ◌∙◌}
+use Rattle.std.specs.Prelude.{◌⊎◌}
+use Rattle.sector_device.specs.Disk.{Image}
+use Rattle.sector_device.specs.declared.SectorDevice.{Ghosts}
+use Rattle.page_store.specs.Transactions.{stored, disk_in, IsQuiet, Passed}
+use Rattle.page_store.specs.Stops.{failed_more}
+use Rattle.page_store.specs.declared.pages.Pages.{Pages}
+use Rattle.page_store.specs.declared.txn.Txn.{Txn}
+use Rattle.page_btree.specs.Map.{InTxn}
+use Rattle.page_btree.specs.declared.error.TreeError.{TreeError}
+use Rattle.page_btree.specs.declared.error.TreeError.TheVariants.{DeviceFault, Halted, NoPages, TooDeep, Memory}
+use Rattle.store_keys.specs.Keys.{RowKey}
+use Rattle.store_rows.specs.Rows.{KeyMap}
+use Rattle.store_rows.specs.Tidy.{Tidy}
+use Rattle.row_table.specs.Reading.{ReadErr}
+use Rattle.store_sweep.specs.Leftovers.{IsOfLoad, IsSpared, IsSweptClean}
+use Rattle.store_sweep.specs.Finding.{IsLeftKey, IsPlanLeft, IsLoadLeft, IsNextLeft}
+use Rattle.store_sweep.proofs.Left.{IsNoLoads}
+
+pub ok_then : {T E : Type 0} (r : Result T E) (A B : Type 0) → (A → B) → OnOk r A → OnOk r B
+ok_then (Ok x) A B go is = go is
+ok_then (Err e) A B go is = tt
+
+pub if_ok_then : {T E : Type 0} (r : Result T E) (P Q : T → Type 0) → ((x : T) → P x → Q x) → IfOk r P → IfOk r Q
+if_ok_then (Ok x) P Q go is = go x is
+if_ok_then (Err e) P Q go is = tt
+
+pub err_then : {T E : Type 0} (r : Result T E) (P Q : E → Type 0) → ((e : E) → P e → Q e) → IfErr r P → IfErr r Q
+err_then (Ok x) P Q go is = tt
+err_then (Err e) P Q go is = go e is
+
+module _ {D : Type 0} {g : Ghosts D} where
+  -- what a tidy map has, by calls that read
+  pub mark_unread : (has : KeyMap → Type 0) (t : Txn) (a b c : Pages D g) → Passed a b → IsQuiet b c → ((disk_in b).is_honest → (m : KeyMap) → InTxn t (stored a) m → Tidy m → has m) → (e : TreeError) → ReadErr has t b c e → ReadErr Tidy t a c e
+  mark_unread has t a b c read quiet gives DeviceFault why = elim why [
+    | inl failed ↦ inl (failed_more a b c read quiet failed)
+    | inr none ↦ inr (λ honest m holds tidy. let then = quiet.honest honest in none honest m (subst (λ (P : Image). InTxn t P m) (sym (read.quiet.same then)) holds) (gives then m holds tidy))
+  ]
+  mark_unread has t a b c read quiet gives Halted why = sym read.halted ∙ why
+  mark_unread has t a b c read quiet gives NoPages why = why
+  mark_unread has t a b c read quiet gives TooDeep why = why
+  mark_unread has t a b c read quiet gives Memory why = why
+
+-- a row of no load isn't spared
+not_spared : (running : Option ℕ) (row : RowKey) → IsNoLoads row → IsSpared running row → ⊥
+not_spared None row none is = is
+not_spared (Some load) row none is = none load is
+
+pub plan_next : (running : Option ℕ) (m : KeyMap) (key : List ℕ) → IsLeftKey m key IsNoLoads → IsLeftKey m key (λ row. IsSpared running row → ⊥)
+plan_next running m key left = record { row = left.row; fits = left.fits; key_is = left.key_is; left = left.left; is_apart = not_spared running left.row left.is_apart }
+
+-- one of a load, or none at all
+pub load_next : (running : Option ℕ) (m : KeyMap) (key : List ℕ) → IsPlanLeft false key m → (found : Bool) → IsLoadLeft found running key m → IsNextLeft found running key m
+load_next running m key plans true left = left
+load_next running m key plans false loads = record { plans = plans; loads = loads }

@@ -1,0 +1,220 @@
+-- A sweep: a transaction that is begun, out of which rows are taken, and that is committed then.
+use Rattle.std.proofs.Common.{◌≡◌, ◌<◌, ◌≤◌, ◌+◌, ◌*◌, ℕ, Bool, List, [], ◌∷◌, length, Option, Some, None, true, false, refl, sym, ap, subst, ◌∙◌, inl, inr, ⊎_elim, arith}
+use Rattle.std.specs.Prelude.{◌⊎◌, ◌↔◌}
+use Rattle.sector_device.specs.Disk.{Disk, Image}
+use Rattle.sector_device.specs.Moments.{LeavesOnly, leaves_more, leaves_wider}
+use Rattle.sector_device.specs.declared.SectorDevice.{Ghosts}
+use Rattle.gate_journal.specs.Store.{home}
+use Rattle.page_store.proofs.Chains.{length_chain}
+use Rattle.page_store.specs.Chain.{free_in, root_in}
+use Rattle.page_store.specs.Stops.{leaves_here, leaves_quiet}
+use Rattle.page_store.specs.Transactions.{stored, disk_in, count_of, journal_of, has_halted, txn_pages, txn_root, txn_first, txn_free, txn_writes, over, free_over, HasFailed, HasShape, IsQuiet, Passed}
+use Rattle.page_store.specs.declared.pages.Pages.{Pages}
+use Rattle.page_store.specs.declared.txn.Txn.{Txn}
+use Rattle.page_btree.specs.Laws.{begun_holds}
+use Rattle.page_btree.specs.Map.{Holds, InTxn, InPages}
+use Rattle.page_btree.specs.declared.error.TreeError.{TreeError}
+use Rattle.page_btree.specs.declared.error.TreeError.TheVariants as tree
+use Rattle.desk_model.specs.Desk.{Desk}
+use Rattle.store_keys.specs.Keys.{RowKey, key_of, Fits, counters, retired, begun, named, part, seal, block, pair, chunk}
+use Rattle.store_rows.specs.Rows.{KeyMap}
+use Rattle.store_rows.specs.SweepLaws.{IsLeftover, take_rows, AreLeftovers}
+use Rattle.store_rows.specs.Tidy.{Tidy}
+use Rattle.desk_pages.specs.Desks.{IsDeskMap, InTxn as DeskInTxn, InPages as DeskInPages, OpensDesk}
+use Rattle.desk_pages.proofs.Kept.{opens_now}
+use Rattle.store_sweep.specs.declared.error.SweepError.{SweepError}
+use Rattle.store_sweep.specs.declared.error.SweepError.TheVariants.{Memory, DeviceFault, Halted}
+use Rattle.store_sweep.specs.Errors.{tree_told}
+use Rattle.store_sweep.specs.Leftovers.{IsSpared, AreNotSpared, IsSweptClean, IsSweptBy}
+use Rattle.store_sweep.specs.Sweeping.{IsSweptMap, HasSwept, HasDesk, TakeErr, HoldsSwept, SweepErr, Leaves, FinishErr}
+
+pub both : {X : Type 0} (b : Bool) → b ≡ true → b ≡ false → X
+both b one other = let clash : true ≡ false = sym one ∙ other in absurd (cc)
+
+-- ---- what was taken out
+same_spared : (running : Option ℕ) (load place : ℕ) → IsSpared running (begun load) → IsSpared running (block load place)
+same_spared None load place is = is
+same_spared (Some l) load place is = is
+
+pair_spared : (running : Option ℕ) (load place : ℕ) → IsSpared running (begun load) → IsSpared running (pair load place)
+pair_spared None load place is = is
+pair_spared (Some l) load place is = is
+
+-- a row that is left over has a mark
+mark_there : (running : Option ℕ) (m : KeyMap) → IsSweptClean running m → (row : RowKey) → Fits row → IsLeftover m row → (IsSpared running row → ⊥) → ⊥
+mark_there running m clean counters fits left apart = left
+mark_there running m clean (retired plan) fits left apart = clean.plans plan fits left.0
+mark_there running m clean (begun load) fits left apart = clean.loads load fits apart left.0
+mark_there running m clean (named name) fits left apart = left
+mark_there running m clean (part plan revision index) fits left apart = clean.plans plan fits.0 left.0
+mark_there running m clean seal fits left apart = left
+mark_there running m clean (block load place) fits left apart = clean.loads load fits.0 (λ is. apart (same_spared running load place is)) left
+mark_there running m clean (pair load place) fits left apart = clean.loads load fits.0 (λ is. apart (pair_spared running load place is)) left
+mark_there running m clean (chunk number piece) fits left apart = clean.plans left.0 left.2.part_fits.0 left.1
+
+not_clean : (running : Option ℕ) (m : KeyMap) (rows : List RowKey) → (length rows ≡ 0 → ⊥) → AreLeftovers m rows → AreNotSpared running rows → IsSweptClean running m → ⊥
+not_clean running m [] some left apart clean = some refl
+not_clean running m (row ∷ rows) some left apart clean = mark_there running m clean row left.0 left.1 apart.0
+
+rows_none : (rows : List RowKey) → length rows ≡ 0 → (m : KeyMap) → take_rows m rows ≡ m
+rows_none [] none m = refl
+rows_none (row ∷ rows) none m = absurd (omega arith)
+
+same_map : (running : Option ℕ) (count : ℕ) (m n : KeyMap) (d : Desk) → count ≡ 0 → IsSweptMap running count m d n → n ≡ m
+same_map running count m n d zero swept = swept.by.rest ∙ rows_none swept.by.rows (swept.by.count_is ∙ zero) m
+
+-- ---- commits
+one_leaves : (sectors : ℕ) (d : Desk) (old new : Disk) → LeavesOnly (λ x. OpensDesk sectors d x ⊎ OpensDesk sectors d x) old new → LeavesOnly (OpensDesk sectors d) old new
+one_leaves sectors d old new left = leaves_wider (λ x. OpensDesk sectors d x ⊎ OpensDesk sectors d x) (OpensDesk sectors d) old new (λ x. ⊎_elim (λ opens. opens) (λ opens. opens)) left
+
+module _ {D : Type 0} {g : Ghosts D} where
+  -- pages that were read at most hold the same
+  pub quiet_rows : (a b : Pages D g) → IsQuiet a b → (disk_in b).is_honest → (m : KeyMap) → InPages a m → InPages b m
+  quiet_rows a b quiet honest m holds =
+      subst (λ (n : ℕ). Holds n (stored b) (root_in (stored b)) (free_in (stored b)) m) (sym quiet.count)
+      (subst (λ (P : Image). Holds (count_of a) P (root_in P) (free_in P) m) (sym (quiet.same honest)) holds)
+
+  quiet_desk : (a b : Pages D g) → IsQuiet a b → (disk_in b).is_honest → (d : Desk) → DeskInPages a d → DeskInPages b d
+  quiet_desk a b quiet honest d holds = record { m = holds.m; holds = quiet_rows a b quiet honest holds.m holds.holds; is = holds.is }
+
+  pub quiet_shape : (a b : Pages D g) → IsQuiet a b → HasShape a b
+  quiet_shape a b quiet = record { journal_pages = quiet.journal; pages = quiet.count }
+
+  pub shape_after : (a b c : Pages D g) → IsQuiet a b → HasShape b c → HasShape a c
+  shape_after a b c quiet shape = record { journal_pages = shape.journal_pages ∙ quiet.journal; pages = shape.pages ∙ quiet.count }
+
+  -- a stop in calls that read at most leaves the desk
+  pub quiet_leaves : (a b : Pages D g) → IsQuiet a b → (disk_in b).is_honest → has_halted a ≡ false → (sectors : ℕ) (d : Desk) → home (journal_of a) + count_of a ≡ sectors → DeskInPages a d → LeavesOnly (OpensDesk sectors d) (disk_in a) (disk_in b)
+  quiet_leaves a b quiet honest working sectors d whole holds =
+      leaves_quiet a b quiet honest (OpensDesk sectors d) (disk_in a)
+      (leaves_here (OpensDesk sectors d) (disk_in a) (opens_now a working (quiet.honest honest) sectors d whole holds))
+
+  whole_then : (a b : Pages D g) (sectors : ℕ) → IsQuiet a b → home (journal_of a) + count_of a ≡ sectors → home (journal_of b) + count_of b ≡ sectors
+  whole_then a b sectors quiet whole = (λ i. home (quiet.journal i) + quiet.count i) ∙ whole
+
+  -- a stop in a commit after them
+  step_leaves : (u : Txn) (a b c : Pages D g) → IsQuiet a b → (disk_in b).is_honest → has_halted a ≡ false → Leaves u b c → (sectors : ℕ) (d next : Desk) → home (journal_of a) + count_of a ≡ sectors → DeskInPages a d → DeskInTxn u (stored b) next → LeavesOnly (λ x. OpensDesk sectors d x ⊎ OpensDesk sectors next x) (disk_in a) (disk_in c)
+  step_leaves u a b c quiet honest working commit sectors d next whole holds reads =
+      let P = λ (x : Image). OpensDesk sectors d x ⊎ OpensDesk sectors next x in
+      leaves_more P (disk_in a) (disk_in b) (disk_in c)
+      (leaves_wider (OpensDesk sectors d) P (disk_in a) (disk_in b) (λ x opens. inl opens) (quiet_leaves a b quiet honest working sectors d whole holds))
+      (commit sectors d next (whole_then a b sectors quiet whole) (quiet_desk a b quiet honest d holds) reads)
+
+  -- a fault after calls that passed
+  failed_after : (a b c : Pages D g) → Passed a b → ((disk_in c).is_honest → (disk_in b).is_honest) → HasFailed b c → HasFailed a c
+  failed_after a b c ab bc failed = record {
+    worked = sym ab.halted ∙ failed.worked;
+    halted = failed.halted;
+    rose = λ honest. let rose = failed.rose honest in let same = ab.faults (bc honest) in omega arith;
+  }
+
+  -- ---- the beginning
+  -- what a transaction that is begun reads, and how many pages are free in it
+  pub record IsBegun (ps : Pages D g) (t : Txn) : Type 0 where
+    pub working : has_halted ps ≡ false
+    pub none : txn_writes t ≡ 0
+    pub reads : (disk_in ps).is_honest → (m : KeyMap) → InPages ps m → InTxn t (stored ps) m
+    pub free : (disk_in ps).is_honest → length (free_in (stored ps)) ≡ txn_free t
+
+  pub begun_now : (ps : Pages D g) (t : Txn) → has_halted ps ≡ false → txn_writes t ≡ 0 → txn_pages t ≡ count_of ps → ((q : ℕ) → over t (stored ps) q ≡ stored ps q) → (has_halted ps ≡ false → (disk_in ps).is_honest → txn_root t ≡ root_in (stored ps)) → (has_halted ps ≡ false → (disk_in ps).is_honest → free_over t (stored ps) ≡ free_in (stored ps)) → IsBegun ps t
+  begun_now ps t working none count same root free = record {
+    working = working;
+    none = none;
+    reads = λ honest m holds. begun_holds t (stored ps) m (subst (λ (n : ℕ). Holds n (stored ps) (root_in (stored ps)) (free_in (stored ps)) m) (sym count) holds) same (root working honest) (free working honest);
+    free = λ honest. ap (λ l. length l) (sym (free working honest)) ∙ length_chain (over t (stored ps)) (txn_first t) (txn_free t);
+  }
+
+  -- ---- rows that were taken out of it
+  pub record IsTaken (running : Option ℕ) (count : ℕ) (u : Txn) (a b : Pages D g) (m : KeyMap) (d : Desk) : Type 0 where
+    pub n : KeyMap
+    pub first : InTxn u (stored a) n
+    pub then : InTxn u (stored b) n
+    pub swept : IsSweptMap running count m d n
+
+  pub taken_of : (running : Option ℕ) (count : ℕ) (t u : Txn) (a b : Pages D g) → IsBegun a t → HasSwept running count t u a b → (disk_in b).is_honest → (m : KeyMap) (d : Desk) → InPages a m → IsDeskMap m d → IsTaken running count u a b m d
+  taken_of running count t u a b start swept honest m d holds is =
+      let quiet = swept.passed.quiet in
+      let (n, reads, map) = swept.swept honest m d (start.reads (quiet.honest honest) m holds) is in
+      record { n = n; first = reads; then = subst (λ (P : Image). InTxn u P n) (sym (quiet.same honest)) reads; swept = map }
+
+  abbrev pub Cleans : Option ℕ → ℕ → Txn → Pages D g → Pages D g → Type 0
+  Cleans running count u a b = (disk_in b).is_honest → (n : KeyMap) → InTxn u (stored a) n → Tidy n → count < 16 → IsSweptClean running n
+
+  pub taken_writes : (running : Option ℕ) (count : ℕ) (t u : Txn) (a b : Pages D g) → IsBegun a t → HasSwept running count t u a b → count ≤ 16 → txn_writes u ≤ 207
+  taken_writes running count t u a b start swept few = let writes = swept.writes in let none = start.none in omega arith
+
+  pub still_working : (running : Option ℕ) (count : ℕ) (t u : Txn) (a b : Pages D g) → IsBegun a t → HasSwept running count t u a b → has_halted b ≡ false
+  still_working running count t u a b start swept = swept.passed.halted ∙ start.working
+
+  -- ---- none were
+  pub none_holds : (running : Option ℕ) (count : ℕ) (t u : Txn) (a b : Pages D g) → IsBegun a t → HasSwept running count t u a b → Cleans running count u a b → count ≡ 0 → (disk_in b).is_honest → (m : KeyMap) (d : Desk) → InPages a m → IsDeskMap m d → HoldsSwept running 0 m d b
+  none_holds running count t u a b start swept cleans zero honest m d holds is =
+      let taken = taken_of running count t u a b start swept honest m d holds is in
+      let same = same_map running count m taken.n d zero taken.swept in
+      record {
+        n = taken.n;
+        holds = quiet_rows a b swept.passed.quiet honest taken.n (subst (λ (x : KeyMap). InPages a x) (sym same) holds);
+        swept = subst (λ (k : ℕ). IsSweptMap running k m d taken.n) zero taken.swept;
+        clean = λ less. cleans honest taken.n taken.first taken.swept.is.tidy (omega arith);
+      }
+
+  pub none_exact : (running : Option ℕ) (count : ℕ) (t u : Txn) (a b : Pages D g) → IsBegun a t → HasSwept running count t u a b → Cleans running count u a b → count ≡ 0 → (disk_in b).is_honest → (m : KeyMap) (d : Desk) → InPages a m → IsDeskMap m d → ◌≡◌ {A = ℕ} 0 0 ↔ IsSweptClean running m
+  none_exact running count t u a b start swept cleans zero honest m d holds is =
+      let taken = taken_of running count t u a b start swept honest m d holds is in
+      let clean = cleans honest taken.n taken.first taken.swept.is.tidy (omega arith) in
+      (λ same. subst (λ (x : KeyMap). IsSweptClean running x) (same_map running count m taken.n d zero taken.swept) clean, λ was. refl)
+
+  pub none_free : (a b : Pages D g) → IsQuiet a b → (disk_in b).is_honest → length (free_in (stored a)) ≤ length (free_in (stored b))
+  none_free a b quiet honest = let same : length (free_in (stored b)) ≡ length (free_in (stored a)) = ap (λ (P : Image). length (free_in P)) (quiet.same honest) in omega arith
+
+  -- ---- some were, and it is committed
+  abbrev pub Committed : Txn → Pages D g → Pages D g → Type 0
+  Committed u b c = (m : KeyMap) → InTxn u (stored b) m → InPages c m × (length (free_in (stored c)) ≡ txn_free u)
+
+  pub some_holds : (running : Option ℕ) (count : ℕ) (t u : Txn) (a b c : Pages D g) → IsBegun a t → HasSwept running count t u a b → Cleans running count u a b → Committed u b c → (disk_in b).is_honest → (m : KeyMap) (d : Desk) → InPages a m → IsDeskMap m d → HoldsSwept running count m d c
+  some_holds running count t u a b c start swept cleans committed honest m d holds is =
+      let taken = taken_of running count t u a b start swept honest m d holds is in
+      record {
+        n = taken.n;
+        holds = (committed taken.n taken.then).0;
+        swept = taken.swept;
+        clean = cleans honest taken.n taken.first taken.swept.is.tidy;
+      }
+
+  pub some_exact : (running : Option ℕ) (count : ℕ) (t u : Txn) (a b : Pages D g) → IsBegun a t → HasSwept running count t u a b → (count ≡ 0 → ⊥) → (disk_in b).is_honest → (m : KeyMap) (d : Desk) → InPages a m → IsDeskMap m d → (count ≡ 0) ↔ IsSweptClean running m
+  some_exact running count t u a b start swept some honest m d holds is =
+      let taken = taken_of running count t u a b start swept honest m d holds is in
+      let by = taken.swept.by in
+      (λ zero. absurd (some zero), λ clean. absurd (not_clean running m by.rows (λ none. some (sym by.count_is ∙ none)) by.left by.apart clean))
+
+  pub some_free : (running : Option ℕ) (count : ℕ) (t u : Txn) (a b c : Pages D g) → IsBegun a t → HasSwept running count t u a b → Committed u b c → (disk_in b).is_honest → (d : Desk) → DeskInPages a d → length (free_in (stored a)) ≤ length (free_in (stored c))
+  some_free running count t u a b c start swept committed honest d holds =
+      let taken = taken_of running count t u a b start swept honest holds.m d holds.holds holds.is in
+      let now = (committed taken.n taken.then).1 in
+      let given = swept.given in
+      let was = start.free (swept.passed.quiet.honest honest) in
+      omega arith
+
+  pub some_leaves : (running : Option ℕ) (count : ℕ) (t u : Txn) (a b c : Pages D g) → IsBegun a t → HasSwept running count t u a b → Leaves u b c → (disk_in b).is_honest → (sectors : ℕ) (d : Desk) → home (journal_of a) + count_of a ≡ sectors → DeskInPages a d → LeavesOnly (OpensDesk sectors d) (disk_in a) (disk_in c)
+  some_leaves running count t u a b c start swept commit honest sectors d whole holds =
+      let taken = taken_of running count t u a b start swept honest holds.m d holds.holds holds.is in
+      one_leaves sectors d (disk_in a) (disk_in c) (step_leaves u a b c swept.passed.quiet honest start.working commit sectors d d whole holds (record { m = taken.n; holds = taken.then; is = taken.swept.is }))
+
+  -- ---- refusals
+  pub not_taken : (t : Txn) (a b : Pages D g) → IsBegun a t → IsQuiet a b → (e : TreeError) → TakeErr HasDesk t a b e → SweepErr a b (tree_told e)
+  not_taken t a b start quiet tree.DeviceFault why = elim why [
+    | inl failed ↦ inl failed
+    | inr none ↦ inr (λ honest d holds. none honest holds.m (start.reads (quiet.honest honest) holds.m holds.holds) (d, holds.is))
+  ]
+  not_taken t a b start quiet tree.Halted why = both (has_halted a) why start.working
+  not_taken t a b start quiet tree.NoPages why = absurd why
+  not_taken t a b start quiet tree.TooDeep why = absurd why
+  not_taken t a b start quiet tree.Memory why = quiet
+
+  pub not_committed : (a b c : Pages D g) → Passed a b → ((disk_in c).is_honest → (disk_in b).is_honest) → (e : SweepError) → FinishErr b c e → SweepErr a c e
+  not_committed a b c passed honest Memory why = subst (λ (p : Pages D g). IsQuiet a p) (sym why) passed.quiet
+  not_committed a b c passed honest DeviceFault why = elim why [
+    | inl failed ↦ inl (failed_after a b c passed honest failed)
+    | inr none ↦ inr (λ is d holds. none is)
+  ]
+  not_committed a b c passed honest Halted why = absurd why

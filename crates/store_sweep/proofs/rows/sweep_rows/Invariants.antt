@@ -1,0 +1,10 @@
+use Rattle.std.proofs.Common.{◌≡◌}
+use Rattle.page_store.specs.Transactions.{count_of, txn_pages}
+use Rattle.store_sweep.specs.Sweeping.{HasSwept}
+use Rattle.store_sweep.proofs.rows.sweep_rows.Given as goal
+
+abbrev pub invariant-loop-swept : goal.invariant-loop-swept
+invariant-loop-swept g l = record {
+  begun : txn_pages l.txn ≡ count_of l.pages;
+  swept : HasSwept l.running l.swept l.fn.txn l.txn l.fn.pages l.pages;
+}

@@ -1,0 +1,40 @@
+-- Which rows of a store are swept, and what is left once they are.
+use Rattle.std.specs.Prelude.{◌≡◌, ◌<◌, ◌^◌, ℕ, List, [], ◌∷◌, length, Option, Some, None}
+use Rattle.store_keys.specs.Keys.{RowKey, key_of, Fits, counters, retired, begun, named, part, seal, block, pair, chunk}
+use Rattle.store_rows.specs.Rows.{KeyMap, Has}
+use Rattle.store_rows.specs.SweepLaws.{IsLeftover, take_rows, AreLeftovers}
+
+-- a row that a load staged, or its mark
+abbrev pub IsOfLoad : ℕ → RowKey → Type 0
+IsOfLoad load counters = ⊥
+IsOfLoad load (retired plan) = ⊥
+IsOfLoad load (begun other) = other ≡ load
+IsOfLoad load (named name) = ⊥
+IsOfLoad load (part plan revision index) = ⊥
+IsOfLoad load seal = ⊥
+IsOfLoad load (block other place) = other ≡ load
+IsOfLoad load (pair other place) = other ≡ load
+IsOfLoad load (chunk number piece) = ⊥
+
+-- the rows of the load that is under way are spared
+abbrev pub IsSpared : Option ℕ → RowKey → Type 0
+IsSpared None row = ⊥
+IsSpared (Some load) row = IsOfLoad load row
+
+abbrev pub AreNotSpared : Option ℕ → List RowKey → Type 0
+AreNotSpared running [] = Unit {0}
+AreNotSpared running (row ∷ rows) = (IsSpared running row → ⊥) × AreNotSpared running rows
+
+-- No mark is left of a plan that was taken away, nor of a load that was begun, but for the one that is under way. So each part of a
+-- revision and each piece of a chunk is of a plan that is there, and each row of another load is the geography's.
+pub record IsSweptClean (running : Option ℕ) (m : KeyMap) : Type 0 where
+  pub plans : (plan : ℕ) → plan < 2 ^ 64 → Has m (retired plan) [] → ⊥
+  pub loads : (load : ℕ) → load < 2 ^ 64 → (IsSpared running (begun load) → ⊥) → Has m (begun load) [] → ⊥
+
+-- so many leftovers were taken out, one after the other, and none of them was spared
+pub record IsSweptBy (running : Option ℕ) (count : ℕ) (m n : KeyMap) : Type 0 where
+  pub rows : List RowKey
+  pub count_is : length rows ≡ count
+  pub left : AreLeftovers m rows
+  pub apart : AreNotSpared running rows
+  pub rest : n ≡ take_rows m rows

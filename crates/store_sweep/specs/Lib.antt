@@ -1,0 +1,4 @@
+pub mod Errors
+pub mod Leftovers
+pub mod Finding
+pub mod Sweeping

@@ -1,0 +1,72 @@
+-- What a sweep did.
+use Rattle.std.specs.Prelude.{◌≡◌, ◌⊎◌, ◌<◌, ◌≤◌, ◌+◌, ◌*◌, ℕ, Bool, true, false, List, [], ◌∷◌, length, Option}
+use Rattle.sector_device.specs.Moments.{LeavesOnly}
+use Rattle.sector_device.specs.declared.SectorDevice.{Ghosts}
+use Rattle.gate_journal.specs.Store.{home}
+use Rattle.page_store.specs.Transactions.{stored, disk_in, count_of, journal_of, has_halted, txn_pages, txn_free, txn_writes, HasFailed, IsQuiet, IsSame, Passed}
+use Rattle.page_store.specs.declared.pages.Pages.{Pages}
+use Rattle.page_store.specs.declared.txn.Txn.{Txn}
+use Rattle.page_btree.specs.Map.{InTxn, InPages}
+use Rattle.page_btree.specs.declared.error.TreeError.{TreeError}
+use Rattle.page_btree.specs.declared.error.TreeError.TheVariants as tree
+use Rattle.desk_model.specs.Desk.{Desk}
+use Rattle.store_rows.specs.Rows.{KeyMap}
+use Rattle.store_rows.specs.Tidy.{Tidy}
+use Rattle.desk_pages.specs.Desks.{IsDeskMap, InTxn as DeskInTxn, InPages as DeskInPages, OpensDesk}
+use Rattle.store_sweep.specs.declared.error.SweepError.{SweepError}
+use Rattle.store_sweep.specs.declared.error.SweepError.TheVariants.{Memory, DeviceFault, Halted}
+use Rattle.store_sweep.specs.Leftovers.{IsSweptBy, IsSweptClean}
+
+-- a map of the same desk, of which so many leftovers were taken out
+pub record IsSweptMap (running : Option ℕ) (count : ℕ) (m : KeyMap) (d : Desk) (n : KeyMap) : Type 0 where
+  pub is : IsDeskMap n d
+  pub by : IsSweptBy running count m n
+
+-- the map of a desk
+abbrev pub HasDesk : KeyMap → Type 0
+HasDesk m = (d : Desk) × IsDeskMap m d
+
+module _ {D : Type 0} {g : Ghosts D} where
+  -- A transaction took them out: a removal writes 6 pages at most, and takes none.
+  pub record HasSwept (running : Option ℕ) (count : ℕ) (t u : Txn) (old new : Pages D g) : Type 0 where
+    pub passed : Passed old new
+    pub pages : txn_pages u ≡ txn_pages t
+    pub swept : (disk_in new).is_honest → (m : KeyMap) (d : Desk) → InTxn t (stored old) m → IsDeskMap m d → (n : KeyMap) × InTxn u (stored old) n × IsSweptMap running count m d n
+    pub writes : txn_writes u ≤ txn_writes t + 6 * count
+    pub given : txn_free t ≤ txn_free u
+
+  -- one more was taken out, or none is left and nothing was written
+  abbrev pub IsTurn : Bool → Option ℕ → Txn → Txn → Pages D g → Pages D g → Type 0
+  IsTurn true running t u old new = HasSwept running 1 t u old new
+  IsTurn false running t u old new = Passed old new × (u ≡ t) × ((disk_in new).is_honest → (m : KeyMap) → InTxn t (stored old) m → Tidy m → IsSweptClean running m)
+
+  -- why they are not taken out of a map with this: the device failed, or the transaction reads no such map
+  abbrev pub TakeErr : (KeyMap → Type 0) → Txn → Pages D g → Pages D g → TreeError → Type 0
+  TakeErr has t old new tree.DeviceFault = HasFailed old new ⊎ ((disk_in new).is_honest → (m : KeyMap) → InTxn t (stored old) m → has m → ⊥)
+  TakeErr has t old new tree.Halted = has_halted old ≡ true
+  TakeErr has t old new tree.NoPages = ⊥
+  TakeErr has t old new tree.TooDeep = ⊥
+  TakeErr has t old new tree.Memory = Unit {0}
+
+  -- the pages hold what is left then; fewer than 16 rows were taken only where no other was left
+  pub record HoldsSwept (running : Option ℕ) (count : ℕ) (m : KeyMap) (d : Desk) (ps : Pages D g) : Type 0 where
+    pub n : KeyMap
+    pub holds : InPages ps n
+    pub swept : IsSweptMap running count m d n
+    pub clean : count < 16 → IsSweptClean running n
+
+  -- why nothing is swept
+  abbrev pub SweepErr : Pages D g → Pages D g → SweepError → Type 0
+  SweepErr old new Memory = IsQuiet old new
+  SweepErr old new DeviceFault = HasFailed old new ⊎ ((disk_in new).is_honest → (d : Desk) → DeskInPages old d → ⊥)
+  SweepErr old new Halted = (has_halted old ≡ true) × IsSame old new
+
+  -- what a stop in a commit leaves
+  abbrev pub Leaves : Txn → Pages D g → Pages D g → Type 0
+  Leaves t old new = (sectors : ℕ) (d next : Desk) → home (journal_of old) + count_of old ≡ sectors → DeskInPages old d → DeskInTxn t (stored old) next → LeavesOnly (λ c. OpensDesk sectors d c ⊎ OpensDesk sectors next c) (disk_in old) (disk_in new)
+
+  -- why a sweep is not committed
+  abbrev pub FinishErr : Pages D g → Pages D g → SweepError → Type 0
+  FinishErr old new Memory = new ≡ old
+  FinishErr old new DeviceFault = HasFailed old new ⊎ ((disk_in new).is_honest → ⊥)
+  FinishErr old new Halted = ⊥

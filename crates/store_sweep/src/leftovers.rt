@@ -1,0 +1,188 @@
+//! Finds a row that is left over.
+ghost use Rattle.std.specs.Prelude.{◌≡◌, ◌<◌, ◌^◌, ℕ, List, [], ◌∷◌, length, drop, Option, Some, MatchOption, OnOk, IfOk, IfErr};
+ghost use Rattle.page_store.specs.Transactions.{stored, disk_in, count_of, txn_pages, IsQuiet, Passed};
+ghost use Rattle.page_btree.specs.Map.{InTxn};
+ghost use Rattle.row_table.specs.Reading.{ReadErr};
+ghost use Rattle.store_keys.specs.Keys.{in_eight};
+ghost use Rattle.store_rows.specs.Rows.{KeyMap};
+ghost use Rattle.store_rows.specs.Tidy.{AreRows, Tidy};
+ghost use Rattle.store_sweep.specs.Leftovers.{IsOfLoad, IsSpared};
+ghost use Rattle.store_sweep.specs.Finding.{IsFirstPiece, IsLeftKey, IsPlanLeft, IsLoadLeft, IsNextLeft, HasPlanMark, HasLoadMark, spared_key};
+
+use crate::firsts::{first_mark, first_under};
+use btree_scan::Row;
+use page_store::{Pages, Txn};
+use row_table::TreeError;
+use sector_device::SectorDevice;
+use store_keys::{Key, read_chunks};
+
+/// The number of 8 bytes, the highest first.
+fn eight(bytes: &[u8]) -> u64
+    requires { length bytes.now ≡ 8 }
+    ensures { in_eight result ≡ bytes.now }
+{
+    u64::from_be_bytes([
+        bytes[0], bytes[1], bytes[2], bytes[3], bytes[4], bytes[5], bytes[6], bytes[7],
+    ])
+}
+
+/// The number behind the tag of a key; None where it isn't 8 bytes.
+fn number_in(key: &[u8]) -> Option<u64>
+    ensures { MatchOption result (length key.now ≡ 9 → ⊥) (λ number. drop 1 key.now ≡ in_eight number) }
+{
+    if key.len() != 9 {
+        return None;
+    }
+    Some(eight(&key[1..]))
+}
+
+/// The first piece that is left of one of these chunks, if there is one.
+fn first_piece<D: SectorDevice>(
+    txn: &Txn,
+    pages: &mut Pages<D>,
+    numbers: &[u64],
+    row: &mut Row,
+) -> Result<bool, TreeError>
+    requires begun { txn_pages txn.now ≡ count_of pages.old }
+    ensures quiet { IsQuiet pages.old pages.new }
+    ensures passed { OnOk result (Passed pages.old pages.new) }
+    ensures found { (disk_in pages.new).is_honest → (m : KeyMap) → InTxn txn.now (stored pages.old) m → AreRows m → IfOk result (λ found. IsFirstPiece found numbers.now row.new.key m) }
+    ensures err { IfErr result (λ e. ReadErr AreRows txn.now pages.old pages.new e) }
+{
+    for number in numbers {
+        let prefix = Key::chunk_pieces(*number);
+        if first_under(txn, pages, prefix.as_slice(), row)? {
+            return Ok(true);
+        }
+    }
+    Ok(false)
+}
+
+/// Makes `row` one that is left over of a plan that was taken away, which has this mark: a piece of a chunk that its first part names;
+/// that part, where no piece is left; the mark, where no part is left.
+fn left_of_plan<D: SectorDevice>(
+    txn: &Txn,
+    pages: &mut Pages<D>,
+    plan: u64,
+    row: &mut Row,
+) -> Result<(), TreeError>
+    requires begun { txn_pages txn.now ≡ count_of pages.old }
+    ensures quiet { IsQuiet pages.old pages.new }
+    ensures passed { OnOk result (Passed pages.old pages.new) }
+    ensures found { (disk_in pages.new).is_honest → (m : KeyMap) → InTxn txn.now (stored pages.old) m → HasPlanMark plan m → OnOk result (IsLeftKey m row.new.key (λ left. (load : ℕ) → IsOfLoad load left → ⊥)) }
+    ensures err { IfErr result (λ e. ReadErr (HasPlanMark plan) txn.now pages.old pages.new e) }
+{
+    let prefix = Key::plan_parts(plan);
+    if !first_under(txn, pages, prefix.as_slice(), row)? {
+        row.key.set(Key::retired(plan).as_slice());
+        return Ok(());
+    }
+    let Some(numbers) = read_chunks(row.value.as_slice()) else {
+        return Err(TreeError::DeviceFault);
+    };
+    let mut piece = Row::empty();
+    if !first_piece(txn, pages, numbers.as_slice(), &mut piece)? {
+        return Ok(());
+    }
+    row.key.set(piece.key.as_slice());
+    Ok(())
+}
+
+/// Makes `row` one that is left over of a load, which has this mark: a row of it, or the mark where no row is left.
+fn left_of_load<D: SectorDevice>(
+    txn: &Txn,
+    pages: &mut Pages<D>,
+    load: u64,
+    row: &mut Row,
+) -> Result<(), TreeError>
+    requires begun { txn_pages txn.now ≡ count_of pages.old }
+    ensures quiet { IsQuiet pages.old pages.new }
+    ensures passed { OnOk result (Passed pages.old pages.new) }
+    ensures found { (disk_in pages.new).is_honest → (m : KeyMap) → InTxn txn.now (stored pages.old) m → HasLoadMark load m → OnOk result (IsLeftKey m row.new.key (IsOfLoad load)) }
+    ensures err { IfErr result (λ e. ReadErr (HasLoadMark load) txn.now pages.old pages.new e) }
+{
+    let prefix = Key::load(load);
+    if !first_under(txn, pages, prefix.as_slice(), row)? {
+        row.key.set(Key::begun(load).as_slice());
+    }
+    Ok(())
+}
+
+/// The mark of the load that is under way, which is spared.
+fn spared_mark(running: Option<u64>) -> Key
+    ensures key { result ≡ spared_key running }
+    ensures fits { (load : ℕ) → running ≡ Some load → load < 2 ^ 64 }
+{
+    match running {
+        Some(load) => Key::begun(load),
+        None => Key::counters(),
+    }
+}
+
+/// Makes `row` one that is left over of a load that isn't under way, if there is one.
+fn left_of_loads<D: SectorDevice>(
+    txn: &Txn,
+    pages: &mut Pages<D>,
+    running: Option<u64>,
+    row: &mut Row,
+) -> Result<bool, TreeError>
+    requires begun { txn_pages txn.now ≡ count_of pages.old }
+    ensures quiet { IsQuiet pages.old pages.new }
+    ensures passed { OnOk result (Passed pages.old pages.new) }
+    ensures found { (disk_in pages.new).is_honest → (m : KeyMap) → InTxn txn.now (stored pages.old) m → Tidy m → IfOk result (λ found. IsLoadLeft found running row.new.key m) }
+    ensures err { IfErr result (λ e. ReadErr Tidy txn.now pages.old pages.new e) }
+{
+    let prefix = Key::all_begun();
+    let spared = spared_mark(running);
+    if !first_mark(txn, pages, prefix.as_slice(), spared.as_slice(), row)? {
+        return Ok(false);
+    }
+    let Some(load) = number_in(row.key.as_slice()) else {
+        return Err(TreeError::DeviceFault);
+    };
+    left_of_load(txn, pages, load, row)?;
+    Ok(true)
+}
+
+/// Makes `row` one that is left over of a plan that was taken away, if there is one.
+fn left_of_plans<D: SectorDevice>(
+    txn: &Txn,
+    pages: &mut Pages<D>,
+    row: &mut Row,
+) -> Result<bool, TreeError>
+    requires begun { txn_pages txn.now ≡ count_of pages.old }
+    ensures quiet { IsQuiet pages.old pages.new }
+    ensures passed { OnOk result (Passed pages.old pages.new) }
+    ensures found { (disk_in pages.new).is_honest → (m : KeyMap) → InTxn txn.now (stored pages.old) m → Tidy m → IfOk result (λ found. IsPlanLeft found row.new.key m) }
+    ensures err { IfErr result (λ e. ReadErr Tidy txn.now pages.old pages.new e) }
+{
+    let prefix = Key::all_retired();
+    let none = Key::counters();
+    if !first_mark(txn, pages, prefix.as_slice(), none.as_slice(), row)? {
+        return Ok(false);
+    }
+    let Some(plan) = number_in(row.key.as_slice()) else {
+        return Err(TreeError::DeviceFault);
+    };
+    left_of_plan(txn, pages, plan, row)?;
+    Ok(true)
+}
+
+/// Makes `row` the next one that is left over, if there is one: those of plans come before those of loads.
+pub(crate) fn next_leftover<D: SectorDevice>(
+    txn: &Txn,
+    pages: &mut Pages<D>,
+    running: Option<u64>,
+    row: &mut Row,
+) -> Result<bool, TreeError>
+    requires begun { txn_pages txn.now ≡ count_of pages.old }
+    ensures quiet { IsQuiet pages.old pages.new }
+    ensures passed { OnOk result (Passed pages.old pages.new) }
+    ensures found { (disk_in pages.new).is_honest → (m : KeyMap) → InTxn txn.now (stored pages.old) m → Tidy m → IfOk result (λ found. IsNextLeft found running row.new.key m) }
+    ensures err { IfErr result (λ e. ReadErr Tidy txn.now pages.old pages.new e) }
+{
+    if left_of_plans(txn, pages, row)? {
+        return Ok(true);
+    }
+    left_of_loads(txn, pages, running, row)
+}

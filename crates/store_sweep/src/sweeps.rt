@@ -1,0 +1,53 @@
+//! Sweeps a store, a few rows in each commit.
+ghost use Rattle.std.specs.Prelude.{◌≡◌, ◌≤◌, ◌<◌, ◌+◌, ◌↔◌, ℕ, Err, true, false, Option, OnOk, IfOk, IfErr, length};
+ghost use Rattle.sector_device.specs.Moments.{LeavesOnly};
+ghost use Rattle.gate_journal.specs.Store.{home};
+ghost use Rattle.page_store.specs.Chain.{free_in};
+ghost use Rattle.page_store.specs.Transactions.{stored, disk_in, count_of, journal_of, has_halted, HasShape, IsSame, IsKept};
+ghost use Rattle.page_btree.specs.Map.{InPages};
+ghost use Rattle.desk_model.specs.Desk.{Desk};
+ghost use Rattle.store_rows.specs.Rows.{KeyMap};
+ghost use Rattle.desk_pages.specs.Desks.{IsDeskMap, InPages as DeskInPages, OpensDesk};
+ghost use Rattle.store_sweep.specs.Leftovers.{IsSweptClean};
+ghost use Rattle.store_sweep.specs.Sweeping.{HoldsSwept, SweepErr};
+
+use crate::commits::finish;
+use crate::error::SweepError;
+pub use crate::rows::ROWS_SWEPT;
+use crate::rows::sweep_rows;
+use page_store::Pages;
+use sector_device::SectorDevice;
+use std::alloc::Global;
+
+/// Takes out up to 16 rows that plans that were taken away and loads that were begun and never sealed left behind, in one commit
+/// of at most 208 pages: how many there were, 0 only where none is left. `running` is the load that is under way, whose rows are
+/// spared. The desk stays as it is, and no number is used again.
+pub fn sweep_step<D: SectorDevice>(
+    alloc: Global,
+    pages: &mut Pages<D>,
+    running: Option<u64>,
+) -> Result<usize, SweepError>
+    ensures shape { HasShape pages.old pages.new }
+    ensures honest { (disk_in pages.new).is_honest → (disk_in pages.old).is_honest }
+    ensures any_moment { (disk_in pages.new).is_honest → has_halted pages.old ≡ false → (sectors : ℕ) (d : Desk) → home (journal_of pages.old) + count_of pages.old ≡ sectors → DeskInPages pages.old d → LeavesOnly (OpensDesk sectors d) (disk_in pages.old) (disk_in pages.new) }
+    ensures few { IfOk result (λ count. count ≤ 16) }
+    ensures swept { (disk_in pages.new).is_honest → (m : KeyMap) (d : Desk) → InPages pages.old m → IsDeskMap m d → IfOk result (λ count. HoldsSwept running count m d pages.new) }
+    ensures exact { (disk_in pages.new).is_honest → (m : KeyMap) (d : Desk) → InPages pages.old m → IsDeskMap m d → IfOk result (λ count. (count ≡ 0) ↔ IsSweptClean running m) }
+    ensures free { (disk_in pages.new).is_honest → (d : Desk) → DeskInPages pages.old d → OnOk result (length (free_in (stored pages.old)) ≤ length (free_in (stored pages.new))) }
+    ensures kept { (disk_in pages.new).is_honest → OnOk result (IsKept pages.new) }
+    ensures passed { (disk_in pages.new).is_honest → OnOk result ((disk_in pages.new).faults ≡ (disk_in pages.old).faults) }
+    ensures ok { OnOk result ((has_halted pages.old ≡ false) × (has_halted pages.new ≡ false)) }
+    ensures still { has_halted pages.old ≡ true → (result ≡ Err SweepError.Halted) × IsSame pages.old pages.new }
+    ensures err { IfErr result (λ e. SweepErr pages.old pages.new e) }
+{
+    if pages.is_halted() {
+        return Err(SweepError::Halted);
+    }
+    let mut txn = pages.begin(alloc);
+    let count = sweep_rows(&mut txn, pages, running)?;
+    if count == 0 {
+        return Ok(0);
+    }
+    finish(txn, pages)?;
+    Ok(count)
+}

@@ -1,0 +1,122 @@
+-- A talk of clerks is one of the desks that they show.
+use Rattle.std.specs.Prelude.{◌≡◌, ◌⊎◌, ⊤, ℕ, ◌+◌, Bool, true, false, List, [], ◌++◌, Option, Result, Ok, Err}
+use Rattle.std.proofs.Common.{refl, sym, ap, subst, inl, inr, ⊎_elim, add-zero}
+use Rattle.std.proofs.lemmas.List.{append-nil}
+use Rattle.sector_device.specs.declared.SectorDevice.{Ghosts}
+use Rattle.desk_model.specs.declared.command.Command.{Command}
+use Rattle.desk_model.specs.declared.command.Query.{Query}
+use Rattle.desk_model.specs.declared.reply.Reply.{Reply}
+use Rattle.desk_model.specs.declared.reply.Reply.TheVariants as reply
+use Rattle.desk_model.specs.declared.reply.Refusal.{Refusal}
+use Rattle.desk_model.specs.declared.reply.Refusal.TheVariants.{NoPlan, NoRevision, PlanExists, Stale, BadBody, NotWholeCounty, BadCompanion, Limit, Full, Memory, Halted, NotSealed}
+use Rattle.desk_model.specs.Desk.{Desk}
+use Rattle.desk_model.specs.Outcome.{CommandMay, RefusalMay, IsStep}
+use Rattle.desk_model.specs.Sample.{sample_desk}
+use Rattle.desk_catalogue.specs.Audits.{AskMay}
+use Rattle.desk_clerk.specs.declared.clerk.Clerk.{Clerk}
+use Rattle.desk_clerk.specs.Clerks.{desk_of}
+use Rattle.desk_clerk.specs.Commands.{Does}
+use Rattle.http_desk.specs.Talk.{Talk}
+use Rattle.http_desk.specs.Serving.{ServesTo, IsCutTalk, IsFrontTalk, IsCutInHead, IsShortTalk}
+use Rattle.http_desk.specs.declared.serve.Served.{Served}
+use Rattle.http_desk.specs.declared.serve.ServeFault.{ServeFault}
+use Rattle.http_desk.specs.declared.serve.ServeFault.TheVariants as fault
+use Rattle.talk_command.specs.Talking.{clerk_commands, clerk_asks, ServesSample, ServesClerk, IsUnserved}
+use Rattle.talk_command.specs.Desks.{desk_commands, desk_asks, DeskTalk, IsTalkToHead, IsTalkSoFar, DeskServesTo, ServesDesk}
+use Rattle.talk_command.proofs.Seen.{talk_seen}
+
+step_seen : (must : Type 0) (d : Desk) (c : Command) (r : Reply) (e : Desk) → IsStep must d c r e → IsStep ⊥ d c r e
+step_seen must d c r e is = record { reply = is.reply; desk = is.desk; room = λ accepted none. none }
+
+refusal_seen : (must may failed : Type 0) (d : Desk) (c : Command) (r : Refusal) (e : Desk) → RefusalMay must may failed d c r e → desk_commands d c (reply.Refused r) e
+refusal_seen must may failed d c Memory e told = inl (λ none. none, told.1)
+refusal_seen must may failed d c Halted e told = inr (refl, told.1)
+refusal_seen must may failed d c Full e told = inl (λ none. none, record { accepted = told.1.accepted; no_room = tt; desk = told.1.desk })
+refusal_seen must may failed d c NoPlan e told = inl (λ none. none, step_seen must d c (reply.Refused NoPlan) e told.1)
+refusal_seen must may failed d c NoRevision e told = inl (λ none. none, step_seen must d c (reply.Refused NoRevision) e told.1)
+refusal_seen must may failed d c PlanExists e told = inl (λ none. none, step_seen must d c (reply.Refused PlanExists) e told.1)
+refusal_seen must may failed d c (Stale k) e told = inl (λ none. none, step_seen must d c (reply.Refused (Stale k)) e told.1)
+refusal_seen must may failed d c (BadBody code line) e told = inl (λ none. none, step_seen must d c (reply.Refused (BadBody code line)) e told.1)
+refusal_seen must may failed d c (NotWholeCounty county) e told = inl (λ none. none, step_seen must d c (reply.Refused (NotWholeCounty county)) e told.1)
+refusal_seen must may failed d c BadCompanion e told = absurd told
+refusal_seen must may failed d c Limit e told = inl (λ none. none, step_seen must d c (reply.Refused Limit) e told.1)
+refusal_seen must may failed d c NotSealed e told = inl (λ none. none, step_seen must d c (reply.Refused NotSealed) e told.1)
+
+outcome_seen : (must may failed : Type 0) (d : Desk) (c : Command) (r : Reply) (e : Desk) → CommandMay must may failed d c r e → desk_commands d c r e
+outcome_seen must may failed d c (reply.Refused refusal) e told = refusal_seen must may failed d c refusal e told
+outcome_seen must may failed d c (reply.Created name revisions) e told = inl (λ none. none, step_seen must d c (reply.Created name revisions) e told.1)
+outcome_seen must may failed d c (reply.Retired name) e told = inl (λ none. none, step_seen must d c (reply.Retired name) e told.1)
+outcome_seen must may failed d c (reply.Plans rows) e told = absurd told
+outcome_seen must may failed d c (reply.Blocks text) e told = absurd told
+outcome_seen must may failed d c (reply.Baf text) e told = absurd told
+outcome_seen must may failed d c (reply.Audited text) e told = absurd told
+
+-- no clerk could be made
+unserved_seen : (served : Result Served ServeFault) (unread left before after : Option (List ℕ)) → IsUnserved served unread left before after → ServesDesk served unread left before after
+unserved_seen served unread left before after is = record {
+  last = sample_desk;
+  input = [];
+  output = [];
+  reads = is.reads;
+  writes = is.writes;
+  serves = subst (λ (s : Result Served ServeFault). DeskServesTo sample_desk s left [] [] sample_desk) (sym is.memory) (refl, refl);
+}
+
+module _ {D : Type 0} {g : Ghosts D} where
+  command_seen : (x : Clerk D g) (c : Command) (r : Reply) (y : Clerk D g) → clerk_commands g x c r y → desk_commands (desk_of x) c r (desk_of y)
+  command_seen x c r y does = outcome_seen _ _ _ (desk_of x) c r (desk_of y) does.outcome
+
+  query_seen : (x : Clerk D g) (q : Query) (r : Reply) (y : Clerk D g) → clerk_asks g x q r y → desk_asks (desk_of x) q r (desk_of y)
+  query_seen x q r y told = (told.0, ap (λ (z : Clerk D g). desk_of z) told.1)
+
+  desks_talk : (x : Clerk D g) (input output : List ℕ) (n : ℕ) (shut : Bool) (y : Clerk D g) → Talk (clerk_commands g) (clerk_asks g) x input output n shut y → DeskTalk (desk_of x) input output n shut (desk_of y)
+  desks_talk x input output n shut y talk = talk_seen (λ (z : Clerk D g). desk_of z) (clerk_commands g) (clerk_asks g) desk_commands desk_asks command_seen query_seen x input output n shut y talk
+
+  -- no more is read behind the head's beginning
+  head_seen : (x : Clerk D g) (input output : List ℕ) (y : Clerk D g) → IsCutInHead (clerk_commands g) (clerk_asks g) x input output y → IsTalkToHead (desk_of x) input output (desk_of y)
+  head_seen x input output y cut =
+      let whole : Talk (clerk_commands g) (clerk_asks g) x (cut.taken ++ []) (output ++ []) (cut.count + 0) false y = cut.on [] [] 0 false y (Talk.over y) in
+      record {
+        taken = cut.taken;
+        rest = cut.rest;
+        read = cut.read;
+        cut = cut.cut;
+        count = cut.count;
+        talk = desks_talk x cut.taken output cut.count false y
+            (subst (λ (front : List ℕ). Talk (clerk_commands g) (clerk_asks g) x front output cut.count false y) (append-nil cut.taken)
+            (subst (λ (text : List ℕ). Talk (clerk_commands g) (clerk_asks g) x (cut.taken ++ []) text cut.count false y) (append-nil output)
+            (subst (λ (n : ℕ). Talk (clerk_commands g) (clerk_asks g) x (cut.taken ++ []) (output ++ []) n false y) (add-zero cut.count) whole)));
+      }
+
+  short_seen : (x : Clerk D g) (input output : List ℕ) (y : Clerk D g) → IsShortTalk (clerk_commands g) (clerk_asks g) x input output y → IsTalkSoFar (desk_of x) input output (desk_of y)
+  short_seen x input output y = ⊎_elim (λ all. inl (all.0, desks_talk x input output all.0 false y all.1)) (λ cut. inr (head_seen x input output y cut))
+
+  front_seen : (x : Clerk D g) (input answers : List ℕ) (y : Clerk D g) → IsFrontTalk (clerk_commands g) (clerk_asks g) x input answers y → IsFrontTalk desk_commands desk_asks (desk_of x) input answers (desk_of y)
+  front_seen x input answers y front = record {
+    front = front.front;
+    unread = front.unread;
+    read = front.read;
+    count = front.count;
+    shut = front.shut;
+    talk = desks_talk x front.front answers front.count front.shut y front.talk;
+  }
+
+  served_seen : (served : Result Served ServeFault) (left : Option (List ℕ)) (x : Clerk D g) (input output : List ℕ) (y : Clerk D g) → ServesTo (clerk_commands g) (clerk_asks g) x served left input output y → DeskServesTo (desk_of x) served left input output (desk_of y)
+  served_seen (Ok served) left x input output y told = (told.0, desks_talk x input output served.requests told.0 y told.1, told.2)
+  served_seen (Err fault.Read) left x input output y told = short_seen x input output y told
+  served_seen (Err fault.TurnLimit) left x input output y told = short_seen x input output y told
+  served_seen (Err fault.Write) left x input output y told = record { answers = told.answers; unwritten = told.unwritten; written = told.written; over_front = front_seen x input told.answers y told.over_front }
+  served_seen (Err fault.Memory) left x input output y told = (told.0, told.1)
+
+  clerk_seen : (served : Result Served ServeFault) (unread left before after : Option (List ℕ)) → ServesClerk g served unread left before after → ServesDesk served unread left before after
+  clerk_seen served unread left before after is = record {
+    last = desk_of is.last;
+    input = is.serves.0;
+    output = is.serves.1;
+    reads = is.serves.2;
+    writes = is.serves.3;
+    serves = subst (λ (d : Desk). DeskServesTo d served left is.serves.0 is.serves.1 (desk_of is.last)) is.desk (served_seen served left is.clerk is.serves.0 is.serves.1 is.last is.serves.4);
+  }
+
+  pub sample_seen : (served : Result Served ServeFault) (unread left before after : Option (List ℕ)) → ServesSample g served unread left before after → ServesDesk served unread left before after
+  sample_seen served unread left before after = ⊎_elim (clerk_seen served unread left before after) (unserved_seen served unread left before after)

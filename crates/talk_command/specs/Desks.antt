@@ -1,0 +1,58 @@
+-- The same talk, told of desks alone.
+use Rattle.std.specs.Prelude.{◌≡◌, ◌⊎◌, ⊤, ℕ, false, Bool, List, [], ◌++◌, Option, Result, Ok, Err}
+use Rattle.std.specs.Io.KnownBytes.{Appends, Consumes, IsAtEnd}
+use Rattle.desk_model.specs.declared.command.Command.{Command}
+use Rattle.desk_model.specs.declared.command.Query.{Query}
+use Rattle.desk_model.specs.declared.reply.Reply.{Reply}
+use Rattle.desk_model.specs.declared.reply.Reply.TheVariants.{Refused}
+use Rattle.desk_model.specs.declared.reply.Refusal.TheVariants.{Halted}
+use Rattle.desk_model.specs.Desk.{Desk}
+use Rattle.desk_model.specs.Outcome.{CommandMay}
+use Rattle.desk_model.specs.Sample.{sample_desk}
+use Rattle.desk_catalogue.specs.Audits.{AskMay}
+use Rattle.http_wire.specs.Interim.{IsCutHead}
+use Rattle.http_desk.specs.Talk.{Talk}
+use Rattle.http_desk.specs.Serving.{IsCutTalk}
+use Rattle.http_desk.specs.declared.serve.Served.{Served}
+use Rattle.http_desk.specs.declared.serve.ServeFault.{ServeFault}
+use Rattle.http_desk.specs.declared.serve.ServeFault.TheVariants as fault
+
+-- A command has the desk's step, or it is refused for want of room or of memory, or since the device failed, and the desk is as it was.
+abbrev pub desk_commands : Desk → Command → Reply → Desk → Type 0
+desk_commands d c r e = CommandMay ⊥ ⊤ ⊥ d c r e ⊎ ((r ≡ Refused Halted) × (e ≡ d))
+
+abbrev pub desk_asks : Desk → Query → Reply → Desk → Type 0
+desk_asks d q r e = AskMay d q r × (e ≡ d)
+
+-- a talk of desks over these requests, so many, and no answer that closes
+abbrev pub DeskTalk : Desk → List ℕ → List ℕ → ℕ → Bool → Desk → Type 0
+DeskTalk d input output n shut e = Talk desk_commands desk_asks d input output n shut e
+
+-- all that was read, but for the beginning of a head
+pub record IsTalkToHead (d : Desk) (input answers : List ℕ) (e : Desk) : Type 0 where
+  pub taken : List ℕ
+  pub rest : List ℕ
+  pub read : input ≡ taken ++ rest
+  pub cut : IsCutHead rest
+  pub count : ℕ
+  pub talk : DeskTalk d taken answers count false e
+
+abbrev pub IsTalkSoFar : Desk → (input answers : List ℕ) → Desk → Type 0
+IsTalkSoFar d input answers e = ((n : ℕ) × DeskTalk d input answers n false e) ⊎ IsTalkToHead d input answers e
+
+-- how it ended: at the end of the input or after an answer that closes, within a request, at a write that failed, or before it began
+abbrev pub DeskServesTo : Desk → Result Served ServeFault → Option (List ℕ) → List ℕ → List ℕ → Desk → Type 0
+DeskServesTo d (Ok served) left input output e = (shut : Bool) × DeskTalk d input output served.requests shut e × (shut ≡ false → IsAtEnd left)
+DeskServesTo d (Err fault.Read) left input output e = IsTalkSoFar d input output e
+DeskServesTo d (Err fault.TurnLimit) left input output e = IsTalkSoFar d input output e
+DeskServesTo d (Err fault.Write) left input output e = IsCutTalk desk_commands desk_asks d input output e
+DeskServesTo d (Err fault.Memory) left input output e = (input ≡ []) × (output ≡ [])
+
+-- what was written is a talk of the sample desk over what was read
+pub record ServesDesk (served : Result Served ServeFault) (unread left before after : Option (List ℕ)) : Type 0 where
+  pub last : Desk
+  pub input : List ℕ
+  pub output : List ℕ
+  pub reads : Consumes unread left input
+  pub writes : Appends before after output
+  pub serves : DeskServesTo sample_desk served left input output last
