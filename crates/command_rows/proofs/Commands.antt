@@ -14,6 +14,7 @@ use Rattle.page_btree.specs.declared.error.TreeError.{TreeError}
 use Rattle.row_table.specs.Outcomes.{map_both}
 use Rattle.plan_table.specs.PlanRows.{HasPlanNumber, HasChunkNumbers}
 use Rattle.plan_table.specs.declared.change.Change.{Change}
+use Rattle.plan_table.specs.declared.change.Change.TheVariants.{Made}
 use Rattle.plan_revisions.specs.Plans.{TakesPlan, with_plan, HasPlanAt, without_plan}
 use Rattle.plan_revisions.specs.Steps.{HasStepped, IsStepped, StepErr}
 use Rattle.command_rows.specs.Rows.{HasNumbers, added_by, rows_added_by}
@@ -42,12 +43,12 @@ module _ {D : Type 0} {g : Ghosts D} where
       (λ change. change_as (TakesPlan name) (λ x. x ≡ d) (with_plan name size) (λ x. e) 2 HasPlanNumber t u a b gives then_is change)
       (λ x. err_as (TakesPlan name) (λ y. y ≡ d) 2 t a b gives x) put)
 
-  pub retire_put : (d : Desk) (q : Command) (e : Desk) (name : List ℕ) (t u : Txn) (a b : Pages D g) → q ≡ Retire name → IsAfter d q e → HasStepped (HasPlanAt name) (without_plan name) 2 t u a b → HasStepped (λ x. x ≡ d) (λ x. e) (command_rows d q) t u a b
+  pub retire_put : (d : Desk) (q : Command) (e : Desk) (name : List ℕ) (t u : Txn) (a b : Pages D g) → q ≡ Retire name → IsAfter d q e → HasStepped (HasPlanAt name) (without_plan name) 2 t u a b → IsStepped (λ x. x ≡ d) (λ x. e) (command_rows d q) (HasNumbers d q) t u a b Made
   retire_put d q e name t u a b is after did =
       let is_after : IsAfter d (Retire name) e = subst (λ (x : Command). IsAfter d x e) is after in
       let told = taken_away d name is_after.reply in
-      subst (λ (x : Command). HasStepped (λ y. y ≡ d) (λ y. e) (command_rows d x) t u a b) (sym is)
-      (stepped_as (HasPlanAt name) (λ x. x ≡ d) (without_plan name) (λ x. e) 2 t u a b (λ x same. subst (λ (y : Desk). HasPlanAt name y) (sym same) told.0) (λ x same. ap (λ (y : Desk). without_plan name y) same ∙ sym told.1 ∙ sym is_after.desk) did)
+      subst (λ (x : Command). IsStepped (λ y. y ≡ d) (λ y. e) (command_rows d x) (HasNumbers d x) t u a b Made) (sym is)
+      (stepped_as (HasPlanAt name) (λ x. x ≡ d) (without_plan name) (λ x. e) 2 t u a b (λ x same. subst (λ (y : Desk). HasPlanAt name y) (sym same) told.0) (λ x same. ap (λ (y : Desk). without_plan name y) same ∙ sym told.1 ∙ sym is_after.desk) did, λ honest m next holds fit told_next. tt)
 
   pub retire_not_put : (d : Desk) (q : Command) (e : Desk) (name : List ℕ) (t : Txn) (a b : Pages D g) (x : TreeError) → q ≡ Retire name → IsAfter d q e → StepErr (HasPlanAt name) 2 t a b x → StepErr (λ y. y ≡ d) (command_rows d q) t a b x
   retire_not_put d q e name t a b x is after why =

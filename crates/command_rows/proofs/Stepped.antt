@@ -39,7 +39,7 @@ module _ {D : Type 0} {g : Ghosts D} where
 
   pub change_as : (says other : Desk → Type 0) (next then : Desk → Desk) (rows : ℕ) (enough : Counters → Type 0) (t u : Txn) (a b : Pages D g) → ((d : Desk) → other d → says d) → ((d : Desk) → other d → next d ≡ then d)
       → (change : Change) → IsStepped says next rows enough t u a b change → IsStepped other then rows enough t u a b change
-  change_as says other next then rows enough t u a b gives same Made did = stepped_as says other next then rows t u a b gives same did
+  change_as says other next then rows enough t u a b gives same Made did = (stepped_as says other next then rows t u a b gives same did.0, did.1)
   change_as says other next then rows enough t u a b gives same Spent did = did
 
   pub err_as : (says other : Desk → Type 0) (rows : ℕ) (t : Txn) (a b : Pages D g) → ((d : Desk) → other d → says d) → (e : TreeError) → StepErr says rows t a b e → StepErr other rows t a b e

@@ -7,6 +7,7 @@ use Rattle.gate_journal.specs.Store.{home}
 use Rattle.page_store.specs.Chain.{root_in, free_in}
 use Rattle.page_store.specs.Stops.{leaves_here, leaves_quiet}
 use Rattle.page_store.specs.Transactions.{stored, disk_in, count_of, journal_of}
+use Rattle.page_btree.specs.Map.{Holds}
 use Rattle.desk_model.specs.declared.command.Command.{Command}
 use Rattle.desk_model.specs.declared.command.Command.TheVariants.{Create, Whole, Counties, Retire}
 use Rattle.desk_model.specs.declared.reply.Reply.{Reply}
@@ -19,9 +20,10 @@ use Rattle.desk_model.specs.Room.{need}
 use Rattle.desk_model.specs.Step.{step}
 use Rattle.desk_catalogue.specs.Accepting.{IsAfter, acceptance}
 use Rattle.desk_pages.specs.Desks.{HoldsDesk, InPages, OpensDesk}
+use Rattle.command_rows.specs.Rows.{HasNumbers}
 use Rattle.desk_clerk.specs.Keeping.{IsLeft, OpensOneMore}
 use Rattle.desk_clerk.specs.Clerks.{desk_of, disk_of, sectors_of, free_of, room_of, Keeps, Reads, Moves}
-use Rattle.desk_clerk.specs.Commands.{command_of, after_of, MustBeFull, MayBeFull, PrepareErr, IsReady, IsMade, IsNotMade, Commits, Does}
+use Rattle.desk_clerk.specs.Commands.{command_of, after_of, IsSpent, MustBeFull, MayBeFull, PrepareErr, IsReady, IsMade, IsNotMade, Commits, Does}
 use Rattle.desk_clerk.specs.declared.clerk.Clerk.{Clerk}
 use Rattle.desk_clerk.specs.declared.ready.Ready.{Ready}
 use Rattle.desk_clerk.proofs.Kept.{acceptance_is}
@@ -72,6 +74,18 @@ module _ {D : Type 0} {g : Ghosts D} where
       (subst (λ (P : Image). HoldsDesk (count_of y.pages) P (root_in P) (free_in P) (desk_of x)) (sym (reads.quiet.same honest))
       (subst (λ (n : ℕ). HoldsDesk n (stored x.pages) (root_in (stored x.pages)) (free_in (stored x.pages)) (desk_of x)) (sym reads.quiet.count) holds))
 
+  -- the numbers of its rows are what they were
+  still_spent : (x y : Clerk D g) (c q : Command) → Reads x y → q ≡ c → (disk_of y).is_honest → IsSpent x c → IsSpent y q
+  still_spent x y c q reads is honest spent = record {
+    m = spent.m;
+    holds = subst (λ (P : Image). Holds (count_of y.pages) P (root_in P) (free_in P) spent.m) (sym (reads.quiet.same honest))
+        (subst (λ (n : ℕ). Holds n (stored x.pages) (root_in (stored x.pages)) (free_in (stored x.pages)) spent.m) (sym reads.quiet.count) spent.holds);
+    next = spent.next;
+    fit = spent.fit;
+    is_next = spent.is_next;
+    none = λ enough. spent.none (subst (λ (p : Command). HasNumbers (desk_of x) p spent.next) is (subst (λ (d : Desk). HasNumbers d q spent.next) reads.desk enough));
+  }
+
   still_keeps : (x y : Clerk D g) → Reads x y → Keeps x → Keeps y
   still_keeps x y reads keeps = record {
     holds = λ works honest. still_holds x y reads honest (keeps.holds (was_working x y reads works) (reads.quiet.honest honest));
@@ -120,6 +134,7 @@ module _ {D : Type 0} {g : Ghosts D} where
     moves = reads_move (step (desk_of x) c).1 x y reads;
     outcome = why;
     free = λ keeps honest accepted. absurd accepted;
+    numbers = λ honest accepted. absurd accepted;
     spared = λ honest works other. free_same x y reads honest;
     shown = λ other. reads.desk;
     quiet = λ works other. reads.quiet;
@@ -147,6 +162,7 @@ module _ {D : Type 0} {g : Ghosts D} where
               )
           | inr fault ↦ absurd (subst IsAcceptance fault.reply_is accepted)
         ];
+        numbers = λ honest accepted spent. ready.numbers (commits.moves.honest honest) (still_spent x y c (command_of r) reads is (commits.moves.honest honest) spent);
         spared = λ honest off other. elim commits.outcome [
           | inl made ↦ absurd (other (subst IsAcceptance (sym made.reply_is) (acceptance_is (command_of r))))
           | inr fault ↦ absurd (let clash : true ≡ false = sym fault.halted ∙ off in cc)

@@ -4,4 +4,5 @@ pub mod Prepared
 pub mod Done
 pub mod Moved
 pub mod Loaded
+pub mod Swept
 pub mod Opened

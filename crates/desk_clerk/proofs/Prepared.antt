@@ -23,7 +23,7 @@ use Rattle.desk_catalogue.specs.Accepting.{IsAfter}
 use Rattle.plan_table.specs.Outcomes.{HasSpent}
 use Rattle.plan_table.specs.declared.change.Change.{Change}
 use Rattle.plan_table.specs.declared.change.Change.TheVariants.{Made, Spent}
-use Rattle.plan_revisions.specs.Steps.{HasStepped, IsStepped, StepErr}
+use Rattle.plan_revisions.specs.Steps.{HasStepped, IsStepped, LeavesNumbers, StepErr}
 use Rattle.desk_pages.specs.Commits.{HoldsAfter}
 use Rattle.desk_pages.specs.Desks.{HoldsDesk, InPages, InTxn}
 use Rattle.desk_pages.specs.Laws.{begun_desk}
@@ -72,6 +72,12 @@ module _ {D : Type 0} {g : Ghosts D} where
       subst (λ (n : ℕ). HoldsDesk n (stored a) (root_in (stored a)) (free_in (stored a)) d) quiet.count
       (subst (λ (P : Image). HoldsDesk (count_of b) P (root_in P) (free_in P) d) (quiet.same honest) holds)
 
+  -- so do the rows
+  still_rows : (a b : Pages D g) (m : KeyMap) → IsQuiet a b → (disk_in b).is_honest → HoldsRows b m → HoldsRows a m
+  still_rows a b m quiet honest holds =
+      subst (λ (n : ℕ). Holds n (stored a) (root_in (stored a)) (free_in (stored a)) m) quiet.count
+      (subst (λ (P : Image). Holds (count_of b) P (root_in P) (free_in P) m) (quiet.same honest) holds)
+
   -- the desk that it holds
   next_held : (x y : Clerk D g) (c : Command) (e : Desk) (t u : Txn) (made : Prepared) → desk_of y ≡ desk_of x → IsBegun x.pages t → IsQuiet x.pages y.pages → HasStepped (λ d. d ≡ desk_of x) (λ d. e) (command_rows (desk_of x) c) t u x.pages y.pages
       → IsReadied u made → Keeps y → y.halted ≡ false → (disk_of y).is_honest → InTxn u (stored x.pages) e
@@ -80,8 +86,8 @@ module _ {D : Type 0} {g : Ghosts D} where
       stepped.desk honest (desk_of x) (begun_reads x.pages t (desk_of x) begun (quiet.honest honest) before) refl
 
   pub put_made : (x y : Clerk D g) (c : Command) (e : Desk) (t u : Txn) (made : Prepared) → desk_of y ≡ desk_of x → IsAfter (desk_of x) c e → HasRoom x (command_rows (desk_of x) c) → IsBegun x.pages t → IsQuiet x.pages y.pages → txn_pages u ≡ count_of y.pages
-      → HasStepped (λ d. d ≡ desk_of x) (λ d. e) (command_rows (desk_of x) c) t u x.pages y.pages → IsReadied u made → IsPut x c e made y
-  put_made x y c e t u made same is room begun quiet pages stepped readied = record {
+      → HasStepped (λ d. d ≡ desk_of x) (λ d. e) (command_rows (desk_of x) c) t u x.pages y.pages × LeavesNumbers (HasNumbers (desk_of x) c) t x.pages y.pages → IsReadied u made → IsPut x c e made y
+  put_made x y c e t u made same is room begun quiet pages did readied = let stepped = did.0 in record {
     pages = readied.pages ∙ pages;
     writes = (let more = readied.more in let writes = stepped.writes in let none = begun.none in let some = rows_some (desk_of x) c e is in let fits = room.journal in let same_journal : room_of y ≡ room_of x = quiet.journal in omega arith);
     rows = λ keeps working honest.
@@ -94,6 +100,9 @@ module _ {D : Type 0} {g : Ghosts D} where
         let start = begun_free x.pages t begun (quiet.honest honest) in
         let few : length (free_in (stored x.pages)) ≤ length (free_in (after made (stored x.pages))) + need (desk_of x) c = omega arith in
         subst (λ (P : Image). length (free_in P) ≤ length (free_in (after made P)) + need (desk_of x) c) (sym (quiet.same honest)) few;
+    numbers = λ honest spent.
+        let holds = begun_rows x.pages t spent.m begun (quiet.honest honest) (still_rows x.pages y.pages spent.m quiet honest spent.holds) in
+        spent.none (subst (λ (d : Desk). HasNumbers d c spent.next) (sym same) (did.1 honest spent.m spent.next holds spent.fit spent.is_next));
   }
 
   -- ---- nothing was put
@@ -104,7 +113,7 @@ module _ {D : Type 0} {g : Ghosts D} where
     no_room = λ keeps honest.
         let holds = keeps.holds working (quiet.honest honest) in
         let reads = begun_reads x.pages t (desk_of x) begun (quiet.honest honest) holds in
-        inr (inl (record { m = holds.m; holds = holds.holds; next = spent.next; is_next = spent.are_next.told honest holds.m (begun_rows x.pages t holds.m begun (quiet.honest honest) holds.holds); none = spent.none }));
+        inr (inl (record { m = holds.m; holds = holds.holds; next = spent.next; fit = spent.are_next.fit; is_next = spent.are_next.told honest holds.m (begun_rows x.pages t holds.m begun (quiet.honest honest) holds.holds); none = spent.none }));
     desk = refl;
   }
 
@@ -131,8 +140,8 @@ module _ {D : Type 0} {g : Ghosts D} where
   )
 
   -- ---- of the desk that is shown, by another name
-  pub made_of : (s d : Desk) (c : Command) (e : Desk) (t u : Txn) (a b : Pages D g) (change : Change) → s ≡ d → change ≡ Made → IsStepped (λ z. z ≡ s) (λ z. e) (command_rows s c) (HasNumbers s c) t u a b change → HasStepped (λ z. z ≡ d) (λ z. e) (command_rows d c) t u a b
-  made_of s d c e t u a b change same is did = subst (λ (z : Desk). HasStepped (λ x. x ≡ z) (λ x. e) (command_rows z c) t u a b) same
+  pub made_of : (s d : Desk) (c : Command) (e : Desk) (t u : Txn) (a b : Pages D g) (change : Change) → s ≡ d → change ≡ Made → IsStepped (λ z. z ≡ s) (λ z. e) (command_rows s c) (HasNumbers s c) t u a b change → HasStepped (λ z. z ≡ d) (λ z. e) (command_rows d c) t u a b × LeavesNumbers (HasNumbers d c) t a b
+  made_of s d c e t u a b change same is did = subst (λ (z : Desk). HasStepped (λ x. x ≡ z) (λ x. e) (command_rows z c) t u a b × LeavesNumbers (HasNumbers z c) t a b) same
       (subst (λ (x : Change). IsStepped (λ z. z ≡ s) (λ z. e) (command_rows s c) (HasNumbers s c) t u a b x) is did)
 
   pub spent_of : (s d : Desk) (c : Command) (e : Desk) (t u : Txn) (a b : Pages D g) (change : Change) → s ≡ d → change ≡ Spent → IsStepped (λ z. z ≡ s) (λ z. e) (command_rows s c) (HasNumbers s c) t u a b change → HasSpent (HasNumbers d c) t u a b
@@ -154,4 +163,5 @@ module _ {D : Type 0} {g : Ghosts D} where
         rows = λ keeps working honest. subst (λ (w : Prepared). HoldsNext w y (after_of r)) (sym made_is) (subst (λ (f : Desk). HoldsNext made y f) (sym e_is) (put.rows keeps working honest));
         free = λ keeps working honest. subst (λ (w : Prepared). free_of y ≤ length (free_in (after w (stored y.pages))) + need (desk_of y) (command_of r)) (sym made_is)
             (subst (λ (d : Desk). free_of y ≤ length (free_in (after made (stored y.pages))) + need d (command_of r)) (sym reads.desk) (subst (λ (q : Command). free_of y ≤ length (free_in (after made (stored y.pages))) + need (desk_of x) q) (sym c_is) (put.free keeps working honest)));
+        numbers = λ honest spent. put.numbers honest (subst (λ (q : Command). IsSpent y q) c_is spent);
       }

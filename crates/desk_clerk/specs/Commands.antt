@@ -49,6 +49,7 @@ module _ {D : Type 0} {g : Ghosts D} where
     pub m : KeyMap
     pub holds : HoldsRows x.pages m
     pub next : Counters
+    pub fit : CountersFit next
     pub is_next : IsNext m next
     pub none : HasNumbers (desk_of x) c next → ⊥
 
@@ -77,6 +78,7 @@ module _ {D : Type 0} {g : Ghosts D} where
     pub ground : (after_of r).geography ≡ (desk_of x).geography
     pub rows : Keeps x → x.halted ≡ false → (disk_of x).is_honest → HoldsNext (written_of r) x (after_of r)
     pub free : Keeps x → x.halted ≡ false → (disk_of x).is_honest → free_of x ≤ length (free_in (after (written_of r) (stored x.pages))) + need (desk_of x) (command_of r)
+    pub numbers : (disk_of x).is_honest → IsSpent x (command_of r) → ⊥
 
   -- its pages were made ready by a call that read at most
   pub record IsPut (x : Clerk D g) (c : Command) (e : Desk) (made : Written) (y : Clerk D g) : Type 0 where
@@ -84,6 +86,7 @@ module _ {D : Type 0} {g : Ghosts D} where
     pub writes : length (prepared_writes made) ≤ room_of y
     pub rows : Keeps y → y.halted ≡ false → (disk_of y).is_honest → HoldsNext made y e
     pub free : Keeps y → y.halted ≡ false → (disk_of y).is_honest → free_of y ≤ length (free_in (after made (stored y.pages))) + need (desk_of x) c
+    pub numbers : (disk_of y).is_honest → IsSpent y c → ⊥
 
   -- there is room for so many rows: a row writes 13 pages at most
   pub record HasRoom (x : Clerk D g) (rows : ℕ) : Type 0 where
@@ -123,6 +126,8 @@ module _ {D : Type 0} {g : Ghosts D} where
     pub outcome : CommandMay (MustBeFull x c) (MayBeFull x y.pages c) (y.halted ≡ true) (desk_of x) c reply (desk_of y)
     -- an accepted command takes no more pages than it needs, and no other takes any
     pub free : Keeps x → (disk_of y).is_honest → IsAcceptance reply → free_of x ≤ free_of y + need (desk_of x) c
+    -- and the numbers that it asks for were left
+    pub numbers : (disk_of y).is_honest → IsAcceptance reply → IsSpent x c → ⊥
     pub spared : (disk_of y).is_honest → y.halted ≡ false → (IsAcceptance reply → ⊥) → free_of y ≡ free_of x
     -- a command that isn't accepted leaves the desk, and without a fault it only reads: a stop at any moment of it leaves the desk before
     pub shown : (IsAcceptance reply → ⊥) → desk_of y ≡ desk_of x

@@ -7,4 +7,5 @@ pub mod Faults
 pub mod Loads
 pub mod LoadFaults
 pub mod Finding
+pub mod Sweeps
 pub mod Openings

@@ -8,3 +8,4 @@ pub mod opening;
 mod prepare;
 pub mod ready;
 mod shown;
+pub mod sweeps;

@@ -60,6 +60,7 @@ impl<D: SectorDevice> Clerk<D> {
     ghost use Rattle.geo_loads.specs.Loading.{IsFurther, ground_of, done_of};
     ghost use Rattle.desk_clerk.specs.Clerks.{desk_of, disk_of, Keeps, Moves, MovesIf};
     ghost use Rattle.desk_clerk.specs.Keeping.{sealed_desk};
+    ghost use Rattle.page_store.specs.Transactions.{IsQuiet};
     ghost use Rattle.desk_clerk.specs.Loads.{Stages, IsLast, EndRefused, BeginRefused, BatchRefused, SealRefused};
 
     /// Begins a load of a geography, in place of one that is under way. The desk stays as it is.
@@ -75,6 +76,7 @@ impl<D: SectorDevice> Clerk<D> {
         ensures load { IfOk result (λ load. (load.geography ≡ geography) × (done_of load ≡ 0)) }
         ensures unsealed { OnOk result ((desk_of self.old).geography ≡ None) }
         ensures loading { OnErr result (self.new.loading ≡ self.old.loading) }
+        ensures quiet { self.new.halted ≡ false → OnErr result (IsQuiet self.old.pages self.new.pages) }
         ensures err { IfErr result (λ e. BeginRefused geography.value self.old e self.new.halted self.new.pages) }
     {
         if self.catalogue.geography().is_some() {
@@ -134,6 +136,7 @@ impl<D: SectorDevice> Clerk<D> {
         ensures left { IfOk result (λ left. left + done_of load.new ≡ geography_rows (ground_of load.new)) }
         ensures same { OnErr result (load.new ≡ load.old) }
         ensures loading { self.new.loading ≡ self.old.loading }
+        ensures quiet { self.new.halted ≡ false → OnErr result (IsQuiet self.old.pages self.new.pages) }
         ensures err { IfErr result (λ e. BatchRefused load.old rows self.old e self.new.halted self.new.pages) }
     {
         if let Err(e) = self.may_go_on(load) {
@@ -159,6 +162,7 @@ impl<D: SectorDevice> Clerk<D> {
         ensures unsealed { OnErr result (desk_of self.new ≡ desk_of self.old) }
         ensures back { IfErr result (λ e. e.1 ≡ load) }
         ensures loading { self.new.loading ≡ self.old.loading }
+        ensures quiet { self.new.halted ≡ false → OnErr result (IsQuiet self.old.pages self.new.pages) }
         ensures err { IfErr result (λ e. SealRefused load self.old e.0 self.new.halted self.new.pages) }
     {
         if let Err(e) = self.may_go_on(&load) {

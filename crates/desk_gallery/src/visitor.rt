@@ -1,5 +1,5 @@
 //! Visitors of a gallery, who wait for nobody.
-ghost use Rattle.std.specs.Prelude.{◌≡◌, ◌⊎◌, length, IfOk, IfSome, IsTrue};
+ghost use Rattle.std.specs.Prelude.{◌≡◌, ◌⊎◌, ◌<◌, length, IfOk, IfSome, IsTrue, OnErr};
 ghost use mathlib.Core.List.{IsPrefix};
 ghost use Rattle.desk_gallery.specs.After.{after};
 ghost use Rattle.desk_gallery.specs.Shelves.{Stands};
@@ -80,10 +80,11 @@ impl<J: Room> Visitor<J> {
     }
 
     /// The catalogue after a list of shown changes that begins with all that this visitor saw or was told of. Err where no
-    /// reader is let in, one more owner is refused, or the copy that is shown has fewer changes.
+    /// reader is let in, one more owner is refused, or the copy that is shown has fewer changes; nothing was heard of then.
     pub fn visit(&mut self) -> Result<Arc<Catalogue>, AllocError>
         ensures later { IsPrefix self.old self.new }
         ensures value { IfOk result (λ shown. shown.value ≡ after J.first self.new) }
+        ensures same { OnErr result (self.new ≡ self.old) }
     {
         let Some(shelf) = replace_with(&mut self.eye, (), look) else {
             return Err(AllocError);
@@ -109,7 +110,8 @@ impl<J: Room> Visitor<J> {
 
     /// Whether it has heard of no more than a note tells, which its list then begins.
     pub fn knows_within(&self, told: &Told<J>) -> bool
-        ensures { IsTrue result → IsPrefix self.now told.now }
+        ensures yes { IsTrue result → IsPrefix self.now told.now }
+        ensures no { length told.now < length self.now ⊎ IsTrue result }
     {
         self.past.begins(&told.past)
     }

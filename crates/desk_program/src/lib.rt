@@ -5,4 +5,6 @@
 pub mod checks;
 pub mod files;
 pub mod run;
+pub mod serving;
 pub mod stores;
+pub mod sweeping;

@@ -1,11 +1,14 @@
 //! What the words ask for, done.
 use crate::checks::{check_counts, check_plan};
+use crate::serving::serve_desk;
 use crate::stores::{format_store, load_state};
+use crate::sweeping::sweep_desk;
 use byte_stream::sink::WriteSink;
 use byte_stream::source::ReadSource;
 use desk_words::words::{Job, Mistake, job_of};
 use exit_status::status::Status;
 use std::io::Write;
+use std::sync::Wait;
 use std::thread::Threads;
 use talk_command::talk::talk;
 
@@ -38,14 +41,17 @@ fn end_mistake(rt: &HostRuntime, mistake: &Mistake) -> Status {
     }
 }
 
-/// Does what the words ask for; the first is the program's name. `threads` starts the workers of an audit.
-pub fn run<T: Threads + Sync>(rt: &HostRuntime, threads: &T, words: &[&str]) -> Status {
+/// Does what the words ask for; the first is the program's name. `threads` starts the workers of an audit or of
+/// a served store, which wait for one another.
+pub fn run<T: Threads + Wait + Sync>(rt: &HostRuntime, threads: &T, words: &[&str]) -> Status {
     match job_of(rt.alloc(), words) {
         Ok(Job::Talk) => serve_talk(rt),
         Ok(Job::Counts(paths)) => check_counts(rt, paths),
         Ok(Job::Audit(paths, terms, workers)) => check_plan(rt, threads, paths, terms, workers),
         Ok(Job::Format(name, size)) => format_store(rt, name, size),
         Ok(Job::Load(name, paths, neighbours)) => load_state(rt, name, paths, neighbours),
+        Ok(Job::Serve(name, serving)) => serve_desk(rt, threads, name, serving),
+        Ok(Job::Sweep(name)) => sweep_desk(rt, name),
         Err(mistake) => end_mistake(rt, &mistake),
     }
 }

@@ -4,9 +4,9 @@ use Rattle.std.specs.Option.{option_copied}
 use Rattle.clap.specs.Matches.{first_value}
 use Rattle.clap.specs.declared.parser.matches.Found.{Found}
 use Rattle.state_files.specs.declared.open.CensusPaths.{CensusPaths}
-use Rattle.desk_words.specs.Options.{AreTerms, IsSize, size_read}
+use Rattle.desk_words.specs.Options.{AreTerms, IsSize, size_read, IsServing, serving_read}
 use Rattle.desk_words.specs.declared.words.Job.{Job}
-use Rattle.desk_words.specs.declared.words.Job.TheVariants.{Talk, Counts, Audit, Format, Load}
+use Rattle.desk_words.specs.declared.words.Job.TheVariants.{Talk, Counts, Audit, Format, Load, Serve, Sweep}
 
 -- an audit is asked for with its terms in range and 1 to 64 workers, and a senate plan's file goes with its number of districts
 abbrev pub IsJob : Job → Type 0
@@ -15,6 +15,8 @@ IsJob (Counts paths) = Unit {0}
 IsJob (Audit paths terms workers) = AreTerms terms × (is_some paths.senate ≡ is_some terms.senate_districts) × (1 ≤ workers) × (workers ≤ 64)
 IsJob (Format store size) = IsSize size
 IsJob (Load store census gal) = Unit {0}
+IsJob (Serve store serving) = IsServing serving
+IsJob (Sweep store) = Unit {0}
 
 -- each census file is the one that its option names
 pub record AreCensusPaths (found : Found) (paths : CensusPaths) : Type 0 where
@@ -36,3 +38,6 @@ HasPaths found (Format store size) = (first_value found (codes "store") ≡ Some
 HasPaths found (Load store census gal) = AreCensusPaths found census
     × (first_value found (codes "store") ≡ Some store.now)
     × (first_value found (codes "gal") ≡ Some gal.now)
+HasPaths found (Serve store serving) = (first_value found (codes "store") ≡ Some store.now)
+    × (serving_read (first_value found (codes "port")) (first_value found (codes "workers")) (first_value found (codes "connections")) ≡ Some serving)
+HasPaths found (Sweep store) = first_value found (codes "store") ≡ Some store.now

@@ -6,6 +6,7 @@ use Rattle.std.specs.Str.Parse.{digits_value}
 use Rattle.desk_model.specs.declared.kind.Kind.{Kind}
 use Rattle.desk_model.specs.Kind.{kind_named, most_districts}
 use Rattle.audit_report.specs.Clauses.{is_house}
+use Rattle.desk_words.specs.declared.options.Serving.{Serving}
 use Rattle.desk_words.specs.declared.options.Size.{Size}
 use Rattle.desk_words.specs.declared.options.Terms.{Terms}
 use Rattle.desk_words.specs.declared.options.Form.{Form}
@@ -37,6 +38,26 @@ pub record IsSize (size : Size) : Type 0 where
   pub some : 1 ≤ size.sectors
   pub least : 256 ≤ size.journal_pages
   pub most : size.journal_pages ≤ 65536
+
+-- how a store is served
+abbrev pub serving_with : (port workers connections : Option ℕ) → Option Serving
+serving_with None workers connections = None
+serving_with (Some port) None connections = None
+serving_with (Some port) (Some workers) None = None
+serving_with (Some port) (Some workers) (Some connections) = Some (record { port = port; workers = workers; connections = connections })
+
+-- the port, and the numbers of workers and connections, where all are there and in range
+abbrev pub serving_read : (port workers connections : Option (List ℕ)) → Option Serving
+serving_read None workers connections = None
+serving_read (Some port) None connections = None
+serving_read (Some port) (Some workers) None = None
+serving_read (Some port) (Some workers) (Some connections) = serving_with (number_to 65535 port) (number_to 64 workers) (number_to 4294967295 connections)
+
+pub record IsServing (serving : Serving) : Type 0 where
+  pub port : 1 ≤ serving.port
+  pub working : 1 ≤ serving.workers
+  pub few : serving.workers ≤ 64
+  pub some : 1 ≤ serving.connections
 
 -- the number of workers, one where nothing says it
 abbrev pub workers_read : Option (List ℕ) → Option ℕ

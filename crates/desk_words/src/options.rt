@@ -2,7 +2,7 @@
 ghost use Rattle.std.specs.Prelude.{◌≡◌, ◌≤◌, IfSome, IsSome, IsTrue, IsSomeAnd, is_some};
 ghost use Rattle.std.specs.Option.{option_copied};
 ghost use Rattle.audit_report.specs.Clauses.{is_house as is_house_kind};
-ghost use Rattle.desk_words.specs.Options.{number_to as number_in, senate_read, terms_read, form_read, AreTerms, IsForm, IsBeside, workers_read, at_least, size_read, IsSize};
+ghost use Rattle.desk_words.specs.Options.{number_to as number_in, senate_read, terms_read, form_read, AreTerms, IsForm, IsBeside, workers_read, at_least, size_read, IsSize, serving_read, IsServing};
 
 use desk_model::kind::Kind;
 
@@ -38,6 +38,14 @@ fn is_house(kind: Kind) -> bool
 pub struct Size {
     pub sectors: u32,
     pub journal_pages: u32,
+}
+
+/// On which port a store is served, by how many workers, and to how many connections.
+#[derive(Clone, Copy, Debug, PartialEq, Eq)]
+pub struct Serving {
+    pub port: u16,
+    pub workers: u16,
+    pub connections: u32,
 }
 
 /// The number that digits alone write, where it is 1 to `most`. Leading zeros are digits like others.
@@ -96,6 +104,28 @@ pub fn read_size(sectors: Option<&[u8]>, journal: Option<&[u8]>) -> Option<Size>
     Some(Size {
         sectors,
         journal_pages,
+    })
+}
+
+/// How a store is to be served. `None` where a number is missing, isn't digits alone, or is out of its range.
+pub fn read_serving(
+    port: Option<&[u8]>,
+    workers: Option<&[u8]>,
+    connections: Option<&[u8]>,
+) -> Option<Serving>
+    ensures value { result ≡ serving_read (option_copied port.entry) (option_copied workers.entry) (option_copied connections.entry) }
+    ensures valid { IfSome result IsServing }
+{
+    let port = port?;
+    let workers = workers?;
+    let connections = connections?;
+    let port = number_to(65_535, port)?;
+    let workers = number_to(64, workers)?;
+    let connections = number_up_to(4_294_967_295, connections)?;
+    Some(Serving {
+        port,
+        workers,
+        connections,
     })
 }
 

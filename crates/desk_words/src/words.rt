@@ -4,7 +4,12 @@ ghost use Rattle.std.specs.Option.{option_copied};
 ghost use Rattle.clap.specs.Matches.{found_of};
 ghost use Rattle.desk_words.specs.Jobs.{IsJob, AreCensusPaths, HasPaths};
 
-use crate::options::{Form, Size, Terms, read_form, read_size, read_workers};
+use crate::helps::{
+    CHECK_HELP, FORMAT_HELP, LOAD_HELP, SERVE_HELP, STATUSES, SWEEP_HELP, TALK_HELP,
+};
+use crate::options::{
+    Form, Serving, Size, Terms, read_form, read_serving, read_size, read_workers,
+};
 use clap::builder::ValueParser;
 use clap::error::ErrorKind;
 use clap::{Arg, ArgAction, ArgMatches, Command};
@@ -24,6 +29,10 @@ pub enum Job<'a> {
     Format(&'a str, Size),
     /// `load`: a store is filled with what the census files and the neighbour file say.
     Load(&'a str, CensusPaths<'a>, &'a str),
+    /// `serve`: a store is served to connections.
+    Serve(&'a str, Serving),
+    /// `sweep`: what nothing needs any more is taken out of a store.
+    Sweep(&'a str),
 }
 
 /// Why it does nothing: help or the version was asked for, the words are wrong, or memory was refused.
@@ -60,72 +69,11 @@ const WRONG_NUMBER: &str =
 
 const WRONG_WORKERS: &str = "error: a number of workers is digits alone, 1 to 64\n";
 
-const STATUSES: &str = "Statuses:
-  0  done; help or the version was told
-  1  a report names a broken clause
-  2  the command line is wrong; nothing was opened
-  3  a file was refused; its fault is told with the file's name
-  4  the store was refused, or its device failed
-  5  memory was refused
-  6  standard input or output failed";
-
-const FORMAT_HELP: &str =
-    "Where it ends with 4 or 5 after the file was made, the file is no store: remove it before the next format.
-
-Example:
-  ./plandesk format state.store --sectors 2000 --journal 256
-
-Statuses:
-  0  the store is made
-  2  the command line is wrong; nothing was made
-  4  the store was refused, or its device failed
-  5  memory was refused
-  6  standard output failed";
-
-const LOAD_HELP: &str =
-    "The files are judged in the order geo, seg1, seg2, seg3, gal, and the first fault ends the run; the store
-is opened after them all.
-
-Example, in the folder 'example':
-  ../plandesk load state.store --geo geo.pl --seg1 seg1.pl --seg2 seg2.pl --seg3 seg3.pl --gal neighbours.gal
-
-Statuses:
-  0  the geography is sealed in the store
-  2  the command line is wrong; nothing was opened
-  3  a file was refused; its fault is told with the file's name
-  4  the store was refused, or its device failed
-  5  memory was refused
-  6  standard output failed; the geography is sealed in the store";
-
 const WRONG_SIZE: &str =
     "error: a number of sectors is digits alone, 1 to 4294967295, and of journal pages 256 to 65536\n";
 
-const CHECK_HELP: &str =
-    "With the census files alone it prints the numbers of blocks, counties and people, and the people of
-each county; with a plan its audit under Iowa Code 42.4, as one line of JSON. The files are judged in the order
-geo, seg1, seg2, seg3, gal, plan, senate, and the first fault ends the run.
-
-Examples, in the folder 'example':
-  ../plandesk check --geo geo.pl --seg1 seg1.pl --seg2 seg2.pl --seg3 seg3.pl
-  ../plandesk check --geo geo.pl --seg1 seg1.pl --seg2 seg2.pl --seg3 seg3.pl --gal neighbours.gal \\
-    --plan house.txt --kind house --districts 2
-
-Statuses:
-  0  counts, or a report that names no clause
-  1  a report that names a broken clause
-  2  the command line is wrong; nothing was opened
-  3  a file was refused; its fault is told with the file's name
-  5  memory was refused
-  6  standard output failed";
-
-const TALK_HELP: &str = "Example:
-  printf 'GET /plans HTTP/1.1\\r\\nHost: d\\r\\n\\r\\n' | ./plandesk talk
-
-Statuses:
-  0  the input ended, or an answer closed the talk
-  2  the command line is wrong; nothing was read
-  5  memory was refused
-  6  standard input or output failed";
+const WRONG_SERVING: &str =
+    "error: a port is digits alone, 1 to 65535, a number of workers 1 to 64, and of connections 1 to 4294967295\n";
 
 fn memory() -> Mistake {
     Mistake {
@@ -262,6 +210,42 @@ fn load_command<'a>(alloc: Global) -> Result<Command<'a>, AllocError> {
     with_census_options(alloc, command)?.arg(path_option(alloc, "gal", "The neighbour file (GAL)"))
 }
 
+fn serve_command<'a>(alloc: Global) -> Result<Command<'a>, AllocError> {
+    let port = option(alloc, "port", "P", "The port of 127.0.0.1: 1 to 65535");
+    let workers = option(alloc, "workers", "W", "How many threads serve: 1 to 64");
+    let connections = option(
+        alloc,
+        "connections",
+        "C",
+        "After how many connections it ends: 1 to 4294967295",
+    );
+    Command::new(alloc, "serve")
+        .about("Serves a store over HTTP/1.1")
+        .after_help(SERVE_HELP)
+        .arg(store_word(alloc))?
+        .arg(
+            port.required(true)
+                .value_parser(ValueParser::unsigned(1, 65_535)),
+        )?
+        .arg(
+            workers
+                .required(true)
+                .value_parser(ValueParser::unsigned(1, 64)),
+        )?
+        .arg(
+            connections
+                .required(true)
+                .value_parser(ValueParser::unsigned(1, 4_294_967_295)),
+        )
+}
+
+fn sweep_command<'a>(alloc: Global) -> Result<Command<'a>, AllocError> {
+    Command::new(alloc, "sweep")
+        .about("Takes out of a store what deleted plans and ended loads left in it")
+        .after_help(SWEEP_HELP)
+        .arg(store_word(alloc))
+}
+
 /// The command line, as clap sees it.
 fn command<'a>(alloc: Global) -> Result<Command<'a>, AllocError> {
     let talk = Command::new(alloc, "talk")
@@ -275,6 +259,8 @@ fn command<'a>(alloc: Global) -> Result<Command<'a>, AllocError> {
         .subcommand(check_command(alloc)?)?
         .subcommand(format_command(alloc)?)?
         .subcommand(load_command(alloc)?)?
+        .subcommand(serve_command(alloc)?)?
+        .subcommand(sweep_command(alloc)?)?
         .subcommand(talk)
 }
 
@@ -355,6 +341,28 @@ fn load_job<'a>(matches: &ArgMatches<'a>) -> Option<Job<'a>>
     Some(Job::Load(matches.get_str("store")?, census, matches.get_str("gal")?))
 }
 
+/// What `serve` is asked for, where its numbers are in range.
+fn serve_job<'a>(matches: &ArgMatches<'a>) -> Option<Job<'a>>
+    ensures valid { IfSome result IsJob }
+    ensures paths { IfSome result (HasPaths (found_of matches.now)) }
+{
+    let store = matches.get_str("store")?;
+    let serving = read_serving(
+        bytes_of(matches.get_str("port")),
+        bytes_of(matches.get_str("workers")),
+        bytes_of(matches.get_str("connections")),
+    )?;
+    Some(Job::Serve(store, serving))
+}
+
+/// What `sweep` is asked for.
+fn sweep_job<'a>(matches: &ArgMatches<'a>) -> Option<Job<'a>>
+    ensures valid { IfSome result IsJob }
+    ensures paths { IfSome result (HasPaths (found_of matches.now)) }
+{
+    Some(Job::Sweep(matches.get_str("store")?))
+}
+
 /// A mistake that is told so, or want of memory where the text has none.
 fn telling(status: Status, text: Result<String, AllocError>) -> Mistake {
     match text {
@@ -410,6 +418,14 @@ pub fn job_of<'a>(alloc: Global, words: &'a [&'a str]) -> Result<Job<'a>, Mistak
         Some(("load", options)) => match load_job(options) {
             Some(job) => Ok(job),
             None => Err(usage(alloc, "error: a file is missing\n")),
+        },
+        Some(("serve", options)) => match serve_job(options) {
+            Some(job) => Ok(job),
+            None => Err(usage(alloc, WRONG_SERVING)),
+        },
+        Some(("sweep", options)) => match sweep_job(options) {
+            Some(job) => Ok(job),
+            None => Err(usage(alloc, "error: a store is missing\n")),
         },
         Some((_, options)) => match check_job(options) {
             Some(job) => Ok(job),

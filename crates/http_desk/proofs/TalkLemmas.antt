@@ -63,7 +63,7 @@ HasRequest-alone front h target body alone = subst (λ (xs : List ℕ). HasReque
 
 -- memory is wanting for a request that has come
 pub IsStarved-whole : (input : List ℕ) (h : RequestHead) (target body rest : List ℕ) → HasRequest input h target body rest → IsStarved input (is_head h.method)
-IsStarved-whole input h target body rest r = record { head = h; rest = r.message.text; stands = r.message.head; shown = refl }
+IsStarved-whole input h target body rest r = record { head = h; rest = r.message.text; framing = r.message.framing; stands = r.message.head; judges = r.message.judges; shown = refl }
 
 module _ {X : Type 0} (commands : X → Command → Reply → X → Type 0) (asks : X → Query → Reply → X → Type 0) where
   -- a request of this head is answered, or memory was wanting before

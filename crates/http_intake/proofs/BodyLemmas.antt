@@ -1,5 +1,5 @@
 -- A body, one piece after another.
-use Rattle.std.proofs.Common.{◌≡◌, ℕ, ◌+◌, List, ◌++◌, take, drop, Option, ap, ◌∙◌, append_assoc}
+use Rattle.std.proofs.Common.{◌≡◌, ℕ, ◌+◌, ◌*◌, ◌≤◌, List, [], ◌++◌, length, take, drop, Option, sym, ap, ◌∙◌, arith, append_assoc, append-nil, length-take}
 use Rattle.std.proofs.Math.Seq.{take-add}
 use Rattle.std.proofs.KnownBytes.{Consumes-trans}
 use Rattle.std.specs.Io.KnownBytes.{Consumes}
@@ -13,3 +13,16 @@ body_grown u v w start old mid new filled k came first second read =
       Consumes-trans u v w came.0 piece came.1 read,
       take-add filled k new ∙ ap (λ (xs : List ℕ). xs ++ piece) (second ∙ first ∙ came.2) ∙ append_assoc start came.0 piece,
     )
+
+-- no byte more
+pub came_still : (u v w : Option (List ℕ)) (start front : List ℕ) → (more : List ℕ) × Consumes u v more × (front ≡ start ++ more) → Consumes v w [] → (more : List ℕ) × Consumes u w more × (front ≡ start ++ more)
+came_still u v w start front came still = (came.0 ++ [], Consumes-trans u v w came.0 [] came.1 still, came.2 ∙ ap (λ (xs : List ℕ). start ++ xs) (sym (append-nil came.0)))
+
+-- a room that grew with the filled bytes grew with those that came
+pub room_grown : (u v : Option (List ℕ)) (start inbox items : List ℕ) (filled room : ℕ) → inbox ≡ [] → filled ≤ length items → room ≤ 2 * filled + 65536
+    → (more : List ℕ) × Consumes u v more × (take filled items ≡ start ++ more) → (more : List ℕ) × Consumes u v more × (room ≤ 2 * length (start ++ (inbox ++ more)) + 65536)
+room_grown u v start inbox items filled room none within small came =
+    let same : start ++ (inbox ++ came.0) ≡ take filled items = ap (λ (xs : List ℕ). start ++ (xs ++ came.0)) none ∙ sym came.2 in
+    let long : length (start ++ (inbox ++ came.0)) ≡ length (take filled items) = ap (λ (xs : List ℕ). length xs) same in
+    let cut = length-take filled items in
+    (came.0, came.1, omega (arith, small, long, cut, within))

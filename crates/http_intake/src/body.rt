@@ -1,5 +1,5 @@
 //! The body of a request, read into room of its own.
-ghost use Rattle.std.specs.Prelude.{◌≡◌, ◌≢◌, ℕ, ◌+◌, ◌-◌, ◌<◌, ◌≤◌, List, [], ◌++◌, length, take, vec_len, OnOk, Err};
+ghost use Rattle.std.specs.Prelude.{◌≡◌, ◌≢◌, ℕ, ◌+◌, ◌-◌, ◌*◌, ◌<◌, ◌≤◌, List, [], ◌++◌, length, take, vec_len, OnOk, Err};
 ghost use Rattle.http_intake.specs.Body.{PieceCame, BodyCame, LacksAtEnd};
 ghost use Rattle.http_intake.specs.Draws.{Draws, Reads};
 
@@ -42,6 +42,7 @@ fn make_room(body: &mut Vec<u8>, filled: usize, n: usize) -> Result<(), WireFaul
     ensures front { take filled body.new.items ≡ take filled body.old.items }
     ensures room { OnOk result (filled < vec_len body.new) }
     ensures within { vec_len body.new ≤ n }
+    ensures grows { vec_len body.old ≤ 2 * filled + 65536 → vec_len body.new ≤ 2 * filled + 65536 }
     ensures err { result ≢ Err WireFault.Read }
 {
     if body.len() > filled {
@@ -61,6 +62,7 @@ fn read_more<R: Source>(
     requires short { vec_len body.old < n }
     requires none { intake.old.inbox.now ≡ [] }
     ensures read { Reads R.remaining intake.old intake.new (λ input rest. BodyCame (body.old.items ++ input) n result body.new.items rest) }
+    ensures grows { Reads R.remaining intake.old intake.new (λ input rest. vec_len body.new ≤ 2 * length (body.old.items ++ input) + 65536) }
     ensures end { LacksAtEnd (R.remaining intake.new.reader.now) result }
     ensures draws { Draws R.turns R.failures intake.old intake.new result }
 {
@@ -78,7 +80,8 @@ fn read_more<R: Source>(
     Ok(true)
 }
 
-/// Reads until the body has n bytes: those that are held, and the rest from the reader. Answers whether it has.
+/// Reads until the body has n bytes: those that are held, and the rest from the reader. Answers whether it has. Room is made as
+/// bytes come, at most as much again as has come and 65,536 more, whatever n is.
 pub fn read_body<R: Source>(
     intake: &mut Intake<'_, R>,
     body: &mut Vec<u8>,
@@ -86,6 +89,7 @@ pub fn read_body<R: Source>(
 ) -> Result<bool, WireFault>
     requires { vec_len body.old ≤ n }
     ensures read { Reads R.remaining intake.old intake.new (λ input rest. BodyCame (body.old.items ++ input) n result body.new.items rest) }
+    ensures grows { Reads R.remaining intake.old intake.new (λ input rest. vec_len body.new ≤ 2 * length (body.old.items ++ input) + 65536) }
     ensures end { LacksAtEnd (R.remaining intake.new.reader.now) result }
     ensures draws { Draws R.turns R.failures intake.old intake.new result }
 {

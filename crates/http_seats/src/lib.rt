@@ -1,4 +1,7 @@
-//! Seats at an office: counters at which commands go to the clerk and queries to what is shown.
+//! Seats at an office, and many streams of requests served at them.
 #![tactic(auto)]
 
+pub mod listening;
+pub mod many;
+pub mod ran;
 pub mod seat;

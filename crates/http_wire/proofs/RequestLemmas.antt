@@ -39,7 +39,9 @@ pub starved : (input more : List ℕ) (found : Head) → IsFound input found →
 starved input more found f = record {
   head = f.head;
   rest = drop found.len input ++ more;
+  framing = found.framing;
   stands = head_before input f.head (drop found.len input) more f.stands;
+  judges = f.judges;
   shown = f.shown;
 }
 

@@ -181,11 +181,13 @@ HasFault input f bare = (RefusesBytes input f × (bare ≡ false)) ⊎ (RefusesH
 abbrev pub RefusesFront : List ℕ → Fault → Bool → Type 0
 RefusesFront input f bare = (RefusesBytes input f × (bare ≡ false)) ⊎ RefusesHead input f bare
 
--- memory is wanting for the request whose head stands at the front
+-- memory is wanting for the request whose head, which may stand, is at the front: a head that is refused takes none
 pub record IsStarved (input : List ℕ) (bare : Bool) : Type 0 where
   pub head : RequestHead
   pub rest : List ℕ
+  pub framing : Framing
   pub stands : HasHead input head rest
+  pub judges : judged_head head ≡ Ok framing
   pub shown : bare ≡ is_head head.method
 
 -- no head yet, and one may still come

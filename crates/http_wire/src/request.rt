@@ -1,5 +1,5 @@
 //! Requests from a reader, however its bytes are cut.
-ghost use Rattle.std.specs.Prelude.{◌≡◌, ℕ, ◌+◌, ◌≤◌, List, [], ◌++◌, length, Ok, Err, None, false, IfOk, IfSome};
+ghost use Rattle.std.specs.Prelude.{◌≡◌, ℕ, ◌+◌, ◌≤◌, List, [], ◌++◌, length, vec_capacity, Ok, Err, None, false, IfOk, IfSome};
 ghost use Rattle.httparse.specs.Spans.{span_bytes, IsWithin};
 ghost use Rattle.std.specs.Io.KnownBytes.{Appends, Consumes};
 ghost use Rattle.std.specs.Option.{option_map};
@@ -86,7 +86,9 @@ fn copy_method(alloc: Global, method: &[u8]) -> Result<Method, AllocError>
 }
 
 /// How much room is made for a body before it comes. What is missing then is made as it comes.
-fn room_for(framing: Framing) -> usize {
+fn room_for(framing: Framing) -> usize
+    ensures { result ≤ 65536 }
+{
     match framing {
         Framing::Sized(n) => n.min(INBOX_LEN),
         Framing::Chunked => 0,
@@ -101,6 +103,7 @@ fn begin(alloc: Global, bytes: &[u8], head: Head) -> Result<Begun, AllocError>
     ensures target { IfOk result (λ b. IsTargetOf (span_bytes bytes.now head.target) b.is_good b.request.target.items) }
     ensures closes { IfOk result (λ b. b.request.closes ≡ head.closes) }
     ensures body { IfOk result (λ b. b.request.body.items ≡ []) }
+    ensures room { IfOk result (λ b. vec_capacity b.request.body ≤ 65536) }
 {
     let method = copy_method(alloc, head.method.of(bytes))?;
     let copy = copy_target(alloc, head.target.of(bytes))?;

@@ -1,5 +1,5 @@
 -- The keys of a node above the leaves rise behind the first.
-use Rattle.std.proofs.Common.{◌≡◌, ◌<◌, ◌-◌, ℕ, List, drop, Bool, true, false, ◌&&◌, refl, sym, ap, subst, arith}
+use Rattle.std.proofs.Common.{◌≡◌, ◌<◌, ◌-◌, ℕ, List, drop, Bool, true, false, ◌&&◌, refl, sym, ap, subst, ◌∙◌, arith}
 use Rattle.std.specs.Prelude.{Option}
 use Rattle.std.specs.Ordering.{is_gt, is_lt}
 use Rattle.std.specs.declared.cmp.Ordering.TheVariants.{Less}
@@ -14,6 +14,7 @@ use Rattle.page_node.specs.Searching.{RisesBehind}
 use Rattle.page_node.specs.Laws.{node_unique}
 use Rattle.page_btree.specs.Tree.{Tree, Forest, leaf, inner, one, more, page_of, first_key, links, IsTree, AreTrees}
 use Rattle.page_btree.specs.Getting.{CanGet}
+use Rattle.page_btree.specs.Putting.{CanPut}
 use Rattle.page_btree.proofs.Rows.{from_then, less_is_from}
 
 both_so : (b c : Bool) → b ≡ true → c ≡ true → (b && c) ≡ true
@@ -39,11 +40,14 @@ links_rise P d low high (one k t) is = refl
 links_rise P d low high (more k t f) is =
     sorted_links f (behind_low P d (first_key f) high f is.2 (first_key f) (ap is_gt (tied_itself nat_list_cmp_total (first_key f)))) (links_rise P d (first_key f) high f is.2)
 
+pub tree_rises : (P : Image) (d : ℕ) (low : List ℕ) (high : Option (List ℕ)) (t : Tree) (page : List ℕ) → IsTree P d low high t → page ≡ P (page_of t) → 0 < d → (node : Node) → IsNode page node → RisesBehind node.entries
+tree_rises P d low high (leaf p es) page there page_is some node is = absurd (let none = there.0 in omega arith)
+tree_rises P d low high (inner p f) page there page_is some node is =
+    let same : node ≡ record { level = d; entries = links f } = node_unique page node (record { level = d; entries = links f }) is (subst (λ bytes. IsNode bytes (record { level = d; entries = links f })) (sym page_is) there.1) in
+    subst (λ (n : Node). RisesBehind n.entries) (sym same) (links_rise P (d - 1) low high f there.2)
+
 pub node_rises : (n : ℕ) (P : Image) (d : ℕ) (key page : List ℕ) → CanGet n P d key page → 0 < d → (node : Node) → IsNode page node → RisesBehind node.entries
-node_rises n P d key page can some node is = step can.tree can.low can.high can.tree_is can.page_is
-  where
-    step : (t : Tree) (low : List ℕ) (high : Option (List ℕ)) → IsTree P d low high t → page ≡ P (page_of t) → RisesBehind node.entries
-    step (leaf p es) low high there page_is = absurd (let none = there.0 in omega arith)
-    step (inner p f) low high there page_is =
-        let same : node ≡ record { level = d; entries = links f } = node_unique page node (record { level = d; entries = links f }) is (subst (λ bytes. IsNode bytes (record { level = d; entries = links f })) (sym page_is) there.1) in
-        subst (λ (n : Node). RisesBehind n.entries) (sym same) (links_rise P (d - 1) low high f there.2)
+node_rises n P d key page can some node is = tree_rises P d can.low can.high can.tree page can.tree_is can.page_is some node is
+
+pub put_rises : (n : ℕ) (P : Image) (d : ℕ) (low : List ℕ) (high : Option (List ℕ)) (free : List ℕ) (page : ℕ) (bytes key : List ℕ) (t : Tree) → CanPut n P d low high free page bytes key t → 0 < d → (node : Node) → IsNode bytes node → RisesBehind node.entries
+put_rises n P d low high free page bytes key t can some node is = tree_rises P d low high t bytes can.stands.tree_is (can.reads ∙ sym (ap P can.stands.page_is)) some node is

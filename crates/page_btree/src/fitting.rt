@@ -7,6 +7,7 @@ ghost use Rattle.page_store.specs.Transactions.{stored, disk_in, count_of, txn_p
 ghost use Rattle.page_node.specs.Entries.{Entry, child_in};
 ghost use Rattle.page_node.specs.Node.{Node, IsNode};
 ghost use Rattle.page_node.specs.Places.{Rises, floor};
+ghost use Rattle.page_node.specs.Searching.{RisesBehind};
 ghost use Rattle.page_btree.specs.Keys.{KeyMap, IsKey};
 ghost use Rattle.page_btree.specs.Tree.{Tree};
 ghost use Rattle.page_btree.specs.Map.{InTxn};
@@ -18,12 +19,12 @@ ghost use Rattle.page_btree.specs.declared.error.TreeError.TheVariants.{NoPages,
 use crate::error::TreeError;
 use crate::gets::read_level;
 use crate::puts::put_cutting;
-use page_node::{NotANode, child_for, level_of, put_row};
+use page_node::{NotANode, level_of, put_row, way_for};
 use page_store::{Pages, Txn};
 use sector_device::SectorDevice;
 
 /// Puts a row, and tells whether its key was there. A key has 1 to 72 bytes, a value at most 1,024. At most 11 pages are written
-/// and 6 taken; none is taken where a value of the same length is replaced. After an error the transaction can only be
+/// and 6 taken, and none is given back; none is taken where a value of the same length is replaced. After an error the transaction can only be
 /// abandoned: `NoPages` comes where fewer than six pages were free and none is left, `TooDeep` where the tree has six
 /// levels and a node of each was cut, `Memory` from a growth of the transaction, `DeviceFault` and `Halted` from the device.
 pub fn put<D: SectorDevice>(
@@ -40,6 +41,7 @@ pub fn put<D: SectorDevice>(
     ensures put { (disk_in pages.new).is_honest → (m : KeyMap) → InTxn txn.old (stored pages.old) m → IfOk result (λ had. InTxn txn.new (stored pages.old) (insert m key.now value.now) × (had ≡ contains_key m key.now)) }
     ensures writes { OnOk result (txn_writes txn.new ≤ txn_writes txn.old + 11) }
     ensures taken { OnOk result (txn_free txn.old ≤ txn_free txn.new + 6) }
+    ensures none_back { OnOk result (txn_free txn.new ≤ txn_free txn.old) }
     ensures fixed { (disk_in pages.new).is_honest → (m : KeyMap) (held : List ℕ) → InTxn txn.old (stored pages.old) m → get m key.now ≡ Some held → length held ≡ length value.now → MatchResult result (λ _. txn_free txn.new ≡ txn_free txn.old) (λ e. IsNoWant e) }
     ensures passed { OnOk result (Passed pages.old pages.new) }
     ensures spent { IfErr result (λ e. e ≡ NoPages → txn_free txn.new ≡ 0) }
@@ -116,6 +118,17 @@ fn put_below<D: SectorDevice>(
     put_below(txn, pages, bytes, child, level - 1, key, value)
 }
 
+/// The child that a key belongs to, in a page whose keys rise behind the first.
+fn child_of_key(bytes: &[u8; 4096], key: &[u8]) -> Result<u32, NotANode>
+    ensures child { (node : Node) → IsNode bytes.now node → RisesBehind node.entries → IfOk result (λ child. option_map child_in (floor key.now node.entries) ≡ Some child) }
+    ensures err { OnErr result ((node : Node) → IsNode bytes.now node → RisesBehind node.entries → 0 < node.level → floor key.now node.entries ≡ None) }
+{
+    match way_for(bytes, key) {
+        Ok(way) => Ok(way.child),
+        Err(fault) => Err(fault),
+    }
+}
+
 /// Reads the page of the child that a key belongs to in place of its node's, which is of a level, unless it is a leaf's, and
 /// tells the child's page.
 pub(crate) fn step_to<D: SectorDevice>(
@@ -131,12 +144,12 @@ pub(crate) fn step_to<D: SectorDevice>(
     ensures passed { OnOk result (Passed pages.old pages.new) }
     ensures below { IfOk result (λ child. child < txn_pages txn.now) }
     ensures few { txn_pages txn.now ≤ 2 ^ 32 }
-    ensures told { IfOk result (λ child. (node : Node) → IsNode bytes.old node → option_map child_in (floor key.now node.entries) ≡ Some child) }
+    ensures told { IfOk result (λ child. (node : Node) → IsNode bytes.old node → RisesBehind node.entries → option_map child_in (floor key.now node.entries) ≡ Some child) }
     ensures reads { (disk_in pages.new).is_honest → IfOk result (λ child. 0 < level - 1 → bytes.new ≡ over txn.now (stored pages.old) child) }
     ensures err { (page : ℕ) → IfErr result (λ e. StepErr (CanFit (txn_pages txn.now) (over txn.now) level (free_over txn.now) page bytes.old key.now) pages.old pages.new e) }
 {
     let count = txn.page_count();
-    let child = child_for(bytes, key)?;
+    let child = child_of_key(bytes, key)?;
     if child >= count {
         return Err(TreeError::DeviceFault);
     }

@@ -13,7 +13,7 @@ ghost use Rattle.page_btree.specs.Errors.{GetErr};
 ghost use Rattle.page_btree.specs.Getting.{CanGet, IsCopied, IsLevel, ReadsErr};
 
 use crate::error::TreeError;
-use page_node::{child_for, level_of, value_for};
+use page_node::{level_of, value_for, way_for};
 use page_store::{Pages, Txn};
 use sector_device::SectorDevice;
 
@@ -66,8 +66,8 @@ fn get_below<D: SectorDevice>(
         let found = copy_value(page, key, into)?;
         return Ok(found);
     }
-    let child = child_for(page, key)?;
-    read_level(txn, pages, child, level - 1, page)?;
+    let way = way_for(page, key)?;
+    read_level(txn, pages, way.child, level - 1, page)?;
     get_below(txn, pages, page, level - 1, key, into)
 }
 

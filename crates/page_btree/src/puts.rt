@@ -41,6 +41,7 @@ pub(crate) fn put_cutting<D: SectorDevice>(
     ensures put { (disk_in pages.new).is_honest → (m : KeyMap) → InTxn txn.old (stored pages.old) m → IfOk result (λ had. InTxn txn.new (stored pages.old) (insert m key.now value.now) × (had ≡ contains_key m key.now)) }
     ensures writes { OnOk result (txn_writes txn.new ≤ txn_writes txn.old + 11) }
     ensures taken { OnOk result (txn_free txn.old ≤ txn_free txn.new + 6) }
+    ensures none_back { OnOk result (txn_free txn.new ≤ txn_free txn.old) }
     ensures fixed { (disk_in pages.new).is_honest → (m : KeyMap) (held : List ℕ) → InTxn txn.old (stored pages.old) m → get m key.now ≡ Some held → length held ≡ length value.now → MatchResult result (λ _. txn_free txn.new ≡ txn_free txn.old) (λ e. IsNoWant e) }
     ensures passed { OnOk result (Passed pages.old pages.new) }
     ensures spent { IfErr result (λ e. e ≡ NoPages → txn_free txn.new ≡ 0) }

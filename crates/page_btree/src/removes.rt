@@ -40,6 +40,7 @@ pub(crate) fn remove_through<D: SectorDevice>(
     ensures remove { (disk_in pages.new).is_honest → (m : KeyMap) → InTxn txn.old (stored pages.old) m → IfOk result (λ had. InTxn txn.new (stored pages.old) (remove_key m key.now) × (had ≡ contains_key m key.now)) }
     ensures writes { OnOk result (txn_writes txn.new ≤ txn_writes txn.old + 6) }
     ensures given { OnOk result (txn_free txn.old ≤ txn_free txn.new) }
+    ensures most { OnOk result (txn_free txn.new ≤ txn_free txn.old + 6) }
     ensures passed { OnOk result (Passed pages.old pages.new) }
     ensures err { IfErr result (λ e. RemoveErr txn.old pages.old pages.new e) }
 {
@@ -81,6 +82,7 @@ fn remove_below<D: SectorDevice>(
     ensures stays { IfOk result (λ did. StaysAt txn.old txn.new did) }
     ensures writes { OnOk result (txn_writes txn.new ≤ txn_writes txn.old + level + 1) }
     ensures given { OnOk result (txn_free txn.old ≤ txn_free txn.new) }
+    ensures most { OnOk result (txn_free txn.new ≤ txn_free txn.old + level + 1) }
     ensures passed { OnOk result (Passed pages.old pages.new) }
     ensures err { IfErr result (λ e. BelowErr (λ P. (page.old ≡ over txn.old P p) × CanRemove (txn_pages txn.old) (over txn.old P) (free_over txn.old P) level key.now p) pages.old pages.new e) }
 {
@@ -112,6 +114,7 @@ fn remove_row(
     ensures stays { IfOk result (λ did. StaysAt txn.old txn.new did) }
     ensures writes { OnOk result (txn_writes txn.new ≤ txn_writes txn.old + 1) }
     ensures given { OnOk result (txn_free txn.old ≤ txn_free txn.new) }
+    ensures most { OnOk result (txn_free txn.new ≤ txn_free txn.old + 1) }
     ensures err { IfErr result (λ e. TakenErr txn.old p page.old e) }
 {
     match take_row(page, key)? {
@@ -135,6 +138,7 @@ fn remove_link(
     ensures elsewhere { OnOk result ((P : Image) (q : ℕ) → q ≢ p → over txn.new P q ≡ over txn.old P q) }
     ensures writes { OnOk result (txn_writes txn.new ≤ txn_writes txn.old + 1) }
     ensures given { OnOk result (txn_free txn.old ≤ txn_free txn.new) }
+    ensures most { OnOk result (txn_free txn.new ≤ txn_free txn.old + 1) }
     ensures err { IfErr result (λ e. LinkErr txn.old p page.old e) }
 {
     let mut node = NodeBuf::EMPTY;
@@ -172,6 +176,7 @@ fn write_back(txn: &mut Txn, p: u32, page: &[u8; 4096], left: usize) -> Result<R
     ensures elsewhere { OnOk result ((P : Image) (q : ℕ) → q ≢ p → over txn.new P q ≡ over txn.old P q) }
     ensures writes { OnOk result (txn_writes txn.new ≤ txn_writes txn.old + 1) }
     ensures given { OnOk result (txn_free txn.old ≤ txn_free txn.new) }
+    ensures most { OnOk result (txn_free txn.new ≤ txn_free txn.old + 1) }
     ensures err { IfErr result (λ e. BackErr txn.old p e) }
 {
     if left == 0 {

@@ -21,8 +21,8 @@ use page_node::{NotANode, level_of, take_spare_row};
 use page_store::{Pages, Txn};
 use sector_device::SectorDevice;
 
-/// Takes a key out, and tells whether it was there. At most 6 pages are written, those that are given back among them, and none
-/// is taken. After an error the transaction can only be abandoned: `Memory` comes from a growth of the transaction,
+/// Takes a key out, and tells whether it was there. At most 6 pages are written, those that are given back among them, at most 6
+/// are given back, and none is taken. After an error the transaction can only be abandoned: `Memory` comes from a growth of the transaction,
 /// `DeviceFault` and `Halted` from the device.
 pub fn remove<D: SectorDevice>(
     txn: &mut Txn,
@@ -36,6 +36,7 @@ pub fn remove<D: SectorDevice>(
     ensures remove { (disk_in pages.new).is_honest → (m : KeyMap) → InTxn txn.old (stored pages.old) m → IfOk result (λ had. InTxn txn.new (stored pages.old) (remove_key m key.now) × (had ≡ contains_key m key.now)) }
     ensures writes { OnOk result (txn_writes txn.new ≤ txn_writes txn.old + 6) }
     ensures given { OnOk result (txn_free txn.old ≤ txn_free txn.new) }
+    ensures most { OnOk result (txn_free txn.new ≤ txn_free txn.old + 6) }
     ensures passed { OnOk result (Passed pages.old pages.new) }
     ensures err { IfErr result (λ e. RemoveErr txn.old pages.old pages.new e) }
 {

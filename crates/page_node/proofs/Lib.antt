@@ -5,3 +5,4 @@ pub mod Writing
 pub mod PageEdits
 pub mod Splitting
 pub mod Nearing
+pub mod Comparing

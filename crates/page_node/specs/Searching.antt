@@ -1,6 +1,7 @@
 -- A search in a page from its first entry on.
 use Rattle.std.specs.Prelude.{◌≡◌, ◌<◌, ◌+◌, ◌-◌, ℕ, false, List, length, take, drop}
 use Rattle.std.specs.Ordering.{is_gt}
+use Rattle.std.specs.declared.cmp.Ordering.TheVariants.{Less}
 use Rattle.page_node.specs.Entries.{Entry, key_at, value_at, size_of}
 use Rattle.page_node.specs.Places.{key_cmp, Rises}
 
@@ -14,3 +15,7 @@ pub record IsLast (page key : List ℕ) (es : List Entry) (k value at : ℕ) : T
   pub below : (j : ℕ) → 0 < j → j < k → is_gt (key_cmp (key_at es j) key) ≡ false
   pub none : k ≡ 0 → value ≡ 0
   pub some : 0 < k → (0 < value) × (value + length (value_at es (k - 1)) ≡ at) × (take (at - value) (drop value page) ≡ value_at es (k - 1))
+
+-- the search for a row stands before the entry k; where keys rise, each before it is below this one
+abbrev pub IsBelow : List ℕ → List Entry → ℕ → ℕ → Type 0
+IsBelow key es k at = (at ≡ 4 + size_of (take k es)) × (Rises es → (j : ℕ) → j < k → key_cmp (key_at es j) key ≡ Less)

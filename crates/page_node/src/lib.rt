@@ -4,6 +4,7 @@
 mod edit;
 mod ends;
 mod entry;
+mod keys;
 mod node_buf;
 mod scan;
 mod search;

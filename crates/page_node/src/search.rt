@@ -8,9 +8,10 @@ ghost use Rattle.page_node.specs.Entries.{child_in};
 ghost use Rattle.page_node.specs.Node.{Node, IsNode, count_in};
 ghost use Rattle.page_node.specs.Places.{key_cmp, Rises, floor, ceiling, entries_from};
 ghost use Rattle.page_node.specs.Walking.{IsAhead};
-ghost use Rattle.page_node.specs.Searching.{IsLast, RisesBehind};
+ghost use Rattle.page_node.specs.Searching.{IsBelow, IsLast, RisesBehind};
 
 use crate::entry::bounds_in;
+use crate::keys::compare;
 use crate::scan::NotANode;
 use std::cmp::Ordering;
 
@@ -45,7 +46,7 @@ pub(crate) fn compare_part(page: &[u8; 4096], from: usize, end: usize, key: &[u8
     requires end { end ≤ 4096 }
     ensures { result ≡ key_cmp (take (end - from) (drop from page.now)) key.now }
 {
-    part(page, from, end).cmp(key)
+    compare(part(page, from, end), key)
 }
 
 /// Whether a part of a page is above a key.
@@ -66,14 +67,53 @@ fn is_below(page: &[u8; 4096], from: usize, end: usize, key: &[u8]) -> bool
     compare_part(page, from, end, key).is_lt()
 }
 
+/// Where a search for a row goes on: before the entry of this number, at this place.
+#[derive(Clone, Copy, Drop)]
+pub(crate) struct RowNear {
+    pub(crate) k: usize,
+    pub(crate) at: usize,
+}
+
+/// A place near a key's in a page whose keys rise: each key before it is below this one. One key of eight is looked at.
+pub(crate) fn row_near(page: &[u8; 4096], key: &[u8]) -> Option<RowNear>
+    ensures within { IfSome result (λ near. (4 ≤ near.at) × (near.at ≤ 4096) × (near.k ≤ count_in page.now)) }
+    ensures below { (node : Node) → IsNode page.now node → IfSome result (λ near. IsBelow key.now node.entries near.k near.at) }
+    ensures none { IfNone result ((node : Node) → IsNode page.now node → ⊥) }
+{
+    let count = count_of(page);
+    let mut near = RowNear { k: 0, at: 4 };
+    let mut at = 4;
+    for k in 0..count {
+        let bounds = match bounds_in(page, at) {
+            None => return None,
+            Some(bounds) => bounds,
+        };
+        if k % 8 == 0 {
+            if !is_below(page, at + 3, bounds.value, key) {
+                return Some(near);
+            }
+            near = RowNear {
+                k: k + 1,
+                at: bounds.end,
+            };
+        }
+        at = bounds.end;
+    }
+    Some(near)
+}
+
 /// The value of a key in a page whose keys rise, if the key is there.
 pub fn value_for<'a>(page: &'a [u8; 4096], key: &[u8]) -> Result<Option<&'a [u8]>, NotANode>
     ensures value { (node : Node) → IsNode page.now node → Rises node.entries → IfOk result (λ found. option_copied found ≡ find key_cmp key.now node.entries) }
     ensures err { OnErr result ((node : Node) → IsNode page.now node → ⊥) }
 {
     let count = count_of(page);
-    let mut at = 4;
-    for k in 0..count {
+    let near = match row_near(page, key) {
+        None => return Err(NotANode),
+        Some(near) => near,
+    };
+    let mut at = near.at;
+    for k in near.k..count {
         let bounds = match bounds_in(page, at) {
             None => return Err(NotANode),
             Some(bounds) => bounds,
@@ -156,7 +196,7 @@ fn near_for(page: &[u8; 4096], key: &[u8]) -> Option<Near>
             None => return None,
             Some(bounds) => bounds,
         };
-        if k % 8 == 7 {
+        if k % 8 == 1 {
             if is_above(page, at + 3, bounds.value, key) {
                 return Some(near);
             }
@@ -220,8 +260,12 @@ pub fn place_from(page: &[u8; 4096], key: &[u8]) -> Result<Place, NotANode>
     ensures err { OnErr result ((node : Node) → IsNode page.now node → ⊥) }
 {
     let count = count_of(page);
-    let mut at = 4;
-    for k in 0..count {
+    let near = match row_near(page, key) {
+        None => return Err(NotANode),
+        Some(near) => near,
+    };
+    let mut at = near.at;
+    for k in near.k..count {
         let bounds = match bounds_in(page, at) {
             None => return Err(NotANode),
             Some(bounds) => bounds,

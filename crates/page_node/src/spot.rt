@@ -7,7 +7,7 @@ ghost use Rattle.page_node.specs.Spots.{IsSpot};
 
 use crate::entry::bounds_in;
 use crate::scan::NotANode;
-use crate::search::{compare_part, count_of};
+use crate::search::{compare_part, count_of, row_near};
 use std::cmp::Ordering;
 
 /// Where the entry of a key begins and ends, or where it would begin.
@@ -28,8 +28,12 @@ pub(crate) fn spot_of(page: &[u8; 4096], key: &[u8]) -> Result<Spot, NotANode>
     ensures err { OnErr result ((node : Node) → IsNode page.now node → ⊥) }
 {
     let count = count_of(page);
-    let mut at = 4;
-    for k in 0..count {
+    let near = match row_near(page, key) {
+        None => return Err(NotANode),
+        Some(near) => near,
+    };
+    let mut at = near.at;
+    for k in near.k..count {
         let bounds = match bounds_in(page, at) {
             None => return Err(NotANode),
             Some(bounds) => bounds,

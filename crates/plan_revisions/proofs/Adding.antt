@@ -22,7 +22,7 @@ use Rattle.store_rows.specs.TidyLaws.{NextIsOne}
 use Rattle.plan_table.specs.PlanRows.{HasChunkNumbers, revised_rows}
 use Rattle.plan_table.specs.Laws.{RowFits}
 use Rattle.plan_table.specs.declared.change.Change.{Change}
-use Rattle.plan_revisions.specs.Steps.{HasStepped, StepErr}
+use Rattle.plan_revisions.specs.Steps.{HasStepped, LeavesNumbers, StepErr}
 use Rattle.plan_revisions.specs.Plans.{TakesRevision, with_next}
 use Rattle.plan_revisions.specs.Counties.{drawn}
 use Rattle.plan_revisions.specs.Adding.{AreRead, HasPutBoth, HasRunOut, IsChangedAfter, ChangeErrAfter, front_rows}
@@ -63,6 +63,12 @@ module _ (ground : Ground) (name : List ℕ) (last : Option (List ℕ)) (next : 
       writes = let most = did.put.writes in let rows = long few did.next in omega arith;
       taken = let most = did.put.taken in let rows = long few did.next in omega arith;
     }
+
+    -- the numbers that were read are those of each map
+    pub leaves : NextIsOne → IsQuiet b c → LeavesNumbers (HasChunkNumbers (length (changed ground last next))) t a c
+    leaves one quiet honest m after holds fit is =
+        let before = quiet.honest honest in
+        subst (λ (n : Counters). HasChunkNumbers (length (changed ground last next)) n) (one m counters after can.fit fit (read before m holds).is_next is) can.room
 
     -- the numbers don't run out in between: they were read
     pub not_run_out : NextIsOne → NumbersStay → IsQuiet b c → HasRunOut front (HasChunkNumbers (length (changed ground last next))) t b c → StepErr says (revision_rows ground last next) t a c DeviceFault

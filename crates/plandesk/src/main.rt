@@ -6,6 +6,7 @@ use exit_status::status::Status;
 use std::env;
 use std::io::ErrorKind;
 use std::process::ExitCode;
+use std::sync::Wait;
 use std::thread::Threads;
 
 /// The words of the command line, the program's name first.
@@ -29,7 +30,7 @@ fn all_words(rt: &HostRuntime) -> Result<Vec<String>, Status> {
     }
 }
 
-fn run_words<T: Threads + Sync>(rt: &HostRuntime, threads: &T) -> Result<Status, Status> {
+fn run_words<T: Threads + Wait + Sync>(rt: &HostRuntime, threads: &T) -> Result<Status, Status> {
     let words = all_words(rt)?;
     let mut texts = Vec::with_capacity(rt.alloc(), words.len())?;
     for word in &words {

@@ -1,6 +1,8 @@
-use Rattle.std.proofs.Common.{◌≡◌, ◌≢◌, ◌<◌, ◌+◌, ◌∙◌, ℕ, zero, suc, Bool, length, cond, get_or, true, false, List, [], ◌∷◌, refl, ap, subst, inl, inr, nat_eq, arith, IsTrue, ◌&&◌}
+use Rattle.std.proofs.Common.{◌≡◌, ◌≢◌, ◌<◌, ◌+◌, ◌∙◌, ℕ, zero, suc, Bool, length, cond, get_or, true, false, List, [], ◌∷◌, refl, sym, ap, subst, inl, inr, nat_eq, arith, IsTrue, ◌&&◌}
 use Rattle.std.proofs.lemmas.Bool.{cases_eq}
 use Rattle.std.proofs.lemmas.Bool.Decides.{nat_tests}
+use Rattle.sector_file.specs.Recalled.{Recalls}
+use Rattle.sector_file.specs.declared.recent.Recent.{Recent}
 use Rattle.sector_file.specs.Told.{Told, same_bytes, held_from, after_opening, step, after_read, after_fault, after_write, after_torn}
 
 not_true : IsTrue false → ⊥
@@ -20,6 +22,16 @@ bytes_same true (x ∷ xs) (y ∷ ys) is = elim (cases_eq x y) [
       let no : nat_eq x y ≡ false = grind (arith, nat_tests) in
       absurd (not_true (subst (λ b. IsTrue (b && same_bytes xs ys)) no is))
 ]
+
+first_true : (a b : Bool) → IsTrue (a && b) → IsTrue a
+first_true true b is = refl
+first_true false b is = absurd (not_true is)
+
+-- a sector that was read is recalled
+pub recalled_read : (t u : Told) (i : ℕ) (bytes : List ℕ) (old new : Recent) → u ≡ after_read t i bytes → (IsTrue t.3 → Recalls old t.0) → ((sectors : List (List ℕ)) → Recalls old sectors → get_or sectors i [] ≡ bytes → Recalls new sectors) → IsTrue u.3 → Recalls new u.0
+recalled_read t u i bytes old new is had noted honest =
+    let there : IsTrue (t.3 && same_bytes bytes (get_or t.0 i [])) = subst (λ (v : Told). IsTrue v.3) is honest in
+    subst (λ (sectors : List (List ℕ)). Recalls new sectors) (sym (ap (λ (v : Told). v.0) is)) (noted t.0 (had (first_true t.3 _ there)) (sym (bytes_same t.3 bytes (get_or t.0 i []) there)))
 
 module _ (sector : ℕ → List ℕ) where
   pub length_held : (from count : ℕ) → length (held_from sector from count) ≡ count

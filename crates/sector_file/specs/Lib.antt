@@ -1,2 +1,3 @@
 pub mod Told
 pub mod Device
+pub mod Recalled

@@ -1,18 +1,20 @@
 //! A file as a device.
-ghost use Rattle.std.specs.Prelude.{◌≡◌, ◌<◌, ◌*◌, ◌^◌, length, IfErr};
+ghost use Rattle.std.specs.Prelude.{◌≡◌, ◌<◌, ◌*◌, ◌^◌, length, IfErr, IsTrue};
 ghost use Rattle.sector_file.specs.Told.{replay};
+ghost use Rattle.sector_file.specs.Recalled.{Recalls};
 
 use crate::contents::Contents;
 use crate::error::{FileError, of_making, of_opening};
+use crate::recent::Recent;
 use crate::record::Record;
 use sector_device::{DeviceFault, SectorDevice};
-use std::fs::{File, OpenOptions};
+use std::fs::{File, OpenOptions, TryLockError};
 use std::io;
 use std::marker::PhantomData;
 use std::os::unix::fs::FileExt;
 
 /// A device whose sectors lie in a file of the operating system, one behind the other. `S` says what they held as the file
-/// was opened.
+/// was opened. The two sectors that were read last are held in memory, and are read there again until they are written.
 #[derive(Drop)]
 pub struct FileDevice<S: Contents> {
     file: File,
@@ -20,10 +22,12 @@ pub struct FileDevice<S: Contents> {
     /// The bytes that the file has, as the system told.
     size: u64,
     log: Record,
+    recent: Recent,
     start: PhantomData<S>,
     ghost few: { length (replay S.Contents.sector log.calls).0 < 2 ^ 32 },
     ghost counted: { length (replay S.Contents.sector log.calls).0 ≡ count },
     ghost whole: { size ≡ 4096 * count },
+    ghost recalled: { IsTrue (replay S.Contents.sector log.calls).3 → Recalls recent (replay S.Contents.sector log.calls).0 },
 }
 
 /// How many bytes went or came, and none at a failure.
@@ -41,6 +45,17 @@ fn size_of(file: &File) -> Result<u64, FileError>
     match file.metadata() {
         Ok(found) => Ok(found.len()),
         Err(_) => Err(FileError::DeviceFault),
+    }
+}
+
+/// Holds an open file until it is closed, so that no other open of it can be held. Where the system has no such locks the file is
+/// as it was.
+fn hold(file: &File) -> Result<(), FileError>
+    ensures { IfErr result (λ e. e ≡ FileError.DeviceFault) }
+{
+    match file.try_lock() {
+        Err(TryLockError::WouldBlock) => Err(FileError::DeviceFault),
+        Ok(()) | Err(TryLockError::Error(_)) => Ok(()),
     }
 }
 
@@ -63,12 +78,14 @@ impl<S: Contents> FileDevice<S> {
             count,
             size,
             log: Record::opened::<S>(count),
+            recent: Recent::none(),
             start: PhantomData,
         })
     }
 
     /// Opens a file that has just so many sectors. The first of these that applies is the answer: NotFound, WrongSize,
-    /// DeviceFault. The start is used up, so that code over any `S` opens one file.
+    /// DeviceFault, which is also told where the file is held by another open of it. It is held until the device is dropped. The
+    /// start is used up, so that code over any `S` opens one file.
     pub fn open(
         rt: &HostRuntime,
         path: &str,
@@ -85,11 +102,14 @@ impl<S: Contents> FileDevice<S> {
             Err(error) => return Err(of_opening(&error)),
         };
         let size = size_of(&file)?;
-        FileDevice::of_size(file, size, count)
+        let held = hold(&file);
+        let device = FileDevice::of_size(file, size, count)?;
+        held?;
+        Ok(device)
     }
 
-    /// Makes a file of so many sectors, where there is none. What it holds is for the caller to write. The start is used up,
-    /// as in `open`.
+    /// Makes a file of so many sectors, where there is none, and holds it. What it has is for the caller to write. The start is
+    /// used up, as in `open`.
     pub fn create(
         rt: &HostRuntime,
         path: &str,
@@ -109,6 +129,7 @@ impl<S: Contents> FileDevice<S> {
             Ok(file) => file,
             Err(error) => return Err(of_making(&error)),
         };
+        hold(&file)?;
         if file.set_len(4096 * count as u64).is_err() || file.sync_all().is_err() {
             return Err(FileError::DeviceFault);
         }
@@ -127,9 +148,17 @@ impl<S: Contents> SectorDevice for FileDevice<S> {
     }
 
     fn read(&mut self, i: u32, sector: &mut [u8; 4096]) -> Result<(), DeviceFault> {
+        match self.recent.find(i) {
+            Some(bytes) => {
+                *sector = *bytes;
+                return Ok(());
+            }
+            None => {}
+        }
         let got = moved(self.file.read_at(sector, 4096 * i as u64));
         self.log.read::<S>(i, got, sector);
         if got == 4096 {
+            self.recent.note(i, sector);
             Ok(())
         } else {
             Err(DeviceFault)
@@ -137,6 +166,7 @@ impl<S: Contents> SectorDevice for FileDevice<S> {
     }
 
     fn write(&mut self, i: u32, sector: &[u8; 4096]) -> Result<(), DeviceFault> {
+        self.recent.forget(i);
         let put = moved(self.file.write_at(sector, 4096 * i as u64));
         self.log.written::<S>(i, put, sector);
         if put == 4096 {

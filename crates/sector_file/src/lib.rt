@@ -9,6 +9,7 @@
 mod contents;
 mod device;
 mod error;
+mod recent;
 mod record;
 
 pub use contents::{Contents, Unknown};

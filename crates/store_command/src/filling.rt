@@ -10,7 +10,8 @@ use sector_device::SectorDevice;
 use std::alloc::Global;
 use std::sync::Arc;
 
-fn open_clerk<D: SectorDevice + Drop>(alloc: Global, device: D) -> Result<Clerk<D>, StoreFault>
+/// The clerk who opens the store that a device holds.
+pub fn open_clerk<D: SectorDevice + Drop>(alloc: Global, device: D) -> Result<Clerk<D>, StoreFault>
     ensures ok { IfOk result (IsOpened device) }
     ensures err { IfErr result (IsUnopened D.SectorDevice device) }
 {

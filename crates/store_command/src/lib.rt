@@ -7,5 +7,5 @@ pub mod filling;
 pub mod format;
 pub mod load;
 pub mod stores;
-mod telling;
+pub mod telling;
 mod texts;

@@ -8,7 +8,8 @@ use byte_stream::sink::Sink;
 use exit_status::status::Status;
 use told_lines::telling::{print, send_line};
 
-fn store_line(fault: StoreFault) -> &'static [u8]
+/// What is told of a fault.
+pub fn store_line(fault: StoreFault) -> &'static [u8]
     ensures { result.now ≡ line_of_fault fault }
 {
     match fault {
@@ -24,7 +25,8 @@ fn store_line(fault: StoreFault) -> &'static [u8]
     }
 }
 
-fn store_status(fault: StoreFault) -> Status
+/// The status that goes with it: 5 for memory, else 4.
+pub fn store_status(fault: StoreFault) -> Status
     ensures { result ≡ status_of fault }
 {
     match fault {

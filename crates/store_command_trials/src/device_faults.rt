@@ -1,5 +1,6 @@
 //! Devices that fail at one call.
 use crate::files::{Texts, sample_texts};
+use crate::loads::ALL;
 use crate::page::ROOM;
 use crate::runs::{
     DEVICE_FAULT, Ended, LOADED, SEALED, format_on, formatted, found, is_sealed, load_on, prints,
@@ -27,21 +28,27 @@ fn formats<R: Abort>(rt: &R, alloc: Global, k: u64) -> (Ended, MemoryDevice) {
     (ended, failing.stop(&[]))
 }
 
+/// Whether call k of `format` failed: it is told then, and the device is formatted by the next one.
+fn format_fails<R: Abort>(rt: &R, alloc: Global, k: u64) -> bool {
+    let (ended, mut device) = formats(rt, alloc, k);
+    if ended.status == Status::Done {
+        prints(rt, &ended, SMALLEST);
+        return false;
+    }
+    tells(rt, &ended, DEVICE_FAULT, Status::Store, 1);
+    let again = format_on(alloc, Shelf::of(&mut device), 323, 256, ROOM);
+    prints(rt, &again, SMALLEST);
+    true
+}
+
 #[test]
 fn a_fault_of_a_new_store_is_told(rt: HostRuntime) {
     let alloc = rt.alloc();
-    let mut faults = 0u32;
     for i in 0..MOST {
-        let (ended, mut device) = formats(&rt, alloc, i * STEP);
-        if ended.status == Status::Done {
-            prints(&rt, &ended, SMALLEST);
-            assert!(rt; faults > 2);
+        if !format_fails(&rt, alloc, i * STEP) {
+            assert!(rt; i > 2);
             return;
         }
-        faults = faults.saturating_add(1);
-        tells(&rt, &ended, DEVICE_FAULT, Status::Store, 1);
-        let again = format_on(alloc, Shelf::of(&mut device), 323, 256, ROOM);
-        prints(&rt, &again, SMALLEST);
     }
     panic!(rt; "never formatted")
 }
@@ -66,25 +73,28 @@ fn ends_well<R: Abort>(rt: &R, alloc: Global, sample: &Texts, device: MemoryDevi
     sealed
 }
 
+/// Where call k of `load` failed, whether the store was filled nevertheless; none where no call failed.
+fn load_fails<R: Abort>(rt: &R, alloc: Global, sample: &Texts, k: u64) -> Option<bool> {
+    let (ended, device) = loads(rt, alloc, sample, k);
+    if ended.status == Status::Done {
+        prints(rt, &ended, LOADED);
+        return None;
+    }
+    tells(rt, &ended, DEVICE_FAULT, Status::Store, 1);
+    Some(ends_well(rt, alloc, sample, device))
+}
+
 #[test]
 fn a_fault_in_a_load_leaves_all_or_nothing(rt: HostRuntime) {
     let alloc = rt.alloc();
-    let sample = sample_texts(&rt, alloc, [5, 5, 5, 5]);
-    let mut unsealed = 0u32;
-    let mut sealed = 0u32;
+    let sample = sample_texts(&rt, alloc, ALL);
+    let mut sealed = 0u64;
     for k in 0..MOST {
-        let (ended, device) = loads(&rt, alloc, &sample, k);
-        if ended.status == Status::Done {
-            prints(&rt, &ended, LOADED);
-            assert!(rt; unsealed > 20 && sealed > 0);
+        let Some(filled) = load_fails(&rt, alloc, &sample, k) else {
+            assert!(rt; sealed > 0 && k > sealed.saturating_add(20));
             return;
-        }
-        tells(&rt, &ended, DEVICE_FAULT, Status::Store, 1);
-        if ends_well(&rt, alloc, &sample, device) {
-            sealed = sealed.saturating_add(1);
-        } else {
-            unsealed = unsealed.saturating_add(1);
-        }
+        };
+        sealed = sealed.saturating_add(filled as u64);
     }
     panic!(rt; "never loaded")
 }

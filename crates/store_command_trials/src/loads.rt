@@ -1,5 +1,5 @@
 //! Stores that are filled, and that aren't.
-use crate::files::{Given, sample_texts};
+use crate::files::{Given, Opened, Texts, sample_texts};
 use crate::page::ROOM;
 use crate::runs::{LOADED, SEALED, formatted, is_sealed, load_on, prints, tells};
 use crate::shelf::Shelf;
@@ -11,7 +11,8 @@ use std::alloc::Global;
 use std::process::Abort;
 use store_command::fault::StoreFault;
 
-const ALL: [usize; 4] = [5, 5, 5, 5];
+/// All lines of the sample's files.
+pub const ALL: [usize; 4] = [5, 5, 5, 5];
 
 const ONE_WAY: &[u8] =
     b"4\n190010001001001 1\n190010001001002\n190010001001002 0\n190030001001001 0\n190030001001002 0\n";
@@ -35,131 +36,156 @@ fn refuses<R: Abort>(rt: &R, alloc: Global, given: Given<'_>, told: &[u8], statu
     tells(rt, &ended, told, status, 0);
 }
 
+/// The fault, from the file of that place on.
+fn opened_before<'a>(
+    place: usize,
+    first: usize,
+    opened: Opened<'a>,
+    fault: OpenFault,
+) -> Opened<'a> {
+    if place < first { opened } else { Err(fault) }
+}
+
+/// The files, of which those from that place on aren't opened.
+fn unopened_from<'a>(given: Given<'a>, first: usize, fault: OpenFault) -> Given<'a> {
+    Given {
+        geo: opened_before(0, first, given.geo, fault),
+        seg1: opened_before(1, first, given.seg1, fault),
+        seg2: opened_before(2, first, given.seg2, fault),
+        seg3: opened_before(3, first, given.seg3, fault),
+        gal: opened_before(4, first, given.gal, fault),
+    }
+}
+
+/// Asserts that the first of the files that aren't opened is told, with the status of the fault.
+fn is_unopened<R: Abort>(rt: &R, alloc: Global, sample: &Texts, first: usize, told: [&[u8]; 2]) {
+    let [unreadable, memory] = told;
+    let given = unopened_from(sample.given(), first, OpenFault::Unreadable);
+    refuses(rt, alloc, given, unreadable, Status::Refused);
+    let given = unopened_from(sample.given(), first, OpenFault::Memory);
+    refuses(rt, alloc, given, memory, Status::Memory);
+}
+
+/// What is told of each file that isn't opened, and of one for which memory is refused.
+static UNOPENED: [[&[u8]; 2]; 5] = [
+    [b"plandesk: geo: Unreadable\n", b"plandesk: geo: Memory\n"],
+    [b"plandesk: seg1: Unreadable\n", b"plandesk: seg1: Memory\n"],
+    [b"plandesk: seg2: Unreadable\n", b"plandesk: seg2: Memory\n"],
+    [b"plandesk: seg3: Unreadable\n", b"plandesk: seg3: Memory\n"],
+    [b"plandesk: gal: Unreadable\n", b"plandesk: gal: Memory\n"],
+];
+
 #[test]
 fn files_that_are_not_opened_are_told(rt: HostRuntime) {
     let alloc = rt.alloc();
     let sample = sample_texts(&rt, alloc, ALL);
-    for (fault, status, lines) in [
-        (
-            OpenFault::Unreadable,
-            Status::Refused,
-            [
-                b"plandesk: geo: Unreadable\n".as_slice(),
-                b"plandesk: seg1: Unreadable\n".as_slice(),
-                b"plandesk: seg2: Unreadable\n".as_slice(),
-                b"plandesk: seg3: Unreadable\n".as_slice(),
-                b"plandesk: gal: Unreadable\n".as_slice(),
-            ],
-        ),
-        (
-            OpenFault::Memory,
-            Status::Memory,
-            [
-                b"plandesk: geo: Memory\n".as_slice(),
-                b"plandesk: seg1: Memory\n".as_slice(),
-                b"plandesk: seg2: Memory\n".as_slice(),
-                b"plandesk: seg3: Memory\n".as_slice(),
-                b"plandesk: gal: Memory\n".as_slice(),
-            ],
-        ),
-    ] {
-        let [geo, seg1, seg2, seg3, gal] = lines;
-        let mut given = sample.given();
-        given.gal = Err(fault);
-        refuses(&rt, alloc, given, gal, status);
-        given.seg3 = Err(fault);
-        refuses(&rt, alloc, given, seg3, status);
-        given.seg2 = Err(fault);
-        refuses(&rt, alloc, given, seg2, status);
-        given.seg1 = Err(fault);
-        refuses(&rt, alloc, given, seg1, status);
-        given.geo = Err(fault);
-        refuses(&rt, alloc, given, geo, status);
+    for first in 0..UNOPENED.len() {
+        is_unopened(&rt, alloc, &sample, first, UNOPENED[first]);
     }
 }
 
-/// Asserts that files are refused with this line where they are given.
-fn refuses_text<R: Abort>(rt: &R, alloc: Global, given: Given<'_>, told: &[u8]) {
+/// The files, with this text in the place of one.
+fn with_text<'a>(given: Given<'a>, place: usize, text: &'a [u8]) -> Given<'a> {
+    match place {
+        0 => Given {
+            geo: Ok(text),
+            ..given
+        },
+        1 => Given {
+            seg1: Ok(text),
+            ..given
+        },
+        2 => Given {
+            seg2: Ok(text),
+            ..given
+        },
+        3 => Given {
+            seg3: Ok(text),
+            ..given
+        },
+        _ => Given {
+            gal: Ok(text),
+            ..given
+        },
+    }
+}
+
+/// Asserts that the files are refused with this line, with this text in the place of one.
+fn refuses_text<R: Abort>(
+    rt: &R,
+    alloc: Global,
+    sample: &Texts,
+    place: usize,
+    text: &[u8],
+    told: &[u8],
+) {
+    let given = with_text(sample.given(), place, text);
     refuses(rt, alloc, given, told, Status::Refused);
 }
+
+/// The place of a file, its text, and what is told of it.
+static REFUSED: [(usize, &[u8], &[u8]); 7] = [
+    (0, b"|", b"plandesk: geo: G1 line 1\n"),
+    (0, b"", b"plandesk: geo: G9 line 0\n"),
+    (3, b"|||||", b"plandesk: seg3: S1 line 1\n"),
+    (4, b"", b"plandesk: gal: A1\n"),
+    (
+        4,
+        b"4\n190010001001001 0\n1 0\n",
+        b"plandesk: gal: A3 word 3\n",
+    ),
+    (
+        4,
+        b"1\n190010001001001 0\n",
+        b"plandesk: gal: A5 190010001001002\n",
+    ),
+    (
+        4,
+        ONE_WAY,
+        b"plandesk: gal: A7 190010001001001 190010001001002\n",
+    ),
+];
 
 #[test]
 fn a_refused_file_is_told_with_its_line(rt: HostRuntime) {
     let alloc = rt.alloc();
     let sample = sample_texts(&rt, alloc, ALL);
-    let whole = sample.given();
-    let geo = |text| Given {
-        geo: Ok(text),
-        ..whole
-    };
-    refuses_text(
-        &rt,
-        alloc,
-        geo(b"|".as_slice()),
-        b"plandesk: geo: G1 line 1\n",
-    );
-    refuses_text(
-        &rt,
-        alloc,
-        geo(b"".as_slice()),
-        b"plandesk: geo: G9 line 0\n",
-    );
-    let second = Given {
-        seg1: whole.seg2,
-        ..whole
-    };
-    refuses_text(&rt, alloc, second, b"plandesk: seg1: S1 line 1\n");
-    let first = Given {
-        seg2: whole.seg1,
-        ..whole
-    };
-    refuses_text(&rt, alloc, first, b"plandesk: seg2: S1 line 1\n");
-    let broken = Given {
-        seg3: Ok(b"|||||".as_slice()),
-        ..whole
-    };
-    refuses_text(&rt, alloc, broken, b"plandesk: seg3: S1 line 1\n");
+    for row in &REFUSED {
+        let (place, text, told) = *row;
+        refuses_text(&rt, alloc, &sample, place, text, told);
+    }
+}
+
+#[test]
+fn each_segment_has_its_own_fields(rt: HostRuntime) {
+    let alloc = rt.alloc();
+    let sample = sample_texts(&rt, alloc, ALL);
+    let one = sample.seg1.as_slice();
+    let two = sample.seg2.as_slice();
+    refuses_text(&rt, alloc, &sample, 1, two, b"plandesk: seg1: S1 line 1\n");
+    refuses_text(&rt, alloc, &sample, 2, one, b"plandesk: seg2: S1 line 1\n");
+}
+
+/// How many lines of each file there are, and what is told of them.
+static MISFITS: [([usize; 4], &[u8]); 4] = [
+    ([4, 5, 5, 5], b"plandesk: join: S8 2000 1505\n"),
+    ([5, 4, 5, 5], b"plandesk: join: S7 5 1\n"),
+    ([5, 5, 2, 5], b"plandesk: join: S7 3 2\n"),
+    ([5, 5, 5, 4], b"plandesk: join: S7 5 3\n"),
+];
+
+/// Asserts that so many lines of the files don't fit together.
+fn misfit<R: Abort>(rt: &R, alloc: Global, lines: [usize; 4], told: &[u8]) {
+    let cut = sample_texts(rt, alloc, lines);
+    refuses(rt, alloc, cut.given(), told, Status::Refused);
 }
 
 #[test]
 fn files_that_do_not_fit_together_are_told(rt: HostRuntime) {
     let alloc = rt.alloc();
-    let fewer = sample_texts(&rt, alloc, [4, 5, 5, 5]);
-    refuses_text(&rt, alloc, fewer.given(), b"plandesk: join: S8 2000 1505\n");
-    for (lines, told) in [
-        ([5, 4, 5, 5], b"plandesk: join: S7 5 1\n".as_slice()),
-        ([5, 5, 2, 5], b"plandesk: join: S7 3 2\n".as_slice()),
-        ([5, 5, 5, 4], b"plandesk: join: S7 5 3\n".as_slice()),
-    ] {
-        let cut = sample_texts(&rt, alloc, lines);
-        refuses_text(&rt, alloc, cut.given(), told);
-    }
-}
-
-#[test]
-fn a_refused_neighbour_file_is_told(rt: HostRuntime) {
-    let alloc = rt.alloc();
-    let sample = sample_texts(&rt, alloc, ALL);
-    for (gal, told) in [
-        (b"".as_slice(), b"plandesk: gal: A1\n".as_slice()),
-        (
-            b"4\n190010001001001 0\n1 0\n".as_slice(),
-            b"plandesk: gal: A3 word 3\n".as_slice(),
-        ),
-        (
-            b"1\n190010001001001 0\n".as_slice(),
-            b"plandesk: gal: A5 190010001001002\n".as_slice(),
-        ),
-        (
-            ONE_WAY,
-            b"plandesk: gal: A7 190010001001001 190010001001002\n".as_slice(),
-        ),
-    ] {
-        let given = Given {
-            gal: Ok(gal),
-            ..sample.given()
-        };
-        refuses_text(&rt, alloc, given, told);
+    for row in &MISFITS {
+        let (lines, told) = *row;
+        misfit(&rt, alloc, lines, told);
     }
 }
 
@@ -167,12 +193,15 @@ fn a_refused_neighbour_file_is_told(rt: HostRuntime) {
 fn the_first_fault_ends_the_run(rt: HostRuntime) {
     let alloc = rt.alloc();
     let sample = sample_texts(&rt, alloc, ALL);
-    let both = Given {
-        seg2: Ok(b"|".as_slice()),
-        gal: Err(OpenFault::Unreadable),
-        ..sample.given()
-    };
-    refuses_text(&rt, alloc, both, b"plandesk: seg2: S1 line 1\n");
+    let last = unopened_from(sample.given(), 4, OpenFault::Unreadable);
+    let both = with_text(last, 2, b"|");
+    refuses(
+        &rt,
+        alloc,
+        both,
+        b"plandesk: seg2: S1 line 1\n",
+        Status::Refused,
+    );
 }
 
 /// Asserts that a device that holds no store is told, and isn't changed into one.
@@ -190,65 +219,95 @@ fn is_none<R: Abort>(rt: &R, alloc: Global, mut device: MemoryDevice) {
     }
 }
 
+/// A device of so many sectors that was never written.
+fn empty<R: Abort>(rt: &R, alloc: Global, count: u32) -> MemoryDevice {
+    MemoryDevice::new(alloc, count).expect(rt, "no memory")
+}
+
+/// A store whose header is overwritten.
+fn broken<R: Abort>(rt: &R, alloc: Global) -> MemoryDevice {
+    let mut device = formatted(rt, alloc, 400);
+    if device.count() > 0 {
+        device.write(0, &[1; 4096]).expect(rt, "not written");
+    }
+    device
+}
+
 #[test]
 fn what_is_no_store_is_told(rt: HostRuntime) {
     let alloc = rt.alloc();
-    for count in [0, 1, 400] {
-        let empty = MemoryDevice::new(alloc, count).expect(&rt, "no memory");
-        is_none(&rt, alloc, empty);
-    }
-    let mut broken = formatted(&rt, alloc, 400);
-    if broken.count() > 0 {
-        broken.write(0, &[1; 4096]).expect(&rt, "not written");
-    }
-    is_none(&rt, alloc, broken);
+    is_none(&rt, alloc, empty(&rt, alloc, 0));
+    is_none(&rt, alloc, empty(&rt, alloc, 1));
+    is_none(&rt, alloc, empty(&rt, alloc, 400));
+    is_none(&rt, alloc, broken(&rt, alloc));
+}
+
+/// Asserts that a store which isn't opened for that reason is told so, after the files were read.
+fn is_not_opened<R: Abort>(rt: &R, alloc: Global, refusal: StoreFault, told: &[u8]) {
+    let sample = sample_texts(rt, alloc, ALL);
+    let shelf: Shelf<'_, MemoryDevice> = Shelf::refusing(refusal);
+    let ended = load_on(alloc, shelf, sample.given(), ROOM);
+    tells(rt, &ended, told, Status::Store, 1);
 }
 
 #[test]
 fn a_store_that_is_not_opened_is_told(rt: HostRuntime) {
     let alloc = rt.alloc();
-    let sample = sample_texts(&rt, alloc, ALL);
-    for (refusal, told) in [
-        (
-            StoreFault::NotFound,
-            b"plandesk: store: NotFound\n".as_slice(),
-        ),
-        (
-            StoreFault::WrongSize,
-            b"plandesk: store: WrongSize\n".as_slice(),
-        ),
-        (
-            StoreFault::DeviceFault,
-            b"plandesk: store: DeviceFault\n".as_slice(),
-        ),
-    ] {
-        let shelf: Shelf<'_, MemoryDevice> = Shelf::refusing(refusal);
-        let ended = load_on(alloc, shelf, sample.given(), ROOM);
-        tells(&rt, &ended, told, Status::Store, 1);
-    }
+    is_not_opened(
+        &rt,
+        alloc,
+        StoreFault::NotFound,
+        b"plandesk: store: NotFound\n",
+    );
+    is_not_opened(
+        &rt,
+        alloc,
+        StoreFault::WrongSize,
+        b"plandesk: store: WrongSize\n",
+    );
+    is_not_opened(
+        &rt,
+        alloc,
+        StoreFault::DeviceFault,
+        b"plandesk: store: DeviceFault\n",
+    );
 }
+
+/// Loads the sample into a device of so many sectors.
+fn fill<R: Abort>(rt: &R, alloc: Global, device: &mut MemoryDevice, told: &[u8]) {
+    let sample = sample_texts(rt, alloc, ALL);
+    let ended = load_on(alloc, Shelf::of(device), sample.given(), ROOM);
+    assert!(rt; ended.errors.as_slice() == told);
+}
+
+/// Asserts what is told of two loads into so many sectors, and whether the store is filled by them.
+fn fills<R: Abort>(rt: &R, alloc: Global, sectors: u32, first: &[u8], next: &[u8], sealed: bool) {
+    let mut device = formatted(rt, alloc, sectors);
+    fill(rt, alloc, &mut device, first);
+    fill(rt, alloc, &mut device, next);
+    assert!(rt; is_sealed(rt, alloc, device) == sealed);
+}
+
+const FULL: &[u8] = b"plandesk: store: Full\n";
 
 /// The eight rows of the sample are one batch of 117 pages; 261 sectors are the journal's, the meta page and the leaf of the load's
 /// first rows.
 #[test]
 fn a_small_store_has_no_room_for_a_state(rt: HostRuntime) {
     let alloc = rt.alloc();
-    let sample = sample_texts(&rt, alloc, ALL);
-    for sectors in [323, 377, 378] {
-        let mut device = formatted(&rt, alloc, sectors);
-        for _ in 0..2 {
-            let ended = load_on(alloc, Shelf::of(&mut device), sample.given(), ROOM);
-            let told = if sectors < 378 {
-                b"plandesk: store: Full\n".as_slice()
-            } else if ended.status == Status::Done {
-                b"".as_slice()
-            } else {
-                SEALED
-            };
-            assert!(rt; ended.errors.as_slice() == told);
-        }
-        assert!(rt; is_sealed(&rt, alloc, device) == (sectors == 378));
-    }
+    fills(&rt, alloc, 323, FULL, FULL, false);
+    fills(&rt, alloc, 377, FULL, FULL, false);
+    fills(&rt, alloc, 378, b"", SEALED, true);
+}
+
+/// Asserts that counts of which so many bytes can be printed are told, and that the store is filled.
+fn is_cut_short<R: Abort>(rt: &R, alloc: Global, sample: &Texts, room: usize) {
+    let mut device = formatted(rt, alloc, 400);
+    let ended = load_on(alloc, Shelf::of(&mut device), sample.given(), room);
+    assert!(rt; LOADED.starts_with(ended.output.as_slice()) && ended.output.len() == room);
+    assert!(rt; ended.errors.as_slice() == b"plandesk: load: WriteFault\n".as_slice());
+    assert!(rt; ended.status == Status::Stream);
+    assert!(rt; is_sealed(rt, alloc, device));
 }
 
 #[test]
@@ -256,11 +315,6 @@ fn counts_that_are_not_printed_are_told(rt: HostRuntime) {
     let alloc = rt.alloc();
     let sample = sample_texts(&rt, alloc, ALL);
     for room in 0..LOADED.len() {
-        let mut device = formatted(&rt, alloc, 400);
-        let ended = load_on(alloc, Shelf::of(&mut device), sample.given(), room);
-        assert!(rt; ended.output.as_slice() == &LOADED[..room]);
-        assert!(rt; ended.errors.as_slice() == b"plandesk: load: WriteFault\n".as_slice());
-        assert!(rt; ended.status == Status::Stream);
-        assert!(rt; is_sealed(&rt, alloc, device));
+        is_cut_short(&rt, alloc, &sample, room);
     }
 }

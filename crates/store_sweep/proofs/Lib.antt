@@ -1,6 +1,6 @@
 mod Keys
 mod Scanned
 mod Left
-mod Taken
+pub mod Taken
 mod Refused
-mod Stepped
+pub mod Stepped

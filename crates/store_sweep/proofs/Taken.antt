@@ -36,8 +36,8 @@ take_more : (m : KeyMap) (rows more : List RowKey) → take_rows (take_rows m ro
 take_more m [] more = refl
 take_more m (row ∷ rows) more = take_more (remove m (key_of row)) rows more
 
-then_by : (running : Option ℕ) (count : ℕ) (m n k : KeyMap) → IsSweptBy running count m n → IsSweptBy running 1 n k → IsSweptBy running (count + 1) m k
-then_by running count m n k one next = record {
+pub then_by : (running : Option ℕ) (count more : ℕ) (m n k : KeyMap) → IsSweptBy running count m n → IsSweptBy running more n k → IsSweptBy running (count + more) m k
+then_by running count more m n k one next = record {
   rows = one.rows ++ next.rows;
   count_is = let both = length-append one.rows next.rows in let first = one.count_is in let last = next.count_is in omega arith;
   left = leftovers_more m one.rows next.rows one.left (subst (λ (x : KeyMap). AreLeftovers x next.rows) one.rest next.left);
@@ -94,7 +94,7 @@ module _ {D : Type 0} {g : Ghosts D} where
         let same = one.passed.quiet.same middle in
         let (n, reads, was) = one.swept middle m d holds is in
         let (k, reads_then, now) = next.swept honest n d (subst (λ P. InTxn u P n) (sym same) reads) was.is in
-        (k, subst (λ P. InTxn v P k) same reads_then, record { is = now.is; by = then_by running count m n k was.by now.by });
+        (k, subst (λ P. InTxn v P k) same reads_then, record { is = now.is; by = then_by running count 1 m n k was.by now.by });
     writes = let first = one.writes in let last = next.writes in omega arith;
     given = let first = one.given in let last = next.given in omega arith;
   }

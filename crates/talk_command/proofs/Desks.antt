@@ -111,11 +111,11 @@ module _ {D : Type 0} {g : Ghosts D} where
   clerk_seen : (served : Result Served ServeFault) (unread left before after : Option (List ℕ)) → ServesClerk g served unread left before after → ServesDesk served unread left before after
   clerk_seen served unread left before after is = record {
     last = desk_of is.last;
-    input = is.serves.0;
-    output = is.serves.1;
-    reads = is.serves.2;
-    writes = is.serves.3;
-    serves = subst (λ (d : Desk). DeskServesTo d served left is.serves.0 is.serves.1 (desk_of is.last)) is.desk (served_seen served left is.clerk is.serves.0 is.serves.1 is.last is.serves.4);
+    input = is.serves.input;
+    output = is.serves.output;
+    reads = is.serves.reads;
+    writes = is.serves.writes;
+    serves = subst (λ (d : Desk). DeskServesTo d served left is.serves.input is.serves.output (desk_of is.last)) is.desk (served_seen served left is.clerk is.serves.input is.serves.output is.last is.serves.serves);
   }
 
   pub sample_seen : (served : Result Served ServeFault) (unread left before after : Option (List ℕ)) → ServesSample g served unread left before after → ServesDesk served unread left before after

@@ -11,10 +11,11 @@ use Rattle.desk_clerk.specs.declared.clerk.Clerk.{Clerk}
 use Rattle.desk_clerk.specs.Clerks.{desk_of, disk_of, is_halted, Keeps}
 use Rattle.desk_clerk.specs.Commands.{Does}
 use Rattle.byte_stream.specs.Counts.{counted}
-use Rattle.http_desk.specs.Serving.{Serves, read_failures, write_failures}
+use Rattle.http_desk.specs.Serving.{read_failures, write_failures}
 use Rattle.http_desk.specs.declared.serve.Served.{Served}
 use Rattle.http_desk.specs.declared.serve.ServeFault.{ServeFault}
 use Rattle.http_desk.specs.declared.serve.ServeFault.TheVariants as fault
+use Rattle.served_runs.specs.Served.{ServesDurably}
 use Rattle.exit_status.specs.declared.status.Status.{Status}
 use Rattle.exit_status.specs.declared.status.Status.TheVariants.{Done, Memory, Stream}
 
@@ -39,7 +40,8 @@ module _ {D : Type 0} (g : Ghosts D) where
   abbrev pub clerk_asks : Clerk D g → Query → Reply → Clerk D g → Type 0
   clerk_asks x query reply y = AskMay (desk_of x) query reply × (y ≡ x)
 
-  -- what was written is a talk over what was read, of a clerk whose store keeps the sample desk, and whose device has not failed
+  -- What was written is a talk over what was read, of a clerk whose store keeps the sample desk, and whose device has not failed; and since
+  -- each acknowledgement what a stop leaves opens to a desk that has it.
   pub record ServesClerk (served : Result Served ServeFault) (unread left before after : Option (List ℕ)) : Type 0 where
     pub clerk : Clerk D g
     pub keeps : Keeps clerk
@@ -47,7 +49,8 @@ module _ {D : Type 0} (g : Ghosts D) where
     pub working : is_halted clerk ≡ false
     pub honest : (disk_of clerk).is_honest
     pub last : Clerk D g
-    pub serves : Serves clerk_commands clerk_asks clerk served last unread left before after
+    pub stays_honest : (disk_of last).is_honest
+    pub serves : ServesDurably clerk served last unread left before after
 
   abbrev pub ServesSample : Result Served ServeFault → (unread left before after : Option (List ℕ)) → Type 0
   ServesSample served unread left before after = ServesClerk served unread left before after ⊎ IsUnserved served unread left before after

@@ -13,9 +13,10 @@ use desk_loading::start;
 use desk_model::gate::NoGate;
 use desk_model::geography::sample;
 use exit_status::status::Status;
-use http_desk::serve::{ServeFault, Served, serve};
+use http_desk::serve::{ServeFault, Served};
 use sector_device::SectorDevice;
 use sector_memory::MemoryDevice;
+use served_runs::serve::serve_clerk;
 use std::alloc::Global;
 use std::io::Write;
 use std::sync::Arc;
@@ -49,7 +50,7 @@ fn serve_sample<R: Source, W: Sink>(
     ensures turns { result ≡ Err ServeFault.TurnLimit → R.turns reader.new ≡ counted (R.turns reader.old) 4294967296 }
 {
     match sample_clerk(alloc) {
-        Some(mut clerk) => serve(alloc, reader, writer, &mut clerk, &NoGate),
+        Some(mut clerk) => serve_clerk(alloc, reader, writer, &mut clerk, &NoGate),
         None => Err(ServeFault::Memory),
     }
 }

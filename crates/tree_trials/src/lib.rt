@@ -4,6 +4,8 @@
 #[cfg(test)]
 mod long_trials;
 #[cfg(test)]
+mod read_trials;
+#[cfg(test)]
 mod row_trials;
 #[cfg(test)]
 mod scan_trials;

@@ -12,7 +12,7 @@ use std::alloc::Global;
 use std::collections::BTreeMap;
 use std::process::Abort;
 
-const ROWS: u32 = 2000;
+pub const ROWS: u32 = 2000;
 
 /// The key of a number below 2 to the 24. Keys stand in the order of their numbers.
 fn key_of(n: u32) -> [u8; 3] {
@@ -39,7 +39,11 @@ fn put_row<R: Abort>(rt: &R, alloc: Global, pages: &mut Pages<MemoryDevice>, n: 
 }
 
 /// Rows in five groups of keys, put in no order.
-fn stored<R: Abort>(rt: &R, alloc: Global, model: &mut BTreeMap<u32, u32>) -> Pages<MemoryDevice> {
+pub fn stored<R: Abort>(
+    rt: &R,
+    alloc: Global,
+    model: &mut BTreeMap<u32, u32>,
+) -> Pages<MemoryDevice> {
     let mut pages = made(rt, alloc, 700);
     for i in 0..ROWS {
         let n = (i % 5) * 0x10_0000 + i * 777 % ROWS;
@@ -50,7 +54,7 @@ fn stored<R: Abort>(rt: &R, alloc: Global, model: &mut BTreeMap<u32, u32>) -> Pa
 }
 
 /// How many rows come under a prefix that are those between two numbers in the map, whether another call gives none, and the fault.
-fn scanned<D: SectorDevice>(
+pub fn scanned<D: SectorDevice>(
     alloc: Global,
     pages: &mut Pages<D>,
     model: &BTreeMap<u32, u32>,

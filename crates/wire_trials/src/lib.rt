@@ -7,3 +7,5 @@ mod answer_trials;
 mod chunk_trials;
 #[cfg(test)]
 mod head_trials;
+#[cfg(test)]
+mod kind_trials;

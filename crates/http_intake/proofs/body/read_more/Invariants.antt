@@ -1,4 +1,4 @@
-use Rattle.std.proofs.Common.{◌≡◌, ◌≤◌, List, ℕ, ◌++◌, take, vec_len}
+use Rattle.std.proofs.Common.{◌≡◌, ◌≤◌, ◌+◌, ◌*◌, List, ℕ, ◌++◌, take, vec_len}
 use Rattle.std.specs.Io.KnownBytes.{Consumes}
 use Rattle.http_intake.specs.Budget.{Spends}
 use Rattle.http_intake.specs.Draws.{SameParts, left_of}
@@ -8,6 +8,7 @@ abbrev pub invariant-loop-filled : goal.invariant-loop-filled
 invariant-loop-filled g l = record {
   ordered : l.filled ≤ vec_len l.body;
   within : vec_len l.body ≤ l.n;
+  grows : vec_len l.body ≤ 2 * l.filled + 65536;
   came : (more : List ℕ) × Consumes (g.R.Source.remaining l.fn.intake.reader.now) (g.R.Source.remaining l.intake.reader.now) more × (take l.filled l.body.items ≡ l.fn.body.items ++ more);
   inbox : l.intake.inbox.now ≡ l.fn.intake.inbox.now;
   same : SameParts l.fn.intake l.intake;

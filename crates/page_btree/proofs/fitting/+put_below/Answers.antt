@@ -11,7 +11,8 @@ use Rattle.page_btree.proofs.Outcomes.{map_ok, map_err, err_of}
 use Rattle.page_btree.proofs.Failing.{step_failed, step_no_want, below_failed}
 use Rattle.page_btree.proofs.Down.{through_none}
 use Rattle.page_btree.proofs.Leaves.{leaf_rows, leaf_node, leaf_rises, leaf_off, leaf_raised}
-use Rattle.page_btree.proofs.Fits.{map_some, by_bytes, fits_below, leaf_failed}
+use Rattle.page_btree.proofs.Fits.{map_some, by_bytes, fits_put, fits_below, leaf_failed}
+use Rattle.page_btree.proofs.Rising.{put_rises}
 use Rattle.page_btree.proofs.fitting.+put_below.Goals as goal
 
 -- ---- a leaf
@@ -91,7 +92,7 @@ returns-clause-put g t c = λ honest reads.
     (λ had. (low : List ℕ) (high : Option (List ℕ)) (u : Tree) → CanPut n P (d - 1) low high free child (P child) key u → (k : List ℕ) → IsRaised P (Q S) (d - 1) low high free (left S) key value had k child u None nothing)
     (λ had. (low : List ℕ) (high : Option (List ℕ)) (tree : Tree) → CanPut n P d low high free p (P p) key tree → (k : List ℕ) → IsRaised P (Q S) d low high free (left S) key value had k p tree None nothing)
     (λ had w low high tree can k.
-    through_none n P d low high free p c.args.bytes.now key value tree few (by_bytes n P d low high free p c.args.bytes.now key tree (reads some) can) deep child told (P child) refl (Q S) (left S) had None nothing w refl nothing k)
+    through_none n P d low high free p c.args.bytes.now key value tree few (by_bytes n P d low high free p c.args.bytes.now key tree (reads some) can) deep child (λ node there. told node there (put_rises n P d low high free p c.args.bytes.now key tree (by_bytes n P d low high free p c.args.bytes.now key tree (reads some) can) some node there)) (P child) refl (Q S) (left S) had None nothing w refl nothing k)
     done
 
 pub returns-clause-err : goal.returns-clause-err
@@ -108,7 +109,10 @@ returns-clause-err g t c =
     let also : (disk_in c.put_below.new.pages).is_honest → can S → can_there (stored c.step_to.new.pages) = λ honest is.
     let before = c.put_below.ensures.quiet.honest honest in
     let same_stored : stored c.step_to.new.pages ≡ S = c.step_to.ensures.quiet.same before in
-    subst can_there (sym same_stored) (fits_below n (over c.args.txn.now) d (free_over c.args.txn.now) c.args.page c.args.bytes.now key S child c.step_to.new.bytes few (omega arith) c.in_ok-child.ensures.told (c.in_ok-child.ensures.reads before) is) in
+    let some : 0 < d = omega arith in
+    let at = fits_put n (over c.args.txn.now) d (free_over c.args.txn.now) c.args.page c.args.bytes.now key S some is in
+    subst can_there (sym same_stored) (fits_below n (over c.args.txn.now) d (free_over c.args.txn.now) c.args.page c.args.bytes.now key S child c.step_to.new.bytes few (omega arith)
+    (λ node there. c.in_ok-child.ensures.told node there (put_rises n (over c.args.txn.now S) d at.0 at.1 (free_over c.args.txn.now S) c.args.page c.args.bytes.now key at.2 at.3 some node there)) (c.in_ok-child.ensures.reads before) is) in
     map_err c.put_below.result (λ e. PlaceErr (d - 1) can_there c.args.txn.now c.step_to.new.pages c.put_below.new.pages e × IsNoWant e) (λ e. PlaceErr d can c.args.txn.now c.args.pages.now c.put_below.new.pages e × IsNoWant e)
     (λ e why. (below_failed d (d - 1) can can_there c.args.txn.now c.args.pages.now c.step_to.new.pages c.put_below.new.pages c.in_ok-child.ensures.passed c.put_below.ensures.quiet (omega arith) also e why.0, why.1))
     c.put_below.ensures.err

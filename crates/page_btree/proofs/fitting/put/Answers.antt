@@ -35,6 +35,10 @@ pub returns-in-None-clause-taken : goal.returns-in-None-clause-taken
 returns-in-None-clause-taken g c = map_ok c.put_cutting.result (λ _. txn_free c.put_fitting.new.txn ≤ txn_free c.put_cutting.new.txn + 6) (λ _. txn_free c.args.txn.now ≤ txn_free c.put_cutting.new.txn + 6)
     (λ had h. let same = (c.in_ok-had.ensures.kept c.in-None.is).free in omega arith) c.put_cutting.ensures.taken
 
+pub returns-in-None-clause-none_back : goal.returns-in-None-clause-none_back
+returns-in-None-clause-none_back g c = map_ok c.put_cutting.result (λ _. txn_free c.put_cutting.new.txn ≤ txn_free c.put_fitting.new.txn) (λ _. txn_free c.put_cutting.new.txn ≤ txn_free c.args.txn.now)
+    (λ had h. let same = (c.in_ok-had.ensures.kept c.in-None.is).free in omega arith) c.put_cutting.ensures.none_back
+
 pub returns-in-None-clause-fixed : goal.returns-in-None-clause-fixed
 returns-in-None-clause-fixed g c = λ honest m held holds there same_length.
     let S = stored c.args.pages.now in

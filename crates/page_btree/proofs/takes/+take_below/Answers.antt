@@ -1,4 +1,4 @@
-use Rattle.std.proofs.Common.{◌≡◌, ◌≢◌, ◌<◌, ◌-◌, sym, subst, arith}
+use Rattle.std.proofs.Common.{◌≡◌, ◌≢◌, ◌<◌, ◌-◌, sym, ap, subst, arith}
 use Rattle.std.specs.Prelude.{IfOk, IfSome}
 use Rattle.sector_device.specs.Disk.{Image}
 use Rattle.page_store.specs.Transactions.{stored, txn_pages, over, free_over, Passed}
@@ -12,6 +12,7 @@ use Rattle.page_btree.proofs.Outcomes.{map_ok, map_err, err_of}
 use Rattle.page_btree.proofs.Refusals.{below_more}
 use Rattle.page_btree.proofs.Steps.{leaf_there, step_down}
 use Rattle.page_btree.proofs.Fits.{map_some}
+use Rattle.page_btree.proofs.Rising.{tree_rises}
 use Rattle.page_btree.proofs.Spares.{leaf_takes, steps_up, take_fits, leaf_fails, step_fails}
 use Rattle.page_btree.proofs.takes.+take_below.Goals as goal
 
@@ -72,11 +73,12 @@ returns-clause-taken g t c = λ honest reads.
     let same_stored : stored c.step_to.new.pages ≡ S = c.step_to.ensures.quiet.same before in
     let below : Image → Type 0 = λ T. IfOk c.take_below.result (λ did. IfSome did (λ had. (can : CanRemove n (over t0 T) (free_over t0 T) (d - 1) key child) → Removes (over t1 T) (free_over t1 T) can (did_take had))) in
     let done : below S = subst below same_stored (c.take_below.ensures.taken honest (λ inner. subst (λ T. c.step_to.new.bytes ≡ over t0 T child) (sym same_stored) (c.in_ok-child.ensures.reads before inner))) in
-    let told = λ (node : Node) (at : IsNode (over t0 S c.args.page) node). c.in_ok-child.ensures.told node (subst (λ b. IsNode b node) (sym (reads some)) at) in
     map_some c.take_below.result
     (λ had. (can : CanRemove n (over t0 S) (free_over t0 S) (d - 1) key child) → Removes (over t1 S) (free_over t1 S) can (did_take had))
     (λ had. (can : CanRemove n (over t0 S) (free_over t0 S) d key c.args.page) → Removes (over t1 S) (free_over t1 S) can (did_take had))
     (λ had w can.
+    let told = λ (node : Node) (at : IsNode (over t0 S c.args.page) node).
+    c.in_ok-child.ensures.told node (subst (λ b. IsNode b node) (sym (reads some)) at) (tree_rises (over t0 S) d can.low can.high can.tree (over t0 S c.args.page) can.tree_is (ap (over t0 S) (sym can.page_is)) some node at) in
     let step = step_down n S t0 d key c.args.page child can some c.step_to.ensures.few told in
     steps_up n S t0 d can.low can.high key c.args.page child can.tree step t1 had (w step.can))
     done
@@ -97,7 +99,7 @@ returns-clause-err g t c =
     (λ e why. below_more can can_there c.args.pages.now c.step_to.new.pages c.take_below.new.pages c.in_ok-child.ensures.passed c.take_below.ensures.quiet
     (λ honest is.
     let before = c.take_below.ensures.quiet.honest honest in
-    let told = λ (node : Node) (at : IsNode (over t0 S c.args.page) node). c.in_ok-child.ensures.told node (subst (λ b. IsNode b node) (sym (is.1 some)) at) in
+    let told = λ (node : Node) (at : IsNode (over t0 S c.args.page) node). c.in_ok-child.ensures.told node (subst (λ b. IsNode b node) (sym (is.1 some)) at) (tree_rises (over t0 S) d is.0.low is.0.high is.0.tree (over t0 S c.args.page) is.0.tree_is (ap (over t0 S) (sym is.0.page_is)) some node at) in
     let step = step_down n S t0 d key c.args.page child is.0 some c.step_to.ensures.few told in
     subst can_there (sym (c.step_to.ensures.quiet.same before)) (step.can, c.in_ok-child.ensures.reads before))
     e why)

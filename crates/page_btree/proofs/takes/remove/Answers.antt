@@ -35,6 +35,10 @@ pub returns-in-None-clause-given : goal.returns-in-None-clause-given
 returns-in-None-clause-given g c = map_ok c.remove_through.result (λ _. txn_free c.take_spare.new.txn ≤ txn_free c.remove_through.new.txn) (λ _. txn_free c.args.txn.now ≤ txn_free c.remove_through.new.txn)
     (λ had h. let same = (c.in_ok-had.ensures.kept c.in-None.is).free in omega arith) c.remove_through.ensures.given
 
+pub returns-in-None-clause-most : goal.returns-in-None-clause-most
+returns-in-None-clause-most g c = map_ok c.remove_through.result (λ _. txn_free c.remove_through.new.txn ≤ txn_free c.take_spare.new.txn + 6) (λ _. txn_free c.remove_through.new.txn ≤ txn_free c.args.txn.now + 6)
+    (λ had h. let same = (c.in_ok-had.ensures.kept c.in-None.is).free in omega arith) c.remove_through.ensures.most
+
 pub returns-in-None-clause-passed : goal.returns-in-None-clause-passed
 returns-in-None-clause-passed g c = map_ok c.remove_through.result (λ _. Passed c.take_spare.new.pages c.remove_through.new.pages) (λ _. Passed c.args.pages.now c.remove_through.new.pages)
     (λ had passed. passed_more _ _ _ c.in_ok-had.ensures.passed passed) c.remove_through.ensures.passed

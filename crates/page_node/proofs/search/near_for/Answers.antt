@@ -8,7 +8,7 @@ use Rattle.page_node.specs.declared.search.Near.{Near}
 use Rattle.page_node.proofs.Scanning.{lies_there, entry_of, key_part}
 use Rattle.page_node.proofs.Nearing.{passed_next, passed_last}
 use Rattle.page_node.proofs.search.near_for.Goals as goal
-use Rattle.page_node.proofs.search.near_for.Goals.{then-k-eq7+else-is_above, else-k-eq7}
+use Rattle.page_node.proofs.search.near_for.Goals.{then-k-eq1+else-is_above, else-k-eq1}
 
 pub returns-in-None-clause-none : goal.returns-in-None-clause-none
 returns-in-None-clause-none c = λ node is.
@@ -24,8 +24,8 @@ loop-k-preserved c =
     let kept = c.loop-k.invariant in
     let P : Near → Type 0 = λ near. (near.at ≤ 4096) × (near.value ≤ 4096) × (near.k ≤ c.loop-k.k + 1)
     × ((node : Node) → IsNode c.args.page.now node → RisesBehind node.entries → IsLast c.args.page.now c.args.key.now node.entries near.k near.value near.at) in
-    let near : P c.if-k-eq7.near = elim c.if-k-eq7.branch [
-      | then-k-eq7+else-is_above w ↦ subst P (sym w.near-is) (
+    let near : P c.if-k-eq1.near = elim c.if-k-eq1.branch [
+      | then-k-eq1+else-is_above w ↦ subst P (sym w.near-is) (
         kept.0,
         kept.1,
         omega arith,
@@ -36,7 +36,7 @@ loop-k-preserved c =
             let from : is_gt (key_cmp (key_at node.entries c.loop-k.k) c.args.key.now) ≡ false = ap (λ l. is_gt (key_cmp l c.args.key.now)) (sym (key_part _ _ _ _ _ _ e lies)) ∙ sym w.is_above.ensures ∙ w.if-is_above.false in
             passed_last _ c.args.key.now node.entries c.loop-k.k c.loop-k.value c.loop-k.at passed rises (omega arith) from,
       )
-      | else-k-eq7 w ↦ subst P (sym w.near-is) (kept.2, kept.3, omega arith, kept.6)
+      | else-k-eq1 w ↦ subst P (sym w.near-is) (kept.2, kept.3, omega arith, kept.6)
     ] in (
       lies.within,
       omega arith,

@@ -18,33 +18,34 @@ found page key node k at left is place within left_is below from =
       left_is ∙ sym (length-drop k node.entries) ∙ ap (λ (es : List Entry). length es) (sym same),
     )
 
-pub returns-in-None-clause-err : goal.returns-in-None-clause-err
-returns-in-None-clause-err c = λ node is.
+pub returns-in-None-bounds_in-clause-err : goal.returns-in-None-bounds_in-clause-err
+returns-in-None-bounds_in-clause-err c = λ node is.
     let place = c.loop-k.invariant node is in
     let n = is.count in
-    lies_there _ node c.loop-k.k c.loop-k.at is (omega arith) place.0 c.in-None.ensures.none
+    lies_there _ node c.loop-k.k c.loop-k.at is (omega arith) place.0 c.in-None-bounds_in.ensures.none
 
 pub returns-then-not-is_below-clause-place : goal.returns-then-not-is_below-clause-place
 returns-then-not-is_below-clause-place c = λ node is rises.
     let place = c.loop-k.invariant node is in
     let n = is.count in
     let e = entry_of _ node c.loop-k.k c.loop-k.at is (omega arith) place.0 in
-    let there = key_part _ _ _ _ _ _ e c.in-Some.ensures.some in
+    let there = key_part _ _ _ _ _ _ e c.in-Some-bounds_in.ensures.some in
     let from : is_lt (key_cmp (key_at node.entries c.loop-k.k) c.args.key.now) ≡ false = ap (λ l. is_lt (key_cmp l c.args.key.now)) (sym there) ∙ sym c.is_below.ensures ∙ c.if-not-is_below.true in
-    found _ c.args.key.now node c.loop-k.k c.loop-k.at _ is place.0 (omega arith) (omega arith) place.1
+    found _ c.args.key.now node c.loop-k.k c.loop-k.at _ is place.0 (omega arith) (omega arith) (place.1 rises)
     (from_middle node.entries c.args.key.now c.loop-k.k rises (not_below (key_at node.entries c.loop-k.k) c.args.key.now from))
 
 pub loop-k-preserved : goal.loop-k-preserved
 loop-k-preserved c = λ node is.
-    let lies = c.in-Some.ensures.some in
+    let lies = c.in-Some-bounds_in.ensures.some in
     let place = c.loop-k.invariant node is in
     let n = is.count in
     let e = entry_of _ node c.loop-k.k c.loop-k.at is (omega arith) place.0 in
     let below : is_lt (key_cmp (key_at node.entries c.loop-k.k) c.args.key.now) ≡ true = ap (λ l. is_lt (key_cmp l c.args.key.now)) (sym (key_part _ _ _ _ _ _ e lies)) ∙ sym c.is_below.ensures ∙ c.if-not-is_below.false in
-    (end_there _ _ _ _ _ _ e lies, below_more _ _ place.1 (is_less _ below))
+    (end_there _ _ _ _ _ _ e lies, λ rises. below_more _ _ (place.1 rises) (is_less _ below))
 
 pub returns-clause-place : goal.returns-clause-place
 returns-clause-place c = λ node is rises.
+    let few : c.in-Some.near.k ≤ c.count_of-count.result = let most = c.in-Some.ensures.within.2 in let count_is = c.count_of-count.ensures.count in omega arith in
     let place = c.loop-k.invariant node is in
     let n = is.count in
-    found _ c.args.key.now node c.loop-k.k c.loop-k.at 0 is place.0 (omega arith) (omega arith) place.1 (λ j le less. absurd (omega arith))
+    found _ c.args.key.now node c.loop-k.k c.loop-k.at 0 is place.0 (omega arith) (omega arith) (place.1 rises) (λ j le less. absurd (omega arith))

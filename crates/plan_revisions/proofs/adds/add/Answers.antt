@@ -19,7 +19,7 @@ use Rattle.plan_revisions.specs.Counties.{drawn, new_lists}
 use Rattle.plan_revisions.specs.Adding.{AreRead, IsChangedAfter, front_rows}
 use Rattle.plan_revisions.proofs.Drawn.{drawn_long}
 use Rattle.plan_revisions.proofs.LastRevision.{less_said}
-use Rattle.plan_revisions.proofs.Adding.{can_add, change_of, error_of, added, not_run_out, not_added}
+use Rattle.plan_revisions.proofs.Adding.{can_add, change_of, error_of, added, leaves, not_run_out, not_added}
 use Rattle.plan_revisions.proofs.adds.add.Goals as goal
 
 pub returns-in_err-read-clause-add : goal.returns-in_err-read-clause-add
@@ -112,8 +112,10 @@ returns-in-Made-clause-add g c =
     let can = can_add ground last next row counters used c.blocks-blocks.ensures.valid c.requires.next each c.in_ok-read.ensures.fits many room in
     let read = λ (honest : (disk_in b).is_honest) (m : KeyMap) (holds : HasMap t (stored a) m). subst (λ (cs : List Cut). AreRead name (length cs) row counters kept m) c.requires.cut (c.in_ok-read.ensures.read honest m holds) in
     let put = subst (λ (change : Change). IsChangedAfter (front_rows counters.chunk lists row c.as_slice-2.result.now) (HasChunkNumbers used) (revised_rows name row used) t u b d change) c.in-Made.is c.in_ok-put_revision.ensures.put in
-    let did = change_of t u b d name row counters.chunk lists (changed ground last next) c.as_slice-2.result.now (drawn counters.chunk 0 kept last next (cuts_of ground)) used same numbered many Made put in
-    added ground name last next row counters kept can t u a b d c.in_ok-read.ensures.passed read c.desks_are_added.ensures.added c.desks_are_added.ensures.few did
+    let did = change_of t u b d name row counters.chunk lists (changed ground last next) c.as_slice-2.result.now (drawn counters.chunk 0 kept last next (cuts_of ground)) used same numbered many Made put in (
+      added ground name last next row counters kept can t u a b d c.in_ok-read.ensures.passed read c.desks_are_added.ensures.added c.desks_are_added.ensures.few did,
+      leaves ground name last next row counters kept can t u a b d c.in_ok-read.ensures.passed read c.next_is_one.ensures c.in_ok-put_revision.ensures.quiet,
+    )
 
 pub returns-clause-quiet : goal.returns-clause-quiet
 returns-clause-quiet g c = quiet_more c.args.pages.now c.read_plan.new.pages c.put_revision.new.pages c.in_ok-read.ensures.quiet c.in_ok-put_revision.ensures.quiet

@@ -1,4 +1,5 @@
 use Rattle.std.proofs.Common.{refl, inl}
+use Rattle.page_store.specs.Stops.{quiet_none}
 use Rattle.desk_clerk.specs.Clerks.{desk_of, Keeps}
 use Rattle.desk_clerk.specs.Loads.{BeginRefused}
 use Rattle.desk_clerk.proofs.Moved.{worked, faulted, quieted, unmoved}
@@ -44,3 +45,9 @@ returns-else-has_failed-clause-err g c =
 
 pub returns-then-is_some-clause-moves : goal.returns-then-is_some-clause-moves
 returns-then-is_some-clause-moves g c = unmoved (Keeps c.args.self.now) (desk_of c.args.self.now) c.args.self.now (λ keeps. keeps)
+
+pub returns-then-is_some-clause-quiet : goal.returns-then-is_some-clause-quiet
+returns-then-is_some-clause-quiet g c = λ off. quiet_none c.args.self.now.pages
+
+pub returns-else-has_failed-clause-quiet : goal.returns-else-has_failed-clause-quiet
+returns-else-has_failed-clause-quiet g c = λ off. begin_quiet c.args.geography.value c.args.self.now c.begin_load.new.pages c.in-Err.e (c.if-has_failed.ensures.passed refl).0 c.in-Err.ensures.err

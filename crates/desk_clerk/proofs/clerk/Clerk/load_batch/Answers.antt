@@ -1,4 +1,5 @@
 use Rattle.std.proofs.Common.{refl, inl}
+use Rattle.page_store.specs.Stops.{quiet_none}
 use Rattle.desk_clerk.specs.Clerks.{desk_of}
 use Rattle.desk_clerk.specs.Loads.{Stages}
 use Rattle.desk_clerk.proofs.Moved.{worked, faulted, quieted, unmoved}
@@ -41,3 +42,9 @@ returns-else-has_failed-clause-moves g c =
     let x = c.args.self.now in
     let working = c.in_default.ensures.ok.0 in
     quieted (Stages x c.args.load.now) (desk_of x) x _ (λ stages. stages.keeps) working working refl (batch_quiet c.args.load.now c.args.rows x c.load_batch.new.pages c.in-Err-load_batch.e (c.if-has_failed.ensures.passed refl).0 c.in-Err-load_batch.ensures.err)
+
+pub returns-in-Err-clause-quiet : goal.returns-in-Err-clause-quiet
+returns-in-Err-clause-quiet g c = λ off. quiet_none c.args.self.now.pages
+
+pub returns-else-has_failed-clause-quiet : goal.returns-else-has_failed-clause-quiet
+returns-else-has_failed-clause-quiet g c = λ off. batch_quiet c.args.load.now c.args.rows c.args.self.now c.load_batch.new.pages c.in-Err-load_batch.e (c.if-has_failed.ensures.passed refl).0 c.in-Err-load_batch.ensures.err

@@ -1,4 +1,5 @@
 use Rattle.std.proofs.Common.{refl, ◌∙◌}
+use Rattle.page_store.specs.Stops.{quiet_none}
 use Rattle.desk_clerk.specs.Keeping.{sealed_desk}
 use Rattle.desk_clerk.specs.Loads.{Stages}
 use Rattle.geo_loads.specs.Loading.{ground_of}
@@ -38,3 +39,12 @@ returns-else-has_failed-clause-moves g c =
     let load = c.args.load in
     let working = c.in_default.ensures.ok.0 in
     quieted (Stages x load) (sealed_desk (ground_of load)) x _ (λ stages. stages.keeps) working working refl (seal_quiet load x c.seal.new.pages c.in-Err-seal.e (c.if-has_failed.ensures.passed refl).0 c.in-Err-seal.ensures.err)
+
+pub returns-in-Err-clause-quiet : goal.returns-in-Err-clause-quiet
+returns-in-Err-clause-quiet g c = λ off. quiet_none c.args.self.now.pages
+
+pub returns-in_default-sealed-clause-quiet : goal.returns-in_default-sealed-clause-quiet
+returns-in_default-sealed-clause-quiet g c = λ off. quiet_none c.args.self.now.pages
+
+pub returns-else-has_failed-clause-quiet : goal.returns-else-has_failed-clause-quiet
+returns-else-has_failed-clause-quiet g c = λ off. seal_quiet c.args.load c.args.self.now c.seal.new.pages c.in-Err-seal.e (c.if-has_failed.ensures.passed refl).0 c.in-Err-seal.ensures.err

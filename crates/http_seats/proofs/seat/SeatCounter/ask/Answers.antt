@@ -1,4 +1,4 @@
-use Rattle.std.proofs.Common.{sym, subst, List}
+use Rattle.std.proofs.Common.{subst, List}
 use mathlib.Core.List.{IsPrefix}
 use Rattle.desk_model.specs.declared.command.Command.{Command}
 use Rattle.http_seats.proofs.seat.SeatCounter.ask.Goals as goal

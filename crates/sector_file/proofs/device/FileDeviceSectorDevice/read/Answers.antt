@@ -1,7 +1,21 @@
-use Rattle.std.proofs.Common.{subst, IsTrue}
+use Rattle.std.proofs.Common.{◌≡◌, ◌<◌, ◌^◌, ◌∙◌, ℕ, List, length, sym, ap, subst, IsTrue}
 use Rattle.sector_file.specs.Told.{Told, replay}
-use Rattle.sector_file.proofs.Steps.{bytes_same}
+use Rattle.sector_file.proofs.Steps.{bytes_same, recalled_read}
 use Rattle.sector_file.proofs.device.FileDeviceSectorDevice.read.Goals as goal
 
 pub returns-then-got-eq4096-clause-reads : goal.returns-then-got-eq4096-clause-reads
 returns-then-got-eq4096-clause-reads g c = λ honest. bytes_same (replay g.S.Contents.sector c.args.self.now.log.calls).3 _ _ (subst (λ (t : Told). IsTrue t.3) (c.read.ensures.whole c.if-got-eq4096.true) honest)
+
+pub invariant_of-self : goal.invariant_of-self
+invariant_of-self g c =
+    let was = c.args.self.now in
+    let t = replay g.S.Contents.sector was.log.calls in
+    let u = replay g.S.Contents.sector c.read.new.self.calls in
+    let is = c.read.ensures.whole c.if-got-eq4096.true in
+    let same : u.0 ≡ t.0 = ap (λ (v : Told). v.0) is in
+    record {
+      few = subst (λ (s : List (List ℕ)). length s < 2 ^ 32) (sym same) was.few;
+      counted = ap (λ (s : List (List ℕ)). length s) same ∙ was.counted;
+      whole = was.whole;
+      recalled = recalled_read t u c.args.i _ was.recent c.note.new.self is was.recalled c.note.ensures;
+    }

@@ -1,0 +1,23 @@
+//! `sweep` over the file system and the standard streams.
+use crate::stores::StoreFiles;
+use byte_stream::sink::WriteSink;
+use exit_status::status::Status;
+use sector_file::{FileDevice, Unknown};
+use sweep_command::sweep::sweep;
+
+/// Takes out of a store what deleted plans and ended loads left in it.
+pub fn sweep_desk(rt: &HostRuntime, name: &str) -> Status {
+    let mut stores = StoreFiles::new(rt);
+    let mut writer = WriteSink::new(rt.stdout());
+    let mut errors = WriteSink::new(rt.stderr());
+    let status = sweep::<FileDevice<Unknown>, _, _, _>(
+        rt.alloc(),
+        &mut stores,
+        name,
+        &mut writer,
+        &mut errors,
+    );
+    let _ = writer.into_inner();
+    let _ = errors.into_inner();
+    status
+}

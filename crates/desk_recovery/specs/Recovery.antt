@@ -1,0 +1,34 @@
+-- What an opening makes of a device that holds one desk.
+use Rattle.std.specs.Prelude.{◌≡◌, ◌≢◌, ◌≤◌, ◌^◌, ℕ, false, Result, IfOk, IfErr}
+use Rattle.sector_device.specs.Disk.{Disk, Image}
+use Rattle.sector_device.specs.Moments.{LeavesOnly}
+use Rattle.sector_device.specs.declared.SectorDevice.{Ghosts}
+use Rattle.desk_model.specs.Desk.{Desk}
+use Rattle.desk_pages.specs.Desks.{OpensDesk}
+use Rattle.desk_clerk.specs.declared.clerk.Clerk.{Clerk}
+use Rattle.desk_clerk.specs.declared.opening.OpenError.{OpenError}
+use Rattle.desk_clerk.specs.declared.opening.OpenError.TheVariants.{NotAStore}
+use Rattle.desk_clerk.specs.Clerks.{desk_of, is_halted, sectors_of, Keeps}
+use Rattle.desk_clerk.specs.Openings.{device_after}
+
+-- an image of a store opens to one desk at most
+abbrev pub ImagesAreOne : Type 0
+ImagesAreOne = (sectors : ℕ) (d e : Desk) (c : Image) → sectors ≤ 2 ^ 32 → OpensDesk sectors d c → OpensDesk sectors e c → d ≡ e
+
+-- each image that a stop may leave opens to the desk
+abbrev pub HoldsOne : Disk → Desk → Type 0
+HoldsOne disk d = (c : Image) → disk.leaves c → OpensDesk disk.sectors d c
+
+-- the clerk shows the desk, its store of n sectors keeps it, and no fault came
+pub record Shows {D : Type 0} {g : Ghosts D} (n : ℕ) (d : Desk) (x : Clerk D g) : Type 0 where
+  pub desk : desk_of x ≡ d
+  pub keeps : Keeps x
+  pub working : is_halted x ≡ false
+  pub sectors : sectors_of x ≡ n
+
+-- At each moment of the opening a stop leaves an image that opens to the desk. A clerk shows the desk; and the device is not taken for
+-- what is no store.
+pub record Recovers {D : Type 0} (g : Ghosts D) (device : D) (d : Desk) (result : Result (Clerk D g) (OpenError × D)) : Type 0 where
+  pub any_moment : LeavesOnly (OpensDesk (g.disk device).sectors d) (g.disk device) (g.disk (device_after result))
+  pub shown : IfOk result (λ x. Shows (g.disk device).sectors d x)
+  pub taken : IfErr result (λ e. e.0 ≢ NotAStore)

@@ -1,0 +1,93 @@
+//! What is told beside the options of each command.
+
+pub(crate) const STATUSES: &str = "Statuses:
+  0  done; help or the version was told
+  1  a report names a broken clause
+  2  the command line is wrong; nothing was opened
+  3  a file was refused; its fault is told with the file's name
+  4  the store was refused, or its device failed
+  5  memory was refused
+  6  a socket, or standard input or output failed";
+
+pub(crate) const FORMAT_HELP: &str =
+    "Where it ends with 4 or 5 after the file was made, the file is no store: remove it before the next format.
+
+Example:
+  ./plandesk format state.store --sectors 2000 --journal 256
+
+Statuses:
+  0  the store is made
+  2  the command line is wrong; nothing was made
+  4  the store was refused, or its device failed
+  5  memory was refused
+  6  standard output failed";
+
+pub(crate) const LOAD_HELP: &str =
+    "The files are judged in the order geo, seg1, seg2, seg3, gal, and the first fault ends the run; the store
+is opened after them all.
+
+Example, in the folder 'example':
+  ../plandesk load state.store --geo geo.pl --seg1 seg1.pl --seg2 seg2.pl --seg3 seg3.pl --gal neighbours.gal
+
+Statuses:
+  0  the geography is sealed in the store
+  2  the command line is wrong; nothing was opened
+  3  a file was refused; its fault is told with the file's name
+  4  the store was refused, or its device failed
+  5  memory was refused
+  6  standard output failed; the geography is sealed in the store";
+
+pub(crate) const SERVE_HELP: &str =
+    "It listens on 127.0.0.1 and ends once so many connections were served. Each worker serves one connection at a time: commands go
+one after the other, and what is read waits for nobody.
+
+Example, of a store that was formatted and loaded:
+  ./plandesk serve state.store --port 8080 --workers 4 --connections 1000
+  curl http://127.0.0.1:8080/plans
+
+Statuses:
+  0  so many connections were served; one that broke ended alone
+  2  the command line is wrong; nothing was opened
+  4  the store was refused, or its device failed
+  5  memory was refused
+  6  the socket or standard output failed";
+
+pub(crate) const SWEEP_HELP: &str =
+    "It goes on until no such row is left; where it is stopped, the next one goes on from there. The desk stays as it is.
+
+Example, of a store whose plans were deleted:
+  ./plandesk sweep state.store
+
+Statuses:
+  0  no such row is left
+  2  the command line is wrong; nothing was opened
+  4  the store was refused, or its device failed
+  5  memory was refused
+  6  standard output failed; no such row is left";
+
+pub(crate) const CHECK_HELP: &str =
+    "With the census files alone it prints the numbers of blocks, counties and people, and the people of
+each county; with a plan its audit under Iowa Code 42.4, as one line of JSON. The files are judged in the order
+geo, seg1, seg2, seg3, gal, plan, senate, and the first fault ends the run.
+
+Examples, in the folder 'example':
+  ../plandesk check --geo geo.pl --seg1 seg1.pl --seg2 seg2.pl --seg3 seg3.pl
+  ../plandesk check --geo geo.pl --seg1 seg1.pl --seg2 seg2.pl --seg3 seg3.pl --gal neighbours.gal \\
+    --plan house.txt --kind house --districts 2
+
+Statuses:
+  0  counts, or a report that names no clause
+  1  a report that names a broken clause
+  2  the command line is wrong; nothing was opened
+  3  a file was refused; its fault is told with the file's name
+  5  memory was refused
+  6  standard output failed";
+
+pub(crate) const TALK_HELP: &str = "Example:
+  printf 'GET /plans HTTP/1.1\\r\\nHost: d\\r\\n\\r\\n' | ./plandesk talk
+
+Statuses:
+  0  the input ended, or an answer closed the talk
+  2  the command line is wrong; nothing was read
+  5  memory was refused
+  6  standard input or output failed";

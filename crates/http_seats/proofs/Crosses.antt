@@ -1,0 +1,47 @@
+-- What is shown may cross threads, as all that it holds may.
+use denote.Param.Send.{IsSend, IsSync, sendable}
+use Rattle.std.proofs.Crossing.{crosses}
+use Rattle.desk_plans.proofs.tree.Tree.TheLaws.TheKnot as knot
+use Rattle.logbook.proofs.tokens.Seen.TheSendSync.{the_send as seen_send, the_sync as seen_sync}
+use Rattle.desk_model.specs.contracts.geography.Geography as Geography
+use Rattle.desk_plans.specs.contracts.entry.Entry as Entry
+use Rattle.desk_plans.specs.contracts.tree.Tree as Tree
+use Rattle.desk_plans.specs.contracts.plans.Plans as Plans
+use Rattle.desk_catalogue.specs.contracts.catalogue.Catalogue as Catalogue
+use Rattle.desk_gallery.specs.contracts.shelf.Shelf as Shelf
+
+pub geography_send : IsSend Geography.the_row
+geography_send = search (sendable, crosses) depth 40
+
+pub geography_sync : IsSync Geography.the_row
+geography_sync = search (sendable, crosses) depth 40
+
+pub entry_send : IsSend Entry.the_row
+entry_send = search (sendable, crosses) depth 60 fits 20000
+
+pub entry_sync : IsSync Entry.the_row
+entry_sync = search (sendable, crosses) depth 60 fits 20000
+
+pub tree_send : IsSend Tree.the_row
+tree_send = search (sendable, crosses, knot.crosses, entry_send, entry_sync) depth 60 fits 20000
+
+pub tree_sync : IsSync Tree.the_row
+tree_sync = search (sendable, crosses, knot.crosses, entry_send, entry_sync) depth 60 fits 20000
+
+pub plans_send : IsSend Plans.the_row
+plans_send = search (sendable, crosses, tree_send, tree_sync) depth 60 fits 20000
+
+pub plans_sync : IsSync Plans.the_row
+plans_sync = search (sendable, crosses, tree_send, tree_sync) depth 60 fits 20000
+
+pub catalogue_send : IsSend Catalogue.the_row
+catalogue_send = search (sendable, crosses, plans_send, plans_sync, geography_send, geography_sync) depth 60 fits 20000
+
+pub catalogue_sync : IsSync Catalogue.the_row
+catalogue_sync = search (sendable, crosses, plans_send, plans_sync, geography_send, geography_sync) depth 60 fits 20000
+
+pub shelf_send : IsSend Shelf.the_row
+shelf_send = search (sendable, crosses, seen_send, seen_sync, catalogue_send, catalogue_sync) depth 60 fits 20000
+
+pub shelf_sync : IsSync Shelf.the_row
+shelf_sync = search (sendable, crosses, seen_send, seen_sync, catalogue_send, catalogue_sync) depth 60 fits 20000

@@ -1,0 +1,98 @@
+-- An office and its visitors may cross threads, as what is shown and the device may.
+use denote.Builtin.{unit, u64}
+use denote.RattleType.{RattleType}
+use denote.Param.Send.{IsSend, IsSync, sendable, view_send}
+use denote.Param.SendFields.{declared_send}
+use denote.Struct.Tuple.{Tuple, TupleAt}
+use mir.Syntax.{Sym}
+use mathlib.Core.List.{[], ◌∷◌}
+use Rattle.std.proofs.Crossing.{crosses}
+use Rattle.std.specs.contracts.alloc.Global as Global
+use Rattle.std.specs.contracts.impls.GlobalAllocator.TheImpl as heap
+use Rattle.std.specs.contracts.option.Option as Option
+use Rattle.std.specs.contracts.sync.Mutex as Mutex
+use Rattle.http_seats.specs.contracts.ran.Tally as Tally
+use Rattle.atomic_table.proofs.send_lease.SendLease.TheSendSync.{the_send as lease_send, the_sync as lease_sync}
+use Rattle.atomic_table.proofs.shared.Seat.TheSendSync.{the_send as seat_send}
+use Rattle.atomic_table.proofs.shared.Shared.TheSendSync.{the_send as table_send, the_sync as table_sync}
+use Rattle.left_right.proofs.part.Part.TheSendSync.{the_send as part_send}
+use Rattle.left_right.proofs.part.Deed.TheSendSync.{the_send as deed_send}
+use Rattle.atomic_table.specs.contracts.shared.Seat as Seat
+use Rattle.left_right.specs.contracts.board.Doing as Doing
+use Rattle.left_right.specs.contracts.part.Part as Part
+use Rattle.left_right.specs.contracts.reader.Factory as Factory
+use Rattle.left_right.specs.contracts.reader.Reader as Reader
+use Rattle.logbook.proofs.tokens.Seen.TheSendSync.{the_send as seen_send}
+use Rattle.logbook.proofs.word.Word.TheSendSync.{the_send as word_send}
+use Rattle.sector_device.specs.declared.SectorDevice as device
+use Rattle.desk_clerk.specs.contracts.clerk.Clerk as Clerk
+use Rattle.desk_gallery.specs.declared.book.Room as room
+use Rattle.desk_gallery.specs.contracts.book.Past as Past
+use Rattle.desk_gallery.specs.contracts.book.Book as Book
+use Rattle.desk_gallery.specs.contracts.book.Law as Law
+use Rattle.desk_gallery.specs.contracts.book.LawRuleCommandU64.TheImpl as law
+use Rattle.desk_gallery.specs.contracts.shelf.ShelfAbsorb.TheImpl as absorb
+use Rattle.desk_gallery.specs.contracts.front.Front as Front
+use Rattle.desk_gallery.specs.contracts.front.Front.TheInside as FrontInside
+use Rattle.desk_gallery.specs.contracts.shower.Shower.TheInside as ShowerInside
+use Rattle.desk_gallery.specs.contracts.visitor.Visitor.TheInside as VisitorInside
+use Rattle.desk_catalogue.specs.contracts.catalogue.Catalogue as Catalogue
+use Rattle.desk_model.specs.contracts.command.Command as Command
+use Rattle.left_right.specs.contracts.writer.Writer as Writer
+use Rattle.logbook.specs.contracts.tokens.Seen as Seen
+use Rattle.desk_gallery.specs.contracts.office.Office as Office
+use Rattle.desk_gallery.specs.contracts.shelf.Shelf as Shelf
+use Rattle.desk_gallery.specs.contracts.shower.Shower as Shower
+use Rattle.desk_gallery.specs.contracts.tied.Tied as Tied
+use Rattle.desk_gallery.specs.contracts.tied.TiedProtocolShelfUnit.TheImpl as tie
+use Rattle.desk_gallery.specs.contracts.visitor.Visitor as Visitor
+use Rattle.http_seats.proofs.Crosses.{catalogue_send, catalogue_sync, shelf_send, shelf_sync}
+
+slot_send : IsSend (Option.the_row (Part.the_row Shelf.the_row))
+slot_send = let p : IsSend (Part.the_row Shelf.the_row) = part_send Shelf.the_row shelf_sync in search sendable depth 20
+
+place_send : IsSend (Seat.the_row (Option.the_row (Part.the_row Shelf.the_row)) (Doing.the_row Shelf.the_row unit))
+place_send = seat_send (Option.the_row (Part.the_row Shelf.the_row)) (Doing.the_row Shelf.the_row unit) slot_send
+
+pending_send : IsSend (Option.the_row Shelf.the_row)
+pending_send = search (sendable, shelf_send) depth 20
+
+module _ (J : RattleType) (g : room.Ghosts J.Denot) where
+  factory_send : IsSend (Factory.the_row Shelf.the_row unit (Tied.the_row J) Global.the_row (tie.ghosts J g tie.no_dict) heap.ghosts)
+  factory_send = search (sendable, crosses, table_send, table_sync, lease_send, lease_sync, slot_send) depth 40 fits 20000
+
+  reader_send : IsSend (Reader.the_row Shelf.the_row unit (Tied.the_row J) Global.the_row (tie.ghosts J g tie.no_dict) heap.ghosts)
+  reader_send = search (sendable, crosses, table_send, table_sync, lease_send, lease_sync, slot_send, seat_send) depth 60 fits 20000
+
+  past_send : IsSend J → IsSend (Past.the_row J g)
+  past_send s = search (sendable, seen_send) depth 40 fits 20000
+
+  pub visitor_send : IsSend J → IsSend (Visitor.the_row J g)
+  visitor_send s = view_send (VisitorInside.the_row J g) _ _ _ _ (declared_send (VisitorInside.the_type J g) (reader_send, (past_send s, tt)))
+
+  writer_send : IsSend (Writer.the_row Shelf.the_row Shelf.the_row unit (Tied.the_row J) Global.the_row (Tuple (Catalogue.the_row ∷ Seen.the_row Command.the_row u64 Law.the_row law.ghosts ∷ [])) absorb.ghosts (tie.ghosts J g tie.no_dict) heap.ghosts)
+  writer_send = search (sendable, crosses, table_send, table_sync, lease_send, lease_sync, slot_send, seat_send, part_send, deed_send, shelf_send, shelf_sync) depth 60 fits 20000
+
+  book_send : IsSend J → IsSend (Book.the_row J g)
+  book_send s = search (sendable, word_send) depth 40 fits 20000
+
+  pub shower_send : IsSend J → IsSend (Shower.the_row J g)
+  shower_send s = view_send (ShowerInside.the_row J g) _ _ _ _ (declared_send (ShowerInside.the_type J g) (writer_send, (book_send s, (past_send s, (pending_send, tt)))))
+
+module _ (D : RattleType) (h : device.Ghosts D.Denot) where
+  pub clerk_send : IsSend D → IsSend (Clerk.the_row D h)
+  clerk_send s = search (sendable, crosses, catalogue_send, catalogue_sync) depth 60 fits 20000
+
+module _ (J D : RattleType) (g : room.Ghosts J.Denot) (h : device.Ghosts D.Denot) where
+  pub front_send : IsSend J → IsSend D → IsSend (Front.the_row J D h g)
+  front_send s t = view_send (FrontInside.the_row J D h g) _ _ _ _ (declared_send (FrontInside.the_type J D h g) (clerk_send D h t, (shower_send J g s, tt)))
+
+  pub office_sync : IsSend J → IsSend D → IsSync (Office.the_row J D g h)
+  office_sync s t = search (sendable, crosses, front_send) depth 60 fits 20000
+
+pub tally_sync : IsSync (Mutex.the_row Tally.the_row)
+tally_sync = search (sendable, crosses) depth 30
+
+-- what a worker's closure captures
+pub captures_sync : (ν : Sym) (A B C D E F : RattleType) → IsSync A → IsSync B → IsSync C → IsSync D → IsSync E → IsSync F → IsSync (TupleAt ν (A ∷ B ∷ C ∷ D ∷ E ∷ F ∷ []))
+captures_sync ν A B C D E F a b c d e f = search sendable depth 30

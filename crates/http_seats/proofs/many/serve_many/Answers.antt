@@ -1,0 +1,15 @@
+use denote.Exit.{no}
+use denote.Param.{param}
+use denote.Param.Send.{sendable, param_sync, arg_sync, shr_sync}
+use Rattle.std.proofs.Crossing.{sync as heap_sync}
+use Rattle.http_seats.proofs.Offices.{visitor_send, office_sync, tally_sync, captures_sync}
+use Rattle.http_seats.proofs.many.serve_many.Goals as goal
+
+pub for_each_mut-requires-send-T : goal.for_each_mut-requires-send-T
+for_each_mut-requires-send-T g c κs within = let bounds = c.type_bounds in search (sendable, visitor_send, bounds) depth 30
+
+pub for_each_mut-requires-sync-F : goal.for_each_mut-requires-sync-F
+for_each_mut-requires-sync-F g c κs within =
+    let b = c.type_bounds in
+    let office = office_sync (param 0 g.row.J) (param 1 g.row.D) g.J.Room g.D.SectorDevice b.send-J b.send-D in
+    param_sync 2 _ (arg_sync _ no _ (captures_sync _ _ _ _ _ _ _ (shr_sync _ _ _ b.sync-R) (shr_sync _ _ _ heap_sync) (shr_sync _ _ _ office) (shr_sync _ _ _ b.sync-A) (shr_sync _ _ _ b.sync-G) (shr_sync _ _ _ tally_sync)))

@@ -1,0 +1,108 @@
+//! The sectors that were read last, held in memory.
+ghost use Rattle.std.specs.Prelude.{◌≡◌, ◌≢◌, ℕ, List, [], IfSome};
+ghost use Rattle.std.proofs.Common.{get_or};
+ghost use Rattle.sector_file.specs.Recalled.{IsRight, Recalls};
+
+/// A sector that was read, if there is one.
+#[derive(Drop)]
+pub struct Held {
+    is: bool,
+    sector: u32,
+    bytes: [u8; 4096],
+}
+
+impl Held {
+    ghost use Rattle.std.specs.Prelude.{◌≡◌, false, true};
+
+    /// None.
+    fn none() -> Held
+        ensures { result.is ≡ false }
+    {
+        Held {
+            is: false,
+            sector: 0,
+            bytes: [0; 4096],
+        }
+    }
+
+    /// The bytes of a sector, if it is this one.
+    fn find(&self, sector: u32) -> Option<&[u8; 4096]>
+        ensures { (sectors : List (List ℕ)) → IsRight self.now sectors → IfSome result (λ bytes. get_or sectors sector [] ≡ bytes.now) }
+    {
+        if self.is && self.sector == sector {
+            return Some(&self.bytes);
+        }
+        None
+    }
+
+    /// Takes a sector in its place.
+    fn put(&mut self, sector: u32, bytes: &[u8; 4096])
+        ensures { (sectors : List (List ℕ)) → get_or sectors sector [] ≡ bytes.now → IsRight self.new sectors }
+    {
+        self.is = true;
+        self.sector = sector;
+        self.bytes = *bytes;
+    }
+
+    /// Lets go of a sector.
+    fn forget(&mut self, sector: u32)
+        ensures { (before after : List (List ℕ)) → ((j : ℕ) → j ≢ sector → get_or after j [] ≡ get_or before j []) → IsRight self.old before → IsRight self.new after }
+    {
+        if self.sector == sector {
+            self.is = false;
+        }
+    }
+}
+
+/// The two sectors that were read last.
+#[derive(Drop)]
+pub struct Recent {
+    first: Held,
+    second: Held,
+    /// Whether the first gives way to the next.
+    turn: bool,
+}
+
+impl Recent {
+    /// None.
+    pub(crate) fn none() -> Recent
+        ensures { (sectors : List (List ℕ)) → Recalls result sectors }
+    {
+        Recent {
+            first: Held::none(),
+            second: Held::none(),
+            turn: true,
+        }
+    }
+
+    /// The bytes of a sector, if it was read lately.
+    pub(crate) fn find(&self, sector: u32) -> Option<&[u8; 4096]>
+        ensures { (sectors : List (List ℕ)) → Recalls self.now sectors → IfSome result (λ bytes. get_or sectors sector [] ≡ bytes.now) }
+    {
+        match self.first.find(sector) {
+            Some(bytes) => Some(bytes),
+            None => self.second.find(sector),
+        }
+    }
+
+    /// Notes a sector that was read.
+    pub(crate) fn note(&mut self, sector: u32, bytes: &[u8; 4096])
+        ensures { (sectors : List (List ℕ)) → Recalls self.old sectors → get_or sectors sector [] ≡ bytes.now → Recalls self.new sectors }
+    {
+        if self.turn {
+            self.first.put(sector, bytes);
+            self.turn = false;
+        } else {
+            self.second.put(sector, bytes);
+            self.turn = true;
+        }
+    }
+
+    /// Lets go of a sector, which alone may have changed.
+    pub(crate) fn forget(&mut self, sector: u32)
+        ensures { (before after : List (List ℕ)) → ((j : ℕ) → j ≢ sector → get_or after j [] ≡ get_or before j []) → Recalls self.old before → Recalls self.new after }
+    {
+        self.first.forget(sector);
+        self.second.forget(sector);
+    }
+}

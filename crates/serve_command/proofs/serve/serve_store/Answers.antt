@@ -1,0 +1,42 @@
+use Rattle.std.proofs.Common.{◌≡◌, ℕ, List, Result, Ok, Err, ◌∙◌, inl, inr, refl, sym, subst}
+use Rattle.told_lines.specs.Writing.{Writes, written_of}
+use Rattle.serve_command.specs.declared.fault.ServeFault.{ServeFault}
+use Rattle.serve_command.specs.Serving.{listening_text, HasAnnounced, Announces}
+use Rattle.serve_command.proofs.Ends.{run_ends}
+use Rattle.serve_command.proofs.serve.serve_store.Goals as goal
+
+pub returns-in-Err-send : goal.returns-in-Err-send
+returns-in-Err-send g c =
+    let before = written_of g.W.Sink.contents g.W.Sink.failures c.args.writer.now in
+    let after = written_of g.W.Sink.contents g.W.Sink.failures c.send.new.self in
+    let front : List ℕ → Type 0 = λ line. Writes before after line (Err c.in-Err-send.field-0) in
+    let is : c.as_slice.result.now ≡ listening_text c.args.serving.port = c.as_slice.ensures.value ∙ c.in-Ok.ensures in (
+      (c.in-Err-send.field-0, subst front is (c.in-Err-send.ensures.bytes, c.in-Err-send.ensures.failures)),
+      c.in-Ok-open_store.clerk,
+      c.in-Ok-open_store.ensures,
+    )
+
+pub returns-in-Ok-serve_clerk : goal.returns-in-Ok-serve_clerk
+returns-in-Ok-serve_clerk g c =
+    let before = written_of g.W.Sink.contents g.W.Sink.failures c.args.writer.now in
+    let after = written_of g.W.Sink.contents g.W.Sink.failures c.send.new.self in
+    let whole : List ℕ → Type 0 = λ line. Writes before after line (Ok tt) in
+    let is : c.as_slice.result.now ≡ listening_text c.args.serving.port = c.as_slice.ensures.value ∙ c.in-Ok.ensures in
+    let line : HasAnnounced c.args.serving.port before after = subst whole is (c.in-Ok-send.ensures.bytes, c.in-Ok-send.ensures.failures) in
+    let ends : Result (Unit {0}) ServeFault → Type 0 = λ ended. Announces g.D.SectorDevice g.O.Stores.opens c.args.serving.port c.args.stores.now c.args.name.now ended c.open_store.new.stores before after in
+    subst ends (sym c.end_run.ensures) (run_ends g.D.SectorDevice g.O.Stores.opens c.args.serving.port c.args.stores.now c.args.name.now c.open_store.new.stores before after _ c.has_failed.result line (record {
+      first = c.in-Ok-open_store.clerk;
+      found = c.in-Ok-open_store.ensures;
+      last = c.in-Ok-serve_clerk.last;
+      keeps = c.in-Ok-serve_clerk.ensures;
+      halted = refl;
+    }))
+
+pub returns : goal.returns
+returns g c =
+    let before = written_of g.W.Sink.contents g.W.Sink.failures c.args.writer.now in
+    let after = written_of g.W.Sink.contents g.W.Sink.failures c.send.new.self in
+    let whole : List ℕ → Type 0 = λ line. Writes before after line (Ok tt) in
+    let is : c.as_slice.result.now ≡ listening_text c.args.serving.port = c.as_slice.ensures.value ∙ c.in-Ok.ensures in
+    let line : HasAnnounced c.args.serving.port before after = subst whole is (c.in-Ok-send.ensures.bytes, c.in-Ok-send.ensures.failures) in
+    inr (line, inl (refl, c.in-Ok-open_store.clerk, c.in-Ok-open_store.ensures))

@@ -1,0 +1,93 @@
+-- A store that is served: what is opened, printed and told, and the status that goes with it.
+use Rattle.std.specs.Prelude.{◌≡◌, ◌⊎◌, ℕ, List, ◌++◌, codes, decimal, Bool, true, false, Result, Ok, Err}
+use Rattle.byte_stream.specs.declared.sink.WriteFault.{WriteFault}
+use Rattle.sector_device.specs.declared.SectorDevice.{Ghosts}
+use Rattle.exit_status.specs.declared.status.Status.{Status}
+use Rattle.exit_status.specs.declared.status.Status.TheVariants as status
+use Rattle.told_lines.specs.Writing.{Written, Writes, Told}
+use Rattle.desk_clerk.specs.declared.clerk.Clerk.{Clerk}
+use Rattle.desk_clerk.specs.Clerks.{is_halted, Keeps}
+use Rattle.store_command.specs.Filling.{IsOpened, IsUnopened}
+use Rattle.store_command.specs.Telling.{store_line, status_of as status_of_store}
+use Rattle.store_command.specs.declared.fault.StoreFault.{StoreFault}
+use Rattle.store_command.specs.declared.fault.StoreFault.TheVariants.{Memory, DeviceFault}
+use Rattle.serve_command.specs.declared.fault.ServeFault.{ServeFault}
+use Rattle.serve_command.specs.declared.fault.ServeFault.TheVariants.{Store, Socket, Output}
+
+abbrev pub listening_text : (port : ℕ) → List ℕ
+listening_text port = codes "listening on 127.0.0.1:" ++ decimal port ++ codes "\n"
+
+abbrev pub fault_line : ServeFault → List ℕ
+fault_line (Store fault) = store_line fault
+fault_line Socket = codes "plandesk: serve: SocketFault\n"
+fault_line Output = codes "plandesk: serve: WriteFault\n"
+
+abbrev pub status_of : ServeFault → Status
+status_of (Store fault) = status_of_store fault
+status_of Socket = status.Stream
+status_of Output = status.Stream
+
+-- what a run came to, by whether the device failed in it and whether the socket did
+abbrev pub end_of : (has_halted has_failed : Bool) → Result (Unit {0}) ServeFault
+end_of true _ = Err (Store DeviceFault)
+end_of false true = Err Socket
+end_of false false = Ok tt
+
+-- the line was printed whole
+abbrev pub HasAnnounced : (port : ℕ) → (before after : Written) → Type 0
+HasAnnounced port before after = Writes before after (listening_text port) (Ok tt)
+
+-- 0 with nothing told, or the fault's status with its line
+abbrev pub EndsServing : Result (Unit {0}) ServeFault → Status → (told_before told_after : Written) → Type 0
+EndsServing (Ok u) end told_before told_after = (end ≡ status.Done) × (told_after ≡ told_before)
+EndsServing (Err fault) end told_before told_after = (end ≡ status_of fault) × Told told_before told_after (fault_line fault)
+
+module _ {D O : Type 0} (g : Ghosts D) (opens : O → List ℕ → Result D StoreFault → O → Type 0) where
+  -- this clerk opened the store of the name
+  pub record IsOpen (before : O) (name : List ℕ) (clerk : Clerk D g) (after : O) : Type 0 where
+    pub device : D
+    pub given : opens before name (Ok device) after
+    pub opened : IsOpened device clerk
+
+  -- the name's device was opened, and not as a store
+  pub record IsNoStore (before : O) (name : List ℕ) (fault : StoreFault) (after : O) : Type 0 where
+    pub device : D
+    pub given : opens before name (Ok device) after
+    pub why : IsUnopened g device fault
+
+  abbrev pub OpensStore : (before : O) → List ℕ → Result (Clerk D g) StoreFault → (after : O) → Type 0
+  OpensStore before name (Ok clerk) after = IsOpen before name clerk after
+  OpensStore before name (Err fault) after = opens before name (Err fault) after ⊎ IsNoStore before name fault after
+
+  -- the store of the name was opened and served; who has it last keeps it if who opened it did
+  pub record IsServed (before : O) (name : List ℕ) (has_halted : Bool) (after : O) : Type 0 where
+    pub first : Clerk D g
+    pub found : IsOpen before name first after
+    pub last : Clerk D g
+    pub keeps : Keeps first → Keeps last
+    pub halted : is_halted last ≡ has_halted
+
+  -- where memory is refused before, nothing is opened
+  abbrev pub NotOpened : (before : O) → List ℕ → StoreFault → (after : O) → Type 0
+  NotOpened before name fault after = ((fault ≡ Memory) × (after ≡ before)) ⊎ OpensStore before name (Err fault) after
+
+  -- memory for the seats was refused, or the device failed while the store was served
+  abbrev pub HasStopped : (before : O) → List ℕ → StoreFault → (after : O) → Type 0
+  HasStopped before name fault after =
+      ((fault ≡ Memory) × (clerk : Clerk D g) × IsOpen before name clerk after) ⊎ ((fault ≡ DeviceFault) × IsServed before name true after)
+
+  -- What comes of a store and is printed: the line once it is open, nothing where it isn't, and a front of the line where standard
+  -- output fails, after which nothing is served. Where no socket listens, no store is opened.
+  abbrev pub Announces : (port : ℕ) → (stores : O) → List ℕ → Result (Unit {0}) ServeFault → (stores_after : O) → (before after : Written) → Type 0
+  Announces port stores name (Ok u) stores_after before after = HasAnnounced port before after × IsServed stores name false stores_after
+  Announces port stores name (Err (Store fault)) stores_after before after =
+      ((after ≡ before) × NotOpened stores name fault stores_after) ⊎ (HasAnnounced port before after × HasStopped stores name fault stores_after)
+  Announces port stores name (Err Socket) stores_after before after =
+      ((after ≡ before) × (stores_after ≡ stores)) ⊎ (HasAnnounced port before after × IsServed stores name false stores_after)
+  Announces port stores name (Err Output) stores_after before after =
+      ((fault : WriteFault) × Writes before after (listening_text port) (Err fault)) × (clerk : Clerk D g) × IsOpen stores name clerk stores_after
+
+  -- the store of the name, served
+  abbrev pub Serves : (port : ℕ) → (stores : O) → List ℕ → Status → (stores_after : O) → (before after told_before told_after : Written) → Type 0
+  Serves port stores name end stores_after before after told_before told_after = (ended : Result (Unit {0}) ServeFault)
+      × Announces port stores name ended stores_after before after × EndsServing ended end told_before told_after

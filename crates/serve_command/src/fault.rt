@@ -1,0 +1,39 @@
+//! Why a store isn't served, or no longer.
+ghost use Rattle.std.specs.Prelude.{◌≡◌};
+ghost use Rattle.serve_command.specs.Serving.{fault_line as line_of_fault, status_of as status_of_fault};
+
+use exit_status::status::Status;
+use store_command::fault::StoreFault;
+use store_command::telling::{store_line, store_status};
+
+/// Why a store isn't served, or no longer.
+#[derive(Clone, Copy, Debug, PartialEq, Eq)]
+pub enum ServeFault {
+    /// The store was refused, its device failed, or memory was refused.
+    Store(StoreFault),
+    /// No socket listens, or no further connection is given.
+    Socket,
+    /// Standard output failed.
+    Output,
+}
+
+/// What is told of a fault.
+pub fn fault_line(fault: ServeFault) -> &'static [u8]
+    ensures { result.now ≡ line_of_fault fault }
+{
+    match fault {
+        ServeFault::Store(fault) => store_line(fault),
+        ServeFault::Socket => b"plandesk: serve: SocketFault\n",
+        ServeFault::Output => b"plandesk: serve: WriteFault\n",
+    }
+}
+
+/// The status that goes with it.
+pub fn fault_status(fault: ServeFault) -> Status
+    ensures { result ≡ status_of_fault fault }
+{
+    match fault {
+        ServeFault::Store(fault) => store_status(fault),
+        ServeFault::Socket | ServeFault::Output => Status::Stream,
+    }
+}

@@ -1,0 +1,83 @@
+//! A clerk's desk, served at the seats of an office.
+ghost use Rattle.std.specs.Prelude.{◌≡◌, ◌≤◌, IfOk};
+ghost use Rattle.desk_clerk.specs.Clerks.{desk_of, Keeps};
+
+use desk_catalogue::catalogue::Catalogue;
+use desk_clerk::clerk::Clerk;
+use desk_gallery::book::{Opened, Room};
+use desk_gallery::gallery::{Gallery, GalleryFault};
+use desk_gallery::office::Office;
+use desk_model::gate::NoGate;
+use http_seats::many::{Arrivals, serve_many};
+use sector_device::SectorDevice;
+use std::alloc::{AllocError, Global};
+use std::marker::Brand;
+use std::sync::{Arc, Wait};
+use std::thread::Threads;
+
+/// Serves what a clerk keeps at the seats of so many workers, until no further stream comes: the clerk as it then is.
+fn serve_named<
+    J: Room + Send + Sync,
+    D: SectorDevice + Drop + Send + Sync,
+    A: Arrivals + Sync,
+    R: Threads + Wait + Sync,
+>(
+    rt: &R,
+    alloc: Global,
+    opened: Opened,
+    clerk: Clerk<D>,
+    catalogue: Arc<Catalogue>,
+    workers: u16,
+    arrivals: &A,
+) -> Result<Clerk<D>, AllocError>
+    requires book { opened.seen.book ≡ J.book }
+    requires first { catalogue.value ≡ J.first }
+    requires same { desk_of clerk ≡ J.first }
+    requires kept { J.sound → Keeps clerk }
+    requires workers { 1 ≤ workers }
+    ensures { IfOk result (λ last. J.sound → Keeps last) }
+{
+    let (shower, visitors) = match Gallery::new::<J>(alloc, opened, catalogue, workers as usize) {
+        Ok(gallery) => gallery,
+        Err(GalleryFault::Memory) => return Err(AllocError),
+        Err(GalleryFault::Refused(shower)) => {
+            shower.close(rt);
+            return Err(AllocError);
+        }
+    };
+    let office = Office::new(clerk, shower);
+    let ran = serve_many(rt, alloc, &office, visitors, arrivals, &NoGate);
+    let last = office.close(rt);
+    match ran {
+        Ok(_) => Ok(last),
+        Err(e) => Err(e),
+    }
+}
+
+/// Serves what a clerk keeps by so many workers, until no further stream comes: the clerk as it then is. Err where memory is refused,
+/// and then nothing was served.
+pub fn serve_clerk<
+    D: SectorDevice + Drop + Send + Sync,
+    A: Arrivals + Sync,
+    R: Threads + Wait + Sync,
+>(
+    rt: &R,
+    alloc: Global,
+    clerk: Clerk<D>,
+    workers: u16,
+    arrivals: &A,
+) -> Result<Clerk<D>, AllocError>
+    requires { 1 ≤ workers }
+    ensures { IfOk result (λ last. Keeps clerk → Keeps last) }
+{
+    let catalogue = clerk.published()?;
+    serve_named::<Brand, _, _, _>(
+        rt,
+        alloc,
+        Opened::new(),
+        clerk,
+        catalogue,
+        workers,
+        arrivals,
+    )
+}

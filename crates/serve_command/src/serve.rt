@@ -1,0 +1,132 @@
+//! `serve`: a store is served to connections.
+ghost use Rattle.std.specs.Prelude.{◌≡◌, ◌≤◌};
+ghost use Rattle.desk_clerk.specs.Clerks.{is_halted};
+ghost use Rattle.told_lines.specs.Writing.{written_of};
+ghost use Rattle.serve_command.specs.Serving.{end_of, OpensStore, Announces, Serves, EndsServing};
+
+use crate::fault::{ServeFault, fault_line, fault_status};
+use crate::office::serve_clerk;
+use crate::texts::listening_text;
+use byte_stream::sink::Sink;
+use desk_clerk::clerk::Clerk;
+use desk_words::options::Serving;
+use exit_status::status::Status;
+use http_seats::listening::Listens;
+use sector_device::SectorDevice;
+use std::alloc::Global;
+use std::sync::Wait;
+use std::thread::Threads;
+use store_command::fault::StoreFault;
+use store_command::filling::open_clerk;
+use store_command::stores::Stores;
+use told_lines::telling::send_line;
+
+/// The clerk who opens the store of a name.
+fn open_store<D: SectorDevice + Drop, O: Stores<D>>(
+    alloc: Global,
+    stores: &mut O,
+    name: &str,
+) -> Result<Clerk<D>, StoreFault>
+    ensures { OpensStore D.SectorDevice O.opens stores.old name.now result stores.new }
+{
+    let device = match stores.open(name) {
+        Ok(device) => device,
+        Err(fault) => return Err(fault),
+    };
+    match open_clerk(alloc, device) {
+        Ok(clerk) => Ok(clerk),
+        Err(fault) => Err(fault),
+    }
+}
+
+/// What a run came to, by its last clerk and whether the socket failed.
+fn end_run<D: SectorDevice>(last: &Clerk<D>, has_failed: bool) -> Result<(), ServeFault>
+    ensures { result ≡ end_of (is_halted last.now) has_failed }
+{
+    if last.halted() {
+        return Err(ServeFault::Store(StoreFault::DeviceFault));
+    }
+    if has_failed {
+        return Err(ServeFault::Socket);
+    }
+    Ok(())
+}
+
+/// Opens a store, prints that it is served, and serves it until no further connection comes.
+fn serve_store<
+    D: SectorDevice + Drop + Send + Sync,
+    O: Stores<D>,
+    A: Listens + Sync,
+    W: Sink,
+    R: Threads + Wait + Sync,
+>(
+    rt: &R,
+    alloc: Global,
+    stores: &mut O,
+    name: &str,
+    serving: Serving,
+    listening: &A,
+    writer: &mut W,
+) -> Result<(), ServeFault>
+    requires { 1 ≤ serving.workers }
+    ensures { Announces D.SectorDevice O.opens serving.port stores.old name.now result stores.new (written_of W.contents W.failures writer.old) (written_of W.contents W.failures writer.new) }
+{
+    let Ok(text) = listening_text(alloc, serving.port) else {
+        return Err(ServeFault::Store(StoreFault::Memory));
+    };
+    let clerk = match open_store(alloc, stores, name) {
+        Ok(clerk) => clerk,
+        Err(fault) => return Err(ServeFault::Store(fault)),
+    };
+    match writer.send(text.as_slice()) {
+        Ok(()) => {}
+        Err(_) => return Err(ServeFault::Output),
+    }
+    match serve_clerk(rt, alloc, clerk, serving.workers, listening) {
+        Ok(last) => end_run(&last, listening.has_failed()),
+        Err(_) => Err(ServeFault::Store(StoreFault::Memory)),
+    }
+}
+
+/// Serves the store of a name to the connections that come: 0 once no further one comes. 4 where the store is refused or its device
+/// fails, 5 where memory is refused, and 6 where no socket listens or standard output fails, with the fault told. The line that says
+/// where it listens is printed once the store is open.
+pub fn serve<
+    D: SectorDevice + Drop + Send + Sync,
+    O: Stores<D>,
+    A: Listens + Sync,
+    W: Sink,
+    E: Sink,
+    R: Threads + Wait + Sync,
+>(
+    rt: &R,
+    alloc: Global,
+    stores: &mut O,
+    name: &str,
+    serving: Serving,
+    listening: Option<&A>,
+    writer: &mut W,
+    errors: &mut E,
+) -> Status
+    requires { 1 ≤ serving.workers }
+    ensures { Serves D.SectorDevice O.opens serving.port stores.old name.now result stores.new (written_of W.contents W.failures writer.old) (written_of W.contents W.failures writer.new) (written_of E.contents E.failures errors.old) (written_of E.contents E.failures errors.new) }
+{
+    let ended = match listening {
+        Some(listening) => serve_store(rt, alloc, stores, name, serving, listening, writer),
+        None => Err(ServeFault::Socket),
+    };
+    end_serving(ended, errors)
+}
+
+/// The status of a run, whose fault is told.
+fn end_serving<E: Sink>(ended: Result<(), ServeFault>, errors: &mut E) -> Status
+    ensures { EndsServing ended result (written_of E.contents E.failures errors.old) (written_of E.contents E.failures errors.new) }
+{
+    match ended {
+        Ok(()) => Status::Done,
+        Err(fault) => {
+            send_line(errors, fault_line(fault));
+            fault_status(fault)
+        }
+    }
+}
