@@ -1,5 +1,5 @@
-// The plain counterpart of `plandesk load` for bench/load alone: the same pages at the same places of the file, with the same syncs
-// between them, as strace noted them of a load; and nothing else of a load.
+// The plain counterpart of `plandesk load` and of `plandesk sweep`, for bench/load and bench/sweep alone: the same pages at the same places of the file, with the same syncs
+// between them, as strace noted them; and nothing else of it.
 use std::env;
 use std::fs::{OpenOptions, read_to_string};
 use std::os::unix::fs::FileExt;
@@ -40,5 +40,5 @@ fn main() {
             }
         }
     }
-    println!("{:.2} {writes} {syncs}", start.elapsed().as_secs_f64());
+    println!("{:.3} {writes} {syncs}", start.elapsed().as_secs_f64());
 }

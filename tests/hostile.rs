@@ -1,15 +1,18 @@
 //! Hostile bytes, made from worked ones: streams into `talk`, and files into `check`. Each is cut, doubled, spliced with another,
 //! or has bytes, sizes, names or line ends changed. It is given whole, from a file, and again one byte at a time, through a pipe
 //! that keeps its packets apart. Both runs have to end with a status that is named, without a signal, with the same bytes on
-//! standard output and standard error, and within the same bound of memory.
+//! standard output and standard error, and within the same bound of memory. A part of the streams is sent to a served store too, each
+//! by a connection of its own, four at a time: the server has to end by itself, with nothing told, within that bound.
 //!
 //! hostile PROGRAM EXAMPLE STREAMS FILES SEED: EXAMPLE is the folder of the sample's files.
 use std::fs::{self, File};
-use std::io::{Read, Seek, SeekFrom, Write};
+use std::io::{BufRead, BufReader, ErrorKind, Read, Seek, SeekFrom, Write};
+use std::net::{Shutdown, TcpListener, TcpStream};
 use std::os::fd::{FromRawFd, OwnedFd};
 use std::path::{Path, PathBuf};
 use std::process::{Command, Stdio};
 use std::sync::atomic::{AtomicU64, AtomicUsize, Ordering};
+use std::time::Duration;
 
 /// The most memory that a run may hold, in kilobytes: the buffers, the store in memory, and a body of the size of a stream.
 const MEMORY: u64 = 65_536;
@@ -47,6 +50,15 @@ impl Numbers {
     fn of<'a, T: ?Sized>(&mut self, list: &'a [&'a T]) -> &'a T {
         list[self.below(list.len())]
     }
+}
+
+/// The numbers of the k-th of the inputs.
+fn numbers_of(seed: u64, k: usize) -> Numbers {
+    let mut numbers = Numbers((seed << 32) + 2 * k as u64 + 1);
+    for _ in 0..4 {
+        numbers.next();
+    }
+    numbers
 }
 
 const COUNTY: &str = "BLOCKID|DISTRICT\n190010001001001|01\n190010001001002|01\n190030001001001|02\n190030001001002|02\n";
@@ -293,6 +305,66 @@ fn check_words(example: &str, place: usize) -> Vec<String> {
     words
 }
 
+/// Sends the bytes by a connection, in pieces of that size, and reads what comes until its end: whether there was an answer.
+fn send(port: u16, bytes: &[u8], piece: usize) -> bool {
+    let mut client = TcpStream::connect(("127.0.0.1", port)).unwrap();
+    client.set_nodelay(true).unwrap();
+    client.set_read_timeout(Some(Duration::from_secs(60))).unwrap();
+    // a server that has its answer may stop reading, and what it didn't read ends the connection
+    let _ = bytes.chunks(piece).try_for_each(|piece| client.write_all(piece));
+    let _ = client.shutdown(Shutdown::Write);
+    let mut got = Vec::new();
+    if let Err(e) = client.read_to_end(&mut got) {
+        assert!(!matches!(e.kind(), ErrorKind::WouldBlock | ErrorKind::TimedOut), "no end after {bytes:?}");
+    }
+    got.starts_with(b"HTTP/1.1 ")
+}
+
+/// Sends so many streams to a store with the sample's state, the worked requests as they are where there is no seed: the most memory
+/// that the server held, in kilobytes.
+fn serve(program: &str, example: &str, streams: usize, seed: Option<u64>, requests: &[Vec<u8>]) -> u64 {
+    // in memory, where there is such a folder: a sync of a file on a disk takes long
+    let parent = Some(PathBuf::from("/dev/shm")).filter(|p| p.is_dir()).unwrap_or_else(std::env::temp_dir);
+    let folder = parent.join(format!("hostile-{}", std::process::id()));
+    fs::create_dir_all(&folder).unwrap();
+    let store = folder.join("store").to_str().unwrap().to_string();
+    let ends_well = |words: &[&str]| assert!(Command::new(program).args(words).stdout(Stdio::null()).status().unwrap().success(), "{words:?}");
+    ends_well(&["format", &store, "--sectors", "2000", "--journal", "256"]);
+    let mut words: Vec<String> = vec!["load".to_string(), store.clone()];
+    words.extend(NAMES[..5].iter().flat_map(|(word, name)| [word.to_string(), format!("{example}/{name}")]));
+    ends_well(&words.iter().map(String::as_str).collect::<Vec<_>>());
+    let port = TcpListener::bind(("127.0.0.1", 0)).unwrap().local_addr().unwrap().port();
+    let mut errors = open(&folder.join("errors"));
+    let mut child = Command::new(program).args(["serve", &store, "--port", &port.to_string(), "--workers", "4", "--connections", &streams.to_string()])
+        .stdout(Stdio::piped()).stderr(errors.try_clone().unwrap()).spawn().unwrap();
+    let mut said = BufReader::new(child.stdout.take().unwrap());
+    let mut line = String::new();
+    said.read_line(&mut line).unwrap();
+    assert_eq!(line, format!("listening on 127.0.0.1:{port}\n"));
+    let (next, answered) = (AtomicUsize::new(0), AtomicUsize::new(0));
+    std::thread::scope(|scope| {
+        for _ in 0..4 {
+            scope.spawn(|| loop {
+                let k = next.fetch_add(1, Ordering::SeqCst);
+                if k >= streams {
+                    break;
+                }
+                let mut numbers = numbers_of(seed.unwrap_or(0), k);
+                let bytes = if seed.is_some() { stream(&mut numbers, requests) } else { requests.concat() };
+                let piece = if k % 2 == 0 { bytes.len().max(1) } else { 1 + numbers.below(64) };
+                answered.fetch_add(send(port, &bytes, piece) as usize, Ordering::SeqCst);
+            });
+        }
+    });
+    assert!(2 * answered.into_inner() >= streams);
+    let (mut status, mut usage) = (0, Usage::default());
+    assert_eq!(unsafe { wait4(child.id() as i32, &mut status, 0, &mut usage) }, child.id() as i32);
+    let told = String::from_utf8(read(&mut errors)).unwrap();
+    assert!(status == 0 && told.is_empty() && usage.peak as u64 <= MEMORY, "serve: status {status}, {} KB: {told}", usage.peak);
+    fs::remove_dir_all(&folder).unwrap();
+    usage.peak as u64
+}
+
 fn main() {
     let words: Vec<String> = std::env::args().collect();
     let [_, program, example, streams, files, seed] = words.as_slice() else { panic!("hostile PROGRAM EXAMPLE STREAMS FILES SEED") };
@@ -315,10 +387,7 @@ fn main() {
                     peak.fetch_max(room.peak, Ordering::SeqCst);
                     break;
                 }
-                let mut numbers = Numbers((seed << 32) + 2 * k as u64 + 1);
-                for _ in 0..4 {
-                    numbers.next();
-                }
+                let mut numbers = numbers_of(seed, k);
                 let status = if k < streams {
                     room.both(program, [talk, talk], &stream(&mut numbers, requests), &[0])
                 } else {
@@ -337,7 +406,12 @@ fn main() {
     let counts: Vec<usize> = told.iter().map(|n| n.load(Ordering::SeqCst)).collect();
     // files that are all refused, or none of which is, would show little
     assert!(files < 600 || counts[0] > streams && counts[3] > files / 4, "{counts:?}");
+    let mut calm = Room::new(folder.join("calm"));
+    calm.run(program, &talk, &requests.concat(), true);
     fs::remove_dir_all(&folder).unwrap();
-    println!("{streams} streams and {files} files, each whole and byte by byte: {} ended with 0, {} with 1, {} with 3; at most {} KB",
-        counts[0], counts[1], counts[3], peak.load(Ordering::SeqCst));
+    println!("{streams} streams and {files} files, each whole and byte by byte: {} ended with 0, {} with 1, {} with 3; at most {} KB, the worked requests {}",
+        counts[0], counts[1], counts[3], peak.load(Ordering::SeqCst), calm.peak);
+    let connections = streams.div_ceil(4);
+    println!("{connections} of the streams served: at most {} KB, the worked requests {}",
+        serve(program, example, connections, Some(seed), &requests), serve(program, example, 4, None, &requests));
 }

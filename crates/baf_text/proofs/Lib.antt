@@ -4,6 +4,7 @@ mod Faulty
 mod Listing
 mod Printing
 mod Rows
+mod Spans
 mod Taken
 mod Values
 pub mod WholeLemmas

@@ -1,5 +1,5 @@
 -- The blocks that a text lists, and a text's fault.
-use Rattle.std.specs.Prelude.{◌≡◌, ℕ, List, map, length, slice_set, Option, Some, Result, Ok, Err, IsOkAnd, if◌then◌else◌, ◌==◌}
+use Rattle.std.specs.Prelude.{◌≡◌, ◌≢◌, ◌<◌, ◌≤◌, ◌+◌, ◌⊎◌, ℕ, List, map, length, get_or, slice_set, Option, Some, None, Result, Ok, Err, IsOkAnd, if◌then◌else◌, ◌==◌}
 use Rattle.desk_model.specs.declared.reply.BodyFault.{BodyFault}
 use Rattle.desk_model.specs.Baf.{Values, value_at, fields_of, line_read}
 use Rattle.desk_model.specs.Geography.{Ground, ids}
@@ -8,6 +8,10 @@ use Rattle.field_text.specs.Fields.{fields}
 -- the value of each block, rising: nothing where a block isn't listed
 abbrev pub listed_of : Ground → Values → List (Option ℕ)
 listed_of g values = map (value_at values) (ids g)
+
+-- nothing is listed before the first place, nor from the second one on
+unfoldable pub IsSpan : ℕ × ℕ → List (Option ℕ) → Type 0
+IsSpan span listed = (k : ℕ) → (k < span.0) ⊎ (span.1 ≤ k) → get_or listed k None ≡ None
 
 -- what a line without its end makes of the values before it
 abbrev pub line_result : Ground → ℕ → Values → List ℕ → Result Values BodyFault
@@ -23,3 +27,7 @@ IsEntry g n so_far line listed (Err fault) = line_read g n so_far (fields_of (fi
 abbrev pub IsLineTaken : Ground → ℕ → Values → List ℕ → Result ℕ BodyFault → List (Option ℕ) → Type 0
 IsLineTaken g n so_far line (Ok place) new = IsOkAnd (line_result g n so_far line) (λ values. new ≡ listed_of g values)
 IsLineTaken g n so_far line (Err fault) new = line_result g n so_far line ≡ Err fault
+
+-- what is listed is the same but at the place before another one
+unfoldable pub AreOthers : ℕ → List (Option ℕ) → List (Option ℕ) → Type 0
+AreOthers next old new = (k : ℕ) → k + 1 ≢ next → get_or new k None ≡ get_or old k None

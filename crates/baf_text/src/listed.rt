@@ -1,5 +1,6 @@
 //! The blocks that a block assignment file lists.
 ghost use Rattle.std.specs.Prelude.{◌≡◌, map, unwrap_or, IfOk};
+ghost use Rattle.baf_text.specs.Listed.{IsSpan};
 
 use std::alloc::{AllocError, Global};
 use std::marker::Model;
@@ -9,21 +10,26 @@ use std::marker::Model;
 #[derive(Drop)]
 pub struct Listed {
     districts: Vec<Option<u16>>,
+    span: (usize, usize),
 }
 
 impl Model for Listed {
     ghost use Rattle.std.specs.Prelude.{List, Option, ℕ};
+    ghost use Rattle.baf_text.specs.Listed.{IsSpan};
 
     ghost Value = { List (Option ℕ) };
 
     ghost view = { λ a. a.districts.items };
+
+    ghost invariant = { λ a. IsSpan a.span a.districts.items };
 }
 
 impl Listed {
-    pub(crate) fn from_vec(districts: Vec<Option<u16>>) -> Listed
+    pub(crate) fn from_vec(districts: Vec<Option<u16>>, span: (usize, usize)) -> Listed
+        requires { IsSpan span districts.items }
         ensures { result ≡ districts.items }
     {
-        Listed { districts }
+        Listed { districts, span }
     }
 
     /// The district of each block, in the order of the blocks.
@@ -31,6 +37,13 @@ impl Listed {
         ensures { result.now ≡ self.now }
     {
         self.districts.as_slice()
+    }
+
+    /// Two places: no block before the first, or from the second on, is listed.
+    pub fn span(&self) -> (usize, usize)
+        ensures { IsSpan result self.now }
+    {
+        self.span
     }
 }
 

@@ -1,7 +1,7 @@
 //! Reading a block assignment file.
-ghost use Rattle.std.specs.Prelude.{◌≡◌, ◌<◌, map, length, IfOk, IfErr, IsOkAnd};
+ghost use Rattle.std.specs.Prelude.{◌≡◌, ◌<◌, ℕ, List, Option, map, length, IfOk, IfErr, IsOkAnd};
 ghost use Rattle.desk_model.specs.Baf.{Values, body_read, in_range};
-ghost use Rattle.baf_text.specs.Listed.{listed_of, IsEntry, IsLineTaken};
+ghost use Rattle.baf_text.specs.Listed.{listed_of, AreOthers, IsEntry, IsLineTaken, IsSpan};
 ghost use Rattle.baf_text.specs.Faults.{IsFaultOf};
 ghost use Rattle.baf_text.specs.declared.reading.BafFault.TheVariants.{Memory};
 
@@ -72,6 +72,7 @@ fn entry_of(
 }
 
 /// Enters a line into the list, and gives the place after its block.
+#[tactic(auto, unfolding(crate::specs::Listed::AreOthers))]
 fn take_line(
     listed: &mut [Option<u16>],
     geography: &Geography,
@@ -80,8 +81,9 @@ fn take_line(
     likely: usize,
 ) -> Result<usize, BodyFault>
     requires { length listed.old ≡ length geography.now.blocks }
-    ensures { (so_far : Values) → listed.old ≡ listed_of geography.now so_far
+    ensures taken { (so_far : Values) → listed.old ≡ listed_of geography.now so_far
         → IsLineTaken geography.now n so_far line.now result listed.new }
+    ensures others { IfOk result (λ next. AreOthers next listed.old listed.new) }
 {
     if line.is_empty() {
         return Ok(likely);
@@ -93,6 +95,20 @@ fn take_line(
         }
         Err(fault) => Err(fault),
     }
+}
+
+/// The places between which blocks are listed, with the one before `next` among them.
+#[tactic(auto, unfolding(crate::specs::Listed::IsSpan, crate::specs::Listed::AreOthers))]
+fn spanned(span: (usize, usize), next: usize) -> (usize, usize)
+    ensures { (old new : List (Option ℕ)) → IsSpan span old → AreOthers next old new → IsSpan result new }
+{
+    let first = if next <= span.0 {
+        next.saturating_sub(1)
+    } else {
+        span.0
+    };
+    let end = if next > span.1 { next } else { span.1 };
+    (first, end)
 }
 
 /// The list in which no block is listed.
@@ -121,10 +137,14 @@ pub fn read(alloc: Global, bytes: &[u8], geography: &Geography, n: u16) -> Resul
         }
     }
     let mut districts = none_listed(alloc, geography)?;
+    let mut span = (districts.len(), 0);
     let mut likely = 0;
     while let Some(line) = lines.next_line() {
         match take_line(&mut districts, geography, n, line.bytes, likely) {
-            Ok(next) => likely = next,
+            Ok(next) => {
+                span = spanned(span, next);
+                likely = next;
+            }
             Err(code) => {
                 return Err(BafFault::Body {
                     code,
@@ -133,5 +153,5 @@ pub fn read(alloc: Global, bytes: &[u8], geography: &Geography, n: u16) -> Resul
             }
         }
     }
-    Ok(Listed::from_vec(districts))
+    Ok(Listed::from_vec(districts, span))
 }

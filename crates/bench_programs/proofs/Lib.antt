@@ -1,1 +1,2 @@
 mod Consecutive
+pub mod ByCounty

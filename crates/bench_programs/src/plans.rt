@@ -54,7 +54,7 @@ fn posted(alloc: Global, plans: &Plans, name: &PlanName) -> Option<Plans> {
         return None;
     }
     let districts = vec![in alloc; 1; BLOCKS].ok()?;
-    let entry = entry.revised(alloc, districts).ok()?;
+    let entry = entry.revised(alloc, &districts).ok()?;
     plans.replace(alloc, entry).ok()
 }
 

@@ -16,20 +16,26 @@ use Rattle.page_btree.specs.Seeking.{bound_in, IsNext, IsFrom}
 use Rattle.page_btree.specs.declared.seeks.Leaf.{Leaf}
 use Rattle.page_btree.specs.declared.error.TreeError.{TreeError}
 use Rattle.page_btree.specs.declared.error.TreeError.TheVariants.{DeviceFault, Halted, NoPages, TooDeep, Memory}
-use Rattle.btree_scan.specs.Prefixes.{under, AllFrom, under_from, none_under, rises_from_key, all_from_key, head_rises}
-use Rattle.btree_scan.specs.Scanning.{IsReady, IsStep, IsTakenRow, ScanErr}
+use Rattle.btree_scan.specs.Prefixes.{under, AllFrom, AllUnder, under_from, none_under, rises_from_key, all_from_key, head_rises, all_between, front_from, below_bound}
+use Rattle.btree_scan.specs.Scanning.{IsReady, IsWithin, IsStep, IsTakenRow, ScanErr}
 use Rattle.btree_scan.specs.declared.rows.Row.{Row}
 
 true_is : (b : Bool) → T b → b ≡ true
 true_is true h = refl
 true_is false h = absurd h
 
+not_covered : {A : Type 0} → false ≡ true → A
+not_covered e = absurd (no e)
+  where
+    no : false ≡ true → ⊥
+    no e = cc
+
 no_rows : (es : List Entry) → length es ≡ 0 → es ≡ []
 no_rows [] none = refl
 no_rows (e ∷ es) none = absurd (omega arith)
 
 -- a scan's beginning
-pub ready_new : (prefix : List ℕ) (m : KeyMap) (held : Leaf) → held.at ≡ 0 → held.left ≡ 0 → bound_in held ≡ Some prefix → IsReady prefix held (entries m) (under prefix (entries m))
+pub ready_new : (prefix : List ℕ) (m : KeyMap) (held : Leaf) → held.at ≡ 0 → held.left ≡ 0 → bound_in held ≡ Some prefix → IsReady false prefix held (entries m) (under prefix (entries m))
 ready_new prefix m held at left bound = record {
   here = [];
   behind = entries_from prefix (entries m);
@@ -39,24 +45,26 @@ ready_new prefix m held at left bound = record {
   rest_are = sym (under_from prefix (entries m));
   rises = rises_from_key prefix (entries m) (true_is _ (entries_sorted m));
   from = all_from_key prefix (entries m);
+  covers = λ covered. not_covered covered;
 }
 
 -- no row is left
-none_left : (prefix : List ℕ) (held : Leaf) (all rest : List Entry) (is : IsReady prefix held all rest) → held.left ≡ 0 → is.behind ≡ [] → rest ≡ []
-none_left prefix held all rest is none last =
+none_left : (covered : Bool) (prefix : List ℕ) (held : Leaf) (all rest : List Entry) (is : IsReady covered prefix held all rest) → held.left ≡ 0 → is.behind ≡ [] → rest ≡ []
+none_left covered prefix held all rest is none last =
     let here : is.here ≡ [] = no_rows is.here (sym is.left_is ∙ none) in
     is.rest_are ∙ (λ i. under prefix (here i ++ last i))
 
-pub ready_last : (prefix : List ℕ) (held : Leaf) (all rest : List Entry) → IsReady prefix held all rest → bound_in held ≡ None → held.left ≡ 0 → rest ≡ []
-ready_last prefix held all rest is bound none = none_left prefix held all rest is none (subst (λ (b : Option (List ℕ)). IsNext b all is.behind) bound is.next)
+pub ready_last : (covered : Bool) (prefix : List ℕ) (held : Leaf) (all rest : List Entry) → IsReady covered prefix held all rest → bound_in held ≡ None → held.left ≡ 0 → rest ≡ []
+ready_last covered prefix held all rest is bound none = none_left covered prefix held all rest is none (subst (λ (b : Option (List ℕ)). IsNext b all is.behind) bound is.next)
 
 -- the next leaf is read
-pub ready_read : (prefix b : List ℕ) (old held : Leaf) (all rest : List Entry) → IsReady prefix old all rest → old.left ≡ 0 → bound_in old ≡ Some b → IsFrom b all held → IsReady prefix held all rest × (held.left ≡ 0 → rest ≡ [])
-ready_read prefix b old held all rest is none bound there =
+pub ready_read : (was now : Bool) (prefix b : List ℕ) (old held : Leaf) (all rest : List Entry) → IsReady was prefix old all rest → old.left ≡ 0 → bound_in old ≡ Some b → IsFrom b all held → (now ≡ true → IsWithin prefix held) → IsReady now prefix held all rest × (held.left ≡ 0 → rest ≡ [])
+ready_read was now prefix b old held all rest is none bound there within =
     let here : is.here ≡ [] = no_rows is.here (sym is.left_is ∙ none) in
     let behind : is.behind ≡ entries_from b all = subst (λ (c : Option (List ℕ)). IsNext c all is.behind) bound is.next in
     let same : is.here ++ is.behind ≡ there.here ++ there.behind = (λ i. here i ++ behind i) ∙ there.rows_are in
-    let ready : IsReady prefix held all rest = record {
+    let from : AllFrom prefix (there.here ++ there.behind) = subst (λ (es : List Entry). AllFrom prefix es) same is.from in
+    let ready : IsReady now prefix held all rest = record {
       here = there.here;
       behind = there.behind;
       ahead = there.ahead;
@@ -64,29 +72,34 @@ ready_read prefix b old held all rest is none bound there =
       next = there.next;
       rest_are = is.rest_are ∙ ap (under prefix) same;
       rises = subst (λ (es : List Entry). Rises es) same is.rises;
-      from = subst (λ (es : List Entry). AllFrom prefix es) same is.from;
+      from = from;
+      covers = λ covered.
+          let w = within covered in
+          all_between prefix w.0 there.here (front_from prefix there.here there.behind from) (below_bound w.0 b all there.here there.behind there.rows_are (subst (λ (c : Option (List ℕ)). IsNext c all there.behind) w.1 there.next)) w.2;
     } in
-    (ready, λ nothing. none_left prefix held all rest ready nothing (there.some nothing))
+    (ready, λ nothing. none_left now prefix held all rest ready nothing (there.some nothing))
 
 -- a row is taken
-pub record IsHead (prefix : List ℕ) (held : Leaf) (all rest : List Entry) : Type 0 where
+pub record IsHead (covered : Bool) (prefix : List ℕ) (held : Leaf) (all rest : List Entry) : Type 0 where
   pub e : Entry
   pub es : List Entry
   pub ahead : IsAhead held.page held.at (e ∷ es)
-  pub goes : starts_with nat_eq e.0 prefix ≡ true → (next : Leaf) → IsAhead next.page next.at es → next.left + 1 ≡ held.left → bound_in next ≡ bound_in held → (more : List Entry) × (rest ≡ e ∷ more) × IsReady prefix next all more
+  pub goes : starts_with nat_eq e.0 prefix ≡ true → (next : Leaf) → IsAhead next.page next.at es → next.left + 1 ≡ held.left → bound_in next ≡ bound_in held → (more : List Entry) × (rest ≡ e ∷ more) × IsReady covered prefix next all more
+  pub on : covered ≡ true → starts_with nat_eq e.0 prefix ≡ true
   pub ends : starts_with nat_eq e.0 prefix ≡ false → rest ≡ []
 
-pub head_of : (prefix : List ℕ) (held : Leaf) (all rest : List Entry) → IsReady prefix held all rest → 0 < held.left → IsHead prefix held all rest
-head_of prefix held all rest is some = by is.here is.left_is is.ahead is.rest_are is.rises is.from
+pub head_of : (covered : Bool) (prefix : List ℕ) (held : Leaf) (all rest : List Entry) → IsReady covered prefix held all rest → 0 < held.left → IsHead covered prefix held all rest
+head_of covered prefix held all rest is some = by is.here is.left_is is.ahead is.rest_are is.rises is.from is.covers
   where
-    by : (here : List Entry) → held.left ≡ length here → IsAhead held.page held.at here → rest ≡ under prefix (here ++ is.behind) → Rises (here ++ is.behind) → AllFrom prefix (here ++ is.behind) → IsHead prefix held all rest
-    by [] left ahead rest_are rises from = absurd (omega arith)
-    by (e ∷ es) left ahead rest_are rises from =
+    by : (here : List Entry) → held.left ≡ length here → IsAhead held.page held.at here → rest ≡ under prefix (here ++ is.behind) → Rises (here ++ is.behind) → AllFrom prefix (here ++ is.behind) → (covered ≡ true → AllUnder prefix here) → IsHead covered prefix held all rest
+    by [] left ahead rest_are rises from covers = absurd (omega arith)
+    by (e ∷ es) left ahead rest_are rises from covers =
         let parts = head_rises e (es ++ is.behind) rises in
         record {
           e = e;
           es = es;
           ahead = ahead;
+          on = λ c. (covers c).0;
           goes = λ on next there less bound. (
             under prefix (es ++ is.behind),
             rest_are ∙ ap (λ (b : Bool). cond b (e ∷ under prefix (es ++ is.behind)) (under prefix (es ++ is.behind))) on,
@@ -99,17 +112,22 @@ head_of prefix held all rest is some = by is.here is.left_is is.ahead is.rest_ar
               rest_are = refl;
               rises = parts.1;
               from = from.1;
+              covers = λ c. (covers c).1;
             },
           );
           ends = λ off. rest_are ∙ ap (λ (b : Bool). cond b (e ∷ under prefix (es ++ is.behind)) (under prefix (es ++ is.behind))) off ∙ none_under prefix e (es ++ is.behind) from.0 off parts.0;
         }
 
-pub step_of : (prefix : List ℕ) (held next : Leaf) (row : Row) (all rest : List Entry) (h : IsHead prefix held all rest) (found : Bool) → IsTakenRow h.e h.es row next → next.left + 1 ≡ held.left → bound_in next ≡ bound_in held → found ≡ starts_with nat_eq row.key prefix → IsStep found prefix next row all rest
-step_of prefix held next row all rest h true taken less bound is =
+pub step_of : (covered : Bool) (prefix : List ℕ) (held next : Leaf) (row : Row) (all rest : List Entry) (h : IsHead covered prefix held all rest) (found : Bool) → IsTakenRow h.e h.es row next → next.left + 1 ≡ held.left → bound_in next ≡ bound_in held → found ≡ starts_with nat_eq row.key prefix → IsStep found covered prefix next row all rest
+step_of covered prefix held next row all rest h true taken less bound is =
     let on : starts_with nat_eq h.e.0 prefix ≡ true = ap (λ (k : List ℕ). starts_with nat_eq k prefix) (sym taken.key_is) ∙ sym is in
     let g = h.goes on next taken.ahead less bound in
     (g.0, g.1 ∙ (λ i. (sym taken.key_is i, sym taken.value_is i) ∷ g.0), g.2)
-step_of prefix held next row all rest h false taken less bound is = h.ends (ap (λ (k : List ℕ). starts_with nat_eq k prefix) (sym taken.key_is) ∙ sym is)
+step_of covered prefix held next row all rest h false taken less bound is = h.ends (ap (λ (k : List ℕ). starts_with nat_eq k prefix) (sym taken.key_is) ∙ sym is)
+
+-- the row of a covered leaf
+pub covered_step : (covered : Bool) (prefix : List ℕ) (held next : Leaf) (row : Row) (all rest : List Entry) (h : IsHead covered prefix held all rest) → covered ≡ true → IsTakenRow h.e h.es row next → next.left + 1 ≡ held.left → bound_in next ≡ bound_in held → IsStep true covered prefix next row all rest
+covered_step covered prefix held next row all rest h is taken less bound = step_of covered prefix held next row all rest h true taken less bound (sym (ap (λ (k : List ℕ). starts_with nat_eq k prefix) taken.key_is ∙ h.on is))
 
 -- ---- results
 pub ok_if : {T E : Type 0} (r : Result T E) (A B : Type 0) → (A → B) → OnOk r A → OnOk r B

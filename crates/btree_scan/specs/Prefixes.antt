@@ -1,5 +1,5 @@
 -- Keys that begin with a prefix, in the order of keys.
-use Rattle.std.proofs.Common.{◌≡◌, ◌⊎◌, ◌<◌, inl, inr, ℕ, List, [], ◌∷◌, Bool, true, false, cond, ◌&&◌, nat_eq, refl, sym, ap, subst, ◌∙◌, arith}
+use Rattle.std.proofs.Common.{◌≡◌, ◌⊎◌, ◌<◌, ◌≤◌, inl, inr, ℕ, List, [], ◌∷◌, ◌++◌, length, length-append, Bool, true, false, cond, ◌&&◌, nat_eq, refl, sym, ap, subst, ◌∙◌, arith}
 use Rattle.std.specs.Prelude.{Option, Some}
 use Rattle.std.specs.List.{filter, starts_with, AllByRecursion}
 use Rattle.std.specs.Ordering.{nat_cmp, is_gt, is_lt, is_eq, ordering_then, eq_by_cmp}
@@ -9,10 +9,11 @@ use Rattle.std.specs.declared.cmp.Ordering.TheVariants.{Less, Equal, Greater}
 use Rattle.std.specs.FinMap.{find, is_sorted}
 use Rattle.std.specs.FinMap.Entries.{below_all}
 use Rattle.std.proofs.lemmas.Bool.{eqb-true}
+use Rattle.std.proofs.lemmas.List.Elements.{filter-append}
 use Rattle.std.proofs.lemmas.Bool.Decides.{nat_tests}
 use Rattle.page_node.specs.Entries.{Entry}
 use Rattle.page_node.specs.Places.{key_cmp, Rises, is_from, entries_from}
-use Rattle.page_node.specs.Laws.{is_less, same_key}
+use Rattle.page_node.specs.Laws.{is_less, same_key, flip_greater}
 
 -- the rows whose keys begin with a prefix
 abbrev pub is_under : List ℕ → Entry → Bool
@@ -188,3 +189,65 @@ find_under prefix key (e ∷ es) on = elim (either (is_under prefix e)) [
       | inl same ↦ absurd (clash (is_under prefix e) (subst (λ (k : List ℕ). starts_with nat_eq k prefix ≡ true) (same_key key e.0 (tied (key_cmp key e.0) same)) on) off)
       | inr none ↦ none
     ]
+
+-- ---- a leaf whose rows are all under the prefix
+-- each of these is
+abbrev pub AllUnder : List ℕ → List Entry → Type 0
+AllUnder prefix es = AllByRecursion (λ e. is_under prefix e ≡ true) es
+
+-- none of these is from a key on
+abbrev AllBelow : List ℕ → List Entry → Type 0
+AllBelow key es = AllByRecursion (λ e. is_gt (key_cmp key e.0) ≡ true) es
+
+is_greater : (r : Ordering) → is_gt r ≡ true → r ≡ Greater
+is_greater Less h = cc
+is_greater Equal h = cc
+is_greater Greater h = refl
+
+-- a key from the prefix on, below one that begins with it, begins with it
+between_under : (prefix x bound : List ℕ) → is_gt (key_cmp prefix x) ≡ false → is_gt (key_cmp bound x) ≡ true → starts_with nat_eq bound prefix ≡ true → starts_with nat_eq x prefix ≡ true
+between_under prefix x bound from above on = elim (either (starts_with nat_eq x prefix)) [
+  | inl there ↦ there
+  | inr off ↦ absurd (clash (starts_with nat_eq bound prefix) on (none_above prefix x bound from off (flip_greater bound x (is_greater (key_cmp bound x) above))))
+]
+
+pub all_between : (prefix bound : List ℕ) (es : List Entry) → AllFrom prefix es → AllBelow bound es → starts_with nat_eq bound prefix ≡ true → AllUnder prefix es
+all_between prefix bound [] from below on = tt
+all_between prefix bound (e ∷ es) from below on = (between_under prefix e.0 bound from.0 below.0 on, all_between prefix bound es from.1 below.1 on)
+
+pub front_from : (prefix : List ℕ) (xs ys : List Entry) → AllFrom prefix (xs ++ ys) → AllFrom prefix xs
+front_from prefix [] ys from = tt
+front_from prefix (x ∷ xs) ys from = (from.0, front_from prefix xs ys from.1)
+
+from_all : (key : List ℕ) (es : List Entry) → AllFrom key es → entries_from key es ≡ es
+from_all key [] from = refl
+from_all key (e ∷ es) from = ap (λ (b : Bool). cond (cond b false true) (e ∷ entries_from key es) (entries_from key es)) from.0 ∙ ap (λ (l : List Entry). e ∷ l) (from_all key es from.1)
+
+fewer_from : (bound key : List ℕ) (es : List Entry) → length (entries_from bound (entries_from key es)) ≤ length (entries_from bound es)
+fewer_from bound key [] = omega arith
+fewer_from bound key (e ∷ es) =
+    let rest = fewer_from bound key es in
+    elim (is_from key e) as (λ b. length (entries_from bound (cond b (e ∷ entries_from key es) (entries_from key es))) ≤ length (cond (is_from bound e) (e ∷ entries_from bound es) (entries_from bound es))) [
+      | true ↦ elim (is_from bound e) as (λ b. length (cond b (e ∷ entries_from bound (entries_from key es)) (entries_from bound (entries_from key es))) ≤ length (cond b (e ∷ entries_from bound es) (entries_from bound es))) [ true ↦ omega arith | false ↦ rest ]
+      | false ↦ elim (is_from bound e) as (λ b. length (entries_from bound (entries_from key es)) ≤ length (cond b (e ∷ entries_from bound es) (entries_from bound es))) [ true ↦ omega arith | false ↦ rest ]
+    ]
+
+none_from : (bound : List ℕ) (es : List Entry) → length (entries_from bound es) ≡ 0 → AllBelow bound es
+none_from bound [] none = tt
+none_from bound (e ∷ es) none = by (is_gt (key_cmp bound e.0)) refl none (λ rest. none_from bound es rest)
+  where
+    by : (b : Bool) → is_gt (key_cmp bound e.0) ≡ b → length (cond (cond b false true) (e ∷ entries_from bound es) (entries_from bound es)) ≡ 0 → (length (entries_from bound es) ≡ 0 → AllBelow bound es) → AllBelow bound (e ∷ es)
+    by true is none more = (is, more none)
+    by false is none more = absurd (omega arith)
+
+-- of the rows from a key on those before the rows from a bound on are below that
+pub below_bound : (bound key : List ℕ) (all here behind : List Entry) → entries_from key all ≡ here ++ behind → behind ≡ entries_from bound all → AllBelow bound here
+below_bound bound key all here behind parts rest =
+    let few = fewer_from bound key all in
+    let split : entries_from bound (entries_from key all) ≡ entries_from bound here ++ entries_from bound behind = ap (entries_from bound) parts ∙ filter-append (is_from bound) here behind in
+    let same : entries_from bound behind ≡ behind = ap (entries_from bound) rest ∙ from_all bound (entries_from bound all) (all_from_key bound all) ∙ sym rest in
+    let sum = length-append (entries_from bound here) (entries_from bound behind) in
+    let a : length (entries_from bound (entries_from key all)) ≡ length (entries_from bound here ++ entries_from bound behind) = ap (λ (l : List Entry). length l) split in
+    let b : length (entries_from bound behind) ≡ length behind = ap (λ (l : List Entry). length l) same in
+    let c : length behind ≡ length (entries_from bound all) = ap (λ (l : List Entry). length l) rest in
+    none_from bound here (omega arith)

@@ -9,7 +9,7 @@ ghost use Rattle.btree_scan.specs.Parts.{row_at};
 
 use crate::parts::Parts;
 use page_btree::{Leaf, SmallBytes, TreeError};
-use page_node::bounds_in;
+use page_node::{Lengths, bounds_in};
 
 /// A row, held in place.
 #[derive(Drop)]
@@ -34,7 +34,7 @@ impl Row {
 }
 
 /// Takes the row before which a leaf stands, and stands behind it.
-pub(crate) fn take_row(leaf: &mut Leaf) -> Result<Parts, TreeError>
+pub(crate) fn take_row(leaf: &mut Leaf, last: &mut Lengths) -> Result<Parts, TreeError>
     requires { 0 < leaf.old.left }
     ensures taken { (e : Entry) (es : List Entry) → IsAhead leaf.old.page leaf.old.at (e ∷ es) → IfOk result (λ parts. IsTakenRow e es (row_at leaf.new.page parts) leaf.new) }
     ensures left { OnOk result (leaf.new.left + 1 ≡ leaf.old.left) }
@@ -42,7 +42,7 @@ pub(crate) fn take_row(leaf: &mut Leaf) -> Result<Parts, TreeError>
     ensures err { IfErr result (λ e. e ≡ DeviceFault) }
     ensures refused { OnErr result ((e : Entry) (es : List Entry) → IsAhead leaf.old.page leaf.old.at (e ∷ es) → ⊥) }
 {
-    match bounds_in(&leaf.page, leaf.at) {
+    match bounds_in(&leaf.page, leaf.at, last) {
         None => Err(TreeError::DeviceFault),
         Some(bounds) => {
             let key = leaf.at + 3;

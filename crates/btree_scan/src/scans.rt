@@ -8,11 +8,12 @@ ghost use Rattle.page_btree.specs.Map.{InTxn};
 ghost use Rattle.page_btree.specs.Errors.{GetErr};
 ghost use Rattle.btree_scan.specs.Prefixes.{under};
 ghost use Rattle.btree_scan.specs.Parts.{row_at, row_of};
-ghost use Rattle.btree_scan.specs.Scanning.{Rest, IsReady, IsStep, IsNextRow, has_ended, fault_in, CanScan, CanStep, ScanErr};
+ghost use Rattle.btree_scan.specs.Scanning.{Rest, IsReady, IsWithin, IsStep, IsNextRow, has_ended, fault_in, CanScan, CanStep, ScanErr};
 
 use crate::parts::Parts;
 use crate::rows::{Row, take_row};
 use page_btree::{Leaf, SmallBytes, TreeError, leaf_from};
+use page_node::Lengths;
 use page_store::{Pages, Txn};
 use sector_device::SectorDevice;
 
@@ -22,6 +23,9 @@ use sector_device::SectorDevice;
 pub struct Scan {
     prefix: SmallBytes,
     leaf: Leaf,
+    /// Whether each row of the leaf is known to be under the prefix.
+    covered: bool,
+    last: Lengths,
     parts: Parts,
     ended: bool,
     fault: Option<TreeError>,
@@ -37,6 +41,8 @@ impl Scan {
         let mut scan = Scan {
             prefix: SmallBytes::empty(),
             leaf: Leaf::empty(),
+            covered: false,
+            last: Lengths::NONE,
             parts: Parts {
                 key: 0,
                 value: 0,
@@ -65,7 +71,15 @@ impl Scan {
         if self.ended {
             return false;
         }
-        match step(txn, pages, &self.prefix, &mut self.leaf, &mut self.parts) {
+        match step(
+            txn,
+            pages,
+            &self.prefix,
+            &mut self.leaf,
+            &mut self.covered,
+            &mut self.last,
+            &mut self.parts,
+        ) {
             Ok(true) => true,
             Ok(false) => {
                 self.ended = true;
@@ -128,19 +142,24 @@ fn step<D: SectorDevice>(
     pages: &mut Pages<D>,
     prefix: &SmallBytes,
     leaf: &mut Leaf,
+    covered: &mut bool,
+    last: &mut Lengths,
     parts: &mut Parts,
 ) -> Result<bool, TreeError>
     requires begun { txn_pages txn.now ≡ count_of pages.old }
     ensures quiet { IsQuiet pages.old pages.new }
-    ensures rows { (disk_in pages.new).is_honest → (m : KeyMap) (rest : List Entry) → InTxn txn.now (stored pages.old) m → IsReady prefix.now leaf.old (entries m) rest → IfOk result (λ found. IsStep found prefix.now leaf.new (row_at leaf.new.page parts.new) (entries m) rest) }
+    ensures rows { (disk_in pages.new).is_honest → (m : KeyMap) (rest : List Entry) → InTxn txn.now (stored pages.old) m → IsReady covered.old prefix.now leaf.old (entries m) rest → IfOk result (λ found. IsStep found covered.new prefix.now leaf.new (row_at leaf.new.page parts.new) (entries m) rest) }
     ensures passed { OnOk result (Passed pages.old pages.new) }
-    ensures err { IfErr result (λ e. ScanErr (CanStep prefix.now leaf.old) txn.now pages.old pages.new e) }
+    ensures err { IfErr result (λ e. ScanErr (CanStep covered.old prefix.now leaf.old) txn.now pages.old pages.new e) }
 {
-    refill(txn, pages, leaf)?;
+    refill(txn, pages, prefix, leaf, covered)?;
     if leaf.left == 0 {
         return Ok(false);
     }
-    *parts = take_row(leaf)?;
+    *parts = take_row(leaf, last)?;
+    if *covered {
+        return Ok(true);
+    }
     Ok(leaf.page[parts.key..parts.value].starts_with(prefix.as_slice()))
 }
 
@@ -148,11 +167,13 @@ fn step<D: SectorDevice>(
 fn refill<D: SectorDevice>(
     txn: &Txn,
     pages: &mut Pages<D>,
+    prefix: &SmallBytes,
     leaf: &mut Leaf,
+    covered: &mut bool,
 ) -> Result<(), TreeError>
     requires begun { txn_pages txn.now ≡ count_of pages.old }
     ensures quiet { IsQuiet pages.old pages.new }
-    ensures rows { (disk_in pages.new).is_honest → (m : KeyMap) (prefix : List ℕ) (rest : List Entry) → InTxn txn.now (stored pages.old) m → IsReady prefix leaf.old (entries m) rest → OnOk result (IsReady prefix leaf.new (entries m) rest × (leaf.new.left ≡ 0 → rest ≡ [])) }
+    ensures rows { (disk_in pages.new).is_honest → (m : KeyMap) (rest : List Entry) → InTxn txn.now (stored pages.old) m → IsReady covered.old prefix.now leaf.old (entries m) rest → OnOk result (IsReady covered.new prefix.now leaf.new (entries m) rest × (leaf.new.left ≡ 0 → rest ≡ [])) }
     ensures passed { OnOk result (Passed pages.old pages.new) }
     ensures err { IfErr result (λ e. GetErr txn.now pages.old pages.new e) }
 {
@@ -164,5 +185,18 @@ fn refill<D: SectorDevice>(
     }
     let mut from = SmallBytes::empty();
     from.set(leaf.bound.as_slice());
-    leaf_from(txn, pages, from.as_slice(), leaf)
+    leaf_from(txn, pages, from.as_slice(), leaf)?;
+    *covered = is_within(prefix, leaf);
+    Ok(())
+}
+
+/// Whether other leaves follow, and the key that bounds this one's rows begins with the prefix: then each of these rows does that
+/// isn't below the prefix.
+fn is_within(prefix: &SmallBytes, leaf: &Leaf) -> bool
+    ensures { result ≡ true → IsWithin prefix.now leaf.now }
+{
+    if !leaf.bounded {
+        return false;
+    }
+    leaf.bound.as_slice().starts_with(prefix.as_slice())
 }

@@ -1,6 +1,6 @@
 -- The rows of a revision that was accepted.
 use Rattle.std.proofs.Common.{◌≡◌, ◌<◌, ◌^◌, ℕ, List, length, Option, Some, None, refl, sym, ap, subst, ◌∙◌}
-use Rattle.std.specs.Prelude.{IfSome}
+use Rattle.std.specs.Prelude.{IfSome, IsSome, is_some}
 use Rattle.std.specs.FinMap as map_of
 use Rattle.desk_model.specs.declared.cuts.Cut.{Cut}
 use Rattle.desk_model.specs.Cuts.{cuts_of}
@@ -24,3 +24,7 @@ cuts_are d g cuts are is = are ∙ ap (λ (geo : Option Ground). cuts_in geo) is
 pub if_whole : (d : Desk) (g : Ground) (last : Option (List ℕ)) → d.geography ≡ Some g → IsWhole d.geography last → IfSome last (λ l. length l ≡ length g.blocks)
 if_whole d g None is whole = tt
 if_whole d g (Some l) is whole = whole g l is refl
+
+-- what is told is there
+pub there_is : (o : Option (List ℕ)) (x : List ℕ) → o ≡ Some x → IsSome o
+there_is o x is = ap is_some is

@@ -1,5 +1,5 @@
 //! How many rows a command writes.
-ghost use Rattle.std.specs.Prelude.{◌≡◌, ℕ, List, length, Some};
+ghost use Rattle.std.specs.Prelude.{◌≡◌, ℕ, List, length, Some, IsSome};
 ghost use Rattle.std.specs.FinMap as map_of;
 ghost use Rattle.desk_model.specs.Geography.{Ground};
 ghost use Rattle.desk_model.specs.Room.{added_rows, command_rows as rows_of_command};
@@ -15,15 +15,17 @@ use desk_model::geography::Geography;
 use desk_model::name::PlanName;
 use desk_room::laws::cuts_are_within;
 use desk_room::revision_rows;
+use shared_districts::Districts;
 
 /// The districts of a revision that is there.
-pub(crate) fn next_of<'a>(then: &'a Catalogue, name: &PlanName, k: u32) -> &'a [u16]
+pub(crate) fn next_of<'a>(then: &'a Catalogue, name: &PlanName, k: u32) -> &'a Districts
+    requires { IsSome (revision_in (map_of.get then.now.plans name.now) k) }
     ensures value { (districts : List ℕ) → revision_in (map_of.get then.now.plans name.now) k ≡ Some districts → result.now ≡ districts }
     ensures whole { (g : Ground) (districts : List ℕ) → then.now.geography ≡ Some g → revision_in (map_of.get then.now.plans name.now) k ≡ Some districts → length districts ≡ length g.blocks }
 {
     match then.districts(name, k) {
         Some(districts) => districts,
-        None => &[],
+        None => unreachable!(),
     }
 }
 

@@ -1,5 +1,5 @@
 -- Blocks side by side: where two of one county differ, and where all agree.
-use Rattle.std.proofs.Common.{◌≡◌, ◌≢◌, ℕ, zero, suc, ◌+◌, ◌-◌, ◌<◌, ◌≤◌, Bool, true, false, List, length, get_or, Option, Some, None, IsSome, arith, refl, ap, sym, ◌∙◌, ⊎_elim}
+use Rattle.std.proofs.Common.{◌≡◌, ◌≢◌, ℕ, zero, suc, ◌+◌, ◌-◌, ◌<◌, ◌≤◌, Bool, true, false, List, length, get_or, Option, Some, None, IsSome, arith, refl, ap, sym, ◌∙◌, ◌⊎◌, inl, inr, ⊎_elim}
 use Rattle.std.specs.Prelude.{is_some, not}
 use Rattle.std.proofs.Math.Bool.{beq}
 use Rattle.std.specs.List.{Any}
@@ -13,7 +13,7 @@ use Rattle.desk_model.specs.Geography.{Ground, AreBlocks, ids, ids_of, id_at}
 use Rattle.desk_model.specs.Counties.{IsInPart, LeastCountyIsTold}
 use Rattle.desk_model.specs.Step.{partly_listed}
 use Rattle.desk_model.specs.declared.block.BlockRow.{BlockRow}
-use Rattle.baf_text.specs.Listed.{listed_of}
+use Rattle.baf_text.specs.Listed.{listed_of, IsSpan}
 
 county_rises : (a b : ℕ) → a ≤ b → state_of a ≡ state_of b → county_of a ≤ county_of b
 county_rises a b less same = omega (arith, less, same)
@@ -28,6 +28,22 @@ is_listed_at listed place = is_some (get_or listed place None)
 -- of the blocks before a place, those of one county that stand side by side are both listed or both not
 abbrev pub Agree : List BlockRow → List (Option ℕ) → ℕ → Type 0
 Agree blocks listed end = (k : ℕ) → k + 1 < end → county_at blocks k ≡ county_at blocks (k + 1) → is_listed_at listed k ≡ is_listed_at listed (k + 1)
+
+-- where nothing is listed all agree
+pub span_starts : (blocks : List BlockRow) (listed : List (Option ℕ)) (span : ℕ × ℕ) (place : ℕ) → IsSpan span listed → (place ≤ span.0) ⊎ (place ≤ 1) → Agree blocks listed place
+unfolding IsSpan
+span_starts blocks listed span place none (inl low) = λ k inside _.
+    ap is_some (none k (inl (omega (arith, inside, low)))) ∙ sym (ap is_some (none (k + 1) (inl (omega (arith, inside, low)))))
+span_starts blocks listed span place none (inr low) = λ k inside _. absurd (omega (arith, inside, low))
+
+pub span_ends : (blocks : List BlockRow) (listed : List (Option ℕ)) (span : ℕ × ℕ) (place : ℕ) → IsSpan span listed → Agree blocks listed place → (length blocks ≤ place) ⊎ (span.1 < place)
+    → Agree blocks listed (length blocks)
+unfolding IsSpan
+span_ends blocks listed span place none agree (inl past) = λ k inside. agree k (omega (arith, inside, past))
+span_ends blocks listed span place none agree (inr past) = λ k inside same. ⊎_elim
+    (λ (before : k + 1 < place). agree k before same)
+    (λ (behind : place ≤ k + 1). ap is_some (none k (inr (omega (arith, behind, past)))) ∙ sym (ap is_some (none (k + 1) (inr (omega (arith, behind, past))))))
+    (cases_lt (k + 1) place)
 
 module _ (blocks : List BlockRow) (listed : List (Option ℕ)) (valid : AreBlocks blocks) where
   same_state : (i j : ℕ) → i < length blocks → j < length blocks → state_of (id_at blocks i) ≡ state_of (id_at blocks j)

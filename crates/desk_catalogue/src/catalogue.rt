@@ -22,6 +22,7 @@ use desk_model::size::PlanSize;
 use desk_model::text::Text;
 use desk_plans::entry::{Entry, REVISION_LIMIT};
 use desk_plans::plans::Plans;
+use shared_districts::Districts;
 use std::alloc::{AllocError, Global};
 use std::marker::Model;
 use std::sync::Arc;
@@ -82,7 +83,7 @@ impl Catalogue {
     }
 
     /// Revision `k` of a plan, from 1: the district of each block.
-    pub fn districts(&self, name: &PlanName, k: u32) -> Option<&[u16]>
+    pub fn districts(&self, name: &PlanName, k: u32) -> Option<&Districts>
         ensures value { option_copied result ≡ revision_in (map_of.get self.now.plans name.now) k }
         ensures whole { IsWhole self.now.geography (option_copied result) }
     {
@@ -131,14 +132,17 @@ impl Catalogue {
         let Some(districts) = entry.revision(k) else {
             return Reply::Refused(Refusal::NoRevision);
         };
-        match write(alloc, districts, geography, entry.kind()) {
+        let Ok(list) = districts.to_vec(alloc) else {
+            return Reply::Refused(Refusal::Memory);
+        };
+        match write(alloc, list.as_slice(), geography, entry.kind()) {
             Ok(text) => Reply::Baf(Text::from_vec(text)),
             Err(_) => Reply::Refused(Refusal::Memory),
         }
     }
 
     /// Revision `j` of a senate plan, from 1.
-    fn senate_revision(&self, name: &PlanName, j: u32) -> Option<&[u16]>
+    fn senate_revision(&self, name: &PlanName, j: u32) -> Option<&Districts>
         ensures value { option_copied result ≡ senate_revision_of (map_of.get self.now.plans name.now) j }
         ensures whole { IsWhole self.now.geography (option_copied result) }
     {
@@ -154,7 +158,7 @@ impl Catalogue {
         &self,
         kind: Kind,
         asked: Option<(PlanName, u32)>,
-    ) -> Result<Option<&[u16]>, Refusal>
+    ) -> Result<Option<&Districts>, Refusal>
         ensures ok { IfOk result (λ senate. senate_companion_of self.now kind asked ≡ Ok (option_copied senate)) }
         ensures err { IfErr result (λ refusal. senate_companion_of self.now kind asked ≡ Err refusal) }
         ensures whole { IfOk result (λ senate. IsWhole self.now.geography (option_copied senate)) }
@@ -311,7 +315,7 @@ impl Catalogue {
         ensures ok { IfOk result (λ next. next ≡ record self.now { plans = map_of.insert self.now.plans entry.now.0 (record entry.now.1 { revisions = entry.now.1.revisions ++ districts.items ∷ [] }) }) }
         ensures err { IfErr result (λ refusal. refusal ≡ Refusal.Memory) }
     {
-        let Ok(entry) = entry.revised(alloc, districts) else {
+        let Ok(entry) = entry.revised(alloc, districts.as_slice()) else {
             return Err(Refusal::Memory);
         };
         let Ok(plans) = self.plans.replace(alloc, entry) else {

@@ -11,18 +11,27 @@ use baf_text::listed::{Listed, whole};
 use desk_model::geography::Geography;
 use desk_model::laws::least_county_is_told;
 use desk_model::reply::Refusal;
+use shared_districts::Districts;
 use std::alloc::{AllocError, Global};
 
 /// The least county of which only a part is listed: that of the first two blocks of one county, one right after the
 /// other, of which just one is listed, since a county's blocks stand together and counties rise.
-fn county_in_part(geography: &Geography, listed: &[Option<u16>]) -> Option<u16>
-    requires { length listed.now ≡ length geography.now.blocks }
-    ensures { (values : Values) → listed.now ≡ listed_of geography.now values → result ≡ partly_listed geography.now values }
+fn county_in_part(geography: &Geography, read: &Listed) -> Option<u16>
+    requires { length read.now ≡ length geography.now.blocks }
+    ensures { (values : Values) → read.now ≡ listed_of geography.now values → result ≡ partly_listed geography.now values }
 {
     // A law, with nothing to run: it says what the least such county has to do with the answer.
     least_county_is_told();
     let blocks = geography.blocks();
-    for place in 1..blocks.len() {
+    let (first, end) = read.span();
+    let listed = read.as_slice();
+    let start = if first == 0 { 1 } else { first };
+    let stop = if end < blocks.len() {
+        end + 1
+    } else {
+        blocks.len()
+    };
+    for place in start..stop {
         if listed[place].is_some() != listed[place - 1].is_some() {
             let county = blocks[place].id.county();
             if blocks[place - 1].id.county() == county {
@@ -34,13 +43,15 @@ fn county_in_part(geography: &Geography, listed: &[Option<u16>]) -> Option<u16>
 }
 
 /// The district of each block: the listed one, or else the last one, 0 where there is none.
-fn overlay(alloc: Global, listed: &Listed, last: Option<&[u16]>) -> Result<Vec<u16>, AllocError>
+fn overlay(alloc: Global, listed: &Listed, last: Option<&Districts>) -> Result<Vec<u16>, AllocError>
     requires { IfSome (option_copied last) (λ d. length d ≡ length listed.now) }
     ensures { IfOk result (λ districts. districts.items ≡ overlaid listed.now (option_copied last.entry)) }
 {
     let Some(last) = last else {
         return whole(alloc, listed);
     };
+    let flat = last.to_vec(alloc)?;
+    let last = flat.as_slice();
     let mut districts = Vec::with_capacity(alloc, last.len())?;
     for (place, district) in listed.as_slice().iter().enumerate() {
         districts.push(district.unwrap_or(last[place]))?;
@@ -55,7 +66,7 @@ pub fn patched_districts(
     body: &[u8],
     geography: &Geography,
     n: u16,
-    last: Option<&[u16]>,
+    last: Option<&Districts>,
 ) -> Result<Vec<u16>, Refusal>
     requires { IfSome (option_copied last) (λ d. length d ≡ length geography.now.blocks) }
     ensures ok { IfOk result (λ districts. IsOkAnd (body_read geography.now n body.now) (λ values. (partly_listed geography.now values ≡ None) × (districts.items ≡ patched geography.now values (option_copied last.entry)))) }
@@ -63,7 +74,7 @@ pub fn patched_districts(
     ensures err { IfErr result (IsPatchRefusal geography.now (body_read geography.now n body.now)) }
 {
     let listed = listed_in(alloc, body, geography, n)?;
-    if let Some(county) = county_in_part(geography, listed.as_slice()) {
+    if let Some(county) = county_in_part(geography, &listed) {
         return Err(Refusal::NotWholeCounty { county });
     }
     match overlay(alloc, &listed, last) {

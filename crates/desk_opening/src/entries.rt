@@ -49,7 +49,7 @@ fn with_next<D: SectorDevice>(
     if districts.len() != geography.blocks().len() {
         return Err(TreeError::DeviceFault);
     }
-    match entry.revised(alloc, districts) {
+    match entry.revised(alloc, districts.as_slice()) {
         Ok(next) => Ok(next),
         Err(_) => Err(TreeError::Memory),
     }

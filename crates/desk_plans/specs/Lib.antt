@@ -1,5 +1,4 @@
 pub mod Codes
 pub mod Falls
-pub mod Revisions
 pub mod Rows
 pub mod Tree

@@ -8,6 +8,7 @@ use desk_model::kind::Kind;
 use desk_model::name::PlanName;
 use desk_model::reply::PlanRow;
 use desk_model::size::PlanSize;
+use shared_districts::Districts;
 use shared_list::SharedList;
 use std::alloc::{AllocError, Global};
 use std::marker::Model;
@@ -20,18 +21,17 @@ pub const REVISION_LIMIT: u32 = 65_535;
 pub struct Entry {
     name: PlanName,
     size: PlanSize,
-    revisions: SharedList<Vec<u16>>,
+    revisions: SharedList<Districts>,
 }
 
 impl Model for Entry {
     ghost use Rattle.std.specs.Prelude.{ℕ, List, length, ◌≤◌};
     ghost use Rattle.desk_model.specs.Desk.{Plan};
     ghost use Rattle.desk_model.specs.Step.{revision_limit};
-    ghost use Rattle.desk_plans.specs.Revisions.{lists};
 
     ghost Value = { List ℕ × Plan };
 
-    ghost view = { λ a. (a.name, record { kind = a.size.0; n = a.size.1; revisions = lists a.revisions }) };
+    ghost view = { λ a. (a.name, record { kind = a.size.0; n = a.size.1; revisions = a.revisions }) };
 
     ghost invariant = { λ a. length a.revisions ≤ revision_limit };
 }
@@ -77,16 +77,13 @@ impl Entry {
     }
 
     /// Revision `k`, from 1: the district of each block, rising.
-    pub fn revision(&self, k: u32) -> Option<&[u16]>
+    pub fn revision(&self, k: u32) -> Option<&Districts>
         ensures { option_copied result ≡ revision_at self.now.1 k }
     {
         if k == 0 {
             return None;
         }
-        match self.revisions.get(k as usize - 1) {
-            Some(districts) => Some(districts.as_slice()),
-            None => None,
-        }
+        self.revisions.get(k as usize - 1)
     }
 
     /// The plan's line in the list of plans.
@@ -101,11 +98,12 @@ impl Entry {
         }
     }
 
-    /// The plan with one more revision, which shares those before it.
-    pub fn revised(&self, alloc: Global, districts: Vec<u16>) -> Result<Entry, AllocError>
+    /// The plan with one more revision. It shares those before it, and of the last one the districts that stay.
+    pub fn revised(&self, alloc: Global, districts: &[u16]) -> Result<Entry, AllocError>
         requires { length self.now.1.revisions < revision_limit }
-        ensures { IfOk result (λ e. e ≡ (self.now.0, record self.now.1 { revisions = self.now.1.revisions ++ districts.items ∷ [] })) }
+        ensures { IfOk result (λ e. e ≡ (self.now.0, record self.now.1 { revisions = self.now.1.revisions ++ districts.now ∷ [] })) }
     {
+        let districts = Districts::new(alloc, districts, self.revision(self.count()))?;
         Ok(Entry {
             name: self.name,
             size: self.size,

@@ -3,6 +3,8 @@ use crate::stores::StoreFiles;
 use byte_stream::sink::WriteSink;
 use exit_status::status::Status;
 use sector_file::{FileDevice, Unknown};
+use std::io::IsTerminal;
+use sweep_command::progress::Telling;
 use sweep_command::sweep::sweep;
 
 /// Takes out of a store what deleted plans and ended loads left in it.
@@ -10,13 +12,18 @@ pub fn sweep_desk(rt: &HostRuntime, name: &str) -> Status {
     let mut stores = StoreFiles::new(rt);
     let mut writer = WriteSink::new(rt.stdout());
     let mut errors = WriteSink::new(rt.stderr());
-    let status = sweep::<FileDevice<Unknown>, _, _, _>(
+    let terminal = rt.stderr();
+    let is_terminal = terminal.is_terminal();
+    let mut progress = Telling::new(terminal, is_terminal);
+    let status = sweep::<FileDevice<Unknown>, _, _, _, _>(
         rt.alloc(),
         &mut stores,
         name,
+        &mut progress,
         &mut writer,
         &mut errors,
     );
+    let _ = progress.into_inner();
     let _ = writer.into_inner();
     let _ = errors.into_inner();
     status

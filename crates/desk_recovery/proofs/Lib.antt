@@ -1,1 +1,2 @@
 mod One
+mod Following

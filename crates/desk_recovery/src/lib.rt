@@ -2,4 +2,5 @@
 #![tactic(auto)]
 
 pub mod law;
+pub mod lives;
 pub mod open;

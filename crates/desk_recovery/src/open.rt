@@ -1,6 +1,7 @@
 //! Openings of a device whose images all open to one desk.
 ghost use Rattle.desk_model.specs.Desk.{Desk};
 ghost use Rattle.desk_clerk.specs.Openings.{device_after};
+ghost use Rattle.desk_recovery.specs.Lives.{IsOpening};
 ghost use Rattle.desk_recovery.specs.Recovery.{HoldsOne, Recovers};
 
 use crate::law::one_desk_opens;
@@ -13,7 +14,8 @@ use std::alloc::Global;
 /// whatever the opening comes to, each image that a stop at any moment of it leaves opens to the same desk: so it does after the
 /// next opening, however many of them a stop cuts short.
 pub fn open_again<D: SectorDevice>(alloc: Global, device: D) -> Result<Clerk<D>, (OpenError, D)>
-    ensures { (D.disk (device_after result)).is_honest → (d : Desk) → HoldsOne (D.disk device) d → Recovers D.SectorDevice device d result }
+    ensures opening { IsOpening D.SectorDevice device result }
+    ensures again { (D.disk (device_after result)).is_honest → (d : Desk) → HoldsOne (D.disk device) d → Recovers D.SectorDevice device d result }
 {
     one_desk_opens();
     Clerk::open(alloc, device)

@@ -4,4 +4,4 @@
 pub mod laws;
 mod rows;
 
-pub use rows::{differs_in, part_of, revision_rows};
+pub use rows::{differs_in, revision_rows};

@@ -7,6 +7,7 @@ ghost use Rattle.desk_model.specs.Room.{rows_for, differs, revision_rows as rows
 ghost use Rattle.desk_room.specs.Cutting.{part, AreWithin, cut_rows};
 
 use desk_model::cuts::Cut;
+use shared_districts::Districts;
 
 /// How many rows of so many elements hold a number of them.
 fn rows_for(size: usize, count: usize) -> usize
@@ -17,26 +18,17 @@ fn rows_for(size: usize, count: usize) -> usize
     (count + (size - 1)) / size
 }
 
-/// A county's part of a list beside the blocks.
-pub fn part_of(cut: Cut, list: &[u16]) -> &[u16]
-    requires { cut.first + cut.count ≤ length list.now }
-    ensures { result.now ≡ part cut list.now }
-{
-    let rest = &list[cut.first as usize..];
-    &rest[..cut.count as usize]
-}
-
 /// Whether a county's districts differ between two lists beside the blocks.
-pub fn differs_in(cut: Cut, last: &[u16], new: &[u16]) -> bool
+pub fn differs_in(cut: Cut, last: &Districts, new: &Districts) -> bool
     requires last { cut.first + cut.count ≤ length last.now }
     requires new { cut.first + cut.count ≤ length new.now }
     ensures { result ≡ differs (part cut last.now, part cut new.now) }
 {
-    part_of(cut, last) != part_of(cut, new)
+    !last.is_same_in(new, cut.first as usize, cut.count as usize)
 }
 
 /// The rows of a county's districts: none where they are as in the last revision.
-fn rows_of_cut(cut: Cut, last: Option<&[u16]>, new: &[u16]) -> usize
+fn rows_of_cut(cut: Cut, last: Option<&Districts>, new: &Districts) -> usize
     requires last { IfSome (option_copied last) (λ l. cut.first + cut.count ≤ length l) }
     requires new { cut.first + cut.count ≤ length new.now }
     ensures rows { result ≡ cut_rows (option_copied last.entry) new.now cut }
@@ -53,7 +45,7 @@ fn rows_of_cut(cut: Cut, last: Option<&[u16]>, new: &[u16]) -> usize
 /// The rows that a revision writes: the plan's and the counters', one for each 128 counties, and one for each 512 blocks of a
 /// county whose districts differ from the last revision's, of each county where there is none. The counties are the geography's,
 /// and the lists have a district for each block.
-pub fn revision_rows(cuts: &[Cut], last: Option<&[u16]>, new: &[u16]) -> usize
+pub fn revision_rows(cuts: &[Cut], last: Option<&Districts>, new: &Districts) -> usize
     requires few { length cuts.now < 2 ^ 32 }
     requires new { AreWithin (length new.now) cuts.now }
     requires last { IfSome (option_copied last) (λ l. AreWithin (length l) cuts.now) }

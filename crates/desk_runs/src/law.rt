@@ -1,4 +1,5 @@
 //! The law of runs.
+ghost use Rattle.desk_clerk.specs.declared.clerk.Clerk.{Clerk};
 ghost use Rattle.desk_runs.specs.Runs.{SurvivesEachRun};
 
 use desk_clerk::clerk::Clerk;
@@ -9,4 +10,9 @@ use sector_device::SectorDevice;
 /// and some of those that follow.
 pub fn runs_survive<D: SectorDevice>(clerk: &Clerk<D>)
     ensures { SurvivesEachRun clerk.now }
+{}
+
+/// The same of whatever clerk.
+pub fn each_run_survives<D: SectorDevice>()
+    ensures { (x : Clerk D D.SectorDevice) → SurvivesEachRun x }
 {}

@@ -1,5 +1,5 @@
 -- Which options of `check` go together, and the values of those that aren't paths.
-use Rattle.std.specs.Prelude.{◌≡◌, false, ℕ, ◌≤◌, Bool, ◌&&◌, ◌||◌, nat_le, if◌then◌else◌, List, Option, Some, None, is_some, IsSome, IsTrue, option_map, option_and_then}
+use Rattle.std.specs.Prelude.{◌≡◌, false, ℕ, ◌≤◌, Bool, ◌&&◌, ◌||◌, nat_le, if◌then◌else◌, List, Option, Some, None, is_some, IsSome, IsTrue, option_map}
 use Rattle.std.specs.Char.{is_ascii_digit}
 use Rattle.std.specs.List.{list_all}
 use Rattle.std.specs.Str.Parse.{digits_value}

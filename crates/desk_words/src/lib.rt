@@ -1,6 +1,5 @@
 //! The words of the command line: what the program is asked for, or what is wrong with them.
 #![tactic(auto)]
 
-mod helps;
 pub mod options;
 pub mod words;

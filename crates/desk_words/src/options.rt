@@ -7,7 +7,7 @@ ghost use Rattle.desk_words.specs.Options.{number_to as number_in, senate_read, 
 use desk_model::kind::Kind;
 
 /// What is audited: a plan of so many districts, and beside a house plan a senate plan of so many.
-#[derive(Clone, Copy, Debug, PartialEq, Eq)]
+#[derive(Clone, Copy, PartialEq, Eq)]
 pub struct Terms {
     pub kind: Kind,
     pub districts: u16,
@@ -15,7 +15,7 @@ pub struct Terms {
 }
 
 /// What `check` is asked for.
-#[derive(Clone, Copy, Debug, PartialEq, Eq)]
+#[derive(Clone, Copy)]
 pub enum Form {
     /// The counts of the census files.
     Counts,
@@ -34,14 +34,14 @@ fn is_house(kind: Kind) -> bool
 }
 
 /// How large a store is.
-#[derive(Clone, Copy, Debug, PartialEq, Eq)]
+#[derive(Clone, Copy)]
 pub struct Size {
     pub sectors: u32,
     pub journal_pages: u32,
 }
 
 /// On which port a store is served, by how many workers, and to how many connections.
-#[derive(Clone, Copy, Debug, PartialEq, Eq)]
+#[derive(Clone, Copy)]
 pub struct Serving {
     pub port: u16,
     pub workers: u16,

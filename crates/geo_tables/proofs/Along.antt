@@ -17,7 +17,7 @@ use Rattle.row_table.specs.Reading.{ReadErr}
 use Rattle.page_node.specs.Entries.{Entry}
 use Rattle.page_node.specs.Places.{key_cmp, Rises}
 use Rattle.btree_scan.specs.Prefixes.{head_rises, is_under, under}
-use Rattle.btree_scan.specs.Scanning.{Rest, RestWhere, IsNextRow, ScanErr, fault_in, has_ended, CanScan}
+use Rattle.btree_scan.specs.Scanning.{Rest, none_to_come, IsNextRow, ScanErr, fault_in, has_ended, CanScan}
 use Rattle.btree_scan.specs.declared.rows.Row.{Row}
 use Rattle.btree_scan.specs.declared.scans.Scan.{Scan}
 use Rattle.store_rows.specs.Rows.{KeyMap}
@@ -85,7 +85,7 @@ module _ (m : KeyMap) (old new : Scan) (row : Row) where
       let rows = subst (AreIn m) step.1 scans.2 in
       record { scans = (step.0, step.2, rows.1); row_is = rows.0 }
   taken_so false ended none scans next = record {
-    scans = ([], subst (λ (b : Bool). RestWhere b new.prefix new.leaf (entries m) []) (sym (ended refl)) refl, tt);
+    scans = ([], none_to_come new (entries m) (ended refl), tt);
     row_is = tt;
   }
 

@@ -1,2 +1,2 @@
-mod SendLemmas
 mod QueueLemmas
+mod GatherLemmas

@@ -5,6 +5,7 @@ ghost use Rattle.http_answer.specs.Queue.{Queues};
 ghost use Rattle.http_answer.specs.Phrases.{phrase_of};
 ghost use Rattle.http_answer.specs.Answer.{status_line, type_line, start_text, behind_line, close_line, line_end, head_text, response_text, sent_body, allowed, allowed_len};
 
+use crate::gather::GatherSink;
 use byte_stream::sink::{Sink, WriteFault};
 use http::StatusCode;
 use itoa::Buffer;
@@ -97,8 +98,8 @@ impl Outbox {
         put(&mut self.bytes, body);
     }
 
-    /// Writes a head and a body that have no room together. Nothing waits before or after it.
-    fn write_long<W: Sink>(
+    /// Sends a head and a body that have no room together, both at once. Nothing waits before or after it.
+    fn write_long<W: GatherSink>(
         &mut self,
         writer: &mut W,
         response: &Response<'_>,
@@ -110,7 +111,9 @@ impl Outbox {
         ensures emptied { self.new ≡ [] }
         ensures failures { W.failures writer.new ≡ failures_with (W.failures writer.old) result }
     {
-        let result = write_parts(writer, &mut self.bytes, response, body);
+        self.bytes.clear();
+        put_head(&mut self.bytes, response);
+        let result = writer.send_both(self.bytes.as_slice(), body);
         self.bytes.clear();
         result
     }
@@ -263,37 +266,9 @@ fn sent<'a>(response: &Response<'a>) -> &'a [u8]
     if response.bare { &[] } else { response.body }
 }
 
-/// Writes the head of an answer and a body behind it, by a buffer whose bytes it drops.
-fn write_parts<W: Sink>(
-    writer: &mut W,
-    bytes: &mut Vec<u8>,
-    response: &Response<'_>,
-    body: &[u8],
-) -> Result<(), WriteFault>
-    requires room { 16384 ≤ vec_capacity bytes.old }
-    requires short { allowed_len (allowed response.now) ≤ 64 }
-    ensures bytes { Sends (W.contents writer.old) (W.contents writer.new) result
-        (head_text response.now.status response.now.kind (allowed response.now) response.now.closes (length response.now.body.now) ++ body.now) }
-    ensures room { 16384 ≤ vec_capacity bytes.new }
-    ensures failures { W.failures writer.new ≡ failures_with (W.failures writer.old) result }
-{
-    bytes.clear();
-    put_head(bytes, response);
-    let fits = body.len().min(OUTBOX_LEN - bytes.len());
-    put(bytes, &body[..fits]);
-    let Ok(()) = writer.send(bytes.as_slice()) else {
-        return Err(WriteFault);
-    };
-    if fits == body.len() {
-        return Ok(());
-    }
-    writer.send(&body[fits..])
-}
-
 /// Puts an answer behind those that wait, and takes no memory for it. Where it has no room these are sent first; one that
-/// has no room in the empty buffer either is written at once, its head with as much of its body as has room, and then the
-/// rest. The names of the allowed methods have 64 bytes at most.
-pub fn write_response<W: Sink>(
+/// has no room in the empty buffer either is sent at once, its head with its body. The names of the allowed methods have 64 bytes at most.
+pub fn write_response<W: GatherSink>(
     writer: &mut W,
     outbox: &mut Outbox,
     response: &Response<'_>,

@@ -79,7 +79,7 @@ goes_on text later row rows =
     )
 
 -- a line that was written part by part
-pub line_written : (row : PlanRow) (kind name t a b c d e f g h i : List ℕ) → kind ≡ kind_name row.kind → name ≡ row.name → IsPlanName row.name
+line_written : (row : PlanRow) (kind name t a b c d e f g h i : List ℕ) → kind ≡ kind_name row.kind → name ≡ row.name → IsPlanName row.name
     → a ≡ t ++ codes "{\"districts\":" → b ≡ a ++ decimal row.n → c ≡ b ++ codes ",\"kind\":\"" → d ≡ c ++ kind → e ≡ d ++ codes "\",\"name\":\"" → f ≡ e ++ name
     → g ≡ f ++ codes "\",\"revisions\":" → h ≡ g ++ decimal row.revisions → i ≡ h ++ codes "}" → i ≡ t ++ compact_text (row_data row)
 line_written row kind name t a b c d e f g h i k n is a1 b1 c1 d1 e1 f1 g1 h1 i1 =
@@ -98,6 +98,19 @@ line_written row kind name t a b c d e f g h i k n is a1 b1 c1 d1 e1 f1 g1 h1 i1
     ∙ ap (λ (x : List ℕ). x ++ (decimal row.n ++ (q ++ (kind_name row.kind ++ (m ++ (row.name ++ (v ++ (r ++ end)))))))) a1
     ∙ append_assoc t (codes "{\"districts\":") (decimal row.n ++ (q ++ (kind_name row.kind ++ (m ++ (row.name ++ (v ++ (r ++ end)))))))
     ∙ ap (λ (x : List ℕ). t ++ x) (sym (line_is row is))
+
+-- the same, behind a comma where it isn't the first, in fewer parts
+pub item_written : (later : Bool) (row : PlanRow) (start member name t a b c f g h i : List ℕ) → start ≡ comma_if later ++ codes "{\"districts\":" → member ≡ codes ",\"kind\":\"" ++ (kind_name row.kind ++ codes "\",\"name\":\"")
+    → name ≡ row.name → IsPlanName row.name → a ≡ t ++ start → b ≡ a ++ decimal row.n → c ≡ b ++ member → f ≡ c ++ name → g ≡ f ++ codes "\",\"revisions\":" → h ≡ g ++ decimal row.revisions → i ≡ h ++ codes "}"
+    → i ≡ t ++ (comma_if later ++ compact_text (row_data row))
+item_written later row start member name t a b c f g h i s m n is a1 b1 c1 f1 g1 h1 i1 =
+    let q : List ℕ = codes ",\"kind\":\"" in
+    let k : List ℕ = kind_name row.kind in
+    let v : List ℕ = codes "\",\"name\":\"" in
+    line_written row k name (t ++ comma_if later) a b (b ++ q) ((b ++ q) ++ k) c f g h i refl n is
+    (a1 ∙ ap (λ (x : List ℕ). t ++ x) s ∙ sym (append_assoc t (comma_if later) (codes "{\"districts\":"))) b1 refl refl
+    (c1 ∙ ap (λ (x : List ℕ). b ++ x) m ∙ sym (append_assoc b q (k ++ v)) ∙ sym (append_assoc (b ++ q) k v)) f1 g1 h1 i1
+    ∙ append_assoc t (comma_if later) (compact_text (row_data row))
 
 -- what is still to be written, behind one line more
 pub kept : (text new all : List ℕ) (later : Bool) (row : PlanRow) (rows : List PlanRow) (k : ℕ) → k < length rows → row ≡ get_or rows k row

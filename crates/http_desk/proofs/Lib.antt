@@ -4,3 +4,4 @@ pub mod ShortLemmas
 pub mod TalkLemmas
 pub mod TurnLemmas
 pub mod ListLemmas
+pub mod TurnedLemmas

@@ -87,6 +87,15 @@ NextCame input (Err request.Read) rest interim = IsCutShort input interim
 NextCame input (Err request.TurnLimit) rest interim = IsCutShort input interim
 NextCame input (Err request.Write) rest interim = CutsNext input interim
 
+-- What waited is sent, and then a turn is taken, where nothing had come: at the end it brings nothing
+abbrev pub Turned : (unread left before after : Option (List ℕ)) → (waiting : List ℕ) → Result Bool ServeFault → (inbox pending : List ℕ) → Type 0
+Turned unread left before after waiting (Ok true) inbox pending = Consumes unread left [] × IsAtEnd left × Appends before after waiting × (inbox ≡ []) × (pending ≡ [])
+Turned unread left before after waiting (Ok false) inbox pending = Consumes unread left inbox × Appends before after waiting × (pending ≡ [])
+Turned unread left before after waiting (Err fault.Read) inbox pending = Consumes unread left [] × Appends before after waiting × (inbox ≡ []) × (pending ≡ [])
+Turned unread left before after waiting (Err fault.TurnLimit) inbox pending = Consumes unread left [] × Appends before after waiting × (inbox ≡ []) × (pending ≡ [])
+Turned unread left before after waiting (Err fault.Write) inbox pending = Consumes unread left [] × (front : List ℕ) × (rest : List ℕ) × (waiting ≡ front ++ rest) × Appends before after front
+Turned unread left before after waiting (Err fault.Memory) inbox pending = ⊥
+
 module _ {X : Type 0} (commands : X → Command → Reply → X → Type 0) (asks : X → Query → Reply → X → Type 0) where
   -- the answers are a talk over a front of what was read
   pub record IsFrontTalk (x : X) (input answers : List ℕ) (y : X) : Type 0 where

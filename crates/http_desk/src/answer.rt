@@ -9,9 +9,10 @@ ghost use Rattle.http_desk.specs.Answers.{bytes_of, saying, message_of, closes_a
 
 use crate::body::put_plans;
 use crate::short::{SHORT, put_created, put_error, put_refusal, put_retired};
-use byte_stream::sink::{Sink, WriteFault};
+use byte_stream::sink::WriteFault;
 use desk_model::reply::{Refusal, Reply};
 use http::StatusCode;
+use http_answer::gather::GatherSink;
 use http_answer::response::{ContentType, Outbox, Response, write_response};
 use http_chunks::fault::Fault;
 use http_orders::method::Methods;
@@ -180,7 +181,7 @@ impl Answer {
     }
 
     /// Puts the answer behind those that wait to be sent.
-    pub fn send<W: Sink>(&self, writer: &mut W, outbox: &mut Outbox) -> Result<(), WriteFault>
+    pub fn send<W: GatherSink>(&self, writer: &mut W, outbox: &mut Outbox) -> Result<(), WriteFault>
         ensures bytes { Queues (W.contents writer.old) (W.contents writer.new) outbox.old outbox.new result self.now }
         ensures failures { W.failures writer.new ≡ failures_with (W.failures writer.old) result }
     {

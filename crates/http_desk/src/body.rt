@@ -1,8 +1,10 @@
 //! The list of plans, as JSON.
-ghost use Rattle.std.specs.Prelude.{◌≡◌, ◌++◌, decimal, OnOk};
+ghost use Rattle.std.specs.Prelude.{◌≡◌, ◌++◌, codes, decimal, OnOk};
+ghost use Rattle.desk_model.specs.Kind.{kind_name};
 ghost use Rattle.serde_json.specs.Written.{compact_text, comma_if};
 ghost use Rattle.http_desk.specs.Bodies.{row_data, plans_body};
 
+use desk_model::kind::Kind;
 use desk_model::reply::PlanRow;
 use itoa::Buffer;
 use std::alloc::AllocError;
@@ -16,30 +18,39 @@ fn put_number(text: &mut Vec<u8>, number: u64) -> Result<(), AllocError>
     Ok(())
 }
 
-/// Appends a line of the list.
-fn put_row(text: &mut Vec<u8>, row: &PlanRow) -> Result<(), AllocError>
-    ensures { OnOk result (text.new.items ≡ text.old.items ++ compact_text (row_data row.now)) }
+/// A line up to the number of districts, behind a comma where it isn't the first.
+fn line_start(is_later: bool) -> &'static [u8]
+    ensures { result.now ≡ comma_if is_later ++ codes "{\"districts\":" }
 {
-    text.extend_from_slice(b"{\"districts\":")?;
-    put_number(text, row.n as u64)?;
-    text.extend_from_slice(b",\"kind\":\"")?;
-    text.extend_from_slice(row.kind.name().as_bytes())?;
-    text.extend_from_slice(b"\",\"name\":\"")?;
-    text.extend_from_slice(row.name.as_slice())?;
-    text.extend_from_slice(b"\",\"revisions\":")?;
-    put_number(text, row.revisions as u64)?;
-    text.extend_from_slice(b"}")?;
-    Ok(())
+    if is_later {
+        b",{\"districts\":"
+    } else {
+        b"{\"districts\":"
+    }
 }
 
-/// Appends a line, behind a comma where it isn't the first.
+/// The kind, and what stands between it and the name.
+fn kind_member(kind: Kind) -> &'static [u8]
+    ensures { result.now ≡ codes ",\"kind\":\"" ++ (kind_name kind ++ codes "\",\"name\":\"") }
+{
+    match kind {
+        Kind::Congress => b",\"kind\":\"congress\",\"name\":\"",
+        Kind::Senate => b",\"kind\":\"senate\",\"name\":\"",
+        Kind::House => b",\"kind\":\"house\",\"name\":\"",
+    }
+}
+
+/// Appends a line of the list, behind a comma where it isn't the first.
 fn put_item(text: &mut Vec<u8>, row: &PlanRow, is_later: bool) -> Result<(), AllocError>
     ensures { OnOk result (text.new.items ≡ text.old.items ++ (comma_if is_later ++ compact_text (row_data row.now))) }
 {
-    if is_later {
-        text.push(b',')?;
-    }
-    put_row(text, row)?;
+    text.extend_from_slice(line_start(is_later))?;
+    put_number(text, row.n as u64)?;
+    text.extend_from_slice(kind_member(row.kind))?;
+    text.extend_from_slice(row.name.as_slice())?;
+    text.extend_from_slice(b"\",\"revisions\":")?;
+    put_number(text, row.revisions as u64)?;
+    text.push(b'}')?;
     Ok(())
 }
 

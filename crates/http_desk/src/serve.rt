@@ -9,7 +9,7 @@ ghost use Rattle.byte_stream.specs.Counts.{counted};
 ghost use Rattle.http_intake.specs.Budget.{Spends};
 ghost use Rattle.http_orders.specs.Orders.{order_of as order_of_request};
 ghost use Rattle.http_orders.specs.Routes.{the_routes};
-ghost use Rattle.http_desk.specs.Serving.{Serves, Exchanges, Closes, Leaves, Waits, NextCame, read_failures, write_failures, TakesSome};
+ghost use Rattle.http_desk.specs.Serving.{Serves, Exchanges, Closes, Leaves, Waits, NextCame, Turned, read_failures, write_failures, TakesSome};
 ghost use Rattle.http_wire.specs.Incoming.{EndsAt, TakesSome as RequestTakes};
 ghost use Rattle.http_answer.specs.Queue.{Queued};
 ghost use Rattle.http_wire.specs.Plain.{IsPlain};
@@ -21,7 +21,9 @@ use byte_stream::sink::Sink;
 use byte_stream::source::Source;
 use desk_model::command::Query;
 use desk_model::gate::Gate;
+use http_answer::gather::GatherSink;
 use http_answer::response::Outbox;
+use http_intake::fault::WireFault;
 use http_intake::inbox::Inbox;
 use http_orders::law::list_law;
 use http_orders::order::{Order, order_of};
@@ -109,7 +111,11 @@ fn handle<C: Counter>(
 }
 
 /// Writes the last answer, and those that wait before it.
-fn close<W: Sink>(writer: &mut W, answer: &Answer, outbox: &mut Outbox) -> Result<Next, ServeFault>
+fn close<W: GatherSink>(
+    writer: &mut W,
+    answer: &Answer,
+    outbox: &mut Outbox,
+) -> Result<Next, ServeFault>
     ensures bytes { Closes (W.contents writer.old) (W.contents writer.new) outbox.old result answer.now }
     ensures failures { W.failures writer.new ≡ write_failures (W.failures writer.old) result }
 {
@@ -152,7 +158,7 @@ fn next_request<R: Source, W: Sink>(
 }
 
 /// Reads one request, whatever it asks for, and answers it.
-fn exchange_any<R: Source, W: Sink, C: Counter, G: Gate>(
+fn exchange_any<R: Source, W: GatherSink, C: Counter, G: Gate>(
     alloc: Global,
     reader: &mut R,
     writer: &mut W,
@@ -219,8 +225,9 @@ fn list<C: Counter>(alloc: Global, counter: &mut C, answer: &mut Answer, closes:
     answer.tell(reply, closes, false)
 }
 
-/// Reads one request and answers it. The list of plans, which is asked for most, is answered without a copy of its request.
-fn exchange<R: Source, W: Sink, C: Counter, G: Gate>(
+/// Answers the next request, after more reading where it isn't there whole. The list of plans, which is asked for most, is answered
+/// without a copy of its request.
+fn exchange_held<R: Source, W: GatherSink, C: Counter, G: Gate>(
     alloc: Global,
     reader: &mut R,
     writer: &mut W,
@@ -249,6 +256,64 @@ fn exchange<R: Source, W: Sink, C: Counter, G: Gate>(
     match stream.answer.send(writer, &mut stream.outbox) {
         Ok(()) => Ok(Next::Again),
         Err(_) => Err(ServeFault::Write),
+    }
+}
+
+/// Sends the answers that wait, and then takes a turn of reading, where nothing has come yet. Tells whether the reader is at its end.
+fn take_turn<R: Source, W: Sink>(
+    reader: &mut R,
+    writer: &mut W,
+    stream: &mut Stream,
+) -> Result<bool, ServeFault>
+    requires { stream.old.inbox ≡ [] }
+    ensures turned { Turned (R.remaining reader.old) (R.remaining reader.new) (W.contents writer.old) (W.contents writer.new) stream.old.outbox result stream.new.inbox stream.new.outbox }
+    ensures read_failures { R.failures reader.new ≡ read_failures (R.failures reader.old) result }
+    ensures write_failures { W.failures writer.new ≡ write_failures (W.failures writer.old) result }
+    ensures turns { Spends stream.old.turns stream.new.turns (R.turns reader.old) (R.turns reader.new) }
+    ensures limit { result ≡ Err ServeFault.TurnLimit → stream.new.turns ≡ 0 }
+    ensures left { reading_left stream.new.turns stream.new.inbox ≤ reading_left stream.old.turns stream.old.inbox }
+    ensures none { stream.old.inbox ≡ [] }
+{
+    match stream.outbox.flush(writer) {
+        Ok(()) => {}
+        Err(_) => return Err(ServeFault::Write),
+    }
+    match stream.inbox.fill(reader, &mut stream.turns) {
+        Ok(true) => Ok(true),
+        Ok(false) => Ok(false),
+        Err(WireFault::Read) => Err(ServeFault::Read),
+        Err(WireFault::TurnLimit) => Err(ServeFault::TurnLimit),
+        Err(WireFault::Memory) => unreachable!(),
+    }
+}
+
+/// Reads one request and answers it. Where nothing has come yet a turn of reading is taken first: most requests come whole in one.
+fn exchange<R: Source, W: GatherSink, C: Counter, G: Gate>(
+    alloc: Global,
+    reader: &mut R,
+    writer: &mut W,
+    counter: &mut C,
+    gate: &G,
+    stream: &mut Stream,
+    piece: u32,
+) -> Result<Next, ServeFault>
+    ensures talks { (more : List ℕ) × (output : List ℕ) × (unsent : List ℕ) × Consumes (R.remaining reader.old) (R.remaining reader.new) more
+        × Queued (W.contents writer.old) (W.contents writer.new) stream.old.outbox unsent output
+        × Exchanges C.commands C.asks counter.old result (R.remaining reader.new) (stream.old.inbox ++ more) stream.new.inbox output counter.new
+        × Leaves result unsent stream.new.outbox }
+    ensures read_failures { R.failures reader.new ≡ read_failures (R.failures reader.old) result }
+    ensures write_failures { W.failures writer.new ≡ write_failures (W.failures writer.old) result }
+    ensures turns { Spends stream.old.turns stream.new.turns (R.turns reader.old) (R.turns reader.new) }
+    ensures limit { result ≡ Err ServeFault.TurnLimit → stream.new.turns ≡ 0 }
+    ensures left { TakesSome result (reading_left stream.old.turns stream.old.inbox) (reading_left stream.new.turns stream.new.inbox) }
+{
+    if !stream.inbox.as_slice().is_empty() {
+        return exchange_held(alloc, reader, writer, counter, gate, stream, piece);
+    }
+    match take_turn(reader, writer, stream) {
+        Ok(false) => exchange_held(alloc, reader, writer, counter, gate, stream, piece),
+        Ok(true) => Ok(Next::End),
+        Err(fault) => Err(fault),
     }
 }
 
@@ -282,7 +347,7 @@ fn start(alloc: Global) -> Option<Stream>
 /// buffer, and are sent before a turn of reading, before one that has no room behind them, and at the end.
 ///
 /// The gate is passed as worker 0, with the number of requests that this call read before (4,294,967,295 at most).
-pub fn serve<R: Source, W: Sink, C: Counter, G: Gate>(
+pub fn serve<R: Source, W: GatherSink, C: Counter, G: Gate>(
     alloc: Global,
     reader: &mut R,
     writer: &mut W,

@@ -1,5 +1,5 @@
 -- What a request asks for, by its method, its target and its body.
-use Rattle.std.specs.Prelude.{ℕ, ◌==◌, if◌then◌else◌, List, Option, Some, None, codes}
+use Rattle.std.specs.Prelude.{ℕ, ◌==◌, Bool, true, false, ◌&&◌, if◌then◌else◌, List, Option, Some, None, codes}
 use Rattle.std.specs.List.{before_first, after_first}
 use Rattle.percent_encoding.specs.Percent.{percent_decode}
 use Rattle.desk_model.specs.Name.{plan_name_of}
@@ -96,3 +96,21 @@ abbrev pub order_of : (method target body : List ℕ) → Order
 order_of method target body =
     if is_known method then order_at (page_of (path_of target)) method (path_of target) (query_of target) body
     else order.Refused UnknownMethod
+
+-- what a request for a page of one plan names is decoded
+abbrev pub is_decoded : Page → Bool
+is_decoded page.Blocks = false
+is_decoded page.Plans = false
+is_decoded page.Plan = true
+is_decoded page.Revisions = true
+is_decoded page.Counties = true
+is_decoded page.Revision = true
+is_decoded page.Audit = true
+
+abbrev pub may_decode : Option Page → (method : List ℕ) → Bool
+may_decode None method = false
+may_decode (Some p) method = takes (methods_of p) method && is_decoded p
+
+-- only a request for a page of one plan, by a method that it takes, may take memory
+abbrev pub may_take_memory : (method target : List ℕ) → Bool
+may_take_memory method target = is_known method && may_decode (page_of (path_of target)) method

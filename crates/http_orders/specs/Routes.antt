@@ -1,12 +1,13 @@
 -- The table of paths, and which of them a path is.
-use Rattle.std.specs.Prelude.{ℕ, ◌==◌, List, [], Option, option_map, Result, Ok, Err, codes}
+use Rattle.std.specs.Prelude.{◌≡◌, ◌⊎◌, ℕ, ◌==◌, List, [], Option, option_map, Result, Ok, Err, codes}
 use Rattle.std.specs.List.{before_first, after_first}
 use Rattle.matchit.specs.Rows.{RowsOf}
 use Rattle.matchit.specs.Route.{Scan, parse_route}
 use Rattle.matchit.specs.Order.{placed}
-use Rattle.matchit.specs.Router.{RouteOf, route_from}
+use Rattle.matchit.specs.Router.{RouteOf, Refused, route_from}
 use Rattle.matchit.specs.Seek.{first}
 use Rattle.matchit.specs.declared.InsertError.{InsertError}
+use Rattle.matchit.specs.declared.error.InsertError.TheVariants.{OutOfMemory}
 use Rattle.http_orders.specs.declared.route.Page.{Page}
 use Rattle.http_orders.specs.declared.route.Page.TheVariants.{Blocks, Plans, Plan, Revisions, Counties, Revision, Audit}
 
@@ -17,6 +18,14 @@ with_read (Err e) page rows = rows
 
 abbrev pub with_route : List ℕ → Page → RowsOf (RouteOf Page) → RowsOf (RouteOf Page)
 with_route text page rows = with_read (parse_route text) page rows
+
+-- why a route is not added to the rows: one of them conflicts with it, it is none, or there was no memory
+abbrev pub DeclinesRead : Result Scan InsertError → RowsOf (RouteOf Page) → InsertError → Type 0
+DeclinesRead (Ok s) rows e = Refused s.pattern rows e
+DeclinesRead (Err bad) rows e = (e ≡ bad) ⊎ (e ≡ OutOfMemory)
+
+abbrev pub Declines : List ℕ → RowsOf (RouteOf Page) → InsertError → Type 0
+Declines text rows e = DeclinesRead (parse_route text) rows e
 
 -- the table of paths; a name in braces stands for one part of at least one byte
 abbrev pub the_routes : RowsOf (RouteOf Page)

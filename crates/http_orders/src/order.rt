@@ -1,8 +1,8 @@
 //! Requests to commands and queries.
-ghost use Rattle.std.specs.Prelude.{◌≡◌, Some, IfOk};
+ghost use Rattle.std.specs.Prelude.{◌≡◌, true, ◌&&◌, Some, IfOk, OnErr};
 ghost use Rattle.std.specs.Str.{IsAscii};
 ghost use Rattle.http_orders.specs.Routes.{the_routes};
-ghost use Rattle.http_orders.specs.Orders.{order_of as order_of_request, order_at, order_on, name_in as name_in_path, create_order as create_order_of, whole_order as whole_order_of, counties_order as counties_order_of, retire_order as retire_order_of, plan_order as plan_order_of, plain_query as plain_query_of, revision_order as revision_order_of, audit_order as audit_order_of, number_in as number_in_path};
+ghost use Rattle.http_orders.specs.Orders.{order_of as order_of_request, order_at, order_on, name_in as name_in_path, create_order as create_order_of, whole_order as whole_order_of, counties_order as counties_order_of, retire_order as retire_order_of, plan_order as plan_order_of, plain_query as plain_query_of, revision_order as revision_order_of, audit_order as audit_order_of, number_in as number_in_path, is_decoded, may_decode, may_take_memory};
 ghost use Rattle.http_orders.specs.Queries.{create_query as create_query_of, after_query as after_query_of, senate_query as senate_query_of};
 
 use crate::method::{Methods, is_known, methods_of};
@@ -184,7 +184,8 @@ fn order_on_page(
     query: &[u8],
     body: Vec<u8>,
 ) -> Result<Order, AllocError>
-    ensures { IfOk result (λ order. order ≡ order_on page method.now path.now query.now body.items) }
+    ensures order { IfOk result (λ order. order ≡ order_on page method.now path.now query.now body.items) }
+    ensures memory { OnErr result (is_decoded page ≡ true) }
 {
     match page {
         Page::Blocks => Ok(plain_query(Query::Blocks, query)),
@@ -206,7 +207,8 @@ fn order_at_page(
     query: &[u8],
     body: Vec<u8>,
 ) -> Result<Order, AllocError>
-    ensures { IfOk result (λ order. order ≡ order_at (Some page) method.now path.now query.now body.items) }
+    ensures order { IfOk result (λ order. order ≡ order_at (Some page) method.now path.now query.now body.items) }
+    ensures memory { OnErr result (may_decode (Some page) method.now ≡ true) }
 {
     let methods = methods_of(page);
     if !methods.takes(method) {
@@ -215,7 +217,7 @@ fn order_at_page(
     order_on_page(alloc, page, method, path, query, body)
 }
 
-/// What a request asks for. Only want of memory is an error.
+/// What a request asks for. Only want of memory is an error, and only at a page of one plan.
 pub fn order_of(
     alloc: Global,
     router: &Router<Page>,
@@ -225,7 +227,8 @@ pub fn order_of(
 ) -> Result<Order, AllocError>
     requires routes { router.now ≡ the_routes }
     requires ascii { IsAscii target.now }
-    ensures { IfOk result (λ order. order ≡ order_of_request method.now target.now body.items) }
+    ensures order { IfOk result (λ order. order ≡ order_of_request method.now target.now body.items) }
+    ensures memory { OnErr result (may_take_memory method.now target.now ≡ true) }
 {
     if !is_known(method) {
         return Ok(Order::Refused(Error::UnknownMethod));

@@ -1,7 +1,7 @@
 //! The table of paths.
-ghost use Rattle.std.specs.Prelude.{◌≡◌, ◌==◌, ◌≤◌, IfOk, OnOk, length};
+ghost use Rattle.std.specs.Prelude.{◌≡◌, ◌==◌, ◌≤◌, IfOk, IfErr, OnOk, length};
 ghost use Rattle.std.specs.List.{before_first, after_first, position_or_len};
-ghost use Rattle.http_orders.specs.Routes.{the_routes, with_route, page_of as page_of_path, plan_part as plan_part_of, revision_part as revision_part_of};
+ghost use Rattle.http_orders.specs.Routes.{the_routes, with_route, Declines, page_of as page_of_path, plan_part as plan_part_of, revision_part as revision_part_of};
 
 use matchit::{InsertError, Router};
 use std::alloc::Global;
@@ -27,14 +27,16 @@ pub enum Page {
 
 /// Adds a route.
 fn add(router: &mut Router<Page>, route: &str, page: Page) -> Result<(), InsertError>
-    ensures { OnOk result (router.new ≡ with_route route.now page router.old) }
+    ensures row { OnOk result (router.new ≡ with_route route.now page router.old) }
+    ensures declined { IfErr result (λ e. Declines route.now router.old e) }
 {
     router.insert(route, page)
 }
 
-/// The table, made once for a stream.
+/// The table, made once for a stream. No two of its routes conflict, so that only want of memory is an error.
 pub fn router(alloc: Global) -> Result<Router<Page>, InsertError>
-    ensures { IfOk result (λ r. r ≡ the_routes) }
+    ensures table { IfOk result (λ r. r ≡ the_routes) }
+    ensures memory { IfErr result (λ e. e ≡ InsertError.OutOfMemory) }
 {
     let mut router = Router::new(alloc);
     add(&mut router, "/blocks", Page::Blocks)?;

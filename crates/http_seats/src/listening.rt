@@ -2,8 +2,8 @@
 ghost use Rattle.std.specs.Prelude.{◌≡◌, ◌⊎◌, true};
 
 use crate::many::Arrivals;
-use byte_stream::sink::WriteSink;
 use byte_stream::source::ReadSource;
+use http_answer::gather::Gathering;
 use std::io::ErrorKind;
 use std::net::{TcpListener, TcpStream};
 use std::sync::atomic::{AtomicU64, Ordering};
@@ -82,10 +82,10 @@ impl<'a> Listens for Listening<'a> {
 impl<'a> Arrivals for Listening<'a> {
     type Reader = ReadSource<TcpStream>;
 
-    type Writer = WriteSink<TcpStream>;
+    type Writer = Gathering<TcpStream>;
 
     /// Waits for a connection, whose answers the system is asked to send at once.
-    fn next(&self) -> Option<(ReadSource<TcpStream>, WriteSink<TcpStream>)> {
+    fn next(&self) -> Option<(ReadSource<TcpStream>, Gathering<TcpStream>)> {
         if !self.take() {
             return None;
         }
@@ -101,6 +101,6 @@ impl<'a> Arrivals for Listening<'a> {
             self.fail();
             return None;
         };
-        Some((ReadSource::new(stream), WriteSink::new(other)))
+        Some((ReadSource::new(stream), Gathering::new(other)))
     }
 }

@@ -3,12 +3,12 @@ ghost use Rattle.std.specs.Prelude.{◌≤◌, IfOk};
 
 use crate::ran::{Ran, Tally};
 use crate::seat::Seat;
-use byte_stream::sink::Sink;
 use byte_stream::source::Source;
 use desk_gallery::book::Room;
 use desk_gallery::office::Office;
 use desk_gallery::visitor::Visitor;
 use desk_model::gate::Gate;
+use http_answer::gather::GatherSink;
 use http_desk::serve::serve;
 use sector_device::SectorDevice;
 use std::alloc::{AllocError, Global};
@@ -19,7 +19,7 @@ use std::thread::{Threads, for_each_mut};
 pub trait Arrivals {
     type Reader: Source + Drop + Send + Sync;
 
-    type Writer: Sink + Drop + Send + Sync;
+    type Writer: GatherSink + Drop + Send + Sync;
 
     /// The next stream, or None where no further one comes. It may wait.
     fn next(&self) -> Option<(Self::Reader, Self::Writer)>;

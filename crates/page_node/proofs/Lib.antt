@@ -5,4 +5,3 @@ pub mod Writing
 pub mod PageEdits
 pub mod Splitting
 pub mod Nearing
-pub mod Comparing

@@ -1,9 +1,9 @@
 -- What the edits of a page leave.
 use Rattle.std.specs.Prelude.{insert, remove, Bool, true, false, cond, Option, Some, None, is_some, Result, Ok, Err, OnErr}
 use Rattle.std.specs.FinMap.{find, put}
-use Rattle.std.proofs.Common.{◌≡◌, ℕ, ◌+◌, ◌-◌, ◌*◌, ◌/◌, ◌%◌, ◌<◌, ◌≤◌, List, [], ◌∷◌, ◌++◌, length, take, drop, get_or, set, refl, sym, ap, subst, ◌∙◌, arith, suc, length-append}
+use Rattle.std.proofs.Common.{◌≡◌, ℕ, ◌+◌, ◌-◌, ◌*◌, ◌/◌, ◌%◌, ◌<◌, ◌≤◌, List, [], ◌∷◌, ◌++◌, length, take, drop, get_or, set, refl, sym, ap, subst, ◌∙◌, arith, suc, length-append, append_assoc, take-append-drop}
 use Rattle.std.specs.List.{All, copy_within}
-use Rattle.std.proofs.lemmas.List.{length-take-le, length-drop, append-nil, set_split}
+use Rattle.std.proofs.lemmas.List.{length-take-le, length-drop, append-nil, set_split, take-take}
 use Rattle.std.proofs.lemmas.List.Elements.{All-nil}
 use Rattle.std.proofs.Math.Seq.{take-add}
 use Rattle.page_node.specs.Entries.{Entry, IsEntry, entry_bytes, entry_size, body_of, size_of}
@@ -159,19 +159,27 @@ module _ (page : List ℕ) (node : Node) (is : IsNode page node) (long : length 
         (is_made ∙ (λ x. take (at_is x) page ++ (entry_bytes e ++ (take (rest x) (drop (there x) page) ++ drop (at + entry_size e + (used - end)) page))))
         (omega arith))
 
-    pub removed_node : (made : List ℕ) (count : ℕ) → made ≡ copy_within page end used at → count + 1 ≡ length node.entries
+    -- the bytes behind it are moved, also more of them than its entries have
+    pub removed_node : (till : ℕ) (made : List ℕ) (count : ℕ) → used ≤ till → made ≡ copy_within page end till at → count + 1 ≡ length node.entries
         → IsNode (headed made count) (record node { entries = remove node.entries i }) × (count ≡ length (remove node.entries i))
-    removed_node made count is_made is_count =
+    removed_node till made count far is_made is_count =
         let size = size-edited node.entries i (suc i) [] in
         let n = length-edited node.entries i (suc i) [] (omega arith) in
         let less = size-take_from node.entries i (suc i) (omega arith) in
         let parts = size-parts (suc i) node.entries in
         let fits = is.fits in
         let there = next in
-        let rest = rest_is in (
+        let rest = rest_is in
+        let entries_moved : List ℕ = take (used - end) (drop end page) in
+        let others_moved : List ℕ = drop (used - end) (take (till - end) (drop end page)) in
+        let behind : List ℕ = drop (at + (till - end)) page in
+        let moved : take (till - end) (drop end page) ≡ entries_moved ++ others_moved =
+        sym (take-append-drop (used - end) (take (till - end) (drop end page))) ∙ ap (λ l. l ++ others_moved) (take-take (used - end) (till - end) (drop end page) (omega arith)) in (
           edited_counted page node is long i (suc i) [] (omega arith) (omega arith) (All-nil IsEntry) (λ inner. All-nil (λ (f : Entry). length f.1 ≡ 4)) (omega arith)
-              [] (drop (at + (used - end)) page) refl made count
-              (is_made ∙ moved_is page end used at ∙ (λ x. take (at_is x) page ++ (take (rest x) (drop (there x) page) ++ drop (at + (used - end)) page)))
+              [] (others_moved ++ behind) refl made count
+              (is_made ∙ moved_is page end till at ∙ (λ x. take (at_is x) page ++ (moved x ++ behind))
+              ∙ ap (λ l. take (4 + size_of (take i node.entries)) page ++ l) (append_assoc entries_moved others_moved behind)
+              ∙ (λ x. take (4 + size_of (take i node.entries)) page ++ (take (rest x) (drop (there x) page) ++ (others_moved ++ behind))))
               (omega arith),
           omega arith,
         )

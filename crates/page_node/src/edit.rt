@@ -115,20 +115,19 @@ fn replace_in(
     Ok(true)
 }
 
-/// Removes the entry that begins and ends at two places, and tells how many are left.
-fn remove_in(page: &mut [u8; 4096], index: usize, at: usize, end: usize) -> Result<usize, NotANode>
+/// Removes the entry that begins and ends at two places, and tells how many are left. All bytes behind it are moved, so that it
+/// needn't be known where the last entry ends.
+fn remove_in(page: &mut [u8; 4096], at: usize, end: usize) -> Result<usize, NotANode>
     requires order { at ≤ end }
     requires end { end ≤ 4096 }
-    requires index { index < 65536 }
-    ensures removed { (node : Node) → IsNode page.old node → index < length node.entries → at ≡ 4 + size_of (take index node.entries) → end ≡ 4 + size_of (take (index + 1) node.entries) → IfOk result (λ left. IsNode page.new (record node { entries = remove node.entries index }) × (left ≡ length (remove node.entries index))) }
-    ensures err { OnErr result ((node : Node) → IsNode page.old node → index < length node.entries → end ≡ 4 + size_of (take (index + 1) node.entries) → ⊥) }
+    ensures removed { (node : Node) (i : ℕ) → IsNode page.old node → i < length node.entries → at ≡ 4 + size_of (take i node.entries) → end ≡ 4 + size_of (take (i + 1) node.entries) → IfOk result (λ left. IsNode page.new (record node { entries = remove node.entries i }) × (left ≡ length (remove node.entries i))) }
+    ensures err { OnErr result ((node : Node) → IsNode page.old node → 0 < length node.entries → ⊥) }
 {
-    let used = end_from(page, index + 1, end)?;
     let count = count_of(page);
     if count == 0 {
         return Err(NotANode);
     }
-    move_in(page, end, used, at);
+    move_in(page, end, 4096, at);
     set_count(page, count - 1);
     Ok(count - 1)
 }
@@ -165,7 +164,7 @@ pub fn take_row(page: &mut [u8; 4096], key: &[u8]) -> Result<Option<usize>, NotA
 {
     let spot = spot_of(page, key)?;
     if spot.found {
-        let left = remove_in(page, spot.index, spot.at, spot.end)?;
+        let left = remove_in(page, spot.at, spot.end)?;
         return Ok(Some(left));
     }
     Ok(None)
@@ -183,7 +182,7 @@ pub fn take_spare_row(page: &mut [u8; 4096], key: &[u8]) -> Result<Option<bool>,
         if count_of(page) < 2 {
             return Ok(None);
         }
-        let _ = remove_in(page, spot.index, spot.at, spot.end)?;
+        let _ = remove_in(page, spot.at, spot.end)?;
         return Ok(Some(true));
     }
     Ok(Some(false))

@@ -1,5 +1,5 @@
 //! Entries as they lie in bytes.
-ghost use Rattle.std.specs.Prelude.{◌≡◌, ◌≤◌, ◌<◌, ◌+◌, ◌*◌, ◌-◌, ◌++◌, ℕ, length, take, drop, replicate, IfSome, IfNone};
+ghost use Rattle.std.specs.Prelude.{◌≡◌, ◌≤◌, ◌<◌, ◌+◌, ◌*◌, ◌/◌, ◌%◌, ◌-◌, ◌++◌, ℕ, length, take, drop, replicate, IfSome, IfNone};
 ghost use Rattle.std.specs.List.{copy_within};
 ghost use Rattle.page_node.specs.Entries.{key_length, value_length};
 ghost use Rattle.page_node.specs.Bytes.{LiesAt, LiesNot, with_entry};
@@ -11,22 +11,72 @@ pub struct Bounds {
     pub end: usize,
 }
 
-/// The entry at a place in a page, if it lies in the page and is in the limits.
-pub fn bounds_in(page: &[u8; 4096], at: usize) -> Option<Bounds>
+/// The lengths of the entry that was looked at last, as they stand in its first three bytes, and what follows from them. Where the
+/// next entry has the same, its end is known before its own are read.
+#[derive(Drop)]
+pub struct Lengths {
+    head: u32,
+    key: usize,
+    size: usize,
+    ghost key_is: { key ≡ head / 65536 },
+    ghost size_is: { size ≡ 3 + head / 65536 + head % 65536 },
+    ghost key_short: { head / 65536 ≤ 72 },
+    ghost value_short: { head % 65536 ≤ 1024 },
+}
+
+impl Lengths {
+    /// Those of an entry without bytes: none was looked at yet.
+    pub const NONE: Lengths = Lengths {
+        head: 0,
+        key: 0,
+        size: 3,
+    };
+}
+
+/// The entry at the last three bytes of a page, which is one without bytes, if it is that.
+fn bounds_at_end(page: &[u8; 4096], at: usize) -> Option<Bounds>
+    requires { 4092 < at }
     ensures some { IfSome result (λ b. LiesAt page.now at b.value b.end) }
     ensures none { IfNone result (LiesNot page.now at) }
 {
-    if at > 4093 {
+    if at > 4093 || page[4093] > 0 || page[4094] > 0 || page[4095] > 0 {
         return None;
     }
-    let key = page[at] as usize;
-    let length = 256 * page[at + 1] as usize + page[at + 2] as usize;
-    let value = at + 3 + key;
-    let end = value + length;
-    if key > 72 || length > 1024 || end > 4096 {
+    Some(Bounds {
+        value: 4096,
+        end: 4096,
+    })
+}
+
+/// The entry at a place in a page, if it lies in the page and is in the limits. It becomes the last that was looked at.
+pub fn bounds_in(page: &[u8; 4096], at: usize, last: &mut Lengths) -> Option<Bounds>
+    ensures some { IfSome result (λ b. LiesAt page.now at b.value b.end) }
+    ensures none { IfNone result (LiesNot page.now at) }
+{
+    if at > 4092 {
+        return bounds_at_end(page, at);
+    }
+    let head = u32::from_be_bytes([page[at], page[at + 1], page[at + 2], page[at + 3]]) / 256;
+    if head != last.head {
+        let key = (head / 65536) as usize;
+        let length = (head % 65536) as usize;
+        if key > 72 || length > 1024 {
+            return None;
+        }
+        *last = Lengths {
+            head,
+            key,
+            size: 3 + key + length,
+        };
+    }
+    let end = at + last.size;
+    if end > 4096 {
         return None;
     }
-    Some(Bounds { value, end })
+    Some(Bounds {
+        value: at + 3 + last.key,
+        end,
+    })
 }
 
 /// The key of the entry at a place.

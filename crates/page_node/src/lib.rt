@@ -4,14 +4,13 @@
 mod edit;
 mod ends;
 mod entry;
-mod keys;
 mod node_buf;
 mod scan;
 mod search;
 mod spot;
 
 pub use edit::{put_row, take_row, take_spare_row};
-pub use entry::{Bounds, bounds_in};
+pub use entry::{Bounds, Lengths, bounds_in};
 pub use node_buf::NodeBuf;
 pub use scan::NotANode;
 pub use search::{Place, Way, child_for, level_of, place_from, value_for, way_for};

@@ -42,13 +42,6 @@ impl NodeBuf {
         level: 0,
     };
 
-    /// A leaf without entries.
-    pub fn empty() -> Self
-        ensures { result ≡ record { level = 0; entries = [] } }
-    {
-        Self::EMPTY
-    }
-
     /// Makes it a node of a level, without entries.
     pub fn clear(&mut self, level: u8)
         requires { level ≤ 5 }

@@ -4,7 +4,7 @@ ghost use Rattle.std.proofs.Common.{get_or};
 ghost use Rattle.page_node.specs.Node.{Node, IsNode, count_in};
 ghost use Rattle.page_node.specs.Held.{IsHeld};
 
-use crate::entry::bounds_in;
+use crate::entry::{Lengths, bounds_in};
 
 /// The bytes of a page stand for no node.
 #[derive(Clone, Copy, Debug, Drop, PartialEq, Eq)]
@@ -24,8 +24,9 @@ pub fn scan(page: &[u8; 4096], ends: &mut [u16; 1366]) -> Option<usize>
         return None;
     }
     let mut at = 4;
+    let mut last = Lengths::NONE;
     for k in 0..count {
-        let bounds = bounds_in(page, at)?;
+        let bounds = bounds_in(page, at, &mut last)?;
         if level > 0 && bounds.end - bounds.value != 4 {
             return None;
         }

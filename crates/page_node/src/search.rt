@@ -10,9 +10,9 @@ ghost use Rattle.page_node.specs.Places.{key_cmp, Rises, floor, ceiling, entries
 ghost use Rattle.page_node.specs.Walking.{IsAhead};
 ghost use Rattle.page_node.specs.Searching.{IsBelow, IsLast, RisesBehind};
 
-use crate::entry::bounds_in;
-use crate::keys::compare;
+use crate::entry::{Lengths, bounds_in};
 use crate::scan::NotANode;
+use key_order::compare;
 use std::cmp::Ordering;
 
 /// The level that a page says, 0 for a leaf.
@@ -83,8 +83,9 @@ pub(crate) fn row_near(page: &[u8; 4096], key: &[u8]) -> Option<RowNear>
     let count = count_of(page);
     let mut near = RowNear { k: 0, at: 4 };
     let mut at = 4;
+    let mut last = Lengths::NONE;
     for k in 0..count {
-        let bounds = match bounds_in(page, at) {
+        let bounds = match bounds_in(page, at, &mut last) {
             None => return None,
             Some(bounds) => bounds,
         };
@@ -113,8 +114,9 @@ pub fn value_for<'a>(page: &'a [u8; 4096], key: &[u8]) -> Result<Option<&'a [u8]
         Some(near) => near,
     };
     let mut at = near.at;
+    let mut last = Lengths::NONE;
     for k in near.k..count {
-        let bounds = match bounds_in(page, at) {
+        let bounds = match bounds_in(page, at, &mut last) {
             None => return Err(NotANode),
             Some(bounds) => bounds,
         };
@@ -154,8 +156,9 @@ pub fn child_for(page: &[u8; 4096], key: &[u8]) -> Result<u32, NotANode>
     let count = count_of(page);
     let mut value = 0;
     let mut at = 4;
+    let mut last = Lengths::NONE;
     for k in 0..count {
-        let bounds = match bounds_in(page, at) {
+        let bounds = match bounds_in(page, at, &mut last) {
             None => return Err(NotANode),
             Some(bounds) => bounds,
         };
@@ -191,8 +194,9 @@ fn near_for(page: &[u8; 4096], key: &[u8]) -> Option<Near>
     };
     let mut value = 0;
     let mut at = 4;
+    let mut last = Lengths::NONE;
     for k in 0..count {
-        let bounds = match bounds_in(page, at) {
+        let bounds = match bounds_in(page, at, &mut last) {
             None => return None,
             Some(bounds) => bounds,
         };
@@ -230,8 +234,9 @@ pub fn way_for<'a>(page: &'a [u8; 4096], key: &[u8]) -> Result<Way<'a>, NotANode
     };
     let mut value = near.value;
     let mut at = near.at;
+    let mut last = Lengths::NONE;
     for k in near.k..count {
-        let bounds = match bounds_in(page, at) {
+        let bounds = match bounds_in(page, at, &mut last) {
             None => return Err(NotANode),
             Some(bounds) => bounds,
         };
@@ -265,8 +270,9 @@ pub fn place_from(page: &[u8; 4096], key: &[u8]) -> Result<Place, NotANode>
         Some(near) => near,
     };
     let mut at = near.at;
+    let mut last = Lengths::NONE;
     for k in near.k..count {
-        let bounds = match bounds_in(page, at) {
+        let bounds = match bounds_in(page, at, &mut last) {
             None => return Err(NotANode),
             Some(bounds) => bounds,
         };

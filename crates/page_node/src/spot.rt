@@ -5,7 +5,7 @@ ghost use Rattle.page_node.specs.Node.{Node, IsNode};
 ghost use Rattle.page_node.specs.Places.{Rises};
 ghost use Rattle.page_node.specs.Spots.{IsSpot};
 
-use crate::entry::bounds_in;
+use crate::entry::{Lengths, bounds_in};
 use crate::scan::NotANode;
 use crate::search::{compare_part, count_of, row_near};
 use std::cmp::Ordering;
@@ -33,8 +33,9 @@ pub(crate) fn spot_of(page: &[u8; 4096], key: &[u8]) -> Result<Spot, NotANode>
         Some(near) => near,
     };
     let mut at = near.at;
+    let mut last = Lengths::NONE;
     for k in near.k..count {
-        let bounds = match bounds_in(page, at) {
+        let bounds = match bounds_in(page, at, &mut last) {
             None => return Err(NotANode),
             Some(bounds) => bounds,
         };
@@ -75,8 +76,9 @@ pub(crate) fn end_from(page: &[u8; 4096], index: usize, at: usize) -> Result<usi
 {
     let count = count_of(page);
     let mut end = at;
+    let mut last = Lengths::NONE;
     for k in index..count {
-        let bounds = match bounds_in(page, end) {
+        let bounds = match bounds_in(page, end, &mut last) {
             None => return Err(NotANode),
             Some(bounds) => bounds,
         };

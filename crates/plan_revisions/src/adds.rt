@@ -20,6 +20,7 @@ use page_store::{Pages, Txn};
 use plan_table::Change;
 use row_table::TreeError;
 use sector_device::SectorDevice;
+use shared_districts::Districts;
 use std::alloc::Global;
 use store_rows::upkeep::next_is_one;
 
@@ -34,8 +35,8 @@ pub fn add<D: SectorDevice>(
     geography: &Geography,
     cuts: &[Cut],
     name: &PlanName,
-    last: Option<&[u16]>,
-    next: &[u16],
+    last: Option<&Districts>,
+    next: &Districts,
 ) -> Result<Change, TreeError>
     requires begun { txn_pages txn.old ≡ count_of pages.old }
     requires cut { cuts.now ≡ cuts_of geography.now }
@@ -50,6 +51,7 @@ pub fn add<D: SectorDevice>(
     changes_are_new();
     next_is_one();
     cuts_are_within();
+    next.districts_fit();
     let _blocks = geography.blocks();
     let read = read_plan(alloc, txn, pages, name, cuts.len())?;
     let used = count_changes(cuts, last, next);
@@ -61,6 +63,7 @@ pub fn add<D: SectorDevice>(
         return Err(TreeError::Memory);
     };
     match put_revision(
+        alloc,
         txn,
         pages,
         cuts,

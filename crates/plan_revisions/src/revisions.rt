@@ -17,17 +17,20 @@ use plan_table::{Change, revise_plan};
 use revision_table::put_names;
 use row_table::TreeError;
 use sector_device::SectorDevice;
+use shared_districts::Districts;
+use std::alloc::Global;
 use store_keys::PlanRow;
 
 /// Puts the rows of one revision more of the plan with this row: the chunks of the counties that change, from the first number on,
 /// the names of all chunks, and the plan's row with that of the numbers, which are read anew.
 pub fn put_revision<D: SectorDevice>(
+    alloc: Global,
     txn: &mut Txn,
     pages: &mut Pages<D>,
     cuts: &[Cut],
     name: &PlanName,
-    last: Option<&[u16]>,
-    next: &[u16],
+    last: Option<&Districts>,
+    next: &Districts,
     row: &PlanRow,
     numbers: &[u64],
     first: u64,
@@ -45,7 +48,7 @@ pub fn put_revision<D: SectorDevice>(
     ensures begun { txn_pages txn.new ≡ count_of pages.new }
     ensures put { MatchResult result (λ change. IsChangedAfter (front_rows first (new_lists (option_copied last.entry) next.now cuts.now) row.now numbers.now) (HasChunkNumbers used) (revised_rows name.now row.now used) txn.old txn.new pages.old pages.new change) (λ e. ChangeErrAfter (front_rows first (new_lists (option_copied last.entry) next.now cuts.now) row.now numbers.now) (revised_rows name.now row.now used) txn.old pages.old pages.new e) }
 {
-    put_changes(txn, pages, cuts, last, next, first)?;
+    put_changes(alloc, txn, pages, cuts, last, next, first)?;
     put_names(txn, pages, row.number, row.revisions + 1, numbers)?;
     revise_plan(txn, pages, name, row, used)
 }

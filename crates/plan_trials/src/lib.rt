@@ -5,3 +5,5 @@
 mod list_trials;
 #[cfg(test)]
 mod name_trials;
+#[cfg(test)]
+mod piece_trials;

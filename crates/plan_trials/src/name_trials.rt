@@ -73,9 +73,16 @@ fn revised<R: Abort>(rt: &R, alloc: Global, plans: &Plans, name: &PlanName) -> P
     let count = entry.count();
     assert!(rt; count < 1_000);
     let districts = vec![in alloc; count as u16; 4].expect(rt, "no memory");
-    let entry = entry.revised(alloc, districts).expect(rt, "no memory");
+    let entry = entry.revised(alloc, &districts).expect(rt, "no memory");
     assert!(rt; plans.get(entry.name()).is_some());
     plans.replace(alloc, entry).expect(rt, "no memory")
+}
+
+/// Whether a revision of a plan has these districts.
+fn is_revision<R: Abort>(rt: &R, alloc: Global, entry: &Entry, k: u32, list: &[u16]) -> bool {
+    let districts = entry.revision(k).expect(rt, "no revision");
+    let all = districts.to_vec(alloc).expect(rt, "no memory");
+    all.as_slice() == list
 }
 
 #[test]
@@ -88,7 +95,7 @@ fn revisions_are_kept(rt: HostRuntime) {
     assert!(rt; revisions(&rt, &plans, &name) == 40);
     assert!(rt; revisions(&rt, &plans, &numbered(&rt, 124)) == 0);
     let entry = plans.get(&name).expect(&rt, "no plan");
-    assert!(rt; entry.revision(1) == Some([0, 0, 0, 0].as_slice()));
-    assert!(rt; entry.revision(40) == Some([39, 39, 39, 39].as_slice()));
-    assert!(rt; entry.revision(41) == None);
+    assert!(rt; is_revision(&rt, rt.alloc(), entry, 1, &[0, 0, 0, 0]));
+    assert!(rt; is_revision(&rt, rt.alloc(), entry, 40, &[39, 39, 39, 39]));
+    assert!(rt; entry.revision(41).is_none());
 }

@@ -54,6 +54,17 @@ fn an_island_is_read(rt: HostRuntime) {
     }
 }
 
+// The last line may lack its end; no other front is a file.
+#[test]
+fn fronts_of_a_file(rt: HostRuntime) {
+    let alloc = rt.alloc();
+    let state = sample_state(&rt, alloc);
+    for end in 0..ISLAND.len() + 1 {
+        let told = read_text(alloc, &state, &ISLAND[..end], 100_000);
+        assert!(rt; told.is_ok() == (end.saturating_add(1) >= ISLAND.len()));
+    }
+}
+
 /// Asserts that a text has a fault, which is told so.
 fn has_fault<R: Abort>(
     rt: &R,

@@ -5,17 +5,17 @@ ghost use Rattle.http_desk.specs.Serving.{read_failures, write_failures};
 ghost use Rattle.served_runs.specs.Served.{ServesDurably};
 
 use crate::law::streams_survive;
-use byte_stream::sink::Sink;
 use byte_stream::source::Source;
 use desk_clerk::clerk::Clerk;
 use desk_model::gate::Gate;
+use http_answer::gather::GatherSink;
 use http_desk::serve::{ServeFault, Served, serve};
 use sector_device::SectorDevice;
 use std::alloc::Global;
 
 /// Serves a stream at a clerk, as `serve` does. However it ends, and at whatever moment a stop comes: since a command of it was
 /// acknowledged, each image that the stop may leave opens to the desk after that command and all before it.
-pub fn serve_clerk<R: Source, W: Sink, D: SectorDevice, G: Gate>(
+pub fn serve_clerk<R: Source, W: GatherSink, D: SectorDevice, G: Gate>(
     alloc: Global,
     reader: &mut R,
     writer: &mut W,

@@ -1,5 +1,5 @@
 -- Which rows a key that begins with a prefix can be of.
-use Rattle.std.proofs.Common.{◌≡◌, ◌<◌, ◌≤◌, ◌^◌, ◌+◌, ◌++◌, ℕ, suc, Bool, true, false, ◌&&◌, nat_eq, List, [], ◌∷◌, length, drop, refl, sym, ap, subst, ◌∙◌, arith}
+use Rattle.std.proofs.Common.{◌≡◌, ◌<◌, ◌≤◌, ◌^◌, ◌+◌, ◌++◌, ℕ, Bool, true, false, ◌&&◌, nat_eq, List, [], ◌∷◌, length, drop, refl, sym, ap, subst, ◌∙◌, arith}
 use Rattle.std.specs.List.{starts_with}
 use Rattle.std.proofs.lemmas.Bool.{eqb-true}
 use Rattle.std.proofs.lemmas.Bool.Decides.{nat_tests}
@@ -46,7 +46,7 @@ plan_in (block load place) = 0
 plan_in (pair load place) = 0
 plan_in (chunk number piece) = 0
 
-eights_same : (a b : ℕ) → a < 2 ^ 64 → b < 2 ^ 64 → in_eight a ≡ in_eight b → a ≡ b
+pub eights_same : (a b : ℕ) → a < 2 ^ 64 → b < 2 ^ 64 → in_eight a ≡ in_eight b → a ≡ b
 unfolding plan_in
 eights_same a b fa fb same = ap plan_in (keys_differ (retired a) (retired b) fa fb (ap (λ (l : List ℕ). 68 ∷ l) same))
 

@@ -4,15 +4,15 @@ use Rattle.std.specs.Prelude.{Contains, Option}
 use Rattle.std.specs.List.{starts_with}
 use Rattle.std.specs.FinMap.{get}
 use Rattle.btree_scan.specs.declared.rows.Row.{Row}
-use Rattle.store_keys.specs.Keys.{RowKey, key_of, Fits, counters, retired, begun, named, part, seal, block, pair, chunk, in_eight, retired_prefix, begun_prefix, plan_parts_prefix, load_prefix, chunk_prefix}
+use Rattle.store_keys.specs.Keys.{RowKey, key_of, Fits, counters, retired, begun, named, part, seal, block, pair, chunk, in_eight, retired_prefix, begun_prefix, plan_parts_prefix, load_prefix}
 use Rattle.store_keys.specs.Lists.{AreChunks, chunks_bytes}
 use Rattle.store_keys.specs.RowLaws.{keys_differ}
 use Rattle.store_rows.specs.Rows.{KeyMap, Has}
 use Rattle.store_rows.specs.ChunkRows.{IsFreeChunk}
 use Rattle.store_rows.specs.Tidy.{AreRows, Tidy}
-use Rattle.store_sweep.specs.Leftovers.{IsOfLoad, IsSpared, IsSweptClean}
+use Rattle.store_sweep.specs.Leftovers.{IsOfLoad, IsSpared}
 use Rattle.store_sweep.specs.Finding.{IsUnder, IsMark, IsPieceOf, IsLeftKey, HasPlanMark, HasLoadMark, spared_key}
-use Rattle.store_sweep.proofs.Keys.{retired_is, begun_is, part_is, piece_is, staged_is, IsStagedRow, of_block, of_pair, starts_retired, starts_begun, starts_part, starts_piece, starts_block, starts_pair, tag_number}
+use Rattle.store_sweep.proofs.Keys.{retired_is, begun_is, part_is, staged_is, IsStagedRow, of_block, of_pair, starts_retired, starts_begun, starts_part, starts_block, starts_pair, tag_number}
 
 abbrev pub NoneUnder : List ℕ → KeyMap → Type 0
 NoneUnder prefix m = (key : List ℕ) → starts_with nat_eq key prefix ≡ true → get m key ≡ None
@@ -22,22 +22,6 @@ abbrev pub IsNoLoads : RowKey → Type 0
 IsNoLoads row = (load : ℕ) → IsOfLoad load row → ⊥
 
 module _ (m : KeyMap) where
-  -- ---- pieces
-  pub piece_row : (numbers : List ℕ) (number : ℕ) → number < 2 ^ 64 → Contains numbers number → AreRows m → (row : Row) → IsUnder (chunk_prefix number) row m → IsPieceOf numbers row.key m
-  piece_row numbers number few among rows row is =
-      let (of, fits, same) = rows row.key row.value is.there in
-      let (piece, kind) = piece_is number few of fits (subst (λ (k : List ℕ). starts_with nat_eq k (chunk_prefix number) ≡ true) same is.under) in
-      record {
-        number = number;
-        piece = piece;
-        among = among;
-        fits = subst Fits kind fits;
-        key_is = same ∙ ap key_of kind;
-      }
-
-  pub none_free : (number : ℕ) → NoneUnder (chunk_prefix number) m → IsFreeChunk m number
-  none_free number none = λ index small. none (key_of (chunk number index)) (starts_piece number index)
-
   -- ---- parts
   pub record IsPartRow (plan : ℕ) (row : Row) : Type 0 where
     pub revision : ℕ

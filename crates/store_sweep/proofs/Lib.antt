@@ -1,5 +1,6 @@
 mod Keys
 mod Scanned
+mod Least
 mod Left
 pub mod Taken
 mod Refused

@@ -1,6 +1,5 @@
 -- What isn't read of a mark that was found, and what both finders tell.
-use Rattle.std.proofs.Common.{◌≡◌, ℕ, List, Bool, true, false, Option, Some, None, Ok, Err, Result, IfOk, IfErr, OnOk, inl, inr, sym, subst, ◌∙◌}
-use Rattle.std.specs.Prelude.{◌⊎◌}
+use Rattle.std.proofs.Common.{ℕ, List, Bool, true, false, Option, Some, None, Ok, Err, Result, IfOk, IfErr, OnOk, inl, inr, sym, subst, ◌∙◌}
 use Rattle.sector_device.specs.Disk.{Image}
 use Rattle.sector_device.specs.declared.SectorDevice.{Ghosts}
 use Rattle.page_store.specs.Transactions.{stored, disk_in, IsQuiet, Passed}
@@ -14,7 +13,7 @@ use Rattle.store_keys.specs.Keys.{RowKey}
 use Rattle.store_rows.specs.Rows.{KeyMap}
 use Rattle.store_rows.specs.Tidy.{Tidy}
 use Rattle.row_table.specs.Reading.{ReadErr}
-use Rattle.store_sweep.specs.Leftovers.{IsOfLoad, IsSpared, IsSweptClean}
+use Rattle.store_sweep.specs.Leftovers.{IsSpared}
 use Rattle.store_sweep.specs.Finding.{IsLeftKey, IsPlanLeft, IsLoadLeft, IsNextLeft}
 use Rattle.store_sweep.proofs.Left.{IsNoLoads}
 

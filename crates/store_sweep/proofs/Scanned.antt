@@ -1,5 +1,5 @@
 -- The rows that a scan takes under a prefix are rows of the map.
-use Rattle.std.proofs.Common.{◌≡◌, ◌⊎◌, ◌+◌, ℕ, List, [], ◌∷◌, ◌++◌, Bool, true, false, cond, ◌&&◌, nat_eq, Some, None, refl, sym, ap, subst, ◌∙◌, inl, inr, append_assoc}
+use Rattle.std.proofs.Common.{◌≡◌, ℕ, List, [], ◌∷◌, ◌++◌, Bool, true, false, cond, ◌&&◌, nat_eq, Some, None, refl, sym, ap, subst, ◌∙◌}
 use Rattle.std.specs.Prelude.{T}
 use Rattle.std.specs.List.{starts_with}
 use Rattle.std.specs.Ordering.{is_lt, eq_by_cmp}
@@ -16,21 +16,21 @@ use Rattle.btree_scan.specs.Prefixes.{find_under, head_rises, is_under, under, u
 use Rattle.btree_scan.specs.declared.rows.Row.{Row}
 use Rattle.store_rows.specs.Rows.{KeyMap}
 use Rattle.store_rows.specs.Frames.{differs, is_equal, itself, same_key}
-use Rattle.store_sweep.specs.Finding.{IsUnder, IsMark}
+use Rattle.store_sweep.specs.Finding.{IsUnder}
 
-first_so : (b c : Bool) → (b && c) ≡ true → b ≡ true
+pub first_so : (b c : Bool) → (b && c) ≡ true → b ≡ true
 first_so true c h = refl
 first_so false c h = h
 
-second_so : (b c : Bool) → (b && c) ≡ true → c ≡ true
+pub second_so : (b c : Bool) → (b && c) ≡ true → c ≡ true
 second_so true c h = h
 second_so false c h = cc
 
-either_way : (b : Bool) (P : Type 0) → (b ≡ true → P) → (b ≡ false → P) → P
+pub either_way : (b : Bool) (P : Type 0) → (b ≡ true → P) → (b ≡ false → P) → P
 either_way true P yes_so no_so = yes_so refl
 either_way false P yes_so no_so = no_so refl
 
-true_is : (b : Bool) → T b → b ≡ true
+pub true_is : (b : Bool) → T b → b ≡ true
 true_is true h = refl
 true_is false h = absurd h
 

@@ -1,5 +1,5 @@
 -- A sweep: a transaction that is begun, out of which rows are taken, and that is committed then.
-use Rattle.std.proofs.Common.{◌≡◌, ◌<◌, ◌≤◌, ◌+◌, ◌*◌, ℕ, Bool, List, [], ◌∷◌, length, Option, Some, None, true, false, refl, sym, ap, subst, ◌∙◌, inl, inr, ⊎_elim, arith}
+use Rattle.std.proofs.Common.{◌≡◌, ◌<◌, ◌≤◌, ◌+◌, ℕ, Bool, List, [], ◌∷◌, length, Option, Some, None, true, false, refl, sym, ap, subst, ◌∙◌, inl, inr, ⊎_elim, arith}
 use Rattle.std.specs.Prelude.{◌⊎◌, ◌↔◌}
 use Rattle.sector_device.specs.Disk.{Disk, Image}
 use Rattle.sector_device.specs.Moments.{LeavesOnly, leaves_more, leaves_wider}
@@ -16,7 +16,7 @@ use Rattle.page_btree.specs.Map.{Holds, InTxn, InPages}
 use Rattle.page_btree.specs.declared.error.TreeError.{TreeError}
 use Rattle.page_btree.specs.declared.error.TreeError.TheVariants as tree
 use Rattle.desk_model.specs.Desk.{Desk}
-use Rattle.store_keys.specs.Keys.{RowKey, key_of, Fits, counters, retired, begun, named, part, seal, block, pair, chunk}
+use Rattle.store_keys.specs.Keys.{RowKey, Fits, counters, retired, begun, named, part, seal, block, pair, chunk}
 use Rattle.store_rows.specs.Rows.{KeyMap}
 use Rattle.store_rows.specs.SweepLaws.{IsLeftover, take_rows, AreLeftovers}
 use Rattle.store_rows.specs.Tidy.{Tidy}
@@ -25,7 +25,7 @@ use Rattle.desk_pages.proofs.Kept.{opens_now}
 use Rattle.store_sweep.specs.declared.error.SweepError.{SweepError}
 use Rattle.store_sweep.specs.declared.error.SweepError.TheVariants.{Memory, DeviceFault, Halted}
 use Rattle.store_sweep.specs.Errors.{tree_told}
-use Rattle.store_sweep.specs.Leftovers.{IsSpared, AreNotSpared, IsSweptClean, IsSweptBy}
+use Rattle.store_sweep.specs.Leftovers.{IsSpared, AreNotSpared, IsSweptClean}
 use Rattle.store_sweep.specs.Sweeping.{IsSweptMap, HasSwept, HasDesk, TakeErr, HoldsSwept, SweepErr, Leaves, FinishErr}
 
 pub both : {X : Type 0} (b : Bool) → b ≡ true → b ≡ false → X

@@ -1,10 +1,10 @@
 -- Leftovers that are taken out one after the other.
-use Rattle.std.proofs.Common.{◌≡◌, ◌<◌, ◌≤◌, ◌+◌, ◌*◌, ◌++◌, ℕ, List, [], ◌∷◌, length, refl, sym, ap, subst, ◌∙◌, inl, inr, true, arith, length-append}
+use Rattle.std.proofs.Common.{◌≡◌, ◌<◌, ◌≤◌, ◌+◌, ◌++◌, ℕ, List, [], ◌∷◌, length, refl, sym, ap, subst, ◌∙◌, inl, inr, arith, length-append}
 use Rattle.std.specs.Prelude.{Option}
 use Rattle.std.specs.FinMap.{remove}
 use Rattle.sector_device.specs.Disk.{Image}
 use Rattle.sector_device.specs.declared.SectorDevice.{Ghosts}
-use Rattle.page_store.specs.Transactions.{stored, disk_in, has_halted, txn_pages, txn_free, txn_writes, IsQuiet, Passed}
+use Rattle.page_store.specs.Transactions.{stored, disk_in, txn_pages, txn_free, txn_writes, IsQuiet, Passed}
 use Rattle.page_store.specs.Stops.{passed_none, passed_more, failed_more}
 use Rattle.page_store.specs.declared.pages.Pages.{Pages}
 use Rattle.page_store.specs.declared.txn.Txn.{Txn}

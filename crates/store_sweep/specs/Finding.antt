@@ -1,14 +1,17 @@
 -- Rows that are looked for.
-use Rattle.std.specs.Prelude.{◌≡◌, ◌⊎◌, ◌≢◌, ◌<◌, ◌^◌, ℕ, Bool, true, false, nat_eq, List, [], Option, Some, None, Contains}
+use Rattle.std.specs.Prelude.{◌≡◌, ◌<◌, ◌≤◌, ◌^◌, ℕ, Bool, true, false, nat_eq, List, [], Option, Some, None, Contains}
 use Rattle.std.specs.List.{starts_with}
 use Rattle.std.specs.FinMap.{get}
+use Rattle.std.specs.Ordering.{is_gt}
+use Rattle.page_node.specs.Places.{key_cmp}
 use Rattle.btree_scan.specs.declared.rows.Row.{Row}
 use Rattle.store_keys.specs.Keys.{RowKey, key_of, Fits, counters, retired, begun, chunk}
 use Rattle.store_rows.specs.Rows.{KeyMap, Has}
 use Rattle.store_rows.specs.ChunkRows.{IsFreeChunk}
 use Rattle.store_rows.specs.SweepLaws.{IsLeftover}
-use Rattle.store_rows.specs.Tidy.{AreRows, Tidy}
+use Rattle.store_rows.specs.Tidy.{Tidy}
 use Rattle.store_sweep.specs.Leftovers.{IsSpared, IsOfLoad, IsSweptClean}
+use Rattle.store_sweep.specs.declared.pieces.Gap.{Gap}
 
 -- a row whose key begins with a prefix, where there is one
 pub record IsUnder (prefix : List ℕ) (row : Row) (m : KeyMap) : Type 0 where
@@ -45,6 +48,44 @@ pub record IsPieceOf (numbers : List ℕ) (key : List ℕ) (m : KeyMap) : Type 0
 abbrev pub IsFirstPiece : Bool → List ℕ → List ℕ → KeyMap → Type 0
 IsFirstPiece true numbers key m = IsPieceOf numbers key m
 IsFirstPiece false numbers key m = (number : ℕ) → Contains numbers number → IsFreeChunk m number
+
+-- the first key of the map that isn't below a key, or none where there is none
+pub record IsLeast (key found : List ℕ) (m : KeyMap) : Type 0 where
+  pub value : List ℕ
+  pub there : get m found ≡ Some value
+  pub from : is_gt (key_cmp key found) ≡ false
+  pub first : (other value : List ℕ) → get m other ≡ Some value → is_gt (key_cmp key other) ≡ false → is_gt (key_cmp found other) ≡ false
+
+abbrev pub IsFirstFrom : Bool → List ℕ → List ℕ → KeyMap → Type 0
+IsFirstFrom true key found m = IsLeast key found m
+IsFirstFrom false key found m = (other value : List ℕ) → get m other ≡ Some value → is_gt (key_cmp key other) ≡ false → ⊥
+
+-- a key of a piece of the chunk
+pub record IsPieceKey (number : ℕ) (key : List ℕ) : Type 0 where
+  pub piece : ℕ
+  pub fits : Fits (chunk number piece)
+  pub key_is : key ≡ key_of (chunk number piece)
+
+-- no chunk from one number on and below another has a piece
+abbrev pub AreFree : ℕ → ℕ → KeyMap → Type 0
+AreFree from to m = (number : ℕ) → from ≤ number → number < to → number < 2 ^ 64 → IsFreeChunk m number
+
+-- the first chunk from a number on that has one, or none
+abbrev pub IsNextChunk : Option ℕ → ℕ → List ℕ → KeyMap → Type 0
+IsNextChunk None number key m = AreFree number (2 ^ 64) m
+IsNextChunk (Some next) number key m = (number ≤ next) × IsPieceKey next key × AreFree number next m
+
+-- where a gap ends at a chunk that has one, its key is this
+abbrev pub EndsAt : Bool → ℕ → List ℕ → Type 0
+EndsAt true to key = IsPieceKey to key
+EndsAt false to key = Unit {0}
+
+abbrev pub IsGap : Gap → List ℕ → KeyMap → Type 0
+IsGap gap key m = AreFree gap.from gap.to m × EndsAt gap.ends gap.to key
+
+abbrev pub IsSought : Bool → ℕ → Gap → List ℕ → KeyMap → Type 0
+IsSought true number gap key m = IsPieceKey number key
+IsSought false number gap key m = IsFreeChunk m number × IsGap gap key m
 
 -- the key of a row that is left over
 pub record IsLeftKey (m : KeyMap) (key : List ℕ) (apart : RowKey → Type 0) : Type 0 where

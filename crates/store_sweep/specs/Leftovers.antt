@@ -1,8 +1,8 @@
 -- Which rows of a store are swept, and what is left once they are.
 use Rattle.std.specs.Prelude.{◌≡◌, ◌<◌, ◌^◌, ℕ, List, [], ◌∷◌, length, Option, Some, None}
-use Rattle.store_keys.specs.Keys.{RowKey, key_of, Fits, counters, retired, begun, named, part, seal, block, pair, chunk}
+use Rattle.store_keys.specs.Keys.{RowKey, counters, retired, begun, named, part, seal, block, pair, chunk}
 use Rattle.store_rows.specs.Rows.{KeyMap, Has}
-use Rattle.store_rows.specs.SweepLaws.{IsLeftover, take_rows, AreLeftovers}
+use Rattle.store_rows.specs.SweepLaws.{take_rows, AreLeftovers}
 
 -- a row that a load staged, or its mark
 abbrev pub IsOfLoad : ℕ → RowKey → Type 0

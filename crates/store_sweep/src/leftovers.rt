@@ -5,26 +5,17 @@ ghost use Rattle.page_btree.specs.Map.{InTxn};
 ghost use Rattle.row_table.specs.Reading.{ReadErr};
 ghost use Rattle.store_keys.specs.Keys.{in_eight};
 ghost use Rattle.store_rows.specs.Rows.{KeyMap};
-ghost use Rattle.store_rows.specs.Tidy.{AreRows, Tidy};
+ghost use Rattle.store_rows.specs.Tidy.{Tidy};
 ghost use Rattle.store_sweep.specs.Leftovers.{IsOfLoad, IsSpared};
-ghost use Rattle.store_sweep.specs.Finding.{IsFirstPiece, IsLeftKey, IsPlanLeft, IsLoadLeft, IsNextLeft, HasPlanMark, HasLoadMark, spared_key};
+ghost use Rattle.store_sweep.specs.Finding.{IsLeftKey, IsPlanLeft, IsLoadLeft, IsNextLeft, HasPlanMark, HasLoadMark, spared_key};
 
 use crate::firsts::{first_mark, first_under};
+use crate::pieces::{eight, first_piece};
 use btree_scan::Row;
 use page_store::{Pages, Txn};
 use row_table::TreeError;
 use sector_device::SectorDevice;
 use store_keys::{Key, read_chunks};
-
-/// The number of 8 bytes, the highest first.
-fn eight(bytes: &[u8]) -> u64
-    requires { length bytes.now ≡ 8 }
-    ensures { in_eight result ≡ bytes.now }
-{
-    u64::from_be_bytes([
-        bytes[0], bytes[1], bytes[2], bytes[3], bytes[4], bytes[5], bytes[6], bytes[7],
-    ])
-}
 
 /// The number behind the tag of a key; None where it isn't 8 bytes.
 fn number_in(key: &[u8]) -> Option<u64>
@@ -34,28 +25,6 @@ fn number_in(key: &[u8]) -> Option<u64>
         return None;
     }
     Some(eight(&key[1..]))
-}
-
-/// The first piece that is left of one of these chunks, if there is one.
-fn first_piece<D: SectorDevice>(
-    txn: &Txn,
-    pages: &mut Pages<D>,
-    numbers: &[u64],
-    row: &mut Row,
-) -> Result<bool, TreeError>
-    requires begun { txn_pages txn.now ≡ count_of pages.old }
-    ensures quiet { IsQuiet pages.old pages.new }
-    ensures passed { OnOk result (Passed pages.old pages.new) }
-    ensures found { (disk_in pages.new).is_honest → (m : KeyMap) → InTxn txn.now (stored pages.old) m → AreRows m → IfOk result (λ found. IsFirstPiece found numbers.now row.new.key m) }
-    ensures err { IfErr result (λ e. ReadErr AreRows txn.now pages.old pages.new e) }
-{
-    for number in numbers {
-        let prefix = Key::chunk_pieces(*number);
-        if first_under(txn, pages, prefix.as_slice(), row)? {
-            return Ok(true);
-        }
-    }
-    Ok(false)
 }
 
 /// Makes `row` one that is left over of a plan that was taken away, which has this mark: a piece of a chunk that its first part names;

@@ -5,6 +5,7 @@ mod commits;
 mod error;
 mod firsts;
 mod leftovers;
+mod pieces;
 mod rows;
 mod sweeps;
 

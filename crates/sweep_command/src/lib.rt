@@ -2,6 +2,7 @@
 //! and over its writers, that answers the exit status.
 #![tactic(auto)]
 
+pub mod progress;
 pub mod sweep;
 mod sweeping;
 mod texts;

@@ -5,6 +5,7 @@ ghost use Rattle.desk_clerk.specs.Clerks.{disk_of, is_halted};
 ghost use Rattle.desk_clerk.specs.Sweeps.{HasRows};
 ghost use Rattle.sweep_command.specs.Sweeping.{fault_of_sweep, KeepsDesk, HasSweptAll, IsStopped};
 
+use crate::progress::Progress;
 use desk_clerk::clerk::Clerk;
 use desk_clerk::sweeps::SweepError;
 use sector_device::SectorDevice;
@@ -24,8 +25,12 @@ fn sweep_fault(e: SweepError) -> StoreFault
     }
 }
 
-/// Takes out of a clerk's store what deleted plans and ended loads left in it: how many rows there were.
-pub fn sweep_all<D: SectorDevice>(alloc: Global, clerk: &mut Clerk<D>) -> Result<u64, StoreFault>
+/// Takes out of a clerk's store what deleted plans and ended loads left in it: how many rows there were. `progress` hears of each step.
+pub fn sweep_all<D: SectorDevice, P: Progress>(
+    alloc: Global,
+    clerk: &mut Clerk<D>,
+    progress: &mut P,
+) -> Result<u64, StoreFault>
     requires { is_halted clerk.old ≡ false }
     ensures keeps { KeepsDesk clerk.old clerk.new }
     ensures swept { (disk_of clerk.new).is_honest → (m : KeyMap) → HasRows clerk.old m → IfOk result (λ rows. HasSweptAll clerk.old m rows clerk.new) }
@@ -40,6 +45,7 @@ pub fn sweep_all<D: SectorDevice>(alloc: Global, clerk: &mut Clerk<D>) -> Result
                     return Ok(rows);
                 }
                 rows += count as u64;
+                progress.note(rows);
             }
             Err(e) => return Err(sweep_fault(e)),
         }

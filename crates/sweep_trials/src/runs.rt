@@ -7,12 +7,28 @@ use sector_device::SectorDevice;
 use sector_memory::{FailOnce, MemoryDevice};
 use std::alloc::Global;
 use std::process::Abort;
+use sweep_command::progress::{Progress, Telling};
 use sweep_command::sweep::sweep;
+
+/// Counts the steps that it hears of.
+#[derive(Drop)]
+struct Heard {
+    steps: u32,
+    rows: u64,
+}
+
+impl Progress for Heard {
+    fn note(&mut self, rows: u64) {
+        self.steps = self.steps.saturating_add(1);
+        self.rows = rows;
+    }
+}
 
 /// What the command came to.
 #[derive(Drop)]
 struct Ended {
     status: Status,
+    heard: Heard,
     output: Vec<u8>,
     errors: Vec<u8>,
 }
@@ -32,11 +48,20 @@ fn bytes_of(sink: WriteSink<Page>) -> Vec<u8> {
 /// The command where there is a device or none, and where so many bytes can be printed.
 fn run<D: SectorDevice>(alloc: Global, device: Option<&mut D>, room: usize) -> Ended {
     let mut shelf = Shelf { device };
+    let mut heard = Heard { steps: 0, rows: 0 };
     let mut writer = page(alloc, room);
     let mut errors = page(alloc, 100);
-    let status = sweep(alloc, &mut shelf, "store", &mut writer, &mut errors);
+    let status = sweep(
+        alloc,
+        &mut shelf,
+        "store",
+        &mut heard,
+        &mut writer,
+        &mut errors,
+    );
     Ended {
         status,
+        heard,
         output: bytes_of(writer),
         errors: bytes_of(errors),
     }
@@ -64,6 +89,7 @@ fn a_store_is_swept(rt: HostRuntime) {
     let mut device = littered(&rt, alloc);
     let ended = run(alloc, Some(&mut device), 100);
     ends(&rt, &ended, b"swept 12 rows\n", b"", Status::Done);
+    assert!(rt; ended.heard.steps == 1 && ended.heard.rows == 12);
     let ended = run(alloc, Some(&mut device), 100);
     ends(&rt, &ended, b"swept 0 rows\n", b"", Status::Done);
     let ended = run(alloc, Some(&mut device), 5);
@@ -134,4 +160,27 @@ fn a_failing_device_is_told(rt: HostRuntime) {
         device = same;
     }
     panic!(rt; "never passed")
+}
+
+/// What is told of so many steps, with or without a terminal.
+fn told(alloc: Global, steps: u64, is_terminal: bool) -> Vec<u8> {
+    let page = Page {
+        bytes: Vec::new(alloc),
+        room: 100,
+    };
+    let mut telling = Telling::new(page, is_terminal);
+    for step in 0..steps {
+        telling.note(step.wrapping_mul(16));
+    }
+    let Page { bytes, room: _ } = telling.into_inner();
+    bytes
+}
+
+#[test]
+fn a_long_sweep_is_told_at_a_terminal(rt: HostRuntime) {
+    let alloc = rt.alloc();
+    assert!(rt; told(alloc, 1_023, true).is_empty());
+    let both: &[u8] = b"plandesk: sweep: 16368 rows so far\nplandesk: sweep: 32752 rows so far\n";
+    assert!(rt; told(alloc, 2_048, true).as_slice() == both);
+    assert!(rt; told(alloc, 2_048, false).is_empty());
 }

@@ -1,14 +1,13 @@
 //! Plans that are created, revised and taken away, each in a commit of its own.
-use crate::stores::{made, store};
+use crate::stores::{find, made, name, numbers, put_numbers, store};
 use desk_model::kind::Kind;
 use desk_model::name::PlanName;
 use page_store::Pages;
-use plan_table::{Change, create_plan, find_plan, retire_plan, revise_plan};
-use row_table::{next_numbers, put_row};
+use plan_table::{Change, create_plan, retire_plan, revise_plan};
 use sector_memory::MemoryDevice;
 use std::alloc::Global;
 use std::process::Abort;
-use store_keys::{Counters, Key, PlanRow, counters_value};
+use store_keys::{Counters, PlanRow};
 
 fn create<R: Abort>(
     rt: &R,
@@ -22,18 +21,6 @@ fn create<R: Abort>(
     let change = create_plan(&mut txn, pages, name, kind, districts);
     store(rt, txn, pages);
     change.expect(rt, "not created")
-}
-
-fn find<R: Abort>(
-    rt: &R,
-    alloc: Global,
-    pages: &mut Pages<MemoryDevice>,
-    name: &PlanName,
-) -> Option<PlanRow> {
-    let txn = pages.begin(alloc);
-    let row = find_plan(&txn, pages, name);
-    txn.abandon();
-    row.expect(rt, "not read")
 }
 
 /// Adds a revision to a plan that is there.
@@ -63,24 +50,6 @@ fn retire<R: Abort>(
     let retired = retire_plan(&mut txn, pages, name, number);
     retired.expect(rt, "refused");
     store(rt, txn, pages);
-}
-
-fn numbers<R: Abort>(rt: &R, alloc: Global, pages: &mut Pages<MemoryDevice>) -> Counters {
-    let txn = pages.begin(alloc);
-    let next = next_numbers(&txn, pages);
-    txn.abandon();
-    next.expect(rt, "not read")
-}
-
-fn put_numbers<R: Abort>(rt: &R, alloc: Global, pages: &mut Pages<MemoryDevice>, next: &Counters) {
-    let mut txn = pages.begin(alloc);
-    let put = put_row(&mut txn, pages, &Key::counters(), &counters_value(next));
-    put.expect(rt, "refused");
-    store(rt, txn, pages);
-}
-
-fn name<R: Abort>(rt: &R, bytes: &[u8]) -> PlanName {
-    PlanName::read(bytes).expect(rt, "no name")
 }
 
 /// The row of a plan of the senate with 50 districts.

@@ -6,13 +6,13 @@ ghost use Rattle.desk_model.specs.Sample.{sample_desk};
 ghost use Rattle.desk_clerk.specs.Clerks.{desk_of, is_halted, Keeps};
 ghost use Rattle.talk_command.specs.Talking.{Talks, ServesSample, status_of as status_of_served};
 
-use byte_stream::sink::Sink;
 use byte_stream::source::Source;
 use desk_clerk::clerk::Clerk;
 use desk_loading::start;
 use desk_model::gate::NoGate;
 use desk_model::geography::sample;
 use exit_status::status::Status;
+use http_answer::gather::GatherSink;
 use http_desk::serve::{ServeFault, Served};
 use sector_device::SectorDevice;
 use sector_memory::MemoryDevice;
@@ -39,7 +39,7 @@ fn sample_clerk(alloc: Global) -> Option<Clerk<MemoryDevice>>
 }
 
 /// Serves the sample desk.
-fn serve_sample<R: Source, W: Sink>(
+fn serve_sample<R: Source, W: GatherSink>(
     alloc: Global,
     reader: &mut R,
     writer: &mut W,
@@ -77,7 +77,7 @@ fn fault_line(fault: ServeFault) -> &'static [u8] {
 
 /// Serves the reader to the writer until its end or a closing answer: 0. 5 where memory for the desk or the first
 /// buffers is refused, before anything is read; 6 where a read or a write fails, or the turns of reading are used up.
-pub fn talk<R: Source, W: Sink, E: Write>(
+pub fn talk<R: Source, W: GatherSink, E: Write>(
     alloc: Global,
     reader: &mut R,
     writer: &mut W,

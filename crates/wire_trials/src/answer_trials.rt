@@ -1,6 +1,9 @@
 //! Worked answers, and writes that fail.
+ghost use Rattle.std.specs.Prelude.{◌≤◌, length, IfOk};
+
 use byte_stream::sink::{WriteFault, WriteSink};
 use http::StatusCode;
+use http_answer::gather::{GatherWrite, Gathering};
 use http_answer::response::{ContentType, Outbox, Response, write_response};
 use std::alloc::Global;
 use std::io;
@@ -109,4 +112,79 @@ fn a_write_that_fails(rt: HostRuntime) {
         assert!(rt; written_to(&rt, alloc, body, limit) == (Err(WriteFault), limit));
     }
     assert!(rt; written_to(&rt, alloc, body, 50_000) == (Ok(()), 40_000 + 68));
+}
+
+/// Takes so many bytes a call, of two texts at once too, and notes the calls.
+#[derive(Drop)]
+struct Pages {
+    bytes: Vec<u8>,
+    piece: usize,
+    calls: usize,
+}
+
+impl Pages {
+    fn take(&mut self, text: &[u8], room: usize) -> io::Result<usize>
+        ensures { IfOk result (λ n. n ≤ length text.now) }
+    {
+        let n = room.min(text.len());
+        self.bytes.extend_from_slice(&text[..n])?;
+        Ok(n)
+    }
+}
+
+impl Write for Pages {
+    fn write(&mut self, buf: &[u8]) -> io::Result<usize> {
+        self.calls = self.calls.saturating_add(1);
+        self.take(buf, self.piece)
+    }
+
+    fn flush(&mut self) -> io::Result<()> {
+        Ok(())
+    }
+}
+
+impl GatherWrite for Pages {
+    fn write_both(&mut self, first: &[u8], second: &[u8]) -> io::Result<usize> {
+        self.calls = self.calls.saturating_add(1);
+        let n = self.take(first, self.piece)?;
+        Ok(n + self.take(second, self.piece.saturating_sub(n))?)
+    }
+}
+
+/// What a list of so many bytes is written as, in so many calls.
+fn pages_of<R: Abort>(rt: &R, alloc: Global, body: &[u8], piece: usize) -> (Vec<u8>, usize) {
+    let mut outbox = Outbox::new(alloc).expect(rt, "no memory");
+    let mut writer = Gathering::new(Pages {
+        bytes: Vec::new(alloc),
+        piece,
+        calls: 0,
+    });
+    let answer = Response {
+        status: StatusCode::OK,
+        kind: ContentType::Json,
+        allow: None,
+        closes: false,
+        bare: false,
+        body,
+    };
+    assert!(rt; write_response(&mut writer, &mut outbox, &answer).is_ok());
+    let Pages { bytes, calls, .. } = writer.into_inner();
+    (bytes, calls)
+}
+
+const HEAD: &[u8] =
+    b"HTTP/1.1 200 OK\r\nContent-Type: application/json\r\nContent-Length: 40000\r\n\r\n";
+
+#[test]
+fn a_long_answer_in_one_write(rt: HostRuntime) {
+    let alloc = rt.alloc();
+    let body = Vec::from_elem(alloc, b'x', 40_000).expect(&rt, "no memory");
+    for (piece, calls) in [(100_000, 1), (30_000, 2), (50, 802)] {
+        let (bytes, count) = pages_of(&rt, alloc, body.as_slice(), piece);
+        assert!(rt; count == calls);
+        assert!(rt; bytes.as_slice().starts_with(HEAD));
+        assert!(rt;
+            bytes.len() == HEAD.len() + 40_000 && bytes.as_slice().ends_with(body.as_slice())
+        );
+    }
 }

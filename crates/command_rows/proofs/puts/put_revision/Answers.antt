@@ -2,8 +2,12 @@ use Rattle.std.proofs.Common.{◌≡◌, ℕ, List, length, Some, ap, ◌∙◌}
 use Rattle.std.specs.Option.{option_copied}
 use Rattle.desk_model.specs.Desk.{Desk}
 use Rattle.command_rows.specs.Accepted.{next_is}
+use Rattle.command_rows.proofs.Counted.{there_is}
 use Rattle.command_rows.proofs.Stepped.{revision_put}
 use Rattle.command_rows.proofs.puts.put_revision.Goals as goal
+
+pub next_of-next-requires : goal.next_of-next-requires
+next_of-next-requires g c = there_is _ c.requires.revised.districts (next_is c.args.shown.now c.args.name.now c.args.after c.args.then.now c.requires.revised)
 
 pub add-requires-clause-next : goal.add-requires-clause-next
 add-requires-clause-next gh c =

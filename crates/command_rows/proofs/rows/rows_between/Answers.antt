@@ -8,8 +8,11 @@ use Rattle.desk_model.specs.Room.{revision_rows}
 use Rattle.desk_room.specs.Cutting.{AreWithin}
 use Rattle.command_rows.specs.Accepted.{next_is, rows_added}
 use Rattle.command_rows.specs.Counties.{few_cuts}
-use Rattle.command_rows.proofs.Counted.{cuts_are, if_whole, same_ground}
+use Rattle.command_rows.proofs.Counted.{cuts_are, if_whole, same_ground, there_is}
 use Rattle.command_rows.proofs.rows.rows_between.Goals as goal
+
+pub next_of-next-requires : goal.next_of-next-requires
+next_of-next-requires c = there_is _ c.requires.revised.districts (next_is c.args.shown.now c.args.name.now c.args.after c.args.then.now c.requires.revised)
 
 pub revision_rows-requires-clause-few : goal.revision_rows-requires-clause-few
 revision_rows-requires-clause-few c =

@@ -1,12 +1,35 @@
-use Rattle.desk_catalogue.proofs.Neighbours.{none_there, county_there}
+use Rattle.std.proofs.Common.{◌≤◌, ◌<◌, ◌⊎◌, length, inl, inr, ◌∙◌, arith}
+use Rattle.desk_catalogue.proofs.Neighbours.{none_there, county_there, span_starts, span_ends}
 use Rattle.desk_catalogue.proofs.patch.county_in_part.Goals as goal
+use Rattle.desk_catalogue.proofs.patch.county_in_part.Goals.{then-first-eq0, else-first-eq0, then-end-blocks, else-end-blocks}
 
-pub returns-then-county : goal.returns-then-county
-returns-then-county c = λ values is. county_there c.args.geography.now values c.blocks-blocks.ensures.valid c.least_county_is_told.ensures c.blocks-blocks.result.now c.args.listed.now c.loop-place.place
-    c.index-blocks-place.result c.index-blocks-place-then-is_some.result c.county-county.result c.county.result c.is_some.result c.is_some-in-loop-place.result c.blocks-blocks.ensures.value is
-    c.loop-place.invariant c.loop-place.auto.place c.loop-place-test.true c.county-county.ensures c.county.ensures
-    c.if-county.true c.is_some.ensures c.is_some-in-loop-place.ensures c.if-is_some.true
+pub loop-place-init : goal.loop-place-init
+loop-place-init c =
+    let low : (c.if-first-eq0.start ≤ c.span-first.result.0) ⊎ (c.if-first-eq0.start ≤ 1)
+    = elim c.if-first-eq0.branch [ then-first-eq0 w ↦ inr (omega (arith, w.start-is)) | else-first-eq0 w ↦ inl (omega (arith, w.start-is)) ] in
+    let one : 1 ≤ c.if-first-eq0.start
+    = elim c.if-first-eq0.branch [ then-first-eq0 w ↦ omega (arith, w.start-is) | else-first-eq0 w ↦ omega (arith, w.start-is, w.if-first-eq0.false) ] in
+    (span_starts c.blocks-blocks.result.now c.as_slice-listed.result.now c.span-first.result c.if-first-eq0.start (rw c.as_slice-listed.ensures c.span-first.ensures) low, one)
 
 pub returns : goal.returns
-returns c = λ values is. none_there c.args.geography.now values c.blocks-blocks.ensures.valid c.least_county_is_told.ensures c.blocks-blocks.result.now c.args.listed.now c.loop-place.place
-    c.blocks-blocks.ensures.value is c.loop-place.invariant c.loop-place-test.false
+returns c = λ values is.
+    let behind : (length c.blocks-blocks.result.now ≤ c.loop-place.place) ⊎ (c.span-first.result.1 < c.loop-place.place)
+    = elim c.if-end-blocks.branch [
+      | then-end-blocks w ↦ inr (omega (arith, w.stop-is, c.loop-place-test.false))
+      | else-end-blocks w ↦ inl (omega (arith, w.stop-is, c.loop-place-test.false))
+    ] in
+    let agree = span_ends c.blocks-blocks.result.now c.as_slice-listed.result.now c.span-first.result c.loop-place.place (rw c.as_slice-listed.ensures c.span-first.ensures) c.loop-place.invariant.0 behind in
+    none_there c.args.geography.now values c.blocks-blocks.ensures.valid c.least_county_is_told.ensures c.blocks-blocks.result.now c.as_slice-listed.result.now (length c.blocks-blocks.result.now)
+    c.blocks-blocks.ensures.value (c.as_slice-listed.ensures ∙ is) agree (omega (arith))
+
+pub returns-then-county : goal.returns-then-county
+returns-then-county c = λ values is.
+    let within : c.loop-place.place < length c.blocks-blocks.result.now
+    = elim c.if-end-blocks.branch [
+      | then-end-blocks w ↦ omega (arith, w.stop-is, w.if-end-blocks.true, c.loop-place-test.true)
+      | else-end-blocks w ↦ omega (arith, w.stop-is, c.loop-place-test.true)
+    ] in
+    county_there c.args.geography.now values c.blocks-blocks.ensures.valid c.least_county_is_told.ensures c.blocks-blocks.result.now c.as_slice-listed.result.now c.loop-place.place
+    c.index-blocks-place.result c.index-blocks-place-then-is_some.result c.county-county.result c.county.result c.is_some.result c.is_some-in-loop-place.result c.blocks-blocks.ensures.value (c.as_slice-listed.ensures ∙ is)
+    c.loop-place.invariant.0 c.loop-place.invariant.1 within c.county-county.ensures c.county.ensures
+    c.if-county.true c.is_some.ensures c.is_some-in-loop-place.ensures c.if-is_some.true

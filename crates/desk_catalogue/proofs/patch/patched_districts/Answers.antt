@@ -2,7 +2,7 @@ use Rattle.desk_catalogue.proofs.Overlays.{read_patched, read_long}
 use Rattle.desk_catalogue.proofs.patch.patched_districts.Goals as goal
 
 pub returns-in-Ok-clause-ok : goal.returns-in-Ok-clause-ok
-returns-in-Ok-clause-ok c = read_patched _ c.args.geography.now c.in_ok-listed.listed _ _ c.county_in_part.result c.in_ok-listed.ensures.ok (rw c.as_slice.ensures at c.county_in_part.ensures)
+returns-in-Ok-clause-ok c = read_patched _ c.args.geography.now c.in_ok-listed.listed _ _ c.county_in_part.result c.in_ok-listed.ensures.ok c.county_in_part.ensures
     c.in_default.is c.in-Ok.ensures
 
 pub returns-in-Ok-clause-long : goal.returns-in-Ok-clause-long

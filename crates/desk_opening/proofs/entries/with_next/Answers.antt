@@ -38,7 +38,7 @@ returns-in-Ok-revised-clause-whole g c before =
     let blocks : length c.blocks-3.result.now ≡ length c.args.geography.now.blocks = ap (λ (l : List BlockRow). length l) c.blocks-3.ensures.value in
     let same = c.append_revision.new.into.ok.0 in
     let long : length c.append_revision.new.into.items ≡ length c.args.geography.now.blocks = omega arith in
-    subst (λ (e : List ℕ × Plan). IsWhole c.args.geography.now e.1) (sym c.in-Ok-revised.ensures) (All-push (λ (d : List ℕ). length d ≡ length c.args.geography.now.blocks) c.args.entry.now.1.revisions c.append_revision.new.into.items before long)
+    subst (λ (e : List ℕ × Plan). IsWhole c.args.geography.now e.1) (sym (c.in-Ok-revised.ensures ∙ ap (λ (l : List ℕ). (c.args.entry.now.0, with_revision c.args.entry.now.1 l)) c.as_slice.ensures.value)) (All-push (λ (d : List ℕ). length d ≡ length c.args.geography.now.blocks) c.args.entry.now.1.revisions c.append_revision.new.into.items before long)
 
 pub returns-in-Ok-revised-clause-read : goal.returns-in-Ok-revised-clause-read
 returns-in-Ok-revised-clause-read g c = record {
@@ -46,5 +46,5 @@ returns-in-Ok-revised-clause-read g c = record {
   read = λ honest m x holds said.
       let is = is_revision c.args.geography.now c.args.cuts.now c.args.plan c.args.revision m x c.requires.cut c.lists_are_cut.ensures said in
       let all = laid_out c.args.geography.now x c.append_revision.new.into.items c.in-Ok.districts.items c.lists_are_cut.ensures said.whole c.in-Ok.ensures.items (c.in_ok-append_revision.ensures.append.appended honest m (cut c.args.geography.now x) holds is) in
-      c.in-Ok-revised.ensures ∙ ap (λ (l : List ℕ). (c.args.entry.now.0, with_revision c.args.entry.now.1 l)) all;
+      c.in-Ok-revised.ensures ∙ ap (λ (l : List ℕ). (c.args.entry.now.0, with_revision c.args.entry.now.1 l)) (c.as_slice.ensures.value ∙ all);
 }

@@ -1,4 +1,4 @@
-use Rattle.std.proofs.Common.{arith, sym, ◌∙◌}
+use Rattle.std.proofs.Common.{arith, sym}
 use Rattle.http_desk.proofs.BodyLemmas.{begins, kept}
 use Rattle.http_desk.proofs.body.put_plans.Goals as goal
 

@@ -19,18 +19,15 @@ returns-then-count_of-lt2-clause-taken c = λ es is rises.
     let n = is.count in
     (refl, omega arith)
 
-pub remove_in-requires-clause-index : goal.remove_in-requires-clause-index
-remove_in-requires-clause-index c = let few = c.in_ok-spot.ensures.few in omega arith
-
 pub returns-in_err-remove_in-clause-err : goal.returns-in_err-remove_in-clause-err
 returns-in_err-remove_in-clause-err c = refused c.from_residual-in_err-remove_in.result ((es : List Entry) → IsNode c.args.page.now (record { level = 0; entries = es }) → Rises es → ⊥) (λ es is rises.
     let spot = subst (λ b. IsSpot c.args.key.now es b c.in_ok-spot.spot.index c.in_ok-spot.spot.at c.in_ok-spot.spot.end) c.if-spot.true (c.in_ok-spot.ensures.spot _ is rises) in
-    c.in_err-remove_in.ensures.err _ is spot.0.within spot.2)
+    c.in_err-remove_in.ensures.err _ is (let within = spot.0.within in omega arith))
 
 pub returns-then-spot-clause-taken : goal.returns-then-spot-clause-taken
 returns-then-spot-clause-taken c = λ es is rises.
     let spot = subst (λ b. IsSpot c.args.key.now es b c.in_ok-spot.spot.index c.in_ok-spot.spot.at c.in_ok-spot.spot.end) c.if-spot.true (c.in_ok-spot.ensures.spot _ is rises) in
-    let done = c.in_ok-remove_in.ensures.removed _ is spot.0.within spot.1 spot.2 in
+    let done = c.in_ok-remove_in.ensures.removed _ _ is spot.0.within spot.1 spot.2 in
     let many = c.if-count_of-lt2.false in
     let counted = c.count_of.ensures.count in
     let n = is.count in

@@ -76,7 +76,7 @@ returns-in_err-put_revision-clause-add g c =
     let numbered : c.as_slice-2.result.now ≡ drawn counters.chunk 0 kept last next (cuts_of ground) =
     c.as_slice-2.ensures.value ∙ c.in-Ok.ensures ∙ ap (λ (l : List ℕ). drawn counters.chunk 0 l last next c.args.cuts.now) c.as_slice.ensures.value ∙ ap (λ (cs : List Cut). drawn counters.chunk 0 kept last next cs) c.requires.cut in
     let room : used ≤ 2 ^ 64 - 1 - counters.chunk = let less = c.if-used-first.false in omega arith in
-    let each : (i : ℕ) → get_or next i 0 < 2 ^ 16 = λ i. let fits = c.type_inv.next i in omega arith in
+    let each : (i : ℕ) → get_or next i 0 < 2 ^ 16 = c.districts_fit.ensures in
     let can = can_add ground last next row counters used c.blocks-blocks.ensures.valid c.requires.next each c.in_ok-read.ensures.fits many room in
     let read = λ (honest : (disk_in b).is_honest) (m : KeyMap) (holds : HasMap t (stored a) m). subst (λ (cs : List Cut). AreRead name (length cs) row counters kept m) c.requires.cut (c.in_ok-read.ensures.read honest m holds) in
     let error = c.in_err-put_revision.field-0.0 in
@@ -108,7 +108,7 @@ returns-in-Made-clause-add g c =
     let numbered : c.as_slice-2.result.now ≡ drawn counters.chunk 0 kept last next (cuts_of ground) =
     c.as_slice-2.ensures.value ∙ c.in-Ok.ensures ∙ ap (λ (l : List ℕ). drawn counters.chunk 0 l last next c.args.cuts.now) c.as_slice.ensures.value ∙ ap (λ (cs : List Cut). drawn counters.chunk 0 kept last next cs) c.requires.cut in
     let room : used ≤ 2 ^ 64 - 1 - counters.chunk = let less = c.if-used-first.false in omega arith in
-    let each : (i : ℕ) → get_or next i 0 < 2 ^ 16 = λ i. let fits = c.type_inv.next i in omega arith in
+    let each : (i : ℕ) → get_or next i 0 < 2 ^ 16 = c.districts_fit.ensures in
     let can = can_add ground last next row counters used c.blocks-blocks.ensures.valid c.requires.next each c.in_ok-read.ensures.fits many room in
     let read = λ (honest : (disk_in b).is_honest) (m : KeyMap) (holds : HasMap t (stored a) m). subst (λ (cs : List Cut). AreRead name (length cs) row counters kept m) c.requires.cut (c.in_ok-read.ensures.read honest m holds) in
     let put = subst (λ (change : Change). IsChangedAfter (front_rows counters.chunk lists row c.as_slice-2.result.now) (HasChunkNumbers used) (revised_rows name row used) t u b d change) c.in-Made.is c.in_ok-put_revision.ensures.put in
@@ -141,7 +141,7 @@ returns-clause-add g c =
     let numbered : c.as_slice-2.result.now ≡ drawn counters.chunk 0 kept last next (cuts_of ground) =
     c.as_slice-2.ensures.value ∙ c.in-Ok.ensures ∙ ap (λ (l : List ℕ). drawn counters.chunk 0 l last next c.args.cuts.now) c.as_slice.ensures.value ∙ ap (λ (cs : List Cut). drawn counters.chunk 0 kept last next cs) c.requires.cut in
     let room : used ≤ 2 ^ 64 - 1 - counters.chunk = let less = c.if-used-first.false in omega arith in
-    let each : (i : ℕ) → get_or next i 0 < 2 ^ 16 = λ i. let fits = c.type_inv.next i in omega arith in
+    let each : (i : ℕ) → get_or next i 0 < 2 ^ 16 = c.districts_fit.ensures in
     let can = can_add ground last next row counters used c.blocks-blocks.ensures.valid c.requires.next each c.in_ok-read.ensures.fits many room in
     let read = λ (honest : (disk_in b).is_honest) (m : KeyMap) (holds : HasMap t (stored a) m). subst (λ (cs : List Cut). AreRead name (length cs) row counters kept m) c.requires.cut (c.in_ok-read.ensures.read honest m holds) in
     let put = subst (λ (change : Change). IsChangedAfter (front_rows counters.chunk lists row c.as_slice-2.result.now) (HasChunkNumbers used) (revised_rows name row used) t u b d change) c.in-Spent.is c.in_ok-put_revision.ensures.put in

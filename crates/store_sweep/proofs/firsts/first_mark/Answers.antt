@@ -1,13 +1,11 @@
-use Rattle.std.proofs.Common.{◌≡◌, ◌++◌, ◌+◌, List, ℕ, [], ◌∷◌, length, refl, inr, sym, ap, subst, ◌∙◌, arith, length-append}
+use Rattle.std.proofs.Common.{◌≡◌, ◌++◌, ◌+◌, List, [], ◌∷◌, refl, inr, sym, ap, subst, ◌∙◌, arith, length-append}
 use Rattle.std.specs.Prelude.{Some, None, IfSome}
-use Rattle.std.specs.FinMap.{entries, find}
+use Rattle.std.specs.FinMap.{entries}
 use Rattle.sector_device.specs.Disk.{Image}
 use Rattle.page_store.specs.Transactions.{stored}
 use Rattle.page_store.specs.Stops.{quiet_more, passed_more, passed_none}
 use Rattle.page_node.specs.Entries.{Entry}
-use Rattle.page_node.specs.Places.{key_cmp}
 use Rattle.page_btree.specs.Map.{InTxn}
-use Rattle.btree_scan.specs.Prefixes.{under}
 use Rattle.btree_scan.specs.Scanning.{IsNextRow, fault_in, CanScan, ScanErr}
 use Rattle.btree_scan.specs.Taken.{taken_none, taken_more, taken_all, taken_few}
 use Rattle.btree_scan.specs.Refused.{scan_refused}

@@ -1,4 +1,4 @@
-use Rattle.std.proofs.Common.{◌≡◌, ◌<◌, ◌^◌, ℕ, List, Bool, Option, Some, None, IfSome, true, false, inr, drop, length, ap, sym, subst, ◌∙◌}
+use Rattle.std.proofs.Common.{◌≡◌, ℕ, List, Bool, true, false, inr, drop, length, ap, sym, subst, ◌∙◌}
 use Rattle.sector_device.specs.Disk.{Image}
 use Rattle.page_store.specs.Stops.{quiet_more, passed_more}
 use Rattle.page_btree.specs.Map.{InTxn}
@@ -6,8 +6,7 @@ use Rattle.store_keys.specs.Keys.{begun_prefix, in_eight}
 use Rattle.store_rows.specs.Tidy.{Tidy}
 use Rattle.row_table.specs.Outcomes.{err_of}
 use Rattle.row_table.specs.Reading.{ReadErr, get_unread}
-use Rattle.store_sweep.specs.Leftovers.{IsOfLoad}
-use Rattle.store_sweep.specs.Finding.{IsFirstMark, IsLeftKey, HasLoadMark, spared_key}
+use Rattle.store_sweep.specs.Finding.{IsFirstMark, HasLoadMark, spared_key}
 use Rattle.store_sweep.proofs.Left.{begun_long, begun_mark, no_begun, load_next_left}
 use Rattle.store_sweep.proofs.Refused.{mark_unread}
 use Rattle.store_sweep.proofs.leftovers.left_of_loads.Goals as goal

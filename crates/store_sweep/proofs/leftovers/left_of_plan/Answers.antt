@@ -1,4 +1,4 @@
-use Rattle.std.proofs.Common.{◌≡◌, ◌<◌, ◌^◌, ℕ, List, Bool, true, false, inr, sym, subst, ◌∙◌, arith}
+use Rattle.std.proofs.Common.{◌≡◌, ℕ, List, Bool, true, false, inr, sym, subst, ◌∙◌, arith}
 use Rattle.sector_device.specs.Disk.{Image}
 use Rattle.page_store.specs.Stops.{quiet_more, passed_more}
 use Rattle.page_btree.specs.Map.{InTxn}

@@ -5,7 +5,7 @@ use Rattle.page_btree.specs.Map.{InTxn}
 use Rattle.store_keys.specs.Keys.{retired_prefix, key_of, counters, in_eight}
 use Rattle.store_rows.specs.Tidy.{Tidy}
 use Rattle.row_table.specs.Outcomes.{err_of}
-use Rattle.row_table.specs.Reading.{ReadErr, get_unread, not_read_after}
+use Rattle.row_table.specs.Reading.{ReadErr, get_unread}
 use Rattle.store_sweep.specs.Finding.{IsFirstMark, HasPlanMark}
 use Rattle.store_sweep.proofs.Left.{retired_long, retired_mark, no_retired}
 use Rattle.store_sweep.proofs.Refused.{mark_unread}

@@ -1,4 +1,4 @@
-use Rattle.std.proofs.Common.{◌≡◌, ℕ, Bool, true, false, sym, subst, ◌∙◌}
+use Rattle.std.proofs.Common.{Bool, false, sym, subst}
 use Rattle.sector_device.specs.Disk.{Image}
 use Rattle.page_store.specs.Transactions.{Passed}
 use Rattle.page_store.specs.Stops.{quiet_more, passed_more}

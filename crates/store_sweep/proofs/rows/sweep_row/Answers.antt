@@ -1,12 +1,9 @@
-use Rattle.std.proofs.Common.{◌≡◌, ◌<◌, ◌≤◌, ℕ, List, Bool, true, false, inr, length, refl, sym, subst, ◌∙◌, arith}
+use Rattle.std.proofs.Common.{◌<◌, ◌≤◌, ℕ, List, Bool, true, inr, length, refl, sym, subst}
 use Rattle.page_store.specs.Stops.{quiet_more}
-use Rattle.page_store.specs.Transactions.{stored, disk_in}
-use Rattle.page_btree.specs.Map.{InTxn}
-use Rattle.store_rows.specs.Rows.{KeyMap}
-use Rattle.store_rows.specs.Tidy.{Tidy}
+use Rattle.page_store.specs.Transactions.{stored}
 use Rattle.row_table.specs.Outcomes.{match_of}
 use Rattle.store_sweep.specs.Leftovers.{IsSpared}
-use Rattle.store_sweep.specs.Finding.{IsNextLeft, IsLeftKey}
+use Rattle.store_sweep.specs.Finding.{IsNextLeft}
 use Rattle.store_sweep.specs.Sweeping.{HasDesk, TakeErr, IsTurn}
 use Rattle.store_sweep.proofs.Taken.{key_fits, one_swept, not_found, not_removed, removed_key}
 use Rattle.store_sweep.proofs.rows.sweep_row.Goals as goal

@@ -1,12 +1,10 @@
-use Rattle.std.proofs.Common.{◌≡◌, ◌≤◌, ℕ, refl, sym, ◌∙◌, inl, inr, arith}
-use Rattle.page_store.specs.Stops.{leaves_here}
-use Rattle.page_store.specs.Transactions.{stored, disk_in, has_halted}
+use Rattle.std.proofs.Common.{refl, sym, ◌∙◌}
+use Rattle.page_store.specs.Transactions.{has_halted}
 use Rattle.row_table.specs.Outcomes.{err_of}
-use Rattle.desk_pages.specs.Desks.{OpensDesk}
-use Rattle.desk_pages.proofs.Kept.{opens_now, kept_working}
+use Rattle.desk_pages.proofs.Kept.{kept_working}
 use Rattle.store_sweep.specs.Errors.{tree_told}
 use Rattle.store_sweep.specs.Sweeping.{SweepErr}
-use Rattle.store_sweep.proofs.Stepped.{both, IsBegun, begun_now, quiet_shape, shape_after, quiet_leaves, taken_writes, still_working, none_holds, none_exact, none_free, some_holds, some_exact, some_free, some_leaves, not_taken, not_committed}
+use Rattle.store_sweep.proofs.Stepped.{both, begun_now, quiet_shape, shape_after, quiet_leaves, taken_writes, none_holds, none_exact, none_free, some_holds, some_exact, some_free, some_leaves, not_taken, not_committed}
 use Rattle.store_sweep.proofs.sweeps.sweep_step.Goals as goal
 
 -- ---- halted

@@ -1,4 +1,4 @@
-use Rattle.std.proofs.Common.{ℕ, List, true, sym, ap, subst}
+use Rattle.std.proofs.Common.{ℕ, List, true, false, sym, ap, subst}
 use Rattle.std.specs.Prelude.{Some}
 use Rattle.std.specs.FinMap.{entries}
 use Rattle.page_btree.specs.declared.seeks.Leaf.{Leaf}
@@ -10,5 +10,5 @@ use Rattle.btree_scan.proofs.scans.Scan.new.Goals as goal
 pub returns-clause-rows : goal.returns-clause-rows
 returns-clause-rows c = λ m.
     let held : Leaf = record { page = c.empty-2.result.page; at = c.empty-2.result.at; left = c.empty-2.result.left; bounded = true; bound = c.set-2.new.self } in
-    subst (λ (prefix : List ℕ). IsReady prefix held (entries m) (under c.args.prefix.now (entries m))) (sym c.set.ensures)
+    subst (λ (prefix : List ℕ). IsReady false prefix held (entries m) (under c.args.prefix.now (entries m))) (sym c.set.ensures)
     (ready_new c.args.prefix.now m held c.empty-2.ensures.at c.empty-2.ensures.left (ap Some c.set-2.ensures))

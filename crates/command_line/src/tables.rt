@@ -1,0 +1,183 @@
+//! What each command takes, in the order of its help.
+use crate::helps::{CHECK_HELP, FORMAT_HELP, LOAD_HELP, SERVE_HELP, SWEEP_HELP, TALK_HELP};
+
+/// A command: its name, what it does, what is told behind its options, and these.
+pub(crate) struct Order {
+    pub(crate) name: &'static str,
+    pub(crate) about: &'static str,
+    pub(crate) after: &'static str,
+    pub(crate) entries: &'static [Entry],
+}
+
+/// A word or an option of a command.
+pub(crate) enum Entry {
+    /// The file of a store, a word that stands alone.
+    Store,
+    /// A file that has to be named: the option and its help.
+    File(&'static str, &'static str),
+    /// A number that has to be given: the option, what its value is called, its help, the least and the greatest.
+    Number(&'static str, &'static str, &'static str, u64, u64),
+    /// An option that may be left out: its name, what its value is called, its help, its values, and the options that it requires.
+    Beside(&'static str, &'static str, &'static str, Values, &'static [&'static str]),
+}
+
+/// Which values an option has.
+#[derive(Clone, Copy)]
+pub(crate) enum Values {
+    Texts,
+    /// Numbers from the first to the last.
+    Numbers(u64, u64),
+    /// Kinds of plans.
+    Kinds,
+}
+
+/// The kinds of plans, as they are written.
+pub(crate) const KINDS: &[&str] = &["congress", "senate", "house"];
+
+/// The header and the three segments of the census files.
+const GEO: Entry = Entry::File("geo", "The geographic header");
+
+const SEG1: Entry = Entry::File("seg1", "Segment 1");
+
+const SEG2: Entry = Entry::File("seg2", "Segment 2");
+
+const SEG3: Entry = Entry::File("seg3", "Segment 3");
+
+/// The options of an audit go together: each requires the next, and the last the first. So do those of a senate plan.
+const CHECK: &[Entry] = &[
+    GEO,
+    SEG1,
+    SEG2,
+    SEG3,
+    Entry::Beside(
+        "gal",
+        "FILE",
+        "The neighbour file (GAL)",
+        Values::Texts,
+        &["plan"],
+    ),
+    Entry::Beside(
+        "plan",
+        "FILE",
+        "The plan to be audited, a block assignment file",
+        Values::Texts,
+        &["kind"],
+    ),
+    Entry::Beside(
+        "kind",
+        "KIND",
+        "The plan's kind",
+        Values::Kinds,
+        &["districts"],
+    ),
+    Entry::Beside(
+        "districts",
+        "N",
+        "The plan's number of districts: 1 to 99 for congress, else 1 to 999",
+        Values::Numbers(1, 999),
+        &["gal"],
+    ),
+    Entry::Beside(
+        "senate",
+        "FILE",
+        "The senate plan that a house plan is nested in",
+        Values::Texts,
+        &["senate-districts"],
+    ),
+    Entry::Beside(
+        "senate-districts",
+        "N",
+        "The senate plan's number of districts: 1 to 999",
+        Values::Numbers(1, 999),
+        &["senate", "plan"],
+    ),
+    Entry::Beside(
+        "workers",
+        "N",
+        "How many threads audit the plan: 1 to 64, by default 1",
+        Values::Numbers(1, 64),
+        &[],
+    ),
+];
+
+const FORMAT: &[Entry] = &[
+    Entry::Store,
+    Entry::Number(
+        "sectors",
+        "N",
+        "How many sectors of 4,096 bytes",
+        1,
+        4_294_967_295,
+    ),
+    Entry::Number(
+        "journal",
+        "J",
+        "How many pages a commit may write: 256 to 65536",
+        256,
+        65_536,
+    ),
+];
+
+const LOAD: &[Entry] = &[
+    Entry::Store,
+    GEO,
+    SEG1,
+    SEG2,
+    SEG3,
+    Entry::File("gal", "The neighbour file (GAL)"),
+];
+
+const SERVE: &[Entry] = &[
+    Entry::Store,
+    Entry::Number("port", "P", "The port of 127.0.0.1: 1 to 65535", 1, 65_535),
+    Entry::Number("workers", "W", "How many threads serve: 1 to 64", 1, 64),
+    Entry::Number(
+        "connections",
+        "C",
+        "After how many connections it ends: 1 to 4294967295",
+        1,
+        4_294_967_295,
+    ),
+];
+
+const SWEEP: &[Entry] = &[Entry::Store];
+
+/// The commands, in the order of the help.
+pub(crate) static ORDERS: [Order; 6] = [
+    Order {
+        name: "check",
+        about: "Prints the counts of a state's census files, or with a plan its audit",
+        after: CHECK_HELP,
+        entries: CHECK,
+    },
+    Order {
+        name: "format",
+        about: "Makes an empty store in a new file",
+        after: FORMAT_HELP,
+        entries: FORMAT,
+    },
+    Order {
+        name: "load",
+        about: "Fills an empty store with a state's blocks and neighbours",
+        after: LOAD_HELP,
+        entries: LOAD,
+    },
+    Order {
+        name: "serve",
+        about: "Serves a store over HTTP/1.1",
+        after: SERVE_HELP,
+        entries: SERVE,
+    },
+    Order {
+        name: "sweep",
+        about: "Takes out of a store what deleted plans and ended loads left in it",
+        after: SWEEP_HELP,
+        entries: SWEEP,
+    },
+    Order {
+        name: "talk",
+        about: "Serves HTTP/1.1 from standard input to standard output, over a sample geography",
+        after: TALK_HELP,
+        entries: &[],
+    },
+];

@@ -1,0 +1,33 @@
+-- Two texts that are written one behind the other.
+use Rattle.std.proofs.Common.{◌≡◌, ℕ, ◌+◌, ◌-◌, ◌≤◌, List, ◌++◌, length, take, drop, Option, sym, ap, subst, ◌∙◌, arith, append_assoc, length-drop, length-append, take-append-drop}
+use Rattle.std.proofs.lemmas.List.{take_rest}
+use Rattle.std.proofs.Math.Seq.{take-add, drop-append-add}
+use Rattle.std.proofs.KnownBytes.{Appends-trans, Appends-kept}
+use Rattle.std.specs.Io.KnownBytes.{Appends, Keeps}
+
+-- a front of the first is one of both
+pub cut_first : (a b : Option (List ℕ)) (first second : List ℕ) → (front : List ℕ) × (rest : List ℕ) × (first ≡ front ++ rest) × Appends a b front
+    → (front : List ℕ) × (rest : List ℕ) × (first ++ second ≡ front ++ rest) × Appends a b front
+cut_first a b first second s = (s.0, s.1 ++ second, ap (λ (xs : List ℕ). xs ++ second) s.2 ∙ append_assoc s.0 s.1 second, s.3)
+
+-- one piece more of the bytes, from what is left of them
+pub piece_more : (a b c : Option (List ℕ)) (bytes : List ℕ) (done n : ℕ) → Appends a b (take done bytes) → Appends b c (take n (drop done bytes)) → Appends a c (take (done + n) bytes)
+piece_more a b c bytes done n p q = subst (Appends a c) (sym (take-add done n bytes)) (Appends-trans a b c (take done bytes) (take n (drop done bytes)) p q)
+
+-- what was written is a front of the bytes
+pub piece_front : (a b : Option (List ℕ)) (bytes : List ℕ) (done : ℕ) → Appends a b (take done bytes) → (front : List ℕ) × (rest : List ℕ) × (bytes ≡ front ++ rest) × Appends a b front
+piece_front a b bytes done p = (take done bytes, drop done bytes, sym (take-append-drop done bytes), p)
+
+-- and a write that took nothing leaves it so
+pub piece_stays : (a b c : Option (List ℕ)) (bytes : List ℕ) (done : ℕ) → Appends a b (take done bytes) → Keeps b c → (front : List ℕ) × (rest : List ℕ) × (bytes ≡ front ++ rest) × Appends a c front
+piece_stays a b c bytes done p k = piece_front a c bytes done (Appends-kept a b c (take done bytes) p k)
+
+-- and it is within them
+pub piece_within : (first second : List ℕ) (done n : ℕ) → n ≤ length (drop done (first ++ second)) → done ≤ length first + length second → done + n ≤ length first + length second
+piece_within first second done n h within = omega (arith, h, within, length-drop done (first ++ second), length-append first second)
+
+-- what is left where the first is whole
+pub past_first : (first second : List ℕ) (done : ℕ) → length first ≤ done → drop done (first ++ second) ≡ take (length second - (done - length first)) (drop (done - length first) second)
+past_first first second done h =
+    let e : done ≡ length first + (done - length first) = omega (arith, h) in
+    ap (λ n. drop n (first ++ second)) e ∙ drop-append-add first second (done - length first) ∙ sym (take_rest second (done - length first))

@@ -1,0 +1,6 @@
+//! The order of keys: by their bytes, a key before its longer continuations.
+#![tactic(auto)]
+
+mod keys;
+
+pub use keys::compare;

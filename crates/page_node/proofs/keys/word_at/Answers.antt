@@ -1,6 +1,0 @@
-use Rattle.std.proofs.Common.{◌∙◌}
-use Rattle.page_node.proofs.Comparing.{eight_are}
-use Rattle.page_node.proofs.keys.word_at.Goals as goal
-
-pub returns : goal.returns
-returns c = c.from_be_bytes.ensures ∙ eight_are c.args.bytes.now c.args.at c.requires

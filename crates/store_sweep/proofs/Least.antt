@@ -1,0 +1,211 @@
+-- The first key that isn't below another, and chunks by their numbers.
+use Rattle.std.proofs.Common.{◌≡◌, ◌⊎◌, ◌<◌, ◌≤◌, ◌^◌, ◌++◌, ℕ, List, [], ◌∷◌, Bool, true, false, cond, nat_eq, length, take, drop, Some, None, refl, sym, ap, subst, ◌∙◌, inl, inr, ⊎_elim, arith}
+use Rattle.std.specs.Prelude.{Option, Contains, nat_le}
+use Rattle.std.specs.List.{starts_with}
+use Rattle.std.specs.Ordering.{nat_cmp, is_gt, is_lt, ordering_then, eq_by_cmp}
+use Rattle.std.specs.declared.cmp.Ordering.{Ordering}
+use Rattle.std.specs.declared.cmp.Ordering.TheVariants.{Less, Equal, Greater}
+use Rattle.std.specs.Cmp.{nat_cmp_is}
+use Rattle.std.specs.Cmp.Lexicographic.{nat_list_cmp_total}
+use Rattle.std.specs.FinMap.{entries, entries_sorted, find, get, get-entries, is_sorted}
+use Rattle.std.specs.FinMap.Entries.{below_all}
+use Rattle.std.proofs.lemmas.Cmp.{tied_itself}
+use Rattle.std.proofs.lemmas.Bool.Decides.{nat_tests}
+use Rattle.page_node.specs.Entries.{Entry}
+use Rattle.page_node.specs.Places.{key_cmp, Rises, entries_from}
+use Rattle.page_node.specs.Laws.{is_less}
+use Rattle.page_node.specs.Walking.{IsAhead}
+use Rattle.page_btree.specs.Seeking.{IsFrom}
+use Rattle.page_btree.specs.declared.seeks.Leaf.{Leaf}
+use Rattle.btree_scan.specs.Prefixes.{AllFrom, all_from_key, head_rises, rises_from_key, under_is_from}
+use Rattle.store_keys.specs.Keys.{RowKey, key_of, Fits, counters, retired, begun, named, part, seal, block, pair, chunk, in_two, in_eight, chunk_prefix}
+use Rattle.store_keys.proofs.Numbers.{numbers_decide}
+use Rattle.store_rows.specs.Rows.{KeyMap}
+use Rattle.store_rows.specs.Frames.{is_equal, itself, same_key}
+use Rattle.store_rows.specs.Tidy.{AreRows}
+use Rattle.store_sweep.specs.Finding.{IsLeast, IsFirstFrom, IsPieceKey, IsNextChunk, IsPieceOf}
+use Rattle.store_sweep.proofs.Keys.{piece_is, starts_piece, eights_same}
+use Rattle.store_sweep.proofs.Scanned.{first_so, second_so, either_way, true_is}
+
+-- ---- entries from a key on
+find_from : (key other : List ℕ) (es : List Entry) → is_gt (key_cmp key other) ≡ false → find key_cmp other (entries_from key es) ≡ find key_cmp other es
+find_from key other [] from = refl
+find_from key other (e ∷ es) from = either_way (is_gt (key_cmp key e.0)) (find key_cmp other (entries_from key (e ∷ es)) ≡ find key_cmp other (e ∷ es))
+    (λ above.
+    let apart : eq_by_cmp key_cmp other e.0 ≡ false = either_way (eq_by_cmp key_cmp other e.0) (eq_by_cmp key_cmp other e.0 ≡ false)
+    (λ same.
+    let is : other ≡ e.0 = same_key other e.0 (is_equal (key_cmp other e.0) same) in
+    let both : false ≡ true = sym from ∙ ap (λ (k : List ℕ). is_gt (key_cmp key k)) is ∙ above in
+    cc)
+    (λ none. none) in
+    ap (λ (b : Bool). find key_cmp other (cond (cond b false true) (e ∷ entries_from key es) (entries_from key es))) above
+    ∙ find_from key other es from
+    ∙ sym (ap (λ (b : Bool). cond b (Some e.1) (find key_cmp other es)) apart))
+    (λ not.
+    ap (λ (b : Bool). find key_cmp other (cond (cond b false true) (e ∷ entries_from key es) (entries_from key es))) not
+    ∙ ap (λ (o : Option (List ℕ)). cond (eq_by_cmp key_cmp other e.0) (Some e.1) o) (find_from key other es from))
+
+below_found : (x other value : List ℕ) (es : List Entry) → below_all key_cmp x es ≡ true → find key_cmp other es ≡ Some value → key_cmp x other ≡ Less
+below_found x other value [] below there = let clash : ◌≡◌ {A = Option (List ℕ)} None (Some value) = there in cc
+below_found x other value (e ∷ es) below there = either_way (eq_by_cmp key_cmp other e.0) (key_cmp x other ≡ Less)
+    (λ same.
+    let is : other ≡ e.0 = same_key other e.0 (is_equal (key_cmp other e.0) same) in
+    ap (key_cmp x) is ∙ is_less (key_cmp x e.0) (first_so (is_lt (key_cmp x e.0)) (below_all key_cmp x es) below))
+    (λ none. below_found x other value es (second_so (is_lt (key_cmp x e.0)) (below_all key_cmp x es) below) (sym (ap (λ (b : Bool). cond b (Some e.1) (find key_cmp other es)) none) ∙ there))
+
+head_least : (e : Entry) (es : List Entry) (other value : List ℕ) → Rises (e ∷ es) → find key_cmp other (e ∷ es) ≡ Some value → is_gt (key_cmp e.0 other) ≡ false
+head_least e es other value rises there = either_way (eq_by_cmp key_cmp other e.0) (is_gt (key_cmp e.0 other) ≡ false)
+    (λ same.
+    let is : other ≡ e.0 = same_key other e.0 (is_equal (key_cmp other e.0) same) in
+    ap (λ (k : List ℕ). is_gt (key_cmp e.0 k)) is ∙ ap is_gt (tied_itself nat_list_cmp_total e.0))
+    (λ none. ap is_gt (below_found e.0 other value es (head_rises e es rises).0 (sym (ap (λ (b : Bool). cond b (Some e.1) (find key_cmp other es)) none) ∙ there)))
+
+module _ (m : KeyMap) where
+  from_among : (key other value : List ℕ) (all : List Entry) → entries_from key (entries m) ≡ all → get m other ≡ Some value → is_gt (key_cmp key other) ≡ false → find key_cmp other all ≡ Some value
+  from_among key other value all whole there from = ap (λ (es : List Entry). find key_cmp other es) (sym whole) ∙ find_from key other (entries m) from ∙ sym (get-entries m other) ∙ there
+
+  pub least_found : (key : List ℕ) (e : Entry) (rest : List Entry) → entries_from key (entries m) ≡ e ∷ rest → (found : List ℕ) → found ≡ e.0 → IsLeast key found m
+  least_found key e rest whole found same =
+      let rises : Rises (e ∷ rest) = subst Rises whole (rises_from_key key (entries m) (true_is (is_sorted key_cmp (entries m)) (entries_sorted m))) in
+      let all : AllFrom key (e ∷ rest) = subst (AllFrom key) whole (all_from_key key (entries m)) in
+      subst (λ (k : List ℕ). IsLeast key k m) (sym same) (record {
+        value = e.1;
+        there = get-entries m e.0 ∙ sym (find_from key e.0 (entries m) all.0) ∙ ap (λ (es : List Entry). find key_cmp e.0 es) whole ∙ ap (λ (b : Bool). cond b (Some e.1) (find key_cmp e.0 rest)) (itself e.0);
+        from = all.0;
+        first = λ other value there from. head_least e rest other value rises (from_among key other value (e ∷ rest) whole there from);
+      })
+
+  pub none_found : (key : List ℕ) → entries_from key (entries m) ≡ [] → (found : List ℕ) → IsFirstFrom false key found m
+  none_found key whole found = λ other value there from. let clash : ◌≡◌ {A = Option (List ℕ)} None (Some value) = from_among key other value [] whole there from in cc
+
+-- ---- the leaf that stands there
+pub record IsAt (key : List ℕ) (all : List Entry) (held : Leaf) : Type 0 where
+  pub e : Entry
+  pub es : List Entry
+  pub rest : List Entry
+  pub ahead : IsAhead held.page held.at (e ∷ es)
+  pub whole : entries_from key all ≡ e ∷ rest
+
+pub leaf_none : (key : List ℕ) (all : List Entry) (held : Leaf) → IsFrom key all held → held.left ≡ 0 → entries_from key all ≡ []
+leaf_none key all held is none = is.rows_are ∙ ap (λ (l : List Entry). l ++ is.behind) (empty is.here (sym is.left_is ∙ none)) ∙ is.some none
+  where
+    empty : (l : List Entry) → length l ≡ 0 → l ≡ []
+    empty [] h = refl
+    empty (e ∷ l) h = absurd (omega arith)
+
+pub leaf_some : (key : List ℕ) (all : List Entry) (held : Leaf) → IsFrom key all held → (held.left ≡ 0 → ⊥) → IsAt key all held
+leaf_some key all held is some = at is.here is.left_is is.ahead is.rows_are
+  where
+    at : (here : List Entry) → held.left ≡ length here → IsAhead held.page held.at here → entries_from key all ≡ here ++ is.behind → IsAt key all held
+    at [] left ahead whole = absurd (some left)
+    at (e ∷ es) left ahead whole = record { e = e; es = es; rest = es ++ is.behind; ahead = ahead; whole = whole }
+
+-- ---- the order of chunks' keys
+then_less : (r s t : Ordering) → (s ≡ Less → t ≡ Less) → ordering_then r s ≡ Less → ordering_then r t ≡ Less
+then_less Less s t f h = refl
+then_less Equal s t f h = f h
+then_less Greater s t f h = cc
+
+then_more : (r s t : Ordering) → (s ≡ Greater → t ≡ Greater) → ordering_then r s ≡ Greater → ordering_then r t ≡ Greater
+then_more Less s t f h = cc
+then_more Equal s t f h = f h
+then_more Greater s t f h = refl
+
+front_less : (a b x y : List ℕ) → length a ≡ length b → key_cmp a b ≡ Less → key_cmp (a ++ x) (b ++ y) ≡ Less
+front_less [] [] x y same h = cc
+front_less [] (q ∷ b) x y same h = absurd (omega arith)
+front_less (p ∷ a) [] x y same h = absurd (omega arith)
+front_less (p ∷ a) (q ∷ b) x y same h = then_less (nat_cmp p q) (key_cmp a b) (key_cmp (a ++ x) (b ++ y)) (front_less a b x y (omega arith)) h
+
+front_more : (a b x y : List ℕ) → length a ≡ length b → key_cmp a b ≡ Greater → key_cmp (a ++ x) (b ++ y) ≡ Greater
+front_more [] [] x y same h = cc
+front_more [] (q ∷ b) x y same h = absurd (omega arith)
+front_more (p ∷ a) [] x y same h = absurd (omega arith)
+front_more (p ∷ a) (q ∷ b) x y same h = then_more (nat_cmp p q) (key_cmp a b) (key_cmp (a ++ x) (b ++ y)) (front_more a b x y (omega arith)) h
+
+chunk_less : (a b : ℕ) (x y : List ℕ) → a < 2 ^ 64 → b < 2 ^ 64 → a < b → key_cmp (chunk_prefix a ++ x) (chunk_prefix b ++ y) ≡ Less
+chunk_less a b x y fa fb less = front_less (chunk_prefix a) (chunk_prefix b) x y refl ((numbers_decide (107 ∷ []) a b).2 fa fb ∙ sym (nat_cmp_is a b Less less))
+
+chunk_more : (a b : ℕ) (x y : List ℕ) → a < 2 ^ 64 → b < 2 ^ 64 → b < a → key_cmp (chunk_prefix a ++ x) (chunk_prefix b ++ y) ≡ Greater
+chunk_more a b x y fa fb more = front_more (chunk_prefix a) (chunk_prefix b) x y refl ((numbers_decide (107 ∷ []) a b).2 fa fb ∙ sym (nat_cmp_is a b Greater more))
+
+-- a piece of a chunk from a number on isn't below that number's keys
+piece_from : (number other piece : ℕ) → number < 2 ^ 64 → other < 2 ^ 64 → number ≤ other → is_gt (key_cmp (chunk_prefix number) (key_of (chunk other piece))) ≡ false
+piece_from number other piece fits other_fits least = ⊎_elim {C = is_gt (key_cmp (chunk_prefix number) (key_of (chunk other piece))) ≡ false}
+    (λ (less : number < other). ap is_gt (chunk_less number other [] (in_two piece) fits other_fits less))
+    (λ (same : number ≡ other). under_is_from (chunk_prefix number) (key_of (chunk other piece)) (subst (λ (k : ℕ). starts_with nat_eq (key_of (chunk other piece)) (chunk_prefix k) ≡ true) (sym same) (starts_piece other piece)))
+    (less_or_same number other least)
+  where
+    less_or_same : (a b : ℕ) → a ≤ b → (a < b) ⊎ (a ≡ b)
+    less_or_same a b least = either_way (nat_eq a b) ((a < b) ⊎ (a ≡ b)) (λ is. inr (grind (arith, nat_tests))) (λ not. inl (grind (arith, nat_tests)))
+
+-- ---- the next chunk
+gone_where : (o : Option (List ℕ)) → ((value : List ℕ) → o ≡ Some value → ⊥) → o ≡ None
+gone_where None not = refl
+gone_where (Some value) not = absurd (not value refl)
+
+-- a first key from a chunk's on is that of a piece
+pub record IsPieceRow (number : ℕ) (key : List ℕ) : Type 0 where
+  pub next : ℕ
+  pub piece : ℕ
+  pub fits : Fits (chunk next piece)
+  pub key_is : key ≡ key_of (chunk next piece)
+
+tag_more : {X : Type 0} → true ≡ false → X
+tag_more is = absurd (cc)
+
+row_piece : (number : ℕ) (row : RowKey) (key : List ℕ) → Fits row → key ≡ key_of row → is_gt (key_cmp (chunk_prefix number) (key_of row)) ≡ false → IsPieceRow number key
+row_piece number counters key fits same from = tag_more from
+row_piece number (retired plan) key fits same from = tag_more from
+row_piece number (begun load) key fits same from = tag_more from
+row_piece number (named name) key fits same from = tag_more from
+row_piece number (part plan revision index) key fits same from = tag_more from
+row_piece number seal key fits same from = tag_more from
+row_piece number (block load place) key fits same from = tag_more from
+row_piece number (pair load place) key fits same from = tag_more from
+row_piece number (chunk next piece) key fits same from = record { next = next; piece = piece; fits = fits; key_is = same }
+
+module _ (m : KeyMap) where
+  least_piece : (number : ℕ) (key : List ℕ) → AreRows m → IsLeast (chunk_prefix number) key m → IsPieceRow number key
+  least_piece number key rows least =
+      let (row, fits, same) = rows key least.value least.there in
+      row_piece number row key fits same (subst (λ (k : List ℕ). is_gt (key_cmp (chunk_prefix number) k) ≡ false) same least.from)
+
+  -- its key is long enough, and its number stands behind the tag
+  pub least_long : (number : ℕ) (key : List ℕ) → AreRows m → IsLeast (chunk_prefix number) key m → length key ≡ 11
+  least_long number key rows least = ap (λ (k : List ℕ). length k) (least_piece number key rows least).key_is
+
+  pub least_starts : (number next : ℕ) (key : List ℕ) → next < 2 ^ 64 → in_eight next ≡ take 8 (drop 1 key) → AreRows m → IsLeast (chunk_prefix number) key m → starts_with nat_eq key (chunk_prefix next) ≡ true
+  least_starts number next key few told rows least =
+      let at = least_piece number key rows least in
+      let bytes : in_eight next ≡ in_eight at.next = told ∙ ap (λ (k : List ℕ). take 8 (drop 1 k)) at.key_is in
+      let same : next ≡ at.next = eights_same next at.next few at.fits.0 bytes in
+      subst (λ (k : List ℕ). starts_with nat_eq k (chunk_prefix next) ≡ true) (sym at.key_is) (subst (λ (n : ℕ). starts_with nat_eq (key_of (chunk at.next at.piece)) (chunk_prefix n) ≡ true) (sym same) (starts_piece at.next at.piece))
+
+  not_below : (number next piece : ℕ) → number < 2 ^ 64 → next < 2 ^ 64 → is_gt (key_cmp (chunk_prefix number) (key_of (chunk next piece))) ≡ false → number ≤ next
+  not_below number next piece fits next_fits from = either_way (nat_le number next) (number ≤ next) (λ is. grind (arith, nat_tests))
+      (λ not.
+      let more : next < number = grind (arith, nat_tests) in
+      let above : is_gt (key_cmp (chunk_prefix number) (key_of (chunk next piece))) ≡ true = ap is_gt (chunk_more number next [] (in_two piece) fits next_fits more) in
+      let both : true ≡ false = sym above ∙ from in
+      cc)
+
+  pub next_some : (number next : ℕ) (key : List ℕ) → number < 2 ^ 64 → next < 2 ^ 64 → AreRows m → IsLeast (chunk_prefix number) key m → starts_with nat_eq key (chunk_prefix next) ≡ true → IsNextChunk (Some next) number key m
+  next_some number next key fits few rows least on =
+      let (row, row_fits, same) = rows key least.value least.there in
+      let (piece, kind) = piece_is next few row row_fits (subst (λ (k : List ℕ). starts_with nat_eq k (chunk_prefix next) ≡ true) same on) in
+      let is : key ≡ key_of (chunk next piece) = same ∙ ap key_of kind in (
+        not_below number next piece fits few (subst (λ (k : List ℕ). is_gt (key_cmp (chunk_prefix number) k) ≡ false) is least.from),
+        record { piece = piece; fits = subst Fits kind row_fits; key_is = is },
+        λ other from below other_fits index small. gone_where (get m (key_of (chunk other index))) (λ value there.
+            let above = least.first (key_of (chunk other index)) value there (piece_from number other index fits other_fits from) in
+            let more : is_gt (key_cmp key (key_of (chunk other index))) ≡ true = ap (λ (k : List ℕ). is_gt (key_cmp k (key_of (chunk other index)))) is ∙ ap is_gt (chunk_more next other (in_two piece) (in_two index) few other_fits below) in
+            let both : true ≡ false = sym more ∙ above in
+            cc),
+      )
+
+  pub next_none : (number : ℕ) (key : List ℕ) → number < 2 ^ 64 → IsFirstFrom false (chunk_prefix number) key m → IsNextChunk None number key m
+  next_none number key fits none = λ other from below other_fits index small. gone_where (get m (key_of (chunk other index))) (λ value there. none (key_of (chunk other index)) value there (piece_from number other index fits other_fits from))
+
+  pub piece_of : (numbers : List ℕ) (number : ℕ) (key : List ℕ) → Contains numbers number → IsPieceKey number key → IsPieceOf numbers key m
+  piece_of numbers number key among is = record { number = number; piece = is.piece; among = among; fits = is.fits; key_is = is.key_is }

@@ -1,0 +1,156 @@
+//! Finds a piece that is left of some chunks.
+ghost use Rattle.std.specs.Prelude.{◌≡◌, ◌<◌, ◌^◌, length, OnOk, IfOk, IfErr};
+ghost use Rattle.page_store.specs.Transactions.{stored, disk_in, count_of, txn_pages, IsQuiet, Passed};
+ghost use Rattle.page_btree.specs.Map.{InTxn};
+ghost use Rattle.page_btree.specs.Errors.{GetErr};
+ghost use Rattle.row_table.specs.Reading.{ReadErr};
+ghost use Rattle.store_keys.specs.Keys.{in_eight};
+ghost use Rattle.store_rows.specs.Rows.{KeyMap};
+ghost use Rattle.store_rows.specs.Tidy.{AreRows};
+ghost use Rattle.store_sweep.specs.Finding.{IsFirstFrom, IsNextChunk, IsGap, IsSought, IsFirstPiece};
+
+use btree_scan::{Row, SmallBytes};
+use page_btree::{Leaf, leaf_from};
+use page_node::{Lengths, bounds_in};
+use page_store::{Pages, Txn};
+use row_table::TreeError;
+use sector_device::SectorDevice;
+use store_keys::Key;
+
+/// The number of 8 bytes, the highest first.
+pub(crate) fn eight(bytes: &[u8]) -> u64
+    requires { length bytes.now ≡ 8 }
+    ensures bytes { in_eight result ≡ bytes.now }
+    ensures fits { result < 2 ^ 64 }
+{
+    u64::from_be_bytes([
+        bytes[0], bytes[1], bytes[2], bytes[3], bytes[4], bytes[5], bytes[6], bytes[7],
+    ])
+}
+
+/// Copies the first key in the map that isn't below a key, if there is one.
+fn key_from<D: SectorDevice>(
+    txn: &Txn,
+    pages: &mut Pages<D>,
+    key: &[u8],
+    found: &mut SmallBytes,
+) -> Result<bool, TreeError>
+    requires begun { txn_pages txn.now ≡ count_of pages.old }
+    ensures quiet { IsQuiet pages.old pages.new }
+    ensures passed { OnOk result (Passed pages.old pages.new) }
+    ensures found { (disk_in pages.new).is_honest → (m : KeyMap) → InTxn txn.now (stored pages.old) m → IfOk result (λ is. IsFirstFrom is key.now found.new m) }
+    ensures err { IfErr result (λ e. GetErr txn.now pages.old pages.new e) }
+{
+    let mut leaf = Leaf::empty();
+    leaf_from(txn, pages, key, &mut leaf)?;
+    if leaf.left == 0 {
+        return Ok(false);
+    }
+    let mut last = Lengths::NONE;
+    match bounds_in(&leaf.page, leaf.at, &mut last) {
+        None => Err(TreeError::DeviceFault),
+        Some(bounds) => {
+            found.set(&leaf.page[leaf.at + 3..bounds.value]);
+            Ok(true)
+        }
+    }
+}
+
+/// The first chunk from a number on that has a piece, whose key is copied; none where no chunk from there on has one.
+fn chunk_from<D: SectorDevice>(
+    txn: &Txn,
+    pages: &mut Pages<D>,
+    number: u64,
+    row: &mut Row,
+) -> Result<Option<u64>, TreeError>
+    requires begun { txn_pages txn.now ≡ count_of pages.old }
+    ensures quiet { IsQuiet pages.old pages.new }
+    ensures passed { OnOk result (Passed pages.old pages.new) }
+    ensures found { (disk_in pages.new).is_honest → (m : KeyMap) → InTxn txn.now (stored pages.old) m → AreRows m → IfOk result (λ next. IsNextChunk next number row.new.key m) }
+    ensures err { IfErr result (λ e. ReadErr AreRows txn.now pages.old pages.new e) }
+{
+    let prefix = Key::chunk_pieces(number);
+    if !key_from(txn, pages, prefix.as_slice(), &mut row.key)? {
+        return Ok(None);
+    }
+    let key = row.key.as_slice();
+    if key.len() < 9 {
+        return Err(TreeError::DeviceFault);
+    }
+    let next = eight(&key[1..9]);
+    if !key.starts_with(Key::chunk_pieces(next).as_slice()) {
+        return Err(TreeError::DeviceFault);
+    }
+    Ok(Some(next))
+}
+
+/// Chunks from a number on and below another, of which none has a piece. Where it ends at one that has, the key of its first piece
+/// is at hand.
+#[derive(Clone, Copy, Drop)]
+struct Gap {
+    from: u64,
+    to: u64,
+    ends: bool,
+}
+
+/// Copies the key of a piece of a chunk, if there is one. A chunk in the gap has none, and the key of the one where it ends is in
+/// `row`; else the gap is then the one from that chunk on.
+fn seek_piece<D: SectorDevice>(
+    txn: &Txn,
+    pages: &mut Pages<D>,
+    number: u64,
+    gap: &mut Gap,
+    row: &mut Row,
+) -> Result<bool, TreeError>
+    requires begun { txn_pages txn.now ≡ count_of pages.old }
+    ensures quiet { IsQuiet pages.old pages.new }
+    ensures passed { OnOk result (Passed pages.old pages.new) }
+    ensures found { (disk_in pages.new).is_honest → (m : KeyMap) → InTxn txn.now (stored pages.old) m → AreRows m → IsGap gap.old row.old.key m → IfOk result (λ found. IsSought found number gap.new row.new.key m) }
+    ensures err { IfErr result (λ e. ReadErr AreRows txn.now pages.old pages.new e) }
+{
+    if gap.from <= number && number < gap.to {
+        return Ok(false);
+    }
+    if gap.ends && number == gap.to {
+        return Ok(true);
+    }
+    gap.from = number;
+    gap.ends = false;
+    match chunk_from(txn, pages, number, row)? {
+        None => {
+            gap.to = u64::MAX;
+            Ok(false)
+        }
+        Some(next) => {
+            gap.to = next;
+            gap.ends = true;
+            Ok(next == number)
+        }
+    }
+}
+
+/// The first piece that is left of one of these chunks, if there is one. Numbers that follow one another cost one search of the tree.
+pub(crate) fn first_piece<D: SectorDevice>(
+    txn: &Txn,
+    pages: &mut Pages<D>,
+    numbers: &[u64],
+    row: &mut Row,
+) -> Result<bool, TreeError>
+    requires begun { txn_pages txn.now ≡ count_of pages.old }
+    ensures quiet { IsQuiet pages.old pages.new }
+    ensures passed { OnOk result (Passed pages.old pages.new) }
+    ensures found { (disk_in pages.new).is_honest → (m : KeyMap) → InTxn txn.now (stored pages.old) m → AreRows m → IfOk result (λ found. IsFirstPiece found numbers.now row.new.key m) }
+    ensures err { IfErr result (λ e. ReadErr AreRows txn.now pages.old pages.new e) }
+{
+    let mut gap = Gap {
+        from: 0,
+        to: 0,
+        ends: false,
+    };
+    for number in numbers {
+        if seek_piece(txn, pages, *number, &mut gap, row)? {
+            return Ok(true);
+        }
+    }
+    Ok(false)
+}
