@@ -1,4 +1,4 @@
-// What bench/serve and bench/desk ask a server with: a connection that stays, one request after the other.
+// What bench/serve, bench/desk and bench/sweep ask a server with: a connection that stays, one request after the other.
 use std::io::{Read, Write};
 use std::net::TcpStream;
 

@@ -1,12 +1,13 @@
 // For bench/desk alone: what asks `plandesk serve` for commands and queries and times them, and the plain counterpart of a patch: the
 // same pages at the same places with the same syncs, as strace noted them of one.
+mod calls;
 mod client;
 
+use calls::{Call, call_of, make, writes};
 use client::{Connection, get, median, with_body};
 use std::env;
 use std::fs::{self, OpenOptions};
 use std::net::TcpStream;
-use std::os::unix::fs::FileExt;
 use std::process::{Command, Stdio};
 use std::thread;
 use std::time::{Duration, Instant};
@@ -149,21 +150,6 @@ fn opening(words: &[String]) {
     server.wait().unwrap();
 }
 
-enum Call {
-    Write(u64),
-    Sync,
-}
-
-fn call_of(line: &str) -> Option<Call> {
-    if line.contains(" fdatasync(") {
-        return Some(Call::Sync);
-    }
-    let (words, _) = line.split_once(") ")?;
-    let (_, words) = words.split_once(" pwrite64(")?;
-    let (_, place) = words.rsplit_once(", ")?;
-    Some(Call::Write(place.parse().unwrap()))
-}
-
 // TRACE STORE COUNT: the writes and syncs between the last answer of a trace and the one before it, again and again
 fn bare(words: &[String]) {
     let trace = fs::read_to_string(&words[0]).unwrap();
@@ -172,19 +158,13 @@ fn bare(words: &[String]) {
     let [.., before, last] = answers[..] else { panic!("two answers?") };
     let calls: Vec<Call> = lines[before..last].iter().filter_map(|line| call_of(line)).collect();
     let file = OpenOptions::new().write(true).open(&words[1]).unwrap();
-    let page = [7; 4096];
     let mut waits = Vec::new();
     for _ in 0..words[2].parse().unwrap() {
         let start = Instant::now();
-        for call in &calls {
-            match call {
-                Call::Write(place) => file.write_all_at(&page, *place).unwrap(),
-                Call::Sync => file.sync_data().unwrap(),
-            }
-        }
+        make(&file, &calls);
         waits.push(start.elapsed().as_secs_f64() * 1e6);
     }
-    let writes = calls.iter().filter(|call| matches!(call, Call::Write(_))).count();
+    let writes = writes(&calls);
     told(&format!("its {writes} writes and {} syncs alone", calls.len() - writes), waits, 0.0);
 }
 

@@ -1,9 +1,9 @@
 //! The districts that a patch by counties leaves.
-ghost use Rattle.std.specs.Prelude.{◌≡◌, length, None, IfOk, IfErr, IfSome, IsOkAnd};
+ghost use Rattle.std.specs.Prelude.{◌≡◌, ◌≤◌, ◌⊎◌, length, None, Some, IfOk, IfErr, IfSome, IsOkAnd};
 ghost use Rattle.std.specs.Option.{option_copied};
 ghost use Rattle.desk_model.specs.Baf.{Values, body_read};
 ghost use Rattle.desk_model.specs.Step.{partly_listed, patched};
-ghost use Rattle.baf_text.specs.Listed.{listed_of};
+ghost use Rattle.baf_text.specs.Listed.{listed_of, IsSpan};
 ghost use Rattle.desk_catalogue.specs.Patches.{overlaid, IsPatchRefusal};
 
 use crate::posted::listed_in;
@@ -42,6 +42,28 @@ fn county_in_part(geography: &Geography, read: &Listed) -> Option<u16>
     None
 }
 
+/// The place behind the last one to look at.
+fn last_place(end: usize, count: usize) -> usize
+    ensures within { result ≤ count }
+    ensures past { (end ≤ result) ⊎ (count ≤ result) }
+{
+    if end < count { end } else { count }
+}
+
+/// Puts the listed districts in the place of those that stand there. Blocks outside the span aren't looked at, since none of them is
+/// listed.
+fn put_listed(districts: &mut [u16], listed: &[Option<u16>], span: (usize, usize))
+    requires long { length districts.old ≡ length listed.now }
+    requires span { IsSpan span listed.now }
+    ensures { districts.new ≡ overlaid listed.now (Some districts.old) }
+{
+    let (first, end) = span;
+    let stop = last_place(end, listed.len());
+    for place in first..stop {
+        districts[place] = listed[place].unwrap_or(districts[place]);
+    }
+}
+
 /// The district of each block: the listed one, or else the last one, 0 where there is none.
 fn overlay(alloc: Global, listed: &Listed, last: Option<&Districts>) -> Result<Vec<u16>, AllocError>
     requires { IfSome (option_copied last) (λ d. length d ≡ length listed.now) }
@@ -50,12 +72,8 @@ fn overlay(alloc: Global, listed: &Listed, last: Option<&Districts>) -> Result<V
     let Some(last) = last else {
         return whole(alloc, listed);
     };
-    let flat = last.to_vec(alloc)?;
-    let last = flat.as_slice();
-    let mut districts = Vec::with_capacity(alloc, last.len())?;
-    for (place, district) in listed.as_slice().iter().enumerate() {
-        districts.push(district.unwrap_or(last[place]))?;
-    }
+    let mut districts = last.to_vec(alloc)?;
+    put_listed(&mut districts, listed.as_slice(), listed.span());
     Ok(districts)
 }
 

@@ -3,8 +3,14 @@ use Rattle.std.proofs.Common.{◌≡◌, List, [], ◌∷◌, ◌++◌, refl}
 use Rattle.desk_model.specs.declared.command.Command.{Command}
 use Rattle.desk_model.specs.Desk.{Desk}
 use Rattle.desk_model.specs.Step.{step}
+use Rattle.desk_model.specs.Outcome.{IsAcceptance}
 use Rattle.desk_gallery.specs.After.{after}
+use Rattle.desk_gallery.specs.Working.{AreAccepted}
 
 pub after_more : (d : Desk) (commands : List Command) (c : Command) → after d (commands ++ c ∷ []) ≡ (step (after d commands) c).1
 after_more d [] c = refl
 after_more d (x ∷ xs) c = after_more (step d x).1 xs c
+
+pub accepted_more : (d : Desk) (commands : List Command) (c : Command) → AreAccepted d commands → IsAcceptance (step (after d commands) c).0 → AreAccepted d (commands ++ c ∷ [])
+accepted_more d [] c so_far one = (one, tt)
+accepted_more d (x ∷ xs) c so_far one = (so_far.0, accepted_more (step d x).1 xs c so_far.1 one)

@@ -1,5 +1,6 @@
 -- A command at the clerk beside the writer.
 use Rattle.std.proofs.Common.{◌≡◌, ◌⊎◌, ◌+◌, Bool, true, false, List, [], ◌∷◌, ◌++◌, length, inl, inr, refl, sym, ap, subst, ◌∙◌, arith, length-append}
+use mathlib.Core.List.{IsPrefix}
 use Rattle.sector_device.specs.declared.SectorDevice.{Ghosts}
 use Rattle.desk_model.specs.declared.command.Command.{Command}
 use Rattle.desk_model.specs.declared.reply.Reply.{Reply}
@@ -13,15 +14,16 @@ use Rattle.desk_clerk.specs.declared.clerk.Clerk.{Clerk}
 use Rattle.desk_clerk.specs.declared.ready.Ready.{Ready}
 use Rattle.desk_clerk.specs.Keeping.{IsLeft}
 use Rattle.desk_clerk.specs.Clerks.{desk_of, is_halted, sectors_of, Keeps, Reads}
-use Rattle.desk_clerk.specs.Commands.{command_of, MustBeFull, PrepareErr, IsReady, IsMade, IsNotMade, Commits, Does}
-use Rattle.desk_clerk.proofs.Kept.{acceptance_is}
+use Rattle.desk_clerk.specs.Commands.{command_of, after_of, MustBeFull, PrepareErr, IsReady, IsMade, IsNotMade, Commits, Does}
+use Rattle.desk_clerk.proofs.Kept.{acceptance_is, accepted_is}
 use Rattle.desk_clerk.proofs.Done.{refused_does, committed_does}
 use Rattle.desk_gallery.specs.After.{after}
 use Rattle.desk_gallery.specs.Fronts.{Kept, kept_of, IsClerk, Works, OpensShown}
 use Rattle.desk_gallery.specs.Outcomes.{OutcomeMay}
-use Rattle.desk_gallery.specs.Working.{Agree, Worked}
-use Rattle.desk_gallery.proofs.Afters.{after_more}
+use Rattle.desk_gallery.specs.Working.{AreAccepted, Agree, Worked}
+use Rattle.desk_gallery.proofs.Afters.{after_more, accepted_more}
 use Rattle.desk_gallery.proofs.Outcomes.{outcome_is}
+use Rattle.desk_gallery.proofs.Pasts.{prefix_self}
 
 either : (b : Bool) → (b ≡ true) ⊎ (b ≡ false)
 either true = inl refl
@@ -42,6 +44,8 @@ module _ {D : Type 0} {g : Ghosts D} where
     desk = reads.desk ∙ agree.desk;
     none = λ off. agree.none (was_working x y reads off);
     few = agree.few;
+    begins = agree.begins;
+    accepted = agree.accepted;
   }
 
   -- a command that was refused before its change was appended
@@ -51,6 +55,7 @@ module _ {D : Type 0} {g : Ghosts D} where
     agree = agree_read first x y s agree reads;
     joined = λ accepted. absurd accepted;
     same = λ other. refl;
+    joins = record { accepted = λ accepted. absurd accepted; other = λ other. inl refl };
   }
 
   -- one that was ready, but for which memory was refused
@@ -59,33 +64,52 @@ module _ {D : Type 0} {g : Ghosts D} where
       subst (λ (l : List Command × List Command). Worked first x s c (Refused Memory) y l) (sym same)
       (refused_work first x y s c Memory agree reads loading (λ on. clash_of y.halted on works, reads.desk))
 
+  -- the desk that is shown accepts what was made ready
+  ready_accepted : (first : Desk) (x y : Clerk D g) (s : List Command × List Command) (c : Command) (r : Ready) → Agree first x s → Reads x y → IsReady y r → command_of r ≡ c → IsAcceptance (step (after first s.0) c).0
+  ready_accepted first x y s c r agree reads ready is =
+      subst (λ (q : Command). IsAcceptance (step (after first s.0) q).0) is
+      (subst (λ (d : Desk). IsAcceptance (step d (command_of r)).0) (reads.desk ∙ agree.desk) (accepted_is (desk_of y) (command_of r) (after_of r) ready.accepted))
+
   made_work : (first : Desk) (x y z : Clerk D g) (s u : List Command × List Command) (c : Command) (r : Ready) (reply : Reply) → Does x c reply z → Agree first x s → Reads x y → IsReady y r → command_of r ≡ c
-      → IsMade y r reply z → u.0 ≡ s.0 ++ c ∷ [] → u.1 ≡ u.0 → Worked first x s c reply z u
-  made_work first x y z s u c r reply does agree reads ready is made grown whole =
+      → IsMade y r reply z → s.1 ≡ s.0 → u ≡ (s.0 ++ c ∷ [], s.0 ++ c ∷ []) → Worked first x s c reply z u
+  made_work first x y z s u c r reply does agree reads ready is made none grown =
       let next : desk_of z ≡ (step (after first s.0) c).1 = made.desk ∙ (ready.accepted.desk ∙ (ap (λ (q : Command). (step (desk_of y) q).1) is ∙ ap (λ (d : Desk). (step d c).1) (reads.desk ∙ agree.desk))) in
+      let shown : u.0 ≡ s.0 ++ c ∷ [] = ap (λ p. p.0) grown in
+      let whole : u.1 ≡ u.0 = ap (λ p. p.1) grown ∙ sym shown in
+      let so_far : AreAccepted first s.0 = subst (λ (l : List Command). AreAccepted first l) none agree.accepted in
+      let accepted : (IsAcceptance reply → ⊥) → ⊥ = λ other. other (subst IsAcceptance (sym made.reply_is) (acceptance_is (command_of r))) in
       record {
         does = does;
         agree = record {
-          desk = next ∙ (sym (after_more first s.0 c) ∙ ap (λ l. after first l) (sym grown));
+          desk = next ∙ (sym (after_more first s.0 c) ∙ ap (λ l. after first l) (sym shown));
           none = λ off. whole;
           few = let same : length u.1 ≡ length u.0 = ap length whole in omega (arith, same);
+          begins = subst (λ (l : List Command). IsPrefix u.0 l) (sym whole) (prefix_self u.0);
+          accepted = subst (λ (p : List Command × List Command). AreAccepted first p.1) (sym grown) (accepted_more first s.0 c so_far (ready_accepted first x y s c r agree reads ready is));
         };
-        joined = λ accepted. grown;
-        same = λ other. absurd (other (subst IsAcceptance (sym made.reply_is) (acceptance_is (command_of r))));
+        joined = λ a. shown;
+        same = λ other. absurd (accepted other);
+        joins = record { accepted = λ a. (none, ready_accepted first x y s c r agree reads ready is, grown); other = λ other. absurd (accepted other) };
       }
 
   unmade_work : (first : Desk) (x y z : Clerk D g) (s u : List Command × List Command) (c : Command) (reply : Reply) → Does x c reply z → Agree first x s → Reads x y
-      → IsNotMade y reply z → u.0 ≡ s.0 → u.1 ≡ s.0 ++ c ∷ [] → Worked first x s c reply z u
-  unmade_work first x y z s u c reply does agree reads fault still waits =
+      → IsNotMade y reply z → s.1 ≡ s.0 → IsAcceptance (step (after first s.0) c).0 → u ≡ (s.0, s.0 ++ c ∷ []) → Worked first x s c reply z u
+  unmade_work first x y z s u c reply does agree reads fault none accepts waits =
+      let still : u.0 ≡ s.0 = ap (λ p. p.0) waits in
+      let so_far : AreAccepted first s.0 = subst (λ (l : List Command). AreAccepted first l) none agree.accepted in
+      let refused : IsAcceptance reply → ⊥ = λ a. subst IsAcceptance fault.reply_is a in
       record {
         does = does;
         agree = record {
           desk = fault.desk ∙ (reads.desk ∙ (agree.desk ∙ ap (λ l. after first l) (sym still)));
           none = λ off. absurd (clash_of z.halted fault.halted off);
-          few = let longer : length u.1 ≡ length s.0 + 1 = ap length waits ∙ length-append s.0 (c ∷ []) in let same : length u.0 ≡ length s.0 = ap length still in omega (arith, longer, same);
+          few = let longer : length u.1 ≡ length s.0 + 1 = ap (λ p. length p.1) waits ∙ length-append s.0 (c ∷ []) in let same : length u.0 ≡ length s.0 = ap length still in omega (arith, longer, same);
+          begins = subst (λ (p : List Command × List Command). IsPrefix p.0 p.1) (sym waits) (c ∷ [], refl);
+          accepted = subst (λ (p : List Command × List Command). AreAccepted first p.1) (sym waits) (accepted_more first s.0 c so_far accepts);
         };
-        joined = λ accepted. absurd (subst IsAcceptance fault.reply_is accepted);
+        joined = λ a. absurd (refused a);
         same = λ other. still;
+        joins = record { accepted = λ a. absurd (refused a); other = λ other. inr (fault.reply_is, none, accepts, waits) };
       }
 
   -- one whose change was appended, and which was then committed or not
@@ -94,10 +118,11 @@ module _ {D : Type 0} {g : Ghosts D} where
   settled_work first x y z s t u c r reply agree reads loading ready is room works appended commits shown hidden =
       let does = committed_does x y z c r reply reads loading ready is room works commits in
       let none : s.1 ≡ s.0 = agree.none (was_working x y reads works) in
-      let all : t.1 ≡ s.0 ++ c ∷ [] = ap (λ p. p.1) appended ∙ (ap (λ l. l ++ command_of r ∷ []) none ∙ ap (λ (q : Command). s.0 ++ q ∷ []) is) in
+      let joined : s.1 ++ command_of r ∷ [] ≡ s.0 ++ c ∷ [] = ap (λ l. l ++ command_of r ∷ []) none ∙ ap (λ (q : Command). s.0 ++ q ∷ []) is in
+      let all : t.1 ≡ s.0 ++ c ∷ [] = ap (λ p. p.1) appended ∙ joined in
       elim commits.outcome [
-        | inl made ↦ made_work first x y z s u c r reply does agree reads ready is made (ap (λ p. p.0) (shown made.works) ∙ all) (ap (λ p. p.1) (shown made.works) ∙ sym (ap (λ p. p.0) (shown made.works)))
-        | inr fault ↦ unmade_work first x y z s u c reply does agree reads fault (ap (λ p. p.0) (hidden fault.halted) ∙ ap (λ p. p.0) appended) (ap (λ p. p.1) (hidden fault.halted) ∙ all)
+        | inl made ↦ made_work first x y z s u c r reply does agree reads ready is made none (shown made.works ∙ ap (λ (l : List Command). (l, l)) all)
+        | inr fault ↦ unmade_work first x y z s u c reply does agree reads fault none (ready_accepted first x y s c r agree reads ready is) (hidden fault.halted ∙ (appended ∙ ap (λ (l : List Command). (s.0, l)) joined))
       ]
 
   is_clerk : (first : Desk) (x : Clerk D g) (s : List Command × List Command) → Agree first x s → IsClerk first (kept_of x s) x

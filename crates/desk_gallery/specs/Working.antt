@@ -1,14 +1,29 @@
 -- A clerk beside a writer, before they are put behind a lock.
-use Rattle.std.specs.Prelude.{◌≡◌, ◌≤◌, ◌+◌, false, List, [], ◌∷◌, ◌++◌, length}
+use Rattle.std.specs.Prelude.{◌≡◌, ◌⊎◌, ◌≤◌, ◌+◌, false, List, [], ◌∷◌, ◌++◌, length, ⊤}
+use mathlib.Core.List.{IsPrefix}
 use Rattle.sector_device.specs.declared.SectorDevice.{Ghosts}
 use Rattle.desk_model.specs.declared.command.Command.{Command}
 use Rattle.desk_model.specs.declared.reply.Reply.{Reply}
+use Rattle.desk_model.specs.declared.reply.Reply.TheVariants.{Refused}
+use Rattle.desk_model.specs.declared.reply.Refusal.TheVariants.{Halted}
 use Rattle.desk_model.specs.Desk.{Desk}
 use Rattle.desk_model.specs.Outcome.{IsAcceptance}
+use Rattle.desk_model.specs.Step.{step}
 use Rattle.desk_clerk.specs.declared.clerk.Clerk.{Clerk}
 use Rattle.desk_clerk.specs.Clerks.{desk_of, is_halted}
 use Rattle.desk_clerk.specs.Commands.{Does}
 use Rattle.desk_gallery.specs.After.{after}
+
+-- each of the commands is accepted, one after the other
+abbrev pub AreAccepted : Desk → List Command → Type 0
+AreAccepted d [] = ⊤
+AreAccepted d (c ∷ commands) = IsAcceptance (step d c).0 × AreAccepted (step d c).1 commands
+
+-- What a command does to what is shown, and to that with what is pending behind it. One that is accepted is joined to both, where
+-- nothing was pending. One that the desk accepts, but whose commit met a fault, is pending then. No other does anything.
+pub record Joins (first : Desk) (old : List Command × List Command) (c : Command) (reply : Reply) (new : List Command × List Command) : Type 0 where
+  pub accepted : IsAcceptance reply → (old.1 ≡ old.0) × IsAcceptance (step (after first old.0) c).0 × (new ≡ (old.0 ++ c ∷ [], old.0 ++ c ∷ []))
+  pub other : (IsAcceptance reply → ⊥) → (new ≡ old) ⊎ ((reply ≡ Refused Halted) × (old.1 ≡ old.0) × IsAcceptance (step (after first old.0) c).0 × (new ≡ (old.0, old.0 ++ c ∷ [])))
 
 module _ {D : Type 0} {g : Ghosts D} where
   -- the desk that is kept is the one that is shown, and only after a halt a change is pending, one at most
@@ -16,6 +31,8 @@ module _ {D : Type 0} {g : Ghosts D} where
     pub desk : desk_of x ≡ after first lists.0
     pub none : is_halted x ≡ false → lists.1 ≡ lists.0
     pub few : length lists.1 ≤ length lists.0 + 1
+    pub begins : IsPrefix lists.0 lists.1
+    pub accepted : AreAccepted first lists.1
 
   -- what a command came to
   pub record Worked (first : Desk) (x : Clerk D g) (old : List Command × List Command) (c : Command) (reply : Reply) (y : Clerk D g) (new : List Command × List Command) : Type 0 where
@@ -23,3 +40,4 @@ module _ {D : Type 0} {g : Ghosts D} where
     pub agree : Agree first y new
     pub joined : IsAcceptance reply → new.0 ≡ old.0 ++ c ∷ []
     pub same : (IsAcceptance reply → ⊥) → new.0 ≡ old.0
+    pub joins : Joins first old c reply new

@@ -81,15 +81,17 @@ impl<J: Room, D: SectorDevice> Model for Front<J, D> {
 
 impl<J: Room, D: SectorDevice> Front<J, D> {
     ghost use Rattle.std.specs.Prelude.{◌≡◌, ◌≤◌, ◌+◌, ◌∷◌, ◌++◌, [], false, length};
+    ghost use mathlib.Core.List.{IsPrefix};
     ghost use Rattle.desk_model.specs.Outcome.{IsAcceptance};
     ghost use Rattle.desk_clerk.specs.Clerks.{desk_of, is_halted, Keeps};
     ghost use Rattle.desk_gallery.specs.After.{after};
     ghost use Rattle.desk_gallery.specs.Fronts.{kept_of, IsClerk, Works, OpensShown};
     ghost use Rattle.desk_gallery.specs.Outcomes.{OutcomeMay};
+    ghost use Rattle.desk_gallery.specs.Working.{AreAccepted, Joins};
 
-    /// Of a clerk and a writer that shows its desk, with nothing pending.
+    /// Of a clerk and a writer that shows its desk, to which nothing was appended.
     pub fn new(clerk: Clerk<D>, shower: Shower<J>) -> Front<J, D>
-        requires none { shower.1 ≡ shower.0 }
+        requires none { shower ≡ ([], []) }
         requires same { desk_of clerk ≡ after J.first shower.0 }
         requires kept { J.sound → Keeps clerk }
         ensures { result ≡ kept_of clerk shower }
@@ -118,11 +120,14 @@ impl<J: Room, D: SectorDevice> Front<J, D> {
         self.clerk.halted()
     }
 
-    /// Nothing that was shown is lost: what the store keeps opens to it. Only a halt leaves a change pending, one at most.
+    /// Nothing that was shown is lost: what the store keeps opens to it. Only a halt leaves a change pending, one at most. Each
+    /// change is of a command that was accepted after those before it.
     pub fn is_kept(&self)
         ensures kept { J.sound → OpensShown D.SectorDevice J.first self.now }
         ensures none { self.now.halted ≡ false → self.now.all ≡ self.now.shown }
         ensures few { length self.now.all ≤ length self.now.shown + 1 }
+        ensures begins { IsPrefix self.now.shown self.now.all }
+        ensures accepted { AreAccepted J.first self.now.all }
     {
         let _ = &self.clerk;
     }
@@ -133,6 +138,7 @@ impl<J: Room, D: SectorDevice> Front<J, D> {
         ensures outcome { OutcomeMay (after J.first self.old.shown) command result.0 (after J.first self.new.shown) }
         ensures joined { IsAcceptance result.0 → self.new.shown ≡ self.old.shown ++ command ∷ [] }
         ensures same { ¬ IsAcceptance result.0 → self.new.shown ≡ self.old.shown }
+        ensures joins { Joins J.first (self.old.shown, self.old.all) command result.0 (self.new.shown, self.new.all) }
         ensures told { result.1 ≡ self.new.shown }
     {
         let reply = work(rt, alloc, &mut self.clerk, &mut self.shower, command);

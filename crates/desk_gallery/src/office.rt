@@ -1,5 +1,5 @@
 //! A front behind one lock.
-ghost use Rattle.std.specs.Prelude.{◌≡◌};
+ghost use Rattle.std.specs.Prelude.{◌≡◌, []};
 ghost use Rattle.desk_clerk.specs.Clerks.{desk_of, Keeps};
 ghost use Rattle.desk_gallery.specs.After.{after};
 
@@ -16,9 +16,9 @@ pub struct Office<J: Room, D: SectorDevice> {
 }
 
 impl<J: Room, D: SectorDevice> Office<J, D> {
-    /// Puts a clerk and a writer that shows its desk behind a lock.
+    /// Puts a clerk and a writer that shows its desk, to which nothing was appended, behind a lock.
     pub fn new(clerk: Clerk<D>, shower: Shower<J>) -> Office<J, D>
-        requires none { shower.1 ≡ shower.0 }
+        requires none { shower ≡ ([], []) }
         requires same { desk_of clerk ≡ after J.first shower.0 }
         requires kept { J.sound → Keeps clerk }
     {

@@ -14,6 +14,7 @@ use geo_loads::Load;
 use sector_device::SectorDevice;
 use std::alloc::Global;
 use std::sync::Arc;
+use told_progress::Progress;
 
 /// How many rows a batch may have: 13 journal pages for each, and for the mark of the load, but one at least and 512 at most.
 fn batch_rows(journal_pages: u32) -> usize
@@ -31,11 +32,12 @@ fn batch_rows(journal_pages: u32) -> usize
     }
 }
 
-/// Stages the rows that are left of a load.
-fn stage_rows<D: SectorDevice>(
+/// Stages the rows that are left of a load. `progress` hears of each batch.
+fn stage_rows<D: SectorDevice, P: Progress>(
     alloc: Global,
     clerk: &mut Clerk<D>,
     load: &mut Load,
+    progress: &mut P,
 ) -> Result<(), LoadError>
     requires last { IsLast clerk.old load.old }
     requires unsealed { (desk_of clerk.old).geography ≡ None }
@@ -46,19 +48,22 @@ fn stage_rows<D: SectorDevice>(
     ensures err { IfErr result (λ e. StageRefused e clerk.new) }
 {
     let most = batch_rows(clerk.journal_pages());
-    let mut left = load.left();
+    let all = load.left();
+    let mut left = all;
     while left > 0 {
         left = clerk.load_batch(alloc, load, left.min(most))?;
+        progress.note(all.wrapping_sub(left) as u64);
     }
     Ok(())
 }
 
 /// Loads a geography, in place of a load that is under way: begins, stages its rows in batches, and seals. After a refusal the desk
-/// is as it was.
-pub fn load_geography<D: SectorDevice>(
+/// is as it was. `progress` hears after each batch how many rows there were so far.
+pub fn load_geography<D: SectorDevice, P: Progress>(
     alloc: Global,
     clerk: &mut Clerk<D>,
     geography: Arc<Geography>,
+    progress: &mut P,
 ) -> Result<(), LoadError>
     ensures keeps { Keeps clerk.old → Keeps clerk.new }
     ensures loaded { OnOk result (desk_of clerk.new ≡ sealed_desk geography.value) }
@@ -67,7 +72,7 @@ pub fn load_geography<D: SectorDevice>(
     ensures err { IfErr result (λ e. LoadRefused clerk.old e clerk.new) }
 {
     let mut load = clerk.begin_load(alloc, geography)?;
-    stage_rows(alloc, clerk, &mut load)?;
+    stage_rows(alloc, clerk, &mut load, progress)?;
     match clerk.seal(alloc, load) {
         Ok(()) => Ok(()),
         Err((e, _)) => Err(e),

@@ -15,6 +15,7 @@ use desk_pages::{FormatError, format};
 use sector_device::SectorDevice;
 use std::alloc::Global;
 use std::sync::Arc;
+use told_progress::Untold;
 
 /// Why a device isn't made a store with a geography.
 #[derive(Clone, Copy, Debug, Drop, PartialEq, Eq)]
@@ -82,7 +83,7 @@ pub fn start<D: SectorDevice + Drop>(
         Err(OpenError::Memory) => return Err(StartError::Memory),
         Err(OpenError::NotAStore | OpenError::DeviceFault) => return Err(StartError::Fault),
     };
-    match load_geography(alloc, &mut clerk, geography) {
+    match load_geography(alloc, &mut clerk, geography, &mut Untold) {
         Ok(()) => {
             if clerk.halted() {
                 return Err(StartError::Fault);

@@ -2,7 +2,7 @@
 use Rattle.std.specs.Prelude.{◌≡◌, ◌≤◌, ℕ, List, length, All}
 use Rattle.sector_device.specs.declared.SectorDevice.{Ghosts}
 use Rattle.desk_model.specs.Geography.{Ground}
-use Rattle.desk_model.specs.Cuts.{cut}
+use Rattle.desk_model.specs.Cuts.{cut, cuts_of}
 use Rattle.desk_model.specs.Desk.{Plan}
 use Rattle.desk_model.specs.Kind.{most_districts}
 use Rattle.page_store.specs.Transactions.{stored, disk_in, Passed}
@@ -13,6 +13,7 @@ use Rattle.store_keys.specs.declared.value.PlanRow.{PlanRow}
 use Rattle.store_rows.specs.Rows.{KeyMap}
 use Rattle.store_rows.specs.RevisionRows.{HasRevision}
 use Rattle.store_rows.specs.DeskRows.{HasPlan}
+use Rattle.revision_table.specs.Reading.{AreKnown}
 
 -- `says` is what a map is to say of a value, and `told` what is read where it says that
 pub record HasRead {D : Type 0} {g : Ghosts D} {X V : Type 0} (says : KeyMap → X → Type 0) (told : X → V) (t : Txn) (old new : Pages D g) (value : V) : Type 0 where
@@ -23,6 +24,15 @@ pub record HasRead {D : Type 0} {g : Ghosts D} {X V : Type 0} (says : KeyMap →
 pub record IsOfBlocks (g : Ground) (plan revision : ℕ) (m : KeyMap) (districts : List ℕ) : Type 0 where
   pub has : HasRevision m plan revision (cut g districts)
   pub whole : length districts ≡ length g.blocks
+
+-- and the numbers of an earlier one name its districts
+pub record IsNext (g : Ground) (plan revision : ℕ) (last before : List ℕ) (m : KeyMap) (districts : List ℕ) : Type 0 where
+  pub is : IsOfBlocks g plan revision m districts
+  pub known : AreKnown last before (cuts_of g) m
+
+-- where that was so, these numbers name these districts
+abbrev pub BecomesKnown : {D : Type 0} {g : Ghosts D} → Ground → ℕ → ℕ → List ℕ → List ℕ → Txn → Pages D g → Pages D g → List ℕ → List ℕ → Type 0
+BecomesKnown g plan revision last before t old new names districts = (disk_in new).is_honest → (m : KeyMap) (all : List ℕ) → InTxn t (stored old) m → IsNext g plan revision last before m all → AreKnown names districts (cuts_of g) m
 
 -- each revision of the plan has a district for each block
 abbrev pub IsWhole : Ground → Plan → Type 0

@@ -1,11 +1,12 @@
 //! Reads plans.
-ghost use Rattle.std.specs.Prelude.{◌≡◌, ◌≤◌, ◌<◌, ◌+◌, ◌*◌, ◌^◌, length, IfOk, MatchResult};
+ghost use Rattle.std.specs.Prelude.{◌≡◌, ◌≤◌, ◌<◌, ◌+◌, ◌*◌, ◌^◌, length, IfOk, OnOk, MatchResult};
 ghost use Rattle.desk_model.specs.Cuts.{cuts_of};
 ghost use Rattle.desk_model.specs.Step.{revision_limit};
 ghost use Rattle.page_store.specs.Transactions.{count_of, txn_pages, IsQuiet};
 ghost use Rattle.store_rows.specs.Changes.{with_revision};
 ghost use Rattle.row_table.specs.Appending.{AppendErr};
-ghost use Rattle.desk_opening.specs.Reading.{HasRead, IsPlanRow, IsOfBlocks, IsWhole};
+ghost use Rattle.revision_table.specs.Reading.{AreRead};
+ghost use Rattle.desk_opening.specs.Reading.{BecomesKnown, HasRead, IsNext, IsPlanRow, IsWhole};
 
 use desk_model::cuts::Cut;
 use desk_model::geography::Geography;
@@ -14,20 +15,69 @@ use desk_model::name::PlanName;
 use desk_model::size::PlanSize;
 use desk_plans::entry::{Entry, REVISION_LIMIT};
 use page_store::{Pages, Txn};
-use revision_table::append_revision;
+use revision_table::append_later;
 use row_table::TreeError;
 use sector_device::SectorDevice;
 use std::alloc::Global;
 use store_keys::PlanRow;
 
-/// The plan of an entry with one revision more, which stands under a plan's number.
+/// A revision that was read: the numbers of its chunks, and its districts. Both are empty before the first.
+#[derive(Drop)]
+struct Last {
+    names: Vec<u64>,
+    districts: Vec<u16>,
+}
+
+/// A revision that stands under a plan's number. Counties whose chunks the last one names are copied from it.
+fn read_next<D: SectorDevice>(
+    alloc: Global,
+    txn: &Txn,
+    pages: &mut Pages<D>,
+    geography: &Geography,
+    cuts: &[Cut],
+    last: &Last,
+    plan: u64,
+    revision: u32,
+) -> Result<Last, TreeError>
+    requires begun { txn_pages txn.now ≡ count_of pages.old }
+    requires cut { cuts.now ≡ cuts_of geography.now }
+    ensures quiet { IsQuiet pages.old pages.new }
+    ensures whole { IfOk result (λ next. length next.districts.items ≡ length geography.now.blocks) }
+    ensures read { MatchResult result (λ next. HasRead (IsNext geography.now plan revision last.now.names.items last.now.districts.items) (λ districts. districts) txn.now pages.old pages.new next.districts.items) (λ e. AppendErr (IsNext geography.now plan revision last.now.names.items last.now.districts.items) txn.now pages.old pages.new e) }
+    ensures names { IfOk result (λ next. AreRead plan revision (length cuts.now) txn.now pages.old pages.new next.names.items) }
+{
+    lists_are_cut();
+    let Ok(mut names) = Vec::with_capacity(alloc, cuts.len()) else {
+        return Err(TreeError::Memory);
+    };
+    let Ok(mut districts) = Vec::with_capacity(alloc, geography.blocks().len()) else {
+        return Err(TreeError::Memory);
+    };
+    append_later(
+        txn,
+        pages,
+        plan,
+        revision,
+        cuts,
+        last.names.as_slice(),
+        last.districts.as_slice(),
+        &mut names,
+        &mut districts,
+    )?;
+    if districts.len() != geography.blocks().len() {
+        return Err(TreeError::DeviceFault);
+    }
+    Ok(Last { names, districts })
+}
+
+/// The plan of an entry with one revision more, which stands under a plan's number, and which `last` becomes.
 fn with_next<D: SectorDevice>(
     alloc: Global,
     txn: &Txn,
     pages: &mut Pages<D>,
     geography: &Geography,
     cuts: &[Cut],
-    names: &mut Vec<u64>,
+    last: &mut Last,
     entry: &Entry,
     plan: u64,
     revision: u32,
@@ -39,32 +89,28 @@ fn with_next<D: SectorDevice>(
     ensures named { IfOk result (λ next. next.0 ≡ entry.now.0) }
     ensures longer { IfOk result (λ next. length next.1.revisions ≡ length entry.now.1.revisions + 1) }
     ensures whole { IfOk result (λ next. IsWhole geography.now entry.now.1 → IsWhole geography.now next.1) }
-    ensures read { MatchResult result (λ next. HasRead (IsOfBlocks geography.now plan revision) (λ districts. (entry.now.0, with_revision entry.now.1 districts)) txn.now pages.old pages.new next) (λ e. AppendErr (IsOfBlocks geography.now plan revision) txn.now pages.old pages.new e) }
+    ensures read { MatchResult result (λ next. HasRead (IsNext geography.now plan revision last.old.names.items last.old.districts.items) (λ districts. (entry.now.0, with_revision entry.now.1 districts)) txn.now pages.old pages.new next) (λ e. AppendErr (IsNext geography.now plan revision last.old.names.items last.old.districts.items) txn.now pages.old pages.new e) }
+    ensures known { OnOk result (BecomesKnown geography.now plan revision last.old.names.items last.old.districts.items txn.now pages.old pages.new last.new.names.items last.new.districts.items) }
 {
-    lists_are_cut();
-    let Ok(mut districts) = Vec::with_capacity(alloc, geography.blocks().len()) else {
-        return Err(TreeError::Memory);
-    };
-    append_revision(txn, pages, plan, revision, cuts, names, &mut districts)?;
-    if districts.len() != geography.blocks().len() {
-        return Err(TreeError::DeviceFault);
-    }
-    match entry.revised(alloc, districts.as_slice()) {
-        Ok(next) => Ok(next),
+    let next = read_next(alloc, txn, pages, geography, cuts, last, plan, revision)?;
+    match entry.revised(alloc, next.districts.as_slice()) {
+        Ok(with) => {
+            *last = next;
+            Ok(with)
+        }
         Err(_) => Err(TreeError::Memory),
     }
 }
 
-/// The plan that stands under a name with this row, with all its revisions. `cuts` are the geography's counties, and `names` is room
-/// for the numbers of chunks: what it held is dropped. `DeviceFault` comes also where the store has no such plan, `Memory` where a
-/// growth was refused.
+/// The plan that stands under a name with this row, with all its revisions. `cuts` are the geography's counties. `DeviceFault` comes
+/// also where the store has no such plan, `Memory` where a growth was refused.
+#[tactic(auto, using(crate::proofs::Revisions::none_known))]
 pub fn read_entry<D: SectorDevice>(
     alloc: Global,
     txn: &Txn,
     pages: &mut Pages<D>,
     geography: &Geography,
     cuts: &[Cut],
-    names: &mut Vec<u64>,
     name: PlanName,
     row: &PlanRow,
 ) -> Result<Entry, TreeError>
@@ -82,6 +128,10 @@ pub fn read_entry<D: SectorDevice>(
         return Err(TreeError::DeviceFault);
     };
     let mut entry = Entry::new(alloc, name, size);
+    let mut last = Last {
+        names: Vec::new(alloc),
+        districts: Vec::new(alloc),
+    };
     for before in 0..row.revisions {
         entry = with_next(
             alloc,
@@ -89,7 +139,7 @@ pub fn read_entry<D: SectorDevice>(
             pages,
             geography,
             cuts,
-            names,
+            &mut last,
             &entry,
             row.number,
             before + 1,

@@ -19,14 +19,13 @@ use sector_device::SectorDevice;
 use std::alloc::Global;
 use store_keys::PlanRow;
 
-/// These plans with the one that stands under a name with this row. `cuts` and `names` are as `read_entry` has them.
+/// These plans with the one that stands under a name with this row. `cuts` are as `read_entry` has them.
 pub fn add_plan<D: SectorDevice>(
     alloc: Global,
     txn: &Txn,
     pages: &mut Pages<D>,
     geography: &Geography,
     cuts: &[Cut],
-    names: &mut Vec<u64>,
     plans: &Plans,
     name: PlanName,
     row: &PlanRow,
@@ -39,7 +38,7 @@ pub fn add_plan<D: SectorDevice>(
     ensures whole { IfOk result (λ all. AreWhole (Some geography.now) plans.now → AreWhole (Some geography.now) all) }
     ensures read { MatchResult result (λ all. HasRead (IsPlanRow geography.now name row.now) (λ plan. map_of.insert plans.now name plan) txn.now pages.old pages.new all) (λ e. AppendErr (IsPlanRow geography.now name row.now) txn.now pages.old pages.new e) }
 {
-    let entry = read_entry(alloc, txn, pages, geography, cuts, names, name, row)?;
+    let entry = read_entry(alloc, txn, pages, geography, cuts, name, row)?;
     match plans.insert(alloc, entry) {
         Ok(all) => Ok(all),
         Err(_) => Err(TreeError::Memory),

@@ -70,7 +70,6 @@ fn add_row<D: SectorDevice>(
     pages: &mut Pages<D>,
     geography: &Geography,
     cuts: &[Cut],
-    names: &mut Vec<u64>,
     plans: &Plans,
     row: &Row,
 ) -> Result<Plans, TreeError>
@@ -94,9 +93,7 @@ fn add_row<D: SectorDevice>(
     if plans.len() >= PLAN_LIMIT {
         return Err(TreeError::DeviceFault);
     }
-    add_plan(
-        alloc, txn, pages, geography, cuts, names, plans, name, &plan,
-    )
+    add_plan(alloc, txn, pages, geography, cuts, plans, name, &plan)
 }
 
 /// All plans of a transaction's desk, which has this geography.
@@ -114,7 +111,6 @@ pub(crate) fn read_plans<D: SectorDevice>(
     let Ok(cuts) = cuts(alloc, geography) else {
         return Err(TreeError::Memory);
     };
-    let mut names = Vec::new(alloc);
     let mut plans = Plans::new();
     let prefix = Key::plans();
     let mut scan = Scan::new(prefix.as_slice());
@@ -126,16 +122,7 @@ pub(crate) fn read_plans<D: SectorDevice>(
                 Some(fault) => return Err(fault),
             }
         }
-        plans = add_row(
-            alloc,
-            txn,
-            pages,
-            geography,
-            cuts.as_slice(),
-            &mut names,
-            &plans,
-            &row,
-        )?;
+        plans = add_row(alloc, txn, pages, geography, cuts.as_slice(), &plans, &row)?;
     }
     Err(TreeError::DeviceFault)
 }

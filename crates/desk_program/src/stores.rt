@@ -9,11 +9,12 @@ use exit_status::status::Status;
 use sector_file::{FileDevice, FileError, Unknown};
 use state_files::open::{CensusPaths, Opener, open_census};
 use std::fs::File;
-use std::io::{Error, ErrorKind};
+use std::io::{Error, ErrorKind, IsTerminal};
 use store_command::fault::StoreFault;
 use store_command::format::format;
 use store_command::load::{StateFiles, load};
 use store_command::stores::Stores;
+use told_progress::Telling;
 
 /// Makes and opens the files of stores in the file system.
 #[derive(Drop)]
@@ -119,14 +120,19 @@ pub fn load_state(
     let mut stores = StoreFiles::new(rt);
     let mut writer = WriteSink::new(rt.stdout());
     let mut errors = WriteSink::new(rt.stderr());
-    let status = load::<_, FileDevice<Unknown>, _, _, _>(
+    let terminal = rt.stderr();
+    let is_terminal = terminal.is_terminal();
+    let mut progress = Telling::new(terminal, is_terminal, b"plandesk: load: ", 65_536);
+    let status = load::<_, FileDevice<Unknown>, _, _, _, _>(
         rt.alloc(),
         &mut files,
         &mut stores,
         name,
+        &mut progress,
         &mut writer,
         &mut errors,
     );
+    let _ = progress.into_inner();
     let _ = writer.into_inner();
     let _ = errors.into_inner();
     status

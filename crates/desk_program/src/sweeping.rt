@@ -4,8 +4,8 @@ use byte_stream::sink::WriteSink;
 use exit_status::status::Status;
 use sector_file::{FileDevice, Unknown};
 use std::io::IsTerminal;
-use sweep_command::progress::Telling;
 use sweep_command::sweep::sweep;
+use told_progress::Telling;
 
 /// Takes out of a store what deleted plans and ended loads left in it.
 pub fn sweep_desk(rt: &HostRuntime, name: &str) -> Status {
@@ -14,7 +14,7 @@ pub fn sweep_desk(rt: &HostRuntime, name: &str) -> Status {
     let mut errors = WriteSink::new(rt.stderr());
     let terminal = rt.stderr();
     let is_terminal = terminal.is_terminal();
-    let mut progress = Telling::new(terminal, is_terminal);
+    let mut progress = Telling::new(terminal, is_terminal, b"plandesk: sweep: ", 16_384);
     let status = sweep::<FileDevice<Unknown>, _, _, _, _>(
         rt.alloc(),
         &mut stores,

@@ -4,6 +4,8 @@
 #[cfg(test)]
 mod faults;
 #[cfg(test)]
+mod standing;
+#[cfg(test)]
 mod stores;
 #[cfg(test)]
 mod visits;

@@ -104,8 +104,11 @@ pub fn opened_at<R: Abort, F: Faulty>(
     }
 }
 
-pub fn opened<R: Abort>(rt: &R, alloc: Global, device: MemoryDevice) -> Clerk<MemoryDevice> {
-    Clerk::open(alloc, device).ok().expect(rt, "not opened")
+/// Opens a device without a fault. It is one that could stop, so that the clerk is compiled for two types of devices, not three.
+pub fn opened<R: Abort>(rt: &R, alloc: Global, device: MemoryDevice) -> Clerk<Fused> {
+    Clerk::open(alloc, Fused::at(device, u64::MAX))
+        .ok()
+        .expect(rt, "not opened")
 }
 
 /// A store without geography and plans.

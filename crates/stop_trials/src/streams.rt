@@ -1,6 +1,7 @@
 //! Commands that are served while the device stops or fails at one of its calls.
 use crate::devices::{
-    FILLS, Faulty, Image, Pick, image_of, new_store, opened, opened_at, picks, shared_sample,
+    FILLS, Faulty, Image, Pick, device_of, image_of, new_store, opened, opened_at, picks,
+    shared_sample,
 };
 use crate::texts::{ALL, COMMANDS, QUERIES, shows, told_made};
 use byte_stream::sink::WriteSink;
@@ -13,6 +14,7 @@ use sector_memory::{FailOnce, Fused, MemoryDevice};
 use served_runs::serve::serve_clerk;
 use std::alloc::Global;
 use std::process::Abort;
+use told_progress::Untold;
 
 /// What is written for the requests.
 pub fn answers<R: Abort, D: SectorDevice>(
@@ -37,10 +39,11 @@ pub fn found<R: Abort>(rt: &R, alloc: Global, device: MemoryDevice) -> Vec<u8> {
 /// A store with the sample geography.
 pub fn sealed_store<R: Abort>(rt: &R, alloc: Global) -> Image {
     let new = new_store(rt, alloc);
-    let mut clerk = opened_at::<R, Fused>(rt, alloc, new.as_slice(), u64::MAX)
-        .ok()
-        .expect(rt, "not opened");
-    load_geography(alloc, &mut clerk, shared_sample(rt, alloc)).expect(rt, "not loaded");
+    let mut clerk = opened(rt, alloc, device_of(rt, alloc, new.as_slice()));
+    load_geography(alloc, &mut clerk, shared_sample(rt, alloc), &mut Untold).expect(
+        rt,
+        "not loaded",
+    );
     image_of(rt, alloc, clerk.into_device().stopped(&[]))
 }
 

@@ -9,6 +9,7 @@ use desk_model::geography::Geography;
 use sector_device::SectorDevice;
 use std::alloc::Global;
 use std::sync::Arc;
+use told_progress::Progress;
 
 /// The clerk who opens the store that a device holds.
 pub fn open_clerk<D: SectorDevice + Drop>(alloc: Global, device: D) -> Result<Clerk<D>, StoreFault>
@@ -21,17 +22,19 @@ pub fn open_clerk<D: SectorDevice + Drop>(alloc: Global, device: D) -> Result<Cl
     }
 }
 
-/// Fills the store that a device holds with a geography: the clerk who keeps it then.
-pub fn fill<D: SectorDevice + Drop>(
+/// Fills the store that a device holds with a geography: the clerk who keeps it then. `progress` hears how many rows were written so
+/// far.
+pub fn fill<D: SectorDevice + Drop, P: Progress>(
     alloc: Global,
     device: D,
     geography: Arc<Geography>,
+    progress: &mut P,
 ) -> Result<Clerk<D>, StoreFault>
     ensures ok { IfOk result (HasLoaded device geography.value) }
     ensures err { IfErr result (FillRefused D.SectorDevice device) }
 {
     let mut clerk = open_clerk(alloc, device)?;
-    match load_geography(alloc, &mut clerk, geography) {
+    match load_geography(alloc, &mut clerk, geography, progress) {
         Ok(()) => Ok(clerk),
         Err(e) => Err(load_fault(e)),
     }

@@ -19,6 +19,7 @@ use state_files::ground::read_ground;
 use std::alloc::Global;
 use std::sync::Arc;
 use told_lines::telling::tell;
+use told_progress::Progress;
 
 /// The openings of a state's census files and of its neighbour file.
 #[derive(Drop)]
@@ -39,11 +40,12 @@ fn read_geography<R: Source>(
 }
 
 /// Fills the store of a name with a geography: what is printed of it.
-fn fill_store<D: SectorDevice + Drop, O: Stores<D>>(
+fn fill_store<D: SectorDevice + Drop, O: Stores<D>, P: Progress>(
     alloc: Global,
     stores: &mut O,
     name: &str,
     geography: Geography,
+    progress: &mut P,
 ) -> Result<Vec<u8>, StoreFault>
     ensures { Fills D.SectorDevice O.opens stores.old name.now geography result stores.new }
 {
@@ -52,18 +54,19 @@ fn fill_store<D: SectorDevice + Drop, O: Stores<D>>(
         return Err(StoreFault::Memory);
     };
     let device = stores.open(name)?;
-    match fill(alloc, device, geography) {
+    match fill(alloc, device, geography, progress) {
         Ok(_) => Ok(text),
         Err(fault) => Err(fault),
     }
 }
 
 /// Fills the store of a name with the geography that the files say, or tells their fault.
-fn end_load<D: SectorDevice + Drop, O: Stores<D>, W: Sink, E: Sink>(
+fn end_load<D: SectorDevice + Drop, O: Stores<D>, P: Progress, W: Sink, E: Sink>(
     alloc: Global,
     read: Result<Geography, FileFault>,
     stores: &mut O,
     name: &str,
+    progress: &mut P,
     writer: &mut W,
     errors: &mut E,
 ) -> Status
@@ -71,7 +74,7 @@ fn end_load<D: SectorDevice + Drop, O: Stores<D>, W: Sink, E: Sink>(
 {
     match read {
         Ok(geography) => {
-            let given = fill_store(alloc, stores, name, geography);
+            let given = fill_store(alloc, stores, name, geography, progress);
             end_store(b"plandesk: load: WriteFault\n", given, writer, errors)
         }
         Err(fault) => tell(alloc, fault, errors),
@@ -80,17 +83,18 @@ fn end_load<D: SectorDevice + Drop, O: Stores<D>, W: Sink, E: Sink>(
 
 /// Fills a store with the geography that the files say, and prints its blocks, counties and people: 0. 3 where a file is refused, 4
 /// where the store is and 5 where memory is, with the fault told and nothing printed; 6 where the writing fails. The files are
-/// judged before the store is opened.
-pub fn load<R: Source, D: SectorDevice + Drop, O: Stores<D>, W: Sink, E: Sink>(
+/// judged before the store is opened. `progress` hears how many rows were written so far.
+pub fn load<R: Source, D: SectorDevice + Drop, O: Stores<D>, P: Progress, W: Sink, E: Sink>(
     alloc: Global,
     files: &mut StateFiles<R>,
     stores: &mut O,
     name: &str,
+    progress: &mut P,
     writer: &mut W,
     errors: &mut E,
 ) -> Status
     ensures { Loads D.SectorDevice O.opens (openings_of R.remaining R.turns R.failures files.old) (openings_of R.remaining R.turns R.failures files.new) stores.old stores.new name.now result (written_of W.contents W.failures writer.old) (written_of W.contents W.failures writer.new) (written_of E.contents E.failures errors.old) (written_of E.contents E.failures errors.new) }
 {
     let read = read_geography(alloc, files);
-    end_load(alloc, read, stores, name, writer, errors)
+    end_load(alloc, read, stores, name, progress, writer, errors)
 }

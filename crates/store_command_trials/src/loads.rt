@@ -24,8 +24,10 @@ fn a_store_is_filled_once(rt: HostRuntime) {
     let mut device = formatted(&rt, alloc, 2_000);
     let ended = load_on(alloc, Shelf::of(&mut device), sample.given(), ROOM);
     prints(&rt, &ended, LOADED);
+    assert!(rt; ended.rows == 8);
     let ended = load_on(alloc, Shelf::of(&mut device), sample.given(), ROOM);
     tells(&rt, &ended, SEALED, Status::Store, 1);
+    assert!(rt; ended.rows == 0);
     assert!(rt; is_sealed(&rt, alloc, device));
 }
 

@@ -15,6 +15,7 @@ use std::alloc::Global;
 use std::process::Abort;
 use store_command::format::format;
 use store_command::load::load;
+use told_progress::Progress;
 
 pub const FORMATTED: &[u8] = b"formatted 400 sectors, 256 journal pages\n";
 
@@ -35,6 +36,20 @@ pub struct Ended {
     pub errors: Vec<u8>,
     /// How often the shelf was asked for a device.
     pub calls: u32,
+    /// Of how many rows was heard.
+    pub rows: u64,
+}
+
+/// Hears how many rows are written.
+#[derive(Drop)]
+struct Heard {
+    rows: u64,
+}
+
+impl Progress for Heard {
+    fn note(&mut self, rows: u64) {
+        self.rows = rows;
+    }
 }
 
 fn page(alloc: Global, room: usize) -> WriteSink<Page> {
@@ -76,6 +91,7 @@ pub fn format_on<D: SectorDevice>(
         output: bytes_of(writer),
         errors: bytes_of(errors),
         calls: shelf.calls,
+        rows: 0,
     }
 }
 
@@ -87,6 +103,7 @@ pub fn load_on<D: SectorDevice>(
     room: usize,
 ) -> Ended {
     let mut files = given.readers();
+    let mut heard = Heard { rows: 0 };
     let mut writer = page(alloc, room);
     let mut errors = page(alloc, ROOM);
     let status = load(
@@ -94,6 +111,7 @@ pub fn load_on<D: SectorDevice>(
         &mut files,
         &mut shelf,
         "store",
+        &mut heard,
         &mut writer,
         &mut errors,
     );
@@ -102,6 +120,7 @@ pub fn load_on<D: SectorDevice>(
         output: bytes_of(writer),
         errors: bytes_of(errors),
         calls: shelf.calls,
+        rows: heard.rows,
     }
 }
 

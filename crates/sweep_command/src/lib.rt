@@ -2,7 +2,6 @@
 //! and over its writers, that answers the exit status.
 #![tactic(auto)]
 
-pub mod progress;
 pub mod sweep;
 mod sweeping;
 mod texts;

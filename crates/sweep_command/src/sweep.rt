@@ -3,7 +3,6 @@ ghost use Rattle.std.specs.Prelude.{◌≡◌};
 ghost use Rattle.told_lines.specs.Writing.{written_of};
 ghost use Rattle.sweep_command.specs.Sweeping.{Sweeps, SweepsStore};
 
-use crate::progress::Progress;
 use crate::sweeping::sweep_all;
 use crate::texts::swept_text;
 use byte_stream::sink::Sink;
@@ -14,6 +13,7 @@ use store_command::fault::StoreFault;
 use store_command::filling::open_clerk;
 use store_command::stores::Stores;
 use store_command::telling::end_store;
+use told_progress::Progress;
 
 /// Sweeps the store of a name: what is printed of it.
 fn sweep_store<D: SectorDevice + Drop, O: Stores<D>, P: Progress>(

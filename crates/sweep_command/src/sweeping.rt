@@ -5,12 +5,12 @@ ghost use Rattle.desk_clerk.specs.Clerks.{disk_of, is_halted};
 ghost use Rattle.desk_clerk.specs.Sweeps.{HasRows};
 ghost use Rattle.sweep_command.specs.Sweeping.{fault_of_sweep, KeepsDesk, HasSweptAll, IsStopped};
 
-use crate::progress::Progress;
 use desk_clerk::clerk::Clerk;
 use desk_clerk::sweeps::SweepError;
 use sector_device::SectorDevice;
 use std::alloc::Global;
 use store_command::fault::StoreFault;
+use told_progress::Progress;
 
 /// More steps than a store has rows: each takes one row out at least.
 const MOST_STEPS: u64 = 281_474_976_710_656;

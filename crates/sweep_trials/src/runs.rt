@@ -7,8 +7,8 @@ use sector_device::SectorDevice;
 use sector_memory::{FailOnce, MemoryDevice};
 use std::alloc::Global;
 use std::process::Abort;
-use sweep_command::progress::{Progress, Telling};
 use sweep_command::sweep::sweep;
+use told_progress::{Progress, Telling};
 
 /// Counts the steps that it hears of.
 #[derive(Drop)]
@@ -168,7 +168,7 @@ fn told(alloc: Global, steps: u64, is_terminal: bool) -> Vec<u8> {
         bytes: Vec::new(alloc),
         room: 100,
     };
-    let mut telling = Telling::new(page, is_terminal);
+    let mut telling = Telling::new(page, is_terminal, b"plandesk: sweep: ", 16_384);
     for step in 0..steps {
         telling.note(step.wrapping_mul(16));
     }
@@ -179,8 +179,8 @@ fn told(alloc: Global, steps: u64, is_terminal: bool) -> Vec<u8> {
 #[test]
 fn a_long_sweep_is_told_at_a_terminal(rt: HostRuntime) {
     let alloc = rt.alloc();
-    assert!(rt; told(alloc, 1_023, true).is_empty());
-    let both: &[u8] = b"plandesk: sweep: 16368 rows so far\nplandesk: sweep: 32752 rows so far\n";
-    assert!(rt; told(alloc, 2_048, true).as_slice() == both);
-    assert!(rt; told(alloc, 2_048, false).is_empty());
+    assert!(rt; told(alloc, 1_024, true).is_empty());
+    let both: &[u8] = b"plandesk: sweep: 16384 rows so far\nplandesk: sweep: 32768 rows so far\n";
+    assert!(rt; told(alloc, 2_049, true).as_slice() == both);
+    assert!(rt; told(alloc, 2_049, false).is_empty());
 }

@@ -44,8 +44,7 @@ fn read<R: Abort>(
 ) -> Result<Entry, TreeError> {
     let cuts = cuts(alloc, geography).expect(rt, "no memory");
     let txn = pages.begin(alloc);
-    let mut names = Vec::new(alloc);
-    let entry = read_entry(alloc, &txn, pages, geography, &cuts, &mut names, name, row);
+    let entry = read_entry(alloc, &txn, pages, geography, &cuts, name, row);
     txn.abandon();
     entry
 }
@@ -60,11 +59,8 @@ fn add<R: Abort>(
 ) -> Plans {
     let cuts = cuts(alloc, geography).expect(rt, "no memory");
     let txn = pages.begin(alloc);
-    let mut names = Vec::new(alloc);
     let none = Plans::new();
-    let plans = add_plan(
-        alloc, &txn, pages, geography, &cuts, &mut names, &none, name, row,
-    );
+    let plans = add_plan(alloc, &txn, pages, geography, &cuts, &none, name, row);
     txn.abandon();
     plans.expect(rt, "not read")
 }

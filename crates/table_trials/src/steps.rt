@@ -25,18 +25,9 @@ fn read<R: Abort>(
 ) -> Entry {
     let cuts = cuts(alloc, ground).expect(rt, "no memory");
     let txn = pages.begin(alloc);
-    let mut names = Vec::new(alloc);
-    let entry = read_entry(
-        alloc,
-        &txn,
-        pages,
-        ground,
-        cuts.as_slice(),
-        &mut names,
-        name,
-        row,
-    )
-    .expect(rt, "not read");
+    let entry = read_entry(alloc, &txn, pages, ground, cuts.as_slice(), name, row).expect(
+        rt, "not read",
+    );
     txn.abandon();
     entry
 }

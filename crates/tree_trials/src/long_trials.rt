@@ -2,7 +2,7 @@
 ghost use Rattle.std.specs.Prelude.{◌≡◌, ◌≤◌};
 ghost use Rattle.page_store.specs.Transactions.{count_of, txn_pages};
 
-use page_btree::{TreeError, get, put};
+use page_btree::{TreeError, get, put, remove};
 use page_store::{Pages, Txn, format};
 use sector_device::SectorDevice;
 use sector_memory::MemoryDevice;
@@ -79,10 +79,19 @@ fn count_long(alloc: Global, pages: &mut Pages<MemoryDevice>, rows: u32) -> u32 
     found
 }
 
+/// Removes such a row, and tells whether it was there.
+fn remove_long(alloc: Global, pages: &mut Pages<MemoryDevice>, n: u32) -> Result<bool, TreeError> {
+    let mut txn = pages.begin(alloc);
+    let had = remove(&mut txn, pages, &long_key(n))?;
+    store(txn, pages)?;
+    Ok(had)
+}
+
 #[test]
 fn a_full_store_keeps_its_rows(rt: HostRuntime) {
     let alloc = rt.alloc();
     let mut pages = made(&rt, alloc, 330);
+    let before = pages.free_pages();
     let (rows, error) = fill(alloc, &mut pages).expect(&rt, "never full");
     assert!(rt; error == TreeError::NoPages);
     assert!(rt; rows > 100);
@@ -90,6 +99,62 @@ fn a_full_store_keeps_its_rows(rt: HostRuntime) {
     assert!(rt; put_long(alloc, &mut pages, rows) == Err(TreeError::NoPages));
     assert!(rt; pages.free_pages() == free);
     assert!(rt; count_long(alloc, &mut pages, rows) == rows);
+    for n in 0..rows {
+        assert!(rt; put_long(alloc, &mut pages, n) == Ok(true));
+    }
+    assert!(rt; pages.free_pages() == free);
+    for n in 0..rows {
+        assert!(rt; remove_long(alloc, &mut pages, n) == Ok(true));
+    }
+    assert!(rt; pages.free_pages() == before);
+}
+
+/// Puts such a row in a transaction, and tells whether it was put.
+fn has_put(txn: &mut Txn, pages: &mut Pages<MemoryDevice>, n: u32) -> bool
+    requires { txn_pages txn.old ≡ count_of pages.old }
+    ensures { txn_pages txn.new ≡ count_of pages.new }
+{
+    put(txn, pages, &long_key(n), &[(n % 256) as u8; 1024]).is_ok()
+}
+
+/// Puts four such rows in one transaction, which is let go of: how many were put before one was refused.
+fn put_four(alloc: Global, pages: &mut Pages<MemoryDevice>, n: u32) -> u32 {
+    let mut txn = pages.begin(alloc);
+    if !has_put(&mut txn, pages, n) {
+        return 0;
+    }
+    if !has_put(&mut txn, pages, n.wrapping_add(1)) {
+        return 1;
+    }
+    if !has_put(&mut txn, pages, n.wrapping_add(2)) {
+        return 2;
+    }
+    if !has_put(&mut txn, pages, n.wrapping_add(3)) {
+        return 3;
+    }
+    4
+}
+
+#[test]
+fn a_transaction_that_fills_the_store_changes_nothing(rt: HostRuntime) {
+    let alloc = rt.alloc();
+    let mut pages = made(&rt, alloc, 330);
+    let (rows, _) = fill(alloc, &mut pages).expect(&rt, "never full");
+    let full = pages.free_pages();
+    let mut left = rows;
+    for _ in 0..3 {
+        if pages.free_pages() == full {
+            left = left.saturating_sub(1);
+            assert!(rt; remove_long(alloc, &mut pages, left) == Ok(true));
+        }
+    }
+    let free = pages.free_pages();
+    assert!(rt; free > full);
+    let put = put_four(alloc, &mut pages, left);
+    assert!(rt; put > 0 && put < 4);
+    assert!(rt; pages.free_pages() == free);
+    assert!(rt; count_long(alloc, &mut pages, left) == left);
+    assert!(rt; has_long(alloc, &mut pages, left) == Ok(false));
 }
 
 /// Puts a row under so many first bytes of a key, and tells how long they are.

@@ -3,7 +3,7 @@ ghost use Rattle.std.specs.Prelude.{◌≤◌, length, IfOk};
 
 use byte_stream::sink::{WriteFault, WriteSink};
 use http::StatusCode;
-use http_answer::gather::{GatherWrite, Gathering};
+use http_answer::gather::{GatherSink, GatherWrite, Gathering};
 use http_answer::response::{ContentType, Outbox, Response, write_response};
 use std::alloc::Global;
 use std::io;
@@ -39,7 +39,7 @@ impl Write for Slow {
 }
 
 /// Writes a list of no plans.
-fn write_list(writer: &mut WriteSink<Vec<u8>>, outbox: &mut Outbox) -> bool {
+fn write_list<W: GatherSink>(writer: &mut W, outbox: &mut Outbox) -> bool {
     let list = Response {
         status: StatusCode::OK,
         kind: ContentType::Json,
@@ -187,4 +187,31 @@ fn a_long_answer_in_one_write(rt: HostRuntime) {
             bytes.len() == HEAD.len() + 40_000 && bytes.as_slice().ends_with(body.as_slice())
         );
     }
+}
+
+/// Writes so many lists of no plans, and then what waits, if it is to be sent: how often the writer was called, and the number of
+/// bytes.
+fn lists_to<R: Abort>(rt: &R, alloc: Global, lists: u32, is_flushed: bool) -> (usize, usize) {
+    let mut outbox = Outbox::new(alloc).expect(rt, "no memory");
+    let mut writer = Gathering::new(Pages {
+        bytes: Vec::new(alloc),
+        piece: 100_000,
+        calls: 0,
+    });
+    for _ in 0..lists {
+        assert!(rt; write_list(&mut writer, &mut outbox));
+    }
+    if is_flushed {
+        assert!(rt; outbox.flush(&mut writer).is_ok());
+    }
+    let Pages { bytes, calls, .. } = writer.into_inner();
+    (calls, bytes.len())
+}
+
+#[test]
+fn answers_go_out_together(rt: HostRuntime) {
+    let alloc = rt.alloc();
+    assert!(rt; lists_to(&rt, alloc, 100, false) == (0, 0));
+    assert!(rt; lists_to(&rt, alloc, 100, true) == (1, 100 * 83));
+    assert!(rt; lists_to(&rt, alloc, 400, true) == (3, 400 * 83));
 }

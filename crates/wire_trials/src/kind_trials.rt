@@ -1,6 +1,7 @@
 //! Reads and writes that fail once, by each kind of error.
 use byte_stream::sink::{Sink, WriteFault, WriteSink};
 use byte_stream::source::{ReadSource, Source, Turn};
+use http_answer::gather::{GatherSink, GatherWrite, Gathering};
 use std::io;
 use std::io::{ErrorKind, Read, Write};
 
@@ -41,6 +42,15 @@ impl Write for FailsOnce {
     }
 }
 
+impl GatherWrite for FailsOnce {
+    fn write_both(&mut self, first: &[u8], second: &[u8]) -> io::Result<usize> {
+        if self.is_first() {
+            return Err(io::Error::from(self.kind));
+        }
+        Ok(first.len() + second.len())
+    }
+}
+
 /// What one turn tells of a reader that fails so, and how often the reader was called.
 fn turn_at(kind: ErrorKind) -> (Turn, u32) {
     let mut source = ReadSource::new(FailsOnce { kind, calls: 0 });
@@ -53,6 +63,14 @@ fn turn_at(kind: ErrorKind) -> (Turn, u32) {
 fn send_at(kind: ErrorKind) -> (Result<(), WriteFault>, u32) {
     let mut sink = WriteSink::new(FailsOnce { kind, calls: 0 });
     let sent = sink.send(b"bytes");
+    let writer = sink.into_inner();
+    (sent, writer.calls)
+}
+
+/// What sending two texts at once tells of a writer that fails so, and how often the writer was called.
+fn send_both_at(kind: ErrorKind) -> (Result<(), WriteFault>, u32) {
+    let mut sink = Gathering::new(FailsOnce { kind, calls: 0 });
+    let sent = sink.send_both(b"head", b"body");
     let writer = sink.into_inner();
     (sent, writer.calls)
 }
@@ -106,7 +124,9 @@ fn each_kind_but_an_interruption_is_a_failure(rt: HostRuntime) {
     for kind in &KINDS {
         assert!(rt; turn_at(*kind) == (Turn::Failed, 1));
         assert!(rt; send_at(*kind) == (Err(WriteFault), 1));
+        assert!(rt; send_both_at(*kind) == (Err(WriteFault), 1));
     }
     assert!(rt; turn_at(ErrorKind::Interrupted) == (Turn::Interrupted, 1));
     assert!(rt; send_at(ErrorKind::Interrupted) == (Ok(()), 2));
+    assert!(rt; send_both_at(ErrorKind::Interrupted) == (Ok(()), 2));
 }

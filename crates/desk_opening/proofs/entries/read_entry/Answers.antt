@@ -4,7 +4,7 @@ use Rattle.page_store.specs.Stops.{quiet_more, passed_more}
 use Rattle.page_btree.specs.Map.{InTxn}
 use Rattle.row_table.specs.Outcomes.{match_of}
 use Rattle.row_table.specs.Appending.{AppendErr, then_unappended}
-use Rattle.desk_opening.specs.Reading.{HasRead, IsPlanRow, IsOfBlocks}
+use Rattle.desk_opening.specs.Reading.{HasRead, IsNext, IsPlanRow}
 use Rattle.desk_opening.proofs.Revisions.{of_blocks, one_revision_more}
 use Rattle.desk_opening.proofs.entries.read_entry.Goals as goal
 
@@ -17,8 +17,8 @@ returns-in_err-entry-clause-read g c =
     let i = c.loop-before.before in
     let error = c.in_err-entry.field-0.0 in
     match_of c.from_residual.result (λ entry. HasRead says (λ (plan : Plan). (c.args.name, plan)) c.args.txn.now c.args.pages.now c.with_next.new.pages entry) error (λ e. AppendErr says c.args.txn.now c.args.pages.now c.with_next.new.pages e) c.from_residual.ensures.1
-    (then_unappended says (IsOfBlocks c.args.geography.now c.args.row.now.number (i + 1)) c.args.txn.now c.args.pages.now c.loop-before.pages c.with_next.new.pages error
-    (λ honest m p holds said. (get_or p.revisions i [], of_blocks c.args.geography.now c.args.name c.args.row.now m p i said c.loop-before-test.true))
+    (then_unappended says (IsNext c.args.geography.now c.args.row.now.number (i + 1) c.loop-before.last.names.items c.loop-before.last.districts.items) c.args.txn.now c.args.pages.now c.loop-before.pages c.with_next.new.pages error
+    (λ honest m p holds said. (get_or p.revisions i [], record { is = of_blocks c.args.geography.now c.args.name c.args.row.now m p i said c.loop-before-test.true; known = c.loop-before.invariant.known honest m p holds said }))
     c.loop-before.invariant.read.passed c.in_err-entry.ensures.quiet c.in_err-entry.ensures.read)
 
 pub loop-before-preserved : goal.loop-before-preserved
@@ -36,8 +36,12 @@ loop-before-preserved g c =
             let many = said.revisions in
             let within : i < length p.revisions = omega arith in
             one_revision_more c.args.name p i c.loop-before.entry c.in_ok-entry.entry within (before.read.read then m p holds said)
-            (now.read.read honest m (get_or p.revisions i []) still (of_blocks c.args.geography.now c.args.name c.args.row.now m p i said less));
+            (now.read.read honest m (get_or p.revisions i []) still (record { is = of_blocks c.args.geography.now c.args.name c.args.row.now m p i said less; known = before.known then m p holds said }));
       };
+      known = λ honest m p holds said.
+          let then = now.quiet.honest honest in
+          let still = subst (λ P. InTxn c.args.txn.now P m) (sym (before.read.passed.quiet.same then)) holds in
+          now.known honest m (get_or p.revisions i []) still (record { is = of_blocks c.args.geography.now c.args.name c.args.row.now m p i said less; known = before.known then m p holds said });
       whole = now.whole before.whole;
       named = now.named ∙ before.named;
       many = now.longer ∙ ap (λ n. n + 1) before.many;

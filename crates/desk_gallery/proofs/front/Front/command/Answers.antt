@@ -2,6 +2,7 @@ use Rattle.std.proofs.Common.{subst}
 use Rattle.desk_gallery.specs.After.{after}
 use Rattle.desk_gallery.specs.Fronts.{Kept}
 use Rattle.desk_gallery.specs.Outcomes.{OutcomeMay}
+use Rattle.desk_gallery.specs.Working.{Joins}
 use Rattle.desk_gallery.proofs.Working.{works_of, outcome_of}
 use Rattle.desk_gallery.proofs.front.Front.command.Goals as goal
 
@@ -13,3 +14,8 @@ pub returns-clause-outcome : goal.returns-clause-outcome
 returns-clause-outcome g c =
     subst (λ (k : Kept g.row.D.Denot). OutcomeMay (after g.J.Room.first k.shown) c.args.command c.work-reply.result (after g.J.Room.first c.work-reply.new.shower.0)) c.self.view_is
     (outcome_of g.J.Room.first c.self.inside.clerk c.work-reply.new.clerk c.self.inside.shower c.work-reply.new.shower c.args.command c.work-reply.result c.self.invariant.0 c.work-reply.ensures)
+
+pub returns-clause-joins : goal.returns-clause-joins
+returns-clause-joins g c =
+    subst (λ (k : Kept g.row.D.Denot). Joins g.J.Room.first (k.shown, k.all) c.args.command c.work-reply.result (c.work-reply.new.shower.0, c.work-reply.new.shower.1)) c.self.view_is
+    c.work-reply.ensures.joins

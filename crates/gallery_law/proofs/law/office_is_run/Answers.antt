@@ -1,0 +1,5 @@
+use Rattle.gallery_law.proofs.Weaving.{office_law}
+use Rattle.gallery_law.proofs.law.office_is_run.Goals as goal
+
+pub returns : goal.returns
+returns c = office_law
