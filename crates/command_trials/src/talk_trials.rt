@@ -145,7 +145,7 @@ const THREE_ANSWERS: &[u8] =
     b"HTTP/1.1 200 OK\r\nContent-Type: application/json\r\nContent-Length: 12\r\n\r\n{\"plans\":[]}HTTP/1.1 201 Created\r\nContent-Type: application/json\r\nContent-Length: 26\r\n\r\n{\"plan\":\"a\",\"revisions\":0}HTTP/1.1 409 Conflict\r\nContent-Type: application/json\r\nContent-Length: 22\r\n\r\n{\"error\":\"PlanExists\"}";
 
 /// Streams and what is written for them, whole.
-static TABLE: [(&[u8], &[u8]); 14] = [
+static TABLE: [(&[u8], &[u8]); 15] = [
     (b"", b""),
     (FIRST, FIRST_ANSWER),
     (THREE, THREE_ANSWERS),
@@ -161,6 +161,10 @@ static TABLE: [(&[u8], &[u8]); 14] = [
     (
         b"GET /plans HTTP/2.0\r\nHost: d\r\n\r\n",
         b"HTTP/1.1 400 Bad Request\r\nContent-Type: application/json\r\nContent-Length: 19\r\nConnection: close\r\n\r\n{\"error\":\"BadHead\"}",
+    ),
+    (
+        b"GET /plans HTTP/1.1\r\nHost: d\r\nA: b\r\nA: b\r\nA: b\r\nA: b\r\nA: b\r\nA: b\r\nA: b\r\nA: b\r\nA: b\r\nA: b\r\nA: b\r\nA: b\r\nA: b\r\nA: b\r\nA: b\r\nA: b\r\nA: b\r\nA: b\r\nA: b\r\nA: b\r\nA: b\r\nA: b\r\nA: b\r\nA: b\r\nA: b\r\nA: b\r\nA: b\r\nA: b\r\nA: b\r\nA: b\r\nA: b\r\nA: b\r\nA: b\r\nA: b\r\nA: b\r\nA: b\r\nA: b\r\nA: b\r\nA: b\r\nA: b\r\nA: b\r\nA: b\r\nA: b\r\nA: b\r\nA: b\r\nA: b\r\nA: b\r\nA: b\r\nA: b\r\nA: b\r\nA: b\r\nA: b\r\nA: b\r\nA: b\r\nA: b\r\nA: b\r\nA: b\r\nA: b\r\nA: b\r\nA: b\r\nA: b\r\nA: b\r\nA: b\r\nA: b\r\n\r\n",
+        b"HTTP/1.1 431 Request Header Fields Too Large\r\nContent-Type: application/json\r\nContent-Length: 24\r\nConnection: close\r\n\r\n{\"error\":\"HeadTooLarge\"}",
     ),
     (
         b"GET /plans HTTP/1.1\r\nHost: d\r\nContent-Length: +5\r\n\r\n",
