@@ -12,11 +12,23 @@ fn made_counties(count: usize) -> Vec<u64> {
     (0..count as u64).map(|i| 190_010_000_000_000 + i / 1_770 * 20_000_000_000 + i).collect()
 }
 
-fn body_of(ids: &[u64], district: u32) -> String {
-    let mut text = String::with_capacity(17 + ids.len() * 20);
-    text.push_str("BLOCKID|DISTRICT\n");
+fn put_digits<const N: usize>(text: &mut Vec<u8>, mut number: u64) {
+    let mut digits = [b'0'; N];
+    for digit in digits.iter_mut().rev() {
+        *digit += (number % 10) as u8;
+        number /= 10;
+    }
+    text.extend_from_slice(&digits);
+}
+
+fn body_of(ids: &[u64], district: u32) -> Vec<u8> {
+    let mut text = Vec::with_capacity(17 + ids.len() * 20);
+    text.extend_from_slice(b"BLOCKID|DISTRICT\n");
     for id in ids {
-        text.push_str(&format!("{id:015}|{district:03}\n"));
+        put_digits::<15>(&mut text, *id);
+        text.push(b'|');
+        put_digits::<3>(&mut text, district as u64);
+        text.push(b'\n');
     }
     text
 }
@@ -95,12 +107,12 @@ fn main() {
         let district = after as u32 % DISTRICTS + 1;
         if after == 0 {
             let body = body_of(&ids, district);
-            revisions.push(whole(blocks, &read(&ids, body.as_bytes()).unwrap()));
+            revisions.push(whole(blocks, &read(&ids, &body).unwrap()));
             continue;
         }
         let first = after % counties * COUNTY;
         let body = body_of(&ids[first..(first + COUNTY).min(blocks)], district);
-        let listed = read(&ids, body.as_bytes()).unwrap();
+        let listed = read(&ids, &body).unwrap();
         assert!(are_whole(&ids, &listed));
         let next = patched(&revisions[after - 1], &listed);
         revisions.push(next);

@@ -2,7 +2,7 @@
 ghost use Rattle.std.specs.Prelude.{◌≡◌};
 ghost use Rattle.desk_clerk.specs.Clerks.{desk_of, Keeps};
 
-use crate::stores::{clerk_of_sample, create, is_created, is_halted, plans_seen};
+use crate::stores::{clerk_failing_at, create, is_created, is_halted, plans_seen};
 use desk_catalogue::catalogue::Catalogue;
 use desk_clerk::clerk::Clerk;
 use desk_gallery::book::{Opened, Room};
@@ -56,8 +56,7 @@ fn is_shown<J: Room, R: Wait + Abort>(
 
 /// A command on a device whose call k fails, where the opening passes.
 fn at_call<R: Wait + Abort>(rt: &R, alloc: Global, k: u64) -> Result<Option<bool>, Fail> {
-    let device = FailOnce::new(clerk_of_sample(rt, alloc).into_device(), k);
-    let Ok(clerk) = Clerk::open(alloc, device) else {
+    let Some(clerk) = clerk_failing_at(rt, alloc, k) else {
         return Ok(None);
     };
     let catalogue = clerk.published()?;

@@ -4,8 +4,6 @@
 #[cfg(test)]
 mod faults;
 #[cfg(test)]
-mod standing;
-#[cfg(test)]
 mod stores;
 #[cfg(test)]
 mod visits;

@@ -9,17 +9,18 @@ use desk_model::kind::Kind;
 use desk_model::name::PlanName;
 use desk_model::reply::{Refusal, Reply};
 use desk_model::size::PlanSize;
-use sector_memory::MemoryDevice;
+use sector_memory::{FailOnce, MemoryDevice};
 use std::alloc::Global;
 use std::process::Abort;
 use std::sync::Arc;
 
-/// A clerk with the sample geography.
-pub fn clerk_of_sample<R: Abort>(rt: &R, alloc: Global) -> Clerk<MemoryDevice> {
+/// A clerk with the sample geography, whose device fails at its call k from the opening on; none where that is in the opening.
+pub fn clerk_failing_at<R: Abort>(rt: &R, alloc: Global, k: u64) -> Option<Clerk<FailOnce>> {
     let state = sample(alloc).expect(rt, "no memory");
     let geography = Arc::new(alloc, state).expect(rt, "no memory");
     let device = MemoryDevice::new(alloc, 600).expect(rt, "no memory");
-    start(alloc, device, 256, geography).expect(rt, "no clerk")
+    let clerk = start(alloc, device, 256, geography).expect(rt, "no clerk");
+    Clerk::open(alloc, FailOnce::new(clerk.into_device(), k)).ok()
 }
 
 /// The command that makes a plan under a name.

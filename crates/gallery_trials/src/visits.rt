@@ -2,25 +2,27 @@
 ghost use Rattle.std.specs.Prelude.{◌≡◌};
 ghost use Rattle.desk_clerk.specs.Clerks.{desk_of, Keeps};
 
-use crate::stores::{clerk_of_sample, create, is_created, plans_seen};
+use crate::stores::{clerk_failing_at, create, is_created, plans_seen};
 use desk_catalogue::catalogue::Catalogue;
 use desk_clerk::clerk::Clerk;
 use desk_gallery::book::{Opened, Room};
 use desk_gallery::front::Front;
 use desk_gallery::gallery::{Gallery, GalleryFault};
-use sector_memory::MemoryDevice;
+use gallery_law::office::is_standing;
+use sector_memory::FailOnce;
 use std::alloc::Global;
 use std::marker::Brand;
 use std::process::Abort;
 use std::sync::{Arc, Wait};
 use std::test::Fail;
 
-/// One visitor is told of each of two plans, the other of neither.
+/// One visitor is told of each of two plans, the other of neither; what they and the front have is always a state of the world
+/// of events.
 fn two_visitors<J: Room, R: Wait + Abort>(
     rt: &R,
     alloc: Global,
     opened: Opened,
-    clerk: Clerk<MemoryDevice>,
+    clerk: Clerk<FailOnce>,
     catalogue: Arc<Catalogue>,
 ) -> Result<(), Fail>
     requires book { opened.seen.book ≡ J.book }
@@ -38,21 +40,22 @@ fn two_visitors<J: Room, R: Wait + Abort>(
     };
     let mut front = Front::new(clerk, shower);
     let mut visitors = visitors;
-    let mut other = visitors.pop().expect(rt, "no visitor");
-    let mut visitor = visitors.pop().expect(rt, "no visitor");
-    assert!(rt; plans_seen(rt, alloc, &mut visitor) == 0);
+    assert!(rt; is_standing(&front, visitors.as_slice()));
+    assert!(rt; plans_seen(rt, alloc, &mut visitors[0]) == 0);
     for (name, so_far) in [(b"a", 1), (b"b", 2)] {
         let (reply, told) = front.command(rt, alloc, create(rt, name));
         assert!(rt; is_created(&reply));
-        visitor.learn(told);
-        assert!(rt; visitor.heard() == so_far as u128 && front.shown() == so_far as u128);
-        assert!(rt; plans_seen(rt, alloc, &mut visitor) == so_far);
+        visitors[0].learn(told);
+        assert!(rt; visitors[0].heard() == so_far as u128 && front.shown() == so_far as u128);
+        assert!(rt; plans_seen(rt, alloc, &mut visitors[0]) == so_far);
+        assert!(rt; is_standing(&front, visitors.as_slice()));
     }
     let (again, told) = front.command(rt, alloc, create(rt, b"a"));
     assert!(rt; !is_created(&again));
-    visitor.learn(told);
-    assert!(rt; visitor.heard() == 2 && other.heard() == 0);
-    assert!(rt; plans_seen(rt, alloc, &mut other) == 2 && other.heard() == 2);
+    visitors[0].learn(told);
+    assert!(rt; visitors[0].heard() == 2 && visitors[1].heard() == 0);
+    assert!(rt; plans_seen(rt, alloc, &mut visitors[1]) == 2 && visitors[1].heard() == 2);
+    assert!(rt; is_standing(&front, visitors.as_slice()));
     front.close(rt);
     Ok(())
 }
@@ -60,7 +63,7 @@ fn two_visitors<J: Room, R: Wait + Abort>(
 #[test]
 fn visitors_see_what_was_committed(rt: HostRuntime) -> Result<(), Fail> {
     let alloc = rt.alloc();
-    let clerk = clerk_of_sample(&rt, alloc);
+    let clerk = clerk_failing_at(&rt, alloc, u64::MAX).expect(&rt, "no clerk");
     let catalogue = clerk.published()?;
     two_visitors::<Brand, _>(&rt, alloc, Opened::new(), clerk, catalogue)
 }
