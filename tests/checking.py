@@ -1,5 +1,5 @@
-"""For tests/checks, tests/census and tests/reads: the files of an invented state of four blocks in two counties, and runs of the
-program over texts, which it reads from files, or from pipes in pieces.
+"""For tests/checks, tests/clauses, tests/census and tests/reads: the files of an invented state of four blocks in two counties, and
+runs of the program over texts, which it reads from files, or from pipes in pieces.
 
 Before it: rt run in crates/plandesk.
 """
@@ -21,8 +21,8 @@ def line(fields, fill, values, end='\n'):
     return '|'.join(values.get(n, '' if n < 5 else fill) for n in range(1, fields + 1)) + end
 
 
-def block(record, county, place, place_class, number):
-    return {3: '750', 5: '00', 8: record, 13: '19', 15: county, 30: place, 31: place_class, 33: '000100', 35: number}
+def block(record, county, place, place_class, number, state='19', tract='000100'):
+    return {3: '750', 5: '00', 8: record, 13: state, 15: county, 30: place, 31: place_class, 33: tract, 35: number}
 
 
 STATE = {3: '040', 5: '00', 8: '0000001', 13: '19'}
@@ -46,18 +46,18 @@ def census(people=PEOPLE, mark='', end='\n', **others):
     return {**texts, **others}
 
 
-def neighbours(*lists):
+def neighbours(*lists, ids=IDS):
     """A neighbour file: for each block the places of its neighbours, from 0."""
-    said = ['4\n']
-    for unit, near in zip(IDS, lists):
+    said = [f'{len(ids)}\n']
+    for unit, near in zip(ids, lists):
         said.append(f'{unit} {len(near)}\n')
         if near:
-            said.append(' '.join(IDS[other] for other in near) + '\n')
+            said.append(' '.join(ids[other] for other in near) + '\n')
     return ''.join(said)
 
 
-def plan(*districts):
-    return 'BLOCKID|DISTRICT\n' + ''.join(f'{block}|{district}\n' for block, district in zip(IDS, districts))
+def plan(*districts, ids=IDS):
+    return 'BLOCKID|DISTRICT\n' + ''.join(f'{block}|{district}\n' for block, district in zip(ids, districts))
 
 
 FIRST, SECOND, THIRD, FOURTH = IDS
@@ -70,6 +70,10 @@ ISLANDS = ISLAND, THREE.replace(f'{SECOND} {THIRD}', f'{SECOND}\t{THIRD}').repla
 GAPS = [{'district': 1, 'from': FIRST, 'to': FOURTH}, {'district': 2, 'from': SECOND, 'to': THIRD}]
 PAIRS = (((1, 1, 2, 2), [{'district': 2, 'from': THIRD, 'to': FOURTH}]),
          ((1, 2, 1, 2), [{'district': 2, 'from': SECOND, 'to': FOURTH}]), ((1, 2, 2, 1), GAPS))
+
+
+def compact(value):
+    return json.dumps(value, separators=(',', ':'), sort_keys=True)
 
 
 def gaps(ran):

@@ -1,8 +1,9 @@
-"""The files of a made state, and runs of the program over stores in files: what tests/loads, tests/stores and tests/power share.
+"""The files of a made state, and runs of the program over stores in files: what tests/loads, tests/stores, tests/faults,
+tests/spoiled, tests/sweeps, tests/seats and tests/power share.
 
 The files are put together by the rules of docs/FORMATS.md.
 """
-import os, subprocess
+import os, resource, subprocess
 
 here = os.path.dirname(os.path.abspath(__file__))
 program = os.path.join(here, '../crates/plandesk/out/plandesk')
@@ -73,6 +74,28 @@ def ends(name, words, output, errors, status):
 def runs(name, words, output, errors, status):
     ends(name, words, output, errors, status)
     print(f'{name}: as it has to be')
+
+
+def limited(words, limit=None, output=subprocess.PIPE):
+    """What the program prints, what it tells, and its status, where no file may grow beyond so many bytes: a write behind them
+    fails, and one across them is short. The signal of such a write is to be ignored here, and is so there."""
+    before = resource.getrlimit(resource.RLIMIT_FSIZE)
+    resource.setrlimit(resource.RLIMIT_FSIZE, (before[0] if limit is None else limit, before[1]))
+    try:
+        done = subprocess.run([program, *words], stdin=subprocess.DEVNULL, stdout=output, stderr=subprocess.PIPE, text=True,
+                              timeout=100, restore_signals=False)
+    finally:
+        resource.setrlimit(resource.RLIMIT_FSIZE, before)
+    return done.stdout, done.stderr, done.returncode
+
+
+def printed_in_part(words, path, limit, room):
+    """The same where standard output, a file, has room for so many bytes before the limit."""
+    with open(path, 'w+b', buffering=0) as output:
+        output.seek(limit - room)
+        _, errors, status = limited(words, limit, output)
+        output.seek(limit - room)
+        return output.read().decode(), errors, status
 
 
 def loading(store, given):

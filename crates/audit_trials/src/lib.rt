@@ -1,15 +1,8 @@
-//! Worked plans tried on each clause of the audit, and on the report.
+//! The audit tried where the program doesn't show it: more districts of a congress plan than it takes, and what passes the gate
+//! between workers.
 #![tactic(auto)]
 
 #[cfg(test)]
-mod contiguity_trials;
-#[cfg(test)]
 mod population_trials;
-#[cfg(test)]
-mod report_trials;
-#[cfg(test)]
-mod splits_trials;
-#[cfg(test)]
-mod states;
 #[cfg(test)]
 mod workers_trials;
