@@ -4,7 +4,7 @@ mod Faulty
 mod Listing
 mod Printing
 mod Rows
-mod Spans
+mod Parts
 mod Taken
 mod Values
 pub mod WholeLemmas

@@ -1,8 +1,8 @@
 -- The parts of a printed text.
-use Rattle.std.proofs.Common.{◌≡◌, ℕ, ◌+◌, ◌-◌, ◌<◌, ◌≤◌, List, [], ◌∷◌, ◌++◌, length, take, drop, get_or, replicate, zero, suc, sym, ◌∙◌, ap, arith, append_assoc, length-append, length-drop, take-append-drop, add-one}
+use Rattle.std.proofs.Common.{◌≡◌, ℕ, ◌+◌, ◌-◌, ◌<◌, ◌≤◌, List, [], ◌∷◌, ◌++◌, length, take, drop, get_or, replicate, zero, suc, sym, ◌∙◌, ap, arith, length-append, length-drop, add-one}
 use Rattle.std.specs.Fmt.{decimal}
 use Rattle.std.specs.List.{flat_map, zip}
-use Rattle.std.proofs.lemmas.List.{take-take, take-replicate, drop-replicate, drop-append-le, length-replicate, append-nil, take_all, length-map}
+use Rattle.std.proofs.lemmas.List.{take-take, take-replicate, length-replicate, append-nil, take_all, length-map}
 use Rattle.std.proofs.lemmas.List.Concat.{flat_map-append}
 use Rattle.desk_model.specs.declared.block.BlockRow.{BlockRow}
 use Rattle.desk_model.specs.declared.kind.Kind.{Kind}

@@ -1,59 +1,178 @@
 //! The blocks that a block assignment file lists.
-ghost use Rattle.std.specs.Prelude.{◌≡◌, map, unwrap_or, IfOk};
-ghost use Rattle.baf_text.specs.Listed.{IsSpan};
+ghost use Rattle.std.specs.Prelude.{◌≡◌, ◌<◌, ◌≤◌, ◌+◌, ◌⊎◌, ℕ, map, length, get_or, unwrap_or, None, IfOk, OnOk, OnErr};
+ghost use Rattle.baf_text.specs.Listed.{part_at as listed_at, IsAlike, IsEntered};
 
 use std::alloc::{AllocError, Global};
 use std::marker::Model;
 
 /// The district of each block of a geography, rising, where the block is listed: `Some(0)` for a block that is listed
-/// as unassigned, `None` for one that isn't listed.
+/// as unassigned, `None` for one that isn't listed. The blocks before the first listed one and behind the last take no memory.
 #[derive(Drop)]
 pub struct Listed {
-    districts: Vec<Option<u16>>,
-    span: (usize, usize),
+    /// How many blocks there are.
+    count: usize,
+    /// Where the part stands.
+    first: usize,
+    part: Vec<Option<u16>>,
 }
 
 impl Model for Listed {
-    ghost use Rattle.std.specs.Prelude.{List, Option, ℕ};
-    ghost use Rattle.baf_text.specs.Listed.{IsSpan};
+    ghost use Rattle.std.specs.Prelude.{List, Option, ℕ, ◌+◌, ◌≤◌, length};
+    ghost use Rattle.baf_text.specs.Listed.{spread};
 
     ghost Value = { List (Option ℕ) };
 
-    ghost view = { λ a. a.districts.items };
+    ghost view = { λ a. spread a.first a.part.items a.count };
 
-    ghost invariant = { λ a. IsSpan a.span a.districts.items };
+    ghost invariant = { λ a. a.first + length a.part.items ≤ a.count };
 }
 
 impl Listed {
-    pub(crate) fn from_vec(districts: Vec<Option<u16>>, span: (usize, usize)) -> Listed
-        requires { IsSpan span districts.items }
-        ensures { result ≡ districts.items }
+    ghost use Rattle.std.specs.Prelude.{◌≡◌, ◌<◌, [], length, get_or, slice_set, Some, None, IfOk, OnOk};
+    ghost use Rattle.baf_text.specs.Listed.{spread, IsPart};
+
+    /// A list of so many blocks, none of which is listed, with room for a part of that length.
+    pub(crate) fn none(alloc: Global, count: usize, room: usize) -> Result<Listed, AllocError>
+        ensures { IfOk result (λ listed. listed ≡ spread 0 [] count) }
     {
-        Listed { districts, span }
+        let part = Vec::with_capacity(alloc, room)?;
+        Ok(Listed {
+            count,
+            first: 0,
+            part,
+        })
     }
 
-    /// The district of each block, in the order of the blocks.
-    pub fn as_slice(&self) -> &[Option<u16>]
-        ensures { result.now ≡ self.now }
+    /// How many blocks there are.
+    pub fn len(&self) -> usize
+        ensures { result ≡ length self.now }
     {
-        self.districts.as_slice()
+        self.count
     }
 
-    /// Two places: no block before the first, or from the second on, is listed.
-    pub fn span(&self) -> (usize, usize)
-        ensures { IsSpan result self.now }
+    /// The district of the block at a place, where it is listed.
+    pub fn get(&self, place: usize) -> Option<u16>
+        ensures { result ≡ get_or self.now place None }
     {
-        self.span
+        part_at(self.first, self.part.as_slice(), place)
     }
+
+    /// A place, and the districts from there on. No other block is listed.
+    pub fn part(&self) -> (usize, &[Option<u16>])
+        ensures { IsPart result.0 result.1.now self.now }
+    {
+        (self.first, self.part.as_slice())
+    }
+
+    /// Enters the district of the block at a place.
+    pub(crate) fn put(
+        &mut self,
+        alloc: Global,
+        place: usize,
+        district: u16,
+    ) -> Result<(), AllocError>
+        requires { place < length self.old }
+        ensures { OnOk result (self.new ≡ slice_set self.old place (Some district)) }
+    {
+        enter(alloc, &mut self.first, &mut self.part, place, district)
+    }
+}
+
+/// What is listed of a place, where the list stands from the place `first` on.
+fn part_at(first: usize, part: &[Option<u16>], place: usize) -> Option<u16>
+    ensures { result ≡ listed_at first part.now place }
+{
+    if place < first {
+        return None;
+    }
+    match part.get(place - first) {
+        Some(district) => *district,
+        None => None,
+    }
+}
+
+/// Enters a district into a part, which is made longer where it doesn't reach the place.
+fn enter(
+    alloc: Global,
+    first: &mut usize,
+    part: &mut Vec<Option<u16>>,
+    place: usize,
+    district: u16,
+) -> Result<(), AllocError>
+    ensures entered { OnOk result (IsEntered place district first.old part.old.items first.new part.new.items) }
+    ensures within { (n : ℕ) → place < n → first.old + length part.old.items ≤ n → first.new + length part.new.items ≤ n }
+    ensures same { OnErr result (IsAlike first.old part.old.items first.new part.new.items) }
+{
+    reach(alloc, first, part, place)?;
+    part[place - *first] = Some(district);
+    Ok(())
+}
+
+/// Makes a part as long as a place in it wants.
+fn reach(
+    alloc: Global,
+    first: &mut usize,
+    part: &mut Vec<Option<u16>>,
+    place: usize,
+) -> Result<(), AllocError>
+    ensures alike { IsAlike first.old part.old.items first.new part.new.items }
+    ensures within { (n : ℕ) → place < n → first.old + length part.old.items ≤ n → first.new + length part.new.items ≤ n }
+    ensures down { OnOk result (first.new ≤ place) }
+    ensures up { OnOk result (place < first.new + length part.new.items) }
+{
+    if part.is_empty() {
+        *first = place;
+    }
+    if place < *first {
+        lower(alloc, first, part, place)?;
+    }
+    raise(part, place - *first)
+}
+
+/// Makes a list reach a place.
+fn raise(part: &mut Vec<Option<u16>>, at: usize) -> Result<(), AllocError>
+    ensures alike { (k : ℕ) → get_or part.new.items k None ≡ get_or part.old.items k None }
+    ensures long { OnOk result (at < length part.new.items) }
+    ensures within { (length part.new.items ≤ length part.old.items) ⊎ (length part.new.items ≤ at + 1) }
+{
+    if at > part.len() {
+        part.resize(at, None)?;
+    }
+    if at == part.len() {
+        part.push(None)?;
+    }
+    Ok(())
+}
+
+/// Has a part begin at a place before it, or earlier: as much earlier as it is long, where that can be, so that rows which fall
+/// don't each copy it.
+fn lower(
+    alloc: Global,
+    first: &mut usize,
+    part: &mut Vec<Option<u16>>,
+    place: usize,
+) -> Result<(), AllocError>
+    requires { place < first.old }
+    ensures alike { IsAlike first.old part.old.items first.new part.new.items }
+    ensures down { OnOk result (first.new ≤ place) }
+    ensures long { first.new + length part.new.items ≡ first.old + length part.old.items }
+{
+    let step = (*first - place).max(part.len()).min(*first);
+    let mut longer = Vec::from_elem(alloc, None, step)?;
+    longer.extend_from_slice(part.as_slice())?;
+    *first -= step;
+    *part = longer;
+    Ok(())
 }
 
 /// The district of each block, rising. Blocks that aren't listed are unassigned, 0.
 pub fn whole(alloc: Global, listed: &Listed) -> Result<Vec<u16>, AllocError>
     ensures { IfOk result (λ districts. districts.items ≡ map (λ d. unwrap_or d 0) listed.now) }
 {
-    listed
-        .as_slice()
-        .iter()
-        .map(|d| d.unwrap_or(0))
-        .collect(alloc)
+    let (first, part) = listed.part();
+    let mut districts = Vec::from_elem(alloc, 0, listed.len())?;
+    for i in 0..part.len() {
+        districts[first + i] = part[i].unwrap_or(0);
+    }
+    Ok(districts)
 }

@@ -1,12 +1,12 @@
 //! Reading a block assignment file.
-ghost use Rattle.std.specs.Prelude.{◌≡◌, ◌<◌, ℕ, List, Option, map, length, IfOk, IfErr, IsOkAnd};
+ghost use Rattle.std.specs.Prelude.{◌≡◌, ◌<◌, ◌+◌, ◌^◌, map, length, None, IfOk, IfErr, OnOk, IsOkAnd};
 ghost use Rattle.desk_model.specs.Baf.{Values, body_read, in_range};
-ghost use Rattle.baf_text.specs.Listed.{listed_of, AreOthers, IsEntry, IsLineTaken, IsSpan};
+ghost use Rattle.baf_text.specs.Listed.{listed_of, IsEntry, IsLineTaken};
 ghost use Rattle.baf_text.specs.Faults.{IsFaultOf};
 ghost use Rattle.baf_text.specs.declared.reading.BafFault.TheVariants.{Memory};
 
 use crate::listed::Listed;
-use crate::row::row_of;
+use crate::row::{ID_DIGITS, row_of};
 use desk_model::geography::{Geography, place_near};
 use desk_model::reply::BodyFault;
 use field_text::lines::Lines;
@@ -45,7 +45,7 @@ fn district_of(number: Option<u16>, n: u16) -> Option<u16>
 
 /// The place of a line's block and its district, where the line may be entered into the list.
 fn entry_of(
-    listed: &[Option<u16>],
+    listed: &Listed,
     geography: &Geography,
     n: u16,
     line: &[u8],
@@ -55,6 +55,7 @@ fn entry_of(
     ensures entry { (so_far : Values) → listed.now ≡ listed_of geography.now so_far
         → IsEntry geography.now n so_far line.now listed.now result }
     ensures within { IfOk result (λ entry. entry.0 < length geography.now.blocks) }
+    ensures fits { IfOk result (λ entry. entry.0 + 1 < 2 ^ 64) }
 {
     let Some(row) = row_of(line) else {
         return Err(BodyFault::Shape);
@@ -62,7 +63,7 @@ fn entry_of(
     let Some(place) = place_near(geography.blocks(), likely, row.0) else {
         return Err(BodyFault::UnknownBlock);
     };
-    if listed[place].is_some() {
+    if listed.get(place).is_some() {
         return Err(BodyFault::RepeatedBlock);
     }
     match district_of(row.1, n) {
@@ -71,51 +72,42 @@ fn entry_of(
     }
 }
 
-/// Enters a line into the list, and gives the place after its block.
-#[tactic(auto, unfolding(crate::specs::Listed::AreOthers))]
+/// Enters a line, which has this number, into the list, and gives the place after its block.
 fn take_line(
-    listed: &mut [Option<u16>],
+    alloc: Global,
+    listed: &mut Listed,
     geography: &Geography,
     n: u16,
     line: &[u8],
+    number: u64,
     likely: usize,
-) -> Result<usize, BodyFault>
+) -> Result<usize, BafFault>
     requires { length listed.old ≡ length geography.now.blocks }
     ensures taken { (so_far : Values) → listed.old ≡ listed_of geography.now so_far
-        → IsLineTaken geography.now n so_far line.now result listed.new }
-    ensures others { IfOk result (λ next. AreOthers next listed.old listed.new) }
+        → IsLineTaken geography.now n so_far line.now number result listed.new }
+    ensures long { OnOk result (length listed.new ≡ length listed.old) }
 {
     if line.is_empty() {
         return Ok(likely);
     }
     match entry_of(listed, geography, n, line, likely) {
         Ok((place, district)) => {
-            listed[place] = Some(district);
+            listed.put(alloc, place, district)?;
             Ok(place + 1)
         }
-        Err(fault) => Err(fault),
+        Err(code) => Err(BafFault::Body { code, line: number }),
     }
 }
 
-/// The places between which blocks are listed, with the one before `next` among them.
-#[tactic(auto, unfolding(crate::specs::Listed::IsSpan, crate::specs::Listed::AreOthers))]
-fn spanned(span: (usize, usize), next: usize) -> (usize, usize)
-    ensures { (old new : List (Option ℕ)) → IsSpan span old → AreOthers next old new → IsSpan result new }
-{
-    let first = if next <= span.0 {
-        next.saturating_sub(1)
-    } else {
-        span.0
-    };
-    let end = if next > span.1 { next } else { span.1 };
-    (first, end)
-}
+/// A row has this many bytes at least: a block's number, a bar and the end of the line.
+const ROW: usize = ID_DIGITS + 2;
 
-/// The list in which no block is listed.
-fn none_listed(alloc: Global, geography: &Geography) -> Result<Vec<Option<u16>>, AllocError>
-    ensures { IfOk result (λ districts. districts.items ≡ map (λ _. None) geography.now.blocks) }
+/// The list in which no block is listed, with room for as many rows as a text has at most.
+fn none_listed(alloc: Global, geography: &Geography, bytes: &[u8]) -> Result<Listed, AllocError>
+    ensures { IfOk result (λ listed. listed ≡ map (λ _. None) geography.now.blocks) }
 {
-    geography.blocks().iter().map(|_| None).collect(alloc)
+    let count = geography.blocks().len();
+    Listed::none(alloc, count, count.min(bytes.len() / ROW))
 }
 
 /// Reads a block assignment file for a plan of `n` districts. After the header each line with bytes is a block's number of
@@ -136,22 +128,18 @@ pub fn read(alloc: Global, bytes: &[u8], geography: &Geography, n: u16) -> Resul
             });
         }
     }
-    let mut districts = none_listed(alloc, geography)?;
-    let mut span = (districts.len(), 0);
+    let mut listed = none_listed(alloc, geography, bytes)?;
     let mut likely = 0;
     while let Some(line) = lines.next_line() {
-        match take_line(&mut districts, geography, n, line.bytes, likely) {
-            Ok(next) => {
-                span = spanned(span, next);
-                likely = next;
-            }
-            Err(code) => {
-                return Err(BafFault::Body {
-                    code,
-                    line: line.number,
-                });
-            }
-        }
+        likely = take_line(
+            alloc,
+            &mut listed,
+            geography,
+            n,
+            line.bytes,
+            line.number,
+            likely,
+        )?;
     }
-    Ok(Listed::from_vec(districts, span))
+    Ok(listed)
 }

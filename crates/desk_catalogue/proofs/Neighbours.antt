@@ -3,7 +3,7 @@ use Rattle.std.proofs.Common.{◌≡◌, ◌≢◌, ℕ, zero, suc, ◌+◌, ◌
 use Rattle.std.specs.Prelude.{is_some, not}
 use Rattle.std.proofs.Math.Bool.{beq}
 use Rattle.std.specs.List.{Any}
-use Rattle.std.proofs.lemmas.List.{get_or-map, length-map}
+use Rattle.std.proofs.lemmas.List.{get_or-map, get_or_past, length-map}
 use Rattle.std.proofs.lemmas.Grind.{get_or_default_zero}
 use Rattle.std.proofs.lemmas.Map.Keys.{sorted_from_strictly_increasing, below_from_sorted}
 use Rattle.std.proofs.lemmas.Bool.{cases_lt}
@@ -13,7 +13,8 @@ use Rattle.desk_model.specs.Geography.{Ground, AreBlocks, ids, ids_of, id_at}
 use Rattle.desk_model.specs.Counties.{IsInPart, LeastCountyIsTold}
 use Rattle.desk_model.specs.Step.{partly_listed}
 use Rattle.desk_model.specs.declared.block.BlockRow.{BlockRow}
-use Rattle.baf_text.specs.Listed.{listed_of, IsSpan}
+use Rattle.baf_text.specs.Listed.{listed_of, IsPart}
+use Rattle.desk_catalogue.proofs.Overlays.{before, there}
 
 county_rises : (a b : ℕ) → a ≤ b → state_of a ≡ state_of b → county_of a ≤ county_of b
 county_rises a b less same = omega (arith, less, same)
@@ -30,15 +31,22 @@ abbrev pub Agree : List BlockRow → List (Option ℕ) → ℕ → Type 0
 Agree blocks listed end = (k : ℕ) → k + 1 < end → county_at blocks k ≡ county_at blocks (k + 1) → is_listed_at listed k ≡ is_listed_at listed (k + 1)
 
 -- where nothing is listed all agree
+-- nothing is listed before the first place, nor from the second one on
+abbrev pub IsSpan : ℕ × ℕ → List (Option ℕ) → Type 0
+IsSpan span listed = (k : ℕ) → (k < span.0) ⊎ (span.1 ≤ k) → get_or listed k None ≡ None
+
+-- a part and what isn't listed around it
+pub part_span : (first : ℕ) (part listed : List (Option ℕ)) → IsPart first part listed → IsSpan (first, first + length part) listed
+part_span first part listed is k (inl less) = is.there k ∙ before first part k less
+part_span first part listed is k (inr more) = is.there k ∙ there first part k (omega arith) ∙ get_or_past part (k - first) None (omega arith)
+
 pub span_starts : (blocks : List BlockRow) (listed : List (Option ℕ)) (span : ℕ × ℕ) (place : ℕ) → IsSpan span listed → (place ≤ span.0) ⊎ (place ≤ 1) → Agree blocks listed place
-unfolding IsSpan
 span_starts blocks listed span place none (inl low) = λ k inside _.
     ap is_some (none k (inl (omega (arith, inside, low)))) ∙ sym (ap is_some (none (k + 1) (inl (omega (arith, inside, low)))))
 span_starts blocks listed span place none (inr low) = λ k inside _. absurd (omega (arith, inside, low))
 
 pub span_ends : (blocks : List BlockRow) (listed : List (Option ℕ)) (span : ℕ × ℕ) (place : ℕ) → IsSpan span listed → Agree blocks listed place → (length blocks ≤ place) ⊎ (span.1 < place)
     → Agree blocks listed (length blocks)
-unfolding IsSpan
 span_ends blocks listed span place none agree (inl past) = λ k inside. agree k (omega (arith, inside, past))
 span_ends blocks listed span place none agree (inr past) = λ k inside same. ⊎_elim
     (λ (before : k + 1 < place). agree k before same)
@@ -163,3 +171,28 @@ module _ (g : Ground) (values : Values) (valid : AreBlocks g.blocks) (law : Leas
       let high : county_at g.blocks (k + 1) ≡ county = ap (county_at g.blocks) next ∙ county_here place row inside ∙ sym (rw same at one) in
       let differ : is_listed_at (listed_of g values) k ≢ is_listed_at (listed_of g values) place = differ_from a b _ _ told (rw is at mark) (rw is at mark_before) in
       ap Some (sym high) ∙ sym (county_is k (rw (← next, same, is) at agree) (rw (← next) at inside) (low ∙ equal ∙ sym high) (λ e. differ (e ∙ ap (is_listed_at (listed_of g values)) next)))
+
+-- the walk goes on where two blocks side by side are of two counties, or both are listed or both not
+same_from : (a b x y : Bool) → not (beq a b) ≡ false → a ≡ x → b ≡ y → y ≡ x
+same_from true true x y told one other = sym other ∙ one
+same_from false false x y told one other = sym other ∙ one
+same_from true false x y told one other = absurd (cc)
+same_from false true x y told one other = absurd (cc)
+
+module _ (blocks : List BlockRow) (listed : List (Option ℕ)) (place : ℕ) (agree : Agree blocks listed place) (from : 1 ≤ place) where
+  agree_next : (county_at blocks (place - 1) ≡ county_at blocks place → is_listed_at listed (place - 1) ≡ is_listed_at listed place) → Agree blocks listed (place + 1)
+  agree_next step k inside same = elim (cases_lt (k + 1) place) [
+    | inl less ↦ agree k less same
+    | inr more ↦
+        let here : k ≡ place - 1 = omega (arith, inside, more) in
+        let next : k + 1 ≡ place = omega (arith, inside, more) in
+        ap (is_listed_at listed) here ∙ step (ap (county_at blocks) (sym here) ∙ same ∙ ap (county_at blocks) next) ∙ ap (is_listed_at listed) (sym next)
+  ]
+
+  pub agree_alike : (a b : Bool) → a ≡ is_listed_at listed place → b ≡ is_listed_at listed (place - 1) → not (beq a b) ≡ false → Agree blocks listed (place + 1)
+  agree_alike a b mark mark_before told = agree_next (λ _. same_from a b _ _ told mark mark_before)
+
+  pub agree_apart : (row behind : BlockRow) (county other : ℕ) → place < length blocks → county ≡ county_of (get_or blocks place row).id → other ≡ county_of (get_or blocks (place - 1) behind).id
+      → other ≢ county → Agree blocks listed (place + 1)
+  agree_apart row behind county other within one two differ = agree_next (λ same. absurd (differ
+      (two ∙ sym (ap county_of (get_or-map (λ b. b.id) blocks (place - 1) behind 0 (omega (arith, within)))) ∙ same ∙ ap county_of (get_or-map (λ b. b.id) blocks place row 0 within) ∙ sym one)))

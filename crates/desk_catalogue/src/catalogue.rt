@@ -278,7 +278,10 @@ impl Catalogue {
             return Err(Refusal::NotSealed);
         };
         let entry = self.revisable(name, after)?;
-        let districts = districts_of(alloc, body.as_slice(), geography, entry.n())?;
+        let list = districts_of(alloc, body.as_slice(), geography, entry.n())?;
+        let Ok(districts) = Districts::new(alloc, list.as_slice(), entry.revision(after)) else {
+            return Err(Refusal::Memory);
+        };
         self.with_revision(alloc, entry, districts)
     }
 
@@ -307,15 +310,15 @@ impl Catalogue {
         &self,
         alloc: Global,
         entry: &Entry,
-        districts: Vec<u16>,
+        districts: Districts,
     ) -> Result<Catalogue, Refusal>
         requires found { map_of.get self.now.plans entry.now.0 ≡ Some entry.now.1 }
         requires few { length entry.now.1.revisions < revision_limit }
-        requires whole { IsWhole self.now.geography (Some districts.items) }
-        ensures ok { IfOk result (λ next. next ≡ record self.now { plans = map_of.insert self.now.plans entry.now.0 (record entry.now.1 { revisions = entry.now.1.revisions ++ districts.items ∷ [] }) }) }
+        requires whole { IsWhole self.now.geography (Some districts) }
+        ensures ok { IfOk result (λ next. next ≡ record self.now { plans = map_of.insert self.now.plans entry.now.0 (record entry.now.1 { revisions = entry.now.1.revisions ++ districts ∷ [] }) }) }
         ensures err { IfErr result (λ refusal. refusal ≡ Refusal.Memory) }
     {
-        let Ok(entry) = entry.revised(alloc, districts.as_slice()) else {
+        let Ok(entry) = entry.with_revision(alloc, districts) else {
             return Err(Refusal::Memory);
         };
         let Ok(plans) = self.plans.replace(alloc, entry) else {

@@ -1,9 +1,9 @@
 //! The districts that a patch by counties leaves.
-ghost use Rattle.std.specs.Prelude.{◌≡◌, ◌≤◌, ◌⊎◌, length, None, Some, IfOk, IfErr, IfSome, IsOkAnd};
+ghost use Rattle.std.specs.Prelude.{◌≡◌, length, get_or, is_some, None, IfOk, IfErr, IfSome, IsOkAnd};
 ghost use Rattle.std.specs.Option.{option_copied};
 ghost use Rattle.desk_model.specs.Baf.{Values, body_read};
 ghost use Rattle.desk_model.specs.Step.{partly_listed, patched};
-ghost use Rattle.baf_text.specs.Listed.{listed_of, IsSpan};
+ghost use Rattle.baf_text.specs.Listed.{listed_of};
 ghost use Rattle.desk_catalogue.specs.Patches.{overlaid, IsPatchRefusal};
 
 use crate::posted::listed_in;
@@ -14,6 +14,13 @@ use desk_model::reply::Refusal;
 use shared_districts::Districts;
 use std::alloc::{AllocError, Global};
 
+/// Whether the block at a place is listed.
+fn is_listed(read: &Listed, place: usize) -> bool
+    ensures { result ≡ is_some (get_or read.now place None) }
+{
+    read.get(place).is_some()
+}
+
 /// The least county of which only a part is listed: that of the first two blocks of one county, one right after the
 /// other, of which just one is listed, since a county's blocks stand together and counties rise.
 fn county_in_part(geography: &Geography, read: &Listed) -> Option<u16>
@@ -23,8 +30,8 @@ fn county_in_part(geography: &Geography, read: &Listed) -> Option<u16>
     // A law, with nothing to run: it says what the least such county has to do with the answer.
     least_county_is_told();
     let blocks = geography.blocks();
-    let (first, end) = read.span();
-    let listed = read.as_slice();
+    let (first, part) = read.part();
+    let end = first + part.len();
     let start = if first == 0 { 1 } else { first };
     let stop = if end < blocks.len() {
         end + 1
@@ -32,7 +39,7 @@ fn county_in_part(geography: &Geography, read: &Listed) -> Option<u16>
         blocks.len()
     };
     for place in start..stop {
-        if listed[place].is_some() != listed[place - 1].is_some() {
+        if is_listed(read, place) != is_listed(read, place - 1) {
             let county = blocks[place].id.county();
             if blocks[place - 1].id.county() == county {
                 return Some(county);
@@ -42,39 +49,22 @@ fn county_in_part(geography: &Geography, read: &Listed) -> Option<u16>
     None
 }
 
-/// The place behind the last one to look at.
-fn last_place(end: usize, count: usize) -> usize
-    ensures within { result ≤ count }
-    ensures past { (end ≤ result) ⊎ (count ≤ result) }
-{
-    if end < count { end } else { count }
-}
-
-/// Puts the listed districts in the place of those that stand there. Blocks outside the span aren't looked at, since none of them is
-/// listed.
-fn put_listed(districts: &mut [u16], listed: &[Option<u16>], span: (usize, usize))
-    requires long { length districts.old ≡ length listed.now }
-    requires span { IsSpan span listed.now }
-    ensures { districts.new ≡ overlaid listed.now (Some districts.old) }
-{
-    let (first, end) = span;
-    let stop = last_place(end, listed.len());
-    for place in first..stop {
-        districts[place] = listed[place].unwrap_or(districts[place]);
-    }
-}
-
-/// The district of each block: the listed one, or else the last one, 0 where there is none.
-fn overlay(alloc: Global, listed: &Listed, last: Option<&Districts>) -> Result<Vec<u16>, AllocError>
+/// The district of each block: the listed one, or else the last one, 0 where there is none. Pieces in which nothing changes are
+/// those of the last ones.
+fn overlay(
+    alloc: Global,
+    listed: &Listed,
+    last: Option<&Districts>,
+) -> Result<Districts, AllocError>
     requires { IfSome (option_copied last) (λ d. length d ≡ length listed.now) }
-    ensures { IfOk result (λ districts. districts.items ≡ overlaid listed.now (option_copied last.entry)) }
+    ensures { IfOk result (λ districts. districts ≡ overlaid listed.now (option_copied last.entry)) }
 {
     let Some(last) = last else {
-        return whole(alloc, listed);
+        let districts = whole(alloc, listed)?;
+        return Districts::new(alloc, districts.as_slice(), None);
     };
-    let mut districts = last.to_vec(alloc)?;
-    put_listed(&mut districts, listed.as_slice(), listed.span());
-    Ok(districts)
+    let (first, part) = listed.part();
+    last.with_listed(alloc, first, part)
 }
 
 /// The district of each block, rising, where the counties that the body lists have its districts and the others keep
@@ -85,10 +75,10 @@ pub fn patched_districts(
     geography: &Geography,
     n: u16,
     last: Option<&Districts>,
-) -> Result<Vec<u16>, Refusal>
+) -> Result<Districts, Refusal>
     requires { IfSome (option_copied last) (λ d. length d ≡ length geography.now.blocks) }
-    ensures ok { IfOk result (λ districts. IsOkAnd (body_read geography.now n body.now) (λ values. (partly_listed geography.now values ≡ None) × (districts.items ≡ patched geography.now values (option_copied last.entry)))) }
-    ensures long { IfOk result (λ districts. length districts.items ≡ length geography.now.blocks) }
+    ensures ok { IfOk result (λ districts. IsOkAnd (body_read geography.now n body.now) (λ values. (partly_listed geography.now values ≡ None) × (districts ≡ patched geography.now values (option_copied last.entry)))) }
+    ensures long { IfOk result (λ districts. length districts ≡ length geography.now.blocks) }
     ensures err { IfErr result (IsPatchRefusal geography.now (body_read geography.now n body.now)) }
 {
     let listed = listed_in(alloc, body, geography, n)?;

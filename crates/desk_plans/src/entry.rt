@@ -104,6 +104,14 @@ impl Entry {
         ensures { IfOk result (λ e. e ≡ (self.now.0, record self.now.1 { revisions = self.now.1.revisions ++ districts.now ∷ [] })) }
     {
         let districts = Districts::new(alloc, districts, self.revision(self.count()))?;
+        self.with_revision(alloc, districts)
+    }
+
+    /// The plan with one more revision, of these districts. It shares those before it.
+    pub fn with_revision(&self, alloc: Global, districts: Districts) -> Result<Entry, AllocError>
+        requires { length self.now.1.revisions < revision_limit }
+        ensures { IfOk result (λ e. e ≡ (self.now.0, record self.now.1 { revisions = self.now.1.revisions ++ districts ∷ [] })) }
+    {
         Ok(Entry {
             name: self.name,
             size: self.size,

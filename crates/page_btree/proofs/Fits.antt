@@ -1,22 +1,19 @@
 -- A put that edits a leaf alone, told above.
-use Rattle.std.proofs.Common.{◌≡◌, ◌≢◌, ◌<◌, ◌≤◌, ◌-◌, ◌^◌, ℕ, List, Ok, Err, inl, inr, ⊎_elim, refl, sym, subst, ◌∙◌, arith, []}
-use Rattle.std.specs.Prelude.{Result, Option, Some, None, IfOk, IfSome, option_map}
+use Rattle.std.proofs.Common.{◌≡◌, ℕ, List, Ok, Err, inl, inr, ⊎_elim, sym, subst, ◌∙◌, arith}
+use Rattle.std.specs.Prelude.{Result, Option, Some, None, IfOk, IfSome}
 use Rattle.sector_device.specs.Disk.{Image}
 use Rattle.sector_device.specs.declared.SectorDevice.{Ghosts}
 use Rattle.page_store.specs.Transactions.{stored, disk_in, txn_pages, txn_root, over, free_over, IsQuiet, Passed}
 use Rattle.page_store.specs.Stops.{failed_more}
 use Rattle.page_store.specs.declared.pages.Pages.{Pages}
 use Rattle.page_store.specs.declared.txn.Txn.{Txn}
-use Rattle.page_node.specs.Entries.{Entry, child_in}
-use Rattle.page_node.specs.Node.{Node, IsNode}
-use Rattle.page_node.specs.Places.{Rises, floor}
-use Rattle.page_btree.specs.Tree.{Tree}
+use Rattle.page_node.specs.Entries.{Entry}
+use Rattle.page_node.specs.Node.{IsNode}
+use Rattle.page_node.specs.Places.{Rises}
 use Rattle.page_btree.specs.Errors.{PlaceErr, PutErr, IsNoWant, level_in}
 use Rattle.page_btree.specs.Keys.{KeyMap}
 use Rattle.page_btree.specs.Map.{Holds, InTxn}
-use Rattle.page_btree.specs.Putting.{CanPut, CanPutSome}
-use Rattle.page_btree.specs.Fitting.{CanFit, IsAlike, LeafErr}
-use Rattle.page_btree.proofs.Down.{here, can_below}
+use Rattle.page_btree.specs.Fitting.{IsAlike, LeafErr}
 use Rattle.page_btree.specs.declared.error.TreeError.{TreeError}
 use Rattle.page_btree.specs.declared.error.TreeError.TheVariants.{DeviceFault, Halted, NoPages, TooDeep, Memory}
 
@@ -28,28 +25,6 @@ map_some (Err e) A B f h = tt
 pub some_of : {T : Type 0} (o : Option T) (A B : T → Type 0) → ((x : T) → A x → B x) → IfSome o A → IfSome o B
 some_of (Some x) A B f h = f x h
 some_of None A B f h = tt
-
--- ---- the bytes of a page, and those that are told
-pub by_page : (n : ℕ) (P : Image) (d : ℕ) (low : List ℕ) (high : Option (List ℕ)) (free : List ℕ) (page : ℕ) (bytes key : List ℕ) (t : Tree) → CanPut n P d low high free page bytes key t → CanPut n P d low high free page (P page) key t
-by_page n P d low high free page bytes key t can = record { reads = refl; stands = can.stands; free_are = can.free_are; between = can.between }
-
-pub by_bytes : (n : ℕ) (P : Image) (d : ℕ) (low : List ℕ) (high : Option (List ℕ)) (free : List ℕ) (page : ℕ) (bytes key : List ℕ) (t : Tree) → bytes ≡ P page → CanPut n P d low high free page (P page) key t → CanPut n P d low high free page bytes key t
-by_bytes n P d low high free page bytes key t reads can = record { reads = reads; stands = can.stands; free_are = can.free_are; between = can.between }
-
-pub fits_put : (n : ℕ) (over_it : Image → Image) (d : ℕ) (free_it : Image → List ℕ) (page : ℕ) (bytes key : List ℕ) (S : Image) → 0 < d → CanFit n over_it d free_it page bytes key S → CanPutSome n over_it d free_it page bytes key S
-fits_put n over_it d free_it page bytes key S some is = (is.0.0, is.0.1, is.0.2, by_bytes n (over_it S) d is.0.0 is.0.1 (free_it S) page bytes key is.0.2 (is.1 some) is.0.3)
-
--- where a row fits below a page, it does below its child
-pub fits_below : (n : ℕ) (over_it : Image → Image) (d : ℕ) (free_it : Image → List ℕ) (page : ℕ) (bytes key : List ℕ) (S : Image) (child : ℕ) (below : List ℕ) → n ≤ 2 ^ 32 → 0 < d
-    → ((node : Node) → IsNode bytes node → option_map child_in (floor key node.entries) ≡ Some child) → (0 < d - 1 → below ≡ over_it S child)
-    → CanFit n over_it d free_it page bytes key S → CanFit n over_it (d - 1) free_it child below key S
-fits_below n over_it d free_it page bytes key S child below few some told reads is =
-    let can = fits_put n over_it d free_it page bytes key S some is in
-    let deep : d ≢ 0 = omega arith in
-    let h = here n (over_it S) d can.0 can.1 (free_it S) page bytes key [] can.2 few can.3 deep in (
-      (h.has.its_low, h.has.its_high, h.has.child, can_below n (over_it S) d can.0 can.1 (free_it S) page bytes key [] can.2 few can.3 deep child told (over_it S child) refl),
-      reads,
-    )
 
 -- ---- a transaction that is alike
 pub still_in : (t u : Txn) (S : Image) (m : KeyMap) → IsAlike t u → InTxn t S m → InTxn u S m

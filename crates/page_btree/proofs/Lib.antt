@@ -23,3 +23,4 @@ pub mod Lefts
 pub mod Fits
 pub mod Spares
 pub mod Rising
+pub mod Leads

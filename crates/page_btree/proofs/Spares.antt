@@ -16,10 +16,10 @@ use Rattle.page_node.specs.Node.{IsNode}
 use Rattle.page_node.specs.Places.{Rises}
 use Rattle.page_btree.specs.Tree.{Tree, leaf, inner, IsTree, page_of, rows}
 use Rattle.page_btree.specs.Map.{IsSound, InTxn}
-use Rattle.page_btree.specs.Errors.{StepErr, RemoveErr}
+use Rattle.page_btree.specs.Errors.{RemoveErr}
 use Rattle.page_btree.specs.Removing.{IsRemoved, CanRemove, RemovesAt, Removes, BelowErr}
-use Rattle.page_btree.specs.Fitting.{CanFit, IsAlike, LeafErr}
-use Rattle.page_btree.specs.Sparing.{CanTake, TakesRow, IsLeafTaken, did_take}
+use Rattle.page_btree.specs.Fitting.{IsAlike, LeafErr}
+use Rattle.page_btree.specs.Sparing.{TakesRow, IsLeafTaken, did_take}
 use Rattle.page_btree.specs.declared.removes.Removed.TheVariants.{Kept}
 use Rattle.page_btree.specs.declared.error.TreeError.{TreeError}
 use Rattle.page_btree.specs.declared.error.TreeError.TheVariants.{DeviceFault, Halted, NoPages, TooDeep, Memory}
@@ -80,13 +80,6 @@ pub steps_up : (n : ℕ) (S : Image) (t0 : Txn) (d : ℕ) (low : List ℕ) (high
 steps_up n S t0 d low high key p child t s t1 true done = s.kept t1 done
 steps_up n S t0 d low high key p child t s t1 false done = s.absent done
 
-pub take_fits : (n : ℕ) (over_it : Image → Image) (free_it : Image → List ℕ) (d page : ℕ) (bytes key : List ℕ) (S : Image) → CanTake n over_it free_it d page bytes key S → CanFit n over_it d free_it page bytes key S
-take_fits n over_it free_it d page bytes key S is =
-    let can = is.0 in (
-      (can.low, can.high, can.tree, record { reads = refl; stands = record { tree_is = can.tree_is; page_is = can.page_is; sound = can.sound }; free_are = can.free_are; between = can.between }),
-      is.1,
-    )
-
 -- ---- what is told
 pub top_some : {E : Type 0} (r : Result (Option Bool) E) (A B : Bool → Type 0) (C : Type 0) → (A true → B true) → (A false → C → B false) → IfOk r (λ d. IfSome d A) → IfOk r (λ d. (d ≡ Some true → ⊥) → C) → IfOk r (λ d. IfSome d B)
 top_some (Ok (Some true)) A B C f g a k = f a
@@ -117,13 +110,6 @@ module _ {D : Type 0} {g : Ghosts D} where
   leaf_fails can page t old new has NoPages why = why
   leaf_fails can page t old new has TooDeep why = why
   leaf_fails can page t old new has Memory why = tt
-
-  pub step_fails : (can fits : Image → Type 0) (old new : Pages D g) → ((S : Image) → can S → fits S) → (e : TreeError) → StepErr fits old new e → BelowErr can old new e
-  step_fails can fits old new also DeviceFault why = ⊎_elim (λ failed. inl failed) (λ no. inr (λ honest is. no honest (also (stored old) is))) why
-  step_fails can fits old new also Halted why = why
-  step_fails can fits old new also NoPages why = why
-  step_fails can fits old new also TooDeep why = why
-  step_fails can fits old new also Memory why = absurd why
 
   -- a call after one that left the transaction alike
   pub remove_failed_more : (t u : Txn) (old mid new : Pages D g) → IsAlike t u → Passed old mid → IsQuiet mid new → (e : TreeError) → RemoveErr u mid new e → RemoveErr t old new e

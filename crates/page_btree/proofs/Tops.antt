@@ -8,7 +8,7 @@ use Rattle.page_node.specs.Places.{key_cmp}
 use Rattle.page_btree.specs.Keys.{KeyMap, IsBetween}
 use Rattle.page_btree.specs.Tree.{IsTree, page_of, rows}
 use Rattle.page_btree.specs.Map.{IsRooted, Holds}
-use Rattle.page_btree.specs.Getting.{CanGet}
+use Rattle.page_btree.specs.Getting.{CanGet, IsLevel}
 use Rattle.page_btree.proofs.Descent.{node_of, owns_page}
 
 pub every_key : (key : List ℕ) → IsBetween [] None key
@@ -45,3 +45,16 @@ can_get n P root free m r key bytes level there same = record {
 
 pub found_rows : (n : ℕ) (P : Image) (root : ℕ) (free : List ℕ) (m : KeyMap) (r : IsRooted n P root free m) (key : List ℕ) → find key_cmp key (rows r.tree) ≡ get m key
 found_rows n P root free m r key = ap (find key_cmp key) r.rows_are ∙ sym (get-entries m key)
+
+-- the root's page, as one of its level
+pub at_root : (n : ℕ) (P : Image) (root : ℕ) (free : List ℕ) (m : KeyMap) (r : IsRooted n P root free m) (level : ℕ) → level ≡ r.level → IsLevel n P level root
+at_root n P root free m r level same =
+    let node = node_of P r.level [] None r.tree r.stands in
+    let below = (r.sound.below (page_of r.tree) (owns_page r.tree)).1 in
+    let there = r.root_is in
+    record {
+      node = node.0;
+      node_is = subst (λ (q : ℕ). IsNode (P q) node.0) r.root_is node.1;
+      level_is = node.2 ∙ sym same;
+      below = omega arith;
+    }

@@ -40,3 +40,7 @@ pub record IsLevel (n : ℕ) (P : Image) (d page : ℕ) : Type 0 where
   pub node_is : IsNode (P page) node
   pub level_is : node.level ≡ d
   pub below : page < n
+
+-- a tree stands at a page of n, whose range has the key
+abbrev pub CanGetAt : ℕ → Image → ℕ → List ℕ → ℕ → Type 0
+CanGetAt n P d key page = CanGet n P d key (P page) × IsLevel n P d page

@@ -5,6 +5,7 @@ pub mod Errors
 pub mod Putting
 pub mod Laws
 pub mod Getting
+pub mod Leading
 pub mod Removing
 pub mod Seeking
 pub mod Fitting

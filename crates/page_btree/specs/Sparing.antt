@@ -8,13 +8,8 @@ use Rattle.page_store.specs.declared.txn.Txn.{Txn}
 use Rattle.page_node.specs.Entries.{Entry}
 use Rattle.page_node.specs.Node.{IsNode}
 use Rattle.page_node.specs.Places.{key_cmp, Rises, IsFound}
-use Rattle.page_btree.specs.Removing.{CanRemove}
 use Rattle.page_btree.specs.declared.removes.Removed.{Removed}
 use Rattle.page_btree.specs.declared.removes.Removed.TheVariants.{Absent, Kept}
-
--- the key can be removed below the page, and above the leaves the bytes are the page's
-abbrev pub CanTake : ℕ → (Image → Image) → (Image → List ℕ) → ℕ → ℕ → List ℕ → List ℕ → Image → Type 0
-CanTake n over_it free_in_it d page bytes key P = CanRemove n (over_it P) (free_in_it P) d key page × (0 < d → bytes ≡ over_it P page)
 
 abbrev pub did_take : Bool → Removed
 did_take true = Kept

@@ -13,13 +13,14 @@ ghost use Rattle.page_btree.specs.Tree.{Tree};
 ghost use Rattle.page_btree.specs.Map.{InTxn};
 ghost use Rattle.page_btree.specs.Errors.{PutErr, PlaceErr, StepErr, IsNoWant};
 ghost use Rattle.page_btree.specs.Putting.{CanPut, IsRaised};
-ghost use Rattle.page_btree.specs.Fitting.{CanFit, IsAlike, IsLeafPut, LeafErr, nothing};
+ghost use Rattle.page_btree.specs.Fitting.{IsAlike, IsLeafPut, LeafErr};
 ghost use Rattle.page_btree.specs.declared.error.TreeError.TheVariants.{NoPages, TooDeep};
 
 use crate::error::TreeError;
 use crate::gets::read_level;
 use crate::puts::put_cutting;
-use page_node::{NotANode, level_of, put_row, way_for};
+use crate::ways::find_leaf;
+use page_node::{NotANode, put_row};
 use page_store::{Pages, Txn};
 use sector_device::SectorDevice;
 
@@ -77,98 +78,14 @@ fn put_fitting<D: SectorDevice>(
     if root == 0 {
         return Ok(None);
     }
-    let mut page = [0; 4096];
-    txn.read(pages, root, &mut page)?;
-    let level = level_of(&page);
-    if level > 5 {
-        return Err(TreeError::DeviceFault);
-    }
-    put_below(txn, pages, &mut page, root, level, key, value)
+    let leaf = find_leaf(txn, pages, root, key)?;
+    put_leaf(txn, pages, leaf, key, value)
 }
 
-/// Puts a row below a page where its leaf has room. The bytes are those of the page, which is one of a node of this level;
-/// those of a leaf aren't looked at.
-fn put_below<D: SectorDevice>(
-    txn: &mut Txn,
-    pages: &mut Pages<D>,
-    bytes: &mut [u8; 4096],
-    page: u32,
-    level: u8,
-    key: &[u8],
-    value: &[u8],
-) -> Result<Option<bool>, TreeError>
-    requires begun { txn_pages txn.old ≡ count_of pages.old }
-    requires page { page < txn_pages txn.old }
-    requires key { length key.now ≤ 72 }
-    requires value { length value.now ≤ 1024 }
-    ensures quiet { IsQuiet pages.old pages.new }
-    ensures pages { txn_pages txn.new ≡ txn_pages txn.old }
-    ensures root { txn_root txn.new ≡ txn_root txn.old }
-    ensures put { (disk_in pages.new).is_honest → (0 < level → bytes.old ≡ over txn.old (stored pages.old) page) → IfOk result (λ did. IfSome did (λ had. (low : List ℕ) (high : Option (List ℕ)) (t : Tree) → CanPut (txn_pages txn.old) (over txn.old (stored pages.old)) level low high (free_over txn.old (stored pages.old)) page (over txn.old (stored pages.old) page) key.now t → (k : List ℕ) → IsRaised (over txn.old (stored pages.old)) (over txn.new (stored pages.old)) level low high (free_over txn.old (stored pages.old)) (free_over txn.new (stored pages.old)) key.now value.now had k page t None nothing)) }
-    ensures kept { IfOk result (λ did. did ≡ None → IsAlike txn.old txn.new) }
-    ensures writes { OnOk result (txn_writes txn.new ≤ txn_writes txn.old + 1) }
-    ensures free { txn_free txn.new ≡ txn_free txn.old }
-    ensures passed { OnOk result (Passed pages.old pages.new) }
-    ensures err { IfErr result (λ e. PlaceErr level (CanFit (txn_pages txn.old) (over txn.old) level (free_over txn.old) page bytes.old key.now) txn.old pages.old pages.new e × IsNoWant e) }
-{
-    if level == 0 {
-        return put_leaf(txn, pages, bytes, page, key, value);
-    }
-    let child = step_to(txn, pages, bytes, level, key)?;
-    put_below(txn, pages, bytes, child, level - 1, key, value)
-}
-
-/// The child that a key belongs to, in a page whose keys rise behind the first.
-fn child_of_key(bytes: &[u8; 4096], key: &[u8]) -> Result<u32, NotANode>
-    ensures child { (node : Node) → IsNode bytes.now node → RisesBehind node.entries → IfOk result (λ child. option_map child_in (floor key.now node.entries) ≡ Some child) }
-    ensures err { OnErr result ((node : Node) → IsNode bytes.now node → RisesBehind node.entries → 0 < node.level → floor key.now node.entries ≡ None) }
-{
-    match way_for(bytes, key) {
-        Ok(way) => Ok(way.child),
-        Err(fault) => Err(fault),
-    }
-}
-
-/// Reads the page of the child that a key belongs to in place of its node's, which is of a level, unless it is a leaf's, and
-/// tells the child's page.
-pub(crate) fn step_to<D: SectorDevice>(
-    txn: &Txn,
-    pages: &mut Pages<D>,
-    bytes: &mut [u8; 4096],
-    level: u8,
-    key: &[u8],
-) -> Result<u32, TreeError>
-    requires begun { txn_pages txn.now ≡ count_of pages.old }
-    requires level { 0 < level }
-    ensures quiet { IsQuiet pages.old pages.new }
-    ensures passed { OnOk result (Passed pages.old pages.new) }
-    ensures below { IfOk result (λ child. child < txn_pages txn.now) }
-    ensures few { txn_pages txn.now ≤ 2 ^ 32 }
-    ensures told { IfOk result (λ child. (node : Node) → IsNode bytes.old node → RisesBehind node.entries → option_map child_in (floor key.now node.entries) ≡ Some child) }
-    ensures reads { (disk_in pages.new).is_honest → IfOk result (λ child. 0 < level - 1 → bytes.new ≡ over txn.now (stored pages.old) child) }
-    ensures err { (page : ℕ) → IfErr result (λ e. StepErr (CanFit (txn_pages txn.now) (over txn.now) level (free_over txn.now) page bytes.old key.now) pages.old pages.new e) }
-{
-    let count = txn.page_count();
-    let child = child_of_key(bytes, key)?;
-    if child >= count {
-        return Err(TreeError::DeviceFault);
-    }
-    if level == 1 {
-        return Ok(child);
-    }
-    txn.read(pages, child, bytes)?;
-    if level_of(bytes) != level - 1 {
-        return Err(TreeError::DeviceFault);
-    }
-    Ok(child)
-}
-
-/// Puts a row into the leaf at a page where it has room: in its place where the transaction writes the page, and else in these
-/// bytes.
+/// Puts a row into the leaf at a page where it has room: in its place where the transaction writes the page.
 fn put_leaf<D: SectorDevice>(
     txn: &mut Txn,
     pages: &mut Pages<D>,
-    bytes: &mut [u8; 4096],
     page: u32,
     key: &[u8],
     value: &[u8],
@@ -190,7 +107,7 @@ fn put_leaf<D: SectorDevice>(
     match edit_leaf(txn, page, key, value) {
         Some(Ok(did)) => Ok(did),
         Some(Err(_)) => Err(TreeError::DeviceFault),
-        None => put_unwritten(txn, pages, bytes, page, key, value),
+        None => put_unwritten(txn, pages, page, key, value),
     }
 }
 
@@ -215,11 +132,10 @@ fn edit_leaf(
     txn.edit(page, |held| put_row(held, key, value))
 }
 
-/// Puts a row into the leaf at a page where it has room. It works in these bytes.
+/// Puts a row into the leaf at a page that the transaction doesn't write, where it has room.
 fn put_unwritten<D: SectorDevice>(
     txn: &mut Txn,
     pages: &mut Pages<D>,
-    bytes: &mut [u8; 4096],
     page: u32,
     key: &[u8],
     value: &[u8],
@@ -238,11 +154,12 @@ fn put_unwritten<D: SectorDevice>(
     ensures passed { OnOk result (Passed pages.old pages.new) }
     ensures err { IfErr result (λ e. LeafErr page txn.old pages.old pages.new e) }
 {
-    read_level(txn, pages, page, 0, bytes)?;
-    match put_row(bytes, key, value)? {
+    let mut bytes = [0; 4096];
+    read_level(txn, pages, page, 0, &mut bytes)?;
+    match put_row(&mut bytes, key, value)? {
         None => Ok(None),
         Some(had) => {
-            txn.write(page, bytes)?;
+            txn.write(page, &bytes)?;
             Ok(Some(had))
         }
     }

@@ -1,19 +1,22 @@
 //! Looks a key up.
 ghost use Rattle.std.specs.Prelude.{◌≡◌, ◌≤◌, ◌<◌, ◌-◌, ◌^◌, ℕ, List, Option, Some, None, OnOk, OnErr, IfOk, IfErr, IfSome};
+ghost use Rattle.std.specs.Option.{option_map};
 ghost use Rattle.std.specs.FinMap.{find, get as row_at};
 ghost use Rattle.sector_device.specs.Disk.{Image};
+ghost use Rattle.page_store.specs.Lent.{lent_bytes};
 ghost use Rattle.page_store.specs.Transactions.{stored, disk_in, count_of, txn_pages, over, IsQuiet, Passed};
-ghost use Rattle.page_node.specs.Entries.{Entry};
+ghost use Rattle.page_node.specs.Entries.{Entry, child_in};
 ghost use Rattle.page_node.specs.Node.{Node, IsNode};
-ghost use Rattle.page_node.specs.Places.{key_cmp, Rises};
+ghost use Rattle.page_node.specs.Places.{key_cmp, Rises, floor};
+ghost use Rattle.page_node.specs.Searching.{RisesBehind};
 ghost use Rattle.page_btree.specs.Keys.{KeyMap};
 ghost use Rattle.page_btree.specs.Tree.{rows};
 ghost use Rattle.page_btree.specs.Map.{InTxn};
 ghost use Rattle.page_btree.specs.Errors.{GetErr};
-ghost use Rattle.page_btree.specs.Getting.{CanGet, IsCopied, IsLevel, ReadsErr};
+ghost use Rattle.page_btree.specs.Getting.{CanGet, CanGetAt, IsCopied, IsLevel, ReadsErr};
 
 use crate::error::TreeError;
-use page_node::{level_of, value_for, way_for};
+use page_node::{NotANode, level_of, value_for, way_for};
 use page_store::{Pages, Txn};
 use sector_device::SectorDevice;
 
@@ -37,38 +40,51 @@ pub fn get<D: SectorDevice>(
     if root == 0 {
         return Ok(None);
     }
-    let mut page = [0; 4096];
-    txn.read(pages, root, &mut page)?;
-    let level = level_of(&page);
+    let own = txn.lend(pages, root, 0)?;
+    let level = level_of(pages.lent(own, 0));
     if level > 5 {
         return Err(TreeError::DeviceFault);
     }
-    get_below(txn, pages, &mut page, level, key, into)
+    get_below(txn, pages, root, 0, level, key, into)
 }
 
-/// Looks a key up below a page, whose bytes were read and which is one of a node of this level.
+/// Looks a key up below a page, which is one of a node of this level and is lent at a place.
 fn get_below<D: SectorDevice>(
     txn: &Txn,
     pages: &mut Pages<D>,
-    page: &mut [u8; 4096],
+    p: u32,
+    place: usize,
     level: u8,
     key: &[u8],
     into: &mut [u8; 1024],
 ) -> Result<Option<usize>, TreeError>
     requires begun { txn_pages txn.now ≡ count_of pages.old }
-    ensures value { (disk_in pages.new).is_honest → (can : CanGet (txn_pages txn.now) (over txn.now (stored pages.old)) level key.now page.old) → IfOk result (λ found. IsCopied found into.new (find key_cmp key.now (rows can.tree))) }
+    ensures value { (disk_in pages.new).is_honest → (can : CanGet (txn_pages txn.now) (over txn.now (stored pages.old)) level key.now (over txn.now (stored pages.old) p)) → IfOk result (λ found. IsCopied found into.new (find key_cmp key.now (rows can.tree))) }
     ensures quiet { IsQuiet pages.old pages.new }
     ensures short { IfOk result (λ found. IfSome found (λ length_is. length_is ≤ 1024)) }
     ensures passed { OnOk result (Passed pages.old pages.new) }
-    ensures err { IfErr result (λ e. ReadsErr (λ P. CanGet (txn_pages txn.now) (over txn.now P) level key.now page.old) pages.old pages.new e) }
+    ensures err { IfErr result (λ e. ReadsErr (λ P. CanGetAt (txn_pages txn.now) (over txn.now P) level key.now p) pages.old pages.new e) }
 {
+    let own = lend_level(txn, pages, p, level, place)?;
+    let bytes = pages.lent(own, place);
     if level == 0 {
-        let found = copy_value(page, key, into)?;
+        let found = copy_value(bytes, key, into)?;
         return Ok(found);
     }
-    let way = way_for(page, key)?;
-    read_level(txn, pages, way.child, level - 1, page)?;
-    get_below(txn, pages, page, level - 1, key, into)
+    let child = child_of_key(bytes, key)?;
+    let place = place_of(level - 1);
+    get_below(txn, pages, child, place, level - 1, key, into)
+}
+
+/// The child that a key belongs to, in a page whose keys rise behind the first.
+pub(crate) fn child_of_key(bytes: &[u8; 4096], key: &[u8]) -> Result<u32, NotANode>
+    ensures child { (node : Node) → IsNode bytes.now node → RisesBehind node.entries → IfOk result (λ child. option_map child_in (floor key.now node.entries) ≡ Some child) }
+    ensures err { OnErr result ((node : Node) → IsNode bytes.now node → RisesBehind node.entries → 0 < node.level → floor key.now node.entries ≡ None) }
+{
+    match way_for(bytes, key) {
+        Ok(way) => Ok(way.child),
+        Err(fault) => Err(fault),
+    }
 }
 
 /// Copies the value of a key in a leaf.
@@ -92,6 +108,41 @@ fn copy_value(
             Ok(Some(value.len()))
         }
     }
+}
+
+/// The place at which a node below the root is lent: leaves, odd levels and even ones have one each.
+pub(crate) fn place_of(level: u8) -> usize {
+    if level == 0 {
+        return 3;
+    }
+    if level % 2 == 0 { 2 } else { 1 }
+}
+
+/// Lends the page of a node of this level at a place.
+pub(crate) fn lend_level<'t, D: SectorDevice>(
+    txn: &'t Txn,
+    pages: &mut Pages<D>,
+    p: u32,
+    level: u8,
+    place: usize,
+) -> Result<Option<&'t [u8; 4096]>, TreeError>
+    requires begun { txn_pages txn.now ≡ count_of pages.old }
+    ensures quiet { IsQuiet pages.old pages.new }
+    ensures lends { (disk_in pages.new).is_honest → IfOk result (λ own. lent_bytes pages.new own place ≡ over txn.now (stored pages.old) p) }
+    ensures below { OnOk result (p < txn_pages txn.now) }
+    ensures few { txn_pages txn.now ≤ 2 ^ 32 }
+    ensures passed { OnOk result (Passed pages.old pages.new) }
+    ensures err { IfErr result (λ e. ReadsErr (λ P. IsLevel (txn_pages txn.now) (over txn.now P) level p) pages.old pages.new e) }
+{
+    let count = txn.page_count();
+    if p >= count {
+        return Err(TreeError::DeviceFault);
+    }
+    let own = txn.lend(pages, p, place)?;
+    if level_of(pages.lent(own, place)) != level {
+        return Err(TreeError::DeviceFault);
+    }
+    Ok(own)
 }
 
 /// Reads the page of a node of this level.

@@ -11,6 +11,7 @@ mod seeks;
 mod small_bytes;
 mod takes;
 mod tree;
+mod ways;
 
 pub use error::TreeError;
 pub use fitting::put;

@@ -12,12 +12,12 @@ ghost use Rattle.page_node.specs.Walking.{IsAhead};
 ghost use Rattle.page_btree.specs.Keys.{KeyMap};
 ghost use Rattle.page_btree.specs.Map.{InTxn, IsRooted};
 ghost use Rattle.page_btree.specs.Errors.{GetErr};
-ghost use Rattle.page_btree.specs.Getting.{CanGet, ReadsErr};
+ghost use Rattle.page_btree.specs.Getting.{CanGet, CanGetAt, ReadsErr};
 ghost use Rattle.page_btree.specs.Seeking.{bound_in, nearer, IsRead, IsFrom};
 ghost use Rattle.page_btree.specs.declared.error.TreeError.TheVariants.{DeviceFault};
 
 use crate::error::TreeError;
-use crate::gets::read_level;
+use crate::gets::{lend_level, place_of, read_level};
 use crate::small_bytes::SmallBytes;
 use page_node::{level_of, place_from, way_for};
 use page_store::{Pages, Txn};
@@ -125,34 +125,39 @@ fn leaf_for<D: SectorDevice>(
     if root == 0 {
         return Ok(());
     }
-    txn.read(pages, root, &mut leaf.page)?;
-    let level = level_of(&leaf.page);
+    let own = txn.lend(pages, root, 0)?;
+    let level = level_of(pages.lent(own, 0));
     if level > 5 {
         return Err(TreeError::DeviceFault);
     }
-    leaf_below(txn, pages, leaf, level, key)
+    leaf_below(txn, pages, leaf, root, 0, level, key)
 }
 
-/// Reads the leaf below a page, which was read and is one of a node of this level.
+/// Reads the leaf below a page, which is one of a node of this level and is lent at a place above the leaves.
 fn leaf_below<D: SectorDevice>(
     txn: &Txn,
     pages: &mut Pages<D>,
     leaf: &mut Leaf,
+    p: u32,
+    place: usize,
     level: u8,
     key: &[u8],
 ) -> Result<(), TreeError>
     requires begun { txn_pages txn.now ≡ count_of pages.old }
     ensures quiet { IsQuiet pages.old pages.new }
-    ensures read { (disk_in pages.new).is_honest → (can : CanGet (txn_pages txn.now) (over txn.now (stored pages.old)) level key.now leaf.old.page) → OnOk result (IsRead can.tree (bound_in leaf.old) key.now leaf.new) }
+    ensures read { (disk_in pages.new).is_honest → (can : CanGet (txn_pages txn.now) (over txn.now (stored pages.old)) level key.now (over txn.now (stored pages.old) p)) → OnOk result (IsRead can.tree (bound_in leaf.old) key.now leaf.new) }
     ensures passed { OnOk result (Passed pages.old pages.new) }
-    ensures err { IfErr result (λ e. ReadsErr (λ P. CanGet (txn_pages txn.now) (over txn.now P) level key.now leaf.old.page) pages.old pages.new e) }
+    ensures err { IfErr result (λ e. ReadsErr (λ P. CanGetAt (txn_pages txn.now) (over txn.now P) level key.now p) pages.old pages.new e) }
 {
     if level == 0 {
+        read_level(txn, pages, p, 0, &mut leaf.page)?;
         return stand(leaf, key);
     }
-    let child = go_down(leaf, key)?;
-    read_level(txn, pages, child, level - 1, &mut leaf.page)?;
-    leaf_below(txn, pages, leaf, level - 1, key)
+    let own = lend_level(txn, pages, p, level, place)?;
+    let bytes = pages.lent(own, place);
+    let child = go_down(leaf, bytes, key)?;
+    let place = place_of(level - 1);
+    leaf_below(txn, pages, leaf, child, place, level - 1, key)
 }
 
 /// Stands before the first row that isn't below a key.
@@ -171,14 +176,14 @@ fn stand(leaf: &mut Leaf, key: &[u8]) -> Result<(), TreeError>
 
 /// Finds the child of a node above the leaves that a key belongs to, and keeps the first key in it that is above this one, as the
 /// bound.
-fn go_down(leaf: &mut Leaf, key: &[u8]) -> Result<u32, TreeError>
+fn go_down(leaf: &mut Leaf, page: &[u8; 4096], key: &[u8]) -> Result<u32, TreeError>
     ensures page { leaf.new.page ≡ leaf.old.page }
-    ensures child { (node : Node) → IsNode leaf.old.page node → RisesBehind node.entries → IfOk result (λ child. option_map child_in (floor key.now node.entries) ≡ Some child) }
-    ensures bound { (node : Node) → IsNode leaf.old.page node → RisesBehind node.entries → OnOk result (bound_in leaf.new ≡ nearer (ceiling key.now node.entries) (bound_in leaf.old)) }
+    ensures child { (node : Node) → IsNode page.now node → RisesBehind node.entries → IfOk result (λ child. option_map child_in (floor key.now node.entries) ≡ Some child) }
+    ensures bound { (node : Node) → IsNode page.now node → RisesBehind node.entries → OnOk result (bound_in leaf.new ≡ nearer (ceiling key.now node.entries) (bound_in leaf.old)) }
     ensures err { IfErr result (λ e. e ≡ DeviceFault) }
-    ensures refused { OnErr result ((node : Node) → IsNode leaf.old.page node → RisesBehind node.entries → 0 < node.level → floor key.now node.entries ≡ None) }
+    ensures refused { OnErr result ((node : Node) → IsNode page.now node → RisesBehind node.entries → 0 < node.level → floor key.now node.entries ≡ None) }
 {
-    let way = way_for(&leaf.page, key)?;
+    let way = way_for(page, key)?;
     match way.bound {
         None => Ok(way.child),
         Some(bound) => {

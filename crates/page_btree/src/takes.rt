@@ -9,15 +9,14 @@ ghost use Rattle.page_node.specs.Places.{Rises};
 ghost use Rattle.page_btree.specs.Keys.{KeyMap, IsKey};
 ghost use Rattle.page_btree.specs.Map.{InTxn};
 ghost use Rattle.page_btree.specs.Errors.{RemoveErr};
-ghost use Rattle.page_btree.specs.Removing.{CanRemove, Removes, BelowErr};
 ghost use Rattle.page_btree.specs.Fitting.{IsAlike, LeafErr};
-ghost use Rattle.page_btree.specs.Sparing.{CanTake, IsLeafTaken, did_take};
+ghost use Rattle.page_btree.specs.Sparing.{IsLeafTaken};
 
 use crate::error::TreeError;
-use crate::fitting::step_to;
 use crate::gets::read_level;
 use crate::removes::remove_through;
-use page_node::{NotANode, level_of, take_spare_row};
+use crate::ways::find_leaf;
+use page_node::{NotANode, take_spare_row};
 use page_store::{Pages, Txn};
 use sector_device::SectorDevice;
 
@@ -66,50 +65,14 @@ fn take_spare<D: SectorDevice>(
     if root == 0 {
         return Ok(None);
     }
-    let mut page = [0; 4096];
-    txn.read(pages, root, &mut page)?;
-    let level = level_of(&page);
-    if level > 5 {
-        return Err(TreeError::DeviceFault);
-    }
-    take_below(txn, pages, &mut page, root, level, key)
+    let leaf = find_leaf(txn, pages, root, key)?;
+    take_leaf(txn, pages, leaf, key)
 }
 
-/// Takes a key out below a page where its leaf keeps other rows. The bytes are those of the page, which is one of a node of this
-/// level; those of a leaf aren't looked at.
-fn take_below<D: SectorDevice>(
-    txn: &mut Txn,
-    pages: &mut Pages<D>,
-    bytes: &mut [u8; 4096],
-    page: u32,
-    level: u8,
-    key: &[u8],
-) -> Result<Option<bool>, TreeError>
-    requires begun { txn_pages txn.old ≡ count_of pages.old }
-    requires page { page < txn_pages txn.old }
-    ensures quiet { IsQuiet pages.old pages.new }
-    ensures pages { txn_pages txn.new ≡ txn_pages txn.old }
-    ensures root { txn_root txn.new ≡ txn_root txn.old }
-    ensures taken { (disk_in pages.new).is_honest → (0 < level → bytes.old ≡ over txn.old (stored pages.old) page) → IfOk result (λ did. IfSome did (λ had. (can : CanRemove (txn_pages txn.old) (over txn.old (stored pages.old)) (free_over txn.old (stored pages.old)) level key.now page) → Removes (over txn.new (stored pages.old)) (free_over txn.new (stored pages.old)) can (did_take had))) }
-    ensures kept { IfOk result (λ did. (did ≡ Some true → ⊥) → IsAlike txn.old txn.new) }
-    ensures writes { OnOk result (txn_writes txn.new ≤ txn_writes txn.old + 1) }
-    ensures free { txn_free txn.new ≡ txn_free txn.old }
-    ensures passed { OnOk result (Passed pages.old pages.new) }
-    ensures err { IfErr result (λ e. BelowErr (CanTake (txn_pages txn.old) (over txn.old) (free_over txn.old) level page bytes.old key.now) pages.old pages.new e) }
-{
-    if level == 0 {
-        return take_leaf(txn, pages, bytes, page, key);
-    }
-    let child = step_to(txn, pages, bytes, level, key)?;
-    take_below(txn, pages, bytes, child, level - 1, key)
-}
-
-/// Takes a row out of the leaf at a page that has others: in its place where the transaction writes the page, and else in these
-/// bytes.
+/// Takes a row out of the leaf at a page that has others: in its place where the transaction writes the page.
 fn take_leaf<D: SectorDevice>(
     txn: &mut Txn,
     pages: &mut Pages<D>,
-    bytes: &mut [u8; 4096],
     page: u32,
     key: &[u8],
 ) -> Result<Option<bool>, TreeError>
@@ -128,7 +91,7 @@ fn take_leaf<D: SectorDevice>(
     match take_in_place(txn, page, key) {
         Some(Ok(did)) => Ok(did),
         Some(Err(_)) => Err(TreeError::DeviceFault),
-        None => take_unwritten(txn, pages, bytes, page, key),
+        None => take_unwritten(txn, pages, page, key),
     }
 }
 
@@ -146,11 +109,10 @@ fn take_in_place(txn: &mut Txn, page: u32, key: &[u8]) -> Option<Result<Option<b
     txn.edit(page, |held| take_spare_row(held, key))
 }
 
-/// Takes a row out of the leaf at a page that has others. It works in these bytes.
+/// Takes a row out of the leaf at a page that has others and that the transaction doesn't write.
 fn take_unwritten<D: SectorDevice>(
     txn: &mut Txn,
     pages: &mut Pages<D>,
-    bytes: &mut [u8; 4096],
     page: u32,
     key: &[u8],
 ) -> Result<Option<bool>, TreeError>
@@ -166,12 +128,13 @@ fn take_unwritten<D: SectorDevice>(
     ensures passed { OnOk result (Passed pages.old pages.new) }
     ensures err { IfErr result (λ e. LeafErr page txn.old pages.old pages.new e) }
 {
-    read_level(txn, pages, page, 0, bytes)?;
-    match take_spare_row(bytes, key)? {
+    let mut bytes = [0; 4096];
+    read_level(txn, pages, page, 0, &mut bytes)?;
+    match take_spare_row(&mut bytes, key)? {
         None => Ok(None),
         Some(false) => Ok(Some(false)),
         Some(true) => {
-            txn.write(page, bytes)?;
+            txn.write(page, &bytes)?;
             Ok(Some(true))
         }
     }

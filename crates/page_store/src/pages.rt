@@ -3,6 +3,7 @@ ghost use Rattle.std.specs.Prelude.{◌≡◌, ◌<◌, false, OnOk, IfOk, IfErr
 ghost use Rattle.sector_device.specs.Disk.{Touches, Nowhere};
 ghost use Rattle.gate_journal.specs.Contents.{content, disk_of, page_count, is_halted, HasShapeOf};
 ghost use Rattle.page_store.specs.Chain.{IsMeta};
+ghost use Rattle.page_store.specs.Lending.{AreHeld};
 ghost use Rattle.page_store.specs.Openings.{MetaErr};
 
 use crate::error::PageError;
@@ -19,10 +20,14 @@ pub struct Pages<D: SectorDevice> {
     /// The first free page, and how many are free.
     pub(crate) first: u32,
     pub(crate) free: u32,
+    /// The numbers of the pages that are held, 0 for none, and the bytes of each, as they are stored.
+    pub(crate) numbers: [u32; 4],
+    held: [[u8; 4096]; 4],
     ghost root_below: { root < page_count journal },
     ghost first_below: { first < page_count journal },
     ghost free_below: { free < page_count journal },
     ghost meta: { is_halted journal ≡ false → (disk_of journal).is_honest → IsMeta (content journal) root first free },
+    ghost held_are: { is_halted journal ≡ false → (disk_of journal).is_honest → AreHeld numbers held (content journal) },
 }
 
 /// What the meta page says.
@@ -67,6 +72,7 @@ impl<D: SectorDevice> Pages<D> {
     ghost use Rattle.gate_journal.specs.Recovery.{HasRoom, AllStores, ReadsAs, Found};
     ghost use Rattle.page_store.specs.Chain.{root_in, free_in, IsPages};
     ghost use Rattle.page_store.specs.Openings.{AllPageStores};
+    ghost use Rattle.page_store.specs.Lent.{held_at, lent_bytes};
     ghost use Rattle.page_store.specs.Transactions.{stored, disk_in, device_in, count_of, journal_of, has_halted, txn_pages, txn_writes, txn_root, over, free_over, IsQuiet, IsKept, IsUntouched, ReadErr, OpenErr, device_after};
 
     /// Opens the pages that a device holds, as `Journal::open`. With a refusal the device comes back.
@@ -93,6 +99,8 @@ impl<D: SectorDevice> Pages<D> {
                 root: meta.root,
                 first: meta.first,
                 free: meta.free,
+                numbers: [0; 4],
+                held: [[0; 4096]; 4],
             }),
             Err(e) => Err((e, journal.into_device())),
         }
@@ -128,6 +136,8 @@ impl<D: SectorDevice> Pages<D> {
             root: _,
             first: _,
             free: _,
+            numbers: _,
+            held: _,
         } = self;
         journal.into_device()
     }
@@ -160,5 +170,37 @@ impl<D: SectorDevice> Pages<D> {
     {
         self.journal.read_page(p, page)?;
         Ok(())
+    }
+
+    /// Makes sure that a page is held at a place, as it is stored.
+    pub(crate) fn hold(&mut self, p: u32, place: usize) -> Result<(), PageError>
+        requires page { p < count_of self.old }
+        requires place { place < 4 }
+        ensures quiet { IsQuiet self.old self.new }
+        ensures holds { (disk_in self.new).is_honest → OnOk result (held_at self.new place ≡ stored self.old p) }
+        ensures passed { (disk_in self.new).is_honest → OnOk result ((disk_in self.new).faults ≡ (disk_in self.old).faults) }
+        ensures ok { OnOk result (has_halted self.new ≡ has_halted self.old) }
+        ensures err { IfErr result (λ e. ReadErr self.old self.new e) }
+    {
+        if self.journal.is_halted() {
+            return Err(PageError::Halted);
+        }
+        if p != 0 && self.numbers[place] == p {
+            return Ok(());
+        }
+        self.numbers[place] = 0;
+        self.journal.read_page(p, &mut self.held[place])?;
+        self.numbers[place] = p;
+        Ok(())
+    }
+
+    /// The bytes of a page that a transaction lent: those of its own write, or those that are held at the page's place.
+    pub fn lent<'a>(&'a self, own: Option<&'a [u8; 4096]>, place: usize) -> &'a [u8; 4096]
+        ensures { result.now ≡ lent_bytes self.now own.entry place }
+    {
+        match own {
+            Some(bytes) => bytes,
+            None => &self.held[place % 4],
+        }
     }
 }

@@ -48,6 +48,7 @@ impl Txn {
     ghost use Rattle.page_store.specs.Chain.{chain, IsIn, AreFree, IsPages, root_in, free_in};
     ghost use Rattle.page_store.specs.Transactions.{stored, disk_in, count_of, has_halted, txn_pages, txn_list, txn_writes, IsWritten, txn_root, txn_first, txn_free, over, free_over, prepared_pages, prepared_writes, after, IsQuiet, ReadErr, TakeErr, GiveErr};
     ghost use Rattle.page_store.specs.declared.error.PageError.TheVariants.{Memory};
+    ghost use Rattle.page_store.specs.Lent.{lent_bytes};
 
     /// Reads a page, its own write before the stored one. The pages are those that began it.
     pub fn read<D: SectorDevice>(
@@ -69,6 +70,29 @@ impl Txn {
             return Ok(());
         }
         pages.read_stored(p, page)
+    }
+
+    /// Lends a page as `read` would read it, at one of four places. `Pages::lent` shows the bytes where they lie, until another page
+    /// is lent at that place.
+    pub fn lend<'t, D: SectorDevice>(
+        &'t self,
+        pages: &mut Pages<D>,
+        p: u32,
+        place: usize,
+    ) -> Result<Option<&'t [u8; 4096]>, PageError>
+        requires begun { txn_pages self.now ≡ count_of pages.old }
+        requires page { p < count_of pages.old }
+        ensures quiet { IsQuiet pages.old pages.new }
+        ensures lends { (disk_in pages.new).is_honest → IfOk result (λ own. lent_bytes pages.new own place ≡ over self.now (stored pages.old) p) }
+        ensures passed { (disk_in pages.new).is_honest → OnOk result ((disk_in pages.new).faults ≡ (disk_in pages.old).faults) }
+        ensures ok { OnOk result (has_halted pages.new ≡ has_halted pages.old) }
+        ensures err { IfErr result (λ e. ReadErr pages.old pages.new e) }
+    {
+        if let Some(bytes) = self.writes.get(p) {
+            return Ok(Some(bytes));
+        }
+        pages.hold(p, place % 4)?;
+        Ok(None)
     }
 
     /// Writes a page.
@@ -275,6 +299,7 @@ impl Prepared {
         ensures still { has_halted pages.old ≡ true → (result ≡ Err Halted) × IsSame pages.old pages.new }
         ensures err { IfErr result (λ e. CommitErr (length (prepared_writes self)) pages.old pages.new e) }
     {
+        pages.numbers = [0; 4];
         pages.journal.commit(&self.writes)?;
         pages.root = self.root;
         pages.first = self.first;

@@ -72,3 +72,39 @@ fn a_part_lies_across_pieces(rt: HostRuntime) {
     assert!(rt; part(&rt, alloc, &districts, 1_299, 1).as_slice() == [1_299].as_slice());
     assert!(rt; part(&rt, alloc, &districts, 700, 0).is_empty());
 }
+
+/// The list with the listed districts in the place of its own.
+fn over<R: Abort>(
+    rt: &R,
+    alloc: Global,
+    districts: &Districts,
+    first: u16,
+    listed: &[Option<u16>],
+) -> Vec<u16> {
+    let next = districts
+        .with_listed(alloc, first as usize, listed)
+        .expect(rt, "no memory");
+    next.to_vec(alloc).expect(rt, "no memory")
+}
+
+#[test]
+fn listed_districts_stand_over_others(rt: HostRuntime) {
+    let alloc = rt.alloc();
+    let districts = made(&rt, alloc, &listed(&rt, alloc, 1_300, 2_000), None);
+    for other in [0, 511, 512, 1_023, 1_024, 1_299] {
+        let wanted = listed(&rt, alloc, 1_300, other);
+        let all = over(&rt, alloc, &districts, other, &[Some(7_777), None]);
+        assert!(rt; all.as_slice() == wanted.as_slice());
+    }
+    let wanted = listed(&rt, alloc, 1_300, 512);
+    let all = over(
+        &rt,
+        alloc,
+        &districts,
+        510,
+        &[None, None, Some(7_777), None],
+    );
+    assert!(rt; all.as_slice() == wanted.as_slice());
+    let all = over(&rt, alloc, &districts, 1_300, &[Some(7_777)]);
+    assert!(rt; all.as_slice() == listed(&rt, alloc, 1_300, 2_000).as_slice());
+}

@@ -1,9 +1,10 @@
 //! The list.
 ghost use Rattle.std.specs.Prelude.{◌≡◌, ◌+◌, ◌≤◌, ◌<◌, ◌^◌, ℕ, ◌++◌, length, get_or, take, drop, nat_eq, IfOk};
 ghost use Rattle.std.specs.Cmp.Lexicographic.{pointwise};
+ghost use Rattle.shared_districts.specs.Laid.{laid};
 ghost use Rattle.shared_districts.specs.Pieces.{joined, IsCut};
 
-use crate::pieces::{FULL, Piece, behind, front, piece_of};
+use crate::pieces::{FULL, Piece, behind, front, piece_of, piece_with};
 use std::alloc::{AllocError, Global};
 use std::marker::Model;
 
@@ -46,6 +47,30 @@ impl Districts {
             full,
             rest,
             count: list.len(),
+        })
+    }
+
+    /// The list with the listed districts in the place of its own, where what is listed stands from the place `first` on. A piece
+    /// in which nothing changes is shared.
+    pub fn with_listed(
+        &self,
+        alloc: Global,
+        first: usize,
+        listed: &[Option<u16>],
+    ) -> Result<Districts, AllocError>
+        ensures { IfOk result (λ districts. districts ≡ laid first listed.now 0 self.now) }
+    {
+        let _count = self.count;
+        let pieces = self.full.as_slice();
+        let mut full = Vec::with_capacity(alloc, pieces.len())?;
+        for place in 0..pieces.len() {
+            full.push(piece_with(alloc, &pieces[place], place * FULL, first, listed)?)?;
+        }
+        let rest = piece_with(alloc, &self.rest, pieces.len() * FULL, first, listed)?;
+        Ok(Districts {
+            full,
+            rest,
+            count: self.count,
         })
     }
 

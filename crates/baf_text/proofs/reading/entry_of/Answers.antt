@@ -1,4 +1,5 @@
 use Rattle.std.proofs.Common.{◌≡◌, ◌<◌, length, ap, sym, ◌∙◌}
+use Rattle.std.specs.Prelude.{is_some}
 use Rattle.desk_model.specs.Geography.{id_at}
 use Rattle.desk_model.specs.Baf.{line_read}
 use Rattle.baf_text.proofs.Values.{line_unknown, line_entered}
@@ -15,4 +16,4 @@ returns-in-Some-district_of-clause-entry c = λ so_far lists.
     = rw c.blocks-2.ensures.value at c.in-Some-place_near.ensures.found in
     rw (← c.row_of.ensures, c.in-Some.is)
     (line_entered c.args.geography.now c.args.n so_far c.args.listed.now c.in-Some-place_near.place c.in-Some.row c.in-Some-district_of.district
-    c.blocks-2.ensures.valid.rising at.0 at.1 lists (sym c.is_some.ensures ∙ c.if-is_some.false) (sym c.district_of.ensures ∙ c.in-Some-district_of.is))
+    c.blocks-2.ensures.valid.rising at.0 at.1 lists (ap is_some (sym c.get.ensures) ∙ sym c.is_some.ensures ∙ c.if-is_some.false) (sym c.district_of.ensures ∙ c.in-Some-district_of.is))

@@ -1,106 +1,78 @@
-use Rattle.std.proofs.Common.{◌≡◌, [], ℕ, List, None, Option, inr, refl, sym, subst, ◌∙◌, arith}
+use Rattle.std.proofs.Common.{◌≡◌, ◌≤◌, ℕ, List, sym, subst, ◌∙◌, lit≤}
 use Rattle.std.specs.Prelude.{IfOk, IfSome}
 use Rattle.std.specs.FinMap.{insert, contains_key}
 use Rattle.sector_device.specs.Disk.{Image}
 use Rattle.page_store.specs.Transactions.{stored, txn_pages, txn_root, over, free_over, disk_in, Passed}
 use Rattle.page_store.specs.Stops.{quiet_more, passed_more}
+use Rattle.page_node.specs.Entries.{Entry}
+use Rattle.page_node.specs.Node.{IsNode}
+use Rattle.page_node.specs.Places.{Rises}
 use Rattle.page_btree.specs.Keys.{KeyMap}
 use Rattle.page_btree.specs.Map.{Holds, InTxn}
-use Rattle.page_btree.specs.Tree.{Tree}
-use Rattle.page_btree.specs.Errors.{PutErr, PlaceErr, IsNoWant, tree_error}
-use Rattle.page_btree.specs.Putting.{IsRaised, CanPut}
-use Rattle.page_btree.specs.Fitting.{CanFit, nothing}
+use Rattle.page_btree.specs.Errors.{PutErr, IsNoWant}
+use Rattle.page_btree.specs.Fitting.{IsLeafPut, LeafErr}
+use Rattle.page_btree.specs.Leading.{CanLead}
 use Rattle.page_btree.proofs.Outcomes.{map_ok, map_err, err_of}
-use Rattle.page_btree.proofs.Failing.{root_read_failed, place_failed}
-use Rattle.page_btree.proofs.Roots.{rooted, level_few, root_can, after_whole}
-use Rattle.page_btree.proofs.Fits.{map_some, by_page}
+use Rattle.page_btree.proofs.Failing.{place_failed}
+use Rattle.page_btree.proofs.Fits.{map_some, leaf_failed}
+use Rattle.page_btree.proofs.Leads.{can_lead, leads_leaf, put_whole, reads_put}
 use Rattle.page_btree.proofs.fitting.put_fitting.Goals as goal
 
-pub returns-in_err-read-clause-err : goal.returns-in_err-read-clause-err
-returns-in_err-read-clause-err g c =
-    err_of c.from_residual.result (tree_error c.in_err-read.field-0.0) (λ e. PutErr c.args.txn.now c.args.pages.now c.read.new.pages e × IsNoWant e) c.from_residual.ensures.1
-    (root_read_failed c.args.txn.now c.args.pages.now c.read.new.pages c.in_err-read.field-0.0 c.in_err-read.ensures.err)
-
-pub returns-then-level-gt5-clause-err : goal.returns-then-level-gt5-clause-err
-returns-then-level-gt5-clause-err g c = (
-  inr (λ honest m holds.
-      let S = stored c.args.pages.now in
-      let t0 = c.args.txn.now in
-      let n = txn_pages t0 in
-      let P = over t0 S in
-      let free = free_over t0 S in
-      let root = c.root-root.result in
-      let key = c.args.key.now in
-      let level = c.level_of-level.result in
-      let bytes = c.read.new.page in
-      let reads : bytes ≡ P root = c.in_ok-read.ensures.reads honest in
-      let at_root : Holds n P root free m = subst (λ (r : ℕ). Holds n P r free m) (sym c.root-root.ensures.root) holds in
-      let few = level_few n P root free m key bytes level at_root c.if-root-eq0.false reads c.level_of-level.ensures.level in
-      let above = c.if-level-gt5.true in
-      omega arith),
-  tt,
-)
+pub returns-in_err-leaf-clause-err : goal.returns-in_err-leaf-clause-err
+returns-in_err-leaf-clause-err g c =
+    let t0 = c.args.txn.now in
+    let n = txn_pages t0 in
+    let root = c.root-root.result in
+    let key = c.args.key.now in
+    let can = λ (S : Image). CanLead n (over t0 S) key root in
+    err_of c.from_residual.result c.in_err-leaf.field-0.0 (λ e. PutErr t0 c.args.pages.now c.find_leaf.new.pages e × IsNoWant e) c.from_residual.ensures.1
+    (reads_put can t0 c.args.pages.now c.find_leaf.new.pages (λ honest m holds.
+    let S = stored c.args.pages.now in
+    can_lead n (over t0 S) root (free_over t0 S) m key (subst (λ (r : ℕ). Holds n (over t0 S) r (free_over t0 S) m) (sym c.root-root.ensures.root) holds) c.if-root-eq0.false) c.in_err-leaf.field-0.0 c.in_err-leaf.ensures.err)
 
 pub returns-clause-quiet : goal.returns-clause-quiet
-returns-clause-quiet g c = quiet_more _ _ _ c.read.ensures.quiet c.put_below.ensures.quiet
+returns-clause-quiet g c = quiet_more _ _ _ c.find_leaf.ensures.quiet c.put_leaf.ensures.quiet
 
 pub returns-clause-passed : goal.returns-clause-passed
-returns-clause-passed g c =
-    let first : Passed c.args.pages.now c.read.new.pages = record { quiet = c.read.ensures.quiet; halted = c.in_ok-read.ensures.ok; faults = c.in_ok-read.ensures.passed } in
-    map_ok c.put_below.result (λ _. Passed c.read.new.pages c.put_below.new.pages) (λ _. Passed c.args.pages.now c.put_below.new.pages) (λ did passed. passed_more _ _ _ first passed) c.put_below.ensures.passed
+returns-clause-passed g c = map_ok c.put_leaf.result (λ _. Passed c.find_leaf.new.pages c.put_leaf.new.pages) (λ _. Passed c.args.pages.now c.put_leaf.new.pages)
+    (λ did passed. passed_more _ _ _ c.in_ok-leaf.ensures.passed passed) c.put_leaf.ensures.passed
 
 pub returns-clause-put : goal.returns-clause-put
 returns-clause-put g c = λ honest m holds.
     let S = stored c.args.pages.now in
     let t0 = c.args.txn.now in
+    let t1 = c.put_leaf.new.txn in
     let n = txn_pages t0 in
-    let P = over t0 S in
-    let free = free_over t0 S in
     let root = c.root-root.result in
     let key = c.args.key.now in
     let value = c.args.value.now in
-    let level = c.level_of-level.result in
-    let bytes = c.read.new.page in
-    let before = c.put_below.ensures.quiet.honest honest in
-    let reads : bytes ≡ P root = c.in_ok-read.ensures.reads before in
-    let at_root : Holds n P root free m = subst (λ (r : ℕ). Holds n P r free m) (sym c.root-root.ensures.root) holds in
-    let same_stored : stored c.read.new.pages ≡ S = c.read.ensures.quiet.same before in
-    let r = rooted n P root free m key bytes level at_root c.if-root-eq0.false reads c.level_of-level.ensures.level in
-    let can = by_page n P level [] None free root bytes key r.tree (root_can n P root free m key bytes level at_root c.if-root-eq0.false reads c.level_of-level.ensures.level) in
-    let Q : Image → Image = over c.put_below.new.txn in
-    let left : Image → List ℕ = free_over c.put_below.new.txn in
-    let below : Image → Type 0 = λ T. IfOk c.put_below.result (λ did. IfSome did (λ had. (low : List ℕ) (high : Option (List ℕ)) (u : Tree) → CanPut n (over t0 T) level low high (free_over t0 T) root (over t0 T root) key u → (k : List ℕ) → IsRaised (over t0 T) (Q T) level low high (free_over t0 T) (left T) key value had k root u None nothing)) in
-    let done : below S = subst below same_stored (c.put_below.ensures.put honest (λ inner. subst (λ T. bytes ≡ over t0 T root) (sym same_stored) reads)) in
-    let pages : txn_pages c.put_below.new.txn ≡ n = c.put_below.ensures.pages in
-    let root_is : txn_root c.put_below.new.txn ≡ root = c.put_below.ensures.root ∙ sym c.root-root.ensures.root in
-    map_some c.put_below.result
-    (λ had. (low : List ℕ) (high : Option (List ℕ)) (u : Tree) → CanPut n P level low high free root (P root) key u → (k : List ℕ) → IsRaised P (Q S) level low high free (left S) key value had k root u None nothing)
-    (λ had. InTxn c.put_below.new.txn S (insert m key value) × (had ≡ contains_key m key))
+    let leaf = c.in_ok-leaf.leaf in
+    let before = c.put_leaf.ensures.quiet.honest honest in
+    let at_root : Holds n (over t0 S) root (free_over t0 S) m = subst (λ (r : ℕ). Holds n (over t0 S) r (free_over t0 S) m) (sym c.root-root.ensures.root) holds in
+    let same_stored : stored c.find_leaf.new.pages ≡ S = c.find_leaf.ensures.quiet.same before in
+    let root_is : txn_root t1 ≡ root = c.put_leaf.ensures.root ∙ sym c.root-root.ensures.root in
+    map_some c.put_leaf.result (IsLeafPut t0 t1 S leaf key value) (λ had. InTxn t1 S (insert m key value) × (had ≡ contains_key m key))
     (λ had w.
-    let whole = after_whole n P root free m key bytes level at_root c.if-root-eq0.false reads c.level_of-level.ensures.level (Q S) (left S) value had None nothing (w [] None r.tree can []) refl in
-    (subst (λ (k : ℕ). Holds k (Q S) (txn_root c.put_below.new.txn) (left S) (insert m key value)) (sym pages) (subst (λ (x : ℕ). Holds n (Q S) x (left S) (insert m key value)) (sym root_is) whole.0), whole.1))
-    done
+    let whole = put_whole n S t0 t1 key value had c.find_leaf.ensures.few leaf w root m at_root c.if-root-eq0.false (c.in_ok-leaf.ensures.leads before) in
+    (subst (λ (k : ℕ). Holds k (over t1 S) (txn_root t1) (free_over t1 S) (insert m key value)) (sym c.put_leaf.ensures.pages) (subst (λ (x : ℕ). Holds n (over t1 S) x (free_over t1 S) (insert m key value)) (sym root_is) whole.0), whole.1))
+    (subst (λ (T : Image). IfOk c.put_leaf.result (λ did. IfSome did (IsLeafPut t0 t1 T leaf key value))) same_stored (c.put_leaf.ensures.put honest))
 
 pub returns-clause-err : goal.returns-clause-err
 returns-clause-err g c =
-    let S = stored c.args.pages.now in
     let t0 = c.args.txn.now in
     let n = txn_pages t0 in
-    let P = over t0 S in
-    let free = free_over t0 S in
     let root = c.root-root.result in
     let key = c.args.key.now in
-    let level = c.level_of-level.result in
-    let bytes = c.read.new.page in
-    let first : Passed c.args.pages.now c.read.new.pages = record { quiet = c.read.ensures.quiet; halted = c.in_ok-read.ensures.ok; faults = c.in_ok-read.ensures.passed } in
-    let can = CanFit n (over t0) level (free_over t0) root bytes key in
-    let has : (disk_in c.put_below.new.pages).is_honest → (m : KeyMap) → InTxn t0 S m → can (stored c.read.new.pages) = λ honest m holds.
-    let before = c.put_below.ensures.quiet.honest honest in
-    let reads : bytes ≡ P root = c.in_ok-read.ensures.reads before in
-    let at_root : Holds n P root free m = subst (λ (r : ℕ). Holds n P r free m) (sym c.root-root.ensures.root) holds in
-    let same_stored : stored c.read.new.pages ≡ S = c.read.ensures.quiet.same before in
-    let r = rooted n P root free m key bytes level at_root c.if-root-eq0.false reads c.level_of-level.ensures.level in
-    subst can (sym same_stored) (([], None, r.tree, by_page n P level [] None free root bytes key r.tree (root_can n P root free m key bytes level at_root c.if-root-eq0.false reads c.level_of-level.ensures.level)), λ inner. reads) in
-    map_err c.put_below.result (λ e. PlaceErr level can t0 c.read.new.pages c.put_below.new.pages e × IsNoWant e) (λ e. PutErr t0 c.args.pages.now c.put_below.new.pages e × IsNoWant e)
-    (λ e why. (place_failed level can t0 c.args.pages.now c.read.new.pages c.put_below.new.pages first c.put_below.ensures.quiet (omega (arith, c.if-level-gt5.false)) has e why.0, why.1))
-    c.put_below.ensures.err
+    let leaf = c.in_ok-leaf.leaf in
+    let can : Image → Type 0 = λ T. (es : List Entry) × IsNode (over t0 T leaf) (record { level = 0; entries = es }) × Rises es in
+    let few : 0 ≤ 5 = lit≤ tt in
+    let has : (disk_in c.put_leaf.new.pages).is_honest → (m : KeyMap) → InTxn t0 (stored c.args.pages.now) m → can (stored c.find_leaf.new.pages) = λ honest m holds.
+    let S = stored c.args.pages.now in
+    let before = c.put_leaf.ensures.quiet.honest honest in
+    let lead = can_lead n (over t0 S) root (free_over t0 S) m key (subst (λ (r : ℕ). Holds n (over t0 S) r (free_over t0 S) m) (sym c.root-root.ensures.root) holds) c.if-root-eq0.false in
+    subst can (sym (c.find_leaf.ensures.quiet.same before)) (leads_leaf n (over t0 S) lead.0 key root leaf c.find_leaf.ensures.few lead.2.0 (c.in_ok-leaf.ensures.leads before lead.0 lead.2)) in
+    map_err c.put_leaf.result (LeafErr leaf t0 c.find_leaf.new.pages c.put_leaf.new.pages) (λ e. PutErr t0 c.args.pages.now c.put_leaf.new.pages e × IsNoWant e)
+    (λ e why.
+    let failed = leaf_failed 0 can leaf t0 c.find_leaf.new.pages c.put_leaf.new.pages (λ honest is. is) e why in
+    (place_failed 0 can t0 c.args.pages.now c.find_leaf.new.pages c.put_leaf.new.pages c.in_ok-leaf.ensures.passed c.put_leaf.ensures.quiet few has e failed.0, failed.1))
+    c.put_leaf.ensures.err

@@ -1,12 +1,13 @@
-use Rattle.std.proofs.Common.{◌-◌, ◌<◌, inr, sym, subst, ◌∙◌, arith}
+use Rattle.std.proofs.Common.{◌≡◌, ◌-◌, ◌<◌, inr, refl, sym, subst, ◌∙◌, arith}
 use Rattle.std.specs.FinMap.{find}
 use Rattle.sector_device.specs.Disk.{Image}
-use Rattle.page_store.specs.Transactions.{txn_pages, over, Passed}
+use Rattle.page_store.specs.Transactions.{stored, txn_pages, over, Passed}
 use Rattle.page_store.specs.Stops.{quiet_more, passed_more}
+use Rattle.page_node.specs.Node.{IsNode}
 use Rattle.page_node.specs.Places.{key_cmp}
 use Rattle.std.specs.Prelude.{IfOk}
 use Rattle.page_btree.specs.Tree.{rows}
-use Rattle.page_btree.specs.Getting.{CanGet, IsCopied, IsLevel, ReadsErr}
+use Rattle.page_btree.specs.Getting.{CanGet, CanGetAt, IsCopied, IsLevel, ReadsErr}
 use Rattle.page_btree.specs.declared.error.TreeError.TheVariants.{DeviceFault}
 use Rattle.page_btree.proofs.Descent.{leaf_page, goes_on, some_child}
 use Rattle.page_btree.proofs.Outcomes.{err_of, map_ok, map_err}
@@ -14,66 +15,84 @@ use Rattle.page_btree.proofs.Refusals.{same_fails, reads_more}
 use Rattle.page_btree.proofs.Rising.{node_rises}
 use Rattle.page_btree.proofs.gets.+get_below.Goals as goal
 
+-- ---- the page isn't lent
+pub returns-in_err-own-clause-err : goal.returns-in_err-own-clause-err
+returns-in_err-own-clause-err g t c =
+    let can = λ (S : Image). CanGetAt (txn_pages c.args.txn.now) (over c.args.txn.now S) c.args.level c.args.key.now c.args.p in
+    let at = λ (S : Image). IsLevel (txn_pages c.args.txn.now) (over c.args.txn.now S) c.args.level c.args.p in
+    err_of c.from_residual.result c.in_err-own.field-0.0 (λ e. ReadsErr can c.args.pages.now c.lend_level.new.pages e) c.from_residual.ensures.1
+    (same_fails can at c.args.pages.now c.lend_level.new.pages (λ honest is. is.1) c.in_err-own.field-0.0 c.in_err-own.ensures.err)
+
+-- ---- a leaf
 pub returns-in_err-found-clause-err : goal.returns-in_err-found-clause-err
 returns-in_err-found-clause-err g t c =
-    let can = λ (S : Image). CanGet (txn_pages c.args.txn.now) (over c.args.txn.now S) c.args.level c.args.key.now c.args.page.now in
-    err_of c.from_residual.result c.in_err-found.field-0.0 (λ e. ReadsErr can c.args.pages.now c.args.pages.now e) c.from_residual.ensures.1
-    (subst (λ e. ReadsErr can c.args.pages.now c.args.pages.now e) (sym c.in_err-found.ensures.err)
-    (inr (λ honest is. let l = leaf_page _ _ _ _ _ is c.if-level-eq0.true in c.in_err-found.ensures.refused (record { level = 0; entries = rows is.tree }) l.0 l.1)))
+    let S = stored c.args.pages.now in
+    let P = over c.args.txn.now S in
+    let can = λ (S : Image). CanGetAt (txn_pages c.args.txn.now) (over c.args.txn.now S) c.args.level c.args.key.now c.args.p in
+    err_of c.from_residual-in_err-found.result c.in_err-found.field-0.0 (λ e. ReadsErr can c.args.pages.now c.lend_level.new.pages e) c.from_residual-in_err-found.ensures.1
+    (subst (λ e. ReadsErr can c.args.pages.now c.lend_level.new.pages e) (sym c.in_err-found.ensures.err)
+    (inr (λ honest is.
+    let there : c.lent-bytes.result.now ≡ P c.args.p = c.lent-bytes.ensures ∙ c.in_ok-own.ensures.lends honest in
+    let l = leaf_page _ _ _ _ _ is.0 c.if-level-eq0.true in
+    c.in_err-found.ensures.refused (record { level = 0; entries = rows is.0.tree }) (subst (λ b. IsNode b (record { level = 0; entries = rows is.0.tree })) (sym there) l.0) l.1)))
 
 pub returns-then-level-eq0-clause-value : goal.returns-then-level-eq0-clause-value
 returns-then-level-eq0-clause-value g t c = λ honest is.
+    let P = over c.args.txn.now (stored c.args.pages.now) in
+    let there : c.lent-bytes.result.now ≡ P c.args.p = c.lent-bytes.ensures ∙ c.in_ok-own.ensures.lends honest in
     let l = leaf_page _ _ _ _ _ is c.if-level-eq0.true in
-    c.in_ok-found.ensures.value (record { level = 0; entries = rows is.tree }) l.0 l.1
+    c.in_ok-found.ensures.value (record { level = 0; entries = rows is.tree }) (subst (λ b. IsNode b (record { level = 0; entries = rows is.tree })) (sym there) l.0) l.1
 
-pub returns-in_err-way-clause-err : goal.returns-in_err-way-clause-err
-returns-in_err-way-clause-err g t c =
-    let can = λ (S : Image). CanGet (txn_pages c.args.txn.now) (over c.args.txn.now S) c.args.level c.args.key.now c.args.page.now in
+-- ---- no way down
+pub returns-in_err-child-clause-err : goal.returns-in_err-child-clause-err
+returns-in_err-child-clause-err g t c =
+    let P = over c.args.txn.now (stored c.args.pages.now) in
+    let can = λ (S : Image). CanGetAt (txn_pages c.args.txn.now) (over c.args.txn.now S) c.args.level c.args.key.now c.args.p in
     let not = c.if-level-eq0.false in
     let some : 0 < c.args.level = omega arith in
-    err_of c.from_residual-in_err-way.result DeviceFault (λ e. ReadsErr can c.args.pages.now c.args.pages.now e) c.from_residual-in_err-way.ensures.1
-    (inr (λ honest is. some_child _ _ _ _ _ is some (λ node there inner. c.in_err-way.ensures.err node there (node_rises _ _ _ _ _ is some node there) inner)))
+    err_of c.from_residual-in_err-child.result DeviceFault (λ e. ReadsErr can c.args.pages.now c.lend_level.new.pages e) c.from_residual-in_err-child.ensures.1
+    (inr (λ honest is.
+    let there : c.lent-bytes.result.now ≡ P c.args.p = c.lent-bytes.ensures ∙ c.in_ok-own.ensures.lends honest in
+    some_child _ _ _ _ _ is.0 some (λ node at inner. c.in_err-child.ensures.err node (subst (λ b. IsNode b node) (sym there) at) (node_rises _ _ _ _ _ is.0 some node at) inner)))
 
-pub returns-in_err-read_level-clause-err : goal.returns-in_err-read_level-clause-err
-returns-in_err-read_level-clause-err g t c =
-    let can = λ (S : Image). CanGet (txn_pages c.args.txn.now) (over c.args.txn.now S) c.args.level c.args.key.now c.args.page.now in
-    let below = λ (S : Image). IsLevel (txn_pages c.args.txn.now) (over c.args.txn.now S) (c.args.level - 1) c.in_ok-way.way.child in
-    let not = c.if-level-eq0.false in
-    let some : 0 < c.args.level = omega arith in
-    err_of c.from_residual-in_err-read_level.result c.in_err-read_level.field-0.0 (λ e. ReadsErr can c.args.pages.now c.read_level.new.pages e) c.from_residual-in_err-read_level.ensures.1
-    (same_fails can below c.args.pages.now c.read_level.new.pages (λ honest is. (goes_on _ _ _ _ _ is c.in_ok-way.way.child some c.read_level.ensures.few (λ node there. c.in_ok-way.ensures.child node there (node_rises _ _ _ _ _ is some node there))).level) c.in_err-read_level.field-0.0 c.in_err-read_level.ensures.err)
-
+-- ---- below
 pub returns-clause-value : goal.returns-clause-value
 returns-clause-value g t c = λ honest is.
+    let S = stored c.args.pages.now in
+    let P = over c.args.txn.now S in
+    let child = c.in_ok-child.child in
     let not = c.if-level-eq0.false in
     let some : 0 < c.args.level = omega arith in
     let before = c.get_below.ensures.quiet.honest honest in
-    let same = c.in_ok-read_level.ensures.quiet.same before in
-    let read = c.in_ok-read_level.ensures.reads before in
-    let go = goes_on _ _ _ _ _ is c.in_ok-way.way.child some c.read_level.ensures.few (λ node there. c.in_ok-way.ensures.child node there (node_rises _ _ _ _ _ is some node there)) in
-    let next = go.next c.read_level.new.page read in
+    let same = c.in_ok-own.ensures.quiet.same before in
+    let there : c.lent-bytes.result.now ≡ P c.args.p = c.lent-bytes.ensures ∙ c.in_ok-own.ensures.lends before in
+    let go = goes_on _ _ _ _ _ is child some c.lend_level.ensures.few (λ node at. c.in_ok-child.ensures.child node (subst (λ b. IsNode b node) (sym there) at) (node_rises _ _ _ _ _ is some node at)) in
+    let next = go.next (P child) refl in
     map_ok c.get_below.result (λ found. IsCopied found c.get_below.new.into (find key_cmp c.args.key.now (rows next.tree))) (λ found. IsCopied found c.get_below.new.into (find key_cmp c.args.key.now (rows is.tree)))
-    (λ found h. h ∙ go.found c.read_level.new.page read)
-    (subst (λ (S : Image). (can : CanGet (txn_pages c.args.txn.now) (over c.args.txn.now S) (c.args.level - 1) c.args.key.now c.read_level.new.page) → IfOk c.get_below.result (λ found. IsCopied found c.get_below.new.into (find key_cmp c.args.key.now (rows can.tree)))) same (c.get_below.ensures.value honest) next)
+    (λ found h. h ∙ go.found (P child) refl)
+    (subst (λ (S : Image). (can : CanGet (txn_pages c.args.txn.now) (over c.args.txn.now S) (c.args.level - 1) c.args.key.now (over c.args.txn.now S child)) → IfOk c.get_below.result (λ found. IsCopied found c.get_below.new.into (find key_cmp c.args.key.now (rows can.tree)))) same (c.get_below.ensures.value honest) next)
 
 pub returns-clause-quiet : goal.returns-clause-quiet
-returns-clause-quiet g t c = quiet_more c.args.pages.now c.read_level.new.pages c.get_below.new.pages c.in_ok-read_level.ensures.quiet c.get_below.ensures.quiet
+returns-clause-quiet g t c = quiet_more c.args.pages.now c.lend_level.new.pages c.get_below.new.pages c.in_ok-own.ensures.quiet c.get_below.ensures.quiet
 
 pub returns-clause-passed : goal.returns-clause-passed
-returns-clause-passed g t c = map_ok c.get_below.result (λ _. Passed c.read_level.new.pages c.get_below.new.pages) (λ _. Passed c.args.pages.now c.get_below.new.pages)
-    (λ found passed. passed_more c.args.pages.now c.read_level.new.pages c.get_below.new.pages c.in_ok-read_level.ensures.passed passed) c.get_below.ensures.passed
+returns-clause-passed g t c = map_ok c.get_below.result (λ _. Passed c.lend_level.new.pages c.get_below.new.pages) (λ _. Passed c.args.pages.now c.get_below.new.pages)
+    (λ found passed. passed_more c.args.pages.now c.lend_level.new.pages c.get_below.new.pages c.in_ok-own.ensures.passed passed) c.get_below.ensures.passed
 
 pub returns-clause-err : goal.returns-clause-err
 returns-clause-err g t c =
-    let can = λ (S : Image). CanGet (txn_pages c.args.txn.now) (over c.args.txn.now S) c.args.level c.args.key.now c.args.page.now in
-    let below = λ (S : Image). CanGet (txn_pages c.args.txn.now) (over c.args.txn.now S) (c.args.level - 1) c.args.key.now c.read_level.new.page in
+    let P = over c.args.txn.now (stored c.args.pages.now) in
+    let child = c.in_ok-child.child in
+    let can = λ (S : Image). CanGetAt (txn_pages c.args.txn.now) (over c.args.txn.now S) c.args.level c.args.key.now c.args.p in
+    let below = λ (S : Image). CanGetAt (txn_pages c.args.txn.now) (over c.args.txn.now S) (c.args.level - 1) c.args.key.now child in
     let not = c.if-level-eq0.false in
     let some : 0 < c.args.level = omega arith in
-    map_err c.get_below.result (λ e. ReadsErr below c.read_level.new.pages c.get_below.new.pages e) (λ e. ReadsErr can c.args.pages.now c.get_below.new.pages e)
-    (λ e why. reads_more can below c.args.pages.now c.read_level.new.pages c.get_below.new.pages c.in_ok-read_level.ensures.passed c.get_below.ensures.quiet
+    map_err c.get_below.result (λ e. ReadsErr below c.lend_level.new.pages c.get_below.new.pages e) (λ e. ReadsErr can c.args.pages.now c.get_below.new.pages e)
+    (λ e why. reads_more can below c.args.pages.now c.lend_level.new.pages c.get_below.new.pages c.in_ok-own.ensures.passed c.get_below.ensures.quiet
     (λ honest is.
     let before = c.get_below.ensures.quiet.honest honest in
-    let go = goes_on _ _ _ _ _ is c.in_ok-way.way.child some c.read_level.ensures.few (λ node there. c.in_ok-way.ensures.child node there (node_rises _ _ _ _ _ is some node there)) in
-    subst below (sym (c.in_ok-read_level.ensures.quiet.same before)) (go.next c.read_level.new.page (c.in_ok-read_level.ensures.reads before)))
+    let there : c.lent-bytes.result.now ≡ P c.args.p = c.lent-bytes.ensures ∙ c.in_ok-own.ensures.lends before in
+    let go = goes_on _ _ _ _ _ is.0 child some c.lend_level.ensures.few (λ node at. c.in_ok-child.ensures.child node (subst (λ b. IsNode b node) (sym there) at) (node_rises _ _ _ _ _ is.0 some node at)) in
+    subst below (sym (c.in_ok-own.ensures.quiet.same before)) (go.next (P child) refl, go.level))
     e why)
     c.get_below.ensures.err

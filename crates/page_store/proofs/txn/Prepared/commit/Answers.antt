@@ -1,8 +1,19 @@
-use Rattle.std.proofs.Common.{sym, subst, arith}
+use Rattle.std.proofs.Common.{◌≡◌, ◌<◌, ℕ, inl, inr, sym, subst, arith, get_or, replicate}
+use Rattle.std.proofs.lemmas.Bool.{cases_lt}
+use Rattle.std.proofs.lemmas.List.{get_or-replicate, get_or_past, length-replicate}
 use Rattle.sector_device.specs.Disk.{Image}
 use Rattle.gate_journal.specs.Contents.{content}
 use Rattle.page_store.specs.Chain.{IsMeta}
 use Rattle.page_store.proofs.txn.Prepared.commit.Goals as goal
+
+-- no place has a number
+none_held : (k : ℕ) → 0 < get_or {A = ℕ} (replicate {A = ℕ} 4 0) k 0 → ⊥
+none_held k some =
+    let none : ◌≡◌ {A = ℕ} (get_or {A = ℕ} (replicate {A = ℕ} 4 0) k 0) 0 = elim (cases_lt k 4) [
+      | inl within ↦ get_or-replicate {A = ℕ} 4 k 0 0 within
+      | inr past ↦ get_or_past {X = ℕ} (replicate {A = ℕ} 4 0) k 0 (omega (arith, length-replicate {A = ℕ} 4 0))
+    ] in
+    omega arith
 
 pub invariant_of-pages-2 : goal.invariant_of-pages-2
 invariant_of-pages-2 g c =
@@ -13,4 +24,5 @@ invariant_of-pages-2 g c =
       first_below = let lt = p.first_below in omega (arith, lt, c.requires, shape.pages);
       free_below = let lt = p.free_below in omega (arith, lt, c.requires, shape.pages);
       meta = λ working honest. subst (λ (P : Image). IsMeta P p.root p.first p.free) (sym (c.in_ok-commit.ensures.after honest)) (p.meta (content c.args.pages.now.journal));
+      held_are = λ working honest k some. absurd (none_held k some);
     }

@@ -1,0 +1,112 @@
+use Rattle.std.proofs.Common.{◌≡◌, ◌-◌, ◌<◌, ◌≤◌, ◌^◌, inr, refl, sym, subst, ◌∙◌, arith}
+use Rattle.std.specs.Prelude.{IfOk}
+use Rattle.sector_device.specs.Disk.{Image}
+use Rattle.page_store.specs.Transactions.{stored, txn_pages, over, Passed}
+use Rattle.page_store.specs.Stops.{quiet_more, passed_more}
+use Rattle.page_node.specs.Node.{IsNode}
+use Rattle.page_btree.specs.Getting.{CanGetAt, ReadsErr}
+use Rattle.page_btree.specs.Leading.{LeadsTo, CanLead}
+use Rattle.page_btree.specs.declared.error.TreeError.TheVariants.{DeviceFault}
+use Rattle.page_btree.proofs.Descent.{goes_on, some_child}
+use Rattle.page_btree.proofs.Outcomes.{err_of, map_ok, map_err}
+use Rattle.page_btree.proofs.Refusals.{reads_more}
+use Rattle.page_btree.proofs.Rising.{node_rises}
+use Rattle.page_btree.proofs.Leads.{leads_none, leads_more}
+use Rattle.page_btree.proofs.ways.find_leaf.Goals as goal
+
+pub returns-then-level-gt5-clause-err : goal.returns-then-level-gt5-clause-err
+returns-then-level-gt5-clause-err g c = inr (λ honest is.
+    let P = over c.args.txn.now (stored c.args.pages.now) in
+    let node = is.2.1.node in
+    let there : c.lent-bytes.result.now ≡ P c.args.root = c.lent-bytes.ensures ∙ c.in_ok-own.ensures.lends honest in
+    let told = c.level_of-level.ensures.level node (subst (λ b. IsNode b node) (sym there) is.2.1.node_is) ∙ is.2.1.level_is in
+    let few = is.1 in
+    let above = c.if-level-gt5.true in
+    omega arith)
+
+-- ---- the root is a leaf
+pub returns-then-level-eq0-clause-leads : goal.returns-then-level-eq0-clause-leads
+returns-then-level-eq0-clause-leads g c = λ honest d is.
+    let P = over c.args.txn.now (stored c.args.pages.now) in
+    let node = is.1.node in
+    let there : c.lent-bytes.result.now ≡ P c.args.root = c.lent-bytes.ensures ∙ c.in_ok-own.ensures.lends honest in
+    let told = c.level_of-level.ensures.level node (subst (λ b. IsNode b node) (sym there) is.1.node_is) ∙ is.1.level_is in
+    leads_none P d c.args.root c.args.key.now (sym told ∙ c.if-level-eq0.true)
+
+-- ---- no way down
+pub returns-in_err-child-clause-err : goal.returns-in_err-child-clause-err
+returns-in_err-child-clause-err g c =
+    let n = txn_pages c.args.txn.now in
+    let P = over c.args.txn.now (stored c.args.pages.now) in
+    let can = λ (S : Image). CanLead n (over c.args.txn.now S) c.args.key.now c.args.root in
+    err_of c.from_residual-in_err-child.result DeviceFault (λ e. ReadsErr can c.args.pages.now c.lend.new.pages e) c.from_residual-in_err-child.ensures.1
+    (inr (λ honest is.
+    let node = is.2.1.node in
+    let there : c.lent-bytes.result.now ≡ P c.args.root = c.lent-bytes.ensures ∙ c.in_ok-own.ensures.lends honest in
+    let told = c.level_of-level.ensures.level node (subst (λ b. IsNode b node) (sym there) is.2.1.node_is) ∙ is.2.1.level_is in
+    let not = c.if-level-eq0.false in
+    let some : 0 < is.0 = omega arith in
+    some_child n P is.0 c.args.key.now (P c.args.root) is.2.0 some (λ node at inner. c.in_err-child.ensures.err node (subst (λ b. IsNode b node) (sym there) at) (node_rises n P is.0 c.args.key.now (P c.args.root) is.2.0 some node at) inner)))
+
+pub returns-then-child-count-clause-err : goal.returns-then-child-count-clause-err
+returns-then-child-count-clause-err g c = inr (λ honest is.
+    let n = txn_pages c.args.txn.now in
+    let P = over c.args.txn.now (stored c.args.pages.now) in
+    let count = c.page_count-count.ensures in
+    let few : n ≤ 2 ^ 32 = omega arith in
+    let node = is.2.1.node in
+    let there : c.lent-bytes.result.now ≡ P c.args.root = c.lent-bytes.ensures ∙ c.in_ok-own.ensures.lends honest in
+    let told = c.level_of-level.ensures.level node (subst (λ b. IsNode b node) (sym there) is.2.1.node_is) ∙ is.2.1.level_is in
+    let not = c.if-level-eq0.false in
+    let some : 0 < is.0 = omega arith in
+    let go = goes_on n P is.0 c.args.key.now (P c.args.root) is.2.0 c.in_ok-child.child some few (λ node at. c.in_ok-child.ensures.child node (subst (λ b. IsNode b node) (sym there) at) (node_rises n P is.0 c.args.key.now (P c.args.root) is.2.0 some node at)) in
+    let below = go.level.below in
+    let above = c.if-child-count.true in
+    omega arith)
+
+-- ---- below
+pub returns-clause-quiet : goal.returns-clause-quiet
+returns-clause-quiet g c = quiet_more c.args.pages.now c.lend.new.pages c.leaf_below.new.pages c.in_ok-own.ensures.quiet c.leaf_below.ensures.quiet
+
+pub returns-clause-passed : goal.returns-clause-passed
+returns-clause-passed g c = map_ok c.leaf_below.result (λ _. Passed c.lend.new.pages c.leaf_below.new.pages) (λ _. Passed c.args.pages.now c.leaf_below.new.pages)
+    (λ leaf passed. passed_more c.args.pages.now c.lend.new.pages c.leaf_below.new.pages (record { quiet = c.in_ok-own.ensures.quiet; halted = c.in_ok-own.ensures.ok; faults = c.in_ok-own.ensures.passed }) passed) c.leaf_below.ensures.passed
+
+pub returns-clause-leads : goal.returns-clause-leads
+returns-clause-leads g c = λ honest d is.
+    let P = over c.args.txn.now (stored c.args.pages.now) in
+    let before = c.leaf_below.ensures.quiet.honest honest in
+    let node = is.1.node in
+    let child = c.in_ok-child.child in
+    let there : c.lent-bytes.result.now ≡ P c.args.root = c.lent-bytes.ensures ∙ c.in_ok-own.ensures.lends before in
+    let told = c.level_of-level.ensures.level node (subst (λ b. IsNode b node) (sym there) is.1.node_is) ∙ is.1.level_is in
+    let not = c.if-level-eq0.false in
+    let some : 0 < d = omega arith in
+    map_ok c.leaf_below.result (λ leaf. LeadsTo P (d - 1) child c.args.key.now leaf) (λ leaf. LeadsTo P d c.args.root c.args.key.now leaf)
+    (λ leaf h. leads_more P d c.args.root c.args.key.now leaf child some (λ node at. c.in_ok-child.ensures.child node (subst (λ b. IsNode b node) (sym there) at)) h)
+    (subst (λ d. IfOk c.leaf_below.result (λ leaf. LeadsTo P (d - 1) child c.args.key.now leaf)) told
+    (subst (λ (T : Image). IfOk c.leaf_below.result (λ leaf. LeadsTo (over c.args.txn.now T) (c.level_of-level.result - 1) child c.args.key.now leaf)) (c.in_ok-own.ensures.quiet.same before) (c.leaf_below.ensures.leads honest)))
+
+pub returns-clause-err : goal.returns-clause-err
+returns-clause-err g c =
+    let n = txn_pages c.args.txn.now in
+    let P = over c.args.txn.now (stored c.args.pages.now) in
+    let child = c.in_ok-child.child in
+    let can = λ (S : Image). CanLead n (over c.args.txn.now S) c.args.key.now c.args.root in
+    let below = λ (S : Image). CanGetAt n (over c.args.txn.now S) (c.level_of-level.result - 1) c.args.key.now child in
+    let count = c.page_count-count.ensures in
+    let few : n ≤ 2 ^ 32 = omega arith in
+    map_err c.leaf_below.result (λ e. ReadsErr below c.lend.new.pages c.leaf_below.new.pages e) (λ e. ReadsErr can c.args.pages.now c.leaf_below.new.pages e)
+    (λ e why. reads_more can below c.args.pages.now c.lend.new.pages c.leaf_below.new.pages (record { quiet = c.in_ok-own.ensures.quiet; halted = c.in_ok-own.ensures.ok; faults = c.in_ok-own.ensures.passed }) c.leaf_below.ensures.quiet
+    (λ honest is.
+    let before = c.leaf_below.ensures.quiet.honest honest in
+    let node = is.2.1.node in
+    let there : c.lent-bytes.result.now ≡ P c.args.root = c.lent-bytes.ensures ∙ c.in_ok-own.ensures.lends before in
+    let told = c.level_of-level.ensures.level node (subst (λ b. IsNode b node) (sym there) is.2.1.node_is) ∙ is.2.1.level_is in
+    let not = c.if-level-eq0.false in
+    let some : 0 < is.0 = omega arith in
+    let go = goes_on n P is.0 c.args.key.now (P c.args.root) is.2.0 child some few (λ node at. c.in_ok-child.ensures.child node (subst (λ b. IsNode b node) (sym there) at) (node_rises n P is.0 c.args.key.now (P c.args.root) is.2.0 some node at)) in
+    let next : CanGetAt n P (is.0 - 1) c.args.key.now child = (go.next (P child) refl, go.level) in
+    subst below (sym (c.in_ok-own.ensures.quiet.same before)) (subst (λ d. CanGetAt n P (d - 1) c.args.key.now child) (sym told) next))
+    e why)
+    c.leaf_below.ensures.err

@@ -1,0 +1,19 @@
+-- The way from a page down to the leaf that a key belongs to.
+use Rattle.std.specs.Prelude.{◌≡◌, ◌≤◌, ℕ, List, Some}
+use Rattle.std.proofs.Common.{zero, suc}
+use Rattle.std.specs.Option.{option_map}
+use Rattle.sector_device.specs.Disk.{Image}
+use Rattle.page_node.specs.Entries.{child_in}
+use Rattle.page_node.specs.Node.{Node, IsNode}
+use Rattle.page_node.specs.Places.{floor}
+use Rattle.page_node.specs.Searching.{RisesBehind}
+use Rattle.page_btree.specs.Getting.{CanGetAt}
+
+-- from each node to the child that the key belongs to
+abbrev pub LeadsTo : Image → ℕ → ℕ → List ℕ → ℕ → Type 0
+LeadsTo P zero page key leaf = leaf ≡ page
+LeadsTo P (suc d) page key leaf = (child : ℕ) × ((node : Node) → IsNode (P page) node → RisesBehind node.entries → option_map child_in (floor key node.entries) ≡ Some child) × LeadsTo P d child key leaf
+
+-- a tree of at most six levels stands at the page, whose range has the key
+abbrev pub CanLead : ℕ → Image → List ℕ → ℕ → Type 0
+CanLead n P key page = (d : ℕ) × (d ≤ 5) × CanGetAt n P d key page
