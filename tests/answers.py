@@ -1,5 +1,5 @@
-"""For tests/streams, tests/wire, tests/pieces, tests/kept and tests/filled: requests to a desk with the sample geography, and
-what it answers.
+"""For tests/streams, tests/wire, tests/pieces, tests/kept, tests/tables and tests/filled: requests to a desk with the sample
+geography, and what it answers.
 
 The answers are put together by the rules of docs/FORMATS.md, docs/FAULTS.md, docs/LAW.md and docs/REPORT.md.
 """

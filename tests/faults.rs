@@ -1,5 +1,5 @@
-//! For tests/faults, tests/sweeps, tests/seats and tests/kept: loaded before the C library, it counts the calls, from 0, by which
-//! a store's file is sized, read, written and synced. The call with the number FAULT fails, at that with the number STOP the process
+//! For tests/faults, tests/sweeps, tests/seats, tests/kept and tests/tables: loaded before the C library, it counts the calls,
+//! from 0, by which a store's file is sized, read, written and synced. The call with the number FAULT fails, at that with the number STOP the process
 //! ends, and that with the number HELD waits for a byte from the descriptor WAITS; each of these is told by a byte to the descriptor
 //! TELLS. Of each call the descriptor CALLS is told a letter and the place in the file, 8 bytes. Each of these words may be
 //! missing.

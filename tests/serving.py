@@ -1,5 +1,5 @@
-"""For tests/stores, tests/sweeps, tests/seats, tests/wire, tests/pieces, tests/kept and tests/filled: stores in files, which a
-state was loaded into, served on 127.0.0.1, and what they are asked.
+"""For tests/stores, tests/sweeps, tests/seats, tests/wire, tests/pieces, tests/kept, tests/tables and tests/filled: stores in
+files, which a state was loaded into, served on 127.0.0.1, and what they are asked.
 
 Before it: rt run in crates/plandesk.
 """

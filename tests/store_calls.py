@@ -1,5 +1,5 @@
-"""Libraries that are loaded before the C library; and for tests/faults, tests/sweeps, tests/seats and tests/kept runs of the
-program of whose calls on a store's file one fails, is held or ends the process, by faults.rs.
+"""Libraries that are loaded before the C library; and for tests/faults, tests/sweeps, tests/seats, tests/kept and
+tests/tables runs of the program of whose calls on a store's file one fails, is held or ends the process, by faults.rs.
 """
 import os, subprocess, tempfile
 
