@@ -1,4 +1,4 @@
-//! A load that is begun anew, loads that have ended, and sweeps beside a load.
+//! A load that is begun anew, loads that have ended, a batch that has no room, and sweeps beside a load.
 use crate::stores::{begun, formatted, opened, seal, stage};
 use desk_clerk::clerk::Clerk;
 use desk_clerk::loads::LoadError;
@@ -30,6 +30,20 @@ fn a_load_begun_anew_ends_the_one_before(rt: HostRuntime) {
     assert!(rt; is_unsealed(alloc, &clerk));
     assert!(rt; stage(alloc, &mut clerk, &mut second, 3) == Err(LoadError::Ended));
     assert!(rt; second.left() == 5);
+}
+
+#[test]
+fn a_load_goes_on_with_batches_that_have_room(rt: HostRuntime) {
+    let alloc = rt.alloc();
+    let mut clerk = opened(&rt, alloc, formatted(&rt, alloc, 330));
+    let mut load = begun(&rt, alloc, &mut clerk);
+    assert!(rt; stage(alloc, &mut clerk, &mut load, 8) == Err(LoadError::Full));
+    assert!(rt; load.left() == 8);
+    for left in [5, 2, 0] {
+        assert!(rt; stage(alloc, &mut clerk, &mut load, 3) == Ok(left));
+    }
+    assert!(rt; seal(alloc, &mut clerk, load) == Ok(()));
+    assert!(rt; matches!(clerk.ask(alloc, Query::Blocks), Reply::Blocks(_)));
 }
 
 /// Sweeps until nothing is left: how many rows were taken out.
