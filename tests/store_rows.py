@@ -1,6 +1,6 @@
 """For tests/tables: an independent reader of stores, which goes by docs/FORMATS.md ('Stores') alone. It takes a store's file
-apart, down to the desk that its rows say, and asserts on the way what that page promises of a store. Beside it a small writer,
-which puts rows into a store at rest, or takes them out.
+apart, down to the desk that its rows say, and asserts on the way what that page and docs/ARCHITECTURE.md ('The store above its
+pages') promise of them. Beside it a small writer, which puts rows into a store at rest, or takes them out.
 """
 import collections, re
 
