@@ -1,5 +1,5 @@
 //! The pages of a commit.
-ghost use Rattle.std.specs.Prelude.{◌≡◌, ◌≢◌, ◌<◌, ℕ, length, MatchOption, slice_index_or};
+ghost use Rattle.std.specs.Prelude.{◌≡◌, ◌≢◌, ◌<◌, ℕ, false, length, MatchOption, slice_index_or};
 ghost use Rattle.gate_journal.specs.Store.{AreNumbers, AreApart};
 
 use std::alloc::{AllocError, Global};
@@ -14,10 +14,24 @@ pub struct PageWrites {
     ghost once: { AreApart numbers.items },
 }
 
+/// Whether a page's number is among these. All are looked at, several at a time: the compiler makes vector code of it.
+fn is_among(numbers: &[u32], page: u32) -> bool
+    ensures { result ≡ false → (j : ℕ) → j < length numbers.now → slice_index_or numbers.now j 0 ≢ page }
+{
+    let mut seen = false;
+    for number in numbers {
+        seen |= *number == page;
+    }
+    seen
+}
+
 /// The place of a page's number.
 fn find(numbers: &[u32], page: u32) -> Option<usize>
     ensures { MatchOption result ((j : ℕ) → j < length numbers.now → slice_index_or numbers.now j 0 ≢ page) (λ k. (k < length numbers.now) × (slice_index_or numbers.now k 0 ≡ page)) }
 {
+    if !is_among(numbers, page) {
+        return None;
+    }
     for (k, number) in numbers.iter().enumerate() {
         if *number == page {
             return Some(k);
