@@ -7,7 +7,7 @@ use desk_model::kind::Kind;
 use desk_model::name::PlanName;
 use desk_model::reply::{PlanRow, Reply};
 use desk_model::size::PlanSize;
-use sector_memory::MemoryDevice;
+use sector_memory::FailOnce;
 use std::alloc::Global;
 use std::process::Abort;
 
@@ -44,7 +44,7 @@ fn is_listed_alone(reply: Reply, name: &PlanName) -> bool {
 }
 
 /// Asserts that no plan is listed.
-fn has_none<R: Abort>(rt: &R, alloc: Global, clerk: &Clerk<MemoryDevice>) {
+fn has_none<R: Abort>(rt: &R, alloc: Global, clerk: &Clerk<FailOnce>) {
     assert!(rt; is_empty_list(clerk.ask(alloc, Query::Plans)));
 }
 
@@ -52,7 +52,7 @@ fn has_none<R: Abort>(rt: &R, alloc: Global, clerk: &Clerk<MemoryDevice>) {
 fn commit_house<R: Abort>(
     rt: &R,
     alloc: Global,
-    clerk: &mut Clerk<MemoryDevice>,
+    clerk: &mut Clerk<FailOnce>,
     name: PlanName,
 ) -> Change {
     let Ok(ready) = clerk.prepare(alloc, house(name)) else {
@@ -72,7 +72,7 @@ fn list_after<R: Abort>(rt: &R, alloc: Global, change: &Change) -> Reply {
 }
 
 /// The list of plans that is shown.
-fn list_shown<R: Abort>(rt: &R, alloc: Global, clerk: &Clerk<MemoryDevice>) -> Reply {
+fn list_shown<R: Abort>(rt: &R, alloc: Global, clerk: &Clerk<FailOnce>) -> Reply {
     let shown = clerk.published().expect(rt, "no memory");
     shown.ask(alloc, Query::Plans)
 }

@@ -1,13 +1,28 @@
-//! What only the clerk's own calls show, tried on stores in memory, and the gate of a served stream.
+//! What only the clerk's own calls show, tried on stores in memory; the gate of a served stream; a gallery; and served commands,
+//! loads and openings at a device that stops or fails at one of its calls, and the desk that is found then.
 #![tactic(auto)]
 
 #[cfg(test)]
 mod commits;
 #[cfg(test)]
-mod faults;
+mod devices;
 #[cfg(test)]
 mod gates;
 #[cfg(test)]
 mod loads;
 #[cfg(test)]
+mod openings;
+#[cfg(test)]
+mod shown;
+#[cfg(test)]
+mod stopped_loads;
+#[cfg(test)]
 mod stores;
+#[cfg(test)]
+mod streams;
+#[cfg(test)]
+mod texts;
+#[cfg(test)]
+mod visitors;
+#[cfg(test)]
+mod visits;

@@ -1,20 +1,11 @@
 //! A load that is begun anew, loads that have ended, a batch that has no room, and sweeps beside a load.
-use crate::stores::{begun, formatted, opened, seal, stage};
+use crate::stopped_loads::is_sealed;
+use crate::stores::{begun, device_of, formatted, opened, seal, stage};
 use desk_clerk::clerk::Clerk;
 use desk_clerk::loads::LoadError;
-use desk_clerk::sweeps::SweepError;
-use desk_model::command::Query;
-use desk_model::reply::{Refusal, Reply};
-use sector_memory::MemoryDevice;
+use sector_memory::FailOnce;
 use std::alloc::Global;
-
-/// Whether no geography is shown.
-fn is_unsealed(alloc: Global, clerk: &Clerk<MemoryDevice>) -> bool {
-    match clerk.ask(alloc, Query::Blocks) {
-        Reply::Refused(refusal) => refusal == Refusal::NotSealed,
-        _ => false,
-    }
-}
+use std::process::Abort;
 
 #[test]
 fn a_load_begun_anew_ends_the_one_before(rt: HostRuntime) {
@@ -22,12 +13,12 @@ fn a_load_begun_anew_ends_the_one_before(rt: HostRuntime) {
     let mut clerk = opened(&rt, alloc, formatted(&rt, alloc, 2_000));
     let mut first = begun(&rt, alloc, &mut clerk);
     assert!(rt; stage(alloc, &mut clerk, &mut first, 8) == Ok(0));
-    assert!(rt; is_unsealed(alloc, &clerk));
+    assert!(rt; !is_sealed(&rt, alloc, &clerk));
     let mut second = begun(&rt, alloc, &mut clerk);
     assert!(rt; seal(alloc, &mut clerk, first) == Err(LoadError::Ended));
     assert!(rt; stage(alloc, &mut clerk, &mut second, 3) == Ok(5));
-    let mut clerk = opened(&rt, alloc, clerk.into_device());
-    assert!(rt; is_unsealed(alloc, &clerk));
+    let mut clerk = opened(&rt, alloc, device_of(clerk));
+    assert!(rt; !is_sealed(&rt, alloc, &clerk));
     assert!(rt; stage(alloc, &mut clerk, &mut second, 3) == Err(LoadError::Ended));
     assert!(rt; second.left() == 5);
 }
@@ -43,20 +34,12 @@ fn a_load_goes_on_with_batches_that_have_room(rt: HostRuntime) {
         assert!(rt; stage(alloc, &mut clerk, &mut load, 3) == Ok(left));
     }
     assert!(rt; seal(alloc, &mut clerk, load) == Ok(()));
-    assert!(rt; matches!(clerk.ask(alloc, Query::Blocks), Reply::Blocks(_)));
+    assert!(rt; is_sealed(&rt, alloc, &clerk));
 }
 
-/// Sweeps until nothing is left: how many rows were taken out.
-fn sweeps(alloc: Global, clerk: &mut Clerk<MemoryDevice>) -> Result<usize, SweepError> {
-    let mut rows = 0usize;
-    for _ in 0..10_000u32 {
-        let count = clerk.sweep_step(alloc)?;
-        if count == 0 {
-            return Ok(rows);
-        }
-        rows = rows.saturating_add(count);
-    }
-    Err(SweepError::DeviceFault)
+/// A step of a sweep: how many rows it takes out, of at most 16.
+fn swept<R: Abort>(rt: &R, alloc: Global, clerk: &mut Clerk<FailOnce>) -> usize {
+    clerk.sweep_step(alloc).expect(rt, "not swept")
 }
 
 #[test]
@@ -65,12 +48,13 @@ fn a_load_that_is_under_way_is_spared(rt: HostRuntime) {
     let mut clerk = opened(&rt, alloc, formatted(&rt, alloc, 2_000));
     let mut first = begun(&rt, alloc, &mut clerk);
     assert!(rt; stage(alloc, &mut clerk, &mut first, 8) == Ok(0));
-    assert!(rt; sweeps(alloc, &mut clerk) == Ok(0));
+    assert!(rt; swept(&rt, alloc, &mut clerk) == 0);
     let mut second = begun(&rt, alloc, &mut clerk);
     assert!(rt; stage(alloc, &mut clerk, &mut second, 3) == Ok(5));
-    assert!(rt; sweeps(alloc, &mut clerk) == Ok(9));
+    assert!(rt; swept(&rt, alloc, &mut clerk) == 9);
+    assert!(rt; swept(&rt, alloc, &mut clerk) == 0);
     assert!(rt; stage(alloc, &mut clerk, &mut second, 8) == Ok(0));
-    assert!(rt; sweeps(alloc, &mut clerk) == Ok(0));
+    assert!(rt; swept(&rt, alloc, &mut clerk) == 0);
     assert!(rt; seal(alloc, &mut clerk, second) == Ok(()));
-    assert!(rt; matches!(clerk.ask(alloc, Query::Blocks), Reply::Blocks(_)));
+    assert!(rt; is_sealed(&rt, alloc, &clerk));
 }

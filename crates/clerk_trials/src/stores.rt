@@ -7,30 +7,44 @@ use desk_model::geography::{Geography, sample};
 use desk_pages::format;
 use geo_loads::Load;
 use sector_device::SectorDevice;
-use sector_memory::MemoryDevice;
+use sector_memory::{FailOnce, MemoryDevice};
 use std::alloc::Global;
 use std::process::Abort;
 use std::sync::Arc;
 
+/// A device whose calls all pass. It is one of which a call could fail, so that a clerk is compiled for two types of devices, this
+/// one and one that stops.
+fn passing(device: MemoryDevice) -> FailOnce {
+    FailOnce::new(device, u64::MAX)
+}
+
 /// A store without geography and plans.
 pub fn formatted<R: Abort>(rt: &R, alloc: Global, sectors: u32) -> MemoryDevice {
-    let mut device = MemoryDevice::new(alloc, sectors).expect(rt, "no memory");
+    let mut device = passing(MemoryDevice::new(alloc, sectors).expect(rt, "no memory"));
     format(alloc, &mut device, 256).expect(rt, "not formatted");
-    device
+    device.stop(&[])
 }
 
-pub fn opened<R: Abort, D: SectorDevice + Drop>(rt: &R, alloc: Global, device: D) -> Clerk<D> {
-    Clerk::open(alloc, device).ok().expect(rt, "not opened")
+/// Opens a device without a fault.
+pub fn opened<R: Abort>(rt: &R, alloc: Global, device: MemoryDevice) -> Clerk<FailOnce> {
+    Clerk::open(alloc, passing(device))
+        .ok()
+        .expect(rt, "not opened")
 }
 
-fn shared<R: Abort>(rt: &R, alloc: Global) -> Arc<Geography> {
+/// Ends a clerk: what a read of its device gives.
+pub fn device_of(clerk: Clerk<FailOnce>) -> MemoryDevice {
+    clerk.into_device().stop(&[])
+}
+
+pub fn shared_sample<R: Abort>(rt: &R, alloc: Global) -> Arc<Geography> {
     let ground = sample(alloc).expect(rt, "no memory");
     Arc::new(alloc, ground).expect(rt, "no memory")
 }
 
 /// A load of the sample geography is begun.
-pub fn begun<R: Abort, D: SectorDevice>(rt: &R, alloc: Global, clerk: &mut Clerk<D>) -> Load {
-    let ground = shared(rt, alloc);
+pub fn begun<R: Abort>(rt: &R, alloc: Global, clerk: &mut Clerk<FailOnce>) -> Load {
+    let ground = shared_sample(rt, alloc);
     clerk.begin_load(alloc, ground).expect(rt, "not begun")
 }
 
@@ -67,7 +81,7 @@ pub fn seal<D: SectorDevice>(
 }
 
 /// A clerk with the sample geography.
-pub fn sealed<R: Abort>(rt: &R, alloc: Global, sectors: u32) -> Clerk<MemoryDevice> {
+pub fn sealed<R: Abort>(rt: &R, alloc: Global, sectors: u32) -> Clerk<FailOnce> {
     let mut clerk = opened(rt, alloc, formatted(rt, alloc, sectors));
     let mut load = begun(rt, alloc, &mut clerk);
     assert!(rt; stage(alloc, &mut clerk, &mut load, 8) == Ok(0));

@@ -1,0 +1,108 @@
+//! Devices that stop or fail at one of their calls, and what a stop leaves of them.
+use crate::stores::formatted;
+use desk_clerk::clerk::Clerk;
+use desk_clerk::opening::OpenError;
+use sector_device::SectorDevice;
+use sector_memory::{FailOnce, Fused, MemoryDevice};
+use std::alloc::Global;
+use std::process::Abort;
+
+/// The sectors of a store: header, gate, list, 256 copies and 141 pages.
+const SECTORS: u32 = 400;
+
+/// What a stop leaves in the sectors that were not on the disk: these bytes, or what a read gives.
+pub static FILLS: [Option<u8>; 4] = [Some(0), Some(0xff), Some(0xa5), None];
+
+/// A sector and its bytes.
+pub type Pick = (u64, [u8; 4096]);
+
+/// A pick of every sector.
+pub fn picks<R: Abort>(rt: &R, alloc: Global, fill: Option<u8>) -> Vec<Pick> {
+    let mut all = Vec::new(alloc);
+    if let Some(byte) = fill {
+        for i in 0..SECTORS {
+            all.push((i as u64, [byte; 4096])).expect(rt, "no memory");
+        }
+    }
+    all
+}
+
+/// A device over one in memory, of whose calls one fails, or all from it on.
+pub trait Faulty: SectorDevice + Drop + Sized {
+    /// Of the calls so many pass before the one that fails.
+    fn at(device: MemoryDevice, k: u64) -> Self;
+
+    /// Stops, and the picks say what that leaves in the sectors that were not on the disk.
+    fn stopped(self, picks: &[Pick]) -> MemoryDevice;
+}
+
+impl Faulty for Fused {
+    fn at(device: MemoryDevice, k: u64) -> Fused {
+        Fused::new(device, k)
+    }
+
+    fn stopped(self, picks: &[Pick]) -> MemoryDevice {
+        self.stop(picks)
+    }
+}
+
+impl Faulty for FailOnce {
+    fn at(device: MemoryDevice, k: u64) -> FailOnce {
+        FailOnce::new(device, k)
+    }
+
+    fn stopped(self, picks: &[Pick]) -> MemoryDevice {
+        self.stop(picks)
+    }
+}
+
+/// The bytes of each sector.
+pub type Image = Vec<[u8; 4096]>;
+
+/// What a read of each sector gives.
+pub fn image_of<R: Abort>(rt: &R, alloc: Global, device: MemoryDevice) -> Image {
+    let mut device = device;
+    let mut image = Vec::new(alloc);
+    for i in 0..SECTORS {
+        let mut sector = [0; 4096];
+        assert!(rt; i < device.count());
+        device.read(i, &mut sector).expect(rt, "not read");
+        image.push(sector).expect(rt, "no memory");
+    }
+    image
+}
+
+/// A device with these sectors, all of them on the disk.
+pub fn device_with<R: Abort>(rt: &R, alloc: Global, image: &[[u8; 4096]]) -> MemoryDevice {
+    let mut device = MemoryDevice::new(alloc, SECTORS).expect(rt, "no memory");
+    assert!(rt; image.len() == SECTORS as usize);
+    for i in 0..SECTORS {
+        assert!(rt; i < device.count());
+        device
+            .write(i, &image[i as usize])
+            .expect(rt, "not written");
+    }
+    device.sync().expect(rt, "not synced");
+    device
+}
+
+/// Opens a device with these sectors and a fault at call k: a clerk, or the device, where the call was one of the opening's.
+pub fn opened_at<R: Abort, F: Faulty>(
+    rt: &R,
+    alloc: Global,
+    image: &[[u8; 4096]],
+    k: u64,
+) -> Result<Clerk<F>, F> {
+    match Clerk::open(alloc, F::at(device_with(rt, alloc, image), k)) {
+        Ok(clerk) => Ok(clerk),
+        Err((error, device)) => {
+            assert!(rt; error == OpenError::DeviceFault);
+            Err(device)
+        }
+    }
+}
+
+/// A store without geography and plans.
+pub fn new_store<R: Abort>(rt: &R, alloc: Global) -> Image {
+    image_of(rt, alloc, formatted(rt, alloc, SECTORS))
+}

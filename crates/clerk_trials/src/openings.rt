@@ -1,0 +1,104 @@
+//! Openings of a store whose gate stands open, stopped or failing at each of their calls.
+use crate::devices::{FILLS, Faulty, Image, Pick, device_with, image_of, opened_at, picks};
+use crate::streams::{found, sealed_store, served};
+use crate::texts::shows;
+use sector_memory::{FailOnce, Fused};
+use std::alloc::Global;
+use std::process::Abort;
+
+/// Whether the gate stands open.
+fn is_open(image: &[[u8; 4096]]) -> bool {
+    image.len() > 1 && image[1][0] == 0xa5
+}
+
+/// A store that a stop left with its gate open, in the third command.
+fn left_open<R: Abort>(rt: &R, alloc: Global, picks: &[Pick]) -> Image {
+    let image = sealed_store(rt, alloc);
+    for k in 0..1_000u64 {
+        let (made, device) = served::<R, Fused>(rt, alloc, image.as_slice(), k, picks);
+        let left = image_of(rt, alloc, device);
+        if made == 2 && is_open(left.as_slice()) {
+            return left;
+        }
+    }
+    panic!(rt; "never open")
+}
+
+/// Opens a device with a fault at call k, and stops it: whether it was opened, and what is left.
+fn reopened<R: Abort, F: Faulty>(
+    rt: &R,
+    alloc: Global,
+    image: &[[u8; 4096]],
+    k: u64,
+    picks: &[Pick],
+) -> (bool, Image) {
+    let (opens, device) = match opened_at::<R, F>(rt, alloc, image, k) {
+        Ok(clerk) => (true, clerk.into_device()),
+        Err(device) => (false, device),
+    };
+    (opens, image_of(rt, alloc, device.stopped(picks)))
+}
+
+/// Asserts that the third command is found.
+fn keeps<R: Abort>(rt: &R, alloc: Global, image: &[[u8; 4096]]) {
+    let text = found(rt, alloc, device_with(rt, alloc, image));
+    assert!(rt; shows(text.as_slice(), 3));
+}
+
+/// Openings with a fault at each call in turn: the third command is found after each. How many they were.
+fn faults_kept<R: Abort, F: Faulty>(
+    rt: &R,
+    alloc: Global,
+    image: &[[u8; 4096]],
+    picks: &[Pick],
+) -> u32 {
+    let mut count = 0u32;
+    for k in 0..1_000u64 {
+        let (opens, left) = reopened::<R, F>(rt, alloc, image, k, picks);
+        keeps(rt, alloc, left.as_slice());
+        if opens {
+            return count;
+        }
+        count = count.saturating_add(1);
+    }
+    panic!(rt; "never opened")
+}
+
+#[test]
+fn a_fault_in_recovery_loses_nothing(rt: HostRuntime) {
+    let alloc = rt.alloc();
+    for fill in &FILLS {
+        let picks = picks(&rt, alloc, *fill);
+        let image = left_open(&rt, alloc, picks.as_slice());
+        let stops = faults_kept::<_, Fused>(&rt, alloc, image.as_slice(), picks.as_slice());
+        let faults = faults_kept::<_, FailOnce>(&rt, alloc, image.as_slice(), picks.as_slice());
+        assert!(rt; stops > 10 && faults == stops);
+    }
+}
+
+/// Stops in an opening at each call in turn, and in the next one: the third command is found after both. How many of the first left
+/// the gate open.
+fn stops_kept<R: Abort>(rt: &R, alloc: Global, image: &[[u8; 4096]], picks: &[Pick]) -> u32 {
+    let mut count = 0u32;
+    for k in 0..1_000u64 {
+        let (opens, left) = reopened::<R, Fused>(rt, alloc, image, k, picks);
+        if opens {
+            return count;
+        }
+        if is_open(left.as_slice()) {
+            faults_kept::<R, Fused>(rt, alloc, left.as_slice(), picks);
+            count = count.saturating_add(1);
+        }
+    }
+    panic!(rt; "never opened")
+}
+
+#[test]
+fn a_stop_in_the_recovery_of_a_recovery_loses_nothing(rt: HostRuntime) {
+    let alloc = rt.alloc();
+    for fill in [Some(0xff), Some(0xa5)] {
+        let picks = picks(&rt, alloc, fill);
+        let image = left_open(&rt, alloc, picks.as_slice());
+        assert!(rt; stops_kept(&rt, alloc, image.as_slice(), picks.as_slice()) > 10);
+    }
+}

@@ -1,0 +1,165 @@
+//! A load while the device stops or fails at one of its calls.
+use crate::devices::{FILLS, Faulty, Pick, new_store, opened_at, picks};
+use crate::stores::{opened, seal, shared_sample, stage};
+use crate::streams::answers;
+use crate::texts::HALTED;
+use desk_clerk::clerk::Clerk;
+use desk_clerk::loads::LoadError;
+use desk_model::command::Query;
+use desk_model::reply::{Refusal, Reply};
+use geo_loads::Load;
+use sector_device::SectorDevice;
+use sector_memory::{FailOnce, Fused, MemoryDevice};
+use std::alloc::Global;
+use std::process::Abort;
+
+/// The calls of a load: its begin, two batches and the seal.
+const ALL: u32 = 4;
+
+/// Stages half of the sample's eight rows: whether that came to pass, and the device fails where it doesn't.
+fn stages<R: Abort, D: SectorDevice>(
+    rt: &R,
+    alloc: Global,
+    clerk: &mut Clerk<D>,
+    load: &mut Load,
+) -> bool {
+    assert!(rt; load.left() >= 4);
+    match stage(alloc, clerk, load, 4) {
+        Ok(_) => true,
+        Err(error) => {
+            assert!(rt; error == LoadError::Halted);
+            false
+        }
+    }
+}
+
+/// Seals a load whose rows are all staged, the same.
+fn seals<R: Abort, D: SectorDevice>(
+    rt: &R,
+    alloc: Global,
+    clerk: &mut Clerk<D>,
+    load: Load,
+) -> bool {
+    assert!(rt; load.left() == 0);
+    match seal(alloc, clerk, load) {
+        Ok(()) => true,
+        Err(error) => {
+            assert!(rt; error == LoadError::Halted);
+            false
+        }
+    }
+}
+
+/// Loads the sample geography until the device fails: how many of the calls came to pass.
+fn loaded<R: Abort, D: SectorDevice>(rt: &R, alloc: Global, clerk: &mut Clerk<D>) -> u32 {
+    let mut load = match clerk.begin_load(alloc, shared_sample(rt, alloc)) {
+        Ok(load) => load,
+        Err(error) => {
+            assert!(rt; error == LoadError::Halted);
+            return 0;
+        }
+    };
+    if !stages(rt, alloc, clerk, &mut load) {
+        return 1;
+    }
+    if !stages(rt, alloc, clerk, &mut load) {
+        return 2;
+    }
+    if !seals(rt, alloc, clerk, load) {
+        return 3;
+    }
+    ALL
+}
+
+/// Whether a geography is shown; else the query is refused for want of one.
+pub fn is_sealed<R: Abort, D: SectorDevice>(rt: &R, alloc: Global, clerk: &Clerk<D>) -> bool {
+    match clerk.ask(alloc, Query::Blocks) {
+        Reply::Blocks(_) => true,
+        Reply::Refused(refusal) => {
+            assert!(rt; refusal == Refusal::NotSealed);
+            false
+        }
+        _ => panic!(rt; "another reply"),
+    }
+}
+
+/// Loads at a clerk whose device may fail: how many of the calls came to pass. After a fault the desk is shown as before, and a
+/// command is refused.
+fn loads<R: Abort, D: SectorDevice>(rt: &R, alloc: Global, clerk: &mut Clerk<D>) -> u32 {
+    let count = loaded(rt, alloc, clerk);
+    assert!(rt; is_sealed(rt, alloc, clerk) == (count == ALL));
+    assert!(rt; clerk.halted() == (count < ALL));
+    if count < ALL {
+        let text = answers(
+            rt,
+            alloc,
+            clerk,
+            b"DELETE /plans/a HTTP/1.1\r\nHost: d\r\n\r\n",
+        );
+        assert!(rt; text.as_slice() == HALTED);
+    }
+    count
+}
+
+/// Loads at a device with a fault at call k: how many of the calls came to pass, and the device stopped then.
+fn stopped<R: Abort, F: Faulty>(
+    rt: &R,
+    alloc: Global,
+    image: &[[u8; 4096]],
+    k: u64,
+    picks: &[Pick],
+) -> (u32, MemoryDevice) {
+    match opened_at::<R, F>(rt, alloc, image, k) {
+        Ok(mut clerk) => {
+            let count = loads(rt, alloc, &mut clerk);
+            (count, clerk.into_device().stopped(picks))
+        }
+        Err(device) => (0, device.stopped(picks)),
+    }
+}
+
+/// Whether the device opens to a desk with a geography. Where it has none, a load that is begun anew gives it one.
+fn finds_sealed<R: Abort>(rt: &R, alloc: Global, device: MemoryDevice) -> bool {
+    let mut clerk = opened(rt, alloc, device);
+    let sealed = is_sealed(rt, alloc, &clerk);
+    if !sealed {
+        assert!(rt; loads(rt, alloc, &mut clerk) == ALL);
+    }
+    sealed
+}
+
+/// A fault at each call in turn: how many leave the desk without a geography, and how many of a seal that wasn't told leave it with.
+fn outcomes<R: Abort, F: Faulty>(rt: &R, alloc: Global, fill: Option<u8>) -> (u32, u32) {
+    let image = new_store(rt, alloc);
+    let picks = picks(rt, alloc, fill);
+    let mut without = 0u32;
+    let mut with = 0u32;
+    for k in 0..1_000u64 {
+        let (count, device) = stopped::<R, F>(rt, alloc, image.as_slice(), k, picks.as_slice());
+        let sealed = finds_sealed(rt, alloc, device);
+        if count == ALL {
+            assert!(rt; sealed);
+            return (without, with);
+        }
+        assert!(rt; !sealed || count == 3);
+        without = without.saturating_add(!sealed as u32);
+        with = with.saturating_add(sealed as u32);
+    }
+    panic!(rt; "never loaded")
+}
+
+#[test]
+fn a_stop_leaves_no_part_of_a_load(rt: HostRuntime) {
+    for fill in &FILLS {
+        let (without, with) = outcomes::<_, Fused>(&rt, rt.alloc(), *fill);
+        assert!(rt; without > 20 && with > 1);
+    }
+}
+
+#[test]
+fn a_fault_leaves_no_part_of_a_load(rt: HostRuntime) {
+    for fill in &FILLS {
+        let (without, with) = outcomes::<_, FailOnce>(&rt, rt.alloc(), *fill);
+        assert!(rt; without > 20 && with > 1);
+    }
+}

@@ -1,0 +1,121 @@
+//! Commands that are served while the device stops or fails at one of its calls.
+use crate::devices::{
+    FILLS, Faulty, Image, Pick, device_with, image_of, new_store, opened_at, picks,
+};
+use crate::stores::{device_of, opened, shared_sample};
+use crate::texts::{ALL, COMMANDS, QUERIES, shows, told_made};
+use byte_stream::sink::WriteSink;
+use byte_stream::source::ReadSource;
+use desk_clerk::clerk::Clerk;
+use desk_loading::load_geography;
+use desk_model::gate::NoGate;
+use sector_device::SectorDevice;
+use sector_memory::{FailOnce, Fused, MemoryDevice};
+use served_runs::serve::serve_clerk;
+use std::alloc::Global;
+use std::process::Abort;
+use told_progress::Untold;
+
+/// What is written for the requests.
+pub fn answers<R: Abort, D: SectorDevice>(
+    rt: &R,
+    alloc: Global,
+    clerk: &mut Clerk<D>,
+    requests: &[u8],
+) -> Vec<u8> {
+    let mut reader = ReadSource::new(requests);
+    let mut writer = WriteSink::new(Vec::new(alloc));
+    let served = serve_clerk(alloc, &mut reader, &mut writer, clerk, &NoGate);
+    assert!(rt; served.is_ok());
+    writer.into_inner()
+}
+
+/// What the queries are answered once a device is opened.
+pub fn found<R: Abort>(rt: &R, alloc: Global, device: MemoryDevice) -> Vec<u8> {
+    let mut clerk = opened(rt, alloc, device);
+    answers(rt, alloc, &mut clerk, QUERIES)
+}
+
+/// A store with the sample geography.
+pub fn sealed_store<R: Abort>(rt: &R, alloc: Global) -> Image {
+    let new = new_store(rt, alloc);
+    let mut clerk = opened(rt, alloc, device_with(rt, alloc, new.as_slice()));
+    load_geography(alloc, &mut clerk, shared_sample(rt, alloc), &mut Untold).expect(
+        rt,
+        "not loaded",
+    );
+    image_of(rt, alloc, device_of(clerk))
+}
+
+/// Serves the commands until the device fails: how many of them are made. The clerk shows the desk behind these to the end.
+fn serve_commands<R: Abort, D: SectorDevice>(rt: &R, alloc: Global, clerk: &mut Clerk<D>) -> usize {
+    let text = answers(rt, alloc, clerk, COMMANDS);
+    let made = told_made(rt, alloc, text.as_slice());
+    assert!(rt; clerk.halted() == (made < ALL));
+    let text = answers(rt, alloc, clerk, QUERIES);
+    assert!(rt; shows(text.as_slice(), made));
+    made
+}
+
+/// Serves the commands at a device with a fault at call k: how many of them are made, and the device stopped then.
+pub fn served<R: Abort, F: Faulty>(
+    rt: &R,
+    alloc: Global,
+    image: &[[u8; 4096]],
+    k: u64,
+    picks: &[Pick],
+) -> (usize, MemoryDevice) {
+    match opened_at::<R, F>(rt, alloc, image, k) {
+        Ok(mut clerk) => {
+            let made = serve_commands(rt, alloc, &mut clerk);
+            (made, clerk.into_device().stopped(picks))
+        }
+        Err(device) => (0, device.stopped(picks)),
+    }
+}
+
+/// A fault at each call in turn: how many leave just the commands that were told as made, and how many the next one too.
+fn outcomes<R: Abort, F: Faulty>(
+    rt: &R,
+    alloc: Global,
+    image: &[[u8; 4096]],
+    fill: Option<u8>,
+) -> (u32, u32) {
+    let picks = picks(rt, alloc, fill);
+    let mut same = 0u32;
+    let mut more = 0u32;
+    for k in 0..1_000u64 {
+        let (made, device) = served::<R, F>(rt, alloc, image, k, picks.as_slice());
+        let text = found(rt, alloc, device);
+        if shows(text.as_slice(), made) {
+            same = same.saturating_add(1);
+        } else {
+            assert!(rt; shows(text.as_slice(), made.saturating_add(1)));
+            more = more.saturating_add(1);
+        }
+        if made == ALL {
+            return (same, more);
+        }
+    }
+    panic!(rt; "never made")
+}
+
+#[test]
+fn what_is_answered_as_made_outlasts_a_stop(rt: HostRuntime) {
+    let alloc = rt.alloc();
+    let image = sealed_store(&rt, alloc);
+    for fill in &FILLS {
+        let (same, more) = outcomes::<_, Fused>(&rt, alloc, image.as_slice(), *fill);
+        assert!(rt; same > 20 && more > 4);
+    }
+}
+
+#[test]
+fn what_is_answered_as_made_outlasts_a_fault(rt: HostRuntime) {
+    let alloc = rt.alloc();
+    let image = sealed_store(&rt, alloc);
+    for fill in &FILLS {
+        let (same, more) = outcomes::<_, FailOnce>(&rt, alloc, image.as_slice(), *fill);
+        assert!(rt; same > 20 && more > 4);
+    }
+}

@@ -1,6 +1,0 @@
-use Rattle.desk_clerk.specs.Clerks.{Keeps}
-use Rattle.gallery_trials.proofs.faults.at_call.Given as goal
-
--- the gallery that is opened
-abbrev pub ghosts-is_shown : goal.ghosts-is_shown
-ghosts-is_shown g a = record { book = a.opened.seen.book; first = a.catalogue.value; sound = Keeps a.clerk }

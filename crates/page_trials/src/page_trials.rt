@@ -1,0 +1,78 @@
+//! Transactions over pages, in a store that is opened again.
+ghost use Rattle.std.specs.Prelude.{◌≡◌};
+ghost use Rattle.page_store.specs.Transactions.{count_of, txn_pages};
+
+use crate::long_trials::made;
+use page_store::{PageError, Pages, Txn};
+use sector_memory::Fused;
+use std::alloc::Global;
+use std::process::Abort;
+
+fn opened<R: Abort>(rt: &R, device: Fused) -> Pages<Fused> {
+    Pages::open(device).ok().expect(rt, "not opened")
+}
+
+/// The least store, new.
+fn least<R: Abort>(rt: &R, alloc: Global) -> Pages<Fused> {
+    made(rt, alloc, 323)
+}
+
+/// Takes a page, and makes it the root of sevens.
+fn take_root<R: Abort>(rt: &R, txn: &mut Txn, pages: &mut Pages<Fused>) -> u32
+    requires { txn_pages txn.old ≡ count_of pages.old }
+    ensures { txn_pages txn.new ≡ count_of pages.new }
+{
+    let page = txn.take_page(pages).expect(rt, "no page");
+    txn.write(page, &[7; 4096]).expect(rt, "not written");
+    txn.set_root(page);
+    let mut bytes = [0; 4096];
+    txn.read(pages, page, &mut bytes).expect(rt, "not read");
+    assert!(rt; bytes[0] == 7);
+    page
+}
+
+/// Commits a root: which page it is.
+fn commit_root<R: Abort>(rt: &R, alloc: Global, pages: &mut Pages<Fused>) -> u32 {
+    let mut txn = pages.begin(alloc);
+    let page = take_root(rt, &mut txn, pages);
+    assert!(rt; txn.free_pages() == 62);
+    assert!(rt; pages.free_pages() == 63);
+    let ready = txn.prepare().expect(rt, "not prepared");
+    assert!(rt; ready.commit(pages) == Ok(()));
+    page
+}
+
+/// Gives the root back and takes a page, without a commit: which page that is.
+fn give_and_take<R: Abort>(rt: &R, alloc: Global, pages: &mut Pages<Fused>, root: u32) -> u32 {
+    let mut txn = pages.begin(alloc);
+    assert!(rt; txn.root() == root);
+    txn.give_page(txn.root()).expect(rt, "not given");
+    assert!(rt; txn.free_pages() == 63);
+    let again = txn.take_page(pages).expect(rt, "no page");
+    txn.abandon();
+    again
+}
+
+#[test]
+fn a_transaction_changes_pages_at_its_commit_alone(rt: HostRuntime) {
+    let alloc = rt.alloc();
+    let mut pages = least(&rt, alloc);
+    assert!(rt; pages.free_pages() == 63);
+    assert!(rt; pages.journal_pages() == 256);
+    let page = commit_root(&rt, alloc, &mut pages);
+    assert!(rt; pages.free_pages() == 62);
+    let mut pages = opened(&rt, pages.into_device());
+    assert!(rt; pages.free_pages() == 62);
+    assert!(rt; give_and_take(&rt, alloc, &mut pages, page) == page);
+    assert!(rt; pages.free_pages() == 62);
+}
+
+#[test]
+fn no_page_is_left(rt: HostRuntime) {
+    let mut pages = least(&rt, rt.alloc());
+    let mut txn = pages.begin(rt.alloc());
+    for p in 1..64 {
+        assert!(rt; txn.take_page(&mut pages) == Ok(p));
+    }
+    assert!(rt; txn.take_page(&mut pages) == Err(PageError::NoPages));
+}

@@ -1,0 +1,98 @@
+//! A device that notes what it is asked for.
+ghost use Rattle.std.specs.Prelude.{◌≡◌};
+
+use sector_device::{DeviceFault, SectorDevice};
+use sector_memory::MemoryDevice;
+
+/// How many sectors there are of which reads are counted.
+pub const SECTORS: u32 = 700;
+
+/// A sync among the noted calls.
+pub const SYNC: u32 = u32::MAX;
+
+#[derive(Drop)]
+pub struct Recorder {
+    device: MemoryDevice,
+    calls: [u32; 16],
+    count: usize,
+    reads: [u8; 700],
+}
+
+impl Recorder {
+    pub fn new(device: MemoryDevice) -> Recorder {
+        Recorder {
+            device,
+            calls: [0; 16],
+            count: 0,
+            reads: [0; 700],
+        }
+    }
+
+    /// The calls so far: the sectors that were written, and the syncs.
+    pub fn calls(&self) -> [u32; 16] {
+        self.calls
+    }
+
+    /// How many calls there were.
+    pub fn count(&self) -> usize {
+        self.count
+    }
+
+    /// How often each sector was read.
+    pub fn reads(&self) -> [u8; 700] {
+        self.reads
+    }
+
+    /// Gives the device back.
+    pub fn into_device(self) -> MemoryDevice {
+        let Recorder {
+            device,
+            calls: _,
+            count: _,
+            reads: _,
+        } = self;
+        device
+    }
+
+    fn note(&mut self, call: u32)
+        ensures { self.new.device ≡ self.old.device }
+    {
+        if self.count < 16 {
+            self.calls[self.count] = call;
+            self.count += 1;
+        }
+    }
+
+    fn note_read(&mut self, i: u32)
+        ensures { self.new.device ≡ self.old.device }
+    {
+        if i < SECTORS {
+            self.reads[i as usize] = self.reads[i as usize].saturating_add(1);
+        }
+    }
+}
+
+impl SectorDevice for Recorder {
+    ghost use Rattle.sector_memory.specs.Device.{disk_of};
+
+    ghost disk = { λ r. disk_of r.device };
+
+    fn count(&self) -> u32 {
+        self.device.count()
+    }
+
+    fn read(&mut self, i: u32, sector: &mut [u8; 4096]) -> Result<(), DeviceFault> {
+        self.note_read(i);
+        self.device.read(i, sector)
+    }
+
+    fn write(&mut self, i: u32, sector: &[u8; 4096]) -> Result<(), DeviceFault> {
+        self.note(i);
+        self.device.write(i, sector)
+    }
+
+    fn sync(&mut self) -> Result<(), DeviceFault> {
+        self.note(SYNC);
+        self.device.sync()
+    }
+}

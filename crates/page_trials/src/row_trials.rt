@@ -1,0 +1,103 @@
+//! Rows in three orders, each removed again.
+use crate::long_trials::{made, store};
+use page_btree::{get, put, remove};
+use page_store::Pages;
+use sector_memory::Fused;
+use std::alloc::{AllocError, Global};
+use std::collections::BTreeMap;
+use std::process::Abort;
+
+const ROWS: u32 = 2000;
+
+/// The key of a step, in the order of a stride.
+fn key_of(i: u32, stride: u32) -> u32 {
+    i.wrapping_mul(stride) % ROWS
+}
+
+fn put_row<R: Abort>(rt: &R, alloc: Global, pages: &mut Pages<Fused>, n: u32, value: u32) -> bool {
+    let mut txn = pages.begin(alloc);
+    let put = put(&mut txn, pages, &n.to_be_bytes(), &value.to_be_bytes());
+    let had = put.expect(rt, "not put");
+    store(txn, pages).expect(rt, "not stored");
+    had
+}
+
+fn remove_row<R: Abort>(rt: &R, alloc: Global, pages: &mut Pages<Fused>, n: u32) -> bool {
+    let mut txn = pages.begin(alloc);
+    let removed = remove(&mut txn, pages, &n.to_be_bytes());
+    let had = removed.expect(rt, "not removed");
+    store(txn, pages).expect(rt, "not stored");
+    had
+}
+
+fn value_of<R: Abort>(rt: &R, alloc: Global, pages: &mut Pages<Fused>, n: u32) -> Option<u32> {
+    let txn = pages.begin(alloc);
+    let mut into = [0; 1024];
+    let found = get(&txn, pages, &n.to_be_bytes(), &mut into);
+    txn.abandon();
+    match found.expect(rt, "not got") {
+        Some(4) => Some(u32::from_be_bytes([into[0], into[1], into[2], into[3]])),
+        _ => None,
+    }
+}
+
+/// Puts a row into the map: whether its key was there.
+pub fn insert(model: &mut BTreeMap<u32, u32>, n: u32, value: u32) -> Result<bool, AllocError> {
+    Ok(model.insert(n, value)?.is_some())
+}
+
+/// Asserts that the tree and the map have the same under a key.
+fn agree<R: Abort>(
+    rt: &R,
+    alloc: Global,
+    pages: &mut Pages<Fused>,
+    model: &BTreeMap<u32, u32>,
+    n: u32,
+) {
+    assert!(rt; value_of(rt, alloc, pages, n) == model.get(&n).copied());
+}
+
+/// Puts each key twice in the order of a stride, and looks at another one each time.
+fn put_all<R: Abort>(
+    rt: &R,
+    alloc: Global,
+    pages: &mut Pages<Fused>,
+    model: &mut BTreeMap<u32, u32>,
+    stride: u32,
+) {
+    for i in 0..2 * ROWS {
+        let n = key_of(i, stride);
+        let was_there = insert(model, n, i).expect(rt, "no memory");
+        assert!(rt; put_row(rt, alloc, pages, n, i) == was_there);
+        agree(rt, alloc, pages, model, key_of(i, 31));
+    }
+}
+
+/// Removes each key twice, and looks at another one each time.
+fn remove_all<R: Abort>(
+    rt: &R,
+    alloc: Global,
+    pages: &mut Pages<Fused>,
+    model: &mut BTreeMap<u32, u32>,
+) {
+    for i in 0..2 * ROWS {
+        let n = key_of(i, 1333);
+        let was_there = model.remove(&n).is_some();
+        assert!(rt; remove_row(rt, alloc, pages, n) == was_there);
+        agree(rt, alloc, pages, model, key_of(i, 31));
+    }
+}
+
+#[test]
+fn rows_are_those_of_a_map(rt: HostRuntime) {
+    let alloc = rt.alloc();
+    for stride in [1, 1999, 777] {
+        let mut pages = made(&rt, alloc, 700);
+        let mut model = BTreeMap::new(alloc);
+        let before = pages.free_pages();
+        put_all(&rt, alloc, &mut pages, &mut model, stride);
+        assert!(rt; pages.free_pages() < before);
+        remove_all(&rt, alloc, &mut pages, &mut model);
+        assert!(rt; pages.free_pages() == before);
+    }
+}
