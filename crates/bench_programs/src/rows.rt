@@ -124,6 +124,20 @@ fn told_with(told: u64, key: &[u8], value: &[u8]) -> u64 {
     }
 }
 
+/// Goes on over the rows of a leaf, of which the scan took the first: a sum over two bytes of each.
+fn told_there(scan: &mut Scan, told: u64) -> u64 {
+    let mut place = scan.place();
+    let mut told = told;
+    for _ in 0..place.left() {
+        let Some(row) = scan.take_at(&mut place) else {
+            break;
+        };
+        told = told_with(told, scan.key_at(row), scan.value_at(row));
+    }
+    scan.go_on(place);
+    told
+}
+
 /// Scans all rows: a sum over two bytes of each.
 fn scan_all(alloc: Global, pages: &mut Pages<MemoryDevice>, rows: u32) -> Result<u64, TreeError> {
     let txn = pages.begin(alloc);
@@ -134,6 +148,7 @@ fn scan_all(alloc: Global, pages: &mut Pages<MemoryDevice>, rows: u32) -> Result
             break;
         }
         told = told_with(told, scan.key(), scan.value());
+        told = told_there(&mut scan, told);
     }
     txn.abandon();
     match scan.fault() {

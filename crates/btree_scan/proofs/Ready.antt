@@ -1,6 +1,6 @@
 -- A leaf before the rows that are still to come.
-use Rattle.std.proofs.Common.{◌≡◌, ◌<◌, ◌+◌, inl, inr, ⊎_elim, ℕ, List, [], ◌∷◌, ◌++◌, length, nat_eq, Bool, true, false, cond, refl, sym, ap, subst, ◌∙◌, arith}
-use Rattle.std.specs.Prelude.{Option, Some, None, Result, Ok, Err, IfErr, IsErrAnd, OnOk, T}
+use Rattle.std.proofs.Common.{◌≡◌, ◌<◌, ◌+◌, inl, inr, ⊎_elim, ℕ, List, [], ◌∷◌, ◌++◌, length, nat_eq, Bool, true, false, cond, refl, sym, ap, subst, ◌∙◌, zero, suc, drop, get_or, append_assoc, arith}
+use Rattle.std.specs.Prelude.{Option, Some, None, Result, Ok, Err, IfErr, IsErrAnd, OnOk, OnErr, T}
 use Rattle.std.specs.List.{starts_with}
 use Rattle.std.specs.FinMap.{entries, entries_sorted}
 use Rattle.std.proofs.lemmas.List.Elements.{All-nil}
@@ -12,12 +12,15 @@ use Rattle.page_node.specs.Places.{Rises, entries_from}
 use Rattle.page_node.specs.Walking.{IsAhead}
 use Rattle.page_btree.specs.Keys.{KeyMap}
 use Rattle.page_btree.specs.Errors.{GetErr}
-use Rattle.page_btree.specs.Seeking.{bound_in, IsNext, IsFrom}
+use Rattle.page_btree.specs.Seeking.{bound_in, IsNext, IsFrom, AreLeaves}
 use Rattle.page_btree.specs.declared.seeks.Leaf.{Leaf}
 use Rattle.page_btree.specs.declared.error.TreeError.{TreeError}
 use Rattle.page_btree.specs.declared.error.TreeError.TheVariants.{DeviceFault, Halted, NoPages, TooDeep, Memory}
 use Rattle.btree_scan.specs.Prefixes.{under, AllFrom, AllUnder, under_from, none_under, rises_from_key, all_from_key, head_rises, all_between, front_from, below_bound}
+use Rattle.btree_scan.specs.Parts.{page_of}
+use Rattle.btree_scan.specs.Turning.{IsTurned}
 use Rattle.btree_scan.specs.Scanning.{IsReady, IsWithin, IsStep, IsTakenRow, ScanErr}
+use Rattle.btree_scan.specs.declared.held.Held.{Held}
 use Rattle.btree_scan.specs.declared.rows.Row.{Row}
 
 true_is : (b : Bool) → T b → b ≡ true
@@ -34,13 +37,19 @@ no_rows : (es : List Entry) → length es ≡ 0 → es ≡ []
 no_rows [] none = refl
 no_rows (e ∷ es) none = absurd (omega arith)
 
+no_others : (more : ℕ) (pages : List (List ℕ)) (rows : List Entry) → more ≡ 0 → AreLeaves more pages rows → rows ≡ []
+no_others zero pages rows none are = are
+no_others (suc m) pages rows none are = absurd (omega arith)
+
 -- a scan's beginning
-pub ready_new : (prefix : List ℕ) (m : KeyMap) (held : Leaf) → held.at ≡ 0 → held.left ≡ 0 → bound_in held ≡ Some prefix → IsReady false prefix held (entries m) (under prefix (entries m))
-ready_new prefix m held at left bound = record {
+pub ready_new : (prefix : List ℕ) (m : KeyMap) (leaf : Leaf) (held : Held) → leaf.at ≡ 0 → leaf.left ≡ 0 → leaf.more ≡ 0 → bound_in leaf ≡ Some prefix → IsReady false prefix leaf held (entries m) (under prefix (entries m))
+ready_new prefix m leaf held at left more bound = record {
   here = [];
+  others = [];
   behind = entries_from prefix (entries m);
   ahead = record { body = refl; entries = All-nil IsEntry; within = omega arith };
   left_is = left;
+  others_are = subst (λ (n : ℕ). AreLeaves n (drop (held.which + 1) held.pages) []) (sym more) refl;
   next = subst (λ (b : Option (List ℕ)). IsNext b (entries m) (entries_from prefix (entries m))) (sym bound) refl;
   rest_are = sym (under_from prefix (entries m));
   rises = rises_from_key prefix (entries m) (true_is _ (entries_sorted m));
@@ -49,65 +58,99 @@ ready_new prefix m held at left bound = record {
 }
 
 -- no row is left
-none_left : (covered : Bool) (prefix : List ℕ) (held : Leaf) (all rest : List Entry) (is : IsReady covered prefix held all rest) → held.left ≡ 0 → is.behind ≡ [] → rest ≡ []
-none_left covered prefix held all rest is none last =
+none_left : (covered : Bool) (prefix : List ℕ) (leaf : Leaf) (held : Held) (all rest : List Entry) (is : IsReady covered prefix leaf held all rest) → leaf.left ≡ 0 → leaf.more ≡ 0 → is.behind ≡ [] → rest ≡ []
+none_left covered prefix leaf held all rest is none alone last =
     let here : is.here ≡ [] = no_rows is.here (sym is.left_is ∙ none) in
-    is.rest_are ∙ (λ i. under prefix (here i ++ last i))
+    let others : is.others ≡ [] = no_others leaf.more (drop (held.which + 1) held.pages) is.others alone is.others_are in
+    is.rest_are ∙ (λ i. under prefix (here i ++ (others i ++ last i)))
 
-pub ready_last : (covered : Bool) (prefix : List ℕ) (held : Leaf) (all rest : List Entry) → IsReady covered prefix held all rest → bound_in held ≡ None → held.left ≡ 0 → rest ≡ []
-ready_last covered prefix held all rest is bound none = none_left covered prefix held all rest is none (subst (λ (b : Option (List ℕ)). IsNext b all is.behind) bound is.next)
+pub ready_last : (covered : Bool) (prefix : List ℕ) (leaf : Leaf) (held : Held) (all rest : List Entry) → IsReady covered prefix leaf held all rest → bound_in leaf ≡ None → leaf.left ≡ 0 → leaf.more ≡ 0 → rest ≡ []
+ready_last covered prefix leaf held all rest is bound none alone = none_left covered prefix leaf held all rest is none alone (subst (λ (b : Option (List ℕ)). IsNext b all is.behind) bound is.next)
 
--- the next leaf is read
-pub ready_read : (was now : Bool) (prefix b : List ℕ) (old held : Leaf) (all rest : List Entry) → IsReady was prefix old all rest → old.left ≡ 0 → bound_in old ≡ Some b → IsFrom b all held → (now ≡ true → IsWithin prefix held) → IsReady now prefix held all rest × (held.left ≡ 0 → rest ≡ [])
-ready_read was now prefix b old held all rest is none bound there within =
+-- the next leaves are read
+pub ready_read : (was now : Bool) (prefix b : List ℕ) (old leaf : Leaf) (before held : Held) (all rest : List Entry) → IsReady was prefix old before all rest → old.left ≡ 0 → old.more ≡ 0 → bound_in old ≡ Some b → IsFrom b all leaf held.pages → held.which ≡ 0 → (now ≡ true → IsWithin prefix leaf) → IsReady now prefix leaf held all rest × (leaf.left ≡ 0 → leaf.more ≡ 0 → rest ≡ [])
+ready_read was now prefix b old leaf before held all rest is none alone bound there first within =
     let here : is.here ≡ [] = no_rows is.here (sym is.left_is ∙ none) in
+    let others : is.others ≡ [] = no_others old.more (drop (before.which + 1) before.pages) is.others alone is.others_are in
     let behind : is.behind ≡ entries_from b all = subst (λ (c : Option (List ℕ)). IsNext c all is.behind) bound is.next in
-    let same : is.here ++ is.behind ≡ there.here ++ there.behind = (λ i. here i ++ behind i) ∙ there.rows_are in
-    let from : AllFrom prefix (there.here ++ there.behind) = subst (λ (es : List Entry). AllFrom prefix es) same is.from in
-    let ready : IsReady now prefix held all rest = record {
+    let same : is.here ++ (is.others ++ is.behind) ≡ there.here ++ (there.others ++ there.behind) = (λ i. here i ++ (others i ++ behind i)) ∙ there.rows_are in
+    let from : AllFrom prefix (there.here ++ (there.others ++ there.behind)) = subst (λ (es : List Entry). AllFrom prefix es) same is.from in
+    let joined : there.here ++ (there.others ++ there.behind) ≡ (there.here ++ there.others) ++ there.behind = sym (append_assoc there.here there.others there.behind) in
+    let ready : IsReady now prefix leaf held all rest = record {
       here = there.here;
+      others = there.others;
       behind = there.behind;
-      ahead = there.ahead;
+      ahead = subst (λ (n : ℕ). IsAhead (get_or {A = List ℕ} held.pages n []) leaf.at there.here) (sym first) there.ahead;
       left_is = there.left_is;
+      others_are = subst (λ (n : ℕ). AreLeaves leaf.more (drop (n + 1) held.pages) there.others) (sym first) there.others_are;
       next = there.next;
       rest_are = is.rest_are ∙ ap (under prefix) same;
       rises = subst (λ (es : List Entry). Rises es) same is.rises;
       from = from;
       covers = λ covered.
           let w = within covered in
-          all_between prefix w.0 there.here (front_from prefix there.here there.behind from) (below_bound w.0 b all there.here there.behind there.rows_are (subst (λ (c : Option (List ℕ)). IsNext c all there.behind) w.1 there.next)) w.2;
+          all_between prefix w.0 (there.here ++ there.others)
+          (front_from prefix (there.here ++ there.others) there.behind (subst (λ (es : List Entry). AllFrom prefix es) joined from))
+          (below_bound w.0 b all (there.here ++ there.others) there.behind (there.rows_are ∙ joined) (subst (λ (c : Option (List ℕ)). IsNext c all there.behind) w.1 there.next)) w.2;
     } in
-    (ready, λ nothing. none_left now prefix held all rest ready nothing (there.some nothing))
+    (ready, λ nothing single. none_left now prefix leaf held all rest ready nothing single (there.some nothing single))
+
+-- or the next one of those that are held is taken
+pub ready_turn : (covered : Bool) (prefix : List ℕ) (old leaf : Leaf) (before held : Held) (all rest : List Entry) (is : IsReady covered prefix old before all rest) → old.left ≡ 0 → IsTurned is.others leaf held → bound_in leaf ≡ bound_in old → IsReady covered prefix leaf held all rest × (leaf.left ≡ 0 → rest ≡ [])
+ready_turn covered prefix old leaf before held all rest is none there bound =
+    let here : is.here ≡ [] = no_rows is.here (sym is.left_is ∙ none) in
+    let rows = there.rows_are in
+    let same : is.here ++ (is.others ++ is.behind) ≡ there.here ++ (there.others ++ is.behind) = (λ i. here i ++ (rows i ++ is.behind)) ∙ append_assoc there.here there.others is.behind in
+    let some = there.some in
+    let left = there.left_is in (
+      record {
+        here = there.here;
+        others = there.others;
+        behind = is.behind;
+        ahead = there.ahead;
+        left_is = there.left_is;
+        others_are = there.others_are;
+        next = subst (λ (b : Option (List ℕ)). IsNext b all is.behind) (sym bound) is.next;
+        rest_are = is.rest_are ∙ ap (under prefix) same;
+        rises = subst (λ (es : List Entry). Rises es) same is.rises;
+        from = subst (λ (es : List Entry). AllFrom prefix es) same is.from;
+        covers = λ on. subst (λ (es : List Entry). AllUnder prefix es) (λ i. here i ++ rows i) (is.covers on);
+      },
+      λ nothing. absurd (omega arith),
+    )
 
 -- a row is taken
-pub record IsHead (covered : Bool) (prefix : List ℕ) (held : Leaf) (all rest : List Entry) : Type 0 where
+pub record IsHead (covered : Bool) (prefix : List ℕ) (leaf : Leaf) (held : Held) (all rest : List Entry) : Type 0 where
   pub e : Entry
   pub es : List Entry
-  pub ahead : IsAhead held.page held.at (e ∷ es)
-  pub goes : starts_with nat_eq e.0 prefix ≡ true → (next : Leaf) → IsAhead next.page next.at es → next.left + 1 ≡ held.left → bound_in next ≡ bound_in held → (more : List Entry) × (rest ≡ e ∷ more) × IsReady covered prefix next all more
+  pub ahead : IsAhead (page_of held) leaf.at (e ∷ es)
+  pub goes : starts_with nat_eq e.0 prefix ≡ true → (next : Leaf) → IsAhead (page_of held) next.at es → next.left + 1 ≡ leaf.left → next.more ≡ leaf.more → bound_in next ≡ bound_in leaf → (more : List Entry) × (rest ≡ e ∷ more) × IsReady covered prefix next held all more
   pub on : covered ≡ true → starts_with nat_eq e.0 prefix ≡ true
   pub ends : starts_with nat_eq e.0 prefix ≡ false → rest ≡ []
 
-pub head_of : (covered : Bool) (prefix : List ℕ) (held : Leaf) (all rest : List Entry) → IsReady covered prefix held all rest → 0 < held.left → IsHead covered prefix held all rest
-head_of covered prefix held all rest is some = by is.here is.left_is is.ahead is.rest_are is.rises is.from is.covers
+pub head_of : (covered : Bool) (prefix : List ℕ) (leaf : Leaf) (held : Held) (all rest : List Entry) → IsReady covered prefix leaf held all rest → 0 < leaf.left → IsHead covered prefix leaf held all rest
+head_of covered prefix leaf held all rest is some = by is.here is.left_is is.ahead is.rest_are is.rises is.from is.covers
   where
-    by : (here : List Entry) → held.left ≡ length here → IsAhead held.page held.at here → rest ≡ under prefix (here ++ is.behind) → Rises (here ++ is.behind) → AllFrom prefix (here ++ is.behind) → (covered ≡ true → AllUnder prefix here) → IsHead covered prefix held all rest
+    by : (here : List Entry) → leaf.left ≡ length here → IsAhead (page_of held) leaf.at here → rest ≡ under prefix (here ++ (is.others ++ is.behind)) → Rises (here ++ (is.others ++ is.behind)) → AllFrom prefix (here ++ (is.others ++ is.behind)) → (covered ≡ true → AllUnder prefix (here ++ is.others)) → IsHead covered prefix leaf held all rest
     by [] left ahead rest_are rises from covers = absurd (omega arith)
     by (e ∷ es) left ahead rest_are rises from covers =
-        let parts = head_rises e (es ++ is.behind) rises in
+        let later = es ++ (is.others ++ is.behind) in
+        let parts = head_rises e later rises in
         record {
           e = e;
           es = es;
           ahead = ahead;
           on = λ c. (covers c).0;
-          goes = λ on next there less bound. (
-            under prefix (es ++ is.behind),
-            rest_are ∙ ap (λ (b : Bool). cond b (e ∷ under prefix (es ++ is.behind)) (under prefix (es ++ is.behind))) on,
+          goes = λ on next there less same bound. (
+            under prefix later,
+            rest_are ∙ ap (λ (b : Bool). cond b (e ∷ under prefix later) (under prefix later)) on,
             record {
               here = es;
+              others = is.others;
               behind = is.behind;
               ahead = there;
               left_is = omega arith;
+              others_are = subst (λ (n : ℕ). AreLeaves n (drop (held.which + 1) held.pages) is.others) (sym same) is.others_are;
               next = subst (λ (b : Option (List ℕ)). IsNext b all is.behind) (sym bound) is.next;
               rest_are = refl;
               rises = parts.1;
@@ -115,19 +158,19 @@ head_of covered prefix held all rest is some = by is.here is.left_is is.ahead is
               covers = λ c. (covers c).1;
             },
           );
-          ends = λ off. rest_are ∙ ap (λ (b : Bool). cond b (e ∷ under prefix (es ++ is.behind)) (under prefix (es ++ is.behind))) off ∙ none_under prefix e (es ++ is.behind) from.0 off parts.0;
+          ends = λ off. rest_are ∙ ap (λ (b : Bool). cond b (e ∷ under prefix later) (under prefix later)) off ∙ none_under prefix e later from.0 off parts.0;
         }
 
-pub step_of : (covered : Bool) (prefix : List ℕ) (held next : Leaf) (row : Row) (all rest : List Entry) (h : IsHead covered prefix held all rest) (found : Bool) → IsTakenRow h.e h.es row next → next.left + 1 ≡ held.left → bound_in next ≡ bound_in held → found ≡ starts_with nat_eq row.key prefix → IsStep found covered prefix next row all rest
-step_of covered prefix held next row all rest h true taken less bound is =
+pub step_of : (covered : Bool) (prefix : List ℕ) (leaf next : Leaf) (held : Held) (row : Row) (all rest : List Entry) (h : IsHead covered prefix leaf held all rest) (found : Bool) → IsTakenRow h.e h.es row (page_of held) next.at → next.left + 1 ≡ leaf.left → next.more ≡ leaf.more → bound_in next ≡ bound_in leaf → found ≡ starts_with nat_eq row.key prefix → IsStep found covered prefix next held row all rest
+step_of covered prefix leaf next held row all rest h true taken less same bound is =
     let on : starts_with nat_eq h.e.0 prefix ≡ true = ap (λ (k : List ℕ). starts_with nat_eq k prefix) (sym taken.key_is) ∙ sym is in
-    let g = h.goes on next taken.ahead less bound in
+    let g = h.goes on next taken.ahead less same bound in
     (g.0, g.1 ∙ (λ i. (sym taken.key_is i, sym taken.value_is i) ∷ g.0), g.2)
-step_of covered prefix held next row all rest h false taken less bound is = h.ends (ap (λ (k : List ℕ). starts_with nat_eq k prefix) (sym taken.key_is) ∙ sym is)
+step_of covered prefix leaf next held row all rest h false taken less same bound is = h.ends (ap (λ (k : List ℕ). starts_with nat_eq k prefix) (sym taken.key_is) ∙ sym is)
 
 -- the row of a covered leaf
-pub covered_step : (covered : Bool) (prefix : List ℕ) (held next : Leaf) (row : Row) (all rest : List Entry) (h : IsHead covered prefix held all rest) → covered ≡ true → IsTakenRow h.e h.es row next → next.left + 1 ≡ held.left → bound_in next ≡ bound_in held → IsStep true covered prefix next row all rest
-covered_step covered prefix held next row all rest h is taken less bound = step_of covered prefix held next row all rest h true taken less bound (sym (ap (λ (k : List ℕ). starts_with nat_eq k prefix) taken.key_is ∙ h.on is))
+pub covered_step : (covered : Bool) (prefix : List ℕ) (leaf next : Leaf) (held : Held) (row : Row) (all rest : List Entry) (h : IsHead covered prefix leaf held all rest) → covered ≡ true → IsTakenRow h.e h.es row (page_of held) next.at → next.left + 1 ≡ leaf.left → next.more ≡ leaf.more → bound_in next ≡ bound_in leaf → IsStep true covered prefix next held row all rest
+covered_step covered prefix leaf next held row all rest h is taken less same bound = step_of covered prefix leaf next held row all rest h true taken less same bound (sym (ap (λ (k : List ℕ). starts_with nat_eq k prefix) taken.key_is ∙ h.on is))
 
 -- ---- results
 pub ok_if : {T E : Type 0} (r : Result T E) (A B : Type 0) → (A → B) → OnOk r A → OnOk r B
@@ -137,6 +180,10 @@ ok_if (Err e) A B f h = tt
 pub err_of : {T E : Type 0} (r : Result T E) (x : E) (P : E → Type 0) → IsErrAnd r (λ e. e ≡ x) → P x → IfErr r P
 err_of (Ok y) x P is h = absurd is
 err_of (Err e) x P is h = subst P (sym is) h
+
+pub fault_err : {T : Type 0} (r : Result T TreeError) (P : TreeError → Type 0) (X : Type 0) → IfErr r (λ e. e ≡ DeviceFault) → OnErr r X → (X → P DeviceFault) → IfErr r P
+fault_err (Ok x) P X is why f = tt
+fault_err (Err e) P X is why f = subst P (sym is) (f why)
 
 module _ {D : Type 0} {g : Ghosts D} where
   pub scan_fails : (can : KeyMap → Type 0) (t : Txn) (old new : Pages D g) (e : TreeError) → GetErr t old new e → ScanErr can t old new e

@@ -1,5 +1,5 @@
 -- Which rows of a scan are still to come.
-use Rattle.std.specs.Prelude.{◌≡◌, ◌⊎◌, ℕ, Bool, true, false, List, [], ◌∷◌, ◌++◌, length, Option, Some, None, nat_eq}
+use Rattle.std.specs.Prelude.{◌≡◌, ◌⊎◌, ℕ, Bool, true, false, List, [], ◌∷◌, ◌++◌, ◌+◌, length, drop, Option, Some, None, cond, nat_eq}
 use Rattle.std.specs.List.{starts_with}
 use Rattle.std.proofs.Common.{refl, sym, subst}
 use Rattle.std.specs.FinMap.{entries}
@@ -12,45 +12,72 @@ use Rattle.page_node.specs.Places.{Rises}
 use Rattle.page_node.specs.Walking.{IsAhead}
 use Rattle.page_btree.specs.Keys.{KeyMap}
 use Rattle.page_btree.specs.Map.{InTxn}
-use Rattle.page_btree.specs.Seeking.{bound_in, IsNext}
+use Rattle.page_btree.specs.Seeking.{bound_in, IsNext, AreLeaves}
 use Rattle.page_btree.specs.declared.seeks.Leaf.{Leaf}
 use Rattle.page_btree.specs.declared.error.TreeError.{TreeError}
 use Rattle.page_btree.specs.declared.error.TreeError.TheVariants.{DeviceFault, Halted, NoPages, TooDeep, Memory}
 use Rattle.btree_scan.specs.Prefixes.{under, AllFrom, AllUnder}
+use Rattle.btree_scan.specs.Parts.{page_of}
+use Rattle.btree_scan.specs.declared.held.Held.{Held}
+use Rattle.btree_scan.specs.declared.parts.Place.{Place}
 use Rattle.btree_scan.specs.declared.rows.Row.{Row}
 use Rattle.btree_scan.specs.declared.scans.Scan.{Scan}
 
--- A leaf stands before the rows of which those under the prefix are still to come: some are ahead in its page, and the others
--- behind it. They rise, and none is below the prefix. A leaf that is covered has none ahead that isn't under it.
-pub record IsReady (covered : Bool) (prefix : List ℕ) (held : Leaf) (all rest : List Entry) : Type 0 where
+-- A leaf stands before the rows of which those under the prefix are still to come: some are ahead in its page, others in the leaves
+-- that are held with it, and the others behind these. They rise, and none is below the prefix. Where the leaves are covered, none
+-- of theirs isn't under it.
+pub record IsReady (covered : Bool) (prefix : List ℕ) (leaf : Leaf) (held : Held) (all rest : List Entry) : Type 0 where
   pub here : List Entry
+  pub others : List Entry
   pub behind : List Entry
-  pub ahead : IsAhead held.page held.at here
-  pub left_is : held.left ≡ length here
-  pub next : IsNext (bound_in held) all behind
-  pub rest_are : rest ≡ under prefix (here ++ behind)
-  pub rises : Rises (here ++ behind)
-  pub from : AllFrom prefix (here ++ behind)
-  pub covers : covered ≡ true → AllUnder prefix here
+  pub ahead : IsAhead (page_of held) leaf.at here
+  pub left_is : leaf.left ≡ length here
+  pub others_are : AreLeaves leaf.more (drop (held.which + 1) held.pages) others
+  pub next : IsNext (bound_in leaf) all behind
+  pub rest_are : rest ≡ under prefix (here ++ (others ++ behind))
+  pub rises : Rises (here ++ (others ++ behind))
+  pub from : AllFrom prefix (here ++ (others ++ behind))
+  pub covers : covered ≡ true → AllUnder prefix (here ++ others)
 
-abbrev pub RestWhere : Bool → Bool → List ℕ → Leaf → List Entry → List Entry → Type 0
-RestWhere true covered prefix held all rest = rest ≡ []
-RestWhere false covered prefix held all rest = IsReady covered prefix held all rest
+abbrev pub RestWhere : Bool → Bool → List ℕ → Leaf → Held → List Entry → List Entry → Type 0
+RestWhere true covered prefix leaf held all rest = rest ≡ []
+RestWhere false covered prefix leaf held all rest = IsReady covered prefix leaf held all rest
 
 -- of all rows of a map these are still to come
 abbrev pub Rest : Scan → List Entry → List Entry → Type 0
-Rest scan all rest = RestWhere scan.ended scan.covered scan.prefix scan.leaf all rest
+Rest scan all rest = RestWhere scan.ended scan.covered scan.prefix scan.leaf scan.held all rest
 
 abbrev pub has_ended : Scan → Bool
 has_ended scan = scan.ended
 
 -- one that has ended has none to come
 pub none_to_come : (scan : Scan) (all : List Entry) → has_ended scan ≡ true → Rest scan all []
-none_to_come scan all ended = subst (λ (b : Bool). RestWhere b scan.covered scan.prefix scan.leaf all []) (sym ended) refl
+none_to_come scan all ended = subst (λ (b : Bool). RestWhere b scan.covered scan.prefix scan.leaf scan.held all []) (sym ended) refl
 
 abbrev pub fault_in : Scan → Option TreeError
 fault_in scan = scan.fault
 
+-- ---- at a place in its leaf
+-- it hasn't ended, and each row of its leaf is under the prefix
+abbrev pub is_open : Scan → Bool
+is_open scan = cond scan.ended false scan.covered
+
+-- a place has rows of such a leaf alone
+abbrev pub FitsIn : Scan → Place → Type 0
+FitsIn scan place = is_open scan ≡ false → place.left ≡ 0
+
+-- a leaf that stands at a place
+abbrev pub leaf_at : Leaf → Place → Leaf
+leaf_at leaf place = record { at = place.at; left = place.left; more = leaf.more; bounded = leaf.bounded; bound = leaf.bound }
+
+-- a scan whose leaf does
+abbrev pub moved_to : Scan → Place → Scan
+moved_to scan place = record { prefix = scan.prefix; leaf = leaf_at scan.leaf place; held = scan.held; covered = scan.covered; last = scan.last; parts = scan.parts; ended = scan.ended; fault = scan.fault }
+
+abbrev pub stood_at : Scan → Place → Scan
+stood_at scan place = cond (is_open scan) (moved_to scan place) scan
+
+-- ----
 -- a call took the first of them, or there is none
 abbrev pub IsNextRow : Bool → Scan → Row → List Entry → List Entry → Type 0
 IsNextRow true scan row all rest = (more : List Entry) × (rest ≡ (row.key, row.value) ∷ more) × Rest scan all more
@@ -70,19 +97,19 @@ abbrev pub CanScan : Scan → KeyMap → Type 0
 CanScan scan m = (rest : List Entry) × Rest scan (entries m) rest
 
 -- ---- within a call
-abbrev pub CanStep : Bool → List ℕ → Leaf → KeyMap → Type 0
-CanStep covered prefix held m = (rest : List Entry) × IsReady covered prefix held (entries m) rest
+abbrev pub CanStep : Bool → List ℕ → Leaf → Held → KeyMap → Type 0
+CanStep covered prefix leaf held m = (rest : List Entry) × IsReady covered prefix leaf held (entries m) rest
 
 -- a key that begins with the prefix bounds the leaf's rows
 abbrev pub IsWithin : List ℕ → Leaf → Type 0
-IsWithin prefix held = (bound : List ℕ) × (bound_in held ≡ Some bound) × (starts_with nat_eq bound prefix ≡ true)
+IsWithin prefix leaf = (bound : List ℕ) × (bound_in leaf ≡ Some bound) × (starts_with nat_eq bound prefix ≡ true)
 
-abbrev pub IsStep : Bool → Bool → List ℕ → Leaf → Row → List Entry → List Entry → Type 0
-IsStep true covered prefix held row all rest = (more : List Entry) × (rest ≡ (row.key, row.value) ∷ more) × IsReady covered prefix held all more
-IsStep false covered prefix held row all rest = rest ≡ []
+abbrev pub IsStep : Bool → Bool → List ℕ → Leaf → Held → Row → List Entry → List Entry → Type 0
+IsStep true covered prefix leaf held row all rest = (more : List Entry) × (rest ≡ (row.key, row.value) ∷ more) × IsReady covered prefix leaf held all more
+IsStep false covered prefix leaf held row all rest = rest ≡ []
 
 -- a row was taken, and these are ahead behind it
-pub record IsTakenRow (e : Entry) (es : List Entry) (row : Row) (held : Leaf) : Type 0 where
+pub record IsTakenRow (e : Entry) (es : List Entry) (row : Row) (page : List ℕ) (at : ℕ) : Type 0 where
   pub key_is : row.key ≡ e.0
   pub value_is : row.value ≡ e.1
-  pub ahead : IsAhead held.page held.at es
+  pub ahead : IsAhead page at es

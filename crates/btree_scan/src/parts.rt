@@ -1,9 +1,11 @@
-//! Where a row lies.
-ghost use Rattle.std.specs.Prelude.{◌≤◌, ◌+◌};
+//! Where a row lies, and where the next ones do.
+ghost use Rattle.std.specs.Prelude.{◌≡◌, ◌≤◌, ◌+◌};
+
+use page_node::Lengths;
 
 /// Where a row stands in a leaf's page: its key, and its value behind that.
 #[derive(Clone, Copy, Drop)]
-pub(crate) struct Parts {
+pub struct Parts {
     pub(crate) key: usize,
     pub(crate) value: usize,
     pub(crate) end: usize,
@@ -12,4 +14,21 @@ pub(crate) struct Parts {
     ghost within: { end ≤ 4096 },
     ghost key_short: { value ≤ key + 72 },
     ghost value_short: { end ≤ value + 1024 },
+}
+
+/// A place in the leaf at which a scan stands, for a loop over its rows.
+#[derive(Drop)]
+pub struct Place {
+    pub(crate) at: usize,
+    pub(crate) left: usize,
+    pub(crate) last: Lengths,
+}
+
+impl Place {
+    /// How many rows stand there that are known to be under the prefix.
+    pub fn left(&self) -> usize
+        ensures { result ≡ self.now.left }
+    {
+        self.left
+    }
 }

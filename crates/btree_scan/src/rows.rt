@@ -1,5 +1,5 @@
 //! Takes a row out of a leaf.
-ghost use Rattle.std.specs.Prelude.{◌≡◌, ◌<◌, ◌+◌, List, ◌∷◌, OnOk, OnErr, IfOk, IfErr};
+ghost use Rattle.std.specs.Prelude.{◌≡◌, ◌<◌, ◌+◌, List, ◌∷◌, OnOk, OnErr, IfOk, IfErr, IfSome, IfNone};
 ghost use Rattle.page_node.specs.Entries.{Entry};
 ghost use Rattle.page_node.specs.Walking.{IsAhead};
 ghost use Rattle.page_btree.specs.Seeking.{bound_in};
@@ -34,21 +34,46 @@ impl Row {
 }
 
 /// Takes the row before which a leaf stands, and stands behind it.
-pub(crate) fn take_row(leaf: &mut Leaf, last: &mut Lengths) -> Result<Parts, TreeError>
+pub(crate) fn take_row(
+    page: &[u8; 4096],
+    leaf: &mut Leaf,
+    last: &mut Lengths,
+) -> Result<Parts, TreeError>
     requires { 0 < leaf.old.left }
-    ensures taken { (e : Entry) (es : List Entry) → IsAhead leaf.old.page leaf.old.at (e ∷ es) → IfOk result (λ parts. IsTakenRow e es (row_at leaf.new.page parts) leaf.new) }
+    ensures taken { (e : Entry) (es : List Entry) → IsAhead page.now leaf.old.at (e ∷ es) → IfOk result (λ parts. IsTakenRow e es (row_at page.now parts) page.now leaf.new.at) }
     ensures left { OnOk result (leaf.new.left + 1 ≡ leaf.old.left) }
+    ensures more { leaf.new.more ≡ leaf.old.more }
     ensures bound { bound_in leaf.new ≡ bound_in leaf.old }
     ensures err { IfErr result (λ e. e ≡ DeviceFault) }
-    ensures refused { OnErr result ((e : Entry) (es : List Entry) → IsAhead leaf.old.page leaf.old.at (e ∷ es) → ⊥) }
+    ensures refused { OnErr result ((e : Entry) (es : List Entry) → IsAhead page.now leaf.old.at (e ∷ es) → ⊥) }
 {
-    match bounds_in(&leaf.page, leaf.at, last) {
+    match parts_at(page, &mut leaf.at, &mut leaf.left, last) {
         None => Err(TreeError::DeviceFault),
+        Some(parts) => Ok(parts),
+    }
+}
+
+/// Where the row at a place lies, if one does. The place is then behind it, and one less is left.
+pub(crate) fn parts_at(
+    page: &[u8; 4096],
+    at: &mut usize,
+    left: &mut usize,
+    last: &mut Lengths,
+) -> Option<Parts>
+    requires { 0 < left.old }
+    ensures taken { (e : Entry) (es : List Entry) → IsAhead page.now at.old (e ∷ es) → IfSome result (λ parts. IsTakenRow e es (row_at page.now parts) page.now at.new) }
+    ensures left { IfSome result (λ parts. left.new + 1 ≡ left.old) }
+    ensures same_at { IfNone result (at.new ≡ at.old) }
+    ensures same_left { IfNone result (left.new ≡ left.old) }
+    ensures refused { IfNone result ((e : Entry) (es : List Entry) → IsAhead page.now at.old (e ∷ es) → ⊥) }
+{
+    match bounds_in(page, *at, last) {
+        None => None,
         Some(bounds) => {
-            let key = leaf.at + 3;
-            leaf.at = bounds.end;
-            leaf.left -= 1;
-            Ok(Parts {
+            let key = *at + 3;
+            *at = bounds.end;
+            *left -= 1;
+            Some(Parts {
                 key,
                 value: bounds.value,
                 end: bounds.end,

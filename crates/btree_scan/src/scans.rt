@@ -1,5 +1,5 @@
 //! Scans the rows under a prefix.
-ghost use Rattle.std.specs.Prelude.{◌≡◌, ◌≤◌, ℕ, List, [], true, false, length, Option, None, Some, OnOk, IfOk, IfErr, IfSome};
+ghost use Rattle.std.specs.Prelude.{◌≡◌, ◌<◌, ◌≤◌, ◌+◌, ℕ, List, [], true, false, cond, length, Option, None, Some, OnOk, IfOk, IfErr, IfSome, IfNone};
 ghost use Rattle.std.specs.FinMap.{entries};
 ghost use Rattle.page_store.specs.Transactions.{stored, disk_in, count_of, txn_pages, IsQuiet, Passed};
 ghost use Rattle.page_node.specs.Entries.{Entry};
@@ -7,11 +7,13 @@ ghost use Rattle.page_btree.specs.Keys.{KeyMap};
 ghost use Rattle.page_btree.specs.Map.{InTxn};
 ghost use Rattle.page_btree.specs.Errors.{GetErr};
 ghost use Rattle.btree_scan.specs.Prefixes.{under};
-ghost use Rattle.btree_scan.specs.Parts.{row_at, row_of};
-ghost use Rattle.btree_scan.specs.Scanning.{Rest, IsReady, IsWithin, IsStep, IsNextRow, has_ended, fault_in, CanScan, CanStep, ScanErr};
+ghost use Rattle.btree_scan.specs.Parts.{page_of, row_at, row_in, row_of};
+ghost use Rattle.btree_scan.specs.Scanning.{Rest, IsReady, IsWithin, IsStep, IsNextRow, has_ended, fault_in, is_open, FitsIn, stood_at, CanScan, CanStep, ScanErr};
 
-use crate::parts::Parts;
-use crate::rows::{Row, take_row};
+use crate::held::Held;
+use crate::parts::{Parts, Place};
+use crate::rows::{Row, parts_at, take_row};
+use crate::turns::turn;
 use page_btree::{Leaf, SmallBytes, TreeError, leaf_from};
 use page_node::Lengths;
 use page_store::{Pages, Txn};
@@ -23,7 +25,8 @@ use sector_device::SectorDevice;
 pub struct Scan {
     prefix: SmallBytes,
     leaf: Leaf,
-    /// Whether each row of the leaf is known to be under the prefix.
+    held: Held,
+    /// Whether each row of the leaves that are held is known to be under the prefix.
     covered: bool,
     last: Lengths,
     parts: Parts,
@@ -41,6 +44,7 @@ impl Scan {
         let mut scan = Scan {
             prefix: SmallBytes::empty(),
             leaf: Leaf::empty(),
+            held: Held::empty(),
             covered: false,
             last: Lengths::NONE,
             parts: Parts {
@@ -76,6 +80,7 @@ impl Scan {
             pages,
             &self.prefix,
             &mut self.leaf,
+            &mut self.held,
             &mut self.covered,
             &mut self.last,
             &mut self.parts,
@@ -98,7 +103,7 @@ impl Scan {
         ensures key { result.now ≡ (row_of self.now).key }
         ensures short { length result.now ≤ 72 }
     {
-        &self.leaf.page[self.parts.key..self.parts.value]
+        &self.held.page()[self.parts.key..self.parts.value]
     }
 
     /// The value of the row that it stands at.
@@ -106,7 +111,7 @@ impl Scan {
         ensures value { result.now ≡ (row_of self.now).value }
         ensures short { length result.now ≤ 1024 }
     {
-        &self.leaf.page[self.parts.value..self.parts.end]
+        &self.held.page()[self.parts.value..self.parts.end]
     }
 
     /// Copies the next row, or tells that none comes: none is left, or there was a fault, which is kept. It takes no memory.
@@ -128,6 +133,77 @@ impl Scan {
         false
     }
 
+    /// The place at which it stands, where each row that is left of its leaf is known to be under the prefix. A loop takes these rows
+    /// one after the other by `take_at`, and tells how far it came by `go_on`. Of another leaf no row is left there.
+    pub fn place(&self) -> Place
+        ensures left { result.left ≡ cond (is_open self.now) self.now.leaf.left 0 }
+        ensures fits { FitsIn self.now result }
+        ensures stands { stood_at self.now result ≡ self.now }
+    {
+        let mut place = Place {
+            at: self.leaf.at,
+            left: 0,
+            last: Lengths::NONE,
+        };
+        if self.ended {
+            return place;
+        }
+        if self.covered {
+            place.left = self.leaf.left;
+        }
+        place
+    }
+
+    /// Takes the row at a place, and moves the place behind it: where its key and value lie. Gives none where no row is left there, or
+    /// where the bytes aren't one: the call of `advance` behind `go_on` tells which.
+    pub fn take_at(&self, place: &mut Place) -> Option<Parts>
+        ensures rows { (all rest : List Entry) → FitsIn self.now place.old → Rest (stood_at self.now place.old) all rest → IfSome result (λ parts. IsNextRow true (stood_at self.now place.new) (row_in self.now parts) all rest) }
+        ensures fits { FitsIn self.now place.old → FitsIn self.now place.new }
+        ensures left { IfSome result (λ parts. place.new.left + 1 ≡ place.old.left) }
+        ensures stays { IfNone result (stood_at self.now place.new ≡ stood_at self.now place.old) }
+        ensures refused { 0 < place.old.left → IfNone result ((all rest : List Entry) → FitsIn self.now place.old → Rest (stood_at self.now place.old) all rest → ⊥) }
+    {
+        if place.left == 0 {
+            return None;
+        }
+        parts_at(
+            self.held.page(),
+            &mut place.at,
+            &mut place.left,
+            &mut place.last,
+        )
+    }
+
+    /// The key of a row that was taken at a place.
+    pub fn key_at(&self, parts: Parts) -> &[u8]
+        ensures key { result.now ≡ (row_in self.now parts).key }
+        ensures short { length result.now ≤ 72 }
+    {
+        &self.held.page()[parts.key..parts.value]
+    }
+
+    /// The value of a row that was taken at a place.
+    pub fn value_at(&self, parts: Parts) -> &[u8]
+        ensures value { result.now ≡ (row_in self.now parts).value }
+        ensures short { length result.now ≤ 1024 }
+    {
+        &self.held.page()[parts.value..parts.end]
+    }
+
+    /// Stands at a place: the rows up to it are taken. `key` and `value` are still those of the row that the last call of `advance`
+    /// took.
+    pub fn go_on(&mut self, place: Place)
+        ensures { self.new ≡ stood_at self.old place }
+    {
+        if self.ended {
+            return;
+        }
+        if self.covered {
+            self.leaf.at = place.at;
+            self.leaf.left = place.left;
+        }
+    }
+
     /// The fault that ended it, if there was one.
     pub fn fault(&self) -> Option<TreeError>
         ensures { result ≡ fault_in self.now }
@@ -142,56 +218,97 @@ fn step<D: SectorDevice>(
     pages: &mut Pages<D>,
     prefix: &SmallBytes,
     leaf: &mut Leaf,
+    held: &mut Held,
     covered: &mut bool,
     last: &mut Lengths,
     parts: &mut Parts,
 ) -> Result<bool, TreeError>
     requires begun { txn_pages txn.now ≡ count_of pages.old }
     ensures quiet { IsQuiet pages.old pages.new }
-    ensures rows { (disk_in pages.new).is_honest → (m : KeyMap) (rest : List Entry) → InTxn txn.now (stored pages.old) m → IsReady covered.old prefix.now leaf.old (entries m) rest → IfOk result (λ found. IsStep found covered.new prefix.now leaf.new (row_at leaf.new.page parts.new) (entries m) rest) }
+    ensures rows { (disk_in pages.new).is_honest → (m : KeyMap) (rest : List Entry) → InTxn txn.now (stored pages.old) m → IsReady covered.old prefix.now leaf.old held.old (entries m) rest → IfOk result (λ found. IsStep found covered.new prefix.now leaf.new held.new (row_at (page_of held.new) parts.new) (entries m) rest) }
     ensures passed { OnOk result (Passed pages.old pages.new) }
-    ensures err { IfErr result (λ e. ScanErr (CanStep covered.old prefix.now leaf.old) txn.now pages.old pages.new e) }
+    ensures err { IfErr result (λ e. ScanErr (CanStep covered.old prefix.now leaf.old held.old) txn.now pages.old pages.new e) }
 {
-    refill(txn, pages, prefix, leaf, covered)?;
+    refill(txn, pages, prefix, leaf, held, covered)?;
     if leaf.left == 0 {
         return Ok(false);
     }
-    *parts = take_row(leaf, last)?;
+    let page = held.page();
+    *parts = take_row(page, leaf, last)?;
     if *covered {
         return Ok(true);
     }
-    Ok(leaf.page[parts.key..parts.value].starts_with(prefix.as_slice()))
+    Ok(page[parts.key..parts.value].starts_with(prefix.as_slice()))
 }
 
-/// Reads the next leaf where no row of this one is left.
+/// Stands in the next leaf where no row of this one is left: in one that is held, or in one that is read.
 fn refill<D: SectorDevice>(
     txn: &Txn,
     pages: &mut Pages<D>,
     prefix: &SmallBytes,
     leaf: &mut Leaf,
+    held: &mut Held,
     covered: &mut bool,
 ) -> Result<(), TreeError>
     requires begun { txn_pages txn.now ≡ count_of pages.old }
     ensures quiet { IsQuiet pages.old pages.new }
-    ensures rows { (disk_in pages.new).is_honest → (m : KeyMap) (rest : List Entry) → InTxn txn.now (stored pages.old) m → IsReady covered.old prefix.now leaf.old (entries m) rest → OnOk result (IsReady covered.new prefix.now leaf.new (entries m) rest × (leaf.new.left ≡ 0 → rest ≡ [])) }
+    ensures rows { (disk_in pages.new).is_honest → (m : KeyMap) (rest : List Entry) → InTxn txn.now (stored pages.old) m → IsReady covered.old prefix.now leaf.old held.old (entries m) rest → OnOk result (IsReady covered.new prefix.now leaf.new held.new (entries m) rest × (leaf.new.left ≡ 0 → rest ≡ [])) }
     ensures passed { OnOk result (Passed pages.old pages.new) }
-    ensures err { IfErr result (λ e. GetErr txn.now pages.old pages.new e) }
+    ensures err { IfErr result (λ e. ScanErr (CanStep covered.old prefix.now leaf.old held.old) txn.now pages.old pages.new e) }
 {
     if leaf.left > 0 {
         return Ok(());
     }
+    if leaf.more > 0 {
+        return turn(leaf, held);
+    }
+    read_on(txn, pages, prefix, leaf, held, covered)?;
+    if leaf.left > 0 {
+        return Ok(());
+    }
+    if leaf.more == 0 {
+        return Ok(());
+    }
+    turn(leaf, held)
+}
+
+/// Reads the next leaves where no row of those that are held is left.
+fn read_on<D: SectorDevice>(
+    txn: &Txn,
+    pages: &mut Pages<D>,
+    prefix: &SmallBytes,
+    leaf: &mut Leaf,
+    held: &mut Held,
+    covered: &mut bool,
+) -> Result<(), TreeError>
+    requires begun { txn_pages txn.now ≡ count_of pages.old }
+    requires left { leaf.old.left ≡ 0 }
+    requires more { leaf.old.more ≡ 0 }
+    ensures quiet { IsQuiet pages.old pages.new }
+    ensures rows { (disk_in pages.new).is_honest → (m : KeyMap) (rest : List Entry) → InTxn txn.now (stored pages.old) m → IsReady covered.old prefix.now leaf.old held.old (entries m) rest → OnOk result (IsReady covered.new prefix.now leaf.new held.new (entries m) rest × (leaf.new.left ≡ 0 → leaf.new.more ≡ 0 → rest ≡ [])) }
+    ensures passed { OnOk result (Passed pages.old pages.new) }
+    ensures err { IfErr result (λ e. GetErr txn.now pages.old pages.new e) }
+{
     if !leaf.bounded {
         return Ok(());
     }
     let mut from = SmallBytes::empty();
     from.set(leaf.bound.as_slice());
-    leaf_from(txn, pages, from.as_slice(), leaf)?;
+    leaf_from(
+        txn,
+        pages,
+        from.as_slice(),
+        prefix.as_slice(),
+        leaf,
+        &mut held.pages,
+    )?;
+    held.which = 0;
     *covered = is_within(prefix, leaf);
     Ok(())
 }
 
-/// Whether other leaves follow, and the key that bounds this one's rows begins with the prefix: then each of these rows does that
-/// isn't below the prefix.
+/// Whether other leaves follow those that are held, and the key that bounds their rows begins with the prefix: then each of these
+/// rows does that isn't below the prefix.
 fn is_within(prefix: &SmallBytes, leaf: &Leaf) -> bool
     ensures { result ≡ true → IsWithin prefix.now leaf.now }
 {

@@ -3,13 +3,13 @@ use Rattle.std.proofs.Common.{◌≡◌, ◌⊎◌, ◌≤◌, ◌<◌, ◌+◌,
 use Rattle.sector_device.specs.Disk.{Disk, Image}
 use Rattle.sector_device.specs.Moments.{LeavesOnly, leaves_wider}
 use Rattle.sector_device.specs.declared.SectorDevice.{Ghosts}
-use Rattle.gate_journal.specs.Store.{home, IsStore, Opens, pages}
+use Rattle.gate_journal.specs.Store.{home, header_of, IsStore, Opens, pages}
 use Rattle.gate_journal.specs.Recovery.{HasRoom, AllStores, ReadsAs, Found}
 use Rattle.gate_journal.proofs.Headers.{same_journal}
 use Rattle.page_store.specs.Chain.{root_in, free_in, IsPages}
 use Rattle.page_store.specs.Openings.{AllPageStores}
 use Rattle.page_store.specs.Stops.{kept_quiet, leaves_quiet}
-use Rattle.page_store.specs.Transactions.{stored, disk_in, count_of, journal_of, has_halted, txn_pages, HasFailed, IsQuiet, IsKept, OpenErr}
+use Rattle.page_store.specs.Transactions.{stored, disk_in, count_of, journal_of, has_halted, txn_pages, HasFailed, IsQuiet, IsKept, IsUntouched, OpenErr}
 use Rattle.page_store.specs.declared.pages.Pages.{Pages}
 use Rattle.page_store.specs.declared.error.PageError.{PageError}
 use Rattle.page_store.specs.declared.error.PageError.TheVariants as page
@@ -22,7 +22,7 @@ use Rattle.desk_pages.specs.Desks.{HoldsDesk, InPages, InTxn, OpensDesk}
 use Rattle.desk_clerk.specs.Keeping.{IsLeft}
 use Rattle.desk_clerk.specs.Clerks.{desk_of, disk_of, sectors_of, Keeps}
 use Rattle.desk_clerk.specs.Finding.{FindErr, find_error_of, missing, open_error_of}
-use Rattle.desk_clerk.specs.Openings.{AllDesks, IsOneOf, OpensOneOf, OpenRefused}
+use Rattle.desk_clerk.specs.Openings.{AllDesks, IsOneOf, OpensOneOf, HasPages, IsFound, IsSpared, OpenRefused}
 use Rattle.desk_clerk.specs.declared.clerk.Clerk.{Clerk}
 use Rattle.desk_clerk.specs.declared.opening.OpenError.{OpenError}
 use Rattle.desk_clerk.specs.declared.opening.OpenError.TheVariants.{NotAStore, DeviceFault, Memory}
@@ -77,7 +77,7 @@ open_leaves old new all left = leaves_wider (ReadsAs old) (OpensOneOf old) old n
 abbrev FindTold : Disk → Disk → OpenError → Type 0
 FindTold old new NotAStore = new.is_honest → AllDesks old → ⊥
 FindTold old new DeviceFault = new.is_honest → old.faults < new.faults
-FindTold old new Memory = Unit {0}
+FindTold old new Memory = new.is_honest → HasPages old new
 
 pub page_refused : {D : Type 0} (h : Ghosts D) (old new : D) (e : PageError) → OpenErr h old new e → OpenRefused h old new (open_error_of e)
 page_refused h old new page.NotAStore why = λ honest all. why honest (page_stores_of (h.disk old) all)
@@ -92,6 +92,25 @@ pub as_refused : {D : Type 0} (h : Ghosts D) (old new : D) (e : OpenError) → F
 as_refused h old new NotAStore told = told
 as_refused h old new DeviceFault told = told
 as_refused h old new Memory told = told
+
+-- what is no store stays as it is
+pub page_spared : (old new : Disk) (e : PageError) → (new.is_honest → e ≡ page.NotAStore → IsUntouched old new) → ((e ≡ page.NotAStore → ⊥) → open_error_of e ≡ NotAStore → ⊥) → new.is_honest → open_error_of e ≡ NotAStore → IsSpared old new
+page_spared old new page.NotAStore untouched other = λ honest is. inl (untouched honest refl)
+page_spared old new page.DeviceFault untouched other = λ honest is. cc
+page_spared old new page.Memory untouched other = λ honest is. cc
+page_spared old new page.Halted untouched other = λ honest is. absurd (other (λ same. cc) refl)
+page_spared old new page.TooManyPages untouched other = λ honest is. absurd (other (λ same. cc) refl)
+page_spared old new page.TooSmall untouched other = λ honest is. absurd (other (λ same. cc) refl)
+page_spared old new page.NoPages untouched other = λ honest is. absurd (other (λ same. cc) refl)
+
+pub not_other : {D : Type 0} (h : Ghosts D) (old new : D) (e : PageError) → OpenErr h old new e → (e ≡ page.NotAStore → ⊥) → open_error_of e ≡ NotAStore → ⊥
+not_other h old new page.NotAStore why other is = other refl
+not_other h old new page.DeviceFault why other is = cc
+not_other h old new page.Memory why other is = absurd why
+not_other h old new page.Halted why other is = absurd why
+not_other h old new page.TooManyPages why other is = absurd why
+not_other h old new page.TooSmall why other is = absurd why
+not_other h old new page.NoPages why other is = absurd why
 
 opens_left : (halted : Bool) (sectors : ℕ) (d : Desk) (c : Image) → IsLeft halted sectors d c → (e : Desk) × OpensDesk sectors e c
 opens_left halted sectors d c left = elim left [
@@ -118,6 +137,11 @@ module _ {D : Type 0} {g : Ghosts D} where
   quiet_holds a b d quiet honest holds =
       subst (λ (P : Image). HoldsDesk (count_of b) P (root_in P) (free_in P) d) (sym (quiet.same honest))
       (subst (λ (n : ℕ). HoldsDesk n (stored a) (root_in (stored a)) (free_in (stored a)) d) (sym quiet.count) holds)
+
+  held_before : (a b : Pages D g) (d : Desk) → IsQuiet a b → (disk_in b).is_honest → InPages b d → InPages a d
+  held_before a b d quiet honest holds =
+      subst (λ (P : Image). HoldsDesk (count_of a) P (root_in P) (free_in P) d) (quiet.same honest)
+      (subst (λ (n : ℕ). HoldsDesk n (stored b) (root_in (stored b)) (free_in (stored b)) d) quiet.count holds)
 
   -- what is opened keeps it
   module _ (old : Disk) (a : Pages D g) (x : Clerk D g) (all : AllDesks old) (room : HasRoom old.sectors (journal_of a) (count_of a)) (found : (disk_in a).is_honest → Found (journal_of a) (count_of a) old (disk_in a))
@@ -149,11 +173,32 @@ module _ {D : Type 0} {g : Ghosts D} where
       opened_one,
     )
 
+  -- pages that were read stay as they were found
+  pub found_after : (old : Disk) (a b : Pages D g) → ((disk_in a).is_honest → Found (journal_of a) (count_of a) old (disk_in a)) → IsQuiet a b → (disk_in b).is_honest → Found (journal_of b) (count_of b) old (disk_in b)
+  found_after old a b found quiet honest =
+      let it = found (quiet.honest honest) in
+      record {
+        was = it.was;
+        left = it.left;
+        header = subst (λ (J : ℕ). it.was 0 ≡ header_of J (count_of b)) (sym quiet.journal) (subst (λ (n : ℕ). it.was 0 ≡ header_of (journal_of a) n) (sym quiet.count) it.header);
+        same = quiet.same honest ∙ it.same ∙ ap (λ (J : ℕ). pages J it.was) (sym quiet.journal);
+      }
+
+  pub pages_left : (old : Disk) (a b : Pages D g) → ((disk_in a).is_honest → Found (journal_of a) (count_of a) old (disk_in a)) → IsQuiet a b → (disk_in b).is_honest → HasPages old (disk_in b)
+  pages_left old a b found quiet honest = (journal_of b, count_of b, found_after old a b found quiet honest)
+
+  -- a clerk whose pages were found, and read
+  pub is_found : (old : Disk) (a : Pages D g) (x : Clerk D g) → ((disk_in a).is_honest → Found (journal_of a) (count_of a) old (disk_in a)) → IsQuiet a x.pages → ((disk_of x).is_honest → (d : Desk) → InPages a d → desk_of x ≡ d) → (disk_of x).is_honest → IsFound old x
+  is_found old a x found quiet read honest = record {
+    pages = found_after old a x.pages found quiet honest;
+    shown = λ d holds. read honest d (held_before a x.pages d quiet honest holds);
+  }
+
   pub find_refused : (device : D) (a b : Pages D g) (e : OpenError) → HasRoom (g.disk device).sectors (journal_of a) (count_of a) → ((disk_in a).is_honest → Found (journal_of a) (count_of a) (g.disk device) (disk_in a)) → has_halted a ≡ false
       → ((disk_in a).is_honest → (disk_in a).faults ≡ (g.disk device).faults) → IsQuiet a b → FindErr a b e → (disk : Disk) → disk_in b ≡ disk → FindTold (g.disk device) disk e
   find_refused device a b NotAStore room found working passed quiet why disk is = subst (λ (x : Disk). x.is_honest → AllDesks (g.disk device) → ⊥) is (λ honest all. let was = found (quiet.honest honest) in why honest (all was.was was.left).0 (found_desk (g.disk device) a all was room))
   find_refused device a b DeviceFault room found working passed quiet why disk is = subst (λ (x : Disk). x.is_honest → (g.disk device).faults < x.faults) is (λ honest. let rises = quiet.rose working why honest in let same = passed (quiet.honest honest) in omega (arith, rises, same))
-  find_refused device a b Memory room found working passed quiet why disk is = tt
+  find_refused device a b Memory room found working passed quiet why disk is = subst (λ (x : Disk). x.is_honest → HasPages (g.disk device) x) is (λ honest. pages_left (g.disk device) a b found quiet honest)
 
   -- ---- the desk that is read back
   pub read_of : (a b : Pages D g) (t : Txn) (e d : Desk) → IsBegun a t → IsQuiet a b → (disk_in b).is_honest → ((disk_in b).is_honest → (x : Desk) → InTxn t (stored a) x → e ≡ x) → InPages a d → e ≡ d

@@ -72,19 +72,22 @@ impl<D: SectorDevice> Clerk<D> {
     ghost use Rattle.std.specs.Prelude.{◌≡◌, false, None, OnOk, IfOk, IfErr};
     ghost use Rattle.sector_device.specs.Moments.{LeavesOnly};
     ghost use Rattle.desk_clerk.specs.Clerks.{desk_of, disk_of, is_halted, sectors_of, Keeps};
-    ghost use Rattle.desk_clerk.specs.Openings.{AllDesks, IsOneOf, OpensOneOf, Reopens, device_after, OpenRefused};
+    ghost use Rattle.desk_clerk.specs.Openings.{AllDesks, IsOneOf, OpensOneOf, IsFound, IsSpared, Reopens, device_after, OpenRefused};
 
     /// Opens the desk that a device holds: a commit that a stop cut short is finished or dropped, and the desk is read back. At any
-    /// moment of it a stop leaves a desk that was there at its start. With a refusal the device comes back.
+    /// moment of it a stop leaves a desk that was there at its start. With a refusal the device comes back, its pages as they were;
+    /// what is no store stays as it is. `Memory` comes of a store alone.
     pub fn open(alloc: Global, device: D) -> Result<Clerk<D>, (OpenError, D)>
         ensures sectors { (D.disk (device_after result)).sectors ≡ (D.disk device).sectors }
         ensures honest { (D.disk (device_after result)).is_honest → (D.disk device).is_honest }
         ensures any_moment { (D.disk (device_after result)).is_honest → AllDesks (D.disk device) → LeavesOnly (OpensOneOf (D.disk device)) (D.disk device) (D.disk (device_after result)) }
         ensures opened { AllDesks (D.disk device) → IfOk result (λ x. Keeps x × ((disk_of x).is_honest → IsOneOf (D.disk device) (desk_of x))) }
+        ensures found { IfOk result (λ x. (disk_of x).is_honest → IsFound (D.disk device) x) }
         ensures loading { IfOk result (λ x. x.loading ≡ None) }
         ensures working { IfOk result (λ x. (is_halted x ≡ false) × (sectors_of x ≡ (D.disk device).sectors)) }
         ensures passed { (D.disk (device_after result)).is_honest → OnOk result ((D.disk (device_after result)).faults ≡ (D.disk device).faults) }
         ensures err { IfErr result (λ e. OpenRefused D.SectorDevice device e.1 e.0) }
+        ensures untouched { IfErr result (λ e. (D.disk e.1).is_honest → e.0 ≡ OpenError.NotAStore → IsSpared (D.disk device) (D.disk e.1)) }
     {
         let mut pages = match Pages::open(device) {
             Ok(pages) => pages,

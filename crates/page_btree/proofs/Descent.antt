@@ -9,23 +9,23 @@ use Rattle.sector_device.specs.Disk.{Image}
 use Rattle.page_node.specs.Entries.{Entry, IsEntry, child_bytes, child_in}
 use Rattle.page_node.specs.Node.{Node, IsNode}
 use Rattle.page_node.specs.Places.{key_cmp, Rises, floor, ceiling}
-use Rattle.page_node.specs.Laws.{child_written}
+use Rattle.page_node.specs.Laws.{child_written, flip_less}
 use Rattle.page_btree.specs.Keys.{IsBetween}
 use Rattle.page_btree.specs.Tree.{Tree, Forest, leaf, inner, one, more, page_of, first_key, links, rows, forest_rows, owns, forest_owns, IsTree, AreTrees}
 use Rattle.page_btree.specs.Getting.{CanGet, IsLevel}
 use Rattle.page_btree.specs.Seeking.{nearer, leaf_of, forest_leaf, bound_of, forest_bound}
 use Rattle.page_btree.proofs.Rows.{find_left, find_right, key_before}
-use Rattle.page_btree.proofs.Within.{rows_behind, rows_before}
+use Rattle.page_btree.proofs.Within.{rows_behind, rows_before, wider_high, wider_low}
 
 floor_links : (k key : List ℕ) (t : Tree) (f : Forest) → floor key (links (more k t f)) ≡ cond (is_gt (key_cmp (first_key f) key)) (Some (child_bytes (page_of t))) (floor key (links f))
 floor_links k key t (one q u) = refl
 floor_links k key t (more q u f) = refl
 
-ceiling_links : (k key : List ℕ) (t : Tree) (f : Forest) → ceiling key (links (more k t f)) ≡ cond (is_gt (key_cmp (first_key f) key)) (Some (first_key f)) (ceiling key (links f))
+pub ceiling_links : (k key : List ℕ) (t : Tree) (f : Forest) → ceiling key (links (more k t f)) ≡ cond (is_gt (key_cmp (first_key f) key)) (Some (first_key f)) (ceiling key (links f))
 ceiling_links k key t (one q u) = refl
 ceiling_links k key t (more q u f) = refl
 
-pub record ChildFor (P : Image) (d : ℕ) (key : List ℕ) (f : Forest) : Type 0 where
+pub record ChildFor (P : Image) (d : ℕ) (low : List ℕ) (high : Option (List ℕ)) (key : List ℕ) (f : Forest) : Type 0 where
   pub child : Tree
   pub its_low : List ℕ
   pub its_high : Option (List ℕ)
@@ -33,15 +33,16 @@ pub record ChildFor (P : Image) (d : ℕ) (key : List ℕ) (f : Forest) : Type 0
   pub between : IsBetween its_low its_high key
   pub floor_is : floor key (links f) ≡ Some (child_bytes (page_of child))
   pub found : find key_cmp key (rows child) ≡ find key_cmp key (forest_rows f)
-  pub leaf_is : leaf_of child key ≡ forest_leaf f key
-  pub bound_is : (up : Option (List ℕ)) → bound_of child (nearer (ceiling key (links f)) up) key ≡ forest_bound f up key
+  pub wider : (x : List ℕ) → IsBetween its_low its_high x → IsBetween low high x
+  pub leaf_is : (x : List ℕ) → IsBetween its_low its_high x → leaf_of child x ≡ forest_leaf f x
+  pub bound_is : (x : List ℕ) → IsBetween its_low its_high x → (up : Option (List ℕ)) → bound_of child (nearer (ceiling key (links f)) up) x ≡ forest_bound f up x
   pub owned : (q : ℕ) → owns child q → forest_owns f q
 
 either : (b : Bool) → (b ≡ true) ⊎ (b ≡ false)
 either true = inl refl
 either false = inr refl
 
-pub child_of : (P : Image) (d : ℕ) (low : List ℕ) (high : Option (List ℕ)) (key : List ℕ) (f : Forest) → AreTrees P d low high f → IsBetween low high key → ChildFor P d key f
+pub child_of : (P : Image) (d : ℕ) (low : List ℕ) (high : Option (List ℕ)) (key : List ℕ) (f : Forest) → AreTrees P d low high f → IsBetween low high key → ChildFor P d low high key f
 child_of P d low high key (one k t) trees between = record {
   child = t;
   its_low = low;
@@ -50,8 +51,9 @@ child_of P d low high key (one k t) trees between = record {
   between = between;
   floor_is = refl;
   found = refl;
-  leaf_is = refl;
-  bound_is = λ up. refl;
+  wider = λ x within. within;
+  leaf_is = λ x within. refl;
+  bound_is = λ x within up. refl;
   owned = λ q own. own;
 }
 child_of P d low high key (more k t f) trees between = elim (either (is_gt (key_cmp (first_key f) key))) [
@@ -63,10 +65,11 @@ child_of P d low high key (more k t f) trees between = elim (either (is_gt (key_
     between = record { from = between.from; under = key_before (first_key f) key above };
     floor_is = floor_links k key t f ∙ ap (λ (b : Bool). cond b (Some (child_bytes (page_of t))) (floor key (links f))) above;
     found = sym (find_left key (rows t) (forest_rows f) (rows_before P d (first_key f) high key f trees.2 (key_before (first_key f) key above)));
-    leaf_is = sym (ap (λ (b : Bool). cond b (leaf_of t key) (forest_leaf f key)) above);
-    bound_is = λ up.
-        ap (λ c. bound_of t (nearer c up) key) (ceiling_links k key t f ∙ ap (λ (b : Bool). cond b (Some (first_key f)) (ceiling key (links f))) above)
-        ∙ sym (ap (λ (b : Bool). cond b (bound_of t (Some (first_key f)) key) (forest_bound f up key)) above);
+    wider = wider_high low (first_key f) high trees.1.under;
+    leaf_is = λ x within. sym (ap (λ (b : Bool). cond b (leaf_of t x) (forest_leaf f x)) (ap is_gt (flip_less x (first_key f) within.under)));
+    bound_is = λ x within up.
+        ap (λ c. bound_of t (nearer c up) x) (ceiling_links k key t f ∙ ap (λ (b : Bool). cond b (Some (first_key f)) (ceiling key (links f))) above)
+        ∙ sym (ap (λ (b : Bool). cond b (bound_of t (Some (first_key f)) x) (forest_bound f up x)) (ap is_gt (flip_less x (first_key f) within.under)));
     owned = λ q own. inl own;
   }
   | inr from ↦
@@ -78,11 +81,12 @@ child_of P d low high key (more k t f) trees between = elim (either (is_gt (key_
         between = rest.between;
         floor_is = floor_links k key t f ∙ ap (λ (b : Bool). cond b (Some (child_bytes (page_of t))) (floor key (links f))) from ∙ rest.floor_is;
         found = rest.found ∙ sym (find_right key (rows t) (forest_rows f) (rows_behind P d low (first_key f) key t trees.0 from));
-        leaf_is = rest.leaf_is ∙ sym (ap (λ (b : Bool). cond b (leaf_of t key) (forest_leaf f key)) from);
-        bound_is = λ up.
-            ap (λ c. bound_of rest.child (nearer c up) key) (ceiling_links k key t f ∙ ap (λ (b : Bool). cond b (Some (first_key f)) (ceiling key (links f))) from)
-            ∙ rest.bound_is up
-            ∙ sym (ap (λ (b : Bool). cond b (bound_of t (Some (first_key f)) key) (forest_bound f up key)) from);
+        wider = λ x within. wider_low low (first_key f) high trees.1.above x (rest.wider x within);
+        leaf_is = λ x within. rest.leaf_is x within ∙ sym (ap (λ (b : Bool). cond b (leaf_of t x) (forest_leaf f x)) (rest.wider x within).from);
+        bound_is = λ x within up.
+            ap (λ c. bound_of rest.child (nearer c up) x) (ceiling_links k key t f ∙ ap (λ (b : Bool). cond b (Some (first_key f)) (ceiling key (links f))) from)
+            ∙ rest.bound_is x within up
+            ∙ sym (ap (λ (b : Bool). cond b (bound_of t (Some (first_key f)) x) (forest_bound f up x)) (rest.wider x within).from);
         owned = λ q own. inr (rest.owned q own);
       }
 ]
@@ -107,14 +111,15 @@ leaf_page n P d key page can none =
     (subst (λ bytes. IsNode bytes (record { level = 0; entries = rows can.tree })) (sym can.page_is) there.0, there.1)
 
 -- above it: the node's links name a page, at which the look-up goes on
-pub record GoesOn (n : ℕ) (P : Image) (d : ℕ) (key page : List ℕ) (t : Tree) (child : ℕ) : Type 0 where
+pub record GoesOn (n : ℕ) (P : Image) (d : ℕ) (key page : List ℕ) (t : Tree) (low : List ℕ) (high : Option (List ℕ)) (child : ℕ) : Type 0 where
   pub next : (bytes : List ℕ) → bytes ≡ P child → CanGet n P (d - 1) key bytes
   pub level : IsLevel n P (d - 1) child
   pub found : (bytes : List ℕ) (is : bytes ≡ P child) → find key_cmp key (rows (next bytes is).tree) ≡ find key_cmp key (rows t)
-  pub leaf_is : (bytes : List ℕ) (is : bytes ≡ P child) → leaf_of (next bytes is).tree key ≡ leaf_of t key
   pub node : Node
   pub node_is : IsNode page node
-  pub bound_is : (bytes : List ℕ) (is : bytes ≡ P child) (up : Option (List ℕ)) → bound_of (next bytes is).tree (nearer (ceiling key node.entries) up) key ≡ bound_of t up key
+  pub wider : (bytes : List ℕ) (is : bytes ≡ P child) (x : List ℕ) → IsBetween (next bytes is).low (next bytes is).high x → IsBetween low high x
+  pub leaf_is : (bytes : List ℕ) (is : bytes ≡ P child) (x : List ℕ) → IsBetween (next bytes is).low (next bytes is).high x → leaf_of (next bytes is).tree x ≡ leaf_of t x
+  pub bound_is : (bytes : List ℕ) (is : bytes ≡ P child) (x : List ℕ) → IsBetween (next bytes is).low (next bytes is).high x → (up : Option (List ℕ)) → bound_of (next bytes is).tree (nearer (ceiling key node.entries) up) x ≡ bound_of t up x
 
 pub named : (f : Option (List ℕ)) (page child : ℕ) → f ≡ Some (child_bytes page) → page < 2 ^ 32 → option_map child_in f ≡ Some child → child ≡ page
 named f page child is few told =
@@ -122,10 +127,10 @@ named f page child is few told =
     cc
 
 -- what `child_for` names, in a node above the leaves
-pub goes_on : (n : ℕ) (P : Image) (d : ℕ) (key page : List ℕ) (can : CanGet n P d key page) (child : ℕ) → 0 < d → n ≤ 2 ^ 32 → ((node : Node) → IsNode page node → option_map child_in (floor key node.entries) ≡ Some child) → GoesOn n P d key page can.tree child
+pub goes_on : (n : ℕ) (P : Image) (d : ℕ) (key page : List ℕ) (can : CanGet n P d key page) (child : ℕ) → 0 < d → n ≤ 2 ^ 32 → ((node : Node) → IsNode page node → option_map child_in (floor key node.entries) ≡ Some child) → GoesOn n P d key page can.tree can.low can.high child
 goes_on n P d key page can child some few told = step can.tree can.low can.high can.tree_is can.page_is can.below can.between
   where
-    step : (t : Tree) (low : List ℕ) (high : Option (List ℕ)) → IsTree P d low high t → page ≡ P (page_of t) → ((q : ℕ) → owns t q → q < n) → IsBetween low high key → GoesOn n P d key page t child
+    step : (t : Tree) (low : List ℕ) (high : Option (List ℕ)) → IsTree P d low high t → page ≡ P (page_of t) → ((q : ℕ) → owns t q → q < n) → IsBetween low high key → GoesOn n P d key page t low high child
     step (leaf p es) low high is page_is below between = absurd (let none = is.0 in omega arith)
     step (inner p f) low high is page_is below between =
         let down = child_of P (d - 1) low high key f is.2 between in
@@ -149,10 +154,11 @@ goes_on n P d key page can child some few told = step can.tree can.low can.high 
             below = omega arith;
           };
           found = λ bytes there. down.found;
-          leaf_is = λ bytes there. down.leaf_is;
           node = record { level = d; entries = links f };
           node_is = subst (λ bytes. IsNode bytes (record { level = d; entries = links f })) (sym page_is) is.1;
-          bound_is = λ bytes there up. down.bound_is up;
+          wider = λ bytes there. down.wider;
+          leaf_is = λ bytes there. down.leaf_is;
+          bound_is = λ bytes there. down.bound_is;
         }
 
 -- and it names one

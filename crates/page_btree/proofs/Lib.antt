@@ -24,3 +24,4 @@ pub mod Fits
 pub mod Spares
 pub mod Rising
 pub mod Leads
+pub mod Following

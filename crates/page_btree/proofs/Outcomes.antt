@@ -1,6 +1,6 @@
 -- What is said of a result, said of it by cases.
 use Rattle.std.proofs.Common.{◌≡◌, Ok, Err, subst, sym}
-use Rattle.std.specs.Prelude.{Result, IfOk, IfErr, OnErr, IsErrAnd, MatchResult}
+use Rattle.std.specs.Prelude.{Result, IfOk, IfErr, OnOk, OnErr, IsErrAnd, MatchResult}
 use Rattle.page_btree.specs.declared.error.TreeError.{TreeError}
 use Rattle.page_btree.specs.declared.error.TreeError.TheVariants.{DeviceFault}
 
@@ -36,6 +36,10 @@ err_of (Err e) x P is h = subst P (sym is) h
 pub match_of : {T E : Type 0} (r : Result T E) (A : T → Type 0) (x : E) (P : E → Type 0) → IsErrAnd r (λ e. e ≡ x) → P x → MatchResult r A P
 match_of (Ok y) A x P is h = absurd is
 match_of (Err e) A x P is h = subst P (sym is) h
+
+pub on_ok : {T E : Type 0} (r : Result T E) (A : Type 0) → A → OnOk r A
+on_ok (Ok x) A h = h
+on_ok (Err e) A h = tt
 
 pub on_err : {T E : Type 0} (r : Result T E) (A B : Type 0) → (A → B) → OnErr r A → OnErr r B
 on_err (Ok x) A B f h = tt

@@ -1,6 +1,6 @@
 -- The leaf in whose range a key falls, among all rows.
-use Rattle.std.proofs.Common.{◌≡◌, ◌⊎◌, ◌<◌, ◌-◌, inl, inr, ℕ, List, [], ◌∷◌, ◌++◌, length, Bool, true, false, cond, refl, sym, ap, subst, ◌∙◌, arith, append_assoc}
-use Rattle.std.specs.Prelude.{Option, Some, None, Result, Ok, Err, OnOk}
+use Rattle.std.proofs.Common.{◌≡◌, ◌⊎◌, ◌<◌, ◌-◌, inl, inr, ℕ, List, [], ◌∷◌, ◌++◌, length, Bool, true, false, cond, refl, sym, ap, subst, ◌∙◌, append_assoc}
+use Rattle.std.specs.Prelude.{Option, Some, None}
 use Rattle.std.specs.Ordering.{is_gt}
 use Rattle.std.specs.Cmp.Lexicographic.{nat_list_cmp_total}
 use Rattle.std.specs.List.{AllByRecursion}
@@ -10,46 +10,17 @@ use Rattle.std.proofs.lemmas.Cmp.{tied_itself}
 use Rattle.std.proofs.lemmas.List.{append-nil}
 use Rattle.std.proofs.lemmas.List.Elements.{filter-append}
 use Rattle.sector_device.specs.Disk.{Image}
-use Rattle.page_node.specs.Entries.{Entry, IsEntry}
-use Rattle.page_node.specs.Node.{Node, IsNode}
+use Rattle.page_node.specs.Entries.{Entry}
 use Rattle.page_node.specs.Places.{key_cmp, is_from, entries_from}
-use Rattle.page_node.specs.Walking.{IsAhead}
 use Rattle.page_node.specs.Laws.{flip_less, flip_greater, less_trans, same_key}
 use Rattle.std.specs.FinMap.{entries}
-use Rattle.std.proofs.lemmas.List.Elements.{All-nil}
 use Rattle.page_btree.specs.Keys.{KeyMap, IsBetween, IsUnder}
-use Rattle.page_btree.specs.Map.{IsBare, IsRooted}
+use Rattle.page_btree.specs.Map.{IsRooted}
 use Rattle.page_btree.specs.Tree.{Tree, Forest, leaf, inner, one, more, first_key, rows, forest_rows, IsTree, AreTrees}
-use Rattle.page_btree.specs.Getting.{CanGet}
-use Rattle.page_btree.specs.Seeking.{bound_in, leaf_of, forest_leaf, bound_of, forest_bound, IsRead, IsNext, IsFrom}
-use Rattle.page_btree.specs.declared.seeks.Leaf.{Leaf}
-use Rattle.page_btree.specs.declared.error.TreeError.{TreeError}
-use Rattle.page_btree.proofs.Descent.{node_of}
+use Rattle.page_btree.specs.Seeking.{leaf_of, forest_leaf, bound_of, forest_bound, IsNext}
 use Rattle.page_btree.proofs.Tops.{every_key}
 use Rattle.page_btree.proofs.Rows.{Each, all_map, all_append, all_front, all_rest, less_from, from_then, less_is_from, key_before, wider_under}
 use Rattle.page_btree.proofs.Within.{within_trees, rows_behind}
-
--- ---- on the way down
--- the node of a page in whose range a key falls
-pub its_node : (n : ℕ) (P : Image) (d : ℕ) (key page : List ℕ) → CanGet n P d key page → (node : Node) × IsNode page node
-its_node n P d key page can =
-    let node = node_of P d can.low can.high can.tree can.tree_is in
-    (node.0, subst (λ bytes. IsNode bytes node.0) (sym can.page_is) node.1)
-
-pub read_more : (t u : Tree) (up below : Option (List ℕ)) (key : List ℕ) (held : Leaf) → leaf_of u key ≡ leaf_of t key → bound_of u below key ≡ bound_of t up key → IsRead u below key held → IsRead t up key held
-read_more t u up below key held same bound is = record {
-  ahead = subst (λ (es : List Entry). IsAhead held.page held.at (entries_from key es)) same is.ahead;
-  left_is = is.left_is ∙ ap (λ (es : List Entry). length (entries_from key es)) same;
-  bound_is = is.bound_is ∙ bound;
-}
-
-at_leaf : (t : Tree) (P : Image) (d : ℕ) (low : List ℕ) (high up : Option (List ℕ)) (key : List ℕ) (held : Leaf) → d ≡ 0 → IsTree P d low high t → bound_in held ≡ up → IsAhead held.page held.at (entries_from key (rows t)) → held.left ≡ length (entries_from key (rows t)) → IsRead t up key held
-at_leaf (leaf p es) P d low high up key held none is bound ahead left = record { ahead = ahead; left_is = left; bound_is = bound }
-at_leaf (inner p f) P d low high up key held none is bound ahead left = absurd (let some = is.0 in omega arith)
-
-pub read_at_leaf : (n : ℕ) (P : Image) (d : ℕ) (key page : List ℕ) (can : CanGet n P d key page) → d ≡ 0 → {T : Type 0} (r : Result T TreeError) (held : Leaf) (up : Option (List ℕ)) → bound_in held ≡ up → OnOk r (IsAhead held.page held.at (entries_from key (rows can.tree))) → OnOk r (held.left ≡ length (entries_from key (rows can.tree))) → OnOk r (IsRead can.tree up key held)
-read_at_leaf n P d key page can none (Ok x) held up bound ahead left = at_leaf can.tree P d can.low can.high up key held none can.tree_is bound ahead left
-read_at_leaf n P d key page can none (Err e) held up bound ahead left = tt
 
 -- ---- between bounds
 -- from a bound on; nothing is behind the last leaf
@@ -62,7 +33,7 @@ IsWithin bound None = Unit {0}
 IsWithin None (Some high) = ⊥
 IsWithin (Some bound) (Some high) = is_gt (key_cmp bound high) ≡ false
 
-lower_of : (x y z : List ℕ) (r : Ordering) → key_cmp x y ≡ r → is_gt r ≡ false → is_gt (key_cmp y z) ≡ false → is_gt (key_cmp x z) ≡ false
+pub lower_of : (x y z : List ℕ) (r : Ordering) → key_cmp x y ≡ r → is_gt r ≡ false → is_gt (key_cmp y z) ≡ false → is_gt (key_cmp x z) ≡ false
 lower_of x y z Less is from lower = less_is_from x z (less_from x y z is lower)
 lower_of x y z Equal is from lower = ap (λ k. is_gt (key_cmp k z)) (same_key x y is) ∙ lower
 lower_of x y z Greater is from lower = cc
@@ -244,68 +215,8 @@ leaf_at key all here (Some b) p = record {
 }
 
 -- ---- from the root
-top_parted : (n : ℕ) (P : Image) (root : ℕ) (free : List ℕ) (m : KeyMap) (r : IsRooted n P root free m) (key : List ℕ) → IsParted key None (entries m) (leaf_of r.tree key) (bound_of r.tree None key)
+pub top_parted : (n : ℕ) (P : Image) (root : ℕ) (free : List ℕ) (m : KeyMap) (r : IsRooted n P root free m) (key : List ℕ) → IsParted key None (entries m) (leaf_of r.tree key) (bound_of r.tree None key)
 top_parted n P root free m r key = subst (λ (all : List Entry). IsParted key None all (leaf_of r.tree key) (bound_of r.tree None key)) r.rows_are (parted P r.level [] None key r.tree r.stands (every_key key))
 
-top_leaf : (n : ℕ) (P : Image) (root : ℕ) (free : List ℕ) (m : KeyMap) (r : IsRooted n P root free m) (key : List ℕ) → IsLeafAt key (entries m) (leaf_of r.tree key) (bound_of r.tree None key)
+pub top_leaf : (n : ℕ) (P : Image) (root : ℕ) (free : List ℕ) (m : KeyMap) (r : IsRooted n P root free m) (key : List ℕ) → IsLeafAt key (entries m) (leaf_of r.tree key) (bound_of r.tree None key)
 top_leaf n P root free m r key = leaf_at key (entries m) (leaf_of r.tree key) (bound_of r.tree None key) (top_parted n P root free m r key)
-
-pub from_read : (n : ℕ) (P : Image) (root : ℕ) (free : List ℕ) (m : KeyMap) (r : IsRooted n P root free m) (key : List ℕ) (held : Leaf) → IsRead r.tree None key held → (held.left ≡ 0 → bound_in held ≡ None) → IsFrom key (entries m) held
-from_read n P root free m r key held is last =
-    let at = top_leaf n P root free m r key in
-    let next = subst (λ (b : Option (List ℕ)). IsNext b (entries m) at.behind) (sym is.bound_is) at.next in
-    record {
-      here = entries_from key (leaf_of r.tree key);
-      behind = at.behind;
-      ahead = is.ahead;
-      left_is = is.left_is;
-      rows_are = at.rows_are;
-      next = next;
-      some = λ none. subst (λ (b : Option (List ℕ)). IsNext b (entries m) at.behind) (last none) next;
-    }
-
-no_entries : (es : List Entry) → length es ≡ 0 → es ≡ []
-no_entries [] none = refl
-no_entries (e ∷ es) none = absurd (omega arith)
-
-pub from_behind : (n : ℕ) (P : Image) (root : ℕ) (free : List ℕ) (m : KeyMap) (r : IsRooted n P root free m) (key b : List ℕ) (first held : Leaf) → IsRead r.tree None key first → first.left ≡ 0 → bound_in first ≡ Some b → IsRead r.tree None b held → 0 < held.left → IsFrom key (entries m) held
-from_behind n P root free m r key b first held is none bound there some =
-    let at = top_leaf n P root free m r key in
-    let then = top_leaf n P root free m r b in
-    let ahead : entries_from key (leaf_of r.tree key) ≡ [] = no_entries (entries_from key (leaf_of r.tree key)) (sym is.left_is ∙ none) in
-    let behind : at.behind ≡ entries_from b (entries m) = subst (λ (c : Option (List ℕ)). IsNext c (entries m) at.behind) (sym is.bound_is ∙ bound) at.next in
-    record {
-      here = entries_from b (leaf_of r.tree b);
-      behind = then.behind;
-      ahead = there.ahead;
-      left_is = there.left_is;
-      rows_are = at.rows_are ∙ ap (λ (l : List Entry). l ++ at.behind) ahead ∙ behind ∙ then.rows_are;
-      next = subst (λ (c : Option (List ℕ)). IsNext c (entries m) then.behind) (sym there.bound_is) then.next;
-      some = λ nothing. absurd (omega arith);
-    }
-
--- a leaf that begins at a bound has a row
-pub some_behind : (n : ℕ) (P : Image) (root : ℕ) (free : List ℕ) (m : KeyMap) (r : IsRooted n P root free m) (key b : List ℕ) (first held : Leaf) → IsRead r.tree None key first → bound_in first ≡ Some b → IsRead r.tree None b held → 0 < held.left
-some_behind n P root free m r key b first held is bound there = elim (starts P r.level [] None key b r.tree r.stands (every_key key) (sym is.bound_is ∙ bound)) [
-  | inl none ↦ absurd (clash none)
-  | inr s ↦
-      let all = from_all b (leaf_of r.tree b) s.all in
-      let long : length (entries_from b (leaf_of r.tree b)) ≡ length (leaf_of r.tree b) = ap (λ (l : List Entry). length l) all in
-      let some = (top_parted n P root free m r b).some in
-      let left_is = there.left_is in
-      omega arith
-]
-  where
-    clash : None ≡ Some b → ⊥
-    clash e = cc
-
-pub from_bare : (n root : ℕ) (free : List ℕ) (m : KeyMap) (key : List ℕ) (held : Leaf) → IsBare n root free m → held.at ≡ 0 → held.left ≡ 0 → bound_in held ≡ None → IsFrom key (entries m) held
-from_bare n root free m key held bare at left bound = record {
-  here = [];
-  behind = [];
-  ahead = record { body = refl; entries = All-nil IsEntry; within = omega arith };
-  left_is = left;
-  rows_are = ap (entries_from key) bare.none;
-  next = subst (λ (b : Option (List ℕ)). IsNext b (entries m) []) (sym bound) refl;
-  some = λ none. refl;
-}

@@ -1,5 +1,6 @@
-//! Finds the leaf from which rows are read one after the other.
-ghost use Rattle.std.specs.Prelude.{◌≡◌, ◌<◌, length, None, Some, OnOk, OnErr, IfOk, IfErr};
+//! Finds the leaves from which rows are read one after the other.
+ghost use Rattle.std.specs.Prelude.{◌≡◌, ◌<◌, ◌≤◌, ℕ, List, length, true, None, Some, OnOk, OnErr, IfOk, IfErr};
+ghost use Rattle.std.proofs.Common.{get_or, []};
 ghost use Rattle.std.specs.Option.{option_map};
 ghost use Rattle.std.specs.FinMap.{entries};
 ghost use Rattle.sector_device.specs.Disk.{Image};
@@ -12,27 +13,27 @@ ghost use Rattle.page_node.specs.Walking.{IsAhead};
 ghost use Rattle.page_btree.specs.Keys.{KeyMap};
 ghost use Rattle.page_btree.specs.Map.{InTxn, IsRooted};
 ghost use Rattle.page_btree.specs.Errors.{GetErr};
-ghost use Rattle.page_btree.specs.Getting.{CanGet, CanGetAt, ReadsErr};
-ghost use Rattle.page_btree.specs.Seeking.{bound_in, nearer, IsRead, IsFrom};
+ghost use Rattle.page_btree.specs.Getting.{CanGet, CanGetAt, IsLevel, ReadsErr};
+ghost use Rattle.page_btree.specs.Seeking.{bound_in, nearer, AreWays, HasWays, IsRead, IsFrom};
 ghost use Rattle.page_btree.specs.declared.error.TreeError.TheVariants.{DeviceFault};
 
 use crate::error::TreeError;
 use crate::gets::{lend_level, place_of, read_level};
 use crate::small_bytes::SmallBytes;
-use page_node::{level_of, place_from, way_for};
+use page_node::{level_of, place_from, way_for, ways_for};
 use page_store::{Pages, Txn};
 use sector_device::SectorDevice;
 
-/// A leaf that is read, from a place in it on.
+/// A leaf that is read, from a place in it on, and the leaves that were read with it.
 #[derive(Drop)]
 pub struct Leaf {
-    /// Its page.
-    pub page: [u8; 4096],
-    /// Where the next row stands in the page.
+    /// Where the next row stands in its page.
     pub at: usize,
     /// How many rows stand there.
     pub left: usize,
-    /// Whether other leaves follow.
+    /// How many leaves that follow it were read with it.
+    pub more: usize,
+    /// Whether other leaves follow these.
     pub bounded: bool,
     /// Where they do, their rows are those from this key on.
     pub bound: SmallBytes,
@@ -45,42 +46,50 @@ impl Leaf {
     pub fn empty() -> Self
         ensures at { result.at ≡ 0 }
         ensures left { result.left ≡ 0 }
+        ensures more { result.more ≡ 0 }
         ensures bounded { result.bounded ≡ false }
         ensures bound { result.bound ≡ [] }
     {
         Leaf {
-            page: [0; 4096],
             at: 0,
             left: 0,
+            more: 0,
             bounded: false,
             bound: SmallBytes::empty(),
         }
     }
 }
 
-/// Reads the leaf with the first row that isn't below a key, and stands before that row. Where there is none, no row is left. It
-/// takes no memory. An error is `DeviceFault`, where the device failed or holds what no store has, or `Halted`, where it had
-/// failed before.
+/// Reads the leaf with the first row that isn't below a key into the first of some pages, and stands before that row; and the
+/// leaves that follow it under the same node into the others, as far as these go and the keys that bound their rows begin with the
+/// prefix. Where there is no such row, no row is left and no other leaf is read. It takes no memory. An error is `DeviceFault`,
+/// where the device failed or holds what no store has, or `Halted`, where it had failed before.
 pub fn leaf_from<D: SectorDevice>(
     txn: &Txn,
     pages: &mut Pages<D>,
     key: &[u8],
+    prefix: &[u8],
     leaf: &mut Leaf,
+    held: &mut [[u8; 4096]; 4],
 ) -> Result<(), TreeError>
     requires begun { txn_pages txn.now ≡ count_of pages.old }
     ensures quiet { IsQuiet pages.old pages.new }
-    ensures rows { (disk_in pages.new).is_honest → (m : KeyMap) → InTxn txn.now (stored pages.old) m → OnOk result (IsFrom key.now (entries m) leaf.new) }
+    ensures few { OnOk result (leaf.new.more ≤ 3) }
+    ensures rows { (disk_in pages.new).is_honest → (m : KeyMap) → InTxn txn.now (stored pages.old) m → OnOk result (IsFrom key.now (entries m) leaf.new held.new) }
     ensures passed { OnOk result (Passed pages.old pages.new) }
     ensures err { IfErr result (λ e. GetErr txn.now pages.old pages.new e) }
 {
-    leaf_for(txn, pages, key, leaf)?;
+    leaf_for(txn, pages, key, prefix, leaf, held)?;
     if leaf.left > 0 {
+        return Ok(());
+    }
+    if leaf.more > 0 {
         return Ok(());
     }
     if !leaf.bounded {
         return Ok(());
     }
-    leaf_behind(txn, pages, leaf)?;
+    leaf_behind(txn, pages, prefix, leaf, held)?;
     if leaf.left == 0 {
         return Err(TreeError::DeviceFault);
     }
@@ -91,35 +100,43 @@ pub fn leaf_from<D: SectorDevice>(
 fn leaf_behind<D: SectorDevice>(
     txn: &Txn,
     pages: &mut Pages<D>,
+    prefix: &[u8],
     leaf: &mut Leaf,
+    held: &mut [[u8; 4096]; 4],
 ) -> Result<(), TreeError>
     requires begun { txn_pages txn.now ≡ count_of pages.old }
     ensures quiet { IsQuiet pages.old pages.new }
-    ensures read { (disk_in pages.new).is_honest → (m : KeyMap) (r : IsRooted (txn_pages txn.now) (over txn.now (stored pages.old)) (txn_root txn.now) (free_over txn.now (stored pages.old)) m) → OnOk result (IsRead r.tree None leaf.old.bound leaf.new) }
+    ensures few { OnOk result (leaf.new.more ≤ 3) }
+    ensures read { (disk_in pages.new).is_honest → (m : KeyMap) (r : IsRooted (txn_pages txn.now) (over txn.now (stored pages.old)) (txn_root txn.now) (free_over txn.now (stored pages.old)) m) → OnOk result (IsRead r.tree None None leaf.old.bound leaf.new held.new) }
     ensures passed { OnOk result (Passed pages.old pages.new) }
     ensures err { IfErr result (λ e. GetErr txn.now pages.old pages.new e) }
 {
     let mut from = SmallBytes::empty();
     from.set(leaf.bound.as_slice());
-    leaf_for(txn, pages, from.as_slice(), leaf)
+    leaf_for(txn, pages, from.as_slice(), prefix, leaf, held)
 }
 
-/// Reads the leaf in whose range a key falls, and stands before the first of its rows that isn't below the key.
+/// Reads the leaf in whose range a key falls, with those that follow it, and stands before the first of its rows that isn't below
+/// the key.
 fn leaf_for<D: SectorDevice>(
     txn: &Txn,
     pages: &mut Pages<D>,
     key: &[u8],
+    prefix: &[u8],
     leaf: &mut Leaf,
+    held: &mut [[u8; 4096]; 4],
 ) -> Result<(), TreeError>
     requires begun { txn_pages txn.now ≡ count_of pages.old }
     ensures quiet { IsQuiet pages.old pages.new }
-    ensures bare { txn_root txn.now ≡ 0 → OnOk result ((leaf.new.at ≡ 0) × (leaf.new.left ≡ 0) × (bound_in leaf.new ≡ None)) }
-    ensures read { (disk_in pages.new).is_honest → (m : KeyMap) (r : IsRooted (txn_pages txn.now) (over txn.now (stored pages.old)) (txn_root txn.now) (free_over txn.now (stored pages.old)) m) → OnOk result (IsRead r.tree None key.now leaf.new) }
+    ensures few { OnOk result (leaf.new.more ≤ 3) }
+    ensures bare { txn_root txn.now ≡ 0 → OnOk result ((leaf.new.at ≡ 0) × (leaf.new.left ≡ 0) × (leaf.new.more ≡ 0) × (bound_in leaf.new ≡ None)) }
+    ensures read { (disk_in pages.new).is_honest → (m : KeyMap) (r : IsRooted (txn_pages txn.now) (over txn.now (stored pages.old)) (txn_root txn.now) (free_over txn.now (stored pages.old)) m) → OnOk result (IsRead r.tree None None key.now leaf.new held.new) }
     ensures passed { OnOk result (Passed pages.old pages.new) }
     ensures err { IfErr result (λ e. GetErr txn.now pages.old pages.new e) }
 {
     leaf.at = 0;
     leaf.left = 0;
+    leaf.more = 0;
     leaf.bounded = false;
     let root = txn.root();
     if root == 0 {
@@ -130,45 +147,100 @@ fn leaf_for<D: SectorDevice>(
     if level > 5 {
         return Err(TreeError::DeviceFault);
     }
-    leaf_below(txn, pages, leaf, root, 0, level, key)
+    leaf_below(txn, pages, root, 0, level, key, prefix, leaf, held)
 }
 
-/// Reads the leaf below a page, which is one of a node of this level and is lent at a place above the leaves.
+/// Reads the leaves below a page, which is one of a node of this level and is lent at a place above the leaves.
 fn leaf_below<D: SectorDevice>(
     txn: &Txn,
     pages: &mut Pages<D>,
-    leaf: &mut Leaf,
     p: u32,
     place: usize,
     level: u8,
     key: &[u8],
+    prefix: &[u8],
+    leaf: &mut Leaf,
+    held: &mut [[u8; 4096]; 4],
 ) -> Result<(), TreeError>
     requires begun { txn_pages txn.now ≡ count_of pages.old }
     ensures quiet { IsQuiet pages.old pages.new }
-    ensures read { (disk_in pages.new).is_honest → (can : CanGet (txn_pages txn.now) (over txn.now (stored pages.old)) level key.now (over txn.now (stored pages.old) p)) → OnOk result (IsRead can.tree (bound_in leaf.old) key.now leaf.new) }
+    ensures few { OnOk result (leaf.new.more ≤ 3) }
+    ensures read { (disk_in pages.new).is_honest → (can : CanGet (txn_pages txn.now) (over txn.now (stored pages.old)) level key.now (over txn.now (stored pages.old) p)) → OnOk result (IsRead can.tree can.high (bound_in leaf.old) key.now leaf.new held.new) }
     ensures passed { OnOk result (Passed pages.old pages.new) }
     ensures err { IfErr result (λ e. ReadsErr (λ P. CanGetAt (txn_pages txn.now) (over txn.now P) level key.now p) pages.old pages.new e) }
 {
     if level == 0 {
-        read_level(txn, pages, p, 0, &mut leaf.page)?;
-        return stand(leaf, key);
+        read_level(txn, pages, p, 0, &mut held[0])?;
+        leaf.more = 0;
+        return stand(leaf, &held[0], key);
+    }
+    if level == 1 {
+        return leaves_below(txn, pages, p, place, key, prefix, leaf, held);
     }
     let own = lend_level(txn, pages, p, level, place)?;
     let bytes = pages.lent(own, place);
     let child = go_down(leaf, bytes, key)?;
     let place = place_of(level - 1);
-    leaf_below(txn, pages, leaf, child, place, level - 1, key)
+    leaf_below(txn, pages, child, place, level - 1, key, prefix, leaf, held)
 }
 
-/// Stands before the first row that isn't below a key.
-fn stand(leaf: &mut Leaf, key: &[u8]) -> Result<(), TreeError>
-    ensures rows { (node : Node) → IsNode leaf.old.page node → Rises node.entries → OnOk result (IsAhead leaf.new.page leaf.new.at (entries_from key.now node.entries)) }
-    ensures left { (node : Node) → IsNode leaf.old.page node → Rises node.entries → OnOk result (leaf.new.left ≡ length (entries_from key.now node.entries)) }
+/// Reads the leaves below a page of a node just above them.
+fn leaves_below<D: SectorDevice>(
+    txn: &Txn,
+    pages: &mut Pages<D>,
+    p: u32,
+    place: usize,
+    key: &[u8],
+    prefix: &[u8],
+    leaf: &mut Leaf,
+    held: &mut [[u8; 4096]; 4],
+) -> Result<(), TreeError>
+    requires begun { txn_pages txn.now ≡ count_of pages.old }
+    ensures quiet { IsQuiet pages.old pages.new }
+    ensures few { OnOk result (leaf.new.more ≤ 3) }
+    ensures read { (disk_in pages.new).is_honest → (can : CanGet (txn_pages txn.now) (over txn.now (stored pages.old)) 1 key.now (over txn.now (stored pages.old) p)) → OnOk result (IsRead can.tree can.high (bound_in leaf.old) key.now leaf.new held.new) }
+    ensures passed { OnOk result (Passed pages.old pages.new) }
+    ensures err { IfErr result (λ e. ReadsErr (λ P. CanGetAt (txn_pages txn.now) (over txn.now P) 1 key.now p) pages.old pages.new e) }
+{
+    let own = lend_level(txn, pages, p, 1, place)?;
+    let bytes = pages.lent(own, place);
+    let mut children = [0; 4];
+    ways_in(leaf, bytes, key, prefix, &mut children)?;
+    read_leaves(txn, pages, &children, leaf.more, held)?;
+    stand(leaf, &held[0], key)
+}
+
+/// Reads the pages of a leaf and of so many more.
+fn read_leaves<D: SectorDevice>(
+    txn: &Txn,
+    pages: &mut Pages<D>,
+    children: &[u32; 4],
+    more: usize,
+    held: &mut [[u8; 4096]; 4],
+) -> Result<(), TreeError>
+    requires begun { txn_pages txn.now ≡ count_of pages.old }
+    requires few { more ≤ 3 }
+    ensures quiet { IsQuiet pages.old pages.new }
+    ensures reads { (disk_in pages.new).is_honest → OnOk result ((j : ℕ) → j ≤ more → get_or {A = List ℕ} held.new j [] ≡ over txn.now (stored pages.old) (get_or children.now j 0)) }
+    ensures passed { OnOk result (Passed pages.old pages.new) }
+    ensures err { IfErr result (λ e. ReadsErr (λ P. (j : ℕ) → j ≤ more → IsLevel (txn_pages txn.now) (over txn.now P) 0 (get_or children.now j 0)) pages.old pages.new e) }
+{
+    for j in 0..more + 1 {
+        read_level(txn, pages, children[j], 0, &mut held[j])?;
+    }
+    Ok(())
+}
+
+/// Stands before the first row in a leaf's page that isn't below a key.
+fn stand(leaf: &mut Leaf, page: &[u8; 4096], key: &[u8]) -> Result<(), TreeError>
+    ensures rows { (node : Node) → IsNode page.now node → Rises node.entries → OnOk result (IsAhead page.now leaf.new.at (entries_from key.now node.entries)) }
+    ensures left { (node : Node) → IsNode page.now node → Rises node.entries → OnOk result (leaf.new.left ≡ length (entries_from key.now node.entries)) }
+    ensures more { leaf.new.more ≡ leaf.old.more }
     ensures bound { bound_in leaf.new ≡ bound_in leaf.old }
     ensures err { IfErr result (λ e. e ≡ DeviceFault) }
-    ensures refused { OnErr result ((node : Node) → IsNode leaf.old.page node → ⊥) }
+    ensures refused { OnErr result ((node : Node) → IsNode page.now node → ⊥) }
 {
-    let place = place_from(&leaf.page, key)?;
+    let place = place_from(page, key)?;
     leaf.at = place.at;
     leaf.left = place.left;
     Ok(())
@@ -177,7 +249,6 @@ fn stand(leaf: &mut Leaf, key: &[u8]) -> Result<(), TreeError>
 /// Finds the child of a node above the leaves that a key belongs to, and keeps the first key in it that is above this one, as the
 /// bound.
 fn go_down(leaf: &mut Leaf, page: &[u8; 4096], key: &[u8]) -> Result<u32, TreeError>
-    ensures page { leaf.new.page ≡ leaf.old.page }
     ensures child { (node : Node) → IsNode page.now node → RisesBehind node.entries → IfOk result (λ child. option_map child_in (floor key.now node.entries) ≡ Some child) }
     ensures bound { (node : Node) → IsNode page.now node → RisesBehind node.entries → OnOk result (bound_in leaf.new ≡ nearer (ceiling key.now node.entries) (bound_in leaf.old)) }
     ensures err { IfErr result (λ e. e ≡ DeviceFault) }
@@ -190,6 +261,34 @@ fn go_down(leaf: &mut Leaf, page: &[u8; 4096], key: &[u8]) -> Result<u32, TreeEr
             leaf.bound.set(bound);
             leaf.bounded = true;
             Ok(way.child)
+        }
+    }
+}
+
+/// Finds the child of a node above the leaves that a key belongs to, with the children that follow it as far as they are to be read
+/// with it, and keeps the first key behind the last of these, as the bound.
+fn ways_in(
+    leaf: &mut Leaf,
+    page: &[u8; 4096],
+    key: &[u8],
+    prefix: &[u8],
+    children: &mut [u32; 4],
+) -> Result<(), TreeError>
+    ensures few { OnOk result (leaf.new.more ≤ 3) }
+    ensures ways { (node : Node) → IsNode page.now node → RisesBehind node.entries → OnOk result (HasWays key.now node.entries (bound_in leaf.old) leaf.new children.new) }
+    ensures err { IfErr result (λ e. e ≡ DeviceFault) }
+    ensures refused { OnErr result ((node : Node) → IsNode page.now node → RisesBehind node.entries → 0 < node.level → floor key.now node.entries ≡ None) }
+{
+    let mut behind = [0; 3];
+    let ways = ways_for(page, key, prefix, &mut behind)?;
+    *children = [ways.child, behind[0], behind[1], behind[2]];
+    leaf.more = ways.more;
+    match ways.bound {
+        None => Ok(()),
+        Some(bound) => {
+            leaf.bound.set(bound);
+            leaf.bounded = true;
+            Ok(())
         }
     }
 }

@@ -5,3 +5,5 @@ pub mod Writing
 pub mod PageEdits
 pub mod Splitting
 pub mod Nearing
+pub mod Passed
+pub mod Following

@@ -8,3 +8,4 @@ pub mod Places
 pub mod Walking
 pub mod Spots
 pub mod Searching
+pub mod Ways

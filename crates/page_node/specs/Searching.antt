@@ -1,9 +1,9 @@
 -- A search in a page from its first entry on.
-use Rattle.std.specs.Prelude.{◌≡◌, ◌<◌, ◌+◌, ◌-◌, ℕ, false, List, length, take, drop}
+use Rattle.std.specs.Prelude.{◌≡◌, ◌<◌, ◌+◌, ◌-◌, ℕ, false, List, Some, length, take, drop}
 use Rattle.std.specs.Ordering.{is_gt}
 use Rattle.std.specs.declared.cmp.Ordering.TheVariants.{Less}
 use Rattle.page_node.specs.Entries.{Entry, key_at, value_at, size_of}
-use Rattle.page_node.specs.Places.{key_cmp, Rises}
+use Rattle.page_node.specs.Places.{key_cmp, Rises, ceiling}
 
 -- the keys rise, where the first says nothing
 abbrev pub RisesBehind : List Entry → Type 0
@@ -19,3 +19,10 @@ pub record IsLast (page key : List ℕ) (es : List Entry) (k value at : ℕ) : T
 -- the search for a row stands before the entry k; where keys rise, each before it is below this one
 abbrev pub IsBelow : List ℕ → List Entry → ℕ → ℕ → Type 0
 IsBelow key es k at = (at ≡ 4 + size_of (take k es)) × (Rises es → (j : ℕ) → j < k → key_cmp (key_at es j) key ≡ Less)
+
+-- the key of the entry k is the first above this one
+pub record IsTurn (key : List ℕ) (es : List Entry) (k at : ℕ) : Type 0 where
+  pub some : 0 < k
+  pub within : k < length es
+  pub place : at ≡ 4 + size_of (take k es)
+  pub above : ceiling key es ≡ Some (key_at es k)

@@ -14,6 +14,10 @@ pub record IsAhead (page : List ℕ) (at : ℕ) (es : List Entry) : Type 0 where
   pub entries : All IsEntry es
   pub within : at + size_of es ≤ 4096
 
+-- of entries that stand from a place on, so many end there
+abbrev pub PassesTo : List ℕ → ℕ → ℕ → ℕ → Type 0
+PassesTo page at n end = (es : List Entry) → IsAhead page at es → n ≤ length es → end ≡ at + size_of (take n es)
+
 -- a part of a page
 abbrev pub part_of : List ℕ → ℕ → ℕ → List ℕ
 part_of page from end = take (end - from) (drop from page)
@@ -55,6 +59,10 @@ key_long page at e b = ap key_length b.bytes_are
 
 value_long : (page : List ℕ) (at : ℕ) (e : Entry) → Begins (drop at page) e → value_length (drop at page) ≡ length e.1
 value_long page at e b = ap value_length b.bytes_are ∙ value_length-entry e b.rest
+
+-- the lengths of the first of those that are ahead stand there
+pub ahead_lengths : (page : List ℕ) (at : ℕ) (e : Entry) (es : List Entry) → IsAhead page at (e ∷ es) → (key_length (drop at page) ≡ length e.0) × (value_length (drop at page) ≡ length e.1)
+ahead_lengths page at e es is = let b = begins page at e es is in (key_long page at e b, value_long page at e b)
 
 -- one that is ahead is found to lie there
 pub ahead_lies : (page : List ℕ) (at : ℕ) (e : Entry) (es : List Entry) → IsAhead page at (e ∷ es) → LiesNot page at → ⊥

@@ -15,9 +15,9 @@ pub struct Bounds {
 /// next entry has the same, its end is known before its own are read.
 #[derive(Drop)]
 pub struct Lengths {
-    head: u32,
+    pub(crate) head: u32,
     key: usize,
-    size: usize,
+    pub(crate) size: usize,
     ghost key_is: { key ≡ head / 65536 },
     ghost size_is: { size ≡ 3 + head / 65536 + head % 65536 },
     ghost key_short: { head / 65536 ≤ 72 },

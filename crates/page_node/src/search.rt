@@ -4,13 +4,15 @@ ghost use Rattle.std.specs.Option.{option_copied, option_map};
 ghost use Rattle.std.specs.FinMap.{find};
 ghost use Rattle.std.specs.Ordering.{is_gt, is_lt};
 ghost use Rattle.std.proofs.Common.{get_or};
+ghost use Rattle.page_node.specs.Bytes.{LiesAt};
 ghost use Rattle.page_node.specs.Entries.{child_in};
 ghost use Rattle.page_node.specs.Node.{Node, IsNode, count_in};
 ghost use Rattle.page_node.specs.Places.{key_cmp, Rises, floor, ceiling, entries_from};
 ghost use Rattle.page_node.specs.Walking.{IsAhead};
-ghost use Rattle.page_node.specs.Searching.{IsBelow, IsLast, RisesBehind};
+ghost use Rattle.page_node.specs.Searching.{IsBelow, IsLast, IsTurn, RisesBehind};
 
 use crate::entry::{Lengths, bounds_in};
+use crate::passing::pass;
 use crate::scan::NotANode;
 use key_order::compare;
 use std::cmp::Ordering;
@@ -32,7 +34,7 @@ pub(crate) fn count_of(page: &[u8; 4096]) -> usize
 }
 
 /// A part of a page.
-fn part(page: &[u8; 4096], from: usize, end: usize) -> &[u8]
+pub(crate) fn part(page: &[u8; 4096], from: usize, end: usize) -> &[u8]
     requires order { from ≤ end }
     requires end { end ≤ 4096 }
     ensures { result.now ≡ take (end - from) (drop from page.now) }
@@ -74,7 +76,7 @@ pub(crate) struct RowNear {
     pub(crate) at: usize,
 }
 
-/// A place near a key's in a page whose keys rise: each key before it is below this one. One key of eight is looked at.
+/// A place near a key's in a page whose keys rise: each key before it is below this one. One key of nine is looked at.
 pub(crate) fn row_near(page: &[u8; 4096], key: &[u8]) -> Option<RowNear>
     ensures within { IfSome result (λ near. (4 ≤ near.at) × (near.at ≤ 4096) × (near.k ≤ count_in page.now)) }
     ensures below { (node : Node) → IsNode page.now node → IfSome result (λ near. IsBelow key.now node.entries near.k near.at) }
@@ -82,23 +84,24 @@ pub(crate) fn row_near(page: &[u8; 4096], key: &[u8]) -> Option<RowNear>
 {
     let count = count_of(page);
     let mut near = RowNear { k: 0, at: 4 };
-    let mut at = 4;
     let mut last = Lengths::NONE;
-    for k in 0..count {
+    let _ = bounds_in(page, 4, &mut last);
+    while near.k + 8 < count {
+        let at = match pass(page, near.at, &mut last) {
+            None => return None,
+            Some(at) => at,
+        };
         let bounds = match bounds_in(page, at, &mut last) {
             None => return None,
             Some(bounds) => bounds,
         };
-        if k % 8 == 0 {
-            if !is_below(page, at + 3, bounds.value, key) {
-                return Some(near);
-            }
-            near = RowNear {
-                k: k + 1,
-                at: bounds.end,
-            };
+        if !is_below(page, at + 3, bounds.value, key) {
+            return Some(near);
         }
-        at = bounds.end;
+        near = RowNear {
+            k: near.k + 9,
+            at: bounds.end,
+        };
     }
     Some(near)
 }
@@ -130,7 +133,7 @@ pub fn value_for<'a>(page: &'a [u8; 4096], key: &[u8]) -> Result<Option<&'a [u8]
 }
 
 /// The number in a value, which begins and ends at these places, if it is that of a page.
-fn child_at(page: &[u8; 4096], value: usize, end: usize) -> Result<u32, NotANode>
+pub(crate) fn child_at(page: &[u8; 4096], value: usize, end: usize) -> Result<u32, NotANode>
     requires end { end ≤ 4096 }
     requires value { value ≤ 4096 }
     ensures ok { IfOk result (λ child. (0 < value) × (value + 4 ≡ end) × (child ≡ child_in (take 4 (drop value page.now)))) }
@@ -180,7 +183,7 @@ struct Near {
 }
 
 /// A place near the child that a key belongs to, in a page whose keys rise behind the first: no key before it is above this one.
-/// One key of eight is looked at.
+/// One key of nine is looked at.
 fn near_for(page: &[u8; 4096], key: &[u8]) -> Option<Near>
     ensures within { IfSome result (λ near. (near.at ≤ 4096) × (near.value ≤ 4096) × (near.k ≤ count_in page.now)) }
     ensures last { (node : Node) → IsNode page.now node → RisesBehind node.entries → IfSome result (λ near. IsLast page.now key.now node.entries near.k near.value near.at) }
@@ -192,39 +195,53 @@ fn near_for(page: &[u8; 4096], key: &[u8]) -> Option<Near>
         value: 0,
         at: 4,
     };
-    let mut value = 0;
-    let mut at = 4;
     let mut last = Lengths::NONE;
-    for k in 0..count {
+    let _ = bounds_in(page, 4, &mut last);
+    while near.k + 8 < count {
+        let at = match pass(page, near.at, &mut last) {
+            None => return None,
+            Some(at) => at,
+        };
         let bounds = match bounds_in(page, at, &mut last) {
             None => return None,
             Some(bounds) => bounds,
         };
-        if k % 8 == 1 {
-            if is_above(page, at + 3, bounds.value, key) {
-                return Some(near);
-            }
-            near = Near { k, value, at };
+        if is_above(page, at + 3, bounds.value, key) {
+            return Some(near);
         }
-        value = bounds.value;
-        at = bounds.end;
+        near = Near {
+            k: near.k + 9,
+            value: bounds.value,
+            at: bounds.end,
+        };
     }
     Some(near)
 }
 
-/// The way down from a node: a child, and the first key of the children behind it, if there are some.
+/// The entry whose key is the first above another one: its number, and where it begins and its value begins and ends.
 #[derive(Clone, Copy, Drop)]
-pub struct Way<'a> {
-    pub child: u32,
-    pub bound: Option<&'a [u8]>,
+pub(crate) struct Above {
+    pub(crate) k: usize,
+    pub(crate) at: usize,
+    pub(crate) value: usize,
+    pub(crate) end: usize,
 }
 
-/// The child that a key belongs to, as `child_for` finds it, with the first key above it, in a page whose keys rise behind the
-/// first, which is not looked at.
-pub fn way_for<'a>(page: &'a [u8; 4096], key: &[u8]) -> Result<Way<'a>, NotANode>
-    ensures child { (node : Node) → IsNode page.now node → RisesBehind node.entries → IfOk result (λ way. option_map child_in (floor key.now node.entries) ≡ Some way.child) }
-    ensures bound { (node : Node) → IsNode page.now node → RisesBehind node.entries → IfOk result (λ way. option_copied way.bound ≡ ceiling key.now node.entries) }
-    ensures short { IfOk result (λ way. IfSome way.bound (λ bound. length bound.now ≤ 72)) }
+/// The child that a key belongs to, and the entry behind it, if there is one.
+#[derive(Clone, Copy, Drop)]
+pub(crate) struct Turn {
+    pub(crate) child: u32,
+    pub(crate) above: Option<Above>,
+}
+
+/// The child that a key belongs to, as `child_for` finds it, with the first entry whose key is above it, in a page whose keys rise
+/// behind the first, which is not looked at.
+pub(crate) fn turn_for(page: &[u8; 4096], key: &[u8]) -> Result<Turn, NotANode>
+    ensures child { (node : Node) → IsNode page.now node → RisesBehind node.entries → IfOk result (λ turn. option_map child_in (floor key.now node.entries) ≡ Some turn.child) }
+    ensures lies { IfOk result (λ turn. IfSome turn.above (λ above. LiesAt page.now above.at above.value above.end)) }
+    ensures few { IfOk result (λ turn. IfSome turn.above (λ above. above.k < 65536)) }
+    ensures above { (node : Node) → IsNode page.now node → RisesBehind node.entries → IfOk result (λ turn. IfSome turn.above (λ above. IsTurn key.now node.entries above.k above.at)) }
+    ensures last { (node : Node) → IsNode page.now node → RisesBehind node.entries → IfOk result (λ turn. IfNone turn.above (ceiling key.now node.entries ≡ None)) }
     ensures err { OnErr result ((node : Node) → IsNode page.now node → RisesBehind node.entries → 0 < node.level → floor key.now node.entries ≡ None) }
 {
     let count = count_of(page);
@@ -242,14 +259,48 @@ pub fn way_for<'a>(page: &'a [u8; 4096], key: &[u8]) -> Result<Way<'a>, NotANode
         };
         if k > 0 && is_above(page, at + 3, bounds.value, key) {
             let child = child_at(page, value, at)?;
-            let bound = Some(part(page, at + 3, bounds.value));
-            return Ok(Way { child, bound });
+            let above = Above {
+                k,
+                at,
+                value: bounds.value,
+                end: bounds.end,
+            };
+            return Ok(Turn {
+                child,
+                above: Some(above),
+            });
         }
         value = bounds.value;
         at = bounds.end;
     }
     let child = child_at(page, value, at)?;
-    Ok(Way { child, bound: None })
+    Ok(Turn { child, above: None })
+}
+
+/// The way down from a node: a child, and the first key of the children behind it, if there are some.
+#[derive(Clone, Copy, Drop)]
+pub struct Way<'a> {
+    pub child: u32,
+    pub bound: Option<&'a [u8]>,
+}
+
+/// The child that a key belongs to, as `child_for` finds it, with the first key above it, in a page whose keys rise behind the
+/// first, which is not looked at.
+pub fn way_for<'a>(page: &'a [u8; 4096], key: &[u8]) -> Result<Way<'a>, NotANode>
+    ensures child { (node : Node) → IsNode page.now node → RisesBehind node.entries → IfOk result (λ way. option_map child_in (floor key.now node.entries) ≡ Some way.child) }
+    ensures bound { (node : Node) → IsNode page.now node → RisesBehind node.entries → IfOk result (λ way. option_copied way.bound ≡ ceiling key.now node.entries) }
+    ensures short { IfOk result (λ way. IfSome way.bound (λ bound. length bound.now ≤ 72)) }
+    ensures err { OnErr result ((node : Node) → IsNode page.now node → RisesBehind node.entries → 0 < node.level → floor key.now node.entries ≡ None) }
+{
+    let turn = turn_for(page, key)?;
+    let child = turn.child;
+    match turn.above {
+        None => Ok(Way { child, bound: None }),
+        Some(above) => {
+            let bound = Some(part(page, above.at + 3, above.value));
+            Ok(Way { child, bound })
+        }
+    }
 }
 
 /// Where in a page entries begin, and how many they are.

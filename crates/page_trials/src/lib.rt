@@ -11,6 +11,8 @@ mod memory_trials;
 #[cfg(test)]
 mod page_trials;
 #[cfg(test)]
+mod place_trials;
+#[cfg(test)]
 mod read_trials;
 #[cfg(test)]
 mod recorder;

@@ -15,15 +15,25 @@ use std::process::Abort;
 pub const ROWS: u32 = 2000;
 
 /// The key of a number below 2 to the 24. Keys stand in the order of their numbers.
-fn key_of(n: u32) -> [u8; 3] {
+pub fn key_of(n: u32) -> [u8; 3] {
     let [_, a, b, c] = n.to_be_bytes();
     [a, b, c]
 }
 
+/// The value of a number, which is so long that the rows have some thirty leaves.
+fn value_of(value: u32) -> [u8; 40] {
+    let mut bytes = [0; 40];
+    bytes[..4].copy_from_slice(&value.to_be_bytes());
+    bytes
+}
+
 /// The numbers of a row.
 fn numbers_of(row: &Row) -> Option<(u32, u32)> {
+    if row.value.as_slice().len() != 40 {
+        return None;
+    }
     match (row.key.as_slice(), row.value.as_slice()) {
-        ([a, b, c], [d, e, f, g]) => Some((
+        ([a, b, c], [d, e, f, g, ..]) => Some((
             u32::from_be_bytes([0, *a, *b, *c]),
             u32::from_be_bytes([*d, *e, *f, *g]),
         )),
@@ -33,7 +43,7 @@ fn numbers_of(row: &Row) -> Option<(u32, u32)> {
 
 fn put_row<R: Abort>(rt: &R, alloc: Global, pages: &mut Pages<Fused>, n: u32, value: u32) {
     let mut txn = pages.begin(alloc);
-    let put = put(&mut txn, pages, &key_of(n), &value.to_be_bytes());
+    let put = put(&mut txn, pages, &key_of(n), &value_of(value));
     let _ = put.expect(rt, "not put");
     store(txn, pages).expect(rt, "not stored");
 }
@@ -77,7 +87,7 @@ pub fn scanned<D: SectorDevice>(
 }
 
 /// Prefixes, the numbers in the map from one on to another, and how many they are.
-static PREFIXES: [(&[u8], u32, u32, u32); 9] = [
+pub static PREFIXES: [(&[u8], u32, u32, u32); 9] = [
     (&[], 0, 0x100_0000, 2000),
     (&[0x00], 0, 0x1_0000, 400),
     (&[0x20], 0x20_0000, 0x21_0000, 400),

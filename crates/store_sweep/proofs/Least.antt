@@ -1,6 +1,6 @@
 -- The first key that isn't below another, and chunks by their numbers.
-use Rattle.std.proofs.Common.{◌≡◌, ◌⊎◌, ◌<◌, ◌≤◌, ◌^◌, ◌++◌, ℕ, List, [], ◌∷◌, Bool, true, false, cond, nat_eq, length, take, drop, Some, None, refl, sym, ap, subst, ◌∙◌, inl, inr, ⊎_elim, arith}
-use Rattle.std.specs.Prelude.{Option, Contains, nat_le}
+use Rattle.std.proofs.Common.{zero, suc, get_or, ◌≡◌, ◌⊎◌, ◌<◌, ◌≤◌, ◌^◌, ◌++◌, ℕ, List, [], ◌∷◌, Bool, true, false, cond, nat_eq, length, take, drop, Some, None, refl, sym, ap, subst, ◌∙◌, inl, inr, ⊎_elim, arith}
+use Rattle.std.specs.Prelude.{Option, Result, Ok, Err, OnOk, OnErr, IfOk, IfErr, Contains, nat_le}
 use Rattle.std.specs.List.{starts_with}
 use Rattle.std.specs.Ordering.{nat_cmp, is_gt, is_lt, ordering_then, eq_by_cmp}
 use Rattle.std.specs.declared.cmp.Ordering.{Ordering}
@@ -14,9 +14,12 @@ use Rattle.std.proofs.lemmas.Bool.Decides.{nat_tests}
 use Rattle.page_node.specs.Entries.{Entry}
 use Rattle.page_node.specs.Places.{key_cmp, Rises, entries_from}
 use Rattle.page_node.specs.Laws.{is_less}
-use Rattle.page_node.specs.Walking.{IsAhead}
-use Rattle.page_btree.specs.Seeking.{IsFrom}
+use Rattle.page_node.specs.Node.{IsNode}
+use Rattle.page_node.specs.Walking.{IsAhead, node_ahead}
+use Rattle.page_btree.specs.Seeking.{AreLeaves, IsFrom}
 use Rattle.page_btree.specs.declared.seeks.Leaf.{Leaf}
+use Rattle.page_btree.specs.declared.error.TreeError.{TreeError}
+use Rattle.page_btree.specs.declared.error.TreeError.TheVariants.{DeviceFault}
 use Rattle.btree_scan.specs.Prefixes.{AllFrom, all_from_key, head_rises, rises_from_key, under_is_from}
 use Rattle.store_keys.specs.Keys.{RowKey, key_of, Fits, counters, retired, begun, named, part, seal, block, pair, chunk, in_two, in_eight, chunk_prefix}
 use Rattle.store_keys.proofs.Numbers.{numbers_decide}
@@ -79,26 +82,55 @@ module _ (m : KeyMap) where
   none_found key whole found = λ other value there from. let clash : ◌≡◌ {A = Option (List ℕ)} None (Some value) = from_among key other value [] whole there from in cc
 
 -- ---- the leaf that stands there
-pub record IsAt (key : List ℕ) (all : List Entry) (held : Leaf) : Type 0 where
+pub record IsAt (key : List ℕ) (all : List Entry) (page : List ℕ) (place : ℕ) : Type 0 where
   pub e : Entry
   pub es : List Entry
   pub rest : List Entry
-  pub ahead : IsAhead held.page held.at (e ∷ es)
+  pub ahead : IsAhead page place (e ∷ es)
   pub whole : entries_from key all ≡ e ∷ rest
 
-pub leaf_none : (key : List ℕ) (all : List Entry) (held : Leaf) → IsFrom key all held → held.left ≡ 0 → entries_from key all ≡ []
-leaf_none key all held is none = is.rows_are ∙ ap (λ (l : List Entry). l ++ is.behind) (empty is.here (sym is.left_is ∙ none)) ∙ is.some none
-  where
-    empty : (l : List Entry) → length l ≡ 0 → l ≡ []
-    empty [] h = refl
-    empty (e ∷ l) h = absurd (omega arith)
+nothing : (l : List Entry) → length l ≡ 0 → l ≡ []
+nothing [] h = refl
+nothing (e ∷ l) h = absurd (omega arith)
 
-pub leaf_some : (key : List ℕ) (all : List Entry) (held : Leaf) → IsFrom key all held → (held.left ≡ 0 → ⊥) → IsAt key all held
-leaf_some key all held is some = at is.here is.left_is is.ahead is.rows_are
+no_leaves : (k : ℕ) (pages : List (List ℕ)) (es : List Entry) → k ≡ 0 → AreLeaves k pages es → es ≡ []
+no_leaves zero pages es none is = is
+no_leaves (suc k) pages es none is = absurd (omega arith)
+
+pub leaf_none : (key : List ℕ) (all : List Entry) (held : Leaf) (pages : List (List ℕ)) → IsFrom key all held pages → held.left ≡ 0 → held.more ≡ 0 → entries_from key all ≡ []
+leaf_none key all held pages is none last = is.rows_are ∙ (λ i. nothing is.here (sym is.left_is ∙ none) i ++ (no_leaves held.more (drop 1 pages) is.others last is.others_are i ++ is.some none last i))
+
+pub leaf_some : (key : List ℕ) (all : List Entry) (held : Leaf) (pages : List (List ℕ)) → IsFrom key all held pages → 0 < held.left → IsAt key all (get_or pages 0 []) held.at
+leaf_some key all held pages is some = at is.here is.left_is is.ahead is.rows_are
   where
-    at : (here : List Entry) → held.left ≡ length here → IsAhead held.page held.at here → entries_from key all ≡ here ++ is.behind → IsAt key all held
-    at [] left ahead whole = absurd (some left)
-    at (e ∷ es) left ahead whole = record { e = e; es = es; rest = es ++ is.behind; ahead = ahead; whole = whole }
+    at : (here : List Entry) → held.left ≡ length here → IsAhead (get_or pages 0 []) held.at here → entries_from key all ≡ here ++ (is.others ++ is.behind) → IsAt key all (get_or pages 0 []) held.at
+    at [] left ahead whole = absurd (omega arith)
+    at (e ∷ es) left ahead whole = record { e = e; es = es; rest = es ++ (is.others ++ is.behind); ahead = ahead; whole = whole }
+
+-- or the first of those that were read with it
+pub leaf_next : (key : List ℕ) (all : List Entry) (held : Leaf) (pages : List (List ℕ)) → IsFrom key all held pages → held.left ≡ 0 → 0 < held.more → IsAt key all (get_or pages 1 []) 4
+leaf_next key all held pages is none some = by held.more pages is.others some is.others_are (is.rows_are ∙ ap (λ (l : List Entry). l ++ (is.others ++ is.behind)) (nothing is.here (sym is.left_is ∙ none)))
+  where
+    first : (page : List ℕ) (es rest : List Entry) → IsNode page (record { level = 0; entries = es }) → 0 < length es → entries_from key all ≡ (es ++ rest) ++ is.behind → IsAt key all page 4
+    first page [] rest node long whole = absurd (omega arith)
+    first page (e ∷ es) rest node long whole = record { e = e; es = es; rest = (es ++ rest) ++ is.behind; ahead = node_ahead page (record { level = 0; entries = e ∷ es }) node; whole = whole }
+
+    by : (k : ℕ) (ps : List (List ℕ)) (others : List Entry) → 0 < k → AreLeaves k (drop 1 ps) others → entries_from key all ≡ others ++ is.behind → IsAt key all (get_or ps 1 []) 4
+    by zero ps others less leaves whole = absurd (omega arith)
+    by (suc k) [] others less leaves whole = absurd leaves
+    by (suc k) (p ∷ []) others less leaves whole = absurd leaves
+    by (suc k) (p ∷ q ∷ ps) others less leaves whole = first q leaves.0 leaves.1 leaves.3 leaves.5 (whole ∙ ap (λ (l : List Entry). l ++ is.behind) leaves.2)
+
+-- the first key that isn't below a key was copied
+pub found_at : (m : KeyMap) (key page : List ℕ) (place : ℕ) (at : IsAt key (entries m) page place) (found : List ℕ) (r : Result Bool TreeError)
+    → ((e : Entry) (es : List Entry) → IsAhead page place (e ∷ es) → OnOk r (found ≡ e.0)) → IfOk r (λ is. is ≡ true) → IfOk r (λ is. IsFirstFrom is key found m)
+found_at m key page place at found (Ok is) copied ok = subst (λ (b : Bool). IsFirstFrom b key found m) (sym ok) (least_found m key at.e at.rest at.whole found (copied at.e at.es at.ahead))
+found_at m key page place at found (Err e) copied ok = tt
+
+-- or the row there is none of a store
+pub fault_at : {V : Type 0} (r : Result V TreeError) (P : TreeError → Type 0) (X : Type 0) → IfErr r (λ e. e ≡ DeviceFault) → OnErr r X → (X → P DeviceFault) → IfErr r P
+fault_at (Ok x) P X is refused told = tt
+fault_at (Err e) P X is refused told = subst P (sym is) (told refused)
 
 -- ---- the order of chunks' keys
 then_less : (r s t : Ordering) → (s ≡ Less → t ≡ Less) → ordering_then r s ≡ Less → ordering_then r t ≡ Less

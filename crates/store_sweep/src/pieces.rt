@@ -1,8 +1,11 @@
 //! Finds a piece that is left of some chunks.
-ghost use Rattle.std.specs.Prelude.{◌≡◌, ◌<◌, ◌^◌, length, OnOk, IfOk, IfErr};
+ghost use Rattle.std.specs.Prelude.{◌≡◌, ◌<◌, ◌^◌, List, ◌∷◌, length, true, OnOk, OnErr, IfOk, IfErr};
 ghost use Rattle.page_store.specs.Transactions.{stored, disk_in, count_of, txn_pages, IsQuiet, Passed};
+ghost use Rattle.page_node.specs.Entries.{Entry};
+ghost use Rattle.page_node.specs.Walking.{IsAhead};
 ghost use Rattle.page_btree.specs.Map.{InTxn};
 ghost use Rattle.page_btree.specs.Errors.{GetErr};
+ghost use Rattle.page_btree.specs.declared.error.TreeError.TheVariants.{DeviceFault};
 ghost use Rattle.row_table.specs.Reading.{ReadErr};
 ghost use Rattle.store_keys.specs.Keys.{in_eight};
 ghost use Rattle.store_rows.specs.Rows.{KeyMap};
@@ -42,15 +45,29 @@ fn key_from<D: SectorDevice>(
     ensures err { IfErr result (λ e. GetErr txn.now pages.old pages.new e) }
 {
     let mut leaf = Leaf::empty();
-    leaf_from(txn, pages, key, &mut leaf)?;
-    if leaf.left == 0 {
-        return Ok(false);
+    let mut held = [[0; 4096]; 4];
+    leaf_from(txn, pages, key, key, &mut leaf, &mut held)?;
+    if leaf.left > 0 {
+        return copy_key(&held[0], leaf.at, found);
     }
+    if leaf.more > 0 {
+        return copy_key(&held[1], 4, found);
+    }
+    Ok(false)
+}
+
+/// Copies the key of the row at a place in a leaf's page.
+fn copy_key(page: &[u8; 4096], at: usize, found: &mut SmallBytes) -> Result<bool, TreeError>
+    ensures copied { (e : Entry) (es : List Entry) → IsAhead page.now at (e ∷ es) → OnOk result (found.new ≡ e.0) }
+    ensures ok { IfOk result (λ is. is ≡ true) }
+    ensures err { IfErr result (λ e. e ≡ DeviceFault) }
+    ensures refused { OnErr result ((e : Entry) (es : List Entry) → IsAhead page.now at (e ∷ es) → ⊥) }
+{
     let mut last = Lengths::NONE;
-    match bounds_in(&leaf.page, leaf.at, &mut last) {
+    match bounds_in(page, at, &mut last) {
         None => Err(TreeError::DeviceFault),
         Some(bounds) => {
-            found.set(&leaf.page[leaf.at + 3..bounds.value]);
+            found.set(&page[at + 3..bounds.value]);
             Ok(true)
         }
     }

@@ -1,18 +1,21 @@
-use Rattle.std.proofs.Common.{◌≡◌, ◌-◌, ◌<◌, inr, refl, sym, ap, subst, ◌∙◌, arith}
-use Rattle.std.specs.Prelude.{OnOk}
+use Rattle.std.proofs.Common.{◌≡◌, ◌-◌, ◌<◌, ℕ, List, [], length, get_or, slice_set, inr, refl, sym, ap, subst, ◌∙◌, arith}
+use Rattle.std.specs.Prelude.{OnOk, IfErr}
+use Rattle.std.proofs.lemmas.List.{get_or-set_same}
 use Rattle.sector_device.specs.Disk.{Image}
 use Rattle.page_store.specs.Transactions.{stored, txn_pages, over, Passed}
 use Rattle.page_store.specs.Stops.{quiet_more, passed_more}
-use Rattle.page_node.specs.Node.{IsNode}
-use Rattle.page_node.specs.Places.{ceiling}
+use Rattle.page_node.specs.Node.{Node, IsNode}
+use Rattle.page_node.specs.Entries.{Entry}
+use Rattle.page_node.specs.Places.{ceiling, entries_from}
+use Rattle.page_node.specs.Walking.{IsAhead}
 use Rattle.page_btree.specs.Tree.{rows}
 use Rattle.page_btree.specs.Getting.{CanGet, CanGetAt, IsLevel, ReadsErr}
-use Rattle.page_btree.specs.Seeking.{bound_in, nearer, bound_of, IsRead}
+use Rattle.page_btree.specs.Seeking.{bound_in, nearer, leaf_of, bound_of, IsRead}
 use Rattle.page_btree.proofs.Descent.{leaf_page, goes_on, some_child}
 use Rattle.page_btree.proofs.Outcomes.{err_of, map_ok, map_err, fault_of, on_err}
 use Rattle.page_btree.proofs.Refusals.{same_fails, reads_more}
 use Rattle.page_btree.proofs.Rising.{node_rises}
-use Rattle.page_btree.proofs.Seeking.{read_at_leaf, read_more}
+use Rattle.page_btree.proofs.Following.{leaf_alone, held_alone, read_held, read_more}
 use Rattle.page_btree.proofs.seeks.+leaf_below.Goals as goal
 
 -- ---- a leaf
@@ -25,20 +28,40 @@ returns-in_err-read_level-clause-err g t c =
 
 pub returns-then-level-eq0-clause-read : goal.returns-then-level-eq0-clause-read
 returns-then-level-eq0-clause-read g t c = λ honest is.
-    let l = leaf_page _ _ _ _ _ is c.if-level-eq0.true in
-    let there = sym (c.in_ok-read_level.ensures.reads honest) in
-    let held = subst (λ b. IsNode b (record { level = 0; entries = rows is.tree })) there l.0 in
-    read_at_leaf _ _ _ _ _ is c.if-level-eq0.true c.stand.result c.stand.new.leaf (bound_in c.args.leaf.now) c.stand.ensures.bound
-    (c.stand.ensures.rows (record { level = 0; entries = rows is.tree }) held l.1)
-    (c.stand.ensures.left (record { level = 0; entries = rows is.tree }) held l.1)
+    let P = over c.args.txn.now (stored c.args.pages.now) in
+    let key = c.args.key.now in
+    let up = bound_in c.args.leaf.now in
+    let now = c.stand.new.leaf in
+    let four = c.told-held in
+    let page = c.read_level.new.page in
+    let pages : List (List ℕ) = slice_set c.args.held.now 0 page in
+    let first : get_or {A = List ℕ} pages 0 [] ≡ page = get_or-set_same c.args.held.now 0 page [] (omega arith) in
+    let l = leaf_page (txn_pages c.args.txn.now) P c.args.level key (P c.args.p) is c.if-level-eq0.true in
+    let node : Node = record { level = 0; entries = rows is.tree } in
+    let read : get_or {A = List ℕ} pages 0 [] ≡ P c.args.p = first ∙ c.in_ok-read_level.ensures.reads honest in
+    let there : IsNode (get_or {A = List ℕ} pages 0 []) node = subst (λ (b : List ℕ). IsNode b node) (sym read) l.0 in
+    let same : rows is.tree ≡ leaf_of is.tree key = leaf_alone is.tree P c.args.level is.low is.high key c.if-level-eq0.true is.tree_is in
+    read_held is.tree is.high up key pages c.stand.result now now
+    (held_alone (txn_pages c.args.txn.now) P c.args.level key (P c.args.p) is c.if-level-eq0.true up now pages c.stand.ensures.more c.stand.ensures.bound there l.1)
+    refl refl
+    (subst (λ (es : List Entry). OnOk c.stand.result (IsAhead (get_or {A = List ℕ} pages 0 []) now.at (entries_from key es))) same (c.stand.ensures.rows node there l.1))
+    (subst (λ (es : List Entry). OnOk c.stand.result (now.left ≡ length (entries_from key es))) same (c.stand.ensures.left node there l.1))
 
 pub returns-then-level-eq0-clause-err : goal.returns-then-level-eq0-clause-err
 returns-then-level-eq0-clause-err g t c =
-    let can = λ (S : Image). CanGetAt (txn_pages c.args.txn.now) (over c.args.txn.now S) c.args.level c.args.key.now c.args.p in
+    let P = over c.args.txn.now (stored c.args.pages.now) in
+    let key = c.args.key.now in
+    let can = λ (S : Image). CanGetAt (txn_pages c.args.txn.now) (over c.args.txn.now S) c.args.level key c.args.p in
+    let four = c.told-held in
+    let page = c.read_level.new.page in
+    let pages : List (List ℕ) = slice_set c.args.held.now 0 page in
+    let first : get_or {A = List ℕ} pages 0 [] ≡ page = get_or-set_same c.args.held.now 0 page [] (omega arith) in
     fault_of c.stand.result (λ e. ReadsErr can c.args.pages.now c.read_level.new.pages e) c.stand.ensures.err
     (on_err c.stand.result _ _ (λ none. inr (λ honest is.
-    let l = leaf_page _ _ _ _ _ is.0 c.if-level-eq0.true in
-    none (record { level = 0; entries = rows is.0.tree }) (subst (λ b. IsNode b (record { level = 0; entries = rows is.0.tree })) (sym (c.in_ok-read_level.ensures.reads honest)) l.0))) c.stand.ensures.refused)
+    let l = leaf_page (txn_pages c.args.txn.now) P c.args.level key (P c.args.p) is.0 c.if-level-eq0.true in
+    let node : Node = record { level = 0; entries = rows is.0.tree } in
+    let there : get_or {A = List ℕ} pages 0 [] ≡ P c.args.p = first ∙ c.in_ok-read_level.ensures.reads honest in
+    none node (subst (λ (b : List ℕ). IsNode b node) (sym there) l.0))) c.stand.ensures.refused)
 
 -- ---- no way down
 pub returns-in_err-own-clause-err : goal.returns-in_err-own-clause-err
@@ -60,6 +83,18 @@ returns-in_err-child-clause-err g t c =
     let there : c.lent-bytes.result.now ≡ P c.args.p = c.lent-bytes.ensures ∙ c.in_ok-own.ensures.lends honest in
     some_child _ _ _ _ _ is.0 some (λ node at inner. c.in_err-child.ensures.refused node (subst (λ b. IsNode b node) (sym there) at) (node_rises _ _ _ _ _ is.0 some node at) inner))))
 
+-- ---- just above the leaves
+pub returns-then-level-eq1-clause-read : goal.returns-then-level-eq1-clause-read
+returns-then-level-eq1-clause-read g t c = λ honest is.
+    let n = txn_pages c.args.txn.now in
+    let P = over c.args.txn.now (stored c.args.pages.now) in
+    let key = c.args.key.now in
+    subst (λ (d : ℕ). (can : CanGet n P d key (P c.args.p)) → OnOk c.leaves_below.result (IsRead can.tree can.high (bound_in c.args.leaf.now) key c.leaves_below.new.leaf c.leaves_below.new.held)) (sym c.if-level-eq1.true) (c.leaves_below.ensures.read honest) is
+
+pub returns-then-level-eq1-clause-err : goal.returns-then-level-eq1-clause-err
+returns-then-level-eq1-clause-err g t c =
+    subst (λ (d : ℕ). IfErr c.leaves_below.result (λ e. ReadsErr (λ (S : Image). CanGetAt (txn_pages c.args.txn.now) (over c.args.txn.now S) d c.args.key.now c.args.p) c.args.pages.now c.leaves_below.new.pages e)) (sym c.if-level-eq1.true) c.leaves_below.ensures.err
+
 -- ---- below
 pub returns-clause-read : goal.returns-clause-read
 returns-clause-read g t c = λ honest is.
@@ -75,9 +110,13 @@ returns-clause-read g t c = λ honest is.
     let up = bound_in c.args.leaf.now in
     let mid = bound_in c.go_down.new.leaf in
     let kept : mid ≡ nearer (ceiling c.args.key.now go.node.entries) up = c.in_ok-child.ensures.bound go.node (subst (λ b. IsNode b go.node) (sym there) go.node_is) (node_rises _ _ _ _ _ is some go.node go.node_is) in
-    map_ok c.leaf_below.result (λ _. IsRead next.tree mid c.args.key.now c.leaf_below.new.leaf) (λ _. IsRead is.tree up c.args.key.now c.leaf_below.new.leaf)
-    (λ _ h. read_more is.tree next.tree up mid c.args.key.now c.leaf_below.new.leaf (go.leaf_is (P child) refl) (ap (λ b. bound_of next.tree b c.args.key.now) kept ∙ go.bound_is (P child) refl up) h)
-    (subst (λ (S : Image). (can : CanGet (txn_pages c.args.txn.now) (over c.args.txn.now S) (c.args.level - 1) c.args.key.now (over c.args.txn.now S child)) → OnOk c.leaf_below.result (IsRead can.tree mid c.args.key.now c.leaf_below.new.leaf)) same (c.leaf_below.ensures.read honest) next)
+    let key = c.args.key.now in
+    let held = c.leaf_below.new.leaf in
+    let pages = c.leaf_below.new.held in
+    map_ok c.leaf_below.result (λ _. IsRead next.tree next.high mid key held pages) (λ _. IsRead is.tree is.high up key held pages)
+    (λ _ h. read_more next.tree is.tree is.low next.low next.high is.high mid up key held pages (go.wider (P child) refl) (go.leaf_is (P child) refl)
+    (λ x within. ap (λ b. bound_of next.tree b x) kept ∙ go.bound_is (P child) refl x within up) next.between h)
+    (subst (λ (S : Image). (can : CanGet (txn_pages c.args.txn.now) (over c.args.txn.now S) (c.args.level - 1) key (over c.args.txn.now S child)) → OnOk c.leaf_below.result (IsRead can.tree can.high mid key held pages)) same (c.leaf_below.ensures.read honest) next)
 
 pub returns-clause-quiet : goal.returns-clause-quiet
 returns-clause-quiet g t c = quiet_more c.args.pages.now c.lend_level.new.pages c.leaf_below.new.pages c.in_ok-own.ensures.quiet c.leaf_below.ensures.quiet

@@ -37,7 +37,7 @@ returns-clause-read g c = λ honest m r.
     let there : c.lent.result.now ≡ over t S (txn_root t) = c.lent.ensures ∙ c.in_ok-own.ensures.lends before ∙ ap (λ q. over t S q) c.root-root.ensures.root in
     let level = level_there _ _ _ _ m r c.lent.result.now c.level_of-level.result there c.level_of-level.ensures.level in
     let can = can_get _ _ _ _ m r c.args.key.now (over t S root) c.level_of-level.result (ap (λ q. over t S q) c.root-root.ensures.root) level in
-    subst (λ (P : Image). (is : CanGet (txn_pages t) (over t P) c.level_of-level.result c.args.key.now (over t P root)) → OnOk c.leaf_below.result (IsRead is.tree None c.args.key.now c.leaf_below.new.leaf)) same (c.leaf_below.ensures.read honest) can
+    subst (λ (P : Image). (is : CanGet (txn_pages t) (over t P) c.level_of-level.result c.args.key.now (over t P root)) → OnOk c.leaf_below.result (IsRead is.tree is.high None c.args.key.now c.leaf_below.new.leaf c.leaf_below.new.held)) same (c.leaf_below.ensures.read honest) can
 
 pub returns-clause-passed : goal.returns-clause-passed
 returns-clause-passed g c = map_ok c.leaf_below.result (λ _. Passed c.lend.new.pages c.leaf_below.new.pages) (λ _. Passed c.args.pages.now c.leaf_below.new.pages)

@@ -9,7 +9,7 @@ use Rattle.page_btree.specs.Keys.{KeyMap}
 use Rattle.page_btree.specs.Seeking.{bound_in, IsRead}
 use Rattle.page_btree.proofs.Outcomes.{err_of}
 use Rattle.page_btree.proofs.Refusals.{get_more}
-use Rattle.page_btree.proofs.Seeking.{from_read, from_behind, some_behind, from_bare}
+use Rattle.page_btree.proofs.Following.{from_read, from_behind, some_behind, from_bare}
 use Rattle.page_btree.proofs.seeks.leaf_from.Goals as goal
 
 clash : {b : List ℕ} → Some b ≡ None → ⊥
@@ -19,16 +19,24 @@ pub returns-then-leaf-gt0-clause-rows : goal.returns-then-leaf-gt0-clause-rows
 returns-then-leaf-gt0-clause-rows g c = λ honest m holds.
     let some : 0 < c.leaf_for.new.leaf.left = c.if-leaf-gt0.true in
     ⊎_elim
-    (λ bare. let at = c.in_ok-leaf_for.ensures.bare bare.root_is in from_bare _ _ _ m c.args.key.now c.leaf_for.new.leaf bare at.0 at.1 at.2)
-    (λ r. from_read _ _ _ _ m r c.args.key.now c.leaf_for.new.leaf (c.in_ok-leaf_for.ensures.read honest m r) (λ none. absurd (omega arith)))
+    (λ bare. let at = c.in_ok-leaf_for.ensures.bare bare.root_is in from_bare _ _ _ m c.args.key.now c.leaf_for.new.leaf c.leaf_for.new.held bare at.0 at.1 at.2 at.3)
+    (λ r. from_read _ _ _ _ m r c.args.key.now c.leaf_for.new.leaf c.leaf_for.new.held (c.in_ok-leaf_for.ensures.read honest m r) (λ none alone. absurd (omega arith)))
+    holds.held
+
+pub returns-then-leaf-gt0-2-clause-rows : goal.returns-then-leaf-gt0-2-clause-rows
+returns-then-leaf-gt0-2-clause-rows g c = λ honest m holds.
+    let some : 0 < c.leaf_for.new.leaf.more = c.if-leaf-gt0-2.true in
+    ⊎_elim
+    (λ bare. let at = c.in_ok-leaf_for.ensures.bare bare.root_is in from_bare _ _ _ m c.args.key.now c.leaf_for.new.leaf c.leaf_for.new.held bare at.0 at.1 at.2 at.3)
+    (λ r. from_read _ _ _ _ m r c.args.key.now c.leaf_for.new.leaf c.leaf_for.new.held (c.in_ok-leaf_for.ensures.read honest m r) (λ none alone. absurd (omega arith)))
     holds.held
 
 pub returns-then-not-leaf-clause-rows : goal.returns-then-not-leaf-clause-rows
 returns-then-not-leaf-clause-rows g c = λ honest m holds.
     let last : bound_in c.leaf_for.new.leaf ≡ None = ap (λ b. cond b (Some c.leaf_for.new.leaf.bound) None) c.if-not-leaf.true in
     ⊎_elim
-    (λ bare. let at = c.in_ok-leaf_for.ensures.bare bare.root_is in from_bare _ _ _ m c.args.key.now c.leaf_for.new.leaf bare at.0 at.1 at.2)
-    (λ r. from_read _ _ _ _ m r c.args.key.now c.leaf_for.new.leaf (c.in_ok-leaf_for.ensures.read honest m r) (λ none. last))
+    (λ bare. let at = c.in_ok-leaf_for.ensures.bare bare.root_is in from_bare _ _ _ m c.args.key.now c.leaf_for.new.leaf c.leaf_for.new.held bare at.0 at.1 at.2 at.3)
+    (λ r. from_read _ _ _ _ m r c.args.key.now c.leaf_for.new.leaf c.leaf_for.new.held (c.in_ok-leaf_for.ensures.read honest m r) (λ none alone. last))
     holds.held
 
 pub returns-in_err-leaf_behind-clause-err : goal.returns-in_err-leaf_behind-clause-err
@@ -46,14 +54,15 @@ pub returns-then-leaf-eq0-clause-err : goal.returns-then-leaf-eq0-clause-err
 returns-then-leaf-eq0-clause-err g c = inr (λ honest m holds.
     let t = c.args.txn.now in
     let none : c.leaf_for.new.leaf.left ≡ 0 = let few = c.if-leaf-gt0.false in omega arith in
+    let alone : c.leaf_for.new.leaf.more ≡ 0 = let few = c.if-leaf-gt0-2.false in omega arith in
     let bound : bound_in c.leaf_for.new.leaf ≡ Some c.leaf_for.new.leaf.bound = ap (λ b. cond b (Some c.leaf_for.new.leaf.bound) None) c.if-not-leaf.false in
     let before = c.in_ok-leaf_behind.ensures.quiet.honest honest in
     let same = c.in_ok-leaf_for.ensures.quiet.same before in
-    let read = subst (λ (S : Image). (q : KeyMap) (r : IsRooted (txn_pages t) (over t S) (txn_root t) (free_over t S) q) → IsRead r.tree None c.leaf_for.new.leaf.bound c.leaf_behind.new.leaf) same (c.in_ok-leaf_behind.ensures.read honest) in
+    let read = subst (λ (S : Image). (q : KeyMap) (r : IsRooted (txn_pages t) (over t S) (txn_root t) (free_over t S) q) → IsRead r.tree None None c.leaf_for.new.leaf.bound c.leaf_behind.new.leaf c.leaf_behind.new.held) same (c.in_ok-leaf_behind.ensures.read honest) in
     let last : c.leaf_behind.new.leaf.left ≡ 0 = c.if-leaf-eq0.true in
     ⊎_elim
-    (λ bare. clash (sym bound ∙ (c.in_ok-leaf_for.ensures.bare bare.root_is).2))
-    (λ r. let some = some_behind _ _ _ _ m r c.args.key.now c.leaf_for.new.leaf.bound c.leaf_for.new.leaf c.leaf_behind.new.leaf (c.in_ok-leaf_for.ensures.read before m r) bound (read m r) in omega arith)
+    (λ bare. clash (sym bound ∙ (c.in_ok-leaf_for.ensures.bare bare.root_is).3))
+    (λ r. let some = some_behind _ _ _ _ m r c.args.key.now c.leaf_for.new.leaf.bound c.leaf_for.new.leaf c.leaf_behind.new.leaf c.leaf_for.new.held c.leaf_behind.new.held (c.in_ok-leaf_for.ensures.read before m r) alone bound (read m r) in omega arith)
     holds.held)
 
 pub returns-clause-quiet : goal.returns-clause-quiet
@@ -66,12 +75,13 @@ pub returns-clause-rows : goal.returns-clause-rows
 returns-clause-rows g c = λ honest m holds.
     let t = c.args.txn.now in
     let none : c.leaf_for.new.leaf.left ≡ 0 = let few = c.if-leaf-gt0.false in omega arith in
+    let alone : c.leaf_for.new.leaf.more ≡ 0 = let few = c.if-leaf-gt0-2.false in omega arith in
     let bound : bound_in c.leaf_for.new.leaf ≡ Some c.leaf_for.new.leaf.bound = ap (λ b. cond b (Some c.leaf_for.new.leaf.bound) None) c.if-not-leaf.false in
     let before = c.in_ok-leaf_behind.ensures.quiet.honest honest in
     let same = c.in_ok-leaf_for.ensures.quiet.same before in
-    let read = subst (λ (S : Image). (q : KeyMap) (r : IsRooted (txn_pages t) (over t S) (txn_root t) (free_over t S) q) → IsRead r.tree None c.leaf_for.new.leaf.bound c.leaf_behind.new.leaf) same (c.in_ok-leaf_behind.ensures.read honest) in
+    let read = subst (λ (S : Image). (q : KeyMap) (r : IsRooted (txn_pages t) (over t S) (txn_root t) (free_over t S) q) → IsRead r.tree None None c.leaf_for.new.leaf.bound c.leaf_behind.new.leaf c.leaf_behind.new.held) same (c.in_ok-leaf_behind.ensures.read honest) in
     let some : 0 < c.leaf_behind.new.leaf.left = let not = c.if-leaf-eq0.false in omega arith in
     ⊎_elim
-    (λ bare. absurd (clash (sym bound ∙ (c.in_ok-leaf_for.ensures.bare bare.root_is).2)))
-    (λ r. from_behind _ _ _ _ m r c.args.key.now c.leaf_for.new.leaf.bound c.leaf_for.new.leaf c.leaf_behind.new.leaf (c.in_ok-leaf_for.ensures.read before m r) none bound (read m r) some)
+    (λ bare. absurd (clash (sym bound ∙ (c.in_ok-leaf_for.ensures.bare bare.root_is).3)))
+    (λ r. from_behind _ _ _ _ m r c.args.key.now c.leaf_for.new.leaf.bound c.leaf_for.new.leaf c.leaf_behind.new.leaf c.leaf_for.new.held c.leaf_behind.new.held (c.in_ok-leaf_for.ensures.read before m r) none alone bound (read m r) some)
     holds.held

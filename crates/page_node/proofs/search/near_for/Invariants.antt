@@ -1,11 +1,14 @@
-use Rattle.std.proofs.Common.{◌≤◌}
+use Rattle.std.proofs.Common.{◌≡◌, ◌+◌, ◌-◌, ◌≤◌, take}
+use Rattle.page_node.specs.Entries.{size_of}
 use Rattle.page_node.specs.Node.{Node, IsNode}
 use Rattle.page_node.specs.Searching.{IsLast, RisesBehind}
-use Rattle.page_node.proofs.Nearing.{IsPassed}
 use Rattle.page_node.proofs.search.near_for.Given as goal
 
-abbrev pub invariant-loop-k : goal.invariant-loop-k
-invariant-loop-k l =
-    (l.at ≤ 4096) × (l.value ≤ 4096) × (l.near.at ≤ 4096) × (l.near.value ≤ 4096) × (l.near.k ≤ l.k)
-    × ((node : Node) → IsNode l.page node → IsPassed l.page node.entries l.k l.value l.at)
+abbrev pub invariant-loop-near : goal.invariant-loop-near
+invariant-loop-near l =
+    (l.near.at ≤ 4096) × (l.near.value ≤ 4096) × (l.near.k ≤ l.count)
+    × ((node : Node) → IsNode l.page node → l.near.at ≡ 4 + size_of (take l.near.k node.entries))
     × ((node : Node) → IsNode l.page node → RisesBehind node.entries → IsLast l.page l.key node.entries l.near.k l.near.value l.near.at)
+
+abbrev pub decreases-loop-near : goal.decreases-loop-near
+decreases-loop-near l = l.count - l.near.k

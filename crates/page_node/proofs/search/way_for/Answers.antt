@@ -1,66 +1,11 @@
-use Rattle.std.proofs.Common.{◌≡◌, ◌≤◌, ◌+◌, ◌-◌, ℕ, true, arith, sym, ap, ◌∙◌}
-use Rattle.std.specs.Prelude.{Some, Ok}
-use Rattle.std.specs.Ordering.{is_gt}
-use Rattle.page_node.specs.Entries.{key_at}
-use Rattle.page_node.specs.Places.{key_cmp}
-use Rattle.page_node.specs.Laws.{floor_stop, ceiling_at, ceiling_none}
-use Rattle.page_node.proofs.Scanning.{lies_there, entry_of, key_part, last_next, child_ok}
+use Rattle.std.proofs.Common.{ap, sym, ◌∙◌}
+use Rattle.std.specs.Prelude.{Some}
+use Rattle.page_node.proofs.Following.{some_of, turn_bound}
 use Rattle.page_node.proofs.search.way_for.Goals as goal
-use Rattle.page_node.proofs.search.way_for.Goals.{else-k-gt0-via-then-k-gt0+else-is_above, else-k-gt0-via-else-k-gt0}
 
-pub returns-in-None-bounds_in-clause-err : goal.returns-in-None-bounds_in-clause-err
-returns-in-None-bounds_in-clause-err c = λ node is rises inner.
-    let last = c.loop-k.invariant.2 node is rises in
-    let n = is.count in
-    absurd (lies_there _ node c.loop-k.k c.loop-k.at is (omega arith) last.place c.in-None-bounds_in.ensures.none)
-
-pub loop-k-preserved : goal.loop-k-preserved
-loop-k-preserved c =
-    let lies = c.in-Some-bounds_in.ensures.some in
-    let end_is = lies.end_is in
-    let within = lies.within in (
-      lies.within,
-      omega arith,
-      λ node is rises.
-          let last = c.loop-k.invariant.2 node is rises in
-          let n = is.count in
-          let e = entry_of _ node c.loop-k.k c.loop-k.at is (omega arith) last.place in
-          last_next _ c.args.key.now node.entries c.loop-k.k c.loop-k.value c.loop-k.at _ _ last e lies (λ some. elim c.else-k-gt0.branch [
-            | else-k-gt0-via-then-k-gt0+else-is_above w ↦ ap (λ l. is_gt (key_cmp l c.args.key.now)) (sym (key_part _ _ _ _ _ _ e lies)) ∙ sym w.is_above.ensures ∙ w.if-is_above.false
-            | else-k-gt0-via-else-k-gt0 w ↦ absurd (omega arith)
-          ]),
-    )
-
-pub returns-then-is_above-clause-child : goal.returns-then-is_above-clause-child
-returns-then-is_above-clause-child c = λ node is rises.
-    let last = c.loop-k.invariant.2 node is rises in
-    let n = is.count in
-    let e = entry_of _ node c.loop-k.k c.loop-k.at is (omega arith) last.place in
-    let above : is_gt (key_cmp (key_at node.entries c.loop-k.k) c.args.key.now) ≡ true = ap (λ l. is_gt (key_cmp l c.args.key.now)) (sym (key_part _ _ _ _ _ _ e c.in-Some-bounds_in.ensures.some)) ∙ sym c.is_above.ensures ∙ c.if-is_above.true in
-    let next : c.loop-k.k - 1 + 1 ≡ c.loop-k.k = omega arith in
-    child_ok {E = ℕ} _ c.args.key.now node.entries c.loop-k.k c.loop-k.value c.loop-k.at (Ok c.in_ok-child.child) last c.in_ok-child.ensures.ok
-    (λ some. floor_stop c.args.key.now node.entries (c.loop-k.k - 1) (omega arith) (λ j more le. last.below j more (omega arith)) (λ long. ap (λ k. is_gt (key_cmp (key_at node.entries k) c.args.key.now)) next ∙ above))
-
-pub returns-then-is_above-clause-bound : goal.returns-then-is_above-clause-bound
-returns-then-is_above-clause-bound c = λ node is rises.
-    let last = c.loop-k.invariant.2 node is rises in
-    let n = is.count in
-    let e = entry_of _ node c.loop-k.k c.loop-k.at is (omega arith) last.place in
-    let there = key_part _ _ _ _ _ _ e c.in-Some-bounds_in.ensures.some in
-    let above : is_gt (key_cmp (key_at node.entries c.loop-k.k) c.args.key.now) ≡ true = ap (λ l. is_gt (key_cmp l c.args.key.now)) (sym there) ∙ sym c.is_above.ensures ∙ c.if-is_above.true in
-    ap Some (c.part.ensures ∙ there) ∙ sym (ceiling_at c.args.key.now node.entries c.loop-k.k (omega arith) (omega arith) last.below above)
-
-pub returns-clause-child : goal.returns-clause-child
-returns-clause-child c = λ node is rises.
-    let few : c.in-Some.near.k ≤ c.count_of-count.result = let most = c.in-Some.ensures.within.2 in let count_is = c.count_of-count.ensures.count in omega arith in
-    let last = c.loop-k.invariant.2 node is rises in
-    let n = is.count in
-    child_ok {E = ℕ} _ c.args.key.now node.entries c.loop-k.k c.loop-k.value c.loop-k.at (Ok c.in_ok-child-2.child) last c.in_ok-child-2.ensures.ok
-    (λ some. floor_stop c.args.key.now node.entries (c.loop-k.k - 1) (omega arith) (λ j more le. last.below j more (omega arith)) (λ long. absurd (omega arith)))
-
-pub returns-clause-bound : goal.returns-clause-bound
-returns-clause-bound c = λ node is rises.
-    let few : c.in-Some.near.k ≤ c.count_of-count.result = let most = c.in-Some.ensures.within.2 in let count_is = c.count_of-count.ensures.count in omega arith in
-    let last = c.loop-k.invariant.2 node is rises in
-    let n = is.count in
-    sym (ceiling_none c.args.key.now node.entries (λ j some less. last.below j some (omega arith)))
+pub returns-in-Some-clause-bound : goal.returns-in-Some-clause-bound
+returns-in-Some-clause-bound c = λ node is rises.
+    let above = c.in-Some.above in
+    let turn = some_of _ c.in_ok-turn.turn.above above c.in-Some.is (c.in_ok-turn.ensures.above node is rises) in
+    let lies = some_of _ c.in_ok-turn.turn.above above c.in-Some.is c.in_ok-turn.ensures.lies in
+    ap Some c.part.ensures ∙ sym (turn_bound _ c.args.key.now node above.k above.at above.value above.end is turn lies)

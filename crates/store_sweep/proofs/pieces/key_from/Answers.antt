@@ -1,22 +1,35 @@
-use Rattle.std.proofs.Common.{[], inr, ◌∙◌}
+use Rattle.std.proofs.Common.{[], inr, arith}
 use Rattle.std.specs.FinMap.{entries}
-use Rattle.page_node.specs.Walking.{ahead_lies, ahead_next}
-use Rattle.store_sweep.proofs.Least.{none_found, least_found, leaf_none, leaf_some}
+use Rattle.page_btree.specs.Errors.{GetErr}
+use Rattle.store_sweep.proofs.Least.{none_found, leaf_none, leaf_some, leaf_next, found_at, fault_at}
 use Rattle.store_sweep.proofs.pieces.key_from.Goals as goal
 
-pub returns-then-leaf-eq0-clause-found : goal.returns-then-leaf-eq0-clause-found
-returns-then-leaf-eq0-clause-found g c = λ honest m holds.
-    let key = c.args.key.now in
-    none_found m key (leaf_none key (entries m) c.leaf_from.new.leaf (c.in_ok-leaf_from.ensures.rows honest m holds) c.if-leaf-eq0.true) []
+pub returns-then-leaf-gt0-clause-found : goal.returns-then-leaf-gt0-clause-found
+returns-then-leaf-gt0-clause-found g c = λ honest m holds.
+    found_at m c.args.key.now _ _ (leaf_some c.args.key.now (entries m) c.leaf_from.new.leaf c.leaf_from.new.held (c.in_ok-leaf_from.ensures.rows honest m holds) c.if-leaf-gt0.true) _ c.copy_key.result c.copy_key.ensures.copied c.copy_key.ensures.ok
 
-pub returns-in-None-clause-err : goal.returns-in-None-clause-err
-returns-in-None-clause-err g c = inr (λ honest m holds.
-    let at = leaf_some c.args.key.now (entries m) c.leaf_from.new.leaf (c.in_ok-leaf_from.ensures.rows honest m holds) c.if-leaf-eq0.false in
-    ahead_lies _ _ at.e at.es at.ahead c.in-None.ensures.none)
+pub returns-then-leaf-gt0-clause-err : goal.returns-then-leaf-gt0-clause-err
+returns-then-leaf-gt0-clause-err g c =
+    fault_at c.copy_key.result (λ e. GetErr c.args.txn.now c.args.pages.now c.leaf_from.new.pages e) _ c.copy_key.ensures.err c.copy_key.ensures.refused
+    (λ refused. inr (λ honest m holds.
+    let at = leaf_some c.args.key.now (entries m) c.leaf_from.new.leaf c.leaf_from.new.held (c.in_ok-leaf_from.ensures.rows honest m holds) c.if-leaf-gt0.true in
+    refused at.e at.es at.ahead))
 
-pub returns-in-Some-clause-found : goal.returns-in-Some-clause-found
-returns-in-Some-clause-found g c = λ honest m holds.
-    let key = c.args.key.now in
-    let at = leaf_some key (entries m) c.leaf_from.new.leaf (c.in_ok-leaf_from.ensures.rows honest m holds) c.if-leaf-eq0.false in
-    let taken = ahead_next _ _ _ _ at.e at.es at.ahead c.in-Some.ensures.some in
-    least_found m key at.e at.rest at.whole c.set.new.self (c.set.ensures ∙ taken.key_is)
+pub returns-then-leaf-gt0-2-clause-found : goal.returns-then-leaf-gt0-2-clause-found
+returns-then-leaf-gt0-2-clause-found g c = λ honest m holds.
+    let few = c.if-leaf-gt0.false in
+    found_at m c.args.key.now _ _ (leaf_next c.args.key.now (entries m) c.leaf_from.new.leaf c.leaf_from.new.held (c.in_ok-leaf_from.ensures.rows honest m holds) (omega arith) c.if-leaf-gt0-2.true) _ c.copy_key-then-leaf-gt0-2.result c.copy_key-then-leaf-gt0-2.ensures.copied c.copy_key-then-leaf-gt0-2.ensures.ok
+
+pub returns-then-leaf-gt0-2-clause-err : goal.returns-then-leaf-gt0-2-clause-err
+returns-then-leaf-gt0-2-clause-err g c =
+    fault_at c.copy_key-then-leaf-gt0-2.result (λ e. GetErr c.args.txn.now c.args.pages.now c.leaf_from.new.pages e) _ c.copy_key-then-leaf-gt0-2.ensures.err c.copy_key-then-leaf-gt0-2.ensures.refused
+    (λ refused. inr (λ honest m holds.
+    let few = c.if-leaf-gt0.false in
+    let at = leaf_next c.args.key.now (entries m) c.leaf_from.new.leaf c.leaf_from.new.held (c.in_ok-leaf_from.ensures.rows honest m holds) (omega arith) c.if-leaf-gt0-2.true in
+    refused at.e at.es at.ahead))
+
+pub returns-clause-found : goal.returns-clause-found
+returns-clause-found g c = λ honest m holds.
+    let few = c.if-leaf-gt0.false in
+    let last = c.if-leaf-gt0-2.false in
+    none_found m c.args.key.now (leaf_none c.args.key.now (entries m) c.leaf_from.new.leaf c.leaf_from.new.held (c.in_ok-leaf_from.ensures.rows honest m holds) (omega arith) (omega arith)) []

@@ -1,5 +1,5 @@
 use Rattle.page_node.specs.Walking.{ahead_lies, ahead_next}
-use Rattle.btree_scan.proofs.rows.take_row.Goals as goal
+use Rattle.btree_scan.proofs.rows.parts_at.Goals as goal
 
 pub returns-in-Some-clause-taken : goal.returns-in-Some-clause-taken
 returns-in-Some-clause-taken c = λ e es is.

@@ -1,0 +1,100 @@
+-- Entries that are passed over.
+use Rattle.std.proofs.Common.{◌≡◌, ℕ, ◌+◌, ◌*◌, ◌/◌, ◌%◌, ◌<◌, ◌≤◌, List, [], ◌∷◌, length, take, drop, sym, ap, ◌∙◌, subst, arith, true, nat_eq, true-eqb}
+use mathlib.Core.Bool.{◌&&◌}
+use Rattle.std.proofs.lemmas.Bool.{and_parts}
+use Rattle.std.proofs.lemmas.List.{drop-drop, length-drop}
+use Rattle.std.proofs.lemmas.List.Elements.{All-drop}
+use Rattle.std.proofs.Math.Seq.{take-add}
+use Rattle.page_node.specs.Entries.{Entry, IsEntry, size_of, key_length, value_length}
+use Rattle.page_node.specs.EntryLists.{size-parts, size-append, rest_at}
+use Rattle.page_node.specs.Bytes.{LiesAt, LiesNot}
+use Rattle.page_node.specs.Node.{Node, IsNode}
+use Rattle.page_node.specs.Walking.{IsAhead, PassesTo, ahead_lies, ahead_lengths, node_ahead_at}
+
+-- behind some of those that stand ahead the others do
+ahead_at : (page : List ℕ) (at n : ℕ) (es : List Entry) → IsAhead page at es → IsAhead page (at + size_of (take n es)) (drop n es)
+ahead_at page at n es is = record {
+  body = ap (take (size_of (drop n es))) (sym (drop-drop (size_of (take n es)) at page)) ∙ rest_at n es (drop at page) is.body;
+  entries = All-drop IsEntry n es is.entries;
+  within = let within = is.within in let parts = size-parts n es in omega arith;
+}
+
+taken_more : (m n : ℕ) (es : List Entry) → size_of (take (m + n) es) ≡ size_of (take m es) + size_of (take n (drop m es))
+taken_more m n es = ap size_of (take-add m n es) ∙ size-append (take m es) (take n (drop m es))
+
+pub passes_none : (page : List ℕ) (at : ℕ) → PassesTo page at 0 at
+passes_none page at es is long = omega arith
+
+-- some and then others
+pub passes_both : (page : List ℕ) (at mid end m n : ℕ) → PassesTo page at m mid → PassesTo page mid n end → PassesTo page at (m + n) end
+passes_both page at mid end m n first then es is long =
+    let mid_is = first es is (omega arith) in
+    let left = length-drop m es in
+    let rest : IsAhead page mid (drop m es) = subst (λ (place : ℕ). IsAhead page place (drop m es)) (sym mid_is) (ahead_at page at m es is) in
+    let end_is = then (drop m es) rest (omega arith) in
+    let sum = taken_more m n es in
+    omega arith
+
+-- the first three bytes of an entry as a number
+abbrev pub head_of : List ℕ → ℕ → ℕ
+head_of page at = 65536 * key_length (drop at page) + value_length (drop at page)
+
+-- one that has this head
+pub passes_alike : (page : List ℕ) (at head size : ℕ) → size ≡ 3 + head / 65536 + head % 65536 → head_of page at ≡ head → PassesTo page at 1 (at + size)
+passes_alike page at head size size_is alike [] is long = absurd (omega arith)
+passes_alike page at head size size_is alike (e ∷ es) is long =
+    let lengths = ahead_lengths page at e es is in
+    let key = lengths.0 in
+    let value = lengths.1 in
+    let narrow = (is.entries 0 ([], []) (omega arith)).1 in
+    omega arith
+
+pub passes_four : (page : List ℕ) (at head size a b c d : ℕ) → size ≡ 3 + head / 65536 + head % 65536
+    → a ≡ head_of page at → b ≡ head_of page (at + size) → c ≡ head_of page (at + 2 * size) → d ≡ head_of page (at + 3 * size)
+    → (((nat_eq a head && nat_eq b head) && nat_eq c head) && nat_eq d head) ≡ true → PassesTo page at 4 (at + 4 * size)
+passes_four page at head size a b c d size_is a_is b_is c_is d_is all =
+    let three = and_parts ((nat_eq a head && nat_eq b head) && nat_eq c head) (nat_eq d head) all in
+    let two = and_parts (nat_eq a head && nat_eq b head) (nat_eq c head) three.0 in
+    let one = and_parts (nat_eq a head) (nat_eq b head) two.0 in
+    let alike : (at : ℕ) (n : ℕ) → n ≡ head_of page at → nat_eq n head ≡ true → PassesTo page at 1 (at + size) = λ at n is same. passes_alike page at head size size_is (sym is ∙ true-eqb n head (sym same)) in
+    let second : at + size + size ≡ at + 2 * size = omega arith in
+    let third : at + 2 * size + size ≡ at + 3 * size = omega arith in
+    let fourth : at + 3 * size + size ≡ at + 4 * size = omega arith in
+    let first_two = passes_both page at (at + size) (at + size + size) 1 1 (alike at a a_is one.0) (alike (at + size) b b_is one.1) in
+    let first_three = passes_both page at (at + 2 * size) (at + 2 * size + size) 2 1 (subst (λ (end : ℕ). PassesTo page at 2 end) second first_two) (alike (at + 2 * size) c c_is two.1) in
+    let all_four = passes_both page at (at + 3 * size) (at + 3 * size + size) 3 1 (subst (λ (end : ℕ). PassesTo page at 3 end) third first_three) (alike (at + 3 * size) d d_is three.1) in
+    subst (λ (end : ℕ). PassesTo page at 4 end) fourth all_four
+
+-- one that is found to lie there
+pub passes_found : (page : List ℕ) (at value end : ℕ) → LiesAt page at value end → PassesTo page at 1 end
+passes_found page at value end lies [] is long = absurd (omega arith)
+passes_found page at value end lies (e ∷ es) is long =
+    let lengths = ahead_lengths page at e es is in
+    let key = lengths.0 in
+    let wide = lengths.1 in
+    let value_is = lies.value_is in
+    let end_is = lies.end_is in
+    omega arith
+
+pub passes_not : (page : List ℕ) (at mid k : ℕ) (es : List Entry) → PassesTo page at k mid → IsAhead page at es → k < length es → LiesNot page mid → ⊥
+passes_not page at mid k es passed is long not_there =
+    let left = length-drop k es in
+    let mid_is = passed es is (omega arith) in
+    first_lies (drop k es) (subst (λ (place : ℕ). IsAhead page place (drop k es)) (sym mid_is) (ahead_at page at k es is)) (omega arith)
+  where
+    first_lies : (rest : List Entry) → IsAhead page mid rest → 0 < length rest → ⊥
+    first_lies [] ahead some = absurd (omega arith)
+    first_lies (e ∷ rest) ahead some = ahead_lies page mid e rest ahead not_there
+
+-- from an entry of a node on
+pub node_passed : (page : List ℕ) (node : Node) (k at n end : ℕ) → IsNode page node → at ≡ 4 + size_of (take k node.entries) → k + n ≤ length node.entries → PassesTo page at n end → end ≡ 4 + size_of (take (k + n) node.entries)
+node_passed page node k at n end is place long passed =
+    let left = length-drop k node.entries in
+    let end_is = passed (drop k node.entries) (node_ahead_at page node k at is place) (omega arith) in
+    let sum = taken_more k n node.entries in
+    omega arith
+
+pub node_passed_not : (page : List ℕ) (node : Node) (k at n : ℕ) → IsNode page node → at ≡ 4 + size_of (take k node.entries) → k + n ≤ length node.entries → ((es : List Entry) → IsAhead page at es → n ≤ length es → ⊥) → ⊥
+node_passed_not page node k at n is place long none =
+    let left = length-drop k node.entries in
+    none (drop k node.entries) (node_ahead_at page node k at is place) (omega arith)

@@ -1,0 +1,17 @@
+use Rattle.std.proofs.Common.{arith}
+use Rattle.page_node.proofs.Passed.{passes_none, passes_both, passes_found, passes_not}
+use Rattle.page_node.proofs.passing.each_in.Goals as goal
+
+pub loop-k-init : goal.loop-k-init
+loop-k-init c = (omega arith, c.requires, passes_none c.args.page.now c.args.at)
+
+pub loop-k-preserved : goal.loop-k-preserved
+loop-k-preserved c =
+    let lies = c.in-Some.ensures.some in
+    let from = c.loop-k.invariant.0 in
+    let value_is = lies.value_is in
+    let end_is = lies.end_is in
+    (omega arith, lies.within, passes_both _ _ _ _ _ 1 c.loop-k.invariant.2 (passes_found _ _ _ _ lies))
+
+pub returns-in-None-clause-none : goal.returns-in-None-clause-none
+returns-in-None-clause-none c = λ es is long. passes_not _ _ _ _ es c.loop-k.invariant.2 is (omega arith) c.in-None.ensures.none

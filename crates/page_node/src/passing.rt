@@ -1,0 +1,70 @@
+//! Entries that are passed over: eight at once where they have the same lengths.
+ghost use Rattle.std.specs.Prelude.{◌≡◌, ◌≤◌, ◌<◌, ◌+◌, ◌*◌, ℕ, List, true, length, drop, IfSome, IfNone};
+ghost use Rattle.page_node.specs.Entries.{Entry, key_length, value_length};
+ghost use Rattle.page_node.specs.Walking.{IsAhead, PassesTo};
+
+use crate::entry::{Lengths, bounds_in};
+
+/// The three bytes at a place as a number, as a `Lengths` holds them.
+fn head_at(page: &[u8; 4096], at: usize) -> u32
+    requires { at < 4093 }
+    ensures { result ≡ 65536 * key_length (drop at page.now) + value_length (drop at page.now) }
+{
+    u32::from_be_bytes([page[at], page[at + 1], page[at + 2], page[at + 3]]) / 256
+}
+
+/// Whether the four entries from a place on have the lengths of the last one, and end before the page does.
+fn four_in(page: &[u8; 4096], at: usize, last: &Lengths) -> bool
+    requires { at ≤ 4096 }
+    ensures within { result ≡ true → at + 4 * last.now.size ≤ 4096 }
+    ensures passed { result ≡ true → PassesTo page.now at 4 (at + 4 * last.now.size) }
+{
+    let size = last.size;
+    if at + 4 * size >= 4096 {
+        return false;
+    }
+    let first = head_at(page, at) == last.head;
+    let second = head_at(page, at + size) == last.head;
+    let third = head_at(page, at + 2 * size) == last.head;
+    let fourth = head_at(page, at + 3 * size) == last.head;
+    first & second & third & fourth
+}
+
+/// The same of eight.
+fn eight_in(page: &[u8; 4096], at: usize, last: &Lengths) -> bool
+    requires { at ≤ 4096 }
+    ensures within { result ≡ true → at + 8 * last.now.size ≤ 4096 }
+    ensures passed { result ≡ true → PassesTo page.now at 8 (at + 8 * last.now.size) }
+{
+    four_in(page, at, last) && four_in(page, at + 4 * last.size, last)
+}
+
+/// Where eight entries end that are looked at one by one.
+fn each_in(page: &[u8; 4096], at: usize, last: &mut Lengths) -> Option<usize>
+    requires { at ≤ 4096 }
+    ensures within { IfSome result (λ end. (at ≤ end) × (end ≤ 4096)) }
+    ensures passed { IfSome result (λ end. PassesTo page.now at 8 end) }
+    ensures none { IfNone result ((es : List Entry) → IsAhead page.now at es → 8 ≤ length es → ⊥) }
+{
+    let mut end = at;
+    for _k in 0..8usize {
+        match bounds_in(page, end, last) {
+            None => return None,
+            Some(bounds) => end = bounds.end,
+        }
+    }
+    Some(end)
+}
+
+/// Where the eight entries from a place on end.
+pub(crate) fn pass(page: &[u8; 4096], at: usize, last: &mut Lengths) -> Option<usize>
+    requires { at ≤ 4096 }
+    ensures within { IfSome result (λ end. (at ≤ end) × (end ≤ 4096)) }
+    ensures passed { IfSome result (λ end. PassesTo page.now at 8 end) }
+    ensures none { IfNone result ((es : List Entry) → IsAhead page.now at es → 8 ≤ length es → ⊥) }
+{
+    if eight_in(page, at, last) {
+        return Some(at + 8 * last.size);
+    }
+    each_in(page, at, last)
+}
