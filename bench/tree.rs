@@ -50,11 +50,73 @@ fn child_at(page: &[u8], at: usize) -> u32 {
     u32::from_be_bytes(page[value..value + 4].try_into().unwrap())
 }
 
+/// The three bytes of an entry's lengths, as a number.
+fn head_at(page: &Page, at: usize) -> u32 {
+    u32::from_be_bytes(page[at..at + 4].try_into().unwrap()) >> 8
+}
+
+/// Where the eight entries from a place on end: where they have the same lengths, by one look.
+fn pass(page: &Page, mut at: usize) -> usize {
+    let head = head_at(page, at);
+    let size = 3 + (head >> 16) as usize + (head & 0xffff) as usize;
+    if at + 8 * size < 4096 {
+        let mut same = true;
+        for k in 1..8 {
+            same &= head_at(page, at + k * size) == head;
+        }
+        if same {
+            return at + 8 * size;
+        }
+    }
+    for _ in 0..8 {
+        at = end_at(page, at);
+    }
+    at
+}
+
+/// Keys in the order of their bytes, eight at a time.
+fn compare(a: &[u8], b: &[u8]) -> Ordering {
+    let least = a.len().min(b.len());
+    if least < 8 {
+        return a.cmp(b);
+    }
+    let eight = |l: &[u8], i: usize| u64::from_be_bytes(l[i..i + 8].try_into().unwrap());
+    let mut i = 0;
+    while i + 8 < least {
+        let (x, y) = (eight(a, i), eight(b, i));
+        if x != y {
+            return x.cmp(&y);
+        }
+        i += 8;
+    }
+    eight(a, least - 8)
+        .cmp(&eight(b, least - 8))
+        .then(a.len().cmp(&b.len()))
+}
+
+fn compare_at(page: &Page, at: usize, key: &[u8]) -> Ordering {
+    compare(&page[at + 3..value_at(page, at)], key)
+}
+
+/// The index and the place of an entry near a key's, before which each key is below it; one key of nine is looked at.
+fn near(page: &Page, key: &[u8], above: Ordering) -> (usize, usize) {
+    let (mut k, mut at) = (0, 4);
+    while k + 8 < count_of(page) {
+        let next = pass(page, at);
+        if compare_at(page, next, key) >= above {
+            break;
+        }
+        k += 9;
+        at = end_at(page, next);
+    }
+    (k, at)
+}
+
 /// The index and the place of a key's entry, or those that it would have.
 fn find(page: &Page, key: &[u8]) -> (usize, usize, bool) {
-    let mut at = 4;
-    for k in 0..count_of(page) {
-        match page[at + 3..value_at(page, at)].cmp(key) {
+    let (first, mut at) = near(page, key, Ordering::Equal);
+    for k in first..count_of(page) {
+        match compare_at(page, at, key) {
             Ordering::Less => at = end_at(page, at),
             Ordering::Greater => return (k, at, false),
             Ordering::Equal => return (k, at, true),
@@ -63,21 +125,31 @@ fn find(page: &Page, key: &[u8]) -> (usize, usize, bool) {
     (count_of(page), at, false)
 }
 
-/// The index and the place of the link that a key belongs to.
-fn link_for(page: &Page, key: &[u8]) -> (usize, usize) {
-    let mut at = 4;
-    let mut next = end_at(page, at);
-    for k in 1..count_of(page) {
-        if page[next + 3..value_at(page, next)] > *key {
-            return (k - 1, at);
+/// The index and the place of the link that a key belongs to, and where it ends. The first link's key says nothing.
+fn link_for(page: &Page, key: &[u8]) -> (usize, usize, usize) {
+    let (mut k, mut at, mut next) = (0, 4, end_at(page, 4));
+    while k + 9 < count_of(page) {
+        let last = pass(page, next);
+        if compare_at(page, last, key) == Ordering::Greater {
+            break;
         }
+        k += 9;
+        at = last;
+        next = end_at(page, at);
+    }
+    while k + 1 < count_of(page) && compare_at(page, next, key) != Ordering::Greater {
+        k += 1;
         at = next;
         next = end_at(page, at);
     }
-    (count_of(page) - 1, at)
+    (k, at, next)
 }
 
 fn used_from(page: &Page, mut k: usize, mut at: usize) -> usize {
+    while k + 8 < count_of(page) {
+        at = pass(page, at);
+        k += 8;
+    }
     while k < count_of(page) {
         at = end_at(page, at);
         k += 1;
@@ -163,7 +235,8 @@ impl Store {
         set_word(meta, 1, first);
         set_word(meta, 2, free);
         assert!(self.list.len() <= JOURNAL);
-        let mut words = std::iter::once(self.list.len() as u32).chain(self.list.iter().map(|w| w.0));
+        let mut words =
+            std::iter::once(self.list.len() as u32).chain(self.list.iter().map(|w| w.0));
         for s in 0..self.list.len() / 1024 + 1 {
             let mut sector = [0; 4096];
             for k in 0..1024 {
@@ -244,7 +317,11 @@ impl Store {
         let length = all[cut] as usize;
         let mut key = [0; 72];
         key[..length].copy_from_slice(&all[cut + 3..cut + 3 + length]);
-        Some(Split { key, length, page: right })
+        Some(Split {
+            key,
+            length,
+            page: right,
+        })
     }
 
     fn put_at(&mut self, p: u32, key: &[u8], value: &[u8]) -> (bool, Option<Split>) {
@@ -255,10 +332,11 @@ impl Store {
             let (bytes, size) = entry(key, value);
             return (found, self.splice(p, k, at, old, &bytes[..size]));
         }
-        let (k, at) = link_for(page, key);
-        let next = end_at(page, at);
+        let (k, at, next) = link_for(page, key);
         let (had, split) = self.put_at(child_at(page, at), key, value);
-        let Some(split) = split else { return (had, None) };
+        let Some(split) = split else {
+            return (had, None);
+        };
         let (bytes, size) = entry(&split.key[..split.length], &split.page.to_be_bytes());
         (had, self.splice(p, k + 1, next, 0, &bytes[..size]))
     }
@@ -290,13 +368,11 @@ impl Store {
     }
 
     /// Takes an entry out, and tells whether the node is then empty.
-    fn cut_out(&mut self, p: u32, k: usize, at: usize) -> bool {
+    fn cut_out(&mut self, p: u32, at: usize) -> bool {
         let page = self.page_mut(p);
-        let used = used_from(page, k, at);
         let end = end_at(page, at);
         let count = count_of(page) - 1;
-        page.copy_within(end..used, at);
-        page[used - (end - at)..used].fill(0);
+        page.copy_within(end.., at);
         set_count(page, count);
         count == 0
     }
@@ -304,21 +380,21 @@ impl Store {
     /// Whether the key was there, and whether the node was given back.
     fn remove_at(&mut self, p: u32, key: &[u8]) -> (bool, bool) {
         let page = self.page(p);
-        let (k, at) = if page[0] == 0 {
-            let (k, at, found) = find(page, key);
+        let at = if page[0] == 0 {
+            let (_, at, found) = find(page, key);
             if !found {
                 return (false, false);
             }
-            (k, at)
+            at
         } else {
-            let (k, at) = link_for(page, key);
+            let (_, at, _) = link_for(page, key);
             let (had, gone) = self.remove_at(child_at(page, at), key);
             if !gone {
                 return (had, false);
             }
-            (k, at)
+            at
         };
-        let gone = self.cut_out(p, k, at);
+        let gone = self.cut_out(p, at);
         if gone {
             self.give(p);
         }
@@ -353,7 +429,11 @@ impl Store {
 
 fn key_of(i: u64, shuffled: bool) -> [u8; 20] {
     let mut key = *b"block.......00000000";
-    let n = if shuffled { i.wrapping_mul(0x9e37_79b9_7f4a_7c15) } else { i };
+    let n = if shuffled {
+        i.wrapping_mul(0x9e37_79b9_7f4a_7c15)
+    } else {
+        i
+    };
     key[12..].copy_from_slice(&n.to_be_bytes());
     key
 }
@@ -387,7 +467,9 @@ fn run(rows: u64, shuffled: bool) {
     let start = Instant::now();
     let mut scanned = 0u64;
     store.scan(store.root, &mut |key, value| {
-        scanned = scanned.wrapping_mul(31).wrapping_add(key[19] as u64 + value[7] as u64);
+        scanned = scanned
+            .wrapping_mul(31)
+            .wrapping_add(key[19] as u64 + value[7] as u64);
     });
     println!("{name} scan {}", start.elapsed().as_nanos());
     println!("{name} scanned {scanned}");
@@ -403,7 +485,10 @@ fn run(rows: u64, shuffled: bool) {
 }
 
 fn main() {
-    let rows = std::env::args().nth(1).and_then(|word| word.parse().ok()).unwrap_or(200_000);
+    let rows = std::env::args()
+        .nth(1)
+        .and_then(|word| word.parse().ok())
+        .unwrap_or(200_000);
     run(rows, false);
     run(rows, true);
 }
