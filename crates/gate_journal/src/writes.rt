@@ -140,7 +140,7 @@ impl PageWrites {
         match self.place(page) {
             Some(k) => {
                 let write = &mut self.list[k];
-                write.1 = *bytes;
+                write.1.copy_from_slice(bytes);
                 Ok(())
             }
             None => self.push(page, bytes),

@@ -7,6 +7,7 @@ ghost use Rattle.std.specs.Slice.Scan.{big_endian};
 use std::cmp::Ordering;
 
 /// The number that the eight bytes from a place on spell, the highest first.
+#[inline(always)]
 fn word_at(bytes: &[u8], at: usize) -> u64
     requires { at + 8 ≤ length bytes.now }
     ensures { result ≡ big_endian 0 (take 8 (drop at bytes.now)) }
@@ -24,6 +25,7 @@ fn word_at(bytes: &[u8], at: usize) -> u64
 }
 
 /// How two keys compare that are alike up to a place, by the eight bytes from there on; none where those are alike too.
+#[inline(always)]
 fn compare_at(a: &[u8], b: &[u8], at: usize) -> Option<Ordering>
     requires a { at + 8 ≤ length a.now }
     requires b { at + 8 ≤ length b.now }
@@ -61,6 +63,7 @@ fn compare_last(a: &[u8], b: &[u8], both: usize) -> Ordering
 }
 
 /// How two keys compare whose first eight bytes are alike.
+#[inline(always)]
 fn compare_next(a: &[u8], b: &[u8], both: usize) -> Ordering
     requires both { both ≡ min (length a.now) (length b.now) }
     requires some { 8 ≤ both }
@@ -75,6 +78,7 @@ fn compare_next(a: &[u8], b: &[u8], both: usize) -> Ordering
 }
 
 /// Compares two keys.
+#[inline(always)]
 pub fn compare(a: &[u8], b: &[u8]) -> Ordering
     ensures { result ≡ slice_cmp nat_cmp a.now b.now }
 {

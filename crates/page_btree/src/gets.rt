@@ -72,7 +72,7 @@ fn get_below<D: SectorDevice>(
         return Ok(found);
     }
     let child = child_of_key(bytes, key)?;
-    let place = place_of(level - 1);
+    let place = place_of(level - 1, child);
     get_below(txn, pages, child, place, level - 1, key, into)
 }
 
@@ -110,12 +110,13 @@ fn copy_value(
     }
 }
 
-/// The place at which a node below the root is lent: leaves, odd levels and even ones have one each.
-pub(crate) fn place_of(level: u8) -> usize {
+/// The place at which a page of a node below the root is lent: leaves have the last one, and the nodes above them the fourteen
+/// between the root's and it, by their page's number, so that a node is mostly still held when its next child is looked for.
+pub(crate) fn place_of(level: u8, p: u32) -> usize {
     if level == 0 {
-        return 3;
+        return 15;
     }
-    if level % 2 == 0 { 2 } else { 1 }
+    1 + (p % 14) as usize
 }
 
 /// Lends the page of a node of this level at a place.

@@ -180,7 +180,7 @@ fn leaf_below<D: SectorDevice>(
     let own = lend_level(txn, pages, p, level, place)?;
     let bytes = pages.lent(own, place);
     let child = go_down(leaf, bytes, key)?;
-    let place = place_of(level - 1);
+    let place = place_of(level - 1, child);
     leaf_below(txn, pages, child, place, level - 1, key, prefix, leaf, held)
 }
 

@@ -65,7 +65,7 @@ fn leaf_below<D: SectorDevice>(
     if level == 0 {
         return Ok(p);
     }
-    let place = place_of(level);
+    let place = place_of(level, p);
     let own = lend_level(txn, pages, p, level, place)?;
     let bytes = pages.lent(own, place);
     let child = child_of_key(bytes, key)?;

@@ -26,6 +26,7 @@ pub fn level_of(page: &[u8; 4096]) -> u8
 }
 
 /// How many entries a page says that it has.
+#[inline(always)]
 pub(crate) fn count_of(page: &[u8; 4096]) -> usize
     ensures count { result ≡ count_in page.now }
     ensures few { result ≤ 65535 }
@@ -34,6 +35,7 @@ pub(crate) fn count_of(page: &[u8; 4096]) -> usize
 }
 
 /// A part of a page.
+#[inline(always)]
 pub(crate) fn part(page: &[u8; 4096], from: usize, end: usize) -> &[u8]
     requires order { from ≤ end }
     requires end { end ≤ 4096 }
@@ -43,6 +45,7 @@ pub(crate) fn part(page: &[u8; 4096], from: usize, end: usize) -> &[u8]
 }
 
 /// Compares a part of a page with a key.
+#[inline(always)]
 pub(crate) fn compare_part(page: &[u8; 4096], from: usize, end: usize, key: &[u8]) -> Ordering
     requires order { from ≤ end }
     requires end { end ≤ 4096 }
@@ -52,6 +55,7 @@ pub(crate) fn compare_part(page: &[u8; 4096], from: usize, end: usize, key: &[u8
 }
 
 /// Whether a part of a page is above a key.
+#[inline(always)]
 fn is_above(page: &[u8; 4096], from: usize, end: usize, key: &[u8]) -> bool
     requires order { from ≤ end }
     requires end { end ≤ 4096 }
@@ -61,6 +65,7 @@ fn is_above(page: &[u8; 4096], from: usize, end: usize, key: &[u8]) -> bool
 }
 
 /// Whether a part of a page is below a key.
+#[inline(always)]
 fn is_below(page: &[u8; 4096], from: usize, end: usize, key: &[u8]) -> bool
     requires order { from ≤ end }
     requires end { end ≤ 4096 }

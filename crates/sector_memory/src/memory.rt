@@ -121,7 +121,7 @@ impl SectorDevice for MemoryDevice {
         ensures passes { IsOk result }
         ensures unsynced { unsynced self.new ≡ unsynced self.old }
     {
-        *sector = self.sectors[i as usize];
+        sector.copy_from_slice(&self.sectors[i as usize]);
         Ok(())
     }
 
@@ -135,7 +135,7 @@ impl SectorDevice for MemoryDevice {
     {
         self.past.note(&self.sectors, &self.unsynced);
         let i = i as usize;
-        self.sectors[i] = *sector;
+        self.sectors[i].copy_from_slice(sector);
         self.unsynced[i] = true;
         Ok(())
     }

@@ -13,14 +13,15 @@ returns-in-Some-clause-written c =
     let ws = writes_of c.args.self.now in
     let last = c.in-Some.ensures in
     let at : c.index_mut-write.result.now.0 ≡ c.args.page = ap (λ (w : ℕ × List ℕ). w.0) (c.index_mut-write.ensures.value ∙ get_or_default ws c.in-Some.k _ _ last.below) ∙ last.here in
-    λ P p. ap (λ (x : ℕ). overlay (set ws c.in-Some.k (x, c.args.bytes.now)) P p) at ∙ overlay_set ws P c.args.page c.in-Some.k p c.args.bytes.now last
+    λ P p. ap (λ (l : List ℕ). overlay (set ws c.in-Some.k (c.index_mut-write.result.now.0, l)) P p) c.copy_from_slice.ensures.after
+    ∙ ap (λ (x : ℕ). overlay (set ws c.in-Some.k (x, c.args.bytes.now)) P p) at ∙ overlay_set ws P c.args.page c.in-Some.k p c.args.bytes.now last
 
 pub returns-in-Some-clause-noted : goal.returns-in-Some-clause-noted
 returns-in-Some-clause-noted c =
     let ws = writes_of c.args.self.now in
     let last = c.in-Some.ensures in
     let same = ap (λ (w : ℕ × List ℕ). w.0) (c.index_mut-write.ensures.value ∙ get_or_default ws c.in-Some.k _ _ last.below) in
-    λ q any. writes_set ws c.in-Some.k c.index_mut-write.result.now.0 c.args.bytes.now same q
+    λ q any. writes_set ws c.in-Some.k c.index_mut-write.result.now.0 c.copy_from_slice.new.self same q
     (⊎_elim (λ (is : q ≡ c.args.page). subst (λ (p : ℕ). Writes ws p) (last.here ∙ sym is) (writes_at ws c.in-Some.k last.below)) (λ there. there) any)
 
 pub returns-in-None-clause-written : goal.returns-in-None-clause-written

@@ -6,7 +6,7 @@ use Rattle.sector_memory.proofs.memory.MemoryDeviceSectorDevice.write.Goals as g
 pub returns-clause-model : goal.returns-clause-model
 returns-clause-model c = λ _. (
   write_touches _ _ tt c.args.self.now.sectors.items _ _ _ c.args.self.now.unsynced.items c.args.self.now.past.states c.args.i false
-      (length-set c.args.self.now.sectors.items c.args.i c.args.sector.now) (λ j off. get_or-set_other c.args.self.now.sectors.items c.args.i j c.args.sector.now [] off)
+      (length-set c.args.self.now.sectors.items c.args.i c.copy_from_slice.new.self) (λ j off. get_or-set_other c.args.self.now.sectors.items c.args.i j c.copy_from_slice.new.self [] off)
       _ _ _ c.note.ensures c.deref.ensures.value c.deref-2.ensures.value,
   record { failed = tt; passed = ap refused c.note.ensures },
 )
