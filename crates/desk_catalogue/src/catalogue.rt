@@ -205,6 +205,13 @@ impl Catalogue {
         }
     }
 
+    /// Puts what the last command left pending among the plans into their tree, where memory for it is there: what is shown stays.
+    pub fn settle(&mut self, alloc: Global)
+        ensures { self.new ≡ self.old }
+    {
+        self.plans.settle(alloc);
+    }
+
     /// The catalogue after a command: Ok where it is accepted, and else its refusal; Memory only where memory for
     /// the catalogue was refused.
     pub fn after(&self, alloc: Global, command: &Command) -> Result<Catalogue, Refusal>

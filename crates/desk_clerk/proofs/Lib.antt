@@ -1,5 +1,6 @@
 pub mod Kept
 pub mod Committed
+pub mod Settled
 pub mod Prepared
 pub mod Done
 pub mod Moved

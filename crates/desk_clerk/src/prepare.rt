@@ -112,6 +112,15 @@ impl<D: SectorDevice> Clerk<D> {
         }
     }
 
+    /// Settles the catalogue that is shown, where nobody else has it: what is shown stays.
+    fn settle(&mut self, alloc: Global)
+        ensures { self.new ≡ self.old }
+    {
+        if let Some(catalogue) = Arc::get_mut(&mut self.catalogue) {
+            catalogue.settle(alloc);
+        }
+    }
+
     /// Makes ready a command that is accepted, and changes nothing; all the memory that its commit needs is taken here. `Full`
     /// comes where the store has too little room, and `Halted` where the device fails now or has failed before.
     pub fn prepare(&mut self, alloc: Global, command: Command) -> Result<Ready, Refusal>
@@ -126,6 +135,7 @@ impl<D: SectorDevice> Clerk<D> {
         if self.halted {
             return Err(Refusal::Halted);
         }
+        self.settle(alloc);
         let after = match self.accept(alloc, &command) {
             Ok(after) => after,
             Err(refusal) => return Err(refusal),
