@@ -43,6 +43,7 @@ impl Model for Tree {
 }
 
 /// The height of a tree, 0 of none.
+#[inline(always)]
 fn height(tree: &Option<Arc<Tree>>) -> u8 {
     match tree {
         Some(tree) => tree.height,
@@ -51,7 +52,8 @@ fn height(tree: &Option<Arc<Tree>>) -> u8 {
 }
 
 /// The same tree.
-fn share(tree: &Option<Arc<Tree>>) -> Result<Option<Arc<Tree>>, AllocError>
+#[inline(always)]
+pub fn share(tree: &Option<Arc<Tree>>) -> Result<Option<Arc<Tree>>, AllocError>
     ensures { IfOk result (λ same. rows_of same ≡ rows_of tree.now) }
 {
     match tree {
@@ -61,20 +63,23 @@ fn share(tree: &Option<Arc<Tree>>) -> Result<Option<Arc<Tree>>, AllocError>
 }
 
 /// The same plan.
-fn same(entry: &Arc<Entry>) -> Result<Arc<Entry>, AllocError>
+#[inline(always)]
+pub fn same(entry: &Arc<Entry>) -> Result<Arc<Entry>, AllocError>
     ensures { IfOk result (λ e. e.value ≡ entry.now.value) }
 {
     Ok(entry.clone()?)
 }
 
 /// How a name stands to a plan's.
-fn order(name: &PlanName, entry: &Arc<Entry>) -> Ordering
+#[inline(always)]
+pub fn order(name: &PlanName, entry: &Arc<Entry>) -> Ordering
     ensures { result ≡ name_cmp name.now entry.now.value.0 }
 {
     name.cmp(entry.name())
 }
 
 /// How a plan's name stands to another plan's.
+#[inline(always)]
 fn order_of(entry: &Arc<Entry>, other: &Arc<Entry>) -> Ordering
     ensures { result ≡ name_cmp entry.now.value.0 other.now.value.0 }
 {
@@ -82,6 +87,7 @@ fn order_of(entry: &Arc<Entry>, other: &Arc<Entry>) -> Ordering
 }
 
 /// The tree of a plan between two trees.
+#[inline(always)]
 fn fork(
     alloc: Global,
     left: Option<Arc<Tree>>,
