@@ -109,7 +109,7 @@ module _ (rows new : List Row) (self : map_of.FinMap name_cmp Plan) (name : List
   entries_after : entries (map_of.insert (as_map rows) name v) ≡ new
   entries_after = entries-insert nat_list_cmp_total (as_map rows) name v ∙ ap (put name_cmp name v) (entries_of rows were.rising) ∙ put_is
 
-  rising_after : IsTrue (is_sorted name_cmp new)
+  pub rising_after : IsTrue (is_sorted name_cmp new)
   rising_after = rw entries_after at (is_true _ (entries_sorted (map_of.insert (as_map rows) name v)))
 
   pub map_put : as_map new ≡ map_of.insert self name v

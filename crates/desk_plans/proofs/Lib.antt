@@ -1,3 +1,4 @@
 pub mod AsMap
+pub mod Held
 pub mod Rising
 pub mod Splits

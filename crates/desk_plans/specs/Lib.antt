@@ -1,4 +1,5 @@
 pub mod Codes
 pub mod Falls
+pub mod Held
 pub mod Rows
 pub mod Tree

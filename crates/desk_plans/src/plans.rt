@@ -1,22 +1,26 @@
 //! The plans of a catalogue, by their names.
-ghost use Rattle.std.specs.Prelude.{◌≡◌, ◌+◌, ◌<◌, map, IfOk, IfSome, IfNone, IsSome, Some, None};
+ghost use Rattle.std.specs.Prelude.{◌≡◌, ◌+◌, ◌<◌, map, IfOk, OnOk, OnErr, IfSome, IfNone, IsSome, Some, None};
+ghost use Rattle.std.specs.Option.{option_copied};
 ghost use Rattle.std.specs.FinMap as map_of;
 ghost use Rattle.desk_model.specs.Step.{plan_limit, plan_row};
-ghost use Rattle.desk_plans.specs.Rows.{IsPut, IsRemoved};
+ghost use Rattle.desk_plans.specs.Held.{IsSettled};
+ghost use Rattle.desk_plans.specs.Rows.{IsPut, IsRemoved, IsFound};
 ghost use Rattle.desk_plans.specs.Tree.{rows_of};
 
 use crate::entry::Entry;
-use crate::tree::Tree;
+use crate::tree::{Tree, order, place, same, share};
 use desk_model::name::PlanName;
 use desk_model::reply::{PlanRow, PlanRows};
 use std::alloc::{AllocError, Global};
 use std::marker::Model;
 use std::sync::Arc;
 
-/// Plans by their names. A change makes plans of its own, which share what didn't change.
+/// Plans by their names. A change makes plans of its own, which share what didn't change. The plan of the last change is
+/// pending: it is put into the tree by the next change, or by `settle`.
 #[derive(Drop)]
 pub struct Plans {
     root: Option<Arc<Tree>>,
+    pending: Option<Arc<Entry>>,
     count: usize,
 }
 
@@ -29,28 +33,84 @@ impl Model for Plans {
 
     ghost coded = { coded_plans };
 
-    ghost use Rattle.desk_plans.specs.Rows.{AreRows};
+    ghost use Rattle.desk_plans.specs.Held.{laid, AreHeld};
     ghost use Rattle.desk_plans.specs.Tree.{rows_of};
 
-    ghost view = { λ a. map_of.from_sorted (rows_of a.root) };
+    ghost view = { λ a. laid a.pending (rows_of a.root) };
 
-    ghost invariant = { λ a. AreRows (rows_of a.root) a.count };
+    ghost invariant = { λ a. AreHeld a.pending (rows_of a.root) a.count };
 }
 
 /// The tree with a plan more, or with it in the place of the one of its name.
 fn with(
     alloc: Global,
     root: &Option<Arc<Tree>>,
-    entry: Entry,
+    entry: Arc<Entry>,
 ) -> Result<Option<Arc<Tree>>, AllocError>
-    ensures { IfOk result (λ all. IsPut entry (rows_of root.now) (rows_of all)) }
+    ensures { IfOk result (λ all. IsPut entry.value (rows_of root.now) (rows_of all)) }
 {
-    let entry = Arc::new(alloc, entry)?;
     let all = match root {
         Some(tree) => tree.put(alloc, entry)?,
         None => Tree::of(alloc, entry)?,
     };
     Ok(Some(all))
+}
+
+/// The tree with the pending plan.
+fn settled(
+    alloc: Global,
+    root: &Option<Arc<Tree>>,
+    pending: &Option<Arc<Entry>>,
+) -> Result<Option<Arc<Tree>>, AllocError>
+    ensures { IfOk result (λ all. IsSettled pending.now (rows_of root.now) (rows_of all)) }
+{
+    match pending {
+        Some(entry) => with(alloc, root, same(entry)?),
+        None => share(root),
+    }
+}
+
+/// Puts a plan into the tree.
+fn place_in(
+    alloc: Global,
+    root: &mut Option<Arc<Tree>>,
+    entry: Arc<Entry>,
+) -> Result<(), AllocError>
+    ensures put { OnOk result (IsPut entry.value (rows_of root.old) (rows_of root.new)) }
+    ensures kept { OnErr result (rows_of root.new ≡ rows_of root.old) }
+{
+    match root {
+        Some(tree) => place(alloc, tree, entry),
+        None => {
+            *root = Some(Tree::of(alloc, entry)?);
+            Ok(())
+        }
+    }
+}
+
+/// Puts the pending plan into the tree.
+fn settle_in(
+    alloc: Global,
+    root: &mut Option<Arc<Tree>>,
+    pending: &Option<Arc<Entry>>,
+) -> Result<(), AllocError>
+    ensures put { OnOk result (IsSettled pending.now (rows_of root.old) (rows_of root.new)) }
+    ensures kept { OnErr result (rows_of root.new ≡ rows_of root.old) }
+{
+    match pending {
+        Some(entry) => place_in(alloc, root, same(entry)?),
+        None => Ok(()),
+    }
+}
+
+/// The plan of a name in the tree.
+fn found<'a>(root: &'a Option<Arc<Tree>>, name: &PlanName) -> Option<&'a Entry>
+    ensures { IsFound name.now (rows_of root.now) (option_copied result) }
+{
+    match root {
+        Some(tree) => tree.find(name),
+        None => None,
+    }
 }
 
 /// The tree without the plan of a name.
@@ -85,6 +145,7 @@ impl Plans {
     {
         Plans {
             root: None,
+            pending: None,
             count: 0,
         }
     }
@@ -101,10 +162,13 @@ impl Plans {
         ensures named { IfSome result (λ e. e.now.0 ≡ name.now) }
         ensures missing { IfNone result (map_of.get self.now name.now ≡ None) }
     {
-        match &self.root {
-            Some(tree) => tree.find(name),
-            None => None,
+        let Some(entry) = &self.pending else {
+            return found(&self.root, name);
+        };
+        if order(name, entry).is_eq() {
+            return Some(entry);
         }
+        found(&self.root, name)
     }
 
     /// These plans with one more.
@@ -113,8 +177,10 @@ impl Plans {
         requires room { map_of.len self.now < plan_limit }
         ensures { IfOk result (λ p. p ≡ map_of.insert self.now entry.0 entry.1) }
     {
+        let entry = Arc::new(alloc, entry)?;
         Ok(Plans {
-            root: with(alloc, &self.root, entry)?,
+            root: settled(alloc, &self.root, &self.pending)?,
+            pending: Some(entry),
             count: self.count + 1,
         })
     }
@@ -124,10 +190,22 @@ impl Plans {
         requires { IsSome (map_of.get self.now entry.0) }
         ensures { IfOk result (λ p. p ≡ map_of.insert self.now entry.0 entry.1) }
     {
+        let entry = Arc::new(alloc, entry)?;
         Ok(Plans {
-            root: with(alloc, &self.root, entry)?,
+            root: settled(alloc, &self.root, &self.pending)?,
+            pending: Some(entry),
             count: self.count,
         })
+    }
+
+    /// Puts the pending plan into the tree, in place where no other plans share the node; from the first node on that is
+    /// shared the way is made anew. The next change then copies nothing. Where memory is refused the plan stays pending.
+    pub fn settle(&mut self, alloc: Global)
+        ensures { self.new ≡ self.old }
+    {
+        if settle_in(alloc, &mut self.root, &self.pending).is_ok() {
+            self.pending = None;
+        }
     }
 
     /// These plans without one.
@@ -135,8 +213,10 @@ impl Plans {
         requires { IsSome (map_of.get self.now name.now) }
         ensures { IfOk result (λ p. p ≡ map_of.remove self.now name.now) }
     {
+        let whole = settled(alloc, &self.root, &self.pending)?;
         Ok(Plans {
-            root: without(alloc, &self.root, name)?,
+            root: without(alloc, &whole, name)?,
+            pending: None,
             count: self.count - 1,
         })
     }
@@ -145,6 +225,7 @@ impl Plans {
     pub fn rows(&self, alloc: Global) -> Result<PlanRows, AllocError>
         ensures { IfOk result (λ rows. rows ≡ map plan_row (map_of.entries self.now)) }
     {
-        Ok(PlanRows::from_vec(lines(alloc, &self.root, self.count)?))
+        let whole = settled(alloc, &self.root, &self.pending)?;
+        Ok(PlanRows::from_vec(lines(alloc, &whole, self.count)?))
     }
 }

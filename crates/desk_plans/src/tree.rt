@@ -1,5 +1,5 @@
 //! A tree of plans, in the order of their names.
-ghost use Rattle.std.specs.Prelude.{◌≡◌, ◌<◌, ◌++◌, ◌∷◌, [], length, drop, map, IfOk, OnOk};
+ghost use Rattle.std.specs.Prelude.{◌≡◌, ◌<◌, ◌++◌, ◌∷◌, [], length, drop, map, IfOk, OnOk, OnErr};
 ghost use Rattle.std.specs.Option.{option_copied};
 ghost use Rattle.desk_model.specs.Desk.{name_cmp};
 ghost use Rattle.desk_model.specs.Step.{plan_row};
@@ -12,6 +12,7 @@ use desk_model::reply::PlanRow;
 use std::alloc::{AllocError, Global};
 use std::cmp::Ordering;
 use std::marker::Model;
+use std::mem;
 use std::sync::Arc;
 
 /// A plan, the tree of those before it and the tree of those behind it. Trees are made with heights that differ by one
@@ -42,6 +43,7 @@ impl Model for Tree {
 }
 
 /// The height of a tree, 0 of none.
+#[inline(always)]
 fn height(tree: &Option<Arc<Tree>>) -> u8 {
     match tree {
         Some(tree) => tree.height,
@@ -50,7 +52,8 @@ fn height(tree: &Option<Arc<Tree>>) -> u8 {
 }
 
 /// The same tree.
-fn share(tree: &Option<Arc<Tree>>) -> Result<Option<Arc<Tree>>, AllocError>
+#[inline(always)]
+pub fn share(tree: &Option<Arc<Tree>>) -> Result<Option<Arc<Tree>>, AllocError>
     ensures { IfOk result (λ same. rows_of same ≡ rows_of tree.now) }
 {
     match tree {
@@ -60,20 +63,23 @@ fn share(tree: &Option<Arc<Tree>>) -> Result<Option<Arc<Tree>>, AllocError>
 }
 
 /// The same plan.
-fn same(entry: &Arc<Entry>) -> Result<Arc<Entry>, AllocError>
+#[inline(always)]
+pub fn same(entry: &Arc<Entry>) -> Result<Arc<Entry>, AllocError>
     ensures { IfOk result (λ e. e.value ≡ entry.now.value) }
 {
     Ok(entry.clone()?)
 }
 
 /// How a name stands to a plan's.
-fn order(name: &PlanName, entry: &Arc<Entry>) -> Ordering
+#[inline(always)]
+pub fn order(name: &PlanName, entry: &Arc<Entry>) -> Ordering
     ensures { result ≡ name_cmp name.now entry.now.value.0 }
 {
     name.cmp(entry.name())
 }
 
 /// How a plan's name stands to another plan's.
+#[inline(always)]
 fn order_of(entry: &Arc<Entry>, other: &Arc<Entry>) -> Ordering
     ensures { result ≡ name_cmp entry.now.value.0 other.now.value.0 }
 {
@@ -81,6 +87,7 @@ fn order_of(entry: &Arc<Entry>, other: &Arc<Entry>) -> Ordering
 }
 
 /// The tree of a plan between two trees.
+#[inline(always)]
 fn fork(
     alloc: Global,
     left: Option<Arc<Tree>>,
@@ -194,6 +201,133 @@ fn joined(
         }
         None => share(left),
     }
+}
+
+/// Sets the height of a tree by those of its sides.
+fn measure(tree: &mut Tree)
+    ensures { tree.new ≡ tree.old }
+{
+    tree.height = height(&tree.left).max(height(&tree.right)).saturating_add(1);
+}
+
+/// The tree on the left comes to the top, if nobody else has it.
+fn turn_right(tree: &mut Tree)
+    ensures { tree.new ≡ tree.old }
+{
+    let Some(left) = &mut tree.left else {
+        return;
+    };
+    let Some(lower) = Arc::get_mut(left) else {
+        return;
+    };
+    mem::swap(&mut tree.entry, &mut lower.entry);
+    mem::swap(&mut lower.left, &mut lower.right);
+    mem::swap(&mut lower.right, &mut tree.right);
+    measure(lower);
+    mem::swap(&mut tree.left, &mut tree.right);
+    measure(tree);
+}
+
+/// The tree on the right comes to the top, if nobody else has it.
+fn turn_left(tree: &mut Tree)
+    ensures { tree.new ≡ tree.old }
+{
+    let Some(right) = &mut tree.right else {
+        return;
+    };
+    let Some(lower) = Arc::get_mut(right) else {
+        return;
+    };
+    mem::swap(&mut tree.entry, &mut lower.entry);
+    mem::swap(&mut lower.left, &mut lower.right);
+    mem::swap(&mut lower.left, &mut tree.left);
+    measure(lower);
+    mem::swap(&mut tree.left, &mut tree.right);
+    measure(tree);
+}
+
+/// Levels a tree whose left side is two levels higher.
+fn level_left(tree: &mut Tree)
+    ensures { tree.new ≡ tree.old }
+{
+    if let Some(left) = &mut tree.left {
+        if let Some(own) = Arc::get_mut(left) {
+            if height(&own.right) > height(&own.left) {
+                turn_left(own);
+            }
+        }
+    }
+    turn_right(tree);
+}
+
+/// Levels a tree whose right side is two levels higher.
+fn level_right(tree: &mut Tree)
+    ensures { tree.new ≡ tree.old }
+{
+    if let Some(right) = &mut tree.right {
+        if let Some(own) = Arc::get_mut(right) {
+            if height(&own.left) > height(&own.right) {
+                turn_right(own);
+            }
+        }
+    }
+    turn_left(tree);
+}
+
+/// Levels a tree, one side of which has come to a height.
+fn level(tree: &mut Tree, side: u8)
+    ensures { tree.new ≡ tree.old }
+{
+    if side < tree.height {
+        return;
+    }
+    let left = height(&tree.left);
+    let right = height(&tree.right);
+    if left > right.saturating_add(1) {
+        level_left(tree);
+    } else if right > left.saturating_add(1) {
+        level_right(tree);
+    } else {
+        tree.height = side.saturating_add(1);
+    }
+}
+
+/// Puts a plan into a tree, or over the one of its name. Nodes that nobody else has are changed in place; from the
+/// first one on that is shared the way is made anew.
+pub fn place(alloc: Global, tree: &mut Arc<Tree>, entry: Arc<Entry>) -> Result<(), AllocError>
+    ensures put { OnOk result (IsPut entry.value tree.old.value tree.new.value) }
+    ensures kept { OnErr result (tree.new.value ≡ tree.old.value) }
+{
+    let Some(own) = Arc::get_mut(tree) else {
+        *tree = tree.put(alloc, entry)?;
+        return Ok(());
+    };
+    match order_of(&entry, &own.entry) {
+        Ordering::Less => match &mut own.left {
+            Some(left) => {
+                place(alloc, left, entry)?;
+                let side = left.height;
+                level(own, side);
+            }
+            None => {
+                own.left = Some(Tree::of(alloc, entry)?);
+                level(own, 1);
+            }
+        },
+        Ordering::Greater => match &mut own.right {
+            Some(right) => {
+                place(alloc, right, entry)?;
+                let side = right.height;
+                level(own, side);
+            }
+            None => {
+                own.right = Some(Tree::of(alloc, entry)?);
+                level(own, 1);
+            }
+        },
+        Ordering::Equal => own.entry = entry,
+    }
+    Ok(())
 }
 
 impl Tree {

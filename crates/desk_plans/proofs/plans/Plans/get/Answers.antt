@@ -1,22 +1,50 @@
-use Rattle.std.proofs.Common.{subst, ap, sym, ◌∙◌, None}
-use Rattle.std.specs.Option.{option_copied}
-use Rattle.desk_plans.specs.Rows.{IsFound}
+use Rattle.std.proofs.Common.{◌≡◌, Option, Some, ap, sym, ◌∙◌}
+use Rattle.std.specs.Ordering.{is_eq}
+use Rattle.std.specs.FinMap.{get}
+use Rattle.std.specs.declared.sync.Arc.{Arc}
+use Rattle.std.specs.declared.alloc.Global.{Global}
+use Rattle.desk_plans.specs.Rows.{Row}
+use Rattle.desk_plans.specs.Held.{laid}
 use Rattle.desk_plans.specs.Tree.{rows_of}
-use Rattle.desk_plans.proofs.Splits.{found_none}
-use Rattle.desk_plans.proofs.AsMap.{found_row, named_row, missing_row, get_none}
+use Rattle.desk_plans.proofs.AsMap.{found_row, named_row, missing_row}
+use Rattle.desk_plans.proofs.Held.{named_pending, found_pending, found_behind, missing_behind}
 use Rattle.desk_plans.proofs.plans.Plans.get.Goals as goal
 
-pub returns-in-Some-clause-found : goal.returns-in-Some-clause-found
-returns-in-Some-clause-found c = found_row (rows_of c.self.inside.root) c.args.self.now c.args.name.now c.self.invariant.rising c.self.view_is c.find.result
-    (subst (λ rows. IsFound c.args.name.now rows (option_copied c.find.result)) (c.deref.ensures ∙ ap rows_of (sym c.in-Some.is)) c.find.ensures)
+pub returns-in_default-clause-found : goal.returns-in_default-clause-found
+returns-in_default-clause-found c = found_row (rows_of c.self.inside.root) c.args.self.now c.args.name.now c.self.invariant.rising
+    (ap (λ (p : Option (Arc Row Global)). laid p (rows_of c.self.inside.root)) (sym c.in_default.is) ∙ c.self.view_is) c.found.result c.found.ensures
 
-pub returns-in-Some-clause-named : goal.returns-in-Some-clause-named
-returns-in-Some-clause-named c = named_row c.deref.result.now c.args.name.now c.find.result c.find.ensures
+pub returns-in_default-clause-missing : goal.returns-in_default-clause-missing
+returns-in_default-clause-missing c = missing_row (rows_of c.self.inside.root) c.args.self.now c.args.name.now c.self.invariant.rising
+    (ap (λ (p : Option (Arc Row Global)). laid p (rows_of c.self.inside.root)) (sym c.in_default.is) ∙ c.self.view_is) c.found.result c.found.ensures
 
-pub returns-in-Some-clause-missing : goal.returns-in-Some-clause-missing
-returns-in-Some-clause-missing c = missing_row (rows_of c.self.inside.root) c.args.self.now c.args.name.now c.self.invariant.rising c.self.view_is c.find.result
-    (subst (λ rows. IsFound c.args.name.now rows (option_copied c.find.result)) (c.deref.ensures ∙ ap rows_of (sym c.in-Some.is)) c.find.ensures)
+pub returns-in_default-clause-named : goal.returns-in_default-clause-named
+returns-in_default-clause-named c = named_row (rows_of c.self.inside.root) c.args.name.now c.found.result c.found.ensures
 
-pub returns-in-None-clause-missing : goal.returns-in-None-clause-missing
-returns-in-None-clause-missing c = get_none (rows_of c.self.inside.root) c.args.self.now c.args.name.now c.self.invariant.rising c.self.view_is
-    (subst (λ rows. IsFound c.args.name.now rows None) (ap rows_of (sym c.in-None.is)) (found_none c.args.name.now))
+pub returns-then-is_eq-clause-found : goal.returns-then-is_eq-clause-found
+returns-then-is_eq-clause-found c =
+    found_pending (rows_of c.self.inside.root) c.args.self.now c.in-Some.entry c.args.name.now c.self.invariant.rising
+    (ap (λ (p : Option (Arc Row Global)). laid p (rows_of c.self.inside.root)) (sym c.in-Some.is) ∙ c.self.view_is)
+    (sym (ap is_eq c.order.ensures) ∙ sym c.is_eq.ensures ∙ c.if-is_eq.true)
+    ∙ ap (λ (e : Row). Some e.1) (sym c.deref.ensures)
+
+pub returns-then-is_eq-clause-named : goal.returns-then-is_eq-clause-named
+returns-then-is_eq-clause-named c =
+    ap (λ (e : Row). e.0) c.deref.ensures ∙ named_pending c.args.name.now c.in-Some.entry.value (sym (ap is_eq c.order.ensures) ∙ sym c.is_eq.ensures ∙ c.if-is_eq.true)
+
+pub returns-clause-found : goal.returns-clause-found
+returns-clause-found c =
+    found_behind (rows_of c.self.inside.root) c.args.self.now c.in-Some.entry c.args.name.now c.self.invariant.rising
+    (ap (λ (p : Option (Arc Row Global)). laid p (rows_of c.self.inside.root)) (sym c.in-Some.is) ∙ c.self.view_is)
+    (sym (ap is_eq c.order.ensures) ∙ sym c.is_eq.ensures ∙ c.if-is_eq.false)
+    c.found-2.result c.found-2.ensures
+
+pub returns-clause-missing : goal.returns-clause-missing
+returns-clause-missing c =
+    missing_behind (rows_of c.self.inside.root) c.args.self.now c.in-Some.entry c.args.name.now c.self.invariant.rising
+    (ap (λ (p : Option (Arc Row Global)). laid p (rows_of c.self.inside.root)) (sym c.in-Some.is) ∙ c.self.view_is)
+    (sym (ap is_eq c.order.ensures) ∙ sym c.is_eq.ensures ∙ c.if-is_eq.false)
+    c.found-2.result c.found-2.ensures
+
+pub returns-clause-named : goal.returns-clause-named
+returns-clause-named c = named_row (rows_of c.self.inside.root) c.args.name.now c.found-2.result c.found-2.ensures

@@ -1,17 +1,21 @@
-use Rattle.std.proofs.Common.{◌≡◌, arith, sym, ap, ◌∙◌}
-use Rattle.std.specs.FinMap.{len}
+use Rattle.std.proofs.Common.{◌≡◌, None, ap, sym, subst, ◌∙◌}
 use Rattle.desk_plans.specs.Tree.{rows_of}
-use Rattle.desk_plans.proofs.AsMap.{are_rows_more, map_put, len_of}
+use Rattle.desk_plans.proofs.Held.{AreMap, settled_map, held_more, laid_over}
 use Rattle.desk_plans.proofs.plans.Plans.insert.Goals as goal
-
-pub overflow_add-result : goal.overflow_add-result
-overflow_add-result c =
-    let number : c.self.inside.count ≡ len c.args.self.now = c.self.invariant.count ∙ sym (len_of _ c.self.invariant.rising) ∙ ap len c.self.view_is in
-    omega (arith, number, c.requires.room)
+use Rattle.std.specs.FinMap as map_of
+use Rattle.std.specs.FinMap.{len, get}
+use Rattle.desk_plans.specs.Rows.{Row}
 
 pub invariant_of-result : goal.invariant_of-result
-invariant_of-result c = are_rows_more (rows_of c.self.inside.root) (rows_of c.in_ok-with.field-0) c.args.self.now c.args.entry.0 c.args.entry.1 c.self.view_is c.self.inside.count c.self.invariant
-    c.in_ok-with.ensures c.requires.missing
+invariant_of-result c =
+    let are : AreMap (rows_of c.in_ok-settled.field-0) c.args.self.now =
+        settled_map (rows_of c.self.inside.root) c.args.self.now c.self.inside.pending (rows_of c.in_ok-settled.field-0) c.self.view_is c.self.invariant.rising c.in_ok-settled.ensures in
+    held_more (rows_of c.in_ok-settled.field-0) c.args.self.now are c.in_ok-entry.entry c.self.inside.count (c.self.invariant.count ∙ ap len c.self.view_is)
+    (subst (λ (e : Row). get c.args.self.now e.0 ≡ None) (sym c.in_ok-entry.ensures.ok) c.requires.missing)
 
 pub returns : goal.returns
-returns c = map_put (rows_of c.self.inside.root) (rows_of c.in_ok-with.field-0) c.args.self.now c.args.entry.0 c.args.entry.1 c.self.view_is c.self.inside.count c.self.invariant c.in_ok-with.ensures
+returns c =
+    let are : AreMap (rows_of c.in_ok-settled.field-0) c.args.self.now =
+        settled_map (rows_of c.self.inside.root) c.args.self.now c.self.inside.pending (rows_of c.in_ok-settled.field-0) c.self.view_is c.self.invariant.rising c.in_ok-settled.ensures in
+    laid_over (rows_of c.in_ok-settled.field-0) c.args.self.now are c.in_ok-entry.entry c.self.inside.count (c.self.invariant.count ∙ ap len c.self.view_is)
+    ∙ ap (λ (e : Row). map_of.insert c.args.self.now e.0 e.1) c.in_ok-entry.ensures.ok

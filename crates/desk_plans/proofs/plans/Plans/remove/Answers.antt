@@ -1,16 +1,23 @@
-use Rattle.std.proofs.Common.{arith}
+use Rattle.std.proofs.Common.{ap, ◌∙◌}
 use Rattle.desk_plans.specs.Tree.{rows_of}
-use Rattle.desk_plans.proofs.AsMap.{is_less}
+use Rattle.desk_plans.proofs.Held.{settled_map, held_less}
 use Rattle.desk_plans.proofs.plans.Plans.remove.Goals as goal
+use Rattle.std.specs.FinMap.{len}
 
 pub overflow_sub-result : goal.overflow_sub-result
 overflow_sub-result c =
-    (is_less (rows_of c.self.inside.root) (rows_of c.in_ok-without.field-0) c.args.self.now c.args.name.now c.self.inside.count c.self.view_is c.self.invariant c.requires c.in_ok-without.ensures).some
+    (held_less (rows_of c.in_ok-whole.whole) (rows_of c.in_ok-without.field-0) c.args.self.now c.args.name.now c.self.inside.count
+        (settled_map (rows_of c.self.inside.root) c.args.self.now c.self.inside.pending (rows_of c.in_ok-whole.whole) c.self.view_is c.self.invariant.rising c.in_ok-whole.ensures)
+        (c.self.invariant.count ∙ ap len c.self.view_is) c.requires c.in_ok-without.ensures).some
 
 pub invariant_of-result : goal.invariant_of-result
 invariant_of-result c =
-    (is_less (rows_of c.self.inside.root) (rows_of c.in_ok-without.field-0) c.args.self.now c.args.name.now c.self.inside.count c.self.view_is c.self.invariant c.requires c.in_ok-without.ensures).are_rows
+    (held_less (rows_of c.in_ok-whole.whole) (rows_of c.in_ok-without.field-0) c.args.self.now c.args.name.now c.self.inside.count
+        (settled_map (rows_of c.self.inside.root) c.args.self.now c.self.inside.pending (rows_of c.in_ok-whole.whole) c.self.view_is c.self.invariant.rising c.in_ok-whole.ensures)
+        (c.self.invariant.count ∙ ap len c.self.view_is) c.requires c.in_ok-without.ensures).held
 
 pub returns : goal.returns
 returns c =
-    (is_less (rows_of c.self.inside.root) (rows_of c.in_ok-without.field-0) c.args.self.now c.args.name.now c.self.inside.count c.self.view_is c.self.invariant c.requires c.in_ok-without.ensures).map_is
+    (held_less (rows_of c.in_ok-whole.whole) (rows_of c.in_ok-without.field-0) c.args.self.now c.args.name.now c.self.inside.count
+        (settled_map (rows_of c.self.inside.root) c.args.self.now c.self.inside.pending (rows_of c.in_ok-whole.whole) c.self.view_is c.self.invariant.rising c.in_ok-whole.ensures)
+        (c.self.invariant.count ∙ ap len c.self.view_is) c.requires c.in_ok-without.ensures).map_is

@@ -1,10 +1,21 @@
+use Rattle.std.proofs.Common.{IsSome, ap, sym, subst, ◌∙◌}
 use Rattle.desk_plans.specs.Tree.{rows_of}
-use Rattle.desk_plans.proofs.AsMap.{are_rows_over, map_put}
+use Rattle.desk_plans.proofs.Held.{AreMap, settled_map, held_over, laid_over}
 use Rattle.desk_plans.proofs.plans.Plans.replace.Goals as goal
+use Rattle.std.specs.FinMap as map_of
+use Rattle.std.specs.FinMap.{len, get}
+use Rattle.desk_plans.specs.Rows.{Row}
 
 pub invariant_of-result : goal.invariant_of-result
-invariant_of-result c = are_rows_over (rows_of c.self.inside.root) (rows_of c.in_ok-with.field-0) c.args.self.now c.args.entry.0 c.args.entry.1 c.self.view_is c.self.inside.count c.self.invariant
-    c.in_ok-with.ensures c.requires
+invariant_of-result c =
+    let are : AreMap (rows_of c.in_ok-settled.field-0) c.args.self.now =
+        settled_map (rows_of c.self.inside.root) c.args.self.now c.self.inside.pending (rows_of c.in_ok-settled.field-0) c.self.view_is c.self.invariant.rising c.in_ok-settled.ensures in
+    held_over (rows_of c.in_ok-settled.field-0) c.args.self.now are c.in_ok-entry.entry c.self.inside.count (c.self.invariant.count ∙ ap len c.self.view_is)
+    (subst (λ (e : Row). IsSome (get c.args.self.now e.0)) (sym c.in_ok-entry.ensures.ok) c.requires)
 
 pub returns : goal.returns
-returns c = map_put (rows_of c.self.inside.root) (rows_of c.in_ok-with.field-0) c.args.self.now c.args.entry.0 c.args.entry.1 c.self.view_is c.self.inside.count c.self.invariant c.in_ok-with.ensures
+returns c =
+    let are : AreMap (rows_of c.in_ok-settled.field-0) c.args.self.now =
+        settled_map (rows_of c.self.inside.root) c.args.self.now c.self.inside.pending (rows_of c.in_ok-settled.field-0) c.self.view_is c.self.invariant.rising c.in_ok-settled.ensures in
+    laid_over (rows_of c.in_ok-settled.field-0) c.args.self.now are c.in_ok-entry.entry c.self.inside.count (c.self.invariant.count ∙ ap len c.self.view_is)
+    ∙ ap (λ (e : Row). map_of.insert c.args.self.now e.0 e.1) c.in_ok-entry.ensures.ok

@@ -1,9 +1,13 @@
 use Rattle.std.proofs.Common.{map, ap, sym, ◌∙◌}
+use Rattle.desk_plans.specs.Tree.{rows_of}
+use Rattle.desk_plans.proofs.Held.{AreMap, settled_map}
+use Rattle.desk_plans.proofs.plans.Plans.rows.Goals as goal
 use Rattle.std.specs.FinMap.{entries}
 use Rattle.desk_model.specs.Step.{plan_row}
-use Rattle.desk_plans.specs.Tree.{rows_of}
 use Rattle.desk_plans.proofs.AsMap.{entries_of}
-use Rattle.desk_plans.proofs.plans.Plans.rows.Goals as goal
 
 pub returns : goal.returns
-returns c = c.from_vec.ensures ∙ c.in_ok-lines.ensures ∙ ap (map plan_row) (sym (entries_of (rows_of c.self.inside.root) c.self.invariant.rising) ∙ ap entries c.self.view_is)
+returns c =
+    let are : AreMap (rows_of c.in_ok-whole.whole) c.args.self.now =
+        settled_map (rows_of c.self.inside.root) c.args.self.now c.self.inside.pending (rows_of c.in_ok-whole.whole) c.self.view_is c.self.invariant.rising c.in_ok-whole.ensures in
+    c.from_vec.ensures ∙ c.in_ok-lines.ensures ∙ ap (map plan_row) (sym (entries_of (rows_of c.in_ok-whole.whole) are.rising) ∙ ap entries are.map_is)
