@@ -1,4 +1,5 @@
-//! Creates plans and posts revisions to one plan, each time as plans of their own that share what didn't change.
+//! Creates plans and posts revisions to one plan, each time as plans of their own that share what didn't change. The plans before
+//! are given up by then, so each plan is put into the tree in place.
 
 use desk_model::kind::Kind;
 use desk_model::name::PlanName;
@@ -41,6 +42,7 @@ fn created(alloc: Global, count: u32, step: u32) -> Option<Plans> {
             return None;
         }
         let entry = Entry::new(alloc, name, PlanSize::new(Kind::Congress, 4));
+        plans.settle(alloc);
         plans = plans.insert(alloc, entry).ok()?;
         number = ((number as u64 + step as u64) % 65_535) as u32;
     }
@@ -48,13 +50,14 @@ fn created(alloc: Global, count: u32, step: u32) -> Option<Plans> {
 }
 
 /// The plans with one more revision of a plan.
-fn posted(alloc: Global, plans: &Plans, name: &PlanName) -> Option<Plans> {
+fn posted(alloc: Global, plans: &mut Plans, name: &PlanName) -> Option<Plans> {
     let entry = plans.get(name)?;
     if entry.count() >= REVISION_LIMIT {
         return None;
     }
     let districts = vec![in alloc; 1; BLOCKS].ok()?;
     let entry = entry.revised(alloc, &districts).ok()?;
+    plans.settle(alloc);
     plans.replace(alloc, entry).ok()
 }
 
@@ -63,7 +66,7 @@ fn posted_often(alloc: Global, posts: u32) -> Option<u32> {
     let mut plans = created(alloc, 1, 1)?;
     let name = name_of(0)?;
     for _ in 0..posts {
-        plans = posted(alloc, &plans, &name)?;
+        plans = posted(alloc, &mut plans, &name)?;
     }
     Some(plans.get(&name)?.count())
 }

@@ -1,5 +1,5 @@
 -- Rows as a map.
-use Rattle.std.proofs.Common.{◌≡◌, ℕ, ◌+◌, ◌-◌, ◌<◌, Bool, true, false, cond, List, [], ◌∷◌, ◌++◌, length, map, IsTrue, Option, Some, None, IsSome, IfSome, IfNone, Bor, arith, refl, ap, sym, ◌∙◌, length-append}
+use Rattle.std.proofs.Common.{◌≡◌, ℕ, ◌+◌, ◌-◌, ◌<◌, Bool, true, false, cond, List, [], ◌∷◌, ◌++◌, length, IsTrue, Option, Some, None, IsSome, IfSome, IfNone, Bor, arith, refl, ap, sym, ◌∙◌, length-append}
 use Rattle.std.proofs.Math.Dec.{T}
 use Rattle.std.specs.FinMap as map_of
 use Rattle.std.specs.Option.{option_copied}
@@ -9,9 +9,8 @@ use Rattle.std.specs.Ordering.{eq_by_cmp, is_eq}
 use Rattle.std.specs.declared.cmp.Ordering.{Ordering}
 use Rattle.std.specs.declared.cmp.Ordering.TheVariants.{Less, Equal, Greater}
 use Rattle.std.proofs.lemmas.Map.Lookups.{exact_bytes}
-use Rattle.std.proofs.lemmas.List.{append_assoc}
 use Rattle.desk_model.specs.Desk.{Plan, name_cmp}
-use Rattle.desk_plans.specs.Rows.{Row, AreRows, StartsAbove, StandsAt, IsSplit, IsPut, IsRemoved, IsFound}
+use Rattle.desk_plans.specs.Rows.{Row, AreRows, StartsAbove, IsSplit, IsPut, IsRemoved, IsFound}
 use Rattle.desk_plans.proofs.Rising.{AllBelow, all_below, all_before, rising_without, rising_back, above_after, put_between, put_there, find_missing, find_there}
 
 abbrev pub as_map : List Row → map_of.FinMap name_cmp Plan

@@ -1,5 +1,5 @@
 -- Plans of which one may wait to be put into the tree, as a map.
-use Rattle.std.proofs.Common.{◌≡◌, ℕ, ◌+◌, ◌-◌, ◌<◌, Bool, true, false, cond, List, length, IsTrue, Option, Some, None, IsSome, IfSome, IfNone, Bor, Result, Ok, Err, OnOk, arith, refl, subst, ap, sym, ◌∙◌}
+use Rattle.std.proofs.Common.{◌≡◌, ℕ, ◌+◌, ◌-◌, ◌<◌, true, false, cond, List, length, IsTrue, Option, Some, None, IsSome, IfSome, IfNone, Bor, Result, Ok, Err, OnOk, arith, refl, subst, ap, sym, ◌∙◌}
 use Rattle.std.specs.Option.{option_copied, is_some}
 use Rattle.std.specs.Result.{is_ok}
 use Rattle.std.specs.FinMap as map_of
@@ -12,7 +12,7 @@ use Rattle.std.specs.declared.sync.Arc.{Arc}
 use Rattle.std.specs.declared.alloc.Global.{Global}
 use Rattle.std.proofs.lemmas.Map.Lookups.{exact_bytes}
 use Rattle.desk_model.specs.Desk.{Plan, name_cmp}
-use Rattle.desk_plans.specs.Rows.{Row, AreRows, IsPut, IsRemoved, IsFound}
+use Rattle.desk_plans.specs.Rows.{Row, AreRows, IsRemoved, IsFound}
 use Rattle.desk_plans.specs.Held.{laid, AreHeld, IsSettled}
 use Rattle.desk_plans.proofs.AsMap.{as_map, len_of, map_put, rising_after, is_less, found_row, missing_row}
 

@@ -1,12 +1,11 @@
 -- A name's place in a tree, from its place on one side.
-use Rattle.std.proofs.Common.{◌≡◌, ℕ, ◌<◌, true, List, [], ◌∷◌, ◌++◌, length, drop, Option, Some, None, Result, Ok, Err, IfOk, IsTrue, arith, refl, ap, sym, subst, ◌∙◌}
+use Rattle.std.proofs.Common.{◌≡◌, ℕ, ◌<◌, true, List, [], ◌∷◌, ◌++◌, length, drop, Option, Some, None, Result, Ok, Err, IfOk, arith, refl, ap, ◌∙◌}
 use Rattle.std.specs.Option.{option_to_list}
 use Rattle.std.proofs.lemmas.List.{append_assoc}
 use Rattle.std.specs.Ordering.{is_lt, ordering_reverse}
-use Rattle.std.specs.declared.cmp.Ordering.{Ordering}
 use Rattle.std.specs.declared.cmp.Ordering.TheVariants.{Less, Equal, Greater}
 use Rattle.std.specs.Cmp.Lexicographic.{nat_list_cmp_total}
-use Rattle.desk_model.specs.Desk.{Plan, name_cmp}
+use Rattle.desk_model.specs.Desk.{name_cmp}
 use Rattle.desk_plans.specs.Rows.{Row, EndsBelow, StartsAbove, StandsAt, IsSplit, IsPut, IsRemoved, IsFound}
 use Rattle.desk_plans.proofs.Rising.{ends_below_last}
 

@@ -207,7 +207,9 @@ fn joined(
 fn measure(tree: &mut Tree)
     ensures { tree.new ≡ tree.old }
 {
-    tree.height = height(&tree.left).max(height(&tree.right)).saturating_add(1);
+    tree.height = height(&tree.left)
+        .max(height(&tree.right))
+        .saturating_add(1);
 }
 
 /// The tree on the left comes to the top, if nobody else has it.

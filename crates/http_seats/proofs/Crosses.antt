@@ -29,10 +29,10 @@ pub tree_sync : IsSync Tree.the_row
 tree_sync = search (sendable, crosses, knot.crosses, entry_send, entry_sync) depth 60 fits 20000
 
 pub plans_send : IsSend Plans.the_row
-plans_send = search (sendable, crosses, tree_send, tree_sync) depth 60 fits 20000
+plans_send = search (sendable, crosses, tree_send, tree_sync, entry_send, entry_sync) depth 60 fits 20000
 
 pub plans_sync : IsSync Plans.the_row
-plans_sync = search (sendable, crosses, tree_send, tree_sync) depth 60 fits 20000
+plans_sync = search (sendable, crosses, tree_send, tree_sync, entry_send, entry_sync) depth 60 fits 20000
 
 pub catalogue_send : IsSend Catalogue.the_row
 catalogue_send = search (sendable, crosses, plans_send, plans_sync, geography_send, geography_sync) depth 60 fits 20000

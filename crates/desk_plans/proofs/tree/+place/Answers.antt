@@ -1,5 +1,5 @@
-use Rattle.std.proofs.Common.{◌≡◌, List, ◌∷◌, ◌++◌, refl, subst, ap, sym, ◌∙◌}
-use Rattle.desk_plans.specs.Rows.{Row, IsPut}
+use Rattle.std.proofs.Common.{◌∷◌, ◌++◌, refl, subst, ap, sym, ◌∙◌}
+use Rattle.desk_plans.specs.Rows.{IsPut}
 use Rattle.desk_plans.specs.Tree.{rows_of}
 use Rattle.desk_plans.proofs.Splits.{put_left, put_right, put_here, put_alone}
 use Rattle.desk_plans.proofs.tree.+place.Goals as goal
@@ -21,7 +21,7 @@ returns-in_ok-of-in-None-right-clause-put t c =
     put_right c.args.entry.value (rows_of c.own.inside.left) (rows_of c.own.inside.right) c.own.inside.entry.value c.in_ok-of-in-None-right.field-0.value c.args.tree.now.value c.level-in-None-right.new.tree
     (c.own.view_is ∙ c.in-Some.ensures.value) c.level-in-None-right.ensures (sym c.order_of.ensures ∙ c.in-Greater.is)
     (subst (λ rows. IsPut c.args.entry.value rows c.in_ok-of-in-None-right.field-0.value) (ap rows_of (sym c.in-None-right.is))
-        (put_alone c.args.entry.value c.in_ok-of-in-None-right.field-0.value c.in_ok-of-in-None-right.ensures))
+    (put_alone c.args.entry.value c.in_ok-of-in-None-right.field-0.value c.in_ok-of-in-None-right.ensures))
 
 pub returns-in-Equal-clause-put : goal.returns-in-Equal-clause-put
 returns-in-Equal-clause-put t c =

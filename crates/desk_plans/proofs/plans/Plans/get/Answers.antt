@@ -1,6 +1,5 @@
-use Rattle.std.proofs.Common.{◌≡◌, Option, Some, ap, sym, ◌∙◌}
+use Rattle.std.proofs.Common.{Option, Some, ap, sym, ◌∙◌}
 use Rattle.std.specs.Ordering.{is_eq}
-use Rattle.std.specs.FinMap.{get}
 use Rattle.std.specs.declared.sync.Arc.{Arc}
 use Rattle.std.specs.declared.alloc.Global.{Global}
 use Rattle.desk_plans.specs.Rows.{Row}

@@ -9,5 +9,5 @@ use Rattle.desk_plans.proofs.AsMap.{entries_of}
 pub returns : goal.returns
 returns c =
     let are : AreMap (rows_of c.in_ok-whole.whole) c.args.self.now =
-        settled_map (rows_of c.self.inside.root) c.args.self.now c.self.inside.pending (rows_of c.in_ok-whole.whole) c.self.view_is c.self.invariant.rising c.in_ok-whole.ensures in
+    settled_map (rows_of c.self.inside.root) c.args.self.now c.self.inside.pending (rows_of c.in_ok-whole.whole) c.self.view_is c.self.invariant.rising c.in_ok-whole.ensures in
     c.from_vec.ensures ∙ c.in_ok-lines.ensures ∙ ap (map plan_row) (sym (entries_of (rows_of c.in_ok-whole.whole) are.rising) ∙ ap entries are.map_is)

@@ -10,13 +10,13 @@ pub invariant_of-self : goal.invariant_of-self
 invariant_of-self c =
     held_whole (rows_of c.settle_in.new.root) c.args.self.now c.self.inside.count
     (settled_map (rows_of c.self.inside.root) c.args.self.now c.self.inside.pending (rows_of c.settle_in.new.root) c.self.view_is c.self.invariant.rising
-        (on_ok c.settle_in.result (IsSettled c.self.inside.pending (rows_of c.self.inside.root) (rows_of c.settle_in.new.root)) c.if-is_ok.ensures.value c.settle_in.ensures.put))
+    (on_ok c.settle_in.result (IsSettled c.self.inside.pending (rows_of c.self.inside.root) (rows_of c.settle_in.new.root)) c.if-is_ok.ensures.value c.settle_in.ensures.put))
     (c.self.invariant.count ∙ ap len c.self.view_is)
 
 pub returns-then-is_ok : goal.returns-then-is_ok
 returns-then-is_ok c =
     let are : AreMap (rows_of c.settle_in.new.root) c.args.self.now =
-        settled_map (rows_of c.self.inside.root) c.args.self.now c.self.inside.pending (rows_of c.settle_in.new.root) c.self.view_is c.self.invariant.rising
-        (on_ok c.settle_in.result (IsSettled c.self.inside.pending (rows_of c.self.inside.root) (rows_of c.settle_in.new.root)) c.if-is_ok.ensures.value c.settle_in.ensures.put) in
+    settled_map (rows_of c.self.inside.root) c.args.self.now c.self.inside.pending (rows_of c.settle_in.new.root) c.self.view_is c.self.invariant.rising
+    (on_ok c.settle_in.result (IsSettled c.self.inside.pending (rows_of c.self.inside.root) (rows_of c.settle_in.new.root)) c.if-is_ok.ensures.value c.settle_in.ensures.put) in
     let is : as_map (rows_of c.settle_in.new.root) ≡ c.args.self.now = are.map_is in
     search rules
