@@ -6,6 +6,7 @@ ghost use Rattle.std.specs.Cmp.{on_equiv, on_total, on_po, on_per, partial_equiv
 ghost use Rattle.std.specs.Cmp.Lexicographic.{pointwise, slice_cmp, nat_list_eq_equiv, nat_list_cmp_total, texts_po, texts_ties};
 ghost use Rattle.desk_model.specs.Name.{IsPlanName, is_name_byte as is_name_byte_of, is_plan_name, plan_name_of};
 
+use key_order::compare;
 use std::cmp::Ordering;
 use std::marker::Model;
 use std::str::from_utf8;
@@ -137,6 +138,6 @@ impl Ord for PlanName {
     ghost matches_eq = { λ s t. texts_ties s t };
 
     fn cmp(&self, other: &Self) -> Ordering {
-        self.as_slice().cmp(other.as_slice())
+        compare(self.as_slice(), other.as_slice())
     }
 }
