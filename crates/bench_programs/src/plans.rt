@@ -41,7 +41,7 @@ fn created(alloc: Global, count: u32, step: u32) -> Option<Plans> {
         if plans.get(&name).is_some() || plans.len() >= PLAN_LIMIT {
             return None;
         }
-        let entry = Entry::new(alloc, name, PlanSize::new(Kind::Congress, 4));
+        let entry = Entry::new(name, PlanSize::new(Kind::Congress, 4));
         plans.settle(alloc);
         plans = plans.insert(alloc, entry).ok()?;
         number = ((number as u64 + step as u64) % 65_535) as u32;

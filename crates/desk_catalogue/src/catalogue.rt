@@ -243,7 +243,7 @@ impl Catalogue {
         if self.plans.len() >= PLAN_LIMIT {
             return Err(Refusal::Limit);
         }
-        let Ok(plans) = self.plans.insert(alloc, Entry::new(alloc, name, size)) else {
+        let Ok(plans) = self.plans.insert(alloc, Entry::new(name, size)) else {
             return Err(Refusal::Memory);
         };
         self.with_plans(plans)

@@ -127,7 +127,7 @@ pub fn read_entry<D: SectorDevice>(
     let Some(size) = PlanSize::read(row.kind, row.districts as u64) else {
         return Err(TreeError::DeviceFault);
     };
-    let mut entry = Entry::new(alloc, name, size);
+    let mut entry = Entry::new(name, size);
     let mut last = Last {
         names: Vec::new(alloc),
         districts: Vec::new(alloc),

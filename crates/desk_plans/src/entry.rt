@@ -38,13 +38,13 @@ impl Model for Entry {
 
 impl Entry {
     /// A plan with no revision.
-    pub fn new(alloc: Global, name: PlanName, size: PlanSize) -> Entry
+    pub fn new(name: PlanName, size: PlanSize) -> Entry
         ensures { result ≡ (name, record { kind = size.0; n = size.1; revisions = [] }) }
     {
         Entry {
             name,
             size,
-            revisions: SharedList::new(alloc),
+            revisions: SharedList::new(),
         }
     }
 

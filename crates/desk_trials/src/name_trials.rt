@@ -26,7 +26,7 @@ fn created<R: Abort>(rt: &R, alloc: Global) -> Plans {
         let name = numbered(rt, (i as u32 * 37 % COUNT as u32) as u16);
         assert!(rt; plans.get(&name).is_none());
         assert!(rt; plans.len() < 65_535);
-        let entry = Entry::new(alloc, name, PlanSize::new(Kind::Senate, 50));
+        let entry = Entry::new(name, PlanSize::new(Kind::Senate, 50));
         plans = plans.insert(alloc, entry).expect(rt, "no memory");
     }
     plans

@@ -1,9 +1,14 @@
 -- What is shown may cross threads, as all that it holds may.
 use denote.Param.Send.{IsSend, IsSync, sendable}
 use Rattle.std.proofs.Crossing.{crosses}
+use Rattle.shared_list.proofs.tree.Branch.TheLaws.TheKnot as branch_knot
+use Rattle.shared_list.proofs.trees.Trees.TheLaws.TheKnot as trees_knot
 use Rattle.desk_plans.proofs.tree.Tree.TheLaws.TheKnot as knot
 use Rattle.logbook.proofs.tokens.Seen.TheSendSync.{the_send as seen_send, the_sync as seen_sync}
 use Rattle.desk_model.specs.contracts.geography.Geography as Geography
+use Rattle.shared_districts.specs.contracts.districts.Districts as Districts
+use Rattle.shared_list.specs.contracts.tree.Branch as Branch
+use Rattle.shared_list.specs.contracts.trees.Trees as Trees
 use Rattle.desk_plans.specs.contracts.entry.Entry as Entry
 use Rattle.desk_plans.specs.contracts.tree.Tree as Tree
 use Rattle.desk_plans.specs.contracts.plans.Plans as Plans
@@ -16,11 +21,29 @@ geography_send = search (sendable, crosses) depth 40
 pub geography_sync : IsSync Geography.the_row
 geography_sync = search (sendable, crosses) depth 40
 
+pub districts_send : IsSend Districts.the_row
+districts_send = search (sendable, crosses) depth 40
+
+pub districts_sync : IsSync Districts.the_row
+districts_sync = search (sendable, crosses) depth 40
+
+pub branch_send : IsSend (Branch.the_row Districts.the_row)
+branch_send = search (sendable, crosses, branch_knot.crosses, districts_send, districts_sync) depth 60 fits 20000
+
+pub branch_sync : IsSync (Branch.the_row Districts.the_row)
+branch_sync = search (sendable, crosses, branch_knot.crosses, districts_send, districts_sync) depth 60 fits 20000
+
+pub trees_send : IsSend (Trees.the_row Districts.the_row)
+trees_send = search (sendable, crosses, trees_knot.crosses, branch_send, branch_sync) depth 60 fits 20000
+
+pub trees_sync : IsSync (Trees.the_row Districts.the_row)
+trees_sync = search (sendable, crosses, trees_knot.crosses, branch_send, branch_sync) depth 60 fits 20000
+
 pub entry_send : IsSend Entry.the_row
-entry_send = search (sendable, crosses) depth 60 fits 20000
+entry_send = search (sendable, crosses, trees_send, trees_sync) depth 60 fits 20000
 
 pub entry_sync : IsSync Entry.the_row
-entry_sync = search (sendable, crosses) depth 60 fits 20000
+entry_sync = search (sendable, crosses, trees_send, trees_sync) depth 60 fits 20000
 
 pub tree_send : IsSend Tree.the_row
 tree_send = search (sendable, crosses, knot.crosses, entry_send, entry_sync) depth 60 fits 20000

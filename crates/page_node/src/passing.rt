@@ -57,6 +57,7 @@ fn each_in(page: &[u8; 4096], at: usize, last: &mut Lengths) -> Option<usize>
 }
 
 /// Where the eight entries from a place on end.
+#[inline(always)]
 pub(crate) fn pass(page: &[u8; 4096], at: usize, last: &mut Lengths) -> Option<usize>
     requires { at ≤ 4096 }
     ensures within { IfSome result (λ end. (at ≤ end) × (end ≤ 4096)) }

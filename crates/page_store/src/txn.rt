@@ -74,6 +74,7 @@ impl Txn {
 
     /// Lends a page as `read` would read it, at one of sixteen places. `Pages::lent` shows the bytes where they lie, until another page
     /// is lent at that place.
+    #[inline(always)]
     pub fn lend<'t, D: SectorDevice>(
         &'t self,
         pages: &mut Pages<D>,

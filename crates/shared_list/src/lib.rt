@@ -1,8 +1,8 @@
 //! Lists that grow behind and share what they have with the lists before them.
 #![tactic(auto)]
 
-mod items;
 mod list;
-mod older;
+mod tree;
+mod trees;
 
 pub use list::SharedList;

@@ -1,0 +1,9 @@
+-- What is shared, or none of it.
+use Rattle.std.specs.Prelude.{List, [], Option, Some, None}
+use Rattle.std.specs.declared.sync.Arc.{Arc}
+use Rattle.std.specs.declared.alloc.Global.{Global}
+
+-- the items of a part
+abbrev pub part_of : {T : Type 0} → Option (Arc (List T) Global) → List T
+part_of None = []
+part_of (Some part) = part.value
