@@ -9,7 +9,7 @@ use Rattle.desk_model.specs.Geography.{Ground}
 use Rattle.desk_model.specs.Desk.{Plan, Desk}
 use Rattle.desk_model.specs.Room.{changed, last_revision, added_rows}
 use Rattle.desk_model.specs.Step.{step}
-use Rattle.store_keys.specs.declared.value.Counters.{Counters}
+use Rattle.store_rows.specs.declared.value.Counters.{Counters}
 use Rattle.plan_table.specs.PlanRows.{HasPlanNumber, HasChunkNumbers}
 
 -- the counties of the geography, none where there is none

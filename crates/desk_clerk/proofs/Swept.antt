@@ -8,8 +8,8 @@ use Rattle.page_store.specs.declared.pages.Pages.{Pages}
 use Rattle.page_btree.specs.Map.{InPages as HoldsRows}
 use Rattle.desk_model.specs.Geography.{Ground}
 use Rattle.desk_model.specs.Desk.{Desk}
-use Rattle.store_keys.specs.Keys.{RowKey, key_of, Fits, begun, seal, block, pair}
-use Rattle.store_keys.specs.RowLaws.{keys_differ}
+use Rattle.store_rows.specs.Keys.{RowKey, key_of, Fits, begun, seal, block, pair}
+use Rattle.store_rows.specs.RowLaws.{keys_differ}
 use Rattle.store_rows.specs.Frames.{remove_keeps}
 use Rattle.store_rows.specs.Rows.{KeyMap, row_in, Has}
 use Rattle.store_rows.specs.GeographyRows.{IsStaged}

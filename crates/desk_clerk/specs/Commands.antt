@@ -17,7 +17,7 @@ use Rattle.desk_model.specs.Outcome.{IsAcceptance, CommandMay, RefusalMay}
 use Rattle.desk_model.specs.Room.{need, command_rows}
 use Rattle.desk_model.specs.Step.{step}
 use Rattle.desk_catalogue.specs.Accepting.{IsAfter, acceptance}
-use Rattle.store_keys.specs.declared.value.Counters.{Counters}
+use Rattle.store_rows.specs.declared.value.Counters.{Counters}
 use Rattle.store_rows.specs.Rows.{KeyMap}
 use Rattle.store_rows.specs.Tidy.{IsNext, CountersFit}
 use Rattle.plan_revisions.specs.Steps.{IsDeep}

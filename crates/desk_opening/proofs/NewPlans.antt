@@ -7,9 +7,9 @@ use Rattle.desk_model.specs.Geography.{Ground}
 use Rattle.desk_model.specs.Desk.{Plan, name_cmp}
 use Rattle.desk_model.specs.Name.{IsPlanName, is_plan_name, plan_name_of}
 use Rattle.btree_scan.specs.declared.rows.Row.{Row}
-use Rattle.store_keys.specs.Keys.{key_of, named}
-use Rattle.store_keys.specs.Values.{plan_bytes}
-use Rattle.store_keys.specs.declared.value.PlanRow.{PlanRow}
+use Rattle.store_rows.specs.Keys.{key_of, named}
+use Rattle.store_rows.specs.Values.{plan_bytes}
+use Rattle.store_rows.specs.declared.value.PlanRow.{PlanRow}
 use Rattle.store_rows.specs.Rows.{KeyMap}
 use Rattle.store_rows.specs.DeskRows.{HasPlan, IsPlanAt}
 use Rattle.store_rows.specs.Changes.{plan_row_of}

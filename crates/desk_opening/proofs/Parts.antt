@@ -10,8 +10,8 @@ use Rattle.btree_scan.specs.Prefixes.{under}
 use Rattle.desk_model.specs.Geography.{Ground}
 use Rattle.desk_model.specs.Desk.{Plan, name_cmp}
 use Rattle.desk_model.specs.Step.{plan_limit}
-use Rattle.store_keys.specs.Keys.{key_of, named, plans_prefix}
-use Rattle.store_keys.specs.Order.{key_cmp}
+use Rattle.store_rows.specs.Keys.{key_of, named, plans_prefix}
+use Rattle.store_rows.specs.Order.{key_cmp}
 use Rattle.store_rows.specs.Rows.{KeyMap}
 use Rattle.store_rows.specs.DeskRows.{IsDesk, IsPlanAt}
 use Rattle.store_rows.specs.Changes.{cases_key, desk_with, other_row}

@@ -13,7 +13,7 @@ use Rattle.page_node.specs.Entries.{Entry}
 use Rattle.page_node.specs.Places.{key_cmp, Rises}
 use Rattle.page_node.specs.Laws.{is_less}
 use Rattle.btree_scan.specs.Prefixes.{find_under, head_rises, is_under, under, under_rises}
-use Rattle.store_keys.specs.Keys.{key_of, named, plans_prefix}
+use Rattle.store_rows.specs.Keys.{key_of, named, plans_prefix}
 use Rattle.store_rows.specs.Rows.{KeyMap}
 use Rattle.store_rows.specs.Frames.{differs, itself}
 

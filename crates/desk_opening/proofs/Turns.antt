@@ -11,7 +11,7 @@ use Rattle.btree_scan.specs.declared.rows.Row.{Row}
 use Rattle.btree_scan.specs.declared.scans.Scan.{Scan}
 use Rattle.desk_model.specs.Geography.{Ground}
 use Rattle.desk_model.specs.Desk.{Plan}
-use Rattle.store_keys.specs.Keys.{key_of, named, plans_prefix}
+use Rattle.store_rows.specs.Keys.{key_of, named, plans_prefix}
 use Rattle.store_rows.specs.Rows.{KeyMap}
 use Rattle.store_rows.specs.DeskRows.{IsPlanAt}
 use Rattle.desk_opening.specs.Opening.{ArePlans, IsNewPlan}

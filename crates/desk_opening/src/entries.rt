@@ -19,7 +19,7 @@ use revision_table::append_later;
 use row_table::TreeError;
 use sector_device::SectorDevice;
 use std::alloc::Global;
-use store_keys::PlanRow;
+use store_rows::PlanRow;
 
 /// A revision that was read: the numbers of its chunks, and its districts. Both are empty before the first.
 #[derive(Drop)]

@@ -17,7 +17,7 @@ use page_store::{Pages, Txn};
 use row_table::TreeError;
 use sector_device::SectorDevice;
 use std::alloc::Global;
-use store_keys::PlanRow;
+use store_rows::PlanRow;
 
 /// These plans with the one that stands under a name with this row. `cuts` are as `read_entry` has them.
 pub fn add_plan<D: SectorDevice>(

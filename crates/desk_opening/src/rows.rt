@@ -4,7 +4,7 @@ ghost use Rattle.std.specs.FinMap as map_of;
 ghost use Rattle.desk_model.specs.Cuts.{cuts_of};
 ghost use Rattle.desk_model.specs.Name.{IsPlanName};
 ghost use Rattle.page_store.specs.Transactions.{count_of, txn_pages, IsQuiet};
-ghost use Rattle.store_keys.specs.Keys.{key_of, named};
+ghost use Rattle.store_rows.specs.Keys.{key_of, named};
 ghost use Rattle.row_table.specs.Appending.{AppendErr};
 ghost use Rattle.desk_catalogue.specs.Kept.{AreWhole};
 ghost use Rattle.plan_table.specs.Laws.{RowFits};
@@ -23,7 +23,7 @@ use plan_table::laws::plans_are_told;
 use row_table::TreeError;
 use sector_device::SectorDevice;
 use std::alloc::Global;
-use store_keys::{Key, PlanRow, read_plan};
+use store_rows::{Key, PlanRow, read_plan};
 
 /// A number of 64 bits is in its range.
 fn number_fits(number: u64)

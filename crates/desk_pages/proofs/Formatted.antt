@@ -7,8 +7,8 @@ use Rattle.gate_journal.proofs.Commit.{settled_opens}
 use Rattle.page_store.specs.Openings.{IsNew}
 use Rattle.page_btree.specs.Laws.{new_holds}
 use Rattle.desk_model.specs.Desk.{Plan, name_cmp}
-use Rattle.store_keys.specs.Keys.{key_of, seal, named}
-use Rattle.store_keys.specs.Order.{key_cmp}
+use Rattle.store_rows.specs.Keys.{key_of, seal, named}
+use Rattle.store_rows.specs.Order.{key_cmp}
 use Rattle.store_rows.specs.Rows.{KeyMap}
 use Rattle.store_rows.specs.DeskRows.{IsPlanAt, IsDesk}
 use Rattle.store_rows.proofs.TidyFree.{empty_tidy}

@@ -3,10 +3,10 @@ use Rattle.std.proofs.Common.{◌≡◌, ◌<◌, ◌≤◌, ◌+◌, ◌-◌, �
 use Rattle.std.proofs.lemmas.Bool.{cases_lt}
 use Rattle.desk_model.specs.Geography.{Ground, IsGround}
 use Rattle.desk_model.specs.Desk.{Desk}
-use Rattle.store_keys.specs.Keys.{begun, seal}
-use Rattle.store_keys.specs.Values.{seal_bytes}
-use Rattle.store_keys.specs.declared.value.Counters.{Counters}
-use Rattle.store_keys.specs.declared.value.SealRow.{SealRow}
+use Rattle.store_rows.specs.Keys.{begun, seal}
+use Rattle.store_rows.specs.Values.{seal_bytes}
+use Rattle.store_rows.specs.declared.value.Counters.{Counters}
+use Rattle.store_rows.specs.declared.value.SealRow.{SealRow}
 use Rattle.store_rows.specs.Rows.{KeyMap, Has, Lacks}
 use Rattle.store_rows.specs.Puts.{Row, put_rows}
 use Rattle.store_rows.specs.GeographyRows.{IsGeography, IsStaged, geography_rows}

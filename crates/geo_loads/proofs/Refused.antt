@@ -16,9 +16,9 @@ use Rattle.page_btree.specs.declared.error.TreeError.{TreeError}
 use Rattle.page_btree.specs.declared.error.TreeError.TheVariants as tree
 use Rattle.desk_model.specs.Geography.{Ground}
 use Rattle.desk_model.specs.Desk.{Desk}
-use Rattle.store_keys.specs.Keys.{key_of, seal}
-use Rattle.store_keys.specs.Values.{seal_bytes}
-use Rattle.store_keys.specs.declared.value.SealRow.{SealRow}
+use Rattle.store_rows.specs.Keys.{key_of, seal}
+use Rattle.store_rows.specs.Values.{seal_bytes}
+use Rattle.store_rows.specs.declared.value.SealRow.{SealRow}
 use Rattle.store_rows.specs.Rows.{KeyMap, Has, Lacks}
 use Rattle.store_rows.specs.Puts.{Row, put_rows, length-rows_told}
 use Rattle.store_rows.specs.GeographyRows.{IsGeography}

@@ -7,8 +7,8 @@ use Rattle.page_store.specs.declared.txn.Txn.{Txn}
 use Rattle.page_btree.specs.Map.{InTxn as TxnHolds, InPages as PagesHold}
 use Rattle.desk_model.specs.Geography.{Ground, IsGround}
 use Rattle.desk_model.specs.Desk.{Desk}
-use Rattle.store_keys.specs.Keys.{begun}
-use Rattle.store_keys.specs.declared.value.Counters.{Counters}
+use Rattle.store_rows.specs.Keys.{begun}
+use Rattle.store_rows.specs.declared.value.Counters.{Counters}
 use Rattle.store_rows.specs.Rows.{KeyMap, Has}
 use Rattle.store_rows.specs.Puts.{Row, put_rows, length-rows_told}
 use Rattle.store_rows.specs.Changes.{desk_with}

@@ -5,7 +5,7 @@ use Rattle.page_store.specs.declared.pages.Pages.{Pages}
 use Rattle.page_btree.specs.Map.{InPages}
 use Rattle.desk_model.specs.Geography.{Ground}
 use Rattle.desk_model.specs.Desk.{Desk}
-use Rattle.store_keys.specs.Keys.{begun, seal}
+use Rattle.store_rows.specs.Keys.{begun, seal}
 use Rattle.store_rows.specs.Rows.{KeyMap, Has, Lacks}
 use Rattle.store_rows.specs.GeographyRows.{IsStaged}
 use Rattle.desk_pages.specs.Desks.{IsDeskMap}

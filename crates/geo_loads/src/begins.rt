@@ -5,8 +5,8 @@ ghost use Rattle.gate_journal.specs.Store.{home};
 ghost use Rattle.page_store.specs.Transactions.{stored, disk_in, count_of, journal_of, has_halted, HasShape, IsQuiet, IsSame, IsKept, Passed};
 ghost use Rattle.page_btree.specs.Map.{InPages as HoldsRows};
 ghost use Rattle.desk_model.specs.Desk.{Desk};
-ghost use Rattle.store_keys.specs.Keys.{seal};
-ghost use Rattle.store_keys.specs.declared.value.Counters.{Counters};
+ghost use Rattle.store_rows.specs.Keys.{seal};
+ghost use Rattle.store_rows.specs.declared.value.Counters.{Counters};
 ghost use Rattle.store_rows.specs.Rows.{KeyMap, Lacks};
 ghost use Rattle.store_rows.specs.Tidy.{IsNext};
 ghost use Rattle.desk_pages.specs.Desks.{InPages, OpensDesk};
@@ -24,7 +24,7 @@ use row_table::get_row;
 use sector_device::SectorDevice;
 use std::alloc::Global;
 use std::sync::Arc;
-use store_keys::{Key, SealRow};
+use store_rows::{Key, SealRow};
 
 /// Refuses where a geography is sealed.
 fn refuse_sealed<D: SectorDevice>(alloc: Global, pages: &mut Pages<D>) -> Result<(), LoadError>

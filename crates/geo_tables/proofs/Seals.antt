@@ -6,9 +6,9 @@ use Rattle.std.proofs.lemmas.Nat.{from_be_bytes-to_be_bytes_4, from_be_bytes-to_
 use Rattle.desk_model.specs.declared.block.BlockRow.{BlockRow}
 use Rattle.desk_model.specs.declared.geography.Pair.{Pair}
 use Rattle.desk_model.specs.Geography.{Ground}
-use Rattle.store_keys.specs.Keys.{key_of, seal}
-use Rattle.store_keys.specs.Values.{block_bytes, seal_bytes}
-use Rattle.store_keys.specs.declared.value.SealRow.{SealRow}
+use Rattle.store_rows.specs.Keys.{key_of, seal}
+use Rattle.store_rows.specs.Values.{block_bytes, seal_bytes}
+use Rattle.store_rows.specs.declared.value.SealRow.{SealRow}
 use Rattle.store_rows.specs.Rows.{KeyMap, row_in, element_row}
 use Rattle.store_rows.specs.GeographyRows.{IsBlockRow, IsSealed, IsGeography, geography_rows, neighbours_bytes}
 use Rattle.row_table.specs.Reading.{StandsAs}

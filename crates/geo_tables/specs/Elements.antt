@@ -3,9 +3,9 @@ use Rattle.std.specs.Prelude.{◌≡◌, ◌<◌, ◌^◌, ℕ, List, length, Al
 use Rattle.std.specs.FinMap.{get as row_at}
 use Rattle.desk_model.specs.declared.geography.Pair.{Pair}
 use Rattle.desk_model.specs.Geography.{Ground, IsGround}
-use Rattle.store_keys.specs.Keys.{key_of, block, pair}
-use Rattle.store_keys.specs.Values.{block_bytes}
-use Rattle.store_keys.specs.declared.value.SealRow.{SealRow}
+use Rattle.store_rows.specs.Keys.{key_of, block, pair}
+use Rattle.store_rows.specs.Values.{block_bytes}
+use Rattle.store_rows.specs.declared.value.SealRow.{SealRow}
 use Rattle.store_rows.specs.GeographyRows.{IsBlockRow, neighbours_bytes}
 use Rattle.page_btree.specs.declared.error.TreeError.{TreeError}
 use Rattle.page_btree.specs.declared.error.TreeError.TheVariants.{DeviceFault, Halted, NoPages, TooDeep, Memory}

@@ -3,8 +3,8 @@ use Rattle.std.specs.Prelude.{◌<◌, ◌^◌, ℕ, [], length}
 use Rattle.std.specs.FinMap.{FinMap}
 use Rattle.desk_model.specs.Geography.{Ground, IsGround}
 use Rattle.desk_model.specs.Desk.{Desk, Plan, name_cmp}
-use Rattle.store_keys.specs.Keys.{begun, block, pair, seal}
-use Rattle.store_keys.specs.declared.value.Counters.{Counters}
+use Rattle.store_rows.specs.Keys.{begun, block, pair, seal}
+use Rattle.store_rows.specs.declared.value.Counters.{Counters}
 use Rattle.store_rows.specs.Rows.{KeyMap, Has, Lacks}
 use Rattle.store_rows.specs.Puts.{put_rows}
 use Rattle.store_rows.specs.GeographyRows.{IsSealed, IsStaged, geography_rows}

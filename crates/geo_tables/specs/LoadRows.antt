@@ -5,9 +5,9 @@ use Rattle.std.specs.FinMap.{FinMap, insert}
 use Rattle.std.proofs.lemmas.Bool.{cases_lt}
 use Rattle.desk_model.specs.Geography.{Ground, IsGround}
 use Rattle.desk_model.specs.Desk.{Desk, Plan, name_cmp}
-use Rattle.store_keys.specs.Keys.{key_of, begun, block, counters, in_eight, pair, seal}
-use Rattle.store_keys.specs.Values.{counters_bytes}
-use Rattle.store_keys.specs.declared.value.Counters.{Counters}
+use Rattle.store_rows.specs.Keys.{key_of, begun, block, counters, in_eight, pair, seal}
+use Rattle.store_rows.specs.Values.{counters_bytes}
+use Rattle.store_rows.specs.declared.value.Counters.{Counters}
 use Rattle.store_rows.specs.Rows.{KeyMap, SameTag, Has, Lacks}
 use Rattle.store_rows.specs.Puts.{Row, put_rows, put_rows-append, told_keep}
 use Rattle.store_rows.specs.GeographyRows.{IsSealed, IsStaged, geography_rows}

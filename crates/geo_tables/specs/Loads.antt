@@ -8,10 +8,10 @@ use Rattle.page_store.specs.declared.txn.Txn.{Txn}
 use Rattle.page_btree.specs.Map.{InTxn}
 use Rattle.page_btree.specs.declared.error.TreeError.{TreeError}
 use Rattle.desk_model.specs.Geography.{Ground}
-use Rattle.store_keys.specs.Keys.{key_of, begun, seal}
-use Rattle.store_keys.specs.Values.{seal_bytes}
-use Rattle.store_keys.specs.declared.value.Counters.{Counters}
-use Rattle.store_keys.specs.declared.value.SealRow.{SealRow}
+use Rattle.store_rows.specs.Keys.{key_of, begun, seal}
+use Rattle.store_rows.specs.Values.{seal_bytes}
+use Rattle.store_rows.specs.declared.value.Counters.{Counters}
+use Rattle.store_rows.specs.declared.value.SealRow.{SealRow}
 use Rattle.store_rows.specs.Rows.{KeyMap, Has, Lacks}
 use Rattle.store_rows.specs.Tidy.{IsNext}
 use Rattle.row_table.specs.Puts.{HasPut, PutsErr}

@@ -8,8 +8,8 @@ use Rattle.std.proofs.lemmas.Option.{slice_get_within, slice_get_read, slice_get
 use Rattle.desk_model.specs.declared.block.BlockRow.{BlockRow}
 use Rattle.desk_model.specs.declared.geography.Pair.{Pair}
 use Rattle.desk_model.specs.Geography.{Ground}
-use Rattle.store_keys.specs.Values.{block_bytes}
-use Rattle.store_keys.specs.Keys.{key_of, block, pair}
+use Rattle.store_rows.specs.Values.{block_bytes}
+use Rattle.store_rows.specs.Keys.{key_of, block, pair}
 use Rattle.store_rows.specs.Rows.{KeyMap, element_row}
 use Rattle.store_rows.specs.Puts.{Row, put_rows, put_rows-append}
 use Rattle.store_rows.specs.GeographyRows.{IsBlockRow, IsStaged, geography_rows, neighbours_bytes}

@@ -4,7 +4,7 @@ ghost use Rattle.geo_tables.specs.Elements.{IsPairRow};
 use crate::puts::{block_fits, code_fits};
 use desk_model::block::BlockRow;
 use desk_model::geography::Pair;
-use store_keys::{Key, read_block, read_pair};
+use store_rows::{Key, read_block, read_pair};
 
 /// An element of a geography, as a row holds it.
 pub(crate) trait Element: Copy {
@@ -32,8 +32,8 @@ pub(crate) trait Element: Copy {
 }
 
 impl Element for BlockRow {
-    ghost use Rattle.store_keys.specs.Keys.{key_of, block, blocks_prefix};
-    ghost use Rattle.store_keys.specs.Values.{block_bytes};
+    ghost use Rattle.store_rows.specs.Keys.{key_of, block, blocks_prefix};
+    ghost use Rattle.store_rows.specs.Values.{block_bytes};
     ghost use Rattle.store_rows.specs.GeographyRows.{IsBlockRow};
 
     ghost bytes_of = { block_bytes };
@@ -72,7 +72,7 @@ fn pair_fits(pair: Pair)
 }
 
 impl Element for Pair {
-    ghost use Rattle.store_keys.specs.Keys.{key_of, pair, pairs_prefix};
+    ghost use Rattle.store_rows.specs.Keys.{key_of, pair, pairs_prefix};
     ghost use Rattle.store_rows.specs.GeographyRows.{neighbours_bytes};
     ghost use Rattle.geo_tables.specs.Elements.{IsPairRow};
 

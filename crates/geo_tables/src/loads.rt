@@ -2,7 +2,7 @@
 ghost use Rattle.std.specs.Prelude.{◌≡◌, ◌≤◌, ◌<◌, ◌+◌, ◌^◌, [], ◌∷◌, length, IfErr, IfOk, MatchResult, OnOk};
 ghost use Rattle.page_store.specs.Transactions.{stored, disk_in, count_of, txn_pages, IsQuiet, Passed};
 ghost use Rattle.page_btree.specs.Map.{InTxn};
-ghost use Rattle.store_keys.specs.Keys.{seal};
+ghost use Rattle.store_rows.specs.Keys.{seal};
 ghost use Rattle.store_rows.specs.Rows.{KeyMap, Lacks};
 ghost use Rattle.row_table.specs.Puts.{HasPut, PutsErr};
 ghost use Rattle.geo_tables.specs.Rows.{begun_rows, seal_row};
@@ -14,7 +14,7 @@ use page_btree::remove;
 use page_store::{Pages, Txn};
 use row_table::{TreeError, get_row, next_numbers, put_row};
 use sector_device::SectorDevice;
-use store_keys::{Counters, Key, SealRow, counters_value, seal_value};
+use store_rows::{Counters, Key, SealRow, counters_value, seal_value};
 
 /// Refuses where a geography is sealed.
 fn refuse_sealed<D: SectorDevice>(txn: &Txn, pages: &mut Pages<D>) -> Result<(), LoadError>

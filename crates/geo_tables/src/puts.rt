@@ -1,8 +1,8 @@
 //! Puts the rows of a geography.
 ghost use Rattle.std.specs.Prelude.{◌≡◌, ◌≤◌, ◌<◌, ◌+◌, ◌^◌, ◌↔◌, [], ◌∷◌, length, IfSome, IsTrue, MatchResult, OnOk};
 ghost use Rattle.page_store.specs.Transactions.{count_of, txn_pages, IsQuiet};
-ghost use Rattle.store_keys.specs.Keys.{key_of, block, pair};
-ghost use Rattle.store_keys.specs.Values.{block_bytes};
+ghost use Rattle.store_rows.specs.Keys.{key_of, block, pair};
+ghost use Rattle.store_rows.specs.Values.{block_bytes};
 ghost use Rattle.store_rows.specs.Rows.{KeyMap};
 ghost use Rattle.store_rows.specs.Puts.{put_rows};
 ghost use Rattle.store_rows.specs.GeographyRows.{IsBlockRow, IsStaged, geography_rows, neighbours_bytes};
@@ -15,7 +15,7 @@ use desk_model::geography::{Geography, Pair};
 use page_store::{Pages, Txn};
 use row_table::{TreeError, put_row};
 use sector_device::SectorDevice;
-use store_keys::{Key, block_value, pair_value};
+use store_rows::{Key, block_value, pair_value};
 
 /// The number of a block is in its range.
 fn number_fits(id: BlockId)

@@ -18,7 +18,7 @@ use page_store::{Pages, Txn};
 use row_table::{TreeError, get_row};
 use sector_device::SectorDevice;
 use std::alloc::Global;
-use store_keys::{Key, SealRow};
+use store_rows::{Key, SealRow};
 
 /// A number of 64 bits is in its range.
 fn number_fits(number: u64)

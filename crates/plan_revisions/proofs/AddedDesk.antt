@@ -8,9 +8,9 @@ use Rattle.desk_model.specs.Cuts.{cut, cuts_of, CutsAreCounties, ListsAreCut, si
 use Rattle.desk_model.specs.Desk.{Plan, Desk}
 use Rattle.desk_model.specs.Geography.{Ground}
 use Rattle.desk_model.specs.Room.{changed, last_revision, revision_rows}
-use Rattle.store_keys.specs.Values.{counters_bytes}
-use Rattle.store_keys.specs.declared.value.Counters.{Counters}
-use Rattle.store_keys.specs.declared.value.PlanRow.{PlanRow}
+use Rattle.store_rows.specs.Values.{counters_bytes}
+use Rattle.store_rows.specs.declared.value.Counters.{Counters}
+use Rattle.store_rows.specs.declared.value.PlanRow.{PlanRow}
 use Rattle.store_rows.specs.Rows.{KeyMap, SameTag}
 use Rattle.store_rows.specs.Puts.{Row, put_rows, put_rows-append}
 use Rattle.store_rows.specs.ChunkRows.{chunk_rows}

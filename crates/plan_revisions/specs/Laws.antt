@@ -4,8 +4,8 @@ use Rattle.desk_model.specs.Cuts.{cuts_of}
 use Rattle.desk_model.specs.Desk.{Desk}
 use Rattle.desk_model.specs.Geography.{AreBlocks, Ground}
 use Rattle.desk_model.specs.Room.{changed, revision_rows}
-use Rattle.store_keys.specs.declared.value.Counters.{Counters}
-use Rattle.store_keys.specs.declared.value.PlanRow.{PlanRow}
+use Rattle.store_rows.specs.declared.value.Counters.{Counters}
+use Rattle.store_rows.specs.declared.value.PlanRow.{PlanRow}
 use Rattle.store_rows.specs.Rows.{KeyMap}
 use Rattle.store_rows.specs.Puts.{Row, put_rows}
 use Rattle.store_rows.specs.Tidy.{IsNext, CountersFit}

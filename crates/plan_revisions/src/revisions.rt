@@ -19,7 +19,7 @@ use row_table::TreeError;
 use sector_device::SectorDevice;
 use shared_districts::Districts;
 use std::alloc::Global;
-use store_keys::PlanRow;
+use store_rows::PlanRow;
 
 /// Puts the rows of one revision more of the plan with this row: the chunks of the counties that change, from the first number on,
 /// the names of all chunks, and the plan's row with that of the numbers, which are read anew.

@@ -4,10 +4,10 @@ use Rattle.std.specs.Prelude.{Option, None, MatchOption}
 use Rattle.std.specs.FinMap.{FinMap, get, insert}
 use Rattle.desk_model.specs.Geography.{Ground}
 use Rattle.desk_model.specs.Desk.{Desk, Plan, name_cmp}
-use Rattle.store_keys.specs.Keys.{key_of, counters, named}
-use Rattle.store_keys.specs.Values.{counters_bytes, plan_bytes}
-use Rattle.store_keys.specs.declared.value.Counters.{Counters}
-use Rattle.store_keys.specs.declared.value.PlanRow.{PlanRow}
+use Rattle.store_rows.specs.Keys.{key_of, counters, named}
+use Rattle.store_rows.specs.Values.{counters_bytes, plan_bytes}
+use Rattle.store_rows.specs.declared.value.Counters.{Counters}
+use Rattle.store_rows.specs.declared.value.PlanRow.{PlanRow}
 use Rattle.store_rows.specs.Rows.{KeyMap, SameTag}
 use Rattle.store_rows.specs.Puts.{put_rows}
 use Rattle.store_rows.specs.Frames.{put_is_there, put_keeps, put_keeps_tag, tag_follows, desk_stays, revision_stays}

@@ -7,7 +7,7 @@ use Rattle.page_store.specs.declared.txn.Txn.{Txn}
 use Rattle.page_btree.specs.Map.{InTxn}
 use Rattle.page_btree.specs.declared.error.TreeError.{TreeError}
 use Rattle.page_btree.specs.declared.error.TreeError.TheVariants.{DeviceFault, Halted, NoPages, TooDeep, Memory}
-use Rattle.store_keys.specs.declared.value.Counters.{Counters}
+use Rattle.store_rows.specs.declared.value.Counters.{Counters}
 use Rattle.store_rows.specs.Rows.{KeyMap}
 use Rattle.store_rows.specs.Puts.{Row}
 use Rattle.store_rows.specs.Tidy.{IsNext, CountersFit}

@@ -10,7 +10,7 @@ use Rattle.page_btree.specs.Errors.{level_in}
 use Rattle.page_btree.specs.Map.{InTxn}
 use Rattle.page_btree.specs.declared.error.TreeError.{TreeError}
 use Rattle.page_btree.specs.declared.error.TreeError.TheVariants.{DeviceFault, Halted, NoPages, TooDeep, Memory}
-use Rattle.store_keys.specs.Keys.{key_of, named, retired}
+use Rattle.store_rows.specs.Keys.{key_of, named, retired}
 use Rattle.store_rows.specs.Rows.{KeyMap}
 use Rattle.store_rows.specs.Puts.{Row, put_rows}
 use Rattle.row_table.specs.Puts.{HasPut, PutsErr, HasDeepened}

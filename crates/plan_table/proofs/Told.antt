@@ -8,8 +8,8 @@ use Rattle.desk_model.specs.declared.kind.Kind.{Kind}
 use Rattle.desk_model.specs.declared.kind.Kind.TheVariants.{Congress, Senate, House}
 use Rattle.desk_model.specs.Geography.{Ground}
 use Rattle.desk_model.specs.Desk.{Plan, name_cmp}
-use Rattle.store_keys.specs.Values.{plan_bytes, kind_code}
-use Rattle.store_keys.specs.declared.value.PlanRow.{PlanRow}
+use Rattle.store_rows.specs.Values.{plan_bytes, kind_code}
+use Rattle.store_rows.specs.declared.value.PlanRow.{PlanRow}
 use Rattle.store_rows.specs.Rows.{KeyMap}
 use Rattle.store_rows.specs.DeskRows.{HasPlan, IsPlanAt, IsDesk}
 use Rattle.store_rows.specs.Changes.{desk_with, plan_row_of}

@@ -9,8 +9,8 @@ use Rattle.page_btree.specs.Map.{InTxn}
 use Rattle.page_btree.specs.Errors.{IsFault}
 use Rattle.page_btree.specs.declared.error.TreeError.{TreeError}
 use Rattle.page_btree.specs.declared.error.TreeError.TheVariants.{DeviceFault, Halted, NoPages, TooDeep, Memory}
-use Rattle.store_keys.specs.Keys.{key_of, named}
-use Rattle.store_keys.specs.declared.value.Counters.{Counters}
+use Rattle.store_rows.specs.Keys.{key_of, named}
+use Rattle.store_rows.specs.declared.value.Counters.{Counters}
 use Rattle.store_rows.specs.Rows.{KeyMap}
 use Rattle.store_rows.specs.Puts.{Row}
 use Rattle.store_rows.specs.Tidy.{IsNext, CountersFit}

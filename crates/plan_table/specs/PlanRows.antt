@@ -2,10 +2,10 @@
 use Rattle.std.specs.Prelude.{◌<◌, ◌+◌, ◌^◌, ℕ, List, [], ◌∷◌, Option}
 use Rattle.std.specs.FinMap.{remove}
 use Rattle.desk_model.specs.declared.kind.Kind.{Kind}
-use Rattle.store_keys.specs.Keys.{key_of, counters, named, retired}
-use Rattle.store_keys.specs.Values.{counters_bytes, plan_bytes}
-use Rattle.store_keys.specs.declared.value.Counters.{Counters}
-use Rattle.store_keys.specs.declared.value.PlanRow.{PlanRow}
+use Rattle.store_rows.specs.Keys.{key_of, counters, named, retired}
+use Rattle.store_rows.specs.Values.{counters_bytes, plan_bytes}
+use Rattle.store_rows.specs.declared.value.Counters.{Counters}
+use Rattle.store_rows.specs.declared.value.PlanRow.{PlanRow}
 use Rattle.store_rows.specs.Rows.{KeyMap}
 use Rattle.store_rows.specs.Puts.{Row, put_rows}
 use Rattle.store_rows.specs.Steps.{one_plan_more, chunks_more, one_revision_more}

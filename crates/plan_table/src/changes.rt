@@ -14,7 +14,7 @@ use page_btree::remove;
 use page_store::{Pages, Txn};
 use row_table::{TreeError, next_numbers, put_row};
 use sector_device::SectorDevice;
-use store_keys::{Counters, Key, PlanRow, counters_value, plan_value};
+use store_rows::{Counters, Key, PlanRow, counters_value, plan_value};
 
 /// Puts a plan's row and the row of the numbers.
 fn put_plan<D: SectorDevice>(

@@ -10,7 +10,7 @@ use desk_model::name::PlanName;
 use page_store::{Pages, Txn};
 use row_table::{TreeError, get_row};
 use sector_device::SectorDevice;
-use store_keys::{Key, PlanRow};
+use store_rows::{Key, PlanRow};
 
 /// The row under a plan's name, or none. It takes no memory. An error is `DeviceFault`, where the device failed or holds what is
 /// no plan's row, or `Halted`.

@@ -13,8 +13,8 @@ use Rattle.page_store.specs.declared.txn.Txn.{Txn}
 use Rattle.page_btree.specs.declared.error.TreeError.{TreeError}
 use Rattle.page_btree.specs.declared.error.TreeError.TheVariants.{Memory}
 use Rattle.desk_model.specs.Room.{rows_for}
-use Rattle.store_keys.specs.Lists.{districts_bytes}
-use Rattle.store_keys.specs.ListLaws.{districts_differ}
+use Rattle.store_rows.specs.Lists.{districts_bytes}
+use Rattle.store_rows.specs.ListLaws.{districts_differ}
 use Rattle.store_rows.specs.RevisionRows.{HasChunk}
 use Rattle.row_table.specs.Appending.{HasAppended, AppendErr, part_there, some_of_part, most_of_part, each_of_part, parts_more}
 use Rattle.revision_table.specs.Reading.{AreLong, AreNames, AreCounties, AreLater, IsLater, IsRevision}

@@ -1,8 +1,8 @@
 -- A part of a revision, as its row has it.
 use Rattle.std.proofs.Common.{◌≡◌, ◌<◌, ◌*◌, ◌^◌, ℕ, List, length, take, drop, Some, sym, subst, ◌∙◌, arith}
 use Rattle.std.specs.FinMap.{get}
-use Rattle.store_keys.specs.Keys.{key_of, part}
-use Rattle.store_keys.specs.Lists.{AreChunks, chunks_bytes}
+use Rattle.store_rows.specs.Keys.{key_of, part}
+use Rattle.store_rows.specs.Lists.{AreChunks, chunks_bytes}
 use Rattle.store_rows.specs.Rows.{KeyMap}
 use Rattle.row_table.specs.Appending.{part_there, some_of_part, most_of_part, each_of_part}
 use Rattle.revision_table.specs.Reading.{AreNames}

@@ -7,7 +7,7 @@ ghost use Rattle.revision_table.specs.Reading.{AreNames};
 use page_store::{Pages, Txn};
 use row_table::{TreeError, read_row};
 use sector_device::SectorDevice;
-use store_keys::{Key, PART_CHUNKS, read_chunks};
+use store_rows::{Key, PART_CHUNKS, read_chunks};
 
 /// Appends a part of the numbers of a revision's chunks, which are so many.
 fn append_part<D: SectorDevice>(

@@ -7,7 +7,7 @@ ghost use Rattle.row_table.specs.Puts.{HasPut, PutsErr};
 use page_store::{Pages, Txn};
 use row_table::{TreeError, part_of, put_row};
 use sector_device::SectorDevice;
-use store_keys::{Key, ListValue, PART_CHUNKS, fill_chunks};
+use store_rows::{Key, ListValue, PART_CHUNKS, fill_chunks};
 
 /// Puts one part of the numbers of a revision's chunks.
 fn put_part<D: SectorDevice>(

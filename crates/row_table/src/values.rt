@@ -1,5 +1,5 @@
 //! What is read back from a row.
-use store_keys::{Counters, PlanRow, SealRow, read_counters, read_plan, read_seal};
+use store_rows::{Counters, PlanRow, SealRow, read_counters, read_plan, read_seal};
 
 /// A value of a row, which is told by its bytes.
 pub trait RowValue: Drop + Sized {
@@ -13,7 +13,7 @@ pub trait RowValue: Drop + Sized {
 }
 
 impl RowValue for Counters {
-    ghost use Rattle.store_keys.specs.Values.{counters_bytes};
+    ghost use Rattle.store_rows.specs.Values.{counters_bytes};
 
     ghost bytes_of = { counters_bytes };
 
@@ -23,7 +23,7 @@ impl RowValue for Counters {
 }
 
 impl RowValue for PlanRow {
-    ghost use Rattle.store_keys.specs.Values.{plan_bytes};
+    ghost use Rattle.store_rows.specs.Values.{plan_bytes};
 
     ghost bytes_of = { plan_bytes };
 
@@ -33,7 +33,7 @@ impl RowValue for PlanRow {
 }
 
 impl RowValue for SealRow {
-    ghost use Rattle.store_keys.specs.Values.{seal_bytes};
+    ghost use Rattle.store_rows.specs.Values.{seal_bytes};
 
     ghost bytes_of = { seal_bytes };
 

@@ -9,10 +9,10 @@ use Rattle.std.proofs.lemmas.List.Sums.{sum_by-cons}
 use Rattle.desk_model.specs.Geography.{Ground}
 use Rattle.desk_model.specs.Cuts.{sizes}
 use Rattle.desk_model.specs.Room.{rows_for, differs, changed, revision_rows}
-use Rattle.store_keys.specs.Keys.{key_of, counters, named}
-use Rattle.store_keys.specs.Values.{plan_bytes, counters_bytes}
-use Rattle.store_keys.specs.declared.value.Counters.{Counters}
-use Rattle.store_keys.specs.declared.value.PlanRow.{PlanRow}
+use Rattle.store_rows.specs.Keys.{key_of, counters, named}
+use Rattle.store_rows.specs.Values.{plan_bytes, counters_bytes}
+use Rattle.store_rows.specs.declared.value.Counters.{Counters}
+use Rattle.store_rows.specs.declared.value.PlanRow.{PlanRow}
 use Rattle.store_rows.specs.Rows.{KeyMap}
 use Rattle.store_rows.specs.Puts.{Row, length-rows_told}
 use Rattle.store_rows.specs.ChunkRows.{piece_row, chunk_rows}

@@ -1,3 +1,5 @@
+pub mod Numbers
+pub mod ListValues
 pub mod OneList
 pub mod OneChunk
 pub mod OneGeography

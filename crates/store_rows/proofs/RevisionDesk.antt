@@ -6,11 +6,11 @@ use Rattle.std.proofs.lemmas.List.{get_or_default}
 use Rattle.desk_model.specs.Geography.{Ground}
 use Rattle.desk_model.specs.Cuts.{cut}
 use Rattle.desk_model.specs.Desk.{Plan, name_cmp}
-use Rattle.store_keys.specs.Keys.{Fits, named}
-use Rattle.store_keys.specs.Values.{plan_bytes}
-use Rattle.store_keys.specs.Lists.{districts_bytes}
-use Rattle.store_keys.specs.declared.value.Counters.{Counters}
-use Rattle.store_keys.specs.declared.value.PlanRow.{PlanRow}
+use Rattle.store_rows.specs.Keys.{Fits, named}
+use Rattle.store_rows.specs.Values.{plan_bytes}
+use Rattle.store_rows.specs.Lists.{districts_bytes}
+use Rattle.store_rows.specs.declared.value.Counters.{Counters}
+use Rattle.store_rows.specs.declared.value.PlanRow.{PlanRow}
 use Rattle.store_rows.specs.Rows.{KeyMap, Has}
 use Rattle.store_rows.specs.RevisionRows.{HasChunk, NamesChunks, HasRevision}
 use Rattle.store_rows.specs.Puts.{put_rows}

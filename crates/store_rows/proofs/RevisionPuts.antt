@@ -4,12 +4,12 @@ use Rattle.std.proofs.lemmas.Bool.{cases_lt, le-ltb}
 use Rattle.std.proofs.lemmas.List.Elements.{All-cons, All-nil, All-append}
 use Rattle.std.specs.FinMap.{get, insert}
 use Rattle.desk_model.specs.Room.{rows_for}
-use Rattle.store_keys.specs.Keys.{RowKey, key_of, Fits, counters, retired, begun, named, part, seal, block, pair, chunk}
-use Rattle.store_keys.specs.Values.{plan_bytes, counters_bytes}
-use Rattle.store_keys.specs.Lists.{chunks_bytes}
-use Rattle.store_keys.specs.RowLaws.{keys_differ}
-use Rattle.store_keys.specs.declared.value.Counters.{Counters}
-use Rattle.store_keys.specs.declared.value.PlanRow.{PlanRow}
+use Rattle.store_rows.specs.Keys.{RowKey, key_of, Fits, counters, retired, begun, named, part, seal, block, pair, chunk}
+use Rattle.store_rows.specs.Values.{plan_bytes, counters_bytes}
+use Rattle.store_rows.specs.Lists.{chunks_bytes}
+use Rattle.store_rows.specs.RowLaws.{keys_differ}
+use Rattle.store_rows.specs.declared.value.Counters.{Counters}
+use Rattle.store_rows.specs.declared.value.PlanRow.{PlanRow}
 use Rattle.store_rows.specs.Rows.{KeyMap, row_in, Has, SameTag, part_row}
 use Rattle.store_rows.specs.Frames.{put_is_there, put_keeps, other_tag}
 use Rattle.store_rows.specs.Puts.{Row, put_rows, put_rows-append, told_are, told_keep}

@@ -4,7 +4,7 @@ use Rattle.std.specs.FinMap as map_of
 use Rattle.std.specs.FinMap.{get, remove}
 use Rattle.desk_model.specs.Geography.{Ground}
 use Rattle.desk_model.specs.Desk.{Desk}
-use Rattle.store_keys.specs.Keys.{RowKey, key_of, Fits, begun, block, pair, in_eight, in_four}
+use Rattle.store_rows.specs.Keys.{RowKey, key_of, Fits, begun, block, pair, in_eight, in_four}
 use Rattle.store_rows.specs.Rows.{KeyMap, row_in, Has, Lacks, SameTag}
 use Rattle.store_rows.specs.GeographyRows.{IsSealed, IsGeography}
 use Rattle.store_rows.specs.DeskRows.{IsDesk}

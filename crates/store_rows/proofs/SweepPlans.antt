@@ -6,10 +6,10 @@ use Rattle.std.specs.FinMap.{get, remove}
 use Rattle.std.proofs.lemmas.List.{get_or_default}
 use Rattle.desk_model.specs.Geography.{Ground}
 use Rattle.desk_model.specs.Desk.{Desk, Plan}
-use Rattle.store_keys.specs.Keys.{key_of, Fits, retired, named, part, chunk, in_eight, in_four, in_one, in_two}
-use Rattle.store_keys.specs.Values.{plan_bytes}
-use Rattle.store_keys.specs.Lists.{chunks_bytes, AreChunks}
-use Rattle.store_keys.specs.ListLaws.{chunks_differ}
+use Rattle.store_rows.specs.Keys.{key_of, Fits, retired, named, part, chunk, in_eight, in_four, in_one, in_two}
+use Rattle.store_rows.specs.Values.{plan_bytes}
+use Rattle.store_rows.specs.Lists.{chunks_bytes, AreChunks}
+use Rattle.store_rows.specs.ListLaws.{chunks_differ}
 use Rattle.store_rows.specs.Rows.{KeyMap, row_in, Has, Lacks, SameTag}
 use Rattle.store_rows.specs.RevisionRows.{HasChunk, NamesChunks}
 use Rattle.store_rows.specs.ChunkRows.{IsFreeChunk}

@@ -2,7 +2,7 @@
 use Rattle.std.proofs.Common.{List, [], ◌∷◌, refl, ◌∙◌}
 use Rattle.std.specs.FinMap.{remove}
 use Rattle.desk_model.specs.Desk.{Desk}
-use Rattle.store_keys.specs.Keys.{RowKey, key_of, Fits, counters, retired, begun, named, part, seal, block, pair, chunk}
+use Rattle.store_rows.specs.Keys.{RowKey, key_of, Fits, counters, retired, begun, named, part, seal, block, pair, chunk}
 use Rattle.store_rows.specs.Rows.{KeyMap}
 use Rattle.store_rows.specs.DeskRows.{IsDesk}
 use Rattle.store_rows.specs.Tidy.{Tidy}

@@ -4,11 +4,11 @@ use Rattle.std.specs.Int.{from_be_bytes}
 use Rattle.std.specs.Prelude.{MatchOption}
 use Rattle.std.specs.FinMap.{get, empty, get-empty}
 use Rattle.std.proofs.lemmas.Nat.{from_be_bytes-to_be_bytes_8}
-use Rattle.store_keys.specs.Keys.{key_of, Fits, counters, retired, begun, named, part, block, pair, chunk}
-use Rattle.store_keys.specs.Values.{plan_bytes, counters_bytes}
-use Rattle.store_keys.specs.declared.value.Counters.{Counters}
-use Rattle.store_keys.specs.declared.value.PlanRow.{PlanRow}
-use Rattle.store_keys.specs.Order.{key_cmp}
+use Rattle.store_rows.specs.Keys.{key_of, Fits, counters, retired, begun, named, part, block, pair, chunk}
+use Rattle.store_rows.specs.Values.{plan_bytes, counters_bytes}
+use Rattle.store_rows.specs.declared.value.Counters.{Counters}
+use Rattle.store_rows.specs.declared.value.PlanRow.{PlanRow}
+use Rattle.store_rows.specs.Order.{key_cmp}
 use Rattle.store_rows.specs.Rows.{KeyMap, row_in, Has, Lacks}
 use Rattle.store_rows.specs.ChunkRows.{IsFreeChunk}
 use Rattle.store_rows.specs.Tidy.{no_numbers, IsNext, CountersFit, IsKnown, IsLoad, Tidy, TidyWith}

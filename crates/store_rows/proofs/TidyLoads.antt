@@ -3,10 +3,10 @@ use Rattle.std.proofs.Common.{◌≡◌, ◌<◌, ◌+◌, ◌^◌, ℕ, suc, Li
 use Rattle.std.proofs.lemmas.Bool.{cases_eq}
 use Rattle.std.specs.FinMap.{insert, remove}
 use Rattle.desk_model.specs.Geography.{Ground}
-use Rattle.store_keys.specs.Keys.{RowKey, key_of, Fits, counters, begun, seal, block, pair, in_eight, in_four}
-use Rattle.store_keys.specs.Values.{seal_bytes, counters_bytes}
-use Rattle.store_keys.specs.RowLaws.{keys_differ}
-use Rattle.store_keys.specs.declared.value.SealRow.{SealRow}
+use Rattle.store_rows.specs.Keys.{RowKey, key_of, Fits, counters, begun, seal, block, pair, in_eight, in_four}
+use Rattle.store_rows.specs.Values.{seal_bytes, counters_bytes}
+use Rattle.store_rows.specs.RowLaws.{keys_differ}
+use Rattle.store_rows.specs.declared.value.SealRow.{SealRow}
 use Rattle.store_rows.specs.Rows.{KeyMap, row_in, Has, Lacks, SameTag}
 use Rattle.store_rows.specs.Changes.{cases_key}
 use Rattle.store_rows.specs.Frames.{put_is_there, put_keeps, put_keeps_tag, put_keeps_row, removed_is_gone, remove_keeps_row, remove_keeps_tag, tag_follows}

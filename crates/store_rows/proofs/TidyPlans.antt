@@ -2,9 +2,9 @@
 use Rattle.std.proofs.Common.{◌≡◌, ◌⊎◌, ◌<◌, ◌+◌, ◌^◌, ℕ, List, [], None, sym, ap, subst, ◌∙◌, inl, inr, arith}
 use Rattle.std.proofs.lemmas.Bool.{cases_eq}
 use Rattle.std.specs.FinMap.{insert, remove}
-use Rattle.store_keys.specs.Keys.{key_of, Fits, counters, retired, named}
-use Rattle.store_keys.specs.Values.{plan_bytes, counters_bytes}
-use Rattle.store_keys.specs.declared.value.PlanRow.{PlanRow}
+use Rattle.store_rows.specs.Keys.{key_of, Fits, counters, retired, named}
+use Rattle.store_rows.specs.Values.{plan_bytes, counters_bytes}
+use Rattle.store_rows.specs.declared.value.PlanRow.{PlanRow}
 use Rattle.store_rows.specs.Rows.{KeyMap, row_in, Has, Lacks, SameTag}
 use Rattle.store_rows.specs.Changes.{cases_key, other_row}
 use Rattle.store_rows.specs.Frames.{put_is_there, put_keeps, put_keeps_tag, put_keeps_row, removed_is_gone, remove_keeps, remove_keeps_tag, tag_follows}

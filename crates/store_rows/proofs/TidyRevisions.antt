@@ -4,12 +4,12 @@ use Rattle.std.specs.Prelude.{Contains}
 use Rattle.std.proofs.Math.Dec.{ltb}
 use Rattle.std.proofs.lemmas.Bool.{cases_eq, cases_lt, lt-ltb, le-ltb}
 use Rattle.std.proofs.lemmas.List.{get_or_default}
-use Rattle.store_keys.specs.Keys.{Fits, counters, named, part, chunk}
-use Rattle.store_keys.specs.Values.{plan_bytes, counters_bytes}
-use Rattle.store_keys.specs.Lists.{chunks_bytes}
-use Rattle.store_keys.specs.ListLaws.{chunks_differ}
-use Rattle.store_keys.specs.declared.value.Counters.{Counters}
-use Rattle.store_keys.specs.declared.value.PlanRow.{PlanRow}
+use Rattle.store_rows.specs.Keys.{Fits, counters, named, part, chunk}
+use Rattle.store_rows.specs.Values.{plan_bytes, counters_bytes}
+use Rattle.store_rows.specs.Lists.{chunks_bytes}
+use Rattle.store_rows.specs.ListLaws.{chunks_differ}
+use Rattle.store_rows.specs.declared.value.Counters.{Counters}
+use Rattle.store_rows.specs.declared.value.PlanRow.{PlanRow}
 use Rattle.store_rows.specs.Rows.{KeyMap, row_in, Has, part_row}
 use Rattle.store_rows.specs.Changes.{cases_key}
 use Rattle.store_rows.specs.Steps.{chunks_more, one_revision_more}

@@ -2,9 +2,9 @@
 use Rattle.std.proofs.Common.{◌≡◌, ◌<◌, ◌≤◌, ◌*◌, ◌^◌, ℕ, cond, List, length, take, drop, All, Some, None, sym, ap, ◌∙◌, inl, inr, arith}
 use Rattle.std.proofs.lemmas.Bool.{cases_lt, lt-ltb, le-ltb}
 use Rattle.desk_model.specs.Room.{rows_for}
-use Rattle.store_keys.specs.Keys.{RowKey, key_of, counters, retired, begun, named, part, seal, block, pair, chunk}
-use Rattle.store_keys.specs.Lists.{districts_bytes}
-use Rattle.store_keys.specs.RowLaws.{keys_differ}
+use Rattle.store_rows.specs.Keys.{RowKey, key_of, counters, retired, begun, named, part, seal, block, pair, chunk}
+use Rattle.store_rows.specs.Lists.{districts_bytes}
+use Rattle.store_rows.specs.RowLaws.{keys_differ}
 use Rattle.store_rows.specs.Rows.{KeyMap, Lacks}
 use Rattle.store_rows.specs.RevisionRows.{HasChunk}
 use Rattle.store_rows.specs.Puts.{Row, put_rows, rows_told, told_keep, told_are}

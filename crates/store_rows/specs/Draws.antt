@@ -4,8 +4,8 @@ use Rattle.std.specs.List.{zip}
 use Rattle.desk_model.specs.Geography.{Ground}
 use Rattle.desk_model.specs.Cuts.{sizes}
 use Rattle.desk_model.specs.Room.{differs, changed, revision_rows}
-use Rattle.store_keys.specs.declared.value.Counters.{Counters}
-use Rattle.store_keys.specs.declared.value.PlanRow.{PlanRow}
+use Rattle.store_rows.specs.declared.value.Counters.{Counters}
+use Rattle.store_rows.specs.declared.value.PlanRow.{PlanRow}
 use Rattle.store_rows.specs.Rows.{KeyMap}
 use Rattle.store_rows.specs.RevisionSteps.{IsChunkList, AreKept, IsDrawn, rows_of_revision}
 

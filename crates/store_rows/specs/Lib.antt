@@ -1,3 +1,9 @@
+pub mod Keys
+pub mod Values
+pub mod Lists
+pub mod Order
+pub mod RowLaws
+pub mod ListLaws
 pub mod Rows
 pub mod GeographyRows
 pub mod RevisionRows

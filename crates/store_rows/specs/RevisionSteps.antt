@@ -1,10 +1,10 @@
 -- The rows that change as one revision of a plan is added.
 use Rattle.std.specs.Prelude.{◌≡◌, ◌⊎◌, ◌<◌, ◌≤◌, ◌+◌, ◌*◌, ◌^◌, ℕ, List, [], ◌∷◌, ◌++◌, length, get_or, All, Contains}
-use Rattle.store_keys.specs.Keys.{key_of, Fits, counters, named, part, chunk}
-use Rattle.store_keys.specs.Values.{counters_bytes, plan_bytes}
-use Rattle.store_keys.specs.Lists.{chunks_bytes}
-use Rattle.store_keys.specs.declared.value.Counters.{Counters}
-use Rattle.store_keys.specs.declared.value.PlanRow.{PlanRow}
+use Rattle.store_rows.specs.Keys.{key_of, Fits, counters, named, part, chunk}
+use Rattle.store_rows.specs.Values.{counters_bytes, plan_bytes}
+use Rattle.store_rows.specs.Lists.{chunks_bytes}
+use Rattle.store_rows.specs.declared.value.Counters.{Counters}
+use Rattle.store_rows.specs.declared.value.PlanRow.{PlanRow}
 use Rattle.store_rows.specs.Rows.{KeyMap, row_in, Has, SameTag, part_row}
 use Rattle.store_rows.specs.RevisionRows.{HasChunk}
 use Rattle.store_rows.specs.Puts.{Row}

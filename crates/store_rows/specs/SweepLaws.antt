@@ -2,11 +2,11 @@
 use Rattle.std.specs.Prelude.{◌≡◌, ◌<◌, ◌^◌, ℕ, List, [], ◌∷◌, Contains}
 use Rattle.std.specs.FinMap.{remove}
 use Rattle.desk_model.specs.Desk.{Desk}
-use Rattle.store_keys.specs.Keys.{RowKey, key_of, Fits, counters, retired, begun, named, part, seal, block, pair, chunk}
-use Rattle.store_keys.specs.Values.{seal_bytes}
-use Rattle.store_keys.specs.Lists.{chunks_bytes, AreChunks}
-use Rattle.store_keys.specs.declared.value.Counters.{Counters}
-use Rattle.store_keys.specs.declared.value.SealRow.{SealRow}
+use Rattle.store_rows.specs.Keys.{RowKey, key_of, Fits, counters, retired, begun, named, part, seal, block, pair, chunk}
+use Rattle.store_rows.specs.Values.{seal_bytes}
+use Rattle.store_rows.specs.Lists.{chunks_bytes, AreChunks}
+use Rattle.store_rows.specs.declared.value.Counters.{Counters}
+use Rattle.store_rows.specs.declared.value.SealRow.{SealRow}
 use Rattle.store_rows.specs.Rows.{KeyMap, Has, Lacks}
 use Rattle.store_rows.specs.RevisionRows.{NamesChunks}
 use Rattle.store_rows.specs.ChunkRows.{IsFreeChunk}

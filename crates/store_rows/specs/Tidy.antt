@@ -2,12 +2,12 @@
 -- no number is used again.
 use Rattle.std.specs.Prelude.{◌≡◌, ◌⊎◌, ◌<◌, ◌≤◌, ◌^◌, ℕ, List, [], Some, None, Contains, MatchOption}
 use Rattle.std.specs.FinMap as map_of
-use Rattle.store_keys.specs.Keys.{RowKey, key_of, Fits, counters, retired, begun, named, part, seal, block, pair, chunk}
-use Rattle.store_keys.specs.Values.{counters_bytes, plan_bytes, seal_bytes}
-use Rattle.store_keys.specs.Lists.{chunks_bytes, districts_bytes, AreChunks, AreDistricts}
-use Rattle.store_keys.specs.declared.value.Counters.{Counters}
-use Rattle.store_keys.specs.declared.value.PlanRow.{PlanRow}
-use Rattle.store_keys.specs.declared.value.SealRow.{SealRow}
+use Rattle.store_rows.specs.Keys.{RowKey, key_of, Fits, counters, retired, begun, named, part, seal, block, pair, chunk}
+use Rattle.store_rows.specs.Values.{counters_bytes, plan_bytes, seal_bytes}
+use Rattle.store_rows.specs.Lists.{chunks_bytes, districts_bytes, AreChunks, AreDistricts}
+use Rattle.store_rows.specs.declared.value.Counters.{Counters}
+use Rattle.store_rows.specs.declared.value.PlanRow.{PlanRow}
+use Rattle.store_rows.specs.declared.value.SealRow.{SealRow}
 use Rattle.store_rows.specs.Rows.{KeyMap, row_in, Has}
 
 -- before the first row of counters no number was given

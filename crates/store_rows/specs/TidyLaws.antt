@@ -6,11 +6,11 @@ use Rattle.desk_model.specs.Geography.{Ground}
 use Rattle.desk_model.specs.Cuts.{cut}
 use Rattle.desk_model.specs.Desk.{Plan, name_cmp}
 use Rattle.desk_model.specs.Name.{IsPlanName}
-use Rattle.store_keys.specs.Keys.{key_of, Fits, counters, retired, begun, named, part, seal, block, pair}
-use Rattle.store_keys.specs.Values.{counters_bytes, plan_bytes, seal_bytes}
-use Rattle.store_keys.specs.declared.value.Counters.{Counters}
-use Rattle.store_keys.specs.declared.value.PlanRow.{PlanRow}
-use Rattle.store_keys.specs.declared.value.SealRow.{SealRow}
+use Rattle.store_rows.specs.Keys.{key_of, Fits, counters, retired, begun, named, part, seal, block, pair}
+use Rattle.store_rows.specs.Values.{counters_bytes, plan_bytes, seal_bytes}
+use Rattle.store_rows.specs.declared.value.Counters.{Counters}
+use Rattle.store_rows.specs.declared.value.PlanRow.{PlanRow}
+use Rattle.store_rows.specs.declared.value.SealRow.{SealRow}
 use Rattle.store_rows.specs.Rows.{KeyMap, Has, Lacks}
 use Rattle.store_rows.specs.Puts.{Row, put_rows, rows_told}
 use Rattle.store_rows.specs.GeographyRows.{IsStaged}

@@ -1,6 +1,28 @@
-//! What the rows of a store say: its geography, its chunks and revisions, and its desk. Definitions for the crates that write
-//! and read these rows, and what holds of them.
+//! The rows of a store: a row is a key and a value, each a list of bytes, and a store's rows are a finite map from keys to values
+//! (`Rattle.store_rows.specs.Rows.KeyMap`). `Key` makes the keys, the calls named after a kind of row write its value and read
+//! it back. What a map of rows says (its geography, its chunks and revisions, its desk) is defined in specs/; the laws of it are
+//! for the crates that put and remove rows.
+//!
+//! ```text
+//! let key = Key::chunk(number, 0);
+//! let mut value = ListValue::new();
+//! fill_districts(&mut value, districts);
+//! ```
 #![tactic(auto)]
 
+mod key;
+pub mod key_laws;
 pub mod laws;
+mod list;
 pub mod upkeep;
+mod value;
+
+pub use key::Key;
+pub use list::{
+    ListValue, PART_CHUNKS, PIECE_DISTRICTS, add_chunk, add_district, fill_chunks, fill_districts,
+    read_chunks, read_districts,
+};
+pub use value::{
+    Counters, PlanRow, SealRow, block_value, counters_value, pair_value, plan_value, read_block,
+    read_counters, read_pair, read_plan, read_seal, seal_value,
+};

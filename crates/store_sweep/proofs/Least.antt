@@ -21,8 +21,8 @@ use Rattle.page_btree.specs.declared.seeks.Leaf.{Leaf}
 use Rattle.page_btree.specs.declared.error.TreeError.{TreeError}
 use Rattle.page_btree.specs.declared.error.TreeError.TheVariants.{DeviceFault}
 use Rattle.btree_scan.specs.Prefixes.{AllFrom, all_from_key, head_rises, rises_from_key, under_is_from}
-use Rattle.store_keys.specs.Keys.{RowKey, key_of, Fits, counters, retired, begun, named, part, seal, block, pair, chunk, in_two, in_eight, chunk_prefix}
-use Rattle.store_keys.proofs.Numbers.{numbers_decide}
+use Rattle.store_rows.specs.Keys.{RowKey, key_of, Fits, counters, retired, begun, named, part, seal, block, pair, chunk, in_two, in_eight, chunk_prefix}
+use Rattle.store_rows.proofs.Numbers.{numbers_decide}
 use Rattle.store_rows.specs.Rows.{KeyMap}
 use Rattle.store_rows.specs.Frames.{is_equal, itself, same_key}
 use Rattle.store_rows.specs.Tidy.{AreRows}

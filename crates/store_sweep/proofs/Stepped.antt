@@ -16,7 +16,7 @@ use Rattle.page_btree.specs.Map.{Holds, InTxn, InPages}
 use Rattle.page_btree.specs.declared.error.TreeError.{TreeError}
 use Rattle.page_btree.specs.declared.error.TreeError.TheVariants as tree
 use Rattle.desk_model.specs.Desk.{Desk}
-use Rattle.store_keys.specs.Keys.{RowKey, Fits, counters, retired, begun, named, part, seal, block, pair, chunk}
+use Rattle.store_rows.specs.Keys.{RowKey, Fits, counters, retired, begun, named, part, seal, block, pair, chunk}
 use Rattle.store_rows.specs.Rows.{KeyMap}
 use Rattle.store_rows.specs.SweepLaws.{IsLeftover, take_rows, AreLeftovers}
 use Rattle.store_rows.specs.Tidy.{Tidy}

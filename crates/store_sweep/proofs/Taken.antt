@@ -13,7 +13,7 @@ use Rattle.page_btree.specs.Errors.{RemoveErr}
 use Rattle.page_btree.specs.declared.error.TreeError.{TreeError}
 use Rattle.page_btree.specs.declared.error.TreeError.TheVariants.{DeviceFault, Halted, NoPages, TooDeep, Memory}
 use Rattle.desk_model.specs.Desk.{Desk}
-use Rattle.store_keys.specs.Keys.{RowKey, key_of}
+use Rattle.store_rows.specs.Keys.{RowKey, key_of}
 use Rattle.store_rows.specs.Rows.{KeyMap}
 use Rattle.store_rows.specs.SweepLaws.{take_rows, AreLeftovers, LeftoversAreSwept}
 use Rattle.store_rows.specs.Tidy.{Tidy}

@@ -5,7 +5,7 @@ use Rattle.std.specs.FinMap.{get}
 use Rattle.std.specs.Ordering.{is_gt}
 use Rattle.page_node.specs.Places.{key_cmp}
 use Rattle.btree_scan.specs.declared.rows.Row.{Row}
-use Rattle.store_keys.specs.Keys.{RowKey, key_of, Fits, counters, retired, begun, chunk}
+use Rattle.store_rows.specs.Keys.{RowKey, key_of, Fits, counters, retired, begun, chunk}
 use Rattle.store_rows.specs.Rows.{KeyMap, Has}
 use Rattle.store_rows.specs.ChunkRows.{IsFreeChunk}
 use Rattle.store_rows.specs.SweepLaws.{IsLeftover}

@@ -1,6 +1,6 @@
 -- Which rows of a store are swept, and what is left once they are.
 use Rattle.std.specs.Prelude.{◌≡◌, ◌<◌, ◌^◌, ℕ, List, [], ◌∷◌, length, Option, Some, None}
-use Rattle.store_keys.specs.Keys.{RowKey, counters, retired, begun, named, part, seal, block, pair, chunk}
+use Rattle.store_rows.specs.Keys.{RowKey, counters, retired, begun, named, part, seal, block, pair, chunk}
 use Rattle.store_rows.specs.Rows.{KeyMap, Has}
 use Rattle.store_rows.specs.SweepLaws.{take_rows, AreLeftovers}
 

@@ -3,7 +3,7 @@ ghost use Rattle.std.specs.Prelude.{◌≡◌, ◌<◌, ◌^◌, ℕ, List, [], 
 ghost use Rattle.page_store.specs.Transactions.{stored, disk_in, count_of, txn_pages, IsQuiet, Passed};
 ghost use Rattle.page_btree.specs.Map.{InTxn};
 ghost use Rattle.row_table.specs.Reading.{ReadErr};
-ghost use Rattle.store_keys.specs.Keys.{in_eight};
+ghost use Rattle.store_rows.specs.Keys.{in_eight};
 ghost use Rattle.store_rows.specs.Rows.{KeyMap};
 ghost use Rattle.store_rows.specs.Tidy.{Tidy};
 ghost use Rattle.store_sweep.specs.Leftovers.{IsOfLoad, IsSpared};
@@ -15,7 +15,7 @@ use btree_scan::Row;
 use page_store::{Pages, Txn};
 use row_table::TreeError;
 use sector_device::SectorDevice;
-use store_keys::{Key, read_chunks};
+use store_rows::{Key, read_chunks};
 
 /// The number behind the tag of a key; None where it isn't 8 bytes.
 fn number_in(key: &[u8]) -> Option<u64>

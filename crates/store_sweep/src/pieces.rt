@@ -7,7 +7,7 @@ ghost use Rattle.page_btree.specs.Map.{InTxn};
 ghost use Rattle.page_btree.specs.Errors.{GetErr};
 ghost use Rattle.page_btree.specs.declared.error.TreeError.TheVariants.{DeviceFault};
 ghost use Rattle.row_table.specs.Reading.{ReadErr};
-ghost use Rattle.store_keys.specs.Keys.{in_eight};
+ghost use Rattle.store_rows.specs.Keys.{in_eight};
 ghost use Rattle.store_rows.specs.Rows.{KeyMap};
 ghost use Rattle.store_rows.specs.Tidy.{AreRows};
 ghost use Rattle.store_sweep.specs.Finding.{IsFirstFrom, IsNextChunk, IsGap, IsSought, IsFirstPiece};
@@ -18,7 +18,7 @@ use page_node::{Lengths, bounds_in};
 use page_store::{Pages, Txn};
 use row_table::TreeError;
 use sector_device::SectorDevice;
-use store_keys::Key;
+use store_rows::Key;
 
 /// The number of 8 bytes, the highest first.
 pub(crate) fn eight(bytes: &[u8]) -> u64

@@ -11,7 +11,7 @@ use Rattle.btree_scan.specs.Scanning.{Rest, IsNextRow, fault_in, CanScan, ScanEr
 use Rattle.btree_scan.specs.Taken.{taken_none, taken_more, taken_all, taken_few}
 use Rattle.btree_scan.specs.Refused.{scan_refused}
 use Rattle.desk_catalogue.specs.Kept.{AreWhole}
-use Rattle.store_keys.specs.Keys.{plans_prefix}
+use Rattle.store_rows.specs.Keys.{plans_prefix}
 use Rattle.store_rows.specs.Rows.{KeyMap}
 use Rattle.row_table.specs.Outcomes.{match_of}
 use Rattle.row_table.specs.Reading.{get_unread}

@@ -7,7 +7,7 @@ use Rattle.page_btree.specs.Map.{InTxn}
 use Rattle.btree_scan.specs.Scanning.{fault_in}
 use Rattle.btree_scan.specs.Taken.{HasTaken}
 use Rattle.desk_catalogue.specs.Kept.{AreWhole}
-use Rattle.store_keys.specs.Keys.{plans_prefix}
+use Rattle.store_rows.specs.Keys.{plans_prefix}
 use Rattle.store_rows.specs.Rows.{KeyMap}
 use Rattle.desk_opening.specs.Opening.{ArePlans}
 use Rattle.desk_opening.proofs.Parts.{Plans, AreRead}

@@ -1,6 +1,6 @@
 use Rattle.std.proofs.Common.{Option, subst, sym}
-use Rattle.store_keys.specs.Values.{seal_bytes}
-use Rattle.store_keys.specs.declared.value.SealRow.{SealRow}
+use Rattle.store_rows.specs.Values.{seal_bytes}
+use Rattle.store_rows.specs.declared.value.SealRow.{SealRow}
 use Rattle.row_table.specs.Reading.{StandsAs}
 use Rattle.geo_loads.proofs.Begun.{reads_rows}
 use Rattle.geo_loads.proofs.Refused.{seal_unread, seal_seen, seal_unseen}

@@ -1,8 +1,8 @@
 use Rattle.std.proofs.Common.{List, ℕ, [], ◌∷◌, subst}
 use Rattle.std.specs.Prelude.{MatchResult}
 use Rattle.page_store.specs.Stops.{quiet_more}
-use Rattle.store_keys.specs.Keys.{key_of, begun, counters}
-use Rattle.store_keys.specs.Values.{counters_bytes}
+use Rattle.store_rows.specs.Keys.{key_of, begun, counters}
+use Rattle.store_rows.specs.Values.{counters_bytes}
 use Rattle.store_rows.specs.Puts.{Row}
 use Rattle.row_table.specs.Puts.{HasPut, PutsErr, front_not_put}
 use Rattle.geo_tables.specs.Rows.{begun_rows, load_taken}

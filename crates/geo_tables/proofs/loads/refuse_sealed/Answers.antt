@@ -1,6 +1,6 @@
 use Rattle.std.proofs.Common.{Option, subst, sym, inl}
-use Rattle.store_keys.specs.declared.value.SealRow.{SealRow}
-use Rattle.store_keys.specs.Values.{seal_bytes}
+use Rattle.store_rows.specs.declared.value.SealRow.{SealRow}
+use Rattle.store_rows.specs.Values.{seal_bytes}
 use Rattle.store_rows.specs.Rows.{KeyMap}
 use Rattle.row_table.specs.Reading.{StandsAs, less_unread}
 use Rattle.geo_tables.specs.Loads.{HasSeal, BeginErr}

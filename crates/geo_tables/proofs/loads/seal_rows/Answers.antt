@@ -7,8 +7,8 @@ use Rattle.page_btree.specs.Map.{InTxn}
 use Rattle.desk_model.specs.declared.block.BlockRow.{BlockRow}
 use Rattle.desk_model.specs.declared.geography.Pair.{Pair}
 use Rattle.desk_model.specs.Geography.{Ground}
-use Rattle.store_keys.specs.Keys.{key_of, seal}
-use Rattle.store_keys.specs.Values.{seal_bytes}
+use Rattle.store_rows.specs.Keys.{key_of, seal}
+use Rattle.store_rows.specs.Values.{seal_bytes}
 use Rattle.store_rows.specs.Puts.{Row}
 use Rattle.row_table.specs.Puts.{HasPut, PutsErr}
 use Rattle.geo_tables.specs.Rows.{seal_row}

@@ -3,8 +3,8 @@ use Rattle.sector_device.specs.Disk.{Image}
 use Rattle.page_store.specs.Stops.{quiet_more, passed_more}
 use Rattle.page_btree.specs.Map.{InTxn}
 use Rattle.desk_model.specs.Geography.{Ground}
-use Rattle.store_keys.specs.declared.value.SealRow.{SealRow}
-use Rattle.store_keys.specs.Values.{seal_bytes}
+use Rattle.store_rows.specs.declared.value.SealRow.{SealRow}
+use Rattle.store_rows.specs.Values.{seal_bytes}
 use Rattle.store_rows.specs.Rows.{KeyMap}
 use Rattle.store_rows.specs.GeographyRows.{IsGeography}
 use Rattle.row_table.specs.Outcomes.{err_of}

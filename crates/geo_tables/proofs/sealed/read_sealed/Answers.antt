@@ -4,8 +4,8 @@ use Rattle.page_store.specs.Transactions.{Passed}
 use Rattle.desk_model.specs.declared.block.BlockRow.{BlockRow}
 use Rattle.desk_model.specs.declared.geography.Pair.{Pair}
 use Rattle.desk_model.specs.Geography.{Ground}
-use Rattle.store_keys.specs.Keys.{key_of, block, pair}
-use Rattle.store_keys.specs.Values.{block_bytes}
+use Rattle.store_rows.specs.Keys.{key_of, block, pair}
+use Rattle.store_rows.specs.Values.{block_bytes}
 use Rattle.store_rows.specs.Rows.{KeyMap}
 use Rattle.store_rows.specs.GeographyRows.{IsBlockRow, neighbours_bytes}
 use Rattle.row_table.specs.Outcomes.{err_of}

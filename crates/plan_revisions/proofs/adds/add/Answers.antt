@@ -6,8 +6,8 @@ use Rattle.desk_model.specs.Room.{changed, revision_rows}
 use Rattle.page_store.specs.Stops.{quiet_more}
 use Rattle.page_store.specs.Transactions.{stored, disk_in}
 use Rattle.page_btree.specs.Map.{InTxn as HasMap}
-use Rattle.store_keys.specs.declared.value.Counters.{Counters}
-use Rattle.store_keys.specs.declared.value.PlanRow.{PlanRow}
+use Rattle.store_rows.specs.declared.value.Counters.{Counters}
+use Rattle.store_rows.specs.declared.value.PlanRow.{PlanRow}
 use Rattle.store_rows.specs.Rows.{KeyMap}
 use Rattle.row_table.specs.Outcomes.{match_of}
 use Rattle.plan_table.specs.PlanRows.{HasChunkNumbers, revised_rows}

@@ -1,6 +1,6 @@
 use Rattle.std.proofs.Common.{rules, refl, arith}
 use Rattle.page_store.specs.Stops.{quiet_more}
-use Rattle.store_keys.specs.declared.value.Counters.{Counters}
+use Rattle.store_rows.specs.declared.value.Counters.{Counters}
 use Rattle.store_rows.specs.Tidy.{CountersFit}
 use Rattle.plan_table.specs.PlanRows.{HasPlanNumber, created_rows}
 use Rattle.plan_table.specs.Outcomes.{IsChanged, ChangeErr}

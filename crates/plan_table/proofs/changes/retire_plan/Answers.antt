@@ -3,7 +3,7 @@ use Rattle.std.specs.FinMap.{remove}
 use Rattle.page_store.specs.Stops.{quiet_more}
 use Rattle.page_store.specs.Transactions.{stored, disk_in}
 use Rattle.page_btree.specs.Map.{InTxn}
-use Rattle.store_keys.specs.Keys.{key_of, named}
+use Rattle.store_rows.specs.Keys.{key_of, named}
 use Rattle.store_rows.specs.Rows.{KeyMap}
 use Rattle.row_table.specs.Puts.{HasPut, PutsErr}
 use Rattle.plan_table.specs.Outcomes.{HasRetired, RetireErr}

@@ -1,7 +1,7 @@
 use Rattle.std.proofs.Common.{sym, subst}
 use Rattle.std.specs.Prelude.{Option}
-use Rattle.store_keys.specs.Values.{plan_bytes}
-use Rattle.store_keys.specs.declared.value.PlanRow.{PlanRow}
+use Rattle.store_rows.specs.Values.{plan_bytes}
+use Rattle.store_rows.specs.declared.value.PlanRow.{PlanRow}
 use Rattle.store_rows.specs.Rows.{KeyMap}
 use Rattle.row_table.specs.Reading.{StandsAs, ReadErr, less_unread}
 use Rattle.plan_table.specs.PlanRows.{HasRow}

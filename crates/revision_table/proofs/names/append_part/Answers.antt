@@ -1,6 +1,6 @@
 use Rattle.std.proofs.Common.{◌≡◌, ◌*◌, ◌++◌, List, ℕ, take, drop, inr, ap, sym, ◌∙◌}
-use Rattle.store_keys.specs.Lists.{chunks_bytes}
-use Rattle.store_keys.specs.ListLaws.{chunks_differ}
+use Rattle.store_rows.specs.Lists.{chunks_bytes}
+use Rattle.store_rows.specs.ListLaws.{chunks_differ}
 use Rattle.row_table.specs.Outcomes.{match_of}
 use Rattle.row_table.specs.Reading.{HasRow, one_value}
 use Rattle.row_table.specs.Appending.{HasAppended, AppendErr, unread_unappended}

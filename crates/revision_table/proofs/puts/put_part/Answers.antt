@@ -1,5 +1,5 @@
 use Rattle.std.proofs.Common.{◌≡◌, ◌∷◌, [], MatchResult, ap, subst, ◌∙◌}
-use Rattle.store_keys.specs.Lists.{chunks_bytes}
+use Rattle.store_rows.specs.Lists.{chunks_bytes}
 use Rattle.store_rows.specs.Puts.{Row}
 use Rattle.store_rows.specs.NameRows.{name_row}
 use Rattle.row_table.specs.Puts.{HasPut, PutsErr}

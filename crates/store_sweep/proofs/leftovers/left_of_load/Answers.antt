@@ -1,5 +1,5 @@
 use Rattle.std.proofs.Common.{◌≡◌, ℕ, List, sym, subst, ◌∙◌, true, false, Bool, arith}
-use Rattle.store_keys.specs.Keys.{load_prefix, key_of, begun}
+use Rattle.store_rows.specs.Keys.{load_prefix, key_of, begun}
 use Rattle.row_table.specs.Outcomes.{err_of}
 use Rattle.row_table.specs.Reading.{ReadErr, get_unread}
 use Rattle.store_sweep.specs.Leftovers.{IsOfLoad}

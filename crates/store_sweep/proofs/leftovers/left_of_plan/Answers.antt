@@ -2,8 +2,8 @@ use Rattle.std.proofs.Common.{◌≡◌, ℕ, List, Bool, true, false, inr, sym,
 use Rattle.sector_device.specs.Disk.{Image}
 use Rattle.page_store.specs.Stops.{quiet_more, passed_more}
 use Rattle.page_btree.specs.Map.{InTxn}
-use Rattle.store_keys.specs.Keys.{plan_parts_prefix, key_of, retired}
-use Rattle.store_keys.specs.Lists.{AreChunks, chunks_bytes}
+use Rattle.store_rows.specs.Keys.{plan_parts_prefix, key_of, retired}
+use Rattle.store_rows.specs.Lists.{AreChunks, chunks_bytes}
 use Rattle.store_rows.specs.Tidy.{AreRows}
 use Rattle.row_table.specs.Outcomes.{err_of}
 use Rattle.row_table.specs.Reading.{ReadErr, get_unread, less_unread, not_read_after}

@@ -2,7 +2,7 @@ use Rattle.std.proofs.Common.{◌≡◌, ℕ, List, Bool, true, false, inr, drop
 use Rattle.sector_device.specs.Disk.{Image}
 use Rattle.page_store.specs.Stops.{quiet_more, passed_more}
 use Rattle.page_btree.specs.Map.{InTxn}
-use Rattle.store_keys.specs.Keys.{retired_prefix, key_of, counters, in_eight}
+use Rattle.store_rows.specs.Keys.{retired_prefix, key_of, counters, in_eight}
 use Rattle.store_rows.specs.Tidy.{Tidy}
 use Rattle.row_table.specs.Outcomes.{err_of}
 use Rattle.row_table.specs.Reading.{ReadErr, get_unread}

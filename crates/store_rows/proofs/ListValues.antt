@@ -1,0 +1,33 @@
+-- Lists of numbers as bytes: how long they are, and one number more.
+use Rattle.std.proofs.Common.{◌≡◌, ◌+◌, ◌-◌, ◌*◌, ℕ, List, [], ◌∷◌, ◌++◌, length, take, drop, refl, sym, ap, ◌∙◌, arith, length-append}
+use Rattle.std.specs.List.{slice_range, flat_map}
+use Rattle.std.proofs.lemmas.List.{append-nil}
+use Rattle.std.proofs.lemmas.Grind.{flat_map-append}
+use Rattle.std.proofs.Math.Seq.{take-add}
+use Rattle.store_rows.specs.Keys.{in_two, in_eight}
+use Rattle.store_rows.specs.Lists.{chunks_bytes, districts_bytes}
+
+pub length-chunks : (numbers : List ℕ) → length (chunks_bytes numbers) ≡ 8 * length numbers
+length-chunks [] = refl
+length-chunks (x ∷ numbers) = let more = length-chunks numbers in omega (arith, more, length-append (in_eight x) (chunks_bytes numbers))
+
+pub length-districts : (districts : List ℕ) → length (districts_bytes districts) ≡ 2 * length districts
+length-districts [] = refl
+length-districts (x ∷ districts) = let more = length-districts districts in omega (arith, more, length-append (in_two x) (districts_bytes districts))
+
+-- the bytes of the first k of them, and then of the next
+grown : (f : ℕ → List ℕ) (size : ℕ) (xs : List ℕ) (x k : ℕ) (bytes : List ℕ) → flat_map f xs ≡ take (size * k) bytes → f x ≡ slice_range bytes (size * k) (size * k + size) → flat_map f (xs ++ x ∷ []) ≡ take (size * k + size) bytes
+grown f size xs x k bytes before next =
+    let wide : size * k + size - size * k ≡ size = omega arith in
+    let part : f x ≡ take size (drop (size * k) bytes) = next ∙ ap (λ n. take n (drop (size * k) bytes)) wide in
+    flat_map-append f xs (x ∷ []) ∙ rw (append-nil (f x), before, part) (sym (take-add (size * k) size bytes))
+
+pub one_chunk_more : (numbers : List ℕ) (x k : ℕ) (bytes : List ℕ) → chunks_bytes numbers ≡ take (8 * k) bytes → in_eight x ≡ slice_range bytes (8 * k) (8 * k + 8) → chunks_bytes (numbers ++ x ∷ []) ≡ take (8 * (k + 1)) bytes
+one_chunk_more numbers x k bytes before next =
+    let end : 8 * k + 8 ≡ 8 * (k + 1) = omega arith in
+    grown in_eight 8 numbers x k bytes before next ∙ ap (λ n. take n bytes) end
+
+pub one_district_more : (districts : List ℕ) (x k : ℕ) (bytes : List ℕ) → districts_bytes districts ≡ take (2 * k) bytes → in_two x ≡ slice_range bytes (2 * k) (2 * k + 2) → districts_bytes (districts ++ x ∷ []) ≡ take (2 * (k + 1)) bytes
+one_district_more districts x k bytes before next =
+    let end : 2 * k + 2 ≡ 2 * (k + 1) = omega arith in
+    grown in_two 2 districts x k bytes before next ∙ ap (λ n. take n bytes) end

@@ -1,0 +1,5 @@
+use Rattle.store_rows.specs.ListLaws.{chunks_differ}
+use Rattle.store_rows.proofs.key_laws.chunks_differ.Goals as goal
+
+pub returns : goal.returns
+returns c = chunks_differ

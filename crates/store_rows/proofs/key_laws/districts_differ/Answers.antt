@@ -1,0 +1,5 @@
+use Rattle.store_rows.specs.ListLaws.{districts_differ}
+use Rattle.store_rows.proofs.key_laws.districts_differ.Goals as goal
+
+pub returns : goal.returns
+returns c = districts_differ

@@ -1,0 +1,6 @@
+use Rattle.std.proofs.Common.{◌≡◌, ◌*◌, ◌<◌, ◌^◌, All, length, take}
+use Rattle.store_rows.specs.Lists.{chunks_bytes}
+use Rattle.store_rows.proofs.list.read_chunks.Given as goal
+
+abbrev pub invariant-loop-k : goal.invariant-loop-k
+invariant-loop-k l = (chunks_bytes l.numbers.items ≡ take (8 * l.k) l.bytes) × (length l.numbers.items ≡ l.k) × All (λ n. n < 2 ^ 64) l.numbers.items

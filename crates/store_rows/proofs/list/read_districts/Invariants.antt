@@ -1,0 +1,6 @@
+use Rattle.std.proofs.Common.{◌≡◌, ◌*◌, ◌<◌, ◌^◌, All, length, take}
+use Rattle.store_rows.specs.Lists.{districts_bytes}
+use Rattle.store_rows.proofs.list.read_districts.Given as goal
+
+abbrev pub invariant-loop-k : goal.invariant-loop-k
+invariant-loop-k l = (districts_bytes l.districts.items ≡ take (2 * l.k) l.bytes) × (length l.districts.items ≡ l.k) × All (λ d. d < 2 ^ 16) l.districts.items

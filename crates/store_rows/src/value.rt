@@ -1,0 +1,239 @@
+//! Values of rows.
+ghost use Rattle.std.specs.Prelude.{◌≡◌, ◌<◌, ◌^◌, ℕ, length, Option, MatchOption};
+ghost use Rattle.store_rows.specs.declared.value.Counters.{Counters as CountersValue};
+ghost use Rattle.store_rows.specs.declared.value.PlanRow.{PlanRow as PlanValue};
+ghost use Rattle.store_rows.specs.declared.value.SealRow.{SealRow as SealValue};
+ghost use Rattle.desk_model.specs.declared.kind.Kind.{Kind as KindValue};
+ghost use Rattle.desk_model.specs.declared.block.BlockRow.{BlockRow as BlockValue};
+ghost use Rattle.store_rows.specs.Keys.{in_two, in_four, in_eight};
+ghost use Rattle.store_rows.specs.Values.{counters_bytes, plan_bytes, seal_bytes, block_bytes, pair_bytes, kind_code, city_bytes};
+
+use desk_model::block::{BlockId, BlockRow};
+use desk_model::kind::Kind;
+
+/// The numbers that the next plan, chunk and load get.
+#[derive(Clone, Copy, Debug, PartialEq, Eq)]
+pub struct Counters {
+    pub plan: u64,
+    pub chunk: u64,
+    pub load: u64,
+}
+
+/// What stands under a plan's name.
+#[derive(Clone, Copy, Debug, PartialEq, Eq)]
+pub struct PlanRow {
+    pub number: u64,
+    pub kind: Kind,
+    /// How many districts it has.
+    pub districts: u16,
+    /// How many revisions it has.
+    pub revisions: u32,
+}
+
+/// Which load is the geography, and how many blocks and pairs of neighbours it has.
+#[derive(Clone, Copy, Debug, PartialEq, Eq)]
+pub struct SealRow {
+    pub load: u64,
+    pub blocks: u32,
+    pub pairs: u32,
+}
+
+/// The value of the row of counters.
+pub fn counters_value(counters: &Counters) -> [u8; 24]
+    ensures { result ≡ counters_bytes counters.now }
+{
+    let [a, b, c, d, e, f, g, h] = counters.plan.to_be_bytes();
+    let [i, j, k, l, m, n, o, p] = counters.chunk.to_be_bytes();
+    let [q, r, s, t, u, v, w, x] = counters.load.to_be_bytes();
+    [
+        a, b, c, d, e, f, g, h, i, j, k, l, m, n, o, p, q, r, s, t, u, v, w, x,
+    ]
+}
+
+/// The value of a plan's row.
+pub fn plan_value(plan: &PlanRow) -> [u8; 15]
+    ensures { result ≡ plan_bytes plan.now }
+{
+    let [a, b, c, d, e, f, g, h] = plan.number.to_be_bytes();
+    let code = kind_number(plan.kind);
+    let [i, j] = plan.districts.to_be_bytes();
+    let [k, l, m, n] = plan.revisions.to_be_bytes();
+    [a, b, c, d, e, f, g, h, code, i, j, k, l, m, n]
+}
+
+/// The byte of a kind.
+fn kind_number(kind: Kind) -> u8
+    ensures { result ≡ kind_code kind }
+{
+    match kind {
+        Kind::Congress => 0,
+        Kind::Senate => 1,
+        Kind::House => 2,
+    }
+}
+
+/// The value of the row that names the geography.
+pub fn seal_value(seal: &SealRow) -> [u8; 16]
+    ensures { result ≡ seal_bytes seal.now }
+{
+    let [a, b, c, d, e, f, g, h] = seal.load.to_be_bytes();
+    let [i, j, k, l] = seal.blocks.to_be_bytes();
+    let [m, n, o, p] = seal.pairs.to_be_bytes();
+    [a, b, c, d, e, f, g, h, i, j, k, l, m, n, o, p]
+}
+
+/// The value of a block's row.
+pub fn block_value(block: &BlockRow) -> [u8; 17]
+    ensures { result ≡ block_bytes block.now }
+{
+    let [a, b, c, d, e, f, g, h] = block.id.number().to_be_bytes();
+    let [i, j, k, l, m] = city_value(block.city);
+    let [n, o, p, q] = block.population.to_be_bytes();
+    [a, b, c, d, e, f, g, h, i, j, k, l, m, n, o, p, q]
+}
+
+/// The bytes of a city or none.
+fn city_value(city: Option<u32>) -> [u8; 5]
+    ensures { result ≡ city_bytes city }
+{
+    match city {
+        None => [0; 5],
+        Some(city) => {
+            let [a, b, c, d] = city.to_be_bytes();
+            [1, a, b, c, d]
+        }
+    }
+}
+
+/// The value of the row of a pair of neighbours, which are told by their places.
+pub fn pair_value(pair: (u32, u32)) -> [u8; 8]
+    ensures { result ≡ pair_bytes pair }
+{
+    let [a, b, c, d] = pair.0.to_be_bytes();
+    let [e, f, g, h] = pair.1.to_be_bytes();
+    [a, b, c, d, e, f, g, h]
+}
+
+/// The number of 8 bytes, the highest first.
+pub fn eight(bytes: &[u8]) -> u64
+    requires { length bytes.now ≡ 8 }
+    ensures { in_eight result ≡ bytes.now }
+{
+    u64::from_be_bytes([
+        bytes[0], bytes[1], bytes[2], bytes[3], bytes[4], bytes[5], bytes[6], bytes[7],
+    ])
+}
+
+/// The number of 4 bytes, the highest first.
+fn four(bytes: &[u8]) -> u32
+    requires { length bytes.now ≡ 4 }
+    ensures { in_four result ≡ bytes.now }
+{
+    u32::from_be_bytes([bytes[0], bytes[1], bytes[2], bytes[3]])
+}
+
+/// The number of 2 bytes, the highest first.
+pub fn two(bytes: &[u8]) -> u16
+    requires { length bytes.now ≡ 2 }
+    ensures { in_two result ≡ bytes.now }
+{
+    u16::from_be_bytes([bytes[0], bytes[1]])
+}
+
+/// The counters that a row's value says; None where it says none.
+pub fn read_counters(bytes: &[u8]) -> Option<Counters>
+    ensures { MatchOption result ((c : CountersValue) → counters_bytes c ≡ bytes.now → ⊥) (λ c. counters_bytes c ≡ bytes.now) }
+{
+    if bytes.len() != 24 {
+        return None;
+    }
+    Some(Counters {
+        plan: eight(&bytes[..8]),
+        chunk: eight(&bytes[8..16]),
+        load: eight(&bytes[16..]),
+    })
+}
+
+/// The kind of a byte.
+fn kind_from(byte: u8) -> Option<Kind>
+    ensures { MatchOption result ((k : KindValue) → kind_code k ≡ byte → ⊥) (λ k. kind_code k ≡ byte) }
+{
+    match byte {
+        0 => Some(Kind::Congress),
+        1 => Some(Kind::Senate),
+        2 => Some(Kind::House),
+        _ => None,
+    }
+}
+
+/// What a plan's row says; None where it says no plan.
+pub fn read_plan(bytes: &[u8]) -> Option<PlanRow>
+    ensures { MatchOption result ((p : PlanValue) → plan_bytes p ≡ bytes.now → ⊥) (λ p. plan_bytes p ≡ bytes.now) }
+{
+    if bytes.len() != 15 {
+        return None;
+    }
+    let kind = kind_from(bytes[8])?;
+    Some(PlanRow {
+        number: eight(&bytes[..8]),
+        kind,
+        districts: two(&bytes[9..11]),
+        revisions: four(&bytes[11..]),
+    })
+}
+
+/// What the row says that names the geography; None where it says none.
+pub fn read_seal(bytes: &[u8]) -> Option<SealRow>
+    ensures { MatchOption result ((s : SealValue) → seal_bytes s ≡ bytes.now → ⊥) (λ s. seal_bytes s ≡ bytes.now) }
+{
+    if bytes.len() != 16 {
+        return None;
+    }
+    Some(SealRow {
+        load: eight(&bytes[..8]),
+        blocks: four(&bytes[8..12]),
+        pairs: four(&bytes[12..]),
+    })
+}
+
+/// The city or none that 5 bytes say.
+fn city_from(bytes: &[u8]) -> Option<Option<u32>>
+    requires { length bytes.now ≡ 5 }
+    ensures { MatchOption result ((c : Option ℕ) → city_bytes c ≡ bytes.now → ⊥) (λ c. city_bytes c ≡ bytes.now) }
+{
+    let code = four(&bytes[1..]);
+    match bytes[0] {
+        0 if code == 0 => Some(None),
+        1 => Some(Some(code)),
+        _ => None,
+    }
+}
+
+/// The block of a row; None where it says none.
+pub fn read_block(bytes: &[u8]) -> Option<BlockRow>
+    ensures { MatchOption result ((b : BlockValue) → b.id < 10 ^ 15 → block_bytes b ≡ bytes.now → ⊥) (λ b. block_bytes b ≡ bytes.now) }
+{
+    if bytes.len() != 17 {
+        return None;
+    }
+    let number = eight(&bytes[..8]);
+    if number >= 1_000_000_000_000_000 {
+        return None;
+    }
+    let city = city_from(&bytes[8..13])?;
+    Some(BlockRow {
+        id: BlockId::from_number(number),
+        city,
+        population: four(&bytes[13..]),
+    })
+}
+
+/// The places of the pair of a row; None where it says none.
+pub fn read_pair(bytes: &[u8]) -> Option<(u32, u32)>
+    ensures { MatchOption result ((a b : ℕ) → pair_bytes (a, b) ≡ bytes.now → ⊥) (λ p. pair_bytes p ≡ bytes.now) }
+{
+    if bytes.len() != 8 {
+        return None;
+    }
+    Some((four(&bytes[..4]), four(&bytes[4..])))
+}
