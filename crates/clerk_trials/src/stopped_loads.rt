@@ -7,7 +7,7 @@ use desk_clerk::clerk::Clerk;
 use desk_clerk::loads::LoadError;
 use desk_model::command::Query;
 use desk_model::reply::{Refusal, Reply};
-use geo_loads::Load;
+use geo_tables::Load;
 use sector_device::SectorDevice;
 use sector_memory::{FailOnce, Fused, MemoryDevice};
 use std::alloc::Global;

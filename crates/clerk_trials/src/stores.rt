@@ -5,7 +5,7 @@ use desk_clerk::clerk::Clerk;
 use desk_clerk::loads::LoadError;
 use desk_model::geography::{Geography, sample};
 use desk_pages::format;
-use geo_loads::Load;
+use geo_tables::Load;
 use sector_device::SectorDevice;
 use sector_memory::{FailOnce, MemoryDevice};
 use std::alloc::Global;

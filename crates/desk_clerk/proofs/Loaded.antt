@@ -14,11 +14,11 @@ use Rattle.desk_model.specs.Desk.{Desk, Plan, name_cmp}
 use Rattle.store_rows.specs.Rows.{KeyMap}
 use Rattle.store_rows.specs.DeskRows.{IsDesk, IsPlanAt}
 use Rattle.store_rows.specs.Changes.{desk_with}
-use Rattle.geo_loads.specs.Loading.{HoldsLoad, ground_of}
-use Rattle.geo_loads.specs.Refusals.{BeginErr, BatchErr, SealErr}
-use Rattle.geo_loads.specs.declared.load.Load.{Load}
-use Rattle.geo_loads.specs.declared.error.LoadError.{LoadError as LoadFault}
-use Rattle.geo_loads.specs.declared.error.LoadError.TheVariants.{AlreadySealed, Full, Memory, DeviceFault, Halted}
+use Rattle.geo_tables.specs.Loading.{HoldsLoad, ground_of}
+use Rattle.geo_tables.specs.Refusals.{BeginErr, BatchErr, SealErr}
+use Rattle.geo_tables.specs.declared.load.Load.{Load}
+use Rattle.geo_tables.specs.declared.error.LoadError.{LoadError as LoadFault}
+use Rattle.geo_tables.specs.declared.error.LoadError.TheVariants.{AlreadySealed, Full, Memory, DeviceFault, Halted}
 use Rattle.desk_pages.specs.Desks.{InPages, OpensDesk}
 use Rattle.desk_clerk.specs.Keeping.{IsOneMore, sealed_desk}
 use Rattle.desk_clerk.specs.Clerks.{desk_of, disk_of, sectors_of, Keeps}

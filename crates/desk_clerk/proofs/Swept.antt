@@ -14,8 +14,8 @@ use Rattle.store_rows.specs.Frames.{remove_keeps}
 use Rattle.store_rows.specs.Rows.{KeyMap, row_in, Has}
 use Rattle.store_rows.specs.GeographyRows.{IsStaged}
 use Rattle.store_rows.specs.SweepLaws.{IsLeftover, take_rows, AreLeftovers}
-use Rattle.geo_loads.specs.Loading.{HoldsLoad, number_of, ground_of, done_of}
-use Rattle.geo_loads.specs.declared.load.Load.{Load}
+use Rattle.geo_tables.specs.Loading.{HoldsLoad, number_of, ground_of, done_of}
+use Rattle.geo_tables.specs.declared.load.Load.{Load}
 use Rattle.desk_pages.specs.Desks.{IsDeskMap, InPages}
 use Rattle.store_sweep.specs.Leftovers.{IsOfLoad, AreNotSpared, IsSweptBy, IsSweptClean}
 use Rattle.store_sweep.specs.Sweeping.{HoldsSwept, SweepErr}

@@ -1,7 +1,7 @@
 -- What a clerk tells of a load that came to nothing.
 use Rattle.std.specs.Prelude.{Bool, true, false}
-use Rattle.geo_loads.specs.declared.error.LoadError.{LoadError as LoadFault}
-use Rattle.geo_loads.specs.declared.error.LoadError.TheVariants as below
+use Rattle.geo_tables.specs.declared.error.LoadError.{LoadError as LoadFault}
+use Rattle.geo_tables.specs.declared.error.LoadError.TheVariants as below
 use Rattle.desk_clerk.specs.declared.loads.LoadError.{LoadError}
 use Rattle.desk_clerk.specs.declared.loads.LoadError.TheVariants.{AlreadySealed, Full, Memory, Halted}
 

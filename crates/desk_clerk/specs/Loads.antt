@@ -5,10 +5,10 @@ use Rattle.page_store.specs.Transactions.{disk_in, IsQuiet}
 use Rattle.page_store.specs.declared.pages.Pages.{Pages}
 use Rattle.desk_model.specs.Geography.{Ground}
 use Rattle.desk_model.specs.Desk.{Desk}
-use Rattle.geo_loads.specs.declared.load.Load.{Load}
-use Rattle.geo_loads.specs.declared.error.LoadError.TheVariants as below
-use Rattle.geo_loads.specs.Loading.{HoldsLoad, number_of, ground_of}
-use Rattle.geo_loads.specs.Refusals.{BeginErr, BatchErr, SealErr}
+use Rattle.geo_tables.specs.declared.load.Load.{Load}
+use Rattle.geo_tables.specs.declared.error.LoadError.TheVariants as below
+use Rattle.geo_tables.specs.Loading.{HoldsLoad, number_of, ground_of}
+use Rattle.geo_tables.specs.Refusals.{BeginErr, BatchErr, SealErr}
 use Rattle.desk_clerk.specs.declared.clerk.Clerk.{Clerk}
 use Rattle.desk_clerk.specs.declared.loads.LoadError.{LoadError}
 use Rattle.desk_clerk.specs.declared.loads.LoadError.TheVariants.{AlreadySealed, Full, Memory, Halted, Ended}

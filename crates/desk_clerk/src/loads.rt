@@ -6,7 +6,7 @@ ghost use Rattle.desk_clerk.specs.LoadFaults.{is_load_fault, load_error_of};
 use crate::clerk::Clerk;
 use crate::shown::sealed;
 use desk_model::geography::Geography;
-use geo_loads::{Load, LoadError as LoadFault};
+use geo_tables::{Load, LoadError as LoadFault};
 use page_store::Pages;
 use sector_device::SectorDevice;
 use std::alloc::Global;
@@ -57,7 +57,7 @@ fn load_error(e: LoadFault) -> LoadError
 impl<D: SectorDevice> Clerk<D> {
     ghost use Rattle.std.specs.Prelude.{◌≡◌, ◌≤◌, ◌+◌, false, None, OnOk, OnErr, IfOk, IfErr};
     ghost use Rattle.store_rows.specs.GeographyRows.{geography_rows};
-    ghost use Rattle.geo_loads.specs.Loading.{IsFurther, ground_of, done_of};
+    ghost use Rattle.geo_tables.specs.Loading.{IsFurther, ground_of, done_of};
     ghost use Rattle.desk_clerk.specs.Clerks.{desk_of, disk_of, Keeps, Moves, MovesIf};
     ghost use Rattle.desk_clerk.specs.Keeping.{sealed_desk};
     ghost use Rattle.page_store.specs.Transactions.{IsQuiet};
@@ -85,7 +85,7 @@ impl<D: SectorDevice> Clerk<D> {
         if self.halted {
             return Err(LoadError::Halted);
         }
-        match geo_loads::begin_load(alloc, &mut self.pages, geography) {
+        match geo_tables::begin_load(alloc, &mut self.pages, geography) {
             Ok(load) => {
                 self.loading = Some(load.number());
                 Ok(load)
@@ -142,7 +142,7 @@ impl<D: SectorDevice> Clerk<D> {
         if let Err(e) = self.may_go_on(load) {
             return Err(e);
         }
-        match geo_loads::load_batch(alloc, &mut self.pages, load, rows) {
+        match geo_tables::load_batch(alloc, &mut self.pages, load, rows) {
             Ok(left) => Ok(left),
             Err(e) => {
                 if has_failed(e, &self.pages) {
@@ -171,7 +171,7 @@ impl<D: SectorDevice> Clerk<D> {
         let Ok(shown) = sealed(alloc, load.geography()) else {
             return Err((LoadError::Memory, load));
         };
-        match geo_loads::seal(alloc, &mut self.pages, load) {
+        match geo_tables::seal(alloc, &mut self.pages, load) {
             Ok(()) => {
                 self.catalogue = shown.catalogue;
                 self.cuts = shown.cuts;

@@ -34,7 +34,7 @@ fn in_range(number: Option<u64>) -> Option<u64>
 impl<D: SectorDevice> Clerk<D> {
     ghost use Rattle.std.specs.Prelude.{◌≡◌, ◌≤◌, ◌↔◌, false, OnOk, IfOk, IfErr};
     ghost use Rattle.store_rows.specs.Rows.{KeyMap};
-    ghost use Rattle.geo_loads.specs.declared.load.Load.{Load};
+    ghost use Rattle.geo_tables.specs.declared.load.Load.{Load};
     ghost use Rattle.desk_clerk.specs.Clerks.{desk_of, disk_of, free_of, Keeps, Moves};
     ghost use Rattle.desk_clerk.specs.Loads.{Stages, IsLast};
     ghost use Rattle.desk_clerk.specs.Sweeps.{HasRows, IsClean, HasSwept, SweepRefused};

@@ -1,7 +1,7 @@
 -- A whole load.
 use Rattle.std.specs.Prelude.{◌≡◌, true, false}
 use Rattle.sector_device.specs.declared.SectorDevice.{Ghosts}
-use Rattle.geo_loads.specs.declared.load.Load.{Load}
+use Rattle.geo_tables.specs.declared.load.Load.{Load}
 use Rattle.desk_clerk.specs.declared.clerk.Clerk.{Clerk}
 use Rattle.desk_clerk.specs.declared.loads.LoadError.{LoadError}
 use Rattle.desk_clerk.specs.declared.loads.LoadError.TheVariants.{AlreadySealed, Full, Memory, Halted, Ended}

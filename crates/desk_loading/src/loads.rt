@@ -1,7 +1,7 @@
 //! Loads a geography by as many batches as it takes.
 ghost use Rattle.std.specs.Prelude.{◌≡◌, ◌≤◌, ◌+◌, ◌*◌, None, OnOk, OnErr, IfErr};
 ghost use Rattle.store_rows.specs.GeographyRows.{geography_rows};
-ghost use Rattle.geo_loads.specs.Loading.{ground_of, done_of};
+ghost use Rattle.geo_tables.specs.Loading.{ground_of, done_of};
 ghost use Rattle.desk_clerk.specs.Clerks.{desk_of, Keeps};
 ghost use Rattle.desk_clerk.specs.Keeping.{sealed_desk};
 ghost use Rattle.desk_clerk.specs.Loads.{Stages, IsLast};
@@ -10,7 +10,7 @@ ghost use Rattle.desk_loading.specs.Loads.{GoesOn, LoadRefused, StageRefused};
 use desk_clerk::clerk::Clerk;
 use desk_clerk::loads::LoadError;
 use desk_model::geography::Geography;
-use geo_loads::Load;
+use geo_tables::Load;
 use sector_device::SectorDevice;
 use std::alloc::Global;
 use std::sync::Arc;

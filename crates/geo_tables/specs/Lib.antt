@@ -5,3 +5,7 @@ pub mod LoadRows
 pub mod Laws
 pub mod Elements
 pub mod Following
+pub mod Errors
+pub mod Loading
+pub mod Refusals
+pub mod Starting

@@ -17,8 +17,8 @@ use Rattle.store_rows.specs.Tidy.{IsNext}
 use Rattle.row_table.specs.Puts.{HasPut, PutsErr}
 use Rattle.row_table.specs.Reading.{HasNext, ReadErr, StandsAs}
 use Rattle.geo_tables.specs.Rows.{begun_rows, seal_row}
-use Rattle.geo_tables.specs.declared.error.LoadError.{LoadError}
-use Rattle.geo_tables.specs.declared.error.LoadError.TheVariants.{AlreadySealed, NoNumbers, Tree}
+use Rattle.geo_tables.specs.declared.rows_error.LoadError.{LoadError}
+use Rattle.geo_tables.specs.declared.rows_error.LoadError.TheVariants.{AlreadySealed, NoNumbers, Tree}
 
 -- the seal's row can be read: it is there, or not
 abbrev pub HasSeal : KeyMap → Type 0

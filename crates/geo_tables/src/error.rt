@@ -1,24 +1,35 @@
-//! Why a load is not begun.
+//! Why a load goes no further.
 use row_table::TreeError;
 
-/// Why a load is not begun. The transaction can then only be abandoned; nothing outside it has changed.
+/// Why a load goes no further.
 #[derive(Clone, Copy, Debug, Drop, PartialEq, Eq)]
 pub enum LoadError {
     /// A geography is sealed.
     AlreadySealed,
-    /// Every number of 64 bits but the last was given to a load.
-    NoNumbers,
-    /// The tree refused.
-    Tree(TreeError),
+    /// The store has too few free pages or journal pages, no number is left for a load, the tree would be deeper than six
+    /// levels, or the geography has more pairs than a store can number. Nothing changed.
+    Full,
+    /// A growth was refused. Nothing changed.
+    Memory,
+    /// The device failed, or it holds what no store has. The pages answer `Halted` from a failure on.
+    DeviceFault,
+    /// The device failed since the pages were opened. Nothing changed.
+    Halted,
 }
 
 impl From<TreeError> for LoadError {
     ghost use Rattle.std.specs.Prelude.{◌≡◌};
-    ghost use Rattle.geo_tables.specs.declared.error.LoadError.TheVariants.{Tree};
+    ghost use Rattle.geo_tables.specs.Errors.{tree_told};
 
-    ghost from_gives = { λ t e. e ≡ Tree t };
+    ghost from_gives = { λ t e. e ≡ tree_told t };
 
     fn from(error: TreeError) -> Self {
-        LoadError::Tree(error)
+        match error {
+            TreeError::DeviceFault => LoadError::DeviceFault,
+            TreeError::Halted => LoadError::Halted,
+            TreeError::NoPages => LoadError::Full,
+            TreeError::TooDeep => LoadError::Full,
+            TreeError::Memory => LoadError::Memory,
+        }
     }
 }

@@ -1,16 +1,36 @@
-//! A geography in a store: its rows are put in batches under a load's number, and are its geography once the load is sealed.
+//! A geography in a store: its rows are put in batches under a load's number, and are the store's geography once the load is
+//! sealed. A load is begun, its rows are staged by `load_batch`, and once all of them are staged it is sealed, each by a commit
+//! of its own; until then the desk has no geography (`Rattle.geo_tables.specs.Loading.HoldsLoad`). `geography` reads the one
+//! that is sealed.
+//!
+//! ```text
+//! let mut load = begin_load(alloc, &mut pages, geography)?;
+//! while load.left() > 0 {
+//!     let rows = load.left().min(512);
+//!     load_batch(alloc, &mut pages, &mut load, rows)?;
+//! }
+//! seal(alloc, &mut pages, load)
+//! ```
 #![tactic(auto)]
 
+mod batches;
+mod begins;
 mod checks;
 mod elements;
 mod error;
 pub mod laws;
-mod loads;
+mod load;
+mod load_rows;
 mod puts;
 mod reads;
+mod rows_error;
 mod sealed;
+mod seals;
+mod starts;
 
+pub use batches::load_batch;
+pub use begins::begin_load;
 pub use error::LoadError;
-pub use loads::{begin_rows, seal_rows};
-pub use puts::{has_small_places, put_batch};
+pub use load::Load;
 pub use sealed::geography;
+pub use seals::seal;

@@ -1,6 +1,6 @@
 use Rattle.std.proofs.Common.{◌≡◌, ◌+◌, None}
 use Rattle.store_rows.specs.GeographyRows.{geography_rows}
-use Rattle.geo_loads.specs.Loading.{ground_of, done_of}
+use Rattle.geo_tables.specs.Loading.{ground_of, done_of}
 use Rattle.desk_clerk.specs.Clerks.{desk_of, Keeps}
 use Rattle.desk_clerk.specs.Loads.{Stages}
 use Rattle.desk_loading.specs.Loads.{GoesOn}

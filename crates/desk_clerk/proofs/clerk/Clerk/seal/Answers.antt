@@ -2,7 +2,7 @@ use Rattle.std.proofs.Common.{refl, ◌∙◌}
 use Rattle.page_store.specs.Stops.{quiet_none}
 use Rattle.desk_clerk.specs.Keeping.{sealed_desk}
 use Rattle.desk_clerk.specs.Loads.{Stages}
-use Rattle.geo_loads.specs.Loading.{ground_of}
+use Rattle.geo_tables.specs.Loading.{ground_of}
 use Rattle.desk_clerk.proofs.Moved.{worked, faulted, quieted, unmoved}
 use Rattle.desk_clerk.proofs.Loaded.{seal_left, seal_rose, seal_quiet, seal_holds, seal_more}
 use Rattle.desk_clerk.proofs.clerk.Clerk.seal.Goals as goal

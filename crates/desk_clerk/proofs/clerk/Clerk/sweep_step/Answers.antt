@@ -1,7 +1,7 @@
 use Rattle.std.proofs.Common.{◌≡◌, ℕ, Option, refl, inl, subst}
 use Rattle.std.specs.Prelude.{◌↔◌}
 use Rattle.store_sweep.specs.Leftovers.{IsSweptClean}
-use Rattle.geo_loads.specs.Loading.{number_of}
+use Rattle.geo_tables.specs.Loading.{number_of}
 use Rattle.desk_clerk.specs.Clerks.{desk_of, Keeps}
 use Rattle.desk_clerk.proofs.Moved.{worked, faulted, quieted}
 use Rattle.desk_clerk.proofs.Loaded.{begin_left}

@@ -1,6 +1,0 @@
-pub mod Begun
-pub mod Maps
-pub mod Joins
-pub mod Refused
-pub mod Results
-pub mod Staged

@@ -1,4 +1,0 @@
-pub mod Errors
-pub mod Loading
-pub mod Refusals
-pub mod Starting

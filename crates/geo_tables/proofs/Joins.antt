@@ -1,0 +1,95 @@
+-- A transaction that is begun, whose rows are put, and that is committed then.
+use Rattle.std.proofs.Common.{◌≡◌, ◌+◌, ℕ, false, sym, subst, ◌∙◌, inl, ⊎_elim, arith}
+use Rattle.std.specs.Prelude.{◌⊎◌}
+use Rattle.sector_device.specs.Disk.{Disk, Image}
+use Rattle.sector_device.specs.Moments.{LeavesOnly, leaves_more, leaves_wider}
+use Rattle.sector_device.specs.declared.SectorDevice.{Ghosts}
+use Rattle.gate_journal.specs.Store.{home}
+use Rattle.page_store.specs.Chain.{free_in, root_in}
+use Rattle.page_store.specs.Stops.{leaves_here, leaves_quiet}
+use Rattle.page_store.specs.Transactions.{stored, disk_in, count_of, journal_of, has_halted, HasFailed, HasShape, IsQuiet, Passed}
+use Rattle.page_store.specs.declared.pages.Pages.{Pages}
+use Rattle.page_store.specs.declared.txn.Txn.{Txn}
+use Rattle.page_btree.specs.Map.{Holds, InTxn as TxnHolds, InPages as PagesHold}
+use Rattle.desk_model.specs.Desk.{Desk}
+use Rattle.store_rows.specs.Rows.{KeyMap}
+use Rattle.desk_pages.specs.Desks.{InPages, InTxn, OpensDesk}
+use Rattle.desk_pages.proofs.Kept.{opens_now}
+use Rattle.geo_tables.specs.declared.load.Load.{Load}
+use Rattle.geo_tables.specs.Loading.{HoldsLoad}
+use Rattle.geo_tables.specs.Starting.{IsStarted, Leaves}
+use Rattle.geo_tables.specs.Refusals.{HasRoom}
+
+-- a commit of what opens to the same desk
+pub one_leaves : (sectors : ℕ) (d : Desk) (old new : Disk) → LeavesOnly (λ x. OpensDesk sectors d x ⊎ OpensDesk sectors d x) old new → LeavesOnly (OpensDesk sectors d) old new
+one_leaves sectors d old new left = leaves_wider (λ x. OpensDesk sectors d x ⊎ OpensDesk sectors d x) (OpensDesk sectors d) old new (λ x. ⊎_elim (λ opens. opens) (λ opens. opens)) left
+
+module _ {D : Type 0} {g : Ghosts D} where
+  -- pages that were read at most hold the same
+  pub quiet_rows : (a b : Pages D g) → IsQuiet a b → (disk_in b).is_honest → (m : KeyMap) → PagesHold a m → PagesHold b m
+  quiet_rows a b quiet honest m holds =
+      subst (λ (n : ℕ). Holds n (stored b) (root_in (stored b)) (free_in (stored b)) m) (sym quiet.count)
+      (subst (λ (P : Image). Holds (count_of a) P (root_in P) (free_in P) m) (sym (quiet.same honest)) holds)
+
+  pub quiet_desk : (a b : Pages D g) → IsQuiet a b → (disk_in b).is_honest → (d : Desk) → InPages a d → InPages b d
+  quiet_desk a b quiet honest d holds = record { m = holds.m; holds = quiet_rows a b quiet honest holds.m holds.holds; is = holds.is }
+
+  -- and keep their sizes
+  pub quiet_shape : (a b : Pages D g) → IsQuiet a b → HasShape a b
+  quiet_shape a b quiet = record { journal_pages = quiet.journal; pages = quiet.count }
+
+  pub shape_after : (a b c : Pages D g) → IsQuiet a b → HasShape b c → HasShape a c
+  shape_after a b c quiet shape = record { journal_pages = shape.journal_pages ∙ quiet.journal; pages = shape.pages ∙ quiet.count }
+
+  -- a stop in calls that read at most leaves the desk
+  pub quiet_leaves : (a b : Pages D g) → IsQuiet a b → (disk_in b).is_honest → has_halted a ≡ false → (sectors : ℕ) (d : Desk) → home (journal_of a) + count_of a ≡ sectors → InPages a d → LeavesOnly (OpensDesk sectors d) (disk_in a) (disk_in b)
+  quiet_leaves a b quiet honest working sectors d whole holds =
+      leaves_quiet a b quiet honest (OpensDesk sectors d) (disk_in a)
+      (leaves_here (OpensDesk sectors d) (disk_in a) (opens_now a working (quiet.honest honest) sectors d whole holds))
+
+  pub whole_then : (a b : Pages D g) (sectors : ℕ) → IsQuiet a b → home (journal_of a) + count_of a ≡ sectors → home (journal_of b) + count_of b ≡ sectors
+  whole_then a b sectors quiet whole = (λ i. home (quiet.journal i) + quiet.count i) ∙ whole
+
+  -- a stop in a commit after them
+  pub step_leaves : (u : Txn) (a b c : Pages D g) → IsQuiet a b → (disk_in b).is_honest → has_halted a ≡ false → Leaves u b c → (sectors : ℕ) (d next : Desk) → home (journal_of a) + count_of a ≡ sectors → InPages a d → InTxn u (stored b) next → LeavesOnly (λ x. OpensDesk sectors d x ⊎ OpensDesk sectors next x) (disk_in a) (disk_in c)
+  step_leaves u a b c quiet honest working commit sectors d next whole holds reads =
+      let P = λ (x : Image). OpensDesk sectors d x ⊎ OpensDesk sectors next x in
+      leaves_more P (disk_in a) (disk_in b) (disk_in c)
+      (leaves_wider (OpensDesk sectors d) P (disk_in a) (disk_in b) (λ x opens. inl opens) (quiet_leaves a b quiet honest working sectors d whole holds))
+      (commit sectors d next (whole_then a b sectors quiet whole) (quiet_desk a b quiet honest d holds) reads)
+
+  -- a fault after calls that passed
+  pub failed_after : (a b c : Pages D g) → Passed a b → ((disk_in c).is_honest → (disk_in b).is_honest) → HasFailed b c → HasFailed a c
+  failed_after a b c ab bc failed = record {
+    worked = sym ab.halted ∙ failed.worked;
+    halted = failed.halted;
+    rose = λ honest. let rose = failed.rose honest in let same = ab.faults (bc honest) in omega arith;
+  }
+
+  -- the room that was tested
+  pub room_of : (rows : ℕ) (a c : Pages D g) (t : Txn) → IsStarted rows a t → ((disk_in c).is_honest → (disk_in a).is_honest) → HasRoom rows a c
+  room_of rows a c t started honest_then = record {
+    journal = started.journal;
+    free = λ honest. let count = started.count (honest_then honest) in let free = started.free in omega arith;
+  }
+
+  -- a transaction reads the rows as before after calls that read at most
+  pub reads_then : (t : Txn) (a b : Pages D g) → IsQuiet a b → (disk_in b).is_honest → (m : KeyMap) → TxnHolds t (stored a) m → TxnHolds t (stored b) m
+  reads_then t a b quiet honest m holds = subst (λ (P : Image). TxnHolds t P m) (sym (quiet.same honest)) holds
+
+  -- what pages hold after calls that read at most, they held before
+  pub quiet_back : (a b : Pages D g) → IsQuiet a b → (disk_in b).is_honest → (m : KeyMap) → PagesHold b m → PagesHold a m
+  quiet_back a b quiet honest m holds =
+      subst (λ (n : ℕ). Holds n (stored a) (root_in (stored a)) (free_in (stored a)) m) quiet.count
+      (subst (λ (P : Image). Holds (count_of b) P (root_in P) (free_in P) m) (quiet.same honest) holds)
+
+  -- and what they hold of a load
+  pub quiet_load : (a b : Pages D g) → IsQuiet a b → (disk_in b).is_honest → (d : Desk) (load : Load) → HoldsLoad a d load → HoldsLoad b d load
+  quiet_load a b quiet honest d load holds = record {
+    m = holds.m;
+    holds = quiet_rows a b quiet honest holds.m holds.holds;
+    is = holds.is;
+    staged = holds.staged;
+    mark = holds.mark;
+    unsealed = holds.unsealed;
+  }

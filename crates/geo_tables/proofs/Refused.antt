@@ -1,0 +1,247 @@
+-- Why a step of a load is refused, from why its parts are.
+use Rattle.std.proofs.Common.{◌≡◌, ◌+◌, ◌*◌, ◌≤◌, ◌<◌, ℕ, Bool, List, ◌∷◌, [], Option, Some, None, length, false, true, refl, sym, subst, ◌∙◌, inl, inr, arith}
+use Rattle.std.specs.FinMap.{get as row_at}
+use Rattle.sector_device.specs.Disk.{Image}
+use Rattle.sector_device.specs.declared.SectorDevice.{Ghosts}
+use Rattle.page_store.specs.Transactions.{stored, disk_in, journal_of, has_halted, txn_root, txn_writes, over, IsQuiet, Passed}
+use Rattle.page_store.specs.Chain.{free_in}
+use Rattle.page_store.specs.Stops.{quiet_more}
+use Rattle.page_store.specs.declared.error.PageError.{PageError}
+use Rattle.page_store.specs.declared.error.PageError.TheVariants as page
+use Rattle.page_store.specs.declared.pages.Pages.{Pages}
+use Rattle.page_store.specs.declared.txn.Txn.{Txn}
+use Rattle.page_btree.specs.Errors.{level_in}
+use Rattle.page_btree.specs.Map.{InTxn as TxnHolds, InPages as HoldsRows}
+use Rattle.page_btree.specs.declared.error.TreeError.{TreeError}
+use Rattle.page_btree.specs.declared.error.TreeError.TheVariants as tree
+use Rattle.desk_model.specs.Geography.{Ground}
+use Rattle.desk_model.specs.Desk.{Desk}
+use Rattle.store_rows.specs.Keys.{key_of, seal}
+use Rattle.store_rows.specs.Values.{seal_bytes}
+use Rattle.store_rows.specs.declared.value.SealRow.{SealRow}
+use Rattle.store_rows.specs.Rows.{KeyMap, Has, Lacks}
+use Rattle.store_rows.specs.Puts.{Row, put_rows, length-rows_told}
+use Rattle.store_rows.specs.GeographyRows.{IsGeography}
+use Rattle.row_table.specs.Puts.{PutsErr}
+use Rattle.row_table.specs.Reading.{HasNext, ReadErr, StandsAs}
+use Rattle.geo_tables.specs.Rows.{begun_rows, staged_row, staged_rows, seal_row}
+use Rattle.geo_tables.specs.Loads.{HasSeal, IsNotBegun, BeginErr}
+use Rattle.geo_tables.specs.declared.rows_error.LoadError.{LoadError as RowsError}
+use Rattle.geo_tables.specs.declared.rows_error.LoadError.TheVariants as rows
+use Rattle.desk_pages.specs.Commits.{TxnErr}
+use Rattle.desk_pages.specs.Desks.{IsDeskMap, InPages}
+use Rattle.geo_tables.specs.declared.error.LoadError.{LoadError}
+use Rattle.geo_tables.specs.declared.error.LoadError.TheVariants.{AlreadySealed, Full, Memory, DeviceFault, Halted}
+use Rattle.geo_tables.specs.declared.load.Load.{Load}
+use Rattle.geo_tables.specs.Errors.{page_told, rows_told, tree_told}
+use Rattle.geo_tables.specs.Loading.{number_of, ground_of, done_of}
+use Rattle.geo_tables.specs.Refusals.{HasRoom, IsShort, IsDeep, AreBegun, NextErr, SealedErr, BatchErr, SealErr, BeginErr as Begins}
+use Rattle.geo_tables.specs.Starting.{IsStarted, FinishErr}
+use Rattle.geo_tables.proofs.Joins.{failed_after, room_of, quiet_rows, quiet_desk, quiet_back}
+use Rattle.geo_tables.proofs.Maps.{has_geography, no_geography}
+
+clash : {X : Type 0} → true ≡ false → X
+clash is = absurd (cc)
+
+pub both : {X : Type 0} (b : Bool) → b ≡ true → b ≡ false → X
+both b one other = clash (sym one ∙ other)
+
+seal_clash : (m : KeyMap) (value : List ℕ) → Lacks m seal → Has m seal value → ⊥
+seal_clash m value none has = let same : ◌≡◌ {A = Option (List ℕ)} None (Some value) = sym none ∙ has in cc
+
+desk_seal : (m : KeyMap) (o : Option Ground) → IsGeography m o → HasSeal m
+desk_seal m None is = (None, sym is)
+desk_seal m (Some a) is = (Some (record { load = is.0; blocks = length a.blocks; pairs = length a.pairs }), sym is.1.named)
+
+module _ {D : Type 0} {g : Ghosts D} where
+  -- a commit for which there is room
+  pub not_finished : (t : Txn) (a b : Pages D g) → has_halted a ≡ false → txn_writes t + 1 ≤ journal_of a → (e : PageError) → TxnErr t a b e → FinishErr a b (page_told e)
+  not_finished t a b working few page.Memory why = why
+  not_finished t a b working few page.DeviceFault why = why
+  not_finished t a b working few page.Halted why = both (has_halted a) why.0 working
+  not_finished t a b working few page.TooManyPages why = let more = why.1 in absurd (omega arith)
+  not_finished t a b working few page.NotAStore why = absurd why
+  not_finished t a b working few page.TooSmall why = absurd why
+  not_finished t a b working few page.NoPages why = absurd why
+
+  -- a batch
+  pub batch_refused : (load : Load) (rows : ℕ) (t : Txn) (a b : Pages D g) → IsStarted (rows + 1) a t → IsQuiet a b → (e : TreeError) → PutsErr (staged_rows (number_of load) (ground_of load) (done_of load) rows) t a b e → BatchErr load rows a b (tree_told e)
+  batch_refused load rows t a b started quiet tree.DeviceFault why = (
+    room_of (rows + 1) a b t started quiet.honest,
+    elim why [ inl failed ↦ inl failed | inr none ↦ inr (λ honest d holds. none honest holds.m (started.reads (quiet.honest honest) holds.m holds.holds)) ],
+  )
+  batch_refused load rows t a b started quiet tree.Halted why = both (has_halted a) why started.working
+  batch_refused load rows t a b started quiet tree.NoPages why =
+      let count : length (staged_rows (number_of load) (ground_of load) (done_of load) rows) ≡ rows = length-rows_told (λ k. staged_row (number_of load) (ground_of load) (done_of load + k)) rows in
+      let free = started.free in
+      absurd (omega arith)
+  batch_refused load rows t a b started quiet tree.TooDeep why = (
+    quiet,
+    inr (λ honest m holds. (staged_rows (number_of load) (ground_of load) (done_of load) rows, refl, (t, why honest m (started.reads (quiet.honest honest) m holds)))),
+  )
+  batch_refused load rows t a b started quiet tree.Memory why = (quiet, room_of (rows + 1) a b t started quiet.honest)
+
+  pub batch_unfinished : (load : Load) (rows : ℕ) (t : Txn) (a b c : Pages D g) → IsStarted (rows + 1) a t → Passed a b → ((disk_in c).is_honest → (disk_in b).is_honest) → (e : LoadError) → FinishErr b c e → BatchErr load rows a c e
+  batch_unfinished load rows t a b c started passed honest Memory why = (subst (λ (p : Pages D g). IsQuiet a p) (sym why) passed.quiet, room_of (rows + 1) a c t started (λ h. passed.quiet.honest (honest h)))
+  batch_unfinished load rows t a b c started passed honest DeviceFault why = (room_of (rows + 1) a c t started (λ h. passed.quiet.honest (honest h)), inl (failed_after a b c passed honest why))
+  batch_unfinished load rows t a b c started passed honest AlreadySealed why = absurd why
+  batch_unfinished load rows t a b c started passed honest Full why = absurd why
+  batch_unfinished load rows t a b c started passed honest Halted why = absurd why
+
+  -- the seal
+  pub seal_refused : (load : Load) (t : Txn) (a b : Pages D g) → IsStarted 2 a t → IsQuiet a b → (e : TreeError) → PutsErr (seal_row (number_of load) (ground_of load) ∷ []) t a b e → SealErr load a b (tree_told e)
+  seal_refused load t a b started quiet tree.DeviceFault why = (
+    room_of 2 a b t started quiet.honest,
+    elim why [ inl failed ↦ inl failed | inr none ↦ inr (λ honest d holds. none honest holds.m (started.reads (quiet.honest honest) holds.m holds.holds)) ],
+  )
+  seal_refused load t a b started quiet tree.Halted why = both (has_halted a) why started.working
+  seal_refused load t a b started quiet tree.NoPages why = let free = started.free in absurd (omega arith)
+  seal_refused load t a b started quiet tree.TooDeep why = (
+    quiet,
+    inr (λ honest m holds. (seal_row (number_of load) (ground_of load) ∷ [], refl, (t, why honest m (started.reads (quiet.honest honest) m holds)))),
+  )
+  seal_refused load t a b started quiet tree.Memory why = (quiet, room_of 2 a b t started quiet.honest)
+
+  pub seal_unfinished : (load : Load) (t : Txn) (a b c : Pages D g) → IsStarted 2 a t → Passed a b → ((disk_in c).is_honest → (disk_in b).is_honest) → (e : LoadError) → FinishErr b c e → SealErr load a c e
+  seal_unfinished load t a b c started passed honest Memory why = (subst (λ (p : Pages D g). IsQuiet a p) (sym why) passed.quiet, room_of 2 a c t started (λ h. passed.quiet.honest (honest h)))
+  seal_unfinished load t a b c started passed honest DeviceFault why = (room_of 2 a c t started (λ h. passed.quiet.honest (honest h)), inl (failed_after a b c passed honest why))
+  seal_unfinished load t a b c started passed honest AlreadySealed why = absurd why
+  seal_unfinished load t a b c started passed honest Full why = absurd why
+  seal_unfinished load t a b c started passed honest Halted why = absurd why
+
+  -- ---- a load that isn't begun
+  next_unread : (t : Txn) (a b : Pages D g) (has : KeyMap → Type 0) → IsStarted 2 a t → IsQuiet a b → ((m : KeyMap) (d : Desk) → IsDeskMap m d → has m) → (e : TreeError) → ReadErr has t a b e → NextErr a b (tree_told e)
+  next_unread t a b has started quiet is_there tree.DeviceFault why = elim why [
+    | inl failed ↦ inl failed
+    | inr none ↦ inr (λ honest d holds. none honest holds.m (started.reads (quiet.honest honest) holds.m holds.holds) (is_there holds.m d holds.is))
+  ]
+  next_unread t a b has started quiet is_there tree.Halted why = both (has_halted a) why started.working
+  next_unread t a b has started quiet is_there tree.NoPages why = absurd why
+  next_unread t a b has started quiet is_there tree.TooDeep why = absurd why
+  next_unread t a b has started quiet is_there tree.Memory why = absurd why
+
+  next_unput : (t : Txn) (a b : Pages D g) → IsStarted 2 a t → IsQuiet a b → (e : TreeError) → IsNotBegun t a b e → NextErr a b (tree_told e)
+  next_unput t a b started quiet tree.DeviceFault not = elim not.why [
+    | inl failed ↦ inl failed
+    | inr none ↦ inr (λ honest d holds. none honest holds.m (started.reads (quiet.honest honest) holds.m holds.holds))
+  ]
+  next_unput t a b started quiet tree.Halted not = both (has_halted a) not.why started.working
+  next_unput t a b started quiet tree.NoPages not = let free = started.free in let few = not.why in absurd (omega arith)
+  next_unput t a b started quiet tree.TooDeep not = (
+    quiet,
+    inr (inr (λ honest m holds. let reads = started.reads (quiet.honest honest) m holds in (begun_rows not.next, (not.next, not.was honest m reads, refl), (t, not.why honest m reads)))),
+  )
+  next_unput t a b started quiet tree.Memory not = (quiet, room_of 2 a b t started quiet.honest)
+
+  pub next_refused : (t : Txn) (a b : Pages D g) → IsStarted 2 a t → IsQuiet a b → ((disk_in a).is_honest → (m : KeyMap) → HoldsRows a m → Lacks m seal) → (e : RowsError) → BeginErr t a b e → NextErr a b (rows_told e)
+  next_refused t a b started quiet unsealed rows.AlreadySealed why = inr (λ honest d holds.
+      let before = quiet.honest honest in
+      let has = why honest holds.m (started.reads before holds.m holds.holds) in
+      seal_clash holds.m (seal_bytes has.0) (unsealed before holds.m holds.holds) has.1)
+  next_refused t a b started quiet unsealed rows.NoNumbers why = (quiet, inr (inl (λ honest m holds. (why honest m (started.reads (quiet.honest honest) m holds)).1)))
+  next_refused t a b started quiet unsealed (rows.Tree e) why = elim why [
+    | inl none ↦ next_unread t a b HasSeal started quiet (λ m d is. desk_seal m d.geography is.desk.geography) e none
+    | inr more ↦ elim more [
+      | inl none ↦ next_unread t a b HasNext started quiet (λ m d is. (is.tidy.next, is.tidy.is_next)) e none
+      | inr not ↦ next_unput t a b started quiet e not
+    ]
+  ]
+
+  pub next_unfinished : (t : Txn) (a b c : Pages D g) → IsStarted 2 a t → Passed a b → ((disk_in c).is_honest → (disk_in b).is_honest) → (e : LoadError) → FinishErr b c e → NextErr a c e
+  next_unfinished t a b c started passed honest Memory why = (subst (λ (p : Pages D g). IsQuiet a p) (sym why) passed.quiet, room_of 2 a c t started (λ h. passed.quiet.honest (honest h)))
+  next_unfinished t a b c started passed honest DeviceFault why = inl (failed_after a b c passed honest why)
+  next_unfinished t a b c started passed honest AlreadySealed why = absurd why
+  next_unfinished t a b c started passed honest Full why = absurd why
+  next_unfinished t a b c started passed honest Halted why = absurd why
+
+  -- after calls that read at most and saw no seal
+  deep_after : (are : KeyMap → List Row → Type 0) (a b c : Pages D g) → IsQuiet a b → ((disk_in c).is_honest → (disk_in b).is_honest) → IsDeep are b c → IsDeep are a c
+  deep_after are a b c quiet honest_then deep = λ honest m holds.
+      let then = honest_then honest in
+      let found = deep honest m (quiet_rows a b quiet then m holds) in
+      let rows = found.0 in
+      let at = found.2.0 in
+      let is = found.2.1 in (
+        rows,
+        found.1,
+        (
+          at,
+          record {
+            front = is.front;
+            rest = is.rest;
+            are = is.are;
+            txn = is.txn;
+            holds = subst (λ (P : Image). TxnHolds is.txn P (put_rows m is.front)) (quiet.same then) is.holds;
+            deep = subst (λ (P : Image). level_in (over is.txn P) (txn_root is.txn) ≡ 5) (quiet.same then) is.deep;
+          },
+        ),
+      )
+
+  short_after : (rows : ℕ) (a b c : Pages D g) → IsQuiet a b → ((disk_in c).is_honest → (disk_in b).is_honest) → IsShort rows b c → IsShort rows a c
+  short_after rows a b c quiet honest_then short = elim short [
+    | inl less ↦ inl (let same = quiet.journal in omega arith)
+    | inr few ↦ inr (λ honest. subst (λ (P : Image). length (free_in P) < 13 * rows) (quiet.same (honest_then honest)) (few honest))
+  ]
+
+  pub room_after : (rows : ℕ) (a b c : Pages D g) → IsQuiet a b → ((disk_in c).is_honest → (disk_in b).is_honest) → HasRoom rows b c → HasRoom rows a c
+  room_after rows a b c quiet honest_then room = record {
+    journal = let more = room.journal in let same = quiet.journal in omega arith;
+    free = λ honest. subst (λ (P : Image). 13 * rows ≤ length (free_in P)) (quiet.same (honest_then honest)) (room.free honest);
+  }
+
+  pub begin_after : (area : Ground) (a b c : Pages D g) → Passed a b → has_halted a ≡ false → ((disk_in c).is_honest → (disk_in b).is_honest) → ((disk_in b).is_honest → (d : Desk) → InPages b d → d.geography ≡ None) → (e : LoadError) → NextErr b c e → Begins area a c e
+  begin_after area a b c passed working honest_then unsealed Full why = (
+    quiet_more a b c passed.quiet why.0,
+    (λ honest d holds. let then = honest_then honest in unsealed then d (quiet_desk a b passed.quiet then d holds)),
+    elim why.1 [
+      | inl short ↦ inl (short_after 2 a b c passed.quiet honest_then short)
+      | inr more ↦ elim more [
+        | inl spent ↦ inr (inl (λ honest m holds. spent honest m (quiet_rows a b passed.quiet (honest_then honest) m holds)))
+        | inr deep ↦ inr (inr (inl (deep_after AreBegun a b c passed.quiet honest_then deep)))
+      ]
+    ],
+  )
+  begin_after area a b c passed working honest_then unsealed Memory why = (
+    quiet_more a b c passed.quiet why.0,
+    (λ honest d holds. let then = honest_then honest in unsealed then d (quiet_desk a b passed.quiet then d holds)),
+    room_after 2 a b c passed.quiet honest_then why.1,
+  )
+  begin_after area a b c passed working honest_then unsealed DeviceFault why = elim why [
+    | inl failed ↦ inl (failed_after a b c passed honest_then failed)
+    | inr none ↦ inr (λ honest d holds. none honest d (quiet_desk a b passed.quiet (honest_then honest) d holds))
+  ]
+  begin_after area a b c passed working honest_then unsealed Halted why = both (has_halted a) (sym passed.halted ∙ why.0) working
+  begin_after area a b c passed working honest_then unsealed AlreadySealed why = absurd why
+
+  -- ---- the seal, where it is read in a transaction that reads what the pages hold
+  pub seal_unread : (t : Txn) (a b : Pages D g) (key : List ℕ) → has_halted a ≡ false → ((disk_in b).is_honest → (m : KeyMap) → HoldsRows a m → TxnHolds t (stored a) m) → key ≡ key_of seal
+      → (e : TreeError) → ReadErr (λ m. (value : Option SealRow) × StandsAs seal_bytes key m value) t a b e → SealedErr a b DeviceFault
+  seal_unread t a b key working reads is tree.DeviceFault why = elim why [
+    | inl failed ↦ inl failed
+    | inr none ↦ inr (λ honest d holds. none honest holds.m (reads honest holds.m holds.holds)
+        (subst (λ (k : List ℕ). (value : Option SealRow) × StandsAs seal_bytes k holds.m value) (sym is) (desk_seal holds.m d.geography holds.is.desk.geography)))
+  ]
+  seal_unread t a b key working reads is tree.Halted why = both (has_halted a) why working
+  seal_unread t a b key working reads is tree.NoPages why = absurd why
+  seal_unread t a b key working reads is tree.TooDeep why = absurd why
+  seal_unread t a b key working reads is tree.Memory why = absurd why
+
+  pub seal_seen : (t : Txn) (a b : Pages D g) (key : List ℕ) (row : SealRow) → ((disk_in b).is_honest → (m : KeyMap) → HoldsRows a m → TxnHolds t (stored a) m) → key ≡ key_of seal
+      → ((disk_in b).is_honest → (m : KeyMap) → TxnHolds t (stored a) m → StandsAs seal_bytes key m (Some row)) → (disk_in b).is_honest → (d : Desk) → InPages a d → (sealed : Ground) × (d.geography ≡ Some sealed)
+  seal_seen t a b key row reads is found honest d holds =
+      has_geography holds.m d (seal_bytes row) holds.is.desk (subst (λ (k : List ℕ). row_at holds.m k ≡ Some (seal_bytes row)) is (sym (found honest holds.m (reads honest holds.m holds.holds))))
+
+  pub seal_unseen : (t : Txn) (a b : Pages D g) (key : List ℕ) → ((disk_in b).is_honest → (m : KeyMap) → HoldsRows a m → TxnHolds t (stored a) m) → IsQuiet a b → key ≡ key_of seal
+      → ((disk_in b).is_honest → (m : KeyMap) → TxnHolds t (stored a) m → StandsAs seal_bytes key m None) → (disk_in b).is_honest → (m : KeyMap) → HoldsRows b m → Lacks m seal
+  seal_unseen t a b key reads quiet is found honest m holds =
+      subst (λ (k : List ℕ). row_at m k ≡ None) is (sym (found honest m (reads honest m (quiet_back a b quiet honest m holds))))
+
+  pub desk_unsealed : (b c : Pages D g) → ((disk_in c).is_honest → (disk_in b).is_honest) → ((disk_in b).is_honest → (m : KeyMap) → HoldsRows b m → Lacks m seal) → (disk_in c).is_honest → (d : Desk) → InPages b d → d.geography ≡ None
+  desk_unsealed b c honest_then lacks honest d holds = no_geography holds.m d holds.is.desk (lacks (honest_then honest) holds.m holds.holds)
+
+  pub sealed_refused : (area : Ground) (a b : Pages D g) (e : LoadError) → SealedErr a b e → Begins area a b e
+  sealed_refused area a b AlreadySealed why = why
+  sealed_refused area a b Full why = absurd why
+  sealed_refused area a b Memory why = absurd why
+  sealed_refused area a b DeviceFault why = why
+  sealed_refused area a b Halted why = why

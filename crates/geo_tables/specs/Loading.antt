@@ -1,0 +1,45 @@
+-- A load that is under way, and the pages that hold its rows.
+use Rattle.std.specs.Prelude.{◌≡◌, ◌+◌, ℕ, []}
+use Rattle.sector_device.specs.declared.SectorDevice.{Ghosts}
+use Rattle.page_store.specs.declared.pages.Pages.{Pages}
+use Rattle.page_btree.specs.Map.{InPages}
+use Rattle.desk_model.specs.Geography.{Ground}
+use Rattle.desk_model.specs.Desk.{Desk}
+use Rattle.store_rows.specs.Keys.{begun, seal}
+use Rattle.store_rows.specs.Rows.{KeyMap, Has, Lacks}
+use Rattle.store_rows.specs.GeographyRows.{IsStaged}
+use Rattle.desk_pages.specs.Desks.{IsDeskMap}
+use Rattle.geo_tables.specs.declared.load.Load.{Load}
+
+-- its number, its geography, and how many of the geography's rows are staged
+abbrev pub number_of : Load → ℕ
+number_of load = load.number
+
+abbrev pub ground_of : Load → Ground
+ground_of load = load.geography.value
+
+abbrev pub done_of : Load → ℕ
+done_of load = load.done
+
+-- The pages hold the desk, which has no geography, and of the load's rows just those that are staged. The load is marked as
+-- one that was begun.
+pub record HoldsLoad {D : Type 0} {g : Ghosts D} (ps : Pages D g) (d : Desk) (load : Load) : Type 0 where
+  pub m : KeyMap
+  pub holds : InPages ps m
+  pub is : IsDeskMap m d
+  pub staged : IsStaged m (number_of load) (ground_of load) (done_of load)
+  pub mark : Has m (begun (number_of load)) []
+  pub unsealed : Lacks m seal
+
+-- a batch was staged: so many rows more of the same load
+pub record IsFurther (old new : Load) (rows : ℕ) : Type 0 where
+  pub number : number_of new ≡ number_of old
+  pub geography : new.geography ≡ old.geography
+  pub done : done_of new ≡ done_of old + rows
+
+-- the pages hold what is then of a load, and of one that was just begun
+abbrev pub HoldsFurther : {D : Type 0} {g : Ghosts D} → Pages D g → Desk → Load → ℕ → Type 0
+HoldsFurther ps d load rows = (next : Load) → IsFurther load next rows → HoldsLoad ps d next
+
+abbrev pub HoldsNew : {D : Type 0} {g : Ghosts D} → Pages D g → Desk → ℕ → Type 0
+HoldsNew ps d number = (load : Load) → number_of load ≡ number → done_of load ≡ 0 → HoldsLoad ps d load

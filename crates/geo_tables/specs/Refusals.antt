@@ -1,0 +1,87 @@
+-- Why a load goes no further.
+use Rattle.std.specs.Prelude.{◌≡◌, ◌⊎◌, ◌<◌, ◌≤◌, ◌+◌, ◌*◌, ◌^◌, ℕ, List, [], ◌∷◌, length, Some, None, true}
+use Rattle.sector_device.specs.declared.SectorDevice.{Ghosts}
+use Rattle.page_store.specs.Chain.{free_in}
+use Rattle.page_store.specs.Transactions.{stored, disk_in, journal_of, has_halted, HasFailed, IsQuiet, IsSame, Passed}
+use Rattle.page_store.specs.declared.pages.Pages.{Pages}
+use Rattle.page_store.specs.declared.txn.Txn.{Txn}
+use Rattle.page_btree.specs.Map.{InPages as HoldsRows}
+use Rattle.desk_model.specs.Geography.{Ground}
+use Rattle.desk_model.specs.Desk.{Desk}
+use Rattle.store_rows.specs.declared.value.Counters.{Counters}
+use Rattle.store_rows.specs.Rows.{KeyMap}
+use Rattle.store_rows.specs.Puts.{Row}
+use Rattle.store_rows.specs.Tidy.{IsNext}
+use Rattle.row_table.specs.Puts.{HasDeepened}
+use Rattle.geo_tables.specs.Rows.{begun_rows, staged_rows, seal_row}
+use Rattle.desk_pages.specs.Desks.{InPages}
+use Rattle.geo_tables.specs.declared.error.LoadError.{LoadError}
+use Rattle.geo_tables.specs.declared.error.LoadError.TheVariants.{AlreadySealed, Full, Memory, DeviceFault, Halted}
+use Rattle.geo_tables.specs.declared.load.Load.{Load}
+use Rattle.geo_tables.specs.Loading.{HoldsLoad, number_of, ground_of, done_of}
+
+-- the rows with which the next load begins
+abbrev pub AreBegun : KeyMap → List Row → Type 0
+AreBegun m rows = (next : Counters) × IsNext m next × (rows ≡ begun_rows next)
+
+module _ {D : Type 0} {g : Ghosts D} where
+  -- 13 free pages and 13 journal pages for each row that is written
+  pub record HasRoom (rows : ℕ) (old new : Pages D g) : Type 0 where
+    pub journal : 13 * rows ≤ journal_of old
+    pub free : (disk_in new).is_honest → 13 * rows ≤ length (free_in (stored old))
+
+  -- or fewer of one of them
+  abbrev pub IsShort : ℕ → Pages D g → Pages D g → Type 0
+  IsShort rows old new = (journal_of old < 13 * rows) ⊎ ((disk_in new).is_honest → length (free_in (stored old)) < 13 * rows)
+
+  -- each number but the last was given to a load
+  abbrev pub IsSpent : Pages D g → Pages D g → Type 0
+  IsSpent old new = (disk_in new).is_honest → (m : KeyMap) → HoldsRows old m → (next : Counters) × IsNext m next × (next.load + 1 ≡ 2 ^ 64)
+
+  -- the tree had six levels after some of the rows
+  abbrev pub IsDeep : (KeyMap → List Row → Type 0) → Pages D g → Pages D g → Type 0
+  IsDeep are old new = (disk_in new).is_honest → (m : KeyMap) → HoldsRows old m → (rows : List Row) × are m rows × ((t : Txn) × HasDeepened rows t old m)
+
+  -- no geography is sealed
+  abbrev pub IsUnsealed : Pages D g → Pages D g → Type 0
+  IsUnsealed old new = (disk_in new).is_honest → (d : Desk) → InPages old d → d.geography ≡ None
+
+  -- why the next load is not begun, where no geography is sealed
+  abbrev pub NextErr : Pages D g → Pages D g → LoadError → Type 0
+  NextErr old new AlreadySealed = ⊥
+  NextErr old new Full = IsQuiet old new × (IsShort 2 old new ⊎ (IsSpent old new ⊎ IsDeep AreBegun old new))
+  NextErr old new Memory = IsQuiet old new × HasRoom 2 old new
+  NextErr old new DeviceFault = HasFailed old new ⊎ ((disk_in new).is_honest → (d : Desk) → InPages old d → ⊥)
+  NextErr old new Halted = (has_halted old ≡ true) × IsSame old new
+
+  -- why it isn't seen that no geography is sealed
+  abbrev pub SealedErr : Pages D g → Pages D g → LoadError → Type 0
+  SealedErr old new AlreadySealed = Passed old new × ((disk_in new).is_honest → (d : Desk) → InPages old d → (sealed : Ground) × (d.geography ≡ Some sealed))
+  SealedErr old new Full = ⊥
+  SealedErr old new Memory = ⊥
+  SealedErr old new DeviceFault = HasFailed old new ⊎ ((disk_in new).is_honest → (d : Desk) → InPages old d → ⊥)
+  SealedErr old new Halted = (has_halted old ≡ true) × IsSame old new
+
+  -- why no load is begun
+  abbrev pub BeginErr : Ground → Pages D g → Pages D g → LoadError → Type 0
+  BeginErr area old new AlreadySealed = Passed old new × ((disk_in new).is_honest → (d : Desk) → InPages old d → (sealed : Ground) × (d.geography ≡ Some sealed))
+  BeginErr area old new Full = IsQuiet old new × IsUnsealed old new × (IsShort 2 old new ⊎ (IsSpent old new ⊎ (IsDeep AreBegun old new ⊎ (2 ^ 32 ≤ length area.pairs))))
+  BeginErr area old new Memory = IsQuiet old new × IsUnsealed old new × HasRoom 2 old new
+  BeginErr area old new DeviceFault = HasFailed old new ⊎ ((disk_in new).is_honest → (d : Desk) → InPages old d → ⊥)
+  BeginErr area old new Halted = (has_halted old ≡ true) × IsSame old new
+
+  -- why so many rows of a load are not staged
+  abbrev pub BatchErr : Load → ℕ → Pages D g → Pages D g → LoadError → Type 0
+  BatchErr load rows old new AlreadySealed = ⊥
+  BatchErr load rows old new Full = IsQuiet old new × (IsShort (rows + 1) old new ⊎ IsDeep (λ m all. all ≡ staged_rows (number_of load) (ground_of load) (done_of load) rows) old new)
+  BatchErr load rows old new Memory = IsQuiet old new × HasRoom (rows + 1) old new
+  BatchErr load rows old new DeviceFault = HasRoom (rows + 1) old new × (HasFailed old new ⊎ ((disk_in new).is_honest → (d : Desk) → HoldsLoad old d load → ⊥))
+  BatchErr load rows old new Halted = (has_halted old ≡ true) × IsSame old new
+
+  -- why a load is not sealed
+  abbrev pub SealErr : Load → Pages D g → Pages D g → LoadError → Type 0
+  SealErr load old new AlreadySealed = ⊥
+  SealErr load old new Full = IsQuiet old new × (IsShort 2 old new ⊎ IsDeep (λ m all. all ≡ seal_row (number_of load) (ground_of load) ∷ []) old new)
+  SealErr load old new Memory = IsQuiet old new × HasRoom 2 old new
+  SealErr load old new DeviceFault = HasRoom 2 old new × (HasFailed old new ⊎ ((disk_in new).is_honest → (d : Desk) → HoldsLoad old d load → ⊥))
+  SealErr load old new Halted = (has_halted old ≡ true) × IsSame old new

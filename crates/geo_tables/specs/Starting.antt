@@ -1,0 +1,46 @@
+-- A transaction that is begun where there is room for its rows, and that is committed.
+use Rattle.std.specs.Prelude.{◌≡◌, ◌⊎◌, ◌<◌, ◌≤◌, ◌+◌, ◌*◌, ℕ, length, true, false}
+use Rattle.sector_device.specs.Moments.{LeavesOnly}
+use Rattle.sector_device.specs.declared.SectorDevice.{Ghosts}
+use Rattle.gate_journal.specs.Store.{home}
+use Rattle.page_store.specs.Chain.{free_in}
+use Rattle.page_store.specs.Transactions.{stored, disk_in, count_of, journal_of, has_halted, txn_pages, txn_free, txn_writes, HasFailed}
+use Rattle.page_store.specs.declared.pages.Pages.{Pages}
+use Rattle.page_store.specs.declared.txn.Txn.{Txn}
+use Rattle.page_btree.specs.Map.{InTxn, InPages}
+use Rattle.desk_model.specs.Desk.{Desk}
+use Rattle.store_rows.specs.Rows.{KeyMap}
+use Rattle.desk_pages.specs.Desks.{InTxn as DeskInTxn, InPages as DeskInPages, OpensDesk}
+use Rattle.geo_tables.specs.declared.error.LoadError.{LoadError}
+use Rattle.geo_tables.specs.declared.error.LoadError.TheVariants.{AlreadySealed, Full, Memory, DeviceFault, Halted}
+
+module _ {D : Type 0} {g : Ghosts D} where
+  -- It reads what the pages hold and has written nothing. They have 13 free pages and 13 journal pages for each row.
+  pub record IsStarted (rows : ℕ) (ps : Pages D g) (t : Txn) : Type 0 where
+    pub pages : txn_pages t ≡ count_of ps
+    pub working : has_halted ps ≡ false
+    pub none : txn_writes t ≡ 0
+    pub journal : 13 * rows ≤ journal_of ps
+    pub free : 13 * rows ≤ txn_free t
+    pub count : (disk_in ps).is_honest → txn_free t ≡ length (free_in (stored ps))
+    pub reads : (disk_in ps).is_honest → (m : KeyMap) → InPages ps m → InTxn t (stored ps) m
+
+  -- why none is begun
+  abbrev pub StartErr : ℕ → Pages D g → LoadError → Type 0
+  StartErr rows ps Halted = has_halted ps ≡ true
+  StartErr rows ps Full = (has_halted ps ≡ false) × ((journal_of ps < 13 * rows) ⊎ ((disk_in ps).is_honest → length (free_in (stored ps)) < 13 * rows))
+  StartErr rows ps AlreadySealed = ⊥
+  StartErr rows ps Memory = ⊥
+  StartErr rows ps DeviceFault = ⊥
+
+  -- what a stop in a commit leaves
+  abbrev pub Leaves : Txn → Pages D g → Pages D g → Type 0
+  Leaves t old new = (sectors : ℕ) (d next : Desk) → home (journal_of old) + count_of old ≡ sectors → DeskInPages old d → DeskInTxn t (stored old) next → LeavesOnly (λ c. OpensDesk sectors d c ⊎ OpensDesk sectors next c) (disk_in old) (disk_in new)
+
+  -- why pages for which the journal has room are not committed
+  abbrev pub FinishErr : Pages D g → Pages D g → LoadError → Type 0
+  FinishErr old new Memory = new ≡ old
+  FinishErr old new DeviceFault = HasFailed old new
+  FinishErr old new AlreadySealed = ⊥
+  FinishErr old new Full = ⊥
+  FinishErr old new Halted = ⊥

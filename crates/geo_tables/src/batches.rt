@@ -1,0 +1,82 @@
+//! Stages rows of a load.
+ghost use Rattle.std.specs.Prelude.{◌≡◌, ◌≤◌, ◌+◌, ℕ, Err, true, false, OnOk, OnErr, IfOk, IfErr};
+ghost use Rattle.sector_device.specs.Moments.{LeavesOnly};
+ghost use Rattle.gate_journal.specs.Store.{home};
+ghost use Rattle.page_store.specs.Transactions.{disk_in, count_of, journal_of, has_halted, HasShape, IsSame, IsKept};
+ghost use Rattle.desk_model.specs.Desk.{Desk};
+ghost use Rattle.store_rows.specs.GeographyRows.{geography_rows};
+ghost use Rattle.desk_pages.specs.Desks.{OpensDesk};
+ghost use Rattle.geo_tables.specs.Loading.{HoldsLoad, HoldsFurther, IsFurther, ground_of, done_of};
+ghost use Rattle.geo_tables.specs.Refusals.{HasRoom, BatchErr};
+
+use crate::error::LoadError;
+use crate::load::Load;
+use crate::starts::{finish, start};
+use crate::puts::put_batch;
+use page_store::Pages;
+use sector_device::SectorDevice;
+use std::alloc::Global;
+
+/// Puts so many rows more of a load and commits them.
+fn stage<D: SectorDevice>(
+    alloc: Global,
+    pages: &mut Pages<D>,
+    load: &Load,
+    rows: usize,
+) -> Result<(), LoadError>
+    requires few { rows ≤ 512 }
+    requires left { done_of load.now + rows ≤ geography_rows (ground_of load.now) }
+    ensures shape { HasShape pages.old pages.new }
+    ensures honest { (disk_in pages.new).is_honest → (disk_in pages.old).is_honest }
+    ensures any_moment { (disk_in pages.new).is_honest → has_halted pages.old ≡ false → (sectors : ℕ) (d : Desk) → home (journal_of pages.old) + count_of pages.old ≡ sectors → HoldsLoad pages.old d load.now → LeavesOnly (OpensDesk sectors d) (disk_in pages.old) (disk_in pages.new) }
+    ensures staged { (disk_in pages.new).is_honest → (d : Desk) → HoldsLoad pages.old d load.now → OnOk result (HoldsFurther pages.new d load.now rows) }
+    ensures kept { (disk_in pages.new).is_honest → OnOk result (IsKept pages.new) }
+    ensures passed { (disk_in pages.new).is_honest → OnOk result ((disk_in pages.new).faults ≡ (disk_in pages.old).faults) }
+    ensures ok { OnOk result ((has_halted pages.old ≡ false) × (has_halted pages.new ≡ false)) }
+    ensures room { OnOk result (HasRoom (rows + 1) pages.old pages.new) }
+    ensures still { has_halted pages.old ≡ true → (result ≡ Err LoadError.Halted) × IsSame pages.old pages.new }
+    ensures err { IfErr result (λ e. BatchErr load.now rows pages.old pages.new e) }
+{
+    load.is_sound();
+    let mut txn = start(alloc, pages, rows as u32 + 1)?;
+    put_batch(
+        &mut txn,
+        pages,
+        load.number,
+        &load.geography,
+        load.done,
+        rows,
+    )?;
+    finish(txn, pages)
+}
+
+/// Stages so many rows more of a load, 1 to 512 and no more than are left, and tells how many are left then. The desk stays as
+/// it is. After an error the load is as it was.
+pub fn load_batch<D: SectorDevice>(
+    alloc: Global,
+    pages: &mut Pages<D>,
+    load: &mut Load,
+    rows: usize,
+) -> Result<usize, LoadError>
+    requires some { 1 ≤ rows }
+    requires few { rows ≤ 512 }
+    requires left { done_of load.old + rows ≤ geography_rows (ground_of load.old) }
+    ensures shape { HasShape pages.old pages.new }
+    ensures honest { (disk_in pages.new).is_honest → (disk_in pages.old).is_honest }
+    ensures any_moment { (disk_in pages.new).is_honest → has_halted pages.old ≡ false → (sectors : ℕ) (d : Desk) → home (journal_of pages.old) + count_of pages.old ≡ sectors → HoldsLoad pages.old d load.old → LeavesOnly (OpensDesk sectors d) (disk_in pages.old) (disk_in pages.new) }
+    ensures staged { (disk_in pages.new).is_honest → (d : Desk) → HoldsLoad pages.old d load.old → OnOk result (HoldsLoad pages.new d load.new) }
+    ensures further { OnOk result (IsFurther load.old load.new rows) }
+    ensures left { IfOk result (λ left. left + done_of load.new ≡ geography_rows (ground_of load.new)) }
+    ensures same { OnErr result (load.new ≡ load.old) }
+    ensures kept { (disk_in pages.new).is_honest → OnOk result (IsKept pages.new) }
+    ensures passed { (disk_in pages.new).is_honest → OnOk result ((disk_in pages.new).faults ≡ (disk_in pages.old).faults) }
+    ensures ok { OnOk result ((has_halted pages.old ≡ false) × (has_halted pages.new ≡ false)) }
+    ensures room { OnOk result (HasRoom (rows + 1) pages.old pages.new) }
+    ensures still { has_halted pages.old ≡ true → (result ≡ Err LoadError.Halted) × IsSame pages.old pages.new }
+    ensures err { IfErr result (λ e. BatchErr load.old rows pages.old pages.new e) }
+{
+    load.is_sound();
+    stage(alloc, pages, load, rows)?;
+    load.done += rows;
+    Ok(load.left())
+}

@@ -1,0 +1,100 @@
+//! Begins loads and seals them.
+ghost use Rattle.std.specs.Prelude.{◌≡◌, ◌≤◌, ◌<◌, ◌+◌, ◌^◌, [], ◌∷◌, length, IfErr, IfOk, MatchResult, OnOk};
+ghost use Rattle.page_store.specs.Transactions.{stored, disk_in, count_of, txn_pages, IsQuiet, Passed};
+ghost use Rattle.page_btree.specs.Map.{InTxn};
+ghost use Rattle.store_rows.specs.Keys.{seal};
+ghost use Rattle.store_rows.specs.Rows.{KeyMap, Lacks};
+ghost use Rattle.row_table.specs.Puts.{HasPut, PutsErr};
+ghost use Rattle.geo_tables.specs.Rows.{begun_rows, seal_row};
+ghost use Rattle.geo_tables.specs.Loads.{HasBegun, BeginErr, HasSealed};
+
+use crate::rows_error::LoadError;
+use desk_model::geography::Geography;
+use page_btree::remove;
+use page_store::{Pages, Txn};
+use row_table::{TreeError, get_row, next_numbers, put_row};
+use sector_device::SectorDevice;
+use store_rows::{Counters, Key, SealRow, counters_value, seal_value};
+
+/// Refuses where a geography is sealed.
+fn refuse_sealed<D: SectorDevice>(txn: &Txn, pages: &mut Pages<D>) -> Result<(), LoadError>
+    requires begun { txn_pages txn.now ≡ count_of pages.old }
+    ensures quiet { IsQuiet pages.old pages.new }
+    ensures passed { OnOk result (Passed pages.old pages.new) }
+    ensures none { OnOk result ((disk_in pages.new).is_honest → (m : KeyMap) → InTxn txn.now (stored pages.old) m → Lacks m seal) }
+    ensures err { IfErr result (λ e. BeginErr txn.now pages.old pages.new e) }
+{
+    let found: Option<SealRow> = get_row(txn, pages, &Key::seal())?;
+    match found {
+        None => Ok(()),
+        Some(_) => Err(LoadError::AlreadySealed),
+    }
+}
+
+/// Puts the rows of a load with the next number.
+fn put_begun<D: SectorDevice>(
+    txn: &mut Txn,
+    pages: &mut Pages<D>,
+    next: &Counters,
+) -> Result<(), TreeError>
+    requires begun { txn_pages txn.old ≡ count_of pages.old }
+    requires left { next.now.load + 1 < 2 ^ 64 }
+    ensures quiet { IsQuiet pages.old pages.new }
+    ensures begun { txn_pages txn.new ≡ count_of pages.new }
+    ensures put { MatchResult result (λ _. HasPut (begun_rows next.now) txn.old txn.new pages.old pages.new) (λ e. PutsErr (begun_rows next.now) txn.old pages.old pages.new e) }
+{
+    let begun = Key::begun(next.load);
+    put_row(txn, pages, &begun, &[])?;
+    let after = Counters {
+        plan: next.plan,
+        chunk: next.chunk,
+        load: next.load + 1,
+    };
+    let value = counters_value(&after);
+    put_row(txn, pages, &Key::counters(), &value)
+}
+
+/// Begins a load: takes the next number, and puts the row that tells that it was begun. After an error the transaction can only
+/// be abandoned.
+pub fn begin_rows<D: SectorDevice>(txn: &mut Txn, pages: &mut Pages<D>) -> Result<u64, LoadError>
+    requires begun { txn_pages txn.old ≡ count_of pages.old }
+    ensures quiet { IsQuiet pages.old pages.new }
+    ensures begun { txn_pages txn.new ≡ count_of pages.new }
+    ensures begin { IfOk result (λ load. HasBegun load txn.old txn.new pages.old pages.new) }
+    ensures err { IfErr result (λ e. BeginErr txn.old pages.old pages.new e) }
+{
+    refuse_sealed(txn, pages)?;
+    let next = next_numbers(txn, pages)?;
+    if next.load == u64::MAX {
+        return Err(LoadError::NoNumbers);
+    }
+    put_begun(txn, pages, &next)?;
+    Ok(next.load)
+}
+
+/// Seals a load whose rows are all staged: puts the row that names it, and removes the one that it was begun with. After an
+/// error the transaction can only be abandoned.
+pub fn seal_rows<D: SectorDevice>(
+    txn: &mut Txn,
+    pages: &mut Pages<D>,
+    load: u64,
+    geography: &Geography,
+) -> Result<(), TreeError>
+    requires begun { txn_pages txn.old ≡ count_of pages.old }
+    requires few { length geography.now.pairs < 2 ^ 32 }
+    ensures quiet { IsQuiet pages.old pages.new }
+    ensures begun { txn_pages txn.new ≡ count_of pages.new }
+    ensures sealed { OnOk result (HasSealed load geography.now txn.old txn.new pages.old pages.new) }
+    ensures err { IfErr result (λ e. PutsErr (seal_row load geography.now ∷ []) txn.old pages.old pages.new e) }
+{
+    let blocks = geography.blocks().len() as u32;
+    let pairs = geography.pairs().len() as u32;
+    let row = SealRow {
+        load,
+        blocks,
+        pairs,
+    };
+    put_row(txn, pages, &Key::seal(), &seal_value(&row))?;
+    remove(txn, pages, Key::begun(load).as_slice())?;
+    Ok(())
+}

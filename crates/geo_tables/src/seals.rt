@@ -1,0 +1,68 @@
+//! Seals a load.
+ghost use Rattle.std.specs.Prelude.{◌≡◌, ◌+◌, ◌⊎◌, ℕ, Err, true, false, OnOk, IfErr};
+ghost use Rattle.sector_device.specs.Moments.{LeavesOnly};
+ghost use Rattle.gate_journal.specs.Store.{home};
+ghost use Rattle.page_store.specs.Transactions.{disk_in, count_of, journal_of, has_halted, HasShape, IsSame, IsKept};
+ghost use Rattle.desk_model.specs.Desk.{Desk};
+ghost use Rattle.store_rows.specs.GeographyRows.{geography_rows};
+ghost use Rattle.store_rows.specs.Changes.{desk_with};
+ghost use Rattle.desk_pages.specs.Desks.{InPages, OpensDesk};
+ghost use Rattle.geo_tables.specs.Loading.{HoldsLoad, ground_of, done_of};
+ghost use Rattle.geo_tables.specs.Refusals.{HasRoom, SealErr};
+
+use crate::error::LoadError;
+use crate::load::Load;
+use crate::starts::{finish, start};
+use crate::load_rows::seal_rows;
+use page_store::Pages;
+use sector_device::SectorDevice;
+use std::alloc::Global;
+
+/// Puts the seal of a load and commits it.
+fn put_seal<D: SectorDevice>(
+    alloc: Global,
+    pages: &mut Pages<D>,
+    load: &Load,
+) -> Result<(), LoadError>
+    requires { done_of load.now ≡ geography_rows (ground_of load.now) }
+    ensures shape { HasShape pages.old pages.new }
+    ensures honest { (disk_in pages.new).is_honest → (disk_in pages.old).is_honest }
+    ensures any_moment { (disk_in pages.new).is_honest → has_halted pages.old ≡ false → (sectors : ℕ) (d : Desk) → home (journal_of pages.old) + count_of pages.old ≡ sectors → HoldsLoad pages.old d load.now → LeavesOnly (λ c. OpensDesk sectors d c ⊎ OpensDesk sectors (desk_with (ground_of load.now) d.plans) c) (disk_in pages.old) (disk_in pages.new) }
+    ensures sealed { (disk_in pages.new).is_honest → (d : Desk) → HoldsLoad pages.old d load.now → OnOk result (InPages pages.new (desk_with (ground_of load.now) d.plans)) }
+    ensures kept { (disk_in pages.new).is_honest → OnOk result (IsKept pages.new) }
+    ensures passed { (disk_in pages.new).is_honest → OnOk result ((disk_in pages.new).faults ≡ (disk_in pages.old).faults) }
+    ensures ok { OnOk result ((has_halted pages.old ≡ false) × (has_halted pages.new ≡ false)) }
+    ensures room { OnOk result (HasRoom 2 pages.old pages.new) }
+    ensures still { has_halted pages.old ≡ true → (result ≡ Err LoadError.Halted) × IsSame pages.old pages.new }
+    ensures err { IfErr result (λ e. SealErr load.now pages.old pages.new e) }
+{
+    load.is_sound();
+    let mut txn = start(alloc, pages, 2)?;
+    seal_rows(&mut txn, pages, load.number, &load.geography)?;
+    finish(txn, pages)
+}
+
+/// Seals a load whose rows are all staged: its geography is the desk's then. A refusal hands the load back.
+pub fn seal<D: SectorDevice>(
+    alloc: Global,
+    pages: &mut Pages<D>,
+    load: Load,
+) -> Result<(), (LoadError, Load)>
+    requires { done_of load ≡ geography_rows (ground_of load) }
+    ensures shape { HasShape pages.old pages.new }
+    ensures honest { (disk_in pages.new).is_honest → (disk_in pages.old).is_honest }
+    ensures any_moment { (disk_in pages.new).is_honest → has_halted pages.old ≡ false → (sectors : ℕ) (d : Desk) → home (journal_of pages.old) + count_of pages.old ≡ sectors → HoldsLoad pages.old d load → LeavesOnly (λ c. OpensDesk sectors d c ⊎ OpensDesk sectors (desk_with (ground_of load) d.plans) c) (disk_in pages.old) (disk_in pages.new) }
+    ensures sealed { (disk_in pages.new).is_honest → (d : Desk) → HoldsLoad pages.old d load → OnOk result (InPages pages.new (desk_with (ground_of load) d.plans)) }
+    ensures back { IfErr result (λ e. e.1 ≡ load) }
+    ensures kept { (disk_in pages.new).is_honest → OnOk result (IsKept pages.new) }
+    ensures passed { (disk_in pages.new).is_honest → OnOk result ((disk_in pages.new).faults ≡ (disk_in pages.old).faults) }
+    ensures ok { OnOk result ((has_halted pages.old ≡ false) × (has_halted pages.new ≡ false)) }
+    ensures room { OnOk result (HasRoom 2 pages.old pages.new) }
+    ensures still { has_halted pages.old ≡ true → IfErr result (λ e. e.0 ≡ LoadError.Halted) × IsSame pages.old pages.new }
+    ensures err { IfErr result (λ e. SealErr load pages.old pages.new e.0) }
+{
+    match put_seal(alloc, pages, &load) {
+        Ok(()) => Ok(()),
+        Err(error) => Err((error, load)),
+    }
+}

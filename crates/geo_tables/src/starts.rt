@@ -1,0 +1,84 @@
+//! Begins transactions where there is room for their rows, and commits them.
+ghost use Rattle.std.specs.Prelude.{◌≡◌, ◌≤◌, ◌+◌, ◌*◌, ◌↔◌, false, OnOk, IfOk, IfErr, IsTrue};
+ghost use Rattle.page_store.specs.Transactions.{stored, disk_in, count_of, journal_of, has_halted, txn_pages, txn_free, txn_writes, HasShape, IsKept};
+ghost use Rattle.page_btree.specs.Map.{InTxn, InPages};
+ghost use Rattle.store_rows.specs.Rows.{KeyMap};
+ghost use Rattle.geo_tables.specs.Errors.{page_told};
+ghost use Rattle.geo_tables.specs.Starting.{IsStarted, StartErr, Leaves, FinishErr};
+
+use crate::error::LoadError;
+use desk_pages::commit_txn;
+use page_store::{PageError, Pages, Txn};
+use sector_device::SectorDevice;
+use std::alloc::Global;
+
+/// How many pages are free in a transaction.
+fn free_pages(txn: &Txn) -> u32
+    ensures { result ≡ txn_free txn.now }
+{
+    txn.free_pages()
+}
+
+/// Whether free pages and journal pages are 13 for each row.
+fn has_room<D: SectorDevice>(txn: &Txn, pages: &Pages<D>, rows: u32) -> bool
+    requires { rows ≤ 513 }
+    ensures { IsTrue result ↔ ((13 * rows ≤ txn_free txn.now) × (13 * rows ≤ journal_of pages.now)) }
+{
+    if free_pages(txn) < 13 * rows {
+        return false;
+    }
+    if pages.journal_pages() < 13 * rows {
+        return false;
+    }
+    true
+}
+
+/// Begins a transaction that is to write so many rows.
+pub(crate) fn start<D: SectorDevice>(
+    alloc: Global,
+    pages: &Pages<D>,
+    rows: u32,
+) -> Result<Txn, LoadError>
+    requires { rows ≤ 513 }
+    ensures started { IfOk result (λ txn. IsStarted rows pages.now txn) }
+    ensures err { IfErr result (λ e. StartErr rows pages.now e) }
+{
+    if pages.is_halted() {
+        return Err(LoadError::Halted);
+    }
+    let txn = pages.begin(alloc);
+    if !has_room(&txn, pages, rows) {
+        return Err(LoadError::Full);
+    }
+    Ok(txn)
+}
+
+/// Why pages are not committed, as a refusal of a load.
+fn refusal_of(error: PageError) -> LoadError
+    ensures { result ≡ page_told error }
+{
+    match error {
+        PageError::Memory => LoadError::Memory,
+        _ => LoadError::DeviceFault,
+    }
+}
+
+/// Commits a transaction for whose pages the journal has room.
+pub(crate) fn finish<D: SectorDevice>(txn: Txn, pages: &mut Pages<D>) -> Result<(), LoadError>
+    requires begun { txn_pages txn ≡ count_of pages.old }
+    requires working { has_halted pages.old ≡ false }
+    requires few { txn_writes txn + 1 ≤ journal_of pages.old }
+    ensures shape { HasShape pages.old pages.new }
+    ensures honest { (disk_in pages.new).is_honest → (disk_in pages.old).is_honest }
+    ensures any_moment { (disk_in pages.new).is_honest → Leaves txn pages.old pages.new }
+    ensures held { (disk_in pages.new).is_honest → OnOk result ((m : KeyMap) → InTxn txn (stored pages.old) m → InPages pages.new m) }
+    ensures kept { (disk_in pages.new).is_honest → OnOk result (IsKept pages.new) }
+    ensures passed { (disk_in pages.new).is_honest → OnOk result ((disk_in pages.new).faults ≡ (disk_in pages.old).faults) }
+    ensures ok { OnOk result (has_halted pages.new ≡ false) }
+    ensures err { IfErr result (λ e. FinishErr pages.old pages.new e) }
+{
+    match commit_txn(txn, pages) {
+        Ok(()) => Ok(()),
+        Err(error) => Err(refusal_of(error)),
+    }
+}
