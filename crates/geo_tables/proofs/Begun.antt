@@ -1,5 +1,5 @@
 -- What a transaction that is begun reads, and how many pages are free in it.
-use Rattle.std.proofs.Common.{◌≡◌, ◌*◌, ◌≤◌, ◌<◌, ℕ, length, sym, ap, subst, ◌∙◌, inl, inr, arith}
+use Rattle.std.proofs.Common.{◌≡◌, ◌*◌, ◌≤◌, ◌<◌, ℕ, length, sym, subst, inl, inr, arith}
 use Rattle.std.specs.Prelude.{◌⊎◌}
 use Rattle.std.proofs.lemmas.Bool.{cases_lt}
 use Rattle.sector_device.specs.Disk.{Image}
@@ -12,6 +12,7 @@ use Rattle.page_store.specs.declared.txn.Txn.{Txn}
 use Rattle.page_btree.specs.Laws.{begun_holds}
 use Rattle.page_btree.specs.Map.{Holds, InTxn, InPages}
 use Rattle.store_rows.specs.Rows.{KeyMap}
+use Rattle.geo_tables.specs.Starting.{IsStarted}
 
 pub free_count : (t : Txn) (P : Image) → length (free_over t P) ≡ txn_free t
 free_count t P = length_chain (over t P) (txn_first t) (txn_free t)
@@ -20,12 +21,12 @@ module _ {D : Type 0} {g : Ghosts D} (ps : Pages D g) (t : Txn) (count : txn_pag
   pub reads_rows : ((q : ℕ) → over t (stored ps) q ≡ stored ps q) → txn_root t ≡ root_in (stored ps) → free_over t (stored ps) ≡ free_in (stored ps) → (m : KeyMap) → InPages ps m → InTxn t (stored ps) m
   reads_rows same root free m holds = begun_holds t (stored ps) m (subst (λ (n : ℕ). Holds n (stored ps) (root_in (stored ps)) (free_in (stored ps)) m) (sym count) holds) same root free
 
-  -- one of them is too few
-  pub short_of : (rows : ℕ) → ((disk_in ps).is_honest → free_over t (stored ps) ≡ free_in (stored ps)) → ((13 * rows ≤ txn_free t) × (13 * rows ≤ journal_of ps) → ⊥) → (journal_of ps < 13 * rows) ⊎ ((disk_in ps).is_honest → length (free_in (stored ps)) < 13 * rows)
-  short_of rows free none = elim (cases_lt (journal_of ps) (13 * rows)) [
-    | inl less ↦ inl less
-    | inr more ↦ inr (λ honest. elim (cases_lt (txn_free t) (13 * rows)) [
-      | inl few ↦ (let same : length (free_in (stored ps)) ≡ txn_free t = ap (λ l. length l) (sym (free honest)) ∙ free_count t (stored ps) in omega arith)
-      | inr enough ↦ absurd (none (enough, more))
-    ])
-  ]
+-- one of them is too few
+pub short_of : {D : Type 0} {g : Ghosts D} (ps : Pages D g) (t : Txn) (rows : ℕ) → IsStarted 0 ps t → ((13 * rows ≤ txn_free t) × (13 * rows ≤ journal_of ps) → ⊥) → (journal_of ps < 13 * rows) ⊎ ((disk_in ps).is_honest → length (free_in (stored ps)) < 13 * rows)
+short_of ps t rows started none = elim (cases_lt (journal_of ps) (13 * rows)) [
+  | inl less ↦ inl less
+  | inr more ↦ inr (λ honest. elim (cases_lt (txn_free t) (13 * rows)) [
+    | inl few ↦ (let count = started.count honest in omega arith)
+    | inr enough ↦ absurd (none (enough, more))
+  ])
+]

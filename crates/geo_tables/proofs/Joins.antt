@@ -1,5 +1,5 @@
 -- A transaction that is begun, whose rows are put, and that is committed then.
-use Rattle.std.proofs.Common.{◌≡◌, ◌+◌, ℕ, false, sym, subst, ◌∙◌, inl, ⊎_elim, arith}
+use Rattle.std.proofs.Common.{◌≡◌, ◌+◌, ◌*◌, ◌≤◌, ℕ, length, false, sym, subst, ◌∙◌, inl, ⊎_elim, arith}
 use Rattle.std.specs.Prelude.{◌⊎◌}
 use Rattle.sector_device.specs.Disk.{Disk, Image}
 use Rattle.sector_device.specs.Moments.{LeavesOnly, leaves_more, leaves_wider}
@@ -7,7 +7,7 @@ use Rattle.sector_device.specs.declared.SectorDevice.{Ghosts}
 use Rattle.gate_journal.specs.Store.{home}
 use Rattle.page_store.specs.Chain.{free_in, root_in}
 use Rattle.page_store.specs.Stops.{leaves_here, leaves_quiet}
-use Rattle.page_store.specs.Transactions.{stored, disk_in, count_of, journal_of, has_halted, HasFailed, HasShape, IsQuiet, Passed}
+use Rattle.page_store.specs.Transactions.{stored, disk_in, count_of, journal_of, has_halted, txn_free, HasFailed, HasShape, IsQuiet, Passed}
 use Rattle.page_store.specs.declared.pages.Pages.{Pages}
 use Rattle.page_store.specs.declared.txn.Txn.{Txn}
 use Rattle.page_btree.specs.Map.{Holds, InTxn as TxnHolds, InPages as PagesHold}
@@ -92,4 +92,16 @@ module _ {D : Type 0} {g : Ghosts D} where
     staged = holds.staged;
     mark = holds.mark;
     unsealed = holds.unsealed;
+  }
+
+  -- a transaction that was begun, after calls that read at most, where there is room then
+  pub started_then : (rows : ℕ) (t : Txn) (a b : Pages D g) → IsStarted 0 a t → Passed a b → 13 * rows ≤ txn_free t → 13 * rows ≤ journal_of b → IsStarted rows b t
+  started_then rows t a b started passed free journal = record {
+    pages = started.pages ∙ sym passed.quiet.count;
+    working = passed.halted ∙ started.working;
+    none = started.none;
+    journal = journal;
+    free = free;
+    count = λ honest. subst (λ (P : Image). txn_free t ≡ length (free_in P)) (sym (passed.quiet.same honest)) (started.count (passed.quiet.honest honest));
+    reads = λ honest m holds. reads_then t a b passed.quiet honest m (started.reads (passed.quiet.honest honest) m (quiet_back a b passed.quiet honest m holds));
   }

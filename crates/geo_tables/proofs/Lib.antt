@@ -1,9 +1,9 @@
 mod Along
-mod Begins
+mod RowAfterRow
 mod Grounds
 mod Ids
 mod OneMore
-mod Seals
+mod SealedRows
 pub mod Begun
 pub mod Maps
 pub mod Joins

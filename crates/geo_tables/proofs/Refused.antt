@@ -1,9 +1,10 @@
 -- Why a step of a load is refused, from why its parts are.
-use Rattle.std.proofs.Common.{◌≡◌, ◌+◌, ◌*◌, ◌≤◌, ◌<◌, ℕ, Bool, List, ◌∷◌, [], Option, Some, None, length, false, true, refl, sym, subst, ◌∙◌, inl, inr, arith}
+use Rattle.std.proofs.Common.{◌≡◌, ◌+◌, ◌*◌, ◌≤◌, ◌<◌, ◌^◌, ℕ, Bool, List, ◌∷◌, [], Option, Some, None, length, false, true, refl, sym, subst, ◌∙◌, inl, inr, arith}
 use Rattle.std.specs.FinMap.{get as row_at}
+use Rattle.std.proofs.lemmas.Bool.{cases_lt}
 use Rattle.sector_device.specs.Disk.{Image}
 use Rattle.sector_device.specs.declared.SectorDevice.{Ghosts}
-use Rattle.page_store.specs.Transactions.{stored, disk_in, journal_of, has_halted, txn_root, txn_writes, over, IsQuiet, Passed}
+use Rattle.page_store.specs.Transactions.{stored, disk_in, journal_of, has_halted, txn_free, txn_root, txn_writes, over, IsQuiet, Passed}
 use Rattle.page_store.specs.Chain.{free_in}
 use Rattle.page_store.specs.Stops.{quiet_more}
 use Rattle.page_store.specs.declared.error.PageError.{PageError}
@@ -19,21 +20,19 @@ use Rattle.desk_model.specs.Desk.{Desk}
 use Rattle.store_rows.specs.Keys.{key_of, seal}
 use Rattle.store_rows.specs.Values.{seal_bytes}
 use Rattle.store_rows.specs.declared.value.SealRow.{SealRow}
-use Rattle.store_rows.specs.Rows.{KeyMap, Has, Lacks}
+use Rattle.store_rows.specs.Rows.{KeyMap, Lacks}
 use Rattle.store_rows.specs.Puts.{Row, put_rows, length-rows_told}
 use Rattle.store_rows.specs.GeographyRows.{IsGeography}
 use Rattle.row_table.specs.Puts.{PutsErr}
 use Rattle.row_table.specs.Reading.{HasNext, ReadErr, StandsAs}
 use Rattle.geo_tables.specs.Rows.{begun_rows, staged_row, staged_rows, seal_row}
-use Rattle.geo_tables.specs.Loads.{HasSeal, IsNotBegun, BeginErr}
-use Rattle.geo_tables.specs.declared.rows_error.LoadError.{LoadError as RowsError}
-use Rattle.geo_tables.specs.declared.rows_error.LoadError.TheVariants as rows
+use Rattle.geo_tables.specs.Loads.{AreSpent, IsNotBegun, BeginErr}
 use Rattle.desk_pages.specs.Commits.{TxnErr}
 use Rattle.desk_pages.specs.Desks.{IsDeskMap, InPages}
 use Rattle.geo_tables.specs.declared.error.LoadError.{LoadError}
 use Rattle.geo_tables.specs.declared.error.LoadError.TheVariants.{AlreadySealed, Full, Memory, DeviceFault, Halted}
 use Rattle.geo_tables.specs.declared.load.Load.{Load}
-use Rattle.geo_tables.specs.Errors.{page_told, rows_told, tree_told}
+use Rattle.geo_tables.specs.Errors.{page_told, tree_told}
 use Rattle.geo_tables.specs.Loading.{number_of, ground_of, done_of}
 use Rattle.geo_tables.specs.Refusals.{HasRoom, IsShort, IsDeep, AreBegun, NextErr, SealedErr, BatchErr, SealErr, BeginErr as Begins}
 use Rattle.geo_tables.specs.Starting.{IsStarted, FinishErr}
@@ -46,10 +45,7 @@ clash is = absurd (cc)
 pub both : {X : Type 0} (b : Bool) → b ≡ true → b ≡ false → X
 both b one other = clash (sym one ∙ other)
 
-seal_clash : (m : KeyMap) (value : List ℕ) → Lacks m seal → Has m seal value → ⊥
-seal_clash m value none has = let same : ◌≡◌ {A = Option (List ℕ)} None (Some value) = sym none ∙ has in cc
-
-desk_seal : (m : KeyMap) (o : Option Ground) → IsGeography m o → HasSeal m
+desk_seal : (m : KeyMap) (o : Option Ground) → IsGeography m o → (sealed : Option SealRow) × StandsAs seal_bytes (key_of seal) m sealed
 desk_seal m None is = (None, sym is)
 desk_seal m (Some a) is = (Some (record { load = is.0; blocks = length a.blocks; pairs = length a.pairs }), sym is.1.named)
 
@@ -133,19 +129,14 @@ module _ {D : Type 0} {g : Ghosts D} where
   )
   next_unput t a b started quiet tree.Memory not = (quiet, room_of 2 a b t started quiet.honest)
 
-  pub next_refused : (t : Txn) (a b : Pages D g) → IsStarted 2 a t → IsQuiet a b → ((disk_in a).is_honest → (m : KeyMap) → HoldsRows a m → Lacks m seal) → (e : RowsError) → BeginErr t a b e → NextErr a b (rows_told e)
-  next_refused t a b started quiet unsealed rows.AlreadySealed why = inr (λ honest d holds.
-      let before = quiet.honest honest in
-      let has = why honest holds.m (started.reads before holds.m holds.holds) in
-      seal_clash holds.m (seal_bytes has.0) (unsealed before holds.m holds.holds) has.1)
-  next_refused t a b started quiet unsealed rows.NoNumbers why = (quiet, inr (inl (λ honest m holds. (why honest m (started.reads (quiet.honest honest) m holds)).1)))
-  next_refused t a b started quiet unsealed (rows.Tree e) why = elim why [
-    | inl none ↦ next_unread t a b HasSeal started quiet (λ m d is. desk_seal m d.geography is.desk.geography) e none
-    | inr more ↦ elim more [
-      | inl none ↦ next_unread t a b HasNext started quiet (λ m d is. (is.tidy.next, is.tidy.is_next)) e none
-      | inr not ↦ next_unput t a b started quiet e not
-    ]
+  pub next_refused : (t : Txn) (a b : Pages D g) → IsStarted 2 a t → IsQuiet a b → (e : TreeError) → BeginErr t a b e → NextErr a b (tree_told e)
+  next_refused t a b started quiet e why = elim why [
+    | inl none ↦ next_unread t a b HasNext started quiet (λ m d is. (is.tidy.next, is.tidy.is_next)) e none
+    | inr not ↦ next_unput t a b started quiet e not
   ]
+
+  pub next_spent : (t : Txn) (a b : Pages D g) → IsStarted 2 a t → IsQuiet a b → AreSpent t a b → NextErr a b Full
+  next_spent t a b started quiet spent = (quiet, inr (inl (λ honest m holds. spent honest m (started.reads (quiet.honest honest) m holds))))
 
   pub next_unfinished : (t : Txn) (a b c : Pages D g) → IsStarted 2 a t → Passed a b → ((disk_in c).is_honest → (disk_in b).is_honest) → (e : LoadError) → FinishErr b c e → NextErr a c e
   next_unfinished t a b c started passed honest Memory why = (subst (λ (p : Pages D g). IsQuiet a p) (sym why) passed.quiet, room_of 2 a c t started (λ h. passed.quiet.honest (honest h)))
@@ -212,6 +203,26 @@ module _ {D : Type 0} {g : Ghosts D} where
   ]
   begin_after area a b c passed working honest_then unsealed Halted why = both (has_halted a) (sym passed.halted ∙ why.0) working
   begin_after area a b c passed working honest_then unsealed AlreadySealed why = absurd why
+
+  -- ---- where there is no room for the rows that begin a load, or its pairs can't be numbered
+  short_begun : (rows : ℕ) (t : Txn) (a b : Pages D g) → IsStarted 0 a t → IsQuiet a b → ((13 * rows ≤ txn_free t) × (13 * rows ≤ journal_of b) → ⊥) → IsShort rows a b
+  short_begun rows t a b started quiet none = elim (cases_lt (journal_of b) (13 * rows)) [
+    | inl less ↦ inl (let same = quiet.journal in omega arith)
+    | inr more ↦ inr (λ honest. elim (cases_lt (txn_free t) (13 * rows)) [
+      | inl few ↦ (let count = started.count (quiet.honest honest) in omega arith)
+      | inr enough ↦ absurd (none (enough, more))
+    ])
+  ]
+
+  pub begin_full : (area : Ground) (t : Txn) (a b : Pages D g) → IsStarted 0 a t → IsQuiet a b → ((disk_in b).is_honest → (d : Desk) → InPages a d → d.geography ≡ None) → ((length area.pairs < 2 ^ 32) × ((13 * 2 ≤ txn_free t) × (13 * 2 ≤ journal_of b)) → ⊥) → Begins area a b Full
+  begin_full area t a b started quiet unsealed none = (
+    quiet,
+    unsealed,
+    elim (cases_lt (length area.pairs) (2 ^ 32)) [
+      | inl less ↦ inl (short_begun 2 t a b started quiet (λ room. none (less, room)))
+      | inr many ↦ inr (inr (inr many))
+    ],
+  )
 
   -- ---- the seal, where it is read in a transaction that reads what the pages hold
   pub seal_unread : (t : Txn) (a b : Pages D g) (key : List ℕ) → has_halted a ≡ false → ((disk_in b).is_honest → (m : KeyMap) → HoldsRows a m → TxnHolds t (stored a) m) → key ≡ key_of seal

@@ -7,9 +7,9 @@ use Rattle.page_store.specs.declared.txn.Txn.{Txn}
 use Rattle.page_btree.specs.Map.{InTxn as TxnHolds, InPages as PagesHold}
 use Rattle.desk_model.specs.Geography.{Ground, IsGround}
 use Rattle.desk_model.specs.Desk.{Desk}
-use Rattle.store_rows.specs.Keys.{begun}
+use Rattle.store_rows.specs.Keys.{begun, seal}
 use Rattle.store_rows.specs.declared.value.Counters.{Counters}
-use Rattle.store_rows.specs.Rows.{KeyMap, Has}
+use Rattle.store_rows.specs.Rows.{KeyMap, Has, Lacks}
 use Rattle.store_rows.specs.Puts.{Row, put_rows, length-rows_told}
 use Rattle.store_rows.specs.Changes.{desk_with}
 use Rattle.store_rows.specs.GeographyRows.{IsStaged, geography_rows}
@@ -128,8 +128,8 @@ module _ {D : Type 0} {g : Ghosts D} where
     is = begun_is holds.m d made.next holds.is (next_of number t u a b made started honest holds.m holds.holds) (fits_of number t u a b made) (more_of number t u a b made);
   }
 
-  pub begun_holds : (number : ℕ) (t u : Txn) (a b c : Pages D g) (d : Desk) → IsStarted 2 a t → HasBegun number t u a b → (disk_in b).is_honest → InPages a d → ((m : KeyMap) → TxnHolds u (stored b) m → PagesHold c m) → HoldsNew c d number
-  begun_holds number t u a b c d started made honest holds held load number_is done_is =
+  pub begun_holds : (number : ℕ) (t u : Txn) (a b c : Pages D g) (d : Desk) → IsStarted 2 a t → HasBegun number t u a b → ((disk_in a).is_honest → (m : KeyMap) → PagesHold a m → Lacks m seal) → (disk_in b).is_honest → InPages a d → ((m : KeyMap) → TxnHolds u (stored b) m → PagesHold c m) → HoldsNew c d number
+  begun_holds number t u a b c d started made unsealed honest holds held load number_is done_is =
       let n = put_rows holds.m (begun_rows made.next) in
       let reads = put_reads (begun_rows made.next) 2 t u a b started made.put honest holds.m holds.holds in
       let is_next = next_of number t u a b made started honest holds.m holds.holds in
@@ -143,5 +143,5 @@ module _ {D : Type 0} {g : Ghosts D} where
         staged = subst (λ (k : ℕ). IsStaged n (number_of load) (ground_of load) k) (sym done_is)
             (subst (λ (k : ℕ). IsStaged n k (ground_of load) 0) same (begun_none holds.m d made.next (ground_of load) holds.is is_next fits more));
         mark = subst (λ (k : ℕ). Has n (begun k) []) same (begun_mark holds.m made.next);
-        unsealed = begun_unsealed holds.m made.next (made.none honest holds.m (started.reads (made.put.passed.quiet.honest honest) holds.m holds.holds));
+        unsealed = begun_unsealed holds.m made.next (unsealed (made.put.passed.quiet.honest honest) holds.m holds.holds);
       }

@@ -3,8 +3,6 @@ use Rattle.page_store.specs.declared.error.PageError.{PageError}
 use Rattle.page_store.specs.declared.error.PageError.TheVariants as page
 use Rattle.page_btree.specs.declared.error.TreeError.{TreeError}
 use Rattle.page_btree.specs.declared.error.TreeError.TheVariants as tree
-use Rattle.geo_tables.specs.declared.rows_error.LoadError.{LoadError as RowsError}
-use Rattle.geo_tables.specs.declared.rows_error.LoadError.TheVariants as rows
 use Rattle.geo_tables.specs.declared.error.LoadError.{LoadError}
 use Rattle.geo_tables.specs.declared.error.LoadError.TheVariants.{Full, Memory, DeviceFault, Halted}
 
@@ -15,12 +13,6 @@ tree_told tree.Halted = Halted
 tree_told tree.NoPages = Full
 tree_told tree.TooDeep = Full
 tree_told tree.Memory = Memory
-
--- a seal that was not there as it was looked for doesn't come
-abbrev pub rows_told : RowsError → LoadError
-rows_told rows.AlreadySealed = DeviceFault
-rows_told rows.NoNumbers = Full
-rows_told (rows.Tree e) = tree_told e
 
 -- of a commit for which there is room only want of memory and a fault come
 abbrev pub page_told : PageError → LoadError

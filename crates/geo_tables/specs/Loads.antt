@@ -1,5 +1,5 @@
 -- Loads that are begun and sealed.
-use Rattle.std.specs.Prelude.{◌≡◌, ◌⊎◌, ◌<◌, ◌≤◌, ◌+◌, ◌^◌, ℕ, Option}
+use Rattle.std.specs.Prelude.{◌≡◌, ◌⊎◌, ◌<◌, ◌≤◌, ◌+◌, ◌^◌, ℕ}
 use Rattle.std.specs.FinMap.{insert, remove}
 use Rattle.sector_device.specs.declared.SectorDevice.{Ghosts}
 use Rattle.page_store.specs.Transactions.{stored, disk_in, txn_pages, txn_free, txn_writes, Passed}
@@ -8,34 +8,25 @@ use Rattle.page_store.specs.declared.txn.Txn.{Txn}
 use Rattle.page_btree.specs.Map.{InTxn}
 use Rattle.page_btree.specs.declared.error.TreeError.{TreeError}
 use Rattle.desk_model.specs.Geography.{Ground}
-use Rattle.store_rows.specs.Keys.{key_of, begun, seal}
-use Rattle.store_rows.specs.Values.{seal_bytes}
+use Rattle.store_rows.specs.Keys.{key_of, begun}
 use Rattle.store_rows.specs.declared.value.Counters.{Counters}
-use Rattle.store_rows.specs.declared.value.SealRow.{SealRow}
-use Rattle.store_rows.specs.Rows.{KeyMap, Has, Lacks}
+use Rattle.store_rows.specs.Rows.{KeyMap}
 use Rattle.store_rows.specs.Tidy.{IsNext}
 use Rattle.row_table.specs.Puts.{HasPut, PutsErr}
-use Rattle.row_table.specs.Reading.{HasNext, ReadErr, StandsAs}
+use Rattle.row_table.specs.Reading.{HasNext, ReadErr}
 use Rattle.geo_tables.specs.Rows.{begun_rows, seal_row}
-use Rattle.geo_tables.specs.declared.rows_error.LoadError.{LoadError}
-use Rattle.geo_tables.specs.declared.rows_error.LoadError.TheVariants.{AlreadySealed, NoNumbers, Tree}
-
--- the seal's row can be read: it is there, or not
-abbrev pub HasSeal : KeyMap → Type 0
-HasSeal m = (sealed : Option SealRow) × StandsAs seal_bytes (key_of seal) m sealed
 
 -- the rows after the seal: that row is put, and the one that the load was begun with is gone
 abbrev pub sealed_rows : ℕ → Ground → KeyMap → KeyMap
 sealed_rows load g m = remove (insert m (seal_row load g).0 (seal_row load g).1) (key_of (begun load))
 
 module _ {D : Type 0} {g : Ghosts D} where
-  -- no geography is sealed, and a load with the next number was begun
+  -- a load with the next number was begun
   pub record HasBegun (load : ℕ) (t u : Txn) (old new : Pages D g) : Type 0 where
     pub next : Counters
     pub load_is : next.load ≡ load
     pub load_fits : load + 1 < 2 ^ 64
     pub others_fit : (next.plan < 2 ^ 64) × (next.chunk < 2 ^ 64)
-    pub none : (disk_in new).is_honest → (m : KeyMap) → InTxn t (stored old) m → Lacks m seal
     pub was : (disk_in new).is_honest → (m : KeyMap) → InTxn t (stored old) m → IsNext m next
     pub put : HasPut (begun_rows next) t u old new
 
@@ -45,11 +36,13 @@ module _ {D : Type 0} {g : Ghosts D} where
     pub was : (disk_in new).is_honest → (m : KeyMap) → InTxn t (stored old) m → IsNext m next
     pub why : PutsErr (begun_rows next) t old new e
 
-  -- why no load is begun: a geography is sealed, no number is left, or the tree refused to read or to put
-  abbrev pub BeginErr : Txn → Pages D g → Pages D g → LoadError → Type 0
-  BeginErr t old new AlreadySealed = (disk_in new).is_honest → (m : KeyMap) → InTxn t (stored old) m → (sealed : SealRow) × Has m seal (seal_bytes sealed)
-  BeginErr t old new NoNumbers = (disk_in new).is_honest → (m : KeyMap) → InTxn t (stored old) m → Lacks m seal × ((next : Counters) × IsNext m next × (next.load + 1 ≡ 2 ^ 64))
-  BeginErr t old new (Tree e) = ReadErr HasSeal t old new e ⊎ (ReadErr HasNext t old new e ⊎ IsNotBegun t old new e)
+  -- each number but the last was given to a load
+  abbrev pub AreSpent : Txn → Pages D g → Pages D g → Type 0
+  AreSpent t old new = (disk_in new).is_honest → (m : KeyMap) → InTxn t (stored old) m → (next : Counters) × IsNext m next × (next.load + 1 ≡ 2 ^ 64)
+
+  -- why no load is begun: the tree refused to read or to put
+  abbrev pub BeginErr : Txn → Pages D g → Pages D g → TreeError → Type 0
+  BeginErr t old new e = ReadErr HasNext t old new e ⊎ IsNotBegun t old new e
 
   -- the load was sealed
   pub record HasSealed (load : ℕ) (geography : Ground) (t u : Txn) (old new : Pages D g) : Type 0 where

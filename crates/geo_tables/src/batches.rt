@@ -11,8 +11,8 @@ ghost use Rattle.geo_tables.specs.Refusals.{HasRoom, BatchErr};
 
 use crate::error::LoadError;
 use crate::load::Load;
-use crate::starts::{finish, start};
 use crate::puts::put_batch;
+use crate::starts::{finish, start};
 use page_store::Pages;
 use sector_device::SectorDevice;
 use std::alloc::Global;

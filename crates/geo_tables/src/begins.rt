@@ -1,8 +1,8 @@
 //! Begins a load.
-ghost use Rattle.std.specs.Prelude.{◌≡◌, ◌+◌, ℕ, None, Err, true, false, OnOk, IfOk, IfErr};
+ghost use Rattle.std.specs.Prelude.{◌≡◌, ◌≤◌, ◌<◌, ◌+◌, ◌*◌, ◌^◌, ◌↔◌, ℕ, length, None, Err, true, false, OnOk, IfOk, IfErr, IsTrue};
 ghost use Rattle.sector_device.specs.Moments.{LeavesOnly};
 ghost use Rattle.gate_journal.specs.Store.{home};
-ghost use Rattle.page_store.specs.Transactions.{stored, disk_in, count_of, journal_of, has_halted, HasShape, IsQuiet, IsSame, IsKept, Passed};
+ghost use Rattle.page_store.specs.Transactions.{stored, disk_in, count_of, journal_of, has_halted, txn_free, HasShape, IsQuiet, IsSame, IsKept, Passed};
 ghost use Rattle.page_btree.specs.Map.{InPages as HoldsRows};
 ghost use Rattle.desk_model.specs.Desk.{Desk};
 ghost use Rattle.store_rows.specs.Keys.{seal};
@@ -10,18 +10,17 @@ ghost use Rattle.store_rows.specs.declared.value.Counters.{Counters};
 ghost use Rattle.store_rows.specs.Rows.{KeyMap, Lacks};
 ghost use Rattle.store_rows.specs.Tidy.{IsNext};
 ghost use Rattle.desk_pages.specs.Desks.{InPages, OpensDesk};
-ghost use Rattle.geo_tables.specs.Errors.{rows_told as told};
+ghost use Rattle.geo_tables.specs.Starting.{IsStarted};
 ghost use Rattle.geo_tables.specs.Loading.{HoldsLoad, HoldsNew, number_of, done_of};
 ghost use Rattle.geo_tables.specs.Refusals.{HasRoom, BeginErr, NextErr, SealedErr};
 
 use crate::error::LoadError;
 use crate::load::Load;
-use crate::starts::{finish, start};
-use desk_model::geography::Geography;
 use crate::load_rows::begin_rows;
 use crate::puts::has_small_places;
-use crate::rows_error::LoadError as RowsError;
-use page_store::Pages;
+use crate::starts::{begin, finish, has_room};
+use desk_model::geography::Geography;
+use page_store::{Pages, Txn};
 use row_table::get_row;
 use sector_device::SectorDevice;
 use std::alloc::Global;
@@ -29,19 +28,14 @@ use std::sync::Arc;
 use store_rows::{Key, SealRow};
 
 /// Refuses where a geography is sealed.
-fn refuse_sealed<D: SectorDevice>(alloc: Global, pages: &mut Pages<D>) -> Result<(), LoadError>
+fn refuse_sealed<D: SectorDevice>(txn: &Txn, pages: &mut Pages<D>) -> Result<(), LoadError>
+    requires { IsStarted 0 pages.old txn.now }
     ensures quiet { IsQuiet pages.old pages.new }
     ensures passed { OnOk result (Passed pages.old pages.new) }
     ensures unsealed { OnOk result ((disk_in pages.new).is_honest → (m : KeyMap) → HoldsRows pages.new m → Lacks m seal) }
-    ensures working { OnOk result (has_halted pages.old ≡ false) }
-    ensures still { has_halted pages.old ≡ true → (result ≡ Err LoadError.Halted) × IsSame pages.old pages.new }
     ensures err { IfErr result (λ e. SealedErr pages.old pages.new e) }
 {
-    if pages.is_halted() {
-        return Err(LoadError::Halted);
-    }
-    let txn = pages.begin(alloc);
-    let found: Option<SealRow> = match get_row(&txn, pages, &Key::seal()) {
+    let found: Option<SealRow> = match get_row(txn, pages, &Key::seal()) {
         Ok(found) => found,
         Err(_) => return Err(LoadError::DeviceFault),
     };
@@ -51,36 +45,31 @@ fn refuse_sealed<D: SectorDevice>(alloc: Global, pages: &mut Pages<D>) -> Result
     }
 }
 
-/// Why the rows of a load are not put, as a refusal of it.
-fn refusal_of(error: RowsError) -> LoadError
-    ensures { result ≡ told error }
+/// Whether a load of a geography can be begun: its pairs can be numbered, and there is room for the rows that begin it.
+fn has_places<D: SectorDevice>(txn: &Txn, pages: &Pages<D>, geography: &Geography) -> bool
+    ensures { IsTrue result ↔ ((length geography.now.pairs < 2 ^ 32) × ((13 * 2 ≤ txn_free txn.now) × (13 * 2 ≤ journal_of pages.now))) }
 {
-    match error {
-        RowsError::AlreadySealed => LoadError::DeviceFault,
-        RowsError::NoNumbers => LoadError::Full,
-        RowsError::Tree(error) => LoadError::from(error),
-    }
+    has_small_places(geography) && has_room(txn, pages, 2)
 }
 
-/// Begins a load with the next number, where no geography is sealed.
-fn begin_next<D: SectorDevice>(alloc: Global, pages: &mut Pages<D>) -> Result<u64, LoadError>
-    requires { (disk_in pages.old).is_honest → (m : KeyMap) → HoldsRows pages.old m → Lacks m seal }
+/// Begins a load with the next number, in a transaction that wrote nothing yet and where no geography is sealed.
+fn begin_next<D: SectorDevice>(mut txn: Txn, pages: &mut Pages<D>) -> Result<u64, LoadError>
+    requires started { IsStarted 2 pages.old txn }
+    requires unsealed { (disk_in pages.old).is_honest → (m : KeyMap) → HoldsRows pages.old m → Lacks m seal }
     ensures shape { HasShape pages.old pages.new }
     ensures honest { (disk_in pages.new).is_honest → (disk_in pages.old).is_honest }
-    ensures any_moment { (disk_in pages.new).is_honest → has_halted pages.old ≡ false → (sectors : ℕ) (d : Desk) → home (journal_of pages.old) + count_of pages.old ≡ sectors → InPages pages.old d → LeavesOnly (OpensDesk sectors d) (disk_in pages.old) (disk_in pages.new) }
+    ensures any_moment { (disk_in pages.new).is_honest → (sectors : ℕ) (d : Desk) → home (journal_of pages.old) + count_of pages.old ≡ sectors → InPages pages.old d → LeavesOnly (OpensDesk sectors d) (disk_in pages.old) (disk_in pages.new) }
     ensures begun { (disk_in pages.new).is_honest → (d : Desk) → InPages pages.old d → IfOk result (λ number. HoldsNew pages.new d number) }
     ensures number { (disk_in pages.new).is_honest → (m : KeyMap) → HoldsRows pages.old m → IfOk result (λ number. (next : Counters) × IsNext m next × (number ≡ next.load)) }
     ensures kept { (disk_in pages.new).is_honest → OnOk result (IsKept pages.new) }
     ensures passed { (disk_in pages.new).is_honest → OnOk result ((disk_in pages.new).faults ≡ (disk_in pages.old).faults) }
-    ensures ok { OnOk result ((has_halted pages.old ≡ false) × (has_halted pages.new ≡ false)) }
+    ensures ok { OnOk result (has_halted pages.new ≡ false) }
     ensures room { OnOk result (HasRoom 2 pages.old pages.new) }
-    ensures still { has_halted pages.old ≡ true → (result ≡ Err LoadError.Halted) × IsSame pages.old pages.new }
     ensures err { IfErr result (λ e. NextErr pages.old pages.new e) }
 {
-    let mut txn = start(alloc, pages, 2)?;
-    match begin_rows(&mut txn, pages) {
-        Err(error) => Err(refusal_of(error)),
-        Ok(number) => {
+    match begin_rows(&mut txn, pages)? {
+        None => Err(LoadError::Full),
+        Some(number) => {
             finish(txn, pages)?;
             Ok(number)
         }
@@ -107,11 +96,12 @@ pub fn begin_load<D: SectorDevice>(
     ensures still { has_halted pages.old ≡ true → (result ≡ Err LoadError.Halted) × IsSame pages.old pages.new }
     ensures err { IfErr result (λ e. BeginErr geography.value pages.old pages.new e) }
 {
-    refuse_sealed(alloc, pages)?;
-    if !has_small_places(&geography) {
+    let txn = begin(alloc, pages)?;
+    refuse_sealed(&txn, pages)?;
+    if !has_places(&txn, pages, &geography) {
         return Err(LoadError::Full);
     }
-    let number = begin_next(alloc, pages)?;
+    let number = begin_next(txn, pages)?;
     Ok(Load {
         number,
         geography,

@@ -23,7 +23,6 @@ mod load;
 mod load_rows;
 mod puts;
 mod reads;
-mod rows_error;
 mod sealed;
 mod seals;
 mod starts;

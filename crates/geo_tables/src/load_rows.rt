@@ -1,35 +1,19 @@
 //! Begins loads and seals them.
-ghost use Rattle.std.specs.Prelude.{◌≡◌, ◌≤◌, ◌<◌, ◌+◌, ◌^◌, [], ◌∷◌, length, IfErr, IfOk, MatchResult, OnOk};
+ghost use Rattle.std.specs.Prelude.{◌≡◌, ◌≤◌, ◌<◌, ◌+◌, ◌^◌, [], ◌∷◌, length, IfErr, IfOk, MatchOption, MatchResult, OnOk};
 ghost use Rattle.page_store.specs.Transactions.{stored, disk_in, count_of, txn_pages, IsQuiet, Passed};
 ghost use Rattle.page_btree.specs.Map.{InTxn};
 ghost use Rattle.store_rows.specs.Keys.{seal};
 ghost use Rattle.store_rows.specs.Rows.{KeyMap, Lacks};
 ghost use Rattle.row_table.specs.Puts.{HasPut, PutsErr};
 ghost use Rattle.geo_tables.specs.Rows.{begun_rows, seal_row};
-ghost use Rattle.geo_tables.specs.Loads.{HasBegun, BeginErr, HasSealed};
+ghost use Rattle.geo_tables.specs.Loads.{AreSpent, HasBegun, BeginErr, HasSealed};
 
-use crate::rows_error::LoadError;
 use desk_model::geography::Geography;
 use page_btree::remove;
 use page_store::{Pages, Txn};
-use row_table::{TreeError, get_row, next_numbers, put_row};
+use row_table::{TreeError, next_numbers, put_row};
 use sector_device::SectorDevice;
 use store_rows::{Counters, Key, SealRow, counters_value, seal_value};
-
-/// Refuses where a geography is sealed.
-fn refuse_sealed<D: SectorDevice>(txn: &Txn, pages: &mut Pages<D>) -> Result<(), LoadError>
-    requires begun { txn_pages txn.now ≡ count_of pages.old }
-    ensures quiet { IsQuiet pages.old pages.new }
-    ensures passed { OnOk result (Passed pages.old pages.new) }
-    ensures none { OnOk result ((disk_in pages.new).is_honest → (m : KeyMap) → InTxn txn.now (stored pages.old) m → Lacks m seal) }
-    ensures err { IfErr result (λ e. BeginErr txn.now pages.old pages.new e) }
-{
-    let found: Option<SealRow> = get_row(txn, pages, &Key::seal())?;
-    match found {
-        None => Ok(()),
-        Some(_) => Err(LoadError::AlreadySealed),
-    }
-}
 
 /// Puts the rows of a load with the next number.
 fn put_begun<D: SectorDevice>(
@@ -54,27 +38,29 @@ fn put_begun<D: SectorDevice>(
     put_row(txn, pages, &Key::counters(), &value)
 }
 
-/// Begins a load: takes the next number, and puts the row that tells that it was begun. After an error the transaction can only
-/// be abandoned.
-pub fn begin_rows<D: SectorDevice>(txn: &mut Txn, pages: &mut Pages<D>) -> Result<u64, LoadError>
+/// Begins a load: takes the next number, and puts the row that says that it was begun. None where every number of 64 bits but the
+/// last was given to a load. After None or an error the transaction can only be abandoned.
+pub(crate) fn begin_rows<D: SectorDevice>(
+    txn: &mut Txn,
+    pages: &mut Pages<D>,
+) -> Result<Option<u64>, TreeError>
     requires begun { txn_pages txn.old ≡ count_of pages.old }
     ensures quiet { IsQuiet pages.old pages.new }
     ensures begun { txn_pages txn.new ≡ count_of pages.new }
-    ensures begin { IfOk result (λ load. HasBegun load txn.old txn.new pages.old pages.new) }
+    ensures begin { IfOk result (λ taken. MatchOption taken (AreSpent txn.old pages.old pages.new) (λ load. HasBegun load txn.old txn.new pages.old pages.new)) }
     ensures err { IfErr result (λ e. BeginErr txn.old pages.old pages.new e) }
 {
-    refuse_sealed(txn, pages)?;
     let next = next_numbers(txn, pages)?;
     if next.load == u64::MAX {
-        return Err(LoadError::NoNumbers);
+        return Ok(None);
     }
     put_begun(txn, pages, &next)?;
-    Ok(next.load)
+    Ok(Some(next.load))
 }
 
 /// Seals a load whose rows are all staged: puts the row that names it, and removes the one that it was begun with. After an
 /// error the transaction can only be abandoned.
-pub fn seal_rows<D: SectorDevice>(
+pub(crate) fn seal_rows<D: SectorDevice>(
     txn: &mut Txn,
     pages: &mut Pages<D>,
     load: u64,

@@ -12,8 +12,8 @@ ghost use Rattle.geo_tables.specs.Refusals.{HasRoom, SealErr};
 
 use crate::error::LoadError;
 use crate::load::Load;
-use crate::starts::{finish, start};
 use crate::load_rows::seal_rows;
+use crate::starts::{finish, start};
 use page_store::Pages;
 use sector_device::SectorDevice;
 use std::alloc::Global;

@@ -1,5 +1,5 @@
 //! Begins transactions where there is room for their rows, and commits them.
-ghost use Rattle.std.specs.Prelude.{◌≡◌, ◌≤◌, ◌+◌, ◌*◌, ◌↔◌, false, OnOk, IfOk, IfErr, IsTrue};
+ghost use Rattle.std.specs.Prelude.{◌≡◌, ◌≤◌, ◌+◌, ◌*◌, ◌↔◌, true, false, OnOk, IfOk, IfErr, IsTrue};
 ghost use Rattle.page_store.specs.Transactions.{stored, disk_in, count_of, journal_of, has_halted, txn_pages, txn_free, txn_writes, HasShape, IsKept};
 ghost use Rattle.page_btree.specs.Map.{InTxn, InPages};
 ghost use Rattle.store_rows.specs.Rows.{KeyMap};
@@ -20,7 +20,7 @@ fn free_pages(txn: &Txn) -> u32
 }
 
 /// Whether free pages and journal pages are 13 for each row.
-fn has_room<D: SectorDevice>(txn: &Txn, pages: &Pages<D>, rows: u32) -> bool
+pub(crate) fn has_room<D: SectorDevice>(txn: &Txn, pages: &Pages<D>, rows: u32) -> bool
     requires { rows ≤ 513 }
     ensures { IsTrue result ↔ ((13 * rows ≤ txn_free txn.now) × (13 * rows ≤ journal_of pages.now)) }
 {
@@ -33,6 +33,17 @@ fn has_room<D: SectorDevice>(txn: &Txn, pages: &Pages<D>, rows: u32) -> bool
     true
 }
 
+/// Begins a transaction, for which no room was looked for yet.
+pub(crate) fn begin<D: SectorDevice>(alloc: Global, pages: &Pages<D>) -> Result<Txn, LoadError>
+    ensures begun { IfOk result (λ txn. IsStarted 0 pages.now txn) }
+    ensures err { IfErr result (λ e. (e ≡ LoadError.Halted) × (has_halted pages.now ≡ true)) }
+{
+    if pages.is_halted() {
+        return Err(LoadError::Halted);
+    }
+    Ok(pages.begin(alloc))
+}
+
 /// Begins a transaction that is to write so many rows.
 pub(crate) fn start<D: SectorDevice>(
     alloc: Global,
@@ -43,10 +54,7 @@ pub(crate) fn start<D: SectorDevice>(
     ensures started { IfOk result (λ txn. IsStarted rows pages.now txn) }
     ensures err { IfErr result (λ e. StartErr rows pages.now e) }
 {
-    if pages.is_halted() {
-        return Err(LoadError::Halted);
-    }
-    let txn = pages.begin(alloc);
+    let txn = begin(alloc, pages)?;
     if !has_room(&txn, pages, rows) {
         return Err(LoadError::Full);
     }

@@ -7,7 +7,7 @@ use Rattle.store_rows.specs.Puts.{Row}
 use Rattle.row_table.specs.Puts.{HasPut, PutsErr, front_not_put}
 use Rattle.geo_tables.specs.Rows.{begun_rows, load_taken}
 use Rattle.row_table.specs.Outcomes.{match_of}
-use Rattle.geo_tables.proofs.Begins.{then_put}
+use Rattle.geo_tables.proofs.RowAfterRow.{then_put}
 use Rattle.geo_tables.proofs.load_rows.put_begun.Goals as goal
 
 pub returns-in_err-put_row-clause-put : goal.returns-in_err-put_row-clause-put

@@ -13,7 +13,7 @@ use Rattle.store_rows.specs.Puts.{Row}
 use Rattle.row_table.specs.Puts.{HasPut, PutsErr}
 use Rattle.geo_tables.specs.Rows.{seal_row}
 use Rattle.row_table.specs.Outcomes.{err_of}
-use Rattle.geo_tables.proofs.Begins.{then_not_removed}
+use Rattle.geo_tables.proofs.RowAfterRow.{then_not_removed}
 use Rattle.geo_tables.proofs.load_rows.seal_rows.Goals as goal
 
 row_is : (load : ℕ) (g : Ground) (blocks : List BlockRow) (pairs : List Pair) (key value : List ℕ) → blocks ≡ g.blocks → pairs ≡ g.pairs → key ≡ key_of seal → value ≡ seal_bytes (record { load = load; blocks = length blocks; pairs = length pairs }) → ◌≡◌ {A = Row} (key, value) (seal_row load g)

@@ -11,7 +11,7 @@ use Rattle.row_table.specs.Outcomes.{err_of}
 use Rattle.row_table.specs.Reading.{StandsAs}
 use Rattle.row_table.specs.Appending.{AppendErr, unread_unappended, then_unappended}
 use Rattle.geo_tables.specs.Elements.{IsSealedAs}
-use Rattle.geo_tables.proofs.Seals.{seal_stands, told_by_seal}
+use Rattle.geo_tables.proofs.SealedRows.{seal_stands, told_by_seal}
 use Rattle.geo_tables.proofs.sealed.geography.Goals as goal
 
 pub returns-in_err-found-clause-err : goal.returns-in_err-found-clause-err
