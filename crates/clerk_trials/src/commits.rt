@@ -1,12 +1,12 @@
 //! A plan that is prepared and committed, by calls of their own.
 use crate::stores::sealed;
-use desk_clerk::change::Change;
-use desk_clerk::clerk::Clerk;
 use desk_model::command::{Command, Query};
 use desk_model::kind::Kind;
 use desk_model::name::PlanName;
 use desk_model::reply::{PlanRow, Reply};
 use desk_model::size::PlanSize;
+use desk_store::change::Change;
+use desk_store::clerk::Clerk;
 use sector_memory::FailOnce;
 use std::alloc::Global;
 use std::process::Abort;

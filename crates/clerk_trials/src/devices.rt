@@ -1,7 +1,7 @@
 //! Devices that stop or fail at one of their calls, and what a stop leaves of them.
 use crate::stores::formatted;
-use desk_clerk::clerk::Clerk;
-use desk_clerk::opening::OpenError;
+use desk_store::clerk::Clerk;
+use desk_store::opening::OpenError;
 use sector_device::SectorDevice;
 use sector_memory::{FailOnce, Fused, MemoryDevice};
 use std::alloc::Global;

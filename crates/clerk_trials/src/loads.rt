@@ -1,8 +1,8 @@
 //! A load that is begun anew, loads that have ended, a batch that has no room, and sweeps beside a load.
 use crate::stopped_loads::is_sealed;
 use crate::stores::{begun, device_of, formatted, opened, seal, stage};
-use desk_clerk::clerk::Clerk;
-use desk_clerk::loads::LoadError;
+use desk_store::clerk::Clerk;
+use desk_store::loads::LoadError;
 use sector_memory::FailOnce;
 use std::alloc::Global;
 use std::process::Abort;

@@ -1,10 +1,10 @@
 //! Stores in memory, and loads of the sample geography.
 ghost use Rattle.std.specs.Prelude.{◌≤◌};
 
-use desk_clerk::clerk::Clerk;
-use desk_clerk::loads::LoadError;
 use desk_model::geography::{Geography, sample};
 use desk_pages::format;
+use desk_store::clerk::Clerk;
+use desk_store::loads::LoadError;
 use geo_tables::Load;
 use sector_device::SectorDevice;
 use sector_memory::{FailOnce, MemoryDevice};

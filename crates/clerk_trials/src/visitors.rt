@@ -1,6 +1,5 @@
 //! A clerk over a device that fails, and what a visitor finds.
 use crate::stores::{device_of, sealed};
-use desk_clerk::clerk::Clerk;
 use desk_gallery::book::Room;
 use desk_gallery::visitor::Visitor;
 use desk_model::command::{Command, Query};
@@ -8,6 +7,7 @@ use desk_model::kind::Kind;
 use desk_model::name::PlanName;
 use desk_model::reply::{Refusal, Reply};
 use desk_model::size::PlanSize;
+use desk_store::clerk::Clerk;
 use sector_memory::FailOnce;
 use std::alloc::Global;
 use std::process::Abort;

@@ -1,13 +1,13 @@
 //! What two visitors see of a clerk's commands.
 ghost use Rattle.std.specs.Prelude.{◌≡◌};
-ghost use Rattle.desk_clerk.specs.Clerks.{desk_of, Keeps};
+ghost use Rattle.desk_store.specs.Clerks.{desk_of, Keeps};
 
 use crate::visitors::{clerk_failing_at, create, is_created, plans_seen};
 use desk_catalogue::catalogue::Catalogue;
-use desk_clerk::clerk::Clerk;
 use desk_gallery::book::{Opened, Room};
 use desk_gallery::front::Front;
 use desk_gallery::gallery::{Gallery, GalleryFault};
+use desk_store::clerk::Clerk;
 use gallery_law::office::is_standing;
 use sector_memory::FailOnce;
 use std::alloc::Global;

@@ -10,13 +10,13 @@ use Rattle.desk_model.specs.declared.reply.Refusal.TheVariants.{Memory}
 use Rattle.desk_model.specs.Desk.{Desk}
 use Rattle.desk_model.specs.Outcome.{IsAcceptance}
 use Rattle.desk_model.specs.Step.{step}
-use Rattle.desk_clerk.specs.declared.clerk.Clerk.{Clerk}
-use Rattle.desk_clerk.specs.declared.ready.Ready.{Ready}
-use Rattle.desk_clerk.specs.Keeping.{IsLeft}
-use Rattle.desk_clerk.specs.Clerks.{desk_of, is_halted, sectors_of, Keeps, Reads}
-use Rattle.desk_clerk.specs.Commands.{command_of, after_of, MustBeFull, PrepareErr, IsReady, IsMade, IsNotMade, Commits, Does}
-use Rattle.desk_clerk.proofs.Kept.{acceptance_is, accepted_is}
-use Rattle.desk_clerk.proofs.Done.{refused_does, committed_does}
+use Rattle.desk_store.specs.declared.clerk.Clerk.{Clerk}
+use Rattle.desk_store.specs.declared.ready.Ready.{Ready}
+use Rattle.desk_store.specs.Keeping.{IsLeft}
+use Rattle.desk_store.specs.Clerks.{desk_of, is_halted, sectors_of, Keeps, Reads}
+use Rattle.desk_store.specs.Commands.{command_of, after_of, MustBeFull, PrepareErr, IsReady, IsMade, IsNotMade, Commits, Does}
+use Rattle.desk_store.proofs.Kept.{acceptance_is, accepted_is}
+use Rattle.desk_store.proofs.Done.{refused_does, committed_does}
 use Rattle.desk_gallery.specs.After.{after}
 use Rattle.desk_gallery.specs.Fronts.{Kept, kept_of, IsClerk, Works, OpensShown}
 use Rattle.desk_gallery.specs.Outcomes.{OutcomeMay}

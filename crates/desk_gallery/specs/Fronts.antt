@@ -6,10 +6,10 @@ use Rattle.page_store.specs.Transactions.{device_in}
 use Rattle.desk_model.specs.declared.command.Command.{Command}
 use Rattle.desk_model.specs.declared.reply.Reply.{Reply}
 use Rattle.desk_model.specs.Desk.{Desk}
-use Rattle.desk_clerk.specs.declared.clerk.Clerk.{Clerk}
-use Rattle.desk_clerk.specs.Keeping.{IsLeft}
-use Rattle.desk_clerk.specs.Clerks.{desk_of, is_halted, sectors_of, room_of, free_of}
-use Rattle.desk_clerk.specs.Commands.{Does}
+use Rattle.desk_store.specs.declared.clerk.Clerk.{Clerk}
+use Rattle.desk_store.specs.Keeping.{IsLeft}
+use Rattle.desk_store.specs.Clerks.{desk_of, is_halted, sectors_of, room_of, free_of}
+use Rattle.desk_store.specs.Commands.{Does}
 use Rattle.desk_gallery.specs.After.{after}
 
 -- the store's device, whether it has halted, its sizes, the changes that are shown, and these with what is pending behind them

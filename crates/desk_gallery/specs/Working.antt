@@ -9,9 +9,9 @@ use Rattle.desk_model.specs.declared.reply.Refusal.TheVariants.{Halted}
 use Rattle.desk_model.specs.Desk.{Desk}
 use Rattle.desk_model.specs.Outcome.{IsAcceptance}
 use Rattle.desk_model.specs.Step.{step}
-use Rattle.desk_clerk.specs.declared.clerk.Clerk.{Clerk}
-use Rattle.desk_clerk.specs.Clerks.{desk_of, is_halted}
-use Rattle.desk_clerk.specs.Commands.{Does}
+use Rattle.desk_store.specs.declared.clerk.Clerk.{Clerk}
+use Rattle.desk_store.specs.Clerks.{desk_of, is_halted}
+use Rattle.desk_store.specs.Commands.{Does}
 use Rattle.desk_gallery.specs.After.{after}
 
 -- each of the commands is accepted, one after the other

@@ -1,16 +1,16 @@
 //! The clerk with the writer of the gallery.
 ghost use Rattle.std.specs.Prelude.{◌≡◌, false, true};
-ghost use Rattle.desk_clerk.specs.Clerks.{is_halted};
-ghost use Rattle.desk_clerk.specs.Commands.{IsReady, Commits};
+ghost use Rattle.desk_store.specs.Clerks.{is_halted};
+ghost use Rattle.desk_store.specs.Commands.{IsReady, Commits};
 ghost use Rattle.desk_gallery.specs.Working.{Agree, Worked};
 
 use crate::book::Room;
 use crate::shower::Shower;
 use crate::visitor::Told;
-use desk_clerk::clerk::Clerk;
-use desk_clerk::ready::Ready;
 use desk_model::command::Command;
 use desk_model::reply::{Refusal, Reply};
+use desk_store::clerk::Clerk;
+use desk_store::ready::Ready;
 use sector_device::SectorDevice;
 use std::alloc::Global;
 use std::marker::Model;
@@ -68,7 +68,7 @@ pub struct Front<J: Room, D: SectorDevice> {
 }
 
 impl<J: Room, D: SectorDevice> Model for Front<J, D> {
-    ghost use Rattle.desk_clerk.specs.Clerks.{Keeps};
+    ghost use Rattle.desk_store.specs.Clerks.{Keeps};
     ghost use Rattle.desk_gallery.specs.Fronts.{Kept, kept_of};
     ghost use Rattle.desk_gallery.specs.Working.{Agree};
 
@@ -83,7 +83,7 @@ impl<J: Room, D: SectorDevice> Front<J, D> {
     ghost use Rattle.std.specs.Prelude.{◌≡◌, ◌≤◌, ◌+◌, ◌∷◌, ◌++◌, [], false, length};
     ghost use mathlib.Core.List.{IsPrefix};
     ghost use Rattle.desk_model.specs.Outcome.{IsAcceptance};
-    ghost use Rattle.desk_clerk.specs.Clerks.{desk_of, is_halted, Keeps};
+    ghost use Rattle.desk_store.specs.Clerks.{desk_of, is_halted, Keeps};
     ghost use Rattle.desk_gallery.specs.After.{after};
     ghost use Rattle.desk_gallery.specs.Fronts.{kept_of, IsClerk, Works, OpensShown};
     ghost use Rattle.desk_gallery.specs.Outcomes.{OutcomeMay};

@@ -1,12 +1,12 @@
 //! A front behind one lock.
 ghost use Rattle.std.specs.Prelude.{◌≡◌, []};
-ghost use Rattle.desk_clerk.specs.Clerks.{desk_of, Keeps};
+ghost use Rattle.desk_store.specs.Clerks.{desk_of, Keeps};
 ghost use Rattle.desk_gallery.specs.After.{after};
 
 use crate::book::Room;
 use crate::front::Front;
 use crate::shower::Shower;
-use desk_clerk::clerk::Clerk;
+use desk_store::clerk::Clerk;
 use sector_device::SectorDevice;
 use std::sync::{Mutex, MutexGuard, Wait};
 

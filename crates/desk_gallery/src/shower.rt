@@ -11,7 +11,7 @@ use crate::shelf::Shelf;
 use crate::tied::{Copies, Tied};
 use crate::visitor::{Told, Visitor};
 use core::mem::replace_with;
-use desk_clerk::change::Change;
+use desk_store::change::Change;
 use std::alloc::AllocError;
 use std::marker::Model;
 use std::sync::Wait;

@@ -2,11 +2,11 @@
 use Rattle.std.specs.Prelude.{◌≡◌, true, false}
 use Rattle.sector_device.specs.declared.SectorDevice.{Ghosts}
 use Rattle.geo_tables.specs.declared.load.Load.{Load}
-use Rattle.desk_clerk.specs.declared.clerk.Clerk.{Clerk}
-use Rattle.desk_clerk.specs.declared.loads.LoadError.{LoadError}
-use Rattle.desk_clerk.specs.declared.loads.LoadError.TheVariants.{AlreadySealed, Full, Memory, Halted, Ended}
-use Rattle.desk_clerk.specs.Clerks.{desk_of, disk_of, is_halted, Keeps}
-use Rattle.desk_clerk.specs.Loads.{Stages, IsLast, HasGeography}
+use Rattle.desk_store.specs.declared.clerk.Clerk.{Clerk}
+use Rattle.desk_store.specs.declared.loads.LoadError.{LoadError}
+use Rattle.desk_store.specs.declared.loads.LoadError.TheVariants.{AlreadySealed, Full, Memory, Halted, Ended}
+use Rattle.desk_store.specs.Clerks.{desk_of, disk_of, is_halted, Keeps}
+use Rattle.desk_store.specs.Loads.{Stages, IsLast, HasGeography}
 
 module _ {D : Type 0} {g : Ghosts D} where
   -- more rows of the same load may be staged, which is still the last one

@@ -2,14 +2,14 @@
 ghost use Rattle.std.specs.Prelude.{◌≡◌, ◌≤◌, ◌+◌, ◌*◌, None, OnOk, OnErr, IfErr};
 ghost use Rattle.store_rows.specs.GeographyRows.{geography_rows};
 ghost use Rattle.geo_tables.specs.Loading.{ground_of, done_of};
-ghost use Rattle.desk_clerk.specs.Clerks.{desk_of, Keeps};
-ghost use Rattle.desk_clerk.specs.Keeping.{sealed_desk};
-ghost use Rattle.desk_clerk.specs.Loads.{Stages, IsLast};
+ghost use Rattle.desk_store.specs.Clerks.{desk_of, Keeps};
+ghost use Rattle.desk_store.specs.Keeping.{sealed_desk};
+ghost use Rattle.desk_store.specs.Loads.{Stages, IsLast};
 ghost use Rattle.desk_loading.specs.Loads.{GoesOn, LoadRefused, StageRefused};
 
-use desk_clerk::clerk::Clerk;
-use desk_clerk::loads::LoadError;
 use desk_model::geography::Geography;
+use desk_store::clerk::Clerk;
+use desk_store::loads::LoadError;
 use geo_tables::Load;
 use sector_device::SectorDevice;
 use std::alloc::Global;

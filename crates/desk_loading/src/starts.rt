@@ -2,16 +2,16 @@
 ghost use Rattle.std.specs.Prelude.{◌≡◌, ◌≤◌, ◌+◌, ◌<◌, false, IfOk, IfErr};
 ghost use Rattle.gate_journal.specs.Store.{home};
 ghost use Rattle.desk_pages.specs.Formats.{OpensNew};
-ghost use Rattle.desk_clerk.specs.Clerks.{desk_of, is_halted, Keeps};
-ghost use Rattle.desk_clerk.specs.Keeping.{sealed_desk};
+ghost use Rattle.desk_store.specs.Clerks.{desk_of, is_halted, Keeps};
+ghost use Rattle.desk_store.specs.Keeping.{sealed_desk};
 ghost use Rattle.desk_loading.specs.Starts.{StartRefused};
 
 use crate::loads::load_geography;
-use desk_clerk::clerk::Clerk;
-use desk_clerk::loads::LoadError;
-use desk_clerk::opening::OpenError;
 use desk_model::geography::Geography;
 use desk_pages::{FormatError, format};
+use desk_store::clerk::Clerk;
+use desk_store::loads::LoadError;
+use desk_store::opening::OpenError;
 use sector_device::SectorDevice;
 use std::alloc::Global;
 use std::sync::Arc;

@@ -7,9 +7,9 @@ use Rattle.desk_model.specs.declared.command.Command.{Command}
 use Rattle.desk_model.specs.Desk.{Desk}
 use Rattle.desk_model.specs.Step.{step}
 use Rattle.desk_pages.specs.Desks.{OpensDesk}
-use Rattle.desk_clerk.specs.declared.clerk.Clerk.{Clerk}
-use Rattle.desk_clerk.specs.Clerks.{desk_of, disk_of, sectors_of}
-use Rattle.desk_clerk.specs.Openings.{AllDesks, IsOneOf}
+use Rattle.desk_store.specs.declared.clerk.Clerk.{Clerk}
+use Rattle.desk_store.specs.Clerks.{desk_of, disk_of, sectors_of}
+use Rattle.desk_store.specs.Openings.{AllDesks, IsOneOf}
 use Rattle.desk_runs.specs.Runs.{Call, Run, after, acknowledged, acknowledged_at, in_flight, OpensAfterSome, OpenSince, SurvivesEachRun}
 use Rattle.desk_recovery.specs.Recovery.{ImagesAreOne, HoldsOne}
 use Rattle.desk_recovery.specs.Lives.{Life, found, accepted, told, left_by, IsSound, Finds, Follow, last_left, Lasted, OpensAfterLives, LivesSurvive}

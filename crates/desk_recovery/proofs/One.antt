@@ -8,11 +8,11 @@ use Rattle.gate_journal.proofs.Headers.{same_journal}
 use Rattle.page_store.specs.Chain.{root_in, free_in}
 use Rattle.desk_model.specs.Desk.{Desk}
 use Rattle.desk_pages.specs.Desks.{HoldsDesk, OpensDesk}
-use Rattle.desk_clerk.specs.declared.clerk.Clerk.{Clerk}
-use Rattle.desk_clerk.specs.declared.opening.OpenError.{OpenError}
-use Rattle.desk_clerk.specs.declared.opening.OpenError.TheVariants.{NotAStore}
-use Rattle.desk_clerk.specs.Clerks.{desk_of, disk_of, is_halted, sectors_of, Keeps}
-use Rattle.desk_clerk.specs.Openings.{AllDesks, IsOneOf, OpensOneOf, OpenRefused, device_after}
+use Rattle.desk_store.specs.declared.clerk.Clerk.{Clerk}
+use Rattle.desk_store.specs.declared.opening.OpenError.{OpenError}
+use Rattle.desk_store.specs.declared.opening.OpenError.TheVariants.{NotAStore}
+use Rattle.desk_store.specs.Clerks.{desk_of, disk_of, is_halted, sectors_of, Keeps}
+use Rattle.desk_store.specs.Openings.{AllDesks, IsOneOf, OpensOneOf, OpenRefused, device_after}
 use Rattle.desk_recovery.specs.Recovery.{ImagesAreOne, HoldsOne, Shows, Recovers}
 
 -- what pages say of their desk

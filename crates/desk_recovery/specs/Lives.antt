@@ -6,10 +6,10 @@ use Rattle.sector_device.specs.declared.SectorDevice.{Ghosts}
 use Rattle.desk_model.specs.declared.command.Command.{Command}
 use Rattle.desk_model.specs.Desk.{Desk}
 use Rattle.desk_pages.specs.Desks.{OpensDesk}
-use Rattle.desk_clerk.specs.declared.clerk.Clerk.{Clerk}
-use Rattle.desk_clerk.specs.declared.opening.OpenError.{OpenError}
-use Rattle.desk_clerk.specs.Clerks.{desk_of, disk_of, is_halted, sectors_of, Keeps}
-use Rattle.desk_clerk.specs.Openings.{AllDesks, IsOneOf, OpensOneOf, device_after}
+use Rattle.desk_store.specs.declared.clerk.Clerk.{Clerk}
+use Rattle.desk_store.specs.declared.opening.OpenError.{OpenError}
+use Rattle.desk_store.specs.Clerks.{desk_of, disk_of, is_halted, sectors_of, Keeps}
+use Rattle.desk_store.specs.Openings.{AllDesks, IsOneOf, OpensOneOf, device_after}
 use Rattle.desk_runs.specs.Runs.{Call, Run, after, acknowledged, acknowledged_at, in_flight}
 use Rattle.desk_recovery.specs.Recovery.{HoldsOne}
 

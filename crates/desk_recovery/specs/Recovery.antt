@@ -5,11 +5,11 @@ use Rattle.sector_device.specs.Moments.{LeavesOnly}
 use Rattle.sector_device.specs.declared.SectorDevice.{Ghosts}
 use Rattle.desk_model.specs.Desk.{Desk}
 use Rattle.desk_pages.specs.Desks.{OpensDesk}
-use Rattle.desk_clerk.specs.declared.clerk.Clerk.{Clerk}
-use Rattle.desk_clerk.specs.declared.opening.OpenError.{OpenError}
-use Rattle.desk_clerk.specs.declared.opening.OpenError.TheVariants.{NotAStore}
-use Rattle.desk_clerk.specs.Clerks.{desk_of, is_halted, sectors_of, Keeps}
-use Rattle.desk_clerk.specs.Openings.{device_after}
+use Rattle.desk_store.specs.declared.clerk.Clerk.{Clerk}
+use Rattle.desk_store.specs.declared.opening.OpenError.{OpenError}
+use Rattle.desk_store.specs.declared.opening.OpenError.TheVariants.{NotAStore}
+use Rattle.desk_store.specs.Clerks.{desk_of, is_halted, sectors_of, Keeps}
+use Rattle.desk_store.specs.Openings.{device_after}
 
 -- an image of a store opens to one desk at most
 abbrev pub ImagesAreOne : Type 0

@@ -1,12 +1,12 @@
 //! Openings of a device whose images all open to one desk.
 ghost use Rattle.desk_model.specs.Desk.{Desk};
-ghost use Rattle.desk_clerk.specs.Openings.{device_after};
+ghost use Rattle.desk_store.specs.Openings.{device_after};
 ghost use Rattle.desk_recovery.specs.Lives.{IsOpening};
 ghost use Rattle.desk_recovery.specs.Recovery.{HoldsOne, Recovers};
 
 use crate::law::one_desk_opens;
-use desk_clerk::clerk::Clerk;
-use desk_clerk::opening::OpenError;
+use desk_store::clerk::Clerk;
+use desk_store::opening::OpenError;
 use sector_device::SectorDevice;
 use std::alloc::Global;
 

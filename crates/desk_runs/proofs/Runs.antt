@@ -12,10 +12,10 @@ use Rattle.desk_model.specs.Desk.{Desk}
 use Rattle.desk_model.specs.Outcome.{IsAcceptance, CommandMay}
 use Rattle.desk_model.specs.Step.{step}
 use Rattle.desk_pages.specs.Desks.{OpensDesk}
-use Rattle.desk_clerk.specs.declared.clerk.Clerk.{Clerk}
-use Rattle.desk_clerk.specs.Clerks.{desk_of, disk_of, sectors_of, Keeps}
-use Rattle.desk_clerk.specs.Commands.{Does, MustBeFull, MayBeFull}
-use Rattle.desk_clerk.specs.Keeping.{IsLeft, OpensOneMore}
+use Rattle.desk_store.specs.declared.clerk.Clerk.{Clerk}
+use Rattle.desk_store.specs.Clerks.{desk_of, disk_of, sectors_of, Keeps}
+use Rattle.desk_store.specs.Commands.{Does, MustBeFull, MayBeFull}
+use Rattle.desk_store.specs.Keeping.{IsLeft, OpensOneMore}
 use Rattle.desk_runs.specs.Runs.{Call, after, if_accepted, acknowledged, acknowledged_at, in_flight, OpensAfterSome, OpenSince, Run, SurvivesEachRun}
 use Rattle.desk_runs.proofs.Steps.{refused_same}
 

@@ -8,9 +8,9 @@ use Rattle.desk_model.specs.declared.reply.Reply.TheVariants as reply
 use Rattle.desk_model.specs.Desk.{Desk}
 use Rattle.desk_model.specs.Step.{step}
 use Rattle.desk_pages.specs.Desks.{OpensDesk}
-use Rattle.desk_clerk.specs.declared.clerk.Clerk.{Clerk}
-use Rattle.desk_clerk.specs.Clerks.{desk_of, disk_of, sectors_of, Keeps}
-use Rattle.desk_clerk.specs.Commands.{Does}
+use Rattle.desk_store.specs.declared.clerk.Clerk.{Clerk}
+use Rattle.desk_store.specs.Clerks.{desk_of, disk_of, sectors_of, Keeps}
+use Rattle.desk_store.specs.Commands.{Does}
 
 -- a command with its reply
 abbrev pub Call : Type 0

@@ -1,8 +1,8 @@
 //! The law of runs.
-ghost use Rattle.desk_clerk.specs.declared.clerk.Clerk.{Clerk};
+ghost use Rattle.desk_store.specs.declared.clerk.Clerk.{Clerk};
 ghost use Rattle.desk_runs.specs.Runs.{SurvivesEachRun};
 
-use desk_clerk::clerk::Clerk;
+use desk_store::clerk::Clerk;
 use sector_device::SectorDevice;
 
 /// Of whatever commands a clerk is given from now on: there is a list of moments that don't fall, one for each acknowledged

@@ -29,8 +29,8 @@ use Rattle.geo_tables.specs.Rows.{begun_rows, staged_row, staged_rows, seal_row}
 use Rattle.geo_tables.specs.Loads.{AreSpent, IsNotBegun, BeginErr}
 use Rattle.desk_pages.specs.Commits.{TxnErr}
 use Rattle.desk_pages.specs.Desks.{IsDeskMap, InPages}
-use Rattle.geo_tables.specs.declared.error.LoadError.{LoadError}
-use Rattle.geo_tables.specs.declared.error.LoadError.TheVariants.{AlreadySealed, Full, Memory, DeviceFault, Halted}
+use Rattle.geo_tables.specs.declared.error.LoadFault.{LoadFault}
+use Rattle.geo_tables.specs.declared.error.LoadFault.TheVariants.{AlreadySealed, Full, Memory, DeviceFault, Halted}
 use Rattle.geo_tables.specs.declared.load.Load.{Load}
 use Rattle.geo_tables.specs.Errors.{page_told, tree_told}
 use Rattle.geo_tables.specs.Loading.{number_of, ground_of, done_of}
@@ -77,7 +77,7 @@ module _ {D : Type 0} {g : Ghosts D} where
   )
   batch_refused load rows t a b started quiet tree.Memory why = (quiet, room_of (rows + 1) a b t started quiet.honest)
 
-  pub batch_unfinished : (load : Load) (rows : ℕ) (t : Txn) (a b c : Pages D g) → IsStarted (rows + 1) a t → Passed a b → ((disk_in c).is_honest → (disk_in b).is_honest) → (e : LoadError) → FinishErr b c e → BatchErr load rows a c e
+  pub batch_unfinished : (load : Load) (rows : ℕ) (t : Txn) (a b c : Pages D g) → IsStarted (rows + 1) a t → Passed a b → ((disk_in c).is_honest → (disk_in b).is_honest) → (e : LoadFault) → FinishErr b c e → BatchErr load rows a c e
   batch_unfinished load rows t a b c started passed honest Memory why = (subst (λ (p : Pages D g). IsQuiet a p) (sym why) passed.quiet, room_of (rows + 1) a c t started (λ h. passed.quiet.honest (honest h)))
   batch_unfinished load rows t a b c started passed honest DeviceFault why = (room_of (rows + 1) a c t started (λ h. passed.quiet.honest (honest h)), inl (failed_after a b c passed honest why))
   batch_unfinished load rows t a b c started passed honest AlreadySealed why = absurd why
@@ -98,7 +98,7 @@ module _ {D : Type 0} {g : Ghosts D} where
   )
   seal_refused load t a b started quiet tree.Memory why = (quiet, room_of 2 a b t started quiet.honest)
 
-  pub seal_unfinished : (load : Load) (t : Txn) (a b c : Pages D g) → IsStarted 2 a t → Passed a b → ((disk_in c).is_honest → (disk_in b).is_honest) → (e : LoadError) → FinishErr b c e → SealErr load a c e
+  pub seal_unfinished : (load : Load) (t : Txn) (a b c : Pages D g) → IsStarted 2 a t → Passed a b → ((disk_in c).is_honest → (disk_in b).is_honest) → (e : LoadFault) → FinishErr b c e → SealErr load a c e
   seal_unfinished load t a b c started passed honest Memory why = (subst (λ (p : Pages D g). IsQuiet a p) (sym why) passed.quiet, room_of 2 a c t started (λ h. passed.quiet.honest (honest h)))
   seal_unfinished load t a b c started passed honest DeviceFault why = (room_of 2 a c t started (λ h. passed.quiet.honest (honest h)), inl (failed_after a b c passed honest why))
   seal_unfinished load t a b c started passed honest AlreadySealed why = absurd why
@@ -138,7 +138,7 @@ module _ {D : Type 0} {g : Ghosts D} where
   pub next_spent : (t : Txn) (a b : Pages D g) → IsStarted 2 a t → IsQuiet a b → AreSpent t a b → NextErr a b Full
   next_spent t a b started quiet spent = (quiet, inr (inl (λ honest m holds. spent honest m (started.reads (quiet.honest honest) m holds))))
 
-  pub next_unfinished : (t : Txn) (a b c : Pages D g) → IsStarted 2 a t → Passed a b → ((disk_in c).is_honest → (disk_in b).is_honest) → (e : LoadError) → FinishErr b c e → NextErr a c e
+  pub next_unfinished : (t : Txn) (a b c : Pages D g) → IsStarted 2 a t → Passed a b → ((disk_in c).is_honest → (disk_in b).is_honest) → (e : LoadFault) → FinishErr b c e → NextErr a c e
   next_unfinished t a b c started passed honest Memory why = (subst (λ (p : Pages D g). IsQuiet a p) (sym why) passed.quiet, room_of 2 a c t started (λ h. passed.quiet.honest (honest h)))
   next_unfinished t a b c started passed honest DeviceFault why = inl (failed_after a b c passed honest why)
   next_unfinished t a b c started passed honest AlreadySealed why = absurd why
@@ -180,7 +180,7 @@ module _ {D : Type 0} {g : Ghosts D} where
     free = λ honest. subst (λ (P : Image). 13 * rows ≤ length (free_in P)) (quiet.same (honest_then honest)) (room.free honest);
   }
 
-  pub begin_after : (area : Ground) (a b c : Pages D g) → Passed a b → has_halted a ≡ false → ((disk_in c).is_honest → (disk_in b).is_honest) → ((disk_in b).is_honest → (d : Desk) → InPages b d → d.geography ≡ None) → (e : LoadError) → NextErr b c e → Begins area a c e
+  pub begin_after : (area : Ground) (a b c : Pages D g) → Passed a b → has_halted a ≡ false → ((disk_in c).is_honest → (disk_in b).is_honest) → ((disk_in b).is_honest → (d : Desk) → InPages b d → d.geography ≡ None) → (e : LoadFault) → NextErr b c e → Begins area a c e
   begin_after area a b c passed working honest_then unsealed Full why = (
     quiet_more a b c passed.quiet why.0,
     (λ honest d holds. let then = honest_then honest in unsealed then d (quiet_desk a b passed.quiet then d holds)),
@@ -250,7 +250,7 @@ module _ {D : Type 0} {g : Ghosts D} where
   pub desk_unsealed : (b c : Pages D g) → ((disk_in c).is_honest → (disk_in b).is_honest) → ((disk_in b).is_honest → (m : KeyMap) → HoldsRows b m → Lacks m seal) → (disk_in c).is_honest → (d : Desk) → InPages b d → d.geography ≡ None
   desk_unsealed b c honest_then lacks honest d holds = no_geography holds.m d holds.is.desk (lacks (honest_then honest) holds.m holds.holds)
 
-  pub sealed_refused : (area : Ground) (a b : Pages D g) (e : LoadError) → SealedErr a b e → Begins area a b e
+  pub sealed_refused : (area : Ground) (a b : Pages D g) (e : LoadFault) → SealedErr a b e → Begins area a b e
   sealed_refused area a b AlreadySealed why = why
   sealed_refused area a b Full why = absurd why
   sealed_refused area a b Memory why = absurd why

@@ -15,8 +15,8 @@ use Rattle.store_rows.specs.Tidy.{IsNext}
 use Rattle.row_table.specs.Puts.{HasDeepened}
 use Rattle.geo_tables.specs.Rows.{begun_rows, staged_rows, seal_row}
 use Rattle.desk_pages.specs.Desks.{InPages}
-use Rattle.geo_tables.specs.declared.error.LoadError.{LoadError}
-use Rattle.geo_tables.specs.declared.error.LoadError.TheVariants.{AlreadySealed, Full, Memory, DeviceFault, Halted}
+use Rattle.geo_tables.specs.declared.error.LoadFault.{LoadFault}
+use Rattle.geo_tables.specs.declared.error.LoadFault.TheVariants.{AlreadySealed, Full, Memory, DeviceFault, Halted}
 use Rattle.geo_tables.specs.declared.load.Load.{Load}
 use Rattle.geo_tables.specs.Loading.{HoldsLoad, number_of, ground_of, done_of}
 
@@ -47,7 +47,7 @@ module _ {D : Type 0} {g : Ghosts D} where
   IsUnsealed old new = (disk_in new).is_honest → (d : Desk) → InPages old d → d.geography ≡ None
 
   -- why the next load is not begun, where no geography is sealed
-  abbrev pub NextErr : Pages D g → Pages D g → LoadError → Type 0
+  abbrev pub NextErr : Pages D g → Pages D g → LoadFault → Type 0
   NextErr old new AlreadySealed = ⊥
   NextErr old new Full = IsQuiet old new × (IsShort 2 old new ⊎ (IsSpent old new ⊎ IsDeep AreBegun old new))
   NextErr old new Memory = IsQuiet old new × HasRoom 2 old new
@@ -55,7 +55,7 @@ module _ {D : Type 0} {g : Ghosts D} where
   NextErr old new Halted = (has_halted old ≡ true) × IsSame old new
 
   -- why it isn't seen that no geography is sealed
-  abbrev pub SealedErr : Pages D g → Pages D g → LoadError → Type 0
+  abbrev pub SealedErr : Pages D g → Pages D g → LoadFault → Type 0
   SealedErr old new AlreadySealed = Passed old new × ((disk_in new).is_honest → (d : Desk) → InPages old d → (sealed : Ground) × (d.geography ≡ Some sealed))
   SealedErr old new Full = ⊥
   SealedErr old new Memory = ⊥
@@ -63,7 +63,7 @@ module _ {D : Type 0} {g : Ghosts D} where
   SealedErr old new Halted = (has_halted old ≡ true) × IsSame old new
 
   -- why no load is begun
-  abbrev pub BeginErr : Ground → Pages D g → Pages D g → LoadError → Type 0
+  abbrev pub BeginErr : Ground → Pages D g → Pages D g → LoadFault → Type 0
   BeginErr area old new AlreadySealed = Passed old new × ((disk_in new).is_honest → (d : Desk) → InPages old d → (sealed : Ground) × (d.geography ≡ Some sealed))
   BeginErr area old new Full = IsQuiet old new × IsUnsealed old new × (IsShort 2 old new ⊎ (IsSpent old new ⊎ (IsDeep AreBegun old new ⊎ (2 ^ 32 ≤ length area.pairs))))
   BeginErr area old new Memory = IsQuiet old new × IsUnsealed old new × HasRoom 2 old new
@@ -71,7 +71,7 @@ module _ {D : Type 0} {g : Ghosts D} where
   BeginErr area old new Halted = (has_halted old ≡ true) × IsSame old new
 
   -- why so many rows of a load are not staged
-  abbrev pub BatchErr : Load → ℕ → Pages D g → Pages D g → LoadError → Type 0
+  abbrev pub BatchErr : Load → ℕ → Pages D g → Pages D g → LoadFault → Type 0
   BatchErr load rows old new AlreadySealed = ⊥
   BatchErr load rows old new Full = IsQuiet old new × (IsShort (rows + 1) old new ⊎ IsDeep (λ m all. all ≡ staged_rows (number_of load) (ground_of load) (done_of load) rows) old new)
   BatchErr load rows old new Memory = IsQuiet old new × HasRoom (rows + 1) old new
@@ -79,7 +79,7 @@ module _ {D : Type 0} {g : Ghosts D} where
   BatchErr load rows old new Halted = (has_halted old ≡ true) × IsSame old new
 
   -- why a load is not sealed
-  abbrev pub SealErr : Load → Pages D g → Pages D g → LoadError → Type 0
+  abbrev pub SealErr : Load → Pages D g → Pages D g → LoadFault → Type 0
   SealErr load old new AlreadySealed = ⊥
   SealErr load old new Full = IsQuiet old new × (IsShort 2 old new ⊎ IsDeep (λ m all. all ≡ seal_row (number_of load) (ground_of load) ∷ []) old new)
   SealErr load old new Memory = IsQuiet old new × HasRoom 2 old new

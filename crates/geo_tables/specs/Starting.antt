@@ -11,8 +11,8 @@ use Rattle.page_btree.specs.Map.{InTxn, InPages}
 use Rattle.desk_model.specs.Desk.{Desk}
 use Rattle.store_rows.specs.Rows.{KeyMap}
 use Rattle.desk_pages.specs.Desks.{InTxn as DeskInTxn, InPages as DeskInPages, OpensDesk}
-use Rattle.geo_tables.specs.declared.error.LoadError.{LoadError}
-use Rattle.geo_tables.specs.declared.error.LoadError.TheVariants.{AlreadySealed, Full, Memory, DeviceFault, Halted}
+use Rattle.geo_tables.specs.declared.error.LoadFault.{LoadFault}
+use Rattle.geo_tables.specs.declared.error.LoadFault.TheVariants.{AlreadySealed, Full, Memory, DeviceFault, Halted}
 
 module _ {D : Type 0} {g : Ghosts D} where
   -- It reads what the pages hold and has written nothing. They have 13 free pages and 13 journal pages for each row.
@@ -26,7 +26,7 @@ module _ {D : Type 0} {g : Ghosts D} where
     pub reads : (disk_in ps).is_honest → (m : KeyMap) → InPages ps m → InTxn t (stored ps) m
 
   -- why none is begun
-  abbrev pub StartErr : ℕ → Pages D g → LoadError → Type 0
+  abbrev pub StartErr : ℕ → Pages D g → LoadFault → Type 0
   StartErr rows ps Halted = has_halted ps ≡ true
   StartErr rows ps Full = (has_halted ps ≡ false) × ((journal_of ps < 13 * rows) ⊎ ((disk_in ps).is_honest → length (free_in (stored ps)) < 13 * rows))
   StartErr rows ps AlreadySealed = ⊥
@@ -38,7 +38,7 @@ module _ {D : Type 0} {g : Ghosts D} where
   Leaves t old new = (sectors : ℕ) (d next : Desk) → home (journal_of old) + count_of old ≡ sectors → DeskInPages old d → DeskInTxn t (stored old) next → LeavesOnly (λ c. OpensDesk sectors d c ⊎ OpensDesk sectors next c) (disk_in old) (disk_in new)
 
   -- why pages for which the journal has room are not committed
-  abbrev pub FinishErr : Pages D g → Pages D g → LoadError → Type 0
+  abbrev pub FinishErr : Pages D g → Pages D g → LoadFault → Type 0
   FinishErr old new Memory = new ≡ old
   FinishErr old new DeviceFault = HasFailed old new
   FinishErr old new AlreadySealed = ⊥

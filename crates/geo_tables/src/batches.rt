@@ -9,7 +9,7 @@ ghost use Rattle.desk_pages.specs.Desks.{OpensDesk};
 ghost use Rattle.geo_tables.specs.Loading.{HoldsLoad, HoldsFurther, IsFurther, ground_of, done_of};
 ghost use Rattle.geo_tables.specs.Refusals.{HasRoom, BatchErr};
 
-use crate::error::LoadError;
+use crate::error::LoadFault;
 use crate::load::Load;
 use crate::puts::put_batch;
 use crate::starts::{finish, start};
@@ -23,7 +23,7 @@ fn stage<D: SectorDevice>(
     pages: &mut Pages<D>,
     load: &Load,
     rows: usize,
-) -> Result<(), LoadError>
+) -> Result<(), LoadFault>
     requires few { rows ≤ 512 }
     requires left { done_of load.now + rows ≤ geography_rows (ground_of load.now) }
     ensures shape { HasShape pages.old pages.new }
@@ -34,7 +34,7 @@ fn stage<D: SectorDevice>(
     ensures passed { (disk_in pages.new).is_honest → OnOk result ((disk_in pages.new).faults ≡ (disk_in pages.old).faults) }
     ensures ok { OnOk result ((has_halted pages.old ≡ false) × (has_halted pages.new ≡ false)) }
     ensures room { OnOk result (HasRoom (rows + 1) pages.old pages.new) }
-    ensures still { has_halted pages.old ≡ true → (result ≡ Err LoadError.Halted) × IsSame pages.old pages.new }
+    ensures still { has_halted pages.old ≡ true → (result ≡ Err LoadFault.Halted) × IsSame pages.old pages.new }
     ensures err { IfErr result (λ e. BatchErr load.now rows pages.old pages.new e) }
 {
     load.is_sound();
@@ -57,7 +57,7 @@ pub fn load_batch<D: SectorDevice>(
     pages: &mut Pages<D>,
     load: &mut Load,
     rows: usize,
-) -> Result<usize, LoadError>
+) -> Result<usize, LoadFault>
     requires some { 1 ≤ rows }
     requires few { rows ≤ 512 }
     requires left { done_of load.old + rows ≤ geography_rows (ground_of load.old) }
@@ -72,7 +72,7 @@ pub fn load_batch<D: SectorDevice>(
     ensures passed { (disk_in pages.new).is_honest → OnOk result ((disk_in pages.new).faults ≡ (disk_in pages.old).faults) }
     ensures ok { OnOk result ((has_halted pages.old ≡ false) × (has_halted pages.new ≡ false)) }
     ensures room { OnOk result (HasRoom (rows + 1) pages.old pages.new) }
-    ensures still { has_halted pages.old ≡ true → (result ≡ Err LoadError.Halted) × IsSame pages.old pages.new }
+    ensures still { has_halted pages.old ≡ true → (result ≡ Err LoadFault.Halted) × IsSame pages.old pages.new }
     ensures err { IfErr result (λ e. BatchErr load.old rows pages.old pages.new e) }
 {
     load.is_sound();

@@ -14,7 +14,7 @@ ghost use Rattle.geo_tables.specs.Starting.{IsStarted};
 ghost use Rattle.geo_tables.specs.Loading.{HoldsLoad, HoldsNew, number_of, done_of};
 ghost use Rattle.geo_tables.specs.Refusals.{HasRoom, BeginErr, NextErr, SealedErr};
 
-use crate::error::LoadError;
+use crate::error::LoadFault;
 use crate::load::Load;
 use crate::load_rows::begin_rows;
 use crate::puts::has_small_places;
@@ -28,7 +28,7 @@ use std::sync::Arc;
 use store_rows::{Key, SealRow};
 
 /// Refuses where a geography is sealed.
-fn refuse_sealed<D: SectorDevice>(txn: &Txn, pages: &mut Pages<D>) -> Result<(), LoadError>
+fn refuse_sealed<D: SectorDevice>(txn: &Txn, pages: &mut Pages<D>) -> Result<(), LoadFault>
     requires { IsStarted 0 pages.old txn.now }
     ensures quiet { IsQuiet pages.old pages.new }
     ensures passed { OnOk result (Passed pages.old pages.new) }
@@ -37,11 +37,11 @@ fn refuse_sealed<D: SectorDevice>(txn: &Txn, pages: &mut Pages<D>) -> Result<(),
 {
     let found: Option<SealRow> = match get_row(txn, pages, &Key::seal()) {
         Ok(found) => found,
-        Err(_) => return Err(LoadError::DeviceFault),
+        Err(_) => return Err(LoadFault::DeviceFault),
     };
     match found {
         None => Ok(()),
-        Some(_) => Err(LoadError::AlreadySealed),
+        Some(_) => Err(LoadFault::AlreadySealed),
     }
 }
 
@@ -53,7 +53,7 @@ fn has_places<D: SectorDevice>(txn: &Txn, pages: &Pages<D>, geography: &Geograph
 }
 
 /// Begins a load with the next number, in a transaction that wrote nothing yet and where no geography is sealed.
-fn begin_next<D: SectorDevice>(mut txn: Txn, pages: &mut Pages<D>) -> Result<u64, LoadError>
+fn begin_next<D: SectorDevice>(mut txn: Txn, pages: &mut Pages<D>) -> Result<u64, LoadFault>
     requires started { IsStarted 2 pages.old txn }
     requires unsealed { (disk_in pages.old).is_honest → (m : KeyMap) → HoldsRows pages.old m → Lacks m seal }
     ensures shape { HasShape pages.old pages.new }
@@ -68,7 +68,7 @@ fn begin_next<D: SectorDevice>(mut txn: Txn, pages: &mut Pages<D>) -> Result<u64
     ensures err { IfErr result (λ e. NextErr pages.old pages.new e) }
 {
     match begin_rows(&mut txn, pages)? {
-        None => Err(LoadError::Full),
+        None => Err(LoadFault::Full),
         Some(number) => {
             finish(txn, pages)?;
             Ok(number)
@@ -81,7 +81,7 @@ pub fn begin_load<D: SectorDevice>(
     alloc: Global,
     pages: &mut Pages<D>,
     geography: Arc<Geography>,
-) -> Result<Load, LoadError>
+) -> Result<Load, LoadFault>
     ensures shape { HasShape pages.old pages.new }
     ensures honest { (disk_in pages.new).is_honest → (disk_in pages.old).is_honest }
     ensures any_moment { (disk_in pages.new).is_honest → has_halted pages.old ≡ false → (sectors : ℕ) (d : Desk) → home (journal_of pages.old) + count_of pages.old ≡ sectors → InPages pages.old d → LeavesOnly (OpensDesk sectors d) (disk_in pages.old) (disk_in pages.new) }
@@ -93,13 +93,13 @@ pub fn begin_load<D: SectorDevice>(
     ensures passed { (disk_in pages.new).is_honest → OnOk result ((disk_in pages.new).faults ≡ (disk_in pages.old).faults) }
     ensures ok { OnOk result ((has_halted pages.old ≡ false) × (has_halted pages.new ≡ false)) }
     ensures room { OnOk result (HasRoom 2 pages.old pages.new) }
-    ensures still { has_halted pages.old ≡ true → (result ≡ Err LoadError.Halted) × IsSame pages.old pages.new }
+    ensures still { has_halted pages.old ≡ true → (result ≡ Err LoadFault.Halted) × IsSame pages.old pages.new }
     ensures err { IfErr result (λ e. BeginErr geography.value pages.old pages.new e) }
 {
     let txn = begin(alloc, pages)?;
     refuse_sealed(&txn, pages)?;
     if !has_places(&txn, pages, &geography) {
-        return Err(LoadError::Full);
+        return Err(LoadFault::Full);
     }
     let number = begin_next(txn, pages)?;
     Ok(Load {

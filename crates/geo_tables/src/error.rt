@@ -3,7 +3,7 @@ use row_table::TreeError;
 
 /// Why a load goes no further.
 #[derive(Clone, Copy, Debug, Drop, PartialEq, Eq)]
-pub enum LoadError {
+pub enum LoadFault {
     /// A geography is sealed.
     AlreadySealed,
     /// The store has too few free pages or journal pages, no number is left for a load, the tree would be deeper than six
@@ -17,7 +17,7 @@ pub enum LoadError {
     Halted,
 }
 
-impl From<TreeError> for LoadError {
+impl From<TreeError> for LoadFault {
     ghost use Rattle.std.specs.Prelude.{◌≡◌};
     ghost use Rattle.geo_tables.specs.Errors.{tree_told};
 
@@ -25,11 +25,11 @@ impl From<TreeError> for LoadError {
 
     fn from(error: TreeError) -> Self {
         match error {
-            TreeError::DeviceFault => LoadError::DeviceFault,
-            TreeError::Halted => LoadError::Halted,
-            TreeError::NoPages => LoadError::Full,
-            TreeError::TooDeep => LoadError::Full,
-            TreeError::Memory => LoadError::Memory,
+            TreeError::DeviceFault => LoadFault::DeviceFault,
+            TreeError::Halted => LoadFault::Halted,
+            TreeError::NoPages => LoadFault::Full,
+            TreeError::TooDeep => LoadFault::Full,
+            TreeError::Memory => LoadFault::Memory,
         }
     }
 }

@@ -29,7 +29,7 @@ mod starts;
 
 pub use batches::load_batch;
 pub use begins::begin_load;
-pub use error::LoadError;
+pub use error::LoadFault;
 pub use load::Load;
 pub use sealed::geography;
 pub use seals::seal;

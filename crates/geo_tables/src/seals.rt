@@ -10,7 +10,7 @@ ghost use Rattle.desk_pages.specs.Desks.{InPages, OpensDesk};
 ghost use Rattle.geo_tables.specs.Loading.{HoldsLoad, ground_of, done_of};
 ghost use Rattle.geo_tables.specs.Refusals.{HasRoom, SealErr};
 
-use crate::error::LoadError;
+use crate::error::LoadFault;
 use crate::load::Load;
 use crate::load_rows::seal_rows;
 use crate::starts::{finish, start};
@@ -23,7 +23,7 @@ fn put_seal<D: SectorDevice>(
     alloc: Global,
     pages: &mut Pages<D>,
     load: &Load,
-) -> Result<(), LoadError>
+) -> Result<(), LoadFault>
     requires { done_of load.now ≡ geography_rows (ground_of load.now) }
     ensures shape { HasShape pages.old pages.new }
     ensures honest { (disk_in pages.new).is_honest → (disk_in pages.old).is_honest }
@@ -33,7 +33,7 @@ fn put_seal<D: SectorDevice>(
     ensures passed { (disk_in pages.new).is_honest → OnOk result ((disk_in pages.new).faults ≡ (disk_in pages.old).faults) }
     ensures ok { OnOk result ((has_halted pages.old ≡ false) × (has_halted pages.new ≡ false)) }
     ensures room { OnOk result (HasRoom 2 pages.old pages.new) }
-    ensures still { has_halted pages.old ≡ true → (result ≡ Err LoadError.Halted) × IsSame pages.old pages.new }
+    ensures still { has_halted pages.old ≡ true → (result ≡ Err LoadFault.Halted) × IsSame pages.old pages.new }
     ensures err { IfErr result (λ e. SealErr load.now pages.old pages.new e) }
 {
     load.is_sound();
@@ -47,7 +47,7 @@ pub fn seal<D: SectorDevice>(
     alloc: Global,
     pages: &mut Pages<D>,
     load: Load,
-) -> Result<(), (LoadError, Load)>
+) -> Result<(), (LoadFault, Load)>
     requires { done_of load ≡ geography_rows (ground_of load) }
     ensures shape { HasShape pages.old pages.new }
     ensures honest { (disk_in pages.new).is_honest → (disk_in pages.old).is_honest }
@@ -58,7 +58,7 @@ pub fn seal<D: SectorDevice>(
     ensures passed { (disk_in pages.new).is_honest → OnOk result ((disk_in pages.new).faults ≡ (disk_in pages.old).faults) }
     ensures ok { OnOk result ((has_halted pages.old ≡ false) × (has_halted pages.new ≡ false)) }
     ensures room { OnOk result (HasRoom 2 pages.old pages.new) }
-    ensures still { has_halted pages.old ≡ true → IfErr result (λ e. e.0 ≡ LoadError.Halted) × IsSame pages.old pages.new }
+    ensures still { has_halted pages.old ≡ true → IfErr result (λ e. e.0 ≡ LoadFault.Halted) × IsSame pages.old pages.new }
     ensures err { IfErr result (λ e. SealErr load pages.old pages.new e.0) }
 {
     match put_seal(alloc, pages, &load) {

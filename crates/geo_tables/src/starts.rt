@@ -6,7 +6,7 @@ ghost use Rattle.store_rows.specs.Rows.{KeyMap};
 ghost use Rattle.geo_tables.specs.Errors.{page_told};
 ghost use Rattle.geo_tables.specs.Starting.{IsStarted, StartErr, Leaves, FinishErr};
 
-use crate::error::LoadError;
+use crate::error::LoadFault;
 use desk_pages::commit_txn;
 use page_store::{PageError, Pages, Txn};
 use sector_device::SectorDevice;
@@ -34,12 +34,12 @@ pub(crate) fn has_room<D: SectorDevice>(txn: &Txn, pages: &Pages<D>, rows: u32) 
 }
 
 /// Begins a transaction, for which no room was looked for yet.
-pub(crate) fn begin<D: SectorDevice>(alloc: Global, pages: &Pages<D>) -> Result<Txn, LoadError>
+pub(crate) fn begin<D: SectorDevice>(alloc: Global, pages: &Pages<D>) -> Result<Txn, LoadFault>
     ensures begun { IfOk result (λ txn. IsStarted 0 pages.now txn) }
-    ensures err { IfErr result (λ e. (e ≡ LoadError.Halted) × (has_halted pages.now ≡ true)) }
+    ensures err { IfErr result (λ e. (e ≡ LoadFault.Halted) × (has_halted pages.now ≡ true)) }
 {
     if pages.is_halted() {
-        return Err(LoadError::Halted);
+        return Err(LoadFault::Halted);
     }
     Ok(pages.begin(alloc))
 }
@@ -49,30 +49,30 @@ pub(crate) fn start<D: SectorDevice>(
     alloc: Global,
     pages: &Pages<D>,
     rows: u32,
-) -> Result<Txn, LoadError>
+) -> Result<Txn, LoadFault>
     requires { rows ≤ 513 }
     ensures started { IfOk result (λ txn. IsStarted rows pages.now txn) }
     ensures err { IfErr result (λ e. StartErr rows pages.now e) }
 {
     let txn = begin(alloc, pages)?;
     if !has_room(&txn, pages, rows) {
-        return Err(LoadError::Full);
+        return Err(LoadFault::Full);
     }
     Ok(txn)
 }
 
 /// Why pages are not committed, as a refusal of a load.
-fn refusal_of(error: PageError) -> LoadError
+fn refusal_of(error: PageError) -> LoadFault
     ensures { result ≡ page_told error }
 {
     match error {
-        PageError::Memory => LoadError::Memory,
-        _ => LoadError::DeviceFault,
+        PageError::Memory => LoadFault::Memory,
+        _ => LoadFault::DeviceFault,
     }
 }
 
 /// Commits a transaction for whose pages the journal has room.
-pub(crate) fn finish<D: SectorDevice>(txn: Txn, pages: &mut Pages<D>) -> Result<(), LoadError>
+pub(crate) fn finish<D: SectorDevice>(txn: Txn, pages: &mut Pages<D>) -> Result<(), LoadFault>
     requires begun { txn_pages txn ≡ count_of pages.old }
     requires working { has_halted pages.old ≡ false }
     requires few { txn_writes txn + 1 ≤ journal_of pages.old }

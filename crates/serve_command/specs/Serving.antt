@@ -5,8 +5,8 @@ use Rattle.sector_device.specs.declared.SectorDevice.{Ghosts}
 use Rattle.exit_status.specs.declared.status.Status.{Status}
 use Rattle.exit_status.specs.declared.status.Status.TheVariants as status
 use Rattle.told_lines.specs.Writing.{Written, Writes, Told}
-use Rattle.desk_clerk.specs.declared.clerk.Clerk.{Clerk}
-use Rattle.desk_clerk.specs.Clerks.{is_halted, Keeps}
+use Rattle.desk_store.specs.declared.clerk.Clerk.{Clerk}
+use Rattle.desk_store.specs.Clerks.{is_halted, Keeps}
 use Rattle.store_command.specs.Filling.{IsOpened, IsUnopened}
 use Rattle.store_command.specs.Telling.{store_line, status_of as status_of_store}
 use Rattle.store_command.specs.declared.fault.StoreFault.{StoreFault}

@@ -1,13 +1,13 @@
 //! A clerk's desk, served at the seats of an office.
 ghost use Rattle.std.specs.Prelude.{◌≡◌, ◌≤◌, IfOk};
-ghost use Rattle.desk_clerk.specs.Clerks.{desk_of, Keeps};
+ghost use Rattle.desk_store.specs.Clerks.{desk_of, Keeps};
 
 use desk_catalogue::catalogue::Catalogue;
-use desk_clerk::clerk::Clerk;
 use desk_gallery::book::{Opened, Room};
 use desk_gallery::gallery::{Gallery, GalleryFault};
 use desk_gallery::office::Office;
 use desk_model::gate::NoGate;
+use desk_store::clerk::Clerk;
 use http_seats::many::{Arrivals, serve_many};
 use sector_device::SectorDevice;
 use std::alloc::{AllocError, Global};

@@ -1,6 +1,6 @@
 //! `serve`: a store is served to connections.
 ghost use Rattle.std.specs.Prelude.{◌≡◌, ◌≤◌};
-ghost use Rattle.desk_clerk.specs.Clerks.{is_halted};
+ghost use Rattle.desk_store.specs.Clerks.{is_halted};
 ghost use Rattle.told_lines.specs.Writing.{written_of};
 ghost use Rattle.serve_command.specs.Serving.{end_of, OpensStore, Announces, Serves, EndsServing};
 
@@ -8,7 +8,7 @@ use crate::fault::{ServeFault, fault_line, fault_status};
 use crate::office::serve_clerk;
 use crate::texts::listening_text;
 use byte_stream::sink::Sink;
-use desk_clerk::clerk::Clerk;
+use desk_store::clerk::Clerk;
 use desk_words::options::Serving;
 use exit_status::status::Status;
 use http_seats::listening::Listens;

@@ -1,7 +1,7 @@
 -- The commands of a talk are a run.
 use Rattle.std.proofs.Common.{◌≡◌, ℕ, ◌+◌, Bool, true, false, List, [], ◌++◌, Option, Result, Ok, Err, inl, inr, subst}
 use Rattle.sector_device.specs.declared.SectorDevice.{Ghosts}
-use Rattle.desk_clerk.specs.declared.clerk.Clerk.{Clerk}
+use Rattle.desk_store.specs.declared.clerk.Clerk.{Clerk}
 use Rattle.desk_runs.specs.Runs.{Call, Run, SurvivesEachRun}
 use Rattle.http_orders.specs.declared.order.Order.{Order}
 use Rattle.http_orders.specs.declared.order.Order.TheVariants as order

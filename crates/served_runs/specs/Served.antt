@@ -7,9 +7,9 @@ use Rattle.desk_catalogue.specs.Audits.{AskMay}
 use Rattle.desk_model.specs.declared.command.Command.{Command}
 use Rattle.desk_model.specs.declared.command.Query.{Query}
 use Rattle.desk_model.specs.declared.reply.Reply.{Reply}
-use Rattle.desk_clerk.specs.declared.clerk.Clerk.{Clerk}
-use Rattle.desk_clerk.specs.Clerks.{desk_of, disk_of, Keeps}
-use Rattle.desk_clerk.specs.Commands.{Does}
+use Rattle.desk_store.specs.declared.clerk.Clerk.{Clerk}
+use Rattle.desk_store.specs.Clerks.{desk_of, disk_of, Keeps}
+use Rattle.desk_store.specs.Commands.{Does}
 use Rattle.desk_runs.specs.Runs.{Call, Run, Survives}
 use Rattle.http_orders.specs.declared.order.Order.{Order}
 use Rattle.http_orders.specs.declared.order.Order.TheVariants as order

@@ -1,8 +1,8 @@
 //! Whatever a stream comes to, the clerk went by a run of commands.
 ghost use Rattle.served_runs.specs.Served.{SurvivesEachStream};
 
-use desk_clerk::clerk::Clerk;
 use desk_runs::law::runs_survive;
+use desk_store::clerk::Clerk;
 use sector_device::SectorDevice;
 
 /// Whatever is served at a clerk from now on, and however it ends, the acknowledged commands of it outlive each stop, as

@@ -6,8 +6,8 @@ ghost use Rattle.served_runs.specs.Served.{ServesDurably};
 
 use crate::law::streams_survive;
 use byte_stream::source::Source;
-use desk_clerk::clerk::Clerk;
 use desk_model::gate::Gate;
+use desk_store::clerk::Clerk;
 use http_answer::gather::GatherSink;
 use http_desk::serve::{ServeFault, Served, serve};
 use sector_device::SectorDevice;

@@ -2,12 +2,12 @@
 use Rattle.std.specs.Prelude.{◌≡◌, ◌⊎◌, ℕ, false, Some, None}
 use Rattle.sector_device.specs.declared.SectorDevice.{Ghosts}
 use Rattle.desk_model.specs.Geography.{Ground}
-use Rattle.desk_clerk.specs.declared.clerk.Clerk.{Clerk}
-use Rattle.desk_clerk.specs.declared.opening.OpenError.{OpenError}
-use Rattle.desk_clerk.specs.declared.loads.LoadError.{LoadError}
-use Rattle.desk_clerk.specs.Clerks.{desk_of, disk_of, is_halted, sectors_of, Keeps}
-use Rattle.desk_clerk.specs.Keeping.{sealed_desk}
-use Rattle.desk_clerk.specs.Openings.{AllDesks, IsOneOf, OpenRefused}
+use Rattle.desk_store.specs.declared.clerk.Clerk.{Clerk}
+use Rattle.desk_store.specs.declared.opening.OpenError.{OpenError}
+use Rattle.desk_store.specs.declared.loads.LoadError.{LoadError}
+use Rattle.desk_store.specs.Clerks.{desk_of, disk_of, is_halted, sectors_of, Keeps}
+use Rattle.desk_store.specs.Keeping.{sealed_desk}
+use Rattle.desk_store.specs.Openings.{AllDesks, IsOneOf, OpenRefused}
 use Rattle.desk_loading.specs.Loads.{LoadRefused}
 use Rattle.store_command.specs.Faults.{fault_of_open, fault_of_load}
 use Rattle.store_command.specs.declared.fault.StoreFault.{StoreFault}

@@ -10,7 +10,7 @@ use Rattle.state_files.specs.Grounds.{ReadsGround}
 use Rattle.state_files.specs.declared.fault.FileFault.{FileFault}
 use Rattle.told_lines.specs.Telling.{Tells}
 use Rattle.told_lines.specs.Writing.{Written, write_fault_line}
-use Rattle.desk_clerk.specs.declared.clerk.Clerk.{Clerk}
+use Rattle.desk_store.specs.declared.clerk.Clerk.{Clerk}
 use Rattle.store_command.specs.Filling.{HasLoaded, FillRefused}
 use Rattle.store_command.specs.Telling.{EndsStore}
 use Rattle.store_command.specs.Texts.{loaded_text}

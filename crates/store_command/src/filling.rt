@@ -3,9 +3,9 @@ ghost use Rattle.std.specs.Prelude.{IfOk, IfErr};
 ghost use Rattle.store_command.specs.Filling.{IsOpened, HasLoaded, IsUnopened, FillRefused};
 
 use crate::fault::{StoreFault, load_fault, open_fault};
-use desk_clerk::clerk::Clerk;
 use desk_loading::load_geography;
 use desk_model::geography::Geography;
+use desk_store::clerk::Clerk;
 use sector_device::SectorDevice;
 use std::alloc::Global;
 use std::sync::Arc;

@@ -6,9 +6,9 @@ use Rattle.sector_device.specs.declared.SectorDevice.{Ghosts}
 use Rattle.store_rows.specs.Rows.{KeyMap}
 use Rattle.store_sweep.specs.Leftovers.{IsSweptBy, IsSweptClean}
 use Rattle.store_sweep.proofs.Taken.{then_by}
-use Rattle.desk_clerk.specs.declared.clerk.Clerk.{Clerk}
-use Rattle.desk_clerk.specs.Clerks.{desk_of, disk_of, Moves}
-use Rattle.desk_clerk.specs.Sweeps.{HasRows, HasSwept, IsClean, SweepRefused}
+use Rattle.desk_store.specs.declared.clerk.Clerk.{Clerk}
+use Rattle.desk_store.specs.Clerks.{desk_of, disk_of, Moves}
+use Rattle.desk_store.specs.Sweeps.{HasRows, HasSwept, IsClean, SweepRefused}
 use Rattle.store_sweep.specs.declared.error.SweepError.{SweepError}
 use Rattle.store_sweep.specs.declared.error.SweepError.TheVariants as sweep
 use Rattle.store_command.specs.declared.fault.StoreFault.{StoreFault}

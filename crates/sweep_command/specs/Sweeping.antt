@@ -7,9 +7,9 @@ use Rattle.store_rows.specs.Rows.{KeyMap}
 use Rattle.store_sweep.specs.Leftovers.{IsSweptBy}
 use Rattle.store_sweep.specs.declared.error.SweepError.{SweepError}
 use Rattle.store_sweep.specs.declared.error.SweepError.TheVariants as sweep
-use Rattle.desk_clerk.specs.declared.clerk.Clerk.{Clerk}
-use Rattle.desk_clerk.specs.Clerks.{desk_of, disk_of, is_halted, Keeps}
-use Rattle.desk_clerk.specs.Sweeps.{HasRows, IsClean}
+use Rattle.desk_store.specs.declared.clerk.Clerk.{Clerk}
+use Rattle.desk_store.specs.Clerks.{desk_of, disk_of, is_halted, Keeps}
+use Rattle.desk_store.specs.Sweeps.{HasRows, IsClean}
 use Rattle.told_lines.specs.Writing.{Written, write_fault_line}
 use Rattle.store_command.specs.Filling.{IsOpened, IsUnopened}
 use Rattle.store_command.specs.Telling.{EndsStore}

@@ -1,12 +1,12 @@
 //! Sweeps a store by as many steps as it takes.
 ghost use Rattle.std.specs.Prelude.{◌≡◌, false, IfOk, IfErr};
 ghost use Rattle.store_rows.specs.Rows.{KeyMap};
-ghost use Rattle.desk_clerk.specs.Clerks.{disk_of, is_halted};
-ghost use Rattle.desk_clerk.specs.Sweeps.{HasRows};
+ghost use Rattle.desk_store.specs.Clerks.{disk_of, is_halted};
+ghost use Rattle.desk_store.specs.Sweeps.{HasRows};
 ghost use Rattle.sweep_command.specs.Sweeping.{fault_of_sweep, KeepsDesk, HasSweptAll, IsStopped};
 
-use desk_clerk::clerk::Clerk;
-use desk_clerk::sweeps::SweepError;
+use desk_store::clerk::Clerk;
+use desk_store::sweeps::SweepError;
 use sector_device::SectorDevice;
 use std::alloc::Global;
 use store_command::fault::StoreFault;

@@ -13,9 +13,9 @@ use Rattle.desk_model.specs.Desk.{Desk}
 use Rattle.desk_model.specs.Outcome.{CommandMay, RefusalMay, IsStep}
 use Rattle.desk_model.specs.Sample.{sample_desk}
 use Rattle.desk_catalogue.specs.Audits.{AskMay}
-use Rattle.desk_clerk.specs.declared.clerk.Clerk.{Clerk}
-use Rattle.desk_clerk.specs.Clerks.{desk_of}
-use Rattle.desk_clerk.specs.Commands.{Does}
+use Rattle.desk_store.specs.declared.clerk.Clerk.{Clerk}
+use Rattle.desk_store.specs.Clerks.{desk_of}
+use Rattle.desk_store.specs.Commands.{Does}
 use Rattle.http_desk.specs.Talk.{Talk}
 use Rattle.http_desk.specs.Serving.{ServesTo, IsCutTalk, IsFrontTalk, IsCutInHead, IsShortTalk}
 use Rattle.http_desk.specs.declared.serve.Served.{Served}

@@ -7,9 +7,9 @@ use Rattle.desk_model.specs.declared.command.Query.{Query}
 use Rattle.desk_model.specs.declared.reply.Reply.{Reply}
 use Rattle.desk_model.specs.Sample.{sample_desk}
 use Rattle.desk_catalogue.specs.Audits.{AskMay}
-use Rattle.desk_clerk.specs.declared.clerk.Clerk.{Clerk}
-use Rattle.desk_clerk.specs.Clerks.{desk_of, disk_of, is_halted, Keeps}
-use Rattle.desk_clerk.specs.Commands.{Does}
+use Rattle.desk_store.specs.declared.clerk.Clerk.{Clerk}
+use Rattle.desk_store.specs.Clerks.{desk_of, disk_of, is_halted, Keeps}
+use Rattle.desk_store.specs.Commands.{Does}
 use Rattle.byte_stream.specs.Counts.{counted}
 use Rattle.http_desk.specs.Serving.{read_failures, write_failures}
 use Rattle.http_desk.specs.declared.serve.Served.{Served}

@@ -3,14 +3,14 @@ ghost use Rattle.std.specs.Prelude.{◌≡◌, ◌+◌, ◌≤◌, false, Err, I
 ghost use Rattle.byte_stream.specs.Counts.{counted};
 ghost use Rattle.http_desk.specs.Serving.{read_failures, write_failures};
 ghost use Rattle.desk_model.specs.Sample.{sample_desk};
-ghost use Rattle.desk_clerk.specs.Clerks.{desk_of, is_halted, Keeps};
+ghost use Rattle.desk_store.specs.Clerks.{desk_of, is_halted, Keeps};
 ghost use Rattle.talk_command.specs.Talking.{Talks, ServesSample, status_of as status_of_served};
 
 use byte_stream::source::Source;
-use desk_clerk::clerk::Clerk;
 use desk_loading::start;
 use desk_model::gate::NoGate;
 use desk_model::geography::sample;
+use desk_store::clerk::Clerk;
 use exit_status::status::Status;
 use http_answer::gather::GatherSink;
 use http_desk::serve::{ServeFault, Served};

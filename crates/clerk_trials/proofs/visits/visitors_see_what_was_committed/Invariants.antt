@@ -1,4 +1,4 @@
-use Rattle.desk_clerk.specs.Clerks.{Keeps}
+use Rattle.desk_store.specs.Clerks.{Keeps}
 use Rattle.clerk_trials.proofs.visits.visitors_see_what_was_committed.Given as goal
 
 -- the gallery that is opened

@@ -1,5 +1,5 @@
 use Rattle.std.proofs.Common.{rules, ◌≡◌, false, true, [], ◌∷◌, ◌++◌, is_err, refl, ap, ◌∙◌}
-use Rattle.desk_clerk.specs.Changes.{Made}
+use Rattle.desk_store.specs.Changes.{Made}
 use Rattle.desk_gallery.proofs.Showing.{from_good, from_err}
 use Rattle.desk_gallery.proofs.Working.{refused_work, unready_work, settled_work}
 use Rattle.desk_gallery.proofs.front.work.Goals as goal

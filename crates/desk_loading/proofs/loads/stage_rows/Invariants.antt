@@ -1,8 +1,8 @@
 use Rattle.std.proofs.Common.{◌≡◌, ◌+◌, None}
 use Rattle.store_rows.specs.GeographyRows.{geography_rows}
 use Rattle.geo_tables.specs.Loading.{ground_of, done_of}
-use Rattle.desk_clerk.specs.Clerks.{desk_of, Keeps}
-use Rattle.desk_clerk.specs.Loads.{Stages}
+use Rattle.desk_store.specs.Clerks.{desk_of, Keeps}
+use Rattle.desk_store.specs.Loads.{Stages}
 use Rattle.desk_loading.specs.Loads.{GoesOn}
 use Rattle.desk_loading.proofs.loads.stage_rows.Given as goal
 

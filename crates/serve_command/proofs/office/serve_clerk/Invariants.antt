@@ -1,4 +1,4 @@
-use Rattle.desk_clerk.specs.Clerks.{Keeps}
+use Rattle.desk_store.specs.Clerks.{Keeps}
 use Rattle.serve_command.proofs.office.serve_clerk.Given as goal
 
 -- the gallery that is opened

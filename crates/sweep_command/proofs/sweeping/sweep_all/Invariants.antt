@@ -1,7 +1,7 @@
 use Rattle.std.proofs.Common.{◌≡◌, ◌≤◌, ◌*◌, false}
 use Rattle.store_rows.specs.Rows.{KeyMap}
-use Rattle.desk_clerk.specs.Clerks.{disk_of, is_halted}
-use Rattle.desk_clerk.specs.Sweeps.{HasRows}
+use Rattle.desk_store.specs.Clerks.{disk_of, is_halted}
+use Rattle.desk_store.specs.Sweeps.{HasRows}
 use Rattle.sweep_command.specs.Sweeping.{KeepsDesk, HasTaken}
 use Rattle.sweep_command.proofs.sweeping.sweep_all.Given as goal
 

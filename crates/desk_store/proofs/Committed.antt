@@ -1,0 +1,111 @@
+-- A change that is committed.
+use Rattle.std.proofs.Common.{◌≡◌, ◌⊎◌, ◌≤◌, ◌<◌, ◌+◌, ℕ, Bool, true, false, List, length, inl, inr, refl, sym, ap, subst, ◌∙◌, arith}
+use Rattle.sector_device.specs.Disk.{Disk, Image}
+use Rattle.sector_device.specs.Moments.{LeavesOnly}
+use Rattle.sector_device.specs.declared.SectorDevice.{Ghosts}
+use Rattle.gate_journal.specs.Store.{home}
+use Rattle.page_store.specs.Chain.{free_in}
+use Rattle.page_store.specs.Transactions.{stored, disk_in, count_of, journal_of, has_halted, prepared_writes, after, HasShape, IsKept, CommitErr}
+use Rattle.page_store.specs.declared.error.PageError.{PageError}
+use Rattle.page_store.specs.declared.error.PageError.TheVariants.{NotAStore, DeviceFault, Halted, TooManyPages, TooSmall, NoPages, Memory}
+use Rattle.page_store.specs.declared.pages.Pages.{Pages}
+use Rattle.page_btree.specs.Map.{InPages as HoldsRows}
+use Rattle.store_rows.specs.Rows.{KeyMap}
+use Rattle.desk_model.specs.declared.reply.Reply.{Reply}
+use Rattle.desk_model.specs.declared.reply.Reply.TheVariants.{Refused}
+use Rattle.desk_model.specs.declared.reply.Refusal.TheVariants as refusal
+use Rattle.desk_model.specs.Desk.{Desk}
+use Rattle.desk_model.specs.Room.{need}
+use Rattle.desk_catalogue.specs.Accepting.{acceptance}
+use Rattle.desk_pages.specs.Commits.{HoldsAfter, OpensRows, leaves_desk}
+use Rattle.desk_pages.specs.Desks.{InPages, OpensDesk}
+use Rattle.desk_store.specs.Keeping.{IsLeft}
+use Rattle.desk_store.specs.Clerks.{desk_of, disk_of, sectors_of, free_of, Keeps, Moves}
+use Rattle.desk_store.specs.Commands.{command_of, after_of, written_of, IsReady, IsMade, IsNotMade, Commits}
+use Rattle.desk_store.specs.declared.clerk.Clerk.{Clerk}
+use Rattle.desk_store.specs.declared.ready.Ready.{Ready}
+use Rattle.desk_store.proofs.Kept.{accepted_is, kept_opens, left_halted}
+
+module _ {D : Type 0} {g : Ghosts D} where
+  -- a refused commit was a fault
+  fault_rose : (n : ℕ) (a b : Pages D g) (e : PageError) → CommitErr n a b e → has_halted a ≡ false → n ≤ journal_of a → (disk_in b).is_honest → (disk_in a).faults < (disk_in b).faults
+  fault_rose n a b DeviceFault why working few honest = why.0.rose honest
+  fault_rose n a b Halted why working few honest = absurd (let clash : true ≡ false = sym why.0 ∙ working in cc)
+  fault_rose n a b TooManyPages why working few honest = absurd (let more = why.1 in omega arith)
+  fault_rose n a b NotAStore why working few honest = absurd why
+  fault_rose n a b TooSmall why working few honest = absurd why
+  fault_rose n a b NoPages why working few honest = absurd why
+  fault_rose n a b Memory why working few honest = absurd why
+
+  -- the stop clause of a commit, over maps
+  abbrev MapsLeft : Clerk D g → Ready → Pages D g → Type 0
+  MapsLeft x r b = (disk_in b).is_honest → has_halted x.pages ≡ false → (sectors : ℕ) (m next : KeyMap) → home (journal_of x.pages) + count_of x.pages ≡ sectors → HoldsRows x.pages m → HoldsAfter (written_of r) (stored x.pages) next
+      → LeavesOnly (λ c. OpensRows sectors m c ⊎ OpensRows sectors next c) (disk_in x.pages) (disk_in b)
+
+  -- over desks
+  desks_left : (x : Clerk D g) (r : Ready) (b : Pages D g) → IsReady x r → ((disk_in b).is_honest → (disk_in x.pages).is_honest) → MapsLeft x r b → Keeps x → x.halted ≡ false → (disk_in b).is_honest
+      → LeavesOnly (λ c. OpensDesk (sectors_of x) (desk_of x) c ⊎ OpensDesk (sectors_of x) (after_of r) c) (disk_of x) (disk_in b)
+  desks_left x r b ready was_honest left keeps working honest =
+      let was = keeps.holds working (was_honest honest) in
+      let then = ready.rows keeps working (was_honest honest) in
+      leaves_desk (sectors_of x) was.m then.m (desk_of x) (after_of r) (disk_of x) (disk_in b) was.is then.is (left honest (x.working working) (sectors_of x) was.m then.m refl was.holds then.holds)
+
+  sectors_same : (x y : Clerk D g) → HasShape x.pages y.pages → sectors_of y ≡ sectors_of x
+  sectors_same x y shape = λ i. home (shape.journal_pages i) + shape.pages i
+
+  pub change_made : (x y : Clerk D g) (r : Ready) (reply : Reply) → IsReady x r → x.halted ≡ false → reply ≡ acceptance (command_of r) → desk_of y ≡ after_of r → y.halted ≡ false → HasShape x.pages y.pages
+      → ((disk_of y).is_honest → (disk_of x).is_honest) → MapsLeft x r y.pages → ((disk_of y).is_honest → (next : KeyMap) → HoldsAfter (written_of r) (stored x.pages) next → HoldsRows y.pages next)
+      → ((disk_of y).is_honest → stored y.pages ≡ after (written_of r) (stored x.pages)) → ((disk_of y).is_honest → IsKept y.pages) → ((disk_of y).is_honest → (disk_of y).faults ≡ (disk_of x).faults) → y.loading ≡ x.loading → Commits x r reply y
+  change_made x y r reply ready working told desk works shape honest left held stored_is kept passed loading =
+      let holds = λ (keeps : Keeps x) (is_honest : (disk_of y).is_honest).
+      let then = ready.rows keeps working (honest is_honest) in
+      let there : InPages y.pages (after_of r) = record { m = then.m; holds = held is_honest then.m then.holds; is = then.is } in
+      subst (λ (d : Desk). InPages y.pages d) (sym desk) there in
+      record {
+        moves = record {
+          sectors = sectors_same x y shape;
+          room = shape.journal_pages;
+          honest = honest;
+          any_moment = desks_left x r y.pages ready honest left;
+          keeps = λ keeps. record {
+            holds = λ off is_honest. holds keeps is_honest;
+            left = λ is_honest c leaves. inl (kept_opens y.pages (desk_of y) (y.working works) is_honest (kept is_honest) (holds keeps is_honest) c leaves);
+          };
+          still = λ on. absurd (let clash : true ≡ false = sym on ∙ working in cc);
+          rose = λ keeps off on is_honest. absurd (let clash : true ≡ false = sym on ∙ works in cc);
+          calm = λ off is_honest. passed is_honest;
+        };
+        loading = loading;
+        outcome = inl (record {
+          reply_is = told;
+          desk = desk;
+          working = working;
+          works = works;
+          free = λ keeps is_honest. subst (λ (P : Image). free_of x ≤ length (free_in P) + need (desk_of x) (command_of r)) (sym (stored_is is_honest)) (ready.free keeps working (honest is_honest));
+        });
+      }
+
+  pub change_not_made : (x y : Clerk D g) (r : Ready) (e : PageError) → IsReady x r → x.halted ≡ false → desk_of y ≡ desk_of x → y.halted ≡ true → HasShape x.pages y.pages → ((disk_of y).is_honest → (disk_of x).is_honest) → MapsLeft x r y.pages
+      → CommitErr (length (prepared_writes (written_of r))) x.pages y.pages e → y.loading ≡ x.loading → Commits x r (Refused refusal.Halted) y
+  change_not_made x y r e ready working desk halts shape honest left why loading =
+      let sectors = sectors_same x y shape in
+      let images = λ (keeps : Keeps x) (is_honest : (disk_of y).is_honest) (c : Image) (leaves : (disk_of y).leaves c).
+      left_halted (sectors_of x) (desk_of x) (after_of r) (disk_of x) (disk_of y) (inl (record { command = command_of r; accepted = accepted_is (desk_of x) (command_of r) (after_of r) ready.accepted; desk = ready.accepted.desk }))
+      (desks_left x r y.pages ready honest left keeps working is_honest) c leaves in
+      record {
+        moves = record {
+          sectors = sectors;
+          room = shape.journal_pages;
+          honest = honest;
+          any_moment = desks_left x r y.pages ready honest left;
+          keeps = λ keeps. record {
+            holds = λ off is_honest. absurd (let clash : true ≡ false = sym halts ∙ off in cc);
+            left = λ is_honest c leaves. subst (λ (h : Bool). IsLeft h (sectors_of y) (desk_of y) c) (sym halts) (subst (λ (s : ℕ). IsLeft true s (desk_of y) c) (sym sectors) (subst (λ (d : Desk). IsLeft true (sectors_of x) d c) (sym desk) (images keeps is_honest c leaves)));
+          };
+          still = λ on. absurd (let clash : true ≡ false = sym on ∙ working in cc);
+          rose = λ keeps off on is_honest. fault_rose (length (prepared_writes (written_of r))) x.pages y.pages e why (x.working off) ready.writes is_honest;
+          calm = λ off is_honest. absurd (let clash : true ≡ false = sym halts ∙ off in cc);
+        };
+        loading = loading;
+        outcome = inr (record { reply_is = refl; desk = desk; halted = halts });
+      }

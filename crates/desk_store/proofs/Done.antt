@@ -1,0 +1,178 @@
+-- What became of a command.
+use Rattle.std.proofs.Common.{◌≡◌, ◌⊎◌, ◌≤◌, ◌<◌, ◌+◌, ℕ, Bool, true, false, length, List, inl, inr, ⊎_elim, refl, sym, ap, subst, ◌∙◌, arith}
+use Rattle.sector_device.specs.Disk.{Disk, Image}
+use Rattle.sector_device.specs.Moments.{LeavesOnly, leaves_more, leaves_now}
+use Rattle.sector_device.specs.declared.SectorDevice.{Ghosts}
+use Rattle.gate_journal.specs.Store.{home}
+use Rattle.page_store.specs.Chain.{root_in, free_in}
+use Rattle.page_store.specs.Stops.{leaves_here, leaves_quiet}
+use Rattle.page_store.specs.Transactions.{stored, disk_in, count_of, journal_of}
+use Rattle.page_btree.specs.Map.{Holds}
+use Rattle.desk_model.specs.declared.command.Command.{Command}
+use Rattle.desk_model.specs.declared.command.Command.TheVariants.{Create, Whole, Counties, Retire}
+use Rattle.desk_model.specs.declared.reply.Reply.{Reply}
+use Rattle.desk_model.specs.declared.reply.Reply.TheVariants.{Refused}
+use Rattle.desk_model.specs.declared.reply.Refusal.{Refusal}
+use Rattle.desk_model.specs.declared.reply.Refusal.TheVariants as refusal
+use Rattle.desk_model.specs.Desk.{Desk}
+use Rattle.desk_model.specs.Outcome.{IsAcceptance, CommandMay, RefusalMay, IsStep}
+use Rattle.desk_model.specs.Room.{need}
+use Rattle.desk_model.specs.Step.{step}
+use Rattle.desk_catalogue.specs.Accepting.{IsAfter, acceptance}
+use Rattle.desk_pages.specs.Desks.{HoldsDesk, InPages, OpensDesk}
+use Rattle.command_rows.specs.Rows.{HasNumbers}
+use Rattle.desk_store.specs.Keeping.{IsLeft, OpensOneMore}
+use Rattle.desk_store.specs.Clerks.{desk_of, disk_of, sectors_of, free_of, room_of, Keeps, Reads, Moves}
+use Rattle.desk_store.specs.Commands.{command_of, after_of, IsSpent, MustBeFull, MayBeFull, PrepareErr, IsReady, IsMade, IsNotMade, Commits, Does}
+use Rattle.desk_store.specs.declared.clerk.Clerk.{Clerk}
+use Rattle.desk_store.specs.declared.ready.Ready.{Ready}
+use Rattle.desk_store.proofs.Kept.{acceptance_is}
+
+either : (b : Bool) → (b ≡ true) ⊎ (b ≡ false)
+either true = inl refl
+either false = inr refl
+
+-- an accepted command has the step's outcome
+made_may : (must may failed : Type 0) (d : Desk) (c : Command) (e : Desk) → ¬ failed → IsAfter d c e → ¬ must → CommandMay must may failed d c (acceptance c) e
+made_may must may failed d (Create name size) e works is room = (works, record { reply = sym is.reply; desk = is.desk; room = λ accepted. room })
+made_may must may failed d (Whole name after body) e works is room = (works, record { reply = sym is.reply; desk = is.desk; room = λ accepted. room })
+made_may must may failed d (Counties name after body) e works is room = (works, record { reply = sym is.reply; desk = is.desk; room = λ accepted. room })
+made_may must may failed d (Retire name) e works is room = (works, record { reply = sym is.reply; desk = is.desk; room = λ accepted. room })
+
+-- what is left of a clerk that has not halted
+left_working : (halted : Bool) (sectors : ℕ) (d : Desk) (c : Image) → halted ≡ false → IsLeft halted sectors d c → OpensDesk sectors d c
+left_working halted sectors d c working left = ⊎_elim (λ opens. opens) (λ (more : OpensOneMore halted sectors d c). absurd (let clash : true ≡ false = sym more.halt ∙ working in cc)) left
+
+-- a clerk that halts later leaves no less
+left_later : (before after : Bool) (sectors : ℕ) (d : Desk) (c : Image) → (before ≡ true → after ≡ true) → IsLeft before sectors d c → IsLeft after sectors d c
+left_later before after sectors d c halts left = ⊎_elim (λ opens. inl opens) (λ (more : OpensOneMore before sectors d c). inr (record { halt = halts more.halt; next = more.next; is = more.is; opens = more.opens })) left
+
+module _ {D : Type 0} {g : Ghosts D} where
+  abbrev Either : Clerk D g → Desk → Image → Type 0
+  Either x next c = OpensDesk (sectors_of x) (desk_of x) c ⊎ OpensDesk (sectors_of x) next c
+
+  sectors_same : (x y : Clerk D g) → Reads x y → sectors_of y ≡ sectors_of x
+  sectors_same x y reads = λ i. home (reads.quiet.journal i) + reads.quiet.count i
+
+  free_same : (x y : Clerk D g) → Reads x y → (disk_of y).is_honest → free_of y ≡ free_of x
+  free_same x y reads honest = ap (λ (P : Image). length (free_in P)) (reads.quiet.same honest)
+
+  reads_left : (next : Desk) (x y : Clerk D g) → Reads x y → Keeps x → x.halted ≡ false → (disk_of y).is_honest → LeavesOnly (Either x next) (disk_of x) (disk_of y)
+  reads_left next x y reads keeps working honest =
+      leaves_quiet x.pages y.pages reads.quiet honest (Either x next) (disk_of x)
+      (leaves_here (Either x next) (disk_of x) (λ c leaves. inl (left_working x.halted (sectors_of x) (desk_of x) c working (keeps.left (reads.quiet.honest honest) c leaves))))
+
+  was_working : (x y : Clerk D g) → Reads x y → y.halted ≡ false → x.halted ≡ false
+  was_working x y reads works = elim (either x.halted) [
+    | inl on ↦ absurd (let clash : true ≡ false = sym (reads.halts on) ∙ works in cc)
+    | inr off ↦ off
+  ]
+
+  still_holds : (x y : Clerk D g) → Reads x y → (disk_of y).is_honest → InPages x.pages (desk_of x) → InPages y.pages (desk_of y)
+  still_holds x y reads honest holds =
+      subst (λ (d : Desk). InPages y.pages d) (sym reads.desk)
+      (subst (λ (P : Image). HoldsDesk (count_of y.pages) P (root_in P) (free_in P) (desk_of x)) (sym (reads.quiet.same honest))
+      (subst (λ (n : ℕ). HoldsDesk n (stored x.pages) (root_in (stored x.pages)) (free_in (stored x.pages)) (desk_of x)) (sym reads.quiet.count) holds))
+
+  -- the numbers of its rows are what they were
+  still_spent : (x y : Clerk D g) (c q : Command) → Reads x y → q ≡ c → (disk_of y).is_honest → IsSpent x c → IsSpent y q
+  still_spent x y c q reads is honest spent = record {
+    m = spent.m;
+    holds = subst (λ (P : Image). Holds (count_of y.pages) P (root_in P) (free_in P) spent.m) (sym (reads.quiet.same honest))
+        (subst (λ (n : ℕ). Holds n (stored x.pages) (root_in (stored x.pages)) (free_in (stored x.pages)) spent.m) (sym reads.quiet.count) spent.holds);
+    next = spent.next;
+    fit = spent.fit;
+    is_next = spent.is_next;
+    none = λ enough. spent.none (subst (λ (p : Command). HasNumbers (desk_of x) p spent.next) is (subst (λ (d : Desk). HasNumbers d q spent.next) reads.desk enough));
+  }
+
+  still_keeps : (x y : Clerk D g) → Reads x y → Keeps x → Keeps y
+  still_keeps x y reads keeps = record {
+    holds = λ works honest. still_holds x y reads honest (keeps.holds (was_working x y reads works) (reads.quiet.honest honest));
+    left = λ honest c leaves.
+        let was : IsLeft x.halted (sectors_of x) (desk_of x) c = leaves_now (IsLeft x.halted (sectors_of x) (desk_of x)) (disk_of x) (disk_of y)
+        (leaves_quiet x.pages y.pages reads.quiet honest (IsLeft x.halted (sectors_of x) (desk_of x)) (disk_of x) (leaves_here (IsLeft x.halted (sectors_of x) (desk_of x)) (disk_of x) (keeps.left (reads.quiet.honest honest)))) c leaves in
+        subst (λ (d : Desk). IsLeft y.halted (sectors_of y) d c) (sym reads.desk) (subst (λ (s : ℕ). IsLeft y.halted s (desk_of x) c) (sym (sectors_same x y reads)) (left_later x.halted y.halted (sectors_of x) (desk_of x) c reads.halts was));
+  }
+
+  pub reads_move : (next : Desk) (x y : Clerk D g) → Reads x y → Moves next x y
+  reads_move next x y reads = record {
+    sectors = sectors_same x y reads;
+    room = reads.quiet.journal;
+    honest = reads.quiet.honest;
+    any_moment = reads_left next x y reads;
+    keeps = still_keeps x y reads;
+    still = λ on. (reads.still on, reads.desk, reads.halts on);
+    rose = reads.rose;
+    calm = λ works honest. reads.quiet.calm (y.working works) honest;
+  }
+
+  pub moves_more : (next : Desk) (x y z : Clerk D g) → Reads x y → y.halted ≡ false → Moves next y z → Moves next x z
+  moves_more next x y z reads works moves =
+      let sectors = sectors_same x y reads in
+      record {
+        sectors = moves.sectors ∙ sectors;
+        room = moves.room ∙ reads.quiet.journal;
+        honest = λ honest. reads.quiet.honest (moves.honest honest);
+        any_moment = λ keeps working honest.
+            let then : LeavesOnly (Either x next) (disk_of y) (disk_of z) = subst (λ (s : ℕ). LeavesOnly (λ c. OpensDesk s (desk_of x) c ⊎ OpensDesk s next c) (disk_of y) (disk_of z)) sectors
+            (subst (λ (d : Desk). LeavesOnly (λ c. OpensDesk (sectors_of y) d c ⊎ OpensDesk (sectors_of y) next c) (disk_of y) (disk_of z)) reads.desk (moves.any_moment (still_keeps x y reads keeps) works honest)) in
+            leaves_more (Either x next) (disk_of x) (disk_of y) (disk_of z) (reads_left next x y reads keeps working (moves.honest honest)) then;
+        keeps = λ keeps. moves.keeps (still_keeps x y reads keeps);
+        still = λ on. absurd (let clash : true ≡ false = sym (reads.halts on) ∙ works in cc);
+        rose = λ keeps working on honest.
+            let rises = moves.rose (still_keeps x y reads keeps) works on honest in
+            let same = reads.quiet.calm (y.working works) (moves.honest honest) in
+            omega (arith, rises, same);
+        calm = λ off honest. moves.calm off honest ∙ reads.quiet.calm (y.working works) (moves.honest honest);
+      }
+
+  -- a command that was refused before its commit
+  pub refused_does : (x y : Clerk D g) (c : Command) (r : Refusal) → Reads x y → y.loading ≡ x.loading → PrepareErr x c r y → Does x c (Refused r) y
+  refused_does x y c r reads loading why = record {
+    loading = loading;
+    moves = reads_move (step (desk_of x) c).1 x y reads;
+    outcome = why;
+    free = λ keeps honest accepted. absurd accepted;
+    numbers = λ honest accepted. absurd accepted;
+    spared = λ honest works other. free_same x y reads honest;
+    shown = λ other. reads.desk;
+    quiet = λ works other. reads.quiet;
+  }
+
+  -- one that was made ready, and then committed or not
+  pub committed_does : (x y z : Clerk D g) (c : Command) (r : Ready) (reply : Reply) → Reads x y → y.loading ≡ x.loading → IsReady y r → command_of r ≡ c → (MustBeFull x c → ⊥) → y.halted ≡ false → Commits y r reply z → Does x c reply z
+  committed_does x y z c r reply reads loading ready is room works commits =
+      let after : IsAfter (desk_of x) c (after_of r) = subst (λ (q : Command). IsAfter (desk_of x) q (after_of r)) is (subst (λ (d : Desk). IsAfter d (command_of r) (after_of r)) reads.desk ready.accepted) in
+      record {
+        loading = commits.loading ∙ loading;
+        moves = subst (λ (e : Desk). Moves e x z) after.desk (moves_more (after_of r) x y z reads works commits.moves);
+        outcome = elim commits.outcome [
+          | inl made ↦ subst (λ (a : Reply). CommandMay (MustBeFull x c) (MayBeFull x z.pages c) (z.halted ≡ true) (desk_of x) c a (desk_of z)) (ap (λ (q : Command). acceptance q) (sym is) ∙ sym made.reply_is)
+              (subst (λ (e : Desk). CommandMay (MustBeFull x c) (MayBeFull x z.pages c) (z.halted ≡ true) (desk_of x) c (acceptance c) e) (sym made.desk)
+              (made_may (MustBeFull x c) (MayBeFull x z.pages c) (z.halted ≡ true) (desk_of x) c (after_of r) (λ on. let clash : true ≡ false = sym on ∙ made.works in cc) after room))
+          | inr fault ↦ subst (λ (a : Reply). CommandMay (MustBeFull x c) (MayBeFull x z.pages c) (z.halted ≡ true) (desk_of x) c a (desk_of z)) (sym fault.reply_is) (fault.halted, fault.desk ∙ reads.desk)
+        ];
+        free = λ keeps honest accepted. elim commits.outcome [
+          | inl made ↦ (
+              let few = made.free (still_keeps x y reads keeps) honest in
+              let same = free_same x y reads (commits.moves.honest honest) in
+              let needs : need (desk_of y) (command_of r) ≡ need (desk_of x) c = (λ i. need (reads.desk i) (is i)) in
+              omega (arith, few, same, needs)
+              )
+          | inr fault ↦ absurd (subst IsAcceptance fault.reply_is accepted)
+        ];
+        numbers = λ honest accepted spent. ready.numbers (commits.moves.honest honest) (still_spent x y c (command_of r) reads is (commits.moves.honest honest) spent);
+        spared = λ honest off other. elim commits.outcome [
+          | inl made ↦ absurd (other (subst IsAcceptance (sym made.reply_is) (acceptance_is (command_of r))))
+          | inr fault ↦ absurd (let clash : true ≡ false = sym fault.halted ∙ off in cc)
+        ];
+        shown = λ other. elim commits.outcome [
+          | inl made ↦ absurd (other (subst IsAcceptance (sym made.reply_is) (acceptance_is (command_of r))))
+          | inr fault ↦ fault.desk ∙ reads.desk
+        ];
+        quiet = λ off other. elim commits.outcome [
+          | inl made ↦ absurd (other (subst IsAcceptance (sym made.reply_is) (acceptance_is (command_of r))))
+          | inr fault ↦ absurd (let clash : true ≡ false = sym fault.halted ∙ off in cc)
+        ];
+      }

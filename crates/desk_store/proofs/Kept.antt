@@ -1,0 +1,45 @@
+-- What a clerk's store keeps.
+use Rattle.std.proofs.Common.{◌≡◌, ◌⊎◌, ◌≤◌, ◌<◌, ◌+◌, ℕ, Bool, true, false, inl, inr, ⊎_elim, refl, sym, ap, subst, ◌∙◌, arith}
+use Rattle.sector_device.specs.Disk.{Disk, Image}
+use Rattle.sector_device.specs.Moments.{LeavesOnly, leaves_now}
+use Rattle.sector_device.specs.declared.SectorDevice.{Ghosts}
+use Rattle.gate_journal.specs.Store.{home}
+use Rattle.page_store.specs.Transactions.{stored, disk_in, count_of, journal_of, has_halted, IsKept}
+use Rattle.page_store.specs.declared.pages.Pages.{Pages}
+use Rattle.desk_model.specs.declared.command.Command.{Command}
+use Rattle.desk_model.specs.declared.command.Command.TheVariants.{Create, Whole, Counties, Retire}
+use Rattle.desk_model.specs.Desk.{Desk}
+use Rattle.desk_model.specs.Outcome.{IsAcceptance}
+use Rattle.desk_model.specs.Step.{step}
+use Rattle.desk_catalogue.specs.Accepting.{IsAfter, acceptance}
+use Rattle.desk_pages.specs.Desks.{InPages, OpensDesk}
+use Rattle.desk_pages.proofs.Committed.{pages_sound}
+use Rattle.desk_store.specs.Keeping.{IsLeft, OpensOneMore, IsOneMore, IsAccepted}
+
+-- each reply to a command that is accepted is one
+pub acceptance_is : (c : Command) → IsAcceptance (acceptance c)
+acceptance_is (Create name size) = tt
+acceptance_is (Whole name after body) = tt
+acceptance_is (Counties name after body) = tt
+acceptance_is (Retire name) = tt
+
+pub accepted_is : (d : Desk) (c : Command) (e : Desk) → IsAfter d c e → IsAcceptance (step d c).0
+accepted_is d c e after = subst IsAcceptance (sym after.reply) (acceptance_is c)
+
+module _ {D : Type 0} {g : Ghosts D} where
+  -- what a stop leaves of pages that are kept opens to the desk that they hold
+  pub kept_opens : (ps : Pages D g) (d : Desk) → has_halted ps ≡ false → (disk_in ps).is_honest → IsKept ps → InPages ps d → (c : Image) → (disk_in ps).leaves c → OpensDesk (home (journal_of ps) + count_of ps) d c
+  kept_opens ps d working honest kept holds c leaves = record {
+    J = journal_of ps;
+    n = count_of ps;
+    P = stored ps;
+    whole = refl;
+    opens = kept c leaves;
+    holds = holds;
+    sound = pages_sound ps working honest holds.holds.free_are;
+  }
+
+-- a stop in a call that halts leaves the desk before it or the desk after the change
+pub left_halted : (sectors : ℕ) (d e : Desk) (old new : Disk) → IsOneMore d e → LeavesOnly (λ c. OpensDesk sectors d c ⊎ OpensDesk sectors e c) old new → (c : Image) → new.leaves c → IsLeft true sectors d c
+left_halted sectors d e old new more left c leaves =
+    ⊎_elim (λ was. inl was) (λ now. inr (record { halt = refl; next = e; is = more; opens = now })) (leaves_now (λ x. OpensDesk sectors d x ⊎ OpensDesk sectors e x) old new left c leaves)

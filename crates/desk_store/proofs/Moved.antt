@@ -1,0 +1,112 @@
+-- Calls that commit, and calls that came to nothing.
+use Rattle.std.proofs.Common.{◌≡◌, ◌⊎◌, ◌≤◌, ◌<◌, ◌+◌, ℕ, Bool, true, false, inl, inr, ⊎_elim, refl, sym, ap, subst, ◌∙◌, arith}
+use Rattle.sector_device.specs.Disk.{Disk, Image}
+use Rattle.sector_device.specs.Moments.{LeavesOnly, leaves_now, leaves_wider}
+use Rattle.sector_device.specs.declared.SectorDevice.{Ghosts}
+use Rattle.gate_journal.specs.Store.{home}
+use Rattle.page_store.specs.Stops.{quiet_none}
+use Rattle.page_store.specs.Transactions.{stored, disk_in, count_of, journal_of, HasShape, IsKept, IsQuiet}
+use Rattle.page_store.specs.declared.pages.Pages.{Pages}
+use Rattle.desk_model.specs.Desk.{Desk}
+use Rattle.desk_pages.specs.Desks.{InPages, OpensDesk}
+use Rattle.desk_store.specs.Keeping.{IsLeft, OpensOneMore, IsOneMore}
+use Rattle.desk_store.specs.Clerks.{desk_of, disk_of, sectors_of, Keeps, Reads, Moves, MovesIf}
+use Rattle.desk_store.specs.declared.clerk.Clerk.{Clerk}
+use Rattle.desk_store.proofs.Kept.{kept_opens}
+use Rattle.desk_store.proofs.Done.{reads_move}
+
+module _ {D : Type 0} {g : Ghosts D} where
+  abbrev pub OneOf : Clerk D g → Desk → Image → Type 0
+  OneOf x next c = OpensDesk (sectors_of x) (desk_of x) c ⊎ OpensDesk (sectors_of x) next c
+
+  abbrev pub Left : Type 0 → Desk → Clerk D g → Pages D g → Type 0
+  Left sound next x b = sound → (disk_in b).is_honest → LeavesOnly (OneOf x next) (disk_of x) (disk_in b)
+
+  shape_sectors : (x y : Clerk D g) → HasShape x.pages y.pages → sectors_of y ≡ sectors_of x
+  shape_sectors x y shape = λ i. home (shape.journal_pages i) + shape.pages i
+
+  -- a commit that was made
+  pub worked : (sound : Type 0) (next : Desk) (x y : Clerk D g) → x.halted ≡ false → y.halted ≡ false → HasShape x.pages y.pages → ((disk_of y).is_honest → (disk_of x).is_honest) → Left sound next x y.pages
+      → (sound → (disk_of y).is_honest → InPages y.pages (desk_of y)) → ((disk_of y).is_honest → IsKept y.pages) → ((disk_of y).is_honest → (disk_of y).faults ≡ (disk_of x).faults) → MovesIf sound next x y
+  worked sound next x y working works shape honest left holds kept passed = record {
+    sectors = shape_sectors x y shape;
+    room = shape.journal_pages;
+    honest = honest;
+    any_moment = λ is off. left is;
+    keeps = λ is. record {
+      holds = λ off is_honest. holds is is_honest;
+      left = λ is_honest c leaves. inl (kept_opens y.pages (desk_of y) (y.working works) is_honest (kept is_honest) (holds is is_honest) c leaves);
+    };
+    still = λ on. absurd (let clash : true ≡ false = sym on ∙ working in cc);
+    rose = λ is off on. absurd (let clash : true ≡ false = sym on ∙ works in cc);
+    calm = λ off is_honest. passed is_honest;
+  }
+
+  -- one that met a fault
+  pub faulted : (sound : Type 0) (next : Desk) (x y : Clerk D g) → x.halted ≡ false → y.halted ≡ true → desk_of y ≡ desk_of x → HasShape x.pages y.pages → ((disk_of y).is_honest → (disk_of x).is_honest) → Left sound next x y.pages
+      → (sound → (disk_of y).is_honest → (next ≡ desk_of x) ⊎ IsOneMore (desk_of x) next) → (sound → (disk_of y).is_honest → (disk_of x).faults < (disk_of y).faults) → MovesIf sound next x y
+  faulted sound next x y working halts desk shape honest left more rose =
+      let sectors = shape_sectors x y shape in
+      let images = λ (is : sound) (is_honest : (disk_of y).is_honest) (c : Image) (leaves : (disk_of y).leaves c).
+      ⊎_elim {C = IsLeft true (sectors_of x) (desk_of x) c} (λ was. inl was)
+      (λ now. ⊎_elim {C = IsLeft true (sectors_of x) (desk_of x) c} (λ (same : next ≡ desk_of x). inl (subst (λ (d : Desk). OpensDesk (sectors_of x) d c) same now)) (λ (one : IsOneMore (desk_of x) next). inr (record { halt = refl; next = next; is = one; opens = now })) (more is is_honest))
+      (leaves_now (OneOf x next) (disk_of x) (disk_of y) (left is is_honest) c leaves) in
+      record {
+        sectors = sectors;
+        room = shape.journal_pages;
+        honest = honest;
+        any_moment = λ is off. left is;
+        keeps = λ is. record {
+          holds = λ off is_honest. absurd (let clash : true ≡ false = sym halts ∙ off in cc);
+          left = λ is_honest c leaves. subst (λ (h : Bool). IsLeft h (sectors_of y) (desk_of y) c) (sym halts) (subst (λ (s : ℕ). IsLeft true s (desk_of y) c) (sym sectors) (subst (λ (d : Desk). IsLeft true (sectors_of x) d c) (sym desk) (images is is_honest c leaves)));
+        };
+        still = λ on. absurd (let clash : true ≡ false = sym on ∙ working in cc);
+        rose = λ is off on. rose is;
+        calm = λ off is_honest. absurd (let clash : true ≡ false = sym halts ∙ off in cc);
+      }
+
+  -- nothing was committed, and no fault came
+  pub quieted : (sound : Type 0) (next : Desk) (x y : Clerk D g) → (sound → Keeps x) → x.halted ≡ false → y.halted ≡ false → desk_of y ≡ desk_of x → IsQuiet x.pages y.pages → MovesIf sound next x y
+  quieted sound next x y gives working works desk quiet =
+      let reads : Reads x y = record {
+        quiet = quiet;
+        desk = desk;
+        halts = λ on. absurd (let clash : true ≡ false = sym on ∙ working in cc);
+        still = λ on. absurd (let clash : true ≡ false = sym on ∙ working in cc);
+        rose = λ keeps off on. absurd (let clash : true ≡ false = sym on ∙ works in cc);
+      } in
+      as_if sound next x y gives (reads_move next x y reads)
+    where
+      as_if : (sound : Type 0) (next : Desk) (x y : Clerk D g) → (sound → Keeps x) → Moves next x y → MovesIf sound next x y
+      as_if sound next x y gives moves = record {
+        sectors = moves.sectors;
+        room = moves.room;
+        honest = moves.honest;
+        any_moment = λ is. moves.any_moment (gives is);
+        keeps = λ is. moves.keeps (gives is);
+        still = moves.still;
+        rose = λ is. moves.rose (gives is);
+        calm = moves.calm;
+      }
+
+  -- nothing happened
+  pub unmoved : (sound : Type 0) (next : Desk) (x : Clerk D g) → (sound → Keeps x) → MovesIf sound next x x
+  unmoved sound next x gives =
+      let reads : Reads x x = record {
+        quiet = quiet_none x.pages;
+        desk = refl;
+        halts = λ on. on;
+        still = λ on. refl;
+        rose = λ keeps off on. absurd (let clash : true ≡ false = sym on ∙ off in cc);
+      } in
+      let moves = reads_move next x x reads in
+      record {
+        sectors = moves.sectors;
+        room = moves.room;
+        honest = moves.honest;
+        any_moment = λ is. moves.any_moment (gives is);
+        keeps = λ is. moves.keeps (gives is);
+        still = moves.still;
+        rose = λ is. moves.rose (gives is);
+        calm = moves.calm;
+      }

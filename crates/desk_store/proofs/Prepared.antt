@@ -1,0 +1,167 @@
+-- A command whose pages are made ready.
+use Rattle.std.proofs.Common.{◌≡◌, ◌⊎◌, ◌≤◌, ◌<◌, ◌+◌, ◌*◌, ℕ, Bool, true, false, List, length, inl, inr, refl, sym, ap, subst, ◌∙◌, arith}
+use Rattle.sector_device.specs.Disk.{Disk, Image}
+use Rattle.sector_device.specs.declared.SectorDevice.{Ghosts}
+use Rattle.page_store.specs.Chain.{free_in, root_in}
+use Rattle.page_store.proofs.Chains.{length_chain}
+use Rattle.page_store.specs.Transactions.{stored, disk_in, count_of, journal_of, has_halted, txn_pages, txn_writes, txn_first, txn_free, txn_root, over, free_over, prepared_pages, prepared_writes, after, IsQuiet}
+use Rattle.page_store.specs.declared.pages.Pages.{Pages}
+use Rattle.page_store.specs.declared.txn.Txn.{Txn}
+use Rattle.page_store.specs.declared.txn.Prepared.{Prepared}
+use Rattle.page_btree.specs.Laws.{begun_holds}
+use Rattle.page_btree.specs.Map.{Holds, InTxn as TxnHas, InPages as HoldsRows}
+use Rattle.page_btree.specs.declared.error.TreeError.{TreeError}
+use Rattle.page_btree.specs.declared.error.TreeError.TheVariants.{DeviceFault, Halted, NoPages, TooDeep, Memory}
+use Rattle.store_rows.specs.Rows.{KeyMap}
+use Rattle.desk_model.specs.declared.command.Command.{Command}
+use Rattle.desk_model.specs.declared.reply.Reply.{Reply}
+use Rattle.desk_model.specs.Desk.{Desk}
+use Rattle.desk_model.specs.Outcome.{IsAcceptance, IsFull, RefusalMay}
+use Rattle.desk_model.specs.Room.{need, command_rows}
+use Rattle.desk_model.specs.Step.{step}
+use Rattle.desk_catalogue.specs.Accepting.{IsAfter}
+use Rattle.plan_table.specs.Outcomes.{HasSpent}
+use Rattle.plan_table.specs.declared.change.Change.{Change}
+use Rattle.plan_table.specs.declared.change.Change.TheVariants.{Made, Spent}
+use Rattle.plan_revisions.specs.Steps.{HasStepped, IsStepped, LeavesNumbers, StepErr}
+use Rattle.desk_pages.specs.Commits.{HoldsAfter}
+use Rattle.desk_pages.specs.Desks.{HoldsDesk, InPages, InTxn}
+use Rattle.desk_pages.specs.Laws.{begun_desk}
+use Rattle.command_rows.specs.Rows.{HasNumbers}
+use Rattle.command_rows.specs.Accepted.{rows_some, ground_stays}
+use Rattle.desk_store.specs.Clerks.{desk_of, disk_of, free_of, room_of, Keeps, Reads}
+use Rattle.desk_store.specs.declared.ready.Ready.{Ready}
+use Rattle.desk_store.specs.Commands.{command_of, after_of, written_of, IsReady, HoldsNext, IsPut, HasRoom, IsShort, IsSpent, HasDeepened, MustBeFull, MayBeFull}
+use Rattle.desk_store.specs.Faults.{is_fault, refusal_of}
+use Rattle.desk_store.specs.declared.clerk.Clerk.{Clerk}
+use Rattle.desk_store.proofs.Kept.{accepted_is}
+
+-- the pages of a prepared transaction, which read what the one before reads with the command's rows
+pub record IsReadied (t : Txn) (made : Prepared) : Type 0 where
+  pub pages : prepared_pages made ≡ txn_pages t
+  pub held : (P : Image) (m : KeyMap) → TxnHas t P m → HoldsAfter made P m
+  pub more : length (prepared_writes made) ≤ txn_writes t + 1
+  pub free : (P : Image) (m : KeyMap) → TxnHas t P m → length (free_in (after made P)) ≡ txn_free t
+
+module _ {D : Type 0} {g : Ghosts D} where
+  -- what a transaction that was begun is
+  pub record IsBegun (a : Pages D g) (t : Txn) : Type 0 where
+    pub pages : txn_pages t ≡ count_of a
+    pub none : txn_writes t ≡ 0
+    pub over_is : (q : ℕ) → over t (stored a) q ≡ stored a q
+    pub root : (disk_in a).is_honest → txn_root t ≡ root_in (stored a)
+    pub free : (disk_in a).is_honest → free_over t (stored a) ≡ free_in (stored a)
+
+  pub begun_reads : (a : Pages D g) (t : Txn) (d : Desk) → IsBegun a t → (disk_in a).is_honest → InPages a d → InTxn t (stored a) d
+  begun_reads a t d begun honest holds =
+      let there : HoldsDesk (txn_pages t) (stored a) (root_in (stored a)) (free_in (stored a)) d = subst (λ (n : ℕ). HoldsDesk n (stored a) (root_in (stored a)) (free_in (stored a)) d) (sym begun.pages) holds in
+      begun_desk t (stored a) d there begun.over_is (begun.root honest) (begun.free honest)
+
+  begun_rows : (a : Pages D g) (t : Txn) (m : KeyMap) → IsBegun a t → (disk_in a).is_honest → HoldsRows a m → TxnHas t (stored a) m
+  begun_rows a t m begun honest holds =
+      let there : Holds (txn_pages t) (stored a) (root_in (stored a)) (free_in (stored a)) m = subst (λ (n : ℕ). Holds n (stored a) (root_in (stored a)) (free_in (stored a)) m) (sym begun.pages) holds in
+      begun_holds t (stored a) m there begun.over_is (begun.root honest) (begun.free honest)
+
+  -- its free pages are the store's
+  begun_free : (a : Pages D g) (t : Txn) → IsBegun a t → (disk_in a).is_honest → txn_free t ≡ length (free_in (stored a))
+  begun_free a t begun honest = sym (length_chain (over t (stored a)) (txn_first t) (txn_free t)) ∙ ap (λ (l : List ℕ). length l) (begun.free honest)
+
+  -- a call that read at most leaves what is held
+  still_held : (a b : Pages D g) (d : Desk) → IsQuiet a b → (disk_in b).is_honest → InPages b d → InPages a d
+  still_held a b d quiet honest holds =
+      subst (λ (n : ℕ). HoldsDesk n (stored a) (root_in (stored a)) (free_in (stored a)) d) quiet.count
+      (subst (λ (P : Image). HoldsDesk (count_of b) P (root_in P) (free_in P) d) (quiet.same honest) holds)
+
+  -- so do the rows
+  still_rows : (a b : Pages D g) (m : KeyMap) → IsQuiet a b → (disk_in b).is_honest → HoldsRows b m → HoldsRows a m
+  still_rows a b m quiet honest holds =
+      subst (λ (n : ℕ). Holds n (stored a) (root_in (stored a)) (free_in (stored a)) m) quiet.count
+      (subst (λ (P : Image). Holds (count_of b) P (root_in P) (free_in P) m) (quiet.same honest) holds)
+
+  -- the desk that it holds
+  next_held : (x y : Clerk D g) (c : Command) (e : Desk) (t u : Txn) (made : Prepared) → desk_of y ≡ desk_of x → IsBegun x.pages t → IsQuiet x.pages y.pages → HasStepped (λ d. d ≡ desk_of x) (λ d. e) (command_rows (desk_of x) c) t u x.pages y.pages
+      → IsReadied u made → Keeps y → y.halted ≡ false → (disk_of y).is_honest → InTxn u (stored x.pages) e
+  next_held x y c e t u made same begun quiet stepped readied keeps working honest =
+      let before = still_held x.pages y.pages (desk_of x) quiet honest (subst (λ (d : Desk). InPages y.pages d) same (keeps.holds working honest)) in
+      stepped.desk honest (desk_of x) (begun_reads x.pages t (desk_of x) begun (quiet.honest honest) before) refl
+
+  pub put_made : (x y : Clerk D g) (c : Command) (e : Desk) (t u : Txn) (made : Prepared) → desk_of y ≡ desk_of x → IsAfter (desk_of x) c e → HasRoom x (command_rows (desk_of x) c) → IsBegun x.pages t → IsQuiet x.pages y.pages → txn_pages u ≡ count_of y.pages
+      → HasStepped (λ d. d ≡ desk_of x) (λ d. e) (command_rows (desk_of x) c) t u x.pages y.pages × LeavesNumbers (HasNumbers (desk_of x) c) t x.pages y.pages → IsReadied u made → IsPut x c e made y
+  put_made x y c e t u made same is room begun quiet pages did readied = let stepped = did.0 in record {
+    pages = readied.pages ∙ pages;
+    writes = (let more = readied.more in let writes = stepped.writes in let none = begun.none in let some = rows_some (desk_of x) c e is in let fits = room.journal in let same_journal : room_of y ≡ room_of x = quiet.journal in omega arith);
+    rows = λ keeps working honest.
+        let next = next_held x y c e t u made same begun quiet stepped readied keeps working honest in
+        record { m = next.m; holds = subst (λ (P : Image). HoldsAfter made P next.m) (sym (quiet.same honest)) (readied.held (stored x.pages) next.m next.holds); is = next.is };
+    free = λ keeps working honest.
+        let next = next_held x y c e t u made same begun quiet stepped readied keeps working honest in
+        let counted = readied.free (stored x.pages) next.m next.holds in
+        let taken = stepped.taken in
+        let start = begun_free x.pages t begun (quiet.honest honest) in
+        let few : length (free_in (stored x.pages)) ≤ length (free_in (after made (stored x.pages))) + need (desk_of x) c = omega arith in
+        subst (λ (P : Image). length (free_in P) ≤ length (free_in (after made P)) + need (desk_of x) c) (sym (quiet.same honest)) few;
+    numbers = λ honest spent.
+        let holds = begun_rows x.pages t spent.m begun (quiet.honest honest) (still_rows x.pages y.pages spent.m quiet honest spent.holds) in
+        spent.none (subst (λ (d : Desk). HasNumbers d c spent.next) (sym same) (did.1 honest spent.m spent.next holds spent.fit spent.is_next));
+  }
+
+  -- ---- nothing was put
+  pub spent_full : (x : Clerk D g) (b : Pages D g) (c : Command) (e : Desk) (t u : Txn) → IsAfter (desk_of x) c e → x.halted ≡ false → IsBegun x.pages t → IsQuiet x.pages b → HasSpent (HasNumbers (desk_of x) c) t u x.pages b
+      → IsFull (MayBeFull x b c) (desk_of x) c (desk_of x)
+  spent_full x b c e t u is working begun quiet spent = record {
+    accepted = accepted_is (desk_of x) c e is;
+    no_room = λ keeps honest.
+        let holds = keeps.holds working (quiet.honest honest) in
+        let reads = begun_reads x.pages t (desk_of x) begun (quiet.honest honest) holds in
+        inr (inl (record { m = holds.m; holds = holds.holds; next = spent.next; fit = spent.are_next.fit; is_next = spent.are_next.told honest holds.m (begun_rows x.pages t holds.m begun (quiet.honest honest) holds.holds); none = spent.none }));
+    desk = refl;
+  }
+
+  pub not_put : (x : Clerk D g) (b : Pages D g) (c : Command) (e : Desk) (t : Txn) (error : TreeError) → IsAfter (desk_of x) c e → HasRoom x (command_rows (desk_of x) c) → x.halted ≡ false → IsBegun x.pages t → IsQuiet x.pages b
+      → StepErr (λ d. d ≡ desk_of x) (command_rows (desk_of x) c) t x.pages b error → is_fault error ≡ false → RefusalMay (MustBeFull x c) (MayBeFull x b c) (x.halted ≡ true) (desk_of x) c (refusal_of error) (desk_of x)
+  not_put x b c e t DeviceFault is room working begun quiet why off = absurd (cc)
+  not_put x b c e t Halted is room working begun quiet why off = absurd (cc)
+  not_put x b c e t Memory is room working begun quiet why off = (λ on. let clash : true ≡ false = sym on ∙ working in cc, refl)
+  not_put x b c e t NoPages is room working begun quiet why off = (
+    λ on. let clash : true ≡ false = sym on ∙ working in cc,
+    record {
+      accepted = accepted_is (desk_of x) c e is;
+      no_room = λ keeps honest. absurd (let start = begun_free x.pages t begun (quiet.honest honest) in let enough = room.free working (quiet.honest honest) in omega arith);
+      desk = refl;
+    },
+  )
+  not_put x b c e t TooDeep is room working begun quiet why off = (
+    λ on. let clash : true ≡ false = sym on ∙ working in cc,
+    record {
+      accepted = accepted_is (desk_of x) c e is;
+      no_room = λ keeps honest. inr (inr (record { txn = t; deep = why honest (desk_of x) (begun_reads x.pages t (desk_of x) begun (quiet.honest honest) (keeps.holds working (quiet.honest honest))) }));
+      desk = refl;
+    },
+  )
+
+  -- ---- of the desk that is shown, by another name
+  pub made_of : (s d : Desk) (c : Command) (e : Desk) (t u : Txn) (a b : Pages D g) (change : Change) → s ≡ d → change ≡ Made → IsStepped (λ z. z ≡ s) (λ z. e) (command_rows s c) (HasNumbers s c) t u a b change → HasStepped (λ z. z ≡ d) (λ z. e) (command_rows d c) t u a b × LeavesNumbers (HasNumbers d c) t a b
+  made_of s d c e t u a b change same is did = subst (λ (z : Desk). HasStepped (λ x. x ≡ z) (λ x. e) (command_rows z c) t u a b × LeavesNumbers (HasNumbers z c) t a b) same
+      (subst (λ (x : Change). IsStepped (λ z. z ≡ s) (λ z. e) (command_rows s c) (HasNumbers s c) t u a b x) is did)
+
+  pub spent_of : (s d : Desk) (c : Command) (e : Desk) (t u : Txn) (a b : Pages D g) (change : Change) → s ≡ d → change ≡ Spent → IsStepped (λ z. z ≡ s) (λ z. e) (command_rows s c) (HasNumbers s c) t u a b change → HasSpent (HasNumbers d c) t u a b
+  spent_of s d c e t u a b change same is did = subst (λ (z : Desk). HasSpent (HasNumbers z c) t u a b) same
+      (subst (λ (x : Change). IsStepped (λ z. z ≡ s) (λ z. e) (command_rows s c) (HasNumbers s c) t u a b x) is did)
+
+  pub error_of : (s d : Desk) (c : Command) (t : Txn) (a b : Pages D g) (error : TreeError) → s ≡ d → StepErr (λ z. z ≡ s) (command_rows s c) t a b error → StepErr (λ z. z ≡ d) (command_rows d c) t a b error
+  error_of s d c t a b error same why = subst (λ (z : Desk). StepErr (λ x. x ≡ z) (command_rows z c) t a b error) same why
+
+  -- what is put is ready
+  pub ready_is : (x y : Clerk D g) (c : Command) (e : Desk) (made : Prepared) (r : Ready) → Reads x y → IsAfter (desk_of x) c e → IsPut x c e made y → command_of r ≡ c → after_of r ≡ e → written_of r ≡ made → IsReady y r
+  ready_is x y c e made r reads is put c_is e_is made_is =
+      let accepted = subst (λ (d : Desk). IsAfter d (command_of r) (after_of r)) (sym reads.desk) (subst (λ (q : Command). IsAfter (desk_of x) q (after_of r)) (sym c_is) (subst (λ (f : Desk). IsAfter (desk_of x) c f) (sym e_is) is)) in
+      record {
+        pages = ap (λ (w : Prepared). prepared_pages w) made_is ∙ put.pages;
+        writes = subst (λ (w : Prepared). length (prepared_writes w) ≤ room_of y) (sym made_is) put.writes;
+        accepted = accepted;
+        ground = ground_stays (desk_of y) (command_of r) (after_of r) accepted;
+        rows = λ keeps working honest. subst (λ (w : Prepared). HoldsNext w y (after_of r)) (sym made_is) (subst (λ (f : Desk). HoldsNext made y f) (sym e_is) (put.rows keeps working honest));
+        free = λ keeps working honest. subst (λ (w : Prepared). free_of y ≤ length (free_in (after w (stored y.pages))) + need (desk_of y) (command_of r)) (sym made_is)
+            (subst (λ (d : Desk). free_of y ≤ length (free_in (after made (stored y.pages))) + need d (command_of r)) (sym reads.desk) (subst (λ (q : Command). free_of y ≤ length (free_in (after made (stored y.pages))) + need (desk_of x) q) (sym c_is) (put.free keeps working honest)));
+        numbers = λ honest spent. put.numbers honest (subst (λ (q : Command). IsSpent y q) c_is spent);
+      }

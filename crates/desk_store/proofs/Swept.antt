@@ -1,0 +1,133 @@
+-- Sweeps at a clerk.
+use Rattle.std.proofs.Common.{◌≡◌, ◌⊎◌, ◌≤◌, ◌<◌, ◌+◌, ◌^◌, ℕ, Bool, true, false, List, [], ◌∷◌, Option, Some, None, length, inl, inr, ⊎_elim, refl, sym, ap, subst, ◌∙◌, arith}
+use Rattle.std.specs.FinMap.{remove}
+use Rattle.sector_device.specs.Disk.{Disk, Image}
+use Rattle.sector_device.specs.declared.SectorDevice.{Ghosts}
+use Rattle.page_store.specs.Transactions.{stored, disk_in, has_halted, IsQuiet}
+use Rattle.page_store.specs.declared.pages.Pages.{Pages}
+use Rattle.page_btree.specs.Map.{InPages as HoldsRows}
+use Rattle.desk_model.specs.Geography.{Ground}
+use Rattle.desk_model.specs.Desk.{Desk}
+use Rattle.store_rows.specs.Keys.{RowKey, key_of, Fits, begun, seal, block, pair}
+use Rattle.store_rows.specs.RowLaws.{keys_differ}
+use Rattle.store_rows.specs.Frames.{remove_keeps}
+use Rattle.store_rows.specs.Rows.{KeyMap, row_in, Has}
+use Rattle.store_rows.specs.GeographyRows.{IsStaged}
+use Rattle.store_rows.specs.SweepLaws.{IsLeftover, take_rows, AreLeftovers}
+use Rattle.geo_tables.specs.Loading.{HoldsLoad, number_of, ground_of, done_of}
+use Rattle.geo_tables.specs.declared.load.Load.{Load}
+use Rattle.desk_pages.specs.Desks.{IsDeskMap, InPages}
+use Rattle.store_sweep.specs.Leftovers.{IsOfLoad, AreNotSpared, IsSweptBy, IsSweptClean}
+use Rattle.store_sweep.specs.Sweeping.{HoldsSwept, SweepErr}
+use Rattle.store_sweep.specs.declared.error.SweepError.{SweepError}
+use Rattle.store_sweep.specs.declared.error.SweepError.TheVariants.{Memory, DeviceFault, Halted}
+use Rattle.store_sweep.proofs.Stepped.{quiet_rows}
+use Rattle.desk_store.specs.Clerks.{desk_of, disk_of, Keeps}
+use Rattle.desk_store.specs.Loads.{Stages, IsLast}
+use Rattle.desk_store.specs.Sweeps.{HasRows, HasSwept, is_sweep_fault}
+use Rattle.desk_store.specs.declared.clerk.Clerk.{Clerk}
+
+-- ---- what is taken out leaves the rows of a load
+of_load_kept : (load : ℕ) (rows : List RowKey) (m : KeyMap) (row : RowKey) → Fits row → IsOfLoad load row → AreLeftovers m rows → AreNotSpared (Some load) rows → row_in (take_rows m rows) row ≡ row_in m row
+of_load_kept load [] m row fits of left apart = refl
+of_load_kept load (r ∷ rows) m row fits of left apart =
+    of_load_kept load rows (remove m (key_of r)) row fits of left.2 apart.1
+    ∙ remove_keeps m (key_of r) (key_of row) (λ same. apart.0 (subst (λ (k : RowKey). IsOfLoad load k) (keys_differ row r fits left.0 same) of))
+
+seal_kept : (rows : List RowKey) (m : KeyMap) → AreLeftovers m rows → row_in (take_rows m rows) seal ≡ row_in m seal
+seal_kept [] m left = refl
+seal_kept (r ∷ rows) m left =
+    seal_kept rows (remove m (key_of r)) left.2
+    ∙ remove_keeps m (key_of r) (key_of seal) (λ same. subst (λ (k : RowKey). IsLeftover m k) (sym (keys_differ seal r tt left.0 same)) left.1)
+
+swept_row : (load count : ℕ) (m n : KeyMap) (row : RowKey) → IsSweptBy (Some load) count m n → Fits row → IsOfLoad load row → row_in n row ≡ row_in m row
+swept_row load count m n row by fits of = ap (λ (k : KeyMap). row_in k row) by.rest ∙ of_load_kept load by.rows m row fits of by.left by.apart
+
+staged_kept : (load count : ℕ) (g : Ground) (done : ℕ) (m n : KeyMap) → load < 2 ^ 64 → IsSweptBy (Some load) count m n → IsStaged m load g done → IsStaged n load g done
+staged_kept load count g done m n few by staged = record {
+  fit = staged.fit;
+  blocks = λ place small. swept_row load count m n (block load place) by (few, small) refl ∙ staged.blocks place small;
+  pairs = λ place small. swept_row load count m n (pair load place) by (few, small) refl ∙ staged.pairs place small;
+}
+
+module _ {D : Type 0} {g : Ghosts D} where
+  -- what a step says of the rows that pages held
+  abbrev pub Swept : Option ℕ → ℕ → Pages D g → Pages D g → Type 0
+  Swept running count a b = (m : KeyMap) (d : Desk) → HoldsRows a m → IsDeskMap m d → HoldsSwept running count m d b
+
+  pub as_loading : (x : Clerk D g) (b : Pages D g) (running : Option ℕ) (count : ℕ) → running ≡ x.loading → ((disk_in b).is_honest → Swept running count x.pages b) → (disk_in b).is_honest → Swept x.loading count x.pages b
+  as_loading x b running count same swept honest = subst (λ (r : Option ℕ). Swept r count x.pages b) same (swept honest)
+
+  load_kept : (a b : Pages D g) (d : Desk) (load : Load) (running : Option ℕ) (count : ℕ) → running ≡ Some (number_of load) → number_of load < 2 ^ 64 → Swept running count a b → HoldsLoad a d load → HoldsLoad b d load
+  load_kept a b d load running count last few swept holds =
+      let then = swept holds.m d holds.holds holds.is in
+      let by : IsSweptBy (Some (number_of load)) count holds.m then.n = subst (λ (r : Option ℕ). IsSweptBy r count holds.m then.n) last then.swept.by in
+      record {
+        m = then.n;
+        holds = then.holds;
+        is = then.swept.is;
+        staged = staged_kept (number_of load) count (ground_of load) (done_of load) holds.m then.n few by holds.staged;
+        mark = swept_row (number_of load) count holds.m then.n (begun (number_of load)) by few refl ∙ holds.mark;
+        unsealed = ap (λ (k : KeyMap). row_in k seal) by.rest ∙ seal_kept by.rows holds.m by.left ∙ holds.unsealed;
+      }
+
+  load_still : (a b : Pages D g) (d : Desk) (load : Load) → IsQuiet a b → (disk_in b).is_honest → HoldsLoad a d load → HoldsLoad b d load
+  load_still a b d load quiet honest holds = record {
+    m = holds.m;
+    holds = quiet_rows a b quiet honest holds.m holds.holds;
+    is = holds.is;
+    staged = holds.staged;
+    mark = holds.mark;
+    unsealed = holds.unsealed;
+  }
+
+  -- ---- a step that was made
+  pub swept_holds : (x : Clerk D g) (b : Pages D g) (running : Option ℕ) (count : ℕ) → x.halted ≡ false → ((disk_in b).is_honest → (disk_of x).is_honest) → ((disk_in b).is_honest → Swept running count x.pages b) → Keeps x → (disk_in b).is_honest → InPages b (desk_of x)
+  swept_holds x b running count working honest swept keeps is_honest =
+      let was = keeps.holds working (honest is_honest) in
+      let then = swept is_honest was.m (desk_of x) was.holds was.is in
+      record { m = then.n; holds = then.holds; is = then.swept.is }
+
+  pub swept_stages : (x y : Clerk D g) (count : ℕ) (load : Load) → number_of load < 2 ^ 64 → x.halted ≡ false → desk_of y ≡ desk_of x → ((disk_of y).is_honest → (disk_of x).is_honest) → ((disk_of y).is_honest → Swept x.loading count x.pages y.pages)
+      → Keeps y → IsLast x load → Stages x load → Stages y load
+  swept_stages x y count load few working desk honest swept later last stages = record {
+    keeps = later;
+    holds = λ off is_honest. subst (λ (d : Desk). HoldsLoad y.pages d load) (sym desk) (load_kept x.pages y.pages (desk_of x) load x.loading count last few (swept is_honest) (stages.holds working (honest is_honest)));
+  }
+
+  pub swept_told : (x y : Clerk D g) (m : KeyMap) (count : ℕ) → desk_of y ≡ desk_of x → y.loading ≡ x.loading → Swept x.loading count x.pages y.pages → HasRows x m → HasSwept x m count y
+  swept_told x y m count desk loading swept has =
+      let then = swept m (desk_of x) has.holds has.is in
+      record {
+        n = then.n;
+        has = record { holds = then.holds; is = subst (λ (d : Desk). IsDeskMap then.n d) (sym desk) then.swept.is };
+        by = then.swept.by;
+        clean = λ less. subst (λ (r : Option ℕ). IsSweptClean r then.n) (sym loading) (then.clean less);
+      }
+
+  -- ---- one that was refused
+  pub sweep_rose : (x : Clerk D g) (b : Pages D g) (e : SweepError) → x.halted ≡ false → ((disk_in b).is_honest → (disk_of x).is_honest) → SweepErr x.pages b e → (is_sweep_fault e ≡ true) ⊎ (has_halted b ≡ true) → Keeps x → (disk_in b).is_honest → (disk_of x).faults < (disk_in b).faults
+  sweep_rose x b Memory working met why on keeps honest = ⊎_elim (λ clash. absurd (cc)) (λ halted. why.rose (x.working working) halted honest) on
+  sweep_rose x b DeviceFault working met why on keeps honest = elim why [
+    | inl failed ↦ failed.rose honest
+    | inr none ↦ absurd (none honest (desk_of x) (keeps.holds working (met honest)))
+  ]
+  sweep_rose x b Halted working met why on keeps honest = absurd (let clash : true ≡ false = sym why.0 ∙ x.working working in cc)
+
+  pub sweep_quiet : (a b : Pages D g) (e : SweepError) → is_sweep_fault e ≡ false → SweepErr a b e → IsQuiet a b
+  sweep_quiet a b Memory off why = why
+  sweep_quiet a b DeviceFault off why = absurd (cc)
+  sweep_quiet a b Halted off why = absurd (cc)
+
+  -- a load that is under way stays so where nothing was committed, and where the clerk halts
+  pub still_stages : (x y : Clerk D g) (load : Load) → x.halted ≡ false → desk_of y ≡ desk_of x → IsQuiet x.pages y.pages → Keeps y → Stages x load → Stages y load
+  still_stages x y load working desk quiet later stages = record {
+    keeps = later;
+    holds = λ off is_honest. subst (λ (d : Desk). HoldsLoad y.pages d load) (sym desk) (load_still x.pages y.pages (desk_of x) load quiet is_honest (stages.holds working (quiet.honest is_honest)));
+  }
+
+  pub halted_stages : (y : Clerk D g) (load : Load) → y.halted ≡ true → Keeps y → Stages y load
+  halted_stages y load on later = record {
+    keeps = later;
+    holds = λ off is_honest. absurd (let clash : true ≡ false = sym on ∙ off in cc);
+  }

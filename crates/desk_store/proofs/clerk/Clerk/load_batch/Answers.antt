@@ -1,0 +1,50 @@
+use Rattle.std.proofs.Common.{refl, inl}
+use Rattle.page_store.specs.Stops.{quiet_none}
+use Rattle.desk_store.specs.Clerks.{desk_of}
+use Rattle.desk_store.specs.Loads.{Stages}
+use Rattle.desk_store.proofs.Moved.{worked, faulted, quieted, unmoved}
+use Rattle.desk_store.proofs.Loaded.{batch_left, batch_rose, batch_quiet, batch_holds, batch_stages}
+use Rattle.desk_store.proofs.clerk.Clerk.load_batch.Goals as goal
+
+pub returns-in-Err-clause-moves : goal.returns-in-Err-clause-moves
+returns-in-Err-clause-moves g c = unmoved (Stages c.args.self.now c.args.load.now) (desk_of c.args.self.now) c.args.self.now (λ stages. stages.keeps)
+
+pub returns-then-has_failed-clause-moves : goal.returns-then-has_failed-clause-moves
+returns-then-has_failed-clause-moves g c =
+    let x = c.args.self.now in
+    let load = c.args.load.now in
+    let working = c.in_default.ensures.ok.0 in
+    let did = c.in-Err-load_batch.ensures in
+    faulted (Stages x load) (desk_of x) x _ working refl refl did.shape did.honest (batch_left x c.load_batch.new.pages load working did.honest did.any_moment) (λ stages honest. inl refl)
+    (batch_rose load c.args.rows x c.load_batch.new.pages c.in-Err-load_batch.e working did.honest did.err (c.if-has_failed.ensures.failed refl))
+
+pub returns-in-Ok-clause-moves : goal.returns-in-Ok-clause-moves
+returns-in-Ok-clause-moves g c =
+    let x = c.args.self.now in
+    let load = c.args.load.now in
+    let working = c.in_default.ensures.ok.0 in
+    let did = c.in-Ok.ensures in
+    worked (Stages x load) (desk_of x) x _ working working did.shape did.honest (batch_left x c.load_batch.new.pages load working did.honest did.any_moment)
+    (batch_holds x c.load_batch.new.pages load c.load_batch.new.load working did.honest did.staged) did.kept did.passed
+
+pub returns-in-Ok-clause-staged : goal.returns-in-Ok-clause-staged
+returns-in-Ok-clause-staged g c = λ stages.
+    let x = c.args.self.now in
+    let load = c.args.load.now in
+    let working = c.in_default.ensures.ok.0 in
+    let did = c.in-Ok.ensures in
+    batch_stages x _ load c.load_batch.new.load working refl did.honest did.staged
+    ((worked (Stages x load) (desk_of x) x _ working working did.shape did.honest (batch_left x c.load_batch.new.pages load working did.honest did.any_moment)
+    (batch_holds x c.load_batch.new.pages load c.load_batch.new.load working did.honest did.staged) did.kept did.passed).keeps stages) stages
+
+pub returns-else-has_failed-clause-moves : goal.returns-else-has_failed-clause-moves
+returns-else-has_failed-clause-moves g c =
+    let x = c.args.self.now in
+    let working = c.in_default.ensures.ok.0 in
+    quieted (Stages x c.args.load.now) (desk_of x) x _ (λ stages. stages.keeps) working working refl (batch_quiet c.args.load.now c.args.rows x c.load_batch.new.pages c.in-Err-load_batch.e (c.if-has_failed.ensures.passed refl).0 c.in-Err-load_batch.ensures.err)
+
+pub returns-in-Err-clause-quiet : goal.returns-in-Err-clause-quiet
+returns-in-Err-clause-quiet g c = λ off. quiet_none c.args.self.now.pages
+
+pub returns-else-has_failed-clause-quiet : goal.returns-else-has_failed-clause-quiet
+returns-else-has_failed-clause-quiet g c = λ off. batch_quiet c.args.load.now c.args.rows c.args.self.now c.load_batch.new.pages c.in-Err-load_batch.e (c.if-has_failed.ensures.passed refl).0 c.in-Err-load_batch.ensures.err

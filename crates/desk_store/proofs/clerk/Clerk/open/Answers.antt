@@ -1,0 +1,59 @@
+use Rattle.std.proofs.Common.{◌≡◌, inr, refl, sym, subst, ◌∙◌}
+use Rattle.sector_device.specs.Disk.{Disk}
+use Rattle.sector_device.specs.Moments.{LeavesOnly}
+use Rattle.page_store.specs.Stops.{leaves_quiet}
+use Rattle.page_store.specs.Transactions.{disk_in}
+use Rattle.desk_store.specs.Openings.{AllDesks, OpensOneOf, IsSpared, OpenRefused}
+use Rattle.desk_store.specs.declared.opening.OpenError.{OpenError}
+use Rattle.desk_store.specs.declared.opening.OpenError.TheVariants.{NotAStore}
+use Rattle.desk_store.proofs.Opened.{stores_of, open_leaves, opened_keeps, page_refused, page_spared, not_other, find_refused, as_refused, is_found, pages_left}
+use Rattle.desk_store.proofs.clerk.Clerk.open.Goals as goal
+
+pub returns-in-Err-clause-any_moment : goal.returns-in-Err-clause-any_moment
+returns-in-Err-clause-any_moment g c = λ honest all.
+    open_leaves (g.D.SectorDevice.disk c.args.device) (g.D.SectorDevice.disk c.in-Err.device) all (c.in-Err.ensures.any_moment honest (stores_of (g.D.SectorDevice.disk c.args.device) all))
+
+pub returns-in-Err-clause-err : goal.returns-in-Err-clause-err
+returns-in-Err-clause-err g c =
+    subst (λ (e : OpenError). OpenRefused g.D.SectorDevice c.args.device c.in-Err.device e) (sym c.open_error.ensures) (page_refused g.D.SectorDevice c.args.device c.in-Err.device c.in-Err.e c.in-Err.ensures.err)
+
+pub returns-in-Ok-read_shown-clause-any_moment : goal.returns-in-Ok-read_shown-clause-any_moment
+returns-in-Ok-read_shown-clause-any_moment g c = λ honest all.
+    let old = g.D.SectorDevice.disk c.args.device in
+    let before = c.read_shown.ensures.quiet.honest honest in
+    leaves_quiet c.in-Ok.pages c.read_shown.new.pages c.read_shown.ensures.quiet honest (OpensOneOf old) old (open_leaves old (disk_in c.in-Ok.pages) all (c.in-Ok.ensures.any_moment before (stores_of old all)))
+
+pub returns-in-Ok-read_shown-clause-opened : goal.returns-in-Ok-read_shown-clause-opened
+returns-in-Ok-read_shown-clause-opened g c = λ all.
+    opened_keeps (g.D.SectorDevice.disk c.args.device) c.in-Ok.pages _ all c.in-Ok.ensures.room c.in-Ok.ensures.found c.in-Ok.ensures.kept c.read_shown.ensures.quiet c.in-Ok-read_shown.ensures.read refl
+
+pub returns-in-Err-read_shown-clause-any_moment : goal.returns-in-Err-read_shown-clause-any_moment
+returns-in-Err-read_shown-clause-any_moment g c =
+    let old = g.D.SectorDevice.disk c.args.device in
+    let told = λ (honest : (disk_in c.read_shown.new.pages).is_honest) (all : AllDesks old).
+    let before = c.read_shown.ensures.quiet.honest honest in
+    leaves_quiet c.in-Ok.pages c.read_shown.new.pages c.read_shown.ensures.quiet honest (OpensOneOf old) old (open_leaves old (disk_in c.in-Ok.pages) all (c.in-Ok.ensures.any_moment before (stores_of old all))) in
+    subst (λ d. (g.D.SectorDevice.disk d).is_honest → AllDesks old → LeavesOnly (OpensOneOf old) old (g.D.SectorDevice.disk d)) (sym c.into_device.ensures) told
+
+pub returns-in-Err-read_shown-clause-err : goal.returns-in-Err-read_shown-clause-err
+returns-in-Err-read_shown-clause-err g c =
+    as_refused g.D.SectorDevice c.args.device c.into_device.result c.in-Err-read_shown.e
+    (find_refused c.args.device c.in-Ok.pages c.read_shown.new.pages c.in-Err-read_shown.e c.in-Ok.ensures.room c.in-Ok.ensures.found c.in-Ok.ensures.working c.in-Ok.ensures.passed c.read_shown.ensures.quiet c.in-Err-read_shown.ensures.err
+    (g.D.SectorDevice.disk c.into_device.result) (λ i. g.D.SectorDevice.disk (sym c.into_device.ensures i)))
+
+pub returns-in-Err-clause-untouched : goal.returns-in-Err-clause-untouched
+returns-in-Err-clause-untouched g c =
+    let old = g.D.SectorDevice.disk c.args.device in
+    let new = g.D.SectorDevice.disk c.in-Err.device in
+    subst (λ (e : OpenError). new.is_honest → e ≡ NotAStore → IsSpared old new) (sym c.open_error.ensures)
+    (page_spared old new c.in-Err.e c.in-Err.ensures.untouched (not_other g.D.SectorDevice c.args.device c.in-Err.device c.in-Err.e c.in-Err.ensures.err))
+
+pub returns-in-Ok-read_shown-clause-found : goal.returns-in-Ok-read_shown-clause-found
+returns-in-Ok-read_shown-clause-found g c =
+    is_found (g.D.SectorDevice.disk c.args.device) c.in-Ok.pages _ c.in-Ok.ensures.found c.read_shown.ensures.quiet c.in-Ok-read_shown.ensures.read
+
+pub returns-in-Err-read_shown-clause-untouched : goal.returns-in-Err-read_shown-clause-untouched
+returns-in-Err-read_shown-clause-untouched g c =
+    let old = g.D.SectorDevice.disk c.args.device in
+    let told = λ (honest : (disk_in c.read_shown.new.pages).is_honest) (is : c.in-Err-read_shown.e ≡ NotAStore). inr (pages_left old c.in-Ok.pages c.read_shown.new.pages c.in-Ok.ensures.found c.read_shown.ensures.quiet honest) in
+    subst (λ d. (g.D.SectorDevice.disk d).is_honest → c.in-Err-read_shown.e ≡ NotAStore → IsSpared old (g.D.SectorDevice.disk d)) (sym c.into_device.ensures) told

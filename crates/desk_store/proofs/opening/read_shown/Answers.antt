@@ -1,0 +1,22 @@
+use Rattle.std.proofs.Common.{◌≡◌, refl, sym, subst, ◌∙◌}
+use Rattle.desk_store.specs.Finding.{FindErr}
+use Rattle.desk_store.specs.declared.opening.OpenError.{OpenError}
+use Rattle.page_store.specs.Transactions.{disk_in}
+use Rattle.desk_model.specs.Desk.{Desk}
+use Rattle.desk_pages.specs.Desks.{InPages}
+use Rattle.desk_store.proofs.Prepared.{IsBegun}
+use Rattle.desk_store.proofs.Opened.{read_of, none_read}
+use Rattle.desk_store.proofs.opening.read_shown.Goals as goal
+
+pub returns-in-Ok-to_show-clause-read : goal.returns-in-Ok-to_show-clause-read
+returns-in-Ok-to_show-clause-read g c = λ honest d holds.
+    let begin = c.begin-txn.ensures in
+    let begun : IsBegun c.args.pages.now c.begin-txn.result = record { pages = begin.pages; none = begin.none; over_is = begin.over; root = begin.root c.requires; free = begin.free c.requires } in
+    c.in-Ok-to_show.ensures ∙ read_of c.args.pages.now c.read_desk.new.pages c.begin-txn.result c.in-Ok.catalogue d begun c.read_desk.ensures.quiet honest c.in-Ok.ensures.read holds
+
+pub returns-clause-err : goal.returns-clause-err
+returns-clause-err g c =
+    let begin = c.begin-txn.ensures in
+    let begun : IsBegun c.args.pages.now c.begin-txn.result = record { pages = begin.pages; none = begin.none; over_is = begin.over; root = begin.root c.requires; free = begin.free c.requires } in
+    subst (λ (e : OpenError). FindErr c.args.pages.now c.read_desk.new.pages e) (sym c.find_error.ensures)
+    (none_read c.args.pages.now c.read_desk.new.pages c.begin-txn.result c.in-Err.e c.is_halted.result c.is_halted.ensures begun c.read_desk.ensures.quiet c.requires c.in-Err.ensures.err)

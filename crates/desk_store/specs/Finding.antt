@@ -1,0 +1,39 @@
+-- Why no desk is found in pages.
+use Rattle.std.specs.Prelude.{◌≡◌, Bool, true, if◌then◌else◌}
+use Rattle.sector_device.specs.declared.SectorDevice.{Ghosts}
+use Rattle.desk_model.specs.Desk.{Desk}
+use Rattle.page_store.specs.Transactions.{disk_in, has_halted}
+use Rattle.page_store.specs.declared.pages.Pages.{Pages}
+use Rattle.page_store.specs.declared.error.PageError.{PageError}
+use Rattle.page_store.specs.declared.error.PageError.TheVariants as page
+use Rattle.page_btree.specs.declared.error.TreeError.{TreeError}
+use Rattle.page_btree.specs.declared.error.TreeError.TheVariants as tree
+use Rattle.desk_pages.specs.Desks.{InPages}
+use Rattle.desk_store.specs.declared.opening.OpenError.{OpenError}
+use Rattle.desk_store.specs.declared.opening.OpenError.TheVariants.{NotAStore, DeviceFault, Memory}
+
+-- the pages hold no desk, the device failed, or a growth was refused
+abbrev pub FindErr : {D : Type 0} {g : Ghosts D} → Pages D g → Pages D g → OpenError → Type 0
+FindErr old new NotAStore = (disk_in new).is_honest → (d : Desk) → InPages old d → ⊥
+FindErr old new DeviceFault = has_halted new ≡ true
+FindErr old new Memory = Unit {0}
+
+abbrev pub open_error_of : PageError → OpenError
+open_error_of page.NotAStore = NotAStore
+open_error_of page.DeviceFault = DeviceFault
+open_error_of page.Memory = Memory
+open_error_of page.Halted = NotAStore
+open_error_of page.TooManyPages = NotAStore
+open_error_of page.TooSmall = NotAStore
+open_error_of page.NoPages = NotAStore
+
+-- no desk is there, or a fault came
+abbrev pub missing : Bool → OpenError
+missing halted = if halted then DeviceFault else NotAStore
+
+abbrev pub find_error_of : TreeError → Bool → OpenError
+find_error_of tree.Memory halted = Memory
+find_error_of tree.DeviceFault halted = missing halted
+find_error_of tree.Halted halted = missing halted
+find_error_of tree.NoPages halted = missing halted
+find_error_of tree.TooDeep halted = missing halted

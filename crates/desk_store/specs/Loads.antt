@@ -1,0 +1,61 @@
+-- Loads at a clerk.
+use Rattle.std.specs.Prelude.{◌≡◌, ◌⊎◌, ℕ, Bool, true, false, List, Option, Some, None}
+use Rattle.sector_device.specs.declared.SectorDevice.{Ghosts}
+use Rattle.page_store.specs.Transactions.{disk_in, IsQuiet}
+use Rattle.page_store.specs.declared.pages.Pages.{Pages}
+use Rattle.desk_model.specs.Geography.{Ground}
+use Rattle.desk_model.specs.Desk.{Desk}
+use Rattle.geo_tables.specs.declared.load.Load.{Load}
+use Rattle.geo_tables.specs.declared.error.LoadFault.TheVariants as below
+use Rattle.geo_tables.specs.Loading.{HoldsLoad, number_of, ground_of}
+use Rattle.geo_tables.specs.Refusals.{BeginErr, BatchErr, SealErr}
+use Rattle.desk_store.specs.declared.clerk.Clerk.{Clerk}
+use Rattle.desk_store.specs.declared.loads.LoadError.{LoadError}
+use Rattle.desk_store.specs.declared.loads.LoadError.TheVariants.{AlreadySealed, Full, Memory, Halted, Ended}
+use Rattle.desk_store.specs.Clerks.{desk_of, disk_of, Keeps}
+
+module _ {D : Type 0} {g : Ghosts D} where
+  -- the store holds what is staged of the load, beside the desk that is shown
+  pub record Stages (x : Clerk D g) (load : Load) : Type 0 where
+    pub keeps : Keeps x
+    pub holds : x.halted ≡ false → (disk_of x).is_honest → HoldsLoad x.pages (desk_of x) load
+
+  -- a geography is sealed
+  abbrev pub HasGeography : Clerk D g → Type 0
+  HasGeography x = (sealed : Ground) × ((desk_of x).geography ≡ Some sealed)
+
+  -- a load was begun since the opening, and it is the last one
+  abbrev pub IsLast : Clerk D g → Load → Type 0
+  IsLast x load = x.loading ≡ Some (number_of load)
+
+  -- why no load is begun
+  abbrev pub BeginRefused : Ground → Clerk D g → LoadError → Bool → Pages D g → Type 0
+  BeginRefused area x AlreadySealed halted b = Keeps x → (disk_in b).is_honest → HasGeography x
+  BeginRefused area x Full halted b = (halted ≡ false) × BeginErr area x.pages b below.Full
+  BeginRefused area x Memory halted b = (halted ≡ false) × IsQuiet x.pages b
+  BeginRefused area x Halted halted b = halted ≡ true
+  BeginRefused area x Ended halted b = ⊥
+
+  -- why a load does not go on, whatever its next step is
+  abbrev pub EndRefused : Load → Clerk D g → LoadError → Type 0
+  EndRefused load x AlreadySealed = HasGeography x
+  EndRefused load x Ended = IsLast x load → ⊥
+  EndRefused load x Halted = x.halted ≡ true
+  EndRefused load x Full = ⊥
+  EndRefused load x Memory = ⊥
+
+  -- why no rows of it are staged
+  abbrev pub BatchRefused : Load → ℕ → Clerk D g → LoadError → Bool → Pages D g → Type 0
+  BatchRefused load rows x AlreadySealed halted b = HasGeography x
+  BatchRefused load rows x Full halted b = (halted ≡ false) × BatchErr load rows x.pages b below.Full
+  BatchRefused load rows x Memory halted b = (halted ≡ false) × IsQuiet x.pages b
+  BatchRefused load rows x Halted halted b = halted ≡ true
+  BatchRefused load rows x Ended halted b = IsLast x load → ⊥
+
+  -- why it is not sealed
+  abbrev pub SealRefused : Load → Clerk D g → LoadError → Bool → Pages D g → Type 0
+  SealRefused load x AlreadySealed halted b = HasGeography x
+  SealRefused load x Full halted b = (halted ≡ false) × SealErr load x.pages b below.Full
+  SealRefused load x Memory halted b = (halted ≡ false) × IsQuiet x.pages b
+  SealRefused load x Halted halted b = halted ≡ true
+  SealRefused load x Ended halted b = IsLast x load → ⊥

@@ -1,0 +1,42 @@
+-- Sweeps at a clerk.
+use Rattle.std.specs.Prelude.{◌≡◌, ◌<◌, ℕ, Bool, true, false}
+use Rattle.sector_device.specs.declared.SectorDevice.{Ghosts}
+use Rattle.page_store.specs.Transactions.{IsQuiet}
+use Rattle.page_store.specs.declared.pages.Pages.{Pages}
+use Rattle.page_btree.specs.Map.{InPages as HoldsRows}
+use Rattle.store_rows.specs.Rows.{KeyMap}
+use Rattle.desk_pages.specs.Desks.{IsDeskMap}
+use Rattle.store_sweep.specs.Leftovers.{IsSweptBy, IsSweptClean}
+use Rattle.store_sweep.specs.declared.error.SweepError.{SweepError}
+use Rattle.store_sweep.specs.declared.error.SweepError.TheVariants.{Memory, DeviceFault, Halted}
+use Rattle.desk_store.specs.declared.clerk.Clerk.{Clerk}
+use Rattle.desk_store.specs.Clerks.{desk_of}
+
+-- the device failed, or holds what no store has
+abbrev pub is_sweep_fault : SweepError → Bool
+is_sweep_fault Memory = false
+is_sweep_fault DeviceFault = true
+is_sweep_fault Halted = true
+
+module _ {D : Type 0} {g : Ghosts D} where
+  -- the store holds these rows, which are those of the desk that is shown
+  pub record HasRows (x : Clerk D g) (m : KeyMap) : Type 0 where
+    pub holds : HoldsRows x.pages m
+    pub is : IsDeskMap m (desk_of x)
+
+  -- No row is left of a plan that was taken away, nor of a load but the one that was begun last since the opening.
+  abbrev pub IsClean : Clerk D g → KeyMap → Type 0
+  IsClean x m = IsSweptClean x.loading m
+
+  -- so many of these rows were taken out that were left over, and none of that load; fewer than 16 only where no other was left
+  pub record HasSwept (x : Clerk D g) (m : KeyMap) (count : ℕ) (y : Clerk D g) : Type 0 where
+    pub n : KeyMap
+    pub has : HasRows y n
+    pub by : IsSweptBy x.loading count m n
+    pub clean : count < 16 → IsClean y n
+
+  -- why nothing is swept
+  abbrev pub SweepRefused : Clerk D g → SweepError → Bool → Pages D g → Type 0
+  SweepRefused x Memory halted b = (halted ≡ false) × IsQuiet x.pages b
+  SweepRefused x DeviceFault halted b = (x.halted ≡ false) × (halted ≡ true)
+  SweepRefused x Halted halted b = x.halted ≡ true

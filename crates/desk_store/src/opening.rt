@@ -1,0 +1,112 @@
+//! Opens the desk of a store.
+ghost use Rattle.std.specs.Prelude.{◌≡◌, false, OnOk, IfOk, IfErr};
+ghost use Rattle.page_store.specs.Transactions.{stored, disk_in, has_halted, IsQuiet, Passed};
+ghost use Rattle.desk_model.specs.Desk.{Desk};
+ghost use Rattle.desk_pages.specs.Desks.{InPages};
+ghost use Rattle.desk_store.specs.Finding.{FindErr, find_error_of, open_error_of};
+
+use crate::clerk::Clerk;
+use crate::shown::{Shown, to_show};
+use desk_opening::read_desk;
+use page_store::{PageError, Pages};
+use plan_revisions::TreeError;
+use sector_device::SectorDevice;
+use std::alloc::Global;
+
+/// Why a device is not opened.
+#[derive(Clone, Copy, Debug, Drop, PartialEq, Eq)]
+pub enum OpenError {
+    /// The device holds what no store has.
+    NotAStore,
+    /// The device failed.
+    DeviceFault,
+    /// A growth was refused.
+    Memory,
+}
+
+/// What is told of pages that aren't opened.
+fn open_error(e: PageError) -> OpenError
+    ensures { result ≡ open_error_of e }
+{
+    match e {
+        PageError::DeviceFault => OpenError::DeviceFault,
+        PageError::Memory => OpenError::Memory,
+        _ => OpenError::NotAStore,
+    }
+}
+
+/// What is told of pages that hold no desk, or of a fault.
+fn find_error(e: TreeError, halted: bool) -> OpenError
+    ensures { result ≡ find_error_of e halted }
+{
+    match e {
+        TreeError::Memory => OpenError::Memory,
+        TreeError::DeviceFault | TreeError::Halted | TreeError::NoPages | TreeError::TooDeep => {
+            if halted {
+                return OpenError::DeviceFault;
+            }
+            OpenError::NotAStore
+        }
+    }
+}
+
+/// Reads the desk that pages hold, to be shown.
+fn read_shown<D: SectorDevice>(alloc: Global, pages: &mut Pages<D>) -> Result<Shown, OpenError>
+    requires { has_halted pages.old ≡ false }
+    ensures quiet { IsQuiet pages.old pages.new }
+    ensures passed { OnOk result (Passed pages.old pages.new) }
+    ensures read { (disk_in pages.new).is_honest → (d : Desk) → InPages pages.old d → IfOk result (λ s. s.catalogue.value ≡ d) }
+    ensures err { IfErr result (λ e. FindErr pages.old pages.new e) }
+{
+    let txn = pages.begin(alloc);
+    match read_desk(alloc, &txn, pages) {
+        Ok(catalogue) => match to_show(alloc, catalogue) {
+            Ok(shown) => Ok(shown),
+            Err(_) => Err(OpenError::Memory),
+        },
+        Err(e) => Err(find_error(e, pages.is_halted())),
+    }
+}
+
+impl<D: SectorDevice> Clerk<D> {
+    ghost use Rattle.std.specs.Prelude.{◌≡◌, false, None, OnOk, IfOk, IfErr};
+    ghost use Rattle.sector_device.specs.Moments.{LeavesOnly};
+    ghost use Rattle.desk_store.specs.Clerks.{desk_of, disk_of, is_halted, sectors_of, Keeps};
+    ghost use Rattle.desk_store.specs.Openings.{AllDesks, IsOneOf, OpensOneOf, IsFound, IsSpared, Reopens, device_after, OpenRefused};
+
+    /// Opens the desk that a device holds: a commit that a stop cut short is finished or dropped, and the desk is read back. At any
+    /// moment of it a stop leaves a desk that was there at its start. With a refusal the device comes back, its pages as they were;
+    /// what is no store stays as it is. `Memory` comes of a store alone.
+    pub fn open(alloc: Global, device: D) -> Result<Clerk<D>, (OpenError, D)>
+        ensures sectors { (D.disk (device_after result)).sectors ≡ (D.disk device).sectors }
+        ensures honest { (D.disk (device_after result)).is_honest → (D.disk device).is_honest }
+        ensures any_moment { (D.disk (device_after result)).is_honest → AllDesks (D.disk device) → LeavesOnly (OpensOneOf (D.disk device)) (D.disk device) (D.disk (device_after result)) }
+        ensures opened { AllDesks (D.disk device) → IfOk result (λ x. Keeps x × ((disk_of x).is_honest → IsOneOf (D.disk device) (desk_of x))) }
+        ensures found { IfOk result (λ x. (disk_of x).is_honest → IsFound (D.disk device) x) }
+        ensures loading { IfOk result (λ x. x.loading ≡ None) }
+        ensures working { IfOk result (λ x. (is_halted x ≡ false) × (sectors_of x ≡ (D.disk device).sectors)) }
+        ensures passed { (D.disk (device_after result)).is_honest → OnOk result ((D.disk (device_after result)).faults ≡ (D.disk device).faults) }
+        ensures err { IfErr result (λ e. OpenRefused D.SectorDevice device e.1 e.0) }
+        ensures untouched { IfErr result (λ e. (D.disk e.1).is_honest → e.0 ≡ OpenError.NotAStore → IsSpared (D.disk device) (D.disk e.1)) }
+    {
+        let mut pages = match Pages::open(device) {
+            Ok(pages) => pages,
+            Err((e, device)) => return Err((open_error(e), device)),
+        };
+        match read_shown(alloc, &mut pages) {
+            Ok(Shown { catalogue, cuts }) => Ok(Clerk {
+                pages,
+                catalogue,
+                cuts,
+                loading: None,
+                halted: false,
+            }),
+            Err(e) => Err((e, pages.into_device())),
+        }
+    }
+
+    /// What the store keeps opens again: each image that a stop may leave now is one that `open` takes.
+    pub fn reopens(&self)
+        ensures { Keeps self.now → (disk_of self.now).is_honest → Reopens self.now }
+    {}
+}

@@ -1,0 +1,169 @@
+//! Commands at the clerk.
+ghost use Rattle.std.specs.Prelude.{◌≡◌, ◌≤◌, ◌*◌, ◌⊎◌, ◌↔◌, IsTrue, false, true, IfOk, IfErr};
+ghost use Rattle.desk_model.specs.Room.{command_rows as rows_of_command};
+ghost use Rattle.desk_catalogue.specs.Accepting.{IsAfter};
+ghost use Rattle.page_btree.specs.declared.error.TreeError.TheVariants.{DeviceFault, Halted};
+ghost use Rattle.desk_store.specs.Clerks.{desk_of, disk_of, Reads};
+ghost use Rattle.desk_store.specs.Commands.{command_of, IsReady, IsPut, HasRoom, LacksRoom, MustBeFull, PrepareErr, Does};
+ghost use Rattle.desk_store.specs.Faults.{is_fault as is_fault_of, refusal_of as refusal_of_error};
+
+use crate::clerk::Clerk;
+use crate::ready::Ready;
+use command_rows::{command_rows, put_command};
+use desk_catalogue::catalogue::Catalogue;
+use desk_model::command::Command;
+use desk_model::reply::{Refusal, Reply};
+use page_store::Prepared;
+use plan_revisions::{Change, TreeError};
+use sector_device::SectorDevice;
+use std::alloc::Global;
+use std::sync::Arc;
+
+/// Whether so many pages are 13 for each row.
+fn is_enough(rows: usize, pages: u32) -> bool
+    ensures { IsTrue result ↔ (13 * rows ≤ pages) }
+{
+    rows <= pages as usize / 13
+}
+
+/// Whether the device failed, or holds what no store has.
+fn is_fault(e: TreeError) -> bool
+    ensures { result ≡ is_fault_of e }
+{
+    matches!(e, TreeError::DeviceFault | TreeError::Halted)
+}
+
+/// The refusal of a command whose rows weren't put, where no fault came.
+fn refusal_of(e: TreeError) -> Refusal
+    ensures { result ≡ refusal_of_error e }
+{
+    match e {
+        TreeError::Memory => Refusal::Memory,
+        TreeError::NoPages | TreeError::TooDeep => Refusal::Full,
+        TreeError::DeviceFault | TreeError::Halted => Refusal::Halted,
+    }
+}
+
+impl<D: SectorDevice> Clerk<D> {
+    /// Whether free pages and journal pages are enough for so many rows.
+    fn has_room(&self, rows: usize) -> bool
+        ensures room { IsTrue result → HasRoom self.now rows }
+        ensures short { (result ≡ false) → LacksRoom self.now rows }
+    {
+        if !is_enough(rows, self.pages.journal_pages()) {
+            return false;
+        }
+        is_enough(rows, self.pages.free_pages())
+    }
+
+    /// The catalogue after a command that is accepted and for which there is room.
+    fn accept(&self, alloc: Global, command: &Command) -> Result<Catalogue, Refusal>
+        requires { self.now.halted ≡ false }
+        ensures after { IfOk result (IsAfter (desk_of self.now) command.now) }
+        ensures room { IfOk result (λ _. HasRoom self.now (rows_of_command (desk_of self.now) command.now)) }
+        ensures err { IfErr result (λ refusal. PrepareErr self.now command.now refusal self.now) }
+    {
+        let after = self.catalogue.after(alloc, command)?;
+        let rows = command_rows(self.cuts.as_slice(), &self.catalogue, command, &after);
+        if !self.has_room(rows) {
+            return Err(Refusal::Full);
+        }
+        Ok(after)
+    }
+
+    /// Puts the rows of a command that is accepted, and makes their pages ready.
+    fn put(
+        &mut self,
+        alloc: Global,
+        command: &Command,
+        after: &Catalogue,
+    ) -> Result<Prepared, Refusal>
+        requires working { self.old.halted ≡ false }
+        requires after { IsAfter (desk_of self.old) command.now after.now }
+        requires room { HasRoom self.old (rows_of_command (desk_of self.old) command.now) }
+        ensures reads { Reads self.old self.new }
+        ensures loading { self.new.loading ≡ self.old.loading }
+        ensures put { IfOk result (λ made. IsPut self.old command.now after.now made self.new) }
+        ensures works { IfOk result (λ _. self.new.halted ≡ false) }
+        ensures err { IfErr result (λ refusal. PrepareErr self.old command.now refusal self.new) }
+    {
+        let mut txn = self.pages.begin(alloc);
+        match put_command(
+            alloc,
+            &mut txn,
+            &mut self.pages,
+            self.cuts.as_slice(),
+            &self.catalogue,
+            command,
+            after,
+        ) {
+            Ok(Change::Made) => match desk_pages::prepare(txn) {
+                Ok(prepared) => Ok(prepared),
+                Err(_) => Err(Refusal::Memory),
+            },
+            Ok(Change::Spent) => Err(Refusal::Full),
+            Err(e) => {
+                if is_fault(e) || self.pages.is_halted() {
+                    self.halted = true;
+                    return Err(Refusal::Halted);
+                }
+                Err(refusal_of(e))
+            }
+        }
+    }
+
+    /// Settles the catalogue that is shown, where nobody else has it: what is shown stays.
+    fn settle(&mut self, alloc: Global)
+        ensures { self.new ≡ self.old }
+    {
+        if let Some(catalogue) = Arc::get_mut(&mut self.catalogue) {
+            catalogue.settle(alloc);
+        }
+    }
+
+    /// Makes ready a command that is accepted, and changes nothing; all the memory that its commit needs is taken here. `Full`
+    /// comes where the store has too little room, and `Halted` where the device fails now or has failed before.
+    pub fn prepare(&mut self, alloc: Global, command: Command) -> Result<Ready, Refusal>
+        ensures reads { Reads self.old self.new }
+        ensures loading { self.new.loading ≡ self.old.loading }
+        ensures ready { IfOk result (λ ready. IsReady self.new ready) }
+        ensures command { IfOk result (λ ready. command_of ready ≡ command) }
+        ensures room { IfOk result (λ ready. MustBeFull self.old command → ⊥) }
+        ensures works { IfOk result (λ ready. self.new.halted ≡ false) }
+        ensures err { IfErr result (λ refusal. PrepareErr self.old command refusal self.new) }
+    {
+        if self.halted {
+            return Err(Refusal::Halted);
+        }
+        self.settle(alloc);
+        let after = match self.accept(alloc, &command) {
+            Ok(after) => after,
+            Err(refusal) => return Err(refusal),
+        };
+        let prepared = match self.put(alloc, &command, &after) {
+            Ok(prepared) => prepared,
+            Err(refusal) => return Err(refusal),
+        };
+        let Ok(after) = Arc::new(alloc, after) else {
+            return Err(Refusal::Memory);
+        };
+        match Arc::new(alloc, command) {
+            Ok(command) => Ok(Ready {
+                command,
+                after,
+                prepared,
+            }),
+            Err(_) => Err(Refusal::Memory),
+        }
+    }
+
+    /// The outcome of a command: its step, which is lasting from then on, or a refusal with nothing changed.
+    pub fn command(&mut self, alloc: Global, command: Command) -> Reply
+        ensures { Does self.old command result self.new }
+    {
+        match self.prepare(alloc, command) {
+            Ok(ready) => ready.commit(self),
+            Err(refusal) => Reply::Refused(refusal),
+        }
+    }
+}

@@ -1,0 +1,72 @@
+//! Sweeps at the clerk.
+ghost use Rattle.std.specs.Prelude.{◌≡◌, ◌⊎◌, ◌<◌, ◌^◌, ℕ, Some, true, false};
+ghost use Rattle.page_store.specs.Transactions.{has_halted};
+ghost use Rattle.desk_store.specs.Sweeps.{is_sweep_fault};
+
+use crate::clerk::Clerk;
+use page_store::Pages;
+use sector_device::SectorDevice;
+use std::alloc::Global;
+pub use store_sweep::SweepError;
+
+/// Whether a sweep met a fault.
+fn has_failed<D: SectorDevice>(e: SweepError, pages: &Pages<D>) -> bool
+    ensures failed { (result ≡ true) → (is_sweep_fault e ≡ true) ⊎ (has_halted pages.now ≡ true) }
+    ensures passed { (result ≡ false) → (is_sweep_fault e ≡ false) × (has_halted pages.now ≡ false) }
+{
+    match e {
+        SweepError::Memory => pages.is_halted(),
+        SweepError::DeviceFault | SweepError::Halted => true,
+    }
+}
+
+/// The number of a load, if there is one, which is in its range.
+fn in_range(number: Option<u64>) -> Option<u64>
+    ensures same { result ≡ number }
+    ensures fits { (load : ℕ) → number ≡ Some load → load < 2 ^ 64 }
+{
+    match number {
+        Some(load) => Some(load),
+        None => None,
+    }
+}
+
+impl<D: SectorDevice> Clerk<D> {
+    ghost use Rattle.std.specs.Prelude.{◌≡◌, ◌≤◌, ◌↔◌, false, OnOk, IfOk, IfErr};
+    ghost use Rattle.store_rows.specs.Rows.{KeyMap};
+    ghost use Rattle.geo_tables.specs.declared.load.Load.{Load};
+    ghost use Rattle.desk_store.specs.Clerks.{desk_of, disk_of, free_of, Keeps, Moves};
+    ghost use Rattle.desk_store.specs.Loads.{Stages, IsLast};
+    ghost use Rattle.desk_store.specs.Sweeps.{HasRows, IsClean, HasSwept, SweepRefused};
+
+    /// Takes out up to 16 of the rows that plans that were taken away and loads that were begun and never sealed left in the store:
+    /// how many there were, 0 only where none is left. The desk stays as it is, and so does the load that was begun last since the
+    /// opening. `Memory`: nothing changed. `DeviceFault`: the device failed in this call. `Halted`: it had failed before.
+    pub fn sweep_step(&mut self, alloc: Global) -> Result<usize, SweepError>
+        ensures moves { Moves (desk_of self.old) self.old self.new }
+        ensures desk { desk_of self.new ≡ desk_of self.old }
+        ensures loading { self.new.loading ≡ self.old.loading }
+        ensures staged { (load : Load) → IsLast self.old load → Stages self.old load → Stages self.new load }
+        ensures few { IfOk result (λ count. count ≤ 16) }
+        ensures swept { (disk_of self.new).is_honest → (m : KeyMap) → HasRows self.old m → IfOk result (λ count. HasSwept self.old m count self.new) }
+        ensures exact { (disk_of self.new).is_honest → (m : KeyMap) → HasRows self.old m → IfOk result (λ count. (count ≡ 0) ↔ IsClean self.old m) }
+        ensures free { Keeps self.old → (disk_of self.new).is_honest → self.new.halted ≡ false → free_of self.old ≤ free_of self.new }
+        ensures working { OnOk result ((self.old.halted ≡ false) × (self.new.halted ≡ false)) }
+        ensures err { IfErr result (λ e. SweepRefused self.old e self.new.halted self.new.pages) }
+    {
+        if self.halted {
+            return Err(SweepError::Halted);
+        }
+        let running = in_range(self.loading);
+        match store_sweep::sweep_step(alloc, &mut self.pages, running) {
+            Ok(count) => Ok(count),
+            Err(e) => {
+                if has_failed(e, &self.pages) {
+                    self.halted = true;
+                    return Err(SweepError::DeviceFault);
+                }
+                Err(e)
+            }
+        }
+    }
+}
