@@ -1,6 +1,6 @@
 //! The calls of the system by which a device moves bytes, each with the note of it. That a note says what the call did no clause can
 //! hold, since no code knows what a file holds: so a call and its note stand side by side here, and nowhere else.
-ghost use Rattle.std.specs.Prelude.{◌≡◌, ◌≢◌, true, false};
+ghost use Rattle.std.specs.Prelude.{◌≡◌, ◌≢◌, true, false, MatchResult};
 ghost use Rattle.sector_file.specs.Told.{replay, after_read, after_fault, after_write, after_torn, after_sync};
 
 use crate::contents::Contents;
@@ -10,7 +10,9 @@ use std::io;
 use std::os::unix::fs::FileExt;
 
 /// The bytes of a sector that a call moved, which goes on until all of them are: all or, at a failure, none that count.
-fn moved(answer: io::Result<()>) -> usize {
+fn moved(answer: io::Result<()>) -> usize
+    ensures { MatchResult answer (λ _. result ≡ 4096) (λ _. result ≡ 0) }
+{
     match answer {
         Ok(()) => 4096,
         Err(_) => 0,
