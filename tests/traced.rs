@@ -3,6 +3,7 @@
 //! flags; `l` a lock, with what was asked for; `r` a read, `w` a write and `t` a new size, with their place; `f` an fsync, `d` an
 //! fdatasync. The read or write with the number SHORT, from 0, moves half of its bytes, and that with the number INTERRUPTED none,
 //! as where a signal came.
+#[allow(dead_code)]
 #[path = "calls.rs"]
 mod calls;
 
