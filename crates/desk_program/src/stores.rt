@@ -32,7 +32,8 @@ fn fault_of(e: FileError) -> StoreFault {
     match e {
         FileError::NotFound => StoreFault::NotFound,
         FileError::WrongSize => StoreFault::WrongSize,
-        FileError::DeviceFault => StoreFault::DeviceFault,
+        FileError::InUse | FileError::NotPermitted | FileError::NoSpace | FileError::DeviceFault =>
+            { StoreFault::DeviceFault }
         FileError::Exists => StoreFault::Exists,
     }
 }

@@ -1,17 +1,16 @@
 //! A file as a device.
-ghost use Rattle.std.specs.Prelude.{◌≡◌, ◌<◌, ◌*◌, ◌^◌, length, IfErr, IsTrue};
+ghost use Rattle.std.specs.Prelude.{◌≡◌, ◌≢◌, ◌<◌, ◌*◌, ◌^◌, length, IfErr, IsTrue};
 ghost use Rattle.sector_file.specs.Told.{replay};
 ghost use Rattle.sector_file.specs.Recalled.{Recalls};
 
+use crate::calls::{read_sector, sync_sectors, write_sector};
 use crate::contents::Contents;
 use crate::error::{FileError, of_making, of_opening};
 use crate::recent::Recent;
 use crate::record::Record;
 use sector_device::{DeviceFault, SectorDevice};
 use std::fs::{File, OpenOptions, TryLockError};
-use std::io;
 use std::marker::PhantomData;
-use std::os::unix::fs::FileExt;
 
 /// A device whose sectors lie in a file of the operating system, one behind the other. `S` says what they held as the file
 /// was opened. The two sectors that were read last are held in memory, and are read there again until they are written.
@@ -30,14 +29,6 @@ pub struct FileDevice<S: Contents> {
     ghost recalled: { IsTrue (replay S.Contents.sector log.calls).3 → Recalls recent (replay S.Contents.sector log.calls).0 },
 }
 
-/// How many bytes went or came, and none at a failure.
-fn moved(answer: io::Result<usize>) -> usize {
-    match answer {
-        Ok(n) => n,
-        Err(_) => 0,
-    }
-}
-
 /// The size that the system tells of an open file.
 fn size_of(file: &File) -> Result<u64, FileError>
     ensures { IfErr result (λ e. e ≡ FileError.DeviceFault) }
@@ -48,14 +39,27 @@ fn size_of(file: &File) -> Result<u64, FileError>
     }
 }
 
-/// Holds an open file until it is closed, so that no other open of it can be held. Where the system has no such locks the file is
-/// as it was.
+/// Holds an open file until it is closed, so that no other open of it can be held: `InUse` where another one is. Where the system has
+/// no such locks the file is as it was.
 fn hold(file: &File) -> Result<(), FileError>
-    ensures { IfErr result (λ e. e ≡ FileError.DeviceFault) }
+    ensures { IfErr result (λ e. e ≡ FileError.InUse) }
 {
     match file.try_lock() {
-        Err(TryLockError::WouldBlock) => Err(FileError::DeviceFault),
+        Err(TryLockError::WouldBlock) => Err(FileError::InUse),
         Ok(()) | Err(TryLockError::Error(_)) => Ok(()),
+    }
+}
+
+/// Gives a new file its size, and syncs it.
+fn lengthen(file: &File, size: u64) -> Result<(), FileError>
+    ensures { IfErr result (λ e. (e ≢ FileError.WrongSize) × (e ≢ FileError.InUse)) }
+{
+    if let Err(error) = file.set_len(size) {
+        return Err(of_making(&error));
+    }
+    match file.sync_all() {
+        Ok(()) => Ok(()),
+        Err(error) => Err(of_making(&error)),
     }
 }
 
@@ -83,9 +87,9 @@ impl<S: Contents> FileDevice<S> {
         })
     }
 
-    /// Opens a file that has just so many sectors. The first of these that applies is the answer: NotFound, WrongSize,
-    /// DeviceFault, which is also told where the file is held by another open of it. It is held until the device is dropped. The
-    /// start is used up, so that code over any `S` opens one file.
+    /// Opens a file that has just so many sectors, and holds it until the device is dropped. The first of these that applies is the
+    /// answer: NotFound, NotPermitted, WrongSize, InUse where another open of it holds it; DeviceFault where the system refused the
+    /// opening or its size for any other reason. No sector is read. The start is used up, so that code over any `S` opens one file.
     pub fn open(
         rt: &HostRuntime,
         path: &str,
@@ -95,7 +99,7 @@ impl<S: Contents> FileDevice<S> {
         ensures count { IfOk result (λ device. (file_disk device).sectors ≡ count) }
         ensures held { IfOk result (λ device. (i : ℕ) → i < count → (file_disk device).reads i ≡ S.Contents.sector i) }
         ensures honest { IfOk result (λ device. (file_disk device).is_honest) }
-        ensures err { IfErr result (λ e. e ≢ FileError.Exists) }
+        ensures err { IfErr result (λ e. (e ≢ FileError.Exists) × (e ≢ FileError.NoSpace)) }
     {
         let file = match OpenOptions::new().read(true).write(true).open(rt, path) {
             Ok(file) => file,
@@ -108,8 +112,9 @@ impl<S: Contents> FileDevice<S> {
         Ok(device)
     }
 
-    /// Makes a file of so many sectors, where there is none, and holds it. What it has is for the caller to write. The start is
-    /// used up, as in `open`.
+    /// Makes a file of so many sectors, where there is none, and holds it. What it has is for the caller to write. Exists where a
+    /// file is there, NotFound where its folder isn't, NotPermitted and NoSpace as the system says, DeviceFault where it refused a
+    /// call for any other reason. The start is used up, as in `open`.
     pub fn create(
         rt: &HostRuntime,
         path: &str,
@@ -119,6 +124,7 @@ impl<S: Contents> FileDevice<S> {
         ensures count { IfOk result (λ device. (file_disk device).sectors ≡ count) }
         ensures held { IfOk result (λ device. (i : ℕ) → i < count → (file_disk device).reads i ≡ S.Contents.sector i) }
         ensures honest { IfOk result (λ device. (file_disk device).is_honest) }
+        ensures err { IfErr result (λ e. e ≢ FileError.WrongSize) }
     {
         let file = match OpenOptions::new()
             .read(true)
@@ -130,11 +136,12 @@ impl<S: Contents> FileDevice<S> {
             Err(error) => return Err(of_making(&error)),
         };
         hold(&file)?;
-        if file.set_len(4096 * count as u64).is_err() || file.sync_all().is_err() {
-            return Err(FileError::DeviceFault);
-        }
+        lengthen(&file, 4096 * count as u64)?;
         let size = size_of(&file)?;
-        FileDevice::of_size(file, size, count)
+        match FileDevice::of_size(file, size, count) {
+            Ok(device) => Ok(device),
+            Err(_) => Err(FileError::DeviceFault),
+        }
     }
 }
 
@@ -155,8 +162,7 @@ impl<S: Contents> SectorDevice for FileDevice<S> {
             }
             None => {}
         }
-        let got = moved(self.file.read_at(sector, 4096 * i as u64));
-        self.log.read::<S>(i, got, sector);
+        let got = read_sector::<S>(&self.file, &mut self.log, i, sector);
         if got == 4096 {
             self.recent.note(i, sector);
             Ok(())
@@ -167,8 +173,7 @@ impl<S: Contents> SectorDevice for FileDevice<S> {
 
     fn write(&mut self, i: u32, sector: &[u8; 4096]) -> Result<(), DeviceFault> {
         self.recent.forget(i);
-        let put = moved(self.file.write_at(sector, 4096 * i as u64));
-        self.log.written::<S>(i, put, sector);
+        let put = write_sector::<S>(&self.file, &mut self.log, i, sector);
         if put == 4096 {
             Ok(())
         } else {
@@ -177,11 +182,10 @@ impl<S: Contents> SectorDevice for FileDevice<S> {
     }
 
     fn sync(&mut self) -> Result<(), DeviceFault> {
-        if self.file.sync_data().is_err() {
-            self.log.not_synced::<S>();
-            return Err(DeviceFault);
+        if sync_sectors::<S>(&self.file, &mut self.log) {
+            Ok(())
+        } else {
+            Err(DeviceFault)
         }
-        self.log.synced::<S>();
-        Ok(())
     }
 }

@@ -6,6 +6,7 @@
 //! held as it was opened. All that the model promises is promised of an honest device.
 #![tactic(auto)]
 
+mod calls;
 mod contents;
 mod device;
 mod error;

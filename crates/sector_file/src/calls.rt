@@ -1,0 +1,63 @@
+//! The calls of the system by which a device moves bytes, each with the note of it. That a note says what the call did no clause can
+//! hold, since no code knows what a file holds: so a call and its note stand side by side here, and nowhere else.
+ghost use Rattle.std.specs.Prelude.{◌≡◌, ◌≢◌, true, false, MatchResult};
+ghost use Rattle.sector_file.specs.Told.{replay, after_read, after_fault, after_write, after_torn, after_sync};
+
+use crate::contents::Contents;
+use crate::record::Record;
+use std::fs::File;
+use std::io;
+use std::os::unix::fs::FileExt;
+
+/// The bytes of a sector that a call moved, which goes on until all of them are: all or, at a failure, none that count.
+fn moved(answer: io::Result<()>) -> usize
+    ensures { MatchResult answer (λ _. result ≡ 4096) (λ _. result ≡ 0) }
+{
+    match answer {
+        Ok(()) => 4096,
+        Err(_) => 0,
+    }
+}
+
+/// Reads a sector: how many of its bytes came. A read that was short or interrupted is tried again.
+pub(crate) fn read_sector<S: Contents>(
+    file: &File,
+    log: &mut Record,
+    i: u32,
+    sector: &mut [u8; 4096],
+) -> usize
+    ensures whole { result ≡ 4096 → replay S.Contents.sector log.new.calls ≡ after_read (replay S.Contents.sector log.old.calls) i sector.new }
+    ensures fault { result ≢ 4096 → replay S.Contents.sector log.new.calls ≡ after_fault (replay S.Contents.sector log.old.calls) }
+{
+    let got = moved(file.read_exact_at(sector, 4096 * i as u64));
+    log.read::<S>(i, got, sector);
+    got
+}
+
+/// Writes a sector: how many of its bytes went. A write that was short or interrupted is tried again.
+pub(crate) fn write_sector<S: Contents>(
+    file: &File,
+    log: &mut Record,
+    i: u32,
+    sector: &[u8; 4096],
+) -> usize
+    ensures whole { result ≡ 4096 → replay S.Contents.sector log.new.calls ≡ after_write (replay S.Contents.sector log.old.calls) i sector.now }
+    ensures torn { result ≢ 4096 → replay S.Contents.sector log.new.calls ≡ after_torn (replay S.Contents.sector log.old.calls) i }
+{
+    let put = moved(file.write_all_at(sector, 4096 * i as u64));
+    log.written::<S>(i, put, sector);
+    put
+}
+
+/// Syncs what was written: whether the system did.
+pub(crate) fn sync_sectors<S: Contents>(file: &File, log: &mut Record) -> bool
+    ensures synced { result ≡ true → replay S.Contents.sector log.new.calls ≡ after_sync (replay S.Contents.sector log.old.calls) }
+    ensures fault { result ≡ false → replay S.Contents.sector log.new.calls ≡ after_fault (replay S.Contents.sector log.old.calls) }
+{
+    if file.sync_data().is_err() {
+        log.not_synced::<S>();
+        return false;
+    }
+    log.synced::<S>();
+    true
+}
