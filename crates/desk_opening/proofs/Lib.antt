@@ -5,3 +5,4 @@ pub mod Wholes
 pub mod NewPlans
 pub mod Turns
 pub mod WholeDesks
+mod Shown

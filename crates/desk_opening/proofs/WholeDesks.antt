@@ -1,21 +1,29 @@
 -- A desk of its geography and its plans.
-use Rattle.std.proofs.Common.{◌≡◌, List, ℕ, Some, None, inl, inr, refl, sym, subst, ◌∙◌}
+use Rattle.std.proofs.Common.{◌≡◌, List, ℕ, Some, None, Result, Ok, Err, OnOk, IfOk, IfErr, inl, inr, refl, sym, subst, ◌∙◌}
 use Rattle.std.specs.Prelude.{Option}
 use Rattle.std.specs.Cmp.Lexicographic.{nat_list_cmp_total}
 use Rattle.std.specs.FinMap.{empty, get, get-empty, same_map, slice_cmp-IsAntisymmetric, nat_cmp-IsAntisymmetric}
+use Rattle.sector_device.specs.Disk.{Image}
 use Rattle.sector_device.specs.declared.SectorDevice.{Ghosts}
+use Rattle.page_store.specs.Transactions.{stored, disk_in, IsQuiet, Passed}
+use Rattle.page_store.specs.Stops.{failed_more}
 use Rattle.page_store.specs.declared.pages.Pages.{Pages}
 use Rattle.page_store.specs.declared.txn.Txn.{Txn}
+use Rattle.page_btree.specs.Map.{InTxn as InTree}
 use Rattle.page_btree.specs.declared.error.TreeError.{TreeError}
 use Rattle.page_btree.specs.declared.error.TreeError.TheVariants.{DeviceFault, Halted, NoPages, TooDeep, Memory}
 use Rattle.desk_model.specs.Geography.{Ground}
 use Rattle.desk_model.specs.Desk.{Desk, Plan, name_cmp}
-use Rattle.store_rows.specs.Rows.{KeyMap}
+use Rattle.store_rows.specs.Rows.{KeyMap, Lacks}
+use Rattle.store_rows.specs.Keys.{named}
+use Rattle.store_rows.specs.GeographyRows.{IsGeography}
 use Rattle.store_rows.specs.DeskRows.{IsDesk, IsPlanAt}
 use Rattle.store_rows.specs.Changes.{desk_with}
 use Rattle.row_table.specs.Appending.{AppendErr}
-use Rattle.desk_pages.specs.Desks.{IsDeskMap, IsWithinLimits, new_desk}
-use Rattle.desk_opening.specs.Opening.{ArePlans, OpenErr}
+use Rattle.row_table.specs.Reading.{ReadErr}
+use Rattle.store_check.specs.Numbers.{IsKept}
+use Rattle.desk_pages.specs.Desks.{IsDeskMap, IsWithinLimits, InTxn, new_desk}
+use Rattle.desk_opening.specs.Opening.{ArePlans, HasNothing, OpenErr}
 
 none_at : (m : KeyMap) (name : List ℕ) (p : Option Plan) → IsPlanAt m None name p → p ≡ None
 none_at m name None is = refl
@@ -37,6 +45,20 @@ module _ (m : KeyMap) (d : Desk) (is : IsDeskMap m d) where
         limits = subst (λ (e : Desk). IsWithinLimits e) whole is.limits;
       }
 
+  -- nor anything else
+  pub has_nothing : None ≡ d.geography → HasNothing m
+  has_nothing none = record {
+    ground = subst (λ (g : Option Ground). IsGeography m g) (sym none) is.desk.geography;
+    plans = λ name. none_there name (get d.plans name) (subst (λ (g : Option Ground). IsPlanAt m g name (get d.plans name)) (sym none) (is.desk.plans name));
+  }
+    where
+      none_there : (name : List ℕ) (p : Option Plan) → IsPlanAt m None name p → Lacks m (named name)
+      none_there name None lacks = lacks
+      none_there name (Some p) has = absurd has
+
+pub some_ground : (g : Ground) → ◌≡◌ {A = Option Ground} (Some g) None → ⊥
+some_ground g same = cc
+
 -- what isn't read of the rows of a desk
 pub unopened : {D : Type 0} {g : Ghosts D} (t : Txn) (a b : Pages D g) (e : TreeError) → AppendErr IsDeskMap t a b e → OpenErr t a b e
 unopened t a b DeviceFault why = elim why [
@@ -47,3 +69,56 @@ unopened t a b Halted why = why
 unopened t a b NoPages why = why
 unopened t a b TooDeep why = why
 unopened t a b Memory why = why
+
+-- what isn't kept is no desk's
+pub unkept : {D : Type 0} {g : Ghosts D} (t : Txn) (a b : Pages D g) (e : TreeError) → ReadErr IsKept t a b e → OpenErr t a b e
+unkept t a b DeviceFault why = elim why [
+  | inl failed ↦ inl failed
+  | inr none ↦ inr (λ honest d held. none honest held.m held.holds (record { desk = d; is = held.is.desk; tidy = held.is.tidy }))
+]
+unkept t a b Halted why = why
+unkept t a b NoPages why = why
+unkept t a b TooDeep why = why
+unkept t a b Memory why = tt
+
+-- ---- calls that passed, and then one more
+module _ {D : Type 0} {g : Ghosts D} where
+  pub still_reads : (t : Txn) (a b : Pages D g) (d : Desk) → Passed a b → (disk_in b).is_honest → InTxn t (stored a) d → InTxn t (stored b) d
+  still_reads t a b d passed honest held = record { m = held.m; holds = subst (λ (P : Image). InTree t P held.m) (sym (passed.quiet.same honest)) held.holds; is = held.is }
+
+  pub then_unopened : (t : Txn) (a b c : Pages D g) → Passed a b → IsQuiet b c → (e : TreeError) → OpenErr t b c e → OpenErr t a c e
+  then_unopened t a b c passed quiet DeviceFault why = elim why [
+    | inl failed ↦ inl (failed_more a b c passed quiet failed)
+    | inr none ↦ inr (λ honest d held. none honest d (still_reads t a b d passed (quiet.honest honest) held))
+  ]
+  then_unopened t a b c passed quiet Halted why = sym passed.halted ∙ why
+  then_unopened t a b c passed quiet NoPages why = why
+  then_unopened t a b c passed quiet TooDeep why = why
+  then_unopened t a b c passed quiet Memory why = tt
+
+  pub nothing_unread : (t : Txn) (a b c : Pages D g) → Passed a b → IsQuiet b c → ((disk_in b).is_honest → (m : KeyMap) (d : Desk) → InTree t (stored a) m → IsDeskMap m d → HasNothing m) → (e : TreeError) → ReadErr HasNothing t b c e → OpenErr t a c e
+  nothing_unread t a b c passed quiet gives DeviceFault why = elim why [
+    | inl failed ↦ inl (failed_more a b c passed quiet failed)
+    | inr none ↦ inr (λ honest d held.
+        let then = quiet.honest honest in
+        none honest held.m (subst (λ (P : Image). InTree t P held.m) (sym (passed.quiet.same then)) held.holds) (gives then held.m d held.holds held.is))
+  ]
+  nothing_unread t a b c passed quiet gives Halted why = sym passed.halted ∙ why
+  nothing_unread t a b c passed quiet gives NoPages why = why
+  nothing_unread t a b c passed quiet gives TooDeep why = why
+  nothing_unread t a b c passed quiet gives Memory why = tt
+
+pub ok_then : {T E : Type 0} (r : Result T E) (A B : Type 0) → (A → B) → OnOk r A → OnOk r B
+ok_then (Ok x) A B go is = go is
+ok_then (Err e) A B go is = tt
+
+pub if_ok_then : {T E : Type 0} (r : Result T E) (P Q : T → Type 0) → ((x : T) → P x → Q x) → IfOk r P → IfOk r Q
+if_ok_then (Ok x) P Q go is = go x is
+if_ok_then (Err e) P Q go is = tt
+
+pub err_then : {T E : Type 0} (r : Result T E) (P Q : E → Type 0) → ((e : E) → P e → Q e) → IfErr r P → IfErr r Q
+err_then (Ok x) P Q go is = tt
+err_then (Err e) P Q go is = go e is
+
+pub no_row : (row : List ℕ) → ◌≡◌ {A = Option (List ℕ)} (Some row) None → ⊥
+no_row row same = cc

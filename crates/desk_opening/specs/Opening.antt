@@ -1,6 +1,6 @@
 -- What is read back of a desk row by row, and why it is not.
-use Rattle.std.specs.Prelude.{◌≡◌, ◌⊎◌, ◌<◌, ℕ, List, true, Some, None}
-use Rattle.std.specs.FinMap.{FinMap, get, len, get as row_at}
+use Rattle.std.specs.Prelude.{◌≡◌, ◌⊎◌, ◌<◌, ℕ, List, true, Option, Some, None}
+use Rattle.std.specs.FinMap.{FinMap, get, insert, len, get as row_at}
 use Rattle.sector_device.specs.declared.SectorDevice.{Ghosts}
 use Rattle.desk_model.specs.Geography.{Ground}
 use Rattle.desk_model.specs.Desk.{Desk, Plan, name_cmp}
@@ -11,10 +11,12 @@ use Rattle.page_store.specs.declared.txn.Txn.{Txn}
 use Rattle.page_btree.specs.declared.error.TreeError.{TreeError}
 use Rattle.page_btree.specs.declared.error.TreeError.TheVariants.{DeviceFault, Halted, NoPages, TooDeep, Memory}
 use Rattle.btree_scan.specs.declared.rows.Row.{Row}
-use Rattle.store_rows.specs.Keys.{key_of, named}
-use Rattle.store_rows.specs.Rows.{KeyMap}
+use Rattle.store_rows.specs.Keys.{key_of, named, seal}
+use Rattle.store_rows.specs.Values.{plan_bytes}
+use Rattle.store_rows.specs.Rows.{KeyMap, Has, Lacks}
 use Rattle.store_rows.specs.DeskRows.{IsDesk}
-use Rattle.store_rows.specs.Changes.{desk_with}
+use Rattle.store_rows.specs.Changes.{desk_with, plan_row_of}
+use Rattle.store_check.specs.Numbers.{HasNumbersBelow}
 use Rattle.desk_pages.specs.Desks.{InTxn, IsSized, IsWithinLimits}
 
 -- the device failed, or the transaction reads no desk; or a growth was refused
@@ -40,3 +42,44 @@ pub record IsNewPlan (g : Ground) (plans : FinMap name_cmp Plan) (row : Row) (m 
   pub value : row_at m row.key ≡ Some row.value
   pub new : get plans plan.0 ≡ None
   pub room : len plans < plan_limit
+
+-- no plan is there, and no geography is sealed
+abbrev pub HasNoPlans : KeyMap → Type 0
+HasNoPlans m = (name : List ℕ) → Lacks m (named name)
+
+pub record HasNothing (m : KeyMap) : Type 0 where
+  pub ground : Lacks m seal
+  pub plans : HasNoPlans m
+
+-- ---- what is read of rows, whether or not they are those of a desk
+-- plans with the one whose row this is
+pub record IsAdded (plans : FinMap name_cmp Plan) (row : Row) (all : FinMap name_cmp Plan) : Type 0 where
+  pub name : List ℕ
+  pub plan : Plan
+  pub number : ℕ
+  pub key : row.key ≡ key_of (named name)
+  pub value : row.value ≡ plan_bytes (plan_row_of number plan)
+  pub is : all ≡ insert plans name plan
+
+-- a plan is shown with the size and the count of revisions that stand under its name, and none where nothing does
+abbrev pub IsShownAt : KeyMap → List ℕ → Option Plan → Type 0
+IsShownAt m name None = Lacks m (named name)
+IsShownAt m name (Some p) = (number : ℕ) × Has m (named name) (plan_bytes (plan_row_of number p))
+
+abbrev pub ArePlansShown : KeyMap → FinMap name_cmp Plan → Type 0
+ArePlansShown m plans = (name : List ℕ) → IsShownAt m name (get plans name)
+
+-- a geography is shown where one is sealed
+abbrev pub IsGroundShown : KeyMap → Option Ground → Type 0
+IsGroundShown m None = Lacks m seal
+IsGroundShown m (Some g) = Lacks m seal → ⊥
+
+-- what the rows of plans and the seal say is shown
+pub record IsShown (m : KeyMap) (d : Desk) : Type 0 where
+  pub ground : IsGroundShown m d.geography
+  pub plans : ArePlansShown m d.plans
+
+-- No number in use is one that comes next, and what the rows of plans and the seal say is shown.
+pub record IsReadFrom (m : KeyMap) (d : Desk) : Type 0 where
+  pub numbers : HasNumbersBelow m
+  pub shown : IsShown m d

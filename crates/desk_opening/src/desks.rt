@@ -2,9 +2,12 @@
 ghost use Rattle.std.specs.Prelude.{◌≡◌, OnOk, IfOk, IfErr};
 ghost use Rattle.desk_model.specs.Desk.{Desk};
 ghost use Rattle.page_store.specs.Transactions.{stored, disk_in, count_of, txn_pages, IsQuiet, Passed};
+ghost use Rattle.page_btree.specs.Map.{InTxn as InTree};
+ghost use Rattle.store_rows.specs.Rows.{KeyMap};
 ghost use Rattle.desk_pages.specs.Desks.{InTxn};
-ghost use Rattle.desk_opening.specs.Opening.{OpenErr};
+ghost use Rattle.desk_opening.specs.Opening.{IsReadFrom, IsShown, OpenErr};
 
+use crate::none::read_none;
 use crate::rows::read_plans;
 use desk_catalogue::catalogue::Catalogue;
 use geo_tables::geography;
@@ -13,9 +16,34 @@ use row_table::TreeError;
 use sector_device::SectorDevice;
 use std::alloc::Global;
 use std::sync::Arc;
+use store_check::check_numbers;
+
+/// What the rows of a transaction's desk say: its geography, and each plan with all its revisions. The pages are only read.
+fn read_rows<D: SectorDevice>(
+    alloc: Global,
+    txn: &Txn,
+    pages: &mut Pages<D>,
+) -> Result<Catalogue, TreeError>
+    requires begun { txn_pages txn.now ≡ count_of pages.old }
+    ensures quiet { IsQuiet pages.old pages.new }
+    ensures passed { OnOk result (Passed pages.old pages.new) }
+    ensures read { (disk_in pages.new).is_honest → (d : Desk) → InTxn txn.now (stored pages.old) d → IfOk result (λ catalogue. catalogue ≡ d) }
+    ensures shown { (disk_in pages.new).is_honest → (m : KeyMap) → InTree txn.now (stored pages.old) m → IfOk result (λ catalogue. IsShown m catalogue) }
+    ensures err { IfErr result (λ e. OpenErr txn.now pages.old pages.new e) }
+{
+    let Some(ground) = geography(alloc, txn, pages)? else {
+        return read_none(txn, pages);
+    };
+    let plans = read_plans(alloc, txn, pages, &ground)?;
+    match Arc::new(alloc, ground) {
+        Ok(shared) => Ok(Catalogue::restored(Some(shared), plans)),
+        Err(_) => Err(TreeError::Memory),
+    }
+}
 
 /// The desk that a transaction reads: its geography, and each plan with all its revisions. The pages are only read. An error is
-/// `Memory`, where a growth was refused, `DeviceFault`, where the device failed or holds no desk, or `Halted`.
+/// `Memory`, where a growth was refused, `DeviceFault`, where the device failed or holds no desk, or `Halted`. A store in which a number
+/// that comes next is in use holds none: what is put there later would be read as another's.
 pub fn read_desk<D: SectorDevice>(
     alloc: Global,
     txn: &Txn,
@@ -25,14 +53,9 @@ pub fn read_desk<D: SectorDevice>(
     ensures quiet { IsQuiet pages.old pages.new }
     ensures passed { OnOk result (Passed pages.old pages.new) }
     ensures read { (disk_in pages.new).is_honest → (d : Desk) → InTxn txn.now (stored pages.old) d → IfOk result (λ catalogue. catalogue ≡ d) }
+    ensures found { (disk_in pages.new).is_honest → (m : KeyMap) → InTree txn.now (stored pages.old) m → IfOk result (λ catalogue. IsReadFrom m catalogue) }
     ensures err { IfErr result (λ e. OpenErr txn.now pages.old pages.new e) }
 {
-    let Some(ground) = geography(alloc, txn, pages)? else {
-        return Ok(Catalogue::new(None));
-    };
-    let plans = read_plans(alloc, txn, pages, &ground)?;
-    match Arc::new(alloc, ground) {
-        Ok(shared) => Ok(Catalogue::restored(Some(shared), plans)),
-        Err(_) => Err(TreeError::Memory),
-    }
+    check_numbers(txn, pages)?;
+    read_rows(alloc, txn, pages)
 }

@@ -3,7 +3,7 @@ ghost use Rattle.std.specs.Prelude.{◌≡◌, ◌≤◌, ◌<◌, ◌+◌, ◌*
 ghost use Rattle.desk_model.specs.Cuts.{cuts_of};
 ghost use Rattle.desk_model.specs.Step.{revision_limit};
 ghost use Rattle.page_store.specs.Transactions.{count_of, txn_pages, IsQuiet};
-ghost use Rattle.store_rows.specs.Changes.{with_revision};
+ghost use Rattle.store_rows.specs.Changes.{plan_row_of, with_revision};
 ghost use Rattle.row_table.specs.Appending.{AppendErr};
 ghost use Rattle.revision_table.specs.Reading.{AreRead};
 ghost use Rattle.desk_opening.specs.Reading.{BecomesKnown, HasRead, IsNext, IsPlanRow, IsWhole};
@@ -87,6 +87,7 @@ fn with_next<D: SectorDevice>(
     requires room { length entry.now.1.revisions < revision_limit }
     ensures quiet { IsQuiet pages.old pages.new }
     ensures named { IfOk result (λ next. next.0 ≡ entry.now.0) }
+    ensures sized { IfOk result (λ next. (next.1.kind ≡ entry.now.1.kind) × (next.1.n ≡ entry.now.1.n)) }
     ensures longer { IfOk result (λ next. length next.1.revisions ≡ length entry.now.1.revisions + 1) }
     ensures whole { IfOk result (λ next. IsWhole geography.now entry.now.1 → IsWhole geography.now next.1) }
     ensures read { MatchResult result (λ next. HasRead (IsNext geography.now plan revision last.old.names.items last.old.districts.items) (λ districts. (entry.now.0, with_revision entry.now.1 districts)) txn.now pages.old pages.new next) (λ e. AppendErr (IsNext geography.now plan revision last.old.names.items last.old.districts.items) txn.now pages.old pages.new e) }
@@ -119,6 +120,7 @@ pub fn read_entry<D: SectorDevice>(
     ensures quiet { IsQuiet pages.old pages.new }
     ensures named { IfOk result (λ entry. entry.0 ≡ name) }
     ensures whole { IfOk result (λ entry. IsWhole geography.now entry.1) }
+    ensures row { IfOk result (λ entry. row.now ≡ plan_row_of row.now.number entry.1) }
     ensures read { MatchResult result (λ entry. HasRead (IsPlanRow geography.now name row.now) (λ plan. (name, plan)) txn.now pages.old pages.new entry) (λ e. AppendErr (IsPlanRow geography.now name row.now) txn.now pages.old pages.new e) }
 {
     if row.revisions > REVISION_LIMIT {

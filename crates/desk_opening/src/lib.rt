@@ -3,6 +3,7 @@
 
 mod desks;
 mod entries;
+mod none;
 mod plans;
 mod rows;
 

@@ -3,13 +3,15 @@ ghost use Rattle.std.specs.Prelude.{◌≡◌, ◌<◌, ◌^◌, ℕ, List, Some
 ghost use Rattle.std.specs.FinMap as map_of;
 ghost use Rattle.desk_model.specs.Cuts.{cuts_of};
 ghost use Rattle.desk_model.specs.Name.{IsPlanName};
-ghost use Rattle.page_store.specs.Transactions.{count_of, txn_pages, IsQuiet};
+ghost use Rattle.page_store.specs.Transactions.{stored, disk_in, count_of, txn_pages, IsQuiet};
+ghost use Rattle.page_btree.specs.Map.{InTxn};
+ghost use Rattle.store_rows.specs.Rows.{KeyMap};
 ghost use Rattle.store_rows.specs.Keys.{key_of, named};
 ghost use Rattle.row_table.specs.Appending.{AppendErr};
 ghost use Rattle.desk_catalogue.specs.Kept.{AreWhole};
 ghost use Rattle.plan_table.specs.Laws.{RowFits};
 ghost use Rattle.desk_opening.specs.Reading.{HasRead};
-ghost use Rattle.desk_opening.specs.Opening.{ArePlans, IsNewPlan};
+ghost use Rattle.desk_opening.specs.Opening.{ArePlans, ArePlansShown, IsAdded, IsNewPlan};
 
 use crate::plans::add_plan;
 use btree_scan::{Row, Scan, row_limit};
@@ -77,6 +79,7 @@ fn add_row<D: SectorDevice>(
     requires cut { cuts.now ≡ cuts_of geography.now }
     ensures quiet { IsQuiet pages.old pages.new }
     ensures whole { IfOk result (λ all. AreWhole (Some geography.now) plans.now → AreWhole (Some geography.now) all) }
+    ensures added { IfOk result (λ all. IsAdded plans.now row.now all) }
     ensures read { MatchResult result (λ all. HasRead (IsNewPlan geography.now plans.now row.now) (λ plan. map_of.insert plans.now plan.0 plan.1) txn.now pages.old pages.new all) (λ e. AppendErr (IsNewPlan geography.now plans.now row.now) txn.now pages.old pages.new e) }
 {
     plans_are_told();
@@ -106,6 +109,7 @@ pub(crate) fn read_plans<D: SectorDevice>(
     requires begun { txn_pages txn.now ≡ count_of pages.old }
     ensures quiet { IsQuiet pages.old pages.new }
     ensures whole { IfOk result (AreWhole (Some geography.now)) }
+    ensures shown { (disk_in pages.new).is_honest → (m : KeyMap) → InTxn txn.now (stored pages.old) m → IfOk result (λ plans. ArePlansShown m plans) }
     ensures read { MatchResult result (λ plans. HasRead (ArePlans geography.now) (λ all. all) txn.now pages.old pages.new plans) (λ e. AppendErr (ArePlans geography.now) txn.now pages.old pages.new e) }
 {
     let Ok(cuts) = cuts(alloc, geography) else {

@@ -1,6 +1,6 @@
 -- A change that is committed.
-use Rattle.std.proofs.Common.{◌≡◌, ◌⊎◌, ◌≤◌, ◌<◌, ◌+◌, ℕ, Bool, true, false, List, length, inl, inr, refl, sym, ap, subst, ◌∙◌, arith}
-use Rattle.sector_device.specs.Disk.{Disk, Image}
+use Rattle.std.proofs.Common.{◌≡◌, ◌⊎◌, ◌≤◌, ◌<◌, ◌+◌, ℕ, Bool, true, false, length, inl, inr, refl, sym, subst, ◌∙◌, arith}
+use Rattle.sector_device.specs.Disk.{Image}
 use Rattle.sector_device.specs.Moments.{LeavesOnly}
 use Rattle.sector_device.specs.declared.SectorDevice.{Ghosts}
 use Rattle.gate_journal.specs.Store.{home}
@@ -20,8 +20,8 @@ use Rattle.desk_catalogue.specs.Accepting.{acceptance}
 use Rattle.desk_pages.specs.Commits.{HoldsAfter, OpensRows, leaves_desk}
 use Rattle.desk_pages.specs.Desks.{InPages, OpensDesk}
 use Rattle.desk_store.specs.Keeping.{IsLeft}
-use Rattle.desk_store.specs.Clerks.{desk_of, disk_of, sectors_of, free_of, Keeps, Moves}
-use Rattle.desk_store.specs.Commands.{command_of, after_of, written_of, IsReady, IsMade, IsNotMade, Commits}
+use Rattle.desk_store.specs.Clerks.{desk_of, disk_of, sectors_of, free_of, Keeps}
+use Rattle.desk_store.specs.Commands.{command_of, after_of, written_of, IsReady, Commits}
 use Rattle.desk_store.specs.declared.clerk.Clerk.{Clerk}
 use Rattle.desk_store.specs.declared.ready.Ready.{Ready}
 use Rattle.desk_store.proofs.Kept.{accepted_is, kept_opens, left_halted}

@@ -1,5 +1,5 @@
 -- What a clerk's store keeps.
-use Rattle.std.proofs.Common.{◌≡◌, ◌⊎◌, ◌≤◌, ◌<◌, ◌+◌, ℕ, Bool, true, false, inl, inr, ⊎_elim, refl, sym, ap, subst, ◌∙◌, arith}
+use Rattle.std.proofs.Common.{◌≡◌, ◌⊎◌, ◌+◌, ℕ, true, false, inl, inr, ⊎_elim, refl, sym, subst}
 use Rattle.sector_device.specs.Disk.{Disk, Image}
 use Rattle.sector_device.specs.Moments.{LeavesOnly, leaves_now}
 use Rattle.sector_device.specs.declared.SectorDevice.{Ghosts}
@@ -14,7 +14,7 @@ use Rattle.desk_model.specs.Step.{step}
 use Rattle.desk_catalogue.specs.Accepting.{IsAfter, acceptance}
 use Rattle.desk_pages.specs.Desks.{InPages, OpensDesk}
 use Rattle.desk_pages.proofs.Committed.{pages_sound}
-use Rattle.desk_store.specs.Keeping.{IsLeft, OpensOneMore, IsOneMore, IsAccepted}
+use Rattle.desk_store.specs.Keeping.{IsLeft, IsOneMore}
 
 -- each reply to a command that is accepted is one
 pub acceptance_is : (c : Command) → IsAcceptance (acceptance c)

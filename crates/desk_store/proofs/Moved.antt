@@ -1,15 +1,15 @@
 -- Calls that commit, and calls that came to nothing.
-use Rattle.std.proofs.Common.{◌≡◌, ◌⊎◌, ◌≤◌, ◌<◌, ◌+◌, ℕ, Bool, true, false, inl, inr, ⊎_elim, refl, sym, ap, subst, ◌∙◌, arith}
-use Rattle.sector_device.specs.Disk.{Disk, Image}
-use Rattle.sector_device.specs.Moments.{LeavesOnly, leaves_now, leaves_wider}
+use Rattle.std.proofs.Common.{◌≡◌, ◌⊎◌, ◌<◌, ◌+◌, ℕ, Bool, true, false, inl, inr, ⊎_elim, refl, sym, subst, ◌∙◌}
+use Rattle.sector_device.specs.Disk.{Image}
+use Rattle.sector_device.specs.Moments.{LeavesOnly, leaves_now}
 use Rattle.sector_device.specs.declared.SectorDevice.{Ghosts}
 use Rattle.gate_journal.specs.Store.{home}
 use Rattle.page_store.specs.Stops.{quiet_none}
-use Rattle.page_store.specs.Transactions.{stored, disk_in, count_of, journal_of, HasShape, IsKept, IsQuiet}
+use Rattle.page_store.specs.Transactions.{disk_in, HasShape, IsKept, IsQuiet}
 use Rattle.page_store.specs.declared.pages.Pages.{Pages}
 use Rattle.desk_model.specs.Desk.{Desk}
 use Rattle.desk_pages.specs.Desks.{InPages, OpensDesk}
-use Rattle.desk_store.specs.Keeping.{IsLeft, OpensOneMore, IsOneMore}
+use Rattle.desk_store.specs.Keeping.{IsLeft, IsOneMore}
 use Rattle.desk_store.specs.Clerks.{desk_of, disk_of, sectors_of, Keeps, Reads, Moves, MovesIf}
 use Rattle.desk_store.specs.declared.clerk.Clerk.{Clerk}
 use Rattle.desk_store.proofs.Kept.{kept_opens}

@@ -1,5 +1,5 @@
 -- What an opening finds.
-use Rattle.std.proofs.Common.{◌≡◌, ◌⊎◌, ◌≤◌, ◌<◌, ◌+◌, ℕ, Bool, true, false, List, inl, inr, ⊎_elim, refl, sym, ap, subst, ◌∙◌, arith}
+use Rattle.std.proofs.Common.{◌≡◌, ◌<◌, ◌+◌, ℕ, Bool, true, false, inl, inr, refl, sym, ap, subst, ◌∙◌, arith}
 use Rattle.sector_device.specs.Disk.{Disk, Image}
 use Rattle.sector_device.specs.Moments.{LeavesOnly, leaves_wider}
 use Rattle.sector_device.specs.declared.SectorDevice.{Ghosts}
@@ -8,8 +8,8 @@ use Rattle.gate_journal.specs.Recovery.{HasRoom, AllStores, ReadsAs, Found}
 use Rattle.gate_journal.proofs.Headers.{same_journal}
 use Rattle.page_store.specs.Chain.{root_in, free_in, IsPages}
 use Rattle.page_store.specs.Openings.{AllPageStores}
-use Rattle.page_store.specs.Stops.{kept_quiet, leaves_quiet}
-use Rattle.page_store.specs.Transactions.{stored, disk_in, count_of, journal_of, has_halted, txn_pages, HasFailed, IsQuiet, IsKept, IsUntouched, OpenErr}
+use Rattle.page_store.specs.Stops.{kept_quiet}
+use Rattle.page_store.specs.Transactions.{stored, disk_in, count_of, journal_of, has_halted, IsQuiet, IsKept, IsUntouched, OpenErr}
 use Rattle.page_store.specs.declared.pages.Pages.{Pages}
 use Rattle.page_store.specs.declared.error.PageError.{PageError}
 use Rattle.page_store.specs.declared.error.PageError.TheVariants as page
@@ -17,7 +17,9 @@ use Rattle.desk_model.specs.Desk.{Desk}
 use Rattle.page_store.specs.declared.txn.Txn.{Txn}
 use Rattle.page_btree.specs.declared.error.TreeError.{TreeError}
 use Rattle.page_btree.specs.declared.error.TreeError.TheVariants as tree
-use Rattle.desk_opening.specs.Opening.{OpenErr as ReadErr}
+use Rattle.page_btree.specs.Map.{Holds, InPages as HasRows, InTxn as TxnHas}
+use Rattle.store_rows.specs.Rows.{KeyMap}
+use Rattle.desk_opening.specs.Opening.{IsReadFrom, OpenErr as ReadErr}
 use Rattle.desk_pages.specs.Desks.{HoldsDesk, InPages, InTxn, OpensDesk}
 use Rattle.desk_store.specs.Keeping.{IsLeft}
 use Rattle.desk_store.specs.Clerks.{desk_of, disk_of, sectors_of, Keeps}
@@ -27,7 +29,7 @@ use Rattle.desk_store.specs.declared.clerk.Clerk.{Clerk}
 use Rattle.desk_store.specs.declared.opening.OpenError.{OpenError}
 use Rattle.desk_store.specs.declared.opening.OpenError.TheVariants.{NotAStore, DeviceFault, Memory}
 use Rattle.desk_store.proofs.Kept.{kept_opens}
-use Rattle.desk_store.proofs.Prepared.{IsBegun, begun_reads}
+use Rattle.desk_store.proofs.Prepared.{IsBegun, begun_reads, begun_rows}
 
 pub stores_of : (disk : Disk) → AllDesks disk → AllStores disk
 stores_of disk all c leaves = let opens = (all c leaves).1 in record { J = opens.J; n = opens.n; whole = opens.whole; store = opens.opens.store }
@@ -143,6 +145,16 @@ module _ {D : Type 0} {g : Ghosts D} where
       subst (λ (P : Image). HoldsDesk (count_of a) P (root_in P) (free_in P) d) (quiet.same honest)
       (subst (λ (n : ℕ). HoldsDesk n (stored b) (root_in (stored b)) (free_in (stored b)) d) quiet.count holds)
 
+  -- rows that are held after calls that read were held before
+  rows_before : (a b : Pages D g) (m : KeyMap) → IsQuiet a b → (disk_in b).is_honest → HasRows b m → HasRows a m
+  rows_before a b m quiet honest holds =
+      subst (λ (n : ℕ). Holds n (stored a) (root_in (stored a)) (free_in (stored a)) m) quiet.count
+      (subst (λ (P : Image). Holds (count_of b) P (root_in P) (free_in P) m) (quiet.same honest) holds)
+
+  -- and a transaction that was begun reads them
+  pub rows_begun : (a b : Pages D g) (t : Txn) (m : KeyMap) → IsBegun a t → IsQuiet a b → (disk_in b).is_honest → HasRows a m → TxnHas t (stored a) m
+  rows_begun a b t m begun quiet honest holds = begun_rows a t m begun (quiet.honest honest) holds
+
   -- what is opened keeps it
   module _ (old : Disk) (a : Pages D g) (x : Clerk D g) (all : AllDesks old) (room : HasRoom old.sectors (journal_of a) (count_of a)) (found : (disk_in a).is_honest → Found (journal_of a) (count_of a) old (disk_in a))
       (kept : (disk_in a).is_honest → IsKept a) (quiet : IsQuiet a x.pages) (read : (disk_of x).is_honest → (d : Desk) → InPages a d → desk_of x ≡ d) (works : x.halted ≡ false) where
@@ -188,10 +200,12 @@ module _ {D : Type 0} {g : Ghosts D} where
   pages_left old a b found quiet honest = (journal_of b, count_of b, found_after old a b found quiet honest)
 
   -- a clerk whose pages were found, and read
-  pub is_found : (old : Disk) (a : Pages D g) (x : Clerk D g) → ((disk_in a).is_honest → Found (journal_of a) (count_of a) old (disk_in a)) → IsQuiet a x.pages → ((disk_of x).is_honest → (d : Desk) → InPages a d → desk_of x ≡ d) → (disk_of x).is_honest → IsFound old x
-  is_found old a x found quiet read honest = record {
+  pub is_found : (old : Disk) (a : Pages D g) (x : Clerk D g) → ((disk_in a).is_honest → Found (journal_of a) (count_of a) old (disk_in a)) → IsQuiet a x.pages → ((disk_of x).is_honest → (d : Desk) → InPages a d → desk_of x ≡ d) → ((disk_of x).is_honest → (m : KeyMap) → HasRows a m → IsReadFrom m (desk_of x))
+      → (disk_of x).is_honest → IsFound old x
+  is_found old a x found quiet read rows honest = record {
     pages = found_after old a x.pages found quiet honest;
     shown = λ d holds. read honest d (held_before a x.pages d quiet honest holds);
+    read = λ m holds. rows honest m (rows_before a x.pages m quiet honest holds);
   }
 
   pub find_refused : (device : D) (a b : Pages D g) (e : OpenError) → HasRoom (g.disk device).sectors (journal_of a) (count_of a) → ((disk_in a).is_honest → Found (journal_of a) (count_of a) (g.disk device) (disk_in a)) → has_halted a ≡ false

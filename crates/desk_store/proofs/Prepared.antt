@@ -1,10 +1,10 @@
 -- A command whose pages are made ready.
-use Rattle.std.proofs.Common.{◌≡◌, ◌⊎◌, ◌≤◌, ◌<◌, ◌+◌, ◌*◌, ℕ, Bool, true, false, List, length, inl, inr, refl, sym, ap, subst, ◌∙◌, arith}
-use Rattle.sector_device.specs.Disk.{Disk, Image}
+use Rattle.std.proofs.Common.{◌≡◌, ◌≤◌, ◌+◌, ℕ, true, false, List, length, inl, inr, refl, sym, ap, subst, ◌∙◌, arith}
+use Rattle.sector_device.specs.Disk.{Image}
 use Rattle.sector_device.specs.declared.SectorDevice.{Ghosts}
 use Rattle.page_store.specs.Chain.{free_in, root_in}
 use Rattle.page_store.proofs.Chains.{length_chain}
-use Rattle.page_store.specs.Transactions.{stored, disk_in, count_of, journal_of, has_halted, txn_pages, txn_writes, txn_first, txn_free, txn_root, over, free_over, prepared_pages, prepared_writes, after, IsQuiet}
+use Rattle.page_store.specs.Transactions.{stored, disk_in, count_of, txn_pages, txn_writes, txn_first, txn_free, txn_root, over, free_over, prepared_pages, prepared_writes, after, IsQuiet}
 use Rattle.page_store.specs.declared.pages.Pages.{Pages}
 use Rattle.page_store.specs.declared.txn.Txn.{Txn}
 use Rattle.page_store.specs.declared.txn.Prepared.{Prepared}
@@ -14,11 +14,9 @@ use Rattle.page_btree.specs.declared.error.TreeError.{TreeError}
 use Rattle.page_btree.specs.declared.error.TreeError.TheVariants.{DeviceFault, Halted, NoPages, TooDeep, Memory}
 use Rattle.store_rows.specs.Rows.{KeyMap}
 use Rattle.desk_model.specs.declared.command.Command.{Command}
-use Rattle.desk_model.specs.declared.reply.Reply.{Reply}
 use Rattle.desk_model.specs.Desk.{Desk}
-use Rattle.desk_model.specs.Outcome.{IsAcceptance, IsFull, RefusalMay}
+use Rattle.desk_model.specs.Outcome.{IsFull, RefusalMay}
 use Rattle.desk_model.specs.Room.{need, command_rows}
-use Rattle.desk_model.specs.Step.{step}
 use Rattle.desk_catalogue.specs.Accepting.{IsAfter}
 use Rattle.plan_table.specs.Outcomes.{HasSpent}
 use Rattle.plan_table.specs.declared.change.Change.{Change}
@@ -31,7 +29,7 @@ use Rattle.command_rows.specs.Rows.{HasNumbers}
 use Rattle.command_rows.specs.Accepted.{rows_some, ground_stays}
 use Rattle.desk_store.specs.Clerks.{desk_of, disk_of, free_of, room_of, Keeps, Reads}
 use Rattle.desk_store.specs.declared.ready.Ready.{Ready}
-use Rattle.desk_store.specs.Commands.{command_of, after_of, written_of, IsReady, HoldsNext, IsPut, HasRoom, IsShort, IsSpent, HasDeepened, MustBeFull, MayBeFull}
+use Rattle.desk_store.specs.Commands.{command_of, after_of, written_of, IsReady, HoldsNext, IsPut, HasRoom, IsSpent, MustBeFull, MayBeFull}
 use Rattle.desk_store.specs.Faults.{is_fault, refusal_of}
 use Rattle.desk_store.specs.declared.clerk.Clerk.{Clerk}
 use Rattle.desk_store.proofs.Kept.{accepted_is}
@@ -57,7 +55,7 @@ module _ {D : Type 0} {g : Ghosts D} where
       let there : HoldsDesk (txn_pages t) (stored a) (root_in (stored a)) (free_in (stored a)) d = subst (λ (n : ℕ). HoldsDesk n (stored a) (root_in (stored a)) (free_in (stored a)) d) (sym begun.pages) holds in
       begun_desk t (stored a) d there begun.over_is (begun.root honest) (begun.free honest)
 
-  begun_rows : (a : Pages D g) (t : Txn) (m : KeyMap) → IsBegun a t → (disk_in a).is_honest → HoldsRows a m → TxnHas t (stored a) m
+  pub begun_rows : (a : Pages D g) (t : Txn) (m : KeyMap) → IsBegun a t → (disk_in a).is_honest → HoldsRows a m → TxnHas t (stored a) m
   begun_rows a t m begun honest holds =
       let there : Holds (txn_pages t) (stored a) (root_in (stored a)) (free_in (stored a)) m = subst (λ (n : ℕ). Holds n (stored a) (root_in (stored a)) (free_in (stored a)) m) (sym begun.pages) holds in
       begun_holds t (stored a) m there begun.over_is (begun.root honest) (begun.free honest)

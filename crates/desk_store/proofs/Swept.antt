@@ -1,9 +1,8 @@
 -- Sweeps at a clerk.
-use Rattle.std.proofs.Common.{◌≡◌, ◌⊎◌, ◌≤◌, ◌<◌, ◌+◌, ◌^◌, ℕ, Bool, true, false, List, [], ◌∷◌, Option, Some, None, length, inl, inr, ⊎_elim, refl, sym, ap, subst, ◌∙◌, arith}
+use Rattle.std.proofs.Common.{◌≡◌, ◌⊎◌, ◌<◌, ◌^◌, ℕ, true, false, List, [], ◌∷◌, Option, Some, inl, inr, ⊎_elim, refl, sym, ap, subst, ◌∙◌}
 use Rattle.std.specs.FinMap.{remove}
-use Rattle.sector_device.specs.Disk.{Disk, Image}
 use Rattle.sector_device.specs.declared.SectorDevice.{Ghosts}
-use Rattle.page_store.specs.Transactions.{stored, disk_in, has_halted, IsQuiet}
+use Rattle.page_store.specs.Transactions.{disk_in, has_halted, IsQuiet}
 use Rattle.page_store.specs.declared.pages.Pages.{Pages}
 use Rattle.page_btree.specs.Map.{InPages as HoldsRows}
 use Rattle.desk_model.specs.Geography.{Ground}
@@ -11,7 +10,7 @@ use Rattle.desk_model.specs.Desk.{Desk}
 use Rattle.store_rows.specs.Keys.{RowKey, key_of, Fits, begun, seal, block, pair}
 use Rattle.store_rows.specs.RowLaws.{keys_differ}
 use Rattle.store_rows.specs.Frames.{remove_keeps}
-use Rattle.store_rows.specs.Rows.{KeyMap, row_in, Has}
+use Rattle.store_rows.specs.Rows.{KeyMap, row_in}
 use Rattle.store_rows.specs.GeographyRows.{IsStaged}
 use Rattle.store_rows.specs.SweepLaws.{IsLeftover, take_rows, AreLeftovers}
 use Rattle.geo_tables.specs.Loading.{HoldsLoad, number_of, ground_of, done_of}

@@ -26,7 +26,7 @@ use Rattle.desk_pages.specs.Desks.{IsDeskMap}
 use Rattle.command_rows.specs.Rows.{HasNumbers}
 use Rattle.desk_store.specs.declared.clerk.Clerk.{Clerk}
 use Rattle.desk_store.specs.declared.ready.Ready.{Ready}
-use Rattle.desk_store.specs.Clerks.{desk_of, disk_of, free_of, room_of, is_halted, Keeps, Reads, Moves}
+use Rattle.desk_store.specs.Clerks.{desk_of, disk_of, free_of, room_of, Keeps, Moves}
 
 abbrev pub command_of : Ready → Command
 command_of r = r.command.value

@@ -1,13 +1,12 @@
 -- Loads at a clerk.
-use Rattle.std.specs.Prelude.{◌≡◌, ◌⊎◌, ℕ, Bool, true, false, List, Option, Some, None}
+use Rattle.std.specs.Prelude.{◌≡◌, ℕ, Bool, true, false, Some}
 use Rattle.sector_device.specs.declared.SectorDevice.{Ghosts}
 use Rattle.page_store.specs.Transactions.{disk_in, IsQuiet}
 use Rattle.page_store.specs.declared.pages.Pages.{Pages}
 use Rattle.desk_model.specs.Geography.{Ground}
-use Rattle.desk_model.specs.Desk.{Desk}
 use Rattle.geo_tables.specs.declared.load.Load.{Load}
 use Rattle.geo_tables.specs.declared.error.LoadFault.TheVariants as below
-use Rattle.geo_tables.specs.Loading.{HoldsLoad, number_of, ground_of}
+use Rattle.geo_tables.specs.Loading.{HoldsLoad, number_of}
 use Rattle.geo_tables.specs.Refusals.{BeginErr, BatchErr, SealErr}
 use Rattle.desk_store.specs.declared.clerk.Clerk.{Clerk}
 use Rattle.desk_store.specs.declared.loads.LoadError.{LoadError}

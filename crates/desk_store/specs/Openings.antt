@@ -5,6 +5,9 @@ use Rattle.sector_device.specs.declared.SectorDevice.{Ghosts}
 use Rattle.desk_model.specs.Desk.{Desk}
 use Rattle.gate_journal.specs.Recovery.{Found}
 use Rattle.page_store.specs.Transactions.{count_of, journal_of, IsUntouched}
+use Rattle.page_btree.specs.Map.{InPages as HasRows}
+use Rattle.store_rows.specs.Rows.{KeyMap}
+use Rattle.desk_opening.specs.Opening.{IsReadFrom}
 use Rattle.desk_pages.specs.Desks.{InPages, OpensDesk}
 use Rattle.desk_store.specs.Clerks.{desk_of, disk_of}
 use Rattle.desk_store.specs.declared.clerk.Clerk.{Clerk}
@@ -31,10 +34,12 @@ pub record OpensOneOf (disk : Disk) (c : Image) : Type 0 where
 abbrev pub HasPages : Disk → Disk → Type 0
 HasPages old new = (J : ℕ) × (n : ℕ) × Found J n old new
 
--- The clerk's pages are those of a store that was there, and the desk that they hold is the one that is shown.
+-- The clerk's pages are those of a store that was there, and the desk that they hold is the one that is shown. Of rows that are no
+-- desk's, what is shown is read from them.
 pub record IsFound {D : Type 0} {g : Ghosts D} (old : Disk) (x : Clerk D g) : Type 0 where
   pub pages : Found (journal_of x.pages) (count_of x.pages) old (disk_of x)
   pub shown : (d : Desk) → InPages x.pages d → desk_of x ≡ d
+  pub read : (m : KeyMap) → HasRows x.pages m → IsReadFrom m (desk_of x)
 
 -- what is no store stays as it is, and so do the pages of one that holds no desk
 abbrev pub IsSpared : Disk → Disk → Type 0

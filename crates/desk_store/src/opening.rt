@@ -2,6 +2,9 @@
 ghost use Rattle.std.specs.Prelude.{◌≡◌, false, OnOk, IfOk, IfErr};
 ghost use Rattle.page_store.specs.Transactions.{stored, disk_in, has_halted, IsQuiet, Passed};
 ghost use Rattle.desk_model.specs.Desk.{Desk};
+ghost use Rattle.page_btree.specs.Map.{InPages as HasRows};
+ghost use Rattle.store_rows.specs.Rows.{KeyMap};
+ghost use Rattle.desk_opening.specs.Opening.{IsReadFrom};
 ghost use Rattle.desk_pages.specs.Desks.{InPages};
 ghost use Rattle.desk_store.specs.Finding.{FindErr, find_error_of, open_error_of};
 
@@ -56,6 +59,7 @@ fn read_shown<D: SectorDevice>(alloc: Global, pages: &mut Pages<D>) -> Result<Sh
     ensures quiet { IsQuiet pages.old pages.new }
     ensures passed { OnOk result (Passed pages.old pages.new) }
     ensures read { (disk_in pages.new).is_honest → (d : Desk) → InPages pages.old d → IfOk result (λ s. s.catalogue.value ≡ d) }
+    ensures found { (disk_in pages.new).is_honest → (m : KeyMap) → HasRows pages.old m → IfOk result (λ s. IsReadFrom m s.catalogue.value) }
     ensures err { IfErr result (λ e. FindErr pages.old pages.new e) }
 {
     let txn = pages.begin(alloc);

@@ -1,59 +1,47 @@
-use Rattle.std.proofs.Common.{◌≡◌, Some, sym, ap, subst, ◌∙◌}
+use Rattle.std.proofs.Common.{sym, subst}
 use Rattle.sector_device.specs.Disk.{Image}
-use Rattle.page_store.specs.Stops.{quiet_more, passed_more, passed_none}
-use Rattle.page_btree.specs.Map.{InTxn}
-use Rattle.store_rows.specs.GeographyRows.{IsGeography}
+use Rattle.page_store.specs.Stops.{quiet_more, passed_more}
+use Rattle.page_store.specs.Transactions.{Passed}
+use Rattle.page_btree.specs.Map.{InTxn as InTree}
 use Rattle.row_table.specs.Outcomes.{err_of}
-use Rattle.row_table.specs.Appending.{then_unappended}
-use Rattle.desk_pages.specs.Desks.{IsDeskMap}
-use Rattle.desk_opening.specs.Opening.{ArePlans, OpenErr}
-use Rattle.desk_opening.proofs.WholeDesks.{is_new, are_plans, unopened}
+use Rattle.desk_opening.specs.Opening.{IsReadFrom, IsShown, OpenErr}
+use Rattle.desk_opening.proofs.WholeDesks.{unkept, then_unopened, ok_then, err_then, if_ok_then, still_reads}
 use Rattle.desk_opening.proofs.desks.read_desk.Goals as goal
 
-pub returns-in_err-ground-clause-err : goal.returns-in_err-ground-clause-err
-returns-in_err-ground-clause-err g c =
+pub returns-in_err-check_numbers-clause-err : goal.returns-in_err-check_numbers-clause-err
+returns-in_err-check_numbers-clause-err g c =
     let t = c.args.txn.now in
     let a = c.args.pages.now in
-    let b = c.geography.new.pages in
-    let error = c.in_err-ground.field-0.0 in
-    err_of c.from_residual.result error (λ e. OpenErr t a b e) c.from_residual.ensures.1
-    (unopened t a b error (then_unappended IsDeskMap IsGeography t a a b error (λ honest m d holds is. (d.geography, is.desk.geography)) (passed_none a) c.geography.ensures.quiet c.in_err-ground.ensures.err))
+    let b = c.check_numbers.new.pages in
+    let error = c.in_err-check_numbers.field-0.0 in
+    err_of c.from_residual.result error (λ e. OpenErr t a b e) c.from_residual.ensures.1 (unkept t a b error c.in_err-check_numbers.ensures.err)
 
-pub returns-in_default-clause-read : goal.returns-in_default-clause-read
-returns-in_default-clause-read g c honest d held =
-    let ground = c.in_ok-ground.ensures.read honest held.m d.geography held.holds held.is.desk.geography in
-    c.new.ensures ∙ is_new held.m d held.is (sym c.in_default.is ∙ ground)
+pub returns-clause-quiet : goal.returns-clause-quiet
+returns-clause-quiet g c = quiet_more c.args.pages.now c.check_numbers.new.pages c.read_rows.new.pages c.check_numbers.ensures.quiet c.read_rows.ensures.quiet
 
-pub returns-in_err-plans-clause-quiet : goal.returns-in_err-plans-clause-quiet
-returns-in_err-plans-clause-quiet g c = quiet_more c.args.pages.now c.geography.new.pages c.read_plans.new.pages c.geography.ensures.quiet c.read_plans.ensures.quiet
+pub returns-clause-passed : goal.returns-clause-passed
+returns-clause-passed g c =
+    let a = c.args.pages.now in
+    let b = c.check_numbers.new.pages in
+    let d = c.read_rows.new.pages in
+    ok_then c.read_rows.result (Passed b d) (Passed a d) (λ next. passed_more a b d c.in_ok-check_numbers.ensures.passed next) c.read_rows.ensures.passed
 
-pub returns-in_err-plans-clause-err : goal.returns-in_err-plans-clause-err
-returns-in_err-plans-clause-err g c =
+pub returns-clause-read : goal.returns-clause-read
+returns-clause-read g c = λ honest d held.
+    c.read_rows.ensures.read honest d (still_reads c.args.txn.now c.args.pages.now c.check_numbers.new.pages d c.in_ok-check_numbers.ensures.passed (c.read_rows.ensures.quiet.honest honest) held)
+
+pub returns-clause-found : goal.returns-clause-found
+returns-clause-found g c = λ honest m holds.
+    let passed = c.in_ok-check_numbers.ensures.passed in
+    let then = c.read_rows.ensures.quiet.honest honest in
+    let there = subst (λ (P : Image). InTree c.args.txn.now P m) (sym (passed.quiet.same then)) holds in
+    if_ok_then c.read_rows.result (λ catalogue. IsShown m catalogue) (λ catalogue. IsReadFrom m catalogue)
+    (λ catalogue shown. record { numbers = c.in_ok-check_numbers.ensures.below then m holds; shown = shown }) (c.read_rows.ensures.shown honest m there)
+
+pub returns-clause-err : goal.returns-clause-err
+returns-clause-err g c =
     let t = c.args.txn.now in
     let a = c.args.pages.now in
-    let b = c.geography.new.pages in
-    let d = c.read_plans.new.pages in
-    let ground = c.in-Some.ground in
-    let error = c.in_err-plans.field-0.0 in
-    err_of c.from_residual-in_err-plans.result error (λ e. OpenErr t a d e) c.from_residual-in_err-plans.ensures.1
-    (unopened t a d error (then_unappended IsDeskMap (ArePlans ground) t a b d error
-    (λ honest m desk holds is. (desk.plans, are_plans m desk is ground (sym c.in-Some.is ∙ c.in_ok-ground.ensures.read honest m desk.geography holds is.desk.geography)))
-    c.in_ok-ground.ensures.passed c.read_plans.ensures.quiet c.in_err-plans.ensures.read))
-
-pub returns-in-Ok-clause-quiet : goal.returns-in-Ok-clause-quiet
-returns-in-Ok-clause-quiet g c = quiet_more c.args.pages.now c.geography.new.pages c.read_plans.new.pages c.geography.ensures.quiet c.read_plans.ensures.quiet
-
-pub returns-in-Ok-clause-passed : goal.returns-in-Ok-clause-passed
-returns-in-Ok-clause-passed g c = passed_more c.args.pages.now c.geography.new.pages c.read_plans.new.pages c.in_ok-ground.ensures.passed c.in_ok-plans.ensures.read.passed
-
-pub returns-in-Ok-clause-read : goal.returns-in-Ok-clause-read
-returns-in-Ok-clause-read g c honest d held =
-    let ground = c.in-Some.ground in
-    let then = c.read_plans.ensures.quiet.honest honest in
-    let same : Some ground ≡ d.geography = sym c.in-Some.is ∙ c.in_ok-ground.ensures.read then held.m d.geography held.holds held.is.desk.geography in
-    let still = subst (λ (P : Image). InTxn c.args.txn.now P held.m) (sym (c.in_ok-ground.ensures.passed.quiet.same then)) held.holds in
-    let plans = c.in_ok-plans.ensures.read.read honest held.m d.plans still (are_plans held.m d held.is ground same) in
-    c.restored.ensures ∙ (λ i. record { geography = (ap Some c.in-Ok.ensures.ok ∙ same) i; plans = plans i })
-
-pub returns-in-Err-clause-quiet : goal.returns-in-Err-clause-quiet
-returns-in-Err-clause-quiet g c = quiet_more c.args.pages.now c.geography.new.pages c.read_plans.new.pages c.geography.ensures.quiet c.read_plans.ensures.quiet
+    let b = c.check_numbers.new.pages in
+    let d = c.read_rows.new.pages in
+    err_then c.read_rows.result (λ e. OpenErr t b d e) (λ e. OpenErr t a d e) (then_unopened t a b d c.in_ok-check_numbers.ensures.passed c.read_rows.ensures.quiet) c.read_rows.ensures.err

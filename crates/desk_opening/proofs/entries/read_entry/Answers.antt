@@ -5,6 +5,7 @@ use Rattle.page_btree.specs.Map.{InTxn}
 use Rattle.row_table.specs.Outcomes.{match_of}
 use Rattle.row_table.specs.Appending.{AppendErr, then_unappended}
 use Rattle.desk_opening.specs.Reading.{HasRead, IsNext, IsPlanRow}
+use Rattle.desk_opening.proofs.Shown.{row_is}
 use Rattle.desk_opening.proofs.Revisions.{of_blocks, one_revision_more}
 use Rattle.desk_opening.proofs.entries.read_entry.Goals as goal
 
@@ -44,6 +45,8 @@ loop-before-preserved g c =
           now.known honest m (get_or p.revisions i []) still (record { is = of_blocks c.args.geography.now c.args.name c.args.row.now m p i said less; known = before.known then m p holds said });
       whole = now.whole before.whole;
       named = now.named ∙ before.named;
+      kind = now.sized.0 ∙ before.kind;
+      districts = now.sized.1 ∙ before.districts;
       many = now.longer ∙ ap (λ n. n + 1) before.many;
       begun = before.begun ∙ sym now.quiet.count;
     }
@@ -59,3 +62,10 @@ returns-clause-read g c =
           let end : length p.revisions ≤ c.loop-before.before = omega arith in
           read.read honest m p holds said ∙ ap (λ (l : List (List ℕ)). (c.args.name, record p { revisions = l })) (take_all c.loop-before.before p.revisions end);
     }
+
+pub returns-clause-row : goal.returns-clause-row
+returns-clause-row g c =
+    let before = c.loop-before.invariant in
+    let last = c.loop-before-test.false in
+    let row = c.args.row.now in
+    row_is row c.loop-before.entry.1 before.kind before.districts (let many = before.many in let end = c.loop-before.auto.before-end in omega arith)

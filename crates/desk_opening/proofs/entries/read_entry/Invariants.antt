@@ -14,6 +14,8 @@ invariant-loop-before g l = record {
   known : (disk_in l.pages).is_honest → (m : KeyMap) (p : Plan) → InTxn l.txn (stored l.initial.pages) m → IsPlanRow l.geography l.fn.name l.row m p → AreKnown l.last.names.items l.last.districts.items (cuts_of l.geography) m;
   whole : IsWhole l.geography l.entry.1;
   named : l.entry.0 ≡ l.fn.name;
+  kind : l.entry.1.kind ≡ l.row.kind;
+  districts : l.entry.1.n ≡ l.row.districts;
   many : length l.entry.1.revisions ≡ l.before;
   begun : txn_pages l.txn ≡ count_of l.pages;
 }

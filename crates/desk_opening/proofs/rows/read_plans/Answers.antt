@@ -19,6 +19,7 @@ use Rattle.row_table.specs.Appending.{AppendErr, then_unappended, unread_unappen
 use Rattle.desk_opening.specs.Reading.{HasRead}
 use Rattle.desk_opening.specs.Opening.{ArePlans, IsNewPlan}
 use Rattle.desk_opening.proofs.Parts.{Plans, AreRead, none_read, all_read}
+use Rattle.desk_opening.proofs.Shown.{AreShown, none_shown, more_shown, all_shown}
 use Rattle.desk_opening.proofs.Turns.{new_plan}
 use Rattle.desk_opening.proofs.Wholes.{none_whole}
 use Rattle.desk_opening.proofs.rows.read_plans.Goals as goal
@@ -31,7 +32,7 @@ loop-taken-init g c = record {
   whole = subst (λ (plans : Plans). AreWhole (Some c.args.geography.now) plans) (sym c.new-plans.ensures) (none_whole c.args.geography.now);
   taken = λ honest m holds.
       let rest = subst (λ (prefix : List ℕ). Rest c.new-scan.result (entries m) (under prefix (entries m))) (c.as_slice.ensures.bytes ∙ c.plans-prefix.ensures) (c.new-scan.ensures.rows m) in
-      ([], refl, taken_none plans_prefix c.new-scan.result (entries m) rest, λ all are. subst (λ (plans : Plans). AreRead [] plans all) (sym c.new-plans.ensures) (none_read all));
+      ([], refl, taken_none plans_prefix c.new-scan.result (entries m) rest, λ all are. subst (λ (plans : Plans). AreRead [] plans all) (sym c.new-plans.ensures) (none_read all), subst (λ (plans : Plans). AreShown [] plans) (sym c.new-plans.ensures) none_shown);
 }
 
 pub returns-in-None-clause-quiet : goal.returns-in-None-clause-quiet
@@ -124,6 +125,7 @@ loop-taken-preserved g c =
             λ all are.
                 let plan = new_plan ground m rows.0 c.loop-taken.scan c.next.new.self c.next.new.row c.loop-taken.plans all rows.2 next are (rows.3 all are) in
                 subst (λ (plans : Plans). AreRead (rows.0 ++ e ∷ []) plans all) (sym (now.read.read honest m plan.0 still plan.1)) plan.2,
+            more_shown m rows.0 c.loop-taken.scan c.next.new.self c.next.new.row c.loop-taken.plans c.in_ok-plans.plans rows.2 next rows.4 now.added,
           );
     }
 
@@ -135,3 +137,13 @@ returns-clause-read g c = inr (λ honest m all holds are.
     let long = rows.1 in
     let done = c.loop-taken-test.false in
     omega arith)
+
+pub returns-in-None-clause-shown : goal.returns-in-None-clause-shown
+returns-in-None-clause-shown g c = λ honest m holds.
+    let none : fault_in c.next.new.self ≡ None = sym c.fault.ensures ∙ c.in-None.is in
+    let before = c.loop-taken.invariant in
+    let then = c.next.ensures.quiet.honest honest in
+    let t = before.taken then m holds in
+    let there = subst (λ (P : Image). InTxn c.args.txn.now P m) (sym (before.passed.quiet.same then)) holds in
+    let next = subst (λ b. IsNextRow b c.next.new.self c.next.new.row (entries m) t.2.rest) c.if-not-next.true (c.next.ensures.rows honest m t.2.rest there t.2.rest_are) in
+    all_shown m t.0 c.loop-taken.plans (taken_all plans_prefix t.0 c.loop-taken.scan c.next.new.self c.next.new.row (entries m) t.2 next none) t.4

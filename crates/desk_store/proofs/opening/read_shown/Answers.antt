@@ -1,11 +1,10 @@
-use Rattle.std.proofs.Common.{◌≡◌, refl, sym, subst, ◌∙◌}
+use Rattle.std.proofs.Common.{sym, subst, ◌∙◌}
 use Rattle.desk_store.specs.Finding.{FindErr}
 use Rattle.desk_store.specs.declared.opening.OpenError.{OpenError}
-use Rattle.page_store.specs.Transactions.{disk_in}
 use Rattle.desk_model.specs.Desk.{Desk}
-use Rattle.desk_pages.specs.Desks.{InPages}
+use Rattle.desk_opening.specs.Opening.{IsReadFrom}
 use Rattle.desk_store.proofs.Prepared.{IsBegun}
-use Rattle.desk_store.proofs.Opened.{read_of, none_read}
+use Rattle.desk_store.proofs.Opened.{read_of, none_read, rows_begun}
 use Rattle.desk_store.proofs.opening.read_shown.Goals as goal
 
 pub returns-in-Ok-to_show-clause-read : goal.returns-in-Ok-to_show-clause-read
@@ -20,3 +19,9 @@ returns-clause-err g c =
     let begun : IsBegun c.args.pages.now c.begin-txn.result = record { pages = begin.pages; none = begin.none; over_is = begin.over; root = begin.root c.requires; free = begin.free c.requires } in
     subst (λ (e : OpenError). FindErr c.args.pages.now c.read_desk.new.pages e) (sym c.find_error.ensures)
     (none_read c.args.pages.now c.read_desk.new.pages c.begin-txn.result c.in-Err.e c.is_halted.result c.is_halted.ensures begun c.read_desk.ensures.quiet c.requires c.in-Err.ensures.err)
+
+pub returns-in-Ok-to_show-clause-found : goal.returns-in-Ok-to_show-clause-found
+returns-in-Ok-to_show-clause-found g c = λ honest m holds.
+    let begin = c.begin-txn.ensures in
+    let begun : IsBegun c.args.pages.now c.begin-txn.result = record { pages = begin.pages; none = begin.none; over_is = begin.over; root = begin.root c.requires; free = begin.free c.requires } in
+    subst (λ (d : Desk). IsReadFrom m d) (sym c.in-Ok-to_show.ensures) (c.in-Ok.ensures.found honest m (rows_begun c.args.pages.now c.read_desk.new.pages c.begin-txn.result m begun c.read_desk.ensures.quiet honest holds))

@@ -1,5 +1,4 @@
-use Rattle.std.proofs.Common.{◌≡◌, inr, refl, sym, subst, ◌∙◌}
-use Rattle.sector_device.specs.Disk.{Disk}
+use Rattle.std.proofs.Common.{◌≡◌, inr, refl, sym, subst}
 use Rattle.sector_device.specs.Moments.{LeavesOnly}
 use Rattle.page_store.specs.Stops.{leaves_quiet}
 use Rattle.page_store.specs.Transactions.{disk_in}
@@ -50,7 +49,7 @@ returns-in-Err-clause-untouched g c =
 
 pub returns-in-Ok-read_shown-clause-found : goal.returns-in-Ok-read_shown-clause-found
 returns-in-Ok-read_shown-clause-found g c =
-    is_found (g.D.SectorDevice.disk c.args.device) c.in-Ok.pages _ c.in-Ok.ensures.found c.read_shown.ensures.quiet c.in-Ok-read_shown.ensures.read
+    is_found (g.D.SectorDevice.disk c.args.device) c.in-Ok.pages _ c.in-Ok.ensures.found c.read_shown.ensures.quiet c.in-Ok-read_shown.ensures.read c.in-Ok-read_shown.ensures.found
 
 pub returns-in-Err-read_shown-clause-untouched : goal.returns-in-Err-read_shown-clause-untouched
 returns-in-Err-read_shown-clause-untouched g c =

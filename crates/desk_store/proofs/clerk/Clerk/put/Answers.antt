@@ -1,5 +1,4 @@
-use Rattle.std.proofs.Common.{◌≡◌, true, false, refl, sym, ap, subst, ◌∙◌}
-use Rattle.page_store.specs.declared.txn.Txn.{Txn}
+use Rattle.std.proofs.Common.{◌≡◌, true, refl, sym, subst, ◌∙◌}
 use Rattle.desk_model.specs.declared.reply.Refusal.{Refusal}
 use Rattle.desk_model.specs.Outcome.{RefusalMay}
 use Rattle.desk_store.specs.Clerks.{desk_of}

@@ -1,0 +1,16 @@
+use Rattle.std.proofs.Common.{None, sym, ap, ◌∙◌}
+use Rattle.std.specs.FinMap.{get}
+use Rattle.store_rows.specs.Rows.{Lacks}
+use Rattle.store_rows.specs.Keys.{seal}
+use Rattle.row_table.specs.Outcomes.{err_of}
+use Rattle.row_table.specs.Reading.{ReadErr, less_unread}
+use Rattle.desk_opening.proofs.none.refuse_seal.Goals as goal
+
+pub returns-in_err-found-clause-err : goal.returns-in_err-found-clause-err
+returns-in_err-found-clause-err g c =
+    let t = c.args.txn.now in
+    let a = c.args.pages.now in
+    let b = c.get_row.new.pages in
+    let e = c.in_err-found.field-0.0 in
+    err_of c.from_residual.result e (λ e. ReadErr (λ m. Lacks m seal) t a b e) c.from_residual.ensures.1
+    (less_unread _ (λ m. Lacks m seal) t a b (λ m lacks. (None, sym (ap (get m) c.seal.ensures ∙ lacks))) e c.in_err-found.ensures.err)

@@ -1,0 +1,154 @@
+-- Rows as commands keep them have numbers below those that come next, and where all rows have, no number in use comes next.
+use Rattle.std.proofs.Common.{◌≡◌, ◌<◌, ◌^◌, ℕ, List, [], All, Option, Some, None, Ok, Err, Result, OnOk, IfErr, inl, inr, refl, sym, ap, subst, ◌∙◌, w64, arith}
+use Rattle.std.specs.Int.{from_be_bytes}
+use Rattle.std.specs.FinMap.{get}
+use Rattle.std.proofs.lemmas.Nat.{from_be_bytes-to_be_bytes_8}
+use Rattle.std.proofs.lemmas.List.Elements.{All-contains, All-contains_itself}
+use Rattle.sector_device.specs.Disk.{Image}
+use Rattle.sector_device.specs.declared.SectorDevice.{Ghosts}
+use Rattle.page_store.specs.Transactions.{stored, disk_in, IsQuiet, Passed}
+use Rattle.page_store.specs.Stops.{failed_more}
+use Rattle.page_store.specs.declared.pages.Pages.{Pages}
+use Rattle.page_store.specs.declared.txn.Txn.{Txn}
+use Rattle.page_btree.specs.Map.{InTxn}
+use Rattle.page_btree.specs.declared.error.TreeError.{TreeError}
+use Rattle.page_btree.specs.declared.error.TreeError.TheVariants.{DeviceFault, Halted, NoPages, TooDeep, Memory}
+use Rattle.row_table.specs.Reading.{ReadErr}
+use Rattle.desk_model.specs.Geography.{Ground}
+use Rattle.desk_model.specs.Desk.{Desk, Plan}
+use Rattle.store_rows.specs.Keys.{RowKey, key_of, Fits, counters, retired, begun, named, part, seal, block, pair, chunk}
+use Rattle.store_rows.specs.Values.{plan_bytes, seal_bytes}
+use Rattle.store_rows.specs.Lists.{AreChunks, chunks_bytes}
+use Rattle.store_rows.specs.ListLaws.{chunks_differ}
+use Rattle.store_rows.specs.declared.value.Counters.{Counters}
+use Rattle.store_rows.specs.declared.value.SealRow.{SealRow}
+use Rattle.store_rows.specs.Rows.{KeyMap, Has}
+use Rattle.store_rows.specs.GeographyRows.{IsGeography}
+use Rattle.store_rows.specs.DeskRows.{IsPlanAt, IsDesk}
+use Rattle.store_rows.specs.Changes.{plan_row_of}
+use Rattle.store_rows.specs.Tidy.{IsNext, CountersFit, IsNumbered, IsNamedBy, IsKnown, Tidy}
+use Rattle.store_rows.proofs.OneGeography.{value_is, no_value}
+use Rattle.store_rows.proofs.TidyFree.{one_next}
+use Rattle.store_check.specs.Numbers.{IsBelow, AllBelow, NumbersFit, IsKept, IsDue, HasNumbersBelow}
+
+fit_numbers : (of : RowKey) → Fits of → NumbersFit of
+fit_numbers counters fits = tt
+fit_numbers (retired plan) fits = fits
+fit_numbers (begun load) fits = fits
+fit_numbers (named name) fits = tt
+fit_numbers (part plan revision index) fits = fits.0
+fit_numbers seal fits = tt
+fit_numbers (block load place) fits = tt
+fit_numbers (pair load place) fits = tt
+fit_numbers (chunk number piece) fits = tt
+
+-- ---- what is kept is below
+module _ (m : KeyMap) (tidy : Tidy m) where
+  plan_below : (geography : Option Ground) (name value : List ℕ) (p : Option Plan) → IsPlanAt m geography name p → Has m (named name) value → IsBelow tidy.next (named name) value
+  plan_below geography name value None is has = absurd (no_value value (sym has ∙ is))
+  plan_below None name value (Some p) is has = absurd is
+  plan_below (Some g) name value (Some p) (number, plan) has = (
+    plan_row_of number p,
+    value_is (plan_bytes (plan_row_of number p)) value (sym plan.row ∙ has),
+    tidy.below.plans name number (record { plan = plan_row_of number p; row = plan.row; is = refl; fits = plan.number_fits }),
+  )
+
+  known_below : (plan : ℕ) → plan < 2 ^ 64 → IsKnown m plan → plan < tidy.next.plan
+  known_below plan fits (inl (name, is)) = tidy.below.plans name plan is
+  known_below plan fits (inr mark) = tidy.below.retired_plans plan [] fits mark
+
+  chunks_below : (plan revision index : ℕ) (numbers : List ℕ) → Fits (part plan revision index) → AreChunks numbers → Has m (part plan revision index) (chunks_bytes numbers) → All (λ n. n < tidy.next.chunk) numbers
+  chunks_below plan revision index numbers fits chunks has k d within =
+      tidy.below.named_chunks plan _ (record { revision = revision; index = index; part_fits = fits; numbers = numbers; chunks = chunks; row = has; among = All-contains_itself numbers k d within })
+
+  part_below : (plan revision index : ℕ) (value : List ℕ) → Fits (part plan revision index) → Has m (part plan revision index) value → IsBelow tidy.next (part plan revision index) value
+  part_below plan revision index value fits has =
+      let (numbers, chunks, is) = tidy.counted.parts plan revision index value fits has in (
+        known_below plan fits.0 (tidy.owned.parts plan revision index value fits has),
+        (numbers, chunks, sym is, chunks_below plan revision index numbers fits chunks (has ∙ ap Some is)),
+      )
+
+  seal_below : (geography : Option Ground) (value : List ℕ) → IsGeography m geography → Has m seal value → IsBelow tidy.next seal value
+  seal_below None value is has = absurd (no_value value (sym has ∙ is))
+  seal_below (Some g) value (load, is) has = (_, value_is _ value (sym is.named ∙ has), tidy.below.sealed_load _ is.load_fits is.named)
+
+  pub kept_below : (desk : Desk) → IsDesk m desk → (of : RowKey) (value : List ℕ) → Fits of → Has m of value → IsBelow tidy.next of value
+  kept_below desk is counters value fits has = tt
+  kept_below desk is (retired plan) value fits has = tidy.below.retired_plans plan value fits has
+  kept_below desk is (begun load) value fits has = tidy.below.begun_loads load value fits has
+  kept_below desk is (named name) value fits has = plan_below desk.geography name value (get desk.plans name) (is.plans name) has
+  kept_below desk is (part plan revision index) value fits has = part_below plan revision index value fits has
+  kept_below desk is seal value fits has = seal_below desk.geography value is.geography has
+  kept_below desk is (block load place) value fits has = tt
+  kept_below desk is (pair load place) value fits has = tt
+  kept_below desk is (chunk number piece) value fits has = tt
+
+-- a row that isn't is no row of such a map
+pub no_due : (next : Counters) (m : KeyMap) (key value : List ℕ) → IsDue next m → get m key ≡ Some value → ((of : RowKey) → NumbersFit of → key ≡ key_of of → IsBelow next of value → ⊥) → ⊥
+no_due next m key value due there above =
+    let tidy = due.kept.tidy in
+    let (of, fits, is) = tidy.rows key value there in
+    let same = one_next m tidy.next next tidy.fits due.fits tidy.is_next due.is_next in
+    let has : Has m of value = ap (get m) (sym is) ∙ there in
+    above of (fit_numbers of fits) is (subst (λ (n : Counters). IsBelow n of value) same (kept_below m tidy due.kept.desk due.kept.is of value fits has))
+
+-- ---- what is below
+module _ (next : Counters) (m : KeyMap) (fits : CountersFit next) (all : AllBelow next m) where
+  numbered_below : (name : List ℕ) (number : ℕ) → IsNumbered m name number → number < next.plan
+  numbered_below name number is =
+      let (p, bytes, below) = all (named name) (plan_bytes is.plan) tt is.row in
+      let limit = fits.plan_fits in
+      let told : p.number ≡ is.plan.number = sym (from_be_bytes-to_be_bytes_8 p.number (omega arith)) ∙ ap (from_be_bytes w64) bytes ∙ from_be_bytes-to_be_bytes_8 is.plan.number (let same = is.is in let few = is.fits in omega arith) in
+      let same = is.is in
+      omega (arith, told, same, below)
+
+  sealed_below : (sealed : SealRow) → sealed.load < 2 ^ 64 → Has m seal (seal_bytes sealed) → sealed.load < next.load
+  sealed_below sealed few has =
+      let (s, bytes, below) = all seal (seal_bytes sealed) tt has in
+      let limit = fits.load_fits in
+      let told : s.load ≡ sealed.load = sym (from_be_bytes-to_be_bytes_8 s.load (omega arith)) ∙ ap (from_be_bytes w64) bytes ∙ from_be_bytes-to_be_bytes_8 sealed.load few in
+      omega (arith, told, below)
+
+  named_below : (plan number : ℕ) → IsNamedBy m plan number → number < next.chunk
+  named_below plan number is =
+      let (below, (numbers, chunks, bytes, each)) = all (part plan is.revision is.index) (chunks_bytes is.numbers) is.part_fits.0 is.row in
+      let same = chunks_differ numbers is.numbers chunks is.chunks bytes in
+      All-contains (λ n. n < next.chunk) is.numbers number (subst (λ (l : List ℕ). All (λ n. n < next.chunk) l) same each) is.among
+
+  pub are_below : IsNext m next → HasNumbersBelow m
+  are_below is = record {
+    next = next;
+    is_next = is;
+    fits = fits;
+    below = record {
+      plans = numbered_below;
+      retired_plans = λ plan value small has. all (retired plan) value small has;
+      named_chunks = named_below;
+      begun_loads = λ load value small has. all (begun load) value small has;
+      sealed_load = sealed_below;
+    };
+  }
+
+-- counters that are read fit
+pub counters_fit : (next : Counters) → (next.plan < 2 ^ 64) × (next.chunk < 2 ^ 64) × (next.load < 2 ^ 64) → CountersFit next
+counters_fit next fit = record { plan_fits = fit.0; chunk_fits = fit.1; load_fits = fit.2 }
+
+pub ok_then : {T E : Type 0} (r : Result T E) (A B : Type 0) → (A → B) → OnOk r A → OnOk r B
+ok_then (Ok x) A B go is = go is
+ok_then (Err e) A B go is = tt
+
+pub err_then : {T E : Type 0} (r : Result T E) (P Q : E → Type 0) → ((e : E) → P e → Q e) → IfErr r P → IfErr r Q
+err_then (Ok x) P Q go is = tt
+err_then (Err e) P Q go is = go e is
+
+-- what isn't read of such rows once their counters were read
+pub kept_unread : {D : Type 0} {g : Ghosts D} (next : Counters) (t : Txn) (a b c : Pages D g) → CountersFit next → ((disk_in b).is_honest → (m : KeyMap) → InTxn t (stored a) m → IsNext m next) → Passed a b → IsQuiet b c → (e : TreeError) → ReadErr (IsDue next) t b c e → ReadErr IsKept t a c e
+kept_unread next t a b c fits told read quiet DeviceFault why = elim why [
+  | inl failed ↦ inl (failed_more a b c read quiet failed)
+  | inr none ↦ inr (λ honest m holds kept. let then = quiet.honest honest in
+      none honest m (subst (λ (P : Image). InTxn t P m) (sym (read.quiet.same then)) holds) (record { kept = kept; is_next = told then m holds; fits = fits }))
+]
+kept_unread next t a b c fits told read quiet Halted why = sym read.halted ∙ why
+kept_unread next t a b c fits told read quiet NoPages why = why
+kept_unread next t a b c fits told read quiet TooDeep why = why
+kept_unread next t a b c fits told read quiet Memory why = why

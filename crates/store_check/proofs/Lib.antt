@@ -1,0 +1,2 @@
+mod Scanned
+mod Kept

@@ -1,0 +1,121 @@
+-- The rows that a scan takes from the first on are rows of the map.
+use Rattle.std.proofs.Common.{◌≡◌, ◌≤◌, ◌<◌, ℕ, List, [], ◌∷◌, ◌++◌, Bool, true, false, cond, ◌&&◌, nat_eq, Some, None, drop, refl, sym, ap, subst, ◌∙◌, arith}
+use Rattle.std.specs.Prelude.{Option, T}
+use Rattle.std.specs.List.{starts_with}
+use Rattle.std.specs.Ordering.{is_lt, eq_by_cmp, nat_cmp, ordering_then}
+use Rattle.std.specs.declared.cmp.Ordering.TheVariants.{Less, Equal}
+use Rattle.std.specs.Cmp.{nat_cmp_is}
+use Rattle.std.specs.Cmp.Lexicographic.{nat_list_cmp_total, slice_cmp}
+use Rattle.std.specs.FinMap.{entries, entries_sorted, find, get, get-entries, is_sorted}
+use Rattle.std.specs.FinMap.Entries.{below_all}
+use Rattle.std.proofs.lemmas.Cmp.{tied_itself}
+use Rattle.page_node.specs.Entries.{Entry}
+use Rattle.page_node.specs.Places.{key_cmp, Rises}
+use Rattle.page_node.specs.Laws.{is_less, flip_less, above_middle, find_none}
+use Rattle.btree_scan.specs.Prefixes.{find_under, head_rises, under, under_rises}
+use Rattle.store_rows.specs.Keys.{RowKey, key_of, counters, retired, begun, named, part, seal, block, pair, chunk}
+use Rattle.store_rows.specs.declared.value.Counters.{Counters}
+use Rattle.store_rows.specs.Rows.{KeyMap, Has}
+use Rattle.store_rows.specs.Frames.{differs, is_equal, itself, same_key}
+use Rattle.store_check.specs.Numbers.{IsBelow, AllBelow, IsPast, NumbersFit}
+
+first_so : (b c : Bool) → (b && c) ≡ true → b ≡ true
+first_so true c h = refl
+first_so false c h = h
+
+second_so : (b c : Bool) → (b && c) ≡ true → c ≡ true
+second_so true c h = h
+second_so false c h = cc
+
+either_way : (b : Bool) (P : Type 0) → (b ≡ true → P) → (b ≡ false → P) → P
+either_way true P yes_so no_so = yes_so refl
+either_way false P yes_so no_so = no_so refl
+
+true_is : (b : Bool) → T b → b ≡ true
+true_is true h = refl
+true_is false h = absurd h
+
+-- each key is under no bytes
+all_under : (key : List ℕ) → starts_with nat_eq key [] ≡ true
+all_under [] = refl
+all_under (x ∷ xs) = refl
+
+-- ---- rows that rise
+below_middle : (key : List ℕ) (taken : List Entry) (e : Entry) (more : List Entry) → below_all key_cmp key (taken ++ e ∷ more) ≡ true → key_cmp key e.0 ≡ Less
+below_middle key [] e more below = is_less (key_cmp key e.0) (first_so (is_lt (key_cmp key e.0)) (below_all key_cmp key more) below)
+below_middle key (f ∷ taken) e more below = below_middle key taken e more (second_so (is_lt (key_cmp key f.0)) (below_all key_cmp key (taken ++ e ∷ more)) below)
+
+unlike : (x y : List ℕ) → key_cmp x y ≡ Less → y ≡ x → ⊥
+unlike x y less same =
+    let clash : Equal ≡ Less = sym (tied_itself nat_list_cmp_total x) ∙ ap (key_cmp x) (sym same) ∙ less in
+    cc
+
+found_middle : (taken : List Entry) (e : Entry) (more : List Entry) → Rises (taken ++ e ∷ more) → find key_cmp e.0 (taken ++ e ∷ more) ≡ Some e.1
+found_middle [] e more rises = ap (λ (b : Bool). cond b (Some e.1) (find key_cmp e.0 more)) (itself e.0)
+found_middle (f ∷ taken) e more rises =
+    let h = head_rises f (taken ++ e ∷ more) rises in
+    let apart = differs e.0 f.0 (unlike f.0 e.0 (below_middle f.0 taken e more h.0)) in
+    ap (λ (b : Bool). cond b (Some f.1) (find key_cmp e.0 (taken ++ e ∷ more))) apart ∙ found_middle taken e more h.1
+
+all_rise : (m : KeyMap) → Rises (under [] (entries m))
+all_rise m = under_rises [] (entries m) (true_is (is_sorted key_cmp (entries m)) (entries_sorted m))
+
+get_is : (m : KeyMap) (key : List ℕ) → get m key ≡ find key_cmp key (under [] (entries m))
+get_is m key = get-entries m key ∙ sym (find_under [] key (entries m) (all_under key))
+
+-- a row that is taken stands in the map
+pub row_there : (m : KeyMap) (taken : List Entry) (e : Entry) (more : List Entry) → under [] (entries m) ≡ taken ++ e ∷ more → get m e.0 ≡ Some e.1
+row_there m taken e more whole = get_is m e.0 ∙ ap (λ (es : List Entry). find key_cmp e.0 es) whole ∙ found_middle taken e more (subst Rises whole (all_rise m))
+
+-- a key below that of a row is found before it, or nowhere
+found_before : (key : List ℕ) (taken : List Entry) (e : Entry) (more : List Entry) → Rises (taken ++ e ∷ more) → key_cmp key e.0 ≡ Less → find key_cmp key (taken ++ e ∷ more) ≡ find key_cmp key taken
+found_before key [] e more rises less = find_none key (e ∷ more) 0 (λ j few within. absurd (omega arith)) (λ j from within. above_middle (e ∷ more) key 0 rises (flip_less key e.0 less) j from within)
+found_before key (f ∷ taken) e more rises less = ap (λ (r : Option (List ℕ)). cond (eq_by_cmp key_cmp key f.0) (Some f.1) r) (found_before key taken e more (head_rises f (taken ++ e ∷ more) rises).1 less)
+
+-- ---- rows that are below
+abbrev pub IsEntryBelow : Counters → Entry → Type 0
+IsEntryBelow next e = (of : RowKey) → NumbersFit of → e.0 ≡ key_of of → IsBelow next of e.1
+
+abbrev pub AreEntriesBelow : Counters → List Entry → Type 0
+AreEntriesBelow next [] = Unit {0}
+AreEntriesBelow next (e ∷ es) = IsEntryBelow next e × AreEntriesBelow next es
+
+pub below_more : (next : Counters) (es : List Entry) (e : Entry) → IsEntryBelow next e → AreEntriesBelow next es → AreEntriesBelow next (es ++ e ∷ [])
+below_more next [] e is all = (is, tt)
+below_more next (f ∷ es) e is all = (all.0, below_more next es e is all.1)
+
+below_found : (next : Counters) (of : RowKey) (value : List ℕ) (es : List Entry) → AreEntriesBelow next es → NumbersFit of → find key_cmp (key_of of) es ≡ Some value → IsBelow next of value
+below_found next of value [] all fits there = let clash : ◌≡◌ {A = Option (List ℕ)} None (Some value) = there in absurd (cc)
+below_found next of value (e ∷ es) all fits there = either_way (eq_by_cmp key_cmp (key_of of) e.0) (IsBelow next of value)
+    (λ same.
+    let is : key_of of ≡ e.0 = same_key (key_of of) e.0 (is_equal (key_cmp (key_of of) e.0) same) in
+    let told : ◌≡◌ {A = Option (List ℕ)} (Some e.1) (Some value) = sym (ap (λ (b : Bool). cond b (Some e.1) (find key_cmp (key_of of) es)) same) ∙ there in
+    let equal : e.1 ≡ value = cc in
+    subst (λ (v : List ℕ). IsBelow next of v) equal (all.0 of fits (sym is)))
+    (λ other. below_found next of value es all.1 fits (sym (ap (λ (b : Bool). cond b (Some e.1) (find key_cmp (key_of of) es)) other) ∙ there))
+
+pub all_below : (next : Counters) (m : KeyMap) (taken : List Entry) → under [] (entries m) ≡ taken → AreEntriesBelow next taken → AllBelow next m
+all_below next m taken whole all of value fits has = below_found next of value taken all fits (sym (get_is m (key_of of) ∙ ap (λ (es : List Entry). find key_cmp (key_of of) es) whole) ∙ has)
+
+-- ---- rows that come before one that is past
+less_tag : (tag other : ℕ) (rest more : List ℕ) → tag < other → key_cmp (tag ∷ rest) (other ∷ more) ≡ Less
+less_tag tag other rest more less = ap (λ (r : _). ordering_then r (slice_cmp nat_cmp rest more)) (sym (nat_cmp_is tag other Less less))
+
+before_past : (key : List ℕ) (tag : ℕ) (rest : List ℕ) → tag ≤ 83 → IsPast key → key_cmp (tag ∷ rest) key ≡ Less
+before_past key tag rest few past = subst (λ (k : List ℕ). key_cmp (tag ∷ rest) k ≡ Less) (sym past.is) (let over = past.past in less_tag tag past.tag rest past.rest (omega arith))
+
+module _ (next : Counters) (m : KeyMap) (taken : List Entry) (e : Entry) (more : List Entry) (whole : under [] (entries m) ≡ taken ++ e ∷ more) (all : AreEntriesBelow next taken) (past : IsPast e.0) where
+  found_so : (of : RowKey) (value : List ℕ) → NumbersFit of → key_cmp (key_of of) e.0 ≡ Less → Has m of value → IsBelow next of value
+  found_so of value fits less has = below_found next of value taken all fits
+      (sym (found_before (key_of of) taken e more (subst Rises whole (all_rise m)) less) ∙ sym (get_is m (key_of of) ∙ ap (λ (es : List Entry). find key_cmp (key_of of) es) whole) ∙ has)
+
+  pub past_below : AllBelow next m
+  past_below counters value fits has = tt
+  past_below (retired plan) value fits has = found_so (retired plan) value fits (before_past e.0 68 (drop 1 (key_of (retired plan))) (omega arith) past) has
+  past_below (begun load) value fits has = found_so (begun load) value fits (before_past e.0 76 (drop 1 (key_of (begun load))) (omega arith) past) has
+  past_below (named name) value fits has = found_so (named name) value fits (before_past e.0 80 (drop 1 (key_of (named name))) (omega arith) past) has
+  past_below (part plan revision index) value fits has = found_so (part plan revision index) value fits (before_past e.0 82 (drop 1 (key_of (part plan revision index))) (omega arith) past) has
+  past_below seal value fits has = found_so seal value fits (before_past e.0 83 (drop 1 (key_of seal)) (omega arith) past) has
+  past_below (block load place) value fits has = tt
+  past_below (pair load place) value fits has = tt
+  past_below (chunk number piece) value fits has = tt

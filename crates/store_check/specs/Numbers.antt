@@ -1,0 +1,65 @@
+-- Numbers in use, and those that come next.
+use Rattle.std.specs.Prelude.{◌≡◌, ◌<◌, ◌^◌, ℕ, List, ◌∷◌, All}
+use Rattle.desk_model.specs.Desk.{Desk}
+use Rattle.store_rows.specs.Keys.{RowKey, counters, retired, begun, named, part, seal, block, pair, chunk}
+use Rattle.store_rows.specs.Values.{plan_bytes, seal_bytes}
+use Rattle.store_rows.specs.Lists.{AreChunks, chunks_bytes}
+use Rattle.store_rows.specs.declared.value.Counters.{Counters}
+use Rattle.store_rows.specs.declared.value.PlanRow.{PlanRow}
+use Rattle.store_rows.specs.declared.value.SealRow.{SealRow}
+use Rattle.store_rows.specs.Rows.{KeyMap, Has}
+use Rattle.store_rows.specs.DeskRows.{IsDesk}
+use Rattle.store_rows.specs.Tidy.{IsNext, CountersFit, AreBelow, Tidy}
+
+-- the numbers of a plan, of chunks and of a load that a row has are below those that come next
+abbrev pub IsBelow : Counters → RowKey → List ℕ → Type 0
+IsBelow next counters value = Unit {0}
+IsBelow next (retired plan) value = plan < next.plan
+IsBelow next (begun load) value = load < next.load
+IsBelow next (named name) value = (p : PlanRow) × (plan_bytes p ≡ value) × (p.number < next.plan)
+IsBelow next (part plan revision index) value = (plan < next.plan) × ((numbers : List ℕ) × AreChunks numbers × (chunks_bytes numbers ≡ value) × All (λ n. n < next.chunk) numbers)
+IsBelow next seal value = (s : SealRow) × (seal_bytes s ≡ value) × (s.load < next.load)
+IsBelow next (block load place) value = Unit {0}
+IsBelow next (pair load place) value = Unit {0}
+IsBelow next (chunk number piece) value = Unit {0}
+
+-- the numbers that a key tells by fit in its bytes
+abbrev pub NumbersFit : RowKey → Type 0
+NumbersFit counters = Unit {0}
+NumbersFit (retired plan) = plan < 2 ^ 64
+NumbersFit (begun load) = load < 2 ^ 64
+NumbersFit (named name) = Unit {0}
+NumbersFit (part plan revision index) = plan < 2 ^ 64
+NumbersFit seal = Unit {0}
+NumbersFit (block load place) = Unit {0}
+NumbersFit (pair load place) = Unit {0}
+NumbersFit (chunk number piece) = Unit {0}
+
+abbrev pub AllBelow : Counters → KeyMap → Type 0
+AllBelow next m = (of : RowKey) (value : List ℕ) → NumbersFit of → Has m of value → IsBelow next of value
+
+-- a key behind those of all rows that have such numbers
+pub record IsPast (key : List ℕ) : Type 0 where
+  pub tag : ℕ
+  pub rest : List ℕ
+  pub is : key ≡ tag ∷ rest
+  pub past : 83 < tag
+
+-- the rows are those of a desk, as commands keep them
+pub record IsKept (m : KeyMap) : Type 0 where
+  pub desk : Desk
+  pub is : IsDesk m desk
+  pub tidy : Tidy m
+
+-- and these numbers come next
+pub record IsDue (next : Counters) (m : KeyMap) : Type 0 where
+  pub kept : IsKept m
+  pub is_next : IsNext m next
+  pub fits : CountersFit next
+
+-- the numbers that are in use are below those that come next
+pub record HasNumbersBelow (m : KeyMap) : Type 0 where
+  pub next : Counters
+  pub is_next : IsNext m next
+  pub fits : CountersFit next
+  pub below : AreBelow m next

@@ -1,0 +1,25 @@
+//! Checks the numbers in a store.
+ghost use Rattle.std.specs.Prelude.{◌≡◌, OnOk, IfErr};
+ghost use Rattle.page_store.specs.Transactions.{stored, disk_in, count_of, txn_pages, IsQuiet, Passed};
+ghost use Rattle.page_btree.specs.Map.{InTxn};
+ghost use Rattle.row_table.specs.Reading.{ReadErr};
+ghost use Rattle.store_rows.specs.Rows.{KeyMap};
+ghost use Rattle.store_check.specs.Numbers.{HasNumbersBelow, IsKept};
+
+use crate::scans::check_rows;
+use page_store::{Pages, Txn};
+use row_table::{TreeError, next_numbers};
+use sector_device::SectorDevice;
+
+/// Checks that the numbers of plans, chunks and loads that are in use are below those that come next. It takes no memory. An error is
+/// `DeviceFault`, which comes where one isn't, or where the device failed, or `Halted`.
+pub fn check_numbers<D: SectorDevice>(txn: &Txn, pages: &mut Pages<D>) -> Result<(), TreeError>
+    requires begun { txn_pages txn.now ≡ count_of pages.old }
+    ensures quiet { IsQuiet pages.old pages.new }
+    ensures passed { OnOk result (Passed pages.old pages.new) }
+    ensures below { (disk_in pages.new).is_honest → (m : KeyMap) → InTxn txn.now (stored pages.old) m → OnOk result (HasNumbersBelow m) }
+    ensures err { IfErr result (λ e. ReadErr IsKept txn.now pages.old pages.new e) }
+{
+    let next = next_numbers(txn, pages)?;
+    check_rows(txn, pages, next)
+}

@@ -1,0 +1,72 @@
+//! Numbers in rows that are below those that come next.
+ghost use Rattle.std.specs.Prelude.{◌≡◌, ◌<◌, ◌^◌, ℕ, List, ◌∷◌, ◌++◌, All, true, false, length};
+ghost use Rattle.store_rows.specs.declared.value.PlanRow.{PlanRow as PlanValue};
+ghost use Rattle.store_rows.specs.declared.value.SealRow.{SealRow as SealValue};
+ghost use Rattle.store_rows.specs.Keys.{in_eight};
+ghost use Rattle.store_rows.specs.Values.{plan_bytes, seal_bytes};
+ghost use Rattle.store_rows.specs.Lists.{AreChunks, chunks_bytes};
+
+use store_rows::{read_chunks, read_plan, read_seal};
+
+/// The number of 8 bytes, the highest first.
+fn eight(bytes: &[u8]) -> u64
+    requires { length bytes.now ≡ 8 }
+    ensures bytes { in_eight result ≡ bytes.now }
+    ensures fits { result < 2 ^ 64 }
+{
+    u64::from_be_bytes([
+        bytes[0], bytes[1], bytes[2], bytes[3], bytes[4], bytes[5], bytes[6], bytes[7],
+    ])
+}
+
+/// Whether the number after a key's tag is below the next one.
+pub(crate) fn is_key_below(key: &[u8], next: u64) -> bool
+    ensures below { result ≡ true → (tag number : ℕ) (rest : List ℕ) → number < 2 ^ 64 → key.now ≡ tag ∷ (in_eight number ++ rest) → number < next }
+    ensures above { result ≡ false → (tag number : ℕ) (rest : List ℕ) → number < 2 ^ 64 → key.now ≡ tag ∷ (in_eight number ++ rest) → number < next → ⊥ }
+{
+    if key.len() < 9 {
+        return false;
+    }
+    eight(&key[1..9]) < next
+}
+
+/// Whether the value of a plan's row has a number below the next one.
+pub(crate) fn is_plan_below(value: &[u8], next: u64) -> bool
+    ensures below { result ≡ true → (p : PlanValue) × (plan_bytes p ≡ value.now) × (p.number < next) }
+    ensures above { result ≡ false → (p : PlanValue) → plan_bytes p ≡ value.now → p.number < next → ⊥ }
+{
+    match read_plan(value) {
+        None => false,
+        Some(plan) => plan.number < next,
+    }
+}
+
+/// Whether the value of the row that names the geography has a load below the next one.
+pub(crate) fn is_seal_below(value: &[u8], next: u64) -> bool
+    ensures below { result ≡ true → (s : SealValue) × (seal_bytes s ≡ value.now) × (s.load < next) }
+    ensures above { result ≡ false → (s : SealValue) → seal_bytes s ≡ value.now → s.load < next → ⊥ }
+{
+    match read_seal(value) {
+        None => false,
+        Some(seal) => seal.load < next,
+    }
+}
+
+/// Whether each number is below the next one.
+fn are_below(numbers: &[u64], next: u64) -> bool
+    ensures below { result ≡ true → All (λ n. n < next) numbers.now }
+    ensures above { result ≡ false → All (λ n. n < next) numbers.now → ⊥ }
+{
+    numbers.iter().all(|number| *number < next)
+}
+
+/// Whether the value of a part of a revision names chunks whose numbers are below the next one.
+pub(crate) fn are_chunks_below(value: &[u8], next: u64) -> bool
+    ensures below { result ≡ true → (numbers : List ℕ) × AreChunks numbers × (chunks_bytes numbers ≡ value.now) × All (λ n. n < next) numbers }
+    ensures above { result ≡ false → (numbers : List ℕ) → AreChunks numbers → chunks_bytes numbers ≡ value.now → All (λ n. n < next) numbers → ⊥ }
+{
+    match read_chunks(value) {
+        None => false,
+        Some(numbers) => are_below(numbers.as_slice(), next),
+    }
+}

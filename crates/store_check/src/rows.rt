@@ -1,0 +1,40 @@
+//! Rows whose numbers are below those that come next.
+ghost use Rattle.std.specs.Prelude.{◌≡◌, true, false};
+ghost use Rattle.store_rows.specs.Keys.{RowKey, key_of};
+ghost use Rattle.store_check.specs.Numbers.{IsBelow, IsPast, NumbersFit};
+
+use crate::numbers::{are_chunks_below, is_key_below, is_plan_below, is_seal_below};
+use btree_scan::Row;
+use store_rows::Counters;
+
+/// Whether each number that a row has is below the one of its kind that comes next. The rows of blocks, of neighbours and of chunks'
+/// pieces are not looked at.
+pub(crate) fn is_below(row: &Row, next: Counters) -> bool
+    ensures below { result ≡ true → (of : RowKey) → NumbersFit of → row.now.key ≡ key_of of → IsBelow next of row.now.value }
+    ensures above { result ≡ false → (of : RowKey) → NumbersFit of → row.now.key ≡ key_of of → IsBelow next of row.now.value → ⊥ }
+{
+    let key = row.key.as_slice();
+    let value = row.value.as_slice();
+    if key.is_empty() {
+        return false;
+    }
+    match key[0] {
+        b'D' => is_key_below(key, next.plan),
+        b'L' => is_key_below(key, next.load),
+        b'P' => is_plan_below(value, next.plan),
+        b'R' => is_key_below(key, next.plan) && are_chunks_below(value, next.chunk),
+        b'S' => is_seal_below(value, next.load),
+        _ => true,
+    }
+}
+
+/// Whether a row comes after all those that are looked at.
+pub(crate) fn is_past(row: &Row) -> bool
+    ensures { result ≡ true → IsPast row.now.key }
+{
+    let key = row.key.as_slice();
+    if key.is_empty() {
+        return false;
+    }
+    key[0] > b'S'
+}

@@ -1,0 +1,46 @@
+//! Checks rows one after the other.
+ghost use Rattle.std.specs.Prelude.{◌≡◌, OnOk, IfErr};
+ghost use Rattle.page_store.specs.Transactions.{stored, disk_in, count_of, txn_pages, IsQuiet, Passed};
+ghost use Rattle.page_btree.specs.Map.{InTxn};
+ghost use Rattle.row_table.specs.Reading.{ReadErr};
+ghost use Rattle.store_rows.specs.Rows.{KeyMap};
+ghost use Rattle.store_check.specs.Numbers.{AllBelow, IsDue};
+
+use crate::rows::{is_below, is_past};
+use btree_scan::{Row, Scan, row_limit};
+use page_store::{Pages, Txn};
+use row_table::TreeError;
+use sector_device::SectorDevice;
+use store_rows::Counters;
+
+/// Goes over the rows up to those of geographies and of chunks' pieces. An error is `DeviceFault`, where a row has a number that comes
+/// next or later or the device failed, or `Halted`.
+pub(crate) fn check_rows<D: SectorDevice>(
+    txn: &Txn,
+    pages: &mut Pages<D>,
+    next: Counters,
+) -> Result<(), TreeError>
+    requires begun { txn_pages txn.now ≡ count_of pages.old }
+    ensures quiet { IsQuiet pages.old pages.new }
+    ensures passed { OnOk result (Passed pages.old pages.new) }
+    ensures below { (disk_in pages.new).is_honest → (m : KeyMap) → InTxn txn.now (stored pages.old) m → OnOk result (AllBelow next m) }
+    ensures err { IfErr result (λ e. ReadErr (IsDue next) txn.now pages.old pages.new e) }
+{
+    let mut scan = Scan::new(&[]);
+    let mut row = Row::empty();
+    for taken in 0..row_limit(txn) {
+        if !scan.next(txn, pages, &mut row) {
+            match scan.fault() {
+                None => return Ok(()),
+                Some(fault) => return Err(fault),
+            }
+        }
+        if is_past(&row) {
+            return Ok(());
+        }
+        if !is_below(&row, next) {
+            return Err(TreeError::DeviceFault);
+        }
+    }
+    Err(TreeError::DeviceFault)
+}
