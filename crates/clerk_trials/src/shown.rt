@@ -23,6 +23,7 @@ fn is_shown<J: Room, R: Wait + Abort>(
     catalogue: Arc<Catalogue>,
 ) -> bool
     requires book { opened.seen.book ≡ J.book }
+    requires root { opened.pen.nib.key ≡ J.root }
     requires first { catalogue.value ≡ J.first }
     requires same { desk_of clerk ≡ J.first }
     requires kept { J.sound → Keeps clerk }

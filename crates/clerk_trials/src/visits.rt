@@ -8,7 +8,7 @@ use desk_gallery::book::{Opened, Room};
 use desk_gallery::front::Front;
 use desk_gallery::gallery::{Gallery, GalleryFault};
 use desk_store::clerk::Clerk;
-use gallery_law::office::is_standing;
+use gallery_law::office::are_standing;
 use sector_memory::FailOnce;
 use std::alloc::Global;
 use std::marker::Brand;
@@ -25,6 +25,7 @@ fn two_visitors<J: Room, R: Wait + Abort>(
     catalogue: Arc<Catalogue>,
 )
     requires book { opened.seen.book ≡ J.book }
+    requires root { opened.pen.nib.key ≡ J.root }
     requires first { catalogue.value ≡ J.first }
     requires same { desk_of clerk ≡ J.first }
     requires kept { J.sound → Keeps clerk }
@@ -39,7 +40,7 @@ fn two_visitors<J: Room, R: Wait + Abort>(
     };
     let mut front = Front::new(clerk, shower);
     let mut visitors = visitors;
-    assert!(rt; is_standing(&front, visitors.as_slice()));
+    are_standing(&mut front, visitors.as_slice());
     assert!(rt; plans_seen(rt, alloc, &mut visitors[0]) == 0);
     for (name, so_far) in [(b"a", 1), (b"b", 2)] {
         let (reply, told) = front.command(rt, alloc, create(rt, name));
@@ -47,14 +48,14 @@ fn two_visitors<J: Room, R: Wait + Abort>(
         visitors[0].learn(told);
         assert!(rt; visitors[0].heard() == so_far as u128 && front.shown() == so_far as u128);
         assert!(rt; plans_seen(rt, alloc, &mut visitors[0]) == so_far);
-        assert!(rt; is_standing(&front, visitors.as_slice()));
+        are_standing(&mut front, visitors.as_slice());
     }
     let (again, told) = front.command(rt, alloc, create(rt, b"a"));
     assert!(rt; !is_created(&again));
     visitors[0].learn(told);
     assert!(rt; visitors[0].heard() == 2 && visitors[1].heard() == 0);
     assert!(rt; plans_seen(rt, alloc, &mut visitors[1]) == 2 && visitors[1].heard() == 2);
-    assert!(rt; is_standing(&front, visitors.as_slice()));
+    are_standing(&mut front, visitors.as_slice());
     front.close(rt);
 }
 

@@ -1,6 +1,8 @@
-mod Adding
 pub mod Afters
+mod Chaining
+mod Keeping
 pub mod Outcomes
 pub mod Pasts
 pub mod Showing
+mod Weighing
 pub mod Working

@@ -1,20 +1,15 @@
 -- What waits, and what is shown of it.
-use Rattle.std.proofs.Common.{◌≡◌, List, true, false, Option, Some, None, Result, Ok, Err, IfOk, MatchResult, is_ok, is_err, sym, subst}
-use Rattle.logbook.specs.Pages.{Book}
-use Rattle.desk_model.specs.declared.command.Command.{Command}
-use Rattle.desk_model.specs.Desk.{Desk}
-use Rattle.desk_gallery.specs.declared.shelf.Shelf.{Shelf}
-use Rattle.desk_gallery.specs.Shelves.{Stands, Waits}
+use Rattle.std.proofs.Common.{◌≡◌, true, false, Option, Some, None, Result, Ok, Err, IfOk, MatchOption, MatchResult, is_ok, is_err, sym, subst}
 
 pub from_ok : {A E : Type 0} (r : Result A E) (P : Type 0) → is_ok r ≡ true → IfOk r (λ _. P) → P
 from_ok (Ok a) P is h = h
 from_ok (Err e) P is h = absurd cc
 
-pub waits_some : (b : Book) (f : Desk) (p : Option Shelf) (s : Shelf) (shown head : List Command) → p ≡ Some s → Waits b f p shown head → Stands b f s × (s.past.seen.log ≡ head)
-waits_some b f p s shown head e w = subst (λ q. Waits b f q shown head) e w
+pub waits_some : {A : Type 0} (p : Option A) (a : A) (P : Type 0) (Q : A → Type 0) → p ≡ Some a → MatchOption p P Q → Q a
+waits_some p a P Q e w = subst (λ o. MatchOption o P Q) e w
 
-pub waits_none : (b : Book) (f : Desk) (p : Option Shelf) (shown head : List Command) → p ≡ None → shown ≡ head → Waits b f p shown head
-waits_none b f p shown head e h = subst (λ q. Waits b f q shown head) (sym e) h
+pub waits_none : {A : Type 0} (p : Option A) (P : Type 0) (Q : A → Type 0) → p ≡ None → P → MatchOption p P Q
+waits_none p P Q e h = subst (λ o. MatchOption o P Q) (sym e) h
 
 pub from_good : {A E : Type 0} (r : Result A E) (P Q : Type 0) → is_err r ≡ false → MatchResult r (λ _. P) (λ _. Q) → P
 from_good (Ok a) P Q is h = h

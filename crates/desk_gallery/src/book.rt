@@ -1,17 +1,31 @@
-//! One list of changes for all threads. It exists in proofs alone: what threads share is a word, its length, and a `Past` is
-//! a beginning of it.
-ghost use Rattle.std.specs.Prelude.{◌≡◌, ◌+◌, ◌==◌, ◌<◌, ◌≤◌, ◌^◌, ◌++◌, ◌∷◌, ◌⊎◌, [], length, IsTrue, MatchBool};
+//! One list of changes for all threads, which the holder of one token lengthens. It exists in proofs alone: a `Past` is what is
+//! shown in some beginning of it, and no beginning shows more than the whole does.
+//!
+//! Each entry of the log uses up a key. Whoever writes holds the key that is next, so no entry but its own can follow, and what
+//! anybody has seen of the log is a beginning of what the writer has.
+ghost use Rattle.std.specs.Prelude.{◌≡◌, ◌+◌, ◌<◌, ◌≤◌, ◌^◌, ◌++◌, ◌∷◌, ◌⊎◌, [], length, IsTrue};
 ghost use mathlib.Core.List.{IsPrefix};
-ghost use Rattle.desk_gallery.specs.Rules.{head_of};
+ghost use Rattle.logbook.specs.Pages.{may_write};
+ghost use Rattle.desk_gallery.specs.Rules.{head_of, shown_of};
+ghost use Rattle.desk_gallery.specs.Shelves.{IsMark};
 
 use desk_model::command::Command;
-use logbook::{Gain, Offer, Plain, Play, Rule, Seen, Start, Word};
+use logbook::{Gain, Offer, Pen, Plain, Play, Rule, Seen, Start, Word};
 use std::marker::{Brand, Model, PhantomData};
 
-/// The rule of the list: the word is its length.
+/// An entry of the log: a change that is appended, or none where all that is pending is shown; the key that it uses up, and the
+/// key that the next one uses up. No value of it is made.
+#[derive(Drop)]
+pub struct Entry {
+    pub what: Option<Command>,
+    pub by: u64,
+    pub next: u64,
+}
+
+/// The rule of the log: the key of each entry is used up.
 pub struct Law;
 
-impl Rule<Command, u64> for Law {
+impl Rule<Entry, u64> for Law {
     ghost use Rattle.std.specs.Prelude.{[]};
     ghost use base.Fml.{ftrue};
     ghost use Rattle.desk_gallery.specs.Rules.{IsKept};
@@ -32,36 +46,88 @@ impl Rule<Command, u64> for Law {
 /// Callers trade nothing.
 pub struct Nothing;
 
-impl Gain<Command, u64> for Nothing {
+impl Gain<Entry, u64> for Nothing {
     ghost use base.Fml.{ftrue};
 
     ghost after = { λ names about answer. ftrue };
 }
 
-/// The step that adds a change.
+/// A step that makes a key.
+pub struct Make;
+
+impl Play<Entry, u64> for Make {
+    ghost use Rattle.desk_gallery.specs.Rules.{Makes};
+
+    ghost then = { Makes };
+}
+
+/// A step that looks, with a key in hand.
+pub struct Look;
+
+impl Play<Entry, u64> for Look {
+    ghost use Rattle.desk_gallery.specs.Rules.{Looks};
+
+    ghost then = { Looks };
+}
+
+impl Plain<u64, Entry, u64> for Look {
+    ghost use Rattle.std.specs.Prelude.{None};
+
+    ghost ask = { λ n. record { what = None; by = n; next = n } };
+
+    ghost state = { λ n. None };
+}
+
+/// A step that uses up the key in hand and adds an entry.
 pub struct Add;
 
-impl Play<Command, u64> for Add {
+impl Play<Entry, u64> for Add {
     ghost use Rattle.desk_gallery.specs.Rules.{Adds};
 
     ghost then = { Adds };
 }
 
-impl Plain<Command, Command, u64> for Add {
-    ghost use Rattle.std.specs.Prelude.{None};
-
-    ghost ask = { λ command. command };
-
-    ghost state = { λ command. None };
+/// The entry of a change, by the key that it uses up and the next one.
+#[derive(Drop)]
+pub struct Appending<'a> {
+    command: &'a Command,
+    by: &'a Pen,
+    next: &'a Pen,
 }
 
-/// Names one gallery: its list of changes, the desk before them, and what is known of the store from the start. Each call of a
-/// program picks it.
+impl<'a> Plain<Appending<'a>, Entry, u64> for Add {
+    ghost use Rattle.std.specs.Prelude.{None, Some};
+
+    ghost ask = { λ a. record { what = Some a.command.now; by = a.by.now.nib.key; next = a.next.now.nib.key } };
+
+    ghost state = { λ a. None };
+}
+
+/// The entry by which all that is pending is shown.
+#[derive(Drop)]
+pub struct Showing<'a> {
+    by: &'a Pen,
+    next: &'a Pen,
+}
+
+impl<'a> Plain<Showing<'a>, Entry, u64> for Add {
+    ghost use Rattle.std.specs.Prelude.{None};
+
+    ghost ask = { λ a. record { what = None; by = a.by.now.nib.key; next = a.next.now.nib.key } };
+
+    ghost state = { λ a. None };
+}
+
+/// Names one gallery: its list of changes with the first key, the desk before them, and what is known of the store from the
+/// start. Each call of a program picks it.
 pub trait Room {
+    ghost use Rattle.std.specs.Prelude.{ℕ};
     ghost use Rattle.logbook.specs.Pages.{Book};
     ghost use Rattle.desk_model.specs.Desk.{Desk};
 
     ghost book: { Book };
+
+    ghost root: { ℕ };
 
     ghost first: { Desk };
 
@@ -74,69 +140,59 @@ impl Room for Brand {
 
     ghost book = { record { number = 0; log_name = 0; cells_name = 0 } };
 
+    ghost root = { 0 };
+
     ghost first = { no_desk };
 
     ghost sound = { ⊥ };
 }
 
+/// A new key.
+fn make_key(head: &Word<Entry, u64, Law>, seen: &Seen<Entry, u64, Law>) -> Pen
+    requires { head.now ≡ head_of seen.now.book }
+    ensures book { result.book ≡ seen.now.book }
+    ensures right { result.nib.right ≡ may_write }
+{
+    let mut seen = seen.again();
+    let mut offer: Offer<Entry, u64, Law, Nothing> = seen.plain::<Nothing, u64, Look>(&0);
+    let mut pen = seen.no_pen();
+    head.compare_exchange::<Make, Nothing>(0, 0, &mut seen, &mut offer, &mut pen);
+    let _word: Word<Entry, u64, Law> = Word::tracked(0, &mut pen);
+    pen
+}
+
 /// An empty list, which has no name yet.
 #[derive(Drop)]
 pub struct Opened {
-    head: Word<Command, u64, Law>,
-    seen: Seen<Command, u64, Law>,
+    head: Word<Entry, u64, Law>,
+    seen: Seen<Entry, u64, Law>,
+    pen: Pen,
     pub ghost empty: { seen.log ≡ [] },
     pub ghost head_is: { head ≡ head_of seen.book },
+    pub ghost pen_is: { pen.book ≡ seen.book },
+    pub ghost writes: { pen.nib.right ≡ may_write },
 }
 
 impl Opened {
     pub fn new() -> Opened {
         let (seen, mut first, _second) = Seen::open(Start::alone(), 0, 0);
-        Opened {
-            head: Word::tracked(0, &mut first),
-            seen,
-        }
-    }
-
-    /// The list's word under a name, and the empty beginning.
-    pub fn named<J: Room>(self) -> (Book<J>, Past<J>)
-        requires { self.seen.book ≡ J.book }
-        ensures { result.1 ≡ [] }
-    {
-        let Opened { head, seen } = self;
-        (
-            Book {
-                head,
-                of: PhantomData,
-            },
-            Past {
-                number: 0,
-                seen,
-                of: PhantomData,
-            },
-        )
+        let head = Word::tracked(0, &mut first);
+        let pen = make_key(&head, &seen);
+        Opened { head, seen, pen }
     }
 }
 
-/// The length of the list.
-#[derive(Drop)]
-pub struct Book<J: Room> {
-    head: Word<Command, u64, Law>,
-    of: PhantomData<J>,
-    ghost head_is: { head ≡ head_of J.book },
-}
-
-/// A beginning of some list, as the copies of a gallery hold it.
+/// A beginning of some log with the number of changes shown in it, as the copies of a gallery hold it.
 #[derive(Drop)]
 pub struct Mark {
     pub number: u64,
-    pub seen: Seen<Command, u64, Law>,
-    ghost counted: { number ≡ length seen.log },
+    pub seen: Seen<Entry, u64, Law>,
 }
 
 impl Mark {
     /// The same beginning.
     pub fn again(&self) -> Mark
-        ensures { result.seen ≡ self.now.seen }
+        ensures { result ≡ self.now }
     {
         Mark {
             number: self.number,
@@ -145,47 +201,37 @@ impl Mark {
     }
 }
 
-/// A beginning of the list. Contracts see it as its changes.
+/// What is shown in a beginning of the log. Contracts see it as the changes.
 #[derive(Drop)]
 pub struct Past<J: Room> {
     number: u64,
-    seen: Seen<Command, u64, Law>,
+    seen: Seen<Entry, u64, Law>,
     of: PhantomData<J>,
 }
 
 impl<J: Room> Model for Past<J> {
     ghost use Rattle.std.specs.Prelude.{◌≡◌, List, length};
     ghost use Rattle.desk_model.specs.declared.command.Command.{Command};
+    ghost use Rattle.desk_gallery.specs.Rules.{shown_of};
 
     ghost Value = { List Command };
 
-    ghost view = { λ p. p.seen.log };
+    ghost view = { λ p. shown_of J.root p.seen.log };
 
-    ghost invariant = { λ p. (p.number ≡ length p.seen.log) × (p.seen.book ≡ J.book) };
+    ghost invariant = { λ p. (p.number ≡ length (shown_of J.root p.seen.log)) × (p.seen.book ≡ J.book) };
 }
 
 impl<J: Room> Past<J> {
     /// A beginning that a copy of the gallery holds.
     pub fn of(mark: Mark) -> Past<J>
-        requires { mark.seen.book ≡ J.book }
-        ensures { result ≡ mark.seen.log }
+        requires { IsMark J.book J.root mark }
+        ensures { result ≡ shown_of J.root mark.seen.log }
     {
         let Mark { number, seen } = mark;
         Past {
             number,
             seen,
             of: PhantomData,
-        }
-    }
-
-    /// The same beginning, for a copy of the gallery.
-    pub fn mark(&self) -> Mark
-        ensures book { result.seen.book ≡ J.book }
-        ensures changes { result.seen.log ≡ self.now }
-    {
-        Mark {
-            number: self.number,
-            seen: self.seen.again(),
         }
     }
 
@@ -229,29 +275,115 @@ impl<J: Room> Past<J> {
             *self = other;
         }
     }
+}
 
-    /// Adds a change, and says whether it did. It did not where the list is longer.
-    pub fn add(&mut self, book: &Book<J>, command: &Command) -> bool
-        requires room { length self.old + 1 < 2 ^ 64 }
-        ensures { MatchBool result (self.new ≡ self.old ++ command.now ∷ []) (self.new ≡ self.old) }
+/// The whole list, with the one token that lengthens it. Contracts see it as what is shown, and that with what is pending after it.
+#[derive(Drop)]
+pub struct Whole<J: Room> {
+    head: Word<Entry, u64, Law>,
+    pen: Pen,
+    seen: Seen<Entry, u64, Law>,
+    number: u64,
+    of: PhantomData<J>,
+}
+
+impl<J: Room> Model for Whole<J> {
+    ghost use Rattle.std.specs.Prelude.{◌≡◌, List, length};
+    ghost use Rattle.logbook.specs.Pages.{may_write};
+    ghost use Rattle.desk_model.specs.declared.command.Command.{Command};
+    ghost use Rattle.desk_gallery.specs.Rules.{head_of, key_after, lists_of};
+
+    ghost Value = { List Command × List Command };
+
+    ghost view = { λ w. lists_of J.root w.seen.log };
+
+    ghost invariant = { λ w. (w.seen.book ≡ J.book) × (w.head ≡ head_of J.book)
+        × (w.pen.book ≡ J.book) × (w.pen.nib.right ≡ may_write) × (w.pen.nib.key ≡ key_after J.root w.seen.log)
+        × (w.number ≡ length (lists_of J.root w.seen.log).1) };
+}
+
+impl<J: Room> Whole<J> {
+    /// The list under a name: nothing is in it.
+    pub fn new(opened: Opened) -> Whole<J>
+        requires book { opened.seen.book ≡ J.book }
+        requires root { opened.pen.nib.key ≡ J.root }
+        ensures { result ≡ ([], []) }
+    {
+        let Opened { head, seen, pen } = opened;
+        Whole {
+            head,
+            pen,
+            seen,
+            number: 0,
+            of: PhantomData,
+        }
+    }
+
+    /// How many changes it has, those that are pending too.
+    pub fn len(&self) -> u64
+        ensures { result ≡ length self.now.1 }
+    {
+        self.number
+    }
+
+    /// All of it, for a copy of the gallery, while nothing is pending.
+    pub fn mark(&self) -> Mark
+        requires { self.now.0 ≡ self.now.1 }
+        ensures mark { IsMark J.book J.root result }
+        ensures changes { shown_of J.root result.seen.log ≡ self.now.0 }
+    {
+        Mark {
+            number: self.number,
+            seen: self.seen.again(),
+        }
+    }
+
+    /// What is shown begins with what anybody has seen shown, wherever that came from.
+    pub fn begins_with(&mut self, other: &Past<J>)
+        ensures begins { IsPrefix other.now self.new.0 }
+        ensures same { self.new ≡ self.old }
     {
         let mut seen = self.seen.again();
-        let mut offer: Offer<Command, u64, Law, Nothing> = seen.plain::<Nothing, Command, Add>(
+        seen.learn(&other.seen);
+        let mut offer: Offer<Entry, u64, Law, Nothing> = seen.plain::<Nothing, u64, Look>(&0);
+        self.head
+            .compare_exchange::<Look, Nothing>(0, 0, &mut seen, &mut offer, &mut self.pen);
+    }
+
+    /// Puts a change after what is pending.
+    pub fn append(&mut self, command: &Command)
+        requires { length self.old.1 + 1 < 2 ^ 64 }
+        ensures { self.new ≡ (self.old.0, self.old.1 ++ command.now ∷ []) }
+    {
+        let next = make_key(&self.head, &self.seen);
+        let asked = Appending {
             command,
-        );
-        let mut pen = seen.no_pen();
-        let number = self.number;
-        let found = book
-            .head
-            .compare_exchange::<Add, Nothing>(number, number + 1, &mut seen, &mut offer, &mut pen);
-        if found != number {
-            return false;
-        }
-        *self = Past {
-            number: number + 1,
-            seen,
-            of: PhantomData,
+            by: &self.pen,
+            next: &next,
         };
-        true
+        let mut offer: Offer<Entry, u64, Law, Nothing> = self
+            .seen
+            .plain::<Nothing, Appending, Add>(&asked);
+        self.head
+            .compare_exchange::<Add, Nothing>(0, 0, &mut self.seen, &mut offer, &mut self.pen);
+        self.pen = next;
+        self.number += 1;
+    }
+
+    /// Shows what is pending. What was shown once stays shown.
+    pub fn show(&mut self)
+        ensures { self.new ≡ (self.old.1, self.old.1) }
+    {
+        let next = make_key(&self.head, &self.seen);
+        let asked = Showing {
+            by: &self.pen,
+            next: &next,
+        };
+        let mut offer: Offer<Entry, u64, Law, Nothing> = self
+            .seen
+            .plain::<Nothing, Showing, Add>(&asked);
+        self.head
+            .compare_exchange::<Add, Nothing>(0, 0, &mut self.seen, &mut offer, &mut self.pen);
+        self.pen = next;
     }
 }

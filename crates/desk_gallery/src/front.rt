@@ -6,7 +6,7 @@ ghost use Rattle.desk_gallery.specs.Working.{Agree, Worked};
 
 use crate::book::Room;
 use crate::shower::Shower;
-use crate::visitor::Told;
+use crate::visitor::{Told, Visitor};
 use desk_model::command::Command;
 use desk_model::reply::{Refusal, Reply};
 use desk_store::clerk::Clerk;
@@ -111,6 +111,22 @@ impl<J: Room, D: SectorDevice> Front<J, D> {
         ensures { result ≡ self.now.shown }
     {
         self.shower.tell()
+    }
+
+    /// Nobody has heard of more than is shown: what is shown begins with all that a visitor saw or was told of, whenever that was.
+    pub fn knows(&mut self, visitor: &Visitor<J>)
+        ensures begins { IsPrefix visitor.now self.new.shown }
+        ensures same { self.new ≡ self.old }
+    {
+        self.shower.knows(&visitor.past);
+    }
+
+    /// What is shown begins with what any note tells.
+    pub fn knows_told(&mut self, told: &Told<J>)
+        ensures begins { IsPrefix told.now self.new.shown }
+        ensures same { self.new ≡ self.old }
+    {
+        self.shower.knows(&told.past);
     }
 
     /// Whether the device has failed.

@@ -1,7 +1,7 @@
 //! The opening of a gallery.
 ghost use Rattle.std.specs.Prelude.{◌≡◌, ◌<◌, ◌^◌, [], All, length, IfOk};
 
-use crate::book::{Opened, Room};
+use crate::book::{Opened, Room, Whole};
 use crate::shelf::Shelf;
 use crate::shower::Shower;
 use crate::tied::Copies;
@@ -25,12 +25,13 @@ fn shower<J: Room>(
     visitors: usize,
 ) -> Result<Shower<J>, AllocError>
     requires book { opened.seen.book ≡ J.book }
+    requires root { opened.pen.nib.key ≡ J.root }
     requires first { catalogue.value ≡ J.first }
     requires visitors { (0 < visitors) × (visitors < 2 ^ 32) }
     ensures { IfOk result (λ s. s ≡ ([], [])) }
 {
-    let (book, past) = opened.named::<J>();
-    let mark = past.mark();
+    let whole: Whole<J> = Whole::new(opened);
+    let mark = whole.mark();
     let second = Shelf {
         shown: catalogue.clone()?,
         past: mark.again(),
@@ -40,7 +41,7 @@ fn shower<J: Room>(
         past: mark,
     };
     let copies: Copies<J> = Copies::new(alloc, first, second, visitors)?;
-    Ok(Shower::over(copies, book, past))
+    Ok(Shower::over(copies, whole))
 }
 
 /// A writer and its visitors.
@@ -57,6 +58,7 @@ impl Gallery {
         visitors: usize,
     ) -> Result<(Shower<J>, Vec<Visitor<J>>), GalleryFault<J>>
         requires book { opened.seen.book ≡ J.book }
+        requires root { opened.pen.nib.key ≡ J.root }
         requires first { catalogue.value ≡ J.first }
         requires visitors { (0 < visitors) × (visitors < 2 ^ 32) }
         ensures { IfOk result (λ g. (g.0 ≡ ([], [])) × All (λ v. v ≡ []) g.1.items × (length g.1.items ≡ visitors)) }

@@ -1,11 +1,9 @@
 //! A catalogue with the changes that led to it.
 ghost use Rattle.std.specs.Prelude.{◌≡◌, IfOk};
 
-use crate::book::{Law, Mark};
+use crate::book::Mark;
 use desk_catalogue::catalogue::Catalogue;
-use desk_model::command::Command;
 use left_right::Absorb;
-use logbook::Seen;
 use std::alloc::AllocError;
 use std::sync::Arc;
 
@@ -19,7 +17,7 @@ pub struct Shelf {
 impl Shelf {
     /// The same again. Err where one more owner is refused.
     pub fn again(&self) -> Result<Shelf, AllocError>
-        ensures { IfOk result (λ s. (s.shown.value ≡ self.now.shown.value) × (s.past.seen ≡ self.now.past.seen)) }
+        ensures { IfOk result (λ s. (s.shown.value ≡ self.now.shown.value) × (s.past ≡ self.now.past)) }
     {
         Ok(Shelf {
             shown: self.shown.clone()?,
@@ -29,11 +27,11 @@ impl Shelf {
 }
 
 impl Absorb<Shelf> for Shelf {
-    type State = (Catalogue, Seen<Command, u64, Law>);
+    type State = (Catalogue, Mark);
 
-    ghost state = { λ s. (s.shown.value, s.past.seen) };
+    ghost state = { λ s. (s.shown.value, s.past) };
 
-    ghost applied = { λ _ s. (s.shown.value, s.past.seen) };
+    ghost applied = { λ _ s. (s.shown.value, s.past) };
 
     /// Fails where one more owner is refused, and then changes nothing.
     fn absorb_first(&mut self, operation: &Shelf, _other: &Shelf) -> Result<(), AllocError> {

@@ -4,17 +4,19 @@ ghost use mathlib.Core.List.{IsPrefix};
 ghost use Rattle.desk_model.specs.Step.{step};
 ghost use Rattle.desk_model.specs.declared.command.Command.{Command};
 ghost use Rattle.desk_gallery.specs.After.{after};
+ghost use Rattle.desk_gallery.specs.Rules.{shown_of};
 ghost use Rattle.desk_gallery.specs.Shelves.{Stands, WaitsFor};
 
-use crate::book::{Book, Past, Room};
+use crate::book::{Past, Room, Whole};
 use crate::shelf::Shelf;
 use crate::tied::{Copies, Tied};
 use crate::visitor::{Told, Visitor};
 use core::mem::replace_with;
+use desk_catalogue::catalogue::Catalogue;
 use desk_store::change::Change;
 use std::alloc::AllocError;
 use std::marker::Model;
-use std::sync::Wait;
+use std::sync::{Arc, Wait};
 
 /// Appends a shelf to copies that lack none; tries until there is memory.
 fn push<J: Room, R: Wait>(rt: &R, copies: &mut Copies<J>, shelf: Shelf)
@@ -34,9 +36,9 @@ fn push<J: Room, R: Wait>(rt: &R, copies: &mut Copies<J>, shelf: Shelf)
 
 /// Shows the shelf that waits, or changes nothing.
 fn publish_once<J: Room, R: Wait>(copies: Copies<J>, rt: &R) -> (Copies<J>, Result<(), AllocError>)
-    requires { (changes : List Command) × WaitsFor J.book J.first (drop copies.behind copies.log.items) changes }
-    ensures ok { (changes : List Command) → WaitsFor J.book J.first (drop copies.behind copies.log.items) changes
-        → IfOk result.1 (λ _. (result.0.desk.shown.value.past.seen.log ≡ changes) × Stands J.book J.first result.0.desk.shown.value × (drop result.0.behind result.0.log.items ≡ [])) }
+    requires { (changes : List Command) × WaitsFor J.book J.root J.first (drop copies.behind copies.log.items) changes }
+    ensures ok { (changes : List Command) → WaitsFor J.book J.root J.first (drop copies.behind copies.log.items) changes
+        → IfOk result.1 (λ _. (shown_of J.root result.0.desk.shown.value.past.seen.log ≡ changes) × Stands J.book J.root J.first result.0.desk.shown.value × (drop result.0.behind result.0.log.items ≡ [])) }
     ensures err { IfErr result.1 (λ _. drop result.0.behind result.0.log.items ≡ drop copies.behind copies.log.items) }
 {
     copies.publish_as::<Tied<J>, R>(rt)
@@ -44,9 +46,9 @@ fn publish_once<J: Room, R: Wait>(copies: Copies<J>, rt: &R) -> (Copies<J>, Resu
 
 /// Shows the shelf that waits; tries until it can.
 fn publish<J: Room, R: Wait>(rt: &R, copies: &mut Copies<J>)
-    requires { (changes : List Command) × WaitsFor J.book J.first (drop copies.old.behind copies.old.log.items) changes }
-    ensures { (changes : List Command) → WaitsFor J.book J.first (drop copies.old.behind copies.old.log.items) changes
-        → (copies.new.desk.shown.value.past.seen.log ≡ changes) × Stands J.book J.first copies.new.desk.shown.value × (drop copies.new.behind copies.new.log.items ≡ []) }
+    requires { (changes : List Command) × WaitsFor J.book J.root J.first (drop copies.old.behind copies.old.log.items) changes }
+    ensures { (changes : List Command) → WaitsFor J.book J.root J.first (drop copies.old.behind copies.old.log.items) changes
+        → (shown_of J.root copies.new.desk.shown.value.past.seen.log ≡ changes) × Stands J.book J.root J.first copies.new.desk.shown.value × (drop copies.new.behind copies.new.log.items ≡ []) }
 {
     for _ in rt.forever() {
         if replace_with(copies, rt, publish_once).is_ok() {
@@ -56,43 +58,50 @@ fn publish<J: Room, R: Wait>(rt: &R, copies: &mut Copies<J>)
     unreachable!()
 }
 
-/// Shows changes. Contracts see it as the list that is shown and the list with what is pending behind it.
+/// Shows changes. Contracts see it as the list that is shown and the list with what is pending after it.
 ///
 /// It is not `Drop`: end it by `close`.
 pub struct Shower<J: Room> {
     copies: Copies<J>,
-    book: Book<J>,
-    head: Past<J>,
-    pending: Option<Shelf>,
+    whole: Whole<J>,
+    pending: Option<Arc<Catalogue>>,
 }
 
 impl<J: Room> Model for Shower<J> {
-    ghost use Rattle.std.specs.Prelude.{◌≡◌, List, [], drop};
-    ghost use mathlib.Core.List.{IsPrefix};
+    ghost use Rattle.std.specs.Prelude.{◌≡◌, List, [], drop, MatchOption};
     ghost use Rattle.desk_model.specs.declared.command.Command.{Command};
-    ghost use Rattle.desk_gallery.specs.Shelves.{Stands, Waits};
+    ghost use Rattle.desk_gallery.specs.After.{after};
+    ghost use Rattle.desk_gallery.specs.Rules.{shown_of};
+    ghost use Rattle.desk_gallery.specs.Shelves.{Stands};
 
     ghost Value = { List Command × List Command };
 
-    ghost view = { λ s. (s.copies.desk.shown.value.past.seen.log, s.head) };
+    ghost view = { λ s. s.whole };
 
-    ghost invariant = { λ s. Stands J.book J.first s.copies.desk.shown.value × IsPrefix s.copies.desk.shown.value.past.seen.log s.head × (drop s.copies.behind s.copies.log.items ≡ []) × Waits J.book J.first s.pending s.copies.desk.shown.value.past.seen.log s.head };
+    ghost invariant = { λ s. Stands J.book J.root J.first s.copies.desk.shown.value × (shown_of J.root s.copies.desk.shown.value.past.seen.log ≡ s.whole.0) × (drop s.copies.behind s.copies.log.items ≡ []) × MatchOption s.pending (s.whole.0 ≡ s.whole.1) (λ catalogue. catalogue.value ≡ after J.first s.whole.1) };
 }
 
 impl<J: Room> Shower<J> {
-    /// Of copies, a word and a list with nothing pending.
-    pub(crate) fn over(copies: Copies<J>, book: Book<J>, head: Past<J>) -> Shower<J>
-        requires shown { copies.desk.shown.value.past.seen.log ≡ head }
-        requires stands { Stands J.book J.first copies.desk.shown.value }
+    /// Of copies and their list, with nothing pending.
+    pub(crate) fn over(copies: Copies<J>, whole: Whole<J>) -> Shower<J>
+        requires stands { Stands J.book J.root J.first copies.desk.shown.value }
+        requires shown { shown_of J.root copies.desk.shown.value.past.seen.log ≡ whole.0 }
         requires none { drop copies.behind copies.log.items ≡ [] }
-        ensures { result ≡ (head, head) }
+        requires all { whole.0 ≡ whole.1 }
+        ensures { result ≡ whole }
     {
         Shower {
             copies,
-            book,
-            head,
+            whole,
             pending: None,
         }
+    }
+
+    /// What is shown, as a copy has it.
+    fn past(&self) -> Past<J>
+        ensures { result ≡ self.now.0 }
+    {
+        Past::of(self.copies.published().past.again())
     }
 
     /// A visitor that has heard of nothing. Err where no place is left.
@@ -101,7 +110,7 @@ impl<J: Room> Shower<J> {
         ensures { IfOk result (λ v. v ≡ []) }
     {
         let reader = self.copies.factory().reader()?;
-        Ok(Visitor::over(reader, Past::of(self.copies.published().past.again())))
+        Ok(Visitor::over(reader, self.past()))
     }
 
     /// How many changes are shown.
@@ -117,28 +126,26 @@ impl<J: Room> Shower<J> {
         requires { change.after ≡ (step (after J.first self.old.1) change.command).1 }
         ensures { MatchResult result (λ _. self.new ≡ (self.old.0, self.old.1 ++ change.command ∷ [])) (λ _. self.new ≡ self.old) }
     {
-        if self.head.len() == u64::MAX {
+        if self.whole.len() == u64::MAX {
             return Err(AllocError);
         }
         let after = change.after()?;
-        let mut head = self.head.again();
-        if !head.add(&self.book, change.command()) {
-            return Err(AllocError);
-        }
-        self.pending = Some(Shelf {
-            shown: after,
-            past: head.mark(),
-        });
-        self.head = head;
+        self.whole.append(change.command());
+        self.pending = Some(after);
         Ok(())
     }
 
-    /// Shows the appended changes, all at once.
+    /// Shows the appended changes, all at once: in the list first, so that no catalogue is published before the list leads to it.
     pub fn show<R: Wait>(&mut self, rt: &R)
         ensures { self.new ≡ (self.old.1, self.old.1) }
     {
-        let Some(shelf) = self.pending.take() else {
+        let Some(shown) = self.pending.take() else {
             return;
+        };
+        self.whole.show();
+        let shelf = Shelf {
+            shown,
+            past: self.whole.mark(),
         };
         push(rt, &mut self.copies, shelf);
         publish(rt, &mut self.copies);
@@ -148,15 +155,22 @@ impl<J: Room> Shower<J> {
     pub fn tell(&self) -> Told<J>
         ensures { result ≡ self.now.0 }
     {
-        Told::of(Past::of(self.copies.published().past.again()))
+        Told::of(self.past())
+    }
+
+    /// Nobody has seen more than is shown: what is shown begins with it, whenever and by whomever it was seen.
+    pub(crate) fn knows(&mut self, past: &Past<J>)
+        ensures begins { IsPrefix past.now self.new.0 }
+        ensures same { self.new ≡ self.old }
+    {
+        self.whole.begins_with(past);
     }
 
     /// Ends it. It waits for those that are visiting.
     pub fn close<R: Wait>(self, rt: &R) {
         let Shower {
             copies,
-            book: _,
-            head: _,
+            whole: _,
             pending: _,
         } = self;
         copies.take(rt);

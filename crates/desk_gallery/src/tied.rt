@@ -6,7 +6,7 @@ use left_right::reader::Reader;
 use left_right::writer::Writer;
 use std::marker::PhantomData;
 
-/// What is shown is led to by the changes beside it, from the gallery's first desk.
+/// What is shown is led to by the changes that are shown in the log beside it, from the gallery's first desk.
 pub struct Tied<J> {
     of: PhantomData<J>,
 }
@@ -14,7 +14,7 @@ pub struct Tied<J> {
 impl<J: Room> Protocol<Shelf, ()> for Tied<J> {
     ghost use Rattle.desk_gallery.specs.Shelves.{Stands};
 
-    ghost holds = { λ s _. Stands J.book J.first s };
+    ghost holds = { λ s _. Stands J.book J.root J.first s };
 
     ghost first = { tt };
 }
@@ -22,7 +22,7 @@ impl<J: Room> Protocol<Shelf, ()> for Tied<J> {
 impl<J: Room> Outcome<Shelf, ()> for Tied<J> {
     ghost use Rattle.desk_gallery.specs.Shelves.{Stands};
 
-    ghost then = { λ _ x y _. Stands J.book J.first x × Stands J.book J.first y };
+    ghost then = { λ _ x y _. Stands J.book J.root J.first x × Stands J.book J.root J.first y };
 }
 
 /// The two copies, in the writer's hands.

@@ -1,5 +1,5 @@
 //! Visitors of a gallery, who wait for nobody.
-ghost use Rattle.std.specs.Prelude.{◌≡◌, ◌⊎◌, ◌<◌, length, IfOk, IfSome, IsTrue, OnErr};
+ghost use Rattle.std.specs.Prelude.{◌≡◌, ◌⊎◌, length, IfOk, IfSome, OnErr};
 ghost use mathlib.Core.List.{IsPrefix};
 ghost use Rattle.desk_gallery.specs.After.{after};
 ghost use Rattle.desk_gallery.specs.Shelves.{Stands};
@@ -16,7 +16,7 @@ use std::sync::Arc;
 /// A note of what is shown. Contracts see it as its changes.
 #[derive(Drop)]
 pub struct Told<J: Room> {
-    past: Past<J>,
+    pub(crate) past: Past<J>,
 }
 
 impl<J: Room> Model for Told<J> {
@@ -38,7 +38,7 @@ impl<J: Room> Told<J> {
 
 /// Reads the copy that is shown, if a reader is let in and one more owner isn't refused.
 fn look<J: Room>(eye: Eye<J>, _none: ()) -> (Eye<J>, Option<Shelf>)
-    ensures { IfSome result.1 (Stands J.book J.first) }
+    ensures { IfSome result.1 (Stands J.book J.root J.first) }
 {
     match eye.enter_as::<Tied<J>>() {
         Ok(reading) => {
@@ -53,7 +53,7 @@ fn look<J: Room>(eye: Eye<J>, _none: ()) -> (Eye<J>, Option<Shelf>)
 #[derive(Drop)]
 pub struct Visitor<J: Room> {
     eye: Eye<J>,
-    past: Past<J>,
+    pub(crate) past: Past<J>,
 }
 
 impl<J: Room> Model for Visitor<J> {
@@ -106,13 +106,5 @@ impl<J: Room> Visitor<J> {
     {
         let Told { past } = told;
         self.past.learn(past);
-    }
-
-    /// Whether it has heard of no more than a note tells, which its list then begins.
-    pub fn knows_within(&self, told: &Told<J>) -> bool
-        ensures yes { IsTrue result → IsPrefix self.now told.now }
-        ensures no { length told.now < length self.now ⊎ IsTrue result }
-    {
-        self.past.begins(&told.past)
     }
 }

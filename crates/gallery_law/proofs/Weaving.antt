@@ -17,7 +17,7 @@ use Rattle.desk_theorem.specs.declared.event.Event.TheVariants.{Commit, Acknowle
 use Rattle.desk_theorem.specs.World.{World, world, after, accepts, learnt, move, run, shown_list, seen, seen_at}
 use Rattle.desk_theorem.specs.Law.{GoesOn, IsLawful, CoreLaw}
 use Rattle.desk_gallery.specs.Working.{AreAccepted}
-use Rattle.gallery_law.specs.Runs.{standing, beginning, Heard, list_of, Grows, heard_of, answer_of, answers, answer_at, answers_in, AreWithin, HasRuns, IsLawfulWith, IsReached, OfficeLaw}
+use Rattle.gallery_law.specs.Runs.{standing, beginning, Heard, list_of, Grows, heard_of, answer_of, answers, answer_at, answers_in, AreWithin, HasRunsWithin, Rises, HasRuns, IsReached, OfficeLaw}
 
 -- beginnings
 nil_begins : (xs : List Command) → IsPrefix [] xs
@@ -503,7 +503,7 @@ picked_get i k (suc j) (c ∷ visitors) calls at is =
     let other : (i == k) ≡ false = (let less : k < i = omega (arith, at) in grind (arith, nat_tests)) in
     ap (λ b. if b then answers c else picked i (suc k) visitors) other ∙ picked_get i (suc k) j visitors calls (omega (arith, at)) is
 
-pub runs_of : (d : Desk) (shown all : List Command) → AreAccepted d all → IsPrefix shown all → length all ≤ length shown + 1 → HasRuns d shown all
+pub runs_of : (d : Desk) (shown all : List Command) → AreAccepted d all → IsPrefix shown all → length all ≤ length shown + 1 → HasRunsWithin d shown all
 runs_of d shown all accepted begins few visitors within =
     let rest = begins.0 in
     let parts = accepted_parts d shown rest (subst (λ (l : List Command). AreAccepted d l) (sym begins.1) accepted) in
@@ -553,11 +553,6 @@ seen_is i d w (e ∷ es) =
 pub office_law : OfficeLaw
 office_law = record { runs = runs_of; seen = seen_is }
 
-pub lawful_with : CoreLaw → (d : Desk) (shown all : List Command) → HasRuns d shown all → IsLawfulWith d shown all
-lawful_with core d shown all runs visitors within =
-    let r = runs visitors within in
-    subst (λ w. IsLawful d w) r.1.leads (core d (length visitors) r.0)
-
 -- visitors who were told of all that they have heard of
 abbrev told_all : List (List Command) → List (List Heard)
 told_all heard = map (λ v. Heard.told v ∷ []) heard
@@ -578,10 +573,28 @@ told_length : (heard : List (List Command)) → length (told_all heard) ≡ leng
 told_length [] = refl
 told_length (v ∷ heard) = ap suc (told_length heard)
 
-pub reached : (d : Desk) (shown all : List Command) → HasRuns d shown all → (heard : List (List Command)) → AllBegin shown heard → IsReached d shown all heard
+pub reached : (d : Desk) (shown all : List Command) → HasRunsWithin d shown all → (heard : List (List Command)) → AllBegin shown heard → IsReached d shown all heard
 reached d shown all runs heard begin =
     let r = runs (told_all heard) (told_within shown heard begin) in
     (r.0, r.1.goes, ap (λ n. run d (beginning n) r.0) (sym (told_length heard)) ∙ (r.1.leads ∙ ap (λ l. standing shown all l) (told_heard heard)))
 
 pub one_more_begins : (shown : List Command) (heard : List (List Command)) (i : ℕ) (v : List Command) → i < length heard → AllBegin shown (take i heard) → v ≡ get_or heard i v → IsPrefix v shown → AllBegin shown (take (i + 1) heard)
 one_more_begins shown heard i v less so_far is one = All-more (λ x. IsPrefix x shown) heard i v less so_far (subst (λ x. IsPrefix x shown) is one)
+
+pub lawful_at : CoreLaw → (d : Desk) (shown all : List Command) (heard : List (List Command)) → IsReached d shown all heard → IsLawful d (standing shown all heard)
+lawful_at core d shown all heard r = subst (λ w. IsLawful d w) r.2 (core d (length heard) r.0)
+
+-- calls that hear of more and more, and in the end of no more than is shown
+grows_of : (v : List Command) (calls : List Heard) (shown : List Command) → Rises v calls → IsPrefix (heard_of v calls) shown → Grows v calls shown
+grows_of v [] shown rises p = p
+grows_of v (h ∷ calls) shown rises p = (rises.0, grows_of (list_of h) calls shown rises.1 p)
+
+within_of : (shown : List Command) (visitors : List (List Heard)) → All (λ calls. Rises [] calls) visitors → AllBegin shown (map (heard_of []) visitors) → AreWithin shown visitors
+within_of shown [] rises begin = All-nil (λ calls. Grows [] calls shown)
+within_of shown (calls ∷ visitors) rises begin =
+    All-cons (λ c. Grows [] c shown) calls visitors (grows_of [] calls shown (All-head (λ c. Rises [] c) calls visitors rises) (All-head (λ x. IsPrefix x shown) (heard_of [] calls) (map (heard_of []) visitors) begin))
+    (within_of shown visitors (All-tail (λ c. Rises [] c) calls visitors rises) (All-tail (λ x. IsPrefix x shown) (heard_of [] calls) (map (heard_of []) visitors) begin))
+
+-- whatever visitors did that have heard of no more than is shown
+pub runs_for : (d : Desk) (shown all : List Command) (heard : List (List Command)) → HasRunsWithin d shown all → AllBegin shown heard → HasRuns d shown all heard
+runs_for d shown all heard runs begin visitors did = runs visitors (within_of shown visitors did.0 (subst (λ l. AllBegin shown l) (sym did.1) begin))

@@ -1,5 +1,5 @@
 -- An office and its visitors as a world that events lead to.
-use Rattle.std.specs.Prelude.{◌≡◌, ◌≤◌, ◌+◌, ◌==◌, ◌&&◌, if◌then◌else◌, nat_lt, ℕ, All, List, [], ◌∷◌, ◌++◌, length, map, replicate, Some}
+use Rattle.std.specs.Prelude.{◌≡◌, ◌≤◌, ◌+◌, ◌==◌, ◌&&◌, if◌then◌else◌, nat_lt, ℕ, All, List, [], ◌∷◌, ◌++◌, length, map, replicate, Some, ⊤}
 use Rattle.std.specs.List.{slice_get}
 use mathlib.Core.List.{IsPrefix}
 use Rattle.desk_model.specs.declared.command.Command.{Command}
@@ -9,7 +9,7 @@ use Rattle.desk_gallery.specs.Working.{AreAccepted}
 use Rattle.desk_theorem.specs.declared.event.Event.{Event}
 use Rattle.desk_theorem.specs.declared.event.Event.TheVariants.{Commit, Acknowledge, Show, Visit, Learn, Stop}
 use Rattle.desk_theorem.specs.World.{World, world, move, run, shown_list, seen}
-use Rattle.desk_theorem.specs.Law.{GoesOn, IsLawful}
+use Rattle.desk_theorem.specs.Law.{GoesOn}
 
 -- with the office's lock free all that is shown is acknowledged, and only a fault leaves a change behind it
 abbrev pub standing : List Command → List Command → List (List Command) → World
@@ -70,13 +70,22 @@ pub record IsRun (d : Desk) (shown all : List Command) (visitors : List (List He
 abbrev pub AreWithin : List Command → List (List Heard) → Type 0
 AreWithin shown visitors = All (λ calls. Grows [] calls shown) visitors
 
--- whatever they did
-abbrev pub HasRuns : Desk → List Command → List Command → Type 0
-HasRuns d shown all = (visitors : List (List Heard)) → AreWithin shown visitors → (events : List Event) × IsRun d shown all visitors events
+-- whatever they did, as far as it is within what is shown
+abbrev pub HasRunsWithin : Desk → List Command → List Command → Type 0
+HasRunsWithin d shown all = (visitors : List (List Heard)) → AreWithin shown visitors → (events : List Event) × IsRun d shown all visitors events
 
--- so the law of every list of events speaks of what they came to
-abbrev pub IsLawfulWith : Desk → List Command → List Command → Type 0
-IsLawfulWith d shown all = (visitors : List (List Heard)) → AreWithin shown visitors → IsLawful d (standing shown all (map (heard_of []) visitors))
+-- a visitor hears of more and more, from this list on, as each of its calls says
+abbrev pub Rises : List Command → List Heard → Type 0
+Rises v [] = ⊤
+Rises v (h ∷ calls) = IsPrefix v (list_of h) × Rises (list_of h) calls
+
+-- what visitors that have heard of these lists may have done
+abbrev pub AreCallsOf : List (List Command) → List (List Heard) → Type 0
+AreCallsOf heard visitors = All (λ calls. Rises [] calls) visitors × (map (heard_of []) visitors ≡ heard)
+
+-- whatever visitors did that have heard of these lists
+abbrev pub HasRuns : Desk → List Command → List Command → List (List Command) → Type 0
+HasRuns d shown all heard = (visitors : List (List Heard)) → AreCallsOf heard visitors → (events : List Event) × IsRun d shown all visitors events
 
 -- what is shown, and what each visitor has heard of, is what events without a stop lead to
 abbrev pub IsReached : Desk → List Command → List Command → List (List Command) → Type 0
@@ -84,6 +93,6 @@ IsReached d shown all heard = (events : List Event) × All GoesOn events × (run
 
 pub record OfficeLaw : Type 0 where
   -- changes that were accepted one after the other, of which at most the last isn't shown
-  pub runs : (d : Desk) (shown all : List Command) → AreAccepted d all → IsPrefix shown all → length all ≤ length shown + 1 → HasRuns d shown all
+  pub runs : (d : Desk) (shown all : List Command) → AreAccepted d all → IsPrefix shown all → length all ≤ length shown + 1 → HasRunsWithin d shown all
   -- the lists after which a visitor is answered
   pub seen : (i : ℕ) (d : Desk) (w : World) (events : List Event) → map (λ a. a.1) (answers_in i d w events) ≡ seen i d w events

@@ -2,9 +2,9 @@
 ghost use Rattle.gallery_law.specs.Calls.{CallsLaw};
 ghost use Rattle.gallery_law.specs.Runs.{OfficeLaw};
 
-/// Of whatever list of changes an office has, and of whatever its visitors have done, each by itself: there is a list of events
-/// with no stop in it that leads to just this, in which each visitor is answered as it was.
-pub fn office_is_run()
+/// Of whatever list of changes was accepted, and of whatever visitors have done, each by itself, and none of them beyond what is
+/// shown: there is a list of events with no stop in it that leads to just this, in which each visitor is answered as it was.
+pub fn lists_are_run()
     ensures { OfficeLaw }
 {}
 

@@ -1,43 +1,49 @@
 //! What whoever has the front of an office knows of the world that it is.
-ghost use Rattle.std.specs.Prelude.{◌≤◌, All, IsTrue, length};
+ghost use Rattle.std.specs.Prelude.{◌≡◌, All};
 ghost use mathlib.Core.List.{IsPrefix};
-ghost use Rattle.gallery_law.specs.Runs.{HasRuns, IsLawfulWith, IsReached};
+ghost use Rattle.desk_theorem.specs.Law.{IsLawful};
+ghost use Rattle.gallery_law.specs.Runs.{HasRuns, IsReached, standing};
 
 use desk_gallery::book::Room;
 use desk_gallery::front::Front;
-use desk_gallery::visitor::{Told, Visitor};
+use desk_gallery::visitor::Visitor;
 use desk_theorem::law::core_law;
 use sector_device::SectorDevice;
 
-/// Whatever the visitors of a gallery did, as far as none has heard of more than its front shows: events lead to what the front
-/// shows and to what they have heard of, each visitor is answered as in the world of these events, and the law holds of it.
-pub fn stands<J: Room, D: SectorDevice>(front: &Front<J, D>)
-    ensures runs { HasRuns J.first front.now.shown front.now.all }
-    ensures lawful { IsLawfulWith J.first front.now.shown front.now.all }
-{
-    core_law();
-    front.is_kept();
-}
-
-/// Whether none of the visitors has heard of more than a note tells.
-fn all_within<J: Room>(told: &Told<J>, visitors: &[Visitor<J>]) -> bool
-    ensures yes { IsTrue result → All (λ v. IsPrefix v told.now) visitors.now }
-    ensures no { All (λ v. length v ≤ length told.now) visitors.now → IsTrue result }
+/// None of the visitors has heard of more than the front shows.
+fn know_all<J: Room, D: SectorDevice>(front: &mut Front<J, D>, visitors: &[Visitor<J>])
+    ensures all { All (λ v. IsPrefix v front.new.shown) visitors.now }
+    ensures same { front.new ≡ front.old }
 {
     for visitor in visitors {
-        if !visitor.knows_within(told) {
-            return false;
-        }
+        front.knows(visitor);
     }
-    true
 }
 
-/// Whether none of the visitors has heard of more than the front shows. The two are then a state of a world that events without
-/// a stop lead to. In one gallery it is always so; it is compared, since a lock tells nothing of what was under it before.
-pub fn is_standing<J: Room, D: SectorDevice>(front: &Front<J, D>, visitors: &[Visitor<J>]) -> bool
-    ensures yes { IsTrue result → IsReached J.first front.now.shown front.now.all visitors.now }
-    ensures no { All (λ v. length v ≤ length front.now.shown) visitors.now → IsTrue result }
+/// Whatever the visitors of a gallery did, each by itself: there is a list of events with no stop in it that leads to what the
+/// front shows and to what they have heard of, in which each visitor is answered as it was.
+pub fn office_is_run<J: Room, D: SectorDevice>(front: &mut Front<J, D>, visitors: &[Visitor<J>])
+    ensures runs { HasRuns J.first front.new.shown front.new.all visitors.now }
+    ensures same { front.new ≡ front.old }
 {
     front.is_kept();
-    all_within(&front.tell(), visitors)
+    know_all(front, visitors);
+}
+
+/// Whatever the visitors of a gallery did: the law of every list of events holds of what the front shows and what they have heard of.
+pub fn stands<J: Room, D: SectorDevice>(front: &mut Front<J, D>, visitors: &[Visitor<J>])
+    ensures lawful { IsLawful J.first (standing front.new.shown front.new.all visitors.now) }
+    ensures same { front.new ≡ front.old }
+{
+    core_law();
+    are_standing(front, visitors);
+}
+
+/// What the front shows, and what each visitor of its gallery has heard of, is a state of a world that events without a stop lead to.
+pub fn are_standing<J: Room, D: SectorDevice>(front: &mut Front<J, D>, visitors: &[Visitor<J>])
+    ensures reached { IsReached J.first front.new.shown front.new.all visitors.now }
+    ensures same { front.new ≡ front.old }
+{
+    front.is_kept();
+    know_all(front, visitors);
 }

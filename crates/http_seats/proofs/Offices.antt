@@ -1,5 +1,5 @@
 -- An office and its visitors may cross threads, as what is shown and the device may.
-use denote.Builtin.{unit, u64}
+use denote.Builtin.{unit}
 use denote.RattleType.{RattleType}
 use denote.Param.Send.{IsSend, IsSync, sendable, view_send}
 use denote.Param.SendFields.{declared_send}
@@ -8,6 +8,7 @@ use mir.Syntax.{Sym}
 use mathlib.Core.List.{[], ◌∷◌}
 use Rattle.std.proofs.Crossing.{crosses}
 use Rattle.std.specs.contracts.alloc.Global as Global
+use Rattle.std.specs.contracts.sync.Arc as Arc
 use Rattle.std.specs.contracts.impls.GlobalAllocator.TheImpl as heap
 use Rattle.std.specs.contracts.option.Option as Option
 use Rattle.std.specs.contracts.sync.Mutex as Mutex
@@ -22,24 +23,22 @@ use Rattle.left_right.specs.contracts.board.Doing as Doing
 use Rattle.left_right.specs.contracts.part.Part as Part
 use Rattle.left_right.specs.contracts.reader.Factory as Factory
 use Rattle.left_right.specs.contracts.reader.Reader as Reader
+use Rattle.logbook.proofs.tokens.Pen.TheSendSync.{the_send as pen_send}
 use Rattle.logbook.proofs.tokens.Seen.TheSendSync.{the_send as seen_send}
 use Rattle.logbook.proofs.word.Word.TheSendSync.{the_send as word_send}
 use Rattle.sector_device.specs.declared.SectorDevice as device
 use Rattle.desk_store.specs.contracts.clerk.Clerk as Clerk
 use Rattle.desk_gallery.specs.declared.book.Room as room
 use Rattle.desk_gallery.specs.contracts.book.Past as Past
-use Rattle.desk_gallery.specs.contracts.book.Book as Book
-use Rattle.desk_gallery.specs.contracts.book.Law as Law
-use Rattle.desk_gallery.specs.contracts.book.LawRuleCommandU64.TheImpl as law
+use Rattle.desk_gallery.specs.contracts.book.Mark as Mark
+use Rattle.desk_gallery.specs.contracts.book.Whole as Whole
 use Rattle.desk_gallery.specs.contracts.shelf.ShelfAbsorb.TheImpl as absorb
 use Rattle.desk_gallery.specs.contracts.front.Front as Front
 use Rattle.desk_gallery.specs.contracts.front.Front.TheInside as FrontInside
 use Rattle.desk_gallery.specs.contracts.shower.Shower.TheInside as ShowerInside
 use Rattle.desk_gallery.specs.contracts.visitor.Visitor.TheInside as VisitorInside
 use Rattle.desk_catalogue.specs.contracts.catalogue.Catalogue as Catalogue
-use Rattle.desk_model.specs.contracts.command.Command as Command
 use Rattle.left_right.specs.contracts.writer.Writer as Writer
-use Rattle.logbook.specs.contracts.tokens.Seen as Seen
 use Rattle.desk_gallery.specs.contracts.office.Office as Office
 use Rattle.desk_gallery.specs.contracts.shelf.Shelf as Shelf
 use Rattle.desk_gallery.specs.contracts.shower.Shower as Shower
@@ -54,8 +53,8 @@ slot_send = let p : IsSend (Part.the_row Shelf.the_row) = part_send Shelf.the_ro
 place_send : IsSend (Seat.the_row (Option.the_row (Part.the_row Shelf.the_row)) (Doing.the_row Shelf.the_row unit))
 place_send = seat_send (Option.the_row (Part.the_row Shelf.the_row)) (Doing.the_row Shelf.the_row unit) slot_send
 
-pending_send : IsSend (Option.the_row Shelf.the_row)
-pending_send = search (sendable, shelf_send) depth 20
+pending_send : IsSend (Option.the_row (Arc.the_row Catalogue.the_row Global.the_row heap.ghosts))
+pending_send = search (sendable, crosses, catalogue_send, catalogue_sync) depth 30
 
 module _ (J : RattleType) (g : room.Ghosts J.Denot) where
   factory_send : IsSend (Factory.the_row Shelf.the_row unit (Tied.the_row J) Global.the_row (tie.ghosts J g tie.no_dict) heap.ghosts)
@@ -70,14 +69,14 @@ module _ (J : RattleType) (g : room.Ghosts J.Denot) where
   pub visitor_send : IsSend J → IsSend (Visitor.the_row J g)
   visitor_send s = view_send (VisitorInside.the_row J g) _ _ _ _ (declared_send (VisitorInside.the_type J g) (reader_send, (past_send s, tt)))
 
-  writer_send : IsSend (Writer.the_row Shelf.the_row Shelf.the_row unit (Tied.the_row J) Global.the_row (Tuple (Catalogue.the_row ∷ Seen.the_row Command.the_row u64 Law.the_row law.ghosts ∷ [])) absorb.ghosts (tie.ghosts J g tie.no_dict) heap.ghosts)
+  writer_send : IsSend (Writer.the_row Shelf.the_row Shelf.the_row unit (Tied.the_row J) Global.the_row (Tuple (Catalogue.the_row ∷ Mark.the_row ∷ [])) absorb.ghosts (tie.ghosts J g tie.no_dict) heap.ghosts)
   writer_send = search (sendable, crosses, table_send, table_sync, lease_send, lease_sync, slot_send, seat_send, part_send, deed_send, shelf_send, shelf_sync) depth 60 fits 20000
 
-  book_send : IsSend J → IsSend (Book.the_row J g)
-  book_send s = search (sendable, word_send) depth 40 fits 20000
+  whole_send : IsSend J → IsSend (Whole.the_row J g)
+  whole_send s = search (sendable, word_send, pen_send, seen_send) depth 40 fits 20000
 
   pub shower_send : IsSend J → IsSend (Shower.the_row J g)
-  shower_send s = view_send (ShowerInside.the_row J g) _ _ _ _ (declared_send (ShowerInside.the_type J g) (writer_send, (book_send s, (past_send s, (pending_send, tt)))))
+  shower_send s = view_send (ShowerInside.the_row J g) _ _ _ _ (declared_send (ShowerInside.the_type J g) (writer_send, (whole_send s, (pending_send, tt))))
 
 module _ (D : RattleType) (h : device.Ghosts D.Denot) where
   pub clerk_send : IsSend D → IsSend (Clerk.the_row D h)

@@ -1,5 +1,5 @@
 //! Streams from a socket that listens.
-ghost use Rattle.std.specs.Prelude.{◌≡◌, ◌⊎◌, true};
+ghost use Rattle.std.specs.Prelude.{◌≡◌, ◌≤◌, ◌⊎◌, true};
 
 use crate::many::Arrivals;
 use byte_stream::source::ReadSource;
@@ -7,6 +7,7 @@ use http_answer::gather::Gathering;
 use std::io::ErrorKind;
 use std::net::{TcpListener, TcpStream};
 use std::sync::atomic::{AtomicU64, Ordering};
+use std::time::Duration;
 
 /// Where streams come from until it fails.
 pub trait Listens: Arrivals {
@@ -14,10 +15,14 @@ pub trait Listens: Arrivals {
     fn has_failed(&self) -> bool;
 }
 
-/// So many connections to a socket.
+/// How many seconds a connection may be idle where no other time is asked for.
+const USUAL_IDLE: u32 = 60;
+
+/// So many connections to a socket. One that is idle for longer than its time ends as one that failed.
 #[derive(Drop)]
 pub struct Listening<'a> {
     listener: &'a TcpListener,
+    idle: Duration,
     left: AtomicU64,
     faults: AtomicU64,
 }
@@ -36,10 +41,19 @@ fn is_passing(kind: ErrorKind) -> bool
 }
 
 impl<'a> Listening<'a> {
-    /// The next so many connections to a socket.
+    /// The next so many connections to a socket, each of which may be idle for a minute.
     pub fn new(listener: &'a TcpListener, connections: u64) -> Listening<'a> {
+        Listening::with_idle(listener, connections, USUAL_IDLE)
+    }
+
+    /// The next so many connections to a socket. A read of one that brings no byte in so many seconds fails, and so does a write of
+    /// which no byte is taken.
+    pub fn with_idle(listener: &'a TcpListener, connections: u64, seconds: u32) -> Listening<'a>
+        requires { 1 ≤ seconds }
+    {
         Listening {
             listener,
+            idle: Duration::from_secs(seconds as u64),
             left: AtomicU64::new(connections),
             faults: AtomicU64::new(0),
         }
@@ -56,6 +70,12 @@ impl<'a> Listening<'a> {
     fn fail(&self) {
         self.faults.store(1, Ordering::SeqCst);
         self.left.store(0, Ordering::SeqCst);
+    }
+
+    /// Sets how long a connection may be idle, and says whether it did.
+    fn limit(&self, stream: &TcpStream) -> bool {
+        stream.set_read_timeout(Some(self.idle)).is_ok()
+            && stream.set_write_timeout(Some(self.idle)).is_ok()
     }
 
     fn accept(&self) -> Option<TcpStream> {
@@ -97,6 +117,10 @@ impl<'a> Arrivals for Listening<'a> {
             return None;
         }
         let _ = stream.set_nodelay(true);
+        if !self.limit(&stream) {
+            self.fail();
+            return None;
+        }
         let Ok(other) = stream.try_clone() else {
             self.fail();
             return None;

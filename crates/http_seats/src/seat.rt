@@ -19,9 +19,7 @@ use std::alloc::{AllocError, Global};
 use std::marker::Model;
 use std::sync::{Arc, MutexGuard, Wait};
 
-/// The front, where all that the visitor heard of is shown.
-///
-/// In one gallery that is so at once; it is compared, since a lock tells nothing of what was under it before.
+/// The front, in which all that the visitor heard of is shown. Nothing is compared: nobody hears of more than is shown.
 fn front_for<'a, J: Room, D: SectorDevice, R: Wait>(
     rt: &R,
     office: &'a Office<J, D>,
@@ -29,14 +27,9 @@ fn front_for<'a, J: Room, D: SectorDevice, R: Wait>(
 ) -> MutexGuard<'a, Front<J, D>>
     ensures { IsPrefix visitor.now (mutex_guard_value result).shown }
 {
-    for _ in rt.forever() {
-        let front = office.lock(rt);
-        if visitor.knows_within(&front.tell()) {
-            return front;
-        }
-        MutexGuard::unlock(front);
-    }
-    unreachable!()
+    let mut front = office.lock(rt);
+    front.knows(visitor);
+    front
 }
 
 /// The answer of a catalogue, or Memory where none was given.

@@ -31,6 +31,7 @@ fn serve_named<
     arrivals: &A,
 ) -> Result<Clerk<D>, AllocError>
     requires book { opened.seen.book ≡ J.book }
+    requires root { opened.pen.nib.key ≡ J.root }
     requires first { catalogue.value ≡ J.first }
     requires same { desk_of clerk ≡ J.first }
     requires kept { J.sound → Keeps clerk }

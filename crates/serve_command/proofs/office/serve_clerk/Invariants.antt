@@ -3,4 +3,4 @@ use Rattle.serve_command.proofs.office.serve_clerk.Given as goal
 
 -- the gallery that is opened
 abbrev pub ghosts-serve_named : goal.ghosts-serve_named
-ghosts-serve_named g a = record { book = a.opened.seen.book; first = a.catalogue.value; sound = Keeps a.clerk }
+ghosts-serve_named g a = record { book = a.opened.seen.book; root = a.opened.pen.nib.key; first = a.catalogue.value; sound = Keeps a.clerk }

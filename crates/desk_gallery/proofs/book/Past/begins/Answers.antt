@@ -1,14 +1,19 @@
 use Rattle.std.proofs.Common.{◌≤◌, ap, subst, arith, length, List}
 use mathlib.Core.List.{IsPrefix}
 use Rattle.std.proofs.lemmas.Bool.Decides.{nat_tests}
-use Rattle.desk_model.specs.declared.command.Command.{Command}
+use Rattle.desk_gallery.specs.declared.book.Entry.{Entry}
+use Rattle.desk_gallery.specs.Rules.{shown_of}
 use Rattle.desk_gallery.proofs.Pasts.{prefix_shorter}
+use Rattle.desk_gallery.proofs.Weighing.{log_begins}
 use Rattle.desk_gallery.proofs.book.Past.begins.Goals as goal
 
 pub returns-clause-yes : goal.returns-clause-yes
 returns-clause-yes g c told =
-    let both = c.learn.new.self.log in
-    let this : IsPrefix c.self.inside.seen.log both = subst (λ (l : List Command). IsPrefix l both) (ap (λ s. s.log) c.again-both.ensures) c.learn.ensures.2 in
+    let k = g.J.Room.root in
+    let own : List Entry = c.self.inside.seen.log in
+    let theirs : List Entry = c.other.inside.seen.log in
+    let both : List Entry = c.learn.new.self.log in
+    let this : IsPrefix own both = subst (λ (l : List Entry). IsPrefix l both) (ap (λ s. s.log) c.again-both.ensures) c.learn.ensures.2 in
     let at_most : c.self.inside.number ≤ c.other.inside.number = grind (arith, nat_tests) in
-    let less : length c.self.inside.seen.log ≤ length c.other.inside.seen.log = omega (arith, c.self.invariant.0, c.other.invariant.0, at_most) in
-    rw (← c.self.view_is, ← c.other.view_is) (prefix_shorter c.self.inside.seen.log c.other.inside.seen.log both this c.learn.ensures.3 less)
+    let less : length (shown_of k own) ≤ length (shown_of k theirs) = omega (arith, c.self.invariant.0, c.other.invariant.0, at_most) in
+    rw (← c.self.view_is, ← c.other.view_is) (prefix_shorter (shown_of k own) (shown_of k theirs) (shown_of k both) (log_begins k own both this) (log_begins k theirs both c.learn.ensures.3) less)

@@ -1,25 +1,32 @@
-use Rattle.std.proofs.Common.{rules, ◌≡◌, [], Some, None, ap, ◌∙◌}
-use Rattle.std.proofs.lemmas.List.{append-nil}
+use Rattle.std.proofs.Common.{rules, ◌≡◌, List, Some, None, ap, sym, ◌∙◌}
+use Rattle.desk_model.specs.declared.command.Command.{Command}
+use Rattle.desk_gallery.specs.declared.shelf.Shelf.{Shelf}
+use Rattle.desk_gallery.specs.After.{after}
+use Rattle.desk_gallery.specs.Rules.{shown_of}
 use Rattle.desk_gallery.proofs.Showing.{waits_some, waits_none}
 use Rattle.desk_gallery.proofs.shower.Shower.show.Goals as goal
 
 pub publish-requires : goal.publish-requires
 publish-requires g c =
-    let some : c.self.inside.pending ≡ Some c.in-Some.shelf = search rules in
-    let w = waits_some g.J.Room.book g.J.Room.first c.self.inside.pending c.in-Some.shelf c.self.inside.copies.desk.shown.value.past.seen.log c.self.inside.head some c.self.invariant.3 in
-    (c.self.inside.head, (c.in-Some.shelf, c.push.ensures.pending, w.0, w.1))
+    let old = c.self.inside.whole in
+    let shelf : Shelf = record { shown = c.in-Some.shown; past = c.mark.result } in
+    let some : c.self.inside.pending ≡ Some c.in-Some.shown = search rules in
+    let value = waits_some c.self.inside.pending c.in-Some.shown (old.0 ≡ old.1) (λ catalogue. catalogue.value ≡ after g.J.Room.first old.1) some c.self.invariant.3 in
+    let list : shown_of g.J.Room.root shelf.past.seen.log ≡ old.1 = c.mark.ensures.changes ∙ ap (λ (s : List Command × List Command). s.0) c.show.ensures in
+    (old.1, (shelf, c.push.ensures.pending, (c.mark.ensures.mark, value ∙ sym (ap (after g.J.Room.first) list)), list))
 
 pub invariant_of-self-2 : goal.invariant_of-self-2
 invariant_of-self-2 g c =
-    let some : c.self.inside.pending ≡ Some c.in-Some.shelf = search rules in
-    let w = waits_some g.J.Room.book g.J.Room.first c.self.inside.pending c.in-Some.shelf c.self.inside.copies.desk.shown.value.past.seen.log c.self.inside.head some c.self.invariant.3 in
-    let after = c.publish.ensures c.self.inside.head (c.in-Some.shelf, c.push.ensures.pending, w.0, w.1) in
+    let old = c.self.inside.whole in
+    let shelf : Shelf = record { shown = c.in-Some.shown; past = c.mark.result } in
+    let some : c.self.inside.pending ≡ Some c.in-Some.shown = search rules in
+    let value = waits_some c.self.inside.pending c.in-Some.shown (old.0 ≡ old.1) (λ catalogue. catalogue.value ≡ after g.J.Room.first old.1) some c.self.invariant.3 in
+    let list : shown_of g.J.Room.root shelf.past.seen.log ≡ old.1 = c.mark.ensures.changes ∙ ap (λ (s : List Command × List Command). s.0) c.show.ensures in
+    let shown = c.publish.ensures old.1 (shelf, c.push.ensures.pending, (c.mark.ensures.mark, value ∙ sym (ap (after g.J.Room.first) list)), list) in
     let none : c.take.new.self ≡ None = search rules in
-    (after.1, ([], append-nil _ ∙ after.0), after.2, waits_none g.J.Room.book g.J.Room.first c.take.new.self _ c.self.inside.head none after.0)
-
-pub returns : goal.returns
-returns g c =
-    let some : c.self.inside.pending ≡ Some c.in-Some.shelf = search rules in
-    let w = waits_some g.J.Room.book g.J.Room.first c.self.inside.pending c.in-Some.shelf c.self.inside.copies.desk.shown.value.past.seen.log c.self.inside.head some c.self.invariant.3 in
-    let after = c.publish.ensures c.self.inside.head (c.in-Some.shelf, c.push.ensures.pending, w.0, w.1) in
-    ap (λ l. (l, c.self.inside.head)) after.0 ∙ ap (λ v. (v.1, v.1)) c.self.view_is
+    let same : c.show.new.self.0 ≡ c.show.new.self.1 = ap (λ (s : List Command × List Command). s.0) c.show.ensures ∙ sym (ap (λ (s : List Command × List Command). s.1) c.show.ensures) in (
+      shown.1,
+      shown.0 ∙ sym (ap (λ (s : List Command × List Command). s.0) c.show.ensures),
+      shown.2,
+      waits_none c.take.new.self (c.show.new.self.0 ≡ c.show.new.self.1) (λ catalogue. catalogue.value ≡ after g.J.Room.first c.show.new.self.1) none same,
+    )
