@@ -32,7 +32,7 @@ pre { white-space: pre-wrap; overflow-wrap: anywhere; font-size: 0.8rem; backgro
 LEFT, RIGHT = 13, 78
 ROW, TOP = 18, 44
 # how many districts a picture has at most, so that a printed page has room for it
-DISTRICTS = 25
+DISTRICTS = 20
 ROLES = {'col': 'columnheader', 'row': 'rowheader', None: 'cell'}
 
 
