@@ -5,8 +5,8 @@ use Rattle.desk_model.specs.declared.kind.Kind.{Kind}
 use Rattle.audit_report.specs.Figures.{Figures}
 use Rattle.audit_report.specs.Report.{IsReport}
 use Rattle.audit_report.specs.ReportText.{report_text}
-use Rattle.exit_status.specs.declared.status.Status.{Status}
-use Rattle.exit_status.specs.declared.status.Status.TheVariants.{Done, Broken}
+use Rattle.command_output.specs.declared.status.Status.{Status}
+use Rattle.command_output.specs.declared.status.Status.TheVariants.{Done, Broken}
 use Rattle.state_files.specs.Opening.{Opening, opening_of, Census, census_of}
 use Rattle.state_files.specs.State.{Then, NoFile, ReadsState}
 use Rattle.state_files.specs.Grounds.{ReadsGround}
@@ -16,8 +16,8 @@ use Rattle.state_files.specs.declared.fault.PlanFile.TheVariants as file
 use Rattle.state_files.specs.declared.fault.PlanFault.TheVariants as plan
 use Rattle.state_files.specs.declared.fault.FileFault.{FileFault}
 use Rattle.state_files.specs.declared.fault.FileFault.TheVariants.{Plan}
-use Rattle.told_lines.specs.Telling.{Tells}
-use Rattle.told_lines.specs.Writing.{Written}
+use Rattle.command_output.specs.Telling.{Tells}
+use Rattle.command_output.specs.Writing.{Written}
 use Rattle.check_command.specs.Writing.{Prints}
 use Rattle.check_command.specs.declared.report.Audited.{Audited}
 

@@ -3,15 +3,15 @@ use Rattle.std.specs.Prelude.{◌≡◌, ℕ, Result, Ok, Err, Vec}
 use Rattle.std.specs.declared.alloc.Global.{Global}
 use Rattle.desk_model.specs.declared.block.BlockRow.{BlockRow}
 use Rattle.pl94_segment.specs.declared.join.JoinFault.TheVariants as join
-use Rattle.exit_status.specs.declared.status.Status.{Status}
-use Rattle.exit_status.specs.declared.status.Status.TheVariants.{Done}
+use Rattle.command_output.specs.declared.status.Status.{Status}
+use Rattle.command_output.specs.declared.status.Status.TheVariants.{Done}
 use Rattle.state_files.specs.Opening.{Census}
 use Rattle.state_files.specs.State.{Then, NoFile, ReadsState}
 use Rattle.state_files.specs.declared.fault.FileFault.{FileFault}
 use Rattle.state_files.specs.declared.fault.FileFault.TheVariants.{Join}
 use Rattle.check_command.specs.Counts.{counts_text}
-use Rattle.told_lines.specs.Telling.{Tells}
-use Rattle.told_lines.specs.Writing.{Written}
+use Rattle.command_output.specs.Telling.{Tells}
+use Rattle.command_output.specs.Writing.{Written}
 use Rattle.check_command.specs.Writing.{Prints}
 
 -- the counts of the blocks

@@ -1,7 +1,7 @@
 -- What `check` prints.
 use Rattle.std.specs.Prelude.{ℕ, List, codes}
-use Rattle.exit_status.specs.declared.status.Status.{Status}
-use Rattle.told_lines.specs.Writing.{Written, write_fault_line, Prints as PrintsOr}
+use Rattle.command_output.specs.declared.status.Status.{Status}
+use Rattle.command_output.specs.Writing.{Written, write_fault_line, Prints as PrintsOr}
 
 -- a text is printed, and the status says how that ended
 abbrev pub Prints : List ℕ → Status → Status → (before after told_before told_after : Written) → Type 0

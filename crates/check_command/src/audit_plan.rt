@@ -1,15 +1,16 @@
 //! `check` with a plan: the audit of a plan from files.
 ghost use Rattle.std.specs.Prelude.{◌≡◌, ◌≤◌, IsSome, IsTrue};
 ghost use Rattle.audit_report.specs.Clauses.{is_house};
-ghost use Rattle.told_lines.specs.Writing.{written_of};
+ghost use Rattle.command_output.specs.Writing.{written_of};
 ghost use Rattle.check_command.specs.Auditing.{openings_of, AuditsState, report_status as status_of_report, EndsAudit, Audits};
 
 use crate::printing::print;
 use crate::report::{Audited, report_of};
 use byte_stream::sink::Sink;
 use byte_stream::source::Source;
+use command_output::status::Status;
+use command_output::telling::tell;
 use desk_model::kind::Kind;
-use exit_status::status::Status;
 use state_files::census::read_state;
 use state_files::fault::{FileFault, PlanFile};
 use state_files::ground::read_ground;
@@ -17,7 +18,6 @@ use state_files::open::AuditFiles;
 use state_files::plan_file::{districts_of, read_companion, read_plan};
 use std::alloc::Global;
 use std::thread::Threads;
-use told_lines::telling::tell;
 
 /// The report of the plan that the files say, or their first fault.
 fn audit_of<T: Threads + Sync, R: Source>(

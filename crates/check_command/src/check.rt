@@ -1,19 +1,19 @@
 //! `check`: the counts of a state's census files.
 ghost use Rattle.std.specs.Prelude.{◌≡◌};
 ghost use Rattle.state_files.specs.Opening.{census_of};
-ghost use Rattle.told_lines.specs.Writing.{written_of};
+ghost use Rattle.command_output.specs.Writing.{written_of};
 ghost use Rattle.check_command.specs.Checking.{CountsState, Counts, Ends};
 
 use crate::counts::print_counts;
 use crate::printing::print;
 use byte_stream::sink::Sink;
 use byte_stream::source::Source;
-use exit_status::status::Status;
+use command_output::status::Status;
+use command_output::telling::tell;
 use pl94_segment::join::JoinFault;
 use state_files::census::{CensusFiles, read_state};
 use state_files::fault::FileFault;
 use std::alloc::Global;
-use told_lines::telling::tell;
 
 /// What is printed of a state's files.
 fn counts_of<R: Source>(alloc: Global, files: &mut CensusFiles<R>) -> Result<Vec<u8>, FileFault>

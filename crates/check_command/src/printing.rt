@@ -1,10 +1,10 @@
 //! What is printed.
-ghost use Rattle.told_lines.specs.Writing.{written_of};
+ghost use Rattle.command_output.specs.Writing.{written_of};
 ghost use Rattle.check_command.specs.Writing.{Prints};
 
 use byte_stream::sink::Sink;
-use exit_status::status::Status;
-use told_lines::telling::print as print_or_tell;
+use command_output::status::Status;
+use command_output::telling::print as print_or_tell;
 
 /// Prints a text: the status is `good`, or 6 where the writing fails, which is told.
 pub fn print<W: Sink, E: Sink>(text: &[u8], good: Status, writer: &mut W, errors: &mut E) -> Status

@@ -6,6 +6,7 @@ use crate::stores::{device_of, opened, shared_sample};
 use crate::texts::{ALL, COMMANDS, QUERIES, shows, told_made};
 use byte_stream::sink::WriteSink;
 use byte_stream::source::ReadSource;
+use command_progress::Untold;
 use desk_loading::load_geography;
 use desk_model::gate::NoGate;
 use desk_store::clerk::Clerk;
@@ -14,7 +15,6 @@ use sector_memory::{FailOnce, Fused, MemoryDevice};
 use served_runs::serve::serve_clerk;
 use std::alloc::Global;
 use std::process::Abort;
-use told_progress::Untold;
 
 /// What is written for the requests.
 pub fn answers<R: Abort, D: SectorDevice>(

@@ -7,6 +7,7 @@ ghost use Rattle.desk_store.specs.Keeping.{sealed_desk};
 ghost use Rattle.desk_store.specs.Loads.{Stages, IsLast};
 ghost use Rattle.desk_loading.specs.Loads.{GoesOn, LoadRefused, StageRefused};
 
+use command_progress::Progress;
 use desk_model::geography::Geography;
 use desk_store::clerk::Clerk;
 use desk_store::loads::LoadError;
@@ -14,7 +15,6 @@ use geo_tables::Load;
 use sector_device::SectorDevice;
 use std::alloc::Global;
 use std::sync::Arc;
-use told_progress::Progress;
 
 /// How many rows a batch may have: 13 journal pages for each, and for the mark of the load, but one at least and 512 at most.
 fn batch_rows(journal_pages: u32) -> usize

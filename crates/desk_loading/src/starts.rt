@@ -7,6 +7,7 @@ ghost use Rattle.desk_store.specs.Keeping.{sealed_desk};
 ghost use Rattle.desk_loading.specs.Starts.{StartRefused};
 
 use crate::loads::load_geography;
+use command_progress::Untold;
 use desk_model::geography::Geography;
 use desk_pages::{FormatError, format};
 use desk_store::clerk::Clerk;
@@ -15,7 +16,6 @@ use desk_store::opening::OpenError;
 use sector_device::SectorDevice;
 use std::alloc::Global;
 use std::sync::Arc;
-use told_progress::Untold;
 
 /// Why a device isn't made a store with a geography.
 #[derive(Clone, Copy, Debug, Drop, PartialEq, Eq)]

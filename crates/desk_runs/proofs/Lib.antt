@@ -1,2 +1,4 @@
 pub mod Steps
 mod Runs
+mod One
+mod Following

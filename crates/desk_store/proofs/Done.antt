@@ -19,7 +19,7 @@ use Rattle.desk_model.specs.Room.{need}
 use Rattle.desk_model.specs.Step.{step}
 use Rattle.desk_catalogue.specs.Accepting.{IsAfter, acceptance}
 use Rattle.desk_pages.specs.Desks.{HoldsDesk, InPages, OpensDesk}
-use Rattle.command_rows.specs.Rows.{HasNumbers}
+use Rattle.plan_revisions.specs.Rows.{HasNumbers}
 use Rattle.desk_store.specs.Keeping.{IsLeft, OpensOneMore}
 use Rattle.desk_store.specs.Clerks.{desk_of, disk_of, sectors_of, free_of, Keeps, Reads, Moves}
 use Rattle.desk_store.specs.Commands.{command_of, after_of, IsSpent, MustBeFull, MayBeFull, PrepareErr, IsReady, Commits, Does}

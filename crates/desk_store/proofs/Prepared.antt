@@ -25,8 +25,8 @@ use Rattle.plan_revisions.specs.Steps.{HasStepped, IsStepped, LeavesNumbers, Ste
 use Rattle.desk_pages.specs.Commits.{HoldsAfter}
 use Rattle.desk_pages.specs.Desks.{HoldsDesk, InPages, InTxn}
 use Rattle.desk_pages.specs.Laws.{begun_desk}
-use Rattle.command_rows.specs.Rows.{HasNumbers}
-use Rattle.command_rows.specs.Accepted.{rows_some, ground_stays}
+use Rattle.plan_revisions.specs.Rows.{HasNumbers}
+use Rattle.plan_revisions.specs.Accepted.{rows_some, ground_stays}
 use Rattle.desk_store.specs.Clerks.{desk_of, disk_of, free_of, room_of, Keeps, Reads}
 use Rattle.desk_store.specs.declared.ready.Ready.{Ready}
 use Rattle.desk_store.specs.Commands.{command_of, after_of, written_of, IsReady, HoldsNext, IsPut, HasRoom, IsSpent, MustBeFull, MayBeFull}

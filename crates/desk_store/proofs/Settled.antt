@@ -9,7 +9,7 @@ use Rattle.desk_model.specs.Desk.{Desk}
 use Rattle.desk_model.specs.declared.cuts.Cut.{Cut}
 use Rattle.desk_model.specs.declared.command.Command.{Command}
 use Rattle.desk_model.specs.declared.reply.Refusal.{Refusal}
-use Rattle.command_rows.specs.Rows.{cuts_in}
+use Rattle.plan_revisions.specs.Rows.{cuts_in}
 use Rattle.desk_store.specs.Commands.{PrepareErr}
 use Rattle.desk_store.specs.declared.clerk.Clerk.{Clerk}
 

@@ -23,7 +23,7 @@ use Rattle.store_rows.specs.Tidy.{IsNext, CountersFit}
 use Rattle.plan_revisions.specs.Steps.{IsDeep}
 use Rattle.desk_pages.specs.Commits.{HoldsAfter}
 use Rattle.desk_pages.specs.Desks.{IsDeskMap}
-use Rattle.command_rows.specs.Rows.{HasNumbers}
+use Rattle.plan_revisions.specs.Rows.{HasNumbers}
 use Rattle.desk_store.specs.declared.clerk.Clerk.{Clerk}
 use Rattle.desk_store.specs.declared.ready.Ready.{Ready}
 use Rattle.desk_store.specs.Clerks.{desk_of, disk_of, free_of, room_of, Keeps, Moves}

@@ -1,7 +1,7 @@
 //! The clerk, who keeps the desk in a store and shows it from memory.
 ghost use Rattle.std.specs.Prelude.{◌≡◌, false};
 ghost use Rattle.page_store.specs.Transactions.{has_halted};
-ghost use Rattle.command_rows.specs.Rows.{cuts_in};
+ghost use Rattle.plan_revisions.specs.Rows.{cuts_in};
 
 use desk_catalogue::catalogue::Catalogue;
 use desk_model::command::Query;

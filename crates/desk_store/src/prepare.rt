@@ -9,12 +9,11 @@ ghost use Rattle.desk_store.specs.Faults.{is_fault as is_fault_of, refusal_of as
 
 use crate::clerk::Clerk;
 use crate::ready::Ready;
-use command_rows::{command_rows, put_command};
 use desk_catalogue::catalogue::Catalogue;
 use desk_model::command::Command;
 use desk_model::reply::{Refusal, Reply};
 use page_store::Prepared;
-use plan_revisions::{Change, TreeError};
+use plan_revisions::{Change, TreeError, command_rows, put_command};
 use sector_device::SectorDevice;
 use std::alloc::Global;
 use std::sync::Arc;

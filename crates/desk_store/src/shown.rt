@@ -1,6 +1,6 @@
 //! What a clerk shows, with the counties of its geography.
 ghost use Rattle.std.specs.Prelude.{◌≡◌, IfOk};
-ghost use Rattle.command_rows.specs.Rows.{cuts_in};
+ghost use Rattle.plan_revisions.specs.Rows.{cuts_in};
 ghost use Rattle.desk_store.specs.Keeping.{sealed_desk};
 
 use desk_catalogue::catalogue::Catalogue;

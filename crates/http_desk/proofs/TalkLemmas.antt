@@ -15,7 +15,7 @@ use Rattle.http_desk.specs.declared.serve.Next.{Next}
 use Rattle.http_desk.specs.declared.serve.Next.TheVariants as next
 use Rattle.http_desk.specs.declared.serve.ServeFault.{ServeFault}
 use Rattle.http_desk.specs.declared.serve.ServeFault.TheVariants as fault
-use Rattle.http_orders.specs.Orders.{order_of}
+use Rattle.http_routes.specs.Orders.{order_of}
 use Rattle.http_desk.specs.Serving.{Closes, CutsNext, Exchanges, IsCutTalk, IsFrontTalk, IsShortTalk, GoesOn, Leaves, ServesTo}
 use Rattle.http_desk.specs.Talk.{Talk, Handles, over, ended, starved, closed, went}
 

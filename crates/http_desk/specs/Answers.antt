@@ -4,15 +4,15 @@ use Rattle.desk_model.specs.declared.reply.Reply.{Reply}
 use Rattle.desk_model.specs.declared.reply.Reply.TheVariants as reply
 use Rattle.desk_model.specs.declared.reply.Refusal.{Refusal}
 use Rattle.desk_model.specs.declared.reply.Refusal.TheVariants.{NoPlan, NoRevision, PlanExists, Stale, BadBody, NotWholeCounty, BadCompanion, Limit, Full, Memory, Halted, NotSealed}
-use Rattle.http_chunks.specs.declared.fault.Fault.{Fault}
-use Rattle.http_chunks.specs.declared.fault.Fault.TheVariants as fault
+use Rattle.http_intake.specs.declared.chunk_fault.Fault.{Fault}
+use Rattle.http_intake.specs.declared.chunk_fault.Fault.TheVariants as fault
 use Rattle.http_answer.specs.declared.response.ContentType.{ContentType}
 use Rattle.http_answer.specs.declared.response.ContentType.TheVariants.{Json, PlainText}
 use Rattle.http_answer.specs.Answer.{answer_text}
-use Rattle.http_orders.specs.declared.order.Error.{Error}
-use Rattle.http_orders.specs.declared.order.Error.TheVariants as error
-use Rattle.http_orders.specs.declared.method.Methods.{Methods}
-use Rattle.http_orders.specs.Methods.{methods_text}
+use Rattle.http_routes.specs.declared.order.Error.{Error}
+use Rattle.http_routes.specs.declared.order.Error.TheVariants as error
+use Rattle.http_routes.specs.declared.method.Methods.{Methods}
+use Rattle.http_routes.specs.Methods.{methods_text}
 use Rattle.http_desk.specs.Bodies.{plans_body, created_body, retired_body, error_body, refusal_body}
 
 -- what an answer says, whichever request it is for

@@ -4,12 +4,12 @@ use Rattle.desk_model.specs.declared.command.Command.{Command}
 use Rattle.desk_model.specs.declared.command.Query.{Query}
 use Rattle.desk_model.specs.declared.reply.Reply.{Reply}
 use Rattle.httparse.specs.Grammar.{RequestHead}
-use Rattle.http_chunks.specs.declared.fault.Fault.{Fault}
+use Rattle.http_intake.specs.declared.chunk_fault.Fault.{Fault}
 use Rattle.http_wire.specs.Front.{HasRequest, HasFault, IsStarved, IsIncomplete, closes_after as closes_after_head, is_head}
 use Rattle.http_wire.specs.Interim.{Interim, continue_text, asks_to_continue}
-use Rattle.http_orders.specs.declared.order.Order.{Order}
-use Rattle.http_orders.specs.declared.order.Order.TheVariants as order
-use Rattle.http_orders.specs.Orders.{order_of}
+use Rattle.http_routes.specs.declared.order.Order.{Order}
+use Rattle.http_routes.specs.declared.order.Order.TheVariants as order
+use Rattle.http_routes.specs.Orders.{order_of}
 use Rattle.http_desk.specs.Answers.{bytes_of, memory_text, error_message, fault_message, Tells}
 
 -- Generic in what answers: the two relations say which reply a command or a query may have, and what it leaves.

@@ -4,7 +4,7 @@ ghost use Rattle.byte_stream.specs.Sends.{failures_with};
 ghost use Rattle.http_answer.specs.Queue.{Queues};
 ghost use Rattle.http_answer.specs.Answer.{allowed_len};
 ghost use Rattle.http_desk.specs.Bodies.{error_body};
-ghost use Rattle.http_orders.specs.Methods.{methods_text};
+ghost use Rattle.http_routes.specs.Methods.{methods_text};
 ghost use Rattle.http_desk.specs.Answers.{bytes_of, saying, message_of, closes_after, error_message, error_name as error_name_of, error_status as error_status_of, error_allow as error_allow_of, fault_message, fault_name as fault_name_of, fault_status as fault_status_of, memory_text, refusal_status as refusal_status_of, refusal_closes, MayStarve, Tells};
 
 use crate::body::put_plans;
@@ -14,9 +14,9 @@ use desk_model::reply::{Refusal, Reply};
 use http::StatusCode;
 use http_answer::gather::GatherSink;
 use http_answer::response::{ContentType, Outbox, Response, write_response};
-use http_chunks::fault::Fault;
-use http_orders::method::Methods;
-use http_orders::order::Error;
+use http_intake::chunk_fault::Fault;
+use http_routes::method::Methods;
+use http_routes::order::Error;
 use std::alloc::{AllocError, Global};
 use std::marker::Model;
 
@@ -42,7 +42,7 @@ pub struct Answer {
 impl Model for Answer {
     ghost use Rattle.std.specs.Prelude.{List, ℕ, option_map, if◌then◌else◌, ◌≤◌, vec_capacity};
     ghost use Rattle.http_answer.specs.Answer.{answer_text};
-    ghost use Rattle.http_orders.specs.Methods.{methods_text};
+    ghost use Rattle.http_routes.specs.Methods.{methods_text};
 
     ghost Value = { List ℕ };
 

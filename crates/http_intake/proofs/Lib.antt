@@ -1,3 +1,9 @@
 mod InboxLemmas
 mod BodyLemmas
 mod LookLemmas
+mod ChunkLookLemmas
+mod ChunkReadLemmas
+mod ChunkLemmas
+mod ChunkStays
+mod ChunkCases
+mod ChunkTruths

@@ -3,18 +3,18 @@ use Rattle.std.proofs.Common.{◌≡◌, ℕ, ◌<◌, ◌≤◌, false, Option,
 use Rattle.std.proofs.lemmas.Bool.{cases_lt}
 use Rattle.httparse.specs.Grammar.{RequestHead, ReadsRequest, HasNoRequest, MayBecomeRequest, print_request}
 use Rattle.httparse.proofs.GrammarLemmas.{request_unique, ReadsRequest-append}
-use Rattle.http_chunks.specs.declared.fault.Fault.{Fault}
-use Rattle.http_chunks.specs.declared.fault.Fault.TheVariants.{BadHead, HeadTooLarge, BadTarget}
+use Rattle.http_intake.specs.declared.chunk_fault.Fault.{Fault}
+use Rattle.http_intake.specs.declared.chunk_fault.Fault.TheVariants.{BadHead, HeadTooLarge, BadTarget}
 use Rattle.http_wire.specs.declared.head.Framing.{Framing}
 use Rattle.http_wire.specs.declared.head.Framing.TheVariants.{Sized, Chunked}
-use Rattle.http_chunks.specs.Lines.{head_lines}
-use Rattle.http_chunks.specs.Limits.{window}
-use Rattle.http_target.specs.Target.{target_of}
+use Rattle.http_intake.specs.Lines.{head_lines}
+use Rattle.http_intake.specs.Limits.{window}
+use Rattle.http_wire.specs.Target.{target_of}
 use Rattle.http_wire.specs.Front.{HasHead, HasMessage, RefusesBytes, IsOpen, HasBody, IsFaulty, Lacks, judged_head, is_head}
 use Rattle.http_wire.specs.Law.{IsNoFront}
-use Rattle.http_chunks.specs.Fronts.{window_rest, window_short, either_front}
-use Rattle.http_chunks.specs.Chunks.{ChunkLaw}
-use Rattle.http_chunks.specs.LineLemmas.{lines_of_head, head_lines_grow}
+use Rattle.http_intake.specs.Fronts.{window_rest, window_short, either_front}
+use Rattle.http_intake.specs.Chunks.{ChunkLaw}
+use Rattle.http_intake.specs.LineLemmas.{lines_of_head, head_lines_grow}
 use Rattle.http_wire.proofs.LookLemmas.{overflows_at}
 
 -- ---- a head

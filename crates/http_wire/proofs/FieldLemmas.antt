@@ -9,7 +9,7 @@ use Rattle.http_wire.specs.Connection.{parts}
 use Rattle.http_wire.proofs.ConnectionLemmas.{some_part}
 use Rattle.httparse.specs.Spans.{header_bytes}
 use Rattle.httparse.specs.declared.spans.HeaderSpan.{HeaderSpan}
-use Rattle.http_target.specs.Target.{is_word}
+use Rattle.http_wire.specs.Target.{is_word}
 use Rattle.http_wire.specs.Front.{values, named_value, length_of, lengths_of}
 
 picked : (b : Bool) (v : List ℕ) → cons_option (cond b (Some v) None) [] ≡ cond b (v ∷ []) []

@@ -2,13 +2,13 @@
 use Rattle.std.proofs.Common.{◌≡◌, ℕ, zero, suc, ◌+◌, ◌≤◌, ◌&&◌, Bool, true, false, Option, List, [], ◌++◌, length, take, drop, Ok, Err, refl, sym, ap, subst, ◌∙◌, arith, inl, inr, append_assoc, append-nil, take-append-drop, length-append, length-drop}
 use Rattle.std.specs.Io.KnownBytes.{Appends, Consumes}
 use Rattle.httparse.specs.Grammar.{RequestHead, print_request}
-use Rattle.http_chunks.specs.declared.fault.Fault.{Fault}
+use Rattle.http_intake.specs.declared.chunk_fault.Fault.{Fault}
 use Rattle.http_wire.specs.declared.head.Framing.{Framing}
 use Rattle.http_wire.specs.declared.head.Framing.TheVariants.{Sized, Chunked}
 use Rattle.http_wire.specs.declared.look.Head.{Head}
-use Rattle.http_chunks.specs.Chunks.{ChunkLaw}
-use Rattle.http_chunks.specs.Fronts.{same_cut}
-use Rattle.http_chunks.specs.Lines.{IsWithinLine}
+use Rattle.http_intake.specs.Chunks.{ChunkLaw}
+use Rattle.http_intake.specs.Fronts.{same_cut}
+use Rattle.http_intake.specs.Lines.{IsWithinLine}
 use Rattle.http_intake.specs.Draws.{IsPutOff}
 use Rattle.http_wire.specs.Front.{HasHead, HasFault, Lacks, IsOpen, IsIncomplete, RefusesFront, judged_head}
 use Rattle.http_wire.specs.Interim.{Interim, IsCutInterim, IsCutShort, continue_text, asks_by, asks_to_continue, has_body}

@@ -1,5 +1,5 @@
 -- The law of fronts.
-use Rattle.http_chunks.specs.Chunks.{ChunkLaw}
+use Rattle.http_intake.specs.Chunks.{ChunkLaw}
 use Rattle.http_wire.specs.Law.{FrontLaw}
 use Rattle.http_wire.proofs.CaseLemmas.{some_front}
 use Rattle.http_wire.proofs.FrontLemmas.{one_request, one_fault, request_or_fault, message_or_incomplete, fault_or_incomplete}

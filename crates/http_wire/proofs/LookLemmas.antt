@@ -10,14 +10,14 @@ use Rattle.httparse.specs.Spans.{header_bytes, name_and_value, span_bytes, IsReq
 use Rattle.httparse.specs.declared.spans.Span.{Span}
 use Rattle.httparse.specs.declared.spans.HeaderSpan.{HeaderSpan}
 use Rattle.httparse.specs.declared.spans.RequestSpans.{RequestSpans}
-use Rattle.http_chunks.specs.Lines.{head_lines}
+use Rattle.http_intake.specs.Lines.{head_lines}
 use Rattle.http_wire.specs.Look.{IsParsed, Sees}
 use Rattle.http_wire.specs.declared.look.Head.{Head}
 use Rattle.http_wire.specs.declared.look.Refusal.{Refusal}
 use Rattle.http_intake.specs.declared.sought.Seen.{Seen}
 use Rattle.http_intake.specs.declared.sought.Seen.TheVariants.{Found, Refused, Wanting}
-use Rattle.http_chunks.specs.Fronts.{front_of_front}
-use Rattle.http_chunks.specs.LineLemmas.{lines_of_head, cut_head, head_lines_grow}
+use Rattle.http_intake.specs.Fronts.{front_of_front}
+use Rattle.http_intake.specs.LineLemmas.{lines_of_head, cut_head, head_lines_grow}
 
 -- a span of a front is one of the whole
 span_front : (bytes : List ℕ) (n : ℕ) (s : Span) → s.end ≤ n → span_bytes (take n bytes) s ≡ span_bytes bytes s

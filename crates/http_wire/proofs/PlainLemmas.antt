@@ -1,8 +1,8 @@
 -- A request without a body, of one method and one target.
 use Rattle.std.proofs.Common.{◌≡◌, ℕ, List, [], drop, Some, Ok, refl, sym, ap, subst, ◌∙◌}
 use Rattle.httparse.specs.Spans.{span_bytes}
-use Rattle.http_chunks.specs.Chunks.{ChunkLaw}
-use Rattle.http_target.specs.Target.{target_of}
+use Rattle.http_intake.specs.Chunks.{ChunkLaw}
+use Rattle.http_wire.specs.Target.{target_of}
 use Rattle.http_wire.specs.declared.head.Framing.TheVariants.{Sized}
 use Rattle.http_wire.specs.declared.look.Head.{Head}
 use Rattle.http_wire.specs.Front.{HasRequest, judged_head}

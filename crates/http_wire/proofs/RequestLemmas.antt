@@ -8,14 +8,14 @@ use Rattle.http_intake.specs.declared.fault.WireFault.TheVariants as fault
 use Rattle.http_wire.specs.declared.look.Head.{Head}
 use Rattle.http_wire.specs.declared.request.Request.{Request}
 use Rattle.http_wire.specs.Framed.{BodyRead}
-use Rattle.http_chunks.specs.Chunks.{ChunkLaw}
-use Rattle.http_chunks.specs.declared.chunks.Chunked.{Chunked}
-use Rattle.http_chunks.specs.declared.chunks.Chunked.TheVariants as chunked
+use Rattle.http_intake.specs.Chunks.{ChunkLaw}
+use Rattle.http_intake.specs.declared.chunks.Chunked.{Chunked}
+use Rattle.http_intake.specs.declared.chunks.Chunked.TheVariants as chunked
 use Rattle.http_wire.specs.declared.head.Framing.{Framing}
 use Rattle.http_wire.specs.declared.head.Framing.TheVariants as framing
-use Rattle.http_chunks.specs.declared.fault.Fault.{Fault}
+use Rattle.http_intake.specs.declared.chunk_fault.Fault.{Fault}
 use Rattle.http_wire.specs.Front.{HasHead, HasMessage, HasRequest, HasBody, HasFault, Lacks, IsFaulty, IsIncomplete, IsStarved, closes_after, is_head}
-use Rattle.http_target.specs.TargetTexts.{target_ascii}
+use Rattle.http_wire.specs.TargetTexts.{target_ascii}
 use Rattle.http_wire.specs.Incoming.{ReadsFront, IsTargetOf, finished, targeted}
 use Rattle.http_wire.specs.Interim.{Interim, continue_text, asks_to_continue}
 use Rattle.http_wire.specs.Look.{IsFound}

@@ -8,17 +8,17 @@ use Rattle.std.proofs.Math.Seq.{take-append-add, take-append_seam}
 use Rattle.httparse.specs.Grammar.{is_uri_byte, AllPass, IsToken, IsField, LineEnd, lf, print_blank, RequestHead, IsRequestHead, ReadsRequest, HasNoRequest, NeverHasRequest, MayBecomeRequest, EndsInTarget, print_request}
 use Rattle.httparse.specs.Spans.{RequestOverflows}
 use Rattle.httparse.proofs.GrammarLemmas.{print_request-append}
-use Rattle.http_chunks.specs.declared.fault.Fault.{Fault}
-use Rattle.http_chunks.specs.declared.fault.Fault.TheVariants.{BadHead, HeadTooLarge}
-use Rattle.http_chunks.specs.Limits.{window}
+use Rattle.http_intake.specs.declared.chunk_fault.Fault.{Fault}
+use Rattle.http_intake.specs.declared.chunk_fault.Fault.TheVariants.{BadHead, HeadTooLarge}
+use Rattle.http_intake.specs.Limits.{window}
 use Rattle.http_wire.specs.Front.{HasMessage, HasRequest, IsNoHead, IsTooLong, HasTooManyLines, RefusesBytes, HasFault, HasBody, IsFaulty}
-use Rattle.http_chunks.specs.Lines.{head_lines}
-use Rattle.http_chunks.specs.Chunks.{ChunkLaw}
+use Rattle.http_intake.specs.Lines.{head_lines}
+use Rattle.http_intake.specs.Chunks.{ChunkLaw}
 use Rattle.http_wire.specs.declared.head.Framing.{Framing}
 use Rattle.http_wire.specs.declared.head.Framing.TheVariants.{Sized, Chunked}
-use Rattle.http_chunks.specs.Fronts.{window_grows, window_full}
+use Rattle.http_intake.specs.Fronts.{window_grows, window_full}
 use Rattle.http_wire.proofs.FrontLemmas.{bytes_are}
-use Rattle.http_chunks.specs.LineLemmas.{head_lines_grow}
+use Rattle.http_intake.specs.LineLemmas.{head_lines_grow}
 use Rattle.http_wire.proofs.RequestLemmas.{head_before}
 
 never_grows : (w y : List ℕ) → NeverHasRequest w → NeverHasRequest (w ++ y)

@@ -1,14 +1,14 @@
 -- A request that is there whole.
 use Rattle.std.proofs.Common.{◌≡◌, ℕ, ◌≤◌, Bool, true, false, List, [], ◌++◌, length, take, drop, Ok, sym, ap, subst, ◌∙◌, append-nil, take-append-drop, length-take-le}
 use Rattle.httparse.specs.Spans.{span_bytes}
-use Rattle.http_chunks.specs.declared.chunks.Chunked.TheVariants as chunked
-use Rattle.http_chunks.specs.declared.fault.Fault.{Fault}
+use Rattle.http_intake.specs.declared.chunks.Chunked.TheVariants as chunked
+use Rattle.http_intake.specs.declared.chunk_fault.Fault.{Fault}
 use Rattle.http_wire.specs.declared.head.Framing.{Framing}
 use Rattle.http_wire.specs.declared.head.Framing.TheVariants.{Sized}
 use Rattle.http_wire.specs.declared.look.Head.{Head}
 use Rattle.http_wire.specs.declared.request.Incoming.TheVariants as came
 use Rattle.http_wire.specs.declared.request.Request.{Request}
-use Rattle.http_chunks.specs.Chunks.{ChunkLaw}
+use Rattle.http_intake.specs.Chunks.{ChunkLaw}
 use Rattle.http_wire.specs.Front.{HasBody, RefusesFront}
 use Rattle.http_wire.specs.Incoming.{Came, Taken, IsNoEnd, IsTargetOf, targeted}
 use Rattle.http_wire.specs.Interim.{continue_text, asks_to_continue}

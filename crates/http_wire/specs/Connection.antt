@@ -2,7 +2,7 @@
 use Rattle.std.specs.Prelude.{◌≡◌, ℕ, ◌<◌, Bool, false, ◌||◌, ◌&&◌, ◌==◌, List, [], ◌∷◌, length, Option, Some, None, codes}
 use Rattle.std.specs.List.{list_any, slice_split}
 use Rattle.httparse.specs.Grammar.{trim_ows}
-use Rattle.http_target.specs.Target.{is_word}
+use Rattle.http_wire.specs.Target.{is_word}
 
 -- the word stands between two commas, without the spaces and tabs round it (RFC 9110, section 5.6.1)
 abbrev pub is_element : List ℕ → List ℕ → Bool

@@ -1,7 +1,7 @@
 -- What reading a body gives, as it is framed.
 use Rattle.std.specs.Prelude.{List, ℕ, Result, Ok, Err, ⊤}
-use Rattle.http_chunks.specs.declared.chunks.Chunked.{Chunked}
-use Rattle.http_chunks.specs.declared.chunks.Chunked.TheVariants.{Whole, Lacking, Refused}
+use Rattle.http_intake.specs.declared.chunks.Chunked.{Chunked}
+use Rattle.http_intake.specs.declared.chunks.Chunked.TheVariants.{Whole, Lacking, Refused}
 use Rattle.http_intake.specs.declared.fault.WireFault.{WireFault}
 use Rattle.http_intake.specs.declared.fault.WireFault.TheVariants as fault
 use Rattle.http_wire.specs.declared.head.Framing.{Framing}

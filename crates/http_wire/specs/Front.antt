@@ -5,15 +5,15 @@ use Rattle.std.specs.Char.{is_ascii_digit}
 use Rattle.std.specs.Str.{bytes_eq}
 use Rattle.httparse.specs.Grammar.{RequestHead, ReadsRequest, NeverHasRequest, HasNoRequest, MayBecomeRequest, EndsInTarget, print_request}
 use Rattle.httparse.specs.Spans.{name_and_value, RequestOverflows}
-use Rattle.http_chunks.specs.Lines.{head_lines}
-use Rattle.http_chunks.specs.Limits.{head_limit, field_limit, body_limit, window}
-use Rattle.http_target.specs.Target.{is_word, target_of}
+use Rattle.http_intake.specs.Lines.{head_lines}
+use Rattle.http_intake.specs.Limits.{head_limit, field_limit, body_limit, window}
+use Rattle.http_wire.specs.Target.{is_word, target_of}
 use Rattle.http_wire.specs.Connection.{asks_to_close, parts, ends_in}
-use Rattle.http_chunks.specs.Chunks.{HasChunks, LacksChunks, HasChunkFault}
+use Rattle.http_intake.specs.Chunks.{HasChunks, LacksChunks, HasChunkFault}
 use Rattle.http_wire.specs.declared.head.Framing.{Framing}
 use Rattle.http_wire.specs.declared.head.Framing.TheVariants.{Sized, Chunked}
-use Rattle.http_chunks.specs.declared.fault.Fault.{Fault}
-use Rattle.http_chunks.specs.declared.fault.Fault.TheVariants.{BadHead, HeadTooLarge, BadHost, BadLength, BadCoding, BodyTooLarge, BadTarget, BadChunk}
+use Rattle.http_intake.specs.declared.chunk_fault.Fault.{Fault}
+use Rattle.http_intake.specs.declared.chunk_fault.Fault.TheVariants.{BadHead, HeadTooLarge, BadHost, BadLength, BadCoding, BodyTooLarge, BadTarget, BadChunk}
 
 -- a field's value, if it has that name
 abbrev pub named_value : List ℕ → List ℕ × List ℕ → Option (List ℕ)

@@ -10,16 +10,16 @@ use Rattle.http_intake.specs.declared.fault.WireFault.TheVariants as wire
 use Rattle.http_wire.specs.declared.fault.RequestFault.{RequestFault}
 use Rattle.http_wire.specs.declared.fault.RequestFault.TheVariants as fault
 use Rattle.http_wire.specs.Interim.{Interim, IsCutInterim, IsCutShort, continue_text, asks_to_continue}
-use Rattle.http_target.specs.Target.{target_of}
-use Rattle.http_chunks.specs.declared.chunks.Chunked.{Chunked}
-use Rattle.http_chunks.specs.declared.chunks.Chunked.TheVariants as chunked
+use Rattle.http_wire.specs.Target.{target_of}
+use Rattle.http_intake.specs.declared.chunks.Chunked.{Chunked}
+use Rattle.http_intake.specs.declared.chunks.Chunked.TheVariants as chunked
 use Rattle.http_wire.specs.Front.{HasRequest, HasFault, IsStarved, IsIncomplete, closes_after}
 use Rattle.std.specs.Str.{IsAscii}
 use Rattle.http_intake.specs.declared.intake.Intake.{Intake}
 use Rattle.http_intake.specs.Budget.{Spends}
 use Rattle.http_intake.specs.Draws.{SameParts, left_of}
 use Rattle.http_wire.specs.Budget.{read_failures_of}
-use Rattle.http_chunks.specs.declared.fault.Fault.TheVariants.{BadTarget}
+use Rattle.http_intake.specs.declared.chunk_fault.Fault.TheVariants.{BadTarget}
 
 -- the text is what the target asks for, if it may stand
 abbrev pub IsTargetOf : List ℕ → Bool → List ℕ → Type 0

@@ -3,11 +3,11 @@ use Rattle.std.specs.Prelude.{◌≡◌, ◌⊎◌, ℕ, ◌==◌, Bool, true, f
 use Rattle.std.specs.List.{list_any}
 use Rattle.httparse.specs.Grammar.{RequestHead}
 use Rattle.httparse.specs.Spans.{name_and_value}
-use Rattle.http_target.specs.Target.{is_word}
+use Rattle.http_wire.specs.Target.{is_word}
 use Rattle.http_wire.specs.declared.head.Framing.{Framing}
 use Rattle.http_wire.specs.declared.head.Framing.TheVariants.{Sized, Chunked}
-use Rattle.http_chunks.specs.declared.fault.Fault.{Fault}
-use Rattle.http_chunks.specs.Lines.{IsWithinLine}
+use Rattle.http_intake.specs.declared.chunk_fault.Fault.{Fault}
+use Rattle.http_intake.specs.Lines.{IsWithinLine}
 use Rattle.http_wire.specs.Front.{HasHead, IsOpen, IsIncomplete, judged_head}
 
 abbrev pub continue_line : List ℕ

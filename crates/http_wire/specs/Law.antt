@@ -1,9 +1,9 @@
 -- The front of an input is one thing alone.
 use Rattle.std.specs.Prelude.{◌≡◌, ◌⊎◌, ℕ, Bool, true, false, List, [], ◌++◌, codes}
 use Rattle.httparse.specs.Grammar.{RequestHead}
-use Rattle.http_chunks.specs.declared.fault.Fault.{Fault}
-use Rattle.http_chunks.specs.declared.fault.Fault.TheVariants.{BadHost, BadLength}
-use Rattle.http_chunks.specs.Chunks as chunks
+use Rattle.http_intake.specs.declared.chunk_fault.Fault.{Fault}
+use Rattle.http_intake.specs.declared.chunk_fault.Fault.TheVariants.{BadHost, BadLength}
+use Rattle.http_intake.specs.Chunks as chunks
 use Rattle.http_wire.specs.Front.{HasHead, HasRequest, HasFault, closes_after, IsIncomplete, HasTooManyLines, IsNoHead}
 
 -- more than 64 lines have come, and no head can stand, whatever follows

@@ -8,3 +8,5 @@ pub mod Framed
 pub mod Look
 pub mod Incoming
 pub mod Plain
+pub mod Target
+pub mod TargetTexts

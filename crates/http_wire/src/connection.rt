@@ -4,7 +4,7 @@ ghost use Rattle.httparse.specs.Spans.{header_bytes, IsHeaderWithin};
 ghost use Rattle.http_wire.specs.Connection.{asks_to_close as asks_to_close_in};
 
 use crate::lists::names_close;
-use http_target::word::is_named;
+use crate::word::is_named;
 use httparse::spans::HeaderSpan;
 
 /// Whether the answer to a request of this version and these fields ends the connection.

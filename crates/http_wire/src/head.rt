@@ -7,9 +7,9 @@ ghost use Rattle.http_wire.specs.Front.{is_length as is_length_text, number_of, 
 ghost use Rattle.http_wire.specs.Connection.{parts, ends_in};
 
 use crate::lists::{ends_in_chunked, is_one};
-use http_chunks::fault::Fault;
-use http_chunks::limits::BODY_LIMIT;
-use http_target::word::is_named;
+use crate::word::is_named;
+use http_intake::chunk_fault::Fault;
+use http_intake::limits::BODY_LIMIT;
 use httparse::spans::HeaderSpan;
 
 /// How a body is framed (RFC 9112, section 6).

@@ -5,8 +5,8 @@ ghost use Rattle.byte_stream.specs.Sends.{Sends, failures_with};
 ghost use Rattle.http_wire.specs.Interim.{continue_text, has_body as has_body_by, expects_continue as expects_continue_in};
 
 use crate::head::Framing;
+use crate::word::is_named;
 use byte_stream::sink::{Sink, WriteFault};
-use http_target::word::is_named;
 use httparse::spans::HeaderSpan;
 
 /// Whether a body follows. One in chunks always does.

@@ -5,7 +5,7 @@ ghost use Rattle.std.specs.Option.{option_copied};
 ghost use Rattle.httparse.specs.Grammar.{skip_ows, trim_ows};
 ghost use Rattle.http_wire.specs.Connection.{IsCut, parts, ends_in, names_close as names_close_in};
 
-use http_target::word::is_named;
+use crate::word::is_named;
 use httparse::is_space_or_tab;
 
 fn trim_start(mut s: &[u8]) -> &[u8]

@@ -1,7 +1,7 @@
 //! A look at the bytes that have come, for a head.
 ghost use Rattle.std.specs.Prelude.{◌≡◌, ◌<◌, ◌≤◌, ◌+◌, length, true, false, drop};
 ghost use Rattle.httparse.specs.Grammar.{HasNoRequest, NeverHasRequest, MayBecomeRequest};
-ghost use Rattle.http_chunks.specs.Limits.{window};
+ghost use Rattle.http_intake.specs.Limits.{window};
 ghost use Rattle.http_wire.specs.Front.{is_head as is_head_method};
 ghost use Rattle.http_wire.specs.Look.{IsParsed, Sees};
 ghost use Rattle.http_wire.specs.InTarget.{in_method, in_blank};
@@ -11,9 +11,9 @@ ghost use Rattle.std.specs.List.{list_all};
 use crate::connection::asks_to_close;
 use crate::head::{Framing, judge};
 use crate::interim::{expects_continue, has_body};
-use http_chunks::fault::Fault;
-use http_chunks::limits::{FIELD_LIMIT, HEAD_LIMIT};
-use http_chunks::lines::{ends_line, head_lines};
+use http_intake::chunk_fault::Fault;
+use http_intake::limits::{FIELD_LIMIT, HEAD_LIMIT};
+use http_intake::lines::{ends_line, head_lines};
 use http_intake::sought::{Seen, Sought};
 use httparse::spans::{EMPTY_HEADER_SPAN, HeaderSpan, RequestSpans, Span, parse_request};
 use httparse::{Error, Status, is_method_token, is_uri_token};
@@ -176,7 +176,7 @@ pub fn look_at(bytes: &[u8], headers: &mut [HeaderSpan]) -> Seen<Head, Refusal>
 pub struct HeadSought;
 
 impl Sought for HeadSought {
-    ghost use Rattle.http_chunks.specs.Lines.{IsWithinLine};
+    ghost use Rattle.http_intake.specs.Lines.{IsWithinLine};
     ghost use Rattle.http_wire.specs.Look.{Sees};
 
     type Part = Head;
@@ -194,7 +194,7 @@ impl Sought for HeadSought {
     }
 
     // A head is judged once for each of its lines, however many pieces they come in.
-    #[tactic(auto, using(http_chunks::specs::LineLemmas::no_line_ends))]
+    #[tactic(auto, using(http_intake::specs::LineLemmas::no_line_ends))]
     fn is_due(&self, more: &[u8]) -> bool {
         ends_line(more)
     }

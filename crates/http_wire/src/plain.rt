@@ -1,15 +1,15 @@
 //! Requests that are answered without a copy of them.
 ghost use Rattle.std.specs.Prelude.{◌≡◌, ◌<◌, ◌≤◌, length, true, Some, None, IfSome};
 ghost use Rattle.httparse.specs.Spans.{span_bytes, IsWithin};
-ghost use Rattle.http_target.specs.Target.{target_of};
+ghost use Rattle.http_wire.specs.Target.{target_of};
 ghost use Rattle.http_wire.specs.declared.head.Framing.TheVariants.{Sized};
 ghost use Rattle.http_wire.specs.Plain.{IsPlain};
 
 use crate::head::Framing;
 use crate::look::{Head, look_at};
 use crate::room::HeadRoom;
-use http_chunks::law::chunk_law;
 use http_intake::inbox::Inbox;
+use http_intake::law::chunk_law;
 use http_intake::sought::Seen;
 
 /// Whether the head has just this method and this target, and no body.

@@ -5,30 +5,30 @@ ghost use Rattle.std.specs.Io.KnownBytes.{Appends, Consumes};
 ghost use Rattle.std.specs.Option.{option_map};
 ghost use Rattle.http_intake.specs.Budget.{reading_left, Spends};
 ghost use Rattle.http_intake.specs.Draws.{Draws, Reads};
-ghost use Rattle.http_chunks.specs.Chunked.{LacksChunksAtEnd};
+ghost use Rattle.http_intake.specs.Chunked.{LacksChunksAtEnd};
 ghost use Rattle.http_wire.specs.Budget.{read_failures_of, write_failures_of};
 ghost use Rattle.http_wire.specs.Framed.{BodyRead};
 ghost use Rattle.http_wire.specs.Incoming.{ReadsFront, EndsAt, TakesSome, Taken, DrawsRequest, finished, targeted as targeted_by, IsTargetOf};
 ghost use Rattle.http_wire.specs.Look.{IsFound};
-ghost use Rattle.http_target.specs.Target.{target_of};
+ghost use Rattle.http_wire.specs.Target.{target_of};
 
 use crate::fault::RequestFault;
 use crate::head::Framing;
 use crate::interim::write_interim;
 use crate::look::{Head, HeadSought, Refusal, look_at};
 use crate::room::HeadRoom;
+use crate::target::{Target, read_target};
 use byte_stream::sink::Sink;
 use byte_stream::source::Source;
 use http::Method;
-use http_chunks::chunks::{Chunked, read_chunks};
-use http_chunks::fault::Fault;
-use http_chunks::law::chunk_law;
 use http_intake::body::read_body;
+use http_intake::chunk_fault::Fault;
+use http_intake::chunks::{Chunked, read_chunks};
 use http_intake::fault::WireFault;
 use http_intake::inbox::{INBOX_LEN, Inbox};
 use http_intake::intake::Intake;
+use http_intake::law::chunk_law;
 use http_intake::sought::{Seen, read_front};
-use http_target::target::{Target, read_target};
 use std::alloc::{AllocError, Global};
 
 /// The turns of a whole stream, from which each call takes its own.

@@ -1,8 +1,16 @@
-//! The plan desk's program.
+//! The plan desk's program: it finds out what its words ask for, opens the files and the standard streams, and hands them to the
+//! command, a function over its readers and writers that answers the exit status.
 #![tactic(auto)]
 
-use desk_program::run::run;
-use exit_status::status::Status;
+mod checks;
+mod files;
+mod run;
+mod serving;
+mod stores;
+mod sweeping;
+
+use crate::run::run;
+use command_output::status::Status;
 use std::env;
 use std::io::ErrorKind;
 use std::process::ExitCode;

@@ -1,7 +1,7 @@
 -- What a run came to, by its last clerk and the socket.
 use Rattle.std.proofs.Common.{ℕ, List, Bool, true, false, Result, inr, refl}
 use Rattle.sector_device.specs.declared.SectorDevice.{Ghosts}
-use Rattle.told_lines.specs.Writing.{Written}
+use Rattle.command_output.specs.Writing.{Written}
 use Rattle.store_command.specs.declared.fault.StoreFault.{StoreFault}
 use Rattle.serve_command.specs.Serving.{end_of, HasAnnounced, IsServed, Announces}
 

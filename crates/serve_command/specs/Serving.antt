@@ -2,9 +2,9 @@
 use Rattle.std.specs.Prelude.{◌≡◌, ◌⊎◌, ℕ, List, ◌++◌, codes, decimal, Bool, true, false, Result, Ok, Err}
 use Rattle.byte_stream.specs.declared.sink.WriteFault.{WriteFault}
 use Rattle.sector_device.specs.declared.SectorDevice.{Ghosts}
-use Rattle.exit_status.specs.declared.status.Status.{Status}
-use Rattle.exit_status.specs.declared.status.Status.TheVariants as status
-use Rattle.told_lines.specs.Writing.{Written, Writes, Told}
+use Rattle.command_output.specs.declared.status.Status.{Status}
+use Rattle.command_output.specs.declared.status.Status.TheVariants as status
+use Rattle.command_output.specs.Writing.{Written, Writes, Told}
 use Rattle.desk_store.specs.declared.clerk.Clerk.{Clerk}
 use Rattle.desk_store.specs.Clerks.{is_halted, Keeps}
 use Rattle.store_command.specs.Filling.{IsOpened, IsUnopened}

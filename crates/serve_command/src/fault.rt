@@ -2,7 +2,7 @@
 ghost use Rattle.std.specs.Prelude.{◌≡◌};
 ghost use Rattle.serve_command.specs.Serving.{fault_line as line_of_fault, status_of as status_of_fault};
 
-use exit_status::status::Status;
+use command_output::status::Status;
 use store_command::fault::StoreFault;
 use store_command::telling::{store_line, store_status};
 

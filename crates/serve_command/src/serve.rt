@@ -1,16 +1,17 @@
 //! `serve`: a store is served to connections.
 ghost use Rattle.std.specs.Prelude.{◌≡◌, ◌≤◌};
 ghost use Rattle.desk_store.specs.Clerks.{is_halted};
-ghost use Rattle.told_lines.specs.Writing.{written_of};
+ghost use Rattle.command_output.specs.Writing.{written_of};
 ghost use Rattle.serve_command.specs.Serving.{end_of, OpensStore, Announces, Serves, EndsServing};
 
 use crate::fault::{ServeFault, fault_line, fault_status};
 use crate::office::serve_clerk;
 use crate::texts::listening_text;
 use byte_stream::sink::Sink;
+use command_line::options::Serving;
+use command_output::status::Status;
+use command_output::telling::send_line;
 use desk_store::clerk::Clerk;
-use desk_words::options::Serving;
-use exit_status::status::Status;
 use http_seats::listening::Listens;
 use sector_device::SectorDevice;
 use std::alloc::Global;
@@ -19,7 +20,6 @@ use std::thread::Threads;
 use store_command::fault::StoreFault;
 use store_command::filling::open_clerk;
 use store_command::stores::Stores;
-use told_lines::telling::send_line;
 
 /// The clerk who opens the store of a name.
 fn open_store<D: SectorDevice + Drop, O: Stores<D>>(

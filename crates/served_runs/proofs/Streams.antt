@@ -3,9 +3,9 @@ use Rattle.std.proofs.Common.{◌≡◌, ℕ, ◌+◌, Bool, true, false, List, 
 use Rattle.sector_device.specs.declared.SectorDevice.{Ghosts}
 use Rattle.desk_store.specs.declared.clerk.Clerk.{Clerk}
 use Rattle.desk_runs.specs.Runs.{Call, Run, SurvivesEachRun}
-use Rattle.http_orders.specs.declared.order.Order.{Order}
-use Rattle.http_orders.specs.declared.order.Order.TheVariants as order
-use Rattle.http_orders.specs.Orders.{order_of}
+use Rattle.http_routes.specs.declared.order.Order.{Order}
+use Rattle.http_routes.specs.declared.order.Order.TheVariants as order
+use Rattle.http_routes.specs.Orders.{order_of}
 use Rattle.http_wire.specs.Front.{closes_after, is_head}
 use Rattle.http_desk.specs.declared.serve.Served.{Served}
 use Rattle.http_desk.specs.declared.serve.ServeFault.{ServeFault}

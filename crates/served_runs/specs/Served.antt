@@ -11,9 +11,9 @@ use Rattle.desk_store.specs.declared.clerk.Clerk.{Clerk}
 use Rattle.desk_store.specs.Clerks.{desk_of, disk_of, Keeps}
 use Rattle.desk_store.specs.Commands.{Does}
 use Rattle.desk_runs.specs.Runs.{Call, Run, Survives}
-use Rattle.http_orders.specs.declared.order.Order.{Order}
-use Rattle.http_orders.specs.declared.order.Order.TheVariants as order
-use Rattle.http_orders.specs.Orders.{order_of}
+use Rattle.http_routes.specs.declared.order.Order.{Order}
+use Rattle.http_routes.specs.declared.order.Order.TheVariants as order
+use Rattle.http_routes.specs.Orders.{order_of}
 use Rattle.http_wire.specs.Front.{closes_after, is_head}
 use Rattle.http_desk.specs.declared.serve.Served.{Served}
 use Rattle.http_desk.specs.declared.serve.ServeFault.{ServeFault}

@@ -5,8 +5,8 @@ use Rattle.sector_device.specs.declared.SectorDevice.{Ghosts}
 use Rattle.gate_journal.specs.Store.{home}
 use Rattle.desk_pages.specs.Formats.{OpensNew, FormatErr}
 use Rattle.desk_pages.specs.declared.formatting.FormatError.{FormatError}
-use Rattle.exit_status.specs.declared.status.Status.{Status}
-use Rattle.told_lines.specs.Writing.{Written, write_fault_line}
+use Rattle.command_output.specs.declared.status.Status.{Status}
+use Rattle.command_output.specs.Writing.{Written, write_fault_line}
 use Rattle.store_command.specs.Faults.{fault_of_format}
 use Rattle.store_command.specs.Telling.{EndsStore}
 use Rattle.store_command.specs.Texts.{formatted_text}

@@ -4,3 +4,4 @@ pub mod Formatting
 pub mod Loading
 pub mod Telling
 pub mod Texts
+pub mod Sweeping

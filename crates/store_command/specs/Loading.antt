@@ -3,13 +3,13 @@ use Rattle.std.specs.Prelude.{◌≡◌, ◌⊎◌, ℕ, List, Option, codes, Re
 use Rattle.std.specs.declared.alloc.Global.{Global}
 use Rattle.sector_device.specs.declared.SectorDevice.{Ghosts}
 use Rattle.desk_model.specs.Geography.{Ground}
-use Rattle.exit_status.specs.declared.status.Status.{Status}
+use Rattle.command_output.specs.declared.status.Status.{Status}
 use Rattle.state_files.specs.Opening.{Opening, opening_of, Census, census_of}
 use Rattle.state_files.specs.State.{Then, ReadsState}
 use Rattle.state_files.specs.Grounds.{ReadsGround}
 use Rattle.state_files.specs.declared.fault.FileFault.{FileFault}
-use Rattle.told_lines.specs.Telling.{Tells}
-use Rattle.told_lines.specs.Writing.{Written, write_fault_line}
+use Rattle.command_output.specs.Telling.{Tells}
+use Rattle.command_output.specs.Writing.{Written, write_fault_line}
 use Rattle.desk_store.specs.declared.clerk.Clerk.{Clerk}
 use Rattle.store_command.specs.Filling.{HasLoaded, FillRefused}
 use Rattle.store_command.specs.Telling.{EndsStore}

@@ -1,9 +1,9 @@
 -- What is told of a store that isn't made or filled, and the status that goes with it.
 use Rattle.std.specs.Prelude.{◌≡◌, ℕ, List, ◌++◌, codes, Result, Ok, Err, Vec}
 use Rattle.std.specs.declared.alloc.Global.{Global}
-use Rattle.exit_status.specs.declared.status.Status.{Status}
-use Rattle.exit_status.specs.declared.status.Status.TheVariants as status
-use Rattle.told_lines.specs.Writing.{Written, Told, Prints}
+use Rattle.command_output.specs.declared.status.Status.{Status}
+use Rattle.command_output.specs.declared.status.Status.TheVariants as status
+use Rattle.command_output.specs.Writing.{Written, Told, Prints}
 use Rattle.store_command.specs.declared.fault.StoreFault.{StoreFault}
 use Rattle.store_command.specs.declared.fault.StoreFault.TheVariants.{NotFound, WrongSize, Exists, TooSmall, NotAStore, AlreadySealed, Full, DeviceFault, Memory}
 

@@ -3,13 +3,13 @@ ghost use Rattle.std.specs.Prelude.{IfOk, IfErr};
 ghost use Rattle.store_command.specs.Filling.{IsOpened, HasLoaded, IsUnopened, FillRefused};
 
 use crate::fault::{StoreFault, load_fault, open_fault};
+use command_progress::Progress;
 use desk_loading::load_geography;
 use desk_model::geography::Geography;
 use desk_store::clerk::Clerk;
 use sector_device::SectorDevice;
 use std::alloc::Global;
 use std::sync::Arc;
-use told_progress::Progress;
 
 /// The clerk who opens the store that a device holds.
 pub fn open_clerk<D: SectorDevice + Drop>(alloc: Global, device: D) -> Result<Clerk<D>, StoreFault>

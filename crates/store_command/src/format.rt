@@ -1,6 +1,6 @@
 //! `format`: a store is made in a new file.
 ghost use Rattle.std.specs.Prelude.{◌≡◌, ◌≤◌};
-ghost use Rattle.told_lines.specs.Writing.{written_of};
+ghost use Rattle.command_output.specs.Writing.{written_of};
 ghost use Rattle.store_command.specs.Formatting.{Makes, Formats};
 
 use crate::fault::{StoreFault, format_fault};
@@ -8,7 +8,7 @@ use crate::stores::Stores;
 use crate::telling::end_store;
 use crate::texts::formatted_text;
 use byte_stream::sink::Sink;
-use exit_status::status::Status;
+use command_output::status::Status;
 use gate_journal::has_room;
 use sector_device::SectorDevice;
 use std::alloc::Global;

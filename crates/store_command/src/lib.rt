@@ -1,5 +1,5 @@
-//! `format` and `load`: a store is made, and filled with a state's geography. Each command is a function over what makes and opens
-//! stores, over its readers and its writers, that answers the exit status.
+//! `format`, `load` and `sweep`: a store is made, filled with a state's geography, and rid of what deleted plans and ended loads left in
+//! it. Each command is a function over what makes and opens stores, over its readers and its writers, that answers the exit status.
 #![tactic(auto)]
 
 pub mod fault;
@@ -7,5 +7,8 @@ pub mod filling;
 pub mod format;
 pub mod load;
 pub mod stores;
+pub mod sweep;
+mod sweep_texts;
+mod sweeping;
 pub mod telling;
 mod texts;

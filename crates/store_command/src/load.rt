@@ -1,6 +1,6 @@
 //! `load`: a store is filled with what a state's files say.
 ghost use Rattle.std.specs.Prelude.{◌≡◌};
-ghost use Rattle.told_lines.specs.Writing.{written_of};
+ghost use Rattle.command_output.specs.Writing.{written_of};
 ghost use Rattle.store_command.specs.Loading.{openings_of, ReadsGeography, Fills, EndsLoad, Loads};
 
 use crate::fault::StoreFault;
@@ -10,16 +10,16 @@ use crate::telling::end_store;
 use crate::texts::loaded_text;
 use byte_stream::sink::Sink;
 use byte_stream::source::Source;
+use command_output::status::Status;
+use command_output::telling::tell;
+use command_progress::Progress;
 use desk_model::geography::Geography;
-use exit_status::status::Status;
 use sector_device::SectorDevice;
 use state_files::census::{CensusFiles, read_state};
 use state_files::fault::{FileFault, OpenFault};
 use state_files::ground::read_ground;
 use std::alloc::Global;
 use std::sync::Arc;
-use told_lines::telling::tell;
-use told_progress::Progress;
 
 /// The openings of a state's census files and of its neighbour file.
 #[derive(Drop)]

@@ -1,12 +1,12 @@
 //! What is printed and told of a store.
 ghost use Rattle.std.specs.Prelude.{◌≡◌};
-ghost use Rattle.told_lines.specs.Writing.{written_of};
+ghost use Rattle.command_output.specs.Writing.{written_of};
 ghost use Rattle.store_command.specs.Telling.{status_of, store_line as line_of_fault, TellsStore, EndsStore};
 
 use crate::fault::StoreFault;
 use byte_stream::sink::Sink;
-use exit_status::status::Status;
-use told_lines::telling::{print, send_line};
+use command_output::status::Status;
+use command_output::telling::{print, send_line};
 
 /// What is told of a fault.
 pub fn store_line(fault: StoreFault) -> &'static [u8]

@@ -7,11 +7,11 @@ ghost use Rattle.desk_store.specs.Clerks.{desk_of, is_halted, Keeps};
 ghost use Rattle.talk_command.specs.Talking.{Talks, ServesSample, status_of as status_of_served};
 
 use byte_stream::source::Source;
+use command_output::status::Status;
 use desk_loading::start;
 use desk_model::gate::NoGate;
 use desk_model::geography::sample;
 use desk_store::clerk::Clerk;
-use exit_status::status::Status;
 use http_answer::gather::GatherSink;
 use http_desk::serve::{ServeFault, Served};
 use sector_device::SectorDevice;

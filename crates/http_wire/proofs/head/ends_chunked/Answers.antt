@@ -4,7 +4,7 @@ use Rattle.std.specs.List.{flat_map}
 use Rattle.httparse.specs.Spans.{header_bytes}
 use Rattle.http_wire.specs.Connection.{parts, ends_in}
 use Rattle.http_wire.specs.Front.{values}
-use Rattle.http_target.specs.Target.{is_word}
+use Rattle.http_wire.specs.Target.{is_word}
 use Rattle.http_wire.proofs.ConnectionLemmas.{ends_last}
 use Rattle.http_wire.proofs.FieldLemmas.{values-more, with_value, without_value}
 use Rattle.http_wire.proofs.head.ends_chunked.Goals.{then-is_named, else-is_named}

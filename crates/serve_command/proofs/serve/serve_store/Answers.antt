@@ -1,5 +1,5 @@
 use Rattle.std.proofs.Common.{◌≡◌, ℕ, List, Result, Ok, Err, ◌∙◌, inl, inr, refl, sym, subst}
-use Rattle.told_lines.specs.Writing.{Writes, written_of}
+use Rattle.command_output.specs.Writing.{Writes, written_of}
 use Rattle.serve_command.specs.declared.fault.ServeFault.{ServeFault}
 use Rattle.serve_command.specs.Serving.{listening_text, HasAnnounced, Announces}
 use Rattle.serve_command.proofs.Ends.{run_ends}

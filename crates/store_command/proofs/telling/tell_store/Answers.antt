@@ -1,5 +1,5 @@
 use Rattle.std.proofs.Common.{ℕ, List, subst}
-use Rattle.told_lines.specs.Writing.{Told, written_of}
+use Rattle.command_output.specs.Writing.{Told, written_of}
 use Rattle.store_command.proofs.telling.tell_store.Goals as goal
 
 pub returns : goal.returns

@@ -4,7 +4,7 @@ use Rattle.desk_model.specs.declared.reply.Reply.{Reply}
 use Rattle.desk_model.specs.declared.reply.Reply.TheVariants as reply
 use Rattle.http_answer.specs.declared.response.ContentType.TheVariants.{Json, PlainText}
 use Rattle.http_answer.specs.Answer.{answer_text}
-use Rattle.http_orders.specs.Methods.{methods_text}
+use Rattle.http_routes.specs.Methods.{methods_text}
 use Rattle.http_desk.specs.declared.answer.Head.{Head}
 use Rattle.http_desk.specs.Answers.{bytes_of, saying, message_of, closes_after}
 use Rattle.http_desk.proofs.answer.Answer.put_reply.Goals as goal

@@ -1,0 +1,4 @@
+pub mod Faults
+pub mod Telling
+pub mod Writing
+pub mod Statuses

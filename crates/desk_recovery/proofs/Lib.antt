@@ -1,2 +1,0 @@
-mod One
-mod Following

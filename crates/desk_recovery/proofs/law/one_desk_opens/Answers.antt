@@ -1,5 +1,0 @@
-use Rattle.desk_recovery.proofs.One.{images_are_one}
-use Rattle.desk_recovery.proofs.law.one_desk_opens.Goals as goal
-
-pub returns : goal.returns
-returns c = images_are_one c.one_desk.ensures

@@ -1,2 +1,0 @@
-pub mod Recovery
-pub mod Lives

@@ -1,0 +1,134 @@
+-- Lives of a store, by induction on them.
+use Rattle.std.proofs.Common.{◌≡◌, ◌≤◌, ℕ, zero, suc, List, [], ◌∷◌, ◌++◌, length, take, get_or, refl, sym, subst, ◌∙◌, arith}
+use Rattle.std.proofs.lemmas.List.Sums.{fold-append}
+use Rattle.sector_device.specs.Disk.{Disk, Image}
+use Rattle.sector_device.specs.declared.SectorDevice.{Ghosts}
+use Rattle.desk_model.specs.declared.command.Command.{Command}
+use Rattle.desk_model.specs.Desk.{Desk}
+use Rattle.desk_model.specs.Step.{step}
+use Rattle.desk_pages.specs.Desks.{OpensDesk}
+use Rattle.desk_store.specs.declared.clerk.Clerk.{Clerk}
+use Rattle.desk_store.specs.Clerks.{desk_of, disk_of, sectors_of}
+use Rattle.desk_store.specs.Openings.{AllDesks, IsOneOf}
+use Rattle.desk_runs.specs.Runs.{Call, Run, after, acknowledged, acknowledged_at, in_flight, OpensAfterSome, OpenSince, SurvivesEachRun}
+use Rattle.desk_runs.specs.Recovery.{ImagesAreOne, HoldsOne}
+use Rattle.desk_runs.specs.Lives.{Life, found, accepted, told, left_by, IsSound, Finds, Follow, last_left, Lasted, OpensAfterLives, LivesSurvive}
+
+-- an image opens to one of these desks
+record OpensTo (n : ℕ) (P : Desk → Type 0) (c : Image) : Type 0 where
+  desk : Desk
+  has : P desk
+  opens : OpensDesk n desk c
+
+-- the image since a place of the moments opens to the desk after so many commands at least
+record OpensBehind (sectors : ℕ) (d : Desk) (commands : List Command) (least : ℕ) (c : Image) : Type 0 where
+  count : ℕ
+  enough : least ≤ count
+  within : count ≤ length commands
+  opens : OpensDesk sectors (after d (take count commands)) c
+
+some_behind : (sectors : ℕ) (d : Desk) (commands : List Command) (c : Image) → OpensAfterSome sectors d commands c → OpensBehind sectors d commands 0 c
+some_behind sectors d commands c some = record { count = some.count; enough = omega arith; within = some.within; opens = some.opens }
+
+behind : (disk : Disk) (sectors : ℕ) (d : Desk) (t : ℕ) (ms : List ℕ) (commands : List Command) (least : ℕ) → OpenSince disk sectors d t ms commands → least ≤ length ms → (c : Image) → disk.left (get_or (t ∷ ms) least 0) c → OpensBehind sectors d commands least c
+behind disk sectors d t [] commands zero since few c left = some_behind sectors d commands c (since.1 c left)
+behind disk sectors d t [] commands (suc least) since few c left = absurd (let clash : suc least ≤ 0 = few in omega (arith, clash))
+behind disk sectors d t (m ∷ ms) [] least since few c left = absurd since
+behind disk sectors d t (m ∷ ms) (a ∷ commands) zero since few c left = some_behind sectors d (a ∷ commands) c (since.1 c left)
+behind disk sectors d t (m ∷ ms) (a ∷ commands) (suc least) since few c left =
+    let there = behind disk sectors (step d a).1 m ms commands least since.2 (omega (arith, few)) c left in
+    record { count = suc there.count; enough = (let enough = there.enough in omega arith); within = (let within = there.within in omega arith); opens = there.opens }
+
+-- all images open to desks, and each of these desks is one of those
+all_desks : {D : Type 0} (g : Ghosts D) (n : ℕ) (P : Desk → Type 0) (left : Image → Type 0) → ((c : Image) → left c → OpensTo n P c) → (device : D) → Finds g n left device → AllDesks (g.disk device)
+all_desks g n P left has device finds c leaves = let is = has c (finds.1 c leaves) in (is.desk, subst (λ (s : ℕ). OpensDesk s is.desk c) (sym finds.0) is.opens)
+
+one_of_these : {D : Type 0} (g : Ghosts D) → ImagesAreOne → (n : ℕ) (P : Desk → Type 0) (left : Image → Type 0) → ((c : Image) → left c → OpensTo n P c) → (device : D) → Finds g n left device → (e : Desk) → IsOneOf (g.disk device) e → P e
+one_of_these g one n P left has device finds e is =
+    let there = has is.was (finds.1 is.was is.left) in
+    let few = (g.disk device).few in
+    subst P (one (g.disk device).sectors there.desk e is.was (omega (arith, few)) (subst (λ (s : ℕ). OpensDesk s there.desk is.was) (sym finds.0) there.opens) is.opens) there.has
+
+module _ {D : Type 0} {g : Ghosts D} where
+  honest_before : (x : Clerk D g) (calls : List Call) (z : Clerk D g) → Run x calls z → (disk_of z).is_honest → (disk_of x).is_honest
+  honest_before x _ z (Run.over _) honest = honest
+  honest_before x _ z (Run.went _ c r y calls _ does run) honest = does.moves.honest (honest_before y calls z run honest)
+
+  -- the desks to which one of these may have come after a life
+  record Next (P : Desk → Type 0) (life : Life g) (e : Desk) : Type 0 where
+    from : Desk
+    has : P from
+    count : ℕ
+    enough : told life ≤ count
+    within : count ≤ length (accepted life)
+    desk : e ≡ after from (take count (accepted life))
+
+  life_leaves : ImagesAreOne → ((x : Clerk D g) → SurvivesEachRun x) → (n : ℕ) (P : Desk → Type 0) (left : Image → Type 0) → ((c : Image) → left c → OpensTo n P c) → (life : Life g) → Finds g n left (found life) → IsSound life → (c : Image) → left_by life c → OpensTo n (Next P life) c
+  life_leaves one runs n P left has (Life.opening device result is) finds sound c stopped =
+      let opens = (is.any_moment sound (all_desks g n P left has device finds)).each c stopped in
+      record {
+        desk = opens.desk;
+        has = record { from = opens.desk; has = one_of_these g one n P left has device finds opens.desk opens.one; count = 0; enough = omega arith; within = omega arith; desk = refl };
+        opens = subst (λ (s : ℕ). OpensDesk s opens.desk c) finds.0 opens.opens;
+      }
+  life_leaves one runs n P left has (Life.running device x is calls z run count) finds sound c stopped =
+      let opened = is.opened (all_desks g n P left has device finds) in
+      let survives = runs x calls z run opened.0 is.working.0 sound.0 in
+      let there = behind (disk_of z) (sectors_of x) (desk_of x) (disk_of x).moment (acknowledged_at x calls z run) (acknowledged calls ++ in_flight x calls z run) count survives.since sound.1 c stopped in
+      let desk = after (desk_of x) (take there.count (acknowledged calls ++ in_flight x calls z run)) in
+      record {
+        desk = desk;
+        has = record { from = desk_of x; has = one_of_these g one n P left has device finds (desk_of x) (opened.1 (honest_before x calls z run sound.0)); count = there.count; enough = there.enough; within = there.within; desk = refl };
+        opens = subst (λ (s : ℕ). OpensDesk s desk c) (is.working.1 ∙ finds.0) there.opens;
+      }
+
+  -- what came of one of these desks in all these lives
+  record OpensLater (n : ℕ) (P : Desk → Type 0) (lives : List (Life g)) (c : Image) : Type 0 where
+    from : Desk
+    has : P from
+    commands : List Command
+    lasted : Lasted lives commands
+    opens : OpensDesk n (after from commands) c
+
+  later_of : (n : ℕ) (P : Desk → Type 0) (life : Life g) (lives : List (Life g)) (c : Image) → OpensLater n (Next P life) lives c → OpensLater n P (life ∷ lives) c
+  later_of n P life lives c there =
+      let next = there.has in
+      let front = take next.count (accepted life) in
+      record {
+        from = next.from;
+        has = next.has;
+        commands = front ++ there.commands;
+        lasted = Lasted.more life lives next.count there.commands next.enough next.within there.lasted;
+        opens = subst (λ (e : Desk). OpensDesk n e c) (sym (fold-append (λ (d : Desk) (a : Command). (step d a).1) next.from front there.commands)) (subst (λ (e : Desk). OpensDesk n (after e there.commands) c) next.desk there.opens);
+      }
+
+  lives_leave : ImagesAreOne → ((x : Clerk D g) → SurvivesEachRun x) → (n : ℕ) (P : Desk → Type 0) (left : Image → Type 0) → ((c : Image) → left c → OpensTo n P c) → (lives : List (Life g)) → Follow n left lives → (c : Image) → last_left left lives c → OpensLater n P lives c
+  lives_leave one runs n P left has [] follow c stopped = let is = has c stopped in record { from = is.desk; has = is.has; commands = []; lasted = Lasted.none; opens = is.opens }
+  lives_leave one runs n P left has (life ∷ lives) follow c stopped =
+      later_of n P life lives c (lives_leave one runs n (Next P life) (left_by life) (λ i gone. life_leaves one runs n P left has life follow.0 follow.1 i gone) lives follow.2 c stopped)
+
+  all_after : ImagesAreOne → ((x : Clerk D g) → SurvivesEachRun x) → (first : D) (d : Desk) (lives : List (Life g)) → HoldsOne (g.disk first) d → Follow (g.disk first).sectors (g.disk first).leaves lives → (c : Image) → last_left (g.disk first).leaves lives c → OpensAfterLives (g.disk first).sectors d lives c
+  all_after one runs first d lives holds follow c stopped =
+      let n = (g.disk first).sectors in
+      let there = lives_leave one runs n (λ (e : Desk). e ≡ d) (g.disk first).leaves (λ i leaves. record { desk = d; has = refl; opens = holds i leaves }) lives follow c stopped in
+      record { commands = there.commands; lasted = there.lasted; opens = subst (λ (e : Desk). OpensDesk n (after e there.commands) c) there.has there.opens }
+
+  -- the desks after commands that lasted
+  record LastedDesk (d : Desk) (lives : List (Life g)) (e : Desk) : Type 0 where
+    commands : List Command
+    lasted : Lasted lives commands
+    desk : e ≡ after d commands
+
+  pub lives_survive : ImagesAreOne → ((x : Clerk D g) → SurvivesEachRun x) → LivesSurvive g
+  lives_survive one runs first d lives holds follow =
+      let n = (g.disk first).sectors in
+      let left = last_left (g.disk first).leaves lives in
+      let all = all_after one runs first d lives holds follow in
+      let desks : (c : Image) → left c → OpensTo n (LastedDesk d lives) c = λ c gone. (let is = all c gone in record { desk = after d is.commands; has = record { commands = is.commands; lasted = is.lasted; desk = refl }; opens = is.opens }) in
+      record {
+        images = all;
+        shown = λ device x finds is honest.
+            (let opened = is.opened (all_desks g n (LastedDesk d lives) left desks device finds) in
+            let there = one_of_these g one n (LastedDesk d lives) left desks device finds (desk_of x) (opened.1 honest) in
+            record { commands = there.commands; lasted = there.lasted; shown = there.desk });
+      }

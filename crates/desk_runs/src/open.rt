@@ -1,0 +1,22 @@
+//! Openings of a device whose images all open to one desk.
+ghost use Rattle.desk_model.specs.Desk.{Desk};
+ghost use Rattle.desk_store.specs.Openings.{device_after};
+ghost use Rattle.desk_runs.specs.Lives.{IsOpening};
+ghost use Rattle.desk_runs.specs.Recovery.{HoldsOne, Recovers};
+
+use crate::desk_law::one_desk_opens;
+use desk_store::clerk::Clerk;
+use desk_store::opening::OpenError;
+use sector_device::SectorDevice;
+use std::alloc::Global;
+
+/// Opens a device, as `Clerk::open`. Where each image that a stop may leave of it opens to one desk, the clerk shows that desk, and
+/// whatever the opening comes to, each image that a stop at any moment of it leaves opens to the same desk: so it does after the
+/// next opening, however many of them a stop cuts short.
+pub fn open_again<D: SectorDevice>(alloc: Global, device: D) -> Result<Clerk<D>, (OpenError, D)>
+    ensures opening { IsOpening D.SectorDevice device result }
+    ensures again { (D.disk (device_after result)).is_honest → (d : Desk) → HoldsOne (D.disk device) d → Recovers D.SectorDevice device d result }
+{
+    one_desk_opens();
+    Clerk::open(alloc, device)
+}

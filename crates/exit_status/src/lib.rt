@@ -1,4 +1,0 @@
-//! How a command of the program ends.
-#![tactic(auto)]
-
-pub mod status;

@@ -1,6 +1,0 @@
-mod ChunkLookLemmas
-mod ChunkReadLemmas
-mod ChunkLemmas
-mod ChunkStays
-mod ChunkCases
-mod ChunkTruths

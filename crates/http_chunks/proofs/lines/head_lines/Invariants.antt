@@ -1,6 +1,0 @@
-use Rattle.std.proofs.Common.{◌≡◌, drop}
-use Rattle.http_chunks.specs.Lines.{head_lines}
-use Rattle.http_chunks.proofs.lines.head_lines.Given as goal
-
-abbrev pub invariant-loop-i : goal.invariant-loop-i
-invariant-loop-i l = head_lines (drop l.i l.bytes) ≡ head_lines l.bytes

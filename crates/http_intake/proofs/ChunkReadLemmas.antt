@@ -1,0 +1,231 @@
+-- The parts of a body in chunks, one after another.
+use Rattle.std.proofs.Common.{◌≡◌, ℕ, ◌+◌, ◌<◌, ◌≤◌, List, [], ◌∷◌, ◌++◌, length, take, drop, Option, Some, None, Result, Ok, Err, refl, sym, ap, subst, ◌∙◌, arith, inl, inr, append_assoc, append-nil, take-append-drop, length-append}
+use Rattle.std.proofs.lemmas.List.{append_cancel_left, take-append-le}
+use Rattle.std.proofs.Math.Seq.{take-append_seam}
+use Rattle.std.proofs.KnownBytes.{Consumes-trans, Consumes-nil}
+use Rattle.std.specs.Io.KnownBytes.{Consumes}
+use Rattle.httparse.specs.Grammar.{ChunkLine, chunk_size}
+use Rattle.httparse.proofs.ChunkLemmas.{ReadsChunkLine-append}
+use Rattle.http_intake.specs.declared.chunk_line.Line.{Line}
+use Rattle.http_intake.specs.declared.chunks.Chunked.{Chunked}
+use Rattle.http_intake.specs.declared.chunks.Chunked.TheVariants as came
+use Rattle.http_intake.specs.declared.chunk_fault.Fault.{Fault}
+use Rattle.http_intake.specs.declared.chunk_fault.Fault.TheVariants.{BodyTooLarge}
+use Rattle.http_intake.specs.declared.fault.WireFault.{WireFault}
+use Rattle.http_intake.specs.declared.fault.WireFault.TheVariants as fault
+use Rattle.http_intake.specs.declared.sought.Seen.TheVariants.{Wanting}
+use Rattle.http_intake.specs.Draws.{IsPutOff}
+use Rattle.http_intake.specs.DrawsLemmas.{not_put_off}
+use Rattle.http_intake.specs.Chunked.{ChunksCame}
+use Rattle.http_intake.specs.Chunks.{HasLine, IsOpenLine, IsOpenEnd, AreOpenTrailers, HasDataLine, HasLastLine, HasChunk, HasChunks, HasChunkFault, LacksChunks}
+use Rattle.http_intake.specs.ChunkParts.{IsLineAt, SeesLine, SeesEnd, SeesTrailers, EndCame, TrailersCame, HasData, LacksData, DataCame, StepCame, after_trailers, after_data}
+
+line_before : (input : List ℕ) (l : ChunkLine) (rest more : List ℕ) → HasLine input l rest → HasLine (input ++ more) l (rest ++ more)
+line_before input l rest more s = record { reads = ReadsChunkLine-append input l rest more s.reads; short = s.short }
+
+chunk_before : (n : ℕ) (input : List ℕ) (l : ChunkLine) (bytes rest more : List ℕ) → HasChunk n input l bytes rest → HasChunk n (input ++ more) l bytes (rest ++ more)
+chunk_before n input l bytes rest more c = record {
+  line = subst (HasLine (input ++ more) l) (append_assoc bytes (13 ∷ 10 ∷ rest) more) (line_before input l (bytes ++ 13 ∷ 10 ∷ rest) more c.line);
+  some = c.some;
+  size = c.size;
+  within = c.within;
+}
+
+-- ---- a part
+
+module _ (held : List ℕ) (new rest : List ℕ) where
+  -- reading CR LF failed
+  pub end_failed : (e : WireFault) → IsPutOff (λ front. SeesEnd front Wanting) (λ b. ⊥) held → EndCame held (Err e) rest
+  end_failed fault.Read x = not_put_off IsOpenEnd held x
+  end_failed fault.TurnLimit x = not_put_off IsOpenEnd held x
+  end_failed fault.Memory x = tt
+
+  -- reading trailers failed
+  pub trailers_failed : (e : WireFault) → IsPutOff (λ front. SeesTrailers front Wanting) (λ b. ⊥) held → TrailersCame held (Err e) rest
+  trailers_failed fault.Read x = not_put_off AreOpenTrailers held x
+  trailers_failed fault.TurnLimit x = not_put_off AreOpenTrailers held x
+  trailers_failed fault.Memory x = tt
+
+  -- reading a line failed
+  pub line_failed : (old : List ℕ) (e : WireFault) → IsPutOff (λ front. SeesLine front Wanting) (λ b. ⊥) held → StepCame old held (Err e) new rest
+  line_failed old fault.Read x = LacksChunks.no_line _ _ (not_put_off IsOpenLine held x)
+  line_failed old fault.TurnLimit x = LacksChunks.no_line _ _ (not_put_off IsOpenLine held x)
+  line_failed old fault.Memory x = tt
+
+-- ---- one chunk
+
+-- the line that was found, before more bytes
+abbrev behind_line : List ℕ → Line → List ℕ → List ℕ
+behind_line input found more = drop found.len input ++ more
+
+found_line : (input more : List ℕ) (found : Line) → (s : IsLineAt input found) → HasLine (input ++ more) s.line (behind_line input found more)
+found_line input more found s = line_before input s.line (drop found.len input) more s.stands
+
+last_line : (input more : List ℕ) (found : Line) → (s : IsLineAt input found) → found.size ≡ 0 → HasLastLine (input ++ more) s.line (behind_line input found more)
+last_line input more found s zero_size = record { line = found_line input more found s; none = sym s.size ∙ zero_size }
+
+data_line : (n : ℕ) (input more : List ℕ) (found : Line) → (s : IsLineAt input found) → 0 < found.size → n + found.size ≤ 33554432 → HasDataLine n (input ++ more) s.line (behind_line input found more)
+data_line n input more found s some room = record {
+  line = found_line input more found s;
+  some = omega (arith, s.size, some);
+  within = omega (arith, s.size, room);
+}
+
+-- its size passes what a body may have
+pub line_too_large : (n : ℕ) (input more : List ℕ) (found : Line) → IsLineAt input found → 33554432 < n + found.size → HasChunkFault n (input ++ more) BodyTooLarge
+line_too_large n input more found s large = HasChunkFault.too_large n (input ++ more) s.line (behind_line input found more) (found_line input more found s) (omega (arith, s.size, large))
+
+-- the last chunk and its trailers
+pub last_reads : (old input more : List ℕ) (found : Line) (c : Result Chunked WireFault) (rest : List ℕ) → IsLineAt input found → found.size ≡ 0 → TrailersCame (behind_line input found more) c rest
+    → StepCame old (input ++ more) (after_trailers c) old rest
+last_reads old input more found (Ok came.Whole) rest s none t = (HasChunks.last _ _ s.line (behind_line input found more) rest (last_line input more found s none) t, refl)
+last_reads old input more found (Ok came.Lacking) rest s none t = LacksChunks.no_trailers _ _ s.line (behind_line input found more) (last_line input more found s none) t
+last_reads old input more found (Ok (came.Refused f)) rest s none t = HasChunkFault.bad_trailers _ _ s.line (behind_line input found more) f (last_line input more found s none) t
+last_reads old input more found (Err fault.Read) rest s none t = LacksChunks.no_trailers _ _ s.line (behind_line input found more) (last_line input more found s none) t
+last_reads old input more found (Err fault.TurnLimit) rest s none t = LacksChunks.no_trailers _ _ s.line (behind_line input found more) (last_line input more found s none) t
+last_reads old input more found (Err fault.Memory) rest s none t = tt
+
+-- the line before bytes and what is behind them
+line_of_data : (n : ℕ) (input behind : List ℕ) (old : List ℕ) (l : ChunkLine) (text : List ℕ) → HasDataLine (length old) input l text → (d : HasData old n text behind) → HasDataLine (length old) input l (d.bytes ++ behind)
+line_of_data n input behind old l text s d = subst (HasDataLine (length old) input l) d.stands s
+
+data_size : (old text behind : List ℕ) (n size : ℕ) → n ≡ length old + size → (d : HasData old n text behind) → length d.bytes ≡ size
+data_size old text behind n size e d = omega (arith, e, d.size)
+
+lacks_data : (old input text : List ℕ) (n : ℕ) (l : ChunkLine) → HasDataLine (length old) input l text → n ≡ length old + chunk_size l → LacksData old n text → LacksChunks (length old) input
+lacks_data old input text n l s e (inl short) = LacksChunks.no_data _ _ l text s (omega (arith, e, short))
+lacks_data old input text n l s e (inr x) = LacksChunks.no_end _ _ l x.1.bytes x.0 (line_of_data n input x.0 old l text s x.1) (data_size old text x.0 n (chunk_size l) e x.1) x.2
+
+data_step : (old input text : List ℕ) (n : ℕ) (l : ChunkLine) (c : Result Chunked WireFault) (new rest : List ℕ) → HasDataLine (length old) input l text → n ≡ length old + chunk_size l → DataCame old n text c new rest
+    → StepCame old input (after_data c) new rest
+data_step old input text n l (Ok came.Whole) new rest s e d =
+    let line = line_of_data n input (13 ∷ 10 ∷ rest) old l text s d.stands in (
+      l,
+      d.stands.bytes,
+      record { line = line.line; some = line.some; size = data_size old text (13 ∷ 10 ∷ rest) n (chunk_size l) e d.stands; within = line.within },
+      d.grown,
+    )
+data_step old input text n l (Ok came.Lacking) new rest s e d = lacks_data old input text n l s e d
+data_step old input text n l (Ok (came.Refused f)) new rest s e d =
+    subst (HasChunkFault (length old) input) (sym d.0)
+    (HasChunkFault.bad_end _ _ l d.1.1.bytes d.1.0 (line_of_data n input d.1.0 old l text s d.1.1) (data_size old text d.1.0 n (chunk_size l) e d.1.1) d.1.2)
+data_step old input text n l (Err fault.Read) new rest s e d = lacks_data old input text n l s e d
+data_step old input text n l (Err fault.TurnLimit) new rest s e d = lacks_data old input text n l s e d
+data_step old input text n l (Err fault.Memory) new rest s e d = tt
+
+-- a chunk and its data
+pub data_reads : (old input more : List ℕ) (found : Line) (n : ℕ) (c : Result Chunked WireFault) (new rest : List ℕ) → IsLineAt input found → 0 < found.size → n ≡ length old + found.size → n ≤ 33554432
+    → DataCame old n (behind_line input found more) c new rest → StepCame old (input ++ more) (after_data c) new rest
+data_reads old input more found n c new rest s some e room d =
+    data_step old (input ++ more) (behind_line input found more) n s.line c new rest (data_line (length old) input more found s some (omega (arith, e, room))) (omega (arith, e, s.size)) d
+
+-- ---- the data
+
+-- two lists joined begin with the first one
+joined_front : (old text new rest : List ℕ) → old ++ text ≡ new ++ rest → length old ≤ length new → (bytes : List ℕ) × (new ≡ old ++ bytes) × (text ≡ bytes ++ rest)
+joined_front old text new rest e longer =
+    let n = length old in
+    let front : take n new ≡ old = sym (take-append-le n new rest longer) ∙ ap (take n) (sym e) ∙ take-append_seam old text in
+    let whole : new ≡ old ++ drop n new = sym (take-append-drop n new) ∙ ap (λ (xs : List ℕ). xs ++ drop n new) front in (
+      drop n new,
+      whole,
+      append_cancel_left old text (drop n new ++ rest) (e ∙ ap (λ (xs : List ℕ). xs ++ rest) whole ∙ append_assoc old (drop n new) rest),
+    )
+
+-- all of the data has come, and then what ends it was read so
+pub whole_data : (old input mid : List ℕ) (n : ℕ) (more new rest : List ℕ) (c : Result Chunked WireFault) → length old ≤ n → old ++ input ≡ new ++ mid → length new ≡ n → EndCame (mid ++ more) c rest
+    → DataCame old n (input ++ more) c new rest
+whole_data old input mid n more new rest c within same size e = decide c e
+  where
+    split : (bytes : List ℕ) × (new ≡ old ++ bytes) × (input ≡ bytes ++ mid)
+    split = joined_front old input new mid same (omega (arith, within, size))
+
+    data_behind : (behind : List ℕ) → mid ++ more ≡ behind → HasData old n (input ++ more) behind
+    data_behind behind is = record {
+      bytes = split.0;
+      stands = ap (λ (xs : List ℕ). xs ++ more) split.2 ∙ append_assoc split.0 mid more ∙ ap (λ (xs : List ℕ). split.0 ++ xs) is;
+      size = omega (arith, size, ap length split.1, length-append old split.0);
+    }
+
+    decide : (r : Result Chunked WireFault) → EndCame (mid ++ more) r rest → DataCame old n (input ++ more) r new rest
+    decide (Ok came.Whole) x = record { stands = data_behind (13 ∷ 10 ∷ rest) x; grown = split.1 }
+    decide (Ok came.Lacking) x = inr (mid ++ more, data_behind (mid ++ more) refl, x)
+    decide (Ok (came.Refused f)) x = (x.0, (mid ++ more, data_behind (mid ++ more) refl, x.1))
+    decide (Err fault.Read) x = inr (mid ++ more, data_behind (mid ++ more) refl, x)
+    decide (Err fault.TurnLimit) x = inr (mid ++ more, data_behind (mid ++ more) refl, x)
+    decide (Err fault.Memory) x = tt
+
+-- ---- all chunks
+
+-- the chunks so far: what is told of the rest of the input is told of all of it
+pub record Stands (before now : Option (List ℕ)) (start held body : List ℕ) : Type 0 where
+  pub bytes : List ℕ
+  pub consumed : Consumes before now bytes
+  pub whole : (added rest more : List ℕ) → HasChunks (length body) (held ++ more) added rest → HasChunks 0 (start ++ (bytes ++ more)) (body ++ added) rest
+  pub lacks : (more : List ℕ) → LacksChunks (length body) (held ++ more) → LacksChunks 0 (start ++ (bytes ++ more))
+  pub refuses : (f : Fault) (more : List ℕ) → HasChunkFault (length body) (held ++ more) f → HasChunkFault 0 (start ++ (bytes ++ more)) f
+
+pub stands_first : (now : Option (List ℕ)) (start body : List ℕ) → body ≡ [] → Stands now now start start body
+stands_first now start body none = subst (Stands now now start start) (sym none) (record {
+  bytes = [];
+  consumed = Consumes-nil now;
+  whole = λ added rest more x. x;
+  lacks = λ more x. x;
+  refuses = λ f more x. x;
+})
+
+-- a chunk more
+stands_chunk : (u v w : Option (List ℕ)) (start held body more rest : List ℕ) (l : ChunkLine) (bytes : List ℕ) → Stands u v start held body → Consumes v w more → HasChunk (length body) (held ++ more) l bytes rest
+    → Stands u w start rest (body ++ bytes)
+stands_chunk u v w start held body more rest l bytes s read c = record {
+  bytes = s.bytes ++ more;
+  consumed = Consumes-trans u v w s.bytes more s.consumed read;
+  whole = λ added last after x.
+      let next : HasChunks (length body) ((held ++ more) ++ after) (bytes ++ added) last = HasChunks.chunk _ _ l bytes (rest ++ after) added last (before after) (subst (λ k. HasChunks k (rest ++ after) added last) size x) in
+      let all = s.whole (bytes ++ added) last (more ++ after) (subst (λ xs. HasChunks (length body) xs (bytes ++ added) last) (append_assoc held more after) next) in
+      subst (λ xs. HasChunks 0 xs ((body ++ bytes) ++ added) last) (input_is after) (subst (λ xs. HasChunks 0 (start ++ (s.bytes ++ (more ++ after))) xs last) (sym (append_assoc body bytes added)) all);
+  lacks = λ after x.
+      let next : LacksChunks (length body) ((held ++ more) ++ after) = LacksChunks.later _ _ l bytes (rest ++ after) (before after) (subst (λ k. LacksChunks k (rest ++ after)) size x) in
+      subst (LacksChunks 0) (input_is after) (s.lacks (more ++ after) (subst (LacksChunks (length body)) (append_assoc held more after) next));
+  refuses = λ f after x.
+      let next : HasChunkFault (length body) ((held ++ more) ++ after) f = HasChunkFault.later _ _ l bytes (rest ++ after) f (before after) (subst (λ k. HasChunkFault k (rest ++ after) f) size x) in
+      subst (λ xs. HasChunkFault 0 xs f) (input_is after) (s.refuses f (more ++ after) (subst (λ xs. HasChunkFault (length body) xs f) (append_assoc held more after) next));
+}
+  where
+    size : length (body ++ bytes) ≡ length body + chunk_size l
+    size = omega (arith, length-append body bytes, c.size)
+
+    before : (after : List ℕ) → HasChunk (length body) ((held ++ more) ++ after) l bytes (rest ++ after)
+    before after = chunk_before (length body) (held ++ more) l bytes rest after c
+
+    input_is : (after : List ℕ) → start ++ (s.bytes ++ (more ++ after)) ≡ start ++ ((s.bytes ++ more) ++ after)
+    input_is after = ap (λ (xs : List ℕ). start ++ xs) (sym (append_assoc s.bytes more after))
+
+pub stands_more : (u v w : Option (List ℕ)) (start held body more new rest : List ℕ) → Stands u v start held body → Consumes v w more → StepCame body (held ++ more) (Ok None) new rest → Stands u w start rest new
+stands_more u v w start held body more new rest s read c = subst (Stands u w start rest) (sym c.3) (stands_chunk u v w start held body more rest c.0 c.1 s read c.2)
+
+-- the body keeps its limit
+pub step_within : (body input new rest : List ℕ) → StepCame body input (Ok None) new rest → length new ≤ 33554432
+step_within body input new rest c = omega (arith, ap length c.3, length-append body c.1, c.2.size, c.2.within)
+
+ended_reads : (u v : Option (List ℕ)) (start held body more new rest : List ℕ) (s : Stands u v start held body) (c : Chunked) → StepCame body (held ++ more) (Ok (Some c)) new rest → ChunksCame 0 (start ++ (s.bytes ++ more)) (Ok c) new rest
+ended_reads u v start held body more new rest s came.Whole x = subst (λ xs. HasChunks 0 (start ++ (s.bytes ++ more)) xs rest) (append-nil body ∙ sym x.1) (s.whole [] rest more x.0)
+ended_reads u v start held body more new rest s came.Lacking x = s.lacks more x
+ended_reads u v start held body more new rest s (came.Refused f) x = s.refuses f more x
+
+-- what ended the chunks
+pub stands_ended : (u v w : Option (List ℕ)) (start held body new rest : List ℕ) (c : Chunked) → Stands u v start held body → (more : List ℕ) × Consumes v w more × StepCame body (held ++ more) (Ok (Some c)) new rest
+    → (more : List ℕ) × Consumes u w more × ChunksCame 0 (start ++ more) (Ok c) new rest
+stands_ended u v w start held body new rest c s read =
+    (s.bytes ++ read.0, Consumes-trans u v w s.bytes read.0 s.consumed read.1, ended_reads u v start held body read.0 new rest s c read.2)
+
+fault_reads : (u v : Option (List ℕ)) (start held body more new rest : List ℕ) (s : Stands u v start held body) (e : WireFault) → StepCame body (held ++ more) (Err e) new rest → ChunksCame 0 (start ++ (s.bytes ++ more)) (Err e) new rest
+fault_reads u v start held body more new rest s fault.Read x = s.lacks more x
+fault_reads u v start held body more new rest s fault.TurnLimit x = s.lacks more x
+fault_reads u v start held body more new rest s fault.Memory x = tt
+
+-- reading failed
+pub stands_failed : (u v w : Option (List ℕ)) (start held body new rest : List ℕ) (e : WireFault) → Stands u v start held body → (more : List ℕ) × Consumes v w more × StepCame body (held ++ more) (Err e) new rest
+    → (more : List ℕ) × Consumes u w more × ChunksCame 0 (start ++ more) (Err e) new rest
+stands_failed u v w start held body new rest e s read =
+    (s.bytes ++ read.0, Consumes-trans u v w s.bytes read.0 s.consumed read.1, fault_reads u v start held body read.0 new rest s e read.2)

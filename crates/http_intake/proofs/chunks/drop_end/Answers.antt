@@ -1,0 +1,10 @@
+use Rattle.std.proofs.Common.{List, ℕ, Err, subst}
+use Rattle.http_intake.specs.ChunkParts.{EndCame}
+use Rattle.http_intake.proofs.ChunkReadLemmas.{end_failed}
+use Rattle.http_intake.proofs.chunks.drop_end.Goals as goal
+
+pub returns-in-Err-clause-read : goal.returns-in-Err-clause-read
+returns-in-Err-clause-read g c =
+    let read = c.read_front.ensures.read in
+    let held = c.read_front.new.intake.inbox.now in
+    (read.0, read.1, subst (λ (xs : List ℕ). EndCame xs (Err c.in-Err.fault) held) read.2 (end_failed held held held c.in-Err.fault c.in-Err.ensures.sees))

@@ -1,0 +1,28 @@
+use Rattle.std.proofs.Common.{◌≤◌, inr, subst, refl, rules, arith}
+use Rattle.httparse.specs.Grammar.{NeverHasSection}
+use Rattle.httparse.specs.Spans.{SectionOverflows}
+use Rattle.http_intake.specs.Lines.{section_lines}
+use Rattle.http_intake.specs.Fronts.{window_is}
+use Rattle.http_intake.proofs.ChunkLookLemmas.{trailers_at, exceeds_lines}
+use Rattle.http_intake.proofs.trailers.look_at_trailers.Goals as goal
+
+pub returns-in-Ok-Complete-clause-sees : goal.returns-in-Ok-Complete-clause-sees
+returns-in-Ok-Complete-clause-sees c =
+    let done = rw c.in-Ok-Complete.field-0-is at c.in-Ok-Complete.ensures.complete in
+    let within = rw c.in-Ok-Complete.field-0-is at c.in-Ok-Complete.ensures.within in
+    trailers_at c.args.bytes.now c.min.result _ _ _ done.0 done.1 (omega (arith, c.min.ensures)) (omega (arith, c.parse_headers.auto.headers)) within done.2
+
+pub unfinished-requires-clause-part_is : goal.unfinished-requires-clause-part_is
+unfinished-requires-clause-part_is c = window_is c.args.bytes.now c.min.result c.min.ensures
+
+pub returns-in-Err-TooManyHeaders-clause-sees : goal.returns-in-Err-TooManyHeaders-clause-sees
+returns-in-Err-TooManyHeaders-clause-sees c =
+    let same = window_is c.args.bytes.now c.min.result c.min.ensures in
+    let many = (rw c.in-Err-TooManyHeaders.field-0-is at c.in-Err-TooManyHeaders.ensures.too_many) refl in
+    inr (record {
+      lines = subst (λ xs. 65 ≤ section_lines xs) same (exceeds_lines _ many);
+      exceeds = subst (SectionOverflows 64) same c.in-Err-TooManyHeaders.ensures.no_room;
+    })
+
+pub returns-in-Err-clause-sees : goal.returns-in-Err-clause-sees
+returns-in-Err-clause-sees c = subst NeverHasSection (window_is c.args.bytes.now c.min.result c.min.ensures) (search rules)

@@ -1,0 +1,60 @@
+//! The line of a chunk.
+ghost use Rattle.std.specs.Prelude.{◌≡◌, ◌<◌, length};
+ghost use Rattle.http_intake.specs.ChunkParts.{SeesLine};
+
+use crate::chunk_fault::Fault;
+use crate::sought::{Seen, Sought};
+use httparse::{Status, parse_chunk_size};
+
+/// The line of a chunk ends within so many bytes.
+pub const CHUNK_LINE_LIMIT: usize = 256;
+
+/// A chunk's line.
+#[derive(Clone, Copy, Debug)]
+pub struct Line {
+    /// Its length, with its CR LF.
+    pub len: usize,
+    /// The size of the chunk's data, which is none in the last chunk.
+    pub size: u64,
+}
+
+/// Looks for a chunk's line at the front of the bytes.
+fn look_at_line(bytes: &[u8]) -> Seen<Line, Fault>
+    ensures sees { SeesLine bytes.now result }
+    ensures short { result ≡ Seen.Wanting → length bytes.now < 16384 }
+{
+    let part = &bytes[..bytes.len().min(CHUNK_LINE_LIMIT)];
+    match parse_chunk_size(part) {
+        Ok(Status::Complete((len, size))) => Seen::Found(Line { len, size }),
+        Ok(Status::Partial) => {
+            if bytes.len() >= CHUNK_LINE_LIMIT {
+                return Seen::Refused(Fault::BadChunk);
+            }
+            Seen::Wanting
+        }
+        Err(_) => Seen::Refused(Fault::BadChunk),
+    }
+}
+
+/// The line of a chunk is looked for.
+pub struct LineSought;
+
+impl Sought for LineSought {
+    ghost use Rattle.http_intake.specs.ChunkParts.{SeesLine};
+
+    type Part = Line;
+
+    type Refusal = Fault;
+
+    ghost sees = { SeesLine };
+
+    ghost waits = { λ b. ⊥ };
+
+    fn look(&self, bytes: &[u8]) -> Seen<Line, Fault> {
+        look_at_line(bytes)
+    }
+
+    fn is_due(&self, _more: &[u8]) -> bool {
+        true
+    }
+}

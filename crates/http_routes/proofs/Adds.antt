@@ -1,0 +1,108 @@
+-- A route that was added is one more of the rows, and one that conflicts with none is declined for memory alone.
+use Rattle.std.proofs.Common.{◌≡◌, ℕ, List, [], Result, Ok, Err, None, inl, inr, OnOk, IfErr, IsErrAnd, codes, ap, subst, ◌∙◌, refl}
+use Rattle.matchit.specs.Rows.{RowsOf}
+use Rattle.matchit.specs.Route.{Scan}
+use Rattle.matchit.specs.Router.{RouteOf, InsertsRead, Refused, nearest}
+use Rattle.matchit.specs.declared.InsertError.{InsertError}
+use Rattle.matchit.specs.declared.error.InsertError.TheVariants.{Conflict, OutOfMemory, InvalidParam, InvalidParamSegment, InvalidCatchAll}
+use Rattle.http_routes.specs.declared.route.Page.{Page}
+use Rattle.http_routes.specs.declared.route.Page.TheVariants.{Blocks, Plans, Plan, Revisions, Counties, Revision}
+use Rattle.matchit.proofs.OnLiterals.{matchit_on_literals}
+use Rattle.http_routes.specs.Routes.{with_read, with_route, DeclinesRead, Declines}
+use Rattle.matchit.specs.Route.{parse_route}
+
+pub added : (read : Result Scan InsertError) (page : Page) (old new : RowsOf (RouteOf Page)) (r : Result (Unit {0}) InsertError) (u : Unit {0}) → r ≡ Ok u → InsertsRead read page old new r → new ≡ with_read read page old
+added (Ok s) page old new (Ok w) u e i = i.1
+added (Ok s) page old new (Err f) u e i = absurd (cc)
+added (Err f) page old new (Ok w) u e (same, inl bad) = absurd (cc)
+added (Err f) page old new (Ok w) u e (same, inr bad) = absurd (cc)
+added (Err f) page old new (Err d) u e i = absurd (cc)
+
+pub added_ok : (read : Result Scan InsertError) (page : Page) (old new : RowsOf (RouteOf Page)) (r : Result (Unit {0}) InsertError) → InsertsRead read page old new r → OnOk r (new ≡ with_read read page old)
+added_ok read page old new (Ok u) i = added read page old new (Ok u) u (λ _. Ok u) i
+added_ok read page old new (Err e) i = tt
+
+pub declined_err : (read : Result Scan InsertError) (page : Page) (old new : RowsOf (RouteOf Page)) (r : Result (Unit {0}) InsertError) → InsertsRead read page old new r → IfErr r (λ e. DeclinesRead read old e)
+declined_err (Ok s) page old new (Ok u) i = tt
+declined_err (Ok s) page old new (Err e) i = i.1
+declined_err (Err bad) page old new (Ok u) i = tt
+declined_err (Err bad) page old new (Err e) (same, inl is) = inl (cc)
+declined_err (Err bad) page old new (Err e) (same, inr is) = inr (cc)
+
+-- the route reads well, and none of the rows conflicts with it
+abbrev pub FitsRead : Result Scan InsertError → RowsOf (RouteOf Page) → Type 0
+FitsRead (Ok s) rows = nearest s.pattern rows ≡ None
+FitsRead (Err bad) rows = ⊥
+
+only_memory : (p : List ℕ) (rows : RowsOf (RouteOf Page)) (e : InsertError) → nearest p rows ≡ None → Refused p rows e → e ≡ OutOfMemory
+only_memory p rows (Conflict with) none bad = absurd (cc)
+only_memory p rows OutOfMemory none bad = refl
+only_memory p rows InvalidParam none bad = absurd bad
+only_memory p rows InvalidParamSegment none bad = absurd bad
+only_memory p rows InvalidCatchAll none bad = absurd bad
+
+read_memory : (read : Result Scan InsertError) (rows : RowsOf (RouteOf Page)) (e : InsertError) → FitsRead read rows → DeclinesRead read rows e → e ≡ OutOfMemory
+read_memory (Ok s) rows e fits bad = only_memory s.pattern rows e fits bad
+read_memory (Err f) rows e fits bad = absurd fits
+
+pub declined_for_memory : (text : List ℕ) (rows old : RowsOf (RouteOf Page)) (e : InsertError) → FitsRead (parse_route text) rows → old ≡ rows → Declines text old e → e ≡ OutOfMemory
+declined_for_memory text rows old e fits same bad = read_memory (parse_route text) rows e fits (subst (λ x. Declines text x e) same bad)
+
+-- what a `?` hands on of it
+pub memory_told : {A : Type 0} (r : Result A InsertError) (e : InsertError) → IsErrAnd r (λ x. x ≡ e) → e ≡ OutOfMemory → IfErr r (λ x. x ≡ OutOfMemory)
+memory_told (Ok a) e is memory = absurd is
+memory_told (Err x) e is memory = is ∙ memory
+
+pub added_after : (text : List ℕ) (page : Page) (rows old new : RowsOf (RouteOf Page)) → new ≡ with_route text page old → old ≡ rows → new ≡ with_route text page rows
+added_after text page rows old new is same = is ∙ ap (λ x. with_route text page x) same
+
+-- the rows as they grow
+abbrev pub rows_0 : RowsOf (RouteOf Page)
+rows_0 = []
+
+abbrev pub rows_1 : RowsOf (RouteOf Page)
+rows_1 = with_route (codes "/blocks") Blocks rows_0
+
+abbrev pub rows_2 : RowsOf (RouteOf Page)
+rows_2 = with_route (codes "/plans") Plans rows_1
+
+abbrev pub rows_3 : RowsOf (RouteOf Page)
+rows_3 = with_route (codes "/plans/{p}") Plan rows_2
+
+abbrev pub rows_4 : RowsOf (RouteOf Page)
+rows_4 = with_route (codes "/plans/{p}/revisions") Revisions rows_3
+
+abbrev pub rows_5 : RowsOf (RouteOf Page)
+rows_5 = with_route (codes "/plans/{p}/counties") Counties rows_4
+
+abbrev pub rows_6 : RowsOf (RouteOf Page)
+rows_6 = with_route (codes "/plans/{p}/revisions/{k}") Revision rows_5
+
+-- none of them conflicts with the next
+pub fits_0 : FitsRead (parse_route (codes "/blocks")) rows_0
+unfolding matchit_on_literals
+fits_0 = refl
+
+pub fits_1 : FitsRead (parse_route (codes "/plans")) rows_1
+unfolding matchit_on_literals
+fits_1 = refl
+
+pub fits_2 : FitsRead (parse_route (codes "/plans/{p}")) rows_2
+unfolding matchit_on_literals
+fits_2 = refl
+
+pub fits_3 : FitsRead (parse_route (codes "/plans/{p}/revisions")) rows_3
+unfolding matchit_on_literals
+fits_3 = refl
+
+pub fits_4 : FitsRead (parse_route (codes "/plans/{p}/counties")) rows_4
+unfolding matchit_on_literals
+fits_4 = refl
+
+pub fits_5 : FitsRead (parse_route (codes "/plans/{p}/revisions/{k}")) rows_5
+unfolding matchit_on_literals
+fits_5 = refl
+
+pub fits_6 : FitsRead (parse_route (codes "/plans/{p}/revisions/{k}/audit")) rows_6
+unfolding matchit_on_literals
+fits_6 = refl

@@ -1,0 +1,10 @@
+//! What a worked request asks for.
+ghost use Rattle.std.specs.Prelude.{◌≡◌, [], codes};
+ghost use Rattle.desk_model.specs.declared.command.Query.TheVariants.{Plans};
+ghost use Rattle.http_routes.specs.Orders.{order_of};
+ghost use Rattle.http_routes.specs.declared.order.Order.TheVariants as order;
+
+/// GET of `/plans` without a body asks for the list of plans.
+pub fn list_law()
+    ensures { order_of (codes "GET") (codes "/plans") [] ≡ order.Query Plans }
+{}

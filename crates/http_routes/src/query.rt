@@ -1,0 +1,147 @@
+//! Queries of targets.
+ghost use Rattle.std.specs.Prelude.{◌≡◌, ℕ, List, [], ◌∷◌, length, ◌≢◌, IfOk, MatchOption, Some, ⊤};
+ghost use Rattle.std.specs.Str.{bytes_eq};
+ghost use Rattle.std.specs.Cow.{cow_str_bytes};
+ghost use Rattle.form_urlencoded.specs.Form.{raw_pairs as raw_pairs_of, pair_text};
+ghost use Rattle.http_routes.specs.Queries.{form_text, size_of as size_of_texts, create_query as create_query_of, after_query as after_query_of, address_of as address_of_text, senate_query as senate_query_of, is_no_query as has_no_pair};
+ghost use Rattle.http_routes.specs.Pairs.{HasOne, HasTwo};
+ghost use Rattle.field_text.specs.Digits.{number_of};
+
+use crate::route::around;
+use desk_model::kind::Kind;
+use desk_model::name::PlanName;
+use desk_model::size::PlanSize;
+use field_text::digits::number;
+use form_urlencoded::{decode, raw_pairs};
+use std::alloc::{AllocError, Global};
+use std::borrow::CowStr;
+
+/// The two pairs of a query, still encoded, where it has just two.
+fn two_pairs(query: &[u8]) -> Option<((&[u8], &[u8]), (&[u8], &[u8]))>
+    ensures { HasTwo (raw_pairs_of query.now) result }
+{
+    let mut pairs = raw_pairs(query);
+    let first = pairs.next()?;
+    let second = pairs.next()?;
+    match pairs.next() {
+        None => Some((first, second)),
+        Some(_) => None,
+    }
+}
+
+/// The text of a name or a value.
+fn text(alloc: Global, bytes: &[u8]) -> Result<CowStr<'_>, AllocError>
+    ensures { IfOk result (λ s. cow_str_bytes s ≡ form_text bytes.now) }
+{
+    decode(alloc, bytes)
+}
+
+/// Whether a text is the word.
+fn is_text(text: &CowStr<'_>, word: &[u8]) -> bool
+    ensures { result ≡ bytes_eq (cow_str_bytes text.now) word.now }
+{
+    text.as_bytes() == word
+}
+
+/// A kind, and a number of districts in its range.
+fn size_of(kind: &[u8], districts: &[u8]) -> Option<PlanSize>
+    ensures { result ≡ size_of_texts kind.now districts.now }
+{
+    PlanSize::read(Kind::from_name(kind)?, number(districts, 3)?)
+}
+
+/// What the query of a create tells: `kind` and `districts`, each once. `None` where it tells anything else.
+pub fn create_query(alloc: Global, query: &[u8]) -> Result<Option<PlanSize>, AllocError>
+    ensures { IfOk result (λ size. size ≡ create_query_of query.now) }
+{
+    let Some((first, second)) = two_pairs(query) else {
+        return Ok(None);
+    };
+    let first_name = text(alloc, first.0)?;
+    let first_value = text(alloc, first.1)?;
+    let second_name = text(alloc, second.0)?;
+    let second_value = text(alloc, second.1)?;
+    if is_text(&first_name, b"kind") && is_text(&second_name, b"districts") {
+        return Ok(size_of(first_value.as_bytes(), second_value.as_bytes()));
+    }
+    if is_text(&first_name, b"districts") && is_text(&second_name, b"kind") {
+        return Ok(size_of(second_value.as_bytes(), first_value.as_bytes()));
+    }
+    Ok(None)
+}
+
+/// The one pair of a query, still encoded, where it has just one.
+fn one_pair(query: &[u8]) -> Option<(&[u8], &[u8])>
+    ensures { HasOne (raw_pairs_of query.now) result }
+{
+    let mut pairs = raw_pairs(query);
+    let first = pairs.next()?;
+    match pairs.next() {
+        None => Some(first),
+        Some(_) => None,
+    }
+}
+
+/// What the query of a revision tells: `after`, once, of 1 to 5 digits. `None` where it tells anything else.
+pub fn after_query(alloc: Global, query: &[u8]) -> Result<Option<u32>, AllocError>
+    ensures { IfOk result (λ after. after ≡ after_query_of query.now) }
+{
+    let Some(pair) = one_pair(query) else {
+        return Ok(None);
+    };
+    let name = text(alloc, pair.0)?;
+    let value = text(alloc, pair.1)?;
+    if is_text(&name, b"after") {
+        return Ok(short_number(value.as_bytes()));
+    }
+    Ok(None)
+}
+
+/// A plan's name and the number of one of its revisions, of 1 to 5 digits, cut at the first colon.
+fn address_of(text: &[u8]) -> Option<(PlanName, u32)>
+    ensures { result ≡ address_of_text text.now }
+{
+    let (name, number) = around(text, b':');
+    let plan = PlanName::read(name)?;
+    let j = short_number(number)?;
+    Some((plan, j))
+}
+
+/// What the query of an audit tells: a revision of a `senate` companion, or none. `None` where it tells anything else.
+pub fn senate_query(
+    alloc: Global,
+    query: &[u8],
+) -> Result<Option<Option<(PlanName, u32)>>, AllocError>
+    ensures { IfOk result (λ senate. senate ≡ senate_query_of query.now) }
+{
+    if is_no_query(query) {
+        return Ok(Some(None));
+    }
+    let Some(pair) = one_pair(query) else {
+        return Ok(None);
+    };
+    let name = text(alloc, pair.0)?;
+    let value = text(alloc, pair.1)?;
+    if !is_text(&name, b"senate") {
+        return Ok(None);
+    }
+    match address_of(value.as_bytes()) {
+        Some(address) => Ok(Some(Some(address))),
+        None => Ok(None),
+    }
+}
+
+/// The number that 1 to 5 digits write.
+pub fn short_number(digits: &[u8]) -> Option<u32>
+    ensures { result ≡ number_of 5 digits.now }
+{
+    let found = number(digits, 5)?;
+    Some(found as u32)
+}
+
+/// Whether a query has no name and no value.
+pub fn is_no_query(query: &[u8]) -> bool
+    ensures { result ≡ has_no_pair query.now }
+{
+    raw_pairs(query).next().is_none()
+}

@@ -1,0 +1,106 @@
+//! The table of paths.
+ghost use Rattle.std.specs.Prelude.{◌≡◌, ◌==◌, ◌≤◌, IfOk, IfErr, OnOk, length};
+ghost use Rattle.std.specs.List.{before_first, after_first, position_or_len};
+ghost use Rattle.http_routes.specs.Routes.{the_routes, with_route, Declines, page_of as page_of_path, plan_part as plan_part_of, revision_part as revision_part_of};
+
+use matchit::{InsertError, Router};
+use std::alloc::Global;
+
+/// What stands at a path.
+#[derive(Clone, Copy, Debug, PartialEq, Eq)]
+pub enum Page {
+    /// `/blocks`
+    Blocks,
+    /// `/plans`
+    Plans,
+    /// `/plans/{p}`
+    Plan,
+    /// `/plans/{p}/revisions`
+    Revisions,
+    /// `/plans/{p}/counties`
+    Counties,
+    /// `/plans/{p}/revisions/{k}`
+    Revision,
+    /// `/plans/{p}/revisions/{k}/audit`
+    Audit,
+}
+
+/// Adds a route.
+fn add(router: &mut Router<Page>, route: &str, page: Page) -> Result<(), InsertError>
+    ensures row { OnOk result (router.new ≡ with_route route.now page router.old) }
+    ensures declined { IfErr result (λ e. Declines route.now router.old e) }
+{
+    router.insert(route, page)
+}
+
+/// The table, made once for a stream. No two of its routes conflict, so that only want of memory is an error.
+pub fn router(alloc: Global) -> Result<Router<Page>, InsertError>
+    ensures table { IfOk result (λ r. r ≡ the_routes) }
+    ensures memory { IfErr result (λ e. e ≡ InsertError.OutOfMemory) }
+{
+    let mut router = Router::new(alloc);
+    add(&mut router, "/blocks", Page::Blocks)?;
+    add(&mut router, "/plans", Page::Plans)?;
+    add(&mut router, "/plans/{p}", Page::Plan)?;
+    add(&mut router, "/plans/{p}/revisions", Page::Revisions)?;
+    add(&mut router, "/plans/{p}/counties", Page::Counties)?;
+    add(&mut router, "/plans/{p}/revisions/{k}", Page::Revision)?;
+    add(&mut router, "/plans/{p}/revisions/{k}/audit", Page::Audit)?;
+    Ok(router)
+}
+
+/// What stands at the path.
+pub fn page_of(router: &Router<Page>, path: &str) -> Option<Page>
+    requires { router.now ≡ the_routes }
+    ensures { result ≡ page_of_path path.now }
+{
+    match router.at(path) {
+        Ok(found) => Some(*found.value),
+        Err(_) => None,
+    }
+}
+
+/// The place of the first such byte, or the length.
+fn place_of(bytes: &[u8], byte: u8) -> usize
+    ensures place { result ≡ position_or_len (λ b. b == byte) bytes.now }
+    ensures within { result ≤ length bytes.now }
+{
+    for (i, b) in bytes.iter().enumerate() {
+        if *b == byte {
+            return i;
+        }
+    }
+    bytes.len()
+}
+
+/// What stands before the first such byte, or everything, and what stands behind it, or nothing.
+pub fn around(bytes: &[u8], byte: u8) -> (&[u8], &[u8])
+    ensures before { result.0.now ≡ before_first (λ b. b == byte) bytes.now }
+    ensures after { result.1.now ≡ after_first (λ b. b == byte) bytes.now }
+{
+    let at = place_of(bytes, byte);
+    if at == bytes.len() {
+        return (bytes, &bytes[at..]);
+    }
+    (&bytes[..at], &bytes[at + 1..])
+}
+
+/// The part `{p}` of a path.
+pub fn plan_part(path: &[u8]) -> &[u8]
+    ensures { result.now ≡ plan_part_of path.now }
+{
+    let (_, behind_first) = around(path, b'/');
+    let (_, behind_second) = around(behind_first, b'/');
+    around(behind_second, b'/').0
+}
+
+/// The part `{k}` of a path.
+pub fn revision_part(path: &[u8]) -> &[u8]
+    ensures { result.now ≡ revision_part_of path.now }
+{
+    let (_, behind_first) = around(path, b'/');
+    let (_, behind_second) = around(behind_first, b'/');
+    let (_, behind_third) = around(behind_second, b'/');
+    let (_, behind_fourth) = around(behind_third, b'/');
+    around(behind_fourth, b'/').0
+}

@@ -1,0 +1,71 @@
+-- What is put for each command.
+use Rattle.std.proofs.Common.{◌≡◌, ◌⊎◌, ℕ, List, Result, Ok, Err, refl, sym, ap, subst, ◌∙◌, inl, inr}
+use Rattle.std.specs.Prelude.{MatchResult}
+use Rattle.sector_device.specs.declared.SectorDevice.{Ghosts}
+use Rattle.desk_model.specs.declared.kind.Kind.{Kind}
+use Rattle.desk_model.specs.declared.command.Command.{Command}
+use Rattle.desk_model.specs.declared.command.Command.TheVariants.{Create, Whole, Counties, Retire}
+use Rattle.desk_model.specs.Desk.{Desk}
+use Rattle.desk_model.specs.Room.{command_rows}
+use Rattle.desk_catalogue.specs.Accepting.{IsAfter}
+use Rattle.page_store.specs.declared.pages.Pages.{Pages}
+use Rattle.page_store.specs.declared.txn.Txn.{Txn}
+use Rattle.page_btree.specs.declared.error.TreeError.{TreeError}
+use Rattle.row_table.specs.Outcomes.{map_both}
+use Rattle.plan_table.specs.PlanRows.{HasPlanNumber, HasChunkNumbers}
+use Rattle.plan_table.specs.declared.change.Change.{Change}
+use Rattle.plan_table.specs.declared.change.Change.TheVariants.{Made}
+use Rattle.plan_revisions.specs.Plans.{TakesPlan, with_plan, HasPlanAt, without_plan}
+use Rattle.plan_revisions.specs.Steps.{HasStepped, IsStepped, StepErr}
+use Rattle.plan_revisions.specs.Rows.{HasNumbers, added_by, rows_added_by}
+use Rattle.plan_revisions.specs.Accepted.{created, taken_away}
+use Rattle.plan_revisions.proofs.Stepped.{stepped_as, change_as, err_as}
+
+module _ {D : Type 0} {g : Ghosts D} where
+  -- the rows of a command were put, or not
+  abbrev pub IsPut : Desk → Command → Desk → Txn → Txn → Pages D g → Pages D g → Result Change TreeError → Type 0
+  IsPut d q e t u a b result = MatchResult result (λ change. IsStepped (λ x. x ≡ d) (λ x. e) (command_rows d q) (HasNumbers d q) t u a b change) (λ x. StepErr (λ y. y ≡ d) (command_rows d q) t a b x)
+
+  pub as_command : (d : Desk) (q r : Command) (e : Desk) (t u : Txn) (a b : Pages D g) (result : Result Change TreeError) → q ≡ r → IsPut d r e t u a b result → IsPut d q e t u a b result
+  as_command d q r e t u a b result is put = subst (λ (x : Command). IsPut d x e t u a b result) (sym is) put
+
+  pub create_put : (d : Desk) (q : Command) (e : Desk) (name : List ℕ) (size : Kind × ℕ) (t u : Txn) (a b : Pages D g) (result : Result Change TreeError) → q ≡ Create name size → IsAfter d q e
+      → MatchResult result (λ change. IsStepped (TakesPlan name) (with_plan name size) 2 HasPlanNumber t u a b change) (λ x. StepErr (TakesPlan name) 2 t a b x)
+      → IsPut d q e t u a b result
+  create_put d q e name size t u a b result is after put =
+      let is_after : IsAfter d (Create name size) e = subst (λ (x : Command). IsAfter d x e) is after in
+      let told = created d name size is_after.reply in
+      let gives = λ (x : Desk) (same : x ≡ d). subst (λ (y : Desk). TakesPlan name y) (sym same) told.0 in
+      let then_is = λ (x : Desk) (same : x ≡ d). ap (λ (y : Desk). with_plan name size y) same ∙ sym told.1 ∙ sym is_after.desk in
+      as_command d q (Create name size) e t u a b result is
+      (map_both result (λ change. IsStepped (TakesPlan name) (with_plan name size) 2 HasPlanNumber t u a b change) (λ change. IsStepped (λ x. x ≡ d) (λ x. e) 2 HasPlanNumber t u a b change)
+      (λ x. StepErr (TakesPlan name) 2 t a b x) (λ x. StepErr (λ y. y ≡ d) 2 t a b x)
+      (λ change. change_as (TakesPlan name) (λ x. x ≡ d) (with_plan name size) (λ x. e) 2 HasPlanNumber t u a b gives then_is change)
+      (λ x. err_as (TakesPlan name) (λ y. y ≡ d) 2 t a b gives x) put)
+
+  pub retire_put : (d : Desk) (q : Command) (e : Desk) (name : List ℕ) (t u : Txn) (a b : Pages D g) → q ≡ Retire name → IsAfter d q e → HasStepped (HasPlanAt name) (without_plan name) 2 t u a b → IsStepped (λ x. x ≡ d) (λ x. e) (command_rows d q) (HasNumbers d q) t u a b Made
+  retire_put d q e name t u a b is after did =
+      let is_after : IsAfter d (Retire name) e = subst (λ (x : Command). IsAfter d x e) is after in
+      let told = taken_away d name is_after.reply in
+      subst (λ (x : Command). IsStepped (λ y. y ≡ d) (λ y. e) (command_rows d x) (HasNumbers d x) t u a b Made) (sym is)
+      (stepped_as (HasPlanAt name) (λ x. x ≡ d) (without_plan name) (λ x. e) 2 t u a b (λ x same. subst (λ (y : Desk). HasPlanAt name y) (sym same) told.0) (λ x same. ap (λ (y : Desk). without_plan name y) same ∙ sym told.1 ∙ sym is_after.desk) did, λ honest m next holds fit told_next. tt)
+
+  pub retire_not_put : (d : Desk) (q : Command) (e : Desk) (name : List ℕ) (t : Txn) (a b : Pages D g) (x : TreeError) → q ≡ Retire name → IsAfter d q e → StepErr (HasPlanAt name) 2 t a b x → StepErr (λ y. y ≡ d) (command_rows d q) t a b x
+  retire_not_put d q e name t a b x is after why =
+      let is_after : IsAfter d (Retire name) e = subst (λ (y : Command). IsAfter d y e) is after in
+      let told = taken_away d name is_after.reply in
+      subst (λ (y : Command). StepErr (λ z. z ≡ d) (command_rows d y) t a b x) (sym is)
+      (err_as (HasPlanAt name) (λ y. y ≡ d) 2 t a b (λ y same. subst (λ (z : Desk). HasPlanAt name z) (sym same) told.0) x why)
+
+  -- a revision, by its whole or by counties
+  pub revision_as : (d : Desk) (q : Command) (e : Desk) (name : List ℕ) (after : ℕ) (t u : Txn) (a b : Pages D g) (result : Result Change TreeError) → ((body : List ℕ) × (q ≡ Whole name after body)) ⊎ ((body : List ℕ) × (q ≡ Counties name after body)) → IsAfter d q e
+      → MatchResult result (λ change. IsStepped (λ x. x ≡ d) (λ x. e) (rows_added_by d name e) (HasChunkNumbers (added_by d name e)) t u a b change) (λ x. StepErr (λ y. y ≡ d) (rows_added_by d name e) t a b x)
+      → IsPut d q e t u a b result
+  revision_as d q e name after t u a b result (inl whole) is put =
+      as_command d q (Whole name after whole.0) e t u a b result whole.1
+      (subst (λ (z : Desk). MatchResult result (λ change. IsStepped (λ x. x ≡ d) (λ x. e) (rows_added_by d name z) (HasChunkNumbers (added_by d name z)) t u a b change) (λ x. StepErr (λ y. y ≡ d) (rows_added_by d name z) t a b x))
+      (subst (λ (x : Command). IsAfter d x e) whole.1 is).desk put)
+  revision_as d q e name after t u a b result (inr counties) is put =
+      as_command d q (Counties name after counties.0) e t u a b result counties.1
+      (subst (λ (z : Desk). MatchResult result (λ change. IsStepped (λ x. x ≡ d) (λ x. e) (rows_added_by d name z) (HasChunkNumbers (added_by d name z)) t u a b change) (λ x. StepErr (λ y. y ≡ d) (rows_added_by d name z) t a b x))
+      (subst (λ (x : Command). IsAfter d x e) counties.1 is).desk put)

@@ -1,0 +1,30 @@
+-- The rows of a revision that was accepted.
+use Rattle.std.proofs.Common.{◌≡◌, ◌<◌, ◌^◌, ℕ, List, length, Option, Some, None, refl, sym, ap, subst, ◌∙◌}
+use Rattle.std.specs.Prelude.{IfSome, IsSome, is_some}
+use Rattle.std.specs.FinMap as map_of
+use Rattle.desk_model.specs.declared.cuts.Cut.{Cut}
+use Rattle.desk_model.specs.Cuts.{cuts_of}
+use Rattle.desk_model.specs.Geography.{Ground}
+use Rattle.desk_model.specs.Desk.{Desk}
+use Rattle.desk_catalogue.specs.Kept.{IsWhole, revision_in}
+use Rattle.plan_revisions.specs.Rows.{cuts_in}
+use Rattle.plan_revisions.specs.Accepted.{IsRevised, next_is}
+
+some_is : {X : Type 0} (x y : X) → Some x ≡ Some y → x ≡ y
+some_is x y same = cc
+
+-- a geography that a desk has is the one that it is known by
+pub same_ground : (d : Desk) (g h : Ground) → d.geography ≡ Some g → d.geography ≡ Some h → g ≡ h
+same_ground d g h one other = some_is g h (sym one ∙ other)
+
+pub cuts_are : (d : Desk) (g : Ground) (cuts : List Cut) → cuts ≡ cuts_in d.geography → d.geography ≡ Some g → cuts ≡ cuts_of g
+cuts_are d g cuts are is = are ∙ ap (λ (geo : Option Ground). cuts_in geo) is
+
+-- each that is there has a district for each block
+pub if_whole : (d : Desk) (g : Ground) (last : Option (List ℕ)) → d.geography ≡ Some g → IsWhole d.geography last → IfSome last (λ l. length l ≡ length g.blocks)
+if_whole d g None is whole = tt
+if_whole d g (Some l) is whole = whole g l is refl
+
+-- what is told is there
+pub there_is : (o : Option (List ℕ)) (x : List ℕ) → o ≡ Some x → IsSome o
+there_is o x is = ap is_some is

@@ -1,0 +1,75 @@
+-- A step of a desk that is known.
+use Rattle.std.proofs.Common.{◌≡◌, ◌⊎◌, ℕ, List, length, Option, Some, None, Result, refl, sym, ap, subst, ◌∙◌, inl, inr}
+use Rattle.std.specs.Prelude.{MatchResult}
+use Rattle.std.specs.FinMap as map_of
+use Rattle.sector_device.specs.declared.SectorDevice.{Ghosts}
+use Rattle.desk_model.specs.Geography.{Ground}
+use Rattle.desk_model.specs.Desk.{Plan, Desk}
+use Rattle.desk_model.specs.Room.{changed, revision_rows, last_revision}
+use Rattle.desk_catalogue.specs.Kept.{revision_in}
+use Rattle.page_store.specs.Transactions.{stored, disk_in}
+use Rattle.page_store.specs.declared.pages.Pages.{Pages}
+use Rattle.page_store.specs.declared.txn.Txn.{Txn}
+use Rattle.page_btree.specs.declared.error.TreeError.{TreeError}
+use Rattle.page_btree.specs.declared.error.TreeError.TheVariants.{DeviceFault, Halted, NoPages, TooDeep, Memory}
+use Rattle.store_rows.specs.declared.value.Counters.{Counters}
+use Rattle.store_rows.specs.Changes.{with_revision}
+use Rattle.row_table.specs.Outcomes.{map_both}
+use Rattle.plan_table.specs.PlanRows.{HasChunkNumbers}
+use Rattle.plan_table.specs.declared.change.Change.{Change}
+use Rattle.plan_table.specs.declared.change.Change.TheVariants.{Made, Spent}
+use Rattle.desk_pages.specs.Desks.{InTxn}
+use Rattle.plan_revisions.specs.Plans.{TakesRevision, with_next, with_next_of}
+use Rattle.plan_revisions.specs.Steps.{HasStepped, IsStepped, StepErr}
+use Rattle.plan_revisions.specs.Rows.{added_by, rows_added_by}
+use Rattle.plan_revisions.specs.Accepted.{IsRevised, last_is, rows_added, chunks_added}
+use Rattle.plan_revisions.proofs.Counted.{same_ground}
+
+module _ {D : Type 0} {g : Ghosts D} where
+  -- what is said of more desks, is said of these
+  pub stepped_as : (says other : Desk → Type 0) (next then : Desk → Desk) (rows : ℕ) (t u : Txn) (a b : Pages D g) → ((d : Desk) → other d → says d) → ((d : Desk) → other d → next d ≡ then d)
+      → HasStepped says next rows t u a b → HasStepped other then rows t u a b
+  stepped_as says other next then rows t u a b gives same did = record {
+    passed = did.passed;
+    pages = did.pages;
+    desk = λ honest d holds is. subst (λ (e : Desk). InTxn u (stored a) e) (same d is) (did.desk honest d holds (gives d is));
+    writes = did.writes;
+    taken = did.taken;
+  }
+
+  pub change_as : (says other : Desk → Type 0) (next then : Desk → Desk) (rows : ℕ) (enough : Counters → Type 0) (t u : Txn) (a b : Pages D g) → ((d : Desk) → other d → says d) → ((d : Desk) → other d → next d ≡ then d)
+      → (change : Change) → IsStepped says next rows enough t u a b change → IsStepped other then rows enough t u a b change
+  change_as says other next then rows enough t u a b gives same Made did = (stepped_as says other next then rows t u a b gives same did.0, did.1)
+  change_as says other next then rows enough t u a b gives same Spent did = did
+
+  pub err_as : (says other : Desk → Type 0) (rows : ℕ) (t : Txn) (a b : Pages D g) → ((d : Desk) → other d → says d) → (e : TreeError) → StepErr says rows t a b e → StepErr other rows t a b e
+  err_as says other rows t a b gives DeviceFault why = elim why [
+    | inl failed ↦ inl failed
+    | inr none ↦ inr (λ honest d holds is. none honest d holds (gives d is))
+  ]
+  err_as says other rows t a b gives Halted why = why
+  err_as says other rows t a b gives NoPages why = why
+  err_as says other rows t a b gives TooDeep why = why
+  err_as says other rows t a b gives Memory why = tt
+
+  -- a revision of the plan that the desk has
+  pub revision_put : (d : Desk) (name : List ℕ) (after : ℕ) (e : Desk) (r : IsRevised d name after e) (ground : Ground) (last : Option (List ℕ)) (next : List ℕ) (t u : Txn) (a b : Pages D g) (result : Result Change TreeError)
+      → d.geography ≡ Some ground → last ≡ revision_in (map_of.get d.plans name) after → next ≡ r.districts
+      → MatchResult result (λ change. IsStepped (TakesRevision ground name last) (with_next name next) (revision_rows ground last next) (HasChunkNumbers (length (changed ground last next))) t u a b change) (λ x. StepErr (TakesRevision ground name last) (revision_rows ground last next) t a b x)
+      → MatchResult result (λ change. IsStepped (λ x. x ≡ d) (λ x. e) (rows_added_by d name e) (HasChunkNumbers (added_by d name e)) t u a b change) (λ x. StepErr (λ x. x ≡ d) (rows_added_by d name e) t a b x)
+  revision_put d name after e r ground last next t u a b result geography last_told next_told put =
+      let same = same_ground d ground r.g geography r.geography in
+      let rows : revision_rows ground last next ≡ rows_added_by d name e = (λ i. revision_rows (same i) (last_told i) (next_told i)) ∙ sym (rows_added d name after e r) in
+      let chunks : length (changed ground last next) ≡ added_by d name e = (λ i. length (changed (same i) (last_told i) (next_told i))) ∙ sym (chunks_added d name after e r) in
+      let takes : TakesRevision ground name last d = record { geography = geography; plan = r.plan; there = r.there; last_is = sym (last_told ∙ last_is d name after e r); room = r.few } in
+      let gives = λ (x : Desk) (is : x ≡ d). subst (λ (y : Desk). TakesRevision ground name last y) (sym is) takes in
+      let then_d : with_next name next d ≡ e = ap (λ (q : Option Plan). with_next_of d name next q) r.there ∙ ap (λ (n : List ℕ). record d { plans = map_of.insert d.plans name (with_revision r.plan n) }) next_told ∙ sym r.desk in
+      let then_is = λ (x : Desk) (is : x ≡ d). ap (λ (y : Desk). with_next name next y) is ∙ then_d in
+      subst (λ (n : ℕ). MatchResult result (λ change. IsStepped (λ x. x ≡ d) (λ x. e) n (HasChunkNumbers (added_by d name e)) t u a b change) (λ x. StepErr (λ x. x ≡ d) n t a b x)) rows
+      (subst (λ (n : ℕ). MatchResult result (λ change. IsStepped (λ x. x ≡ d) (λ x. e) (revision_rows ground last next) (HasChunkNumbers n) t u a b change) (λ x. StepErr (λ x. x ≡ d) (revision_rows ground last next) t a b x)) chunks
+      (map_both result (λ change. IsStepped (TakesRevision ground name last) (with_next name next) (revision_rows ground last next) (HasChunkNumbers (length (changed ground last next))) t u a b change)
+      (λ change. IsStepped (λ x. x ≡ d) (λ x. e) (revision_rows ground last next) (HasChunkNumbers (length (changed ground last next))) t u a b change)
+      (λ x. StepErr (TakesRevision ground name last) (revision_rows ground last next) t a b x) (λ x. StepErr (λ x. x ≡ d) (revision_rows ground last next) t a b x)
+      (λ change. change_as (TakesRevision ground name last) (λ x. x ≡ d) (with_next name next) (λ x. e) (revision_rows ground last next) (HasChunkNumbers (length (changed ground last next))) t u a b gives then_is change)
+      (λ x. err_as (TakesRevision ground name last) (λ x. x ≡ d) (revision_rows ground last next) t a b gives x)
+      put))

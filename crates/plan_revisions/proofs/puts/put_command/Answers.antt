@@ -1,0 +1,18 @@
+use Rattle.plan_revisions.proofs.Commands.{create_put, retire_put, retire_not_put, revision_as}
+use Rattle.plan_revisions.proofs.puts.put_command.Goals as goal
+
+pub returns-in-Create-clause-put : goal.returns-in-Create-clause-put
+returns-in-Create-clause-put g c =
+    create_put c.args.shown.now c.args.command.now c.args.then.now c.in-Create.plan c.in-Create.size c.args.txn.now c.create.new.txn c.args.pages.now c.create.new.pages c.create.result c.in-Create.is c.requires.after c.create.ensures.create
+
+pub returns-in-Ok-clause-put : goal.returns-in-Ok-clause-put
+returns-in-Ok-clause-put g c =
+    retire_put c.args.shown.now c.args.command.now c.args.then.now c.in-Retire.plan c.args.txn.now c.retire.new.txn c.args.pages.now c.retire.new.pages c.in-Retire.is c.requires.after c.in-Ok.ensures.retire
+
+pub returns-in-Err-clause-put : goal.returns-in-Err-clause-put
+returns-in-Err-clause-put g c =
+    retire_not_put c.args.shown.now c.args.command.now c.args.then.now c.in-Retire.plan c.args.txn.now c.args.pages.now c.retire.new.pages c.in-Err.e c.in-Retire.is c.requires.after c.in-Err.ensures.retire
+
+pub returns-in-Whole-clause-put : goal.returns-in-Whole-clause-put
+returns-in-Whole-clause-put g c =
+    revision_as c.args.shown.now c.args.command.now c.args.then.now c.in-Whole.plan c.in-Whole.after c.args.txn.now c.put_revision.new.txn c.args.pages.now c.put_revision.new.pages c.put_revision.result c.in-Whole.is c.requires.after c.put_revision.ensures.put

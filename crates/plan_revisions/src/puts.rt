@@ -1,0 +1,83 @@
+//! Puts the rows of a command.
+ghost use Rattle.std.specs.Prelude.{◌≡◌, Some, MatchResult};
+ghost use Rattle.desk_model.specs.Room.{added_rows, command_rows as rows_of_command};
+ghost use Rattle.desk_catalogue.specs.Accepting.{IsAfter};
+ghost use Rattle.page_store.specs.Transactions.{count_of, txn_pages, IsQuiet};
+ghost use Rattle.plan_table.specs.PlanRows.{HasChunkNumbers};
+ghost use Rattle.plan_revisions.specs.Steps.{IsStepped, StepErr};
+ghost use Rattle.plan_revisions.specs.Rows.{HasNumbers, added_by, cuts_in, rows_added_by};
+ghost use Rattle.plan_revisions.specs.Accepted.{IsRevised};
+
+use crate::rows::next_of;
+use crate::{Change, TreeError, add, create, retire};
+use desk_catalogue::catalogue::Catalogue;
+use desk_model::command::Command;
+use desk_model::cuts::Cut;
+use desk_model::geography::Geography;
+use desk_model::name::PlanName;
+use page_store::{Pages, Txn};
+use sector_device::SectorDevice;
+use std::alloc::Global;
+
+/// Puts the rows of a revision that a plan got, after the revision of that number.
+fn put_revision<D: SectorDevice>(
+    alloc: Global,
+    txn: &mut Txn,
+    pages: &mut Pages<D>,
+    geography: &Geography,
+    cuts: &[Cut],
+    shown: &Catalogue,
+    name: &PlanName,
+    after: u32,
+    then: &Catalogue,
+) -> Result<Change, TreeError>
+    requires begun { txn_pages txn.old ≡ count_of pages.old }
+    requires geography { shown.now.geography ≡ Some geography.now }
+    requires cut { cuts.now ≡ cuts_in shown.now.geography }
+    requires revised { IsRevised shown.now name.now after then.now }
+    ensures quiet { IsQuiet pages.old pages.new }
+    ensures begun { txn_pages txn.new ≡ count_of pages.new }
+    ensures put { MatchResult result
+        (λ change. IsStepped (λ d. d ≡ shown.now) (λ d. then.now) (rows_added_by shown.now name.now then.now) (HasChunkNumbers (added_by shown.now name.now then.now)) txn.old txn.new pages.old pages.new change)
+        (λ e. StepErr (λ d. d ≡ shown.now) (rows_added_by shown.now name.now then.now) txn.old pages.old pages.new e) }
+{
+    let last = shown.districts(name, after);
+    let next = next_of(then, name, after + 1);
+    add(alloc, txn, pages, geography, cuts, name, last, next)
+}
+
+/// Puts the rows of a command that a desk accepts into a transaction that reads that desk: `shown` is the desk before it, `then` the
+/// desk after it, and `cuts` are the counties of its geography. `Spent` comes where too few numbers are left for it: nothing was
+/// written. After an error the transaction can only be abandoned; `DeviceFault` comes also where the store holds no such desk.
+pub fn put_command<D: SectorDevice>(
+    alloc: Global,
+    txn: &mut Txn,
+    pages: &mut Pages<D>,
+    cuts: &[Cut],
+    shown: &Catalogue,
+    command: &Command,
+    then: &Catalogue,
+) -> Result<Change, TreeError>
+    requires begun { txn_pages txn.old ≡ count_of pages.old }
+    requires cut { cuts.now ≡ cuts_in shown.now.geography }
+    requires after { IsAfter shown.now command.now then.now }
+    ensures quiet { IsQuiet pages.old pages.new }
+    ensures begun { txn_pages txn.new ≡ count_of pages.new }
+    ensures put { MatchResult result
+        (λ change. IsStepped (λ d. d ≡ shown.now) (λ d. then.now) (rows_of_command shown.now command.now) (HasNumbers shown.now command.now) txn.old txn.new pages.old pages.new change)
+        (λ e. StepErr (λ d. d ≡ shown.now) (rows_of_command shown.now command.now) txn.old pages.old pages.new e) }
+{
+    let Some(geography) = shown.geography() else {
+        return Ok(Change::Spent);
+    };
+    match command {
+        Command::Create { plan, size } => create(txn, pages, plan, *size),
+        Command::Whole { plan, after, .. } | Command::Counties { plan, after, .. } => put_revision(
+            alloc, txn, pages, geography, cuts, shown, plan, *after, then,
+        ),
+        Command::Retire { plan } => match retire(txn, pages, plan) {
+            Ok(()) => Ok(Change::Made),
+            Err(e) => Err(e),
+        },
+    }
+}

@@ -1,0 +1,69 @@
+//! How many rows a command writes.
+ghost use Rattle.std.specs.Prelude.{◌≡◌, ℕ, List, length, Some, IsSome};
+ghost use Rattle.std.specs.FinMap as map_of;
+ghost use Rattle.desk_model.specs.Geography.{Ground};
+ghost use Rattle.desk_model.specs.Room.{added_rows, command_rows as rows_of_command};
+ghost use Rattle.desk_catalogue.specs.Accepting.{IsAfter};
+ghost use Rattle.desk_catalogue.specs.Kept.{revision_in};
+ghost use Rattle.plan_revisions.specs.Rows.{cuts_in};
+ghost use Rattle.plan_revisions.specs.Accepted.{IsRevised};
+
+use desk_catalogue::catalogue::Catalogue;
+use desk_model::command::Command;
+use desk_model::cuts::Cut;
+use desk_model::geography::Geography;
+use desk_model::name::PlanName;
+use desk_room::laws::cuts_are_within;
+use desk_room::revision_rows;
+use shared_districts::Districts;
+
+/// The districts of a revision that is there.
+pub(crate) fn next_of<'a>(then: &'a Catalogue, name: &PlanName, k: u32) -> &'a Districts
+    requires { IsSome (revision_in (map_of.get then.now.plans name.now) k) }
+    ensures value { (districts : List ℕ) → revision_in (map_of.get then.now.plans name.now) k ≡ Some districts → result.now ≡ districts }
+    ensures whole { (g : Ground) (districts : List ℕ) → then.now.geography ≡ Some g → revision_in (map_of.get then.now.plans name.now) k ≡ Some districts → length districts ≡ length g.blocks }
+{
+    match then.districts(name, k) {
+        Some(districts) => districts,
+        None => unreachable!(),
+    }
+}
+
+/// The rows of a revision that a plan got, after the revision of that number.
+fn rows_between(
+    geography: &Geography,
+    cuts: &[Cut],
+    shown: &Catalogue,
+    name: &PlanName,
+    after: u32,
+    then: &Catalogue,
+) -> usize
+    requires geography { shown.now.geography ≡ Some geography.now }
+    requires cut { cuts.now ≡ cuts_in shown.now.geography }
+    requires revised { IsRevised shown.now name.now after then.now }
+    ensures { result ≡ added_rows shown.now.geography (map_of.get shown.now.plans name.now) (map_of.get then.now.plans name.now) }
+{
+    let _blocks = geography.blocks();
+    cuts_are_within();
+    let last = shown.districts(name, after);
+    let next = next_of(then, name, after + 1);
+    revision_rows(cuts, last, next)
+}
+
+/// How many rows a command writes that a desk accepts: `shown` is the desk before it, `then` the desk after it, and `cuts` are the
+/// counties of its geography.
+pub fn command_rows(cuts: &[Cut], shown: &Catalogue, command: &Command, then: &Catalogue) -> usize
+    requires cut { cuts.now ≡ cuts_in shown.now.geography }
+    requires after { IsAfter shown.now command.now then.now }
+    ensures { result ≡ rows_of_command shown.now command.now }
+{
+    let Some(geography) = shown.geography() else {
+        return 2;
+    };
+    match command {
+        Command::Create { .. } | Command::Retire { .. } => 2,
+        Command::Whole { plan, after, .. } | Command::Counties { plan, after, .. } => rows_between(
+            geography, cuts, shown, plan, *after, then,
+        ),
+    }
+}

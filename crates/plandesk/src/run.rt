@@ -1,0 +1,57 @@
+//! What the words ask for, done.
+use crate::checks::{check_counts, check_plan};
+use crate::serving::serve_desk;
+use crate::stores::{format_store, load_state};
+use crate::sweeping::sweep_desk;
+use byte_stream::sink::WriteSink;
+use byte_stream::source::ReadSource;
+use command_line::words::{Job, Mistake, job_of};
+use command_output::status::Status;
+use std::io::Write;
+use std::sync::Wait;
+use std::thread::Threads;
+use talk_command::talk::talk;
+
+/// Tells a text on standard error, as far as that can be written.
+fn tell<E: Write>(errors: &mut E, text: &str) {
+    let _ = errors.write_all(text.as_bytes());
+}
+
+fn serve_talk(rt: &HostRuntime) -> Status {
+    let mut reader = ReadSource::new(rt.stdin());
+    let mut writer = WriteSink::new(rt.stdout());
+    let mut errors = rt.stderr();
+    let status = talk(rt.alloc(), &mut reader, &mut writer, &mut errors);
+    let _ = reader.into_inner();
+    let _ = writer.into_inner();
+    status
+}
+
+/// Tells why nothing is done: help and the version on standard output, and what is wrong on standard error.
+fn end_mistake(rt: &HostRuntime, mistake: &Mistake) -> Status {
+    if mistake.status() != Status::Done {
+        let mut errors = rt.stderr();
+        tell(&mut errors, mistake.text());
+        return mistake.status();
+    }
+    let mut output = rt.stdout();
+    match output.write_all(mistake.text().as_bytes()) {
+        Ok(()) => Status::Done,
+        Err(_) => Status::Stream,
+    }
+}
+
+/// Does what the words ask for; the first is the program's name. `threads` starts the workers of an audit or of
+/// a served store, which wait for one another.
+pub fn run<T: Threads + Wait + Sync>(rt: &HostRuntime, threads: &T, words: &[&str]) -> Status {
+    match job_of(rt.alloc(), words) {
+        Ok(Job::Talk) => serve_talk(rt),
+        Ok(Job::Counts(paths)) => check_counts(rt, paths),
+        Ok(Job::Audit(paths, terms, workers)) => check_plan(rt, threads, paths, terms, workers),
+        Ok(Job::Format(name, size)) => format_store(rt, name, size),
+        Ok(Job::Load(name, paths, neighbours)) => load_state(rt, name, paths, neighbours),
+        Ok(Job::Serve(name, serving)) => serve_desk(rt, threads, name, serving),
+        Ok(Job::Sweep(name)) => sweep_desk(rt, name),
+        Err(mistake) => end_mistake(rt, &mistake),
+    }
+}

@@ -1,0 +1,30 @@
+//! `sweep` over the file system and the standard streams.
+use crate::stores::StoreFiles;
+use byte_stream::sink::WriteSink;
+use command_output::status::Status;
+use command_progress::Telling;
+use sector_file::{FileDevice, Unknown};
+use std::io::IsTerminal;
+use store_command::sweep::sweep;
+
+/// Takes out of a store what deleted plans and ended loads left in it.
+pub fn sweep_desk(rt: &HostRuntime, name: &str) -> Status {
+    let mut stores = StoreFiles::new(rt);
+    let mut writer = WriteSink::new(rt.stdout());
+    let mut errors = WriteSink::new(rt.stderr());
+    let terminal = rt.stderr();
+    let is_terminal = terminal.is_terminal();
+    let mut progress = Telling::new(terminal, is_terminal, b"plandesk: sweep: ", 16_384);
+    let status = sweep::<FileDevice<Unknown>, _, _, _, _>(
+        rt.alloc(),
+        &mut stores,
+        name,
+        &mut progress,
+        &mut writer,
+        &mut errors,
+    );
+    let _ = progress.into_inner();
+    let _ = writer.into_inner();
+    let _ = errors.into_inner();
+    status
+}

@@ -1,0 +1,54 @@
+//! Sweeps a store by as many steps as it takes.
+ghost use Rattle.std.specs.Prelude.{◌≡◌, false, IfOk, IfErr};
+ghost use Rattle.store_rows.specs.Rows.{KeyMap};
+ghost use Rattle.desk_store.specs.Clerks.{disk_of, is_halted};
+ghost use Rattle.desk_store.specs.Sweeps.{HasRows};
+ghost use Rattle.store_command.specs.Sweeping.{fault_of_sweep, KeepsDesk, HasSweptAll, IsStopped};
+
+use crate::fault::StoreFault;
+use command_progress::Progress;
+use desk_store::clerk::Clerk;
+use desk_store::sweeps::SweepError;
+use sector_device::SectorDevice;
+use std::alloc::Global;
+
+/// More steps than a store has rows: each takes one row out at least.
+const MOST_STEPS: u64 = 281_474_976_710_656;
+
+/// What is told of a step that came to nothing.
+fn sweep_fault(e: SweepError) -> StoreFault
+    ensures { result ≡ fault_of_sweep e }
+{
+    match e {
+        SweepError::Memory => StoreFault::Memory,
+        SweepError::DeviceFault | SweepError::Halted => StoreFault::DeviceFault,
+    }
+}
+
+/// Takes out of a clerk's store what deleted plans and ended loads left in it: how many rows there were. `progress` hears of each step.
+pub fn sweep_all<D: SectorDevice, P: Progress>(
+    alloc: Global,
+    clerk: &mut Clerk<D>,
+    progress: &mut P,
+) -> Result<u64, StoreFault>
+    requires { is_halted clerk.old ≡ false }
+    ensures keeps { KeepsDesk clerk.old clerk.new }
+    ensures swept { (disk_of clerk.new).is_honest → (m : KeyMap) → HasRows clerk.old m → IfOk result (λ rows. HasSweptAll clerk.old m rows clerk.new) }
+    ensures working { IfOk result (λ _. is_halted clerk.new ≡ false) }
+    ensures err { IfErr result (λ fault. IsStopped clerk.old fault clerk.new) }
+{
+    let mut rows = 0;
+    for steps in 0..MOST_STEPS {
+        match clerk.sweep_step(alloc) {
+            Ok(count) => {
+                if count == 0 {
+                    return Ok(rows);
+                }
+                rows += count as u64;
+                progress.note(rows);
+            }
+            Err(e) => return Err(sweep_fault(e)),
+        }
+    }
+    Err(StoreFault::DeviceFault)
+}

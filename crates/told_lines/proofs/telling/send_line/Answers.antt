@@ -1,4 +1,0 @@
-use Rattle.told_lines.proofs.telling.send_line.Goals as goal
-
-pub returns : goal.returns
-returns g c = (c.send.result, (c.send.ensures.bytes, c.send.ensures.failures))
