@@ -1,10 +1,10 @@
 //! The gate of a served stream: passed once between the reading and the answering of each request.
 use byte_stream::sink::WriteSink;
 use byte_stream::source::ReadSource;
+use desk_counter::Counter;
 use desk_model::command::{Command, Query};
 use desk_model::gate::Gate;
 use desk_model::reply::{PlanRows, Refusal, Reply};
-use http_desk::counter::Counter;
 use http_desk::serve::serve;
 use std::alloc::Global;
 use std::cell::Cell;

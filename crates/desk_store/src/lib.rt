@@ -14,6 +14,7 @@
 
 pub mod change;
 pub mod clerk;
+mod counter;
 pub mod loads;
 pub mod opening;
 mod prepare;

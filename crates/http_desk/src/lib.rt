@@ -3,7 +3,5 @@
 
 pub mod answer;
 pub mod body;
-pub mod clerk;
-pub mod counter;
 pub mod serve;
 pub mod short;

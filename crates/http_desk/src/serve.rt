@@ -16,9 +16,9 @@ ghost use Rattle.http_wire.specs.Plain.{IsPlain};
 ghost use Rattle.http_desk.specs.Talk.{Handles};
 
 use crate::answer::Answer;
-use crate::counter::Counter;
 use byte_stream::sink::Sink;
 use byte_stream::source::Source;
+use desk_counter::Counter;
 use desk_model::command::Query;
 use desk_model::gate::Gate;
 use http_answer::gather::GatherSink;

@@ -7,13 +7,13 @@ ghost use Rattle.desk_catalogue.specs.Audits.{AskMay};
 ghost use Rattle.http_seats.specs.Explained.{ExplainsCommand, ExplainsQuery};
 
 use desk_catalogue::catalogue::Catalogue;
+use desk_counter::Counter;
 use desk_gallery::book::Room;
 use desk_gallery::front::Front;
 use desk_gallery::office::Office;
 use desk_gallery::visitor::Visitor;
 use desk_model::command::{Command, Query};
 use desk_model::reply::{Refusal, Reply};
-use http_desk::counter::Counter;
 use sector_device::SectorDevice;
 use std::alloc::{AllocError, Global};
 use std::marker::Model;

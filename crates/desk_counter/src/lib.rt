@@ -1,4 +1,9 @@
-//! What answers commands and queries.
+//! What answers commands and queries: the counter at which a served stream asks, whoever stands behind it. A clerk alone with its store
+//! is one, and a seat at an office another.
+//!
+//! Its model is its own: which replies a command or a query may have, and what they leave.
+#![tactic(auto)]
+
 ghost use Rattle.std.specs.Prelude.{◌≡◌};
 ghost use Rattle.desk_model.specs.declared.command.Command.{Command};
 ghost use Rattle.desk_model.specs.declared.command.Query.{Query};

@@ -1,13 +1,13 @@
-//! The clerk at the counter, alone with the desk.
+//! The clerk as a counter, alone with the desk.
 ghost use Rattle.std.specs.Prelude.{◌≡◌};
 ghost use Rattle.desk_catalogue.specs.Audits.{AskMay};
 ghost use Rattle.desk_store.specs.Clerks.{desk_of};
 ghost use Rattle.desk_store.specs.Commands.{Does};
 
-use crate::counter::Counter;
+use crate::clerk::Clerk;
+use desk_counter::Counter;
 use desk_model::command::{Command, Query};
 use desk_model::reply::Reply;
-use desk_store::clerk::Clerk;
 use sector_device::SectorDevice;
 use std::alloc::Global;
 
