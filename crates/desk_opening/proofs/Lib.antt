@@ -6,3 +6,4 @@ pub mod NewPlans
 pub mod Turns
 pub mod WholeDesks
 mod Shown
+mod Seals

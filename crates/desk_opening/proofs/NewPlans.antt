@@ -1,5 +1,5 @@
 -- A row that is taken says which plan it is of.
-use Rattle.std.proofs.Common.{◌≡◌, ◌-◌, ℕ, Bool, true, false, cond, List, ◌∷◌, length, take, drop, Some, None, sym, ap, subst, ◌∙◌, take_all, arith}
+use Rattle.std.proofs.Common.{◌≡◌, ◌-◌, ℕ, Bool, true, false, cond, List, ◌∷◌, length, take, drop, Some, None, refl, sym, ap, subst, ◌∙◌, take_all, arith}
 use Rattle.std.specs.Prelude.{Option, not, nat_eq}
 use Rattle.std.specs.Cmp.Lexicographic.{pointwise, nat_list_eq_equiv}
 use Rattle.std.specs.FinMap.{FinMap, get as row_at}
@@ -15,7 +15,8 @@ use Rattle.store_rows.specs.DeskRows.{HasPlan, IsPlanAt}
 use Rattle.store_rows.specs.Changes.{plan_row_of}
 use Rattle.plan_table.specs.Laws.{IsTold, PlansAreTold, RowFits}
 use Rattle.desk_opening.specs.Reading.{IsPlanRow}
-use Rattle.desk_opening.specs.Opening.{IsNewPlan}
+use Rattle.desk_opening.specs.Opening.{IsKeptPlan, IsNewPlan}
+use Rattle.store_rows.proofs.OneGeography.{value_is}
 
 -- ---- the name in a key
 read_again : (bytes name : List ℕ) → is_plan_name bytes ≡ true → ◌≡◌ {A = Option (List ℕ)} (plan_name_of bytes) (Some name) → name ≡ bytes
@@ -65,4 +66,16 @@ module _ (g : Ground) (plans : FinMap name_cmp Plan) (row : Row) (m : KeyMap) (p
         revisions = ap (λ (r : PlanRow). r.revisions) t.0;
         some = is.sized.some;
         few = is.sized.most;
+      }
+
+  -- it wasn't taken away
+  pub is_kept_plan : IsKeptPlan row m
+  is_kept_plan =
+      let p = plan_row_of has_plan.0 plan.1 in
+      let both : ◌≡◌ {A = Option (List ℕ)} (Some (plan_bytes p)) (Some row.value) = sym has_plan.1.row ∙ ap (row_at m) (sym is.key) ∙ is.value in
+      record {
+        plan = p;
+        fits = has_plan.1.number_fits;
+        value = value_is row.value (plan_bytes p) (sym both);
+        kept = is.tidy.owned.gone plan.0 has_plan.0 (record { plan = p; row = has_plan.1.row; is = refl; fits = has_plan.1.number_fits });
       }

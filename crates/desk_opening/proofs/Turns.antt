@@ -38,6 +38,7 @@ module _ (g : Ground) (m : KeyMap) (rows : List Entry) (old new : Scan) (row : R
         record {
           all = all;
           desk = are.desk;
+          tidy = are.tidy;
           there = plan.1;
           sized = are.limits.sizes at.name plan.0 plan.1;
           key = at.key;

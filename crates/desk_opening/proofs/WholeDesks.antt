@@ -42,6 +42,7 @@ module _ (m : KeyMap) (d : Desk) (is : IsDeskMap m d) where
       let whole : d ≡ desk_with g d.plans = λ i. record { geography = sym same i; plans = d.plans } in
       record {
         desk = subst (λ (e : Desk). IsDesk m e) whole is.desk;
+        tidy = is.tidy;
         limits = subst (λ (e : Desk). IsWithinLimits e) whole is.limits;
       }
 
@@ -122,3 +123,7 @@ err_then (Err e) P Q go is = go e is
 
 pub no_row : (row : List ℕ) → ◌≡◌ {A = Option (List ℕ)} (Some row) None → ⊥
 no_row row same = cc
+
+pub ok_so : {T E : Type 0} (r : Result T E) (A : Type 0) → A → OnOk r A
+ok_so (Ok x) A is = is
+ok_so (Err e) A is = tt

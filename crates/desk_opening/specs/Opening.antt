@@ -1,5 +1,5 @@
 -- What is read back of a desk row by row, and why it is not.
-use Rattle.std.specs.Prelude.{◌≡◌, ◌⊎◌, ◌<◌, ℕ, List, true, Option, Some, None}
+use Rattle.std.specs.Prelude.{◌≡◌, ◌⊎◌, ◌<◌, ◌^◌, ℕ, List, true, Option, Some, None}
 use Rattle.std.specs.FinMap.{FinMap, get, insert, len, get as row_at}
 use Rattle.sector_device.specs.declared.SectorDevice.{Ghosts}
 use Rattle.desk_model.specs.Geography.{Ground}
@@ -11,10 +11,14 @@ use Rattle.page_store.specs.declared.txn.Txn.{Txn}
 use Rattle.page_btree.specs.declared.error.TreeError.{TreeError}
 use Rattle.page_btree.specs.declared.error.TreeError.TheVariants.{DeviceFault, Halted, NoPages, TooDeep, Memory}
 use Rattle.btree_scan.specs.declared.rows.Row.{Row}
-use Rattle.store_rows.specs.Keys.{key_of, named, seal}
-use Rattle.store_rows.specs.Values.{plan_bytes}
+use Rattle.store_rows.specs.Keys.{key_of, begun, named, retired, seal}
+use Rattle.store_rows.specs.Values.{plan_bytes, seal_bytes}
+use Rattle.store_rows.specs.declared.value.PlanRow.{PlanRow}
+use Rattle.store_rows.specs.declared.value.SealRow.{SealRow}
+use Rattle.row_table.specs.Reading.{StandsAs}
 use Rattle.store_rows.specs.Rows.{KeyMap, Has, Lacks}
 use Rattle.store_rows.specs.DeskRows.{IsDesk}
+use Rattle.store_rows.specs.Tidy.{Tidy}
 use Rattle.store_rows.specs.Changes.{desk_with, plan_row_of}
 use Rattle.store_check.specs.Numbers.{HasNumbersBelow}
 use Rattle.desk_pages.specs.Desks.{InTxn, IsSized, IsWithinLimits}
@@ -30,18 +34,46 @@ OpenErr t old new Memory = Unit {0}
 -- the plans of a desk with this geography
 pub record ArePlans (g : Ground) (m : KeyMap) (all : FinMap name_cmp Plan) : Type 0 where
   pub desk : IsDesk m (desk_with g all)
+  pub tidy : Tidy m
   pub limits : IsWithinLimits (desk_with g all)
 
 -- the row is that of a plan of the desk, which isn't among these and has room beside them
 pub record IsNewPlan (g : Ground) (plans : FinMap name_cmp Plan) (row : Row) (m : KeyMap) (plan : List ℕ × Plan) : Type 0 where
   pub all : FinMap name_cmp Plan
   pub desk : IsDesk m (desk_with g all)
+  pub tidy : Tidy m
   pub there : get all plan.0 ≡ Some plan.1
   pub sized : IsSized plan.1
   pub key : row.key ≡ key_of (named plan.0)
   pub value : row_at m row.key ≡ Some row.value
   pub new : get plans plan.0 ≡ None
   pub room : len plans < plan_limit
+
+-- the number of the plan whose row this is was not taken away
+abbrev pub IsNotGone : Row → KeyMap → Type 0
+IsNotGone row m = (p : PlanRow) → p.number < 2 ^ 64 → row.value ≡ plan_bytes p → Lacks m (retired p.number)
+
+-- and it is the row of a plan
+pub record IsKeptPlan (row : Row) (m : KeyMap) : Type 0 where
+  pub plan : PlanRow
+  pub fits : plan.number < 2 ^ 64
+  pub value : row.value ≡ plan_bytes plan
+  pub kept : Lacks m (retired plan.number)
+
+-- the sealed load is none of those that were begun
+abbrev pub IsSealEnded : KeyMap → Type 0
+IsSealEnded m = (sealed : SealRow) → sealed.load < 2 ^ 64 → Has m seal (seal_bytes sealed) → Lacks m (begun sealed.load)
+
+-- and the seal is a row or none
+pub record IsSealKept (m : KeyMap) : Type 0 where
+  pub value : Option SealRow
+  pub stands : StandsAs seal_bytes (key_of seal) m value
+  pub ended : IsSealEnded m
+
+-- what the numbers of rows are held to
+pub record HasSoundNumbers (m : KeyMap) : Type 0 where
+  pub below : HasNumbersBelow m
+  pub ended : IsSealEnded m
 
 -- no plan is there, and no geography is sealed
 abbrev pub HasNoPlans : KeyMap → Type 0
@@ -58,13 +90,21 @@ pub record IsAdded (plans : FinMap name_cmp Plan) (row : Row) (all : FinMap name
   pub plan : Plan
   pub number : ℕ
   pub key : row.key ≡ key_of (named name)
+  pub fits : number < 2 ^ 64
   pub value : row.value ≡ plan_bytes (plan_row_of number plan)
   pub is : all ≡ insert plans name plan
 
--- a plan is shown with the size and the count of revisions that stand under its name, and none where nothing does
+-- the size of a plan and the count of its revisions stand under its name, and its number wasn't taken away
+pub record IsPlanShown (m : KeyMap) (name : List ℕ) (p : Plan) : Type 0 where
+  pub number : ℕ
+  pub fits : number < 2 ^ 64
+  pub row : Has m (named name) (plan_bytes (plan_row_of number p))
+  pub kept : Lacks m (retired number)
+
+-- such a plan is shown, and none where nothing stands
 abbrev pub IsShownAt : KeyMap → List ℕ → Option Plan → Type 0
 IsShownAt m name None = Lacks m (named name)
-IsShownAt m name (Some p) = (number : ℕ) × Has m (named name) (plan_bytes (plan_row_of number p))
+IsShownAt m name (Some p) = IsPlanShown m name p
 
 abbrev pub ArePlansShown : KeyMap → FinMap name_cmp Plan → Type 0
 ArePlansShown m plans = (name : List ℕ) → IsShownAt m name (get plans name)
@@ -79,7 +119,7 @@ pub record IsShown (m : KeyMap) (d : Desk) : Type 0 where
   pub ground : IsGroundShown m d.geography
   pub plans : ArePlansShown m d.plans
 
--- No number in use is one that comes next, and what the rows of plans and the seal say is shown.
+-- No number in use is one that comes next, the sealed load is none that was begun, and what the rows of plans and the seal say is shown.
 pub record IsReadFrom (m : KeyMap) (d : Desk) : Type 0 where
-  pub numbers : HasNumbersBelow m
+  pub numbers : HasSoundNumbers m
   pub shown : IsShown m d

@@ -7,6 +7,7 @@ ghost use Rattle.store_rows.specs.Rows.{KeyMap};
 ghost use Rattle.desk_pages.specs.Desks.{InTxn};
 ghost use Rattle.desk_opening.specs.Opening.{IsReadFrom, IsShown, OpenErr};
 
+use crate::marks::check_rows;
 use crate::none::read_none;
 use crate::rows::read_plans;
 use desk_catalogue::catalogue::Catalogue;
@@ -16,7 +17,6 @@ use row_table::TreeError;
 use sector_device::SectorDevice;
 use std::alloc::Global;
 use std::sync::Arc;
-use store_check::check_numbers;
 
 /// What the rows of a transaction's desk say: its geography, and each plan with all its revisions. The pages are only read.
 fn read_rows<D: SectorDevice>(
@@ -43,7 +43,8 @@ fn read_rows<D: SectorDevice>(
 
 /// The desk that a transaction reads: its geography, and each plan with all its revisions. The pages are only read. An error is
 /// `Memory`, where a growth was refused, `DeviceFault`, where the device failed or holds no desk, or `Halted`. A store in which a number
-/// that comes next is in use holds none: what is put there later would be read as another's.
+/// that comes next is in use holds none: what is put there later would be read as another's. Nor does one whose sealed load was begun:
+/// a sweep would take its rows out.
 pub fn read_desk<D: SectorDevice>(
     alloc: Global,
     txn: &Txn,
@@ -56,6 +57,6 @@ pub fn read_desk<D: SectorDevice>(
     ensures found { (disk_in pages.new).is_honest → (m : KeyMap) → InTree txn.now (stored pages.old) m → IfOk result (λ catalogue. IsReadFrom m catalogue) }
     ensures err { IfErr result (λ e. OpenErr txn.now pages.old pages.new e) }
 {
-    check_numbers(txn, pages)?;
+    check_rows(txn, pages)?;
     read_rows(alloc, txn, pages)
 }

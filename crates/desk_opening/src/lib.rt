@@ -3,6 +3,7 @@
 
 mod desks;
 mod entries;
+mod marks;
 mod none;
 mod plans;
 mod rows;

@@ -1,5 +1,5 @@
 //! Reads plans out of the rows that a scan takes.
-ghost use Rattle.std.specs.Prelude.{◌≡◌, ◌<◌, ◌^◌, ℕ, List, Some, IfOk, MatchOption, MatchResult};
+ghost use Rattle.std.specs.Prelude.{◌≡◌, ◌<◌, ◌^◌, ℕ, List, Some, IfOk, OnOk, MatchOption, MatchResult};
 ghost use Rattle.std.specs.FinMap as map_of;
 ghost use Rattle.desk_model.specs.Cuts.{cuts_of};
 ghost use Rattle.desk_model.specs.Name.{IsPlanName};
@@ -11,8 +11,9 @@ ghost use Rattle.row_table.specs.Appending.{AppendErr};
 ghost use Rattle.desk_catalogue.specs.Kept.{AreWhole};
 ghost use Rattle.plan_table.specs.Laws.{RowFits};
 ghost use Rattle.desk_opening.specs.Reading.{HasRead};
-ghost use Rattle.desk_opening.specs.Opening.{ArePlans, ArePlansShown, IsAdded, IsNewPlan};
+ghost use Rattle.desk_opening.specs.Opening.{ArePlans, ArePlansShown, IsAdded, IsNewPlan, IsNotGone};
 
+use crate::marks::refuse_gone;
 use crate::plans::add_plan;
 use btree_scan::{Row, Scan, row_limit};
 use desk_catalogue::catalogue::PLAN_LIMIT;
@@ -28,7 +29,7 @@ use std::alloc::Global;
 use store_rows::{Key, PlanRow, read_plan};
 
 /// A number of 64 bits is in its range.
-fn number_fits(number: u64)
+pub(crate) fn number_fits(number: u64)
     ensures { number < 2 ^ 64 }
 {}
 
@@ -43,7 +44,7 @@ fn revisions_fit(revisions: u32)
 {}
 
 /// The numbers of a plan's row are in their ranges.
-fn row_fits(row: PlanRow)
+pub(crate) fn row_fits(row: PlanRow)
     ensures { RowFits row }
 {
     number_fits(row.number);
@@ -65,8 +66,8 @@ fn name_in(key: &[u8]) -> Option<PlanName>
     Some(name)
 }
 
-/// These plans with the one whose row was taken.
-fn add_row<D: SectorDevice>(
+/// These plans with the one whose row was taken, by its name.
+fn add_named<D: SectorDevice>(
     alloc: Global,
     txn: &Txn,
     pages: &mut Pages<D>,
@@ -97,6 +98,28 @@ fn add_row<D: SectorDevice>(
         return Err(TreeError::DeviceFault);
     }
     add_plan(alloc, txn, pages, geography, cuts, plans, name, &plan)
+}
+
+/// These plans with the one whose row was taken.
+fn add_row<D: SectorDevice>(
+    alloc: Global,
+    txn: &Txn,
+    pages: &mut Pages<D>,
+    geography: &Geography,
+    cuts: &[Cut],
+    plans: &Plans,
+    row: &Row,
+) -> Result<Plans, TreeError>
+    requires begun { txn_pages txn.now ≡ count_of pages.old }
+    requires cut { cuts.now ≡ cuts_of geography.now }
+    ensures quiet { IsQuiet pages.old pages.new }
+    ensures whole { IfOk result (λ all. AreWhole (Some geography.now) plans.now → AreWhole (Some geography.now) all) }
+    ensures kept { (disk_in pages.new).is_honest → (m : KeyMap) → InTxn txn.now (stored pages.old) m → OnOk result (IsNotGone row.now m) }
+    ensures added { IfOk result (λ all. IsAdded plans.now row.now all) }
+    ensures read { MatchResult result (λ all. HasRead (IsNewPlan geography.now plans.now row.now) (λ plan. map_of.insert plans.now plan.0 plan.1) txn.now pages.old pages.new all) (λ e. AppendErr (IsNewPlan geography.now plans.now row.now) txn.now pages.old pages.new e) }
+{
+    refuse_gone(txn, pages, row)?;
+    add_named(alloc, txn, pages, geography, cuts, plans, row)
 }
 
 /// All plans of a transaction's desk, which has this geography.

@@ -1,45 +1,54 @@
-use Rattle.std.proofs.Common.{◌≡◌, List, ℕ, inr, sym, ap, ◌∙◌}
+use Rattle.std.proofs.Common.{List, ℕ, sym, subst}
 use Rattle.std.specs.FinMap.{FinMap, insert}
+use Rattle.sector_device.specs.Disk.{Image}
 use Rattle.desk_model.specs.Desk.{Plan, name_cmp}
-use Rattle.page_store.specs.Stops.{passed_none}
-use Rattle.store_rows.specs.Keys.{key_of, named}
-use Rattle.row_table.specs.Outcomes.{map_both}
-use Rattle.row_table.specs.Appending.{AppendErr, then_unappended}
-use Rattle.desk_opening.specs.Reading.{HasRead, IsPlanRow}
-use Rattle.desk_opening.specs.Opening.{IsNewPlan}
-use Rattle.desk_opening.proofs.NewPlans.{is_plan_row, same_name, value_told}
+use Rattle.page_store.specs.Stops.{quiet_more, passed_more}
+use Rattle.page_btree.specs.Map.{InTxn}
+use Rattle.row_table.specs.Outcomes.{map_both, match_of}
+use Rattle.row_table.specs.Appending.{AppendErr, then_unappended, unread_unappended}
+use Rattle.desk_opening.specs.Reading.{HasRead}
+use Rattle.desk_opening.specs.Opening.{IsKeptPlan, IsNewPlan, IsNotGone}
+use Rattle.desk_opening.proofs.NewPlans.{is_kept_plan}
+use Rattle.desk_opening.proofs.WholeDesks.{ok_so}
 use Rattle.desk_opening.proofs.rows.add_row.Goals as goal
 
-pub returns-in_default-read_plan-clause-read : goal.returns-in_default-read_plan-clause-read
-returns-in_default-read_plan-clause-read g c = inr (λ honest m plan holds is.
-    let told = value_told c.args.geography.now c.args.plans.now c.args.row.now m plan is in
-    c.in_default-read_plan.ensures told.0 (told.1 ∙ sym c.as_slice-2.ensures.bytes))
-
-pub returns-clause-read : goal.returns-clause-read
-returns-clause-read g c =
+pub returns-in_err-refuse_gone-clause-read : goal.returns-in_err-refuse_gone-clause-read
+returns-in_err-refuse_gone-clause-read g c =
+    let t = c.args.txn.now in
+    let a = c.args.pages.now in
+    let b = c.refuse_gone.new.pages in
     let ground = c.args.geography.now in
     let plans = c.args.plans.now in
     let row = c.args.row.now in
-    let name = c.in-Some.name in
-    let read = c.in-Some-read_plan.plan in
+    let says = IsNewPlan ground plans row in
+    let error = c.in_err-refuse_gone.field-0.0 in
+    match_of c.from_residual.result (λ (all : FinMap name_cmp Plan). HasRead says (λ (plan : List ℕ × Plan). insert plans plan.0 plan.1) t a b all) error (λ e. AppendErr says t a b e) c.from_residual.ensures.1
+    (unread_unappended (IsKeptPlan row) says t a b error (λ m plan is. is_kept_plan ground plans row m plan is) c.in_err-refuse_gone.ensures.err)
+
+pub returns-clause-quiet : goal.returns-clause-quiet
+returns-clause-quiet g c = quiet_more c.args.pages.now c.refuse_gone.new.pages c.add_named.new.pages c.refuse_gone.ensures.quiet c.add_named.ensures.quiet
+
+pub returns-clause-kept : goal.returns-clause-kept
+returns-clause-kept g c = λ honest m holds. ok_so c.add_named.result (IsNotGone c.args.row.now m) (c.in_ok-refuse_gone.ensures.none (c.add_named.ensures.quiet.honest honest) m holds)
+
+pub returns-clause-read : goal.returns-clause-read
+returns-clause-read g c =
     let t = c.args.txn.now in
     let a = c.args.pages.now in
-    let b = c.add_plan.new.pages in
-    let key : row.key ≡ key_of (named name) = sym c.as_slice.ensures.bytes ∙ c.in-Some.ensures in
-    let says = IsNewPlan ground plans row in
-    let rest = IsPlanRow ground name read in
-    map_both c.add_plan.result
-    (λ (all : FinMap name_cmp Plan). HasRead rest (λ (p : Plan). insert plans name p) t a b all)
-    (λ (all : FinMap name_cmp Plan). HasRead says (λ (plan : List ℕ × Plan). insert plans plan.0 plan.1) t a b all)
-    (λ e. AppendErr rest t a b e)
-    (λ e. AppendErr says t a b e)
+    let b = c.refuse_gone.new.pages in
+    let d = c.add_named.new.pages in
+    let plans = c.args.plans.now in
+    let says = IsNewPlan c.args.geography.now plans c.args.row.now in
+    let passed = c.in_ok-refuse_gone.ensures.passed in
+    map_both c.add_named.result
+    (λ (all : FinMap name_cmp Plan). HasRead says (λ (plan : List ℕ × Plan). insert plans plan.0 plan.1) t b d all)
+    (λ (all : FinMap name_cmp Plan). HasRead says (λ (plan : List ℕ × Plan). insert plans plan.0 plan.1) t a d all)
+    (λ e. AppendErr says t b d e)
+    (λ e. AppendErr says t a d e)
     (λ all had. record {
-      passed = had.passed;
+      passed = passed_more a b d passed had.passed;
       read = λ honest m plan holds is.
-          had.read honest m plan.1 holds (is_plan_row ground plans row m plan is c.plans_are_told.ensures name read c.row_fits.ensures key (c.in-Some-read_plan.ensures ∙ c.as_slice-2.ensures.bytes))
-          ∙ ap (λ (n : List ℕ). insert plans n plan.1) (same_name ground plans row m plan is name key);
+          had.read honest m plan (subst (λ (P : Image). InTxn t P m) (sym (passed.quiet.same (c.add_named.ensures.quiet.honest honest))) holds) is;
     })
-    (λ e why. then_unappended says rest t a a b e
-    (λ honest m plan holds is. (plan.1, is_plan_row ground plans row m plan is c.plans_are_told.ensures name read c.row_fits.ensures key (c.in-Some-read_plan.ensures ∙ c.as_slice-2.ensures.bytes)))
-    (passed_none a) c.add_plan.ensures.quiet why)
-    c.add_plan.ensures.read
+    (λ e why. then_unappended says says t a b d e (λ honest m plan holds is. (plan, is)) passed c.add_named.ensures.quiet why)
+    c.add_named.ensures.read

@@ -32,7 +32,7 @@ loop-taken-init g c = record {
   whole = subst (λ (plans : Plans). AreWhole (Some c.args.geography.now) plans) (sym c.new-plans.ensures) (none_whole c.args.geography.now);
   taken = λ honest m holds.
       let rest = subst (λ (prefix : List ℕ). Rest c.new-scan.result (entries m) (under prefix (entries m))) (c.as_slice.ensures.bytes ∙ c.plans-prefix.ensures) (c.new-scan.ensures.rows m) in
-      ([], refl, taken_none plans_prefix c.new-scan.result (entries m) rest, λ all are. subst (λ (plans : Plans). AreRead [] plans all) (sym c.new-plans.ensures) (none_read all), subst (λ (plans : Plans). AreShown [] plans) (sym c.new-plans.ensures) none_shown);
+      ([], refl, taken_none plans_prefix c.new-scan.result (entries m) rest, λ all are. subst (λ (plans : Plans). AreRead [] plans all) (sym c.new-plans.ensures) (none_read all), subst (λ (plans : Plans). AreShown m [] plans) (sym c.new-plans.ensures) (none_shown m));
 }
 
 pub returns-in-None-clause-quiet : goal.returns-in-None-clause-quiet
@@ -125,7 +125,7 @@ loop-taken-preserved g c =
             λ all are.
                 let plan = new_plan ground m rows.0 c.loop-taken.scan c.next.new.self c.next.new.row c.loop-taken.plans all rows.2 next are (rows.3 all are) in
                 subst (λ (plans : Plans). AreRead (rows.0 ++ e ∷ []) plans all) (sym (now.read.read honest m plan.0 still plan.1)) plan.2,
-            more_shown m rows.0 c.loop-taken.scan c.next.new.self c.next.new.row c.loop-taken.plans c.in_ok-plans.plans rows.2 next rows.4 now.added,
+            more_shown m rows.0 c.loop-taken.scan c.next.new.self c.next.new.row c.loop-taken.plans c.in_ok-plans.plans rows.2 next rows.4 (now.kept honest m still) now.added,
           );
     }
 

@@ -1,0 +1,45 @@
+use Rattle.std.proofs.Common.{◌≡◌, List, ℕ, inr, sym, ap, ◌∙◌}
+use Rattle.std.specs.FinMap.{FinMap, insert}
+use Rattle.desk_model.specs.Desk.{Plan, name_cmp}
+use Rattle.page_store.specs.Stops.{passed_none}
+use Rattle.store_rows.specs.Keys.{key_of, named}
+use Rattle.row_table.specs.Outcomes.{map_both}
+use Rattle.row_table.specs.Appending.{AppendErr, then_unappended}
+use Rattle.desk_opening.specs.Reading.{HasRead, IsPlanRow}
+use Rattle.desk_opening.specs.Opening.{IsNewPlan}
+use Rattle.desk_opening.proofs.NewPlans.{is_plan_row, same_name, value_told}
+use Rattle.desk_opening.proofs.rows.add_named.Goals as goal
+
+pub returns-in_default-read_plan-clause-read : goal.returns-in_default-read_plan-clause-read
+returns-in_default-read_plan-clause-read g c = inr (λ honest m plan holds is.
+    let told = value_told c.args.geography.now c.args.plans.now c.args.row.now m plan is in
+    c.in_default-read_plan.ensures told.0 (told.1 ∙ sym c.as_slice-2.ensures.bytes))
+
+pub returns-clause-read : goal.returns-clause-read
+returns-clause-read g c =
+    let ground = c.args.geography.now in
+    let plans = c.args.plans.now in
+    let row = c.args.row.now in
+    let name = c.in-Some.name in
+    let read = c.in-Some-read_plan.plan in
+    let t = c.args.txn.now in
+    let a = c.args.pages.now in
+    let b = c.add_plan.new.pages in
+    let key : row.key ≡ key_of (named name) = sym c.as_slice.ensures.bytes ∙ c.in-Some.ensures in
+    let says = IsNewPlan ground plans row in
+    let rest = IsPlanRow ground name read in
+    map_both c.add_plan.result
+    (λ (all : FinMap name_cmp Plan). HasRead rest (λ (p : Plan). insert plans name p) t a b all)
+    (λ (all : FinMap name_cmp Plan). HasRead says (λ (plan : List ℕ × Plan). insert plans plan.0 plan.1) t a b all)
+    (λ e. AppendErr rest t a b e)
+    (λ e. AppendErr says t a b e)
+    (λ all had. record {
+      passed = had.passed;
+      read = λ honest m plan holds is.
+          had.read honest m plan.1 holds (is_plan_row ground plans row m plan is c.plans_are_told.ensures name read c.row_fits.ensures key (c.in-Some-read_plan.ensures ∙ c.as_slice-2.ensures.bytes))
+          ∙ ap (λ (n : List ℕ). insert plans n plan.1) (same_name ground plans row m plan is name key);
+    })
+    (λ e why. then_unappended says rest t a a b e
+    (λ honest m plan holds is. (plan.1, is_plan_row ground plans row m plan is c.plans_are_told.ensures name read c.row_fits.ensures key (c.in-Some-read_plan.ensures ∙ c.as_slice-2.ensures.bytes)))
+    (passed_none a) c.add_plan.ensures.quiet why)
+    c.add_plan.ensures.read

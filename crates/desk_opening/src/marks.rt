@@ -1,0 +1,83 @@
+//! Marks beside which a row is no desk's.
+ghost use Rattle.std.specs.Prelude.{◌≡◌, None, OnOk, IfErr};
+ghost use Rattle.std.specs.FinMap.{get as row_at};
+ghost use Rattle.page_store.specs.Transactions.{stored, disk_in, count_of, txn_pages, IsQuiet, Passed};
+ghost use Rattle.page_btree.specs.Map.{InTxn};
+ghost use Rattle.store_rows.specs.Rows.{KeyMap};
+ghost use Rattle.row_table.specs.Reading.{ReadErr};
+ghost use Rattle.desk_opening.specs.Opening.{HasSoundNumbers, IsKeptPlan, IsNotGone, IsSealEnded, IsSealKept};
+ghost use Rattle.store_check.specs.Numbers.{IsKept};
+
+use crate::rows::{number_fits, row_fits};
+use btree_scan::Row;
+use page_btree::get;
+use page_store::{Pages, Txn};
+use row_table::{TreeError, get_row};
+use sector_device::SectorDevice;
+use store_check::check_numbers;
+use store_rows::{Key, SealRow, read_plan};
+
+/// Refuses where a row stands under a key.
+fn refuse_row<D: SectorDevice>(txn: &Txn, pages: &mut Pages<D>, key: &Key) -> Result<(), TreeError>
+    requires begun { txn_pages txn.now ≡ count_of pages.old }
+    ensures quiet { IsQuiet pages.old pages.new }
+    ensures passed { OnOk result (Passed pages.old pages.new) }
+    ensures none { (disk_in pages.new).is_honest → (m : KeyMap) → InTxn txn.now (stored pages.old) m → OnOk result (row_at m key.now ≡ None) }
+    ensures err { IfErr result (λ e. ReadErr (λ m. row_at m key.now ≡ None) txn.now pages.old pages.new e) }
+{
+    let mut bytes = [0; 1024];
+    match get(txn, pages, key.as_slice(), &mut bytes) {
+        Ok(None) => Ok(()),
+        Ok(Some(_)) => Err(TreeError::DeviceFault),
+        Err(error) => Err(error),
+    }
+}
+
+/// Refuses where the plan whose row this is was taken away.
+pub(crate) fn refuse_gone<D: SectorDevice>(
+    txn: &Txn,
+    pages: &mut Pages<D>,
+    row: &Row,
+) -> Result<(), TreeError>
+    requires begun { txn_pages txn.now ≡ count_of pages.old }
+    ensures quiet { IsQuiet pages.old pages.new }
+    ensures passed { OnOk result (Passed pages.old pages.new) }
+    ensures none { (disk_in pages.new).is_honest → (m : KeyMap) → InTxn txn.now (stored pages.old) m → OnOk result (IsNotGone row.now m) }
+    ensures err { IfErr result (λ e. ReadErr (IsKeptPlan row.now) txn.now pages.old pages.new e) }
+{
+    let Some(plan) = read_plan(row.value.as_slice()) else {
+        return Err(TreeError::DeviceFault);
+    };
+    row_fits(plan);
+    refuse_row(txn, pages, &Key::retired(plan.number))
+}
+
+/// Refuses where the sealed load is also one that was begun.
+fn refuse_begun<D: SectorDevice>(txn: &Txn, pages: &mut Pages<D>) -> Result<(), TreeError>
+    requires begun { txn_pages txn.now ≡ count_of pages.old }
+    ensures quiet { IsQuiet pages.old pages.new }
+    ensures passed { OnOk result (Passed pages.old pages.new) }
+    ensures none { (disk_in pages.new).is_honest → (m : KeyMap) → InTxn txn.now (stored pages.old) m → OnOk result (IsSealEnded m) }
+    ensures err { IfErr result (λ e. ReadErr IsSealKept txn.now pages.old pages.new e) }
+{
+    let found: Option<SealRow> = get_row(txn, pages, &Key::seal())?;
+    match found {
+        None => Ok(()),
+        Some(sealed) => {
+            number_fits(sealed.load);
+            refuse_row(txn, pages, &Key::begun(sealed.load))
+        }
+    }
+}
+
+/// Refuses where a number that comes next is in use, or the sealed load is also one that was begun.
+pub(crate) fn check_rows<D: SectorDevice>(txn: &Txn, pages: &mut Pages<D>) -> Result<(), TreeError>
+    requires begun { txn_pages txn.now ≡ count_of pages.old }
+    ensures quiet { IsQuiet pages.old pages.new }
+    ensures passed { OnOk result (Passed pages.old pages.new) }
+    ensures sound { (disk_in pages.new).is_honest → (m : KeyMap) → InTxn txn.now (stored pages.old) m → OnOk result (HasSoundNumbers m) }
+    ensures err { IfErr result (λ e. ReadErr IsKept txn.now pages.old pages.new e) }
+{
+    check_numbers(txn, pages)?;
+    refuse_begun(txn, pages)
+}
