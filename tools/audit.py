@@ -2,7 +2,7 @@
 
 docs/REPORT.md has each key, and docs/LAW.md each clause: what is said of the law here stands there too.
 """
-import json
+import json, os, sys
 from dataclasses import dataclass
 from fractions import Fraction
 
@@ -233,3 +233,16 @@ def verdict(report):
     if not report.broken:
         return 'breaks no clause that was judged'
     return f'breaks {len(report.broken)} of the {len(report.asked())} clauses that were judged'
+
+
+def put(said, tool):
+    """Prints a text as UTF-8; the status is 6 where that fails."""
+    try:
+        sys.stdout.buffer.write(said.encode('utf-8', 'replace'))
+        sys.stdout.buffer.flush()
+    except OSError:
+        print(f'{tool}: WriteFault', file=sys.stderr)
+        # nothing is left to be written when the interpreter ends
+        os.dup2(os.open(os.devnull, os.O_WRONLY), sys.stdout.fileno())
+        return 6
+    return 0

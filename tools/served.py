@@ -1,5 +1,5 @@
 """For tools/report and tools/desk: what a served desk is asked, over HTTP."""
-import http.client, json, re
+import contextlib, http.client, json, re
 from urllib.parse import urlsplit
 
 from audit import Refused
@@ -28,15 +28,13 @@ class Desk:
 
     def ask(self, path):
         """The body of the answer to a GET; a refusal has the desk's name of it."""
-        connection = self.connect()
         try:
-            connection.request('GET', self.path + path)
-            answer = connection.getresponse()
-            body = answer.read(LARGEST + 1)
-        except (OSError, http.client.HTTPException, UnicodeError, ValueError):
+            with contextlib.closing(self.connect()) as connection:
+                connection.request('GET', self.path + path)
+                answer = connection.getresponse()
+                body = answer.read(LARGEST + 1)
+        except (OSError, http.client.HTTPException, ValueError):
             raise Refused('NoAnswer', 4) from None
-        finally:
-            connection.close()
         if len(body) > LARGEST:
             raise Refused('TooLarge', 4)
         if answer.status != 200:
