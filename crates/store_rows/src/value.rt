@@ -8,6 +8,7 @@ ghost use Rattle.desk_model.specs.declared.block.BlockRow.{BlockRow as BlockValu
 ghost use Rattle.store_rows.specs.Keys.{in_two, in_four, in_eight};
 ghost use Rattle.store_rows.specs.Values.{counters_bytes, plan_bytes, seal_bytes, block_bytes, pair_bytes, kind_code, city_bytes};
 
+use byteorder::{BigEndian, ByteOrder};
 use desk_model::block::{BlockId, BlockRow};
 use desk_model::kind::Kind;
 
@@ -42,23 +43,23 @@ pub struct SealRow {
 pub fn counters_value(counters: &Counters) -> [u8; 24]
     ensures { result ≡ counters_bytes counters.now }
 {
-    let [a, b, c, d, e, f, g, h] = counters.plan.to_be_bytes();
-    let [i, j, k, l, m, n, o, p] = counters.chunk.to_be_bytes();
-    let [q, r, s, t, u, v, w, x] = counters.load.to_be_bytes();
-    [
-        a, b, c, d, e, f, g, h, i, j, k, l, m, n, o, p, q, r, s, t, u, v, w, x,
-    ]
+    let mut value = [0; 24];
+    BigEndian::write_u64(&mut value[..8], counters.plan);
+    BigEndian::write_u64(&mut value[8..16], counters.chunk);
+    BigEndian::write_u64(&mut value[16..], counters.load);
+    value
 }
 
 /// The value of a plan's row.
 pub fn plan_value(plan: &PlanRow) -> [u8; 15]
     ensures { result ≡ plan_bytes plan.now }
 {
-    let [a, b, c, d, e, f, g, h] = plan.number.to_be_bytes();
-    let code = kind_number(plan.kind);
-    let [i, j] = plan.districts.to_be_bytes();
-    let [k, l, m, n] = plan.revisions.to_be_bytes();
-    [a, b, c, d, e, f, g, h, code, i, j, k, l, m, n]
+    let mut value = [0; 15];
+    BigEndian::write_u64(&mut value[..8], plan.number);
+    value[8] = kind_number(plan.kind);
+    BigEndian::write_u16(&mut value[9..11], plan.districts);
+    BigEndian::write_u32(&mut value[11..], plan.revisions);
+    value
 }
 
 /// The byte of a kind.
@@ -76,42 +77,44 @@ fn kind_number(kind: Kind) -> u8
 pub fn seal_value(seal: &SealRow) -> [u8; 16]
     ensures { result ≡ seal_bytes seal.now }
 {
-    let [a, b, c, d, e, f, g, h] = seal.load.to_be_bytes();
-    let [i, j, k, l] = seal.blocks.to_be_bytes();
-    let [m, n, o, p] = seal.pairs.to_be_bytes();
-    [a, b, c, d, e, f, g, h, i, j, k, l, m, n, o, p]
+    let mut value = [0; 16];
+    BigEndian::write_u64(&mut value[..8], seal.load);
+    BigEndian::write_u32(&mut value[8..12], seal.blocks);
+    BigEndian::write_u32(&mut value[12..], seal.pairs);
+    value
 }
 
 /// The value of a block's row.
 pub fn block_value(block: &BlockRow) -> [u8; 17]
     ensures { result ≡ block_bytes block.now }
 {
-    let [a, b, c, d, e, f, g, h] = block.id.number().to_be_bytes();
-    let [i, j, k, l, m] = city_value(block.city);
-    let [n, o, p, q] = block.population.to_be_bytes();
-    [a, b, c, d, e, f, g, h, i, j, k, l, m, n, o, p, q]
+    let mut value = [0; 17];
+    BigEndian::write_u64(&mut value[..8], block.id.number());
+    value[8..13].copy_from_slice(&city_value(block.city));
+    BigEndian::write_u32(&mut value[13..], block.population);
+    value
 }
 
 /// The bytes of a city or none.
 fn city_value(city: Option<u32>) -> [u8; 5]
     ensures { result ≡ city_bytes city }
 {
-    match city {
-        None => [0; 5],
-        Some(city) => {
-            let [a, b, c, d] = city.to_be_bytes();
-            [1, a, b, c, d]
-        }
+    let mut value = [0; 5];
+    if let Some(city) = city {
+        value[0] = 1;
+        BigEndian::write_u32(&mut value[1..], city);
     }
+    value
 }
 
 /// The value of the row of a pair of neighbours, which are told by their places.
 pub fn pair_value(pair: (u32, u32)) -> [u8; 8]
     ensures { result ≡ pair_bytes pair }
 {
-    let [a, b, c, d] = pair.0.to_be_bytes();
-    let [e, f, g, h] = pair.1.to_be_bytes();
-    [a, b, c, d, e, f, g, h]
+    let mut value = [0; 8];
+    BigEndian::write_u32(&mut value[..4], pair.0);
+    BigEndian::write_u32(&mut value[4..], pair.1);
+    value
 }
 
 /// The number of 8 bytes, the highest first.
@@ -119,9 +122,7 @@ pub fn eight(bytes: &[u8]) -> u64
     requires { length bytes.now ≡ 8 }
     ensures { in_eight result ≡ bytes.now }
 {
-    u64::from_be_bytes([
-        bytes[0], bytes[1], bytes[2], bytes[3], bytes[4], bytes[5], bytes[6], bytes[7],
-    ])
+    BigEndian::read_u64(bytes)
 }
 
 /// The number of 4 bytes, the highest first.
@@ -129,7 +130,7 @@ fn four(bytes: &[u8]) -> u32
     requires { length bytes.now ≡ 4 }
     ensures { in_four result ≡ bytes.now }
 {
-    u32::from_be_bytes([bytes[0], bytes[1], bytes[2], bytes[3]])
+    BigEndian::read_u32(bytes)
 }
 
 /// The number of 2 bytes, the highest first.
@@ -137,7 +138,7 @@ pub fn two(bytes: &[u8]) -> u16
     requires { length bytes.now ≡ 2 }
     ensures { in_two result ≡ bytes.now }
 {
-    u16::from_be_bytes([bytes[0], bytes[1]])
+    BigEndian::read_u16(bytes)
 }
 
 /// The counters that a row's value says; None where it says none.
