@@ -1,5 +1,6 @@
-//! What only the clerk's own calls show, tried on stores in memory; the gate of a served stream; a gallery; and served commands,
-//! loads and openings at a device that stops or fails at one of its calls, and the desk that is found then.
+//! What only the clerk's own calls show, tried on stores in memory; the gate of a served stream; a gallery; two streams at the
+//! seats of one office; and served commands, loads and openings at a device that stops or fails at one of its calls, and the desk
+//! that is found then.
 #![tactic(auto)]
 
 #[cfg(test)]
@@ -12,6 +13,8 @@ mod gates;
 mod loads;
 #[cfg(test)]
 mod openings;
+#[cfg(test)]
+mod seated;
 #[cfg(test)]
 mod shown;
 #[cfg(test)]

@@ -1,0 +1,17 @@
+-- What is recorded of a device in memory owns nothing, so it may go to another thread.
+use denote.Param.Send.{IsSend, IsSync, sendable, owning_send, whole-keyless}
+use Rattle.std.proofs.Crossing.{crosses}
+use Rattle.sector_memory.specs.contracts.past.Past as Past
+use Rattle.sector_memory.specs.contracts.memory.MemoryDevice as MemoryDevice
+
+pub past_send : IsSend Past.the_row
+past_send = owning_send Past.the_type (search sendable, tt) (λ d. tt) (λ k x w. tt)
+
+pub past_sync : IsSync Past.the_row
+past_sync = record { shared = λ d b o κ q. whole-keyless _ _ past_send.owned q d b o }
+
+pub memory_send : IsSend MemoryDevice.the_row
+memory_send = search (sendable, crosses, past_send) depth 40
+
+pub memory_sync : IsSync MemoryDevice.the_row
+memory_sync = search (sendable, crosses, past_sync) depth 40
