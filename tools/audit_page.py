@@ -22,8 +22,8 @@ svg text { font: 12px "DejaVu Sans", Verdana, sans-serif; fill: #1b1b1b; }
 ul.codes { list-style: none; display: flex; flex-wrap: wrap; gap: 0.4rem; padding: 0; margin: 0.4rem 0; }
 ul.codes li { border: 1px solid #777; border-radius: 0.3rem; padding: 0 0.5rem; font-variant-numeric: tabular-nums; }
 pre { white-space: pre-wrap; overflow-wrap: anywhere; font-size: 0.8rem; background: #f4f4f4; padding: 0.6rem; }
-@media (max-width: 40rem) { .clauses thead { display: none; } .clauses tr { display: block; border-bottom: 1px solid #ccc; }
-  .clauses th, .clauses td { display: block; border: 0; padding: 0.1rem 0; } .clauses tr { padding: 0.5rem 0; } }
+@media (max-width: 40rem) { .stacks thead { display: none; } .stacks tr { display: block; border-bottom: 1px solid #ccc; }
+  .stacks th, .stacks td { display: block; border: 0; padding: 0.1rem 0; } .stacks tr { padding: 0.5rem 0; } }
 @media print { :root { font-size: 11px; } body { max-width: none; padding: 0; } h2 { break-after: avoid; }
   tr, figure.small { break-inside: avoid; } thead { display: table-header-group; }
   svg, .verdict, pre { print-color-adjust: exact; -webkit-print-color-adjust: exact; } }
@@ -157,7 +157,7 @@ def clauses_part(report):
         rows.append((f'{escape(clause.title)}<small>{escape(section)}</small>', f'{escape(clause.law[0].upper() + clause.law[1:])}.',
                      element('span', ends, class_='is-' + ends.replace(' ', '-')), numbers))
     heads = [(text, False) for text in ('Clause', 'What it asks', 'Result', 'By these numbers')]
-    return table('Whole numbers decide each clause; nothing is rounded in it.', heads, rows, class_='clauses')
+    return table('Whole numbers decide each clause; nothing is rounded in it.', heads, rows, class_='stacks')
 
 
 def people_part(report):
