@@ -7,3 +7,4 @@ pub mod Turns
 pub mod WholeDesks
 mod Shown
 mod Seals
+mod PlanNumbers

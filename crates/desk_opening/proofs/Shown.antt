@@ -17,6 +17,7 @@ use Rattle.store_rows.specs.Order.{key_cmp}
 use Rattle.store_rows.specs.Values.{plan_bytes}
 use Rattle.store_rows.specs.declared.value.PlanRow.{PlanRow}
 use Rattle.store_rows.specs.Rows.{KeyMap, Lacks}
+use Rattle.store_rows.proofs.OneGeography.{no_value}
 use Rattle.store_rows.specs.Changes.{cases_key, other_row, plan_row_of}
 use Rattle.store_rows.specs.Frames.{differs, itself}
 use Rattle.desk_opening.specs.Opening.{ArePlansShown, HasNothing, IsAdded, IsNotGone, IsShown, IsShownAt}
@@ -84,5 +85,5 @@ all_shown m taken plans rows shown name = shown_at m name (find key_cmp (key_of 
 
 -- where nothing stands, nothing is shown
 pub nothing_shown : {E : Type 0} (m : KeyMap) (r : Result Desk E) → IfOk r (λ d. d ≡ new_desk) → OnOk r (HasNothing m) → IfOk r (IsShown m)
-nothing_shown m (Ok d) is none = subst (IsShown m) (sym is) (record { ground = none.ground; plans = λ name. subst (IsShownAt m name) (sym (get-empty name_cmp name)) (none.plans name) })
+nothing_shown m (Ok d) is none = subst (IsShown m) (sym is) (record { ground = none.ground; plans = λ name. subst (IsShownAt m name) (sym (get-empty name_cmp name)) (none.plans name); apart = λ name other number is also. absurd (no_value (plan_bytes is.plan) (sym is.row ∙ none.plans name)) })
 nothing_shown m (Err e) is none = tt

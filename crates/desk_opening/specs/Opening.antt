@@ -1,5 +1,5 @@
 -- What is read back of a desk row by row, and why it is not.
-use Rattle.std.specs.Prelude.{◌≡◌, ◌⊎◌, ◌<◌, ◌^◌, ℕ, List, true, Option, Some, None}
+use Rattle.std.specs.Prelude.{◌≡◌, ◌⊎◌, ◌<◌, ◌^◌, ℕ, List, [], ◌∷◌, ◌++◌, true, Contains, Option, Some, None}
 use Rattle.std.specs.FinMap.{FinMap, get, insert, len, get as row_at}
 use Rattle.sector_device.specs.declared.SectorDevice.{Ghosts}
 use Rattle.desk_model.specs.Geography.{Ground}
@@ -18,7 +18,7 @@ use Rattle.store_rows.specs.declared.value.SealRow.{SealRow}
 use Rattle.row_table.specs.Reading.{StandsAs}
 use Rattle.store_rows.specs.Rows.{KeyMap, Has, Lacks}
 use Rattle.store_rows.specs.DeskRows.{IsDesk}
-use Rattle.store_rows.specs.Tidy.{Tidy}
+use Rattle.store_rows.specs.Tidy.{IsNumbered, Tidy}
 use Rattle.store_rows.specs.Changes.{desk_with, plan_row_of}
 use Rattle.store_check.specs.Numbers.{HasNumbersBelow}
 use Rattle.desk_pages.specs.Desks.{InTxn, IsSized, IsWithinLimits}
@@ -59,6 +59,34 @@ pub record IsKeptPlan (row : Row) (m : KeyMap) : Type 0 where
   pub fits : plan.number < 2 ^ 64
   pub value : row.value ≡ plan_bytes plan
   pub kept : Lacks m (retired plan.number)
+
+-- no plan was read that has the number of the one whose row this is
+abbrev pub IsUnused : List ℕ → Row → Type 0
+IsUnused numbers row = (p : PlanRow) → p.number < 2 ^ 64 → row.value ≡ plan_bytes p → Contains numbers p.number → ⊥
+
+-- that number was noted behind those of the plans before it
+pub record IsNoted (row : Row) (old new : List ℕ) : Type 0 where
+  pub plan : PlanRow
+  pub fits : plan.number < 2 ^ 64
+  pub value : row.value ≡ plan_bytes plan
+  pub unused : Contains old plan.number → ⊥
+  pub is : new ≡ old ++ plan.number ∷ []
+
+abbrev pub NoteErr : Row → List ℕ → TreeError → Type 0
+NoteErr row numbers DeviceFault = (p : PlanRow) → p.number < 2 ^ 64 → row.value ≡ plan_bytes p → (Contains numbers p.number → ⊥) → ⊥
+NoteErr row numbers Halted = ⊥
+NoteErr row numbers NoPages = ⊥
+NoteErr row numbers TooDeep = ⊥
+NoteErr row numbers Memory = Unit {0}
+
+-- the row is that of a plan of the desk that isn't among these, nor its number among theirs
+pub record IsFreshPlan (g : Ground) (plans : FinMap name_cmp Plan) (numbers : List ℕ) (row : Row) (m : KeyMap) (plan : List ℕ × Plan) : Type 0 where
+  pub new : IsNewPlan g plans row m plan
+  pub unused : IsUnused numbers row
+
+-- each number is that of one plan
+abbrev pub ArePlansApart : KeyMap → Type 0
+ArePlansApart m = (name other : List ℕ) (number : ℕ) → IsNumbered m name number → IsNumbered m other number → name ≡ other
 
 -- the sealed load is none of those that were begun
 abbrev pub IsSealEnded : KeyMap → Type 0
@@ -118,6 +146,7 @@ IsGroundShown m (Some g) = Lacks m seal → ⊥
 pub record IsShown (m : KeyMap) (d : Desk) : Type 0 where
   pub ground : IsGroundShown m d.geography
   pub plans : ArePlansShown m d.plans
+  pub apart : ArePlansApart m
 
 -- No number in use is one that comes next, the sealed load is none that was begun, and what the rows of plans and the seal say is shown.
 pub record IsReadFrom (m : KeyMap) (d : Desk) : Type 0 where

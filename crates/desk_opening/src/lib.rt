@@ -5,6 +5,7 @@ mod desks;
 mod entries;
 mod marks;
 mod none;
+mod numbers;
 mod plans;
 mod rows;
 

@@ -11,9 +11,10 @@ ghost use Rattle.row_table.specs.Appending.{AppendErr};
 ghost use Rattle.desk_catalogue.specs.Kept.{AreWhole};
 ghost use Rattle.plan_table.specs.Laws.{RowFits};
 ghost use Rattle.desk_opening.specs.Reading.{HasRead};
-ghost use Rattle.desk_opening.specs.Opening.{ArePlans, ArePlansShown, IsAdded, IsNewPlan, IsNotGone};
+ghost use Rattle.desk_opening.specs.Opening.{ArePlans, ArePlansApart, ArePlansShown, IsAdded, IsFreshPlan, IsNoted, IsNewPlan, IsNotGone};
 
 use crate::marks::refuse_gone;
+use crate::numbers::note_number;
 use crate::plans::add_plan;
 use btree_scan::{Row, Scan, row_limit};
 use desk_catalogue::catalogue::PLAN_LIMIT;
@@ -100,7 +101,7 @@ fn add_named<D: SectorDevice>(
     add_plan(alloc, txn, pages, geography, cuts, plans, name, &plan)
 }
 
-/// These plans with the one whose row was taken.
+/// These plans with the one whose row was taken. Its number is noted.
 fn add_row<D: SectorDevice>(
     alloc: Global,
     txn: &Txn,
@@ -109,15 +110,18 @@ fn add_row<D: SectorDevice>(
     cuts: &[Cut],
     plans: &Plans,
     row: &Row,
+    numbers: &mut Vec<u64>,
 ) -> Result<Plans, TreeError>
     requires begun { txn_pages txn.now ≡ count_of pages.old }
     requires cut { cuts.now ≡ cuts_of geography.now }
     ensures quiet { IsQuiet pages.old pages.new }
     ensures whole { IfOk result (λ all. AreWhole (Some geography.now) plans.now → AreWhole (Some geography.now) all) }
+    ensures noted { OnOk result (IsNoted row.now numbers.old.items numbers.new.items) }
     ensures kept { (disk_in pages.new).is_honest → (m : KeyMap) → InTxn txn.now (stored pages.old) m → OnOk result (IsNotGone row.now m) }
     ensures added { IfOk result (λ all. IsAdded plans.now row.now all) }
-    ensures read { MatchResult result (λ all. HasRead (IsNewPlan geography.now plans.now row.now) (λ plan. map_of.insert plans.now plan.0 plan.1) txn.now pages.old pages.new all) (λ e. AppendErr (IsNewPlan geography.now plans.now row.now) txn.now pages.old pages.new e) }
+    ensures read { MatchResult result (λ all. HasRead (IsFreshPlan geography.now plans.now numbers.old.items row.now) (λ plan. map_of.insert plans.now plan.0 plan.1) txn.now pages.old pages.new all) (λ e. AppendErr (IsFreshPlan geography.now plans.now numbers.old.items row.now) txn.now pages.old pages.new e) }
 {
+    note_number(row, numbers)?;
     refuse_gone(txn, pages, row)?;
     add_named(alloc, txn, pages, geography, cuts, plans, row)
 }
@@ -132,6 +136,7 @@ pub(crate) fn read_plans<D: SectorDevice>(
     requires begun { txn_pages txn.now ≡ count_of pages.old }
     ensures quiet { IsQuiet pages.old pages.new }
     ensures whole { IfOk result (AreWhole (Some geography.now)) }
+    ensures apart { (disk_in pages.new).is_honest → (m : KeyMap) → InTxn txn.now (stored pages.old) m → OnOk result (ArePlansApart m) }
     ensures shown { (disk_in pages.new).is_honest → (m : KeyMap) → InTxn txn.now (stored pages.old) m → IfOk result (λ plans. ArePlansShown m plans) }
     ensures read { MatchResult result (λ plans. HasRead (ArePlans geography.now) (λ all. all) txn.now pages.old pages.new plans) (λ e. AppendErr (ArePlans geography.now) txn.now pages.old pages.new e) }
 {
@@ -139,6 +144,7 @@ pub(crate) fn read_plans<D: SectorDevice>(
         return Err(TreeError::Memory);
     };
     let mut plans = Plans::new();
+    let mut numbers = Vec::new(alloc);
     let prefix = Key::plans();
     let mut scan = Scan::new(prefix.as_slice());
     let mut row = Row::empty();
@@ -149,7 +155,16 @@ pub(crate) fn read_plans<D: SectorDevice>(
                 Some(fault) => return Err(fault),
             }
         }
-        plans = add_row(alloc, txn, pages, geography, cuts.as_slice(), &plans, &row)?;
+        plans = add_row(
+            alloc,
+            txn,
+            pages,
+            geography,
+            cuts.as_slice(),
+            &plans,
+            &row,
+            &mut numbers,
+        )?;
     }
     Err(TreeError::DeviceFault)
 }

@@ -96,4 +96,5 @@ returns-in-Ok-clause-shown g c honest m holds =
     subst (λ (d : Desk). IsShown m d) (sym c.restored.ensures) (record {
       ground = λ lacks. some_ground _ (sym c.in-Some.is ∙ c.in_ok-ground.ensures.read then m None holds lacks);
       plans = c.in_ok-plans.ensures.shown honest m still;
+      apart = c.in_ok-plans.ensures.apart honest m still;
     })

@@ -12,6 +12,7 @@ use Rattle.store_rows.specs.Rows.{KeyMap}
 use Rattle.desk_opening.specs.Opening.{ArePlans}
 use Rattle.desk_opening.proofs.Parts.{Plans, AreRead}
 use Rattle.desk_opening.proofs.Shown.{AreShown}
+use Rattle.desk_opening.proofs.PlanNumbers.{AreNoted}
 use Rattle.desk_opening.proofs.rows.read_plans.Given as goal
 
 abbrev pub invariant-loop-taken : goal.invariant-loop-taken
@@ -21,5 +22,5 @@ invariant-loop-taken g l = record {
   fault : fault_in l.scan ≡ None;
   whole : AreWhole (Some l.geography) l.plans;
   taken : (disk_in l.pages).is_honest → (m : KeyMap) → InTxn l.txn (stored l.fn.pages) m →
-      (rows : List Entry) × (length rows ≡ l.taken) × HasTaken plans_prefix rows l.scan (entries m) × ((all : Plans) → ArePlans l.geography m all → AreRead rows l.plans all) × AreShown m rows l.plans;
+      (rows : List Entry) × (length rows ≡ l.taken) × HasTaken plans_prefix rows l.scan (entries m) × ((all : Plans) → ArePlans l.geography m all → AreRead rows l.plans all) × AreShown m rows l.plans × AreNoted rows l.numbers.items;
 }
