@@ -242,17 +242,6 @@ impl<J: Room> Past<J> {
         self.number
     }
 
-    /// The same beginning.
-    pub fn again(&self) -> Past<J>
-        ensures { result ≡ self.now }
-    {
-        Past {
-            number: self.number,
-            seen: self.seen.again(),
-            of: PhantomData,
-        }
-    }
-
     /// Whether it is no longer than another, which it then begins.
     pub fn begins(&self, other: &Past<J>) -> bool
         ensures yes { IsTrue result → IsPrefix self.now other.now }
