@@ -11,6 +11,11 @@ pub after_more : (d : Desk) (commands : List Command) (c : Command) → after d 
 after_more d [] c = refl
 after_more d (x ∷ xs) c = after_more (step d x).1 xs c
 
+-- the commands that begin such a list
+pub accepted_first : (d : Desk) (commands more : List Command) → AreAccepted d (commands ++ more) → AreAccepted d commands
+accepted_first d [] more all = tt
+accepted_first d (x ∷ xs) more all = (all.0, accepted_first (step d x).1 xs more all.1)
+
 pub accepted_more : (d : Desk) (commands : List Command) (c : Command) → AreAccepted d commands → IsAcceptance (step (after d commands) c).0 → AreAccepted d (commands ++ c ∷ [])
 accepted_more d [] c so_far one = (one, tt)
 accepted_more d (x ∷ xs) c so_far one = (so_far.0, accepted_more (step d x).1 xs c so_far.1 one)

@@ -19,6 +19,10 @@ abbrev pub AreAccepted : Desk → List Command → Type 0
 AreAccepted d [] = ⊤
 AreAccepted d (c ∷ commands) = IsAcceptance (step d c).0 × AreAccepted (step d c).1 commands
 
+-- a desk after commands from this one on, each accepted after those before it
+abbrev pub IsRunFrom : Desk → Desk → Type 0
+IsRunFrom first d = (commands : List Command) × AreAccepted first commands × (d ≡ after first commands)
+
 -- What a command does to what is shown, and to that with what is pending behind it. One that is accepted is joined to both, where
 -- nothing was pending. One that the desk accepts, but whose commit met a fault, is pending then. No other does anything.
 pub record Joins (first : Desk) (old : List Command × List Command) (c : Command) (reply : Reply) (new : List Command × List Command) : Type 0 where

@@ -165,6 +165,7 @@ impl<J: Room, D: SectorDevice> Front<J, D> {
     pub fn close<R: Wait>(self, rt: &R) -> Clerk<D>
         ensures clerk { IsClerk J.first self result }
         ensures kept { J.sound → Keeps result }
+        ensures accepted { AreAccepted J.first self.shown }
     {
         let Front { clerk, shower } = self;
         shower.close(rt);

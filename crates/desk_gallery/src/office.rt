@@ -2,6 +2,7 @@
 ghost use Rattle.std.specs.Prelude.{◌≡◌, []};
 ghost use Rattle.desk_store.specs.Clerks.{desk_of, Keeps};
 ghost use Rattle.desk_gallery.specs.After.{after};
+ghost use Rattle.desk_gallery.specs.Working.{IsRunFrom};
 
 use crate::book::Room;
 use crate::front::Front;
@@ -32,9 +33,10 @@ impl<J: Room, D: SectorDevice> Office<J, D> {
         self.front.lock(rt)
     }
 
-    /// The clerk, once nobody has the front.
+    /// The clerk, once nobody has the front. Its desk is what commands led to that were accepted one after the other.
     pub fn close<R: Wait>(self, rt: &R) -> Clerk<D>
-        ensures { J.sound → Keeps result }
+        ensures kept { J.sound → Keeps result }
+        ensures ran { IsRunFrom J.first (desk_of result) }
     {
         let Office { front } = self;
         front.into_inner().close(rt)

@@ -6,7 +6,8 @@ use Rattle.command_output.specs.declared.status.Status.{Status}
 use Rattle.command_output.specs.declared.status.Status.TheVariants as status
 use Rattle.command_output.specs.Writing.{Written, Writes, Told}
 use Rattle.desk_store.specs.declared.clerk.Clerk.{Clerk}
-use Rattle.desk_store.specs.Clerks.{is_halted, Keeps}
+use Rattle.desk_store.specs.Clerks.{desk_of, is_halted, Keeps}
+use Rattle.desk_gallery.specs.Working.{IsRunFrom}
 use Rattle.store_command.specs.Filling.{IsOpened, IsUnopened}
 use Rattle.store_command.specs.Telling.{store_line, status_of as status_of_store}
 use Rattle.store_command.specs.declared.fault.StoreFault.{StoreFault}
@@ -59,12 +60,14 @@ module _ {D O : Type 0} (g : Ghosts D) (opens : O → List ℕ → Result D Stor
   OpensStore before name (Ok clerk) after = IsOpen before name clerk after
   OpensStore before name (Err fault) after = opens before name (Err fault) after ⊎ IsNoStore before name fault after
 
-  -- the store of the name was opened and served; who has it last keeps it if who opened it did
+  -- the store of the name was opened and served; who has it last keeps it if who opened it did, and has the desk after commands that
+  -- were accepted one after the other
   pub record IsServed (before : O) (name : List ℕ) (has_halted : Bool) (after : O) : Type 0 where
     pub first : Clerk D g
     pub found : IsOpen before name first after
     pub last : Clerk D g
     pub keeps : Keeps first → Keeps last
+    pub ran : IsRunFrom (desk_of first) (desk_of last)
     pub halted : is_halted last ≡ has_halted
 
   -- where memory is refused before, nothing is opened

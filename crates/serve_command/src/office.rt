@@ -1,6 +1,7 @@
 //! A clerk's desk, served at the seats of an office.
 ghost use Rattle.std.specs.Prelude.{◌≡◌, ◌≤◌, IfOk};
 ghost use Rattle.desk_store.specs.Clerks.{desk_of, Keeps};
+ghost use Rattle.desk_gallery.specs.Working.{IsRunFrom};
 
 use desk_catalogue::catalogue::Catalogue;
 use desk_gallery::book::{Opened, Room};
@@ -36,7 +37,8 @@ fn serve_named<
     requires same { desk_of clerk ≡ J.first }
     requires kept { J.sound → Keeps clerk }
     requires workers { 1 ≤ workers }
-    ensures { IfOk result (λ last. J.sound → Keeps last) }
+    ensures kept { IfOk result (λ last. J.sound → Keeps last) }
+    ensures ran { IfOk result (λ last. IsRunFrom J.first (desk_of last)) }
 {
     let (shower, visitors) = match Gallery::new::<J>(alloc, opened, catalogue, workers as usize) {
         Ok(gallery) => gallery,
@@ -55,7 +57,8 @@ fn serve_named<
     }
 }
 
-/// Serves what a clerk keeps by so many workers, until no further stream comes: the clerk as it then is. Err where memory is refused,
+/// Serves what a clerk keeps by so many workers, until no further stream comes: the clerk as it then is, whose desk is what commands
+/// led to that were accepted one after the other. Err where memory is refused,
 /// and then nothing was served.
 pub fn serve_clerk<
     D: SectorDevice + Drop + Send + Sync,
@@ -69,7 +72,8 @@ pub fn serve_clerk<
     arrivals: &A,
 ) -> Result<Clerk<D>, AllocError>
     requires { 1 ≤ workers }
-    ensures { IfOk result (λ last. Keeps clerk → Keeps last) }
+    ensures kept { IfOk result (λ last. Keeps clerk → Keeps last) }
+    ensures ran { IfOk result (λ last. IsRunFrom (desk_of clerk) (desk_of last)) }
 {
     let catalogue = clerk.published()?;
     serve_named::<Brand, _, _, _>(

@@ -28,7 +28,8 @@ returns-in-Ok-serve_clerk g c =
       first = c.in-Ok-open_store.clerk;
       found = c.in-Ok-open_store.ensures;
       last = c.in-Ok-serve_clerk.last;
-      keeps = c.in-Ok-serve_clerk.ensures;
+      keeps = c.in-Ok-serve_clerk.ensures.kept;
+      ran = c.in-Ok-serve_clerk.ensures.ran;
       halted = refl;
     }))
 
