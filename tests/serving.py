@@ -54,15 +54,16 @@ def free_port():
         return free.getsockname()[1]
 
 
-def serving(store, port, connections=1, workers=1):
+def serving(store, port, connections=1, workers=1, idle=None):
     """The words that serve a store."""
-    return ['serve', store, '--port', str(port), '--workers', str(workers), '--connections', str(connections)]
+    words = ['serve', store, '--port', str(port), '--workers', str(workers), '--connections', str(connections)]
+    return words if idle is None else [*words, '--idle', str(idle)]
 
 
-def start(store, connections=1, workers=1, **more):
+def start(store, connections=1, workers=1, idle=None, **more):
     """Serves a store to so many connections: the process, its port, and whether it listens."""
     port = free_port()
-    process = subprocess.Popen([program, *serving(store, port, connections, workers)], stdin=subprocess.DEVNULL,
+    process = subprocess.Popen([program, *serving(store, port, connections, workers, idle)], stdin=subprocess.DEVNULL,
                                stdout=subprocess.PIPE, stderr=subprocess.PIPE, **more)
     line = process.stdout.readline()
     if line not in (b'', b'listening on 127.0.0.1:%d\n' % port):

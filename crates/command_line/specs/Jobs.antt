@@ -39,5 +39,5 @@ HasPaths found (Load store census gal) = AreCensusPaths found census
     × (first_value found (codes "store") ≡ Some store.now)
     × (first_value found (codes "gal") ≡ Some gal.now)
 HasPaths found (Serve store serving) = (first_value found (codes "store") ≡ Some store.now)
-    × (serving_read (first_value found (codes "port")) (first_value found (codes "workers")) (first_value found (codes "connections")) ≡ Some serving)
+    × (serving_read (first_value found (codes "port")) (first_value found (codes "workers")) (first_value found (codes "connections")) (first_value found (codes "idle")) ≡ Some serving)
 HasPaths found (Sweep store) = first_value found (codes "store") ≡ Some store.now

@@ -39,25 +39,34 @@ pub record IsSize (size : Size) : Type 0 where
   pub least : 256 ≤ size.journal_pages
   pub most : size.journal_pages ≤ 65536
 
--- how a store is served
-abbrev pub serving_with : (port workers connections : Option ℕ) → Option Serving
-serving_with None workers connections = None
-serving_with (Some port) None connections = None
-serving_with (Some port) (Some workers) None = None
-serving_with (Some port) (Some workers) (Some connections) = Some (record { port = port; workers = workers; connections = connections })
+-- for how many seconds a connection may be idle, 60 where nothing says it
+abbrev pub idle_read : Option (List ℕ) → Option ℕ
+idle_read None = Some 60
+idle_read (Some text) = number_to 86400 text
 
--- the port, and the numbers of workers and connections, where all are there and in range
-abbrev pub serving_read : (port workers connections : Option (List ℕ)) → Option Serving
-serving_read None workers connections = None
-serving_read (Some port) None connections = None
-serving_read (Some port) (Some workers) None = None
-serving_read (Some port) (Some workers) (Some connections) = serving_with (number_to 65535 port) (number_to 64 workers) (number_to 4294967295 connections)
+-- how a store is served
+abbrev pub serving_with : (port workers connections idle : Option ℕ) → Option Serving
+serving_with None workers connections idle = None
+serving_with (Some port) None connections idle = None
+serving_with (Some port) (Some workers) None idle = None
+serving_with (Some port) (Some workers) (Some connections) None = None
+serving_with (Some port) (Some workers) (Some connections) (Some idle) = Some (record { port = port; workers = workers; connections = connections; idle = idle })
+
+-- the port, the numbers of workers and connections, and the seconds of an idle one, where all are there and in range
+abbrev pub serving_read : (port workers connections idle : Option (List ℕ)) → Option Serving
+serving_read None workers connections idle = None
+serving_read (Some port) None connections idle = None
+serving_read (Some port) (Some workers) None idle = None
+serving_read (Some port) (Some workers) (Some connections) idle =
+    serving_with (number_to 65535 port) (number_to 64 workers) (number_to 4294967295 connections) (idle_read idle)
 
 pub record IsServing (serving : Serving) : Type 0 where
   pub port : 1 ≤ serving.port
   pub working : 1 ≤ serving.workers
   pub few : serving.workers ≤ 64
   pub some : 1 ≤ serving.connections
+  pub idle : 1 ≤ serving.idle
+  pub day : serving.idle ≤ 86400
 
 -- the number of workers, one where nothing says it
 abbrev pub workers_read : Option (List ℕ) → Option ℕ

@@ -39,7 +39,7 @@ Statuses:
 
 pub(crate) const SERVE_HELP: &str =
     "It listens on 127.0.0.1 and ends once so many connections were served. Each worker serves one connection at a time: commands go
-one after the other, and what is read waits for nobody.
+one after the other, and what is read waits for nobody. One that brings no byte, or takes none, for the idle seconds ends alone.
 
 Example, of a store that was formatted and loaded:
   ./plandesk serve state.store --port 8080 --workers 4 --connections 1000

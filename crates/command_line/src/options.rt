@@ -2,7 +2,7 @@
 ghost use Rattle.std.specs.Prelude.{◌≡◌, ◌≤◌, IfSome, IsSome, IsTrue, IsSomeAnd, is_some};
 ghost use Rattle.std.specs.Option.{option_copied};
 ghost use Rattle.audit_report.specs.Clauses.{is_house as is_house_kind};
-ghost use Rattle.command_line.specs.Options.{number_to as number_in, senate_read, terms_read, form_read, AreTerms, IsForm, IsBeside, workers_read, at_least, size_read, IsSize, serving_read, IsServing};
+ghost use Rattle.command_line.specs.Options.{number_to as number_in, senate_read, terms_read, form_read, AreTerms, IsForm, IsBeside, workers_read, at_least, size_read, IsSize, idle_read, serving_read, IsServing};
 
 use desk_model::kind::Kind;
 
@@ -40,12 +40,13 @@ pub struct Size {
     pub journal_pages: u32,
 }
 
-/// On which port a store is served, by how many workers, and to how many connections.
+/// On which port a store is served, by how many workers, and to how many connections, each of which may be idle for so many seconds.
 #[derive(Clone, Copy)]
 pub struct Serving {
     pub port: u16,
     pub workers: u16,
     pub connections: u32,
+    pub idle: u32,
 }
 
 /// The number that digits alone write, where it is 1 to `most`. Leading zeros are digits like others.
@@ -107,13 +108,26 @@ pub fn read_size(sectors: Option<&[u8]>, journal: Option<&[u8]>) -> Option<Size>
     })
 }
 
+/// The seconds for which a word lets a connection be idle, 1 to 86,400, a day: digits alone. 60 where there is no word.
+fn read_idle(word: Option<&[u8]>) -> Option<u32>
+    ensures value { result ≡ idle_read (option_copied word.entry) }
+    ensures some { IfSome result (λ n. 1 ≤ n) }
+    ensures few { IfSome result (λ n. n ≤ 86400) }
+{
+    match word {
+        None => Some(60),
+        Some(text) => number_up_to(86_400, text),
+    }
+}
+
 /// How a store is to be served. `None` where a number is missing, isn't digits alone, or is out of its range.
 pub fn read_serving(
     port: Option<&[u8]>,
     workers: Option<&[u8]>,
     connections: Option<&[u8]>,
+    idle: Option<&[u8]>,
 ) -> Option<Serving>
-    ensures value { result ≡ serving_read (option_copied port.entry) (option_copied workers.entry) (option_copied connections.entry) }
+    ensures value { result ≡ serving_read (option_copied port.entry) (option_copied workers.entry) (option_copied connections.entry) (option_copied idle.entry) }
     ensures valid { IfSome result IsServing }
 {
     let port = port?;
@@ -122,10 +136,12 @@ pub fn read_serving(
     let port = number_to(65_535, port)?;
     let workers = number_to(64, workers)?;
     let connections = number_up_to(4_294_967_295, connections)?;
+    let idle = read_idle(idle)?;
     Some(Serving {
         port,
         workers,
         connections,
+        idle,
     })
 }
 

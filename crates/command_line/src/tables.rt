@@ -138,6 +138,13 @@ const SERVE: &[Entry] = &[
         1,
         4_294_967_295,
     ),
+    Entry::Beside(
+        "idle",
+        "SECONDS",
+        "How long a connection may be silent before it is ended: 1 to 86400, by default 60",
+        Values::Numbers(1, 86_400),
+        &[],
+    ),
 ];
 
 const SWEEP: &[Entry] = &[Entry::Store];

@@ -65,7 +65,7 @@ const WRONG_SIZE: &str =
     "error: a number of sectors is digits alone, 1 to 4294967295, and of journal pages 256 to 65536\n";
 
 const WRONG_SERVING: &str =
-    "error: a port is digits alone, 1 to 65535, a number of workers 1 to 64, and of connections 1 to 4294967295\n";
+    "error: a port is digits alone, 1 to 65535, a number of workers 1 to 64, of connections 1 to 4294967295, and of idle seconds 1 to 86400\n";
 
 fn memory() -> Mistake {
     Mistake {
@@ -161,6 +161,7 @@ fn serve_job<'a>(matches: &ArgMatches<'a>) -> Option<Job<'a>>
         bytes_of(matches.get_str("port")),
         bytes_of(matches.get_str("workers")),
         bytes_of(matches.get_str("connections")),
+        bytes_of(matches.get_str("idle")),
     )?;
     Some(Job::Serve(store, serving))
 }

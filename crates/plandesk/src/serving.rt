@@ -20,11 +20,16 @@ pub fn serve_desk<T: Threads + Wait + Sync>(
     name: &str,
     serving: Serving,
 ) -> Status
-    requires { 1 ≤ serving.workers }
+    requires workers { 1 ≤ serving.workers }
+    requires idle { 1 ≤ serving.idle }
 {
     let listener = TcpListener::bind(rt, (Ipv4Addr::LOCALHOST, serving.port)).ok();
     let listening = match &listener {
-        Some(listener) => Some(Listening::new(listener, serving.connections as u64)),
+        Some(listener) => Some(Listening::with_idle(
+            listener,
+            serving.connections as u64,
+            serving.idle,
+        )),
         None => None,
     };
     let mut stores = StoreFiles::new(rt);
