@@ -11,7 +11,8 @@ use command_progress::Progress;
 use desk_model::geography::Geography;
 use desk_store::clerk::Clerk;
 use desk_store::loads::LoadError;
-use geo_tables::Load;
+use geo_tables::{BATCH_ROWS, Load};
+use row_table::ROW_PAGES;
 use sector_device::SectorDevice;
 use std::alloc::Global;
 use std::sync::Arc;
@@ -22,11 +23,11 @@ fn batch_rows(journal_pages: u32) -> usize
     ensures few { result ≤ 512 }
     ensures fits { 26 ≤ journal_pages → 13 * (result + 1) ≤ journal_pages }
 {
-    let rows = journal_pages as usize / 13;
+    let rows = (journal_pages / ROW_PAGES) as usize;
     if rows < 2 {
         1
-    } else if rows > 512 {
-        512
+    } else if rows > BATCH_ROWS {
+        BATCH_ROWS
     } else {
         rows - 1
     }

@@ -1,4 +1,7 @@
-//! A desk is read back from the rows of a store.
+//! A desk is read back from the rows of a store: `read_desk(alloc, &txn, &mut pages)?`.
+//!
+//! The model is `IsDesk` and `Tidy` of store_rows. What a desk's rows say is read as that desk. Of rows that are no desk's, `IsReadFrom`
+//! says what is read: each plan whose row stands there, with a number of its own that is below the next, and no other.
 #![tactic(auto)]
 
 mod desks;

@@ -14,6 +14,7 @@ use desk_model::command::Command;
 use desk_model::reply::{Refusal, Reply};
 use page_store::Prepared;
 use plan_revisions::{Change, TreeError, command_rows, put_command};
+use row_table::ROW_PAGES;
 use sector_device::SectorDevice;
 use std::alloc::Global;
 use std::sync::Arc;
@@ -22,7 +23,7 @@ use std::sync::Arc;
 fn is_enough(rows: usize, pages: u32) -> bool
     ensures { IsTrue result ↔ (13 * rows ≤ pages) }
 {
-    rows <= pages as usize / 13
+    rows <= (pages / ROW_PAGES) as usize
 }
 
 /// Whether the device failed, or holds what no store has.

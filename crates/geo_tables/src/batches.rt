@@ -17,6 +17,9 @@ use page_store::Pages;
 use sector_device::SectorDevice;
 use std::alloc::Global;
 
+/// How many rows a batch may have at most.
+pub const BATCH_ROWS: usize = 512;
+
 /// Puts so many rows more of a load and commits them.
 fn stage<D: SectorDevice>(
     alloc: Global,

@@ -6,7 +6,7 @@
 //! ```text
 //! let mut load = begin_load(alloc, &mut pages, geography)?;
 //! while load.left() > 0 {
-//!     let rows = load.left().min(512);
+//!     let rows = load.left().min(BATCH_ROWS);
 //!     load_batch(alloc, &mut pages, &mut load, rows)?;
 //! }
 //! seal(alloc, &mut pages, load)
@@ -27,7 +27,7 @@ mod sealed;
 mod seals;
 mod starts;
 
-pub use batches::load_batch;
+pub use batches::{BATCH_ROWS, load_batch};
 pub use begins::begin_load;
 pub use error::LoadFault;
 pub use load::Load;

@@ -9,6 +9,7 @@ ghost use Rattle.geo_tables.specs.Starting.{IsStarted, StartErr, Leaves, FinishE
 use crate::error::LoadFault;
 use desk_pages::commit_txn;
 use page_store::{PageError, Pages, Txn};
+use row_table::ROW_PAGES;
 use sector_device::SectorDevice;
 use std::alloc::Global;
 
@@ -24,10 +25,10 @@ pub(crate) fn has_room<D: SectorDevice>(txn: &Txn, pages: &Pages<D>, rows: u32) 
     requires { rows ≤ 513 }
     ensures { IsTrue result ↔ ((13 * rows ≤ txn_free txn.now) × (13 * rows ≤ journal_of pages.now)) }
 {
-    if free_pages(txn) < 13 * rows {
+    if free_pages(txn) < ROW_PAGES * rows {
         return false;
     }
-    if pages.journal_pages() < 13 * rows {
+    if pages.journal_pages() < ROW_PAGES * rows {
         return false;
     }
     true

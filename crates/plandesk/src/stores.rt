@@ -16,7 +16,7 @@ use store_command::format::format;
 use store_command::load::{StateFiles, load};
 use store_command::stores::Stores;
 
-/// Makes and opens the files of stores in the file system.
+/// Makes, opens and closes the files of stores in the file system.
 #[derive(Drop)]
 pub struct StoreFiles<'a> {
     rt: &'a HostRuntime,
@@ -69,6 +69,8 @@ impl<'a> Stores<FileDevice<Unknown>> for StoreFiles<'a> {
 
     ghost opens = { λ _ _ _ _. Unit {0} };
 
+    ghost closes = { λ _ _ _. Unit {0} };
+
     fn make(&mut self, name: &str, sectors: u32) -> Result<FileDevice<Unknown>, StoreFault> {
         match FileDevice::create(self.rt, name, sectors, Unknown) {
             Ok(device) => Ok(device),
@@ -82,6 +84,11 @@ impl<'a> Stores<FileDevice<Unknown>> for StoreFiles<'a> {
             Ok(device) => Ok(device),
             Err(e) => Err(fault_of(e)),
         }
+    }
+
+    // A device's file closes where the device is dropped.
+    fn close(&mut self, device: FileDevice<Unknown>) {
+        drop(device)
     }
 }
 

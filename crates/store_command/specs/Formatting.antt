@@ -13,23 +13,27 @@ use Rattle.store_command.specs.Texts.{formatted_text}
 use Rattle.store_command.specs.declared.fault.StoreFault.{StoreFault}
 use Rattle.store_command.specs.declared.fault.StoreFault.TheVariants.{TooSmall, Memory}
 
-module _ {D O : Type 0} (g : Ghosts D) (makes : O → List ℕ → ℕ → Result D StoreFault → O → Type 0) where
-  -- a device of so many sectors was made under the name, and it is a store whose desk has no geography and no plan
+module _ {D O : Type 0} (g : Ghosts D) (makes : O → List ℕ → ℕ → Result D StoreFault → O → Type 0) (closes : O → D → O → Type 0) where
+  -- a device of so many sectors was made under the name, and was closed as a store whose desk has no geography and no plan
   pub record IsStore (before : O) (name : List ℕ) (sectors J : ℕ) (after : O) : Type 0 where
     pub device : D
-    pub made : makes before name sectors (Ok device) after
+    pub middle : O
+    pub made : makes before name sectors (Ok device) middle
     pub new : D
+    pub closed : closes middle new after
     pub size : (g.disk new).sectors ≡ sectors
     pub honest : (g.disk new).is_honest → (g.disk device).is_honest
     pub opens : (g.disk new).is_honest → OpensNew (g.disk new)
     pub room : home J + 64 ≤ sectors
 
-  -- one was made, and is no store, for this reason
+  -- one was made, and was closed as what is no store, for this reason
   pub record IsNoStore (before : O) (name : List ℕ) (sectors J : ℕ) (fault : StoreFault) (after : O) : Type 0 where
     pub device : D
-    pub made : makes before name sectors (Ok device) after
+    pub middle : O
+    pub made : makes before name sectors (Ok device) middle
     pub size : (g.disk device).sectors ≡ sectors
     pub new : D
+    pub closed : closes middle new after
     pub error : FormatError
     pub told : fault ≡ fault_of_format error
     pub why : FormatErr g J device new error

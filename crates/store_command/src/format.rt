@@ -23,21 +23,24 @@ fn make_store<D: SectorDevice + Drop, O: Stores<D>>(
 ) -> Result<Vec<u8>, StoreFault>
     requires least { 256 ≤ journal_pages }
     requires most { journal_pages ≤ 65536 }
-    ensures { Makes D.SectorDevice O.makes stores.old name.now sectors journal_pages result stores.new }
+    ensures { Makes D.SectorDevice O.makes O.closes stores.old name.now sectors journal_pages result stores.new }
 {
     if !has_room(sectors, journal_pages) {
         return Err(StoreFault::TooSmall);
     }
     let text = formatted_text(alloc, sectors, journal_pages)?;
     let mut device = stores.make(name, sectors)?;
-    match desk_pages::format(alloc, &mut device, journal_pages) {
+    let formatted = desk_pages::format(alloc, &mut device, journal_pages);
+    stores.close(device);
+    match formatted {
         Ok(()) => Ok(text),
         Err(e) => Err(format_fault(e)),
     }
 }
 
 /// Makes a store of so many sectors and journal pages in a new file, and prints both: 0. 4 where the store is refused, and 5 where
-/// memory is, with the fault told and nothing printed; 6 where the writing fails. Of too few sectors no file is made.
+/// memory is, with the fault told and nothing printed; 6 where the writing fails. Of too few sectors no file is made; one that
+/// is made is closed as the formatting left it.
 pub fn format<D: SectorDevice + Drop, O: Stores<D>, W: Sink, E: Sink>(
     alloc: Global,
     stores: &mut O,
@@ -49,7 +52,7 @@ pub fn format<D: SectorDevice + Drop, O: Stores<D>, W: Sink, E: Sink>(
 ) -> Status
     requires least { 256 ≤ journal_pages }
     requires most { journal_pages ≤ 65536 }
-    ensures { Formats D.SectorDevice O.makes stores.old stores.new name.now sectors journal_pages result (written_of W.contents W.failures writer.old) (written_of W.contents W.failures writer.new) (written_of E.contents E.failures errors.old) (written_of E.contents E.failures errors.new) }
+    ensures { Formats D.SectorDevice O.makes O.closes stores.old stores.new name.now sectors journal_pages result (written_of W.contents W.failures writer.old) (written_of W.contents W.failures writer.new) (written_of E.contents E.failures errors.old) (written_of E.contents E.failures errors.new) }
 {
     let given = make_store(alloc, stores, name, sectors, journal_pages);
     end_store(b"plandesk: format: WriteFault\n", given, writer, errors)
