@@ -1,13 +1,16 @@
 -- Worked answers of the sample desk.
-use Rattle.std.specs.Prelude.{◌≡◌, ℕ, List, [], ◌∷◌, Some, None, codes}
+use Rattle.std.specs.Prelude.{◌≡◌, ℕ, List, [], ◌∷◌, Option, Some, None, codes}
 use Rattle.std.specs.FinMap as map_of
 use Rattle.desk_model.specs.declared.kind.Kind.TheVariants.{Congress, Senate, House}
 use Rattle.desk_model.specs.declared.kind.Kind.{Kind}
+use Rattle.desk_model.specs.declared.companions.Companions.{Companions}
 use Rattle.desk_model.specs.declared.command.Command.TheVariants.{Create, Whole, Counties, Retire}
 use Rattle.desk_model.specs.declared.command.Query.TheVariants.{Plans, Blocks, Revision, Audit}
 use Rattle.desk_model.specs.declared.reply.Reply.TheVariants as reply
 use Rattle.desk_model.specs.declared.reply.Refusal.TheVariants.{NoPlan, NoRevision, PlanExists, Stale, NotWholeCounty, BadCompanion, NotSealed}
+use Rattle.desk_model.specs.Companions.{no_companions}
 use Rattle.desk_model.specs.Desk.{Plan, Desk}
+use Rattle.desk_model.specs.Subject.{AuditSubject}
 use Rattle.desk_model.specs.Step.{step, says, reports, answer, plan_row}
 use Rattle.desk_model.specs.Room.{need}
 use Rattle.desk_model.specs.Sample.{sample, sample_desk}
@@ -87,20 +90,33 @@ name_b = codes "b"
 abbrev pub kept : Kind → List ℕ → Plan
 kept kind districts = record { kind = kind; n = 2; revisions = districts ∷ [] }
 
--- the house plan a county by county, and the senate plan b of the two diagonals
-abbrev pub with_both : Desk
-with_both = record { geography = Some sample; plans = map_of.insert (map_of.insert map_of.empty name_a (kept House (1 ∷ 1 ∷ 2 ∷ 2 ∷ []))) name_b (kept Senate (1 ∷ 2 ∷ 2 ∷ 1 ∷ [])) }
+-- the house plan a county by county, and the plan b of the two diagonals
+abbrev pub with_diagonals : Kind → Desk
+with_diagonals kind = record { geography = Some sample; plans = map_of.insert (map_of.insert map_of.empty name_a (kept House (1 ∷ 1 ∷ 2 ∷ 2 ∷ []))) name_b (kept kind (1 ∷ 2 ∷ 2 ∷ 1 ∷ [])) }
 
--- a house plan is judged beside a senate plan, a senate plan alone; what isn't there is refused
+abbrev pub beside_b : Option (List ℕ × ℕ)
+beside_b = Some (name_b, 1)
+
+-- the house plan beside those companions
+abbrev pub house_subject : Companions (List ℕ) → AuditSubject
+house_subject beside = record { kind = House; n = 2; districts = 1 ∷ 1 ∷ 2 ∷ 2 ∷ []; beside = beside }
+
+-- a house plan is judged beside a senate plan and one for the congress, a senate plan alone; what isn't there is refused
 pub record AuditsAreFound : Type 0 where
-  pub beside : answer with_both (Audit name_a 1 (Some (name_b, 1)))
-      ≡ reports sample (record { kind = House; n = 2; districts = 1 ∷ 1 ∷ 2 ∷ 2 ∷ []; senate = Some (1 ∷ 2 ∷ 2 ∷ 1 ∷ []) })
-  pub alone : answer with_both (Audit name_b 1 None) ≡ reports sample (record { kind = Senate; n = 2; districts = 1 ∷ 2 ∷ 2 ∷ 1 ∷ []; senate = None })
-  pub no_plan : answer with_a (Audit name_b 1 None) ≡ says (reply.Refused NoPlan)
-  pub no_revision : answer with_both (Audit name_a 2 (Some (name_b, 0))) ≡ says (reply.Refused NoRevision)
-  pub no_companion : answer with_both (Audit name_a 1 (Some (name_b, 0))) ≡ says (reply.Refused BadCompanion)
-  pub of_house : answer with_both (Audit name_a 1 (Some (name_a, 1))) ≡ says (reply.Refused BadCompanion)
-  pub for_senate : answer with_both (Audit name_b 1 (Some (name_b, 1))) ≡ says (reply.Refused BadCompanion)
+  pub beside : answer (with_diagonals Senate) (Audit name_a 1 beside_b None)
+      ≡ reports sample (house_subject (record { senate = Some (1 ∷ 2 ∷ 2 ∷ 1 ∷ []); congress = None }))
+  pub beside_congress : answer (with_diagonals Congress) (Audit name_a 1 None beside_b)
+      ≡ reports sample (house_subject (record { senate = None; congress = Some (1 ∷ 2 ∷ 2 ∷ 1 ∷ []) }))
+  pub alone : answer (with_diagonals Senate) (Audit name_b 1 None None)
+      ≡ reports sample (record { kind = Senate; n = 2; districts = 1 ∷ 2 ∷ 2 ∷ 1 ∷ []; beside = no_companions })
+  pub no_plan : answer with_a (Audit name_b 1 None None) ≡ says (reply.Refused NoPlan)
+  pub no_revision : answer (with_diagonals Senate) (Audit name_a 2 (Some (name_b, 0)) (Some (name_b, 0))) ≡ says (reply.Refused NoRevision)
+  pub no_companion : answer (with_diagonals Senate) (Audit name_a 1 (Some (name_b, 0)) None) ≡ says (reply.Refused BadCompanion)
+  pub of_house : answer (with_diagonals Senate) (Audit name_a 1 (Some (name_a, 1)) None) ≡ says (reply.Refused BadCompanion)
+  pub for_senate : answer (with_diagonals Senate) (Audit name_b 1 beside_b None) ≡ says (reply.Refused BadCompanion)
+  pub of_senate : answer (with_diagonals Senate) (Audit name_a 1 None beside_b) ≡ says (reply.Refused BadCompanion)
+  pub second_missing : answer (with_diagonals Senate) (Audit name_a 1 beside_b (Some (name_b, 2))) ≡ says (reply.Refused BadCompanion)
+  pub for_congress : answer (with_diagonals Congress) (Audit name_b 1 None beside_b) ≡ says (reply.Refused BadCompanion)
 
 -- the room that commands need: 13 pages for a row
 pub record RoomIsCounted : Type 0 where

@@ -7,7 +7,7 @@ use Rattle.desk_model.specs.declared.geography.Pair.{Pair}
 
 -- a store keeps this many blocks at most
 abbrev pub block_limit : ℕ
-block_limit = 262144
+block_limit = 1048576
 
 -- The blocks, rising by number, and the pairs of neighbours. A block is told by its place in the list, from 0.
 pub record Ground : Type 0 where

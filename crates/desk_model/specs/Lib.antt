@@ -1,5 +1,6 @@
 pub mod Baf
 pub mod Block
+pub mod Companions
 pub mod Counties
 pub mod Cuts
 pub mod Desk

@@ -152,8 +152,8 @@ answer_at None d Blocks = says (reply.Refused NotSealed)
 answer_at (Some g) d Blocks = says (reply.Blocks (blocks_text g))
 answer_at None d (Revision name k) = says (reply.Refused NotSealed)
 answer_at (Some g) d (Revision name k) = says (revision_of g (map_of.get d.plans name) k)
-answer_at None d (Audit name k senate) = says (reply.Refused NotSealed)
-answer_at (Some g) d (Audit name k senate) = audit_of g (subject_of d (map_of.get d.plans name) k senate)
+answer_at None d (Audit name k senate congress) = says (reply.Refused NotSealed)
+answer_at (Some g) d (Audit name k senate congress) = audit_of g (subject_of d (map_of.get d.plans name) k (record { senate = senate; congress = congress }))
 
 -- what a query is answered, where there is memory
 abbrev pub answer : Desk → Query → Answer

@@ -43,10 +43,12 @@ pub enum Query {
         plan: PlanName,
         k: u32,
     },
-    /// The audit of a revision of a plan, of a house plan also beside a revision of a senate plan.
+    /// The audit of a revision of a plan: of a house plan also beside a revision of a senate plan, and of a house or senate plan
+    /// beside one of a plan for the congress.
     Audit {
         plan: PlanName,
         k: u32,
         senate: Option<(PlanName, u32)>,
+        congress: Option<(PlanName, u32)>,
     },
 }

@@ -10,7 +10,7 @@ use std::alloc::{AllocError, Global};
 use std::marker::Model;
 
 /// A geography has this many blocks at most.
-pub const BLOCK_LIMIT: usize = 262_144;
+pub const BLOCK_LIMIT: usize = 1_048_576;
 
 /// Two neighbours, by their places in the list of blocks, from 0, the smaller first.
 #[derive(Clone, Copy, Debug, PartialEq, Eq, PartialOrd, Ord)]

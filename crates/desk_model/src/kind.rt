@@ -1,6 +1,7 @@
 //! The kind of a plan.
 ghost use Rattle.std.specs.Prelude.{◌≡◌, ◌≤◌};
 ghost use Rattle.desk_model.specs.Kind.{kind_name, kind_named, most_districts as most_districts_of};
+ghost use Rattle.desk_model.specs.Companions.{takes};
 
 /// What a plan divides the state for (Iowa Code 42.4).
 #[derive(Clone, Copy, Debug, PartialEq, Eq)]
@@ -46,6 +47,17 @@ impl Kind {
         match self {
             Kind::Congress => 99,
             Kind::Senate | Kind::House => 999,
+        }
+    }
+
+    /// Whether a plan of the kind is audited beside a plan of that one.
+    pub fn takes(self, beside: Kind) -> bool
+        ensures { result ≡ takes beside self }
+    {
+        match beside {
+            Kind::Congress => self != Kind::Congress,
+            Kind::Senate => self == Kind::House,
+            Kind::House => false,
         }
     }
 }

@@ -3,6 +3,7 @@
 
 pub mod block;
 pub mod command;
+pub mod companions;
 pub mod cuts;
 pub mod decimal;
 pub mod examples;
