@@ -16,7 +16,7 @@ use Rattle.audit_report.specs.declared.clause.Clause.{Clause}
 use Rattle.audit_report.specs.declared.clause.Clause.TheVariants.{Complete}
 use Rattle.audit_report.specs.Clauses.{rank, RangeBreaks, IsNamed, AreExactlyClauses}
 use Rattle.audit_report.specs.Laws.{ReportIsOne}
-use Rattle.audit_report.specs.Report.{AreExtremes, IsRange, IsNesting}
+use Rattle.audit_report.specs.Report.{AreExtremes, IsRange, IsNesting, IsDividedBy}
 use Rattle.audit_report.proofs.Naming.{clause_at, at_rank}
 
 from_ranks : (xs : List Clause) → map clause_at (map rank xs) ≡ xs
@@ -82,17 +82,24 @@ nesting_same : (n : ℕ) (plan : List ℕ) (companion : Option (List ℕ)) (one 
 nesting_same n plan None one other law is too = is ∙ sym too
 nesting_same n plan (Some c) one other law is too = numbers_same (BreaksNesting n plan c) one other law is too
 
+divided_same : (n : ℕ) (plan : List ℕ) (congress one other : Option (List ℕ)) → RisingListsAreOne → IsDividedBy n plan congress one → IsDividedBy n plan congress other → one ≡ other
+divided_same n plan None one other law is too = is ∙ sym too
+divided_same n plan (Some c) None other law is too = absurd is
+divided_same n plan (Some c) (Some one) None law is too = absurd too
+divided_same n plan (Some c) (Some one) (Some other) law is too = ap Some (numbers_same (BreaksNesting n plan c) one other law is too)
+
 pub one_report : BreaksAreOneList → RisingListsAreOne → ReportIsOne
-one_report breaks law g k n plan companion one other are too =
-    let broken = clauses_same (IsNamed g k n plan companion) one.broken other.broken law are.broken too.broken in
+one_report breaks law g k n plan beside one other are too =
+    let broken = clauses_same (IsNamed g k n plan beside.senate) one.broken other.broken law are.broken too.broken in
     let cities = numbers_same (IsDividedCity g.blocks plan) one.cities other.cities law are.cities too.cities in
     let within = numbers_same (IsDividedWithinCounty g.blocks plan) one.cities_in_county other.cities_in_county law are.cities_in_county too.cities_in_county in
     let congress = are.congress ∙ sym too.congress in
     let contiguity = breaks g plan 1 n one.contiguity other.contiguity are.contiguity too.contiguity in
     let counties = numbers_same (IsDividedCounty g.blocks plan) one.counties other.counties law are.counties too.counties in
     let districts = are.districts ∙ sym too.districts in
+    let divided = divided_same n plan beside.congress one.divided_by_congress other.divided_by_congress law are.divided_by_congress too.divided_by_congress in
     let kind_is = are.kind_is ∙ sym too.kind_is in
-    let nesting = nesting_same n plan companion one.nesting other.nesting law are.nesting too.nesting in
+    let nesting = nesting_same n plan beside.senate one.nesting other.nesting law are.nesting too.nesting in
     let not_asked = are.not_asked ∙ sym too.not_asked in
     let population = are.population ∙ sym too.population in
     let populations = are.populations ∙ sym too.populations in
@@ -106,6 +113,7 @@ one_report breaks law g k n plan companion one other are too =
       contiguity = contiguity i;
       counties = counties i;
       districts = districts i;
+      divided_by_congress = divided i;
       kind = kind_is i;
       nesting = nesting i;
       not_asked = not_asked i;

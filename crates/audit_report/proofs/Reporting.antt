@@ -1,5 +1,5 @@
 -- From the pieces to the report.
-use Rattle.std.proofs.Common.{◌≡◌, ℕ, ◌<◌, ◌≤◌, Bool, IsTrue, List, [], length, get_or, filter, Option, Some, None, is_some, MatchOption, refl, ap, sym, ◌∙◌, arith, ⊎_elim}
+use Rattle.std.proofs.Common.{◌≡◌, ℕ, ◌<◌, ◌≤◌, Bool, IsTrue, List, [], length, get_or, filter, Option, Some, None, option_map, is_some, MatchOption, refl, ap, sym, ◌∙◌, arith, ⊎_elim}
 use Rattle.std.specs.Option.{option_copied}
 use Rattle.std.specs.Borrow.{Bor}
 use Rattle.std.proofs.lemmas.Bool.{cases_lt, lt-ltb, ltb-true, false≢true, some_since, and_from}
@@ -8,6 +8,7 @@ use Rattle.std.proofs.lemmas.List.FromFn.{length-map-range_with_len}
 use Rattle.desk_model.specs.declared.kind.Kind.{Kind}
 use Rattle.desk_model.specs.declared.kind.Kind.TheVariants as kind
 use Rattle.desk_model.specs.declared.block.BlockRow.{BlockRow}
+use Rattle.desk_model.specs.Companions.{takes}
 use Rattle.desk_model.specs.Geography.{Ground}
 use Rattle.audit_population.specs.declared.clauses.Extremes.{Extremes}
 use Rattle.audit_population.specs.People.{people_in, populations_of, state_people, districts}
@@ -101,15 +102,21 @@ nesting_tells : (n : ℕ) (plan : List ℕ) (companion : Option (List ℕ)) (lis
 nesting_tells n plan None listed is broken = absurd broken
 nesting_tells n plan (Some c) listed is broken = let has = is.all broken.district broken.broken in lt-ltb 0 (length listed) (omega (arith, has.1))
 
+-- a plan that takes a senate plan beside it is a house plan
+house_takes : (k : Kind) → IsTrue (takes kind.Senate k) → IsTrue (is_house k)
+house_takes kind.Congress is = is
+house_takes kind.Senate is = is
+house_takes kind.House is = is
+
 -- the clauses that the pieces found are those that apply and are broken
-named : (g : Ground) (k : Kind) (n : ℕ) (plan : List ℕ) (companion : Option (List ℕ)) (p : Pieces) → (IsTrue (is_some companion) → IsTrue (is_house k)) → ArePeople g k n plan p.people
-    → IsNesting n plan companion p.nesting.items → AreBreaks g plan 1 n p.contiguity.items → AreExactlyClauses (IsNamed g k n plan companion) (found_clauses p)
+named : (g : Ground) (k : Kind) (n : ℕ) (plan : List ℕ) (companion : Option (List ℕ)) (p : Pieces) → (IsTrue (is_some companion) → IsTrue (takes kind.Senate k)) → ArePeople g k n plan p.people
+    → IsNesting n plan companion p.unnested.nesting.items → AreBreaks g plan 1 n p.contiguity.items → AreExactlyClauses (IsNamed g k n plan companion) (found_clauses p)
 named g k n plan companion p of_house people nesting contiguity =
     named_all Holds (found_clauses p)
-    (named_more Holds 5 _ (is_listed p.nesting.items) Nested refl
-    (λ told. let is = nesting_holds n plan companion p.nesting.items nesting told in
-    record { applies_to = and_from (is_house k) (is_some companion) (of_house is.0) is.0; broken = is.1 })
-    (λ has. nesting_tells n plan companion p.nesting.items nesting has.broken)
+    (named_more Holds 5 _ (is_listed p.unnested.nesting.items) Nested refl
+    (λ told. let is = nesting_holds n plan companion p.unnested.nesting.items nesting told in
+    record { applies_to = and_from (is_house k) (is_some companion) (house_takes k (of_house is.0)) is.0; broken = is.1 })
+    (λ has. nesting_tells n plan companion p.unnested.nesting.items nesting has.broken)
     (named_more Holds 4 _ (is_listed p.contiguity.items) Contiguous refl
     (λ told. record { applies_to = refl; broken = contiguity_holds g plan n p.contiguity.items contiguity told })
     (λ has. contiguity_tells g plan n p.contiguity.items contiguity has.broken)
@@ -136,8 +143,8 @@ named g k n plan companion p of_house people nesting contiguity =
     total : ℕ
     total = state_people g.blocks
 
-pub report_is : (k : Kind) (n : ℕ) (with_companion : Bool) (p : Pieces) (broken not_asked : List Clause) → broken ≡ found_clauses p → not_asked ≡ not_asked_of k with_companion
-    → ReportsPieces k n with_companion p (record {
+pub report_is : (k : Kind) (n : ℕ) (with_senate : Bool) (p : Pieces) (broken not_asked : List Clause) → broken ≡ found_clauses p → not_asked ≡ not_asked_of k with_senate
+    → ReportsPieces k n with_senate p (record {
       broken = broken;
       cities = p.splits.cities.items;
       cities_in_county = p.splits.cities_in_county.items;
@@ -145,24 +152,26 @@ pub report_is : (k : Kind) (n : ℕ) (with_companion : Bool) (p : Pieces) (broke
       contiguity = p.contiguity.items;
       counties = p.splits.counties.items;
       districts = n;
+      divided_by_congress = option_map (λ d. d.items) p.unnested.divided_by_congress;
       kind = k;
-      nesting = p.nesting.items;
+      nesting = p.unnested.nesting.items;
       not_asked = not_asked;
       population = p.people.total;
       populations = p.people.populations.items;
       range = p.people.range;
       unassigned = p.people.unassigned;
     })
-report_is k n with_companion p broken not_asked found wanting g plan companion same of_house pieces = record {
-  broken = rw found (named g k n plan companion p of_house pieces.people pieces.nesting pieces.contiguity);
+report_is k n with_senate p broken not_asked found wanting g plan beside same taken pieces = record {
+  broken = rw found (named g k n plan beside.senate p taken.senate pieces.people pieces.unnested.nesting pieces.contiguity);
   cities = pieces.splits.cities;
   cities_in_county = pieces.splits.cities_in_county;
   congress = pieces.people.congress;
   contiguity = pieces.contiguity;
   counties = pieces.splits.counties;
   districts = refl;
+  divided_by_congress = pieces.unnested.divided_by_congress;
   kind_is = refl;
-  nesting = pieces.nesting;
+  nesting = pieces.unnested.nesting;
   not_asked = wanting ∙ ap (not_asked_of k) same;
   population = pieces.people.total;
   populations = pieces.people.populations;

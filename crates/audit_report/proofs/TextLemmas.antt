@@ -9,7 +9,7 @@ use Rattle.audit_population.specs.declared.clauses.Extremes.{Extremes}
 use Rattle.audit_contiguity.specs.declared.breaks.Gap.{Gap}
 use Rattle.audit_contiguity.specs.declared.breaks.Break.{Break}
 use Rattle.audit_report.specs.Figures.{Figures}
-use Rattle.audit_report.specs.ReportText.{clause_data, code_data, number_data, list_data, gap_data, break_data, range_data, report_data, report_text}
+use Rattle.audit_report.specs.ReportText.{clause_data, code_data, number_data, list_data, gap_data, break_data, divided_data, range_data, report_data, report_text}
 
 list_has_no_float : {X : Type 0} (f : X → Data) → ((x : X) → has_float (f x) ≡ false) → (xs : List X) → has_float (list_data f xs) ≡ false
 list_has_no_float f none [] = refl
@@ -18,6 +18,10 @@ list_has_no_float f none (x ∷ xs) = rw (none x, list_has_no_float f none xs) r
 gap_has_no_float : (district : ℕ) (gap : Option Gap) → has_float (gap_data district gap) ≡ false
 gap_has_no_float district None = refl
 gap_has_no_float district (Some gap) = refl
+
+divided_has_no_float : (divided : Option (List ℕ)) → has_float (divided_data divided) ≡ false
+divided_has_no_float None = refl
+divided_has_no_float (Some districts) = list_has_no_float number_data (λ d. refl) districts
 
 range_has_no_float : (range : Option Extremes) → has_float (range_data range) ≡ false
 range_has_no_float None = refl
@@ -32,6 +36,7 @@ report_has_no_float r =
       list_has_no_float number_data (λ c. refl) r.congress,
       list_has_no_float break_data (λ (b : Break). gap_has_no_float b.district b.gap) r.contiguity,
       list_has_no_float (code_data 3) (λ c. refl) r.counties,
+      divided_has_no_float r.divided_by_congress,
       list_has_no_float number_data (λ c. refl) r.nesting,
       list_has_no_float clause_data (λ c. refl) r.not_asked,
       list_has_no_float number_data (λ c. refl) r.populations,

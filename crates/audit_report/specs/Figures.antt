@@ -13,6 +13,7 @@ pub record Figures : Type 0 where
   pub contiguity : List Break
   pub counties : List ℕ
   pub districts : ℕ
+  pub divided_by_congress : Option (List ℕ)
   pub kind : Kind
   pub nesting : List ℕ
   pub not_asked : List Clause

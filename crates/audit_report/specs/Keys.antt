@@ -3,7 +3,7 @@ use Rattle.std.specs.Prelude.{codes}
 use Rattle.desk_model.specs.Kind.{kind_name}
 use Rattle.serde_json.specs.Data.{string, Members, put}
 use Rattle.audit_report.specs.Figures.{Figures}
-use Rattle.audit_report.specs.ReportText.{clause_data, code_data, number_data, list_data, break_data, range_data}
+use Rattle.audit_report.specs.ReportText.{clause_data, code_data, number_data, list_data, break_data, divided_data, range_data}
 
 abbrev pub last_members : Figures → Members → Members
 last_members r m =
@@ -18,8 +18,9 @@ middle_members r m =
     put (codes "contiguity") (list_data break_data r.contiguity)
     (put (codes "counties") (list_data (code_data 3) r.counties)
     (put (codes "districts") (number_data r.districts)
+    (put (codes "divided_by_congress") (divided_data r.divided_by_congress)
     (put (codes "kind") (string (kind_name r.kind))
-    (put (codes "nesting") (list_data number_data r.nesting) m))))
+    (put (codes "nesting") (list_data number_data r.nesting) m)))))
 
 abbrev pub first_members : Figures → Members → Members
 first_members r m =

@@ -1,5 +1,6 @@
 -- A law of reports.
-use Rattle.std.specs.Prelude.{◌≡◌, ℕ, List, Option}
+use Rattle.std.specs.Prelude.{◌≡◌, ℕ, List}
+use Rattle.desk_model.specs.declared.companions.Companions.{Companions}
 use Rattle.desk_model.specs.declared.kind.Kind.{Kind}
 use Rattle.desk_model.specs.Geography.{Ground}
 use Rattle.audit_report.specs.Figures.{Figures}
@@ -8,5 +9,5 @@ use Rattle.audit_report.specs.Report.{IsReport}
 -- a plan has one report
 abbrev pub ReportIsOne : Type 0
 ReportIsOne =
-    (g : Ground) (kind : Kind) (n : ℕ) (plan : List ℕ) (companion : Option (List ℕ)) (one other : Figures) → IsReport g kind n plan companion one
-    → IsReport g kind n plan companion other → one ≡ other
+    (g : Ground) (kind : Kind) (n : ℕ) (plan : List ℕ) (beside : Companions (List ℕ)) (one other : Figures) → IsReport g kind n plan beside one
+    → IsReport g kind n plan beside other → one ≡ other

@@ -1,6 +1,8 @@
 -- What the pieces of the work found.
-use Rattle.std.specs.Prelude.{◌≡◌, ℕ, Bool, IsTrue, List, Option, is_some, IsSome}
+use Rattle.std.specs.Prelude.{◌≡◌, ℕ, Bool, IsTrue, List, option_map, is_some}
+use Rattle.desk_model.specs.declared.companions.Companions.{Companions}
 use Rattle.desk_model.specs.declared.kind.Kind.{Kind}
+use Rattle.desk_model.specs.Companions.{AreTaken}
 use Rattle.desk_model.specs.Geography.{Ground}
 use Rattle.audit_population.specs.People.{populations_of, state_people}
 use Rattle.audit_population.specs.Clauses.{MeanBreaks}
@@ -9,10 +11,11 @@ use Rattle.audit_splits_nesting.specs.Exactly.{AreExactly}
 use Rattle.audit_splits_nesting.specs.Divided.{IsDividedCounty, IsDividedCity, IsDividedWithinCounty}
 use Rattle.audit_report.specs.declared.pieces.People.{People}
 use Rattle.audit_report.specs.declared.pieces.Splits.{Splits}
+use Rattle.audit_report.specs.declared.pieces.Unnested.{Unnested}
 use Rattle.audit_report.specs.declared.pieces.Pieces.{Pieces}
-use Rattle.audit_report.specs.Clauses.{is_house, is_legislative}
+use Rattle.audit_report.specs.Clauses.{is_legislative}
 use Rattle.audit_report.specs.Figures.{Figures}
-use Rattle.audit_report.specs.Report.{unassigned_of, congress_of, IsRange, IsNesting, IsReport}
+use Rattle.audit_report.specs.Report.{unassigned_of, congress_of, IsRange, IsNesting, IsDividedBy, IsReport}
 
 -- whether the clause of the mean applies and is broken
 pub record IsMean (kind : Kind) (populations : List ℕ) (total : ℕ) (told : Bool) : Type 0 where
@@ -33,14 +36,18 @@ pub record AreSplits (g : Ground) (plan : List ℕ) (s : Splits) : Type 0 where
   pub cities : AreExactly (IsDividedCity g.blocks plan) s.cities.items
   pub cities_in_county : AreExactly (IsDividedWithinCounty g.blocks plan) s.cities_in_county.items
 
-pub record ArePieces (g : Ground) (kind : Kind) (n : ℕ) (plan : List ℕ) (companion : Option (List ℕ)) (p : Pieces) : Type 0 where
+pub record AreUnnested (n : ℕ) (plan : List ℕ) (beside : Companions (List ℕ)) (u : Unnested) : Type 0 where
+  pub nesting : IsNesting n plan beside.senate u.nesting.items
+  pub divided_by_congress : IsDividedBy n plan beside.congress (option_map (λ v. v.items) u.divided_by_congress)
+
+pub record ArePieces (g : Ground) (kind : Kind) (n : ℕ) (plan : List ℕ) (beside : Companions (List ℕ)) (p : Pieces) : Type 0 where
   pub people : ArePeople g kind n plan p.people
   pub splits : AreSplits g plan p.splits
-  pub nesting : IsNesting n plan companion p.nesting.items
+  pub unnested : AreUnnested n plan beside p.unnested
   pub contiguity : AreBreaks g plan 1 n p.contiguity.items
 
--- the report of each plan of which these are the pieces; a companion is a house plan's
+-- the report of each plan of which these are the pieces
 abbrev pub ReportsPieces : Kind → ℕ → Bool → Pieces → Figures → Type 0
-ReportsPieces kind n with_companion p report =
-    (g : Ground) (plan : List ℕ) (companion : Option (List ℕ)) → with_companion ≡ is_some companion → (IsSome companion → IsTrue (is_house kind))
-    → ArePieces g kind n plan companion p → IsReport g kind n plan companion report
+ReportsPieces kind n with_senate p report =
+    (g : Ground) (plan : List ℕ) (beside : Companions (List ℕ)) → with_senate ≡ is_some beside.senate → AreTaken kind beside → ArePieces g kind n plan beside p
+    → IsReport g kind n plan beside report

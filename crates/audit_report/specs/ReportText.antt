@@ -36,6 +36,10 @@ gap_data district (Some gap) =
 abbrev pub break_data : Break → Data
 break_data b = gap_data b.district b.gap
 
+abbrev pub divided_data : Option (List ℕ) → Data
+divided_data None = null
+divided_data (Some districts) = list_data number_data districts
+
 abbrev pub range_data : Option Extremes → Data
 range_data None = null
 range_data (Some e) = array (item (number_data e.most) (item (number_data e.least) no_items))
@@ -49,13 +53,14 @@ report_data r =
     (member (codes "contiguity") (list_data break_data r.contiguity)
     (member (codes "counties") (list_data (code_data 3) r.counties)
     (member (codes "districts") (number_data r.districts)
+    (member (codes "divided_by_congress") (divided_data r.divided_by_congress)
     (member (codes "kind") (string (kind_name r.kind))
     (member (codes "nesting") (list_data number_data r.nesting)
     (member (codes "not_asked") (list_data clause_data r.not_asked)
     (member (codes "population") (number_data r.population)
     (member (codes "populations") (list_data number_data r.populations)
     (member (codes "range") (range_data r.range)
-    (member (codes "unassigned") (number_data r.unassigned) no_members))))))))))))))
+    (member (codes "unassigned") (number_data r.unassigned) no_members)))))))))))))))
 
 abbrev pub report_text : Figures → List ℕ
 report_text r = compact_text (report_data r)

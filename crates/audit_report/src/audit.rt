@@ -1,15 +1,15 @@
 //! The audit.
-ghost use Rattle.std.specs.Prelude.{◌≡◌, ◌≤◌, ◌++◌, length, is_some, IfOk, IfSome, IsTrue, OnOk, IsSome};
-ghost use Rattle.std.specs.Option.{option_copied};
+ghost use Rattle.std.specs.Prelude.{◌≡◌, ◌≤◌, ◌++◌, length, is_some, IfOk, OnOk};
+ghost use Rattle.desk_model.specs.Companions.{AreLong, AreTaken, companions_at};
 ghost use Rattle.audit_report.specs.Assembled.{noted, found_clauses};
-ghost use Rattle.audit_report.specs.Clauses.{is_house};
 ghost use Rattle.audit_report.specs.Pieces.{ReportsPieces};
 ghost use Rattle.audit_report.specs.Report.{not_asked_of, IsReport};
 
 use crate::clause::Clause;
-use crate::pieces::{People, Pieces, Splits, find_nesting, find_people, find_splits};
+use crate::pieces::{People, Pieces, Splits, Unnested, find_nesting, find_people, find_splits};
 use crate::report::Report;
 use audit_contiguity::breaks::breaks;
+use desk_model::companions::Companions;
 use desk_model::geography::Geography;
 use desk_model::kind::Kind;
 use std::alloc::{AllocError, Global};
@@ -35,20 +35,20 @@ fn broken_clauses(alloc: Global, pieces: &Pieces) -> Result<Vec<Clause>, AllocEr
     note(&mut broken, people.range.is_some(), Clause::Range)?;
     note(&mut broken, people.congress.len() > 0, Clause::Congress)?;
     note(&mut broken, pieces.contiguity.len() > 0, Clause::Contiguous)?;
-    note(&mut broken, pieces.nesting.len() > 0, Clause::Nested)?;
+    note(&mut broken, pieces.unnested.nesting.len() > 0, Clause::Nested)?;
     Ok(broken)
 }
 
-/// The clauses that a companion is wanting for.
+/// The clauses that a senate plan is wanting for.
 fn clauses_not_asked(
     alloc: Global,
     kind: Kind,
-    with_companion: bool,
+    with_senate: bool,
 ) -> Result<Vec<Clause>, AllocError>
-    ensures { IfOk result (λ v. v.items ≡ not_asked_of kind with_companion) }
+    ensures { IfOk result (λ v. v.items ≡ not_asked_of kind with_senate) }
 {
     let mut not_asked = Vec::new(alloc);
-    if kind == Kind::House && !with_companion {
+    if kind == Kind::House && !with_senate {
         not_asked.push(Clause::Nested)?;
     }
     Ok(not_asked)
@@ -59,17 +59,17 @@ pub fn assemble(
     alloc: Global,
     kind: Kind,
     count: u16,
-    with_companion: bool,
+    with_senate: bool,
     pieces: Pieces,
 ) -> Result<Report, AllocError>
-    ensures { IfOk result (ReportsPieces kind count with_companion pieces) }
+    ensures { IfOk result (ReportsPieces kind count with_senate pieces) }
 {
     let broken = broken_clauses(alloc, &pieces)?;
-    let not_asked = clauses_not_asked(alloc, kind, with_companion)?;
+    let not_asked = clauses_not_asked(alloc, kind, with_senate)?;
     let Pieces {
         people,
         splits,
-        nesting,
+        unnested,
         contiguity,
     } = pieces;
     let People {
@@ -85,6 +85,10 @@ pub fn assemble(
         cities,
         cities_in_county,
     } = splits;
+    let Unnested {
+        nesting,
+        divided_by_congress,
+    } = unnested;
     Ok(Report {
         broken,
         cities,
@@ -93,6 +97,7 @@ pub fn assemble(
         contiguity,
         counties,
         districts: count,
+        divided_by_congress,
         kind,
         nesting,
         not_asked,
@@ -103,28 +108,31 @@ pub fn assemble(
     })
 }
 
-/// The report of a plan of `count` districts, by the district of each block, 0 for none; `companion` is the senate
-/// plan that a house plan is nested in, beside the blocks likewise. Iowa Code 42.4.
+/// The report of a plan of `count` districts, by the district of each block, 0 for none; beside it, likewise, the `senate` plan
+/// that a house plan is nested in, and the plan for the `congress` that divides districts of a house or senate plan. Iowa Code
+/// 42.4.
 pub fn audit(
     alloc: Global,
     geography: &Geography,
     kind: Kind,
     count: u16,
     plan: &[u16],
-    companion: Option<&[u16]>,
+    senate: Option<&[u16]>,
+    congress: Option<&[u16]>,
 ) -> Result<Report, AllocError>
     requires some { 1 ≤ count }
     requires few { count ≤ 999 }
     requires beside { length plan.now ≡ length geography.now.blocks }
-    requires companion_beside { IfSome (option_copied companion) (λ c. length c ≡ length geography.now.blocks) }
-    requires companion_of_house { IsSome companion → IsTrue (is_house kind) }
-    ensures { IfOk result (IsReport geography.now kind count plan.now (option_copied companion.entry)) }
+    requires companions_beside { AreLong (length geography.now.blocks) (companions_at senate congress) }
+    requires companions_taken { AreTaken kind (companions_at senate congress) }
+    ensures { IfOk result (IsReport geography.now kind count plan.now (companions_at senate.entry congress.entry)) }
 {
+    let beside = Companions { senate, congress };
     let pieces = Pieces {
         people: find_people(alloc, geography, kind, count, plan)?,
         splits: find_splits(alloc, geography, plan)?,
-        nesting: find_nesting(alloc, count, plan, companion)?,
+        unnested: find_nesting(alloc, count, plan, beside)?,
         contiguity: breaks(alloc, geography, count, plan)?,
     };
-    assemble(alloc, kind, count, companion.is_some(), pieces)
+    assemble(alloc, kind, count, senate.is_some(), pieces)
 }

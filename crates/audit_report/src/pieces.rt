@@ -1,19 +1,21 @@
 //! The pieces of an audit's work, which don't depend on each other.
-ghost use Rattle.std.specs.Prelude.{◌≡◌, ◌<◌, ◌≤◌, ◌^◌, length, IfOk, IsTrue, ◌&&◌, ◌↔◌, IfSome};
+ghost use Rattle.std.specs.Prelude.{◌≡◌, ◌<◌, ◌≤◌, ◌^◌, length, IfOk, IsTrue, ◌&&◌, ◌↔◌, IfSome, option_map};
 ghost use Rattle.std.specs.Option.{option_copied};
+ghost use Rattle.desk_model.specs.Companions.{AreLong, companions_copied};
 ghost use Rattle.audit_population.specs.People.{populations_of, state_people};
 ghost use Rattle.audit_population.specs.Clauses.{MeanBreaks};
 ghost use Rattle.audit_splits_nesting.specs.Exactly.{AreExactly};
 ghost use Rattle.audit_splits_nesting.specs.Divided.{IsDividedCounty, IsDividedCity, IsDividedWithinCounty};
 ghost use Rattle.audit_report.specs.Clauses.{is_legislative};
-ghost use Rattle.audit_report.specs.Report.{unassigned_of, congress_of, IsRange, IsNesting};
-ghost use Rattle.audit_report.specs.Pieces.{IsMean, ArePeople, AreSplits};
+ghost use Rattle.audit_report.specs.Report.{unassigned_of, congress_of, IsRange, IsNesting, IsDividedBy};
+ghost use Rattle.audit_report.specs.Pieces.{IsMean, ArePeople, AreSplits, AreUnnested};
 
 use audit_contiguity::breaks::Break;
 use audit_population::clauses::{Extremes, congress_breaks, mean_breaks, range_breaks};
 use audit_population::people::{populations, total};
 use audit_splits_nesting::nesting::nesting_breaks;
 use audit_splits_nesting::splits::{cities_in_county, divided_cities, divided_counties};
+use desk_model::companions::Companions;
 use desk_model::geography::Geography;
 use desk_model::kind::Kind;
 use std::alloc::{AllocError, Global};
@@ -37,12 +39,19 @@ pub struct Splits {
     pub cities_in_county: Vec<u32>,
 }
 
+/// The districts that don't lie in one district of a companion.
+#[derive(Drop)]
+pub struct Unnested {
+    pub nesting: Vec<u16>,
+    pub divided_by_congress: Option<Vec<u16>>,
+}
+
 /// All pieces.
 #[derive(Drop)]
 pub struct Pieces {
     pub people: People,
     pub splits: Splits,
-    pub nesting: Vec<u16>,
+    pub unnested: Unnested,
     pub contiguity: Vec<Break>,
 }
 
@@ -138,18 +147,50 @@ pub fn find_splits(alloc: Global, geography: &Geography, plan: &[u16]) -> Result
     })
 }
 
+/// The house districts that aren't nested in the senate plan, none where there is no such plan.
+fn nesting(
+    alloc: Global,
+    count: u16,
+    plan: &[u16],
+    senate: Option<&[u16]>,
+) -> Result<Vec<u16>, AllocError>
+    requires { IfSome (option_copied senate) (λ s. length s ≡ length plan.now) }
+    ensures { IfOk result (λ v. IsNesting count plan.now (option_copied senate.entry) v.items) }
+{
+    match senate {
+        Some(senate) => nesting_breaks(alloc, count, plan, senate),
+        None => Ok(Vec::new(alloc)),
+    }
+}
+
+/// The districts that the plan for the congress divides, where there is one.
+fn divided_by_congress(
+    alloc: Global,
+    count: u16,
+    plan: &[u16],
+    congress: Option<&[u16]>,
+) -> Result<Option<Vec<u16>>, AllocError>
+    requires { IfSome (option_copied congress) (λ c. length c ≡ length plan.now) }
+    ensures { IfOk result (λ divided. IsDividedBy count plan.now (option_copied congress.entry) (option_map (λ v. v.items) divided)) }
+{
+    match congress {
+        Some(congress) => Ok(Some(nesting_breaks(alloc, count, plan, congress)?)),
+        None => Ok(None),
+    }
+}
+
 /// The piece of the nesting.
 pub fn find_nesting(
     alloc: Global,
     count: u16,
     plan: &[u16],
-    companion: Option<&[u16]>,
-) -> Result<Vec<u16>, AllocError>
-    requires { IfSome (option_copied companion) (λ c. length c ≡ length plan.now) }
-    ensures { IfOk result (λ v. IsNesting count plan.now (option_copied companion.entry) v.items) }
+    beside: Companions<&[u16]>,
+) -> Result<Unnested, AllocError>
+    requires { AreLong (length plan.now) (companions_copied beside) }
+    ensures { IfOk result (AreUnnested count plan.now (companions_copied beside.entry)) }
 {
-    match companion {
-        Some(companion) => nesting_breaks(alloc, count, plan, companion),
-        None => Ok(Vec::new(alloc)),
-    }
+    Ok(Unnested {
+        nesting: nesting(alloc, count, plan, beside.senate)?,
+        divided_by_congress: divided_by_congress(alloc, count, plan, beside.congress)?,
+    })
 }

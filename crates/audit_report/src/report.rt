@@ -6,8 +6,8 @@ ghost use Rattle.audit_report.specs.Keys.{last_members, middle_members, first_me
 
 use crate::clause::Clause;
 use crate::values::{
-    breaks_value, cities_value, clauses_value, counties_value, districts_value, people_value,
-    range_value,
+    breaks_value, cities_value, clauses_value, counties_value, districts_value, divided_value,
+    people_value, range_value,
 };
 use audit_contiguity::breaks::Break;
 use audit_population::clauses::Extremes;
@@ -33,10 +33,12 @@ pub struct Report {
     pub counties: Vec<u16>,
     /// The number of districts.
     pub districts: u16,
+    /// The districts that the plan for the congress beside the plan divides, where there is one: Iowa Code 42.4(6).
+    pub divided_by_congress: Option<Vec<u16>>,
     pub kind: Kind,
-    /// The house districts that aren't nested in the companion: Iowa Code 42.4(6).
+    /// The house districts that aren't nested in the senate plan beside the plan: Iowa Code 42.4(6).
     pub nesting: Vec<u16>,
-    /// The clauses that a companion plan is wanting for.
+    /// The clauses that a senate plan is wanting for.
     pub not_asked: Vec<Clause>,
     /// The people of the state.
     pub population: u32,
@@ -49,6 +51,7 @@ pub struct Report {
 }
 
 impl Model for Report {
+    ghost use Rattle.std.specs.Prelude.{option_map};
     ghost use Rattle.audit_report.specs.Figures.{Figures};
 
     ghost Value = { Figures };
@@ -61,6 +64,7 @@ impl Model for Report {
       contiguity = a.contiguity.items;
       counties = a.counties.items;
       districts = a.districts;
+      divided_by_congress = option_map (λ d. d.items) a.divided_by_congress;
       kind = a.kind;
       nesting = a.nesting.items;
       not_asked = a.not_asked.items;
@@ -102,6 +106,8 @@ impl Report {
         )?;
         let kind = String::from_str(alloc, self.kind.name())?;
         put(map, alloc, "kind", Value::String(kind))?;
+        let divided = divided_value(alloc, &self.divided_by_congress)?;
+        put(map, alloc, "divided_by_congress", divided)?;
         put(map, alloc, "districts", Value::from(self.districts))?;
         put(
             map,

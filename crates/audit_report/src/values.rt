@@ -1,8 +1,8 @@
 //! The parts of a report as JSON.
-ghost use Rattle.std.specs.Prelude.{◌≡◌, IfOk, string_bytes};
+ghost use Rattle.std.specs.Prelude.{◌≡◌, IfOk, option_map, string_bytes};
 ghost use Rattle.serde_json.specs.View.{view};
 ghost use Rattle.desk_model.specs.Baf.{padded_decimal};
-ghost use Rattle.audit_report.specs.ReportText.{clause_data, code_data, number_data, list_data, break_data, range_data};
+ghost use Rattle.audit_report.specs.ReportText.{clause_data, code_data, number_data, list_data, break_data, divided_data, range_data};
 
 use crate::clause::Clause;
 use audit_contiguity::breaks::Break;
@@ -68,6 +68,16 @@ pub fn districts_value(alloc: Global, districts: &[u16]) -> Result<Value, AllocE
         values.push(Value::from(*district))?;
     }
     Ok(Value::Array(values))
+}
+
+/// A list of districts, or null.
+pub fn divided_value(alloc: Global, divided: &Option<Vec<u16>>) -> Result<Value, AllocError>
+    ensures { IfOk result (λ v. view v ≡ divided_data (option_map (λ d. d.items) divided.now)) }
+{
+    match divided {
+        None => Ok(Value::Null),
+        Some(districts) => districts_value(alloc, districts.as_slice()),
+    }
 }
 
 pub fn people_value(alloc: Global, people: &[u32]) -> Result<Value, AllocError>

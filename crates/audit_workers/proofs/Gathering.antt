@@ -12,6 +12,7 @@ use Rattle.audit_contiguity.specs.Breaks.{AreBreaks}
 use Rattle.audit_contiguity.specs.Laws.{BreaksFollow}
 use Rattle.audit_report.specs.declared.pieces.People.{People}
 use Rattle.audit_report.specs.declared.pieces.Splits.{Splits}
+use Rattle.audit_report.specs.declared.pieces.Unnested.{Unnested}
 use Rattle.audit_workers.specs.declared.work.Found.{Found}
 use Rattle.audit_workers.specs.declared.work.Found.TheVariants as found
 use Rattle.audit_workers.specs.Work.{Audit, IsPieceOf, IsFound, breaks_in}
@@ -77,7 +78,7 @@ found_at a pieces workers piece shares share x less held share_is x_is =
     let e : x ≡ get_or (get_or shares (piece % workers) share).items (piece / workers) x = x_is ∙ ap (λ (v : Vec Found Global). get_or v.items (piece / workers) x) share_is in
     subst (IsFound a piece) (sym e) ((held.each piece share less).is x)
 
-pub nesting_there : (a : Audit) (x : Found) → IsFound a 2 x → ((y : Vec ℕ Global) → x ≡ found.Nesting y → ⊥) → ⊥
+pub nesting_there : (a : Audit) (x : Found) → IsFound a 2 x → ((y : Unnested) → x ≡ found.Nesting y → ⊥) → ⊥
 nesting_there a (found.People x) is not_it = omega (arith, is.0)
 nesting_there a (found.Splits x) is not_it = omega (arith, is.0)
 nesting_there a (found.Nesting x) is not_it = not_it x (λ i. found.Nesting x)

@@ -58,7 +58,7 @@ pub fn gather(
 {
     let workers = workers as usize;
     let contiguity = all_breaks(alloc, work, pieces as usize, workers, shares.as_slice())?;
-    let Found::Nesting(nesting) = take(&mut shares, workers, 2) else {
+    let Found::Nesting(unnested) = take(&mut shares, workers, 2) else {
         unreachable!()
     };
     let Found::Splits(splits) = take(&mut shares, workers, 1) else {
@@ -70,7 +70,7 @@ pub fn gather(
     Ok(Pieces {
         people,
         splits,
-        nesting,
+        unnested,
         contiguity,
     })
 }

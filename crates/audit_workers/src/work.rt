@@ -1,12 +1,13 @@
 //! The pieces of an audit's work, by their numbers.
-ghost use Rattle.std.specs.Prelude.{◌≡◌, ◌+◌, ◌-◌, ◌*◌, ◌<◌, ◌≤◌, length, IfOk, IfSome, IsSome, IsTrue};
-ghost use Rattle.std.specs.Option.{option_copied};
+ghost use Rattle.std.specs.Prelude.{◌≡◌, ◌+◌, ◌-◌, ◌*◌, ◌<◌, ◌≤◌, length, IfOk};
+ghost use Rattle.desk_model.specs.Companions.{AreLong, companions_copied};
 ghost use Rattle.audit_workers.specs.Share.{AreNumberedBelow};
 ghost use Rattle.audit_workers.specs.Work.{IsFound, breaks_in, shown_of};
 
 use audit_contiguity::breaks::Break;
 use audit_contiguity::parts::{Trees, part_count};
-use audit_report::pieces::{People, Splits, find_nesting, find_people, find_splits};
+use audit_report::pieces::{People, Splits, Unnested, find_nesting, find_people, find_splits};
+use desk_model::companions::Companions;
 use desk_model::geography::Geography;
 use desk_model::kind::Kind;
 use std::alloc::{AllocError, Global};
@@ -17,7 +18,7 @@ use std::marker::Model;
 pub enum Found {
     People(People),
     Splits(Splits),
-    Nesting(Vec<u16>),
+    Nesting(Unnested),
     Breaks(Vec<Break>),
 }
 
@@ -40,12 +41,12 @@ pub struct Work<'a> {
     kind: Kind,
     count: u16,
     plan: &'a [u16],
-    companion: Option<&'a [u16]>,
+    beside: Companions<&'a [u16]>,
 }
 
 impl<'a> Model for Work<'a> {
     ghost use Rattle.audit_workers.specs.Work.{Audit, IsAudit};
-    ghost use Rattle.std.specs.Option.{option_copied};
+    ghost use Rattle.desk_model.specs.Companions.{companions_copied};
 
     ghost Value = { Audit };
 
@@ -54,11 +55,11 @@ impl<'a> Model for Work<'a> {
       kind = a.kind;
       count = a.count;
       plan = a.plan.now;
-      companion = option_copied a.companion;
+      beside = companions_copied a.beside;
     } };
 
     ghost invariant = { λ a.
-        IsAudit (record { geography = a.geography.now; kind = a.kind; count = a.count; plan = a.plan.now; companion = option_copied a.companion }) };
+        IsAudit (record { geography = a.geography.now; kind = a.kind; count = a.count; plan = a.plan.now; beside = companions_copied a.beside }) };
 }
 
 impl<'a> Work<'a> {
@@ -68,25 +69,25 @@ impl<'a> Work<'a> {
         kind: Kind,
         count: u16,
         plan: &'a [u16],
-        companion: Option<&'a [u16]>,
+        beside: Companions<&'a [u16]>,
     ) -> Work<'a>
         requires some { 1 ≤ count }
         requires few { count ≤ 999 }
         requires beside { length plan.now ≡ length geography.now.blocks }
-        requires companion_beside { IfSome (option_copied companion) (λ c. length c ≡ length geography.now.blocks) }
-        ensures { result ≡ record { geography = geography.now; kind = kind; count = count; plan = plan.now; companion = option_copied companion.entry } }
+        requires companions_beside { AreLong (length geography.now.blocks) (companions_copied beside) }
+        ensures { result ≡ record { geography = geography.now; kind = kind; count = count; plan = plan.now; beside = companions_copied beside.entry } }
     {
         Work {
             geography,
             kind,
             count,
             plan,
-            companion,
+            beside,
         }
     }
 
     /// The pieces are numbered below this: 0 is the populations and their clauses, 1 the divided counties and cities, 2 the
-    /// nesting, and from 3 on the contiguity of the parts of the districts.
+    /// nesting in each companion, and from 3 on the contiguity of the parts of the districts.
     pub fn pieces(&self) -> u32
         ensures numbered { AreNumberedBelow self.now.count result }
         ensures three { 3 ≤ result }
@@ -107,7 +108,7 @@ impl<'a> Work<'a> {
             }
             1 => Ok(Found::Splits(find_splits(alloc, self.geography, self.plan)?)),
             _ => {
-                let nesting = find_nesting(alloc, self.count, self.plan, self.companion)?;
+                let nesting = find_nesting(alloc, self.count, self.plan, self.beside)?;
                 Ok(Found::Nesting(nesting))
             }
         }

@@ -1,5 +1,5 @@
 -- Which plans a plan is audited beside.
-use Rattle.std.specs.Prelude.{◌≡◌, ℕ, Bool, true, false, IsTrue, List, length, None, IfSome, IsSome}
+use Rattle.std.specs.Prelude.{◌≡◌, ℕ, Bool, true, false, IsTrue, List, length, Option, None, IfSome, IsSome}
 use Rattle.std.specs.Borrow.{Bor}
 use Rattle.std.specs.Option.{option_copied}
 use Rattle.desk_model.specs.declared.companions.Companions.{Companions}
@@ -31,12 +31,18 @@ abbrev pub no_companions : {X : Type 0} → Companions X
 no_companions = record { senate = None; congress = None }
 
 -- the companions behind references
-abbrev pub companions_copied : {X : Type 0} → Companions (Bor X) → Companions X
-companions_copied beside = record { senate = option_copied beside.senate; congress = option_copied beside.congress }
+abbrev pub companions_at : {X : Type 0} → (senate congress : Option (Bor X)) → Companions X
+companions_at senate congress = record { senate = option_copied senate; congress = option_copied congress }
 
--- each companion that there is has a district for each of so many blocks, and a plan of the kind takes it
-pub record AreBeside (blocks : ℕ) (kind : Kind) (beside : Companions (List ℕ)) : Type 0 where
+abbrev pub companions_copied : {X : Type 0} → Companions (Bor X) → Companions X
+companions_copied beside = companions_at beside.senate beside.congress
+
+-- each companion that there is has a district for each of so many blocks
+pub record AreLong (blocks : ℕ) (beside : Companions (List ℕ)) : Type 0 where
   pub senate : IfSome beside.senate (λ districts. length districts ≡ blocks)
-  pub senate_taken : IsSome beside.senate → IsTrue (takes Senate kind)
   pub congress : IfSome beside.congress (λ districts. length districts ≡ blocks)
-  pub congress_taken : IsSome beside.congress → IsTrue (takes Congress kind)
+
+-- a plan of the kind takes each companion that there is
+pub record AreTaken (kind : Kind) (beside : Companions (List ℕ)) : Type 0 where
+  pub senate : IsSome beside.senate → IsTrue (takes Senate kind)
+  pub congress : IsSome beside.congress → IsTrue (takes Congress kind)

@@ -48,6 +48,6 @@ returns c =
     record {
       people = (taken_is c.args.work.now c.args.workers 0 c.take-2.new.shares.items c.take-3.new.shares.items (found.People c.in-People.people) last c.in-People.ensures).1;
       splits = (taken_is c.args.work.now c.args.workers 1 c.take.new.shares.items c.take-2.new.shares.items (found.Splits c.in-Splits.splits) next c.in-Splits.ensures).1;
-      nesting = (taken_is c.args.work.now c.args.workers 2 c.args.shares.items c.take.new.shares.items (found.Nesting c.in-Nesting.nesting) held c.in-Nesting.ensures).1;
+      unnested = (taken_is c.args.work.now c.args.workers 2 c.args.shares.items c.take.new.shares.items (found.Nesting c.in-Nesting.unnested) held c.in-Nesting.ensures).1;
       contiguity = c.in_ok-contiguity.ensures;
     }
