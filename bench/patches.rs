@@ -9,7 +9,7 @@ const DISTRICTS: u32 = 50;
 type Revision = Vec<Arc<Vec<u16>>>;
 
 fn made_counties(count: usize) -> Vec<u64> {
-    (0..count as u64).map(|i| 190_010_000_000_000 + i / 1_770 * 20_000_000_000 + i).collect()
+    (0..count as u64).map(|i| 190_010_000_000_000 + i / 1_770 * 10_000_000_000 + i).collect()
 }
 
 fn put_digits<const N: usize>(text: &mut Vec<u8>, mut number: u64) {

@@ -15,16 +15,16 @@ last_members r m =
 
 abbrev pub middle_members : Figures → Members → Members
 middle_members r m =
-    put (codes "contiguity") (list_data break_data r.contiguity)
-    (put (codes "counties") (list_data (code_data 3) r.counties)
+    put (codes "counties") (list_data (code_data 3) r.counties)
     (put (codes "districts") (number_data r.districts)
     (put (codes "divided_by_congress") (divided_data r.divided_by_congress)
     (put (codes "kind") (string (kind_name r.kind))
-    (put (codes "nesting") (list_data number_data r.nesting) m)))))
+    (put (codes "nesting") (list_data number_data r.nesting) m))))
 
 abbrev pub first_members : Figures → Members → Members
 first_members r m =
     put (codes "broken") (list_data clause_data r.broken)
     (put (codes "cities") (list_data (code_data 5) r.cities)
     (put (codes "cities_in_county") (list_data (code_data 5) r.cities_in_county)
-    (put (codes "congress") (list_data number_data r.congress) m)))
+    (put (codes "congress") (list_data number_data r.congress)
+    (put (codes "contiguity") (list_data break_data r.contiguity) m))))

@@ -35,7 +35,11 @@ fn broken_clauses(alloc: Global, pieces: &Pieces) -> Result<Vec<Clause>, AllocEr
     note(&mut broken, people.range.is_some(), Clause::Range)?;
     note(&mut broken, people.congress.len() > 0, Clause::Congress)?;
     note(&mut broken, pieces.contiguity.len() > 0, Clause::Contiguous)?;
-    note(&mut broken, pieces.unnested.nesting.len() > 0, Clause::Nested)?;
+    note(
+        &mut broken,
+        pieces.unnested.nesting.len() > 0,
+        Clause::Nested,
+    )?;
     Ok(broken)
 }
 

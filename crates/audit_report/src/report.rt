@@ -94,7 +94,7 @@ impl Report {
         Ok(())
     }
 
-    /// Puts in the keys from `contiguity` to `nesting`.
+    /// Puts in the keys from `counties` to `nesting`.
     fn put_middle(&self, alloc: Global, map: &mut Map<String, Value>) -> Result<(), AllocError>
         ensures { IfOk result (λ _. members_view map.new.entries ≡ middle_members self.now (members_view map.old.entries)) }
     {
@@ -115,19 +115,19 @@ impl Report {
             "counties",
             counties_value(alloc, self.counties.as_slice())?,
         )?;
+        Ok(())
+    }
+
+    /// Puts in the keys up to `contiguity`.
+    fn put_first(&self, alloc: Global, map: &mut Map<String, Value>) -> Result<(), AllocError>
+        ensures { IfOk result (λ _. members_view map.new.entries ≡ first_members self.now (members_view map.old.entries)) }
+    {
         put(
             map,
             alloc,
             "contiguity",
             breaks_value(alloc, self.contiguity.as_slice())?,
         )?;
-        Ok(())
-    }
-
-    /// Puts in the keys up to `congress`.
-    fn put_first(&self, alloc: Global, map: &mut Map<String, Value>) -> Result<(), AllocError>
-        ensures { IfOk result (λ _. members_view map.new.entries ≡ first_members self.now (members_view map.old.entries)) }
-    {
         put(
             map,
             alloc,

@@ -8,20 +8,20 @@ use Rattle.desk_model.specs.Block.{state_of}
 use Rattle.desk_model.specs.Geography.{AreBlocks, ids_of}
 
 abbrev pub id_of : ℕ → ℕ
-id_of k = 190010000000000 + k / 1770 * 20000000000 + k
+id_of k = 190010000000000 + k / 1770 * 10000000000 + k
 
 pub record AreByCounty (blocks : List BlockRow) (count : ℕ) : Type 0 where
   pub long : length blocks ≡ count
   pub ids : (k d : ℕ) → k < count → get_or (ids_of blocks) k d ≡ id_of k
   pub few : sum_by (λ b. b.population) blocks ≤ 7 * count
 
-nineteen : (k : ℕ) → k < 262144 → state_of (id_of k) ≡ 19
+nineteen : (k : ℕ) → k < 1048576 → state_of (id_of k) ≡ 19
 nineteen k few = omega arith
 
 rises : (k : ℕ) → id_of k < id_of (k + 1)
 rises k = omega arith
 
-pub are_blocks : (blocks : List BlockRow) (count : ℕ) → AreByCounty blocks count → 0 < count → count ≤ 262144 → AreBlocks blocks
+pub are_blocks : (blocks : List BlockRow) (count : ℕ) → AreByCounty blocks count → 0 < count → count ≤ 1048576 → AreBlocks blocks
 are_blocks blocks count made some few =
     let long : length (ids_of blocks) ≡ count = length-map blocks (λ (b : BlockRow). b.id) ∙ made.long in
     record {

@@ -19,10 +19,10 @@ count_of blocks count made = ap length made.ids ∙ length-range_with_len 190010
 at : (blocks : List BlockRow) (count : ℕ) → AreMade blocks count → (k d : ℕ) → k < count → get_or (ids_of blocks) k d ≡ 190010000000000 + k
 at blocks count made k d inside = ap (λ xs. get_or xs k d) made.ids ∙ get_or-range_with_len 190010000000000 count k d inside
 
-nineteen : (k : ℕ) → k < 262144 → state_of (190010000000000 + k) ≡ 19
+nineteen : (k : ℕ) → k < 1048576 → state_of (190010000000000 + k) ≡ 19
 nineteen k few = omega arith
 
-pub are_blocks : (blocks : List BlockRow) (count : ℕ) → AreMade blocks count → 0 < count → count ≤ 262144 → AreBlocks blocks
+pub are_blocks : (blocks : List BlockRow) (count : ℕ) → AreMade blocks count → 0 < count → count ≤ 1048576 → AreBlocks blocks
 are_blocks blocks count made some few = record {
   some = omega (arith, count_of blocks count made, length-map blocks (λ (b : BlockRow). b.id));
   few = omega (arith, count_of blocks count made, length-map blocks (λ (b : BlockRow). b.id));

@@ -46,7 +46,7 @@ fn measure(
 
 /// Over a made state of so many blocks.
 pub fn run(rt: &HostRuntime, count: usize, districts: u16) -> io::Result<()> {
-    if count == 0 || count > 262_144 || districts == 0 || districts > 999 {
+    if count == 0 || count > 1_048_576 || districts == 0 || districts > 999 {
         return Ok(());
     }
     let blocks = made_blocks(rt.alloc(), count)?;

@@ -12,7 +12,7 @@ pub const WIDTH: usize = 419;
 /// Blocks of one state with consecutive numbers.
 pub fn made_blocks(alloc: Global, count: usize) -> Result<Vec<BlockRow>, AllocError>
     requires some { 0 < count }
-    requires few { count ≤ 262144 }
+    requires few { count ≤ 1048576 }
     ensures { IfOk result (λ blocks. AreBlocks blocks.items) }
 {
     let mut blocks = Vec::with_capacity(alloc, count)?;
@@ -53,8 +53,8 @@ pub fn made_pairs(
     width: usize,
 ) -> Result<Vec<(BlockId, BlockId)>, AllocError>
     requires some { 0 < width }
-    requires narrow { width ≤ 262144 }
-    requires few { length blocks.now ≤ 262144 }
+    requires narrow { width ≤ 1048576 }
+    requires few { length blocks.now ≤ 1048576 }
     ensures { IfOk result (λ pairs. All (AreDifferentBlocks blocks.now) pairs.items) }
 {
     let mut pairs = Vec::with_capacity(alloc, 3 * blocks.len())?;
@@ -79,8 +79,8 @@ pub fn made_plan(
     districts: u16,
 ) -> Result<Vec<u16>, AllocError>
     requires some { 0 < count }
-    requires few { count ≤ 262144 }
-    requires striped { stripes ≤ 262144 }
+    requires few { count ≤ 1048576 }
+    requires striped { stripes ≤ 1048576 }
     requires districted { 0 < districts }
     requires numbered { districts ≤ 999 }
     ensures { IfOk result (λ plan. length plan.items ≡ count) }

@@ -17,7 +17,7 @@ fn told_of(pairs: &[(BlockId, BlockId)]) -> u64 {
 
 /// The best of 10 times, over the file of a made state of so many blocks.
 pub fn run(rt: &HostRuntime, path: &str, count: usize) -> io::Result<()> {
-    if count == 0 || count > 262_144 {
+    if count == 0 || count > 1_048_576 {
         return Ok(());
     }
     let text = fs::read(rt, path)?;

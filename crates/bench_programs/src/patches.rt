@@ -25,14 +25,14 @@ const DISTRICTS: u16 = 50;
 /// Blocks of one state, county by county.
 fn made_counties(alloc: Global, count: usize) -> Result<Vec<BlockRow>, AllocError>
     requires some { 0 < count }
-    requires few { count ≤ 262144 }
+    requires few { count ≤ 1048576 }
     ensures { IfOk result (λ blocks. AreBlocks blocks.items) }
 {
     let mut blocks = Vec::with_capacity(alloc, count)?;
     for i in 0..count {
         let county = i as u64 / 1_770;
         blocks.push(BlockRow {
-            id: BlockId::from_number(190_010_000_000_000 + county * 20_000_000_000 + i as u64),
+            id: BlockId::from_number(190_010_000_000_000 + county * 10_000_000_000 + i as u64),
             city: None,
             population: 7,
         })?;
@@ -42,7 +42,7 @@ fn made_counties(alloc: Global, count: usize) -> Result<Vec<BlockRow>, AllocErro
 
 /// A state of so many blocks.
 fn made_state(alloc: Global, count: usize) -> Option<Geography> {
-    if count == 0 || count > 262_144 {
+    if count == 0 || count > 1_048_576 {
         return None;
     }
     let blocks = made_counties(alloc, count).ok()?;
@@ -72,7 +72,7 @@ fn body_of(alloc: Global, blocks: &[BlockRow], district: u16) -> Result<Text, Al
 
 /// The blocks of a county.
 fn county(blocks: &[BlockRow], number: usize) -> &[BlockRow] {
-    if number > 262_144 || number * COUNTY >= blocks.len() {
+    if number > 1_048_576 || number * COUNTY >= blocks.len() {
         return &[];
     }
     let rest = &blocks[number * COUNTY..];

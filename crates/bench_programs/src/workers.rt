@@ -46,7 +46,7 @@ fn time_of<T: Threads + Sync>(
 {
     let start = Instant::now(rt)?;
     let report = if workers == 0 {
-        audit(rt.alloc(), geography, Kind::Senate, count, plan, None)?
+        audit(rt.alloc(), geography, Kind::Senate, count, plan, None, None)?
     } else {
         let kind = Kind::Senate;
         audit_with(
@@ -58,6 +58,7 @@ fn time_of<T: Threads + Sync>(
             kind,
             count,
             plan,
+            None,
             None,
         )?
     };
@@ -100,7 +101,7 @@ pub fn run<T: Threads + Sync>(
     count: usize,
     districts: u16,
 ) -> io::Result<()> {
-    if count == 0 || count > 262_144 || districts == 0 || districts > 999 {
+    if count == 0 || count > 1_048_576 || districts == 0 || districts > 999 {
         return Ok(());
     }
     let blocks = made_blocks(rt.alloc(), count)?;

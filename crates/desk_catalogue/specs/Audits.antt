@@ -13,7 +13,7 @@ use Rattle.audit_report.specs.ReportText.{report_text}
 -- the text tells the figures of a report on the subject
 pub record IsReportText (g : Ground) (subject : AuditSubject) (text : List ℕ) : Type 0 where
   pub figures : Figures
-  pub report : IsReport g subject.kind subject.n subject.districts subject.senate figures
+  pub report : IsReport g subject.kind subject.n subject.districts subject.beside figures
   pub told : text ≡ report_text figures
 
 -- a query is answered by the desk and audited by the law, unless memory is wanting

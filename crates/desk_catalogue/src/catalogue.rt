@@ -3,7 +3,8 @@ ghost use Rattle.std.specs.Prelude.{◌≡◌, ℕ, ◌<◌, List, ◌++◌, ◌
 ghost use Rattle.std.specs.Option.{option_map, option_copied};
 ghost use Rattle.std.specs.FinMap as map_of;
 ghost use Rattle.desk_model.specs.Step.{revision_limit};
-ghost use Rattle.desk_model.specs.Subject.{senate_companion as senate_companion_of, senate_revision as senate_revision_of, takes_senate};
+ghost use Rattle.desk_model.specs.Companions.{takes, AreTaken, companions_copied};
+ghost use Rattle.desk_model.specs.Subject.{revision_of_kind as revision_of_kind_of, companion_of, companions_of};
 ghost use Rattle.desk_catalogue.specs.Audits.{AskMay};
 ghost use Rattle.desk_catalogue.specs.Accepting.{IsAfter, IsRevisable, StepRefuses};
 ghost use Rattle.desk_catalogue.specs.Kept.{AreWhole, HasWhole, IsWhole, revision_in};
@@ -14,6 +15,7 @@ use crate::posted::districts_of;
 use crate::report::report;
 use baf_text::writing::write;
 use desk_model::command::{Command, Query};
+use desk_model::companions::Companions;
 use desk_model::geography::Geography;
 use desk_model::kind::Kind;
 use desk_model::name::PlanName;
@@ -102,7 +104,12 @@ impl Catalogue {
             },
             Query::Blocks => self.blocks(alloc),
             Query::Revision { plan, k } => self.revision(alloc, &plan, k),
-            Query::Audit { plan, k, senate } => self.audited(alloc, &plan, k, senate),
+            Query::Audit {
+                plan,
+                k,
+                senate,
+                congress,
+            } => self.audited(alloc, &plan, k, Companions { senate, congress }),
         }
     }
 
@@ -141,50 +148,68 @@ impl Catalogue {
         }
     }
 
-    /// Revision `j` of a senate plan, from 1.
-    fn senate_revision(&self, name: &PlanName, j: u32) -> Option<&Districts>
-        ensures value { option_copied result ≡ senate_revision_of (map_of.get self.now.plans name.now) j }
+    /// Revision `j` of a plan of the kind, from 1.
+    fn revision_of_kind(&self, kind: Kind, name: &PlanName, j: u32) -> Option<&Districts>
+        ensures value { option_copied result ≡ revision_of_kind_of kind (map_of.get self.now.plans name.now) j }
         ensures whole { IsWhole self.now.geography (option_copied result) }
     {
         let entry = self.plans.get(name)?;
-        if entry.kind() != Kind::Senate {
+        if entry.kind() != kind {
             return None;
         }
         entry.revision(j)
     }
 
-    /// The districts of the senate companion that is asked for, if one is, of a plan of the kind.
-    fn senate_companion(
+    /// The districts of the companion that is asked for, if one is, of a plan of the kind.
+    fn companion(
         &self,
+        beside: Kind,
         kind: Kind,
         asked: Option<(PlanName, u32)>,
     ) -> Result<Option<&Districts>, Refusal>
-        ensures ok { IfOk result (λ senate. senate_companion_of self.now kind asked ≡ Ok (option_copied senate)) }
-        ensures err { IfErr result (λ refusal. senate_companion_of self.now kind asked ≡ Err refusal) }
-        ensures whole { IfOk result (λ senate. IsWhole self.now.geography (option_copied senate)) }
-        ensures of_house { IfOk result (λ senate. IsSome senate → IsTrue (takes_senate kind)) }
+        ensures ok { IfOk result (λ found. companion_of self.now beside kind asked ≡ Ok (option_copied found)) }
+        ensures err { IfErr result (λ refusal. companion_of self.now beside kind asked ≡ Err refusal) }
+        ensures whole { IfOk result (λ found. IsWhole self.now.geography (option_copied found)) }
+        ensures taken { IfOk result (λ found. IsSome (option_copied found) → IsTrue (takes beside kind)) }
     {
         let Some((name, j)) = asked else {
             return Ok(None);
         };
-        if kind != Kind::House {
+        if !kind.takes(beside) {
             return Err(Refusal::BadCompanion);
         }
-        match self.senate_revision(&name, j) {
+        match self.revision_of_kind(beside, &name, j) {
             Some(districts) => Ok(Some(districts)),
             None => Err(Refusal::BadCompanion),
         }
     }
 
-    /// The answer to an audit of a revision of a plan, beside the senate companion that is asked for.
+    /// The districts of the companions that are asked for, of a plan of the kind.
+    fn companions(
+        &self,
+        kind: Kind,
+        asked: Companions<(PlanName, u32)>,
+    ) -> Result<Companions<&Districts>, Refusal>
+        ensures ok { IfOk result (λ found. companions_of self.now kind asked ≡ Ok (companions_copied found)) }
+        ensures err { IfErr result (λ refusal. companions_of self.now kind asked ≡ Err refusal) }
+        ensures senate { IfOk result (λ found. IsWhole self.now.geography (option_copied found.senate)) }
+        ensures congress { IfOk result (λ found. IsWhole self.now.geography (option_copied found.congress)) }
+        ensures taken { IfOk result (λ found. AreTaken kind (companions_copied found)) }
+    {
+        let senate = self.companion(Kind::Senate, kind, asked.senate)?;
+        let congress = self.companion(Kind::Congress, kind, asked.congress)?;
+        Ok(Companions { senate, congress })
+    }
+
+    /// The answer to an audit of a revision of a plan, beside the companions that are asked for.
     fn audited(
         &self,
         alloc: Global,
         name: &PlanName,
         k: u32,
-        asked: Option<(PlanName, u32)>,
+        asked: Companions<(PlanName, u32)>,
     ) -> Reply
-        ensures { AskMay self.now (Query.Audit name.now k asked) result }
+        ensures { AskMay self.now (Query.Audit name.now k asked.senate asked.congress) result }
     {
         let Some(geography) = self.geography() else {
             return Reply::Refused(Refusal::NotSealed);
@@ -195,11 +220,11 @@ impl Catalogue {
         let Some(districts) = entry.revision(k) else {
             return Reply::Refused(Refusal::NoRevision);
         };
-        let senate = match self.senate_companion(entry.kind(), asked) {
-            Ok(senate) => senate,
+        let beside = match self.companions(entry.kind(), asked) {
+            Ok(beside) => beside,
             Err(refusal) => return Reply::Refused(refusal),
         };
-        match report(alloc, geography, entry.kind(), entry.n(), districts, senate) {
+        match report(alloc, geography, entry.kind(), entry.n(), districts, beside) {
             Ok(text) => Reply::Audited(text),
             Err(_) => Reply::Refused(Refusal::Memory),
         }

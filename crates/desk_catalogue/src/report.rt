@@ -1,10 +1,11 @@
 //! The text of an audit.
-ghost use Rattle.std.specs.Prelude.{◌≡◌, ◌≤◌, length, IfOk, IfSome, IsSome, IsTrue};
+ghost use Rattle.std.specs.Prelude.{◌≡◌, ◌≤◌, length, IfOk};
 ghost use Rattle.std.specs.Option.{option_copied, option_map};
-ghost use Rattle.desk_model.specs.Subject.{takes_senate};
+ghost use Rattle.desk_model.specs.Companions.{AreLong, AreTaken, companions_copied};
 ghost use Rattle.desk_catalogue.specs.Audits.{IsReportText};
 
 use audit_report::audit::audit;
+use desk_model::companions::Companions;
 use desk_model::geography::Geography;
 use desk_model::kind::Kind;
 use desk_model::text::Text;
@@ -31,31 +32,33 @@ fn as_list(flat: &Option<Vec<u16>>) -> Option<&[u16]>
     }
 }
 
-/// The report on a plan's districts, beside those of its senate companion, as JSON.
+/// The report on a plan's districts, beside those of its companions, as JSON.
 pub fn report(
     alloc: Global,
     geography: &Geography,
     kind: Kind,
     n: u16,
     districts: &Districts,
-    senate: Option<&Districts>,
+    beside: Companions<&Districts>,
 ) -> Result<Text, AllocError>
     requires some { 1 ≤ n }
     requires few { n ≤ 999 }
     requires beside { length districts.now ≡ length geography.now.blocks }
-    requires senate_beside { IfSome (option_copied senate) (λ s. length s ≡ length geography.now.blocks) }
-    requires senate_of_house { IsSome senate → IsTrue (takes_senate kind) }
-    ensures { IfOk result (IsReportText geography.now (record { kind = kind; n = n; districts = districts.now; senate = option_copied senate.entry })) }
+    requires companions_beside { AreLong (length geography.now.blocks) (companions_copied beside) }
+    requires companions_taken { AreTaken kind (companions_copied beside) }
+    ensures { IfOk result (IsReportText geography.now (record { kind = kind; n = n; districts = districts.now; beside = companions_copied beside.entry })) }
 {
     let districts = districts.to_vec(alloc)?;
-    let beside = flat(alloc, senate)?;
+    let senate = flat(alloc, beside.senate)?;
+    let congress = flat(alloc, beside.congress)?;
     let report = audit(
         alloc,
         geography,
         kind,
         n,
         districts.as_slice(),
-        as_list(&beside),
+        as_list(&senate),
+        as_list(&congress),
     )?;
     let json = report.to_json(alloc)?;
     Ok(Text::from_vec(json.into_bytes()))

@@ -3,6 +3,7 @@ use Rattle.std.specs.Prelude.{ℕ, ◌==◌, Bool, true, false, ◌&&◌, if◌t
 use Rattle.std.specs.List.{before_first, after_first}
 use Rattle.percent_encoding.specs.Percent.{percent_decode}
 use Rattle.desk_model.specs.Name.{plan_name_of}
+use Rattle.desk_model.specs.declared.companions.Companions.{Companions}
 use Rattle.desk_model.specs.declared.kind.Kind.{Kind}
 use Rattle.desk_model.specs.declared.command.Query.{Query}
 use Rattle.desk_model.specs.declared.command.Command.TheVariants.{Create, Whole, Counties, Retire}
@@ -16,7 +17,7 @@ use Rattle.http_routes.specs.declared.method.Methods.TheVariants.{Make}
 use Rattle.http_routes.specs.Methods.{is_method, is_known, methods_of, takes}
 use Rattle.http_routes.specs.Routes.{page_of, plan_part, revision_part}
 use Rattle.field_text.specs.Digits.{number_of}
-use Rattle.http_routes.specs.Queries.{create_query, after_query, senate_query, is_no_query}
+use Rattle.http_routes.specs.Queries.{create_query, after_query, companions_query, is_no_query}
 
 -- the path is what stands before the first question mark, and the query what stands behind it (RFC 9112, section 3.2.1)
 abbrev pub path_of : List ℕ → List ℕ
@@ -61,11 +62,11 @@ revision_order None k query = order.Refused BadName
 revision_order (Some name) None query = order.Refused BadNumber
 revision_order (Some name) (Some k) query = plain_query (Revision name k) query
 
-abbrev pub audit_order : Option (List ℕ) → Option ℕ → Option (Option (List ℕ × ℕ)) → Order
-audit_order None k senate = order.Refused BadName
-audit_order (Some name) None senate = order.Refused BadNumber
+abbrev pub audit_order : Option (List ℕ) → Option ℕ → Option (Companions (List ℕ × ℕ)) → Order
+audit_order None k told = order.Refused BadName
+audit_order (Some name) None told = order.Refused BadNumber
 audit_order (Some name) (Some k) None = order.Refused BadQuery
-audit_order (Some name) (Some k) (Some senate) = order.Query (Audit name k senate)
+audit_order (Some name) (Some k) (Some beside) = order.Query (Audit name k beside.senate beside.congress)
 
 -- a plan is made or taken away
 abbrev pub plan_order : (method path query : List ℕ) → Order
@@ -82,7 +83,7 @@ order_on page.Plan method path query body = plan_order method path query
 order_on page.Revisions method path query body = whole_order (name_in path) (after_query query) body
 order_on page.Counties method path query body = counties_order (name_in path) (after_query query) body
 order_on page.Revision method path query body = revision_order (name_in path) (number_in path) query
-order_on page.Audit method path query body = audit_order (name_in path) (number_in path) (senate_query query)
+order_on page.Audit method path query body = audit_order (name_in path) (number_in path) (companions_query query)
 
 -- HEAD asks what GET asks; the method is judged before the path's parts and the query
 abbrev pub order_at : Option Page → (method path query body : List ℕ) → Order

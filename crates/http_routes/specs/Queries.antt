@@ -1,12 +1,14 @@
 -- What the query of a target says, as a form (application/x-www-form-urlencoded).
 use Rattle.std.specs.Prelude.{ℕ, Bool, true, false, ◌&&◌, if◌then◌else◌, nat_le, ◌==◌, List, [], ◌∷◌, map, Option, Some, None, option_map, codes}
-use Rattle.std.specs.List.{before_first, after_first}
+use Rattle.std.specs.List.{before_first, after_first, fold}
 use Rattle.std.specs.Str.{bytes_eq}
 use Rattle.std.specs.Str.Lossy.{utf8_lossy}
 use Rattle.form_urlencoded.specs.Form.{raw_pairs, decode}
 use Rattle.field_text.specs.Digits.{number_of}
 use Rattle.desk_model.specs.Name.{plan_name_of}
+use Rattle.desk_model.specs.declared.companions.Companions.{Companions}
 use Rattle.desk_model.specs.declared.kind.Kind.{Kind}
+use Rattle.desk_model.specs.Companions.{no_companions}
 use Rattle.desk_model.specs.Kind.{kind_named, sized}
 
 -- the text that a name or a value of the form stands for
@@ -61,14 +63,22 @@ addressed (Some name) (Some j) = Some (name, j)
 abbrev pub address_of : List ℕ → Option (List ℕ × ℕ)
 address_of text = addressed (plan_name_of (before_first (λ b. b == 58) text)) (number_of 5 (after_first (λ b. b == 58) text))
 
--- the revision of a companion, or none; nothing where the query tells anything else
-abbrev pub senate_address : List (List ℕ × List ℕ) → Option (Option (List ℕ × ℕ))
-senate_address [] = Some None
-senate_address (p ∷ []) = if bytes_eq p.0 (codes "senate") then option_map Some (address_of p.1) else None
-senate_address (p ∷ q ∷ more) = None
+-- the revision that a text tells, where none was told before
+abbrev pub address_once : Option (List ℕ × ℕ) → List ℕ → Option (List ℕ × ℕ)
+address_once None text = address_of text
+address_once (Some before) text = None
 
-abbrev pub senate_query : List ℕ → Option (Option (List ℕ × ℕ))
-senate_query query = senate_address (pairs_of query)
+-- the revisions that are told with one pair more: nothing at another name, at one that was told before and at a bad revision
+abbrev pub more_told : Option (Companions (List ℕ × ℕ)) → List ℕ × List ℕ → Option (Companions (List ℕ × ℕ))
+more_told None p = None
+more_told (Some told) p =
+    if bytes_eq p.0 (codes "senate") then option_map (λ at. record told { senate = Some at }) (address_once told.senate p.1)
+    else if bytes_eq p.0 (codes "congress") then option_map (λ at. record told { congress = Some at }) (address_once told.congress p.1)
+    else None
+
+-- the revisions of companions that a query tells, each at most once, in any order; nothing where it tells anything else
+abbrev pub companions_query : List ℕ → Option (Companions (List ℕ × ℕ))
+companions_query query = fold more_told (Some no_companions) (pairs_of query)
 
 -- there is no pair
 abbrev pub has_none : List (List ℕ × List ℕ) → Bool

@@ -3,12 +3,13 @@ ghost use Rattle.std.specs.Prelude.{◌≡◌, true, ◌&&◌, Some, IfOk, OnErr
 ghost use Rattle.std.specs.Str.{IsAscii};
 ghost use Rattle.http_routes.specs.Routes.{the_routes};
 ghost use Rattle.http_routes.specs.Orders.{order_of as order_of_request, order_at, order_on, name_in as name_in_path, create_order as create_order_of, whole_order as whole_order_of, counties_order as counties_order_of, retire_order as retire_order_of, plan_order as plan_order_of, plain_query as plain_query_of, revision_order as revision_order_of, audit_order as audit_order_of, number_in as number_in_path, is_decoded, may_decode, may_take_memory};
-ghost use Rattle.http_routes.specs.Queries.{create_query as create_query_of, after_query as after_query_of, senate_query as senate_query_of};
+ghost use Rattle.http_routes.specs.Queries.{create_query as create_query_of, after_query as after_query_of, companions_query as companions_query_of};
 
 use crate::method::{Methods, is_known, methods_of};
-use crate::query::{after_query, create_query, is_no_query, senate_query, short_number};
+use crate::query::{after_query, companions_query, create_query, is_no_query, short_number};
 use crate::route::{Page, around, page_of, plan_part, revision_part};
 use desk_model::command::{Command, Query};
+use desk_model::companions::Companions;
 use desk_model::name::PlanName;
 use desk_model::text::Text;
 use http::Method;
@@ -143,7 +144,7 @@ fn revision_order(alloc: Global, path: &[u8], query: &[u8]) -> Result<Order, All
 
 /// A look at `/plans/{p}/revisions/{k}/audit`.
 fn audit_order(alloc: Global, path: &[u8], query: &[u8]) -> Result<Order, AllocError>
-    ensures { IfOk result (λ order. order ≡ audit_order_of (name_in_path path.now) (number_in_path path.now) (senate_query_of query.now)) }
+    ensures { IfOk result (λ order. order ≡ audit_order_of (name_in_path path.now) (number_in_path path.now) (companions_query_of query.now)) }
 {
     let Some(plan) = name_in(alloc, path)? else {
         return Ok(Order::Refused(Error::BadName));
@@ -151,10 +152,16 @@ fn audit_order(alloc: Global, path: &[u8], query: &[u8]) -> Result<Order, AllocE
     let Some(k) = number_in(alloc, path)? else {
         return Ok(Order::Refused(Error::BadNumber));
     };
-    let Some(senate) = senate_query(alloc, query)? else {
+    let Some(beside) = companions_query(alloc, query)? else {
         return Ok(Order::Refused(Error::BadQuery));
     };
-    Ok(Order::Query(Query::Audit { plan, k, senate }))
+    let Companions { senate, congress } = beside;
+    Ok(Order::Query(Query::Audit {
+        plan,
+        k,
+        senate,
+        congress,
+    }))
 }
 
 /// What is asked for at `/plans/{p}`, by PUT or by DELETE.

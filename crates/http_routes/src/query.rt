@@ -3,11 +3,12 @@ ghost use Rattle.std.specs.Prelude.{◌≡◌, ℕ, List, [], ◌∷◌, length,
 ghost use Rattle.std.specs.Str.{bytes_eq};
 ghost use Rattle.std.specs.Cow.{cow_str_bytes};
 ghost use Rattle.form_urlencoded.specs.Form.{raw_pairs as raw_pairs_of, pair_text};
-ghost use Rattle.http_routes.specs.Queries.{form_text, size_of as size_of_texts, create_query as create_query_of, after_query as after_query_of, address_of as address_of_text, senate_query as senate_query_of, is_no_query as has_no_pair};
+ghost use Rattle.http_routes.specs.Queries.{form_text, size_of as size_of_texts, create_query as create_query_of, after_query as after_query_of, address_of as address_of_text, address_once as address_once_of, more_told, companions_query as companions_query_of, is_no_query as has_no_pair};
 ghost use Rattle.http_routes.specs.Pairs.{HasOne, HasTwo};
 ghost use Rattle.field_text.specs.Digits.{number_of};
 
 use crate::route::around;
+use desk_model::companions::Companions;
 use desk_model::kind::Kind;
 use desk_model::name::PlanName;
 use desk_model::size::PlanSize;
@@ -107,28 +108,56 @@ fn address_of(text: &[u8]) -> Option<(PlanName, u32)>
     Some((plan, j))
 }
 
-/// What the query of an audit tells: a revision of a `senate` companion, or none. `None` where it tells anything else.
-pub fn senate_query(
+/// The revision that a text tells, where none was told before.
+fn address_once(before: Option<(PlanName, u32)>, text: &[u8]) -> Option<(PlanName, u32)>
+    ensures { result ≡ address_once_of before text.now }
+{
+    match before {
+        None => address_of(text),
+        Some(_) => None,
+    }
+}
+
+/// The revisions that are told with one pair more: `senate` and `congress`, each once. `None` where it tells anything else.
+fn with_pair(
+    told: Companions<(PlanName, u32)>,
+    name: &CowStr<'_>,
+    value: &CowStr<'_>,
+) -> Option<Companions<(PlanName, u32)>>
+    ensures { result ≡ more_told (Some told) (cow_str_bytes name.now, cow_str_bytes value.now) }
+{
+    let Companions { senate, congress } = told;
+    if is_text(name, b"senate") {
+        let senate = Some(address_once(senate, value.as_bytes())?);
+        return Some(Companions { senate, congress });
+    }
+    if is_text(name, b"congress") {
+        let congress = Some(address_once(congress, value.as_bytes())?);
+        return Some(Companions { senate, congress });
+    }
+    None
+}
+
+/// What the query of an audit tells: a revision of each companion, or of none. `None` where it tells anything else.
+pub fn companions_query(
     alloc: Global,
     query: &[u8],
-) -> Result<Option<Option<(PlanName, u32)>>, AllocError>
-    ensures { IfOk result (λ senate. senate ≡ senate_query_of query.now) }
+) -> Result<Option<Companions<(PlanName, u32)>>, AllocError>
+    ensures { IfOk result (λ told. told ≡ companions_query_of query.now) }
 {
-    if is_no_query(query) {
-        return Ok(Some(None));
-    }
-    let Some(pair) = one_pair(query) else {
-        return Ok(None);
+    let mut told = Companions {
+        senate: None,
+        congress: None,
     };
-    let name = text(alloc, pair.0)?;
-    let value = text(alloc, pair.1)?;
-    if !is_text(&name, b"senate") {
-        return Ok(None);
+    for pair in raw_pairs(query) {
+        let name = text(alloc, pair.0)?;
+        let value = text(alloc, pair.1)?;
+        let Some(more) = with_pair(told, &name, &value) else {
+            return Ok(None);
+        };
+        told = more;
     }
-    match address_of(value.as_bytes()) {
-        Some(address) => Ok(Some(Some(address))),
-        None => Ok(None),
-    }
+    Ok(Some(told))
 }
 
 /// The number that 1 to 5 digits write.
