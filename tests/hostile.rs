@@ -290,8 +290,9 @@ impl Room {
     }
 }
 
-const NAMES: [(&str, &str); 6] = [
-    ("--geo", "geo.pl"), ("--seg1", "seg1.pl"), ("--seg2", "seg2.pl"), ("--seg3", "seg3.pl"), ("--gal", "neighbours.gal"), ("--plan", "house.txt"),
+const NAMES: [(&str, &str); 8] = [
+    ("--geo", "geo.pl"), ("--seg1", "seg1.pl"), ("--seg2", "seg2.pl"), ("--seg3", "seg3.pl"), ("--gal", "neighbours.gal"),
+    ("--plan", "house.txt"), ("--senate", "house.txt"), ("--congress", "diagonal.txt"),
 ];
 
 /// The words of `check` with one of the files read from standard input.
@@ -301,7 +302,7 @@ fn check_words(example: &str, place: usize) -> Vec<String> {
         words.push(word.to_string());
         words.push(if k == place { "/dev/stdin".to_string() } else { format!("{example}/{name}") });
     }
-    words.extend(["--kind", "house", "--districts", "2"].map(String::from));
+    words.extend(["--kind", "house", "--districts", "2", "--senate-districts", "2", "--congress-districts", "2"].map(String::from));
     words
 }
 

@@ -1,6 +1,7 @@
--- What the audit of a plan from files comes to: after the census files the neighbour file, the plan and its companion are read and judged in turn, and the first fault ends it.
+-- What the audit of a plan from files comes to: after the census files the neighbour file, the plan and its companions are read and judged in turn, and the first fault ends it.
 use Rattle.std.specs.Prelude.{◌≡◌, ℕ, Bool, true, false, nat_lt, List, ◌++◌, length, codes, Option, Result, Ok, Err, string_bytes}
 use Rattle.desk_model.specs.Geography.{Ground}
+use Rattle.desk_model.specs.declared.companions.Companions.{Companions}
 use Rattle.desk_model.specs.declared.kind.Kind.{Kind}
 use Rattle.audit_report.specs.Figures.{Figures}
 use Rattle.audit_report.specs.Report.{IsReport}
@@ -22,38 +23,47 @@ use Rattle.check_command.specs.Writing.{Prints}
 use Rattle.check_command.specs.declared.report.Audited.{Audited}
 
 -- the report of the plan, as text, and whether it names a clause
-pub record IsAudited (g : Ground) (kind : Kind) (n : ℕ) (plan : List ℕ) (companion : Option (List ℕ)) (audited : Audited) : Type 0 where
+pub record IsAudited (g : Ground) (kind : Kind) (n : ℕ) (plan : List ℕ) (beside : Companions (List ℕ)) (audited : Audited) : Type 0 where
   pub figures : Figures
-  pub is : IsReport g kind n plan companion figures
+  pub is : IsReport g kind n plan beside figures
   pub text : string_bytes audited.text ≡ report_text figures ++ codes "\n"
   pub broken : audited.broken ≡ nat_lt 0 (length figures.broken)
 
-abbrev pub Reports : Ground → Kind → ℕ → List ℕ → Option (List ℕ) → Result Audited FileFault → Type 0
-Reports g kind n districts companion (Ok audited) = IsAudited g kind n districts companion audited
-Reports g kind n districts companion (Err fault) = fault ≡ Plan file.Plan plan.Memory
+abbrev pub Reports : Ground → Kind → ℕ → List ℕ → Companions (List ℕ) → Result Audited FileFault → Type 0
+Reports g kind n districts beside (Ok audited) = IsAudited g kind n districts beside audited
+Reports g kind n districts beside (Err fault) = fault ≡ Plan file.Plan plan.Memory
+
+-- the congressional plan behind the senate plan, and the report of all
+abbrev pub ReportsBeside : Ground → Kind → ℕ → List ℕ → Option (List ℕ) → (before after : Option (Opening × ℕ)) → Result Audited FileFault → Type 0
+ReportsBeside g kind n districts senate before after =
+    Then (ReadsCompanion file.Congress g before after) NoFile (λ congress. Reports g kind n districts (record { senate = senate; congress = beside congress }))
 
 -- the openings of the files, in the order in which they are judged
 pub record Openings : Type 0 where
   pub census : Census
   pub neighbours : Opening
   pub plan : Opening
-  pub senate : Option (Opening × ℕ)
+  pub beside : Companions (Opening × ℕ)
 
 abbrev pub openings_of : {R : Type 0} → (R → Option (List ℕ)) → (R → ℕ) → (R → ℕ) → AuditFiles R → Openings
 openings_of unread turns failures files = record {
   census = census_of unread turns failures files.census;
   neighbours = opening_of unread turns failures files.gal;
   plan = opening_of unread turns failures files.plan;
-  senate = companion_of unread turns failures files.senate;
+  beside = record {
+    senate = companion_of unread turns failures files.senate;
+    congress = companion_of unread turns failures files.congress;
+  };
 }
 
 -- the files one after the other, and the report of what they say
 abbrev pub AuditsState : (before after : Openings) → Kind → ℕ → Result Audited FileFault → Type 0
 AuditsState before after kind n =
-    Then (ReadsState before.census after.census) ((after.neighbours ≡ before.neighbours) × (after.plan ≡ before.plan) × (after.senate ≡ before.senate)) (λ rows.
-    Then (ReadsGround rows.items before.neighbours after.neighbours) ((after.plan ≡ before.plan) × (after.senate ≡ before.senate)) (λ g.
-    Then (ReadsPlan file.Plan g n before.plan after.plan) (after.senate ≡ before.senate) (λ districts.
-    Then (ReadsCompanion g before.senate after.senate) NoFile (λ companion. Reports g kind n districts.items (beside companion)))))
+    Then (ReadsState before.census after.census) ((after.neighbours ≡ before.neighbours) × (after.plan ≡ before.plan) × (after.beside ≡ before.beside)) (λ rows.
+    Then (ReadsGround rows.items before.neighbours after.neighbours) ((after.plan ≡ before.plan) × (after.beside ≡ before.beside)) (λ g.
+    Then (ReadsPlan file.Plan g n before.plan after.plan) (after.beside ≡ before.beside) (λ districts.
+    Then (ReadsCompanion file.Senate g before.beside.senate after.beside.senate) (after.beside.congress ≡ before.beside.congress) (λ senate.
+    ReportsBeside g kind n districts.items (beside senate) before.beside.congress after.beside.congress))))
 
 -- 1 where the report names a broken clause, else 0
 abbrev pub report_status : Bool → Status

@@ -1,8 +1,10 @@
 //! `check` with a plan: the audit of a plan from files.
-ghost use Rattle.std.specs.Prelude.{◌≡◌, ◌≤◌, IsSome, IsTrue};
-ghost use Rattle.audit_report.specs.Clauses.{is_house};
+ghost use Rattle.std.specs.Prelude.{◌≡◌, ◌≤◌, length, IfSome, IsSome, IsTrue};
+ghost use Rattle.std.specs.Option.{option_copied};
+ghost use Rattle.desk_model.specs.Companions.{takes};
 ghost use Rattle.command_output.specs.Writing.{written_of};
-ghost use Rattle.check_command.specs.Auditing.{openings_of, AuditsState, report_status as status_of_report, EndsAudit, Audits};
+ghost use Rattle.state_files.specs.PlanFiles.{companion_of};
+ghost use Rattle.check_command.specs.Auditing.{openings_of, ReportsBeside, AuditsState, report_status as status_of_report, EndsAudit, Audits};
 
 use crate::printing::print;
 use crate::report::{Audited, report_of};
@@ -10,14 +12,46 @@ use byte_stream::sink::Sink;
 use byte_stream::source::Source;
 use command_output::status::Status;
 use command_output::telling::tell;
+use desk_model::companions::Companions;
+use desk_model::geography::Geography;
 use desk_model::kind::Kind;
 use state_files::census::read_state;
 use state_files::fault::{FileFault, PlanFile};
 use state_files::ground::read_ground;
 use state_files::open::AuditFiles;
-use state_files::plan_file::{districts_of, read_companion, read_plan};
+use state_files::plan_file::{Companion, districts_of, read_companion, read_plan};
 use std::alloc::Global;
 use std::thread::Threads;
+
+/// The report of a plan beside a senate plan, if there is one, and beside the congressional plan that a file says, or the file's
+/// fault.
+fn report_beside<T: Threads + Sync, R: Source>(
+    rt: &T,
+    alloc: Global,
+    workers: u32,
+    geography: &Geography,
+    kind: Kind,
+    districts: u16,
+    plan: &[u16],
+    senate: Option<&[u16]>,
+    congress: &mut Option<Companion<R>>,
+) -> Result<Audited, FileFault>
+    requires working { 1 ≤ workers }
+    requires some { 1 ≤ districts }
+    requires few { districts ≤ 999 }
+    requires long { length plan.now ≡ length geography.now.blocks }
+    requires senate_long { IfSome (option_copied senate) (λ s. length s ≡ length geography.now.blocks) }
+    requires senate_taken { IsSome senate → IsTrue (takes Kind.Senate kind) }
+    requires congress_taken { IsSome congress.old → IsTrue (takes Kind.Congress kind) }
+    ensures { ReportsBeside geography.now kind districts plan.now (option_copied senate.entry) (companion_of R.remaining R.turns R.failures congress.old) (companion_of R.remaining R.turns R.failures congress.new) result }
+{
+    let congress = read_companion(alloc, PlanFile::Congress, geography, congress)?;
+    let beside = Companions {
+        senate,
+        congress: districts_of(&congress),
+    };
+    report_of(rt, alloc, workers, geography, kind, districts, plan, beside)
+}
 
 /// The report of the plan that the files say, or their first fault.
 fn audit_of<T: Threads + Sync, R: Source>(
@@ -31,7 +65,8 @@ fn audit_of<T: Threads + Sync, R: Source>(
     requires working { 1 ≤ workers }
     requires some { 1 ≤ districts }
     requires few { districts ≤ 999 }
-    requires companion { IsSome files.old.senate → IsTrue (is_house kind) }
+    requires senate { IsSome files.old.senate → IsTrue (takes Kind.Senate kind) }
+    requires congress { IsSome files.old.congress → IsTrue (takes Kind.Congress kind) }
     ensures { AuditsState (openings_of R.remaining R.turns R.failures files.old) (openings_of R.remaining R.turns R.failures files.new) kind districts result }
 {
     let rows = read_state(alloc, &mut files.census)?;
@@ -43,9 +78,9 @@ fn audit_of<T: Threads + Sync, R: Source>(
         districts,
         &mut files.plan,
     )?;
-    let companion = read_companion(alloc, &geography, &mut files.senate)?;
-    let beside = districts_of(&companion);
-    report_of(
+    let senate = read_companion(alloc, PlanFile::Senate, &geography, &mut files.senate)?;
+    let beside = districts_of(&senate);
+    report_beside(
         rt,
         alloc,
         workers,
@@ -54,6 +89,7 @@ fn audit_of<T: Threads + Sync, R: Source>(
         districts,
         plan.as_slice(),
         beside,
+        &mut files.congress,
     )
 }
 
@@ -97,7 +133,8 @@ pub fn audit_plan<T: Threads + Sync, R: Source, W: Sink, E: Sink>(
     requires working { 1 ≤ workers }
     requires some { 1 ≤ districts }
     requires few { districts ≤ 999 }
-    requires companion { IsSome files.old.senate → IsTrue (is_house kind) }
+    requires senate { IsSome files.old.senate → IsTrue (takes Kind.Senate kind) }
+    requires congress { IsSome files.old.congress → IsTrue (takes Kind.Congress kind) }
     ensures { Audits (openings_of R.remaining R.turns R.failures files.old) (openings_of R.remaining R.turns R.failures files.new) kind districts result (written_of W.contents W.failures writer.old) (written_of W.contents W.failures writer.new) (written_of E.contents E.failures errors.old) (written_of E.contents E.failures errors.new) }
 {
     let outcome = audit_of(rt, alloc, workers, files, kind, districts);

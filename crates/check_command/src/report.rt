@@ -1,11 +1,11 @@
 //! The report of an audit, as it is printed.
-ghost use Rattle.std.specs.Prelude.{◌≡◌, ◌≤◌, length, IfOk, IfSome, IsSome, IsTrue};
-ghost use Rattle.std.specs.Option.{option_copied};
-ghost use Rattle.audit_report.specs.Clauses.{is_house};
+ghost use Rattle.std.specs.Prelude.{◌≡◌, ◌≤◌, length, IfOk};
+ghost use Rattle.desk_model.specs.Companions.{companions_copied, AreLong, AreTaken};
 ghost use Rattle.check_command.specs.Auditing.{IsAudited, Reports};
 
 use audit_report::audit::audit;
 use audit_workers::audit::audit_with;
+use desk_model::companions::Companions;
 use desk_model::gate::NoGate;
 use desk_model::geography::Geography;
 use desk_model::kind::Kind;
@@ -28,21 +28,38 @@ fn print_report<T: Threads + Sync>(
     kind: Kind,
     n: u16,
     plan: &[u16],
-    companion: Option<&[u16]>,
+    beside: Companions<&[u16]>,
 ) -> Result<Audited, AllocError>
     requires working { 1 ≤ workers }
     requires some { 1 ≤ n }
     requires few { n ≤ 999 }
-    requires beside { length plan.now ≡ length geography.now.blocks }
-    requires companion_beside { IfSome (option_copied companion) (λ c. length c ≡ length geography.now.blocks) }
-    requires companion_of_house { IsSome companion → IsTrue (is_house kind) }
-    ensures { IfOk result (IsAudited geography.now kind n plan.now (option_copied companion.entry)) }
+    requires long { length plan.now ≡ length geography.now.blocks }
+    requires companions_long { AreLong (length geography.now.blocks) (companions_copied beside) }
+    requires companions_taken { AreTaken kind (companions_copied beside) }
+    ensures { IfOk result (IsAudited geography.now kind n plan.now (companions_copied beside.entry)) }
 {
     let report = if workers == 1 {
-        audit(alloc, geography, kind, n, plan, companion)?
+        audit(
+            alloc,
+            geography,
+            kind,
+            n,
+            plan,
+            beside.senate,
+            beside.congress,
+        )?
     } else {
         audit_with(
-            rt, alloc, workers, &NoGate, geography, kind, n, plan, companion,
+            rt,
+            alloc,
+            workers,
+            &NoGate,
+            geography,
+            kind,
+            n,
+            plan,
+            beside.senate,
+            beside.congress,
         )?
     };
     let broken = report.broken.len() > 0;
@@ -51,7 +68,7 @@ fn print_report<T: Threads + Sync>(
     Ok(Audited { broken, text })
 }
 
-/// The report of a plan of n districts, by so many workers. `plan` and `companion` are as `audit_with` takes them.
+/// The report of a plan of n districts, by so many workers. `plan` and the plans beside it are as `audit_with` takes them.
 pub fn report_of<T: Threads + Sync>(
     rt: &T,
     alloc: Global,
@@ -60,17 +77,17 @@ pub fn report_of<T: Threads + Sync>(
     kind: Kind,
     n: u16,
     plan: &[u16],
-    companion: Option<&[u16]>,
+    beside: Companions<&[u16]>,
 ) -> Result<Audited, FileFault>
     requires working { 1 ≤ workers }
     requires some { 1 ≤ n }
     requires few { n ≤ 999 }
-    requires beside { length plan.now ≡ length geography.now.blocks }
-    requires companion_beside { IfSome (option_copied companion) (λ c. length c ≡ length geography.now.blocks) }
-    requires companion_of_house { IsSome companion → IsTrue (is_house kind) }
-    ensures { Reports geography.now kind n plan.now (option_copied companion.entry) result }
+    requires long { length plan.now ≡ length geography.now.blocks }
+    requires companions_long { AreLong (length geography.now.blocks) (companions_copied beside) }
+    requires companions_taken { AreTaken kind (companions_copied beside) }
+    ensures { Reports geography.now kind n plan.now (companions_copied beside.entry) result }
 {
-    match print_report(rt, alloc, workers, geography, kind, n, plan, companion) {
+    match print_report(rt, alloc, workers, geography, kind, n, plan, beside) {
         Ok(audited) => Ok(audited),
         Err(_) => Err(FileFault::Plan(PlanFile::Plan, PlanFault::Memory)),
     }

@@ -1,18 +1,19 @@
 -- What the program may be asked for.
-use Rattle.std.specs.Prelude.{◌≡◌, ◌≤◌, is_some, codes, Some}
+use Rattle.std.specs.Prelude.{◌≡◌, ◌≤◌, codes, Some}
 use Rattle.std.specs.Option.{option_copied}
 use Rattle.clap.specs.Matches.{first_value}
 use Rattle.clap.specs.declared.parser.matches.Found.{Found}
 use Rattle.state_files.specs.declared.open.CensusPaths.{CensusPaths}
+use Rattle.state_files.specs.Opens.{AreAlike}
 use Rattle.command_line.specs.Options.{AreTerms, IsSize, size_read, IsServing, serving_read}
 use Rattle.command_line.specs.declared.words.Job.{Job}
 use Rattle.command_line.specs.declared.words.Job.TheVariants.{Talk, Counts, Audit, Format, Load, Serve, Sweep}
 
--- an audit is asked for with its terms in range and 1 to 64 workers, and a senate plan's file goes with its number of districts
+-- an audit is asked for with its terms in range and 1 to 64 workers, and each companion's file goes with its number of districts
 abbrev pub IsJob : Job → Type 0
 IsJob Talk = Unit {0}
 IsJob (Counts paths) = Unit {0}
-IsJob (Audit paths terms workers) = AreTerms terms × (is_some paths.senate ≡ is_some terms.senate_districts) × (1 ≤ workers) × (workers ≤ 64)
+IsJob (Audit paths terms workers) = AreTerms terms × AreAlike paths.beside terms.beside × (1 ≤ workers) × (workers ≤ 64)
 IsJob (Format store size) = IsSize size
 IsJob (Load store census gal) = Unit {0}
 IsJob (Serve store serving) = IsServing serving
@@ -32,7 +33,8 @@ HasPaths found (Counts paths) = AreCensusPaths found paths
 HasPaths found (Audit paths terms workers) = AreCensusPaths found paths.census
     × (first_value found (codes "gal") ≡ Some paths.gal.now)
     × (first_value found (codes "plan") ≡ Some paths.plan.now)
-    × (first_value found (codes "senate") ≡ option_copied paths.senate)
+    × (first_value found (codes "senate") ≡ option_copied paths.beside.senate)
+    × (first_value found (codes "congress") ≡ option_copied paths.beside.congress)
 HasPaths found (Format store size) = (first_value found (codes "store") ≡ Some store.now)
     × (size_read (first_value found (codes "sectors")) (first_value found (codes "journal")) ≡ Some size)
 HasPaths found (Load store census gal) = AreCensusPaths found census

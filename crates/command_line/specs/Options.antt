@@ -3,9 +3,12 @@ use Rattle.std.specs.Prelude.{◌≡◌, false, ℕ, ◌≤◌, Bool, ◌&&◌, 
 use Rattle.std.specs.Char.{is_ascii_digit}
 use Rattle.std.specs.List.{list_all}
 use Rattle.std.specs.Str.Parse.{digits_value}
+use Rattle.desk_model.specs.declared.companions.Companions.{Companions}
 use Rattle.desk_model.specs.declared.kind.Kind.{Kind}
+use Rattle.desk_model.specs.declared.kind.Kind.TheVariants.{Congress, Senate}
+use Rattle.desk_model.specs.Companions.{takes}
 use Rattle.desk_model.specs.Kind.{kind_named, most_districts}
-use Rattle.audit_report.specs.Clauses.{is_house}
+use Rattle.state_files.specs.Opens.{AreAlike}
 use Rattle.command_line.specs.declared.options.Serving.{Serving}
 use Rattle.command_line.specs.declared.options.Size.{Size}
 use Rattle.command_line.specs.declared.options.Terms.{Terms}
@@ -73,45 +76,60 @@ abbrev pub workers_read : Option (List ℕ) → Option ℕ
 workers_read None = Some 1
 workers_read (Some text) = number_to 64 text
 
--- the districts of a senate plan, which goes with a house plan alone, and where both of its options are there
-abbrev pub senate_read : Kind → Bool → Option (List ℕ) → Option (Option ℕ)
-senate_read k senate None = if senate then None else Some None
-senate_read k senate (Some text) = if senate && is_house k then option_map Some (number_to 999 text) else None
+-- the districts of a companion, which goes with the kinds of plans that take it, and where both of its options are there
+abbrev pub beside_read : (beside kind : Kind) → Bool → Option (List ℕ) → Option (Option ℕ)
+beside_read beside k file None = if file then None else Some None
+beside_read beside k file (Some text) = if file && takes beside k then option_map Some (number_to (most_districts beside) text) else None
 
-abbrev pub terms_with : Kind → ℕ → Option (Option ℕ) → Option Terms
+abbrev pub companions_with : (senate congress : Option (Option ℕ)) → Option (Companions ℕ)
+companions_with None congress = None
+companions_with (Some senate) None = None
+companions_with (Some senate) (Some congress) = Some (record { senate = senate; congress = congress })
+
+-- of each companion, by whether its file is given and by the word for its number of districts
+abbrev pub companions_read : {X : Type 0} → Kind → (files : Companions X) → (words : Companions (List ℕ)) → Option (Companions ℕ)
+companions_read k files words =
+    companions_with (beside_read Senate k (is_some files.senate) words.senate) (beside_read Congress k (is_some files.congress) words.congress)
+
+abbrev pub terms_with : Kind → ℕ → Option (Companions ℕ) → Option Terms
 terms_with k n None = None
-terms_with k n (Some senate) = Some (record { kind = k; districts = n; senate_districts = senate })
+terms_with k n (Some beside) = Some (record { kind = k; districts = n; beside = beside })
 
-abbrev pub terms_counted : Kind → Option ℕ → Bool → Option (List ℕ) → Option Terms
-terms_counted k None senate senate_districts = None
-terms_counted k (Some n) senate senate_districts = terms_with k n (senate_read k senate senate_districts)
+abbrev pub terms_counted : {X : Type 0} → Kind → Option ℕ → (files : Companions X) → (words : Companions (List ℕ)) → Option Terms
+terms_counted k None files words = None
+terms_counted k (Some n) files words = terms_with k n (companions_read k files words)
 
-abbrev pub terms_of_kind : Option Kind → List ℕ → Bool → Option (List ℕ) → Option Terms
-terms_of_kind None districts senate senate_districts = None
-terms_of_kind (Some k) districts senate senate_districts = terms_counted k (number_to (most_districts k) districts) senate senate_districts
+abbrev pub terms_of_kind : {X : Type 0} → Option Kind → List ℕ → (files : Companions X) → (words : Companions (List ℕ)) → Option Terms
+terms_of_kind None districts files words = None
+terms_of_kind (Some k) districts files words = terms_counted k (number_to (most_districts k) districts) files words
 
 -- what is audited, where the words say it
-abbrev pub terms_read : (word districts : List ℕ) → Bool → Option (List ℕ) → Option Terms
-terms_read word districts senate senate_districts = terms_of_kind (kind_named word) districts senate senate_districts
+abbrev pub terms_read : {X : Type 0} → (word districts : List ℕ) → (files : Companions X) → (words : Companions (List ℕ)) → Option Terms
+terms_read word districts files words = terms_of_kind (kind_named word) districts files words
+
+-- whether there is any companion
+abbrev pub is_any : {X : Type 0} → Companions X → Bool
+is_any beside = is_some beside.senate || is_some beside.congress
 
 -- The form of the command: with the neighbour file, the plan, its kind and its number of districts the audit; with no option but the census files the counts.
-abbrev pub form_read : (gal plan : Bool) (word districts : Option (List ℕ)) → Bool → Option (List ℕ) → Option Form
-form_read gal plan None None senate senate_districts = if gal || plan || senate || is_some senate_districts then None else Some Counts
-form_read gal plan None (Some districts) senate senate_districts = None
-form_read gal plan (Some word) None senate senate_districts = None
-form_read gal plan (Some word) (Some districts) senate senate_districts =
-    if gal && plan then option_map Audit (terms_read word districts senate senate_districts) else None
+abbrev pub form_read : {X : Type 0} → (gal plan : Bool) (word districts : Option (List ℕ)) → (files : Companions X) → (words : Companions (List ℕ)) → Option Form
+form_read gal plan None None files words = if gal || plan || is_any files || is_any words then None else Some Counts
+form_read gal plan None (Some districts) files words = None
+form_read gal plan (Some word) None files words = None
+form_read gal plan (Some word) (Some districts) files words =
+    if gal && plan then option_map Audit (terms_read word districts files words) else None
 
 -- what an audit may be asked for
 pub record AreTerms (t : Terms) : Type 0 where
   pub some : 1 ≤ t.districts
   pub few : t.districts ≤ 999
-  pub of_house : IsSome t.senate_districts → IsTrue (is_house t.kind)
+  pub senate : IsSome t.beside.senate → IsTrue (takes Senate t.kind)
+  pub congress : IsSome t.beside.congress → IsTrue (takes Congress t.kind)
 
--- the terms have a senate plan exactly where one is given
-abbrev pub IsBeside : Bool → Form → Type 0
-IsBeside senate Counts = senate ≡ false
-IsBeside senate (Audit terms) = is_some terms.senate_districts ≡ senate
+-- the companions are those whose files are given
+abbrev pub HasCompanions : {X : Type 0} → Companions X → Form → Type 0
+HasCompanions files Counts = is_any files ≡ false
+HasCompanions files (Audit terms) = AreAlike files terms.beside
 
 abbrev pub IsForm : Form → Type 0
 IsForm Counts = Unit {0}

@@ -68,7 +68,7 @@ Statuses:
 pub(crate) const CHECK_HELP: &str =
     "With the census files alone it prints the numbers of blocks, counties and people, and the people of
 each county; with a plan its audit under Iowa Code 42.4, as one line of JSON. The files are judged in the order
-geo, seg1, seg2, seg3, gal, plan, senate, and the first fault ends the run.
+geo, seg1, seg2, seg3, gal, plan, senate, congress, and the first fault ends the run.
 
 Examples, in the folder 'example':
   ../plandesk check --geo geo.pl --seg1 seg1.pl --seg2 seg2.pl --seg3 seg3.pl

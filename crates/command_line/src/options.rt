@@ -1,17 +1,19 @@
 //! Which options of `check` go together, and the values of those that aren't paths.
-ghost use Rattle.std.specs.Prelude.{◌≡◌, ◌≤◌, IfSome, IsSome, IsTrue, IsSomeAnd, is_some};
+ghost use Rattle.std.specs.Prelude.{◌≡◌, ◌≤◌, IfSome, IsSome, IsTrue, is_some};
 ghost use Rattle.std.specs.Option.{option_copied};
-ghost use Rattle.audit_report.specs.Clauses.{is_house as is_house_kind};
-ghost use Rattle.command_line.specs.Options.{number_to as number_in, senate_read, terms_read, form_read, AreTerms, IsForm, IsBeside, workers_read, at_least, size_read, IsSize, idle_read, serving_read, IsServing};
+ghost use Rattle.desk_model.specs.Companions.{takes, companions_copied};
+ghost use Rattle.state_files.specs.Opens.{AreAlike};
+ghost use Rattle.command_line.specs.Options.{number_to as number_in, beside_read, companions_read, terms_read, is_any, form_read, AreTerms, IsForm, HasCompanions, workers_read, at_least, size_read, IsSize, idle_read, serving_read, IsServing};
 
+use desk_model::companions::Companions;
 use desk_model::kind::Kind;
 
-/// What is audited: a plan of so many districts, and beside a house plan a senate plan of so many.
-#[derive(Clone, Copy, PartialEq, Eq)]
+/// What is audited: a plan of so many districts, and the plans beside it, each of so many.
+#[derive(Clone, Copy)]
 pub struct Terms {
     pub kind: Kind,
     pub districts: u16,
-    pub senate_districts: Option<u16>,
+    pub beside: Companions<u16>,
 }
 
 /// What `check` is asked for.
@@ -21,16 +23,6 @@ pub enum Form {
     Counts,
     /// The audit of a plan.
     Audit(Terms),
-}
-
-fn is_house(kind: Kind) -> bool
-    ensures { result ≡ is_house_kind kind }
-{
-    match kind {
-        Kind::Congress => false,
-        Kind::Senate => false,
-        Kind::House => true,
-    }
 }
 
 /// How large a store is.
@@ -157,62 +149,99 @@ pub fn read_workers(word: Option<&[u8]>) -> Option<u16>
     }
 }
 
-/// The districts of the senate plan, where there is one. `None` where its options don't go with the others.
-fn senate_districts(kind: Kind, senate: bool, districts: Option<&[u8]>) -> Option<Option<u16>>
-    ensures value { result ≡ senate_read kind senate (option_copied districts.entry) }
-    ensures of_house { IfSome result (λ n. IsSome n → IsTrue (is_house_kind kind)) }
-    ensures beside { IfSome result (λ n. is_some n ≡ senate) }
+/// The districts of a companion of this kind, where there is one. `None` where its options don't go with the others.
+fn beside_districts(
+    beside: Kind,
+    kind: Kind,
+    file: bool,
+    districts: Option<&[u8]>,
+) -> Option<Option<u16>>
+    ensures value { result ≡ beside_read beside kind file (option_copied districts.entry) }
+    ensures taken { IfSome result (λ n. IsSome n → IsTrue (takes beside kind)) }
+    ensures alike { IfSome result (λ n. is_some n ≡ file) }
 {
     let Some(text) = districts else {
-        if senate {
+        if file {
             return None;
         }
         return Some(None);
     };
-    if !senate || !is_house(kind) {
+    if !file || !kind.takes(beside) {
         return None;
     }
-    let count = number_to(999, text)?;
+    let count = number_to(beside.most_districts(), text)?;
     Some(Some(count))
+}
+
+fn companions_districts(
+    kind: Kind,
+    files: Companions<&str>,
+    words: Companions<&[u8]>,
+) -> Option<Companions<u16>>
+    ensures value { result ≡ companions_read kind files.entry (companions_copied words.entry) }
+    ensures senate { IfSome result (λ beside. IsSome beside.senate → IsTrue (takes Kind.Senate kind)) }
+    ensures congress { IfSome result (λ beside. IsSome beside.congress → IsTrue (takes Kind.Congress kind)) }
+    ensures alike { IfSome result (AreAlike files.entry) }
+{
+    let senate = beside_districts(Kind::Senate, kind, files.senate.is_some(), words.senate)?;
+    let congress = beside_districts(
+        Kind::Congress,
+        kind,
+        files.congress.is_some(),
+        words.congress,
+    )?;
+    Some(Companions { senate, congress })
 }
 
 fn read_terms(
     word: &[u8],
     districts: &[u8],
-    senate: bool,
-    of_senate: Option<&[u8]>,
+    files: Companions<&str>,
+    words: Companions<&[u8]>,
 ) -> Option<Terms>
-    ensures value { result ≡ terms_read word.now districts.now senate (option_copied of_senate.entry) }
+    ensures value { result ≡ terms_read word.now districts.now files.entry (companions_copied words.entry) }
     ensures valid { IfSome result AreTerms }
-    ensures beside { IfSome result (λ terms. is_some terms.senate_districts ≡ senate) }
+    ensures alike { IfSome result (λ terms. AreAlike files.entry terms.beside) }
 {
     let kind = Kind::from_name(word)?;
     let districts = number_to(kind.most_districts(), districts)?;
-    let senate_districts = senate_districts(kind, senate, of_senate)?;
+    let beside = companions_districts(kind, files, words)?;
     Some(Terms {
         kind,
         districts,
-        senate_districts,
+        beside,
     })
 }
 
-/// What is asked for: by whether there is a neighbour file, a plan and a senate plan, and by the words for the kind and
-/// the numbers of districts. `None` where the options don't go together or a word is wrong.
+fn any_file(files: Companions<&str>) -> bool
+    ensures { result ≡ is_any files.entry }
+{
+    files.senate.is_some() || files.congress.is_some()
+}
+
+fn any_word(words: Companions<&[u8]>) -> bool
+    ensures { result ≡ is_any (companions_copied words.entry) }
+{
+    words.senate.is_some() || words.congress.is_some()
+}
+
+/// What is asked for: by whether there is a neighbour file and a plan, by the words for the kind and the number of districts, and by
+/// the companions' files and the words for their numbers of districts. `None` where the options don't go together or a word is wrong.
 pub fn read_form(
     gal: bool,
     plan: bool,
     word: Option<&[u8]>,
     districts: Option<&[u8]>,
-    senate: bool,
-    of_senate: Option<&[u8]>,
+    files: Companions<&str>,
+    words: Companions<&[u8]>,
 ) -> Option<Form>
-    ensures value { result ≡ form_read gal plan (option_copied word.entry) (option_copied districts.entry) senate (option_copied of_senate.entry) }
+    ensures value { result ≡ form_read gal plan (option_copied word.entry) (option_copied districts.entry) files.entry (companions_copied words.entry) }
     ensures valid { IfSome result IsForm }
-    ensures beside { IfSome result (IsBeside senate) }
+    ensures beside { IfSome result (HasCompanions files.entry) }
 {
     match (word, districts) {
         (None, None) => {
-            if gal || plan || senate || of_senate.is_some() {
+            if gal || plan || any_file(files) || any_word(words) {
                 return None;
             }
             Some(Form::Counts)
@@ -221,7 +250,7 @@ pub fn read_form(
             if !gal || !plan {
                 return None;
             }
-            let terms = read_terms(word, districts, senate, of_senate)?;
+            let terms = read_terms(word, districts, files, words)?;
             Some(Form::Audit(terms))
         }
         _ => None,

@@ -43,7 +43,7 @@ const SEG2: Entry = Entry::File("seg2", "Segment 2");
 
 const SEG3: Entry = Entry::File("seg3", "Segment 3");
 
-/// The options of an audit go together: each requires the next, and the last the first. So do those of a senate plan.
+/// The options of an audit go together: each requires the next, and the last the first. So do those of each companion.
 const CHECK: &[Entry] = &[
     GEO,
     SEG1,
@@ -90,6 +90,20 @@ const CHECK: &[Entry] = &[
         "The senate plan's number of districts: 1 to 999",
         Values::Numbers(1, 999),
         &["senate", "plan"],
+    ),
+    Entry::Beside(
+        "congress",
+        "FILE",
+        "The congressional plan that the districts of a house or senate plan are held against",
+        Values::Texts,
+        &["congress-districts"],
+    ),
+    Entry::Beside(
+        "congress-districts",
+        "N",
+        "The congressional plan's number of districts: 1 to 99",
+        Values::Numbers(1, 99),
+        &["congress", "plan"],
     ),
     Entry::Beside(
         "workers",

@@ -11,6 +11,7 @@ use crate::options::{
 use clap::ArgMatches;
 use clap::error::ErrorKind;
 use command_output::status::Status;
+use desk_model::companions::Companions;
 use state_files::open::{AuditPaths, CensusPaths};
 use std::alloc::{AllocError, Global};
 
@@ -55,6 +56,9 @@ impl Mistake {
 }
 
 const ONLY_BESIDE_HOUSE: &str = "error: '--senate <FILE>' goes with '--kind house' alone\n";
+
+const NOT_BESIDE_CONGRESS: &str =
+    "error: '--congress <FILE>' goes with '--kind house' or '--kind senate' alone\n";
 
 const WRONG_NUMBER: &str =
     "error: a number of districts is digits alone, 1 to 99 for a congress plan and 1 to 999 for others\n";
@@ -103,15 +107,22 @@ fn check_job<'a>(matches: &ArgMatches<'a>) -> Option<Job<'a>>
     let census = census_paths(matches)?;
     let gal = matches.get_str("gal");
     let plan = matches.get_str("plan");
-    let senate = matches.get_str("senate");
+    let files = Companions {
+        senate: matches.get_str("senate"),
+        congress: matches.get_str("congress"),
+    };
+    let words = Companions {
+        senate: bytes_of(matches.get_str("senate-districts")),
+        congress: bytes_of(matches.get_str("congress-districts")),
+    };
     let workers = read_workers(bytes_of(matches.get_str("workers")))?;
     let form = read_form(
         gal.is_some(),
         plan.is_some(),
         bytes_of(matches.get_str("kind")),
         bytes_of(matches.get_str("districts")),
-        senate.is_some(),
-        bytes_of(matches.get_str("senate-districts")),
+        files,
+        words,
     )?;
     match form {
         Form::Counts => Some(Job::Counts(census)),
@@ -122,7 +133,7 @@ fn check_job<'a>(matches: &ArgMatches<'a>) -> Option<Job<'a>>
                 census,
                 gal,
                 plan,
-                senate,
+                beside: files,
             };
             Some(Job::Audit(paths, terms, workers))
         }
@@ -193,6 +204,9 @@ fn usage(alloc: Global, text: &str) -> Mistake {
 fn wrong_options<'a>(matches: &ArgMatches<'a>) -> &'static str {
     if matches.get_str("senate").is_some() && matches.get_str("kind") != Some("house") {
         return ONLY_BESIDE_HOUSE;
+    }
+    if matches.get_str("congress").is_some() && matches.get_str("kind") == Some("congress") {
+        return NOT_BESIDE_CONGRESS;
     }
     if read_workers(bytes_of(matches.get_str("workers"))).is_none() {
         return WRONG_WORKERS;

@@ -34,6 +34,7 @@ fn plan_memory(file: PlanFile) -> &'static [u8]
     match file {
         PlanFile::Plan => b"plandesk: plan: Memory\n",
         PlanFile::Senate => b"plandesk: senate: Memory\n",
+        PlanFile::Congress => b"plandesk: congress: Memory\n",
     }
 }
 

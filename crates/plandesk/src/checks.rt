@@ -1,5 +1,6 @@
 //! `check` over the file system and the standard streams.
-ghost use Rattle.std.specs.Prelude.{◌≡◌, ◌≤◌, is_some};
+ghost use Rattle.std.specs.Prelude.{◌≤◌};
+ghost use Rattle.state_files.specs.Opens.{AreAlike};
 ghost use Rattle.command_line.specs.Options.{AreTerms};
 
 use crate::files::Files;
@@ -36,15 +37,11 @@ pub fn check_plan<T: Threads + Sync>(
 ) -> Status
     requires working { 1 ≤ workers }
     requires terms { AreTerms terms }
-    requires beside { is_some paths.senate ≡ is_some terms.senate_districts }
+    requires beside { AreAlike paths.beside terms.beside }
 {
     let (kind, districts) = (terms.kind, terms.districts);
     let mut opener = Files::new(rt);
-    let mut files: AuditFiles<ReadSource<File>> = open_audit(
-        &mut opener,
-        paths,
-        terms.senate_districts,
-    );
+    let mut files: AuditFiles<ReadSource<File>> = open_audit(&mut opener, paths, terms.beside);
     let mut writer = WriteSink::new(rt.stdout());
     let mut errors = WriteSink::new(rt.stderr());
     let status = audit_plan(

@@ -17,7 +17,6 @@ use Rattle.state_files.specs.declared.plan_file.Companion.{Companion}
 use Rattle.state_files.specs.declared.fault.OpenFault.{OpenFault}
 use Rattle.state_files.specs.declared.fault.OpenFault.TheVariants as opening
 use Rattle.state_files.specs.declared.fault.PlanFile.{PlanFile}
-use Rattle.state_files.specs.declared.fault.PlanFile.TheVariants as file
 use Rattle.state_files.specs.declared.fault.PlanFault.{PlanFault}
 use Rattle.state_files.specs.declared.fault.PlanFault.TheVariants.{Unreadable, TooLarge, Body, Memory}
 use Rattle.state_files.specs.declared.fault.FileFault.{FileFault}
@@ -62,16 +61,16 @@ JudgesPlan f g n text (Err fault) = (told : BafFault) × IsFaultOf (body_read g 
 abbrev pub ReadsPlan : PlanFile → Ground → ℕ → (before after : Opening) → Result (Vec ℕ Global) FileFault → Type 0
 ReadsPlan f g n before after = Then (ReadsBytes f before after) NoFile (λ bytes. JudgesPlan f g n bytes.items)
 
--- the senate plan's file, where there is one, and its number of districts
+-- a companion's file, where there is one, and its number of districts
 abbrev pub companion_of : {R : Type 0} → (R → Option (List ℕ)) → (R → ℕ) → (R → ℕ) → Option (Companion R) → Option (Opening × ℕ)
 companion_of unread turns failures None = None
 companion_of unread turns failures (Some companion) = Some (opening_of unread turns failures companion.opened, companion.districts)
 
-abbrev pub ReadsCompanion : Ground → (before after : Option (Opening × ℕ)) → Result (Option (Vec ℕ Global)) FileFault → Type 0
-ReadsCompanion g None after outcome = (after ≡ None) × (outcome ≡ Ok None)
-ReadsCompanion g (Some before) None outcome = ⊥
-ReadsCompanion g (Some before) (Some after) outcome = (after.1 ≡ before.1)
-    × Then (ReadsPlan file.Senate g before.1 before.0 after.0) NoFile (λ plan end. end ≡ Ok (Some plan)) outcome
+abbrev pub ReadsCompanion : PlanFile → Ground → (before after : Option (Opening × ℕ)) → Result (Option (Vec ℕ Global)) FileFault → Type 0
+ReadsCompanion f g None after outcome = (after ≡ None) × (outcome ≡ Ok None)
+ReadsCompanion f g (Some before) None outcome = ⊥
+ReadsCompanion f g (Some before) (Some after) outcome = (after.1 ≡ before.1)
+    × Then (ReadsPlan f g before.1 before.0 after.0) NoFile (λ plan end. end ≡ Ok (Some plan)) outcome
 
 -- the districts of a companion, where there is one
 abbrev pub beside : Option (Vec ℕ Global) → Option (List ℕ)

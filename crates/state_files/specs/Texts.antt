@@ -33,6 +33,7 @@ segment_file Three = codes "seg3"
 abbrev pub plan_file : PlanFile → List ℕ
 plan_file file.Plan = codes "plan"
 plan_file file.Senate = codes "senate"
+plan_file file.Congress = codes "congress"
 
 -- the file that a fault is of
 abbrev pub file_text : FileFault → List ℕ

@@ -23,6 +23,8 @@ pub enum PlanFile {
     Plan,
     /// The senate plan beside a house plan.
     Senate,
+    /// The congressional plan beside a house or senate plan.
+    Congress,
 }
 
 /// Why a plan's file isn't read.
@@ -100,11 +102,12 @@ fn plan_file(file: PlanFile) -> &'static str
     match file {
         PlanFile::Plan => "plan",
         PlanFile::Senate => "senate",
+        PlanFile::Congress => "congress",
     }
 }
 
 impl FileFault {
-    /// The name of its file: `geo`, `seg1`, `seg2`, `seg3`, `join`, `gal`, `plan` or `senate`.
+    /// The name of its file: `geo`, `seg1`, `seg2`, `seg3`, `join`, `gal`, `plan`, `senate` or `congress`.
     pub fn file(&self) -> &'static str
         ensures { result.now ≡ file_text self.now }
     {

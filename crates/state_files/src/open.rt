@@ -1,12 +1,13 @@
 //! Which file is opened by which name.
 ghost use Rattle.std.specs.Prelude.{◌≡◌, ℕ, List, Result, is_some};
 ghost use Rattle.std.specs.Option.{option_copied};
-ghost use Rattle.state_files.specs.Opens.{OpensCensus, OpensSenate, OpensAudit};
+ghost use Rattle.state_files.specs.Opens.{OpensCensus, OpensCompanion, AreAlike, OpensAudit};
 ghost use Rattle.state_files.specs.declared.fault.OpenFault.{OpenFault as NotOpened};
 
 use crate::census::CensusFiles;
 use crate::fault::OpenFault;
 use crate::plan_file::Companion;
+use desk_model::companions::Companions;
 
 /// The names of a state's census files.
 #[derive(Clone, Copy, Debug)]
@@ -23,8 +24,8 @@ pub struct AuditPaths<'a> {
     pub census: CensusPaths<'a>,
     pub gal: &'a str,
     pub plan: &'a str,
-    /// A senate plan beside a house plan.
-    pub senate: Option<&'a str>,
+    /// The plans beside which it is audited.
+    pub beside: Companions<&'a str>,
 }
 
 /// The openings of all files of an audit.
@@ -33,8 +34,9 @@ pub struct AuditFiles<R> {
     pub census: CensusFiles<R>,
     pub gal: Result<R, OpenFault>,
     pub plan: Result<R, OpenFault>,
-    /// A senate plan beside a house plan.
+    /// The plans beside which it is audited.
     pub senate: Option<Companion<R>>,
+    pub congress: Option<Companion<R>>,
 }
 
 /// What opens files by their names.
@@ -62,14 +64,14 @@ pub fn open_census<R, O: Opener<R>>(opener: &mut O, paths: CensusPaths<'_>) -> C
     }
 }
 
-/// Opens a senate plan, where there is one.
+/// Opens a companion, where there is one.
 fn open_companion<R, O: Opener<R>>(
     opener: &mut O,
     path: Option<&str>,
     districts: Option<u16>,
 ) -> Option<Companion<R>>
     requires { is_some path ≡ is_some districts }
-    ensures { OpensSenate O.opens opener.old (option_copied path.entry) districts result opener.new }
+    ensures { OpensCompanion O.opens opener.old (option_copied path.entry) districts result opener.new }
 {
     let path = path?;
     let districts = districts?;
@@ -77,24 +79,28 @@ fn open_companion<R, O: Opener<R>>(
     Some(Companion { opened, districts })
 }
 
-/// Opens the census files, the neighbour file, the plan and the senate plan, in that order. A senate plan has so many districts.
+/// Opens the census files, the neighbour file, the plan, and beside it the senate plan and the congressional one, in that order.
+/// These two have so many districts.
 pub fn open_audit<R, O: Opener<R>>(
     opener: &mut O,
     paths: AuditPaths<'_>,
-    senate_districts: Option<u16>,
+    districts: Companions<u16>,
 ) -> AuditFiles<R>
-    requires { is_some paths.senate ≡ is_some senate_districts }
-    ensures opened { OpensAudit O.opens opener.old paths.entry senate_districts result opener.new }
-    ensures beside { is_some result.senate ≡ is_some senate_districts }
+    requires { AreAlike paths.beside districts }
+    ensures opened { OpensAudit O.opens opener.old paths.entry districts result opener.new }
+    ensures senate { is_some result.senate ≡ is_some districts.senate }
+    ensures congress { is_some result.congress ≡ is_some districts.congress }
 {
     let census = open_census(opener, paths.census);
     let gal = opener.open(paths.gal);
     let plan = opener.open(paths.plan);
-    let senate = open_companion(opener, paths.senate, senate_districts);
+    let senate = open_companion(opener, paths.beside.senate, districts.senate);
+    let congress = open_companion(opener, paths.beside.congress, districts.congress);
     AuditFiles {
         census,
         gal,
         plan,
         senate,
+        congress,
     }
 }

@@ -12,7 +12,7 @@ use byte_stream::source::Source;
 use desk_model::geography::Geography;
 use std::alloc::Global;
 
-/// The senate plan that a house plan is nested in: its file's opening, and its number of districts.
+/// A plan beside which another one is audited: its file's opening, and its number of districts.
 #[derive(Drop)]
 pub struct Companion<R> {
     pub opened: Result<R, OpenFault>,
@@ -92,45 +92,41 @@ pub fn read_plan<R: Source>(
     judge(alloc, file, bytes.as_slice(), geography, n)
 }
 
-fn read_senate<R: Source>(
+fn read_beside<R: Source>(
     alloc: Global,
+    file: PlanFile,
     geography: &Geography,
     companion: &mut Companion<R>,
 ) -> Result<Vec<u16>, FileFault>
-    ensures read { ReadsPlan PlanFile.Senate geography.now companion.old.districts (opening_of R.remaining R.turns R.failures companion.old.opened) (opening_of R.remaining R.turns R.failures companion.new.opened) result }
+    ensures read { ReadsPlan file geography.now companion.old.districts (opening_of R.remaining R.turns R.failures companion.old.opened) (opening_of R.remaining R.turns R.failures companion.new.opened) result }
     ensures same { companion.new.districts ≡ companion.old.districts }
     ensures beside { IfOk result (λ plan. length plan.items ≡ length geography.now.blocks) }
 {
     let districts = companion.districts;
-    read_plan(
-        alloc,
-        PlanFile::Senate,
-        geography,
-        districts,
-        &mut companion.opened,
-    )
+    read_plan(alloc, file, geography, districts, &mut companion.opened)
 }
 
-/// The senate plan beside a house plan, where there is one.
+/// The district of each block in a companion, where there is one, or its file's fault.
 pub fn read_companion<R: Source>(
     alloc: Global,
+    file: PlanFile,
     geography: &Geography,
     companion: &mut Option<Companion<R>>,
 ) -> Result<Option<Vec<u16>>, FileFault>
-    ensures read { ReadsCompanion geography.now (companion_of R.remaining R.turns R.failures companion.old) (companion_of R.remaining R.turns R.failures companion.new) result }
+    ensures read { ReadsCompanion file geography.now (companion_of R.remaining R.turns R.failures companion.old) (companion_of R.remaining R.turns R.failures companion.new) result }
     ensures beside { IfOk result (λ plan. IfSome plan (λ p. length p.items ≡ length geography.now.blocks)) }
     ensures same { IfOk result (λ plan. is_some plan ≡ is_some companion.old) }
 {
     match companion {
         None => Ok(None),
-        Some(companion) => match read_senate(alloc, geography, companion) {
+        Some(companion) => match read_beside(alloc, file, geography, companion) {
             Ok(plan) => Ok(Some(plan)),
             Err(fault) => Err(fault),
         },
     }
 }
 
-/// The districts of a senate plan, where there is one.
+/// The districts of a companion, where there is one.
 pub fn districts_of(companion: &Option<Vec<u16>>) -> Option<&[u16]>
     ensures value { option_copied result ≡ beside companion.now }
     ensures same { is_some result ≡ is_some companion.now }
