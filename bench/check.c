@@ -376,7 +376,7 @@ static void audit(char **paths) {
         else if (apart[d]) { item(); printf("{\"district\":%u,\"from\":\"%015lu\",\"to\":\"%015lu\"}", d, rows[first[d] - 1].id, rows[apart[d] - 1].id); }
     fputs("],", stdout);
     print_divided("counties", plan, 0);
-    printf("\"districts\":%u,\"kind\":\"house\",\"nesting\":[", HOUSE);
+    printf("\"districts\":%u,\"divided_by_congress\":null,\"kind\":\"house\",\"nesting\":[", HOUSE);
     between = "";
     for (unsigned d = 1; d <= HOUSE; d++)
         if (bad[d]) { item(); printf("%u", d); }

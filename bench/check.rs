@@ -425,7 +425,7 @@ fn audit(paths: &[String]) {
     };
     let shown_range = if range { format!("[{},{}]", at(most), at(least)) } else { "null".into() };
     println!(
-        "{{\"broken\":{},\"cities\":{},\"cities_in_county\":{},\"congress\":[],\"contiguity\":{},\"counties\":{},\"districts\":{HOUSE},\"kind\":\"house\",\"nesting\":{},\"not_asked\":[],\"population\":{total},\"populations\":{},\"range\":{shown_range},\"unassigned\":{unassigned}}}",
+        "{{\"broken\":{},\"cities\":{},\"cities_in_county\":{},\"congress\":[],\"contiguity\":{},\"counties\":{},\"districts\":{HOUSE},\"divided_by_congress\":null,\"kind\":\"house\",\"nesting\":{},\"not_asked\":[],\"population\":{total},\"populations\":{},\"range\":{shown_range},\"unassigned\":{unassigned}}}",
         list(&broken, |name| format!("\"{name}\"")),
         list(&divided(cities(false)), |city| format!("\"{:05}\"", city.0)),
         list(&within, |city| format!("\"{city:05}\"")),

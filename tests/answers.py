@@ -85,11 +85,14 @@ HOUSE = baf('001', '001', '002', '002') + '\n'
 LISTED = 'BLOCKID|PLACE|POPULATION\n' + ''.join(
     f'{block}|{place}|{people}\n' for block, place, people in zip(BLOCKS, ['00100'] * 3 + [''], [505, 505, 495, 495]))
 REPORT = {'broken': [], 'cities': ['00100'], 'cities_in_county': [], 'congress': [], 'contiguity': [], 'counties': [],
-          'districts': 2, 'kind': 'house', 'nesting': [], 'not_asked': ['42.4.6'], 'population': 2000,
+          'districts': 2, 'divided_by_congress': None, 'kind': 'house', 'nesting': [], 'not_asked': ['42.4.6'], 'population': 2000,
           'populations': [1010, 990], 'range': None, 'unassigned': 0}
 NESTED = {**REPORT, 'broken': ['42.4.6'], 'nesting': [1, 2], 'not_asked': []}
 CROSSED = {**REPORT, 'broken': ['42.4.3'], 'cities_in_county': ['00100'], 'counties': ['001', '003'], 'kind': 'senate',
            'contiguity': [{'district': 1, 'from': BLOCKS[0], 'to': BLOCKS[3]},
                           {'district': 2, 'from': BLOCKS[1], 'to': BLOCKS[2]}],
            'not_asked': [], 'populations': [1000, 1000]}
+# all blocks in the first of two districts
+ONE_DISTRICT = {**REPORT, 'broken': ['42.4.1.a.mean', '42.4.1.a.range', '42.4.3'], 'cities': [], 'contiguity': [{'district': 2}],
+                'populations': [2000, 0], 'range': [1, 2]}
 LIST, NONE = get(''), plans()

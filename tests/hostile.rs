@@ -89,6 +89,7 @@ fn requests() -> Vec<Vec<u8>> {
         bare("GET http://d/plans"),
         bare("PUT /plans/%61b?kind=house&districts=2"),
         bare("GET /plans/a/revisions/1/audit?senate=b:1"),
+        bare("GET /plans/ab/revisions/1/audit?congress=a:1&senate=b:1"),
         "GET /plans HTTP/1.0\r\n\r\n".to_string(),
         "GET /plans HTTP/1.1\r\nHost: d\r\nConnection: close\r\n\r\n".to_string(),
     ]

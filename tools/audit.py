@@ -8,8 +8,8 @@ from fractions import Fraction
 
 LARGEST = 16 << 20
 KINDS = {'congress': 'Congressional', 'senate': 'Senate', 'house': 'House'}
-KEYS = ('broken', 'cities', 'cities_in_county', 'congress', 'contiguity', 'counties', 'districts', 'kind', 'nesting', 'not_asked',
-        'population', 'populations', 'range', 'unassigned')
+KEYS = ('broken', 'cities', 'cities_in_county', 'congress', 'contiguity', 'counties', 'districts', 'divided_by_congress', 'kind',
+        'nesting', 'not_asked', 'population', 'populations', 'range', 'unassigned')
 
 
 class Refused(Exception):
@@ -55,6 +55,7 @@ class Report:
     contiguity: list
     counties: list
     districts: int
+    divided_by_congress: list
     kind: str
     nesting: list
     not_asked: list
@@ -124,7 +125,8 @@ def bad_key(value):
         tests[key] = is_rising(value[key], lambda code, length=length: is_code(code, length))
     for key in 'congress', 'nesting':
         tests[key] = is_rising(value[key], is_district)
-    broken, gaps, people, pair = (value[key] for key in ('broken', 'contiguity', 'populations', 'range'))
+    broken, divided, gaps, people, pair = (value[key] for key in ('broken', 'divided_by_congress', 'contiguity', 'populations', 'range'))
+    tests['divided_by_congress'] = divided is None or value['kind'] != 'congress' and is_rising(divided, is_district)
     tests['broken'] = isinstance(broken, list) and all(isinstance(name, str) and is_clause(name) for name in broken)
     tests['not_asked'] = value['not_asked'] in ([], ['42.4.6'])
     tests['contiguity'] = isinstance(gaps, list) and all(is_gap(gap, n) for gap in gaps) and \

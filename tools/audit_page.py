@@ -213,6 +213,11 @@ def nesting_part(report):
                  'none')
 
 
+def congress_part(report):
+    return codes('Districts that lie in more than one congressional district, or in part in none',
+                 list(map(str, report.divided_by_congress)), 'none')
+
+
 def facts(report):
     pairs = (('Kind', KINDS[report.kind]), ('Districts', report.districts), ('People', grouped(report.population)),
              ('Ideal for a district', exact(report.ideal())), ('Most people', grouped(max(report.populations))),
@@ -236,6 +241,8 @@ def page(report, title, source):
              ('What does not hold together', gaps_part(report))]
     if report.kind == 'house':
         parts.append(('Nesting in senate districts', nesting_part(report)))
+    if report.divided_by_congress is not None:
+        parts.append(('Division by congressional districts', congress_part(report)))
     parts += [('Divided counties and cities', divided_part(report)), ('The report itself', element('pre', escape(source)))]
     body = (f'<h1>{escape(title)}</h1>\n<p class="verdict{" broken" if report.broken else ""}">{KINDS[report.kind]} plan of '
             f'{count(report.districts, "district")}: it {verdict(report)}.</p>\n{facts(report)}\n')

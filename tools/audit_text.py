@@ -62,6 +62,9 @@ def text(report, title):
     if report.nesting:
         yield ''
         yield list_line('Districts that are not nested', map(str, report.nesting))
+    if report.divided_by_congress is not None:
+        yield ''
+        yield list_line('Districts that congressional districts divide', list(map(str, report.divided_by_congress)))
     yield ''
     yield list_line('Divided counties', report.counties)
     yield list_line('Divided cities', report.cities)

@@ -4,7 +4,7 @@ from urllib.parse import urlsplit
 
 from audit import Refused
 
-# a revision of 262,144 blocks has some five million bytes, the list of 65,535 plans some eight
+# a revision of 1,048,576 blocks has some 21 million bytes, the list of 65,535 plans some eight
 LARGEST = 64 << 20
 SECONDS = 60
 NAME = re.compile(r'[A-Za-z0-9._-]{1,64}\Z')
@@ -41,9 +41,10 @@ class Desk:
             raise Refused(f'desk {answer.status} {refusal(body)}'.rstrip(), 4)
         return body
 
-    def audit(self, plan, revision, senate=None):
-        beside = f'?senate={senate}' if senate else ''
-        return self.ask(f'/plans/{plan}/revisions/{revision}/audit{beside}')
+    def audit(self, plan, revision, **beside):
+        """The report of a revision, beside those of the companions that are given by the names of their kinds."""
+        query = '&'.join(f'{kind}={address}' for kind, address in beside.items() if address)
+        return self.ask(f'/plans/{plan}/revisions/{revision}/audit' + (f'?{query}' if query else ''))
 
     def plans(self):
         """Each plan's name, kind, number of districts and number of revisions."""
