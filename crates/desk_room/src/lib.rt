@@ -4,4 +4,4 @@
 pub mod laws;
 mod rows;
 
-pub use rows::{differs_in, revision_rows};
+pub use rows::{changed_counties, revision_rows};

@@ -1,13 +1,14 @@
 //! The counties that a revision changes, and the rows that it writes.
-ghost use Rattle.std.specs.Prelude.{◌≡◌, ◌≤◌, ◌<◌, ◌+◌, ◌^◌, length, IfSome};
+ghost use Rattle.std.specs.Prelude.{◌≡◌, ◌≤◌, ◌<◌, ◌+◌, ◌^◌, length, IfOk, IfSome};
 ghost use Rattle.std.specs.Option.{option_copied};
 ghost use Rattle.desk_model.specs.Geography.{Ground};
 ghost use Rattle.desk_model.specs.Cuts.{cuts_of};
-ghost use Rattle.desk_model.specs.Room.{rows_for, differs, revision_rows as rows_of_revision};
-ghost use Rattle.desk_room.specs.Cutting.{part, AreWithin, cut_rows};
+ghost use Rattle.desk_model.specs.Room.{rows_for, revision_rows as rows_of_revision};
+ghost use Rattle.desk_room.specs.Cutting.{AreWithin, changes_in, cut_rows, is_changed as is_changed_between};
 
 use desk_model::cuts::Cut;
 use shared_districts::Districts;
+use std::alloc::{AllocError, Global};
 
 /// How many rows of so many elements hold a number of them.
 fn rows_for(size: usize, count: usize) -> usize
@@ -18,13 +19,34 @@ fn rows_for(size: usize, count: usize) -> usize
     (count + (size - 1)) / size
 }
 
-/// Whether a county's districts differ between two lists beside the blocks.
-pub fn differs_in(cut: Cut, last: &Districts, new: &Districts) -> bool
-    requires last { cut.first + cut.count ≤ length last.now }
+/// Whether a county changes: its districts differ from the last revision's, or there is none.
+fn is_changed(cut: Cut, last: Option<&Districts>, new: &Districts) -> bool
+    requires last { IfSome (option_copied last) (λ l. cut.first + cut.count ≤ length l) }
     requires new { cut.first + cut.count ≤ length new.now }
-    ensures { result ≡ differs (part cut last.now, part cut new.now) }
+    ensures { result ≡ is_changed_between (option_copied last.entry) new.now cut }
 {
-    !last.is_same_in(new, cut.first as usize, cut.count as usize)
+    match last {
+        None => true,
+        Some(last) => !last.is_same_in(new, cut.first as usize, cut.count as usize),
+    }
+}
+
+/// Whether each county changes. The lists have a district for each block.
+pub fn changed_counties(
+    alloc: Global,
+    cuts: &[Cut],
+    last: Option<&Districts>,
+    new: &Districts,
+) -> Result<Vec<bool>, AllocError>
+    requires last { IfSome (option_copied last) (λ l. AreWithin (length l) cuts.now) }
+    requires new { AreWithin (length new.now) cuts.now }
+    ensures { IfOk result (λ changes. changes.items ≡ changes_in (option_copied last.entry) new.now cuts.now) }
+{
+    let mut changes = Vec::with_capacity(alloc, cuts.len())?;
+    for cut in cuts {
+        changes.push(is_changed(*cut, last, new))?;
+    }
+    Ok(changes)
 }
 
 /// The rows of a county's districts: none where they are as in the last revision.
@@ -34,10 +56,8 @@ fn rows_of_cut(cut: Cut, last: Option<&Districts>, new: &Districts) -> usize
     ensures rows { result ≡ cut_rows (option_copied last.entry) new.now cut }
     ensures few { result ≤ 2 ^ 23 }
 {
-    if let Some(last) = last {
-        if !differs_in(cut, last, new) {
-            return 0;
-        }
+    if !is_changed(cut, last, new) {
+        return 0;
     }
     rows_for(512, cut.count as usize)
 }

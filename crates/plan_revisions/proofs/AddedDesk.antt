@@ -25,47 +25,26 @@ use Rattle.store_rows.specs.TidyLaws.{ChunksAreKept, NextIsOne, RevisionsMakeDes
 use Rattle.plan_table.specs.PlanRows.{revised_rows}
 use Rattle.plan_table.specs.Laws.{PlansAreTold}
 use Rattle.desk_pages.specs.Desks.{IsDeskMap}
+use Rattle.desk_room.specs.Cutting.{changes_in}
 use Rattle.plan_revisions.specs.Plans.{TakesRevision, with_next, with_next_of}
 use Rattle.plan_revisions.specs.Counties.{drawn}
-use Rattle.plan_revisions.specs.Adding.{AreRead, front_rows}
-use Rattle.plan_revisions.specs.Laws.{CanAdd, StaysNext, first_rows, all_rows}
+use Rattle.plan_revisions.specs.Adding.{AreRead, rows_put}
+use Rattle.plan_revisions.specs.Laws.{CanAdd, all_rows}
 use Rattle.plan_revisions.proofs.Limits.{with_another}
 use Rattle.plan_revisions.proofs.Desks.{is_with, is_still, numbers_are}
 use Rattle.plan_revisions.proofs.LastRevision.{told_plan, last_there, last_named, as_many, cuts_long}
 use Rattle.plan_revisions.proofs.Drawn.{firsts_drawn, changes_drawn, drawn_long}
 use Rattle.plan_revisions.proofs.ChunkLists.{few_counties, are_chunk_lists}
 
--- ---- the numbers that come next stay
-new_chunks_keep : (tag : ℕ) → (tag ≡ 107 → ⊥) → (m : KeyMap) (first : ℕ) (lists : List (List ℕ)) → SameTag tag m (put_rows m (new_chunk_rows first lists))
-new_chunks_keep tag apart m first [] rest = refl
-new_chunks_keep tag apart m first (l ∷ ls) rest =
-    ap (λ n. get n (tag ∷ rest)) (put_rows-append m (chunk_rows first l) (new_chunk_rows (first + 1) ls))
-    ∙ new_chunks_keep tag apart (put_rows m (chunk_rows first l)) (first + 1) ls rest
-    ∙ chunks_keep_tag m first l tag apart rest
-
-front_keeps : (tag : ℕ) → (tag ≡ 107 → ⊥) → (tag ≡ 82 → ⊥) → (m : KeyMap) (first : ℕ) (lists : List (List ℕ)) (row : PlanRow) (numbers : List ℕ) → SameTag tag m (put_rows m (front_rows first lists row numbers))
-front_keeps tag no_chunk no_part m first lists row numbers rest =
-    ap (λ n. get n (tag ∷ rest)) (put_rows-append m (new_chunk_rows first lists) (name_rows row.number (row.revisions + 1) numbers))
-    ∙ names_keep_tag (put_rows m (new_chunk_rows first lists)) row.number (row.revisions + 1) numbers tag no_part rest
-    ∙ new_chunks_keep tag no_chunk m first lists rest
-
-pub numbers_stay : (m : KeyMap) (next : Counters) (first : ℕ) (lists : List (List ℕ)) (row : PlanRow) (numbers : List ℕ) → StaysNext m (put_rows m (front_rows first lists row numbers)) next
-numbers_stay m next first lists row numbers =
-    let same = front_keeps 65 (λ same. absurd (omega arith)) (λ same. absurd (omega arith)) m first lists row numbers [] in
-    record {
-      before = subst (λ (o : Option (List ℕ)). MatchOption o (next ≡ no_numbers) (λ value. value ≡ counters_bytes next)) same;
-      after = subst (λ (o : Option (List ℕ)). MatchOption o (next ≡ no_numbers) (λ value. value ≡ counters_bytes next)) (sym same);
-    }
-
 -- ---- how many rows
-pub rows_few : RowsAreCounted → (g : Ground) (last : Option (List ℕ)) (next : List ℕ) (row : PlanRow) (counters : Counters) (kept : List ℕ) → length (first_rows g last next row counters kept) + 2 ≡ revision_rows g last next
-rows_few counted g last next row counters kept =
-    let numbers = drawn counters.chunk 0 kept last next (cuts_of g) in
+pub rows_few : RowsAreCounted → (g : Ground) (name : List ℕ) (last : Option (List ℕ)) (next : List ℕ) (row : PlanRow) (counters : Counters) (kept : List ℕ) → length (all_rows g name last next row counters kept) ≡ revision_rows g last next
+rows_few counted g name last next row counters kept =
+    let numbers = drawn counters.chunk 0 kept (changes_in last next (cuts_of g)) in
     let long : length numbers ≡ length (sizes g) = drawn_long counters.chunk 0 kept last next (cuts_of g) ∙ cuts_long g in
     let chunks = new_chunk_rows counters.chunk (changed g last next) in
     let names = name_rows row.number (row.revisions + 1) numbers in
-    let two = revised_rows [] row (length (changed g last next)) counters in
-    sym (length-append (chunks ++ names) two) ∙ ap length (append_assoc chunks names two) ∙ counted g last next counters [] row numbers long
+    let two = revised_rows name row (length (changed g last next)) counters in
+    ap length (append_assoc chunks names two) ∙ counted g last next counters name row numbers long
 
 -- ---- the chunks of the revision
 clash : (o : Option (List ℕ)) (x : List ℕ) → o ≡ None → o ≡ Some x → ⊥
@@ -87,7 +66,7 @@ last_or_none false revisions last there = at_place revisions last there
 
 module _ (kept_law : ChunksAreKept) (firsts : FirstsAreDrawn) (changes : ChangesAreDrawn) (counties : CutsAreCounties) (cut_law : ListsAreCut) (m : KeyMap) (g : Ground) (name : List ℕ) (next : List ℕ) (row : PlanRow) (counters : Counters) (kept : List ℕ) (p : Plan)
     (told : row ≡ plan_row_of row.number p) (has : HasPlan m g name row.number p) (read : AreRead name (length (cuts_of g)) row counters kept m) where
-  pub is_drawn : (last : Option (List ℕ)) → last_revision p ≡ last → CanAdd g last next row counters → IsDrawn m counters row.number (changed g last next) (drawn counters.chunk 0 kept last next (cuts_of g)) (cut g next)
+  pub is_drawn : (last : Option (List ℕ)) → last_revision p ≡ last → CanAdd g last next row counters → IsDrawn m counters row.number (changed g last next) (drawn counters.chunk 0 kept (changes_in last next (cuts_of g))) (cut g next)
   is_drawn None last_is can =
       let few = few_counties counties g can.blocks in
       let many = as_many g next in
@@ -111,11 +90,9 @@ module _ (kept_law : ChunksAreKept) (firsts : FirstsAreDrawn) (changes : Changes
       (changes m counters row.number kept (cut g last) (cut g next) (subst (λ (numbers : List ℕ). AreKept m row.number numbers (cut g last)) (sym same) stay) (also ∙ sym many) (omega arith) (are_chunk_lists counties cut_law g next can.blocks can.long can.each))
 
 -- ---- the rows, in the order in which they are put
-in_order : (counters after : Counters) (name : List ℕ) (row other : PlanRow) (lists : List (List ℕ)) (numbers : List ℕ) → counters ≡ after → row ≡ other
-    → front_rows counters.chunk lists row numbers ++ revised_rows name row (length lists) after ≡ rows_of_revision counters name other lists numbers
-in_order counters after name row other lists numbers same told =
-    append_assoc (new_chunk_rows counters.chunk lists) (name_rows row.number (row.revisions + 1) numbers) (revised_rows name row (length lists) after)
-    ∙ ap (λ (n : Counters). new_chunk_rows counters.chunk lists ++ (name_rows row.number (row.revisions + 1) numbers ++ revised_rows name row (length lists) n)) (sym same)
+in_order : (counters : Counters) (name : List ℕ) (row other : PlanRow) (lists : List (List ℕ)) (numbers : List ℕ) → row ≡ other → rows_put name row counters lists numbers (length lists) ≡ rows_of_revision counters name other lists numbers
+in_order counters name row other lists numbers told =
+    append_assoc (new_chunk_rows counters.chunk lists) (name_rows row.number (row.revisions + 1) numbers) (revised_rows name row (length lists) counters)
     ∙ ap (λ (r : PlanRow). rows_of_revision counters name r lists numbers) told
 
 next_there : (d : Desk) (name : List ℕ) (next : List ℕ) (p : Plan) → get d.plans name ≡ Some p → record d { plans = insert d.plans name (with_revision p next) } ≡ with_next name next d
@@ -124,24 +101,21 @@ next_there d name next p there = ap (λ (o : Option Plan). with_next_of d name n
 module _ (told : PlansAreTold) (one : NextIsOne) (makes : RevisionsMakeDesks) (kept_law : ChunksAreKept) (firsts : FirstsAreDrawn) (changes : ChangesAreDrawn) (counties : CutsAreCounties) (cut_law : ListsAreCut) where
   pub desks_added : (g : Ground) (name : List ℕ) (last : Option (List ℕ)) (next : List ℕ) (row : PlanRow) (counters : Counters) (kept : List ℕ) → CanAdd g last next row counters
       → (m : KeyMap) (d : Desk) → IsDeskMap m d → TakesRevision g name last d → AreRead name (length (cuts_of g)) row counters kept m
-      → (after : Counters) → CountersFit after → IsNext (put_rows m (first_rows g last next row counters kept)) after
-      → IsDeskMap (put_rows m (all_rows g name last next row counters kept after)) (with_next name next d)
-  desks_added g name last next row counters kept can m d is says read after fit next_is =
-      let numbers = drawn counters.chunk 0 kept last next (cuts_of g) in
+      → IsDeskMap (put_rows m (all_rows g name last next row counters kept)) (with_next name next d)
+  desks_added g name last next row counters kept can m d is says read =
+      let numbers = drawn counters.chunk 0 kept (changes_in last next (cuts_of g)) in
       let lists = changed g last next in
       let p = says.plan in
       let row_is = told_plan told m d g name row p is.desk says.geography says.there read.found can.row_fits in
-      let first_are : is.tidy.next ≡ counters = numbers_are one m is.tidy counters can.fit read.is_next in
-      let last_are : is.tidy.next ≡ after = numbers_are one m is.tidy after fit ((numbers_stay m after counters.chunk lists row numbers).before next_is) in
-      let same : counters ≡ after = sym first_are ∙ last_are in
+      let are : is.tidy.next ≡ counters = numbers_are one m is.tidy counters can.fit read.is_next in
       let draws = is_drawn kept_law firsts changes counties cut_law m g name next row counters kept p row_is.0 row_is.1 read last says.last_is can in
       let made = (makes m is.tidy g d.plans name row.number p next lists numbers (is_with m d g says.geography is.desk) says.there row_is.1 can.long says.room
-      (subst (λ (n : Counters). n.chunk + length lists < 2 ^ 64) (sym first_are) can.room)
-      (subst (λ (n : Counters). IsDrawn m n row.number lists numbers (cut g next)) (sym first_are) draws)).put in
-      let order : all_rows g name last next row counters kept after ≡ rows_of_revision counters name (plan_row_of row.number p) lists numbers = in_order counters after name row (plan_row_of row.number p) lists numbers same row_is.0 in
-      let rows : all_rows g name last next row counters kept after ≡ rows_of_revision is.tidy.next name (plan_row_of row.number p) lists numbers = order ∙ ap (λ (n : Counters). rows_of_revision n name (plan_row_of row.number p) lists numbers) (sym first_are) in
+      (subst (λ (n : Counters). n.chunk + length lists < 2 ^ 64) (sym are) can.room)
+      (subst (λ (n : Counters). IsDrawn m n row.number lists numbers (cut g next)) (sym are) draws)).put in
+      let rows : all_rows g name last next row counters kept ≡ rows_of_revision is.tidy.next name (plan_row_of row.number p) lists numbers =
+      in_order counters name row (plan_row_of row.number p) lists numbers row_is.0 ∙ ap (λ (n : Counters). rows_of_revision n name (plan_row_of row.number p) lists numbers) (sym are) in
       let sized = is.limits.sizes name p says.there in
-      subst (λ (e : Desk). IsDeskMap (put_rows m (all_rows g name last next row counters kept after)) e) (next_there d name next p says.there)
+      subst (λ (e : Desk). IsDeskMap (put_rows m (all_rows g name last next row counters kept)) e) (next_there d name next p says.there)
       (subst (λ (rs : List Row). IsDeskMap (put_rows m rs) (record d { plans = insert d.plans name (with_revision p next) })) (sym rows) (record {
         desk = is_still _ d g _ says.geography made.desk;
         tidy = made.tidy.0;

@@ -1,15 +1,15 @@
 //! Plans that get one revision more.
-ghost use Rattle.std.specs.Prelude.{◌≡◌, length, IfSome, MatchResult};
-ghost use Rattle.std.specs.Option.{option_copied};
+ghost use Rattle.std.specs.Prelude.{◌≡◌, ℕ, List, Option, length, MatchResult};
 ghost use Rattle.desk_model.specs.Cuts.{cuts_of};
 ghost use Rattle.desk_model.specs.Room.{changed, revision_rows};
 ghost use Rattle.page_store.specs.Transactions.{count_of, txn_pages, IsQuiet};
 ghost use Rattle.plan_table.specs.PlanRows.{HasChunkNumbers};
+ghost use Rattle.desk_room.specs.Cutting.{changes_in};
 ghost use Rattle.plan_revisions.specs.Steps.{IsStepped, StepErr};
 ghost use Rattle.plan_revisions.specs.Plans.{TakesRevision, with_next};
 
 use crate::counties::{count_changes, draw};
-use crate::laws::{changes_are_new, counties_are_chunks, desks_are_added};
+use crate::laws::{counties_are_chunks, desks_are_added};
 use crate::reads::read_plan;
 use crate::revisions::put_revision;
 use desk_model::cuts::Cut;
@@ -24,58 +24,55 @@ use shared_districts::Districts;
 use std::alloc::Global;
 use store_rows::upkeep::next_is_one;
 
-/// Adds a revision to a plan: the districts of all blocks. `cuts` are the geography's counties, and `last` is the plan's last revision,
-/// if it has one, which it is for the caller to know; a county that is as it was there takes no new chunk. `Spent` comes where the
-/// store has no number left for each chunk. After an error the transaction can only be abandoned; `DeviceFault` comes also where
-/// the store holds no such plan, or one that has no room for a revision.
+/// Adds a revision to a plan: the districts of all blocks. `cuts` are the geography's counties, and `changes` says of each whether
+/// it changes from the plan's last revision, which is for the caller to know: one that doesn't takes no new chunk. `Spent` comes
+/// where the store has no number left for each chunk. After an error the transaction can only be abandoned; `DeviceFault` comes
+/// also where the store holds no such plan, or one that has no room for a revision.
 pub fn add<D: SectorDevice>(
     alloc: Global,
     txn: &mut Txn,
     pages: &mut Pages<D>,
     geography: &Geography,
     cuts: &[Cut],
+    changes: &[bool],
     name: &PlanName,
-    last: Option<&Districts>,
     next: &Districts,
 ) -> Result<Change, TreeError>
     requires begun { txn_pages txn.old ≡ count_of pages.old }
     requires cut { cuts.now ≡ cuts_of geography.now }
-    requires last { IfSome (option_copied last) (λ l. length l ≡ length geography.now.blocks) }
+    requires each { length changes.now ≡ length cuts.now }
     requires next { length next.now ≡ length geography.now.blocks }
     ensures quiet { IsQuiet pages.old pages.new }
     ensures begun { txn_pages txn.new ≡ count_of pages.new }
-    ensures add { MatchResult result (λ change. IsStepped (TakesRevision geography.now name.now (option_copied last.entry)) (with_next name.now next.now) (revision_rows geography.now (option_copied last.entry) next.now) (HasChunkNumbers (length (changed geography.now (option_copied last.entry) next.now))) txn.old txn.new pages.old pages.new change) (λ e. StepErr (TakesRevision geography.now name.now (option_copied last.entry)) (revision_rows geography.now (option_copied last.entry) next.now) txn.old pages.old pages.new e) }
+    ensures add { (last : Option (List ℕ)) → changes.now ≡ changes_in last next.now cuts.now → MatchResult result (λ change. IsStepped (TakesRevision geography.now name.now last) (with_next name.now next.now) (revision_rows geography.now last next.now) (HasChunkNumbers (length (changed geography.now last next.now))) txn.old txn.new pages.old pages.new change) (λ e. StepErr (TakesRevision geography.now name.now last) (revision_rows geography.now last next.now) txn.old pages.old pages.new e) }
 {
     desks_are_added();
     counties_are_chunks();
-    changes_are_new();
     next_is_one();
     cuts_are_within();
     next.districts_fit();
     let _blocks = geography.blocks();
     let read = read_plan(alloc, txn, pages, name, cuts.len())?;
-    let used = count_changes(cuts, last, next);
+    let used = count_changes(changes);
     let first = read.next.chunk;
     if used > u64::MAX - first {
         return Ok(Change::Spent);
     }
-    let Ok(numbers) = draw(alloc, cuts, last, next, read.kept.as_slice(), first) else {
+    let Ok(numbers) = draw(alloc, changes, read.kept.as_slice(), first) else {
         return Err(TreeError::Memory);
     };
-    match put_revision(
+    put_revision(
         alloc,
         txn,
         pages,
         cuts,
+        changes,
         name,
-        last,
         next,
         &read.row,
+        &read.next,
         numbers.as_slice(),
-        first,
         used,
-    )? {
-        Change::Made => Ok(Change::Made),
-        Change::Spent => Err(TreeError::DeviceFault),
-    }
+    )?;
+    Ok(Change::Made)
 }

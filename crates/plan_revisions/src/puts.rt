@@ -15,6 +15,8 @@ use desk_model::command::Command;
 use desk_model::cuts::Cut;
 use desk_model::geography::Geography;
 use desk_model::name::PlanName;
+use desk_room::changed_counties;
+use desk_room::laws::cuts_are_within;
 use page_store::{Pages, Txn};
 use sector_device::SectorDevice;
 use std::alloc::Global;
@@ -41,9 +43,22 @@ fn put_revision<D: SectorDevice>(
         (λ change. IsStepped (λ d. d ≡ shown.now) (λ d. then.now) (rows_added_by shown.now name.now then.now) (HasChunkNumbers (added_by shown.now name.now then.now)) txn.old txn.new pages.old pages.new change)
         (λ e. StepErr (λ d. d ≡ shown.now) (rows_added_by shown.now name.now then.now) txn.old pages.old pages.new e) }
 {
+    cuts_are_within();
     let last = shown.districts(name, after);
     let next = next_of(then, name, after + 1);
-    add(alloc, txn, pages, geography, cuts, name, last, next)
+    let Ok(changes) = changed_counties(alloc, cuts, last, next) else {
+        return Err(TreeError::Memory);
+    };
+    add(
+        alloc,
+        txn,
+        pages,
+        geography,
+        cuts,
+        changes.as_slice(),
+        name,
+        next,
+    )
 }
 
 /// Puts the rows of a command that a desk accepts into a transaction that reads that desk: `shown` is the desk before it, `then` the

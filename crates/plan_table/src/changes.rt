@@ -70,25 +70,24 @@ pub fn create_plan<D: SectorDevice>(
 }
 
 /// Puts the row of a plan with one revision more, and moves the chunks' number on by those that the revision took. The row is
-/// the one that stands under the name. Errors come as from `create_plan`.
+/// the one that stands under the name, and `next` are the numbers that come next. After an error the transaction can only be
+/// abandoned; each comes as from `put_row`.
 pub fn revise_plan<D: SectorDevice>(
     txn: &mut Txn,
     pages: &mut Pages<D>,
     name: &PlanName,
     row: &PlanRow,
+    next: &Counters,
     chunks_used: u64,
-) -> Result<Change, TreeError>
+) -> Result<(), TreeError>
     requires begun { txn_pages txn.old ≡ count_of pages.old }
     requires room { row.now.revisions < most_revisions }
+    requires left { HasChunkNumbers chunks_used next.now }
     ensures quiet { IsQuiet pages.old pages.new }
     ensures begun { txn_pages txn.new ≡ count_of pages.new }
-    ensures revise { MatchResult result (λ change. IsChanged (HasChunkNumbers chunks_used) (revised_rows name.now row.now chunks_used) txn.old txn.new pages.old pages.new change) (λ e. ChangeErr (revised_rows name.now row.now chunks_used) txn.old pages.old pages.new e) }
+    ensures revise { MatchResult result (λ _. HasPut (revised_rows name.now row.now chunks_used next.now) txn.old txn.new pages.old pages.new) (λ e. PutsErr (revised_rows name.now row.now chunks_used next.now) txn.old pages.old pages.new e) }
     ensures spent { IfErr result (λ e. e ≡ NoPages → txn_free txn.new ≡ 0) }
 {
-    let next = next_numbers(txn, pages)?;
-    if chunks_used > u64::MAX - next.chunk {
-        return Ok(Change::Spent);
-    }
     let revised = PlanRow {
         number: row.number,
         kind: row.kind,
@@ -100,8 +99,7 @@ pub fn revise_plan<D: SectorDevice>(
         chunk: next.chunk + chunks_used,
         load: next.load,
     };
-    put_plan(txn, pages, name, &revised, &then)?;
-    Ok(Change::Made)
+    put_plan(txn, pages, name, &revised, &then)
 }
 
 /// Takes the row of a plan away, and marks its number: that of the row under the name. After an error the transaction can only

@@ -1,29 +1,25 @@
 use Rattle.std.proofs.Common.{◌+◌, ◌++◌}
-use Rattle.std.specs.Option.{option_copied}
 use Rattle.page_store.specs.Stops.{quiet_more}
 use Rattle.store_rows.specs.NameRows.{name_rows}
 use Rattle.store_rows.specs.RevisionSteps.{new_chunk_rows}
 use Rattle.row_table.specs.Outcomes.{map_both, match_of}
-use Rattle.row_table.specs.Puts.{more_put, then_not_put, front_not_put}
-use Rattle.plan_table.specs.PlanRows.{HasChunkNumbers, revised_rows}
-use Rattle.plan_table.specs.Outcomes.{IsChanged, ChangeErr}
+use Rattle.row_table.specs.Puts.{HasPut, PutsErr, more_put, then_not_put, front_not_put}
+use Rattle.plan_table.specs.PlanRows.{revised_rows}
 use Rattle.plan_revisions.specs.Counties.{new_lists}
-use Rattle.plan_revisions.specs.Adding.{IsChangedAfter, ChangeErrAfter}
-use Rattle.plan_revisions.proofs.After.{changed_after, not_changed_after, front_not_changed}
 use Rattle.plan_revisions.proofs.revisions.put_revision.Goals as goal
 
 pub returns-in_err-put_changes-clause-put : goal.returns-in_err-put_changes-clause-put
 returns-in_err-put_changes-clause-put g c =
     let row = c.args.row.now in
-    let chunks = new_chunk_rows c.args.first (new_lists (option_copied c.args.last) c.args.next.now c.args.cuts.now) in
+    let chunks = new_chunk_rows c.args.counters.now.chunk (new_lists c.args.changes.now c.args.next.now c.args.cuts.now) in
     let names = name_rows row.number (row.revisions + 1) c.args.numbers.now in
-    let rows = revised_rows c.args.name.now row c.args.used in
+    let rows = revised_rows c.args.name.now row c.args.used c.args.counters.now in
     let t = c.args.txn.now in
     let a = c.args.pages.now in
     let b = c.put_changes.new.pages in
     let error = c.in_err-put_changes.field-0.0 in
-    match_of c.from_residual.result (λ change. IsChangedAfter (chunks ++ names) (HasChunkNumbers c.args.used) rows t c.put_changes.new.txn a b change) error (λ e. ChangeErrAfter (chunks ++ names) rows t a b e) c.from_residual.ensures.1
-    (front_not_changed (chunks ++ names) rows t a b error (front_not_put chunks names t a b error c.in_err-put_changes.ensures.put))
+    match_of c.from_residual.result (λ _. HasPut ((chunks ++ names) ++ rows) t c.put_changes.new.txn a b) error (λ e. PutsErr ((chunks ++ names) ++ rows) t a b e) c.from_residual.ensures.1
+    (front_not_put (chunks ++ names) rows t a b error (front_not_put chunks names t a b error c.in_err-put_changes.ensures.put))
 
 pub returns-in_err-put_names-clause-quiet : goal.returns-in_err-put_names-clause-quiet
 returns-in_err-put_names-clause-quiet g c = quiet_more c.args.pages.now c.put_changes.new.pages c.put_names.new.pages c.in_ok-put_changes.ensures.quiet c.in_err-put_names.ensures.quiet
@@ -31,16 +27,16 @@ returns-in_err-put_names-clause-quiet g c = quiet_more c.args.pages.now c.put_ch
 pub returns-in_err-put_names-clause-put : goal.returns-in_err-put_names-clause-put
 returns-in_err-put_names-clause-put g c =
     let row = c.args.row.now in
-    let chunks = new_chunk_rows c.args.first (new_lists (option_copied c.args.last) c.args.next.now c.args.cuts.now) in
+    let chunks = new_chunk_rows c.args.counters.now.chunk (new_lists c.args.changes.now c.args.next.now c.args.cuts.now) in
     let names = name_rows row.number (row.revisions + 1) c.args.numbers.now in
-    let rows = revised_rows c.args.name.now row c.args.used in
+    let rows = revised_rows c.args.name.now row c.args.used c.args.counters.now in
     let t = c.args.txn.now in
     let a = c.args.pages.now in
     let b = c.put_changes.new.pages in
     let d = c.put_names.new.pages in
     let error = c.in_err-put_names.field-0.0 in
-    match_of c.from_residual-in_err-put_names.result (λ change. IsChangedAfter (chunks ++ names) (HasChunkNumbers c.args.used) rows t c.put_names.new.txn a d change) error (λ e. ChangeErrAfter (chunks ++ names) rows t a d e) c.from_residual-in_err-put_names.ensures.1
-    (front_not_changed (chunks ++ names) rows t a d error (then_not_put chunks names t c.put_changes.new.txn a b d error c.in_ok-put_changes.ensures.put c.in_err-put_names.ensures.quiet c.in_err-put_names.ensures.put))
+    match_of c.from_residual-in_err-put_names.result (λ _. HasPut ((chunks ++ names) ++ rows) t c.put_names.new.txn a d) error (λ e. PutsErr ((chunks ++ names) ++ rows) t a d e) c.from_residual-in_err-put_names.ensures.1
+    (front_not_put (chunks ++ names) rows t a d error (then_not_put chunks names t c.put_changes.new.txn a b d error c.in_ok-put_changes.ensures.put c.in_err-put_names.ensures.quiet c.in_err-put_names.ensures.put))
 
 pub returns-clause-quiet : goal.returns-clause-quiet
 returns-clause-quiet g c = quiet_more c.args.pages.now c.put_names.new.pages c.revise_plan.new.pages (quiet_more c.args.pages.now c.put_changes.new.pages c.put_names.new.pages c.in_ok-put_changes.ensures.quiet c.in_ok-put_names.ensures.quiet) c.revise_plan.ensures.quiet
@@ -48,10 +44,9 @@ returns-clause-quiet g c = quiet_more c.args.pages.now c.put_names.new.pages c.r
 pub returns-clause-put : goal.returns-clause-put
 returns-clause-put g c =
     let row = c.args.row.now in
-    let chunks = new_chunk_rows c.args.first (new_lists (option_copied c.args.last) c.args.next.now c.args.cuts.now) in
+    let chunks = new_chunk_rows c.args.counters.now.chunk (new_lists c.args.changes.now c.args.next.now c.args.cuts.now) in
     let names = name_rows row.number (row.revisions + 1) c.args.numbers.now in
-    let rows = revised_rows c.args.name.now row c.args.used in
-    let enough = HasChunkNumbers c.args.used in
+    let rows = revised_rows c.args.name.now row c.args.used c.args.counters.now in
     let t = c.args.txn.now in
     let u = c.put_names.new.txn in
     let v = c.revise_plan.new.txn in
@@ -59,7 +54,7 @@ returns-clause-put g c =
     let b = c.put_names.new.pages in
     let d = c.revise_plan.new.pages in
     let front = more_put chunks names t c.put_changes.new.txn u a c.put_changes.new.pages b c.in_ok-put_changes.ensures.put c.in_ok-put_names.ensures.put in
-    map_both c.revise_plan.result (λ change. IsChanged enough rows u v b d change) (λ change. IsChangedAfter (chunks ++ names) enough rows t v a d change) (λ e. ChangeErr rows u b d e) (λ e. ChangeErrAfter (chunks ++ names) rows t a d e)
-    (λ change did. changed_after (chunks ++ names) enough rows t u v a b d change front did)
-    (λ e why. not_changed_after (chunks ++ names) rows t u a b d e front c.revise_plan.ensures.quiet why)
+    map_both c.revise_plan.result (λ _. HasPut rows u v b d) (λ _. HasPut ((chunks ++ names) ++ rows) t v a d) (λ e. PutsErr rows u b d e) (λ e. PutsErr ((chunks ++ names) ++ rows) t a d e)
+    (λ _ did. more_put (chunks ++ names) rows t u v a b d front did)
+    (λ e why. then_not_put (chunks ++ names) rows t u a b d e front c.revise_plan.ensures.quiet why)
     c.revise_plan.ensures.revise
