@@ -1,6 +1,7 @@
 mod Again
 mod Codes
 mod Faulty
+mod Front
 mod Listing
 mod Printing
 mod Rows
