@@ -1,5 +1,6 @@
 mod Again
 mod Codes
+mod Ends
 mod Faulty
 mod Front
 mod Listing

@@ -1,4 +1,5 @@
 pub mod Body
+pub mod Ends
 pub mod Faults
 pub mod Front
 pub mod Laws
