@@ -1,5 +1,5 @@
 -- The fields of a printed line, as they are read.
-use Rattle.std.proofs.Common.{◌≡◌, ℕ, ◌-◌, ◌<◌, ◌≤◌, ◌^◌, true, false, cond, eqb, List, ◌++◌, length, replicate, zero, suc, refl, ◌∙◌, ap, arith, Option, Some, None}
+use Rattle.std.proofs.Common.{◌≡◌, ℕ, ◌-◌, ◌<◌, ◌≤◌, ◌^◌, true, false, cond, ◌&&◌, eqb, List, ◌++◌, length, replicate, zero, suc, refl, ◌∙◌, ap, arith, Option, Some, None}
 use Rattle.std.specs.Prelude.{codes, nat_eq}
 use Rattle.std.specs.Char.{is_ascii_digit}
 use Rattle.std.specs.Fmt.{decimal}
@@ -7,7 +7,8 @@ use Rattle.std.specs.List.{list_all}
 use Rattle.std.specs.Cmp.Lexicographic.{pointwise}
 use Rattle.std.specs.Str.Parse.{digits_value}
 use Rattle.std.proofs.Math.Dec.{eqb-suc-zero}
-use Rattle.std.proofs.lemmas.Bool.{ne_eqb, le-leb, and_from, false_from_ne_true}
+use Rattle.std.proofs.lemmas.Bool.{ne_eqb, eqb-true, le-leb, and_from, and_parts, false_from_ne_true}
+use Rattle.std.proofs.lemmas.Option.{cond_some}
 use Rattle.std.proofs.lemmas.Slice.Eq.{bytes_eq-Decides}
 use Rattle.std.proofs.lemmas.List.Folds.{list_all-append}
 use Rattle.std.proofs.lemmas.Fmt.{length-decimal-le, digits_decimal, digits_value-decimal}
@@ -15,6 +16,7 @@ use Rattle.desk_model.specs.declared.kind.Kind.{Kind}
 use Rattle.desk_model.specs.declared.kind.Kind.TheVariants.{Congress, Senate, House}
 use Rattle.desk_model.specs.Baf.{code_value, padded_decimal, code_text, in_range}
 use Rattle.desk_model.specs.Kind.{most_districts}
+use Rattle.field_text.specs.Digits.{number_of_digits}
 use Rattle.baf_text.proofs.Printing.{length-padded}
 use Rattle.baf_text.proofs.Rows.{own}
 
@@ -57,6 +59,12 @@ code_of_digits width n text some few w =
       le-leb (length text) 3 (omega (arith, w.long)),
       w.digits,
     ) (ap (λ (v : ℕ). Some (Some v)) w.value)
+
+pub code_of_three : (code : List ℕ) (v : ℕ) → number_of_digits 3 code ≡ Some v → code_value code ≡ Some (Some v)
+code_of_three code v is =
+    let got = cond_some ((eqb (length code) 3) && list_all is_ascii_digit code) (digits_value 10 code) v is in
+    let tests = and_parts (eqb (length code) 3) (list_all is_ascii_digit code) got.0 in
+    code_of_digits 3 v code (omega arith) (omega arith) (record { long = eqb-true (length code) 3 tests.0; digits = tests.1; value = got.1 })
 
 -- what a code says: nothing, or the district
 abbrev pub said : ℕ → Option ℕ

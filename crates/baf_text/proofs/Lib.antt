@@ -1,6 +1,8 @@
 mod Again
 mod Codes
+mod Ends
 mod Faulty
+mod Front
 mod Listing
 mod Printing
 mod Rows

@@ -1,11 +1,16 @@
 -- What the lines so far make of the list, and what the list and the lines that are left make of the text.
-use Rattle.std.proofs.Common.{◌≡◌, ℕ, ◌+◌, true, List, [], ◌∷◌, Option, refl}
+use Rattle.std.proofs.Common.{◌≡◌, ℕ, ◌+◌, Bool, true, false, cond, eqb, List, [], ◌∷◌, length, Option, Result, Ok, Err, refl, sym, ◌∙◌, ap}
 use Rattle.std.specs.Prelude.{nat_eq}
 use Rattle.std.specs.Cmp.Lexicographic.{pointwise}
 use Rattle.std.specs.Str.Lines.{lines}
-use Rattle.desk_model.specs.Baf.{Values, header, body_read, rows_read}
+use Rattle.desk_model.specs.declared.reply.BodyFault.{BodyFault}
+use Rattle.desk_model.specs.Baf.{Values, header, body_read, rows_read, line_read, at_line, fields_of}
 use Rattle.desk_model.specs.Geography.{Ground}
-use Rattle.baf_text.specs.Listed.{listed_of}
+use Rattle.field_text.specs.Fields.{fields}
+use Rattle.baf_text.specs.Faults.{IsFaultOf}
+use Rattle.baf_text.specs.Listed.{listed_of, IsLineTaken}
+use Rattle.baf_text.specs.declared.reading.BafFault.{BafFault}
+use Rattle.baf_text.specs.declared.reading.BafFault.TheVariants.{Body, Memory}
 
 -- some values are listed, and the text reads on from them
 pub record IsUnderWay (g : Ground) (n : ℕ) (text : List ℕ) (at : ℕ) (left : List (List ℕ)) (listed : List (Option ℕ)) : Type 0 where
@@ -17,3 +22,18 @@ pub record IsUnderWay (g : Ground) (n : ℕ) (text : List ℕ) (at : ℕ) (left 
 pub header_read : (g : Ground) (n : ℕ) (text first : List ℕ) (left : List (List ℕ)) → lines text ≡ first ∷ left → pointwise nat_eq first header ≡ true
     → body_read g n text ≡ rows_read g n 2 [] left
 header_read g n text first left cut is = rw (cut, is) refl
+
+-- the fault of a line is the fault of the text
+pub fault_told : (g : Ground) (n : ℕ) (text : List ℕ) (at : ℕ) (so_far : Values) (line : List ℕ) (left : List (List ℕ)) (fault : BafFault) (listed : List (Option ℕ))
+    → body_read g n text ≡ rows_read g n at so_far (line ∷ left) → IsLineTaken g n so_far line at (Err fault) listed → IsFaultOf (body_read g n text) fault
+fault_told g n text at so_far line left Memory listed reads taken = tt
+fault_told g n text at so_far line left (Body code number) listed reads taken =
+    reads ∙ by_test (eqb (length line) 0) taken.0 ∙ ap (λ (k : ℕ). Err (code, k)) (sym taken.1)
+  where
+    read : Result Values BodyFault
+    read = line_read g n so_far (fields_of (fields line))
+
+    by_test : (b : Bool) → cond b (Ok so_far) read ≡ Err code
+        → cond b (rows_read g n (at + 1) so_far left) (at_line at read (λ next. rows_read g n (at + 1) next left)) ≡ Err (code, at)
+    by_test true is = cc
+    by_test false is = ap (λ (r : Result Values BodyFault). at_line at r (λ next. rows_read g n (at + 1) next left)) is

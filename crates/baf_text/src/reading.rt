@@ -1,15 +1,17 @@
 //! Reading a block assignment file.
-ghost use Rattle.std.specs.Prelude.{◌≡◌, ◌<◌, ◌+◌, ◌^◌, map, length, None, IfOk, IfErr, OnOk, IsOkAnd};
-ghost use Rattle.desk_model.specs.Baf.{Values, body_read, in_range};
+ghost use Rattle.std.specs.Prelude.{◌≡◌, ◌<◌, ◌+◌, ◌^◌, ℕ, List, map, length, None, IfOk, IfErr, OnOk, IsOkAnd};
+ghost use Rattle.desk_model.specs.Baf.{Values, body_read, fields_of, in_range};
+ghost use Rattle.field_text.specs.Fields.{fields};
+ghost use Rattle.baf_text.specs.Front.{line_parts};
 ghost use Rattle.baf_text.specs.Listed.{listed_of, IsEntry, IsLineTaken};
 ghost use Rattle.baf_text.specs.Faults.{IsFaultOf};
 ghost use Rattle.baf_text.specs.declared.reading.BafFault.TheVariants.{Memory};
 
 use crate::listed::Listed;
-use crate::row::{ID_DIGITS, row_of};
+use crate::row::{ID_DIGITS, Row, next_row};
 use desk_model::geography::{Geography, place_near};
 use desk_model::reply::BodyFault;
-use field_text::lines::Lines;
+use field_text::lines::first_line;
 use std::alloc::{AllocError, Global};
 
 /// The first line of a block assignment file.
@@ -43,21 +45,21 @@ fn district_of(number: Option<u16>, n: u16) -> Option<u16>
     }
 }
 
-/// The place of a line's block and its district, where the line may be entered into the list.
+/// The place of a line's block and its district, where the line is a row that may be entered into the list.
 fn entry_of(
     listed: &Listed,
     geography: &Geography,
     n: u16,
-    line: &[u8],
+    row: Option<Row>,
     likely: usize,
 ) -> Result<(usize, u16), BodyFault>
     requires { length listed.now ≡ length geography.now.blocks }
-    ensures entry { (so_far : Values) → listed.now ≡ listed_of geography.now so_far
-        → IsEntry geography.now n so_far line.now listed.now result }
+    ensures entry { (so_far : Values) (line : List ℕ) → listed.now ≡ listed_of geography.now so_far → row ≡ fields_of (fields line)
+        → IsEntry geography.now n so_far line listed.now result }
     ensures within { IfOk result (λ entry. entry.0 < length geography.now.blocks) }
     ensures fits { IfOk result (λ entry. entry.0 + 1 < 2 ^ 64) }
 {
-    let Some(row) = row_of(line) else {
+    let Some(row) = row else {
         return Err(BodyFault::Shape);
     };
     let Some(place) = place_near(geography.blocks(), likely, row.0) else {
@@ -72,25 +74,25 @@ fn entry_of(
     }
 }
 
-/// Enters a line, which has this number, into the list, and gives the place after its block.
+/// Enters what a line says, which has this number, into the list, and gives the place after its block.
 fn take_line(
     alloc: Global,
     listed: &mut Listed,
     geography: &Geography,
     n: u16,
-    line: &[u8],
+    said: Option<Option<Row>>,
     number: u64,
     likely: usize,
 ) -> Result<usize, BafFault>
     requires { length listed.old ≡ length geography.now.blocks }
-    ensures taken { (so_far : Values) → listed.old ≡ listed_of geography.now so_far
-        → IsLineTaken geography.now n so_far line.now number result listed.new }
+    ensures taken { (so_far : Values) (line : List ℕ) → listed.old ≡ listed_of geography.now so_far → said ≡ line_parts line
+        → IsLineTaken geography.now n so_far line number result listed.new }
     ensures long { OnOk result (length listed.new ≡ length listed.old) }
 {
-    if line.is_empty() {
+    let Some(row) = said else {
         return Ok(likely);
-    }
-    match entry_of(listed, geography, n, line, likely) {
+    };
+    match entry_of(listed, geography, n, row, likely) {
         Ok((place, district)) => {
             listed.put(alloc, place, district)?;
             Ok(place + 1)
@@ -118,28 +120,22 @@ pub fn read(alloc: Global, bytes: &[u8], geography: &Geography, n: u16) -> Resul
         (λ values. listed ≡ listed_of geography.now values)) }
     ensures fault { IfErr result (IsFaultOf (body_read geography.now n bytes.now)) }
 {
-    let mut lines = Lines::new(bytes);
-    match lines.next_line() {
-        Some(first) if first.bytes == HEADER => {}
+    let mut rest = match first_line(bytes) {
+        Some((first, rest)) if first == HEADER => rest,
         _ => {
             return Err(BafFault::Body {
                 code: BodyFault::Header,
                 line: 1,
             });
         }
-    }
+    };
     let mut listed = none_listed(alloc, geography, bytes)?;
     let mut likely = 0;
-    while let Some(line) = lines.next_line() {
-        likely = take_line(
-            alloc,
-            &mut listed,
-            geography,
-            n,
-            line.bytes,
-            line.number,
-            likely,
-        )?;
+    let mut number = 1u64;
+    while let Some((said, behind)) = next_row(rest) {
+        number += 1;
+        likely = take_line(alloc, &mut listed, geography, n, said, number, likely)?;
+        rest = behind;
     }
     Ok(listed)
 }

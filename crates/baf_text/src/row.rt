@@ -1,10 +1,14 @@
 //! A line of a block assignment file.
-ghost use Rattle.std.specs.Prelude.{◌≡◌};
+ghost use Rattle.std.specs.Prelude.{◌≡◌, ◌<◌, ℕ, [], length, MatchOption, IfSome, Some};
+ghost use Rattle.std.specs.Str.Lines.{lines};
 ghost use Rattle.desk_model.specs.Baf.{code_value, fields_of};
+ghost use Rattle.field_text.specs.Digits.{number_of_digits};
 ghost use Rattle.field_text.specs.Fields.{fields};
+ghost use Rattle.baf_text.specs.Front.{HasHead, HasFirst, line_parts};
 
 use desk_model::block::BlockId;
-use field_text::digits::{digits_exactly, number};
+use field_text::digits::{digits_exactly, fifteen_digits, number};
+use field_text::lines::{cut_near, first_line, without_return};
 
 /// A block's number has this many digits.
 pub const ID_DIGITS: usize = 15;
@@ -13,8 +17,11 @@ const UNASSIGNED_OF_TWO: &[u8] = b"ZZ";
 
 const UNASSIGNED_OF_THREE: &[u8] = b"ZZZ";
 
-/// The number that a code writes, `Some(None)` for an unassigned block; `None` where it is no code.
-fn code_number(code: &[u8]) -> Option<Option<u16>>
+/// A block, and the number that its code writes, if any.
+pub type Row = (BlockId, Option<u16>);
+
+/// The number that a code writes that may have any number of bytes, `Some(None)` for an unassigned block.
+fn any_code(code: &[u8]) -> Option<Option<u16>>
     ensures { result ≡ code_value code.now }
 {
     if code.is_empty() || code == UNASSIGNED_OF_TWO || code == UNASSIGNED_OF_THREE {
@@ -26,18 +33,78 @@ fn code_number(code: &[u8]) -> Option<Option<u16>>
     }
 }
 
-/// The block of a line and the number that its code writes, if any; `None` where the line has another shape.
-pub fn row_of(line: &[u8]) -> Option<(BlockId, Option<u16>)>
-    ensures { result ≡ fields_of (fields line.now) }
+/// The number that a code writes, `Some(None)` for an unassigned block; `None` where it is no code. Three digits are the likely code.
+fn code_number(code: &[u8]) -> Option<Option<u16>>
+    ensures { result ≡ code_value code.now }
 {
-    if line.len() <= ID_DIGITS || line[ID_DIGITS] != b'|' {
+    match digits_exactly(code, 3) {
+        Some(value) => Some(Some(value as u16)),
+        None => any_code(code),
+    }
+}
+
+/// The block with whose number and a bar a line or a text begins.
+fn head_of(text: &[u8]) -> Option<BlockId>
+    ensures { MatchOption result ((block : ℕ) → ¬ HasHead text.now block) (λ block. HasHead text.now block) }
+{
+    if text.len() <= ID_DIGITS || text[ID_DIGITS] != b'|' {
         return None;
     }
-    let Some(id) = digits_exactly(&line[..ID_DIGITS], ID_DIGITS) else {
+    match fifteen_digits(&text[..ID_DIGITS]) {
+        Some(id) => Some(BlockId::from_number(id)),
+        None => None,
+    }
+}
+
+/// The block of a line and the number that its code writes; `None` where the line has another shape.
+fn row_of(line: &[u8]) -> Option<Row>
+    ensures { result ≡ fields_of (fields line.now) }
+{
+    let Some(block) = head_of(line) else {
         return None;
     };
     match code_number(&line[ID_DIGITS + 1..]) {
-        Some(number) => Some((BlockId::from_number(id), number)),
+        Some(number) => Some((block, number)),
         None => None,
+    }
+}
+
+/// The row that is a text's first line and the text behind that line, found in one pass. `None` says nothing of the text.
+fn front_row(text: &[u8]) -> Option<(Row, &[u8])>
+    ensures { IfSome result (λ front. HasFirst text.now (Some (Some front.0)) front.1.now) }
+{
+    let Some(block) = head_of(text) else {
+        return None;
+    };
+    let Some((code, rest)) = cut_near(&text[ID_DIGITS + 1..], b'\n') else {
+        return None;
+    };
+    match code_number(without_return(code)) {
+        Some(number) => Some(((block, number), rest)),
+        None => None,
+    }
+}
+
+/// What a line says: `None` where it has no bytes, `Some(None)` where it is no row.
+fn parts_of(line: &[u8]) -> Option<Option<Row>>
+    ensures { result ≡ line_parts line.now }
+{
+    if line.is_empty() {
+        None
+    } else {
+        Some(row_of(line))
+    }
+}
+
+/// What a text's first line says, and the text behind it. `None` where there is no line.
+pub fn next_row(text: &[u8]) -> Option<(Option<Option<Row>>, &[u8])>
+    ensures { MatchOption result (lines text.now ≡ []) (λ next. HasFirst text.now next.0 next.1.now) }
+{
+    match front_row(text) {
+        Some((row, rest)) => Some((Some(Some(row)), rest)),
+        None => match first_line(text) {
+            Some((line, rest)) => Some((parts_of(line), rest)),
+            None => None,
+        },
     }
 }

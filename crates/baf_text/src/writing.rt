@@ -1,14 +1,17 @@
 //! Printing a block assignment file.
-ghost use Rattle.std.specs.Prelude.{◌≡◌, ℕ, ◌+◌, ◌<◌, ◌≤◌, ◌++◌, ◌∷◌, [], length, take, drop, replicate, OnOk, IfOk};
+ghost use Rattle.std.specs.Prelude.{◌≡◌, ℕ, ◌+◌, ◌/◌, ◌%◌, ◌<◌, ◌≤◌, ◌++◌, ◌∷◌, [], length, take, drop, replicate, OnOk, IfOk};
+ghost use Rattle.desk_model.specs.declared.kind.Kind.TheVariants.{Congress, House};
 ghost use Rattle.desk_model.specs.Baf.{padded_decimal, code_text, row_text, printed};
+ghost use Rattle.baf_text.specs.Ends.{end_text};
 
 use crate::reading::HEADER;
 use crate::row::ID_DIGITS;
 use desk_model::block::BlockId;
-use desk_model::decimal::write_padded;
+use desk_model::decimal::{Padded, write_padded};
 use desk_model::geography::Geography;
 use desk_model::kind::Kind;
 use std::alloc::{AllocError, Global};
+use std::marker::Model;
 
 /// Room for the longest row.
 const ROOM: usize = 48;
@@ -52,8 +55,13 @@ fn write_code(row: &mut [u8], end: usize, district: u16, kind: Kind) -> usize
     start
 }
 
-/// Appends the line of a block.
-fn push_row(text: &mut Vec<u8>, id: BlockId, district: u16, kind: Kind) -> Result<(), AllocError>
+/// Appends the line of a block, whatever its code.
+fn push_any_row(
+    text: &mut Vec<u8>,
+    id: BlockId,
+    district: u16,
+    kind: Kind,
+) -> Result<(), AllocError>
     ensures { OnOk result (text.new.items ≡ text.old.items ++ row_text kind (id, district)) }
 {
     let mut row = [b'0'; ROOM];
@@ -62,6 +70,172 @@ fn push_row(text: &mut Vec<u8>, id: BlockId, district: u16, kind: Kind) -> Resul
     row[code - 1] = b'|';
     let start = write_padded(&mut row, code - 1, id.number(), ID_DIGITS);
     text.extend_from_slice(&row[start..])
+}
+
+/// How many first digits of a block's number are kept from one block to the next.
+const HEAD_DIGITS: usize = 11;
+
+/// The first digits of a block's number, which the next block's number mostly has too.
+#[derive(Drop)]
+struct Head {
+    high: u64,
+    cells: [u8; 11],
+}
+
+impl Model for Head {
+    ghost use Rattle.std.specs.Prelude.{◌≡◌, ℕ};
+    ghost use Rattle.desk_model.specs.Baf.{padded_decimal};
+
+    ghost Value = { ℕ };
+
+    ghost view = { λ a. a.high };
+
+    ghost invariant = { λ a. a.cells ≡ padded_decimal 11 a.high };
+}
+
+impl Head {
+    fn new(high: u64) -> Head
+        requires { high < 100_000_000_000 }
+        ensures { result ≡ high }
+    {
+        let digits = Padded::new(high, HEAD_DIGITS);
+        let mut cells = [b'0'; 11];
+        cells.copy_from_slice(digits.as_slice());
+        Head { high, cells }
+    }
+
+    fn as_slice(&self) -> &[u8]
+        ensures { result.now ≡ padded_decimal 11 self.now }
+    {
+        &self.cells
+    }
+
+    fn turn_to(&mut self, high: u64)
+        requires { high < 100_000_000_000 }
+        ensures { self.new ≡ high }
+    {
+        if self.high != high {
+            *self = Head::new(high);
+        }
+    }
+}
+
+/// The last digit of a number.
+fn digit(n: u64) -> u8
+    ensures { result ≡ 48 + n % 10 }
+{
+    b'0' + (n % 10) as u8
+}
+
+/// The end of a block's line where codes have two digits.
+fn end_of_two(number: u64, district: u16) -> [u8; 8]
+    requires { district ≤ 99 }
+    ensures { result ≡ end_text Congress number district }
+{
+    let n = number % 10_000;
+    let d = district as u64;
+    let (first, second) = if d == 0 {
+        (b'Z', b'Z')
+    } else {
+        (digit(d / 10), digit(d))
+    };
+    [
+        digit(n / 1000),
+        digit(n / 100),
+        digit(n / 10),
+        digit(n),
+        b'|',
+        first,
+        second,
+        b'\n',
+    ]
+}
+
+/// The same where codes have three digits.
+fn end_of_three(number: u64, district: u16) -> [u8; 9]
+    requires { district ≤ 999 }
+    ensures { result ≡ end_text House number district }
+{
+    let n = number % 10_000;
+    let d = district as u64;
+    let (first, second, third) = if d == 0 {
+        (b'Z', b'Z', b'Z')
+    } else {
+        (digit(d / 100), digit(d / 10), digit(d))
+    };
+    [
+        digit(n / 1000),
+        digit(n / 100),
+        digit(n / 10),
+        digit(n),
+        b'|',
+        first,
+        second,
+        third,
+        b'\n',
+    ]
+}
+
+/// Appends the first digits of a block's number.
+fn push_head(text: &mut Vec<u8>, head: &mut Head, id: BlockId) -> Result<(), AllocError>
+    ensures { OnOk result (text.new.items ≡ text.old.items ++ padded_decimal 11 (id / 10000)) }
+{
+    head.turn_to(id.number() / 10_000);
+    text.extend_from_slice(head.as_slice())?;
+    Ok(())
+}
+
+/// Appends the line of a block where codes have two digits.
+fn push_two(
+    text: &mut Vec<u8>,
+    head: &mut Head,
+    id: BlockId,
+    district: u16,
+) -> Result<(), AllocError>
+    ensures { OnOk result (text.new.items ≡ text.old.items ++ row_text Congress (id, district)) }
+{
+    if district > 99 {
+        return push_any_row(text, id, district, Kind::Congress);
+    }
+    push_head(text, head, id)?;
+    let end = end_of_two(id.number(), district);
+    text.extend_from_slice(&end)?;
+    Ok(())
+}
+
+/// Appends the line of a block where codes have three digits.
+fn push_three(
+    text: &mut Vec<u8>,
+    head: &mut Head,
+    id: BlockId,
+    district: u16,
+) -> Result<(), AllocError>
+    ensures { OnOk result (text.new.items ≡ text.old.items ++ row_text House (id, district)) }
+{
+    if district > 999 {
+        return push_any_row(text, id, district, Kind::House);
+    }
+    push_head(text, head, id)?;
+    let end = end_of_three(id.number(), district);
+    text.extend_from_slice(&end)?;
+    Ok(())
+}
+
+/// Appends the line of a block.
+fn push_row(
+    text: &mut Vec<u8>,
+    head: &mut Head,
+    id: BlockId,
+    district: u16,
+    kind: Kind,
+) -> Result<(), AllocError>
+    ensures { OnOk result (text.new.items ≡ text.old.items ++ row_text kind (id, district)) }
+{
+    match kind {
+        Kind::Congress => push_two(text, head, id, district),
+        Kind::Senate => push_three(text, head, id, district),
+        Kind::House => push_three(text, head, id, district),
+    }
 }
 
 /// Prints an assignment, the district of each block rising, 0 for none: the header and a line for each block, rising,
@@ -80,8 +254,9 @@ pub fn write(
     let mut text = Vec::with_capacity(alloc, HEADER.len() + 1 + blocks.len() * row_length)?;
     text.extend_from_slice(HEADER)?;
     text.push(b'\n')?;
+    let mut head = Head::new(0);
     for (place, block) in blocks.iter().enumerate() {
-        push_row(&mut text, block.id, assignment[place], kind)?;
+        push_row(&mut text, &mut head, block.id, assignment[place], kind)?;
     }
     Ok(text)
 }

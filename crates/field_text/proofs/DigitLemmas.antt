@@ -1,7 +1,8 @@
 -- Numbers digit by digit.
-use Rattle.std.proofs.Common.{◌≡◌, ℕ, ◌+◌, ◌-◌, ◌*◌, ◌^◌, ◌<◌, ◌≤◌, true, List, length, take, get_or, Fits, w64, sym, arith, lit<, add-one}
-use Rattle.std.specs.Char.{is_ascii_digit}
-use Rattle.std.specs.Str.Parse.{digits_value}
+use Rattle.std.proofs.Common.{◌≡◌, ℕ, ◌+◌, ◌-◌, ◌*◌, ◌^◌, ◌<◌, ◌≤◌, true, List, [], ◌∷◌, ◌++◌, length, take, drop, get_or, Fits, w64, refl, sym, ap, ◌∙◌, arith, lit<, add-one, length-drop, take-append-drop}
+use Rattle.std.specs.Char.{is_ascii_digit, digit_value}
+use Rattle.std.specs.Str.Parse.{digits_value, digits_value_after}
+use Rattle.std.proofs.lemmas.List.{drop-drop}
 use Rattle.std.proofs.lemmas.Bool.Decides.{nat_tests}
 use Rattle.std.proofs.lemmas.Str.{digit_value_digit}
 use Rattle.std.proofs.lemmas.Int.Digits.{digits_value_more}
@@ -39,3 +40,33 @@ pub below_pow : (n i j : ℕ) → n < 10 ^ i → i ≤ j → n < 10 ^ j
 below_pow n i j small le =
     let most : 10 ^ i ≤ 10 ^ j = pow-le-pow_right {n = 10} (lit< tt) {i = i} {j = j} le in
     omega arith
+
+-- a number in front of another
+pub value_after-append : (n : ℕ) (xs ys : List ℕ) → digits_value_after 10 n (xs ++ ys) ≡ digits_value_after 10 (digits_value_after 10 n xs) ys
+value_after-append n [] ys = refl
+value_after-append n (x ∷ xs) ys = value_after-append (n * 10 + digit_value x) xs ys
+
+pub value_after-is : (n : ℕ) (ys : List ℕ) → digits_value_after 10 n ys ≡ n * 10 ^ length ys + digits_value 10 ys
+value_after-is n [] = omega arith
+value_after-is n (y ∷ ys) =
+    value_after-is (n * 10 + digit_value y) ys
+    ∙ parts n (digit_value y) (10 ^ length ys) (10 ^ length (y ∷ ys)) (digits_value 10 ys) (digits_value 10 (y ∷ ys)) (pow-suc 10 (length ys)) (value_after-is (0 * 10 + digit_value y) ys)
+  where
+    parts : (n y p q v w : ℕ) → q ≡ p * 10 → w ≡ (0 * 10 + y) * p + v → (n * 10 + y) * p + v ≡ n * q + w
+    parts n y p q v w power value = rw (power, value) (omega arith)
+
+-- a text of digits, cut
+pub value_cut : (bytes : List ℕ) (i : ℕ) → digits_value 10 bytes ≡ digits_value 10 (take i bytes) * 10 ^ length (drop i bytes) + digits_value 10 (drop i bytes)
+value_cut bytes i =
+    ap (digits_value 10) (sym (take-append-drop i bytes)) ∙ value_after-append 0 (take i bytes) (drop i bytes)
+    ∙ value_after-is (digits_value 10 (take i bytes)) (drop i bytes)
+
+-- three numbers of five digits each
+pub value_by_fives : (bytes : List ℕ) (high middle low : ℕ) → length bytes ≡ 15 → high ≡ digits_value 10 (take 5 bytes) → middle ≡ digits_value 10 (take 5 (drop 5 bytes))
+    → low ≡ digits_value 10 (drop 10 bytes) → high * 10000000000 + middle * 100000 + low ≡ digits_value 10 bytes
+value_by_fives bytes high middle low long high_is middle_is low_is =
+    let ten : length (drop 5 bytes) ≡ 10 = omega (arith, length-drop 5 bytes) in
+    let five : length (drop 5 (drop 5 bytes)) ≡ 5 = omega (arith, length-drop 5 (drop 5 bytes), length-drop 5 bytes) in
+    let front = rw (ten, ← high_is) at (value_cut bytes 5) in
+    let back = rw (five, ← middle_is, drop-drop 5 5 bytes, ← low_is) at (value_cut (drop 5 bytes) 5) in
+    omega (arith, front, back)

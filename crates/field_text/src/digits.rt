@@ -13,6 +13,18 @@ fn all_digits(bytes: &[u8]) -> bool
     bytes.iter().all(|b| b.is_ascii_digit())
 }
 
+/// The same, for few digits or a number of them that is known: each byte is looked at, without a branch.
+fn only_digits(bytes: &[u8]) -> bool
+    ensures test { result ≡ list_all is_ascii_digit bytes.now }
+    ensures each { result ≡ true → All (λ b. is_ascii_digit b ≡ true) bytes.now }
+{
+    let mut only = true;
+    for b in bytes {
+        only &= b.is_ascii_digit();
+    }
+    only
+}
+
 /// The number that digits write.
 fn value(bytes: &[u8]) -> u64
     requires few { length bytes.now ≤ 19 }
@@ -53,8 +65,36 @@ pub fn digits_exactly(bytes: &[u8], count: usize) -> Option<u64>
     if bytes.len() != count {
         return None;
     }
-    if all_digits(bytes) {
+    if only_digits(bytes) {
         Some(value(bytes))
+    } else {
+        None
+    }
+}
+
+/// The number that 15 digits write: three numbers of five, none of which waits for another.
+fn value_of_fifteen(bytes: &[u8]) -> u64
+    requires long { length bytes.now ≡ 15 }
+    requires each { All (λ b. is_ascii_digit b ≡ true) bytes.now }
+    ensures value { result ≡ digits_value 10 bytes.now }
+    ensures small { result < 10 ^ 15 }
+{
+    let high = value(&bytes[..5]);
+    let middle = value(&bytes[5..10]);
+    let low = value(&bytes[10..]);
+    high * 10_000_000_000 + middle * 100_000 + low
+}
+
+/// The same as `digits_exactly` of 15 digits.
+pub fn fifteen_digits(bytes: &[u8]) -> Option<u64>
+    ensures value { result ≡ number_of_digits 15 bytes.now }
+    ensures small { IfSome result (λ n. n < 10 ^ 15) }
+{
+    if bytes.len() != 15 {
+        return None;
+    }
+    if only_digits(bytes) {
+        Some(value_of_fifteen(bytes))
     } else {
         None
     }

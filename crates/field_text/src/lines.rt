@@ -41,6 +41,20 @@ pub fn without_return(line: &[u8]) -> &[u8]
     }
 }
 
+/// The first line of a text without its end, LF or CRLF, and the text behind it. `None` where there is no line.
+pub fn first_line(text: &[u8]) -> Option<(&[u8], &[u8])>
+    ensures line { MatchOption result (lines text.now ≡ []) (λ p. lines text.now ≡ p.0.now ∷ lines p.1.now) }
+    ensures shorter { MatchOption result (length text.now ≡ 0) (λ p. length p.1.now < length text.now) }
+{
+    if text.is_empty() {
+        return None;
+    }
+    match cut(text, b'\n') {
+        Some((line, rest)) => Some((without_return(line), rest)),
+        None => Some((text, &text[text.len()..])),
+    }
+}
+
 /// A line without its end, and its number, counted from 1.
 #[derive(Clone, Copy)]
 pub struct Line<'t> {
@@ -83,20 +97,10 @@ impl<'t> Lines<'t> {
         ensures line { MatchOption result ((self.old.left ≡ []) × (self.new.left ≡ [])) (λ line. self.old.left ≡ line.bytes.now ∷ self.new.left) }
         ensures number { MatchOption result (self.new.number ≡ self.old.number) (λ line. (line.number ≡ self.old.number + 1) × (self.new.number ≡ line.number)) }
     {
-        if self.rest.is_empty() {
+        let Some((bytes, rest)) = first_line(self.rest) else {
             return None;
-        }
-        let bytes = match cut(self.rest, b'\n') {
-            Some((line, rest)) => {
-                self.rest = rest;
-                without_return(line)
-            }
-            None => {
-                let line = self.rest;
-                self.rest = &line[line.len()..];
-                line
-            }
         };
+        self.rest = rest;
         self.number += 1;
         Some(Line {
             number: self.number,

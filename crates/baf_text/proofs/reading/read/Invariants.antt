@@ -1,9 +1,13 @@
-use Rattle.std.proofs.Common.{length}
+use Rattle.std.proofs.Common.{◌+◌, ◌<◌, ◌^◌, length}
+use Rattle.std.specs.Str.Lines.{lines}
 use Rattle.baf_text.proofs.Taken.{IsUnderWay}
 use Rattle.baf_text.proofs.reading.read.Given as goal
 
-abbrev pub invariant-loop-line : goal.invariant-loop-line
-invariant-loop-line l = IsUnderWay l.geography l.n l.bytes l.lines.number l.lines.left l.listed
+abbrev pub invariant-loop-said : goal.invariant-loop-said
+invariant-loop-said l = record {
+  way : IsUnderWay l.geography l.n l.bytes l.number (lines l.rest) l.listed;
+  few : l.number + length l.rest < 2 ^ 63;
+}
 
-abbrev pub decreases-loop-line : goal.decreases-loop-line
-decreases-loop-line l = length l.lines.left
+abbrev pub decreases-loop-said : goal.decreases-loop-said
+decreases-loop-said l = length l.rest

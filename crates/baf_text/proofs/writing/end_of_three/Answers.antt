@@ -1,0 +1,15 @@
+use Rattle.std.proofs.Common.{◌≡◌, ◌≢◌, ◌+◌, ◌/◌, ◌%◌, refl, arith}
+use Rattle.baf_text.proofs.Ends.{end_three}
+use Rattle.baf_text.proofs.writing.end_of_three.Goals as goal
+use Rattle.baf_text.proofs.writing.end_of_three.Goals.{then-d-eq0, else-d-eq0}
+
+pub returns : goal.returns
+returns c =
+    let code : (c.args.district ≡ 0 → (c.if-d-eq0.first.0 ≡ 90) × (c.if-d-eq0.first.1 ≡ 90) × (c.if-d-eq0.first.2 ≡ 90))
+    × (c.args.district ≢ 0 → (c.if-d-eq0.first.0 ≡ 48 + c.args.district / 100 % 10) × (c.if-d-eq0.first.1 ≡ 48 + c.args.district / 10 % 10) × (c.if-d-eq0.first.2 ≡ 48 + c.args.district % 10))
+    = elim c.if-d-eq0.branch [
+      | then-d-eq0 w ↦ rw w.first-is (λ none. (refl, refl, refl), λ some. absurd (some w.if-d-eq0.true))
+      | else-d-eq0 w ↦ rw w.first-is (λ none. absurd (w.if-d-eq0.false none), λ some. (w.digit.ensures, w.digit-else-d-eq0.ensures, w.digit-else-d-eq0-2.ensures))
+    ] in
+    end_three c.args.number c.digit-2.result c.digit-3.result c.digit-4.result c.digit-5.result c.digit-2.ensures c.digit-3.ensures c.digit-4.ensures c.digit-5.ensures
+    c.args.district c.if-d-eq0.first.0 c.if-d-eq0.first.1 c.if-d-eq0.first.2 (omega (arith, c.requires)) code.0 code.1

@@ -1,0 +1,23 @@
+-- The first line of a text, as a row.
+use Rattle.std.specs.Prelude.{◌≡◌, ◌<◌, ℕ, List, ◌∷◌, length, take, get_or, Option, Some, None, if◌then◌else◌, ◌==◌}
+use Rattle.std.specs.Str.Lines.{lines}
+use Rattle.desk_model.specs.Baf.{fields_of}
+use Rattle.field_text.specs.Digits.{number_of_digits}
+use Rattle.field_text.specs.Fields.{fields}
+
+-- a text begins with a block's number and a bar
+pub record HasHead (text : List ℕ) (block : ℕ) : Type 0 where
+  pub long : 15 < length text
+  pub bar : get_or text 15 0 ≡ 124
+  pub digits : number_of_digits 15 (take 15 text) ≡ Some block
+
+-- what a line without its end says: nothing where it has no bytes; else a block and the number that its code writes, if it has that shape
+abbrev pub line_parts : List ℕ → Option (Option (ℕ × Option ℕ))
+line_parts line = if length line == 0 then None else Some (fields_of (fields line))
+
+-- what the first line says, and the text behind it
+pub record HasFirst (text : List ℕ) (said : Option (Option (ℕ × Option ℕ))) (rest : List ℕ) : Type 0 where
+  pub line : List ℕ
+  pub cut : lines text ≡ line ∷ lines rest
+  pub says : said ≡ line_parts line
+  pub shorter : length rest < length text
