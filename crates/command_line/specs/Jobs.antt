@@ -7,7 +7,7 @@ use Rattle.state_files.specs.declared.open.CensusPaths.{CensusPaths}
 use Rattle.state_files.specs.Opens.{AreAlike}
 use Rattle.command_line.specs.Options.{AreTerms, IsSize, size_read, IsServing, serving_read}
 use Rattle.command_line.specs.declared.words.Job.{Job}
-use Rattle.command_line.specs.declared.words.Job.TheVariants.{Talk, Counts, Audit, Format, Load, Serve, Sweep}
+use Rattle.command_line.specs.declared.words.Job.TheVariants.{Talk, Counts, Audit, Format, Load, Serve, Sweep, Explain}
 
 -- an audit is asked for with its terms in range and 1 to 64 workers, and each companion's file goes with its number of districts
 abbrev pub IsJob : Job → Type 0
@@ -18,6 +18,7 @@ IsJob (Format store size) = IsSize size
 IsJob (Load store census gal) = Unit {0}
 IsJob (Serve store serving) = IsServing serving
 IsJob (Sweep store) = Unit {0}
+IsJob (Explain code) = Unit {0}
 
 -- each census file is the one that its option names
 pub record AreCensusPaths (found : Found) (paths : CensusPaths) : Type 0 where
@@ -43,3 +44,4 @@ HasPaths found (Load store census gal) = AreCensusPaths found census
 HasPaths found (Serve store serving) = (first_value found (codes "store") ≡ Some store.now)
     × (serving_read (first_value found (codes "port")) (first_value found (codes "workers")) (first_value found (codes "connections")) (first_value found (codes "idle")) ≡ Some serving)
 HasPaths found (Sweep store) = first_value found (codes "store") ≡ Some store.now
+HasPaths found (Explain code) = first_value found (codes "code") ≡ Some code.now

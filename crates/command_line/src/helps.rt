@@ -7,7 +7,9 @@ pub(crate) const STATUSES: &str = "Statuses:
   3  a file was refused; its fault is told with the file's name
   4  the store was refused, or its device failed
   5  memory was refused
-  6  a socket, or standard input or output failed";
+  6  a socket, or standard input or output failed
+
+To read: README.md, and docs/FAULTS.md, of which explain prints a line.";
 
 pub(crate) const FORMAT_HELP: &str =
     "Where it ends with 4 or 5 after the file was made, the file is no store: remove it before the next format.
@@ -20,7 +22,9 @@ Statuses:
   2  the command line is wrong; nothing was made
   4  the store was refused, or its device failed
   5  memory was refused
-  6  standard output failed";
+  6  standard output failed
+
+To read: docs/FORMATS.md (how many sectors a state needs), docs/FAULTS.md.";
 
 pub(crate) const LOAD_HELP: &str =
     "The files are judged in the order geo, seg1, seg2, seg3, gal, and the first fault ends the run; the store
@@ -35,7 +39,9 @@ Statuses:
   3  a file was refused; its fault is told with the file's name
   4  the store was refused, or its device failed
   5  memory was refused
-  6  standard output failed; the geography is sealed in the store";
+  6  standard output failed; the geography is sealed in the store
+
+To read: docs/IOWA.md (from the files of the census to a loaded store), docs/FAULTS.md.";
 
 pub(crate) const SERVE_HELP: &str =
     "It listens on 127.0.0.1 and ends once so many connections were served. Each worker serves one connection at a time: commands go
@@ -50,7 +56,9 @@ Statuses:
   2  the command line is wrong; nothing was opened
   4  the store was refused, or its device failed
   5  memory was refused
-  6  the socket or standard output failed";
+  6  the socket or standard output failed
+
+To read: docs/OPERATE.md (serve, stop, back up, who may do what), docs/FAULTS.md.";
 
 pub(crate) const SWEEP_HELP: &str =
     "It goes on until no such row is left; where it is stopped, the next one goes on from there. The desk stays as it is.
@@ -63,7 +71,9 @@ Statuses:
   2  the command line is wrong; nothing was opened
   4  the store was refused, or its device failed
   5  memory was refused
-  6  standard output failed; no such row is left";
+  6  standard output failed; no such row is left
+
+To read: docs/OPERATE.md (what goes wrong, and what to do), docs/FAULTS.md.";
 
 pub(crate) const CHECK_HELP: &str =
     "With the census files alone it prints the numbers of blocks, counties and people, and the people of
@@ -81,7 +91,9 @@ Statuses:
   2  the command line is wrong; nothing was opened
   3  a file was refused; its fault is told with the file's name
   5  memory was refused
-  6  standard output failed";
+  6  standard output failed
+
+To read: docs/REPORT.md (each key of an audit), docs/LAW.md (each clause), docs/IOWA.md, docs/FAULTS.md.";
 
 pub(crate) const TALK_HELP: &str = "Example:
   printf 'GET /plans HTTP/1.1\\r\\nHost: d\\r\\n\\r\\n' | ./plandesk talk
@@ -90,4 +102,19 @@ Statuses:
   0  the input ended, or an answer closed the talk
   2  the command line is wrong; nothing was read
   5  memory was refused
-  6  standard input or output failed";
+  6  standard input or output failed
+
+To read: README.md (each request), docs/FAULTS.md.";
+
+pub(crate) const EXPLAIN_HELP: &str = "At a terminal the same words follow a fault's own line.
+
+Example:
+  ./plandesk explain A7
+
+Statuses:
+  0  what is known of the code was printed
+  2  the command line is wrong: no fault has such a code
+  5  memory was refused
+  6  standard output failed
+
+To read: docs/FAULTS.md.";

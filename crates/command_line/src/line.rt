@@ -5,7 +5,8 @@ use clap::builder::ValueParser;
 use clap::{Arg, ArgAction, Command};
 use std::alloc::{AllocError, Global};
 
-const VERSION: &str = "0.1.0";
+/// The program's version, with the kit that it was proved by: `tests/words` holds it against README.md and the kit's own word.
+const VERSION: &str = "1.0.0 (proved by rattle-kit-13f logic dac8208d650f15bf)";
 
 /// An option with one value.
 fn option<'a>(alloc: Global, name: &'a str, value: &'a str, help: &'a str) -> Arg<'a> {
@@ -31,6 +32,14 @@ fn arg_of<'a>(alloc: Global, entry: &Entry) -> Result<Arg<'a>, AllocError> {
             Arg::new(alloc, "store")
                 .value_name("STORE")
                 .help("The store's file")
+                .required(true),
+        ),
+        Entry::Code => Ok(
+            Arg::new(alloc, "code")
+                .value_name("CODE")
+                .help(
+                    "The code of a fault, as G1 or DeviceFault, or the error of an answer over HTTP",
+                )
                 .required(true),
         ),
         Entry::File(name, help) => Ok(option(alloc, name, "FILE", help).required(true)),

@@ -1,5 +1,7 @@
 //! What each command takes, in the order of its help.
-use crate::helps::{CHECK_HELP, FORMAT_HELP, LOAD_HELP, SERVE_HELP, SWEEP_HELP, TALK_HELP};
+use crate::helps::{
+    CHECK_HELP, EXPLAIN_HELP, FORMAT_HELP, LOAD_HELP, SERVE_HELP, SWEEP_HELP, TALK_HELP,
+};
 
 /// A command: its name, what it does, what is told behind its options, and these.
 pub(crate) struct Order {
@@ -13,6 +15,8 @@ pub(crate) struct Order {
 pub(crate) enum Entry {
     /// The file of a store, a word that stands alone.
     Store,
+    /// The code of a fault, a word that stands alone.
+    Code,
     /// A file that has to be named: the option and its help.
     File(&'static str, &'static str),
     /// A number that has to be given: the option, what its value is called, its help, the least and the greatest.
@@ -163,8 +167,10 @@ const SERVE: &[Entry] = &[
 
 const SWEEP: &[Entry] = &[Entry::Store];
 
+const EXPLAIN: &[Entry] = &[Entry::Code];
+
 /// The commands, in the order of the help.
-pub(crate) static ORDERS: [Order; 6] = [
+pub(crate) static ORDERS: [Order; 7] = [
     Order {
         name: "check",
         about: "Prints the counts of a state's census files, or with a plan its audit",
@@ -200,5 +206,11 @@ pub(crate) static ORDERS: [Order; 6] = [
         about: "Serves HTTP/1.1 from standard input to standard output, over a sample geography",
         after: TALK_HELP,
         entries: &[],
+    },
+    Order {
+        name: "explain",
+        about: "Prints what the code of a fault means, and what to do",
+        after: EXPLAIN_HELP,
+        entries: EXPLAIN,
     },
 ];

@@ -12,6 +12,7 @@ use clap::ArgMatches;
 use clap::error::ErrorKind;
 use command_output::status::Status;
 use desk_model::companions::Companions;
+use fault_words::finding::is_code;
 use state_files::open::{AuditPaths, CensusPaths};
 use std::alloc::{AllocError, Global};
 
@@ -31,6 +32,8 @@ pub enum Job<'a> {
     Serve(&'a str, Serving),
     /// `sweep`: what nothing needs any more is taken out of a store.
     Sweep(&'a str),
+    /// `explain`: what is known of the code of a fault is printed.
+    Explain(&'a str),
 }
 
 /// Why it does nothing: help or the version was asked for, the words are wrong, or memory was refused.
@@ -70,6 +73,9 @@ const WRONG_SIZE: &str =
 
 const WRONG_SERVING: &str =
     "error: a port is digits alone, 1 to 65535, a number of workers 1 to 64, of connections 1 to 4294967295, and of idle seconds 1 to 86400\n";
+
+const WRONG_CODE: &str =
+    "error: invalid value for '<CODE>': it is none of the codes in docs/FAULTS.md\n";
 
 fn memory() -> Mistake {
     Mistake {
@@ -185,6 +191,18 @@ fn sweep_job<'a>(matches: &ArgMatches<'a>) -> Option<Job<'a>>
     Some(Job::Sweep(matches.get_str("store")?))
 }
 
+/// What `explain` is asked for, where it is the code of a fault.
+fn explain_job<'a>(matches: &ArgMatches<'a>) -> Option<Job<'a>>
+    ensures valid { IfSome result IsJob }
+    ensures paths { IfSome result (HasPaths (found_of matches.now)) }
+{
+    let code = matches.get_str("code")?;
+    if !is_code(code) {
+        return None;
+    }
+    Some(Job::Explain(code))
+}
+
 /// A mistake that is told so, or want of memory where the text has none.
 fn telling(status: Status, text: Result<String, AllocError>) -> Mistake {
     match text {
@@ -233,6 +251,7 @@ fn job_under<'a>(name: &str, options: &ArgMatches<'a>) -> Option<Job<'a>>
         "load" => load_job(options),
         "serve" => serve_job(options),
         "sweep" => sweep_job(options),
+        "explain" => explain_job(options),
         _ => check_job(options),
     }
 }
@@ -244,6 +263,7 @@ fn wrong_under<'a>(name: &str, options: &ArgMatches<'a>) -> &'static str {
         "load" => "error: a file is missing\n",
         "serve" => WRONG_SERVING,
         "sweep" => "error: a store is missing\n",
+        "explain" => WRONG_CODE,
         _ => wrong_options(options),
     }
 }

@@ -4,6 +4,7 @@
 //! a fault and answers its status.
 #![tactic(auto)]
 
+pub mod explaining;
 pub mod fault_status;
 pub mod status;
 pub mod telling;

@@ -3,6 +3,7 @@ ghost use Rattle.std.specs.Prelude.{◌≤◌};
 ghost use Rattle.state_files.specs.Opens.{AreAlike};
 ghost use Rattle.command_line.specs.Options.{AreTerms};
 
+use crate::faults::{explain_last, standard_error};
 use crate::files::Files;
 use byte_stream::sink::WriteSink;
 use byte_stream::source::ReadSource;
@@ -20,10 +21,10 @@ pub fn check_counts(rt: &HostRuntime, paths: CensusPaths<'_>) -> Status {
     let mut opener = Files::new(rt);
     let mut files: CensusFiles<ReadSource<File>> = open_census(&mut opener, paths);
     let mut writer = WriteSink::new(rt.stdout());
-    let mut errors = WriteSink::new(rt.stderr());
+    let mut errors = standard_error(rt);
     let status = check(rt.alloc(), &mut files, &mut writer, &mut errors);
     let _ = writer.into_inner();
-    let _ = errors.into_inner();
+    explain_last(rt, errors, None);
     status
 }
 
@@ -43,7 +44,7 @@ pub fn check_plan<T: Threads + Sync>(
     let mut opener = Files::new(rt);
     let mut files: AuditFiles<ReadSource<File>> = open_audit(&mut opener, paths, terms.beside);
     let mut writer = WriteSink::new(rt.stdout());
-    let mut errors = WriteSink::new(rt.stderr());
+    let mut errors = standard_error(rt);
     let status = audit_plan(
         threads,
         rt.alloc(),
@@ -55,6 +56,6 @@ pub fn check_plan<T: Threads + Sync>(
         &mut errors,
     );
     let _ = writer.into_inner();
-    let _ = errors.into_inner();
+    explain_last(rt, errors, None);
     status
 }

@@ -3,6 +3,8 @@
 #![tactic(auto)]
 
 mod checks;
+mod explaining;
+mod faults;
 mod files;
 mod run;
 mod serving;

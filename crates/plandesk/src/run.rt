@@ -1,5 +1,7 @@
 //! What the words ask for, done.
 use crate::checks::{check_counts, check_plan};
+use crate::explaining::explain_code;
+use crate::faults::explain_line;
 use crate::serving::serve_desk;
 use crate::stores::{format_store, load_state};
 use crate::sweeping::sweep_desk;
@@ -7,6 +9,7 @@ use byte_stream::sink::WriteSink;
 use byte_stream::source::ReadSource;
 use command_line::words::{Job, Mistake, job_of};
 use command_output::status::Status;
+use fault_words::noting::Noting;
 use std::io::Write;
 use std::sync::Wait;
 use std::thread::Threads;
@@ -20,18 +23,20 @@ fn tell<E: Write>(errors: &mut E, text: &str) {
 fn serve_talk(rt: &HostRuntime) -> Status {
     let mut reader = ReadSource::new(rt.stdin());
     let mut writer = WriteSink::new(rt.stdout());
-    let mut errors = rt.stderr();
+    let mut errors = Noting::new(rt.stderr());
     let status = talk(rt.alloc(), &mut reader, &mut writer, &mut errors);
     let _ = reader.into_inner();
     let _ = writer.into_inner();
+    explain_line(rt, &errors, None);
     status
 }
 
 /// Tells why nothing is done: help and the version on standard output, and what is wrong on standard error.
 fn end_mistake(rt: &HostRuntime, mistake: &Mistake) -> Status {
     if mistake.status() != Status::Done {
-        let mut errors = rt.stderr();
+        let mut errors = Noting::new(rt.stderr());
         tell(&mut errors, mistake.text());
+        explain_line(rt, &errors, None);
         return mistake.status();
     }
     let mut output = rt.stdout();
@@ -52,6 +57,7 @@ pub fn run<T: Threads + Wait + Sync>(rt: &HostRuntime, threads: &T, words: &[&st
         Ok(Job::Load(name, paths, neighbours)) => load_state(rt, name, paths, neighbours),
         Ok(Job::Serve(name, serving)) => serve_desk(rt, threads, name, serving),
         Ok(Job::Sweep(name)) => sweep_desk(rt, name),
+        Ok(Job::Explain(code)) => explain_code(rt, code),
         Err(mistake) => end_mistake(rt, &mistake),
     }
 }

@@ -1,6 +1,7 @@
 //! `serve` over the file system, the network and the standard streams.
 ghost use Rattle.std.specs.Prelude.{◌≤◌};
 
+use crate::faults::{explain_last, standard_error};
 use crate::stores::StoreFiles;
 use byte_stream::sink::WriteSink;
 use command_line::options::Serving;
@@ -34,7 +35,7 @@ pub fn serve_desk<T: Threads + Wait + Sync>(
     };
     let mut stores = StoreFiles::new(rt);
     let mut writer = WriteSink::new(rt.stdout());
-    let mut errors = WriteSink::new(rt.stderr());
+    let mut errors = standard_error(rt);
     let status = serve::<FileDevice<Unknown>, _, _, _, _, _>(
         threads,
         rt.alloc(),
@@ -46,6 +47,6 @@ pub fn serve_desk<T: Threads + Wait + Sync>(
         &mut errors,
     );
     let _ = writer.into_inner();
-    let _ = errors.into_inner();
+    explain_last(rt, errors, stores.reason());
     status
 }

@@ -1,12 +1,14 @@
 //! `format` and `load` over the file system and the standard streams.
 ghost use Rattle.std.specs.Prelude.{◌≤◌};
 
+use crate::faults::{explain_last, standard_error};
 use crate::files::Files;
 use byte_stream::sink::WriteSink;
 use byte_stream::source::ReadSource;
 use command_line::options::Size;
 use command_output::status::Status;
 use command_progress::Telling;
+use fault_words::explanation::Reason;
 use sector_file::{FileDevice, FileError, Unknown};
 use state_files::open::{CensusPaths, Opener, open_census};
 use std::fs::File;
@@ -16,51 +18,96 @@ use store_command::format::format;
 use store_command::load::{StateFiles, load};
 use store_command::stores::Stores;
 
-/// Makes, opens and closes the files of stores in the file system.
+/// Makes, opens and closes the files of stores in the file system, and knows why the last one was refused.
 #[derive(Drop)]
 pub struct StoreFiles<'a> {
     rt: &'a HostRuntime,
+    reason: Option<Reason>,
 }
 
 impl<'a> StoreFiles<'a> {
     pub fn new(rt: &'a HostRuntime) -> StoreFiles<'a> {
-        StoreFiles { rt }
+        StoreFiles { rt, reason: None }
+    }
+
+    /// Why the device of a store fails, where that is told apart.
+    pub fn reason(&self) -> Option<Reason> {
+        self.reason
+    }
+
+    /// The fault of a store, whose reason is kept.
+    fn refuse(&mut self, refused: Refused) -> StoreFault {
+        self.reason = refused.reason;
+        refused.fault
     }
 }
 
-fn fault_of(e: FileError) -> StoreFault {
+/// Why a file is no device: the fault that is told, and its reason, where that is told apart.
+#[derive(Clone, Copy)]
+struct Refused {
+    fault: StoreFault,
+    reason: Option<Reason>,
+}
+
+fn without_reason(fault: StoreFault) -> Refused {
+    Refused {
+        fault,
+        reason: None,
+    }
+}
+
+fn device_fault(reason: Reason) -> Refused {
+    Refused {
+        fault: StoreFault::DeviceFault,
+        reason: Some(reason),
+    }
+}
+
+fn refused_as(e: FileError) -> Refused {
     match e {
-        FileError::NotFound => StoreFault::NotFound,
-        FileError::WrongSize => StoreFault::WrongSize,
-        FileError::InUse | FileError::NotPermitted | FileError::NoSpace | FileError::DeviceFault =>
-            { StoreFault::DeviceFault }
-        FileError::Exists => StoreFault::Exists,
+        FileError::NotFound => without_reason(StoreFault::NotFound),
+        FileError::WrongSize => without_reason(StoreFault::WrongSize),
+        FileError::InUse => device_fault(Reason::InUse),
+        FileError::NotPermitted => device_fault(Reason::NotPermitted),
+        FileError::NoSpace => device_fault(Reason::NoRoom),
+        FileError::DeviceFault => without_reason(StoreFault::DeviceFault),
+        FileError::Exists => without_reason(StoreFault::Exists),
     }
 }
 
-fn fault_of_error(e: &Error) -> StoreFault {
+fn refused_by(e: &Error) -> Refused {
     match e.kind() {
-        ErrorKind::NotFound => StoreFault::NotFound,
-        ErrorKind::OutOfMemory => StoreFault::Memory,
-        _ => StoreFault::DeviceFault,
+        ErrorKind::NotFound => without_reason(StoreFault::NotFound),
+        ErrorKind::OutOfMemory => without_reason(StoreFault::Memory),
+        ErrorKind::PermissionDenied => device_fault(Reason::NotPermitted),
+        _ => without_reason(StoreFault::DeviceFault),
     }
 }
 
 /// The number of sectors that a file has.
-fn sectors_of(rt: &HostRuntime, name: &str) -> Result<u32, StoreFault> {
+fn sectors_of(rt: &HostRuntime, name: &str) -> Result<u32, Refused> {
     let file = match File::open(rt, name) {
         Ok(file) => file,
-        Err(e) => return Err(fault_of_error(&e)),
+        Err(e) => return Err(refused_by(&e)),
     };
     let bytes = match file.metadata() {
         Ok(found) => found.len(),
-        Err(e) => return Err(fault_of_error(&e)),
+        Err(e) => return Err(refused_by(&e)),
     };
     let sectors = bytes / 4096;
     if bytes % 4096 != 0 || sectors > u32::MAX as u64 {
-        return Err(StoreFault::WrongSize);
+        return Err(without_reason(StoreFault::WrongSize));
     }
     Ok(sectors as u32)
+}
+
+/// Opens a file as a device of as many sectors as it has.
+fn open_device(rt: &HostRuntime, name: &str) -> Result<FileDevice<Unknown>, Refused> {
+    let sectors = sectors_of(rt, name)?;
+    match FileDevice::open(rt, name, sectors, Unknown) {
+        Ok(device) => Ok(device),
+        Err(e) => Err(refused_as(e)),
+    }
 }
 
 impl<'a> Stores<FileDevice<Unknown>> for StoreFiles<'a> {
@@ -74,20 +121,22 @@ impl<'a> Stores<FileDevice<Unknown>> for StoreFiles<'a> {
     fn make(&mut self, name: &str, sectors: u32) -> Result<FileDevice<Unknown>, StoreFault> {
         match FileDevice::create(self.rt, name, sectors, Unknown) {
             Ok(device) => Ok(device),
-            Err(e) => Err(fault_of(e)),
+            Err(e) => Err(self.refuse(refused_as(e))),
         }
     }
 
     fn open(&mut self, name: &str) -> Result<FileDevice<Unknown>, StoreFault> {
-        let sectors = sectors_of(self.rt, name)?;
-        match FileDevice::open(self.rt, name, sectors, Unknown) {
+        match open_device(self.rt, name) {
             Ok(device) => Ok(device),
-            Err(e) => Err(fault_of(e)),
+            Err(refused) => Err(self.refuse(refused)),
         }
     }
 
     // A device's file closes where the device is dropped.
     fn close(&mut self, device: FileDevice<Unknown>) {
+        if device.is_full() {
+            self.reason = Some(Reason::NoRoom);
+        }
         drop(device)
     }
 }
@@ -99,7 +148,7 @@ pub fn format_store(rt: &HostRuntime, name: &str, size: Size) -> Status
 {
     let mut stores = StoreFiles::new(rt);
     let mut writer = WriteSink::new(rt.stdout());
-    let mut errors = WriteSink::new(rt.stderr());
+    let mut errors = standard_error(rt);
     let status = format::<FileDevice<Unknown>, _, _, _>(
         rt.alloc(),
         &mut stores,
@@ -110,7 +159,7 @@ pub fn format_store(rt: &HostRuntime, name: &str, size: Size) -> Status
         &mut errors,
     );
     let _ = writer.into_inner();
-    let _ = errors.into_inner();
+    explain_last(rt, errors, stores.reason());
     status
 }
 
@@ -127,7 +176,7 @@ pub fn load_state(
     let mut files: StateFiles<ReadSource<File>> = StateFiles { census, gal };
     let mut stores = StoreFiles::new(rt);
     let mut writer = WriteSink::new(rt.stdout());
-    let mut errors = WriteSink::new(rt.stderr());
+    let mut errors = standard_error(rt);
     let terminal = rt.stderr();
     let is_terminal = terminal.is_terminal();
     let mut progress = Telling::new(terminal, is_terminal, b"plandesk: load: ", 65_536);
@@ -142,6 +191,6 @@ pub fn load_state(
     );
     let _ = progress.into_inner();
     let _ = writer.into_inner();
-    let _ = errors.into_inner();
+    explain_last(rt, errors, stores.reason());
     status
 }

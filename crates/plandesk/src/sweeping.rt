@@ -1,4 +1,5 @@
 //! `sweep` over the file system and the standard streams.
+use crate::faults::{explain_last, standard_error};
 use crate::stores::StoreFiles;
 use byte_stream::sink::WriteSink;
 use command_output::status::Status;
@@ -11,7 +12,7 @@ use store_command::sweep::sweep;
 pub fn sweep_desk(rt: &HostRuntime, name: &str) -> Status {
     let mut stores = StoreFiles::new(rt);
     let mut writer = WriteSink::new(rt.stdout());
-    let mut errors = WriteSink::new(rt.stderr());
+    let mut errors = standard_error(rt);
     let terminal = rt.stderr();
     let is_terminal = terminal.is_terminal();
     let mut progress = Telling::new(terminal, is_terminal, b"plandesk: sweep: ", 16_384);
@@ -25,6 +26,6 @@ pub fn sweep_desk(rt: &HostRuntime, name: &str) -> Status {
     );
     let _ = progress.into_inner();
     let _ = writer.into_inner();
-    let _ = errors.into_inner();
+    explain_last(rt, errors, stores.reason());
     status
 }

@@ -4,6 +4,7 @@ ghost use Rattle.std.specs.Prelude.{◌≡◌, ◌≢◌, true, false, MatchResu
 ghost use Rattle.sector_file.specs.Told.{replay, after_read, after_fault, after_write, after_torn, after_sync};
 
 use crate::contents::Contents;
+use crate::error::{FileError, of_making};
 use crate::record::Record;
 use std::fs::File;
 use std::io;
@@ -16,6 +17,14 @@ fn moved(answer: io::Result<()>) -> usize
     match answer {
         Ok(()) => 4096,
         Err(_) => 0,
+    }
+}
+
+/// Whether a call failed since the disk, or what its user may have of it, is full.
+fn is_full_by(answer: &io::Result<()>) -> bool {
+    match answer {
+        Ok(()) => false,
+        Err(error) => of_making(error) == FileError::NoSpace,
     }
 }
 
@@ -34,27 +43,33 @@ pub(crate) fn read_sector<S: Contents>(
     got
 }
 
-/// Writes a sector: how many of its bytes went. A write that was short or interrupted is tried again.
+/// Writes a sector: how many of its bytes went. A write that was short or interrupted is tried again. Whether the disk was full is
+/// noted.
 pub(crate) fn write_sector<S: Contents>(
     file: &File,
     log: &mut Record,
     i: u32,
     sector: &[u8; 4096],
+    is_full: &mut bool,
 ) -> usize
     ensures whole { result ≡ 4096 → replay S.Contents.sector log.new.calls ≡ after_write (replay S.Contents.sector log.old.calls) i sector.now }
     ensures torn { result ≢ 4096 → replay S.Contents.sector log.new.calls ≡ after_torn (replay S.Contents.sector log.old.calls) i }
 {
-    let put = moved(file.write_all_at(sector, 4096 * i as u64));
+    let answer = file.write_all_at(sector, 4096 * i as u64);
+    *is_full |= is_full_by(&answer);
+    let put = moved(answer);
     log.written::<S>(i, put, sector);
     put
 }
 
-/// Syncs what was written: whether the system did.
-pub(crate) fn sync_sectors<S: Contents>(file: &File, log: &mut Record) -> bool
+/// Syncs what was written: whether the system did. Whether the disk was full is noted.
+pub(crate) fn sync_sectors<S: Contents>(file: &File, log: &mut Record, is_full: &mut bool) -> bool
     ensures synced { result ≡ true → replay S.Contents.sector log.new.calls ≡ after_sync (replay S.Contents.sector log.old.calls) }
     ensures fault { result ≡ false → replay S.Contents.sector log.new.calls ≡ after_fault (replay S.Contents.sector log.old.calls) }
 {
-    if file.sync_data().is_err() {
+    let answer = file.sync_data();
+    *is_full |= is_full_by(&answer);
+    if answer.is_err() {
         log.not_synced::<S>();
         return false;
     }

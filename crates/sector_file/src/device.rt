@@ -22,6 +22,8 @@ pub struct FileDevice<S: Contents> {
     size: u64,
     log: Record,
     recent: Recent,
+    /// Whether a write or a sync found the disk full.
+    is_full: bool,
     start: PhantomData<S>,
     ghost few: { length (replay S.Contents.sector log.calls).0 < 2 ^ 32 },
     ghost counted: { length (replay S.Contents.sector log.calls).0 ≡ count },
@@ -83,6 +85,7 @@ impl<S: Contents> FileDevice<S> {
             size,
             log: Record::opened::<S>(count),
             recent: Recent::none(),
+            is_full: false,
             start: PhantomData,
         })
     }
@@ -143,6 +146,11 @@ impl<S: Contents> FileDevice<S> {
             Err(_) => Err(FileError::DeviceFault),
         }
     }
+
+    /// Whether a write or a sync failed since the disk, or what its user may have of it, is full.
+    pub fn is_full(&self) -> bool {
+        self.is_full
+    }
 }
 
 impl<S: Contents> SectorDevice for FileDevice<S> {
@@ -173,7 +181,7 @@ impl<S: Contents> SectorDevice for FileDevice<S> {
 
     fn write(&mut self, i: u32, sector: &[u8; 4096]) -> Result<(), DeviceFault> {
         self.recent.forget(i);
-        let put = write_sector::<S>(&self.file, &mut self.log, i, sector);
+        let put = write_sector::<S>(&self.file, &mut self.log, i, sector, &mut self.is_full);
         if put == 4096 {
             Ok(())
         } else {
@@ -182,7 +190,7 @@ impl<S: Contents> SectorDevice for FileDevice<S> {
     }
 
     fn sync(&mut self) -> Result<(), DeviceFault> {
-        if sync_sectors::<S>(&self.file, &mut self.log) {
+        if sync_sectors::<S>(&self.file, &mut self.log, &mut self.is_full) {
             Ok(())
         } else {
             Err(DeviceFault)

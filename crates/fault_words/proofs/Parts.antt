@@ -1,0 +1,9 @@
+-- Parts that are put behind a text one after the other are one text behind it.
+use Rattle.std.proofs.Common.{◌≡◌, ◌++◌, ℕ, List, refl}
+use Rattle.std.proofs.lemmas.List.{append_assoc}
+
+pub four_parts : (text a b c d : List ℕ) → text ++ a ++ b ++ c ++ d ≡ text ++ (a ++ b ++ c ++ d)
+four_parts text a b c d = rw (append_assoc text a b, append_assoc text (a ++ b) c, append_assoc text (a ++ b ++ c) d) refl
+
+pub six_parts : (text a b c d e f : List ℕ) → text ++ a ++ b ++ c ++ d ++ e ++ f ≡ text ++ (a ++ b ++ c ++ d ++ e ++ f)
+six_parts text a b c d e f = rw (four_parts text a b c d, append_assoc text (a ++ b ++ c ++ d) e, append_assoc text (a ++ b ++ c ++ d ++ e) f) refl

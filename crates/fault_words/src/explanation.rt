@@ -1,0 +1,152 @@
+//! The words for a code, and whose code it is.
+ghost use Rattle.std.specs.Prelude.{◌≡◌, ◌++◌, IfOk};
+ghost use Rattle.fault_words.specs.Sentences.{words_of, sentence_of, case_text, entry_of};
+
+use crate::census::{GEO, JOIN, SEGMENT};
+use crate::http::{BYTES, REQUESTS};
+use crate::plans::{EVERY_FILE, GAL, PLAN};
+use crate::stores::{COMMAND, STORE};
+use std::alloc::{AllocError, Global};
+
+/// What a code means, and what to do.
+#[derive(Clone, Copy)]
+pub struct Explanation {
+    pub code: &'static str,
+    /// The reason, or the answer's status, where the code alone doesn't tell all; else nothing.
+    pub case: &'static str,
+    pub means: &'static str,
+    pub remedy: &'static str,
+}
+
+/// Why a device fails, where that is told apart.
+#[derive(Clone, Copy, Debug, PartialEq, Eq)]
+pub enum Reason {
+    /// Another open of the file holds it.
+    InUse,
+    /// The file may not be read and written, or it is a folder.
+    NotPermitted,
+    /// There is no room for it on the disk.
+    NoRoom,
+}
+
+/// The case of a reason, as the table of stores has it.
+pub(crate) fn case_of(reason: Option<Reason>) -> &'static str {
+    match reason {
+        Some(Reason::InUse) => "in use",
+        Some(Reason::NotPermitted) => "not permitted",
+        Some(Reason::NoRoom) => "no room",
+        None => "",
+    }
+}
+
+/// Whose fault it is.
+#[derive(Clone, Copy, Debug, PartialEq, Eq)]
+pub enum Place {
+    EveryFile,
+    Geo,
+    Segment,
+    Join,
+    Gal,
+    Plan,
+    Store,
+    /// The standard streams and sockets of a command.
+    Command,
+    /// The bytes of a request.
+    Bytes,
+    /// What a request asks.
+    Requests,
+}
+
+/// All places, in the order of docs/FAULTS.md.
+pub(crate) static PLACES: [Place; 10] = [
+    Place::EveryFile,
+    Place::Geo,
+    Place::Segment,
+    Place::Join,
+    Place::Gal,
+    Place::Plan,
+    Place::Store,
+    Place::Command,
+    Place::Bytes,
+    Place::Requests,
+];
+
+/// The codes of a place.
+pub(crate) fn table_of(place: Place) -> &'static [Explanation] {
+    match place {
+        Place::EveryFile => &EVERY_FILE,
+        Place::Geo => &GEO,
+        Place::Segment => &SEGMENT,
+        Place::Join => &JOIN,
+        Place::Gal => &GAL,
+        Place::Plan => &PLAN,
+        Place::Store => &STORE,
+        Place::Command => &COMMAND,
+        Place::Bytes => &BYTES,
+        Place::Requests => &REQUESTS,
+    }
+}
+
+/// What a place is called.
+pub(crate) fn name_of(place: Place) -> &'static str {
+    match place {
+        Place::EveryFile => "any file",
+        Place::Geo => "geo",
+        Place::Segment => "seg1, seg2 or seg3",
+        Place::Join => "join",
+        Place::Gal => "gal",
+        Place::Plan => "plan, senate or congress",
+        Place::Store => "store",
+        Place::Command => "standard streams and sockets",
+        Place::Bytes | Place::Requests => "over HTTP",
+    }
+}
+
+/// Puts what is meant and what to do behind a text.
+fn put_words(text: &mut Vec<u8>, words: Explanation) -> Result<(), AllocError>
+    ensures { IfOk result (λ _. text.new.items ≡ text.old.items ++ words_of words) }
+{
+    text.extend_from_slice(words.means.as_bytes())?;
+    text.extend_from_slice(b". What to do: ")?;
+    text.extend_from_slice(words.remedy.as_bytes())?;
+    text.extend_from_slice(b".\n")?;
+    Ok(())
+}
+
+/// The line that follows a fault's line.
+pub fn sentence(alloc: Global, words: Explanation) -> Result<Vec<u8>, AllocError>
+    ensures { IfOk result (λ text. text.items ≡ sentence_of words) }
+{
+    let mut text = Vec::new(alloc);
+    text.extend_from_slice(b"  It means: ")?;
+    put_words(&mut text, words)?;
+    Ok(text)
+}
+
+/// Puts a case behind a text, where there is one.
+fn put_case(text: &mut Vec<u8>, case: &[u8]) -> Result<(), AllocError>
+    ensures { IfOk result (λ _. text.new.items ≡ text.old.items ++ case_text case.now) }
+{
+    if case.is_empty() {
+        return Ok(());
+    }
+    text.extend_from_slice(b", ")?;
+    text.extend_from_slice(case)
+}
+
+/// Puts a code, its place and its case behind a text, and the words.
+pub(crate) fn put_entry(
+    text: &mut Vec<u8>,
+    place: &str,
+    words: Explanation,
+) -> Result<(), AllocError>
+    ensures { IfOk result (λ _. text.new.items ≡ text.old.items ++ entry_of place.now words) }
+{
+    text.extend_from_slice(words.code.as_bytes())?;
+    text.extend_from_slice(b", ")?;
+    text.extend_from_slice(place.as_bytes())?;
+    put_case(text, words.case.as_bytes())?;
+    text.extend_from_slice(b": ")?;
+    put_words(text, words)?;
+    Ok(())
+}
