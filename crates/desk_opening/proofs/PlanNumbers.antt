@@ -1,8 +1,14 @@
 -- Numbers of plans, each once.
 use Rattle.std.proofs.Common.{◌≡◌, ◌⊎◌, ◌<◌, ◌^◌, ℕ, zero, suc, cond, List, [], ◌∷◌, ◌++◌, Bool, true, false, Option, Some, None, inl, inr, w64, refl, sym, ap, subst, ◌∙◌, arith, append_assoc}
 use Rattle.std.specs.Prelude.{Contains}
+use Rattle.std.specs.BTreeMap.{is_at}
+use Rattle.std.specs.BTreeSet.{BTreeSet, IsEmpty, contains}
+use Rattle.std.specs.Cmp.{eq_by_cmp_equiv, nat_cmp_total}
+use Rattle.std.specs.List.{list_any}
 use Rattle.std.specs.Int.{from_be_bytes}
-use Rattle.std.specs.Ordering.{eq_by_cmp}
+use Rattle.std.specs.Ordering.{eq_by_cmp, nat_cmp}
+use Rattle.std.proofs.lemmas.Map.Lookups.{exact_unsigned}
+use Rattle.std.proofs.lemmas.Map.Views.{tells_apart}
 use Rattle.std.proofs.lemmas.Nat.{from_be_bytes-to_be_bytes_8}
 use Rattle.std.specs.FinMap.{entries, find, get}
 use Rattle.sector_device.specs.declared.SectorDevice.{Ghosts}
@@ -50,6 +56,10 @@ numbers_more : (es : List Entry) (e : Entry) → numbers_of (es ++ e ∷ []) ≡
 numbers_more [] e = refl
 numbers_more (f ∷ es) e = ap (λ (l : List ℕ). number_in f.1 ∷ l) (numbers_more es e)
 
+either_way : (b : Bool) (P : Type 0) → (b ≡ true → P) → (b ≡ false → P) → P
+either_way true P yes_so no_so = yes_so refl
+either_way false P yes_so no_so = no_so refl
+
 -- ---- lists without a number twice
 abbrev pub AreApart : List ℕ → Type 0
 AreApart [] = Unit {0}
@@ -75,6 +85,14 @@ of_more (z ∷ xs) y x there = elim (of_two z x (xs ++ y ∷ []) there) [
   | inr later ↦ elim (of_more xs y x later) [ inl one ↦ inl (later_in z x xs one) | inr same ↦ inr same ]
 ]
 
+before_in : (xs : List ℕ) (y x : ℕ) → Contains xs x → Contains (xs ++ y ∷ []) x
+before_in [] y x there = absurd (none_in x there)
+before_in (z ∷ xs) y x there = elim (of_two z x xs there) [ inl same ↦ first_in z x (xs ++ y ∷ []) same | inr later ↦ later_in z x (xs ++ y ∷ []) (before_in xs y x later) ]
+
+last_in : (y x : ℕ) (xs : List ℕ) → y ≡ x → Contains (xs ++ y ∷ []) x
+last_in y x [] same = first_in y x [] same
+last_in y x (z ∷ xs) same = later_in z x (xs ++ y ∷ []) (last_in y x xs same)
+
 apart_more : (xs : List ℕ) (y : ℕ) → AreApart xs → (Contains xs y → ⊥) → AreApart (xs ++ y ∷ [])
 apart_more [] y apart new = (none_in y, tt)
 apart_more (x ∷ xs) y apart new = (
@@ -82,22 +100,49 @@ apart_more (x ∷ xs) y apart new = (
   apart_more xs y apart.1 (λ there. new (later_in x y xs there)),
 )
 
--- these are the numbers of the rows
-abbrev pub AreNoted : List Entry → List ℕ → Type 0
-AreNoted rows numbers = (numbers ≡ numbers_of rows) × AreApart numbers
+-- these are the numbers of the rows, each of which has one of its own
+pub record AreNoted (rows : List Entry) (numbers : BTreeSet ℕ) : Type 0 where
+  pub among : (x : ℕ) → contains nat_cmp numbers x ≡ true → Contains (numbers_of rows) x
+  pub all : (x : ℕ) → Contains (numbers_of rows) x → contains nat_cmp numbers x ≡ true
+  pub apart : AreApart (numbers_of rows)
 
-pub noted_more : (rows : List Entry) (row : Row) (old new : List ℕ) → AreNoted rows old → IsNoted row old new → AreNoted (rows ++ (row.key, row.value) ∷ []) new
-noted_more rows row old new noted now =
-    let number : number_in row.value ≡ now.plan.number = ap number_in now.value ∙ number_is now.plan now.fits in (
-      now.is ∙ (λ i. noted.0 i ++ sym number i ∷ []) ∙ sym (numbers_more rows (row.key, row.value)),
-      subst AreApart (sym now.is) (apart_more old now.plan.number noted.1 now.unused),
-    )
+not_both : (b : Bool) → b ≡ true → b ≡ false → ⊥
+not_both b yes no = let clash : true ≡ false = sym yes ∙ no in cc
+
+pub none_noted : (numbers : BTreeSet ℕ) → IsEmpty numbers → AreNoted [] numbers
+none_noted numbers empty = record {
+  among = λ x there. absurd (not_both (contains nat_cmp numbers x) there (ap (λ (keys : List ℕ). list_any (is_at (nat_cmp x)) keys) empty));
+  all = λ x there. absurd (none_in x there);
+  apart = tt;
+}
+
+-- ---- a set with one number more
+is_same : (x y : ℕ) → is_at (nat_cmp x) y ≡ true → x ≡ y
+is_same x y same = tells_apart exact_unsigned x y same
+
+at_itself : (x y : ℕ) → x ≡ y → is_at (nat_cmp x) y ≡ true
+at_itself x y same = subst (λ (n : ℕ). is_at (nat_cmp x) n ≡ true) same ((eq_by_cmp_equiv nat_cmp_total).refl x)
+
+pub noted_more : (rows : List Entry) (row : Row) (old new : BTreeSet ℕ) → AreNoted rows old → IsNoted row old new → AreNoted (rows ++ (row.key, row.value) ∷ []) new
+noted_more rows row old new noted now = record {
+  among = λ x there. subst (λ (l : List ℕ). Contains l x) (sym listed) (either_way (is_at (nat_cmp n) x) (Contains (numbers_of rows ++ n ∷ []) x)
+      (λ here. last_in n x (numbers_of rows) (is_same n x here))
+      (λ other. before_in (numbers_of rows) n x (noted.among x (sym (now.is.2.0 x other) ∙ there))));
+  all = λ x there. elim (of_more (numbers_of rows) n x (subst (λ (l : List ℕ). Contains l x) listed there)) [
+    | inl before ↦ either_way (is_at (nat_cmp n) x) (contains nat_cmp new x ≡ true)
+        (λ here. now.is.0 x ∙ ap (λ (b : Bool). cond b true (contains nat_cmp old x)) here)
+        (λ other. now.is.2.0 x other ∙ noted.all x before)
+    | inr same ↦ now.is.0 x ∙ ap (λ (b : Bool). cond b true (contains nat_cmp old x)) (at_itself n x same)
+  ];
+  apart = subst AreApart (sym listed) (apart_more (numbers_of rows) n noted.apart (λ there. not_both (contains nat_cmp old n) (noted.all n there) now.unused));
+}
+  where
+    n : ℕ
+    n = now.plan.number
+    listed : numbers_of (rows ++ (row.key, row.value) ∷ []) ≡ numbers_of rows ++ n ∷ []
+    listed = numbers_more rows (row.key, row.value) ∙ ap (λ (k : ℕ). numbers_of rows ++ k ∷ []) (ap number_in now.value ∙ number_is now.plan now.fits)
 
 -- ---- rows by their numbers
-either_way : (b : Bool) (P : Type 0) → (b ≡ true → P) → (b ≡ false → P) → P
-either_way true P yes_so no_so = yes_so refl
-either_way false P yes_so no_so = no_so refl
-
 -- a number that was noted is that of a row
 pub record IsAmong (rows : List Entry) (number : ℕ) : Type 0 where
   pub before : List Entry
@@ -140,11 +185,11 @@ one_key a b va vb (e ∷ es) apart there also same = either_way (eq_by_cmp key_c
     (λ other. one_key a b va vb es apart.1 (sym (ap (λ (x : Bool). cond x (Some e.1) (find key_cmp a es)) apart_a) ∙ there) (sym (ap (λ (x : Bool). cond x (Some e.1) (find key_cmp b es)) other) ∙ also) same))
 
 -- where these are all rows of plans, each number is that of one
-pub all_apart : (m : KeyMap) (rows : List Entry) (numbers : List ℕ) → under plans_prefix (entries m) ≡ rows → AreNoted rows numbers → ArePlansApart m
+pub all_apart : (m : KeyMap) (rows : List Entry) (numbers : BTreeSet ℕ) → under plans_prefix (entries m) ≡ rows → AreNoted rows numbers → ArePlansApart m
 all_apart m rows numbers all noted name other number is also =
     let one : number_in (plan_bytes is.plan) ≡ number = number_is is.plan (let same = is.is in let few = is.fits in omega arith) ∙ is.is in
     let two : number_in (plan_bytes also.plan) ≡ number = number_is also.plan (let same = also.is in let few = also.fits in omega arith) ∙ also.is in
-    let keys = one_key (key_of (named name)) (key_of (named other)) (plan_bytes is.plan) (plan_bytes also.plan) rows (subst AreApart noted.0 noted.1) (found_among m rows name all ∙ is.row) (found_among m rows other all ∙ also.row) (one ∙ sym two) in
+    let keys = one_key (key_of (named name)) (key_of (named other)) (plan_bytes is.plan) (plan_bytes also.plan) rows noted.apart (found_among m rows name all ∙ is.row) (found_among m rows other all ∙ also.row) (one ∙ sym two) in
     cc
 
 -- ---- a row whose number was noted is none of a desk's
@@ -155,12 +200,12 @@ numbered_at m g name value (Some p) (number, plan) has =
     let is : number_in value ≡ number = ap number_in (sym bytes) ∙ number_is (plan_row_of number p) plan.number_fits in
     record { plan = plan_row_of number p; row = plan.row; is = sym is; fits = subst (λ (n : ℕ). n < 2 ^ 64) (sym is) plan.number_fits }
 
-pub unused : (g : Ground) (m : KeyMap) (rows : List Entry) (old new : Scan) (row : Row) (all : Plans) (taken : HasTaken plans_prefix rows old (entries m)) → IsNextRow true new row (entries m) taken.rest → ArePlans g m all → (numbers : List ℕ) → AreNoted rows numbers → IsUnused numbers row
+pub unused : (g : Ground) (m : KeyMap) (rows : List Entry) (old new : Scan) (row : Row) (all : Plans) (taken : HasTaken plans_prefix rows old (entries m)) → IsNextRow true new row (entries m) taken.rest → ArePlans g m all → (numbers : BTreeSet ℕ) → AreNoted rows numbers → IsUnused numbers row
 unused g m rows old new row all taken next are numbers noted p fits value there =
     let e : Entry = (row.key, row.value) in
     let whole : under plans_prefix (entries m) ≡ rows ++ e ∷ next.0 = taken.whole ∙ ap (λ (l : List Entry). rows ++ l) next.1 in
     let at = next_plan m rows e next.0 whole in
-    let among = row_of rows p.number (subst (λ (l : List ℕ). Contains l p.number) noted.0 there) in
+    let among = row_of rows p.number (noted.among p.number there) in
     let f = among.row in
     let whole_f : under plans_prefix (entries m) ≡ among.before ++ f ∷ (among.after ++ e ∷ next.0) = whole ∙ ap (λ (l : List Entry). l ++ e ∷ next.0) among.whole ∙ append_assoc among.before (f ∷ among.after) (e ∷ next.0) in
     let at_f = next_plan m among.before f (among.after ++ e ∷ next.0) whole_f in
@@ -171,10 +216,10 @@ unused g m rows old new row all taken next are numbers noted p fits value there 
     some_found row.key among.before f among.after (subst (λ (l : List Entry). find key_cmp row.key l ≡ None) among.whole at.new) (at.key ∙ ap (λ (n : List ℕ). key_of (named n)) names ∙ sym at_f.key)
 
 -- what isn't noted isn't read
-pub unnoted : {D : Type 0} {g : Ghosts D} (ground : Ground) (plans : Plans) (row : Row) (numbers : List ℕ) (t : Txn) (a : Pages D g) (e : TreeError) → NoteErr row numbers e → AppendErr (IsFreshPlan ground plans numbers row) t a a e
+pub unnoted : {D : Type 0} {g : Ghosts D} (ground : Ground) (plans : Plans) (row : Row) (numbers : BTreeSet ℕ) (t : Txn) (a : Pages D g) (e : TreeError) → NoteErr row numbers e → AppendErr (IsFreshPlan ground plans numbers row) t a a e
 unnoted ground plans row numbers t a DeviceFault why = inr (λ honest m plan holds is.
     let kept = is_kept_plan ground plans row m plan is.new in
-    why kept.plan kept.fits kept.value (is.unused kept.plan kept.fits kept.value))
+    either_way (contains nat_cmp numbers kept.plan.number) ⊥ (λ there. is.unused kept.plan kept.fits kept.value there) (λ none. why kept.plan kept.fits kept.value none))
 unnoted ground plans row numbers t a Halted why = absurd why
 unnoted ground plans row numbers t a NoPages why = absurd why
 unnoted ground plans row numbers t a TooDeep why = absurd why

@@ -1,6 +1,8 @@
 -- What is read back of a desk row by row, and why it is not.
-use Rattle.std.specs.Prelude.{◌≡◌, ◌⊎◌, ◌<◌, ◌^◌, ℕ, List, [], ◌∷◌, ◌++◌, true, Contains, Option, Some, None}
+use Rattle.std.specs.Prelude.{◌≡◌, ◌⊎◌, ◌<◌, ◌^◌, ℕ, List, [], ◌∷◌, ◌++◌, true, false, Option, Some, None}
 use Rattle.std.specs.FinMap.{FinMap, get, insert, len, get as row_at}
+use Rattle.std.specs.BTreeSet.{BTreeSet, contains, Updates}
+use Rattle.std.specs.Ordering.{nat_cmp}
 use Rattle.sector_device.specs.declared.SectorDevice.{Ghosts}
 use Rattle.desk_model.specs.Geography.{Ground}
 use Rattle.desk_model.specs.Desk.{Desk, Plan, name_cmp}
@@ -61,26 +63,26 @@ pub record IsKeptPlan (row : Row) (m : KeyMap) : Type 0 where
   pub kept : Lacks m (retired plan.number)
 
 -- no plan was read that has the number of the one whose row this is
-abbrev pub IsUnused : List ℕ → Row → Type 0
-IsUnused numbers row = (p : PlanRow) → p.number < 2 ^ 64 → row.value ≡ plan_bytes p → Contains numbers p.number → ⊥
+abbrev pub IsUnused : BTreeSet ℕ → Row → Type 0
+IsUnused numbers row = (p : PlanRow) → p.number < 2 ^ 64 → row.value ≡ plan_bytes p → contains nat_cmp numbers p.number ≡ true → ⊥
 
--- that number was noted behind those of the plans before it
-pub record IsNoted (row : Row) (old new : List ℕ) : Type 0 where
+-- that number was noted beside those of the plans before it
+pub record IsNoted (row : Row) (old new : BTreeSet ℕ) : Type 0 where
   pub plan : PlanRow
   pub fits : plan.number < 2 ^ 64
   pub value : row.value ≡ plan_bytes plan
-  pub unused : Contains old plan.number → ⊥
-  pub is : new ≡ old ++ plan.number ∷ []
+  pub unused : contains nat_cmp old plan.number ≡ false
+  pub is : Updates nat_cmp old new plan.number true
 
-abbrev pub NoteErr : Row → List ℕ → TreeError → Type 0
-NoteErr row numbers DeviceFault = (p : PlanRow) → p.number < 2 ^ 64 → row.value ≡ plan_bytes p → (Contains numbers p.number → ⊥) → ⊥
+abbrev pub NoteErr : Row → BTreeSet ℕ → TreeError → Type 0
+NoteErr row numbers DeviceFault = (p : PlanRow) → p.number < 2 ^ 64 → row.value ≡ plan_bytes p → contains nat_cmp numbers p.number ≡ false → ⊥
 NoteErr row numbers Halted = ⊥
 NoteErr row numbers NoPages = ⊥
 NoteErr row numbers TooDeep = ⊥
 NoteErr row numbers Memory = Unit {0}
 
 -- the row is that of a plan of the desk that isn't among these, nor its number among theirs
-pub record IsFreshPlan (g : Ground) (plans : FinMap name_cmp Plan) (numbers : List ℕ) (row : Row) (m : KeyMap) (plan : List ℕ × Plan) : Type 0 where
+pub record IsFreshPlan (g : Ground) (plans : FinMap name_cmp Plan) (numbers : BTreeSet ℕ) (row : Row) (m : KeyMap) (plan : List ℕ × Plan) : Type 0 where
   pub new : IsNewPlan g plans row m plan
   pub unused : IsUnused numbers row
 

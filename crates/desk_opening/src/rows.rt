@@ -27,6 +27,7 @@ use plan_table::laws::plans_are_told;
 use row_table::TreeError;
 use sector_device::SectorDevice;
 use std::alloc::Global;
+use std::collections::BTreeSet;
 use store_rows::{Key, PlanRow, read_plan};
 
 /// A number of 64 bits is in its range.
@@ -110,16 +111,16 @@ fn add_row<D: SectorDevice>(
     cuts: &[Cut],
     plans: &Plans,
     row: &Row,
-    numbers: &mut Vec<u64>,
+    numbers: &mut BTreeSet<u64>,
 ) -> Result<Plans, TreeError>
     requires begun { txn_pages txn.now ≡ count_of pages.old }
     requires cut { cuts.now ≡ cuts_of geography.now }
     ensures quiet { IsQuiet pages.old pages.new }
     ensures whole { IfOk result (λ all. AreWhole (Some geography.now) plans.now → AreWhole (Some geography.now) all) }
-    ensures noted { OnOk result (IsNoted row.now numbers.old.items numbers.new.items) }
+    ensures noted { OnOk result (IsNoted row.now numbers.old numbers.new) }
     ensures kept { (disk_in pages.new).is_honest → (m : KeyMap) → InTxn txn.now (stored pages.old) m → OnOk result (IsNotGone row.now m) }
     ensures added { IfOk result (λ all. IsAdded plans.now row.now all) }
-    ensures read { MatchResult result (λ all. HasRead (IsFreshPlan geography.now plans.now numbers.old.items row.now) (λ plan. map_of.insert plans.now plan.0 plan.1) txn.now pages.old pages.new all) (λ e. AppendErr (IsFreshPlan geography.now plans.now numbers.old.items row.now) txn.now pages.old pages.new e) }
+    ensures read { MatchResult result (λ all. HasRead (IsFreshPlan geography.now plans.now numbers.old row.now) (λ plan. map_of.insert plans.now plan.0 plan.1) txn.now pages.old pages.new all) (λ e. AppendErr (IsFreshPlan geography.now plans.now numbers.old row.now) txn.now pages.old pages.new e) }
 {
     note_number(row, numbers)?;
     refuse_gone(txn, pages, row)?;
@@ -144,7 +145,7 @@ pub(crate) fn read_plans<D: SectorDevice>(
         return Err(TreeError::Memory);
     };
     let mut plans = Plans::new();
-    let mut numbers = Vec::new(alloc);
+    let mut numbers = BTreeSet::new(alloc);
     let prefix = Key::plans();
     let mut scan = Scan::new(prefix.as_slice());
     let mut row = Row::empty();

@@ -18,7 +18,7 @@ use Rattle.row_table.specs.Reading.{get_unread}
 use Rattle.row_table.specs.Appending.{AppendErr, then_unappended, unread_unappended}
 use Rattle.desk_opening.specs.Reading.{HasRead}
 use Rattle.desk_opening.specs.Opening.{ArePlans, IsFreshPlan}
-use Rattle.desk_opening.proofs.PlanNumbers.{AreNoted, unused, noted_more, all_apart}
+use Rattle.desk_opening.proofs.PlanNumbers.{AreNoted, none_noted, unused, noted_more, all_apart}
 use Rattle.desk_opening.proofs.Parts.{Plans, AreRead, none_read, all_read}
 use Rattle.desk_opening.proofs.Shown.{AreShown, none_shown, more_shown, all_shown}
 use Rattle.desk_opening.proofs.Turns.{new_plan}
@@ -33,7 +33,7 @@ loop-taken-init g c = record {
   whole = subst (λ (plans : Plans). AreWhole (Some c.args.geography.now) plans) (sym c.new-plans.ensures) (none_whole c.args.geography.now);
   taken = λ honest m holds.
       let rest = subst (λ (prefix : List ℕ). Rest c.new-scan.result (entries m) (under prefix (entries m))) (c.as_slice.ensures.bytes ∙ c.plans-prefix.ensures) (c.new-scan.ensures.rows m) in
-      ([], refl, taken_none plans_prefix c.new-scan.result (entries m) rest, λ all are. subst (λ (plans : Plans). AreRead [] plans all) (sym c.new-plans.ensures) (none_read all), subst (λ (plans : Plans). AreShown m [] plans) (sym c.new-plans.ensures) (none_shown m), subst (λ (l : List ℕ). AreNoted [] l) (sym c.new-numbers.ensures.items) (refl, tt));
+      ([], refl, taken_none plans_prefix c.new-scan.result (entries m) rest, λ all are. subst (λ (plans : Plans). AreRead [] plans all) (sym c.new-plans.ensures) (none_read all), subst (λ (plans : Plans). AreShown m [] plans) (sym c.new-plans.ensures) (none_shown m), none_noted c.new-numbers.result c.new-numbers.ensures.empty);
 }
 
 pub returns-in-None-clause-quiet : goal.returns-in-None-clause-quiet
@@ -86,14 +86,14 @@ returns-in_err-plans-clause-read g c =
     let going = c.next.ensures.going c.if-not-next.false in
     let passed = passed_more a c.loop-taken.pages b before.passed (c.next.ensures.passed (going.1 ∙ before.fault)) in
     match_of c.from_residual.result (λ (plans : Plans). HasRead (ArePlans ground) (λ (all : Plans). all) t a d plans) error (λ e. AppendErr (ArePlans ground) t a d e) c.from_residual.ensures.1
-    (then_unappended (ArePlans ground) (IsFreshPlan ground c.loop-taken.plans c.loop-taken.numbers.items c.next.new.row) t a b d error
+    (then_unappended (ArePlans ground) (IsFreshPlan ground c.loop-taken.plans c.loop-taken.numbers c.next.new.row) t a b d error
     (λ honest m all holds are.
     let then = c.next.ensures.quiet.honest honest in
     let rows = before.taken then m holds in
     let there = subst (λ (P : Image). InTxn t P m) (sym (before.passed.quiet.same then)) holds in
     let next = subst (λ e. IsNextRow e c.next.new.self c.next.new.row (entries m) rows.2.rest) c.if-not-next.false (c.next.ensures.rows honest m rows.2.rest there rows.2.rest_are) in
     let plan = new_plan ground m rows.0 c.loop-taken.scan c.next.new.self c.next.new.row c.loop-taken.plans all rows.2 next are (rows.3 all are) in
-    (plan.0, record { new = plan.1; unused = unused ground m rows.0 c.loop-taken.scan c.next.new.self c.next.new.row all rows.2 next are c.loop-taken.numbers.items rows.5 }))
+    (plan.0, record { new = plan.1; unused = unused ground m rows.0 c.loop-taken.scan c.next.new.self c.next.new.row all rows.2 next are c.loop-taken.numbers rows.5 }))
     passed c.add_row.ensures.quiet c.in_err-plans.ensures.read)
 
 pub loop-taken-preserved : goal.loop-taken-preserved
@@ -125,9 +125,9 @@ loop-taken-preserved g c =
             taken_more plans_prefix rows.0 c.loop-taken.scan c.next.new.self c.next.new.row (entries m) rows.2 next,
             λ all are.
                 let plan = new_plan ground m rows.0 c.loop-taken.scan c.next.new.self c.next.new.row c.loop-taken.plans all rows.2 next are (rows.3 all are) in
-                subst (λ (plans : Plans). AreRead (rows.0 ++ e ∷ []) plans all) (sym (now.read.read honest m plan.0 still (record { new = plan.1; unused = unused ground m rows.0 c.loop-taken.scan c.next.new.self c.next.new.row all rows.2 next are c.loop-taken.numbers.items rows.5 }))) plan.2,
+                subst (λ (plans : Plans). AreRead (rows.0 ++ e ∷ []) plans all) (sym (now.read.read honest m plan.0 still (record { new = plan.1; unused = unused ground m rows.0 c.loop-taken.scan c.next.new.self c.next.new.row all rows.2 next are c.loop-taken.numbers rows.5 }))) plan.2,
             more_shown m rows.0 c.loop-taken.scan c.next.new.self c.next.new.row c.loop-taken.plans c.in_ok-plans.plans rows.2 next rows.4 (now.kept honest m still) now.added,
-            noted_more rows.0 c.next.new.row c.loop-taken.numbers.items c.add_row.new.numbers.items rows.5 now.noted,
+            noted_more rows.0 c.next.new.row c.loop-taken.numbers c.add_row.new.numbers rows.5 now.noted,
           );
     }
 
@@ -158,4 +158,4 @@ returns-in-None-clause-apart g c = λ honest m holds.
     let t = before.taken then m holds in
     let there = subst (λ (P : Image). InTxn c.args.txn.now P m) (sym (before.passed.quiet.same then)) holds in
     let next = subst (λ b. IsNextRow b c.next.new.self c.next.new.row (entries m) t.2.rest) c.if-not-next.true (c.next.ensures.rows honest m t.2.rest there t.2.rest_are) in
-    all_apart m t.0 c.loop-taken.numbers.items (taken_all plans_prefix t.0 c.loop-taken.scan c.next.new.self c.next.new.row (entries m) t.2 next none) t.5
+    all_apart m t.0 c.loop-taken.numbers (taken_all plans_prefix t.0 c.loop-taken.scan c.next.new.self c.next.new.row (entries m) t.2 next none) t.5
