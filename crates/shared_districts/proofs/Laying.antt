@@ -67,10 +67,10 @@ module _ (first : ℕ) (listed : List (Option ℕ)) where
       ext_get_or 0 (laid first listed place ds) ds (length-laid place ds)
       (λ i within. get_or-laid place ds i (omega (arith, length-laid place ds)) ∙ ap (λ (d : Option ℕ). unwrap_or d (get_or ds i 0)) (none i (omega (arith, length-laid place ds))))
 
-  not_before : (place : ℕ) → place < first → listed_at first listed place ≡ None
+  pub not_before : (place : ℕ) → place < first → listed_at first listed place ≡ None
   not_before place less = rw (lt-ltb place first less) refl
 
-  not_behind : (place : ℕ) → first + length listed ≤ place → listed_at first listed place ≡ None
+  pub not_behind : (place : ℕ) → first + length listed ≤ place → listed_at first listed place ≡ None
   not_behind place more = rw (get_or_past listed (place - first) None (omega arith)) (by_test (nat_lt place first))
     where
       by_test : (b : Bool) → ◌≡◌ {A = Option ℕ} (if b then None else None) None

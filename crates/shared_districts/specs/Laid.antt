@@ -1,5 +1,5 @@
 -- Listed districts in the place of others.
-use Rattle.std.specs.Prelude.{ℕ, suc, ◌-◌, List, [], ◌∷◌, get_or, unwrap_or, nat_lt, Option, None, if◌then◌else◌}
+use Rattle.std.specs.Prelude.{ℕ, suc, ◌+◌, ◌-◌, List, [], ◌∷◌, ◌++◌, length, take, drop, get_or, unwrap_or, nat_lt, Option, None, if◌then◌else◌}
 
 -- what is listed of a place, where the list stands from the place `first` on
 abbrev pub listed_at : ℕ → List (Option ℕ) → ℕ → Option ℕ
@@ -9,3 +9,7 @@ listed_at first listed place = if nat_lt place first then None else get_or liste
 abbrev pub laid : ℕ → List (Option ℕ) → ℕ → List ℕ → List ℕ
 laid first listed place [] = []
 laid first listed place (d ∷ ds) = unwrap_or (listed_at first listed place) d ∷ laid first listed (suc place) ds
+
+-- a list with a part in the place of its own, from a place on
+abbrev pub with_at : ℕ → List ℕ → List ℕ → List ℕ
+with_at first part ds = take first ds ++ (part ++ drop (first + length part) ds)

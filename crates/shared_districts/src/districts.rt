@@ -1,10 +1,10 @@
 //! The list.
-ghost use Rattle.std.specs.Prelude.{◌≡◌, ◌+◌, ◌≤◌, ◌<◌, ◌^◌, ℕ, ◌++◌, length, get_or, take, drop, nat_eq, IfOk};
+ghost use Rattle.std.specs.Prelude.{◌≡◌, ◌+◌, ◌*◌, ◌≤◌, ◌<◌, ◌^◌, ℕ, ◌++◌, length, get_or, take, drop, nat_eq, IfOk, OnOk};
 ghost use Rattle.std.specs.Cmp.Lexicographic.{pointwise};
-ghost use Rattle.shared_districts.specs.Laid.{laid};
-ghost use Rattle.shared_districts.specs.Pieces.{joined, IsCut};
+ghost use Rattle.shared_districts.specs.Laid.{laid, with_at};
+ghost use Rattle.shared_districts.specs.Pieces.{joined, AreFull, ArePut, IsCut};
 
-use crate::pieces::{FULL, Piece, behind, front, piece_of, piece_with};
+use crate::pieces::{FULL, Piece, behind, front, piece_of, piece_put, piece_with};
 use std::alloc::{AllocError, Global};
 use std::marker::Model;
 
@@ -72,6 +72,37 @@ impl Districts {
             rest,
             count: self.count,
         })
+    }
+
+    /// The same list, of the same pieces.
+    pub fn share(&self, alloc: Global) -> Result<Districts, AllocError>
+        ensures { IfOk result (λ districts. districts ≡ self.now) }
+    {
+        let nothing: &[Option<u16>] = &[];
+        let shared = self.with_listed(alloc, 0, nothing)?;
+        Ok(shared)
+    }
+
+    /// The list with a part in the place of its own, which stands from the place `first` on. A piece in which nothing changes is
+    /// shared.
+    pub fn with_part(
+        self,
+        alloc: Global,
+        first: usize,
+        part: &[u16],
+    ) -> Result<Districts, AllocError>
+        requires { first + length part.now ≤ length self }
+        ensures { IfOk result (λ districts. districts ≡ with_at first part.now self) }
+    {
+        let _all = self.len();
+        let Districts {
+            mut full,
+            rest,
+            count,
+        } = self;
+        put_pieces(alloc, &mut full, first, part)?;
+        let rest = piece_put(alloc, &rest, full.len() * FULL, first, part)?;
+        Ok(Districts { full, rest, count })
     }
 
     pub fn len(&self) -> usize
@@ -171,4 +202,23 @@ fn rest_of(list: Option<&Districts>) -> Option<&Piece> {
         Some(list) => Some(&list.rest),
         None => None,
     }
+}
+
+/// Puts a part, which stands from the place `first` on, into full pieces in the place of their own.
+fn put_pieces(
+    alloc: Global,
+    full: &mut Vec<Piece>,
+    first: usize,
+    part: &[u16],
+) -> Result<(), AllocError>
+    requires full { AreFull full.old.items }
+    requires few { length full.old.items * 512 < 2 ^ 64 }
+    requires within { first + length part.now < 2 ^ 64 }
+    ensures { OnOk result (ArePut first part.now full.old.items full.new.items) }
+{
+    let end = (first + part.len()) / FULL + 1;
+    for place in first / FULL..end.min(full.len()) {
+        full[place] = piece_put(alloc, &full[place], place * FULL, first, part)?;
+    }
+    Ok(())
 }

@@ -1,5 +1,5 @@
 //! Pieces of a list that lists share.
-ghost use Rattle.std.specs.Prelude.{◌≡◌, ◌≤◌, ◌<◌, ◌+◌, ◌⊎◌, ◌^◌, ℕ, length, get_or, take, drop, unwrap_or, true, IfOk};
+ghost use Rattle.std.specs.Prelude.{◌≡◌, ◌≤◌, ◌<◌, ◌+◌, ◌-◌, ◌⊎◌, ◌^◌, ℕ, Some, ◌++◌, length, get_or, map, take, drop, unwrap_or, true, false, IfOk};
 ghost use Rattle.shared_districts.specs.Laid.{listed_at as listed_there, laid};
 
 use std::alloc::{AllocError, Global};
@@ -63,12 +63,13 @@ fn lay(districts: &mut [u16], start: usize, first: usize, listed: &[Option<u16>]
     }
 }
 
-/// Whether none of so many places from `start` on is listed, since all of them are before or behind what is listed.
-fn is_apart(start: usize, count: usize, first: usize, listed: &[Option<u16>]) -> bool
+/// Whether none of so many places from `start` on is one of `many` from `first` on, since all of them are before or behind these.
+fn is_apart(start: usize, count: usize, first: usize, many: usize) -> bool
     requires { start + count < 2 ^ 64 }
-    ensures { result ≡ true → (start + count ≤ first) ⊎ (first + length listed.now ≤ start) }
+    ensures apart { result ≡ true → (start + count ≤ first) ⊎ (first + many ≤ start) }
+    ensures beside { result ≡ false → (first < start + count) × (start < first + many) }
 {
-    start + count <= first || start >= first && start - first >= listed.len()
+    start + count <= first || start >= first && start - first >= many
 }
 
 /// A district has two bytes: a law, with nothing to run.
@@ -91,7 +92,7 @@ pub fn piece_with(
     let known: &Vec<u16> = kept;
     let districts = known.as_slice();
     districts_fit(districts);
-    if is_apart(start, districts.len(), first, listed) {
+    if is_apart(start, districts.len(), first, listed.len()) {
         return Ok(kept.clone()?);
     }
     let mut changed = Vec::from_slice(alloc, districts)?;
@@ -110,4 +111,69 @@ fn kept_or_new(alloc: Global, kept: &Piece, districts: Vec<u16>) -> Result<Piece
         return Ok(kept.clone()?);
     }
     Ok(Arc::new(alloc, districts)?)
+}
+
+/// A piece that stands from `start` on, with a part that stands from the place `first` on in the place of its own: itself, where that
+/// changes nothing.
+pub fn piece_put(
+    alloc: Global,
+    kept: &Piece,
+    start: usize,
+    first: usize,
+    part: &[u16],
+) -> Result<Piece, AllocError>
+    requires here { start + length kept.now.value.items < 2 ^ 64 }
+    requires there { first + length part.now < 2 ^ 64 }
+    ensures { IfOk result (λ piece. piece.value.items ≡ laid first (map Some part.now) start kept.now.value.items) }
+{
+    let known: &Vec<u16> = kept;
+    let districts = known.as_slice();
+    if is_apart(start, districts.len(), first, part.len()) {
+        return Ok(kept.clone()?);
+    }
+    let from = first.max(start);
+    let to = (first + part.len()).min(start + districts.len());
+    let new = between(part, from - first, to - first);
+    if between(districts, from - start, to - start) == new {
+        return Ok(kept.clone()?);
+    }
+    let changed = replaced(alloc, districts, from - start, to - start, new)?;
+    Ok(Arc::new(alloc, changed)?)
+}
+
+/// Puts districts in the place of those between two places of a list.
+fn replace(districts: &mut [u16], from: usize, to: usize, new: &[u16])
+    requires order { from ≤ to }
+    requires within { to ≤ length districts.old }
+    requires fit { length new.now ≡ to - from }
+    ensures { districts.new ≡ take from districts.old ++ (new.now ++ drop to districts.old) }
+{
+    districts[from..to].copy_from_slice(new);
+}
+
+/// A list with districts in the place of those between two places.
+fn replaced(
+    alloc: Global,
+    districts: &[u16],
+    from: usize,
+    to: usize,
+    new: &[u16],
+) -> Result<Vec<u16>, AllocError>
+    requires order { from ≤ to }
+    requires within { to ≤ length districts.now }
+    requires fit { length new.now ≡ to - from }
+    ensures { IfOk result (λ list. list.items ≡ take from districts.now ++ (new.now ++ drop to districts.now)) }
+{
+    let mut list = Vec::from_slice(alloc, districts)?;
+    replace(&mut list, from, to, new);
+    Ok(list)
+}
+
+/// The districts of a list between two places.
+fn between(list: &[u16], from: usize, to: usize) -> &[u16]
+    requires order { from ≤ to }
+    requires within { to ≤ length list.now }
+    ensures { result.now ≡ take (to - from) (drop from list.now) }
+{
+    &list[from..to]
 }
