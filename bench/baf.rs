@@ -57,16 +57,25 @@ fn write_fmt(f: &[u16], blocks: &[Row]) -> Vec<u8> {
     text
 }
 fn main() {
-    let blocks: Vec<Row> = (0..175_000u64).map(|i| Row { id: 190_010_000_000_000 + i, _city: None, _population: 0 }).collect();
-    let f: Vec<u16> = (0..175_000u64).map(|i| (i * 7 % 50) as u16).collect();
-    let (mut wb, mut wf, mut rb) = (u128::MAX, u128::MAX, u128::MAX);
+    const COUNT: u64 = 175_199;
+    let blocks: Vec<Row> = (0..COUNT).map(|i| Row { id: 190_010_000_000_000 + i, _city: None, _population: 0 }).collect();
+    let f: Vec<u16> = (0..COUNT).map(|i| (i * 200 / COUNT % 100) as u16 + 1).collect();
+    let same = |l: Vec<Option<u16>>| assert!(l.iter().zip(&f).all(|(a, b)| *a == Some(*b)));
+    let (mut wb, mut wf, mut rb, mut ob) = (u128::MAX, u128::MAX, u128::MAX, u128::MAX);
     let mut size = 0;
+    // more bytes than the caches hold
+    let mut other = vec![0u8; 48_000_000];
     for _ in 0..30 {
         let t = Instant::now(); let text = write(&f, &blocks); wb = wb.min(t.elapsed().as_nanos());
         let t = Instant::now(); let text2 = write_fmt(&f, &blocks); wf = wf.min(t.elapsed().as_nanos());
         assert!(text == text2); size = text.len();
-        let t = Instant::now(); let l = read(&text, &blocks, 50).unwrap(); rb = rb.min(t.elapsed().as_nanos());
-        assert!(l.iter().zip(&f).all(|(a, b)| *a == Some(*b)));
+        let t = Instant::now(); let l = read(&text, &blocks, 100).unwrap(); rb = rb.min(t.elapsed().as_nanos());
+        same(l);
+        let copy = text.clone();
+        for b in other.iter_mut() { *b = b.wrapping_add(1); }
+        std::hint::black_box(&mut other);
+        let t = Instant::now(); let l = read(&copy, &blocks, 100).unwrap(); ob = ob.min(t.elapsed().as_nanos());
+        same(l);
     }
-    println!("{size} bytes: write {wb} ns, write by writeln {wf} ns, read {rb} ns");
+    println!("{size} bytes: write {wb} ns, write by writeln {wf} ns, read {rb} ns, read once behind other work {ob} ns");
 }
