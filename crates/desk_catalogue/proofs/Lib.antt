@@ -1,3 +1,4 @@
 pub mod Whole
 pub mod Neighbours
 pub mod Overlays
+pub mod Drafted

@@ -1,16 +1,17 @@
 -- Listed districts over the last ones.
-use Rattle.std.proofs.Common.{◌≡◌, ℕ, zero, suc, ◌+◌, ◌-◌, ◌<◌, ◌≤◌, List, [], ◌∷◌, map, length, get_or, Option, Some, None, Result, Ok, Err, IsOkAnd, IfSome, arith, refl, ap, sym, ◌∙◌}
+use Rattle.std.proofs.Common.{◌≡◌, ℕ, zero, suc, ◌+◌, ◌-◌, ◌<◌, ◌≤◌, List, [], ◌∷◌, map, length, get_or, Option, Some, None, Result, Ok, Err, IsOkAnd, IfSome, arith, refl, ap, sym, ◌∙◌, ◌⊎◌, inl, inr}
 use Rattle.std.specs.Prelude.{unwrap_or}
 use Rattle.std.specs.List.{zip}
 use Rattle.std.proofs.lemmas.Bool.{lt-ltb, le-ltb}
-use Rattle.std.proofs.lemmas.List.{length-map}
+use Rattle.std.proofs.lemmas.List.{get_or_past, length-map}
 use Rattle.std.proofs.lemmas.Slice.Zip.{length-zip}
 use Rattle.desk_model.specs.declared.block.BlockRow.{BlockRow}
 use Rattle.desk_model.specs.Baf.{Values, Fault, value_at}
-use Rattle.desk_model.specs.Geography.{Ground, ids_of}
+use Rattle.desk_model.specs.Geography.{Ground, ids, ids_of}
 use Rattle.desk_model.specs.Step.{partly_listed, patched}
 use Rattle.baf_text.specs.Listed.{listed_of, part_at, IsPart}
 use Rattle.shared_districts.specs.Laid.{laid}
+use Rattle.desk_room.specs.Cutting.{StaysOutside}
 use Rattle.desk_catalogue.specs.Patches.{overlaid}
 use Rattle.desk_catalogue.proofs.Whole.{in_turn}
 
@@ -36,6 +37,26 @@ laid_from first part (o ∷ listed) place (d ∷ last) long is =
 
 pub laid_over : (first : ℕ) (part listed : List (Option ℕ)) (last : List ℕ) → IsPart first part listed → length last ≡ length listed → laid first part 0 last ≡ overlaid listed (Some last)
 laid_over first part listed last is long = laid_from first part listed 0 last long (λ k. is.there k ∙ ap (part_at first part) (omega arith))
+
+-- where nothing is listed of a place, its district stays
+unlisted : (listed : List (Option ℕ)) (last : List ℕ) (k : ℕ) → length last ≡ length listed → get_or listed k None ≡ None → get_or (overlaid listed (Some last)) k 0 ≡ get_or last k 0
+unlisted [] [] k long none = refl
+unlisted [] (d ∷ last) k long none = absurd (omega arith)
+unlisted (o ∷ listed) [] k long none = absurd (omega arith)
+unlisted (o ∷ listed) (d ∷ last) zero long none = ap (λ (x : Option ℕ). unwrap_or x d) none
+unlisted (o ∷ listed) (d ∷ last) (suc k) long none = unlisted listed last k (omega arith) none
+
+pub overlaid_stays : (listed : List (Option ℕ)) (last : Option (List ℕ)) (first end : ℕ) (districts : List ℕ) → IfSome last (λ d. length d ≡ length listed) → ((k : ℕ) → (k < first) ⊎ (end ≤ k) → get_or listed k None ≡ None)
+    → districts ≡ overlaid listed last → IfSome last (λ l. StaysOutside first end l districts)
+overlaid_stays listed None first end districts long none is = tt
+overlaid_stays listed (Some last) first end districts long none is = λ k outside. ap (λ (l : List ℕ). get_or l k 0) is ∙ unlisted listed last k long (none k outside)
+
+-- nothing is listed outside of a part
+pub none_outside : (first : ℕ) (part listed : List (Option ℕ)) → IsPart first part listed → (k : ℕ) → (k < first) ⊎ (first + length part ≤ k) → get_or listed k None ≡ None
+none_outside first part listed is k outside = elim outside [
+  | inl less ↦ is.there k ∙ before first part k less
+  | inr more ↦ is.there k ∙ there first part k (omega arith) ∙ get_or_past part (k - first) None (omega arith)
+]
 
 in_pairs : (values : Values) (blocks : List BlockRow) (last : List ℕ) → map (λ (e : Option ℕ × ℕ). unwrap_or e.0 e.1) (zip (map (value_at values) (ids_of blocks)) last)
     ≡ map (λ (e : BlockRow × ℕ). unwrap_or (value_at values e.0.id) e.1) (zip blocks last)
@@ -65,3 +86,12 @@ pub read_long : (reading : Result Values Fault) (g : Ground) (listed : List (Opt
 read_long (Err f) g listed last districts said same is = absurd said
 read_long (Ok values) g listed last districts said same is =
     ap length (is ∙ ap (λ (ds : List (Option ℕ)). overlaid ds last) said ∙ overlaid_is g values last) ∙ as_long g values last same
+
+-- so is the list that was read
+pub listed_long : (reading : Result Values Fault) (g : Ground) (listed : List (Option ℕ)) (last : Option (List ℕ)) → IsOkAnd reading (λ values. listed ≡ listed_of g values)
+    → IfSome last (λ d. length d ≡ length g.blocks) → IfSome last (λ d. length d ≡ length listed)
+listed_long (Err f) g listed last said same = absurd said
+listed_long (Ok values) g listed None said same = tt
+listed_long (Ok values) g listed (Some last) said same =
+    let long : length listed ≡ length g.blocks = ap length said ∙ length-map (ids g) (value_at values) ∙ length-map g.blocks (λ (b : BlockRow). b.id) in
+    same ∙ sym long

@@ -1,6 +1,8 @@
 -- Revisions that have a district for each block.
-use Rattle.std.proofs.Common.{◌≡◌, ℕ, zero, suc, Bool, true, false, cond, List, [], ◌∷◌, ◌++◌, length, map, All, Option, Some, None, Result, Ok, Err, IsOkAnd, arith, refl, ap, sym, ◌∙◌}
-use Rattle.std.specs.Prelude.{unwrap_or}
+use Rattle.std.proofs.Common.{◌≡◌, ◌-◌, ℕ, zero, suc, Bool, true, false, cond, List, [], ◌∷◌, ◌++◌, length, map, All, Option, Some, None, Result, Ok, Err, IsOkAnd, arith, refl, ap, sym, ◌∙◌, inl, inr}
+use Rattle.std.specs.Prelude.{◌==◌, unwrap_or}
+use Rattle.std.specs.List.{slice_get}
+use Rattle.std.proofs.lemmas.Option.{get_or_from_slice_get, slice_get_cases}
 use Rattle.std.specs.FinMap as map_of
 use Rattle.std.specs.FinMap.{get-empty, get-insert, get-remove}
 use Rattle.std.specs.Ordering.{eq_by_cmp}
@@ -12,7 +14,7 @@ use Rattle.desk_model.specs.Geography.{Ground, ids_of}
 use Rattle.desk_model.specs.Desk.{Plan, name_cmp}
 use Rattle.desk_model.specs.Step.{whole}
 use Rattle.baf_text.specs.Listed.{listed_of}
-use Rattle.desk_catalogue.specs.Kept.{AreWhole, IsWhole}
+use Rattle.desk_catalogue.specs.Kept.{AreWhole, IsWhole, revision_in}
 
 pub none_whole : (geography : Option Ground) → AreWhole geography map_of.empty
 none_whole geography g name p geo there = let clash : None ≡ Some p = sym (get-empty name_cmp name) ∙ there in absurd (cc)
@@ -34,6 +36,24 @@ removed_whole geography plans name was g q p geo there = by_name (eq_by_cmp name
     by_name : (b : Bool) → cond b None (map_of.get plans q) ≡ Some p → All (λ (d : List ℕ). length d ≡ length g.blocks) p.revisions
     by_name true clash = absurd (cc)
     by_name false found = was g q p geo found
+
+-- each of them, under a name and a number
+at_place : (n : ℕ) (revisions : List (List ℕ)) (place : ℕ) (d : List ℕ) → All (λ (x : List ℕ). length x ≡ n) revisions → slice_get revisions place ≡ Some d → length d ≡ n
+at_place n revisions place d all there = elim (slice_get_cases revisions place).1 [
+  | inl found ↦ ap length (sym (get_or_from_slice_get revisions place d d there)) ∙ all place d found.1
+  | inr past ↦ absurd (let clash : ◌≡◌ {A = Option (List ℕ)} None (Some d) = sym past.1 ∙ there in cc)
+]
+
+pub revision_whole : (geography : Option Ground) (plans : map_of.FinMap name_cmp Plan) → AreWhole geography plans → (name : List ℕ) (k : ℕ) → IsWhole geography (revision_in (map_of.get plans name) k)
+revision_whole geography plans was name k g d geo = in_plan (map_of.get plans name) refl
+  where
+    numbered : (p : Plan) → map_of.get plans name ≡ Some p → (b : Bool) → cond b None (slice_get p.revisions (k - 1)) ≡ Some d → length d ≡ length g.blocks
+    numbered p there true is = absurd (cc)
+    numbered p there false is = at_place (length g.blocks) p.revisions (k - 1) d (was g name p geo there) is
+
+    in_plan : (o : Option Plan) → map_of.get plans name ≡ o → revision_in o k ≡ Some d → length d ≡ length g.blocks
+    in_plan None there is = absurd (cc)
+    in_plan (Some p) there is = numbered p there (k == 0) is
 
 -- no revision
 pub no_revision : (g : Ground) → All (λ (d : List ℕ). length d ≡ length g.blocks) []
@@ -63,3 +83,10 @@ pub read_whole : (reading : Result Values Fault) (g : Ground) (listed : List (Op
     → districts ≡ map (λ (d : Option ℕ). unwrap_or d 0) listed → IsOkAnd reading (λ values. districts ≡ whole g values)
 read_whole (Err f) g listed districts said is = said
 read_whole (Ok values) g listed districts said is = is ∙ ap (map (λ (d : Option ℕ). unwrap_or d 0)) said ∙ in_turn values g.blocks
+
+-- districts of all blocks of the geography that is there
+some_is : {X : Type 0} (x y : X) → Some x ≡ Some y → x ≡ y
+some_is x y same = cc
+
+pub whole_of : (geography : Option Ground) (g : Ground) (districts : List ℕ) → geography ≡ Some g → length districts ≡ length g.blocks → IsWhole geography (Some districts)
+whole_of geography g districts is long h d there same = ap length (sym (some_is districts d same)) ∙ long ∙ ap (λ (x : Ground). length x.blocks) (some_is g h (sym is ∙ there))

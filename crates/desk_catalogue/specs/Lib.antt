@@ -3,3 +3,4 @@ pub mod Accepting
 pub mod Codes
 pub mod Kept
 pub mod Patches
+pub mod Drafts

@@ -1,21 +1,25 @@
 //! A desk that doesn't change: what is shown.
-ghost use Rattle.std.specs.Prelude.{◌≡◌, ℕ, ◌<◌, List, ◌++◌, ◌∷◌, [], length, IfOk, IfErr, IsSome, IsTrue, Some, Ok, Err};
+ghost use Rattle.std.specs.Prelude.{◌≡◌, ℕ, ◌<◌, List, ◌++◌, ◌∷◌, [], length, IfOk, IfErr, IfSome, IsSome, IsTrue, Some, Ok, Err};
 ghost use Rattle.std.specs.Option.{option_map, option_copied};
 ghost use Rattle.std.specs.FinMap as map_of;
 ghost use Rattle.desk_model.specs.Step.{revision_limit};
 ghost use Rattle.desk_model.specs.Companions.{takes, AreTaken, companions_copied};
 ghost use Rattle.desk_model.specs.Subject.{revision_of_kind as revision_of_kind_of, companion_of, companions_of};
+ghost use Rattle.desk_model.specs.Room.{last_revision};
+ghost use Rattle.desk_room.specs.Cutting.{StaysOutside, changes_in};
 ghost use Rattle.desk_catalogue.specs.Audits.{AskMay};
 ghost use Rattle.desk_catalogue.specs.Accepting.{IsAfter, IsRevisable, StepRefuses};
+ghost use Rattle.desk_catalogue.specs.Drafts.{AreCounties, changes_of};
 ghost use Rattle.desk_catalogue.specs.Kept.{AreWhole, HasWhole, IsWhole, revision_in};
 
 use crate::blocks::blocks_text;
-use crate::patch::patched_districts;
+use crate::patch::{Patched, patched_districts};
 use crate::posted::districts_of;
 use crate::report::report;
 use baf_text::writing::write;
 use desk_model::command::{Command, Query};
 use desk_model::companions::Companions;
+use desk_model::cuts::Cut;
 use desk_model::geography::Geography;
 use desk_model::kind::Kind;
 use desk_model::name::PlanName;
@@ -24,6 +28,7 @@ use desk_model::size::PlanSize;
 use desk_model::text::Text;
 use desk_plans::entry::{Entry, REVISION_LIMIT};
 use desk_plans::plans::Plans;
+use desk_room::{Span, changed_counties};
 use shared_districts::Districts;
 use std::alloc::{AllocError, Global};
 use std::marker::Model;
@@ -53,6 +58,28 @@ impl Model for Catalogue {
     ghost view = { λ a. record { geography = option_map (λ g. g.value) a.geography; plans = a.plans } };
 
     ghost invariant = { λ a. AreWhole (option_map (λ g. g.value) a.geography) a.plans };
+}
+
+/// A catalogue after a command, and which of the counties the command changes: none where it gives no plan a revision.
+#[derive(Drop)]
+pub struct Draft {
+    pub catalogue: Catalogue,
+    pub changes: Vec<bool>,
+}
+
+/// A catalogue after a command that gives no plan a revision.
+fn unchanged(alloc: Global, after: Result<Catalogue, Refusal>) -> Result<Draft, Refusal>
+    ensures ok { IfOk result (λ draft. after ≡ Ok draft.catalogue) }
+    ensures changes { IfOk result (λ draft. draft.changes.items ≡ []) }
+    ensures err { IfErr result (λ refusal. after ≡ Err refusal) }
+{
+    match after {
+        Ok(catalogue) => Ok(Draft {
+            catalogue,
+            changes: Vec::new(alloc),
+        }),
+        Err(refusal) => Err(refusal),
+    }
 }
 
 impl Catalogue {
@@ -91,6 +118,13 @@ impl Catalogue {
     {
         let entry = self.plans.get(name)?;
         entry.revision(k)
+    }
+
+    /// Each revision has a district for each block: a law, with nothing to run.
+    pub fn revisions_are_whole(&self)
+        ensures { (name : List ℕ) (k : ℕ) → IsWhole self.now.geography (revision_in (map_of.get self.now.plans name) k) }
+    {
+        let _ = &self.geography;
     }
 
     /// The answer to a query; Memory only where memory for it was refused.
@@ -243,16 +277,31 @@ impl Catalogue {
         ensures ok { IfOk result (IsAfter self.now command.now) }
         ensures err { IfErr result (λ refusal. StepRefuses self.now command.now refusal) }
     {
+        match self.draft(alloc, &[], command) {
+            Ok(draft) => Ok(draft.catalogue),
+            Err(refusal) => Err(refusal),
+        }
+    }
+
+    /// The catalogue after a command, and which of the counties it changes. Refusals come as from `after`.
+    pub fn draft(&self, alloc: Global, cuts: &[Cut], command: &Command) -> Result<Draft, Refusal>
+        requires { AreCounties self.now.geography cuts.now }
+        ensures ok { IfOk result (λ draft. IsAfter self.now command.now draft.catalogue) }
+        ensures changes { IfOk result (λ draft. draft.changes.items ≡ changes_of self.now command.now draft.catalogue cuts.now) }
+        ensures err { IfErr result (λ refusal. StepRefuses self.now command.now refusal) }
+    {
         if self.geography.is_none() {
             return Err(Refusal::NotSealed);
         }
         match command {
-            Command::Create { plan, size } => self.with_plan(alloc, *plan, *size),
-            Command::Whole { plan, after, body } => self.with_whole(alloc, plan, *after, body),
-            Command::Counties { plan, after, body } => self.with_counties(
-                alloc, plan, *after, body,
+            Command::Create { plan, size } => unchanged(alloc, self.with_plan(alloc, *plan, *size)),
+            Command::Whole { plan, after, body } => self.with_whole(
+                alloc, cuts, plan, *after, body,
             ),
-            Command::Retire { plan } => self.without_plan(alloc, plan),
+            Command::Counties { plan, after, body } => self.with_counties(
+                alloc, cuts, plan, *after, body,
+            ),
+            Command::Retire { plan } => unchanged(alloc, self.without_plan(alloc, plan)),
         }
     }
 
@@ -299,11 +348,14 @@ impl Catalogue {
     fn with_whole(
         &self,
         alloc: Global,
+        cuts: &[Cut],
         name: &PlanName,
         after: u32,
         body: &Text,
-    ) -> Result<Catalogue, Refusal>
-        ensures ok { IfOk result (IsAfter self.now (Command.Whole name.now after body.now)) }
+    ) -> Result<Draft, Refusal>
+        requires { AreCounties self.now.geography cuts.now }
+        ensures ok { IfOk result (λ draft. IsAfter self.now (Command.Whole name.now after body.now) draft.catalogue) }
+        ensures changes { IfOk result (λ draft. draft.changes.items ≡ changes_of self.now (Command.Whole name.now after body.now) draft.catalogue cuts.now) }
         ensures err { IfErr result (λ refusal. StepRefuses self.now (Command.Whole name.now after body.now) refusal) }
     {
         let Some(geography) = self.geography() else {
@@ -314,18 +366,23 @@ impl Catalogue {
         let Ok(districts) = Districts::new(alloc, list.as_slice(), entry.revision(after)) else {
             return Err(Refusal::Memory);
         };
-        self.with_revision(alloc, entry, districts)
+        let end = list.len();
+        let span = Span { first: 0, end };
+        self.with_revision(alloc, geography, cuts, entry, Patched { districts, span })
     }
 
     /// The catalogue with a revision of a plan in which only the counties change that a body lists.
     fn with_counties(
         &self,
         alloc: Global,
+        cuts: &[Cut],
         name: &PlanName,
         after: u32,
         body: &Text,
-    ) -> Result<Catalogue, Refusal>
-        ensures ok { IfOk result (IsAfter self.now (Command.Counties name.now after body.now)) }
+    ) -> Result<Draft, Refusal>
+        requires { AreCounties self.now.geography cuts.now }
+        ensures ok { IfOk result (λ draft. IsAfter self.now (Command.Counties name.now after body.now) draft.catalogue) }
+        ensures changes { IfOk result (λ draft. draft.changes.items ≡ changes_of self.now (Command.Counties name.now after body.now) draft.catalogue cuts.now) }
         ensures err { IfErr result (λ refusal. StepRefuses self.now (Command.Counties name.now after body.now) refusal) }
     {
         let Some(geography) = self.geography() else {
@@ -333,30 +390,42 @@ impl Catalogue {
         };
         let entry = self.revisable(name, after)?;
         let last = entry.revision(after);
-        let districts = patched_districts(alloc, body.as_slice(), geography, entry.n(), last)?;
-        self.with_revision(alloc, entry, districts)
+        let made = patched_districts(alloc, body.as_slice(), geography, entry.n(), last)?;
+        self.with_revision(alloc, geography, cuts, entry, made)
     }
 
-    /// The catalogue with one more revision of a plan that is there.
+    /// The catalogue with one more revision of a plan that is there, and which of the counties it changes.
     fn with_revision(
         &self,
         alloc: Global,
+        geography: &Geography,
+        cuts: &[Cut],
         entry: &Entry,
-        districts: Districts,
-    ) -> Result<Catalogue, Refusal>
+        made: Patched,
+    ) -> Result<Draft, Refusal>
+        requires geography { self.now.geography ≡ Some geography.now }
+        requires cuts { AreCounties self.now.geography cuts.now }
         requires found { map_of.get self.now.plans entry.now.0 ≡ Some entry.now.1 }
         requires few { length entry.now.1.revisions < revision_limit }
-        requires whole { IsWhole self.now.geography (Some districts) }
-        ensures ok { IfOk result (λ next. next ≡ record self.now { plans = map_of.insert self.now.plans entry.now.0 (record entry.now.1 { revisions = entry.now.1.revisions ++ districts ∷ [] }) }) }
+        requires last { IfSome (last_revision entry.now.1) (λ l. length l ≡ length geography.now.blocks) }
+        requires whole { length made.districts ≡ length geography.now.blocks }
+        requires stays { IfSome (last_revision entry.now.1) (λ l. StaysOutside made.span.first made.span.end l made.districts) }
+        ensures ok { IfOk result (λ draft. draft.catalogue ≡ record self.now { plans = map_of.insert self.now.plans entry.now.0 (record entry.now.1 { revisions = entry.now.1.revisions ++ made.districts ∷ [] }) }) }
+        ensures changes { IfOk result (λ draft. draft.changes.items ≡ changes_in (last_revision entry.now.1) made.districts cuts.now) }
         ensures err { IfErr result (λ refusal. refusal ≡ Refusal.Memory) }
     {
-        let Ok(entry) = entry.with_revision(alloc, districts) else {
+        let last = entry.revision(entry.count());
+        let Ok(changes) = changed_counties(alloc, cuts, last, &made.districts, made.span) else {
+            return Err(Refusal::Memory);
+        };
+        let Ok(entry) = entry.with_revision(alloc, made.districts) else {
             return Err(Refusal::Memory);
         };
         let Ok(plans) = self.plans.replace(alloc, entry) else {
             return Err(Refusal::Memory);
         };
-        self.with_plans(plans)
+        let catalogue = self.with_plans(plans)?;
+        Ok(Draft { catalogue, changes })
     }
 
     /// The catalogue without a plan.

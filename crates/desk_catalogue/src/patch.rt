@@ -1,9 +1,10 @@
 //! The districts that a patch by counties leaves.
-ghost use Rattle.std.specs.Prelude.{◌≡◌, length, get_or, is_some, None, IfOk, IfErr, IfSome, IsOkAnd};
+ghost use Rattle.std.specs.Prelude.{◌≡◌, ◌⊎◌, ◌<◌, ◌≤◌, ℕ, length, get_or, is_some, None, IfOk, IfErr, IfSome, IsOkAnd};
 ghost use Rattle.std.specs.Option.{option_copied};
 ghost use Rattle.desk_model.specs.Baf.{Values, body_read};
 ghost use Rattle.desk_model.specs.Step.{partly_listed, patched};
 ghost use Rattle.baf_text.specs.Listed.{listed_of};
+ghost use Rattle.desk_room.specs.Cutting.{StaysOutside};
 ghost use Rattle.desk_catalogue.specs.Patches.{overlaid, IsPatchRefusal};
 
 use crate::posted::listed_in;
@@ -11,6 +12,7 @@ use baf_text::listed::{Listed, whole};
 use desk_model::geography::Geography;
 use desk_model::laws::least_county_is_told;
 use desk_model::reply::Refusal;
+use desk_room::Span;
 use shared_districts::Districts;
 use std::alloc::{AllocError, Global};
 
@@ -67,6 +69,25 @@ fn overlay(
     last.with_listed(alloc, first, part)
 }
 
+/// Districts, and the places of the blocks that are listed: outside of these they are the last ones.
+#[derive(Drop)]
+pub struct Patched {
+    pub districts: Districts,
+    pub span: Span,
+}
+
+/// The places of the listed blocks.
+fn span_of(listed: &Listed) -> Span
+    ensures { (k : ℕ) → (k < result.first) ⊎ (result.end ≤ k) → get_or listed.now k None ≡ None }
+{
+    let _count = listed.len();
+    let (first, part) = listed.part();
+    Span {
+        first,
+        end: first + part.len(),
+    }
+}
+
 /// The district of each block, rising, where the counties that the body lists have its districts and the others keep
 /// their last ones, 0 where there are none.
 pub fn patched_districts(
@@ -75,18 +96,20 @@ pub fn patched_districts(
     geography: &Geography,
     n: u16,
     last: Option<&Districts>,
-) -> Result<Districts, Refusal>
+) -> Result<Patched, Refusal>
     requires { IfSome (option_copied last) (λ d. length d ≡ length geography.now.blocks) }
-    ensures ok { IfOk result (λ districts. IsOkAnd (body_read geography.now n body.now) (λ values. (partly_listed geography.now values ≡ None) × (districts ≡ patched geography.now values (option_copied last.entry)))) }
-    ensures long { IfOk result (λ districts. length districts ≡ length geography.now.blocks) }
+    ensures ok { IfOk result (λ made. IsOkAnd (body_read geography.now n body.now) (λ values. (partly_listed geography.now values ≡ None) × (made.districts ≡ patched geography.now values (option_copied last.entry)))) }
+    ensures long { IfOk result (λ made. length made.districts ≡ length geography.now.blocks) }
+    ensures stays { IfOk result (λ made. IfSome (option_copied last.entry) (λ l. StaysOutside made.span.first made.span.end l made.districts)) }
     ensures err { IfErr result (IsPatchRefusal geography.now (body_read geography.now n body.now)) }
 {
     let listed = listed_in(alloc, body, geography, n)?;
     if let Some(county) = county_in_part(geography, &listed) {
         return Err(Refusal::NotWholeCounty { county });
     }
+    let span = span_of(&listed);
     match overlay(alloc, &listed, last) {
-        Ok(districts) => Ok(districts),
+        Ok(districts) => Ok(Patched { districts, span }),
         Err(_) => Err(Refusal::Memory),
     }
 }

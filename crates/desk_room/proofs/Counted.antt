@@ -1,9 +1,9 @@
 -- The rows of a revision, county by county.
-use Rattle.std.proofs.Common.{◌≡◌, ◌≤◌, ◌+◌, ◌-◌, ℕ, zero, suc, List, [], ◌∷◌, length, map, take, drop, get_or, Option, Some, None, sum_by, refl, sym, ap, subst, min, ◌∙◌, inl, inr, arith}
+use Rattle.std.proofs.Common.{◌≡◌, ◌<◌, ◌≤◌, ◌+◌, ◌-◌, ℕ, zero, suc, Bool, List, [], ◌∷◌, length, map, take, drop, get_or, Option, Some, None, sum_by, refl, sym, ap, subst, min, ◌∙◌, inl, inr, arith}
 use Rattle.std.specs.Prelude.{filter, if◌then◌else◌, cond, IfSome}
 use Rattle.std.specs.List.{zip}
 use Rattle.std.proofs.lemmas.Bool.{cases_Bool}
-use Rattle.std.proofs.lemmas.List.{drop-drop, length-take, length-drop, length-map}
+use Rattle.std.proofs.lemmas.List.{drop-drop, drop_all, drop_more, length-take, length-drop, length-map}
 use Rattle.std.proofs.Math.Nat.{min-le_right}
 use Rattle.std.proofs.lemmas.List.Sums.{sum_by-cons}
 use Rattle.desk_model.specs.Cuts.{parts, laid, sizes, cuts_of, ListsAreCut}
@@ -11,7 +11,7 @@ use Rattle.desk_model.specs.Geography.{Ground, ids}
 use Rattle.desk_model.specs.declared.block.BlockRow.{BlockRow}
 use Rattle.desk_model.specs.Room.{rows_for, differs, revision_rows}
 use Rattle.desk_model.specs.declared.cuts.Cut.{Cut}
-use Rattle.desk_room.specs.Cutting.{part, AreWithin, cut_rows, changed_rows}
+use Rattle.desk_room.specs.Cutting.{part, AreWithin, changes_in, cut_rows, changed_rows}
 
 abbrev rows_in : List (List ℕ) → ℕ
 rows_in ps = sum_by (λ p. rows_for 512 (length p)) ps
@@ -37,11 +37,10 @@ laid_long : (first : ℕ) (ns : List ℕ) → length (laid first ns) ≡ length 
 laid_long first [] = refl
 laid_long first (n ∷ ns) = ap suc (laid_long (first + n) ns)
 
-all_rows : (ns : List ℕ) (first : ℕ) (new : List ℕ) → Fit ns first new → changed_rows None new (laid first ns) ≡ rows_in (parts ns (drop first new))
+all_rows : (ns : List ℕ) (first : ℕ) (new : List ℕ) → Fit ns first new → changed_rows (changes_in None new (laid first ns)) (laid first ns) ≡ rows_in (parts ns (drop first new))
 all_rows [] first new fit = refl
 all_rows (n ∷ ns) first new fit =
-    sum_by-cons (cut_rows None new) (record { first = first; count = n }) (laid (first + n) ns)
-    ∙ ap (λ k. rows_for 512 n + k) (all_rows ns (first + n) new (rest_fits n ns first new fit) ∙ ap (λ l. rows_in (parts ns l)) (sym (drop-drop n first new)))
+    ap (λ k. rows_for 512 n + k) (all_rows ns (first + n) new (rest_fits n ns first new fit) ∙ ap (λ l. rows_in (parts ns l)) (sym (drop-drop n first new)))
     ∙ ap (λ k. rows_for 512 k + rows_in (parts ns (drop n (drop first new)))) (sym (head_fits n ns first new fit))
     ∙ sym (sum_by-cons (λ p. rows_for 512 (length p)) (take n (drop first new)) (parts ns (drop n (drop first new))))
 
@@ -58,22 +57,34 @@ changed_cons a b l m = elim (cases_Bool (differs (a, b))) [
       ∙ sym (ap (λ t. cond t (rows_for 512 (length b)) 0 + rows_in (changed_parts l m)) apart)
 ]
 
-some_rows : (ns : List ℕ) (first : ℕ) (last new : List ℕ) → Fit ns first last → Fit ns first new → changed_rows (Some last) new (laid first ns) ≡ rows_in (changed_parts (parts ns (drop first last)) (parts ns (drop first new)))
+some_rows : (ns : List ℕ) (first : ℕ) (last new : List ℕ) → Fit ns first last → Fit ns first new → changed_rows (changes_in (Some last) new (laid first ns)) (laid first ns) ≡ rows_in (changed_parts (parts ns (drop first last)) (parts ns (drop first new)))
 some_rows [] first last new old fit = refl
 some_rows (n ∷ ns) first last new old fit =
     let c : Cut = record { first = first; count = n } in
     let here = differs (part c last, part c new) in
-    sum_by-cons (cut_rows (Some last) new) c (laid (first + n) ns)
-    ∙ ap (λ k. (if here then rows_for 512 n else 0) + k) (some_rows ns (first + n) last new (rest_fits n ns first last old) (rest_fits n ns first new fit)
+    ap (λ k. (if here then rows_for 512 n else 0) + k) (some_rows ns (first + n) last new (rest_fits n ns first last old) (rest_fits n ns first new fit)
     ∙ λ i. rows_in (changed_parts (parts ns (sym (drop-drop n first last) i)) (parts ns (sym (drop-drop n first new) i))))
     ∙ ap (λ k. (if here then rows_for 512 k else 0) + rows_in (changed_parts (parts ns (drop n (drop first last))) (parts ns (drop n (drop first new))))) (sym (head_fits n ns first new fit))
     ∙ sym (changed_cons (part c last) (part c new) (parts ns (drop n (drop first last))) (parts ns (drop n (drop first new))))
 
 -- the rows of a revision of a geography
 pub rows_told : ListsAreCut → (g : Ground) (last : Option (List ℕ)) (new : List ℕ) → length new ≡ length g.blocks → IfSome last (λ l. length l ≡ length g.blocks)
-    → 2 + rows_for 128 (length (cuts_of g)) + changed_rows last new (cuts_of g) ≡ revision_rows g last new
+    → 2 + rows_for 128 (length (cuts_of g)) + changed_rows (changes_in last new (cuts_of g)) (cuts_of g) ≡ revision_rows g last new
 rows_told are_cut g None new long old = λ i. 2 + rows_for 128 (laid_long 0 (sizes g) i) + all_rows (sizes g) 0 new (are_cut g new long).lengths i
 rows_told are_cut g (Some last) new long old = λ i. 2 + rows_for 128 (laid_long 0 (sizes g) i) + some_rows (sizes g) 0 last new (are_cut g last old).lengths (are_cut g new long).lengths i
+
+-- the rows from a county on are its own and those of the counties behind it
+pub rows_at : (changes : List Bool) (cuts : List Cut) (place : ℕ) (b : Bool) (d : Cut) → place < length changes → place < length cuts
+    → changed_rows (drop place changes) (drop place cuts) ≡ cut_rows (get_or changes place b) (get_or cuts place d) + changed_rows (drop (place + 1) changes) (drop (place + 1) cuts)
+rows_at changes cuts place b d told within = λ i. changed_rows (drop_more changes place b told i) (drop_more cuts place d within i)
+
+-- and behind the last one there are none
+no_rows : (bs : List Bool) → changed_rows bs [] ≡ 0
+no_rows [] = refl
+no_rows (b ∷ bs) = refl
+
+pub nothing_left : (changes : List Bool) (cuts : List Cut) (place : ℕ) → length cuts ≤ place → changed_rows (drop place changes) (drop place cuts) ≡ 0
+nothing_left changes cuts place past = ap (λ (cs : List Cut). changed_rows (drop place changes) cs) (drop_all place cuts past) ∙ no_rows (drop place changes)
 
 -- ---- within
 next_within : (n : ℕ) (ns : List ℕ) (first : ℕ) (xs : List ℕ) → Fit (n ∷ ns) first xs → first ≤ length xs → first + n ≤ length xs

@@ -1,5 +1,5 @@
 -- The counties of lists beside the blocks, by their places.
-use Rattle.std.specs.Prelude.{◌≤◌, ◌+◌, ℕ, Bool, true, if◌then◌else◌, List, map, take, drop, All, sum_by, Option, Some, None}
+use Rattle.std.specs.Prelude.{◌≡◌, ◌⊎◌, ◌<◌, ◌≤◌, ◌+◌, ℕ, Bool, true, if◌then◌else◌, List, [], ◌∷◌, map, get_or, take, drop, All, Option, Some, None}
 use Rattle.desk_model.specs.Room.{rows_for, differs}
 use Rattle.desk_model.specs.declared.cuts.Cut.{Cut}
 
@@ -20,9 +20,15 @@ is_changed (Some last) new c = differs (part c last, part c new)
 abbrev pub changes_in : Option (List ℕ) → List ℕ → List Cut → List Bool
 changes_in last new cuts = map (is_changed last new) cuts
 
--- the rows of a county's districts, where they are written
-abbrev pub cut_rows : Option (List ℕ) → List ℕ → Cut → ℕ
-cut_rows last new c = if is_changed last new c then rows_for 512 c.count else 0
+-- outside of these places, from the first one up to an end, two lists are the same
+abbrev pub StaysOutside : ℕ → ℕ → List ℕ → List ℕ → Type 0
+StaysOutside first end last new = (k : ℕ) → (k < first) ⊎ (end ≤ k) → get_or new k 0 ≡ get_or last k 0
 
-abbrev pub changed_rows : Option (List ℕ) → List ℕ → List Cut → ℕ
-changed_rows last new cuts = sum_by (cut_rows last new) cuts
+-- the rows of a county's districts, which are written where it changes
+abbrev pub cut_rows : Bool → Cut → ℕ
+cut_rows changes c = if changes then rows_for 512 c.count else 0
+
+abbrev pub changed_rows : List Bool → List Cut → ℕ
+changed_rows [] cs = 0
+changed_rows (b ∷ bs) [] = 0
+changed_rows (b ∷ bs) (c ∷ cs) = cut_rows b c + changed_rows bs cs

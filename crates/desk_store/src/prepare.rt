@@ -2,6 +2,8 @@
 ghost use Rattle.std.specs.Prelude.{◌≡◌, ◌≤◌, ◌*◌, ◌⊎◌, ◌↔◌, IsTrue, false, true, IfOk, IfErr};
 ghost use Rattle.desk_model.specs.Room.{command_rows as rows_of_command};
 ghost use Rattle.desk_catalogue.specs.Accepting.{IsAfter};
+ghost use Rattle.desk_catalogue.specs.Drafts.{changes_of};
+ghost use Rattle.plan_revisions.specs.Rows.{cuts_in};
 ghost use Rattle.page_btree.specs.declared.error.TreeError.TheVariants.{DeviceFault, Halted};
 ghost use Rattle.desk_store.specs.Clerks.{desk_of, disk_of, Reads};
 ghost use Rattle.desk_store.specs.Commands.{command_of, IsReady, IsPut, HasRoom, LacksRoom, MustBeFull, PrepareErr, Does};
@@ -9,9 +11,10 @@ ghost use Rattle.desk_store.specs.Faults.{is_fault as is_fault_of, refusal_of as
 
 use crate::clerk::Clerk;
 use crate::ready::Ready;
-use desk_catalogue::catalogue::Catalogue;
+use desk_catalogue::catalogue::{Catalogue, Draft};
 use desk_model::command::Command;
 use desk_model::reply::{Refusal, Reply};
+use desk_room::laws::cuts_are_within;
 use page_store::Prepared;
 use plan_revisions::{Change, TreeError, command_rows, put_command};
 use row_table::ROW_PAGES;
@@ -56,19 +59,28 @@ impl<D: SectorDevice> Clerk<D> {
         is_enough(rows, self.pages.free_pages())
     }
 
-    /// The catalogue after a command that is accepted and for which there is room.
-    fn accept(&self, alloc: Global, command: &Command) -> Result<Catalogue, Refusal>
+    /// The catalogue after a command that is accepted and for which there is room, and which counties it changes.
+    fn accept(&self, alloc: Global, command: &Command) -> Result<Draft, Refusal>
         requires { self.now.halted ≡ false }
-        ensures after { IfOk result (IsAfter (desk_of self.now) command.now) }
+        ensures after { IfOk result (λ draft. IsAfter (desk_of self.now) command.now draft.catalogue) }
+        ensures changes { IfOk result (λ draft. draft.changes.items ≡ changes_of (desk_of self.now) command.now draft.catalogue (cuts_in (desk_of self.now).geography)) }
         ensures room { IfOk result (λ _. HasRoom self.now (rows_of_command (desk_of self.now) command.now)) }
         ensures err { IfErr result (λ refusal. PrepareErr self.now command.now refusal self.now) }
     {
-        let after = self.catalogue.after(alloc, command)?;
-        let rows = command_rows(self.cuts.as_slice(), &self.catalogue, command, &after);
+        cuts_are_within();
+        let cuts = self.cuts.as_slice();
+        let draft = self.catalogue.draft(alloc, cuts, command)?;
+        let rows = command_rows(
+            cuts,
+            &self.catalogue,
+            command,
+            &draft.catalogue,
+            draft.changes.as_slice(),
+        );
         if !self.has_room(rows) {
             return Err(Refusal::Full);
         }
-        Ok(after)
+        Ok(draft)
     }
 
     /// Puts the rows of a command that is accepted, and makes their pages ready.
@@ -77,9 +89,11 @@ impl<D: SectorDevice> Clerk<D> {
         alloc: Global,
         command: &Command,
         after: &Catalogue,
+        changes: &[bool],
     ) -> Result<Prepared, Refusal>
         requires working { self.old.halted ≡ false }
         requires after { IsAfter (desk_of self.old) command.now after.now }
+        requires changes { changes.now ≡ changes_of (desk_of self.old) command.now after.now (cuts_in (desk_of self.old).geography) }
         requires room { HasRoom self.old (rows_of_command (desk_of self.old) command.now) }
         ensures reads { Reads self.old self.new }
         ensures loading { self.new.loading ≡ self.old.loading }
@@ -96,6 +110,7 @@ impl<D: SectorDevice> Clerk<D> {
             &self.catalogue,
             command,
             after,
+            changes,
         ) {
             Ok(Change::Made) => match desk_pages::prepare(txn) {
                 Ok(prepared) => Ok(prepared),
@@ -136,15 +151,16 @@ impl<D: SectorDevice> Clerk<D> {
             return Err(Refusal::Halted);
         }
         self.settle(alloc);
-        let after = match self.accept(alloc, &command) {
-            Ok(after) => after,
+        let draft = match self.accept(alloc, &command) {
+            Ok(draft) => draft,
             Err(refusal) => return Err(refusal),
         };
-        let prepared = match self.put(alloc, &command, &after) {
+        let changes = draft.changes.as_slice();
+        let prepared = match self.put(alloc, &command, &draft.catalogue, changes) {
             Ok(prepared) => prepared,
             Err(refusal) => return Err(refusal),
         };
-        let Ok(after) = Arc::new(alloc, after) else {
+        let Ok(after) = Arc::new(alloc, draft.catalogue) else {
             return Err(Refusal::Memory);
         };
         match Arc::new(alloc, command) {

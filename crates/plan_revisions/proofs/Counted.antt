@@ -1,11 +1,15 @@
 -- The rows of a revision that was accepted.
-use Rattle.std.proofs.Common.{◌≡◌, ◌<◌, ◌^◌, ℕ, List, length, Option, Some, None, refl, sym, ap, subst, ◌∙◌}
+use Rattle.std.proofs.Common.{◌≡◌, ◌⊎◌, ◌<◌, ◌+◌, ◌^◌, ℕ, Bool, List, length, Option, Some, None, refl, sym, ap, subst, ◌∙◌, inl, inr}
 use Rattle.std.specs.Prelude.{IfSome, IsSome, is_some}
 use Rattle.std.specs.FinMap as map_of
 use Rattle.desk_model.specs.declared.cuts.Cut.{Cut}
 use Rattle.desk_model.specs.Cuts.{cuts_of}
 use Rattle.desk_model.specs.Geography.{Ground}
 use Rattle.desk_model.specs.Desk.{Desk}
+use Rattle.desk_model.specs.declared.command.Command.{Command}
+use Rattle.desk_model.specs.declared.command.Command.TheVariants.{Whole, Counties}
+use Rattle.desk_room.specs.Cutting.{changes_in}
+use Rattle.desk_catalogue.specs.Drafts.{changes_between, changes_of}
 use Rattle.desk_catalogue.specs.Kept.{IsWhole, revision_in}
 use Rattle.plan_revisions.specs.Rows.{cuts_in}
 use Rattle.plan_revisions.specs.Accepted.{IsRevised, next_is}
@@ -28,3 +32,20 @@ if_whole d g (Some l) is whole = whole g l is refl
 -- what is told is there
 pub there_is : (o : Option (List ℕ)) (x : List ℕ) → o ≡ Some x → IsSome o
 there_is o x is = ap is_some is
+
+-- which counties change in the revision that the plan got
+module _ (d : Desk) (name : List ℕ) (after : ℕ) (e : Desk) (r : IsRevised d name after e) (cuts : List Cut) (changes : List Bool) where
+  abbrev AreChanges : Type 0
+  AreChanges = changes ≡ changes_between (revision_in (map_of.get d.plans name) after) (revision_in (map_of.get e.plans name) (after + 1)) cuts
+
+  pub changes_told : AreChanges → changes ≡ changes_in (revision_in (map_of.get d.plans name) after) r.districts cuts
+  changes_told are = are ∙ ap (λ (o : Option (List ℕ)). changes_between (revision_in (map_of.get d.plans name) after) o cuts) (next_is d name after e r)
+
+  pub changes_now : (next : List ℕ) → next ≡ r.districts → AreChanges → changes ≡ changes_in (revision_in (map_of.get d.plans name) after) next cuts
+  changes_now next is are = changes_told are ∙ ap (λ (l : List ℕ). changes_in (revision_in (map_of.get d.plans name) after) l cuts) (sym is)
+
+-- whichever of the two commands it was
+pub changes_by : (d : Desk) (q : Command) (name : List ℕ) (after : ℕ) (e : Desk) (cuts : List Cut) (changes : List Bool) → ((body : List ℕ) × (q ≡ Whole name after body)) ⊎ ((body : List ℕ) × (q ≡ Counties name after body))
+    → changes ≡ changes_of d q e cuts → changes ≡ changes_between (revision_in (map_of.get d.plans name) after) (revision_in (map_of.get e.plans name) (after + 1)) cuts
+changes_by d q name after e cuts changes (inl whole) are = are ∙ ap (λ (x : Command). changes_of d x e cuts) whole.1
+changes_by d q name after e cuts changes (inr counties) are = are ∙ ap (λ (x : Command). changes_of d x e cuts) counties.1

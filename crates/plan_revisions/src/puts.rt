@@ -1,7 +1,10 @@
 //! Puts the rows of a command.
-ghost use Rattle.std.specs.Prelude.{◌≡◌, Some, MatchResult};
+ghost use Rattle.std.specs.Prelude.{◌≡◌, ◌+◌, Some, MatchResult};
+ghost use Rattle.std.specs.FinMap as map_of;
 ghost use Rattle.desk_model.specs.Room.{added_rows, command_rows as rows_of_command};
 ghost use Rattle.desk_catalogue.specs.Accepting.{IsAfter};
+ghost use Rattle.desk_catalogue.specs.Drafts.{changes_between, changes_of};
+ghost use Rattle.desk_catalogue.specs.Kept.{revision_in};
 ghost use Rattle.page_store.specs.Transactions.{count_of, txn_pages, IsQuiet};
 ghost use Rattle.plan_table.specs.PlanRows.{HasChunkNumbers};
 ghost use Rattle.plan_revisions.specs.Steps.{IsStepped, StepErr};
@@ -15,8 +18,6 @@ use desk_model::command::Command;
 use desk_model::cuts::Cut;
 use desk_model::geography::Geography;
 use desk_model::name::PlanName;
-use desk_room::changed_counties;
-use desk_room::laws::cuts_are_within;
 use page_store::{Pages, Txn};
 use sector_device::SectorDevice;
 use std::alloc::Global;
@@ -32,38 +33,27 @@ fn put_revision<D: SectorDevice>(
     name: &PlanName,
     after: u32,
     then: &Catalogue,
+    changes: &[bool],
 ) -> Result<Change, TreeError>
     requires begun { txn_pages txn.old ≡ count_of pages.old }
     requires geography { shown.now.geography ≡ Some geography.now }
     requires cut { cuts.now ≡ cuts_in shown.now.geography }
     requires revised { IsRevised shown.now name.now after then.now }
+    requires changes { changes.now ≡ changes_between (revision_in (map_of.get shown.now.plans name.now) after) (revision_in (map_of.get then.now.plans name.now) (after + 1)) cuts.now }
     ensures quiet { IsQuiet pages.old pages.new }
     ensures begun { txn_pages txn.new ≡ count_of pages.new }
     ensures put { MatchResult result
         (λ change. IsStepped (λ d. d ≡ shown.now) (λ d. then.now) (rows_added_by shown.now name.now then.now) (HasChunkNumbers (added_by shown.now name.now then.now)) txn.old txn.new pages.old pages.new change)
         (λ e. StepErr (λ d. d ≡ shown.now) (rows_added_by shown.now name.now then.now) txn.old pages.old pages.new e) }
 {
-    cuts_are_within();
-    let last = shown.districts(name, after);
     let next = next_of(then, name, after + 1);
-    let Ok(changes) = changed_counties(alloc, cuts, last, next) else {
-        return Err(TreeError::Memory);
-    };
-    add(
-        alloc,
-        txn,
-        pages,
-        geography,
-        cuts,
-        changes.as_slice(),
-        name,
-        next,
-    )
+    add(alloc, txn, pages, geography, cuts, changes, name, next)
 }
 
 /// Puts the rows of a command that a desk accepts into a transaction that reads that desk: `shown` is the desk before it, `then` the
-/// desk after it, and `cuts` are the counties of its geography. `Spent` comes where too few numbers are left for it: nothing was
-/// written. After an error the transaction can only be abandoned; `DeviceFault` comes also where the store holds no such desk.
+/// desk after it, `cuts` are the counties of its geography, and `changes` says of each whether the command changes it. `Spent` comes
+/// where too few numbers are left for it: nothing was written. After an error the transaction can only be abandoned; `DeviceFault`
+/// comes also where the store holds no such desk.
 pub fn put_command<D: SectorDevice>(
     alloc: Global,
     txn: &mut Txn,
@@ -72,10 +62,12 @@ pub fn put_command<D: SectorDevice>(
     shown: &Catalogue,
     command: &Command,
     then: &Catalogue,
+    changes: &[bool],
 ) -> Result<Change, TreeError>
     requires begun { txn_pages txn.old ≡ count_of pages.old }
     requires cut { cuts.now ≡ cuts_in shown.now.geography }
     requires after { IsAfter shown.now command.now then.now }
+    requires changes { changes.now ≡ changes_of shown.now command.now then.now cuts.now }
     ensures quiet { IsQuiet pages.old pages.new }
     ensures begun { txn_pages txn.new ≡ count_of pages.new }
     ensures put { MatchResult result
@@ -88,7 +80,7 @@ pub fn put_command<D: SectorDevice>(
     match command {
         Command::Create { plan, size } => create(txn, pages, plan, *size),
         Command::Whole { plan, after, .. } | Command::Counties { plan, after, .. } => put_revision(
-            alloc, txn, pages, geography, cuts, shown, plan, *after, then,
+            alloc, txn, pages, geography, cuts, shown, plan, *after, then, changes,
         ),
         Command::Retire { plan } => match retire(txn, pages, plan) {
             Ok(()) => Ok(Change::Made),

@@ -1,9 +1,10 @@
 //! How many rows a command writes.
-ghost use Rattle.std.specs.Prelude.{◌≡◌, ℕ, List, length, Some, IsSome};
+ghost use Rattle.std.specs.Prelude.{◌≡◌, ◌+◌, ℕ, List, length, Some, IsSome};
 ghost use Rattle.std.specs.FinMap as map_of;
 ghost use Rattle.desk_model.specs.Geography.{Ground};
 ghost use Rattle.desk_model.specs.Room.{added_rows, command_rows as rows_of_command};
 ghost use Rattle.desk_catalogue.specs.Accepting.{IsAfter};
+ghost use Rattle.desk_catalogue.specs.Drafts.{changes_between, changes_of};
 ghost use Rattle.desk_catalogue.specs.Kept.{revision_in};
 ghost use Rattle.plan_revisions.specs.Rows.{cuts_in};
 ghost use Rattle.plan_revisions.specs.Accepted.{IsRevised};
@@ -13,7 +14,6 @@ use desk_model::command::Command;
 use desk_model::cuts::Cut;
 use desk_model::geography::Geography;
 use desk_model::name::PlanName;
-use desk_room::laws::cuts_are_within;
 use desk_room::revision_rows;
 use shared_districts::Districts;
 
@@ -37,24 +37,32 @@ fn rows_between(
     name: &PlanName,
     after: u32,
     then: &Catalogue,
+    changes: &[bool],
 ) -> usize
     requires geography { shown.now.geography ≡ Some geography.now }
     requires cut { cuts.now ≡ cuts_in shown.now.geography }
     requires revised { IsRevised shown.now name.now after then.now }
+    requires changes { changes.now ≡ changes_between (revision_in (map_of.get shown.now.plans name.now) after) (revision_in (map_of.get then.now.plans name.now) (after + 1)) cuts.now }
     ensures { result ≡ added_rows shown.now.geography (map_of.get shown.now.plans name.now) (map_of.get then.now.plans name.now) }
 {
     let _blocks = geography.blocks();
-    cuts_are_within();
-    let last = shown.districts(name, after);
-    let next = next_of(then, name, after + 1);
-    revision_rows(cuts, last, next)
+    shown.revisions_are_whole();
+    then.revisions_are_whole();
+    revision_rows(cuts, changes)
 }
 
-/// How many rows a command writes that a desk accepts: `shown` is the desk before it, `then` the desk after it, and `cuts` are the
-/// counties of its geography.
-pub fn command_rows(cuts: &[Cut], shown: &Catalogue, command: &Command, then: &Catalogue) -> usize
+/// How many rows a command writes that a desk accepts: `shown` is the desk before it, `then` the desk after it, `cuts` are the
+/// counties of its geography, and `changes` says of each whether the command changes it.
+pub fn command_rows(
+    cuts: &[Cut],
+    shown: &Catalogue,
+    command: &Command,
+    then: &Catalogue,
+    changes: &[bool],
+) -> usize
     requires cut { cuts.now ≡ cuts_in shown.now.geography }
     requires after { IsAfter shown.now command.now then.now }
+    requires changes { changes.now ≡ changes_of shown.now command.now then.now cuts.now }
     ensures { result ≡ rows_of_command shown.now command.now }
 {
     let Some(geography) = shown.geography() else {
@@ -63,7 +71,7 @@ pub fn command_rows(cuts: &[Cut], shown: &Catalogue, command: &Command, then: &C
     match command {
         Command::Create { .. } | Command::Retire { .. } => 2,
         Command::Whole { plan, after, .. } | Command::Counties { plan, after, .. } => rows_between(
-            geography, cuts, shown, plan, *after, then,
+            geography, cuts, shown, plan, *after, then, changes,
         ),
     }
 }

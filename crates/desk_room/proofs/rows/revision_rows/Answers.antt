@@ -1,18 +1,36 @@
-use Rattle.std.proofs.Common.{◌≡◌, ◌+◌, length, take, ap, ◌∙◌, arith}
-use Rattle.std.specs.Option.{option_copied}
-use Rattle.std.proofs.lemmas.List.{take_all}
+use Rattle.std.proofs.Common.{◌≡◌, ◌<◌, ◌+◌, Bool, List, false, length, drop, get_or, ap, sym, subst, ◌∙◌, arith}
 use Rattle.desk_model.specs.Room.{rows_for}
+use Rattle.desk_model.specs.declared.cuts.Cut.{Cut}
 use Rattle.desk_model.proofs.Runs.{lists_cut}
-use Rattle.desk_room.specs.Cutting.{changed_rows}
-use Rattle.desk_room.proofs.Counted.{rows_told}
+use Rattle.desk_room.specs.Cutting.{changes_in, changed_rows, cut_rows}
+use Rattle.desk_room.proofs.Counted.{nothing_left, rows_at, rows_told}
 use Rattle.desk_room.proofs.rows.revision_rows.Goals as goal
 
+pub loop-place-preserved : goal.loop-place-preserved
+loop-place-preserved c =
+    let changes = c.args.changes.now in
+    let cuts = c.args.cuts.now in
+    let i = c.loop-place.place in
+    let none : Cut = record { first = 0; count = 0 } in
+    let told : i < length changes = subst (λ k. i < k) (sym c.requires.each) c.loop-place-test.true in
+    let here = rows_at changes cuts i false none told c.loop-place-test.true in
+    let rows = c.rows_of_cut-rows.ensures.rows in
+    let most = c.rows_of_cut-rows.ensures.few in
+    let was = c.loop-place.invariant.rows in
+    let few = c.loop-place.invariant.few in
+    record {
+      rows = omega arith;
+      few = omega arith;
+    }
+
 pub returns : goal.returns
-returns c = λ g is long old.
-    let last = option_copied c.args.last in
-    let new = c.args.new.now in
-    let all : take c.loop-cut.cut-index c.args.cuts.now ≡ c.args.cuts.now = take_all c.loop-cut.cut-index c.args.cuts.now (omega (arith, c.loop-cut-test.false)) in
-    c.loop-cut.invariant.rows
-    ∙ ap (λ cs. 2 + rows_for 128 (length c.args.cuts.now) + changed_rows last new cs) all
-    ∙ ap (λ cs. 2 + rows_for 128 (length cs) + changed_rows last new cs) is
+returns c = λ g last new is are long old.
+    let changes = c.args.changes.now in
+    let cuts = c.args.cuts.now in
+    let past = c.loop-place-test.false in
+    let none : changed_rows (drop c.loop-place.place changes) (drop c.loop-place.place cuts) ≡ 0 = nothing_left changes cuts c.loop-place.place past in
+    let rows : c.loop-place.rows ≡ 2 + rows_for 128 (length cuts) + changed_rows changes cuts = let was = c.loop-place.invariant.rows in omega arith in
+    rows
+    ∙ ap (λ (bs : List Bool). 2 + rows_for 128 (length cuts) + changed_rows bs cuts) are
+    ∙ ap (λ (cs : List Cut). 2 + rows_for 128 (length cs) + changed_rows (changes_in last new cs) cs) is
     ∙ rows_told lists_cut g last new long old

@@ -1,11 +1,10 @@
-use Rattle.std.proofs.Common.{◌≡◌, ◌+◌, ◌*◌, ◌≤◌, ◌^◌, take, length}
+use Rattle.std.proofs.Common.{◌≡◌, ◌+◌, ◌*◌, ◌≤◌, ◌^◌, drop, length}
 use Rattle.desk_model.specs.Room.{rows_for}
-use Rattle.std.specs.Option.{option_copied}
 use Rattle.desk_room.specs.Cutting.{changed_rows}
 use Rattle.desk_room.proofs.rows.revision_rows.Given as goal
 
-abbrev pub invariant-loop-cut : goal.invariant-loop-cut
-invariant-loop-cut l = record {
-  rows : l.rows ≡ 2 + rows_for 128 (length l.cuts) + changed_rows (option_copied l.last) l.new (take l.cut-index l.cuts);
-  few : l.rows ≤ 2 + 2 ^ 32 + l.cut-index * 2 ^ 23;
+abbrev pub invariant-loop-place : goal.invariant-loop-place
+invariant-loop-place l = record {
+  rows : l.rows + changed_rows (drop l.place l.changes) (drop l.place l.cuts) ≡ 2 + rows_for 128 (length l.cuts) + changed_rows l.changes l.cuts;
+  few : l.rows ≤ 2 + 2 ^ 32 + l.place * 2 ^ 23;
 }

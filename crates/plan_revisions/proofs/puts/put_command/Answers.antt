@@ -1,4 +1,5 @@
 use Rattle.plan_revisions.proofs.Commands.{create_put, retire_put, retire_not_put, revision_as}
+use Rattle.plan_revisions.proofs.Counted.{changes_by}
 use Rattle.plan_revisions.proofs.puts.put_command.Goals as goal
 
 pub returns-in-Create-clause-put : goal.returns-in-Create-clause-put
@@ -16,3 +17,6 @@ returns-in-Err-clause-put g c =
 pub returns-in-Whole-clause-put : goal.returns-in-Whole-clause-put
 returns-in-Whole-clause-put g c =
     revision_as c.args.shown.now c.args.command.now c.args.then.now c.in-Whole.plan c.in-Whole.after c.args.txn.now c.put_revision.new.txn c.args.pages.now c.put_revision.new.pages c.put_revision.result c.in-Whole.is c.requires.after c.put_revision.ensures.put
+
+pub put_revision-requires-clause-changes : goal.put_revision-requires-clause-changes
+put_revision-requires-clause-changes g c = changes_by c.args.shown.now c.args.command.now c.in-Whole.plan c.in-Whole.after c.args.then.now c.args.cuts.now c.args.changes.now c.in-Whole.is c.requires.changes

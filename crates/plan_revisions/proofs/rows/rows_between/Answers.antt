@@ -1,18 +1,17 @@
-use Rattle.std.proofs.Common.{◌≡◌, ℕ, List, length, Some, sym, ap, subst, ◌∙◌, arith}
-use Rattle.std.specs.Option.{option_copied}
+use Rattle.std.proofs.Common.{◌≡◌, ◌+◌, ℕ, List, length, Some, sym, ap, ◌∙◌, arith}
+use Rattle.std.specs.FinMap as map_of
+use Rattle.std.proofs.lemmas.List.{length-map}
 use Rattle.desk_model.specs.Cuts.{cuts_of}
 use Rattle.desk_model.specs.declared.cuts.Cut.{Cut}
 use Rattle.desk_model.specs.Geography.{Ground}
 use Rattle.desk_model.specs.Desk.{Desk}
 use Rattle.desk_model.specs.Room.{revision_rows}
-use Rattle.desk_room.specs.Cutting.{AreWithin}
+use Rattle.desk_room.specs.Cutting.{is_changed}
+use Rattle.desk_catalogue.specs.Kept.{revision_in}
 use Rattle.plan_revisions.specs.Accepted.{next_is, rows_added}
 use Rattle.plan_revisions.specs.CommandCounties.{few_cuts}
-use Rattle.plan_revisions.proofs.Counted.{cuts_are, if_whole, same_ground, there_is}
+use Rattle.plan_revisions.proofs.Counted.{changes_told, cuts_are, if_whole, same_ground}
 use Rattle.plan_revisions.proofs.rows.rows_between.Goals as goal
-
-pub next_of-next-requires : goal.next_of-next-requires
-next_of-next-requires c = there_is _ c.requires.revised.districts (next_is c.args.shown.now c.args.name.now c.args.after c.args.then.now c.requires.revised)
 
 pub revision_rows-requires-clause-few : goal.revision_rows-requires-clause-few
 revision_rows-requires-clause-few c =
@@ -21,16 +20,12 @@ revision_rows-requires-clause-few c =
     let same : length c.args.cuts.now ≡ length (cuts_of c.args.geography.now) = ap (λ (l : List Cut). length l) are in
     omega arith
 
-pub revision_rows-requires-clause-new : goal.revision_rows-requires-clause-new
-revision_rows-requires-clause-new c =
+pub revision_rows-requires-clause-each : goal.revision_rows-requires-clause-each
+revision_rows-requires-clause-each c =
     let d = c.args.shown.now in
-    let g = c.args.geography.now in
     let r = c.requires.revised in
-    let is = next_is d c.args.name.now c.args.after c.args.then.now r in
-    let then_geography = ap (λ (x : Desk). x.geography) r.desk ∙ c.requires.geography in
-    let long : length c.next_of-next.result.now ≡ length g.blocks = ap (λ (l : List ℕ). length l) (c.next_of-next.ensures.value r.districts is) ∙ c.next_of-next.ensures.whole g r.districts then_geography is in
-    let are = cuts_are d g c.args.cuts.now c.requires.cut c.requires.geography in
-    subst (λ n. AreWithin n c.args.cuts.now) (sym long) (subst (λ (l : List Cut). AreWithin (length g.blocks) l) (sym are) (c.cuts_are_within.ensures g))
+    let last = revision_in (map_of.get d.plans c.args.name.now) c.args.after in
+    ap length (changes_told d c.args.name.now c.args.after c.args.then.now r c.args.cuts.now c.args.changes.now c.requires.changes) ∙ length-map c.args.cuts.now (is_changed last r.districts)
 
 pub returns : goal.returns
 returns c =
@@ -38,13 +33,13 @@ returns c =
     let e = c.args.then.now in
     let g = c.args.geography.now in
     let r = c.requires.revised in
-    let is = next_is d c.args.name.now c.args.after e r in
+    let name = c.args.name.now in
+    let last = revision_in (map_of.get d.plans name) c.args.after in
+    let is = next_is d name c.args.after e r in
     let then_geography = ap (λ (x : Desk). x.geography) r.desk ∙ c.requires.geography in
-    let next : c.next_of-next.result.now ≡ r.districts = c.next_of-next.ensures.value r.districts is in
-    let long : length c.next_of-next.result.now ≡ length g.blocks = ap (λ (l : List ℕ). length l) next ∙ c.next_of-next.ensures.whole g r.districts then_geography is in
+    let long : length r.districts ≡ length g.blocks = c.revisions_are_whole-2.ensures name (c.args.after + 1) g r.districts then_geography is in
     let are = cuts_are d g c.args.cuts.now c.requires.cut c.requires.geography in
-    let last = c.districts-last.ensures in
     let ground : g ≡ r.g = same_ground d g r.g c.requires.geography r.geography in
-    c.revision_rows.ensures g are long (if_whole d g (option_copied c.districts-last.result) c.requires.geography last.whole)
-    ∙ (λ i. revision_rows (ground i) (last.value i) (next i))
-    ∙ sym (rows_added d c.args.name.now c.args.after e r)
+    c.revision_rows.ensures g last r.districts are (changes_told d name c.args.after e r c.args.cuts.now c.args.changes.now c.requires.changes) long (if_whole d g last c.requires.geography (c.revisions_are_whole.ensures name c.args.after))
+    ∙ ap (λ (x : Ground). revision_rows x last r.districts) ground
+    ∙ sym (rows_added d name c.args.after e r)

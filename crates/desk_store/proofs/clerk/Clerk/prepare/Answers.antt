@@ -11,5 +11,5 @@ returns-in-Err-put-clause-err g c = settled_err c.args.self.now c.settle.new.sel
 
 pub returns-in-Ok-new-2-clause-ready : goal.returns-in-Ok-new-2-clause-ready
 returns-in-Ok-new-2-clause-ready g c =
-    ready_is c.settle.new.self c.put.new.self c.args.command c.in-Ok.after c.in-Ok-put.prepared _ c.put.ensures.reads c.in-Ok.ensures.after
+    ready_is c.settle.new.self c.put.new.self c.args.command c.in-Ok.draft.catalogue c.in-Ok-put.prepared _ c.put.ensures.reads c.in-Ok.ensures.after
     c.in-Ok-put.ensures.put c.in-Ok-new-2.ensures.ok c.in-Ok-new.ensures.ok refl

@@ -1,7 +1,7 @@
 use Rattle.std.proofs.Common.{◌≡◌, ◌++◌, drop}
 use Rattle.std.specs.Option.{option_copied}
 use Rattle.desk_room.specs.Cutting.{changes_in}
-use Rattle.desk_room.proofs.rows.changed_counties.Given as goal
+use Rattle.desk_room.proofs.changes.changed_counties.Given as goal
 
 abbrev pub invariant-loop-cut : goal.invariant-loop-cut
 invariant-loop-cut l = record {

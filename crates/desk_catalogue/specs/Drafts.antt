@@ -1,0 +1,26 @@
+-- Which counties a command changes.
+use Rattle.std.specs.Prelude.{◌≡◌, ◌+◌, ℕ, Bool, List, [], length, Option, Some, None}
+use Rattle.std.specs.FinMap as map_of
+use Rattle.desk_model.specs.declared.command.Command.{Command}
+use Rattle.desk_model.specs.declared.command.Command.TheVariants.{Create, Whole, Counties, Retire}
+use Rattle.desk_model.specs.declared.cuts.Cut.{Cut}
+use Rattle.desk_model.specs.Geography.{Ground}
+use Rattle.desk_model.specs.Desk.{Desk}
+use Rattle.desk_room.specs.Cutting.{AreWithin, changes_in}
+use Rattle.desk_catalogue.specs.Kept.{revision_in}
+
+-- the counties' places are places of the blocks
+abbrev pub AreCounties : Option Ground → List Cut → Type 0
+AreCounties geography cuts = (g : Ground) → geography ≡ Some g → AreWithin (length g.blocks) cuts
+
+-- whether each county changes in a revision after the one before it, none where there is no revision
+abbrev pub changes_between : Option (List ℕ) → Option (List ℕ) → List Cut → List Bool
+changes_between last None cuts = []
+changes_between last (Some new) cuts = changes_in last new cuts
+
+-- whether each changes by a command that leaves the desk `e`: none where the command gives no plan a revision
+abbrev pub changes_of : Desk → Command → Desk → List Cut → List Bool
+changes_of d (Create name size) e cuts = []
+changes_of d (Whole name after body) e cuts = changes_between (revision_in (map_of.get d.plans name) after) (revision_in (map_of.get e.plans name) (after + 1)) cuts
+changes_of d (Counties name after body) e cuts = changes_between (revision_in (map_of.get d.plans name) after) (revision_in (map_of.get e.plans name) (after + 1)) cuts
+changes_of d (Retire name) e cuts = []
