@@ -139,6 +139,7 @@ noted_more rows row old new noted now = record {
   where
     n : ℕ
     n = now.plan.number
+
     listed : numbers_of (rows ++ (row.key, row.value) ∷ []) ≡ numbers_of rows ++ n ∷ []
     listed = numbers_more rows (row.key, row.value) ∙ ap (λ (k : ℕ). numbers_of rows ++ k ∷ []) (ap number_in now.value ∙ number_is now.plan now.fits)
 
