@@ -107,7 +107,7 @@ pub record AreNoted (rows : List Entry) (numbers : BTreeSet ℕ) : Type 0 where
   pub apart : AreApart (numbers_of rows)
 
 not_both : (b : Bool) → b ≡ true → b ≡ false → ⊥
-not_both b yes no = let clash : true ≡ false = sym yes ∙ no in cc
+not_both b on off = let clash : true ≡ false = sym on ∙ off in cc
 
 pub none_noted : (numbers : BTreeSet ℕ) → IsEmpty numbers → AreNoted [] numbers
 none_noted numbers empty = record {
@@ -127,11 +127,11 @@ pub noted_more : (rows : List Entry) (row : Row) (old new : BTreeSet ℕ) → Ar
 noted_more rows row old new noted now = record {
   among = λ x there. subst (λ (l : List ℕ). Contains l x) (sym listed) (either_way (is_at (nat_cmp n) x) (Contains (numbers_of rows ++ n ∷ []) x)
       (λ here. last_in n x (numbers_of rows) (is_same n x here))
-      (λ other. before_in (numbers_of rows) n x (noted.among x (sym (now.is.2.0 x other) ∙ there))));
+      (λ other. before_in (numbers_of rows) n x (noted.among x (sym (now.is.2 x other) ∙ there))));
   all = λ x there. elim (of_more (numbers_of rows) n x (subst (λ (l : List ℕ). Contains l x) listed there)) [
     | inl before ↦ either_way (is_at (nat_cmp n) x) (contains nat_cmp new x ≡ true)
         (λ here. now.is.0 x ∙ ap (λ (b : Bool). cond b true (contains nat_cmp old x)) here)
-        (λ other. now.is.2.0 x other ∙ noted.all x before)
+        (λ other. now.is.2 x other ∙ noted.all x before)
     | inr same ↦ now.is.0 x ∙ ap (λ (b : Bool). cond b true (contains nat_cmp old x)) (at_itself n x same)
   ];
   apart = subst AreApart (sym listed) (apart_more (numbers_of rows) n noted.apart (λ there. not_both (contains nat_cmp old n) (noted.all n there) now.unused));

@@ -60,7 +60,18 @@ fn audit_of_40<R: Threads + Abort + Sync>(
 ) -> Report {
     assert!(rt; state.blocks().len() == 4);
     let plan = [1, 17, 33, 40];
-    let report = audit_with(rt, alloc, 3, gate, state, Kind::Senate, 40, &plan, None, None);
+    let report = audit_with(
+        rt,
+        alloc,
+        3,
+        gate,
+        state,
+        Kind::Senate,
+        40,
+        &plan,
+        None,
+        None,
+    );
     report.expect(rt, "no memory")
 }
 
@@ -120,7 +131,18 @@ fn pieces_at_once(rt: HostRuntime) {
         faults: AtomicU64::new(0),
     };
     let plan = [1, 1, 2, 2];
-    let report = audit_with(&rt, alloc, 2, &gate, &state, Kind::House, 2, &plan, None, None);
+    let report = audit_with(
+        &rt,
+        alloc,
+        2,
+        &gate,
+        &state,
+        Kind::House,
+        2,
+        &plan,
+        None,
+        None,
+    );
     assert!(rt; report.expect(&rt, "no memory").broken.is_empty());
     assert!(rt; gate.faults.load(Ordering::SeqCst) == 0);
 }
