@@ -16,7 +16,8 @@ use Rattle.page_btree.specs.Seeking.{bound_in, IsNext, IsFrom, AreLeaves}
 use Rattle.page_btree.specs.declared.seeks.Leaf.{Leaf}
 use Rattle.page_btree.specs.declared.error.TreeError.{TreeError}
 use Rattle.page_btree.specs.declared.error.TreeError.TheVariants.{DeviceFault, Halted, NoPages, TooDeep, Memory}
-use Rattle.btree_scan.specs.Prefixes.{under, AllFrom, AllUnder, under_from, none_under, rises_from_key, all_from_key, head_rises, all_between, front_from, below_bound}
+use Rattle.btree_scan.specs.Prefixes.{under, AllFrom, AllUnder}
+use Rattle.btree_scan.proofs.Prefixes.{under_from, none_under, rises_from_key, all_from_key, head_rises, all_between, front_from, below_bound}
 use Rattle.btree_scan.specs.Parts.{page_of}
 use Rattle.btree_scan.specs.Turning.{IsTurned}
 use Rattle.btree_scan.specs.Scanning.{IsReady, IsWithin, IsStep, IsTakenRow, ScanErr}

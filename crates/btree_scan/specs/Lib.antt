@@ -3,4 +3,3 @@ pub mod Parts
 pub mod Turning
 pub mod Prefixes
 pub mod Taken
-pub mod Refused

@@ -1,7 +1,6 @@
 -- Which rows of a scan are still to come.
 use Rattle.std.specs.Prelude.{◌≡◌, ◌⊎◌, ℕ, Bool, true, false, List, [], ◌∷◌, ◌++◌, ◌+◌, length, drop, Option, Some, None, cond, nat_eq}
 use Rattle.std.specs.List.{starts_with}
-use Rattle.std.proofs.Common.{refl, sym, subst}
 use Rattle.std.specs.FinMap.{entries}
 use Rattle.sector_device.specs.declared.SectorDevice.{Ghosts}
 use Rattle.page_store.specs.Transactions.{stored, disk_in, has_halted, HasFailed}
@@ -49,10 +48,6 @@ Rest scan all rest = RestWhere scan.ended scan.covered scan.prefix scan.leaf sca
 
 abbrev pub has_ended : Scan → Bool
 has_ended scan = scan.ended
-
--- one that has ended has none to come
-pub none_to_come : (scan : Scan) (all : List Entry) → has_ended scan ≡ true → Rest scan all []
-none_to_come scan all ended = subst (λ (b : Bool). RestWhere b scan.covered scan.prefix scan.leaf scan.held all []) (sym ended) refl
 
 abbrev pub fault_in : Scan → Option TreeError
 fault_in scan = scan.fault

@@ -14,8 +14,9 @@ use Rattle.store_rows.specs.Keys.{key_of, named, plans_prefix}
 use Rattle.store_rows.specs.Order.{key_cmp}
 use Rattle.store_rows.specs.Rows.{KeyMap}
 use Rattle.store_rows.specs.DeskRows.{IsDesk, IsPlanAt}
-use Rattle.store_rows.specs.Changes.{cases_key, desk_with, other_row}
-use Rattle.store_rows.specs.Frames.{differs, itself}
+use Rattle.store_rows.specs.Changes.{desk_with}
+use Rattle.store_rows.proofs.Changes.{cases_key, other_row}
+use Rattle.store_rows.proofs.Frames.{differs, itself}
 use Rattle.desk_opening.proofs.Scanned.{found_among}
 
 abbrev pub Plans : Type 0

@@ -31,7 +31,7 @@ use Rattle.store_rows.specs.declared.value.PlanRow.{PlanRow}
 use Rattle.store_rows.specs.Rows.{KeyMap, Has}
 use Rattle.store_rows.specs.DeskRows.{IsPlanAt}
 use Rattle.store_rows.specs.Changes.{plan_row_of}
-use Rattle.store_rows.specs.Frames.{is_equal, itself, same_key}
+use Rattle.store_rows.proofs.Frames.{is_equal, itself, same_key}
 use Rattle.store_rows.specs.Tidy.{IsNumbered}
 use Rattle.store_rows.proofs.OneGeography.{no_value, value_is}
 use Rattle.row_table.specs.Appending.{AppendErr}

@@ -11,11 +11,12 @@ use Rattle.std.proofs.lemmas.Bool.{eqb-true}
 use Rattle.std.proofs.lemmas.Cmp.{tied_itself}
 use Rattle.page_node.specs.Entries.{Entry}
 use Rattle.page_node.specs.Places.{key_cmp, Rises}
-use Rattle.page_node.specs.Laws.{is_less}
-use Rattle.btree_scan.specs.Prefixes.{find_under, head_rises, is_under, under, under_rises}
+use Rattle.page_node.proofs.Laws.{is_less}
+use Rattle.btree_scan.specs.Prefixes.{is_under, under}
+use Rattle.btree_scan.proofs.Prefixes.{find_under, head_rises, under_rises}
 use Rattle.store_rows.specs.Keys.{key_of, named, plans_prefix}
 use Rattle.store_rows.specs.Rows.{KeyMap}
-use Rattle.store_rows.specs.Frames.{differs, itself}
+use Rattle.store_rows.proofs.Frames.{differs, itself}
 
 -- the next row is that of a plan, stands in the map, and wasn't taken before
 pub record IsNextPlan (m : KeyMap) (taken : List Entry) (e : Entry) : Type 0 where

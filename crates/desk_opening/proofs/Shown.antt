@@ -18,8 +18,9 @@ use Rattle.store_rows.specs.Values.{plan_bytes}
 use Rattle.store_rows.specs.declared.value.PlanRow.{PlanRow}
 use Rattle.store_rows.specs.Rows.{KeyMap, Lacks}
 use Rattle.store_rows.proofs.OneGeography.{no_value}
-use Rattle.store_rows.specs.Changes.{cases_key, other_row, plan_row_of}
-use Rattle.store_rows.specs.Frames.{differs, itself}
+use Rattle.store_rows.specs.Changes.{plan_row_of}
+use Rattle.store_rows.proofs.Changes.{cases_key, other_row}
+use Rattle.store_rows.proofs.Frames.{differs, itself}
 use Rattle.desk_opening.specs.Opening.{ArePlansShown, HasNothing, IsAdded, IsNotGone, IsShown, IsShownAt}
 use Rattle.desk_pages.specs.Desks.{new_desk}
 use Rattle.desk_opening.proofs.Parts.{Plans, put_there, put_keeps}

@@ -4,7 +4,7 @@ use Rattle.std.specs.Prelude.{Option}
 use Rattle.std.specs.FinMap.{FinMap, empty, get, insert, get-empty}
 use Rattle.desk_model.specs.Geography.{Ground}
 use Rattle.desk_model.specs.Desk.{Plan, name_cmp}
-use Rattle.store_rows.specs.Changes.{cases_key}
+use Rattle.store_rows.proofs.Changes.{cases_key}
 use Rattle.desk_catalogue.specs.Kept.{AreWhole}
 use Rattle.desk_opening.specs.Reading.{IsWhole}
 use Rattle.desk_opening.proofs.Parts.{put_there, put_keeps}

@@ -2,7 +2,8 @@
 use Rattle.std.proofs.Common.{◌≡◌, ◌≢◌, ◌⊎◌, ◌<◌, ◌+◌, ℕ, false, List, length, Result, Ok, Err, OnOk, inl, inr, ⊎_elim, sym, ap, subst, ◌∙◌}
 use Rattle.std.specs.Prelude.{IfOk}
 use Rattle.sector_device.specs.Disk.{Disk, Image}
-use Rattle.sector_device.specs.Moments.{LeavesOnly, leaves_wider}
+use Rattle.sector_device.specs.Moments.{LeavesOnly}
+use Rattle.sector_device.proofs.Moments.{leaves_wider}
 use Rattle.sector_device.specs.declared.SectorDevice.{Ghosts}
 use Rattle.gate_journal.specs.Store.{home, IsBeforeOrAfter}
 use Rattle.page_store.specs.Chain.{AreFree, IsPages, root_in, free_in}
@@ -12,7 +13,7 @@ use Rattle.page_store.specs.declared.error.PageError.{PageError}
 use Rattle.page_store.specs.declared.pages.Pages.{Pages}
 use Rattle.page_store.specs.declared.txn.Txn.{Txn}
 use Rattle.page_store.specs.declared.txn.Prepared.{Prepared}
-use Rattle.page_btree.specs.Laws.{prepared_holds}
+use Rattle.page_btree.proofs.Laws.{prepared_holds}
 use Rattle.page_btree.specs.Map.{Holds, InTxn, InPages}
 use Rattle.store_rows.specs.Rows.{KeyMap}
 use Rattle.desk_pages.specs.Commits.{HoldsAfter, OpensRows}

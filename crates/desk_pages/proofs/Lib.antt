@@ -1,3 +1,5 @@
+pub mod Commits
+pub mod Laws
 pub mod Formatted
 pub mod Committed
 pub mod Kept

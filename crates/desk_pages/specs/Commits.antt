@@ -1,8 +1,6 @@
 -- What a commit makes of the pages.
-use Rattle.std.specs.Prelude.{◌≡◌, ◌⊎◌, ◌<◌, ◌+◌, ℕ, true, false}
-use Rattle.std.proofs.Common.{inl, inr, ⊎_elim}
-use Rattle.sector_device.specs.Disk.{Disk, Image}
-use Rattle.sector_device.specs.Moments.{LeavesOnly, leaves_wider}
+use Rattle.std.specs.Prelude.{◌≡◌, ◌<◌, ◌+◌, ℕ, true, false}
+use Rattle.sector_device.specs.Disk.{Image}
 use Rattle.page_store.specs.Chain.{root_in, free_in, IsPages}
 use Rattle.sector_device.specs.declared.SectorDevice.{Ghosts}
 use Rattle.page_store.specs.Transactions.{journal_of, has_halted, txn_writes, prepared_pages, after, HasFailed, IsSame}
@@ -12,9 +10,7 @@ use Rattle.page_store.specs.declared.pages.Pages.{Pages}
 use Rattle.page_store.specs.declared.txn.Txn.{Txn}
 use Rattle.page_store.specs.declared.txn.Prepared.{Prepared}
 use Rattle.page_btree.specs.Map.{Holds, OpensMap}
-use Rattle.desk_model.specs.Desk.{Desk}
 use Rattle.store_rows.specs.Rows.{KeyMap}
-use Rattle.desk_pages.specs.Desks.{IsDeskMap, OpensDesk}
 
 -- the pages after the commit hold the map, and a root and free pages
 pub record HoldsAfter (made : Prepared) (P : Image) (m : KeyMap) : Type 0 where
@@ -25,23 +21,6 @@ pub record HoldsAfter (made : Prepared) (P : Image) (m : KeyMap) : Type 0 where
 pub record OpensRows (sectors : ℕ) (m : KeyMap) (c : Image) : Type 0 where
   pub map : OpensMap sectors m c
   pub sound : IsPages map.n map.P
-
--- it opens to the desk whose rows the map has
-pub opens_desk : (sectors : ℕ) (m : KeyMap) (d : Desk) (c : Image) → IsDeskMap m d → OpensRows sectors m c → OpensDesk sectors d c
-opens_desk sectors m d c is opens = record {
-  J = opens.map.J;
-  n = opens.map.n;
-  P = opens.map.P;
-  whole = opens.map.whole;
-  opens = opens.map.opens;
-  holds = record { m = m; holds = opens.map.holds; is = is };
-  sound = opens.sound;
-}
-
--- so do those that a stop leaves
-pub leaves_desk : (sectors : ℕ) (m next : KeyMap) (d e : Desk) (old new : Disk) → IsDeskMap m d → IsDeskMap next e → LeavesOnly (λ c. OpensRows sectors m c ⊎ OpensRows sectors next c) old new → LeavesOnly (λ c. OpensDesk sectors d c ⊎ OpensDesk sectors e c) old new
-leaves_desk sectors m next d e old new is then left = leaves_wider (λ c. OpensRows sectors m c ⊎ OpensRows sectors next c) (λ c. OpensDesk sectors d c ⊎ OpensDesk sectors e c) old new
-    (λ c. ⊎_elim (λ was. inl (opens_desk sectors m d c is was)) (λ now. inr (opens_desk sectors next e c then now))) left
 
 -- why a transaction is not committed: but for a fault, the pages are as they were
 abbrev pub TxnErr : {D : Type 0} {g : Ghosts D} → Txn → Pages D g → Pages D g → PageError → Type 0

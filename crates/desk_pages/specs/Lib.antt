@@ -1,4 +1,3 @@
 pub mod Desks
-pub mod Laws
 pub mod Formats
 pub mod Commits

@@ -12,7 +12,8 @@ use Rattle.std.specs.declared.sync.Arc.{Arc}
 use Rattle.std.specs.declared.alloc.Global.{Global}
 use Rattle.std.proofs.lemmas.Map.Lookups.{exact_bytes}
 use Rattle.desk_model.specs.Desk.{Plan, name_cmp}
-use Rattle.desk_plans.specs.Rows.{Row, AreRows, IsRemoved, IsFound}
+use Rattle.desk_plans.specs.Rows.{Row, IsRemoved, IsFound}
+use Rattle.desk_plans.proofs.Rows.{AreRows}
 use Rattle.desk_plans.specs.Held.{laid, AreHeld, IsSettled}
 use Rattle.desk_plans.proofs.AsMap.{as_map, len_of, map_put, rising_after, is_less, found_row, missing_row}
 

@@ -1,3 +1,4 @@
+pub mod Rows
 pub mod AsMap
 pub mod Held
 pub mod Rising

@@ -1,8 +1,7 @@
 -- Plans in the order of their names, and where a name stands among them.
-use Rattle.std.specs.Prelude.{◌≡◌, ℕ, List, [], ◌∷◌, ◌++◌, length, true, Option, IsTrue}
+use Rattle.std.specs.Prelude.{◌≡◌, ℕ, List, [], ◌∷◌, ◌++◌, true, Option, IsTrue}
 use Rattle.std.specs.Option.{option_to_list}
 use Rattle.std.specs.Ordering.{is_lt}
-use Rattle.std.specs.FinMap.{is_sorted}
 use Rattle.std.specs.declared.cmp.Ordering.TheVariants.{Equal}
 use Rattle.desk_model.specs.Desk.{Plan, name_cmp}
 
@@ -53,8 +52,3 @@ pub record IsFound (name : List ℕ) (rows : List Row) (found : Option Row) : Ty
   pub front : List Row
   pub back : List Row
   pub split : IsSplit name rows front (option_to_list found) back
-
--- the rows rise by name, and there are so many
-pub record AreRows (all : List Row) (number : ℕ) : Type 0 where
-  pub rising : IsTrue (is_sorted name_cmp all)
-  pub count : number ≡ length all

@@ -11,7 +11,8 @@ use Rattle.desk_model.specs.Geography.{Ground, ids}
 use Rattle.desk_model.specs.declared.block.BlockRow.{BlockRow}
 use Rattle.desk_model.specs.Room.{rows_for, differs, revision_rows}
 use Rattle.desk_model.specs.declared.cuts.Cut.{Cut}
-use Rattle.desk_room.specs.Cutting.{part, AreWithin, changes_in, cut_rows, changed_rows}
+use Rattle.desk_room.specs.Cutting.{part, AreWithin, changes_in, cut_rows}
+use Rattle.desk_room.proofs.Cutting.{changed_rows}
 
 abbrev rows_in : List (List ℕ) → ℕ
 rows_in ps = sum_by (λ p. rows_for 512 (length p)) ps

@@ -1,5 +1,5 @@
 -- The counties of lists beside the blocks, by their places.
-use Rattle.std.specs.Prelude.{◌≡◌, ◌⊎◌, ◌<◌, ◌≤◌, ◌+◌, ℕ, Bool, true, if◌then◌else◌, List, [], ◌∷◌, map, get_or, take, drop, All, Option, Some, None}
+use Rattle.std.specs.Prelude.{◌≡◌, ◌⊎◌, ◌<◌, ◌≤◌, ◌+◌, ℕ, Bool, true, if◌then◌else◌, List, map, get_or, take, drop, All, Option, Some, None}
 use Rattle.desk_model.specs.Room.{rows_for, differs}
 use Rattle.desk_model.specs.declared.cuts.Cut.{Cut}
 
@@ -27,8 +27,3 @@ StaysOutside first end last new = (k : ℕ) → (k < first) ⊎ (end ≤ k) → 
 -- the rows of a county's districts, which are written where it changes
 abbrev pub cut_rows : Bool → Cut → ℕ
 cut_rows changes c = if changes then rows_for 512 c.count else 0
-
-abbrev pub changed_rows : List Bool → List Cut → ℕ
-changed_rows [] cs = 0
-changed_rows (b ∷ bs) [] = 0
-changed_rows (b ∷ bs) (c ∷ cs) = cut_rows b c + changed_rows bs cs

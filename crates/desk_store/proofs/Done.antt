@@ -1,11 +1,12 @@
 -- What became of a command.
 use Rattle.std.proofs.Common.{◌≡◌, ◌⊎◌, ◌+◌, ℕ, Bool, true, false, length, inl, inr, ⊎_elim, refl, sym, ap, subst, ◌∙◌, arith}
 use Rattle.sector_device.specs.Disk.{Image}
-use Rattle.sector_device.specs.Moments.{LeavesOnly, leaves_more, leaves_now}
+use Rattle.sector_device.specs.Moments.{LeavesOnly}
+use Rattle.sector_device.proofs.Moments.{leaves_more, leaves_now}
 use Rattle.sector_device.specs.declared.SectorDevice.{Ghosts}
 use Rattle.gate_journal.specs.Store.{home}
 use Rattle.page_store.specs.Chain.{root_in, free_in}
-use Rattle.page_store.specs.Stops.{leaves_here, leaves_quiet}
+use Rattle.page_store.proofs.Stops.{leaves_here, leaves_quiet}
 use Rattle.page_store.specs.Transactions.{stored, count_of}
 use Rattle.page_btree.specs.Map.{Holds}
 use Rattle.desk_model.specs.declared.command.Command.{Command}

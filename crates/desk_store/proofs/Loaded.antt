@@ -4,7 +4,8 @@ use Rattle.std.specs.FinMap as map_of
 use Rattle.std.specs.FinMap.{get-empty, same_map, slice_cmp-IsAntisymmetric, nat_cmp-IsAntisymmetric}
 use Rattle.std.specs.Cmp.Lexicographic.{nat_list_cmp_total}
 use Rattle.sector_device.specs.Disk.{Disk}
-use Rattle.sector_device.specs.Moments.{LeavesOnly, leaves_wider}
+use Rattle.sector_device.specs.Moments.{LeavesOnly}
+use Rattle.sector_device.proofs.Moments.{leaves_wider}
 use Rattle.sector_device.specs.declared.SectorDevice.{Ghosts}
 use Rattle.gate_journal.specs.Store.{home}
 use Rattle.page_store.specs.Transactions.{disk_in, count_of, journal_of, has_halted, IsQuiet}

@@ -1,10 +1,11 @@
 -- Calls that commit, and calls that came to nothing.
 use Rattle.std.proofs.Common.{◌≡◌, ◌⊎◌, ◌<◌, ◌+◌, ℕ, Bool, true, false, inl, inr, ⊎_elim, refl, sym, subst, ◌∙◌}
 use Rattle.sector_device.specs.Disk.{Image}
-use Rattle.sector_device.specs.Moments.{LeavesOnly, leaves_now}
+use Rattle.sector_device.specs.Moments.{LeavesOnly}
+use Rattle.sector_device.proofs.Moments.{leaves_now}
 use Rattle.sector_device.specs.declared.SectorDevice.{Ghosts}
 use Rattle.gate_journal.specs.Store.{home}
-use Rattle.page_store.specs.Stops.{quiet_none}
+use Rattle.page_store.proofs.Stops.{quiet_none}
 use Rattle.page_store.specs.Transactions.{disk_in, HasShape, IsKept, IsQuiet}
 use Rattle.page_store.specs.declared.pages.Pages.{Pages}
 use Rattle.desk_model.specs.Desk.{Desk}

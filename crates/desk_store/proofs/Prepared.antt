@@ -8,7 +8,7 @@ use Rattle.page_store.specs.Transactions.{stored, disk_in, count_of, txn_pages, 
 use Rattle.page_store.specs.declared.pages.Pages.{Pages}
 use Rattle.page_store.specs.declared.txn.Txn.{Txn}
 use Rattle.page_store.specs.declared.txn.Prepared.{Prepared}
-use Rattle.page_btree.specs.Laws.{begun_holds}
+use Rattle.page_btree.proofs.Laws.{begun_holds}
 use Rattle.page_btree.specs.Map.{Holds, InTxn as TxnHas, InPages as HoldsRows}
 use Rattle.page_btree.specs.declared.error.TreeError.{TreeError}
 use Rattle.page_btree.specs.declared.error.TreeError.TheVariants.{DeviceFault, Halted, NoPages, TooDeep, Memory}
@@ -24,9 +24,9 @@ use Rattle.plan_table.specs.declared.change.Change.TheVariants.{Made, Spent}
 use Rattle.plan_revisions.specs.Steps.{HasStepped, IsStepped, LeavesNumbers, StepErr}
 use Rattle.desk_pages.specs.Commits.{HoldsAfter}
 use Rattle.desk_pages.specs.Desks.{HoldsDesk, InPages, InTxn}
-use Rattle.desk_pages.specs.Laws.{begun_desk}
+use Rattle.desk_pages.proofs.Laws.{begun_desk}
 use Rattle.plan_revisions.specs.Rows.{HasNumbers}
-use Rattle.plan_revisions.specs.Accepted.{rows_some, ground_stays}
+use Rattle.plan_revisions.proofs.Accepted.{rows_some, ground_stays}
 use Rattle.desk_store.specs.Clerks.{desk_of, disk_of, free_of, room_of, Keeps, Reads}
 use Rattle.desk_store.specs.declared.ready.Ready.{Ready}
 use Rattle.desk_store.specs.Commands.{command_of, after_of, written_of, IsReady, HoldsNext, IsPut, HasRoom, IsSpent, MustBeFull, MayBeFull}

@@ -8,8 +8,8 @@ use Rattle.page_btree.specs.Map.{InPages as HoldsRows}
 use Rattle.desk_model.specs.Geography.{Ground}
 use Rattle.desk_model.specs.Desk.{Desk}
 use Rattle.store_rows.specs.Keys.{RowKey, key_of, Fits, begun, seal, block, pair}
-use Rattle.store_rows.specs.RowLaws.{keys_differ}
-use Rattle.store_rows.specs.Frames.{remove_keeps}
+use Rattle.store_rows.proofs.RowLaws.{keys_differ}
+use Rattle.store_rows.proofs.Frames.{remove_keeps}
 use Rattle.store_rows.specs.Rows.{KeyMap, row_in}
 use Rattle.store_rows.specs.GeographyRows.{IsStaged}
 use Rattle.store_rows.specs.SweepLaws.{IsLeftover, take_rows, AreLeftovers}

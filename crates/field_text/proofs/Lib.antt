@@ -1,3 +1,4 @@
+pub mod WordLaws
 pub mod BufferLemmas
 pub mod DigitLemmas
 pub mod JudgedLemmas

@@ -5,7 +5,7 @@ use Rattle.std.proofs.lemmas.Bool.{false≢true, cases_lt}
 use Rattle.std.proofs.lemmas.List.{take_all, drop_all, drop-drop, take-take, take-append-drop, get_or-drop}
 use Rattle.std.proofs.lemmas.Slice.{between_is}
 use Rattle.field_text.specs.Words.{is_separator, words, AreSeparators, NoSeparator, IsWord, word_limit, CutsWord, CutsPart, CutsLong}
-use Rattle.field_text.specs.WordLaws.{words-none, words-separator, words-past, words-word, words-last}
+use Rattle.field_text.proofs.WordLaws.{words-none, words-separator, words-past, words-word, words-last}
 
 drop_here : (text : List ℕ) (n : ℕ) → n < length text → drop n text ≡ get_or text n 0 ∷ drop (n + 1) text
 drop_here text n inside = rw (add-one, drop-cons text n 0)

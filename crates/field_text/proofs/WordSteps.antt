@@ -5,7 +5,7 @@ use Rattle.std.proofs.lemmas.List.{append-nil}
 use Rattle.std.proofs.lemmas.List.Elements.{All-append}
 use Rattle.field_text.specs.Reading.{Reading}
 use Rattle.field_text.specs.Words.{is_separator, words, AreSeparators, IsWord, BeginsWithWord, BeginsWithLongWord, IsBrokenWord, GivesWord, CutsWord, CutsPart, CutsLong, TakesLastWord}
-use Rattle.field_text.specs.WordLaws.{words-none, words-past, words-word, words-last, words-goes_on}
+use Rattle.field_text.proofs.WordLaws.{words-none, words-past, words-word, words-last, words-goes_on}
 use Rattle.field_text.specs.declared.reader.WordStep.{WordStep}
 use Rattle.field_text.specs.declared.reader.WordStep.TheVariants.{Word, LastWord, End}
 use Rattle.field_text.proofs.ReadingLemmas.{Consumes-nothing, Consumes-then}

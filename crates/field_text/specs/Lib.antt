@@ -4,5 +4,4 @@ pub mod Fields
 pub mod Judged
 pub mod Lines
 pub mod Reading
-pub mod WordLaws
 pub mod Words

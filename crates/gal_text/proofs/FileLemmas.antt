@@ -5,7 +5,7 @@ use Rattle.std.proofs.lemmas.Bool.{lt-ltb}
 use Rattle.std.specs.Io.KnownBytes.{Consumes, IsAtEnd}
 use Rattle.std.specs.Str.Lines.{strip_carriage_return}
 use Rattle.field_text.specs.Words.{words}
-use Rattle.field_text.specs.WordLaws.{words-none}
+use Rattle.field_text.proofs.WordLaws.{words-none}
 use Rattle.field_text.specs.Reading.{Reading, NoLineFeed, BeginsWithLine, IsLastLine, IsTooLong, Gives, CountsFrom, line_limit, turn_limit}
 use Rattle.field_text.specs.declared.reader.ReadFault.{ReadFault}
 use Rattle.field_text.specs.declared.reader.ReadFault.TheVariants as read

@@ -1,3 +1,5 @@
+pub mod Contents
+pub mod Steps
 pub mod Images
 pub mod Commit
 mod Lists

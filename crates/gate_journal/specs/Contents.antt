@@ -29,10 +29,6 @@ module _ {D : Type 0} {g : Ghosts D} where
   abbrev pub is_halted : Journal D g → Bool
   is_halted j = j.halted
 
-  -- the image is one of this journal's store, and stands for these pages
-  abbrev pub OpensTo : Journal D g → Image → Image → Type 0
-  OpensTo j P c = Opens j.layout.journal_pages j.layout.pages P c
-
   -- each image that a stop now may leave stands for the pages
   abbrev pub IsKept : Journal D g → Type 0
   IsKept j = (c : Image) → (g.disk j.device).leaves c → Opens j.layout.journal_pages j.layout.pages (pages j.layout.journal_pages (g.disk j.device).reads) c

@@ -1,7 +1,7 @@
 -- What each step of a commit leaves.
 use Rattle.std.specs.Prelude.{◌≡◌, ◌≤◌, ◌<◌, ◌+◌, ℕ, List, [], length, Result, OnOk}
 use Rattle.std.proofs.Common.{get_or, zero, suc}
-use Rattle.sector_device.specs.Disk.{Disk, Touches, IsSynced, HasCause}
+use Rattle.sector_device.specs.Disk.{Disk, IsSynced, HasCause}
 use Rattle.sector_device.specs.Moments.{LeavesOnly}
 use Rattle.gate_journal.specs.Store.{overlay, pages, gate, list_word, Stages, IsSettled, IsBeforeOrAfter}
 
@@ -12,12 +12,6 @@ Span first n i = (first ≤ i) × (i < first + n)
 -- the copies of the first n writes
 abbrev pub HasCopies : ℕ → List (ℕ × List ℕ) → ℕ → Disk → Type 0
 HasCopies first ws n disk = (k : ℕ) → k < n → disk.reads (first + k) ≡ (get_or ws k (0, [])).1
-
--- nothing failed so far
-pub record SoFar (S : ℕ → Type 0) (Q : Disk → Type 0) (old new : Disk) : Type 0 where
-  pub touches : Touches S old new
-  pub passed : new.faults ≡ old.faults
-  pub done : Q new
 
 -- the pages from a sector on are those of old, overlaid by the writes
 abbrev pub HasHomes : ℕ → List (ℕ × List ℕ) → Disk → Disk → Type 0

@@ -16,12 +16,14 @@ use Rattle.page_btree.specs.declared.error.TreeError.TheVariants.{DeviceFault, H
 use Rattle.row_table.specs.Reading.{ReadErr}
 use Rattle.page_node.specs.Entries.{Entry}
 use Rattle.page_node.specs.Places.{key_cmp, Rises}
-use Rattle.btree_scan.specs.Prefixes.{head_rises, is_under, under}
-use Rattle.btree_scan.specs.Scanning.{Rest, none_to_come, IsNextRow, ScanErr, fault_in, has_ended, CanScan}
+use Rattle.btree_scan.specs.Prefixes.{is_under, under}
+use Rattle.btree_scan.proofs.Prefixes.{head_rises}
+use Rattle.btree_scan.specs.Scanning.{Rest, IsNextRow, ScanErr, fault_in, has_ended, CanScan}
+use Rattle.btree_scan.proofs.Scanning.{none_to_come}
 use Rattle.btree_scan.specs.declared.rows.Row.{Row}
 use Rattle.btree_scan.specs.declared.scans.Scan.{Scan}
 use Rattle.store_rows.specs.Rows.{KeyMap}
-use Rattle.store_rows.specs.Frames.{differs, itself}
+use Rattle.store_rows.proofs.Frames.{differs, itself}
 use Rattle.geo_tables.specs.Following.{AreIn, IsTaken, Scans}
 
 first_so : (b c : Bool) → (b && c) ≡ true → b ≡ true

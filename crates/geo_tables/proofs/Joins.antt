@@ -2,11 +2,12 @@
 use Rattle.std.proofs.Common.{◌≡◌, ◌+◌, ◌*◌, ◌≤◌, ℕ, length, false, sym, subst, ◌∙◌, inl, ⊎_elim, arith}
 use Rattle.std.specs.Prelude.{◌⊎◌}
 use Rattle.sector_device.specs.Disk.{Disk, Image}
-use Rattle.sector_device.specs.Moments.{LeavesOnly, leaves_more, leaves_wider}
+use Rattle.sector_device.specs.Moments.{LeavesOnly}
+use Rattle.sector_device.proofs.Moments.{leaves_more, leaves_wider}
 use Rattle.sector_device.specs.declared.SectorDevice.{Ghosts}
 use Rattle.gate_journal.specs.Store.{home}
 use Rattle.page_store.specs.Chain.{free_in, root_in}
-use Rattle.page_store.specs.Stops.{leaves_here, leaves_quiet}
+use Rattle.page_store.proofs.Stops.{leaves_here, leaves_quiet}
 use Rattle.page_store.specs.Transactions.{stored, disk_in, count_of, journal_of, has_halted, txn_free, HasFailed, HasShape, IsQuiet, Passed}
 use Rattle.page_store.specs.declared.pages.Pages.{Pages}
 use Rattle.page_store.specs.declared.txn.Txn.{Txn}

@@ -1,3 +1,5 @@
+pub mod LoadRows
+pub mod Staging
 mod Along
 mod RowAfterRow
 mod Grounds

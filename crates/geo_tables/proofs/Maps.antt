@@ -20,8 +20,8 @@ use Rattle.store_rows.proofs.TidyLoads.{begun_tidy, begun_unstaged, sealed_tidy,
 use Rattle.store_rows.proofs.PutAll.{told_all}
 use Rattle.geo_tables.specs.Rows.{begun_rows, staged_row, staged_rows}
 use Rattle.geo_tables.specs.Loads.{sealed_rows}
-use Rattle.geo_tables.specs.LoadRows.{begun_desk, batch_tag, batch_unseen, sealed_desk}
-use Rattle.geo_tables.specs.Staging.{is_block, is_pair}
+use Rattle.geo_tables.proofs.LoadRows.{begun_desk, batch_tag, batch_unseen, sealed_desk}
+use Rattle.geo_tables.proofs.Staging.{is_block, is_pair}
 use Rattle.desk_pages.specs.Desks.{IsDeskMap}
 
 -- ---- what a desk's map says of the seal

@@ -6,7 +6,7 @@ use Rattle.sector_device.specs.Disk.{Image}
 use Rattle.sector_device.specs.declared.SectorDevice.{Ghosts}
 use Rattle.page_store.specs.Transactions.{stored, disk_in, journal_of, has_halted, txn_free, txn_root, txn_writes, over, IsQuiet, Passed}
 use Rattle.page_store.specs.Chain.{free_in}
-use Rattle.page_store.specs.Stops.{quiet_more}
+use Rattle.page_store.proofs.Stops.{quiet_more}
 use Rattle.page_store.specs.declared.error.PageError.{PageError}
 use Rattle.page_store.specs.declared.error.PageError.TheVariants as page
 use Rattle.page_store.specs.declared.pages.Pages.{Pages}
@@ -21,7 +21,8 @@ use Rattle.store_rows.specs.Keys.{key_of, seal}
 use Rattle.store_rows.specs.Values.{seal_bytes}
 use Rattle.store_rows.specs.declared.value.SealRow.{SealRow}
 use Rattle.store_rows.specs.Rows.{KeyMap, Lacks}
-use Rattle.store_rows.specs.Puts.{Row, put_rows, length-rows_told}
+use Rattle.store_rows.specs.Puts.{Row, put_rows}
+use Rattle.store_rows.proofs.Puts.{length-rows_told}
 use Rattle.store_rows.specs.GeographyRows.{IsGeography}
 use Rattle.row_table.specs.Puts.{PutsErr}
 use Rattle.row_table.specs.Reading.{HasNext, ReadErr, StandsAs}

@@ -10,14 +10,15 @@ use Rattle.desk_model.specs.Desk.{Desk}
 use Rattle.store_rows.specs.Keys.{begun, seal}
 use Rattle.store_rows.specs.declared.value.Counters.{Counters}
 use Rattle.store_rows.specs.Rows.{KeyMap, Has, Lacks}
-use Rattle.store_rows.specs.Puts.{Row, put_rows, length-rows_told}
+use Rattle.store_rows.specs.Puts.{Row, put_rows}
+use Rattle.store_rows.proofs.Puts.{length-rows_told}
 use Rattle.store_rows.specs.Changes.{desk_with}
 use Rattle.store_rows.specs.GeographyRows.{IsStaged, geography_rows}
 use Rattle.store_rows.specs.Tidy.{IsNext, CountersFit}
 use Rattle.row_table.specs.Puts.{HasPut}
 use Rattle.geo_tables.specs.Rows.{begun_rows, staged_row, staged_rows}
 use Rattle.geo_tables.specs.Loads.{HasBegun, HasSealed, sealed_rows}
-use Rattle.geo_tables.specs.LoadRows.{begun_mark, begun_unsealed}
+use Rattle.geo_tables.proofs.LoadRows.{begun_mark, begun_unsealed}
 use Rattle.geo_tables.specs.Staging.{Stages}
 use Rattle.desk_pages.specs.Desks.{InTxn, InPages}
 use Rattle.geo_tables.specs.declared.load.Load.{Load}

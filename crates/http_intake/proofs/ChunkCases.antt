@@ -11,8 +11,8 @@ use Rattle.http_intake.specs.declared.chunk_fault.Fault.TheVariants.{BadHead, He
 use Rattle.http_intake.specs.Lines.{section_lines}
 use Rattle.http_intake.specs.Limits.{window, body_limit}
 use Rattle.http_intake.specs.Chunks.{line_window, HasLine, RefusesLine, IsOpenLine, HasTrailers, RefusesTrailers, AreOpenTrailers, HasChunk, HasChunks, HasChunkFault, LacksChunks, HasLastLine, HasDataLine, IsNoEnd, IsOpenEnd, AreNoChunks}
-use Rattle.http_intake.specs.Fronts.{window_rest, window_short, either_front}
-use Rattle.http_intake.specs.LineLemmas.{lines_of_section, section_lines_grow}
+use Rattle.http_intake.proofs.Fronts.{window_rest, window_short, either_front}
+use Rattle.http_intake.proofs.LineLemmas.{lines_of_section, section_lines_grow}
 use Rattle.http_intake.proofs.ChunkLookLemmas.{section_overflows_at, some_line}
 
 -- ---- trailers

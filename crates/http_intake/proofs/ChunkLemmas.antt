@@ -8,7 +8,7 @@ use Rattle.http_intake.specs.declared.chunk_fault.Fault.{Fault}
 use Rattle.http_intake.specs.declared.chunk_fault.Fault.TheVariants.{BadHead, HeadTooLarge, BadHost, BadLength, BadCoding, BodyTooLarge, BadTarget, BadChunk}
 use Rattle.http_intake.specs.Limits.{window, body_limit}
 use Rattle.http_intake.specs.Chunks.{line_window, HasLine, HasTrailers, HasChunk, HasLastLine, HasDataLine, HasChunks, RefusesLine, RefusesTrailers, IsNoEnd, HasTooManyTrailers, AreTooLong, IsOpenLine, IsOpenEnd, AreOpenTrailers, HasChunkFault, LacksChunks, ReachesTrailers, HasTwoFaults}
-use Rattle.http_intake.specs.Fronts.{same_cut, window_rest}
+use Rattle.http_intake.proofs.Fronts.{same_cut, window_rest}
 
 -- a line within its limit stands where one is looked for
 line_in_window : (input : List ℕ) (l : ChunkLine) (rest : List ℕ) → HasLine input l rest → (r : List ℕ) × ReadsChunkLine (line_window input) l r

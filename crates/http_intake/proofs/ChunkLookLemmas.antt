@@ -12,8 +12,8 @@ use Rattle.http_intake.specs.Lines.{section_lines}
 use Rattle.http_intake.specs.Chunks.{HasTrailers, IsOpenEnd, line_window}
 use Rattle.http_intake.specs.declared.chunk_line.Line.{Line}
 use Rattle.http_intake.specs.ChunkParts.{IsLineAt}
-use Rattle.http_intake.specs.Fronts.{front_of_front, take_min}
-use Rattle.http_intake.specs.LineLemmas.{fields_lines, lines_of_section, section_lines_grow}
+use Rattle.http_intake.proofs.Fronts.{front_of_front, take_min}
+use Rattle.http_intake.proofs.LineLemmas.{fields_lines, lines_of_section, section_lines_grow}
 
 pub line_window_is : (bytes : List ℕ) (n : ℕ) → n ≡ min (length bytes) 256 → take n bytes ≡ line_window bytes
 line_window_is bytes n e = take_min 256 bytes n e

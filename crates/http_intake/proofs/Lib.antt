@@ -1,3 +1,6 @@
+pub mod DrawsLemmas
+pub mod Fronts
+pub mod LineLemmas
 mod InboxLemmas
 mod BodyLemmas
 mod LookLemmas

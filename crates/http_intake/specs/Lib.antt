@@ -1,11 +1,8 @@
 pub mod Budget
 pub mod Body
 pub mod Draws
-pub mod DrawsLemmas
 pub mod Lines
 pub mod Limits
-pub mod LineLemmas
-pub mod Fronts
 pub mod Chunks
 pub mod Chunked
 pub mod ChunkParts

@@ -12,9 +12,9 @@ use Rattle.http_intake.specs.Limits.{window}
 use Rattle.http_wire.specs.Target.{target_of}
 use Rattle.http_wire.specs.Front.{HasHead, HasMessage, RefusesBytes, IsOpen, HasBody, IsFaulty, Lacks, judged_head, is_head}
 use Rattle.http_wire.specs.Law.{IsNoFront}
-use Rattle.http_intake.specs.Fronts.{window_rest, window_short, either_front}
+use Rattle.http_intake.proofs.Fronts.{window_rest, window_short, either_front}
 use Rattle.http_intake.specs.Chunks.{ChunkLaw}
-use Rattle.http_intake.specs.LineLemmas.{lines_of_head, head_lines_grow}
+use Rattle.http_intake.proofs.LineLemmas.{lines_of_head, head_lines_grow}
 use Rattle.http_wire.proofs.LookLemmas.{overflows_at}
 
 -- ---- a head

@@ -9,7 +9,7 @@ use Rattle.http_intake.specs.Limits.{window}
 use Rattle.http_wire.specs.Front.{HasHead, HasMessage, HasRequest, IsNoHead, IsTooLong, HasTooManyLines, RefusesBytes, RefusesHead, RefusesBody, RefusesTarget, HasFault, HasBody, Lacks, IsFaulty, IsOpen, LacksBody, IsIncomplete, judged_head, is_head}
 use Rattle.http_intake.specs.Chunks as chunks
 use Rattle.http_intake.specs.Chunks.{ChunkLaw}
-use Rattle.http_intake.specs.Fronts.{window_rest, same_cut}
+use Rattle.http_intake.proofs.Fronts.{window_rest, same_cut}
 use Rattle.http_wire.specs.Law.{HasTwoHeadFaults, HasTwoBodyFaults, HasTwoFaults}
 use Rattle.http_wire.specs.declared.head.Framing.{Framing}
 use Rattle.http_wire.specs.declared.head.Framing.TheVariants.{Sized, Chunked}

@@ -7,7 +7,7 @@ use Rattle.http_wire.specs.declared.head.Framing.{Framing}
 use Rattle.http_wire.specs.declared.head.Framing.TheVariants.{Sized, Chunked}
 use Rattle.http_wire.specs.declared.look.Head.{Head}
 use Rattle.http_intake.specs.Chunks.{ChunkLaw}
-use Rattle.http_intake.specs.Fronts.{same_cut}
+use Rattle.http_intake.proofs.Fronts.{same_cut}
 use Rattle.http_intake.specs.Lines.{IsWithinLine}
 use Rattle.http_intake.specs.Draws.{IsPutOff}
 use Rattle.http_wire.specs.Front.{HasHead, HasFault, Lacks, IsOpen, IsIncomplete, RefusesFront, judged_head}

@@ -1,3 +1,4 @@
+pub mod TargetTexts
 mod FieldLemmas
 mod TargetLemmas
 mod ConnectionLemmas

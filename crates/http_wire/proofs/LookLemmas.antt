@@ -16,8 +16,8 @@ use Rattle.http_wire.specs.declared.look.Head.{Head}
 use Rattle.http_wire.specs.declared.look.Refusal.{Refusal}
 use Rattle.http_intake.specs.declared.sought.Seen.{Seen}
 use Rattle.http_intake.specs.declared.sought.Seen.TheVariants.{Found, Refused, Wanting}
-use Rattle.http_intake.specs.Fronts.{front_of_front}
-use Rattle.http_intake.specs.LineLemmas.{lines_of_head, cut_head, head_lines_grow}
+use Rattle.http_intake.proofs.Fronts.{front_of_front}
+use Rattle.http_intake.proofs.LineLemmas.{lines_of_head, cut_head, head_lines_grow}
 
 -- a span of a front is one of the whole
 span_front : (bytes : List ℕ) (n : ℕ) (s : Span) → s.end ≤ n → span_bytes (take n bytes) s ≡ span_bytes bytes s

@@ -16,9 +16,9 @@ use Rattle.http_intake.specs.Lines.{head_lines}
 use Rattle.http_intake.specs.Chunks.{ChunkLaw}
 use Rattle.http_wire.specs.declared.head.Framing.{Framing}
 use Rattle.http_wire.specs.declared.head.Framing.TheVariants.{Sized, Chunked}
-use Rattle.http_intake.specs.Fronts.{window_grows, window_full}
+use Rattle.http_intake.proofs.Fronts.{window_grows, window_full}
 use Rattle.http_wire.proofs.FrontLemmas.{bytes_are}
-use Rattle.http_intake.specs.LineLemmas.{head_lines_grow}
+use Rattle.http_intake.proofs.LineLemmas.{head_lines_grow}
 use Rattle.http_wire.proofs.RequestLemmas.{head_before}
 
 never_grows : (w y : List ℕ) → NeverHasRequest w → NeverHasRequest (w ++ y)

@@ -9,4 +9,3 @@ pub mod Look
 pub mod Incoming
 pub mod Plain
 pub mod Target
-pub mod TargetTexts

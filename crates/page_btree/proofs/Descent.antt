@@ -9,7 +9,7 @@ use Rattle.sector_device.specs.Disk.{Image}
 use Rattle.page_node.specs.Entries.{Entry, IsEntry, child_bytes, child_in}
 use Rattle.page_node.specs.Node.{Node, IsNode}
 use Rattle.page_node.specs.Places.{key_cmp, Rises, floor, ceiling}
-use Rattle.page_node.specs.Laws.{child_written, flip_less}
+use Rattle.page_node.proofs.Laws.{child_written, flip_less}
 use Rattle.page_btree.specs.Keys.{IsBetween}
 use Rattle.page_btree.specs.Tree.{Tree, Forest, leaf, inner, one, more, page_of, first_key, links, rows, forest_rows, owns, forest_owns, IsTree, AreTrees}
 use Rattle.page_btree.specs.Getting.{CanGet, IsLevel}

@@ -8,7 +8,7 @@ use Rattle.page_store.specs.Chain.{IsIn, AreFree}
 use Rattle.page_node.specs.Entries.{Entry, key_at, child_bytes, child_in}
 use Rattle.page_node.specs.Node.{Node, IsNode}
 use Rattle.page_node.specs.Places.{key_cmp, floor}
-use Rattle.page_node.specs.Laws.{child_written}
+use Rattle.page_node.proofs.Laws.{child_written}
 use Rattle.page_btree.specs.Keys.{IsBetween}
 use Rattle.page_btree.specs.Tree.{Tree, Forest, leaf, inner, one, page_of, rows, links, forest_owns}
 use Rattle.page_btree.specs.Map.{IsSound}

@@ -14,7 +14,7 @@ use Rattle.std.proofs.lemmas.Cmp.{tied_itself}
 use Rattle.std.proofs.lemmas.List.Edits.{get_or-remove_below, get_or-remove_above}
 use Rattle.page_node.specs.Entries.{Entry, key_at, value_at, size_of}
 use Rattle.page_node.specs.Places.{key_cmp, Rises, IsFound, IsGap}
-use Rattle.page_node.specs.Laws.{gap_put, gap_find}
+use Rattle.page_node.proofs.Laws.{gap_put, gap_find}
 use Rattle.page_btree.specs.Keys.{KeyMap}
 use Rattle.page_btree.specs.Removing.{unlinked, unlinked_from}
 

@@ -4,7 +4,7 @@ use Rattle.std.specs.Prelude.{Result, Option, Some, None, IfOk, IfSome}
 use Rattle.sector_device.specs.Disk.{Image}
 use Rattle.sector_device.specs.declared.SectorDevice.{Ghosts}
 use Rattle.page_store.specs.Transactions.{stored, disk_in, txn_pages, txn_root, over, free_over, IsQuiet, Passed}
-use Rattle.page_store.specs.Stops.{failed_more}
+use Rattle.page_store.proofs.Stops.{failed_more}
 use Rattle.page_store.specs.declared.pages.Pages.{Pages}
 use Rattle.page_store.specs.declared.txn.Txn.{Txn}
 use Rattle.page_node.specs.Entries.{Entry}

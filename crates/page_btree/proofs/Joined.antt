@@ -3,7 +3,7 @@ use Rattle.std.proofs.Common.{◌≡◌, ◌⊎◌, ◌<◌, ◌+◌, ◌++◌, 
 use Rattle.std.specs.Prelude.{Option, Some}
 use Rattle.sector_device.specs.Disk.{Image}
 use Rattle.page_node.specs.Entries.{Entry, child_bytes}
-use Rattle.page_node.specs.Laws.{less_trans}
+use Rattle.page_node.proofs.Laws.{less_trans}
 use Rattle.page_btree.specs.Keys.{Parts}
 use Rattle.page_btree.specs.Tree.{Forest, one, more, page_of, first_key, links, forest_rows, rows, forest_owns, forest_size, IsTree, AreTrees, AreApart}
 use Rattle.page_btree.proofs.Rows.{wider_under}

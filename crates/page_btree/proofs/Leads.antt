@@ -10,7 +10,7 @@ use Rattle.page_store.specs.declared.pages.Pages.{Pages}
 use Rattle.page_store.specs.declared.txn.Txn.{Txn}
 use Rattle.page_node.specs.Entries.{Entry, child_in}
 use Rattle.page_node.specs.Node.{Node, IsNode}
-use Rattle.page_node.specs.Laws.{node_unique}
+use Rattle.page_node.proofs.Laws.{node_unique}
 use Rattle.page_node.specs.Places.{Rises, floor}
 use Rattle.page_node.specs.Searching.{RisesBehind}
 use Rattle.page_btree.specs.Keys.{KeyMap}
@@ -20,9 +20,11 @@ use Rattle.page_btree.specs.Errors.{PutErr, RemoveErr, IsNoWant}
 use Rattle.page_btree.specs.Getting.{CanGet, CanGetAt, ReadsErr}
 use Rattle.page_btree.specs.Leading.{LeadsTo, CanLead}
 use Rattle.page_btree.specs.Putting.{IsRaised, CanPut}
-use Rattle.page_btree.specs.Fitting.{IsLeafPut, nothing}
+use Rattle.page_btree.specs.Fitting.{IsLeafPut}
+use Rattle.page_btree.proofs.Fitting.{nothing}
 use Rattle.page_btree.specs.Removing.{CanRemove, Removes}
-use Rattle.page_btree.specs.Sparing.{IsLeafTaken, did_take}
+use Rattle.page_btree.specs.Sparing.{IsLeafTaken}
+use Rattle.page_btree.proofs.Sparing.{did_take}
 use Rattle.page_btree.specs.declared.error.TreeError.{TreeError}
 use Rattle.page_btree.specs.declared.error.TreeError.TheVariants.{DeviceFault, Halted, NoPages, TooDeep, Memory}
 use Rattle.page_btree.proofs.Tops.{rooted, can_get, at_root}

@@ -1,3 +1,7 @@
+pub mod Fitting
+pub mod Laws
+pub mod Removing
+pub mod Sparing
 pub mod Images
 pub mod Linking
 pub mod Placing

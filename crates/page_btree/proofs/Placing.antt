@@ -6,7 +6,7 @@ use Rattle.page_node.specs.Entries.{Entry, key_at, value_at, size_of}
 use Rattle.page_node.specs.Node.{Node, IsNode, Fits}
 use Rattle.page_node.specs.Places.{key_cmp, Rises, IsFound, IsGap}
 use Rattle.page_btree.specs.Putting.{linked}
-use Rattle.page_node.specs.Laws.{node_unique, found_put, gap_put, found_find, gap_find}
+use Rattle.page_node.proofs.Laws.{node_unique, found_put, gap_put, found_find, gap_find}
 
 some_is : (x y : List ℕ) → Some x ≡ Some y → x ≡ y
 some_is x y e = ap (λ (o : Option (List ℕ)). or_none o) e

@@ -4,7 +4,7 @@ use Rattle.sector_device.specs.Disk.{Image}
 use Rattle.sector_device.specs.declared.SectorDevice.{Ghosts}
 use Rattle.page_store.specs.Chain.{IsIn, AreFree}
 use Rattle.page_store.specs.Transactions.{stored, disk_in, txn_pages, free_over, IsQuiet, Passed, ReadErr}
-use Rattle.page_store.specs.Stops.{failed_more}
+use Rattle.page_store.proofs.Stops.{failed_more}
 use Rattle.page_store.specs.declared.error.PageError.{PageError}
 use Rattle.page_store.specs.declared.error.PageError.TheVariants as page
 use Rattle.page_store.specs.declared.pages.Pages.{Pages}

@@ -10,13 +10,14 @@ use Rattle.page_store.specs.Chain.{IsIn, AreFree}
 use Rattle.page_node.specs.Entries.{Entry, value_at, child_bytes}
 use Rattle.page_node.specs.Node.{IsNode}
 use Rattle.page_node.specs.Places.{key_cmp, Rises, IsFound, floor}
-use Rattle.page_node.specs.Laws.{less_trans}
+use Rattle.page_node.proofs.Laws.{less_trans}
 use Rattle.page_btree.specs.Keys.{IsBetween, IsUnder, Parts}
 use Rattle.page_btree.specs.Tree.{Tree, Forest, leaf, inner, one, more, page_of, first_key, links, rows, forest_rows, owns, forest_owns, IsTree, AreTrees, IsApart, AreApart}
-use Rattle.page_btree.specs.Removing.{IsRemoved, AreRemoved, links_left, unlinked}
+use Rattle.page_btree.specs.Removing.{IsRemoved, AreRemoved, unlinked}
+use Rattle.page_btree.proofs.Removing.{links_left}
 use Rattle.page_btree.proofs.Rows.{Each, all_map, wider_under, put_left, put_right, find_left, find_right, key_before}
 use Rattle.page_btree.proofs.Within.{AreBetween, wider_high, wider_low, rows_behind, rows_before}
-use Rattle.page_btree.specs.Laws.{tree_same, trees_same}
+use Rattle.page_btree.proofs.Laws.{tree_same, trees_same}
 use Rattle.page_btree.proofs.Edits.{put_remove, none_removed, all_unput, rises_unput}
 
 -- ---- wider bounds

@@ -11,7 +11,7 @@ use Rattle.sector_device.specs.Disk.{Image}
 use Rattle.page_node.specs.Node.{Node, IsNode}
 use Rattle.page_node.specs.Places.{key_cmp, Rises}
 use Rattle.page_node.specs.Searching.{RisesBehind}
-use Rattle.page_node.specs.Laws.{node_unique}
+use Rattle.page_node.proofs.Laws.{node_unique}
 use Rattle.page_btree.specs.Tree.{Tree, Forest, leaf, inner, one, more, page_of, first_key, links, IsTree, AreTrees}
 use Rattle.page_btree.specs.Getting.{CanGet}
 use Rattle.page_btree.specs.Putting.{CanPut}

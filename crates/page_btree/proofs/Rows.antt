@@ -11,7 +11,7 @@ use Rattle.std.specs.FinMap.Entries.{by_order, below_all, is_sorted-put}
 use Rattle.std.proofs.lemmas.Cmp.{tied_itself}
 use Rattle.page_node.specs.Entries.{Entry}
 use Rattle.page_node.specs.Places.{key_cmp, Rises}
-use Rattle.page_node.specs.Laws.{flip_less, flip_greater, less_trans, same_key}
+use Rattle.page_node.proofs.Laws.{flip_less, flip_greater, less_trans, same_key}
 use Rattle.page_btree.specs.Keys.{IsUnder}
 
 -- each key has this order to one

@@ -12,7 +12,7 @@ use Rattle.std.proofs.lemmas.List.Elements.{filter-append}
 use Rattle.sector_device.specs.Disk.{Image}
 use Rattle.page_node.specs.Entries.{Entry}
 use Rattle.page_node.specs.Places.{key_cmp, is_from, entries_from}
-use Rattle.page_node.specs.Laws.{flip_less, flip_greater, less_trans, same_key}
+use Rattle.page_node.proofs.Laws.{flip_less, flip_greater, less_trans, same_key}
 use Rattle.std.specs.FinMap.{entries}
 use Rattle.page_btree.specs.Keys.{KeyMap, IsBetween, IsUnder}
 use Rattle.page_btree.specs.Map.{IsRooted}

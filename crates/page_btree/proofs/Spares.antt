@@ -8,7 +8,7 @@ use Rattle.page_store.specs.Transactions.{stored, disk_in, txn_list, IsWritten, 
 use Rattle.gate_journal.specs.Writes.{IsEdited}
 use Rattle.gate_journal.proofs.Images.{put_on, put_off}
 use Rattle.page_node.specs.Spots.{IsSpareTaken}
-use Rattle.page_store.specs.Stops.{failed_more}
+use Rattle.page_store.proofs.Stops.{failed_more}
 use Rattle.page_store.specs.declared.pages.Pages.{Pages}
 use Rattle.page_store.specs.declared.txn.Txn.{Txn}
 use Rattle.page_node.specs.Entries.{Entry}
@@ -19,7 +19,8 @@ use Rattle.page_btree.specs.Map.{IsSound, InTxn}
 use Rattle.page_btree.specs.Errors.{RemoveErr}
 use Rattle.page_btree.specs.Removing.{IsRemoved, CanRemove, RemovesAt, Removes, BelowErr}
 use Rattle.page_btree.specs.Fitting.{IsAlike, LeafErr}
-use Rattle.page_btree.specs.Sparing.{TakesRow, IsLeafTaken, did_take}
+use Rattle.page_btree.specs.Sparing.{TakesRow, IsLeafTaken}
+use Rattle.page_btree.proofs.Sparing.{did_take}
 use Rattle.page_btree.specs.declared.removes.Removed.TheVariants.{Kept}
 use Rattle.page_btree.specs.declared.error.TreeError.{TreeError}
 use Rattle.page_btree.specs.declared.error.TreeError.TheVariants.{DeviceFault, Halted, NoPages, TooDeep, Memory}

@@ -14,7 +14,8 @@ use Rattle.page_btree.specs.Keys.{IsBetween}
 use Rattle.page_btree.specs.Tree.{Tree, Forest, leaf, inner, one, more, IsTree, page_of, links, rows, owns}
 use Rattle.page_btree.specs.Map.{IsSound}
 use Rattle.page_btree.specs.Getting.{CanGet, IsLevel}
-use Rattle.page_btree.specs.Removing.{IsRemoved, AreRemoved, CanRemove, RemovesAt, Removes, RowRemoves, IsPutBack, IsDone, StaysAt, unlinked, links_left}
+use Rattle.page_btree.specs.Removing.{IsRemoved, AreRemoved, CanRemove, RemovesAt, Removes, RowRemoves, IsPutBack, IsDone, StaysAt, unlinked}
+use Rattle.page_btree.proofs.Removing.{links_left}
 use Rattle.page_btree.specs.declared.removes.Removed.{Removed}
 use Rattle.page_btree.specs.declared.removes.Removed.TheVariants.{Absent, Kept, Emptied}
 use Rattle.page_btree.proofs.Refusals.{HasRows}

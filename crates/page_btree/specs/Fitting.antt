@@ -1,5 +1,5 @@
 -- What a put needs that edits a leaf alone.
-use Rattle.std.specs.Prelude.{◌≡◌, ◌⊎◌, ℕ, Bool, List, [], true, is_some}
+use Rattle.std.specs.Prelude.{◌≡◌, ◌⊎◌, ℕ, Bool, List, true, is_some}
 use Rattle.std.specs.FinMap.{find, put}
 use Rattle.sector_device.specs.Disk.{Image}
 use Rattle.sector_device.specs.declared.SectorDevice.{Ghosts}
@@ -8,15 +8,11 @@ use Rattle.page_store.specs.Chain.{IsIn}
 use Rattle.page_store.specs.declared.pages.Pages.{Pages}
 use Rattle.page_store.specs.declared.txn.Txn.{Txn}
 use Rattle.page_node.specs.Entries.{Entry}
-use Rattle.page_node.specs.Node.{Node, IsNode}
+use Rattle.page_node.specs.Node.{IsNode}
 use Rattle.page_node.specs.Places.{key_cmp, Rises}
 use Rattle.page_btree.specs.Putting.{IsWhole}
 use Rattle.page_btree.specs.declared.error.TreeError.{TreeError}
 use Rattle.page_btree.specs.declared.error.TreeError.TheVariants.{DeviceFault, Halted, NoPages, TooDeep, Memory}
-
--- a leaf without rows, where a node says nothing
-abbrev pub nothing : Node
-nothing = record { level = 0; entries = [] }
 
 -- what a transaction reads, takes and writes is the same
 pub record IsAlike (old new : Txn) : Type 0 where

@@ -3,7 +3,6 @@ pub mod Tree
 pub mod Map
 pub mod Errors
 pub mod Putting
-pub mod Laws
 pub mod Getting
 pub mod Leading
 pub mod Removing

@@ -12,7 +12,7 @@ use Rattle.page_node.specs.Entries.{Entry}
 use Rattle.page_node.specs.Node.{Node, IsNode}
 use Rattle.page_node.specs.Places.{key_cmp, IsFound, Rises}
 use Rattle.page_btree.specs.Keys.{IsBetween, Parts}
-use Rattle.page_btree.specs.Tree.{Tree, Forest, IsTree, AreTrees, IsApart, AreApart, page_of, first_key, links, rows, owns, size, forest_rows, forest_owns, forest_size}
+use Rattle.page_btree.specs.Tree.{Tree, Forest, IsTree, AreTrees, IsApart, AreApart, page_of, first_key, rows, owns, size, forest_rows, forest_owns, forest_size}
 use Rattle.page_btree.specs.Map.{IsSound}
 use Rattle.page_btree.specs.declared.error.TreeError.{TreeError}
 use Rattle.page_btree.specs.declared.error.TreeError.TheVariants.{DeviceFault, Halted, NoPages, TooDeep, Memory}
@@ -47,10 +47,6 @@ forest_owns_left (Some f) q = forest_owns f q
 abbrev pub forest_size_left : Option Forest → ℕ
 forest_size_left None = 0
 forest_size_left (Some f) = forest_size f
-
-abbrev pub links_left : Option Forest → List Entry
-links_left None = []
-links_left (Some f) = links f
 
 -- the first child is the same, or gone and then the others stand from the next one's key on
 abbrev pub ForestLeft : Image → ℕ → List ℕ → Option (List ℕ) → List ℕ → Option Forest → Type 0

@@ -8,12 +8,6 @@ use Rattle.page_store.specs.declared.txn.Txn.{Txn}
 use Rattle.page_node.specs.Entries.{Entry}
 use Rattle.page_node.specs.Node.{IsNode}
 use Rattle.page_node.specs.Places.{key_cmp, Rises, IsFound}
-use Rattle.page_btree.specs.declared.removes.Removed.{Removed}
-use Rattle.page_btree.specs.declared.removes.Removed.TheVariants.{Absent, Kept}
-
-abbrev pub did_take : Bool → Removed
-did_take true = Kept
-did_take false = Absent
 
 -- a row was taken out of the leaf at a page, where there is one, or its key isn't there
 abbrev pub TakesRow : Txn → Txn → Image → ℕ → List ℕ → List Entry → Bool → Type 0

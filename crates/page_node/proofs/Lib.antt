@@ -1,3 +1,7 @@
+pub mod EntryLists
+pub mod Laws
+pub mod Node
+pub mod Walking
 pub mod Standing
 pub mod Scanning
 pub mod Editing

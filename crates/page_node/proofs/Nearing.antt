@@ -7,7 +7,7 @@ use Rattle.std.specs.declared.cmp.Ordering.TheVariants.{Less, Equal, Greater}
 use Rattle.page_node.specs.Entries.{Entry, key_at, value_at}
 use Rattle.page_node.specs.Places.{key_cmp}
 use Rattle.page_node.specs.Searching.{IsLast, RisesBehind}
-use Rattle.page_node.specs.Laws.{rises_at, less_trans, same_key}
+use Rattle.page_node.proofs.Laws.{rises_at, less_trans, same_key}
 use Rattle.page_node.specs.Bytes.{LiesAt}
 use Rattle.page_node.proofs.Scanning.{IsEntryOf, end_there, value_part}
 

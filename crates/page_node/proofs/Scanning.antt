@@ -6,7 +6,7 @@ use Rattle.std.proofs.lemmas.List.{take_all, drop-drop, take-append-le, drop-app
 use Rattle.std.proofs.lemmas.List.Elements.{All-more, All-nil, All-same}
 use Rattle.std.proofs.Math.Seq.{take-add}
 use Rattle.page_node.specs.Entries.{Entry, IsEntry, key_at, value_at, entry_bytes, entry_size, body_of, size_of, first_of, behind, read_from, key_length, value_length}
-use Rattle.page_node.specs.EntryLists.{body-append, length-body, length-read, value_length-entry, first-entry, read_at, size-take_more, drop_three}
+use Rattle.page_node.proofs.EntryLists.{body-append, length-body, length-read, value_length-entry, first-entry, read_at, size-take_more, drop_three}
 use Rattle.page_node.specs.Node.{Node, IsNode, count_in}
 use Rattle.page_node.specs.Held.{held_node, IsHeld}
 use Rattle.page_node.specs.Bytes.{LiesAt, LiesNot}

@@ -4,7 +4,7 @@ use Rattle.std.specs.List.{All}
 use Rattle.std.proofs.lemmas.List.{length-take-le, length-drop}
 use Rattle.std.proofs.lemmas.List.Elements.{All-head, All-tail}
 use Rattle.page_node.specs.Entries.{Entry, IsEntry, size_of, read_from}
-use Rattle.page_node.specs.EntryLists.{size-parts}
+use Rattle.page_node.proofs.EntryLists.{size-parts}
 use Rattle.page_node.proofs.Standing.{Stands, nothing, entries_are, size_is}
 use Rattle.page_node.proofs.Editing.{left_stands, right_stands, mark_step}
 

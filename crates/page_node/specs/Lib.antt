@@ -1,6 +1,4 @@
 pub mod Entries
-pub mod EntryLists
-pub mod Laws
 pub mod Node
 pub mod Held
 pub mod Bytes

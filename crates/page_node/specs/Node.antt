@@ -5,7 +5,7 @@
 use Rattle.std.specs.Prelude.{◌≡◌, ◌≤◌, ◌<◌, ◌+◌, ◌-◌, ◌*◌, ◌/◌, ◌%◌, ℕ, List, ◌∷◌, ◌++◌, length, take, drop, replicate}
 use Rattle.std.specs.List.{All}
 use Rattle.std.proofs.Common.{get_or}
-use Rattle.page_node.specs.Entries.{Entry, IsEntry, body_of, size_of, read_from}
+use Rattle.page_node.specs.Entries.{Entry, IsEntry, body_of, size_of}
 
 pub record Node : Type 0 where
   pub level : ℕ
@@ -36,7 +36,3 @@ pub record IsNode (page : List ℕ) (node : Node) : Type 0 where
   pub body : take (size_of node.entries) (drop 4 page) ≡ body_of node.entries
   pub shape : IsShape node
   pub fits : Fits node
-
--- the node of a page that stands for one
-abbrev pub node_in : List ℕ → Node
-node_in page = record { level = get_or page 0 0; entries = read_from (count_in page) (drop 4 page) }

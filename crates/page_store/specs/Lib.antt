@@ -4,4 +4,3 @@ pub mod Lending
 pub mod Openings
 pub mod Transactions
 pub mod Lent
-pub mod Stops

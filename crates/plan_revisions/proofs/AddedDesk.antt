@@ -12,9 +12,11 @@ use Rattle.store_rows.specs.Values.{counters_bytes}
 use Rattle.store_rows.specs.declared.value.Counters.{Counters}
 use Rattle.store_rows.specs.declared.value.PlanRow.{PlanRow}
 use Rattle.store_rows.specs.Rows.{KeyMap, SameTag}
-use Rattle.store_rows.specs.Puts.{Row, put_rows, put_rows-append}
+use Rattle.store_rows.specs.Puts.{Row, put_rows}
+use Rattle.store_rows.proofs.Puts.{put_rows-append}
 use Rattle.store_rows.specs.ChunkRows.{chunk_rows}
-use Rattle.store_rows.specs.NameRows.{name_rows, names_keep_tag, chunks_keep_tag}
+use Rattle.store_rows.specs.NameRows.{name_rows}
+use Rattle.store_rows.proofs.NameRows.{names_keep_tag, chunks_keep_tag}
 use Rattle.store_rows.specs.RevisionRows.{HasRevision}
 use Rattle.store_rows.specs.DeskRows.{HasPlan}
 use Rattle.store_rows.specs.Changes.{plan_row_of, with_revision}

@@ -6,7 +6,7 @@ use Rattle.desk_model.specs.Cuts.{cuts_of}
 use Rattle.desk_model.specs.Desk.{Desk}
 use Rattle.desk_model.specs.Geography.{AreBlocks, Ground}
 use Rattle.desk_model.specs.Room.{changed, revision_rows}
-use Rattle.page_store.specs.Stops.{passed_more, failed_more}
+use Rattle.page_store.proofs.Stops.{passed_more, failed_more}
 use Rattle.page_store.specs.Transactions.{stored, disk_in, IsQuiet, Passed}
 use Rattle.page_store.specs.declared.pages.Pages.{Pages}
 use Rattle.page_store.specs.declared.txn.Txn.{Txn}

@@ -11,14 +11,14 @@ use Rattle.desk_catalogue.specs.Accepting.{IsAfter}
 use Rattle.page_store.specs.declared.pages.Pages.{Pages}
 use Rattle.page_store.specs.declared.txn.Txn.{Txn}
 use Rattle.page_btree.specs.declared.error.TreeError.{TreeError}
-use Rattle.row_table.specs.Outcomes.{map_both}
+use Rattle.row_table.proofs.Outcomes.{map_both}
 use Rattle.plan_table.specs.PlanRows.{HasPlanNumber, HasChunkNumbers}
 use Rattle.plan_table.specs.declared.change.Change.{Change}
 use Rattle.plan_table.specs.declared.change.Change.TheVariants.{Made}
 use Rattle.plan_revisions.specs.Plans.{TakesPlan, with_plan, HasPlanAt, without_plan}
 use Rattle.plan_revisions.specs.Steps.{HasStepped, IsStepped, StepErr}
 use Rattle.plan_revisions.specs.Rows.{HasNumbers, added_by, rows_added_by}
-use Rattle.plan_revisions.specs.Accepted.{created, taken_away}
+use Rattle.plan_revisions.proofs.Accepted.{created, taken_away}
 use Rattle.plan_revisions.proofs.Stepped.{stepped_as, change_as, err_as}
 
 module _ {D : Type 0} {g : Ghosts D} where

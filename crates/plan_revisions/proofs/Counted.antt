@@ -12,7 +12,8 @@ use Rattle.desk_room.specs.Cutting.{changes_in}
 use Rattle.desk_catalogue.specs.Drafts.{changes_between, changes_of}
 use Rattle.desk_catalogue.specs.Kept.{IsWhole, revision_in}
 use Rattle.plan_revisions.specs.Rows.{cuts_in}
-use Rattle.plan_revisions.specs.Accepted.{IsRevised, next_is}
+use Rattle.plan_revisions.specs.Accepted.{IsRevised}
+use Rattle.plan_revisions.proofs.Accepted.{next_is}
 
 some_is : {X : Type 0} (x y : X) → Some x ≡ Some y → x ≡ y
 some_is x y same = cc

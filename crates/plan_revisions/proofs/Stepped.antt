@@ -14,7 +14,7 @@ use Rattle.page_btree.specs.declared.error.TreeError.{TreeError}
 use Rattle.page_btree.specs.declared.error.TreeError.TheVariants.{DeviceFault, Halted, NoPages, TooDeep, Memory}
 use Rattle.store_rows.specs.declared.value.Counters.{Counters}
 use Rattle.store_rows.specs.Changes.{with_revision}
-use Rattle.row_table.specs.Outcomes.{map_both}
+use Rattle.row_table.proofs.Outcomes.{map_both}
 use Rattle.plan_table.specs.PlanRows.{HasChunkNumbers}
 use Rattle.plan_table.specs.declared.change.Change.{Change}
 use Rattle.plan_table.specs.declared.change.Change.TheVariants.{Made, Spent}
@@ -22,7 +22,8 @@ use Rattle.desk_pages.specs.Desks.{InTxn}
 use Rattle.plan_revisions.specs.Plans.{TakesRevision, with_next, with_next_of}
 use Rattle.plan_revisions.specs.Steps.{HasStepped, IsStepped, StepErr}
 use Rattle.plan_revisions.specs.Rows.{added_by, rows_added_by}
-use Rattle.plan_revisions.specs.Accepted.{IsRevised, last_is, rows_added, chunks_added}
+use Rattle.plan_revisions.specs.Accepted.{IsRevised}
+use Rattle.plan_revisions.proofs.Accepted.{last_is, rows_added, chunks_added}
 use Rattle.plan_revisions.proofs.Counted.{same_ground}
 
 module _ {D : Type 0} {g : Ghosts D} where

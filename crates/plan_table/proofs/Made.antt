@@ -10,9 +10,10 @@ use Rattle.store_rows.specs.declared.value.Counters.{Counters}
 use Rattle.store_rows.specs.declared.value.PlanRow.{PlanRow}
 use Rattle.store_rows.specs.Rows.{KeyMap, SameTag}
 use Rattle.store_rows.specs.Puts.{put_rows}
-use Rattle.store_rows.specs.Frames.{put_is_there, put_keeps, put_keeps_tag, tag_follows, desk_stays, revision_stays}
+use Rattle.store_rows.proofs.Frames.{put_is_there, put_keeps, put_keeps_tag, tag_follows, desk_stays, revision_stays}
 use Rattle.store_rows.specs.DeskRows.{HasPlan, IsDesk, most_revisions}
-use Rattle.store_rows.specs.Changes.{IsRevised, desk_with, plan_row_of, with_revision, plan_created, plan_retired, plan_revised}
+use Rattle.store_rows.specs.Changes.{IsRevised, desk_with, plan_row_of, with_revision}
+use Rattle.store_rows.proofs.Changes.{plan_created, plan_retired, plan_revised}
 use Rattle.store_rows.specs.Steps.{one_revision_more}
 use Rattle.store_rows.specs.Tidy.{IsNext, no_numbers}
 use Rattle.plan_table.specs.PlanRows.{plan_rows, revised_rows}

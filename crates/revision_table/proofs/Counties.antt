@@ -7,16 +7,17 @@ use Rattle.std.specs.List.{concat}
 use Rattle.desk_model.specs.declared.cuts.Cut.{Cut}
 use Rattle.store_rows.specs.Rows.{KeyMap}
 use Rattle.sector_device.specs.declared.SectorDevice.{Ghosts}
-use Rattle.page_store.specs.Stops.{passed_none}
+use Rattle.page_store.proofs.Stops.{passed_none}
 use Rattle.page_store.specs.declared.pages.Pages.{Pages}
 use Rattle.page_store.specs.declared.txn.Txn.{Txn}
 use Rattle.page_btree.specs.declared.error.TreeError.{TreeError}
 use Rattle.page_btree.specs.declared.error.TreeError.TheVariants.{Memory}
 use Rattle.desk_model.specs.Room.{rows_for}
 use Rattle.store_rows.specs.Lists.{districts_bytes}
-use Rattle.store_rows.specs.ListLaws.{districts_differ}
+use Rattle.store_rows.proofs.ListLaws.{districts_differ}
 use Rattle.store_rows.specs.RevisionRows.{HasChunk}
-use Rattle.row_table.specs.Appending.{HasAppended, AppendErr, part_there, some_of_part, most_of_part, each_of_part, parts_more}
+use Rattle.row_table.specs.Appending.{HasAppended, AppendErr}
+use Rattle.row_table.proofs.Appending.{part_there, some_of_part, most_of_part, each_of_part, parts_more}
 use Rattle.revision_table.specs.Reading.{AreLong, AreNames, AreCounties, AreLater, IsLater, IsRevision}
 
 pub one_county_more : (counties : List (List ℕ)) (i : ℕ) → i < length counties → concat (take i counties) ++ get_or counties i [] ≡ concat (take (i + 1) counties)

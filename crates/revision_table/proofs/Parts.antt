@@ -4,7 +4,7 @@ use Rattle.std.specs.FinMap.{get}
 use Rattle.store_rows.specs.Keys.{key_of, part}
 use Rattle.store_rows.specs.Lists.{AreChunks, chunks_bytes}
 use Rattle.store_rows.specs.Rows.{KeyMap}
-use Rattle.row_table.specs.Appending.{part_there, some_of_part, most_of_part, each_of_part}
+use Rattle.row_table.proofs.Appending.{part_there, some_of_part, most_of_part, each_of_part}
 use Rattle.revision_table.specs.Reading.{AreNames}
 
 pub part_is_there : (m : KeyMap) (plan revision count index : ℕ) (numbers key : List ℕ) → AreNames plan revision count m numbers → key ≡ key_of (part plan revision index) → index < 2 ^ 8 → 128 * index < count → get m key ≡ Some (chunks_bytes (take 128 (drop (128 * index) numbers)))

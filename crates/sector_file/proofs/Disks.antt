@@ -2,7 +2,7 @@
 use Rattle.std.proofs.Common.{◌≡◌, ◌<◌, ◌^◌, List, ℕ, [], ◌∷◌, length, set, false, true, refl, sym, subst, IsTrue, get_or-set_other}
 use Rattle.std.proofs.lemmas.List.{length-set}
 use Rattle.sector_device.specs.Disk.{Only, Touches}
-use Rattle.sector_device.specs.Held.{write_touches}
+use Rattle.sector_device.proofs.Held.{write_touches}
 use Rattle.sector_file.specs.Told.{Told, after_write, after_torn, told_disk}
 
 module _ (t : Told) (few : length t.0 < 2 ^ 32) (u : Told) (few' : length u.0 < 2 ^ 32) where

@@ -11,12 +11,13 @@ use Rattle.std.specs.FinMap.Entries.{below_all}
 use Rattle.std.proofs.lemmas.Cmp.{tied_itself}
 use Rattle.page_node.specs.Entries.{Entry}
 use Rattle.page_node.specs.Places.{key_cmp, Rises}
-use Rattle.page_node.specs.Laws.{is_less, flip_less, above_middle, find_none}
-use Rattle.btree_scan.specs.Prefixes.{find_under, head_rises, under, under_rises}
+use Rattle.page_node.proofs.Laws.{is_less, flip_less, above_middle, find_none}
+use Rattle.btree_scan.specs.Prefixes.{under}
+use Rattle.btree_scan.proofs.Prefixes.{find_under, head_rises, under_rises}
 use Rattle.store_rows.specs.Keys.{RowKey, key_of, counters, retired, begun, named, part, seal, block, pair, chunk}
 use Rattle.store_rows.specs.declared.value.Counters.{Counters}
 use Rattle.store_rows.specs.Rows.{KeyMap, Has}
-use Rattle.store_rows.specs.Frames.{differs, is_equal, itself, same_key}
+use Rattle.store_rows.proofs.Frames.{differs, is_equal, itself, same_key}
 use Rattle.store_check.specs.Numbers.{IsBelow, AllBelow, IsPast, NumbersFit}
 
 first_so : (b c : Bool) → (b && c) ≡ true → b ≡ true

@@ -14,7 +14,8 @@ use Rattle.store_rows.specs.Values.{plan_bytes, counters_bytes}
 use Rattle.store_rows.specs.declared.value.Counters.{Counters}
 use Rattle.store_rows.specs.declared.value.PlanRow.{PlanRow}
 use Rattle.store_rows.specs.Rows.{KeyMap}
-use Rattle.store_rows.specs.Puts.{Row, length-rows_told}
+use Rattle.store_rows.specs.Puts.{Row}
+use Rattle.store_rows.proofs.Puts.{length-rows_told}
 use Rattle.store_rows.specs.ChunkRows.{piece_row, chunk_rows}
 use Rattle.store_rows.specs.NameRows.{name_row, name_rows}
 use Rattle.store_rows.specs.Steps.{chunks_more, one_revision_more}

@@ -1,3 +1,11 @@
+pub mod Changes
+pub mod ChunkRows
+pub mod Frames
+pub mod ListLaws
+pub mod NameRows
+pub mod Puts
+pub mod RowLaws
+pub mod Staging
 pub mod Numbers
 pub mod ListValues
 pub mod OneList

@@ -15,8 +15,9 @@ use Rattle.store_rows.specs.Rows.{KeyMap, Has}
 use Rattle.store_rows.specs.RevisionRows.{HasChunk, NamesChunks, HasRevision}
 use Rattle.store_rows.specs.Puts.{put_rows}
 use Rattle.store_rows.specs.DeskRows.{HasPlan, IsDesk, most_revisions}
-use Rattle.store_rows.specs.Changes.{IsRevised, RevisionsStay, desk_with, plan_row_of, with_revision, plan_revised}
-use Rattle.store_rows.specs.Frames.{chunk_stays}
+use Rattle.store_rows.specs.Changes.{IsRevised, RevisionsStay, desk_with, plan_row_of, with_revision}
+use Rattle.store_rows.proofs.Changes.{plan_revised}
+use Rattle.store_rows.proofs.Frames.{chunk_stays}
 use Rattle.store_rows.specs.Steps.{chunks_more}
 use Rattle.store_rows.specs.RevisionSteps.{IsGiven, AreItsChunks, AddsRevision, IsChunkList, AreKept, IsDrawn, new_chunk_rows, rows_of_revision}
 use Rattle.store_rows.specs.Tidy.{IsNumbered, IsNamedBy, Tidy}

@@ -7,12 +7,13 @@ use Rattle.desk_model.specs.Room.{rows_for}
 use Rattle.store_rows.specs.Keys.{RowKey, key_of, Fits, counters, retired, begun, named, part, seal, block, pair, chunk}
 use Rattle.store_rows.specs.Values.{plan_bytes, counters_bytes}
 use Rattle.store_rows.specs.Lists.{chunks_bytes}
-use Rattle.store_rows.specs.RowLaws.{keys_differ}
+use Rattle.store_rows.proofs.RowLaws.{keys_differ}
 use Rattle.store_rows.specs.declared.value.Counters.{Counters}
 use Rattle.store_rows.specs.declared.value.PlanRow.{PlanRow}
 use Rattle.store_rows.specs.Rows.{KeyMap, row_in, Has, SameTag, part_row}
-use Rattle.store_rows.specs.Frames.{put_is_there, put_keeps, other_tag}
-use Rattle.store_rows.specs.Puts.{Row, put_rows, put_rows-append, told_are, told_keep}
+use Rattle.store_rows.proofs.Frames.{put_is_there, put_keeps, other_tag}
+use Rattle.store_rows.specs.Puts.{Row, put_rows}
+use Rattle.store_rows.proofs.Puts.{put_rows-append, told_are, told_keep}
 use Rattle.store_rows.specs.ChunkRows.{piece_row, chunk_rows}
 use Rattle.store_rows.specs.NameRows.{name_row, name_rows}
 use Rattle.store_rows.specs.Steps.{chunks_more, one_revision_more}

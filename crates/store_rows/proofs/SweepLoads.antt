@@ -8,7 +8,7 @@ use Rattle.store_rows.specs.Keys.{RowKey, key_of, Fits, begun, block, pair, in_e
 use Rattle.store_rows.specs.Rows.{KeyMap, row_in, Has, Lacks, SameTag}
 use Rattle.store_rows.specs.GeographyRows.{IsSealed, IsGeography}
 use Rattle.store_rows.specs.DeskRows.{IsDesk}
-use Rattle.store_rows.specs.Frames.{remove_keeps_row, remove_keeps_tag, plan_at_stays, desk_stays}
+use Rattle.store_rows.proofs.Frames.{remove_keeps_row, remove_keeps_tag, plan_at_stays, desk_stays}
 use Rattle.store_rows.specs.Tidy.{IsLoad, Tidy}
 use Rattle.store_rows.specs.SweepLaws.{IsSwept}
 use Rattle.store_rows.proofs.OneGeography.{no_value}

@@ -9,13 +9,14 @@ use Rattle.desk_model.specs.Desk.{Desk, Plan}
 use Rattle.store_rows.specs.Keys.{key_of, Fits, retired, named, part, chunk, in_eight, in_four, in_one, in_two}
 use Rattle.store_rows.specs.Values.{plan_bytes}
 use Rattle.store_rows.specs.Lists.{chunks_bytes, AreChunks}
-use Rattle.store_rows.specs.ListLaws.{chunks_differ}
+use Rattle.store_rows.proofs.ListLaws.{chunks_differ}
 use Rattle.store_rows.specs.Rows.{KeyMap, row_in, Has, Lacks, SameTag}
 use Rattle.store_rows.specs.RevisionRows.{HasChunk, NamesChunks}
 use Rattle.store_rows.specs.ChunkRows.{IsFreeChunk}
 use Rattle.store_rows.specs.DeskRows.{HasPlan, IsPlanAt, IsDesk}
-use Rattle.store_rows.specs.Changes.{cases_key, plan_row_of, plan_at_moves, RevisionsStay}
-use Rattle.store_rows.specs.Frames.{removed_is_gone, remove_keeps, remove_keeps_row, remove_keeps_tag, geography_stays, names_stay, chunk_stays, desk_stays}
+use Rattle.store_rows.specs.Changes.{plan_row_of, RevisionsStay}
+use Rattle.store_rows.proofs.Changes.{cases_key, plan_at_moves}
+use Rattle.store_rows.proofs.Frames.{removed_is_gone, remove_keeps, remove_keeps_row, remove_keeps_tag, geography_stays, names_stay, chunk_stays, desk_stays}
 use Rattle.store_rows.specs.Tidy.{IsNumbered, IsNamedBy, IsKnown, Tidy}
 use Rattle.store_rows.specs.SweepLaws.{IsSwept}
 use Rattle.store_rows.proofs.OneGeography.{value_is, no_value}

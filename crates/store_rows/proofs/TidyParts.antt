@@ -7,8 +7,8 @@ use Rattle.store_rows.specs.declared.value.Counters.{Counters}
 use Rattle.store_rows.specs.declared.value.PlanRow.{PlanRow}
 use Rattle.store_rows.specs.declared.value.SealRow.{SealRow}
 use Rattle.store_rows.specs.Rows.{KeyMap, row_in, Has, SameTag}
-use Rattle.store_rows.specs.Changes.{cases_key}
-use Rattle.store_rows.specs.Frames.{put_is_there, put_keeps, put_keeps_tag, removed_is_gone, remove_keeps, other_tag}
+use Rattle.store_rows.proofs.Changes.{cases_key}
+use Rattle.store_rows.proofs.Frames.{put_is_there, put_keeps, put_keeps_tag, removed_is_gone, remove_keeps, other_tag}
 use Rattle.store_rows.specs.Tidy.{IsNext, CountersFit, IsNumbered, IsNamedBy, IsPart, IsPiece, AreRows, IsKnown, IsLoad, HasOwners, Tidy, TidyWith}
 use Rattle.store_rows.proofs.OneGeography.{no_value}
 

@@ -6,8 +6,8 @@ use Rattle.store_rows.specs.Keys.{key_of, Fits, counters, retired, named}
 use Rattle.store_rows.specs.Values.{plan_bytes, counters_bytes}
 use Rattle.store_rows.specs.declared.value.PlanRow.{PlanRow}
 use Rattle.store_rows.specs.Rows.{KeyMap, row_in, Has, Lacks, SameTag}
-use Rattle.store_rows.specs.Changes.{cases_key, other_row}
-use Rattle.store_rows.specs.Frames.{put_is_there, put_keeps, put_keeps_tag, put_keeps_row, removed_is_gone, remove_keeps, remove_keeps_tag, tag_follows}
+use Rattle.store_rows.proofs.Changes.{cases_key, other_row}
+use Rattle.store_rows.proofs.Frames.{put_is_there, put_keeps, put_keeps_tag, put_keeps_row, removed_is_gone, remove_keeps, remove_keeps_tag, tag_follows}
 use Rattle.store_rows.specs.Steps.{one_plan_more}
 use Rattle.store_rows.specs.Tidy.{IsNumbered, IsKnown, Tidy, TidyWith}
 use Rattle.store_rows.proofs.OneGeography.{value_is, no_value}

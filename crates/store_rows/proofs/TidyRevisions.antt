@@ -7,11 +7,11 @@ use Rattle.std.proofs.lemmas.List.{get_or_default}
 use Rattle.store_rows.specs.Keys.{Fits, counters, named, part, chunk}
 use Rattle.store_rows.specs.Values.{plan_bytes, counters_bytes}
 use Rattle.store_rows.specs.Lists.{chunks_bytes}
-use Rattle.store_rows.specs.ListLaws.{chunks_differ}
+use Rattle.store_rows.proofs.ListLaws.{chunks_differ}
 use Rattle.store_rows.specs.declared.value.Counters.{Counters}
 use Rattle.store_rows.specs.declared.value.PlanRow.{PlanRow}
 use Rattle.store_rows.specs.Rows.{KeyMap, row_in, Has, part_row}
-use Rattle.store_rows.specs.Changes.{cases_key}
+use Rattle.store_rows.proofs.Changes.{cases_key}
 use Rattle.store_rows.specs.Steps.{chunks_more, one_revision_more}
 use Rattle.store_rows.specs.RevisionSteps.{IsGiven, AreItsChunks, AddsRevision}
 use Rattle.store_rows.specs.Tidy.{IsNext, IsNumbered, IsNamedBy, IsPart, IsPiece, IsKnown, Tidy, TidyWith}

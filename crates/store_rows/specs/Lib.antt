@@ -2,15 +2,12 @@ pub mod Keys
 pub mod Values
 pub mod Lists
 pub mod Order
-pub mod RowLaws
-pub mod ListLaws
 pub mod Rows
 pub mod GeographyRows
 pub mod RevisionRows
 pub mod DeskRows
 pub mod Tidy
 pub mod Steps
-pub mod Frames
 pub mod Puts
 pub mod ChunkRows
 pub mod NameRows

@@ -4,7 +4,7 @@ use Rattle.std.specs.List.{starts_with}
 use Rattle.std.proofs.lemmas.Bool.{eqb-true}
 use Rattle.std.proofs.lemmas.Bool.Decides.{nat_tests}
 use Rattle.store_rows.specs.Keys.{RowKey, key_of, Fits, counters, retired, begun, named, part, seal, block, pair, chunk, in_one, in_two, in_four, in_eight, retired_prefix, begun_prefix, plan_parts_prefix, load_prefix, chunk_prefix}
-use Rattle.store_rows.specs.RowLaws.{keys_differ}
+use Rattle.store_rows.proofs.RowLaws.{keys_differ}
 
 first_so : (b c : Bool) → (b && c) ≡ true → b ≡ true
 first_so true c h = refl

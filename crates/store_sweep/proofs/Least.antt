@@ -13,18 +13,20 @@ use Rattle.std.proofs.lemmas.Cmp.{tied_itself}
 use Rattle.std.proofs.lemmas.Bool.Decides.{nat_tests}
 use Rattle.page_node.specs.Entries.{Entry}
 use Rattle.page_node.specs.Places.{key_cmp, Rises, entries_from}
-use Rattle.page_node.specs.Laws.{is_less}
+use Rattle.page_node.proofs.Laws.{is_less}
 use Rattle.page_node.specs.Node.{IsNode}
-use Rattle.page_node.specs.Walking.{IsAhead, node_ahead}
+use Rattle.page_node.specs.Walking.{IsAhead}
+use Rattle.page_node.proofs.Walking.{node_ahead}
 use Rattle.page_btree.specs.Seeking.{AreLeaves, IsFrom}
 use Rattle.page_btree.specs.declared.seeks.Leaf.{Leaf}
 use Rattle.page_btree.specs.declared.error.TreeError.{TreeError}
 use Rattle.page_btree.specs.declared.error.TreeError.TheVariants.{DeviceFault}
-use Rattle.btree_scan.specs.Prefixes.{AllFrom, all_from_key, head_rises, rises_from_key, under_is_from}
+use Rattle.btree_scan.specs.Prefixes.{AllFrom}
+use Rattle.btree_scan.proofs.Prefixes.{all_from_key, head_rises, rises_from_key, under_is_from}
 use Rattle.store_rows.specs.Keys.{RowKey, key_of, Fits, counters, retired, begun, named, part, seal, block, pair, chunk, in_two, in_eight, chunk_prefix}
 use Rattle.store_rows.proofs.Numbers.{numbers_decide}
 use Rattle.store_rows.specs.Rows.{KeyMap}
-use Rattle.store_rows.specs.Frames.{is_equal, itself, same_key}
+use Rattle.store_rows.proofs.Frames.{is_equal, itself, same_key}
 use Rattle.store_rows.specs.Tidy.{AreRows}
 use Rattle.store_sweep.specs.Finding.{IsLeast, IsFirstFrom, IsPieceKey, IsNextChunk, IsPieceOf}
 use Rattle.store_sweep.proofs.Keys.{piece_is, starts_piece, eights_same}

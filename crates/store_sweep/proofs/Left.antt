@@ -6,7 +6,7 @@ use Rattle.std.specs.FinMap.{get}
 use Rattle.btree_scan.specs.declared.rows.Row.{Row}
 use Rattle.store_rows.specs.Keys.{RowKey, key_of, Fits, counters, retired, begun, named, part, seal, block, pair, chunk, in_eight, retired_prefix, begun_prefix, plan_parts_prefix, load_prefix}
 use Rattle.store_rows.specs.Lists.{AreChunks, chunks_bytes}
-use Rattle.store_rows.specs.RowLaws.{keys_differ}
+use Rattle.store_rows.proofs.RowLaws.{keys_differ}
 use Rattle.store_rows.specs.Rows.{KeyMap, Has}
 use Rattle.store_rows.specs.ChunkRows.{IsFreeChunk}
 use Rattle.store_rows.specs.Tidy.{AreRows, Tidy}

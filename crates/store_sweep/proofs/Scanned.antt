@@ -11,11 +11,12 @@ use Rattle.std.specs.FinMap.Entries.{below_all}
 use Rattle.std.proofs.lemmas.Cmp.{tied_itself}
 use Rattle.page_node.specs.Entries.{Entry}
 use Rattle.page_node.specs.Places.{key_cmp, Rises}
-use Rattle.page_node.specs.Laws.{is_less}
-use Rattle.btree_scan.specs.Prefixes.{find_under, head_rises, is_under, under, under_rises}
+use Rattle.page_node.proofs.Laws.{is_less}
+use Rattle.btree_scan.specs.Prefixes.{is_under, under}
+use Rattle.btree_scan.proofs.Prefixes.{find_under, head_rises, under_rises}
 use Rattle.btree_scan.specs.declared.rows.Row.{Row}
 use Rattle.store_rows.specs.Rows.{KeyMap}
-use Rattle.store_rows.specs.Frames.{differs, is_equal, itself, same_key}
+use Rattle.store_rows.proofs.Frames.{differs, is_equal, itself, same_key}
 use Rattle.store_sweep.specs.Finding.{IsUnder}
 
 pub first_so : (b c : Bool) → (b && c) ≡ true → b ≡ true

@@ -2,16 +2,17 @@
 use Rattle.std.proofs.Common.{◌≡◌, ◌<◌, ◌≤◌, ◌+◌, ℕ, Bool, List, [], ◌∷◌, length, Option, Some, None, true, false, refl, sym, ap, subst, ◌∙◌, inl, inr, ⊎_elim, arith}
 use Rattle.std.specs.Prelude.{◌⊎◌, ◌↔◌}
 use Rattle.sector_device.specs.Disk.{Disk, Image}
-use Rattle.sector_device.specs.Moments.{LeavesOnly, leaves_more, leaves_wider}
+use Rattle.sector_device.specs.Moments.{LeavesOnly}
+use Rattle.sector_device.proofs.Moments.{leaves_more, leaves_wider}
 use Rattle.sector_device.specs.declared.SectorDevice.{Ghosts}
 use Rattle.gate_journal.specs.Store.{home}
 use Rattle.page_store.proofs.Chains.{length_chain}
 use Rattle.page_store.specs.Chain.{free_in, root_in}
-use Rattle.page_store.specs.Stops.{leaves_here, leaves_quiet}
+use Rattle.page_store.proofs.Stops.{leaves_here, leaves_quiet}
 use Rattle.page_store.specs.Transactions.{stored, disk_in, count_of, journal_of, has_halted, txn_pages, txn_root, txn_first, txn_free, txn_writes, over, free_over, HasFailed, HasShape, IsQuiet, Passed}
 use Rattle.page_store.specs.declared.pages.Pages.{Pages}
 use Rattle.page_store.specs.declared.txn.Txn.{Txn}
-use Rattle.page_btree.specs.Laws.{begun_holds}
+use Rattle.page_btree.proofs.Laws.{begun_holds}
 use Rattle.page_btree.specs.Map.{Holds, InTxn, InPages}
 use Rattle.page_btree.specs.declared.error.TreeError.{TreeError}
 use Rattle.page_btree.specs.declared.error.TreeError.TheVariants as tree

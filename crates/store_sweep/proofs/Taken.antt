@@ -5,7 +5,7 @@ use Rattle.std.specs.FinMap.{remove}
 use Rattle.sector_device.specs.Disk.{Image}
 use Rattle.sector_device.specs.declared.SectorDevice.{Ghosts}
 use Rattle.page_store.specs.Transactions.{stored, disk_in, txn_pages, txn_free, txn_writes, IsQuiet, Passed}
-use Rattle.page_store.specs.Stops.{passed_none, passed_more, failed_more}
+use Rattle.page_store.proofs.Stops.{passed_none, passed_more, failed_more}
 use Rattle.page_store.specs.declared.pages.Pages.{Pages}
 use Rattle.page_store.specs.declared.txn.Txn.{Txn}
 use Rattle.page_btree.specs.Map.{InTxn}

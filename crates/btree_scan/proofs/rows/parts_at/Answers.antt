@@ -1,4 +1,4 @@
-use Rattle.page_node.specs.Walking.{ahead_lies, ahead_next}
+use Rattle.page_node.proofs.Walking.{ahead_lies, ahead_next}
 use Rattle.btree_scan.proofs.rows.parts_at.Goals as goal
 
 pub returns-in-Some-clause-taken : goal.returns-in-Some-clause-taken

@@ -1,5 +1,5 @@
-use Rattle.btree_scan.specs.Prefixes.{find_under, under_rises}
-use Rattle.btree_scan.specs.Taken.{taken_none, taken_more, taken_all, taken_few}
+use Rattle.btree_scan.proofs.Prefixes.{find_under, under_rises}
+use Rattle.btree_scan.proofs.Taken.{taken_none, taken_more, taken_all, taken_few}
 use Rattle.btree_scan.proofs.whole.laws.Goals as goal
 
 pub returns : goal.returns

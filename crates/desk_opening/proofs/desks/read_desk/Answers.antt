@@ -1,9 +1,9 @@
 use Rattle.std.proofs.Common.{sym, subst}
 use Rattle.sector_device.specs.Disk.{Image}
-use Rattle.page_store.specs.Stops.{quiet_more, passed_more}
+use Rattle.page_store.proofs.Stops.{quiet_more, passed_more}
 use Rattle.page_store.specs.Transactions.{Passed}
 use Rattle.page_btree.specs.Map.{InTxn as InTree}
-use Rattle.row_table.specs.Outcomes.{err_of}
+use Rattle.row_table.proofs.Outcomes.{err_of}
 use Rattle.desk_opening.specs.Opening.{IsReadFrom, IsShown, OpenErr}
 use Rattle.desk_opening.proofs.WholeDesks.{unkept, then_unopened, ok_then, err_then, if_ok_then, still_reads}
 use Rattle.desk_opening.proofs.desks.read_desk.Goals as goal

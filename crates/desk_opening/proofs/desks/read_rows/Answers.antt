@@ -1,13 +1,13 @@
 use Rattle.std.proofs.Common.{◌≡◌, Some, None, sym, ap, subst, ◌∙◌}
 use Rattle.sector_device.specs.Disk.{Image}
-use Rattle.page_store.specs.Stops.{quiet_more, passed_more, passed_none}
+use Rattle.page_store.proofs.Stops.{quiet_more, passed_more, passed_none}
 use Rattle.page_btree.specs.Map.{InTxn}
 use Rattle.store_rows.specs.GeographyRows.{IsGeography}
 use Rattle.page_store.specs.Transactions.{Passed}
 use Rattle.desk_model.specs.Desk.{Desk}
 use Rattle.row_table.specs.Reading.{ReadErr}
-use Rattle.row_table.specs.Outcomes.{err_of}
-use Rattle.row_table.specs.Appending.{then_unappended}
+use Rattle.row_table.proofs.Outcomes.{err_of}
+use Rattle.row_table.proofs.Appending.{then_unappended}
 use Rattle.desk_pages.specs.Desks.{IsDeskMap, new_desk}
 use Rattle.desk_opening.specs.Opening.{ArePlans, HasNothing, IsShown, OpenErr}
 use Rattle.desk_opening.proofs.WholeDesks.{is_new, are_plans, unopened, has_nothing, nothing_unread, some_ground, ok_then, if_ok_then, err_then}

@@ -1,9 +1,10 @@
 use Rattle.std.proofs.Common.{◌<◌, ◌≤◌, ◌+◌, List, ℕ, [], length, get_or, sym, ap, subst, ◌∙◌, take_all, arith}
 use Rattle.desk_model.specs.Desk.{Plan}
-use Rattle.page_store.specs.Stops.{quiet_more, passed_more}
+use Rattle.page_store.proofs.Stops.{quiet_more, passed_more}
 use Rattle.page_btree.specs.Map.{InTxn}
-use Rattle.row_table.specs.Outcomes.{match_of}
-use Rattle.row_table.specs.Appending.{AppendErr, then_unappended}
+use Rattle.row_table.proofs.Outcomes.{match_of}
+use Rattle.row_table.specs.Appending.{AppendErr}
+use Rattle.row_table.proofs.Appending.{then_unappended}
 use Rattle.desk_opening.specs.Reading.{HasRead, IsNext, IsPlanRow}
 use Rattle.desk_opening.proofs.Shown.{row_is}
 use Rattle.desk_opening.proofs.Revisions.{of_blocks, one_revision_more}

@@ -1,9 +1,10 @@
 use Rattle.std.proofs.Common.{◌≡◌, List, ℕ, length, inr, ap, arith}
 use Rattle.desk_model.specs.declared.block.BlockRow.{BlockRow}
 use Rattle.desk_model.specs.Cuts.{cut}
-use Rattle.page_store.specs.Stops.{passed_none}
-use Rattle.row_table.specs.Outcomes.{match_of}
-use Rattle.row_table.specs.Appending.{AppendErr, then_unappended}
+use Rattle.page_store.proofs.Stops.{passed_none}
+use Rattle.row_table.proofs.Outcomes.{match_of}
+use Rattle.row_table.specs.Appending.{AppendErr}
+use Rattle.row_table.proofs.Appending.{then_unappended}
 use Rattle.revision_table.specs.Reading.{IsLater}
 use Rattle.desk_opening.specs.Reading.{HasRead, IsNext}
 use Rattle.desk_opening.proofs.Revisions.{is_later, laid_out}

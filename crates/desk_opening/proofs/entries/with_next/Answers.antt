@@ -1,7 +1,7 @@
 use Rattle.std.proofs.Common.{◌≡◌, List, ℕ, length, sym, ap, subst, ◌∙◌}
 use Rattle.std.proofs.lemmas.List.Elements.{All-push}
 use Rattle.store_rows.specs.Changes.{with_revision}
-use Rattle.row_table.specs.Outcomes.{match_of}
+use Rattle.row_table.proofs.Outcomes.{match_of}
 use Rattle.row_table.specs.Appending.{AppendErr}
 use Rattle.desk_opening.specs.Reading.{HasRead, IsNext, IsWhole}
 use Rattle.desk_opening.proofs.Revisions.{becomes_known}

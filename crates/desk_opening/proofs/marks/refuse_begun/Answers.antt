@@ -1,14 +1,15 @@
 use Rattle.std.proofs.Common.{◌≡◌, ℕ, List, Option, None, sym, ap, subst, ◌∙◌}
 use Rattle.std.specs.FinMap.{get as row_at}
 use Rattle.sector_device.specs.Disk.{Image}
-use Rattle.page_store.specs.Stops.{quiet_more, passed_more}
+use Rattle.page_store.proofs.Stops.{quiet_more, passed_more}
 use Rattle.page_store.specs.Transactions.{Passed}
 use Rattle.page_btree.specs.Map.{InTxn}
 use Rattle.store_rows.specs.Keys.{key_of, seal}
 use Rattle.store_rows.specs.Values.{seal_bytes}
 use Rattle.store_rows.specs.declared.value.SealRow.{SealRow}
-use Rattle.row_table.specs.Outcomes.{err_of}
-use Rattle.row_table.specs.Reading.{ReadErr, StandsAs, less_unread}
+use Rattle.row_table.proofs.Outcomes.{err_of}
+use Rattle.row_table.specs.Reading.{ReadErr, StandsAs}
+use Rattle.row_table.proofs.Reading.{less_unread}
 use Rattle.desk_opening.specs.Opening.{IsSealEnded, IsSealKept}
 use Rattle.desk_opening.proofs.Seals.{none_ended, some_ended, some_lacks, then_unread}
 use Rattle.desk_opening.proofs.WholeDesks.{ok_then, err_then}

@@ -1,10 +1,11 @@
 use Rattle.std.proofs.Common.{◌≡◌, List, ℕ, inr, sym, ap, ◌∙◌}
 use Rattle.std.specs.FinMap.{FinMap, insert}
 use Rattle.desk_model.specs.Desk.{Plan, name_cmp}
-use Rattle.page_store.specs.Stops.{passed_none}
+use Rattle.page_store.proofs.Stops.{passed_none}
 use Rattle.store_rows.specs.Keys.{key_of, named}
-use Rattle.row_table.specs.Outcomes.{map_both}
-use Rattle.row_table.specs.Appending.{AppendErr, then_unappended}
+use Rattle.row_table.proofs.Outcomes.{map_both}
+use Rattle.row_table.specs.Appending.{AppendErr}
+use Rattle.row_table.proofs.Appending.{then_unappended}
 use Rattle.desk_opening.specs.Reading.{HasRead, IsPlanRow}
 use Rattle.desk_opening.specs.Opening.{IsNewPlan}
 use Rattle.desk_opening.proofs.NewPlans.{is_plan_row, same_name, value_told}

@@ -2,10 +2,11 @@ use Rattle.std.proofs.Common.{List, ℕ, sym, subst}
 use Rattle.std.specs.FinMap.{FinMap, insert}
 use Rattle.sector_device.specs.Disk.{Image}
 use Rattle.desk_model.specs.Desk.{Plan, name_cmp}
-use Rattle.page_store.specs.Stops.{quiet_more, passed_more}
+use Rattle.page_store.proofs.Stops.{quiet_more, passed_more}
 use Rattle.page_btree.specs.Map.{InTxn}
-use Rattle.row_table.specs.Outcomes.{map_both, match_of}
-use Rattle.row_table.specs.Appending.{AppendErr, then_unappended, unread_unappended}
+use Rattle.row_table.proofs.Outcomes.{map_both, match_of}
+use Rattle.row_table.specs.Appending.{AppendErr}
+use Rattle.row_table.proofs.Appending.{then_unappended, unread_unappended}
 use Rattle.desk_opening.specs.Reading.{HasRead}
 use Rattle.desk_opening.specs.Opening.{IsFreshPlan, IsKeptPlan, IsNewPlan, IsNotGone}
 use Rattle.desk_opening.proofs.PlanNumbers.{unnoted}

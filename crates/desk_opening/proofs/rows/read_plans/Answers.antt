@@ -3,19 +3,20 @@ use Rattle.std.specs.Prelude.{Some, None, IfSome}
 use Rattle.std.specs.FinMap.{entries}
 use Rattle.sector_device.specs.Disk.{Image}
 use Rattle.page_store.specs.Transactions.{stored}
-use Rattle.page_store.specs.Stops.{quiet_more, passed_more, passed_none}
+use Rattle.page_store.proofs.Stops.{quiet_more, passed_more, passed_none}
 use Rattle.page_node.specs.Entries.{Entry}
 use Rattle.page_btree.specs.Map.{InTxn}
 use Rattle.btree_scan.specs.Prefixes.{under}
 use Rattle.btree_scan.specs.Scanning.{Rest, IsNextRow, fault_in, CanScan, ScanErr}
-use Rattle.btree_scan.specs.Taken.{taken_none, taken_more, taken_all, taken_few}
-use Rattle.btree_scan.specs.Refused.{scan_refused}
+use Rattle.btree_scan.proofs.Taken.{taken_none, taken_more, taken_all, taken_few}
+use Rattle.btree_scan.proofs.Refused.{scan_refused}
 use Rattle.desk_catalogue.specs.Kept.{AreWhole}
 use Rattle.store_rows.specs.Keys.{plans_prefix}
 use Rattle.store_rows.specs.Rows.{KeyMap}
-use Rattle.row_table.specs.Outcomes.{match_of}
-use Rattle.row_table.specs.Reading.{get_unread}
-use Rattle.row_table.specs.Appending.{AppendErr, then_unappended, unread_unappended}
+use Rattle.row_table.proofs.Outcomes.{match_of}
+use Rattle.row_table.proofs.Reading.{get_unread}
+use Rattle.row_table.specs.Appending.{AppendErr}
+use Rattle.row_table.proofs.Appending.{then_unappended, unread_unappended}
 use Rattle.desk_opening.specs.Reading.{HasRead}
 use Rattle.desk_opening.specs.Opening.{ArePlans, IsFreshPlan}
 use Rattle.desk_opening.proofs.PlanNumbers.{AreNoted, none_noted, unused, noted_more, all_apart}

@@ -2,7 +2,8 @@ use Rattle.std.proofs.Common.{◌≡◌, ◌<◌, ◌+◌, Bool, List, false, le
 use Rattle.desk_model.specs.Room.{rows_for}
 use Rattle.desk_model.specs.declared.cuts.Cut.{Cut}
 use Rattle.desk_model.proofs.Runs.{lists_cut}
-use Rattle.desk_room.specs.Cutting.{changes_in, changed_rows, cut_rows}
+use Rattle.desk_room.specs.Cutting.{changes_in, cut_rows}
+use Rattle.desk_room.proofs.Cutting.{changed_rows}
 use Rattle.desk_room.proofs.Counted.{nothing_left, rows_at, rows_told}
 use Rattle.desk_room.proofs.rows.revision_rows.Goals as goal
 

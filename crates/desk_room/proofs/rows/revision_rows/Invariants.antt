@@ -1,6 +1,6 @@
 use Rattle.std.proofs.Common.{◌≡◌, ◌+◌, ◌*◌, ◌≤◌, ◌^◌, drop, length}
 use Rattle.desk_model.specs.Room.{rows_for}
-use Rattle.desk_room.specs.Cutting.{changed_rows}
+use Rattle.desk_room.proofs.Cutting.{changed_rows}
 use Rattle.desk_room.proofs.rows.revision_rows.Given as goal
 
 abbrev pub invariant-loop-place : goal.invariant-loop-place

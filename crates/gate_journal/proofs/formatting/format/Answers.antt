@@ -1,6 +1,6 @@
 use Rattle.std.proofs.Common.{arith}
 use Rattle.sector_device.specs.Disk.{Only}
-use Rattle.sector_device.specs.Moments.{touches_more, touches_wider}
+use Rattle.sector_device.proofs.Moments.{touches_more, touches_wider}
 use Rattle.gate_journal.specs.Format.{Front}
 use Rattle.gate_journal.proofs.formatting.format.Goals as goal
 

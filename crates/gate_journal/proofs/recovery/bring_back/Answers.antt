@@ -1,6 +1,7 @@
 use Rattle.std.proofs.Common.{◌≡◌, ◌∙◌, ◌+◌, rules}
 use Rattle.sector_device.specs.Disk.{Nowhere}
-use Rattle.sector_device.specs.Moments.{LeavesOnly, touches_more}
+use Rattle.sector_device.specs.Moments.{LeavesOnly}
+use Rattle.sector_device.proofs.Moments.{touches_more}
 use Rattle.gate_journal.specs.Store.{Opens, pages, Homes, home, copies}
 use Rattle.gate_journal.specs.Steps.{HasHomes}
 use Rattle.gate_journal.proofs.Commit.{back_leaves, shut_leaves, reopened, reshut}

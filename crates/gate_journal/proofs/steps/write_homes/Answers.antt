@@ -1,5 +1,5 @@
 use Rattle.std.proofs.Common.{rules, arith}
-use Rattle.sector_device.specs.Moments.{touches_more}
+use Rattle.sector_device.proofs.Moments.{touches_more}
 use Rattle.gate_journal.specs.Store.{Homes}
 use Rattle.gate_journal.proofs.Images.{writes_at, homes_more}
 use Rattle.gate_journal.proofs.steps.write_homes.Goals as goal

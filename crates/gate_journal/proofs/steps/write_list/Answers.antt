@@ -1,5 +1,5 @@
 use Rattle.std.proofs.Common.{◌+◌, ◌/◌, ◌∙◌, ap, length, rules, arith}
-use Rattle.sector_device.specs.Moments.{touches_more}
+use Rattle.sector_device.proofs.Moments.{touches_more}
 use Rattle.gate_journal.specs.Steps.{Span}
 use Rattle.gate_journal.specs.Store.{word}
 use Rattle.gate_journal.proofs.Images.{list_more}

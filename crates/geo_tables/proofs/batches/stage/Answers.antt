@@ -1,8 +1,8 @@
 use Rattle.std.proofs.Common.{◌≡◌, ◌+◌, ℕ, subst, ◌∙◌}
-use Rattle.page_store.specs.Stops.{leaves_here}
+use Rattle.page_store.proofs.Stops.{leaves_here}
 use Rattle.page_store.specs.Transactions.{disk_in, has_halted}
 use Rattle.desk_model.specs.Geography.{Ground}
-use Rattle.row_table.specs.Outcomes.{err_of}
+use Rattle.row_table.proofs.Outcomes.{err_of}
 use Rattle.row_table.specs.Puts.{HasPut, PutsErr}
 use Rattle.geo_tables.specs.Rows.{staged_rows}
 use Rattle.geo_tables.specs.Staging.{Stages}

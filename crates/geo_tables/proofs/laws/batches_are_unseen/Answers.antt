@@ -1,5 +1,5 @@
 use Rattle.std.proofs.Common.{[], ◌∙◌, arith}
-use Rattle.geo_tables.specs.LoadRows.{batch_next, batch_tag, batch_unseen}
+use Rattle.geo_tables.proofs.LoadRows.{batch_next, batch_tag, batch_unseen}
 use Rattle.geo_tables.proofs.laws.batches_are_unseen.Goals as goal
 
 pub returns : goal.returns

@@ -1,4 +1,4 @@
-use Rattle.geo_tables.specs.LoadRows.{begun_desk, begun_mark, begun_next, begun_staged, begun_unsealed}
+use Rattle.geo_tables.proofs.LoadRows.{begun_desk, begun_mark, begun_next, begun_staged, begun_unsealed}
 use Rattle.geo_tables.proofs.laws.loads_begin.Goals as goal
 
 pub returns : goal.returns

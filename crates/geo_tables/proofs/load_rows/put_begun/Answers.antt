@@ -1,12 +1,13 @@
 use Rattle.std.proofs.Common.{List, ℕ, [], ◌∷◌, subst}
 use Rattle.std.specs.Prelude.{MatchResult}
-use Rattle.page_store.specs.Stops.{quiet_more}
+use Rattle.page_store.proofs.Stops.{quiet_more}
 use Rattle.store_rows.specs.Keys.{key_of, begun, counters}
 use Rattle.store_rows.specs.Values.{counters_bytes}
 use Rattle.store_rows.specs.Puts.{Row}
-use Rattle.row_table.specs.Puts.{HasPut, PutsErr, front_not_put}
+use Rattle.row_table.specs.Puts.{HasPut, PutsErr}
+use Rattle.row_table.proofs.Puts.{front_not_put}
 use Rattle.geo_tables.specs.Rows.{begun_rows, load_taken}
-use Rattle.row_table.specs.Outcomes.{match_of}
+use Rattle.row_table.proofs.Outcomes.{match_of}
 use Rattle.geo_tables.proofs.RowAfterRow.{then_put}
 use Rattle.geo_tables.proofs.load_rows.put_begun.Goals as goal
 

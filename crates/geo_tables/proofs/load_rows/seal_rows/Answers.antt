@@ -1,7 +1,7 @@
 use Rattle.std.proofs.Common.{List, ℕ, [], ◌∷◌, ◌≡◌, ◌∙◌, length, sym, subst, arith}
 use Rattle.std.specs.FinMap.{insert, remove}
 use Rattle.sector_device.specs.Disk.{Image}
-use Rattle.page_store.specs.Stops.{quiet_more, passed_more}
+use Rattle.page_store.proofs.Stops.{quiet_more, passed_more}
 use Rattle.page_store.specs.Transactions.{stored}
 use Rattle.page_btree.specs.Map.{InTxn}
 use Rattle.desk_model.specs.declared.block.BlockRow.{BlockRow}
@@ -12,7 +12,7 @@ use Rattle.store_rows.specs.Values.{seal_bytes}
 use Rattle.store_rows.specs.Puts.{Row}
 use Rattle.row_table.specs.Puts.{HasPut, PutsErr}
 use Rattle.geo_tables.specs.Rows.{seal_row}
-use Rattle.row_table.specs.Outcomes.{err_of}
+use Rattle.row_table.proofs.Outcomes.{err_of}
 use Rattle.geo_tables.proofs.RowAfterRow.{then_not_removed}
 use Rattle.geo_tables.proofs.load_rows.seal_rows.Goals as goal
 

@@ -1,10 +1,12 @@
 use Rattle.std.proofs.Common.{◌≡◌, ◌+◌, ℕ, subst, arith}
 use Rattle.store_rows.specs.Puts.{Row}
-use Rattle.page_store.specs.Stops.{quiet_more}
-use Rattle.row_table.specs.Puts.{HasPut, PutsErr, told_more, told_not_put}
+use Rattle.page_store.proofs.Stops.{quiet_more}
+use Rattle.row_table.specs.Puts.{HasPut, PutsErr}
+use Rattle.row_table.proofs.Puts.{told_more, told_not_put}
 use Rattle.geo_tables.specs.Rows.{staged_row, staged_rows}
-use Rattle.geo_tables.specs.Staging.{Stages, more_stage}
-use Rattle.row_table.specs.Outcomes.{match_of}
+use Rattle.geo_tables.specs.Staging.{Stages}
+use Rattle.geo_tables.proofs.Staging.{more_stage}
+use Rattle.row_table.proofs.Outcomes.{match_of}
 use Rattle.geo_tables.proofs.puts.put_batch.Goals as goal
 
 pub returns-in_err-put_place-clause-quiet : goal.returns-in_err-put_place-clause-quiet

@@ -3,7 +3,7 @@ use Rattle.std.specs.Prelude.{MatchResult}
 use Rattle.desk_model.specs.declared.geography.Pair.{Pair}
 use Rattle.store_rows.specs.Puts.{Row}
 use Rattle.row_table.specs.Puts.{HasPut, PutsErr}
-use Rattle.geo_tables.specs.Staging.{read_at, had_at, row_more, block_is, pair_is, fits_here, no_block}
+use Rattle.geo_tables.proofs.Staging.{read_at, had_at, row_more, block_is, pair_is, fits_here, no_block}
 use Rattle.geo_tables.proofs.puts.put_place.Goals as goal
 
 pub returns-then-place-blocks-clause-put : goal.returns-then-place-blocks-clause-put

@@ -1,10 +1,11 @@
 use Rattle.std.proofs.Common.{sym, subst}
 use Rattle.sector_device.specs.Disk.{Image}
-use Rattle.page_store.specs.Stops.{quiet_more, passed_more}
+use Rattle.page_store.proofs.Stops.{quiet_more, passed_more}
 use Rattle.page_btree.specs.Map.{InTxn}
 use Rattle.store_rows.specs.Rows.{KeyMap}
-use Rattle.row_table.specs.Outcomes.{err_of}
-use Rattle.row_table.specs.Appending.{AppendErr, unread_unappended, then_unappended}
+use Rattle.row_table.proofs.Outcomes.{err_of}
+use Rattle.row_table.specs.Appending.{AppendErr}
+use Rattle.row_table.proofs.Appending.{unread_unappended, then_unappended}
 use Rattle.geo_tables.specs.Following.{HoldsAlong, HoldsBeside, Scans}
 use Rattle.geo_tables.proofs.reads.append_along.Goals as goal
 

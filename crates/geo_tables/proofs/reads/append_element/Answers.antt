@@ -1,9 +1,11 @@
 use Rattle.std.proofs.Common.{◌≡◌, List, ℕ, Some, take, sym, subst}
 use Rattle.std.specs.FinMap.{get as row_at}
 use Rattle.store_rows.specs.Rows.{KeyMap}
-use Rattle.row_table.specs.Outcomes.{err_of}
-use Rattle.row_table.specs.Reading.{HasRow, one_value}
-use Rattle.row_table.specs.Appending.{AppendErr, unread_unappended}
+use Rattle.row_table.proofs.Outcomes.{err_of}
+use Rattle.row_table.specs.Reading.{HasRow}
+use Rattle.row_table.proofs.Reading.{one_value}
+use Rattle.row_table.specs.Appending.{AppendErr}
+use Rattle.row_table.proofs.Appending.{unread_unappended}
 use Rattle.geo_tables.specs.Elements.{HoldsElement}
 use Rattle.geo_tables.proofs.OneMore.{value_unappended}
 use Rattle.geo_tables.proofs.reads.append_element.Goals as goal

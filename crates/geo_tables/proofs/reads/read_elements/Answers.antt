@@ -1,11 +1,12 @@
 use Rattle.std.proofs.Common.{◌≤◌, List, length, [], ◌∷◌, ◌++◌, sym, ap, subst, ◌∙◌, arith}
 use Rattle.std.proofs.lemmas.List.{take_all}
 use Rattle.sector_device.specs.Disk.{Image}
-use Rattle.page_store.specs.Stops.{quiet_more, passed_more, passed_none}
+use Rattle.page_store.proofs.Stops.{quiet_more, passed_more, passed_none}
 use Rattle.page_btree.specs.Map.{InTxn}
 use Rattle.store_rows.specs.Rows.{KeyMap}
-use Rattle.row_table.specs.Outcomes.{err_of}
-use Rattle.row_table.specs.Appending.{AppendErr, then_unappended}
+use Rattle.row_table.proofs.Outcomes.{err_of}
+use Rattle.row_table.specs.Appending.{AppendErr}
+use Rattle.row_table.proofs.Appending.{then_unappended}
 use Rattle.geo_tables.specs.Elements.{HoldsElements}
 use Rattle.geo_tables.specs.Following.{HoldsAlong}
 use Rattle.btree_scan.specs.Prefixes.{under}

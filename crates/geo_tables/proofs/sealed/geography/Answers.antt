@@ -1,15 +1,16 @@
 use Rattle.std.proofs.Common.{List, ℕ, Option, Some, ap, sym, subst, ◌∙◌}
 use Rattle.sector_device.specs.Disk.{Image}
-use Rattle.page_store.specs.Stops.{quiet_more, passed_more}
+use Rattle.page_store.proofs.Stops.{quiet_more, passed_more}
 use Rattle.page_btree.specs.Map.{InTxn}
 use Rattle.desk_model.specs.Geography.{Ground}
 use Rattle.store_rows.specs.declared.value.SealRow.{SealRow}
 use Rattle.store_rows.specs.Values.{seal_bytes}
 use Rattle.store_rows.specs.Rows.{KeyMap}
 use Rattle.store_rows.specs.GeographyRows.{IsGeography}
-use Rattle.row_table.specs.Outcomes.{err_of}
+use Rattle.row_table.proofs.Outcomes.{err_of}
 use Rattle.row_table.specs.Reading.{StandsAs}
-use Rattle.row_table.specs.Appending.{AppendErr, unread_unappended, then_unappended}
+use Rattle.row_table.specs.Appending.{AppendErr}
+use Rattle.row_table.proofs.Appending.{unread_unappended, then_unappended}
 use Rattle.geo_tables.specs.Elements.{IsSealedAs}
 use Rattle.geo_tables.proofs.SealedRows.{seal_stands, told_by_seal}
 use Rattle.geo_tables.proofs.sealed.geography.Goals as goal

@@ -1,5 +1,5 @@
 use Rattle.std.proofs.Common.{List}
-use Rattle.page_store.specs.Stops.{quiet_more, passed_more, passed_none}
+use Rattle.page_store.proofs.Stops.{quiet_more, passed_more, passed_none}
 use Rattle.page_store.specs.Transactions.{Passed}
 use Rattle.desk_model.specs.declared.block.BlockRow.{BlockRow}
 use Rattle.desk_model.specs.declared.geography.Pair.{Pair}
@@ -8,8 +8,9 @@ use Rattle.store_rows.specs.Keys.{key_of, block, pair}
 use Rattle.store_rows.specs.Values.{block_bytes}
 use Rattle.store_rows.specs.Rows.{KeyMap}
 use Rattle.store_rows.specs.GeographyRows.{IsBlockRow, neighbours_bytes}
-use Rattle.row_table.specs.Outcomes.{err_of}
-use Rattle.row_table.specs.Appending.{AppendErr, then_unappended}
+use Rattle.row_table.proofs.Outcomes.{err_of}
+use Rattle.row_table.specs.Appending.{AppendErr}
+use Rattle.row_table.proofs.Appending.{then_unappended}
 use Rattle.geo_tables.specs.Elements.{HoldsElements, IsPairRow, IsSealedAs}
 use Rattle.geo_tables.proofs.Grounds.{on_ok, no_ground}
 use Rattle.geo_tables.proofs.sealed.read_sealed.Goals as goal

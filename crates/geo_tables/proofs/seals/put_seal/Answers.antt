@@ -1,14 +1,14 @@
 use Rattle.std.proofs.Common.{◌≡◌, [], ◌∷◌, subst, ◌∙◌, inl, arith}
 use Rattle.std.specs.Prelude.{◌⊎◌}
-use Rattle.sector_device.specs.Moments.{leaves_wider}
+use Rattle.sector_device.proofs.Moments.{leaves_wider}
 use Rattle.sector_device.specs.declared.SectorDevice.{Ghosts}
-use Rattle.page_store.specs.Stops.{leaves_here}
+use Rattle.page_store.proofs.Stops.{leaves_here}
 use Rattle.page_store.specs.Transactions.{disk_in, has_halted}
 use Rattle.page_store.specs.declared.pages.Pages.{Pages}
 use Rattle.page_store.specs.declared.txn.Txn.{Txn}
 use Rattle.desk_model.specs.Geography.{Ground}
 use Rattle.store_rows.specs.Changes.{desk_with}
-use Rattle.row_table.specs.Outcomes.{err_of}
+use Rattle.row_table.proofs.Outcomes.{err_of}
 use Rattle.row_table.specs.Puts.{PutsErr}
 use Rattle.geo_tables.specs.Rows.{seal_row}
 use Rattle.geo_tables.specs.Loads.{HasSealed}

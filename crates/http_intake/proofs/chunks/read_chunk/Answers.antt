@@ -2,7 +2,7 @@ use Rattle.std.proofs.Common.{List, ℕ, length, Err, subst, sym}
 use Rattle.http_intake.specs.Chunks.{HasChunkFault, LacksChunks}
 use Rattle.http_intake.specs.ChunkParts.{StepCame}
 use Rattle.http_intake.proofs.ChunkReadLemmas.{line_failed}
-use Rattle.http_intake.specs.DrawsLemmas.{goes_on}
+use Rattle.http_intake.proofs.DrawsLemmas.{goes_on}
 use Rattle.http_intake.proofs.chunks.read_chunk.Goals as goal
 
 pub returns-in-Ok-Found-clause-read : goal.returns-in-Ok-Found-clause-read

@@ -1,6 +1,6 @@
 use Rattle.std.proofs.Common.{◌≡◌, ◌∙◌, length, vec_len, rules, arith}
 use Rattle.std.proofs.lemmas.List.{places}
-use Rattle.http_intake.specs.DrawsLemmas.{spends_more, same_more}
+use Rattle.http_intake.proofs.DrawsLemmas.{spends_more, same_more}
 use Rattle.http_intake.proofs.ChunkReadLemmas.{stands_more, stands_ended, stands_failed, step_within}
 use Rattle.http_intake.proofs.chunks.read_chunks.Goals as goal
 

@@ -1,5 +1,5 @@
 use Rattle.std.proofs.Common.{◌≡◌, List, ℕ}
-use Rattle.http_intake.specs.DrawsLemmas.{goes_on}
+use Rattle.http_intake.proofs.DrawsLemmas.{goes_on}
 use Rattle.http_intake.proofs.sought.read_front.Goals as goal
 
 pub returns-in-Err-clause-read : goal.returns-in-Err-clause-read

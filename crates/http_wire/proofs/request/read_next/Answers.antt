@@ -1,6 +1,6 @@
 use Rattle.std.proofs.Common.{[], ◌++◌, Ok, subst, sym}
 use Rattle.std.proofs.KnownBytes.{Appends-nil}
-use Rattle.http_intake.specs.DrawsLemmas.{goes_on}
+use Rattle.http_intake.proofs.DrawsLemmas.{goes_on}
 use Rattle.http_wire.specs.Incoming.{ReadsFront}
 use Rattle.http_wire.proofs.InterimLemmas.{open_front, open_short, refused_front}
 use Rattle.http_wire.proofs.request.read_next.Goals as goal

@@ -3,7 +3,7 @@ use Rattle.std.specs.Prelude.{IfOk, IfSome}
 use Rattle.std.specs.FinMap.{insert, contains_key}
 use Rattle.sector_device.specs.Disk.{Image}
 use Rattle.page_store.specs.Transactions.{stored, txn_free, txn_writes, Passed}
-use Rattle.page_store.specs.Stops.{quiet_more, passed_more}
+use Rattle.page_store.proofs.Stops.{quiet_more, passed_more}
 use Rattle.page_btree.specs.Map.{InTxn}
 use Rattle.page_btree.specs.Errors.{PutErr, IsNoWant}
 use Rattle.page_btree.specs.declared.error.TreeError.TheVariants.{TooDeep}

@@ -2,7 +2,7 @@ use Rattle.std.proofs.Common.{◌≡◌, ◌-◌, ◌<◌, inr, refl, sym, subst
 use Rattle.std.specs.FinMap.{find}
 use Rattle.sector_device.specs.Disk.{Image}
 use Rattle.page_store.specs.Transactions.{stored, txn_pages, over, Passed}
-use Rattle.page_store.specs.Stops.{quiet_more, passed_more}
+use Rattle.page_store.proofs.Stops.{quiet_more, passed_more}
 use Rattle.page_node.specs.Node.{IsNode}
 use Rattle.page_node.specs.Places.{key_cmp}
 use Rattle.std.specs.Prelude.{IfOk}

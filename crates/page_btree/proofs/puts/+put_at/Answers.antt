@@ -4,7 +4,7 @@ use Rattle.std.specs.FinMap.{find, put}
 use Rattle.sector_device.specs.Disk.{Image}
 use Rattle.page_store.specs.Chain.{IsIn, AreFree}
 use Rattle.page_store.specs.Transactions.{stored, txn_pages, txn_free, over, free_over, disk_in}
-use Rattle.page_store.specs.Stops.{quiet_more, passed_more}
+use Rattle.page_store.proofs.Stops.{quiet_more, passed_more}
 use Rattle.page_node.specs.Entries.{Entry, key_at, child_bytes}
 use Rattle.page_node.specs.Node.{Node, IsNode}
 use Rattle.page_node.specs.Places.{key_cmp}

@@ -2,10 +2,10 @@ use Rattle.std.proofs.Common.{◌≡◌, sym, subst}
 use Rattle.std.specs.Prelude.{IfOk}
 use Rattle.page_store.specs.Chain.{IsIn, AreFree}
 use Rattle.page_store.specs.Transactions.{stored, txn_pages, over, free_over, Passed}
-use Rattle.page_store.specs.Stops.{quiet_more, passed_more}
+use Rattle.page_store.proofs.Stops.{quiet_more, passed_more}
 use Rattle.page_node.specs.Entries.{Entry, key_at, child_bytes}
 use Rattle.page_node.specs.Node.{IsNode}
-use Rattle.page_node.specs.Laws.{node_unique}
+use Rattle.page_node.proofs.Laws.{node_unique}
 use Rattle.page_btree.specs.Putting.{IsWritten}
 use Rattle.page_btree.proofs.Outcomes.{map_ok}
 use Rattle.page_btree.proofs.Placing.{linked_node}

@@ -4,7 +4,7 @@ use Rattle.std.specs.FinMap.{insert}
 use Rattle.sector_device.specs.Disk.{Image}
 use Rattle.page_store.specs.Chain.{AreFree}
 use Rattle.page_store.specs.Transactions.{stored, txn_pages, txn_root, txn_free, over, free_over, Passed, disk_in}
-use Rattle.page_store.specs.Stops.{quiet_more, passed_more}
+use Rattle.page_store.proofs.Stops.{quiet_more, passed_more}
 use Rattle.page_node.specs.Entries.{key_at}
 use Rattle.page_btree.specs.Keys.{KeyMap}
 use Rattle.page_btree.specs.Map.{Holds, InTxn}

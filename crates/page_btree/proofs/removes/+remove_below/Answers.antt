@@ -2,7 +2,7 @@ use Rattle.std.proofs.Common.{◌≡◌, ◌-◌, ◌<◌, inr, sym, subst, arit
 use Rattle.sector_device.specs.Disk.{Image}
 use Rattle.page_store.specs.Transactions.{stored, txn_pages, over, free_over, Passed}
 use Rattle.page_store.specs.Chain.{AreFree}
-use Rattle.page_store.specs.Stops.{quiet_more, passed_more}
+use Rattle.page_store.proofs.Stops.{quiet_more, passed_more}
 use Rattle.page_node.specs.Node.{Node, IsNode}
 use Rattle.page_btree.specs.Tree.{rows}
 use Rattle.page_btree.specs.Getting.{IsLevel}

@@ -1,7 +1,7 @@
 use Rattle.std.proofs.Common.{◌≡◌, ◌≤◌, sym, ap, subst, ◌∙◌, arith, List}
 use Rattle.page_node.specs.Node.{Node, Fits}
 use Rattle.page_node.specs.Entries.{Entry, size_of}
-use Rattle.page_node.specs.Laws.{node_unique}
+use Rattle.page_node.proofs.Laws.{node_unique}
 use Rattle.page_btree.specs.Removing.{IsPutBack, unlinked}
 use Rattle.page_btree.proofs.Edits.{size_remove}
 use Rattle.page_btree.proofs.Outcomes.{map_ok}

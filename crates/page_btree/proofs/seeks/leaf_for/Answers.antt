@@ -2,7 +2,7 @@ use Rattle.std.proofs.Common.{◌≡◌, ◌≢◌, sym, ap, subst, ◌∙◌, a
 use Rattle.std.specs.Prelude.{None, OnOk}
 use Rattle.sector_device.specs.Disk.{Image}
 use Rattle.page_store.specs.Transactions.{stored, txn_pages, txn_root, over, Passed}
-use Rattle.page_store.specs.Stops.{quiet_more, passed_more}
+use Rattle.page_store.proofs.Stops.{quiet_more, passed_more}
 use Rattle.page_btree.specs.Tree.{page_of}
 use Rattle.page_btree.specs.Getting.{CanGet, CanGetAt, IsLevel, ReadsErr}
 use Rattle.page_btree.specs.Errors.{GetErr}

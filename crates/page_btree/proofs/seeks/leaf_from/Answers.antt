@@ -2,7 +2,7 @@ use Rattle.std.proofs.Common.{◌≡◌, ◌<◌, ℕ, List, inr, ⊎_elim, cond
 use Rattle.std.specs.Prelude.{Some, None}
 use Rattle.sector_device.specs.Disk.{Image}
 use Rattle.page_store.specs.Transactions.{txn_pages, txn_root, over, free_over}
-use Rattle.page_store.specs.Stops.{quiet_more, passed_more}
+use Rattle.page_store.proofs.Stops.{quiet_more, passed_more}
 use Rattle.page_btree.specs.Map.{IsRooted}
 use Rattle.page_btree.specs.Errors.{GetErr}
 use Rattle.page_btree.specs.Keys.{KeyMap}

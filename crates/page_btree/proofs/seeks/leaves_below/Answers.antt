@@ -1,7 +1,7 @@
 use Rattle.std.proofs.Common.{◌≡◌, ◌≤◌, ℕ, get_or, inr, ap, sym, subst, ◌∙◌, arith}
 use Rattle.sector_device.specs.Disk.{Image}
 use Rattle.page_store.specs.Transactions.{stored, txn_pages, over, Passed}
-use Rattle.page_store.specs.Stops.{quiet_more, passed_more}
+use Rattle.page_store.proofs.Stops.{quiet_more, passed_more}
 use Rattle.page_node.specs.Node.{Node, IsNode}
 use Rattle.page_btree.specs.Getting.{CanGetAt, IsLevel, ReadsErr}
 use Rattle.page_btree.specs.Seeking.{bound_in, leaf_of}

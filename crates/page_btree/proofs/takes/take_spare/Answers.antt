@@ -3,7 +3,7 @@ use Rattle.std.specs.Prelude.{IfOk, IfSome, Some, true, false}
 use Rattle.std.specs.FinMap.{contains_key, remove as remove_key}
 use Rattle.sector_device.specs.Disk.{Image}
 use Rattle.page_store.specs.Transactions.{stored, txn_pages, txn_root, over, free_over, Passed}
-use Rattle.page_store.specs.Stops.{quiet_more, passed_more}
+use Rattle.page_store.proofs.Stops.{quiet_more, passed_more}
 use Rattle.page_node.specs.Entries.{Entry}
 use Rattle.page_node.specs.Node.{IsNode}
 use Rattle.page_node.specs.Places.{Rises}

@@ -1,5 +1,5 @@
 use Rattle.std.proofs.Common.{List, refl, subst, arith}
-use Rattle.page_node.specs.Laws.{gap_find}
+use Rattle.page_node.proofs.Laws.{gap_find}
 use Rattle.page_node.specs.Entries.{Entry}
 use Rattle.page_node.specs.Node.{IsNode}
 use Rattle.page_node.specs.Places.{Rises}

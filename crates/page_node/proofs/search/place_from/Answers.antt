@@ -5,8 +5,9 @@ use Rattle.std.proofs.lemmas.List.{length-drop}
 use Rattle.page_node.specs.Entries.{Entry, key_at, size_of}
 use Rattle.page_node.specs.Node.{Node, IsNode}
 use Rattle.page_node.specs.Places.{key_cmp, entries_from}
-use Rattle.page_node.specs.Walking.{IsAhead, node_ahead_at}
-use Rattle.page_node.specs.Laws.{entries_from_at, from_middle, not_below, is_less}
+use Rattle.page_node.specs.Walking.{IsAhead}
+use Rattle.page_node.proofs.Walking.{node_ahead_at}
+use Rattle.page_node.proofs.Laws.{entries_from_at, from_middle, not_below, is_less}
 use Rattle.page_node.proofs.Scanning.{lies_there, entry_of, end_there, key_part}
 use Rattle.page_node.proofs.search.place_from.Goals as goal
 

@@ -2,7 +2,7 @@ use Rattle.std.proofs.Common.{◌≡◌, ℕ, ◌+◌, take, true, arith, sym, a
 use Rattle.std.specs.Ordering.{is_lt}
 use Rattle.page_node.specs.Entries.{key_at, size_of}
 use Rattle.page_node.specs.Places.{key_cmp}
-use Rattle.page_node.specs.Laws.{below_middle, is_less}
+use Rattle.page_node.proofs.Laws.{below_middle, is_less}
 use Rattle.page_node.proofs.Scanning.{lies_there, entry_of, end_there, key_part}
 use Rattle.page_node.proofs.Passed.{node_passed, node_passed_not}
 use Rattle.page_node.proofs.search.row_near.Goals as goal

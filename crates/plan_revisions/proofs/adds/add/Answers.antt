@@ -2,14 +2,14 @@ use Rattle.std.proofs.Common.{◌≡◌, ◌<◌, ◌≤◌, ◌-◌, ◌^◌, �
 use Rattle.desk_model.specs.declared.cuts.Cut.{Cut}
 use Rattle.desk_model.specs.Cuts.{cuts_of}
 use Rattle.desk_model.specs.Room.{changed, revision_rows}
-use Rattle.page_store.specs.Stops.{quiet_more}
+use Rattle.page_store.proofs.Stops.{quiet_more}
 use Rattle.page_store.specs.Transactions.{stored, disk_in}
 use Rattle.page_btree.specs.Map.{InTxn as HasMap}
 use Rattle.store_rows.specs.declared.value.Counters.{Counters}
 use Rattle.store_rows.specs.declared.value.PlanRow.{PlanRow}
 use Rattle.store_rows.specs.Puts.{Row}
 use Rattle.store_rows.specs.Rows.{KeyMap}
-use Rattle.row_table.specs.Outcomes.{match_of}
+use Rattle.row_table.proofs.Outcomes.{match_of}
 use Rattle.row_table.specs.Puts.{HasPut, PutsErr}
 use Rattle.plan_table.specs.PlanRows.{HasChunkNumbers}
 use Rattle.desk_room.specs.Cutting.{changes_in}

@@ -4,7 +4,7 @@ use Rattle.std.proofs.lemmas.List.{length-map}
 use Rattle.desk_model.specs.Desk.{Desk}
 use Rattle.desk_room.specs.Cutting.{is_changed}
 use Rattle.desk_catalogue.specs.Kept.{revision_in}
-use Rattle.plan_revisions.specs.Accepted.{next_is}
+use Rattle.plan_revisions.proofs.Accepted.{next_is}
 use Rattle.plan_revisions.proofs.Counted.{changes_now, changes_told, there_is}
 use Rattle.plan_revisions.proofs.Stepped.{revision_put}
 use Rattle.plan_revisions.proofs.puts.put_revision.Goals as goal

@@ -1,5 +1,5 @@
 use Rattle.std.proofs.Common.{◌≡◌, sym, ◌∙◌}
-use Rattle.plan_revisions.specs.Accepted.{whole_revised, counties_revised}
+use Rattle.plan_revisions.proofs.Accepted.{whole_revised, counties_revised}
 use Rattle.plan_revisions.proofs.Counted.{changes_by}
 use Rattle.plan_revisions.proofs.rows.command_rows.Goals as goal
 

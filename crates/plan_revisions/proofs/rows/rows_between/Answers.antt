@@ -8,8 +8,8 @@ use Rattle.desk_model.specs.Desk.{Desk}
 use Rattle.desk_model.specs.Room.{revision_rows}
 use Rattle.desk_room.specs.Cutting.{is_changed}
 use Rattle.desk_catalogue.specs.Kept.{revision_in}
-use Rattle.plan_revisions.specs.Accepted.{next_is, rows_added}
-use Rattle.plan_revisions.specs.CommandCounties.{few_cuts}
+use Rattle.plan_revisions.proofs.Accepted.{next_is, rows_added}
+use Rattle.plan_revisions.proofs.CommandCounties.{few_cuts}
 use Rattle.plan_revisions.proofs.Counted.{changes_told, cuts_are, if_whole, same_ground}
 use Rattle.plan_revisions.proofs.rows.rows_between.Goals as goal
 

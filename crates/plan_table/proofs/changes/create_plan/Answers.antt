@@ -1,5 +1,5 @@
 use Rattle.std.proofs.Common.{rules, refl, arith}
-use Rattle.page_store.specs.Stops.{quiet_more}
+use Rattle.page_store.proofs.Stops.{quiet_more}
 use Rattle.store_rows.specs.declared.value.Counters.{Counters}
 use Rattle.store_rows.specs.Tidy.{CountersFit}
 use Rattle.plan_table.specs.PlanRows.{HasPlanNumber, created_rows}

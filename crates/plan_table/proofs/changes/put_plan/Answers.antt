@@ -1,5 +1,5 @@
 use Rattle.std.proofs.Common.{[], ◌∷◌}
-use Rattle.page_store.specs.Stops.{quiet_more}
+use Rattle.page_store.proofs.Stops.{quiet_more}
 use Rattle.row_table.specs.Puts.{HasPut, PutsErr}
 use Rattle.plan_table.specs.PlanRows.{plan_rows}
 use Rattle.plan_table.proofs.Results.{map_both, match_of}

@@ -1,6 +1,6 @@
 use Rattle.std.proofs.Common.{◌≡◌, ℕ, List, [], ◌∷◌, subst, ◌∙◌}
 use Rattle.std.specs.FinMap.{remove}
-use Rattle.page_store.specs.Stops.{quiet_more}
+use Rattle.page_store.proofs.Stops.{quiet_more}
 use Rattle.page_store.specs.Transactions.{stored, disk_in}
 use Rattle.page_btree.specs.Map.{InTxn}
 use Rattle.store_rows.specs.Keys.{key_of, named}

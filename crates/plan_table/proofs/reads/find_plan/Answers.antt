@@ -3,7 +3,8 @@ use Rattle.std.specs.Prelude.{Option}
 use Rattle.store_rows.specs.Values.{plan_bytes}
 use Rattle.store_rows.specs.declared.value.PlanRow.{PlanRow}
 use Rattle.store_rows.specs.Rows.{KeyMap}
-use Rattle.row_table.specs.Reading.{StandsAs, ReadErr, less_unread}
+use Rattle.row_table.specs.Reading.{StandsAs, ReadErr}
+use Rattle.row_table.proofs.Reading.{less_unread}
 use Rattle.plan_table.specs.PlanRows.{HasRow}
 use Rattle.plan_table.proofs.Results.{map_err}
 use Rattle.plan_table.proofs.reads.find_plan.Goals as goal

@@ -1,4 +1,4 @@
-use Rattle.store_rows.specs.NameRows.{names_put, names_kept, revision_kept, names_keep_tag}
+use Rattle.store_rows.proofs.NameRows.{names_put, names_kept, revision_kept, names_keep_tag}
 use Rattle.revision_table.proofs.laws.names_are_put.Goals as goal
 
 pub returns : goal.returns

@@ -1,7 +1,8 @@
 use Rattle.std.proofs.Common.{◌≤◌, ◌*◌, ◌++◌, ◌+◌, List, ℕ, length, take, drop, sym, ap, ◌∙◌, take_all, arith}
-use Rattle.page_store.specs.Stops.{quiet_more}
-use Rattle.row_table.specs.Outcomes.{match_of}
-use Rattle.row_table.specs.Appending.{HasAppended, AppendErr, more_appended, then_unappended, parts_more}
+use Rattle.page_store.proofs.Stops.{quiet_more}
+use Rattle.row_table.proofs.Outcomes.{match_of}
+use Rattle.row_table.specs.Appending.{HasAppended, AppendErr}
+use Rattle.row_table.proofs.Appending.{more_appended, then_unappended, parts_more}
 use Rattle.revision_table.specs.Reading.{AreNames}
 use Rattle.revision_table.proofs.names.append_names.Goals as goal
 

@@ -1,9 +1,11 @@
 use Rattle.std.proofs.Common.{◌≡◌, ◌*◌, ◌++◌, List, ℕ, take, drop, inr, ap, sym, ◌∙◌}
 use Rattle.store_rows.specs.Lists.{chunks_bytes}
-use Rattle.store_rows.specs.ListLaws.{chunks_differ}
-use Rattle.row_table.specs.Outcomes.{match_of}
-use Rattle.row_table.specs.Reading.{HasRow, one_value}
-use Rattle.row_table.specs.Appending.{HasAppended, AppendErr, unread_unappended}
+use Rattle.store_rows.proofs.ListLaws.{chunks_differ}
+use Rattle.row_table.proofs.Outcomes.{match_of}
+use Rattle.row_table.specs.Reading.{HasRow}
+use Rattle.row_table.proofs.Reading.{one_value}
+use Rattle.row_table.specs.Appending.{HasAppended, AppendErr}
+use Rattle.row_table.proofs.Appending.{unread_unappended}
 use Rattle.revision_table.specs.Reading.{AreNames}
 use Rattle.revision_table.proofs.Parts.{part_is_there, part_is}
 use Rattle.revision_table.proofs.names.append_part.Goals as goal

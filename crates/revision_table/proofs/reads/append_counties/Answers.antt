@@ -1,8 +1,9 @@
 use Rattle.std.proofs.Common.{◌<◌, ◌≤◌, ◌+◌, ◌++◌, List, ℕ, [], length, get_or, take, sym, ap, ◌∙◌, take_all, arith}
 use Rattle.std.specs.List.{concat}
-use Rattle.page_store.specs.Stops.{quiet_more}
-use Rattle.row_table.specs.Outcomes.{match_of}
-use Rattle.row_table.specs.Appending.{HasAppended, AppendErr, more_appended, then_unappended}
+use Rattle.page_store.proofs.Stops.{quiet_more}
+use Rattle.row_table.proofs.Outcomes.{match_of}
+use Rattle.row_table.specs.Appending.{HasAppended, AppendErr}
+use Rattle.row_table.proofs.Appending.{more_appended, then_unappended}
 use Rattle.revision_table.specs.Reading.{AreLater}
 use Rattle.revision_table.proofs.Counties.{as_many, one_county_more}
 use Rattle.revision_table.proofs.reads.append_counties.Goals as goal

@@ -1,7 +1,8 @@
 use Rattle.std.proofs.Common.{◌<◌, [], length, get_or, refl, arith}
-use Rattle.page_store.specs.Stops.{passed_none}
-use Rattle.row_table.specs.Outcomes.{map_both}
-use Rattle.row_table.specs.Appending.{HasAppended, AppendErr, then_appended, then_unappended}
+use Rattle.page_store.proofs.Stops.{passed_none}
+use Rattle.row_table.proofs.Outcomes.{map_both}
+use Rattle.row_table.specs.Appending.{HasAppended, AppendErr}
+use Rattle.row_table.proofs.Appending.{then_appended, then_unappended}
 use Rattle.revision_table.specs.Reading.{AreLater}
 use Rattle.revision_table.proofs.Counties.{as_many, as_long, known_read}
 use Rattle.revision_table.proofs.reads.append_county.Goals as goal

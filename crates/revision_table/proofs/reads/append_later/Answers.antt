@@ -1,8 +1,9 @@
 use Rattle.std.proofs.Common.{◌++◌, List, ℕ, length, inr, refl, ap, ◌∙◌}
 use Rattle.std.specs.List.{concat}
-use Rattle.page_store.specs.Stops.{quiet_more, passed_none}
-use Rattle.row_table.specs.Outcomes.{match_of, map_both}
-use Rattle.row_table.specs.Appending.{HasAppended, AppendErr, then_appended, then_unappended}
+use Rattle.page_store.proofs.Stops.{quiet_more, passed_none}
+use Rattle.row_table.proofs.Outcomes.{match_of, map_both}
+use Rattle.row_table.specs.Appending.{HasAppended, AppendErr}
+use Rattle.row_table.proofs.Appending.{then_appended, then_unappended}
 use Rattle.revision_table.specs.Reading.{AreLater, AreNames, AreRead, IsLater}
 use Rattle.revision_table.proofs.Counties.{named, counties_of, on_any}
 use Rattle.revision_table.proofs.reads.append_later.Goals as goal

@@ -1,8 +1,9 @@
 use Rattle.std.proofs.Common.{refl}
 use Rattle.std.specs.List.{concat}
-use Rattle.page_store.specs.Stops.{passed_none}
-use Rattle.row_table.specs.Outcomes.{map_both}
-use Rattle.row_table.specs.Appending.{HasAppended, AppendErr, then_appended, then_unappended}
+use Rattle.page_store.proofs.Stops.{passed_none}
+use Rattle.row_table.proofs.Outcomes.{map_both}
+use Rattle.row_table.specs.Appending.{HasAppended, AppendErr}
+use Rattle.row_table.proofs.Appending.{then_appended, then_unappended}
 use Rattle.revision_table.specs.Reading.{IsRevision}
 use Rattle.revision_table.proofs.Counties.{none_known}
 use Rattle.revision_table.proofs.reads.append_revision.Goals as goal

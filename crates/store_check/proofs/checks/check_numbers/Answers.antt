@@ -1,10 +1,11 @@
 use Rattle.std.proofs.Common.{sym, subst}
 use Rattle.sector_device.specs.Disk.{Image}
-use Rattle.page_store.specs.Stops.{quiet_more, passed_more}
+use Rattle.page_store.proofs.Stops.{quiet_more, passed_more}
 use Rattle.page_store.specs.Transactions.{Passed}
 use Rattle.page_btree.specs.Map.{InTxn}
-use Rattle.row_table.specs.Outcomes.{err_of}
-use Rattle.row_table.specs.Reading.{ReadErr, HasNext, less_unread}
+use Rattle.row_table.proofs.Outcomes.{err_of}
+use Rattle.row_table.specs.Reading.{ReadErr, HasNext}
+use Rattle.row_table.proofs.Reading.{less_unread}
 use Rattle.store_check.specs.Numbers.{AllBelow, HasNumbersBelow, IsDue, IsKept}
 use Rattle.store_check.proofs.Kept.{are_below, counters_fit, ok_then, err_then, kept_unread}
 use Rattle.store_check.proofs.checks.check_numbers.Goals as goal

@@ -3,13 +3,13 @@ use Rattle.std.specs.Prelude.{Some, None, IfSome}
 use Rattle.std.specs.FinMap.{entries}
 use Rattle.sector_device.specs.Disk.{Image}
 use Rattle.page_store.specs.Transactions.{stored}
-use Rattle.page_store.specs.Stops.{quiet_more, passed_more, passed_none}
+use Rattle.page_store.proofs.Stops.{quiet_more, passed_more, passed_none}
 use Rattle.page_node.specs.Entries.{Entry}
 use Rattle.page_btree.specs.Map.{InTxn}
 use Rattle.btree_scan.specs.Scanning.{IsNextRow, fault_in, CanScan, ScanErr}
-use Rattle.btree_scan.specs.Taken.{taken_none, taken_more, taken_all, taken_few}
-use Rattle.btree_scan.specs.Refused.{scan_refused}
-use Rattle.row_table.specs.Reading.{get_unread}
+use Rattle.btree_scan.proofs.Taken.{taken_none, taken_more, taken_all, taken_few}
+use Rattle.btree_scan.proofs.Refused.{scan_refused}
+use Rattle.row_table.proofs.Reading.{get_unread}
 use Rattle.store_check.specs.Numbers.{IsDue}
 use Rattle.store_check.proofs.Scanned.{row_there, below_more, all_below, past_below}
 use Rattle.store_check.proofs.Kept.{no_due}

@@ -1,4 +1,4 @@
-use Rattle.store_rows.specs.ListLaws.{chunks_differ}
+use Rattle.store_rows.proofs.ListLaws.{chunks_differ}
 use Rattle.store_rows.proofs.key_laws.chunks_differ.Goals as goal
 
 pub returns : goal.returns

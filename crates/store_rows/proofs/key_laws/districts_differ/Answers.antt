@@ -1,4 +1,4 @@
-use Rattle.store_rows.specs.ListLaws.{districts_differ}
+use Rattle.store_rows.proofs.ListLaws.{districts_differ}
 use Rattle.store_rows.proofs.key_laws.districts_differ.Goals as goal
 
 pub returns : goal.returns

@@ -1,4 +1,4 @@
-use Rattle.store_rows.specs.RowLaws.{keys_differ}
+use Rattle.store_rows.proofs.RowLaws.{keys_differ}
 use Rattle.store_rows.proofs.key_laws.keys_differ.Goals as goal
 
 pub returns : goal.returns

@@ -3,12 +3,12 @@ use Rattle.std.specs.Prelude.{Some, None, IfSome}
 use Rattle.std.specs.FinMap.{entries}
 use Rattle.sector_device.specs.Disk.{Image}
 use Rattle.page_store.specs.Transactions.{stored}
-use Rattle.page_store.specs.Stops.{quiet_more, passed_more, passed_none}
+use Rattle.page_store.proofs.Stops.{quiet_more, passed_more, passed_none}
 use Rattle.page_node.specs.Entries.{Entry}
 use Rattle.page_btree.specs.Map.{InTxn}
 use Rattle.btree_scan.specs.Scanning.{IsNextRow, fault_in, CanScan, ScanErr}
-use Rattle.btree_scan.specs.Taken.{taken_none, taken_more, taken_all, taken_few}
-use Rattle.btree_scan.specs.Refused.{scan_refused}
+use Rattle.btree_scan.proofs.Taken.{taken_none, taken_more, taken_all, taken_few}
+use Rattle.btree_scan.proofs.Refused.{scan_refused}
 use Rattle.store_sweep.proofs.Scanned.{row_there, found_among, passed_more as pass_more, none_passed}
 use Rattle.store_sweep.proofs.firsts.first_mark.Goals as goal
 

@@ -1,11 +1,12 @@
 use Rattle.std.proofs.Common.{◌≡◌, ℕ, List, Bool, true, false, inr, drop, length, ap, sym, subst, ◌∙◌}
 use Rattle.sector_device.specs.Disk.{Image}
-use Rattle.page_store.specs.Stops.{quiet_more, passed_more}
+use Rattle.page_store.proofs.Stops.{quiet_more, passed_more}
 use Rattle.page_btree.specs.Map.{InTxn}
 use Rattle.store_rows.specs.Keys.{begun_prefix, in_eight}
 use Rattle.store_rows.specs.Tidy.{Tidy}
-use Rattle.row_table.specs.Outcomes.{err_of}
-use Rattle.row_table.specs.Reading.{ReadErr, get_unread}
+use Rattle.row_table.proofs.Outcomes.{err_of}
+use Rattle.row_table.specs.Reading.{ReadErr}
+use Rattle.row_table.proofs.Reading.{get_unread}
 use Rattle.store_sweep.specs.Finding.{IsFirstMark, HasLoadMark, spared_key}
 use Rattle.store_sweep.proofs.Left.{begun_long, begun_mark, no_begun, load_next_left}
 use Rattle.store_sweep.proofs.Refused.{mark_unread}

@@ -1,12 +1,13 @@
 use Rattle.std.proofs.Common.{◌≡◌, ℕ, List, Bool, true, false, inr, sym, subst, ◌∙◌, arith}
 use Rattle.sector_device.specs.Disk.{Image}
-use Rattle.page_store.specs.Stops.{quiet_more, passed_more}
+use Rattle.page_store.proofs.Stops.{quiet_more, passed_more}
 use Rattle.page_btree.specs.Map.{InTxn}
 use Rattle.store_rows.specs.Keys.{plan_parts_prefix, key_of, retired}
 use Rattle.store_rows.specs.Lists.{AreChunks, chunks_bytes}
 use Rattle.store_rows.specs.Tidy.{AreRows}
-use Rattle.row_table.specs.Outcomes.{err_of}
-use Rattle.row_table.specs.Reading.{ReadErr, get_unread, less_unread, not_read_after}
+use Rattle.row_table.proofs.Outcomes.{err_of}
+use Rattle.row_table.specs.Reading.{ReadErr}
+use Rattle.row_table.proofs.Reading.{get_unread, less_unread, not_read_after}
 use Rattle.store_sweep.specs.Finding.{IsFirst, IsFirstPiece, IsLeftKey, HasPlanMark}
 use Rattle.store_sweep.proofs.Left.{IsNoLoads, part_left, part_told, piece_left, plan_mark_left}
 use Rattle.store_sweep.proofs.leftovers.left_of_plan.Goals as goal

@@ -1,11 +1,12 @@
 use Rattle.std.proofs.Common.{◌≡◌, ℕ, List, Bool, true, false, inr, drop, length, ap, sym, subst, ◌∙◌}
 use Rattle.sector_device.specs.Disk.{Image}
-use Rattle.page_store.specs.Stops.{quiet_more, passed_more}
+use Rattle.page_store.proofs.Stops.{quiet_more, passed_more}
 use Rattle.page_btree.specs.Map.{InTxn}
 use Rattle.store_rows.specs.Keys.{retired_prefix, key_of, counters, in_eight}
 use Rattle.store_rows.specs.Tidy.{Tidy}
-use Rattle.row_table.specs.Outcomes.{err_of}
-use Rattle.row_table.specs.Reading.{ReadErr, get_unread}
+use Rattle.row_table.proofs.Outcomes.{err_of}
+use Rattle.row_table.specs.Reading.{ReadErr}
+use Rattle.row_table.proofs.Reading.{get_unread}
 use Rattle.store_sweep.specs.Finding.{IsFirstMark, HasPlanMark}
 use Rattle.store_sweep.proofs.Left.{retired_long, retired_mark, no_retired}
 use Rattle.store_sweep.proofs.Refused.{mark_unread}

@@ -1,11 +1,12 @@
 use Rattle.std.proofs.Common.{Bool, false, sym, subst}
 use Rattle.sector_device.specs.Disk.{Image}
 use Rattle.page_store.specs.Transactions.{Passed}
-use Rattle.page_store.specs.Stops.{quiet_more, passed_more}
+use Rattle.page_store.proofs.Stops.{quiet_more, passed_more}
 use Rattle.page_btree.specs.Map.{InTxn}
 use Rattle.store_rows.specs.Tidy.{Tidy}
-use Rattle.row_table.specs.Outcomes.{err_of}
-use Rattle.row_table.specs.Reading.{ReadErr, not_read_after}
+use Rattle.row_table.proofs.Outcomes.{err_of}
+use Rattle.row_table.specs.Reading.{ReadErr}
+use Rattle.row_table.proofs.Reading.{not_read_after}
 use Rattle.store_sweep.specs.Finding.{IsPlanLeft, IsLoadLeft, IsNextLeft}
 use Rattle.store_sweep.proofs.Refused.{ok_then, if_ok_then, err_then, plan_next, load_next}
 use Rattle.store_sweep.proofs.leftovers.next_leftover.Goals as goal

@@ -1,7 +1,7 @@
 use Rattle.std.proofs.Common.{◌<◌, ◌≤◌, ℕ, List, Bool, true, inr, length, refl, sym, subst}
-use Rattle.page_store.specs.Stops.{quiet_more}
+use Rattle.page_store.proofs.Stops.{quiet_more}
 use Rattle.page_store.specs.Transactions.{stored}
-use Rattle.row_table.specs.Outcomes.{match_of}
+use Rattle.row_table.proofs.Outcomes.{match_of}
 use Rattle.store_sweep.specs.Leftovers.{IsSpared}
 use Rattle.store_sweep.specs.Finding.{IsNextLeft}
 use Rattle.store_sweep.specs.Sweeping.{HasDesk, TakeErr, IsTurn}

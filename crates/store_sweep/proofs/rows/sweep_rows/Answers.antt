@@ -1,10 +1,10 @@
 use Rattle.std.proofs.Common.{◌≡◌, ℕ, Bool, true, false, sym, subst, arith}
 use Rattle.sector_device.specs.Disk.{Image}
-use Rattle.page_store.specs.Stops.{quiet_more}
+use Rattle.page_store.proofs.Stops.{quiet_more}
 use Rattle.page_store.specs.Transactions.{stored}
 use Rattle.page_store.specs.declared.txn.Txn.{Txn}
 use Rattle.page_btree.specs.Map.{InTxn}
-use Rattle.row_table.specs.Outcomes.{match_of}
+use Rattle.row_table.proofs.Outcomes.{match_of}
 use Rattle.store_sweep.specs.Sweeping.{HasSwept, HasDesk, TakeErr, IsTurn}
 use Rattle.store_sweep.proofs.Taken.{none_swept, more_swept, stop_swept, not_later}
 use Rattle.store_sweep.proofs.rows.sweep_rows.Goals as goal

@@ -1,5 +1,5 @@
 use Rattle.std.proofs.Common.{refl, inl}
-use Rattle.page_store.specs.Stops.{quiet_none}
+use Rattle.page_store.proofs.Stops.{quiet_none}
 use Rattle.desk_store.specs.Clerks.{desk_of, Keeps}
 use Rattle.desk_store.specs.Loads.{BeginRefused}
 use Rattle.desk_store.proofs.Moved.{worked, faulted, quieted, unmoved}

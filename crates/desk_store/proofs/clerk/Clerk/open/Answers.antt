@@ -1,6 +1,6 @@
 use Rattle.std.proofs.Common.{◌≡◌, inr, refl, sym, subst}
 use Rattle.sector_device.specs.Moments.{LeavesOnly}
-use Rattle.page_store.specs.Stops.{leaves_quiet}
+use Rattle.page_store.proofs.Stops.{leaves_quiet}
 use Rattle.page_store.specs.Transactions.{disk_in}
 use Rattle.desk_store.specs.Openings.{AllDesks, OpensOneOf, IsSpared, OpenRefused}
 use Rattle.desk_store.specs.declared.opening.OpenError.{OpenError}

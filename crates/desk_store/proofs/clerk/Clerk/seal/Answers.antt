@@ -1,5 +1,5 @@
 use Rattle.std.proofs.Common.{refl, ◌∙◌}
-use Rattle.page_store.specs.Stops.{quiet_none}
+use Rattle.page_store.proofs.Stops.{quiet_none}
 use Rattle.desk_store.specs.Keeping.{sealed_desk}
 use Rattle.desk_store.specs.Loads.{Stages}
 use Rattle.geo_tables.specs.Loading.{ground_of}

@@ -1,7 +1,7 @@
 use Rattle.std.proofs.Common.{◌≡◌, ◌∙◌, ◌++◌, ◌∷◌, ◌⊎◌, [], ℕ, List, ⊎_elim, set, ap, sym, subst}
 use Rattle.std.proofs.lemmas.List.{get_or_default}
 use Rattle.sector_device.specs.Disk.{Image}
-use Rattle.sector_device.specs.Moments.{on_ok}
+use Rattle.sector_device.proofs.Moments.{on_ok}
 use Rattle.gate_journal.specs.Store.{overlay, put, Writes}
 use Rattle.gate_journal.specs.Writes.{writes_of, IsLast}
 use Rattle.gate_journal.proofs.Images.{writes_at}

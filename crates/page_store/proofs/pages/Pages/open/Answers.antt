@@ -1,5 +1,6 @@
 use Rattle.std.proofs.Common.{◌≡◌, ℕ, inr, sym, subst}
-use Rattle.sector_device.specs.Moments.{LeavesOnly, leaves_still}
+use Rattle.sector_device.specs.Moments.{LeavesOnly}
+use Rattle.sector_device.proofs.Moments.{leaves_still}
 use Rattle.gate_journal.specs.Contents.{disk_of, content, page_count}
 use Rattle.gate_journal.specs.Recovery.{AllStores, ReadsAs}
 use Rattle.sector_device.specs.Disk.{Image}
@@ -8,7 +9,7 @@ use Rattle.page_store.specs.Openings.{MetaErr}
 use Rattle.page_store.specs.Transactions.{IsUntouched}
 use Rattle.page_store.specs.declared.error.PageError.{PageError}
 use Rattle.page_store.specs.declared.error.PageError.TheVariants.{NotAStore}
-use Rattle.page_store.specs.Stops.{kept_still}
+use Rattle.page_store.proofs.Stops.{kept_still}
 use Rattle.page_store.proofs.Opened.{found_pages, bad_pages, opened_err}
 use Rattle.page_store.proofs.pages.Pages.open.Goals as goal
 

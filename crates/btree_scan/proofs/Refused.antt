@@ -3,7 +3,7 @@ use Rattle.std.proofs.Common.{inl, inr, ⊎_elim, sym, subst, ◌∙◌}
 use Rattle.sector_device.specs.Disk.{Image}
 use Rattle.sector_device.specs.declared.SectorDevice.{Ghosts}
 use Rattle.page_store.specs.Transactions.{stored, disk_in, IsQuiet, Passed}
-use Rattle.page_store.specs.Stops.{failed_more}
+use Rattle.page_store.proofs.Stops.{failed_more}
 use Rattle.page_store.specs.declared.pages.Pages.{Pages}
 use Rattle.page_store.specs.declared.txn.Txn.{Txn}
 use Rattle.page_btree.specs.Keys.{KeyMap}

@@ -9,15 +9,17 @@ use Rattle.store_rows.specs.Keys.{key_of, begun, block, counters, in_eight, pair
 use Rattle.store_rows.specs.Values.{counters_bytes}
 use Rattle.store_rows.specs.declared.value.Counters.{Counters}
 use Rattle.store_rows.specs.Rows.{KeyMap, SameTag, Has, Lacks}
-use Rattle.store_rows.specs.Puts.{Row, put_rows, put_rows-append, told_keep}
+use Rattle.store_rows.specs.Puts.{Row, put_rows}
+use Rattle.store_rows.proofs.Puts.{put_rows-append, told_keep}
 use Rattle.store_rows.specs.GeographyRows.{IsSealed, IsStaged, geography_rows}
 use Rattle.store_rows.specs.DeskRows.{IsDesk}
 use Rattle.store_rows.specs.Changes.{desk_with}
 use Rattle.store_rows.specs.Tidy.{IsNext, no_numbers}
-use Rattle.store_rows.specs.Staging.{desk_without, load_sealed, none_staged, staged_unseen}
-use Rattle.store_rows.specs.Frames.{desk_stays, put_is_there, put_keeps_tag, remove_keeps_tag, removed_is_gone, staged_stays, tag_follows}
+use Rattle.store_rows.specs.Staging.{desk_without}
+use Rattle.store_rows.proofs.Staging.{load_sealed, none_staged, staged_unseen}
+use Rattle.store_rows.proofs.Frames.{desk_stays, put_is_there, put_keeps_tag, remove_keeps_tag, removed_is_gone, staged_stays, tag_follows}
 use Rattle.geo_tables.specs.Rows.{begun_rows, load_taken, seal_row, staged_row, staged_rows}
-use Rattle.geo_tables.specs.Staging.{is_block, is_pair}
+use Rattle.geo_tables.proofs.Staging.{is_block, is_pair}
 use Rattle.geo_tables.specs.Loads.{sealed_rows}
 
 -- ---- a load that is begun

@@ -2,12 +2,13 @@
 use Rattle.std.specs.Prelude.{◌≡◌, ◌≢◌, ◌⊎◌, ◌≤◌, ◌+◌, ◌^◌, ℕ, List}
 use Rattle.std.proofs.Common.{inl, inr, ⊎_elim, subst}
 use Rattle.sector_device.specs.Disk.{Disk, Image}
-use Rattle.sector_device.specs.Moments.{LeavesOnly, leaves_wider}
+use Rattle.sector_device.specs.Moments.{LeavesOnly}
+use Rattle.sector_device.proofs.Moments.{leaves_wider}
 use Rattle.gate_journal.specs.Store.{home, IsBeforeOrAfter, overlay}
 use Rattle.page_store.specs.Chain.{root_in, free_in, IsPages}
 use Rattle.page_store.specs.Transactions.{txn_pages, txn_root, over, free_over}
 use Rattle.page_store.specs.declared.txn.Txn.{Txn}
-use Rattle.page_btree.specs.Laws.{begun_holds, prepared_holds, one_map}
+use Rattle.page_btree.proofs.Laws.{begun_holds, prepared_holds, one_map}
 use Rattle.desk_model.specs.Desk.{Desk}
 use Rattle.store_rows.specs.Rows.{KeyMap}
 use Rattle.store_rows.specs.DeskRows.{IsDesk}

@@ -2,7 +2,8 @@
 use Rattle.std.specs.Prelude.{◌≡◌, ◌⊎◌, ◌<◌, ℕ, Bool, true, false}
 use Rattle.std.proofs.Common.{inl, inr, refl, sym, ap, subst, ◌∙◌, arith}
 use Rattle.sector_device.specs.Disk.{Disk, Image, Touches, Nowhere}
-use Rattle.sector_device.specs.Moments.{LeavesOnly, now_but, leaves_still, touches_none, touches_more}
+use Rattle.sector_device.specs.Moments.{LeavesOnly}
+use Rattle.sector_device.proofs.Moments.{now_but, leaves_still, touches_none, touches_more}
 use Rattle.sector_device.specs.declared.SectorDevice.{Ghosts}
 use Rattle.gate_journal.specs.Store.{Opens}
 use Rattle.gate_journal.specs.Contents.{content, page_count, journal_size, is_halted}

@@ -1,0 +1,9 @@
+-- Lemmas on the definitions of Steps.
+use Rattle.std.specs.Prelude.{◌≡◌, ℕ}
+use Rattle.sector_device.specs.Disk.{Disk, Touches}
+
+-- nothing failed so far
+pub record SoFar (S : ℕ → Type 0) (Q : Disk → Type 0) (old new : Disk) : Type 0 where
+  pub touches : Touches S old new
+  pub passed : new.faults ≡ old.faults
+  pub done : Q new

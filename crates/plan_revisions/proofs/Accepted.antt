@@ -1,0 +1,188 @@
+-- Lemmas on the definitions of Accepted.
+use Rattle.std.proofs.Common.{◌≡◌, ◌<◌, ◌≤◌, ◌+◌, ◌-◌, ℕ, suc, Bool, true, false, cond, List, [], ◌∷◌, ◌++◌, length, Option, Some, None, Result, Ok, Err, refl, sym, ap, ◌∙◌, arith}
+use Rattle.std.specs.Prelude.{◌==◌, not, nat_le}
+use Rattle.std.specs.FinMap as map_of
+use Rattle.std.proofs.lemmas.Bool.{leb-false, eqb-true}
+use Rattle.std.proofs.lemmas.Bool.Decides.{nat_tests}
+use Rattle.desk_model.specs.declared.command.Command.{Command}
+use Rattle.desk_model.specs.declared.command.Command.TheVariants.{Create, Whole, Counties, Retire}
+use Rattle.desk_model.specs.declared.reply.Reply.TheVariants as reply
+use Rattle.desk_model.specs.declared.kind.Kind.{Kind}
+use Rattle.desk_model.specs.Baf.{Values, Fault, body_read}
+use Rattle.desk_model.specs.Geography.{Ground}
+use Rattle.desk_model.specs.Desk.{Plan, Desk}
+use Rattle.desk_model.specs.Step.{step, step_at, create, on_revisions, whole_read, patch_read, county_patched, partly_listed, whole, patched, refused, retired, plan_limit, revision_limit, Outcome}
+use Rattle.desk_model.specs.Subject.{revision_at}
+use Rattle.desk_model.specs.declared.reply.Refusal.TheVariants.{Limit, Stale}
+use Rattle.std.specs.List.{slice_get}
+use Rattle.std.specs.Cmp.Lexicographic.{nat_list_cmp_total}
+use Rattle.std.specs.Prelude.{unwrap_or}
+use Rattle.desk_model.specs.Desk.{name_cmp}
+use Rattle.desk_model.specs.Room.{changed, revision_rows, added_rows, command_rows, last_revision}
+use Rattle.desk_catalogue.specs.Accepting.{IsAfter}
+use Rattle.desk_catalogue.specs.Kept.{revision_in}
+use Rattle.store_rows.proofs.Frames.{itself}
+use Rattle.store_rows.specs.Changes.{with_revision}
+use Rattle.plan_revisions.specs.Rows.{added_chunks, added_by}
+use Rattle.plan_revisions.specs.Plans.{TakesPlan, with_plan, HasPlanAt, without_plan}
+use Rattle.plan_revisions.specs.Accepted.{IsRevised}
+
+-- ---- a plan is created
+module _ (d : Desk) (name : List ℕ) (size : Kind × ℕ) where
+  abbrev TellsPlan : Outcome → Type 0
+  TellsPlan o = o.0 ≡ reply.Created name 0 → TakesPlan name d × (o.1 ≡ with_plan name size d)
+
+  plan_room : (g : Ground) → d.geography ≡ Some g → map_of.get d.plans name ≡ None → (full : Bool) → nat_le plan_limit (map_of.len d.plans) ≡ full → TellsPlan (cond full (refused d Limit) (reply.Created name 0, with_plan name size d))
+  plan_room g geography none true is = λ told. absurd (cc)
+  plan_room g geography none false is = λ told. (record { g = g; geography = geography; missing = none; room = leb-false plan_limit (map_of.len d.plans) is }, refl)
+
+  plan_missing : (g : Ground) → d.geography ≡ Some g → (p : Option Plan) → map_of.get d.plans name ≡ p → TellsPlan (create d name size.0 size.1 p)
+  plan_missing g geography (Some p) is = λ told. absurd (cc)
+  plan_missing g geography None is = plan_room g geography is (nat_le plan_limit (map_of.len d.plans)) refl
+
+  plan_geography : (geo : Option Ground) → d.geography ≡ geo → TellsPlan (step_at geo d (Create name size))
+  plan_geography None is = λ told. absurd (cc)
+  plan_geography (Some g) is = plan_missing g is (map_of.get d.plans name) refl
+
+  pub created : TellsPlan (step d (Create name size))
+  created = plan_geography d.geography refl
+
+-- ---- a plan is taken away
+module _ (d : Desk) (name : List ℕ) where
+  abbrev TellsGone : Outcome → Type 0
+  TellsGone o = o.0 ≡ reply.Retired name → HasPlanAt name d × (o.1 ≡ without_plan name d)
+
+  gone_there : (p : Option Plan) → map_of.get d.plans name ≡ p → TellsGone (retired d name p)
+  gone_there None is = λ told. absurd (cc)
+  gone_there (Some p) is = λ told. ((p, is), refl)
+
+  gone_geography : (geo : Option Ground) → TellsGone (step_at geo d (Retire name))
+  gone_geography None = λ told. absurd (cc)
+  gone_geography (Some g) = gone_there (map_of.get d.plans name) refl
+
+  pub taken_away : TellsGone (step d (Retire name))
+  taken_away = gone_geography d.geography
+
+-- ---- a plan gets a revision more
+module _ (d : Desk) (name : List ℕ) (after : ℕ) where
+  abbrev TellsRevision : Outcome → Type 0
+  TellsRevision o = o.0 ≡ reply.Created name (after + 1) → IsRevised d name after o.1
+
+  -- what is made of a plan that is there and may have one more
+  abbrev TellsOf : Ground → (Plan → Outcome) → Type 0
+  TellsOf g go = (p : Plan) → map_of.get d.plans name ≡ Some p → after ≡ length p.revisions → length p.revisions < revision_limit → TellsRevision (go p)
+
+  revision_room : (g : Ground) (go : Plan → Outcome) → TellsOf g go → (p : Plan) → map_of.get d.plans name ≡ Some p → after ≡ length p.revisions → (full : Bool) → nat_le revision_limit (length p.revisions) ≡ full → TellsRevision (cond full (refused d Limit) (go p))
+  revision_room g go tells p there last true is = λ told. absurd (cc)
+  revision_room g go tells p there last false is = tells p there last (leb-false revision_limit (length p.revisions) is)
+
+  revision_last : (g : Ground) (go : Plan → Outcome) → TellsOf g go → (p : Plan) → map_of.get d.plans name ≡ Some p → (same : Bool) → (after == length p.revisions) ≡ same → TellsRevision (cond (not same) (refused d (Stale (length p.revisions))) (cond (nat_le revision_limit (length p.revisions)) (refused d Limit) (go p)))
+  revision_last g go tells p there false is = λ told. absurd (cc)
+  revision_last g go tells p there true is = revision_room g go tells p there (eqb-true after (length p.revisions) is) (nat_le revision_limit (length p.revisions)) refl
+
+  revision_there : (g : Ground) (go : Plan → Outcome) → TellsOf g go → (found : Option Plan) → map_of.get d.plans name ≡ found → TellsRevision (on_revisions d found after go)
+  revision_there g go tells None is = λ told. absurd (cc)
+  revision_there g go tells (Some p) is = revision_last g go tells p is (after == length p.revisions) refl
+
+  whole_told : (g : Ground) → d.geography ≡ Some g → (p : Plan) → map_of.get d.plans name ≡ Some p → after ≡ length p.revisions → length p.revisions < revision_limit → (reading : Result Values Fault) → TellsRevision (whole_read g d name p reading)
+  whole_told g geography p there last few (Err f) = λ told. absurd (cc)
+  whole_told g geography p there last few (Ok listed) = λ told. record { g = g; plan = p; districts = whole g listed; geography = geography; there = there; count = last; few = few; desk = refl }
+
+  part_told : (g : Ground) → d.geography ≡ Some g → (p : Plan) → map_of.get d.plans name ≡ Some p → after ≡ length p.revisions → length p.revisions < revision_limit → (listed : Values) (part : Option ℕ) → TellsRevision (county_patched g d name p listed part)
+  part_told g geography p there last few listed (Some county) = λ told. absurd (cc)
+  part_told g geography p there last few listed None = λ told. record { g = g; plan = p; districts = patched g listed (revision_at p (length p.revisions)); geography = geography; there = there; count = last; few = few; desk = refl }
+
+  patch_told : (g : Ground) → d.geography ≡ Some g → (p : Plan) → map_of.get d.plans name ≡ Some p → after ≡ length p.revisions → length p.revisions < revision_limit → (reading : Result Values Fault) → TellsRevision (patch_read g d name p reading)
+  patch_told g geography p there last few (Err f) = λ told. absurd (cc)
+  patch_told g geography p there last few (Ok listed) = part_told g geography p there last few listed (partly_listed g listed)
+
+  whole_geography : (body : List ℕ) (geo : Option Ground) → d.geography ≡ geo → TellsRevision (step_at geo d (Whole name after body))
+  whole_geography body None is = λ told. absurd (cc)
+  whole_geography body (Some g) is = revision_there g (λ p. whole_read g d name p (body_read g p.n body)) (λ p there last few. whole_told g is p there last few (body_read g p.n body)) (map_of.get d.plans name) refl
+
+  counties_geography : (body : List ℕ) (geo : Option Ground) → d.geography ≡ geo → TellsRevision (step_at geo d (Counties name after body))
+  counties_geography body None is = λ told. absurd (cc)
+  counties_geography body (Some g) is = revision_there g (λ p. patch_read g d name p (body_read g p.n body)) (λ p there last few. patch_told g is p there last few (body_read g p.n body)) (map_of.get d.plans name) refl
+
+  pub whole_revised : (body : List ℕ) → TellsRevision (step d (Whole name after body))
+  whole_revised body = whole_geography body d.geography refl
+
+  pub counties_revised : (body : List ℕ) → TellsRevision (step d (Counties name after body))
+  counties_revised body = counties_geography body d.geography refl
+
+-- ---- the revision that it got
+end_of : (xs : List (List ℕ)) (x : List ℕ) → slice_get (xs ++ x ∷ []) (length xs) ≡ Some x
+end_of [] x = refl
+end_of (y ∷ ys) x = end_of ys x
+
+longer : (xs : List (List ℕ)) (x : List ℕ) → length (xs ++ x ∷ []) ≡ suc (length xs)
+longer [] x = refl
+longer (y ∷ ys) x = ap suc (longer ys x)
+
+no_zero : (n : ℕ) → (suc n == 0) ≡ false
+no_zero n = grind (arith, nat_tests)
+
+at_more : (q : Plan) (n : ℕ) → revision_at q (suc n) ≡ slice_get q.revisions n
+at_more q n = ap (λ b. cond b None (slice_get q.revisions (suc n - 1))) (no_zero n) ∙ ap (λ k. slice_get q.revisions k) (omega arith)
+
+at_next : (p : Plan) (districts : List ℕ) (k : ℕ) → k ≡ suc (length p.revisions) → revision_at (with_revision p districts) k ≡ Some districts
+at_next p districts k is = ap (λ n. revision_at (with_revision p districts) n) is ∙ at_more (with_revision p districts) (length p.revisions) ∙ end_of p.revisions districts
+
+pub last_of_next : (p : Plan) (districts : List ℕ) → last_revision (with_revision p districts) ≡ Some districts
+last_of_next p districts = at_next p districts (length (p.revisions ++ districts ∷ [])) (longer p.revisions districts)
+
+put_there : (plans : map_of.FinMap name_cmp Plan) (name : List ℕ) (p : Plan) → map_of.get (map_of.insert plans name p) name ≡ Some p
+put_there plans name p = map_of.get-insert nat_list_cmp_total plans name p name ∙ ap (λ b. cond b (Some p) (map_of.get plans name)) (itself name)
+
+module _ (d : Desk) (name : List ℕ) (after : ℕ) (e : Desk) (r : IsRevised d name after e) where
+  pub plan_then : map_of.get e.plans name ≡ Some (with_revision r.plan r.districts)
+  plan_then = ap (λ (x : Desk). map_of.get x.plans name) r.desk ∙ put_there d.plans name (with_revision r.plan r.districts)
+
+  pub next_is : revision_in (map_of.get e.plans name) (after + 1) ≡ Some r.districts
+  next_is = ap (λ (q : Option Plan). revision_in q (after + 1)) plan_then ∙ at_next r.plan r.districts (after + 1) (let last = r.count in omega arith)
+
+  pub last_is : revision_in (map_of.get d.plans name) after ≡ last_revision r.plan
+  last_is = ap (λ (q : Option Plan). revision_in q after) r.there ∙ ap (λ n. revision_at r.plan n) r.count
+
+  pub rows_added : added_rows d.geography (map_of.get d.plans name) (map_of.get e.plans name) ≡ revision_rows r.g (revision_in (map_of.get d.plans name) after) r.districts
+  rows_added =
+      ap (λ (geo : Option Ground). added_rows geo (map_of.get d.plans name) (map_of.get e.plans name)) r.geography
+      ∙ ap (λ (q : Option Plan). added_rows (Some r.g) q (map_of.get e.plans name)) r.there
+      ∙ ap (λ (q : Option Plan). added_rows (Some r.g) (Some r.plan) q) plan_then
+      ∙ ap (λ (l : Option (List ℕ)). revision_rows r.g (last_revision r.plan) (unwrap_or l [])) (last_of_next r.plan r.districts)
+      ∙ ap (λ (l : Option (List ℕ)). revision_rows r.g l r.districts) (sym last_is)
+
+  pub chunks_added : added_by d name e ≡ length (changed r.g (revision_in (map_of.get d.plans name) after) r.districts)
+  chunks_added =
+      ap (λ (geo : Option Ground). added_chunks geo (map_of.get d.plans name) (map_of.get e.plans name)) r.geography
+      ∙ ap (λ (q : Option Plan). added_chunks (Some r.g) q (map_of.get e.plans name)) r.there
+      ∙ ap (λ (q : Option Plan). added_chunks (Some r.g) (Some r.plan) q) plan_then
+      ∙ ap (λ (l : Option (List ℕ)). length (changed r.g (last_revision r.plan) (unwrap_or l []))) (last_of_next r.plan r.districts)
+      ∙ ap (λ (l : Option (List ℕ)). length (changed r.g l r.districts)) (sym last_is)
+
+-- ---- whatever the command
+geography_of : (d e f : Desk) → e ≡ f → f.geography ≡ d.geography → e.geography ≡ d.geography
+geography_of d e f same is = ap (λ (x : Desk). x.geography) same ∙ is
+
+-- the geography stays
+pub ground_stays : (d : Desk) (c : Command) (e : Desk) → IsAfter d c e → e.geography ≡ d.geography
+ground_stays d (Create name size) e is = geography_of d e (with_plan name size d) (is.desk ∙ (created d name size is.reply).1) refl
+ground_stays d (Whole name after body) e is = let r = whole_revised d name after body is.reply in geography_of d e (record d { plans = map_of.insert d.plans name (with_revision r.plan r.districts) }) (is.desk ∙ r.desk) refl
+ground_stays d (Counties name after body) e is = let r = counties_revised d name after body is.reply in geography_of d e (record d { plans = map_of.insert d.plans name (with_revision r.plan r.districts) }) (is.desk ∙ r.desk) refl
+ground_stays d (Retire name) e is = geography_of d e (without_plan name d) (is.desk ∙ (taken_away d name is.reply).1) refl
+
+some_rows : (g : Ground) (last : Option (List ℕ)) (new : List ℕ) (n : ℕ) → n ≡ revision_rows g last new → 2 ≤ n
+some_rows g last new n is = omega arith
+
+-- and it writes two rows at least
+pub rows_some : (d : Desk) (c : Command) (e : Desk) → IsAfter d c e → 2 ≤ command_rows d c
+rows_some d (Create name size) e is = omega arith
+rows_some d (Whole name after body) e is =
+    let then = (step d (Whole name after body)).1 in
+    let r = whole_revised d name after body is.reply in
+    some_rows r.g (revision_in (map_of.get d.plans name) after) r.districts (command_rows d (Whole name after body)) (rows_added d name after then r)
+rows_some d (Counties name after body) e is =
+    let then = (step d (Counties name after body)).1 in
+    let r = counties_revised d name after body is.reply in
+    some_rows r.g (revision_in (map_of.get d.plans name) after) r.districts (command_rows d (Counties name after body)) (rows_added d name after then r)
+rows_some d (Retire name) e is = omega arith

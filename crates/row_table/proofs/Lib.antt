@@ -1,0 +1,4 @@
+pub mod Appending
+pub mod Outcomes
+pub mod Puts
+pub mod Reading

@@ -1,0 +1,83 @@
+-- Lemmas on the definitions of Reading.
+use Rattle.std.specs.Prelude.{◌≡◌, ℕ, List, [], Option, Some, None, option_map, MatchOption}
+use Rattle.std.proofs.Common.{inl, inr, refl, sym, ap, subst, ◌∙◌, arith}
+use Rattle.std.specs.FinMap.{get as row_at}
+use Rattle.sector_device.specs.declared.SectorDevice.{Ghosts}
+use Rattle.page_store.specs.Transactions.{stored, disk_in, IsQuiet, Passed}
+use Rattle.page_store.proofs.Stops.{failed_more}
+use Rattle.page_store.specs.declared.pages.Pages.{Pages}
+use Rattle.page_store.specs.declared.txn.Txn.{Txn}
+use Rattle.page_btree.specs.Map.{InTxn}
+use Rattle.page_btree.specs.declared.error.TreeError.{TreeError}
+use Rattle.page_btree.specs.declared.error.TreeError.TheVariants.{DeviceFault, Halted, NoPages, TooDeep, Memory}
+use Rattle.page_btree.specs.Errors.{GetErr}
+use Rattle.store_rows.specs.Keys.{key_of, counters}
+use Rattle.store_rows.specs.Values.{counters_bytes}
+use Rattle.store_rows.specs.declared.value.Counters.{Counters}
+use Rattle.store_rows.specs.Rows.{KeyMap}
+use Rattle.store_rows.specs.Puts.{Row}
+use Rattle.row_table.specs.Puts.{HasPut, PutsErr}
+use Rattle.row_table.proofs.Puts.{more_put, then_not_put}
+use Rattle.store_rows.specs.Tidy.{no_numbers}
+use Rattle.row_table.specs.Reading.{HasNext, ReadErr, StandsAs}
+
+-- and has one value
+pub one_value : (key a b : List ℕ) (m : KeyMap) → row_at m key ≡ Some a → row_at m key ≡ Some b → a ≡ b
+one_value key a b m one other = let same : ◌≡◌ {A = Option (List ℕ)} (Some a) (Some b) = sym one ∙ other in cc
+
+module _ {D : Type 0} {g : Ghosts D} where
+  -- a value that isn't copied isn't read
+  pub get_unread : (has : KeyMap → Type 0) (t : Txn) (old new : Pages D g) (e : TreeError) → GetErr t old new e → ReadErr has t old new e
+  get_unread has t old new DeviceFault why = elim why [ inl failed ↦ inl failed | inr none ↦ inr (λ honest m holds is. none honest m holds) ]
+  get_unread has t old new Halted why = why
+  get_unread has t old new NoPages why = why
+  get_unread has t old new TooDeep why = why
+  get_unread has t old new Memory why = why
+
+  -- one who needs more of a map isn't told more
+  pub less_unread : (has more : KeyMap → Type 0) (t : Txn) (old new : Pages D g) → ((m : KeyMap) → more m → has m) → (e : TreeError) → ReadErr has t old new e → ReadErr more t old new e
+  less_unread has more t old new gives DeviceFault why = elim why [ inl failed ↦ inl failed | inr none ↦ inr (λ honest m holds is. none honest m holds (gives m is)) ]
+  less_unread has more t old new gives Halted why = why
+  less_unread has more t old new gives NoPages why = why
+  less_unread has more t old new gives TooDeep why = why
+  less_unread has more t old new gives Memory why = why
+
+next_in : (row : Option (List ℕ)) (next : Counters) → MatchOption row (next ≡ no_numbers) (λ value. value ≡ counters_bytes next) → (value : Option Counters) × (option_map counters_bytes value ≡ row)
+next_in None next is = (None, refl)
+next_in (Some bytes) next is = (Some next, ap Some (sym is))
+
+-- counters are a value under their key, or none
+pub next_stands : (m : KeyMap) → HasNext m → (value : Option Counters) × StandsAs counters_bytes (key_of counters) m value
+next_stands m next = next_in (row_at m (key_of counters)) next.0 next.1
+
+-- what was put, or not put, after calls that read at most
+module _ {D : Type 0} {g : Ghosts D} (t : Txn) (a b : Pages D g) (read : Passed a b) where
+  first_read : HasPut [] t t a b
+  first_read = record {
+    passed = read;
+    pages = refl;
+    put = λ honest m holds. holds;
+    writes = omega arith;
+    taken = omega arith;
+  }
+
+  pub put_after : (rows : List Row) (u : Txn) (c : Pages D g) → HasPut rows t u b c → HasPut rows t u a c
+  put_after rows u c put = more_put [] rows t t u a b c first_read put
+
+  pub not_put_after : (rows : List Row) (c : Pages D g) (e : TreeError) → IsQuiet b c → PutsErr rows t b c e → PutsErr rows t a c e
+  not_put_after rows c e quiet why = then_not_put [] rows t t a b c e first_read quiet why
+
+  -- what isn't read after them isn't read at all
+  pub not_read_after : (has : KeyMap → Type 0) (c : Pages D g) (e : TreeError) → IsQuiet b c → ReadErr has t b c e → ReadErr has t a c e
+  not_read_after has c DeviceFault quiet why = elim why [
+    | inl failed ↦ inl (failed_more a b c read quiet failed)
+    | inr none ↦ inr (λ honest m holds is. none honest m (subst (λ P. InTxn t P m) (sym (read.quiet.same (quiet.honest honest))) holds) is)
+  ]
+  not_read_after has c Halted quiet why = sym read.halted ∙ why
+  not_read_after has c NoPages quiet why = why
+  not_read_after has c TooDeep quiet why = why
+  not_read_after has c Memory quiet why = why
+
+  -- and what is read is of the same map
+  pub read_after : (is : KeyMap → Type 0) (c : Pages D g) → IsQuiet b c → ((disk_in c).is_honest → (m : KeyMap) → InTxn t (stored b) m → is m) → (disk_in c).is_honest → (m : KeyMap) → InTxn t (stored a) m → is m
+  read_after is c quiet tells honest m holds = tells honest m (subst (λ P. InTxn t P m) (sym (read.quiet.same (quiet.honest honest))) holds)

@@ -1,0 +1,83 @@
+-- Lemmas on the definitions of NameRows.
+use Rattle.std.proofs.Common.{◌≡◌, ◌<◌, ◌≤◌, ◌*◌, ◌^◌, ℕ, cond, List, ◌∷◌, length, take, drop, All, Some, None, refl, sym, ap, ◌∙◌, inl, inr, arith}
+use Rattle.std.proofs.lemmas.Bool.{cases_lt, lt-ltb, le-ltb}
+use Rattle.desk_model.specs.Room.{rows_for}
+use Rattle.store_rows.specs.Keys.{key_of, part, chunk}
+use Rattle.store_rows.specs.Lists.{chunks_bytes}
+use Rattle.store_rows.proofs.RowLaws.{keys_differ}
+use Rattle.store_rows.specs.Rows.{KeyMap, SameTag}
+use Rattle.store_rows.specs.RevisionRows.{NamesChunks, HasRevision}
+use Rattle.store_rows.specs.Puts.{Row, put_rows, rows_told}
+use Rattle.store_rows.proofs.Puts.{told_keep, told_are}
+use Rattle.store_rows.specs.ChunkRows.{chunk_rows, piece_row}
+use Rattle.store_rows.proofs.Frames.{chunk_stays}
+use Rattle.store_rows.specs.NameRows.{IsFreeRevision, name_row, name_rows}
+
+-- ---- keys
+one_part : (plan revision i j : ℕ) → plan < 2 ^ 64 → revision < 2 ^ 32 → i < 2 ^ 8 → j < 2 ^ 8 → key_of (part plan revision i) ≡ key_of (part plan revision j) → i ≡ j
+one_part plan revision i j fits small few less same =
+    let equal : part plan revision i ≡ part plan revision j = keys_differ (part plan revision i) (part plan revision j) (fits, small, few) (fits, small, less) same in
+    cc
+
+other_part : (plan revision other later i j : ℕ) → plan < 2 ^ 64 → revision < 2 ^ 32 → other < 2 ^ 64 → later < 2 ^ 32 → i < 2 ^ 8 → j < 2 ^ 8 → (other ≡ plan → later ≡ revision → ⊥) → key_of (part other later i) ≡ key_of (part plan revision j) → ⊥
+other_part plan revision other later i j fits small other_fits later_small few less apart same =
+    let equal : part other later i ≡ part plan revision j = keys_differ (part other later i) (part plan revision j) (other_fits, later_small, few) (fits, small, less) same in
+    let one : other ≡ plan = cc in
+    let two : later ≡ revision = cc in
+    apart one two
+
+-- so many parts, each of which begins within the list
+within_names : (n i : ℕ) → i < rows_for 128 n → 128 * i < n
+within_names n i less = omega arith
+
+beyond_names : (n i : ℕ) → rows_for 128 n ≤ i → n ≤ 128 * i
+beyond_names n i more = omega arith
+
+few_names : (n i : ℕ) → n ≤ 128 * 2 ^ 8 → i < rows_for 128 n → i < 2 ^ 8
+few_names n i few less = omega arith
+
+-- ---- once its rows are put under a free place, the revision names the chunks
+pub names_put : (m : KeyMap) (plan revision : ℕ) (numbers : List ℕ) → plan < 2 ^ 64 → revision < 2 ^ 32 → length numbers ≤ 128 * 2 ^ 8 → All (λ n. n < 2 ^ 64) numbers → IsFreeRevision m plan revision → NamesChunks (put_rows m (name_rows plan revision numbers)) plan revision numbers
+names_put m plan revision numbers fits small few each free = record {
+  few = few;
+  each = each;
+  parts = λ index less. elim (cases_lt index (rows_for 128 (length numbers))) [
+    | inl within ↦ told_are m (name_row plan revision numbers) (rows_for 128 (length numbers)) index
+        (λ i j one other same. one_part plan revision i j fits small (few_names (length numbers) i few one) (few_names (length numbers) j few other) same) within
+        ∙ sym (ap (λ b. cond b (Some (chunks_bytes (take 128 (drop (128 * index) numbers)))) None) (lt-ltb (128 * index) (length numbers) (within_names (length numbers) index within)))
+    | inr beyond ↦ told_keep m (name_row plan revision numbers) (rows_for 128 (length numbers)) (key_of (part plan revision index))
+        (λ k among same. let one : index ≡ k = one_part plan revision index k fits small less (few_names (length numbers) k few among) same in omega arith)
+        ∙ free index less
+        ∙ sym (ap (λ b. cond b (Some (chunks_bytes (take 128 (drop (128 * index) numbers)))) None) (le-ltb (128 * index) (length numbers) (beyond_names (length numbers) index beyond)))
+  ];
+}
+
+-- what another revision names stays, of this plan or of another
+pub names_kept : (m : KeyMap) (plan revision : ℕ) (numbers : List ℕ) (other later : ℕ) (others : List ℕ) → plan < 2 ^ 64 → revision < 2 ^ 32 → length numbers ≤ 128 * 2 ^ 8 → other < 2 ^ 64 → later < 2 ^ 32 → (other ≡ plan → later ≡ revision → ⊥) → NamesChunks m other later others → NamesChunks (put_rows m (name_rows plan revision numbers)) other later others
+names_kept m plan revision numbers other later others fits small few other_fits later_small apart names = record {
+  few = names.few;
+  each = names.each;
+  parts = λ index less. told_keep m (name_row plan revision numbers) (rows_for 128 (length numbers)) (key_of (part other later index))
+      (λ k among same. other_part plan revision other later index k fits small other_fits later_small less (few_names (length numbers) k few among) apart same)
+      ∙ names.parts index less;
+}
+
+-- ---- the rows of every other tag stay
+pub told_keep_tag : (m : KeyMap) (row : ℕ → Row) (count tag other : ℕ) → (tag ≡ other → ⊥) → ((k : ℕ) → k < count → (rest : List ℕ) × ((row k).0 ≡ other ∷ rest)) → SameTag tag m (put_rows m (rows_told row count))
+told_keep_tag m row count tag other apart tagged more = told_keep m row count (tag ∷ more)
+    (λ k less same. let key = tagged k less in let clash : tag ∷ more ≡ other ∷ key.0 = same ∙ key.1 in let equal : tag ≡ other = cc in apart equal)
+
+pub names_keep_tag : (m : KeyMap) (plan revision : ℕ) (numbers : List ℕ) (tag : ℕ) → (tag ≡ 82 → ⊥) → SameTag tag m (put_rows m (name_rows plan revision numbers))
+names_keep_tag m plan revision numbers tag apart = told_keep_tag m (name_row plan revision numbers) (rows_for 128 (length numbers)) tag 82 apart (λ k less. (drop 1 (key_of (part plan revision k)), refl))
+
+pub chunks_keep_tag : (m : KeyMap) (number : ℕ) (districts : List ℕ) (tag : ℕ) → (tag ≡ 107 → ⊥) → SameTag tag m (put_rows m (chunk_rows number districts))
+chunks_keep_tag m number districts tag apart = told_keep_tag m (piece_row number districts) (rows_for 512 (length districts)) tag 107 apart (λ k less. (drop 1 (key_of (chunk number k)), refl))
+
+-- so a whole revision stays where another one is named
+pub revision_kept : (m : KeyMap) (plan revision : ℕ) (numbers : List ℕ) (other later : ℕ) (counties : List (List ℕ)) → plan < 2 ^ 64 → revision < 2 ^ 32 → length numbers ≤ 128 * 2 ^ 8 → other < 2 ^ 64 → later < 2 ^ 32 → (other ≡ plan → later ≡ revision → ⊥) → HasRevision m other later counties → HasRevision (put_rows m (name_rows plan revision numbers)) other later counties
+revision_kept m plan revision numbers other later counties fits small few other_fits later_small apart has = record {
+  numbers = has.numbers;
+  names = names_kept m plan revision numbers other later has.numbers fits small few other_fits later_small apart has.names;
+  count = has.count;
+  chunks = λ county within. chunk_stays m (put_rows m (name_rows plan revision numbers)) _ _ (names_keep_tag m plan revision numbers 107 (λ same. absurd (omega arith))) (has.chunks county within);
+}

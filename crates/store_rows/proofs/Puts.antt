@@ -1,0 +1,45 @@
+-- Lemmas on the definitions of Puts.
+use Rattle.std.proofs.Common.{◌≡◌, ◌<◌, ◌≤◌, ℕ, zero, suc, List, [], ◌∷◌, ◌++◌, length, Some, refl, sym, ap, subst, ◌∙◌, inl, inr, arith, length-append, append_assoc}
+use Rattle.std.proofs.lemmas.Bool.{cases_eq}
+use Rattle.std.proofs.lemmas.List.{append-nil}
+use Rattle.std.specs.FinMap.{get, insert}
+use Rattle.store_rows.specs.Rows.{KeyMap}
+use Rattle.store_rows.proofs.Frames.{put_is_there, put_keeps}
+use Rattle.store_rows.specs.Puts.{Row, put_rows, rows_told}
+
+pub put_rows-append : (m : KeyMap) (rows more : List Row) → put_rows m (rows ++ more) ≡ put_rows (put_rows m rows) more
+put_rows-append m [] more = refl
+put_rows-append m (row ∷ rows) more = put_rows-append (insert m row.0 row.1) rows more
+
+pub length-rows_told : (row : ℕ → Row) (count : ℕ) → length (rows_told row count) ≡ count
+length-rows_told row zero = refl
+length-rows_told row (suc count) = let before = length-rows_told row count in simp length-append (omega arith)
+
+-- the first k of them begin the first n
+pub told_front : (row : ℕ → Row) (k n : ℕ) → k ≤ n → (rest : List Row) × (rows_told row k ++ rest ≡ rows_told row n)
+told_front row zero zero few = ([], refl)
+told_front row (suc k) zero few = absurd (omega arith)
+told_front row k (suc n) few = elim (cases_eq k (suc n)) [
+  | inl same ↦ ([], append-nil (rows_told row k) ∙ ap (rows_told row) same)
+  | inr other ↦ (let before = told_front row k n (omega arith) in (before.0 ++ row n ∷ [], sym (append_assoc (rows_told row k) before.0 (row n ∷ [])) ∙ ap (λ l. l ++ row n ∷ []) before.1))
+]
+
+-- a key that none of them has keeps what it has
+pub told_keep : (m : KeyMap) (row : ℕ → Row) (count : ℕ) (key : List ℕ) → ((k : ℕ) → k < count → key ≡ (row k).0 → ⊥) → get (put_rows m (rows_told row count)) key ≡ get m key
+told_keep m row zero key apart = refl
+told_keep m row (suc count) key apart =
+    ap (λ n. get n key) (put_rows-append m (rows_told row count) (row count ∷ []))
+    ∙ put_keeps (put_rows m (rows_told row count)) (row count).0 (row count).1 key (apart count (omega arith))
+    ∙ told_keep m row count key (λ k less. apart k (omega arith))
+
+-- and each of them is there, where no two have one key
+pub told_are : (m : KeyMap) (row : ℕ → Row) (count : ℕ) (k : ℕ) → ((i j : ℕ) → i < count → j < count → (row i).0 ≡ (row j).0 → i ≡ j) → k < count → get (put_rows m (rows_told row count)) (row k).0 ≡ Some (row k).1
+told_are m row zero k apart within = absurd (omega arith)
+told_are m row (suc count) k apart within =
+    let before = put_rows m (rows_told row count) in
+    let whole : get (put_rows m (rows_told row (suc count))) (row k).0 ≡ get (insert before (row count).0 (row count).1) (row k).0 = ap (λ n. get n (row k).0) (put_rows-append m (rows_told row count) (row count ∷ [])) in
+    whole ∙ elim (cases_eq k count) [
+      | inl same ↦ subst (λ j. get (insert before (row count).0 (row count).1) (row j).0 ≡ Some (row j).1) (sym same) (put_is_there before (row count).0 (row count).1)
+      | inr other ↦ put_keeps before (row count).0 (row count).1 (row k).0 (λ same. other (apart k count within (omega arith) same))
+          ∙ told_are m row count k (λ i j less more. apart i j (omega arith) (omega arith)) (omega arith)
+    ]

@@ -1,0 +1,145 @@
+-- Lemmas on the definitions of Staging.
+use Rattle.std.proofs.Common.{◌≡◌, ◌<◌, ◌≤◌, ◌+◌, ◌-◌, ◌^◌, ℕ, zero, suc, List, [], ◌∷◌, ◌++◌, length, take, All, Option, Some, None, refl, sym, ap, subst, ◌∙◌, inl, inr, arith}
+use Rattle.std.specs.Prelude.{option_map}
+use Rattle.std.specs.List.{slice_get}
+use Rattle.std.specs.FinMap.{FinMap, get, insert}
+use Rattle.std.proofs.lemmas.Bool.{cases_eq, cases_lt}
+use Rattle.std.proofs.lemmas.List.{take_all, take_more}
+use Rattle.std.proofs.lemmas.List.Elements.{All-push}
+use Rattle.std.proofs.lemmas.Option.{get_or_from_slice_get, slice_get_within}
+use Rattle.desk_model.specs.declared.block.BlockRow.{BlockRow}
+use Rattle.desk_model.specs.declared.geography.Pair.{Pair}
+use Rattle.desk_model.specs.Geography.{Ground, IsGround}
+use Rattle.desk_model.specs.Desk.{Plan, name_cmp}
+use Rattle.store_rows.specs.Keys.{key_of, block, pair, seal, named}
+use Rattle.store_rows.specs.Values.{block_bytes, seal_bytes}
+use Rattle.store_rows.specs.Rows.{KeyMap, row_in, SameTag, element_row}
+use Rattle.store_rows.specs.GeographyRows.{IsBlockRow, IsStaged, geography_rows, neighbours_bytes}
+use Rattle.store_rows.specs.DeskRows.{IsPlanAt, IsDesk}
+use Rattle.store_rows.specs.Changes.{desk_with}
+use Rattle.store_rows.proofs.Frames.{put_is_there, put_keeps_row, put_keeps_tag, staged_stays}
+use Rattle.store_rows.specs.Staging.{desk_without}
+
+-- ---- elements of a front
+taken : {X : Type 0} (xs : List X) (n k : ℕ) → k < n → slice_get (take n xs) k ≡ slice_get xs k
+taken xs zero k less = absurd (omega arith)
+taken [] (suc n) k less = refl
+taken (x ∷ xs) (suc n) zero less = refl
+taken (x ∷ xs) (suc n) (suc k) less = taken xs n k (omega arith)
+
+not_taken : {X : Type 0} (xs : List X) (n k : ℕ) → n ≤ k → slice_get (take n xs) k ≡ None
+not_taken xs zero k more = refl
+not_taken [] (suc n) k more = refl
+not_taken (x ∷ xs) (suc n) zero more = absurd (omega arith)
+not_taken (x ∷ xs) (suc n) (suc k) more = not_taken xs n k (omega arith)
+
+one_more : {X : Type 0} (xs : List X) (n k : ℕ) → (k ≡ n → ⊥) → slice_get (take (n + 1) xs) k ≡ slice_get (take n xs) k
+one_more xs n k apart = elim (cases_lt k n) [
+  | inl less ↦ taken xs (n + 1) k (omega arith) ∙ sym (taken xs n k less)
+  | inr more ↦ not_taken xs (n + 1) k (omega arith) ∙ sym (not_taken xs n k more)
+]
+
+row_there : {X : Type 0} (bytes : X → List ℕ) (xs : List X) (n : ℕ) (x : X) → slice_get xs n ≡ Some x → element_row bytes (take (n + 1) xs) n ≡ Some (bytes x)
+row_there bytes xs n x is = ap (option_map bytes) (taken xs (n + 1) n (omega arith) ∙ is)
+
+row_same : {X : Type 0} (bytes : X → List ℕ) (xs : List X) (n k : ℕ) → (k ≡ n → ⊥) → element_row bytes (take n xs) k ≡ element_row bytes (take (n + 1) xs) k
+row_same bytes xs n k apart = ap (option_map bytes) (sym (one_more xs n k apart))
+
+-- ---- keys
+not_block : (load place other : ℕ) → pair load place ≡ block load other → ⊥
+not_block load place other same = cc
+
+not_pair : (load place other : ℕ) → block load place ≡ pair load other → ⊥
+not_pair load place other same = cc
+
+other_block : (load place other : ℕ) → (place ≡ other → ⊥) → block load place ≡ block load other → ⊥
+other_block load place other apart same = apart (cc)
+
+other_pair : (load place other : ℕ) → (place ≡ other → ⊥) → pair load place ≡ pair load other → ⊥
+other_pair load place other apart same = apart (cc)
+
+-- ---- no row yet, and one row more
+pub none_staged : (m : KeyMap) (load : ℕ) (g : Ground) → ((place : ℕ) → place < 2 ^ 32 → row_in m (block load place) ≡ None) → ((place : ℕ) → place < 2 ^ 32 → row_in m (pair load place) ≡ None) → IsStaged m load g 0
+none_staged m load g blocks pairs =
+    let none : 0 - length g.blocks ≡ 0 = omega arith in
+    record {
+      fit = λ k d within. absurd (omega arith);
+      blocks = blocks;
+      pairs = λ place fits. pairs place fits ∙ sym (ap (λ n. element_row neighbours_bytes (take n g.pairs) place) none);
+    }
+
+pub block_staged : (m : KeyMap) (load : ℕ) (g : Ground) (done : ℕ) (b : BlockRow) → IsStaged m load g done → load < 2 ^ 64 → done < 2 ^ 32 → slice_get g.blocks done ≡ Some b → IsBlockRow b → IsStaged (insert m (key_of (block load done)) (block_bytes b)) load g (done + 1)
+block_staged m load g done b staged load_fits done_fits is fits =
+    let value = block_bytes b in
+    let within : done < length g.blocks = slice_get_within g.blocks done b is in
+    let pairs_same : done - length g.blocks ≡ done + 1 - length g.blocks = omega arith in
+    let front : take done g.blocks ++ b ∷ [] ≡ take (done + 1) g.blocks = sym (take_more g.blocks done b within ∙ ap (λ (x : BlockRow). take done g.blocks ++ x ∷ []) (get_or_from_slice_get g.blocks done b b is)) in
+    record {
+      fit = subst (λ (l : List BlockRow). All IsBlockRow l) front (All-push IsBlockRow (take done g.blocks) b staged.fit fits);
+      blocks = λ place small. elim (cases_eq place done) [
+        | inl same ↦ subst (λ k. row_in (insert m (key_of (block load done)) value) (block load k) ≡ element_row block_bytes (take (done + 1) g.blocks) k) (sym same)
+            (put_is_there m (key_of (block load done)) value ∙ sym (row_there block_bytes g.blocks done b is))
+        | inr apart ↦ put_keeps_row m (block load done) value (block load place) (load_fits, done_fits) (load_fits, small) (other_block load place done apart) ∙ staged.blocks place small ∙ row_same block_bytes g.blocks done place apart
+      ];
+      pairs = λ place small. put_keeps_row m (block load done) value (pair load place) (load_fits, done_fits) (load_fits, small) (not_block load place done) ∙ staged.pairs place small ∙ ap (λ n. element_row neighbours_bytes (take n g.pairs) place) pairs_same;
+    }
+
+pub pair_staged : (m : KeyMap) (load : ℕ) (g : Ground) (place : ℕ) (p : Pair) → IsStaged m load g (length g.blocks + place) → load < 2 ^ 64 → place < 2 ^ 32 → slice_get g.pairs place ≡ Some p → IsStaged (insert m (key_of (pair load place)) (neighbours_bytes p)) load g (length g.blocks + place + 1)
+pair_staged m load g place p staged load_fits place_fits is =
+    let value = neighbours_bytes p in
+    let count = length g.blocks in
+    let before : count + place - count ≡ place = omega arith in
+    let after : place + 1 ≡ count + place + 1 - count = omega arith in
+    let all : take (count + place) g.blocks ≡ take (count + place + 1) g.blocks = take_all (count + place) g.blocks (omega arith) ∙ sym (take_all (count + place + 1) g.blocks (omega arith)) in
+    record {
+      fit = subst (λ (l : List BlockRow). All IsBlockRow l) all staged.fit;
+      blocks = λ other small. put_keeps_row m (pair load place) value (block load other) (load_fits, place_fits) (load_fits, small) (not_pair load other place) ∙ staged.blocks other small ∙ ap (λ (l : List BlockRow). element_row block_bytes l other) all;
+      pairs = λ other small. elim (cases_eq other place) [
+        | inl same ↦ subst (λ k. row_in (insert m (key_of (pair load place)) value) (pair load k) ≡ element_row neighbours_bytes (take (count + place + 1 - count) g.pairs) k) (sym same)
+            (put_is_there m (key_of (pair load place)) value ∙ sym (row_there neighbours_bytes g.pairs place p is) ∙ ap (λ n. element_row neighbours_bytes (take n g.pairs) place) after)
+        | inr apart ↦ put_keeps_row m (pair load place) value (pair load other) (load_fits, place_fits) (load_fits, small) (other_pair load other place apart) ∙ staged.pairs other small
+            ∙ ap (λ n. element_row neighbours_bytes (take n g.pairs) other) before ∙ row_same neighbours_bytes g.pairs place other apart ∙ ap (λ n. element_row neighbours_bytes (take n g.pairs) other) after
+      ];
+    }
+
+-- ---- the desk
+unseen_at : (m n : KeyMap) (name : List ℕ) (p : Option Plan) → row_in n (named name) ≡ row_in m (named name) → IsPlanAt m None name p → IsPlanAt n None name p
+unseen_at m n name None same is = same ∙ is
+unseen_at m n name (Some p) same is = is
+
+seen_at : (m n : KeyMap) (g : Ground) (name : List ℕ) (p : Option Plan) → row_in n (named name) ≡ row_in m (named name) → IsPlanAt m None name p → IsPlanAt n (Some g) name p
+seen_at m n g name None same is = same ∙ is
+seen_at m n g name (Some p) same is = absurd is
+
+-- a row of a load that isn't sealed is no part of the desk
+pub staged_unseen : (m : KeyMap) (plans : FinMap name_cmp Plan) (rest value : List ℕ) → IsDesk m (desk_without plans) → IsDesk (insert m (103 ∷ rest) value) (desk_without plans)
+staged_unseen m plans rest value is =
+    let n = insert m (103 ∷ rest) value in
+    let names : SameTag 80 m n = put_keeps_tag m 80 103 rest value (λ same. absurd (omega arith)) in
+    let seals : SameTag 83 m n = put_keeps_tag m 83 103 rest value (λ same. absurd (omega arith)) in
+    record {
+      geography = seals [] ∙ is.geography;
+      plans = λ name. unseen_at m n name (get plans name) (names name) (is.plans name);
+    }
+
+-- once it is sealed, it is the desk's geography
+pub load_sealed : (m : KeyMap) (plans : FinMap name_cmp Plan) (load : ℕ) (g : Ground) → IsDesk m (desk_without plans) → IsStaged m load g (geography_rows g) → IsGround g → load < 2 ^ 64 → length g.pairs < 2 ^ 32
+    → IsDesk (insert m (key_of seal) (seal_bytes (record { load = load; blocks = length g.blocks; pairs = length g.pairs }))) (desk_with g plans)
+load_sealed m plans load g is staged sound load_fits pairs_fit =
+    let value = seal_bytes (record { load = load; blocks = length g.blocks; pairs = length g.pairs }) in
+    let n = insert m (key_of seal) value in
+    let names : SameTag 80 m n = put_keeps_tag m 80 83 [] value (λ same. absurd (omega arith)) in
+    let rows : SameTag 103 m n = put_keeps_tag m 103 83 [] value (λ same. absurd (omega arith)) in
+    record {
+      geography = (
+        load,
+        record {
+          sound = sound;
+          load_fits = load_fits;
+          pairs_fit = pairs_fit;
+          named = put_is_there m (key_of seal) value;
+          rows = staged_stays m n load g (geography_rows g) rows staged;
+        },
+      );
+      plans = λ name. seen_at m n g name (get plans name) (names name) (is.plans name);
+    }
