@@ -50,7 +50,7 @@ fn own_plan(alloc: Global, plan: &[u16], own: &[bool]) -> Result<Vec<u16>, Alloc
 
 /// A plan's districts, and the trees of those of its own parts.
 #[derive(Drop)]
-pub struct Trees<'a> {
+pub struct DistrictTrees<'a> {
     geography: &'a Geography,
     whole: &'a [u16],
     count: u16,
@@ -60,7 +60,7 @@ pub struct Trees<'a> {
     lowest: Vec<Lowest>,
 }
 
-impl<'a> Model for Trees<'a> {
+impl<'a> Model for DistrictTrees<'a> {
     ghost use Rattle.audit_contiguity.specs.Parts.{Shown, AreTrees};
 
     ghost Value = { Shown };
@@ -71,7 +71,7 @@ impl<'a> Model for Trees<'a> {
         AreTrees (record { geography = a.geography.now; plan = a.whole.now; count = a.count; own = a.own.items }) a.plan.items a.parents.items a.lowest.items };
 }
 
-impl<'a> Trees<'a> {
+impl<'a> DistrictTrees<'a> {
     /// The trees of the parts that are own by their numbers, of a plan of `count` districts: one sweep over the blocks, and
     /// one over the pairs.
     pub fn new(
@@ -80,7 +80,7 @@ impl<'a> Trees<'a> {
         count: u16,
         whole: &'a [u16],
         own: Vec<bool>,
-    ) -> Result<Trees<'a>, AllocError>
+    ) -> Result<DistrictTrees<'a>, AllocError>
         requires few { count ≤ 999 }
         requires beside { length whole.now ≡ length geography.now.blocks }
         ensures { IfOk result (λ t. t ≡ record { geography = geography.now; plan = whole.now; count = count; own = own.items }) }
@@ -88,7 +88,7 @@ impl<'a> Trees<'a> {
         let plan = own_plan(alloc, whole, own.as_slice())?;
         let parents = forest(alloc, geography.pairs(), plan.as_slice(), 1, count)?;
         let lowest = lowest_roots(alloc, parents.as_slice(), plan.as_slice(), 1, count)?;
-        Ok(Trees {
+        Ok(DistrictTrees {
             geography,
             whole,
             count,

@@ -2,17 +2,17 @@
 use Rattle.std.proofs.Common.{◌≡◌, ◌≢◌, ℕ, ◌+◌, ◌<◌, ◌≤◌, ⊎_elim, List, length, get_or, set, replicate, sym, ap, ◌∙◌, refl, arith, eq-eqb, ne_eqb}
 use Rattle.std.proofs.lemmas.Bool.{cases_eq}
 use Rattle.std.proofs.lemmas.List.{length-set, get_or-set_same, get_or-set_other, get_or-replicate, length-replicate}
-use Rattle.audit_splits_nesting.specs.declared.mark.Mark.{Mark}
-use Rattle.audit_splits_nesting.specs.declared.mark.Mark.TheVariants.{Unseen, Seen, Divided}
+use Rattle.audit_splits_nesting.specs.declared.mark.GroupMark.{GroupMark}
+use Rattle.audit_splits_nesting.specs.declared.mark.GroupMark.TheVariants.{Unseen, Seen, Divided}
 use Rattle.audit_splits_nesting.specs.Marks.{mark_at, AreUnseen, marked, IsWhole, IsSplit, IsMark, AreMarks}
 
-pub unseen_are : (wide : ℕ) (marks : List Mark) → marks ≡ replicate wide Unseen → AreUnseen wide marks
+pub unseen_are : (wide : ℕ) (marks : List GroupMark) → marks ≡ replicate wide Unseen → AreUnseen wide marks
 unseen_are wide marks same = record {
   long = ap length same ∙ length-replicate wide Unseen;
   unseen = λ k less. rw same (get_or-replicate wide k Unseen Unseen less);
 }
 
-pub marks_none : (Holds : ℕ → ℕ → Type 0) (part value : ℕ → ℕ) (wide : ℕ) (marks : List Mark) → AreUnseen wide marks → AreMarks Holds part value 0 wide marks
+pub marks_none : (Holds : ℕ → ℕ → Type 0) (part value : ℕ → ℕ) (wide : ℕ) (marks : List GroupMark) → AreUnseen wide marks → AreMarks Holds part value 0 wide marks
 marks_none Holds part value wide marks are = record {
   long = are.long;
   each = λ k less. let e = are.unseen k less in rw e (λ i early holds. omega arith);
@@ -81,7 +81,7 @@ marked_apart p v part value e ne = rw (eq-eqb p part e, ne_eqb v value ne) refl
 marked_anew : (p v part value : ℕ) → p ≢ part → marked (Seen p v) part value ≡ Seen part value
 marked_anew p v part value ne = rw (ne_eqb p part ne) refl
 
-pub mark_more : (Holds : ℕ → Type 0) (part value : ℕ → ℕ) (count : ℕ) (mark : Mark) → Holds count → ((i : ℕ) → i < count → Holds i → part i ≤ part count)
+pub mark_more : (Holds : ℕ → Type 0) (part value : ℕ → ℕ) (count : ℕ) (mark : GroupMark) → Holds count → ((i : ℕ) → i < count → Holds i → part i ≤ part count)
     → IsMark Holds part value count mark → IsMark Holds part value (count + 1) (marked mark (part count) (value count))
 mark_more Holds part value count Unseen here rising was =
     begun Holds part value count here (λ i less is. absurd (was i less is)) (λ i j i_less j_less i_is j_is same. absurd (was i i_less i_is))
@@ -97,13 +97,13 @@ mark_more Holds part value count (Seen p v) here rising was =
     (cases_eq p (part count))
 mark_more Holds part value count Divided here rising was = was
 
-mark_pass : (Holds : ℕ → Type 0) (part value : ℕ → ℕ) (count : ℕ) (mark : Mark) → ¬ Holds count → IsMark Holds part value count mark → IsMark Holds part value (count + 1) mark
+mark_pass : (Holds : ℕ → Type 0) (part value : ℕ → ℕ) (count : ℕ) (mark : GroupMark) → ¬ Holds count → IsMark Holds part value count mark → IsMark Holds part value (count + 1) mark
 mark_pass Holds part value count mark not_here was = by_case mark was
   where
     earlier : (i : ℕ) → i < count + 1 → Holds i → i < count
     earlier i less is = before i count less (λ e. not_here (rw e at is))
 
-    by_case : (m : Mark) → IsMark Holds part value count m → IsMark Holds part value (count + 1) m
+    by_case : (m : GroupMark) → IsMark Holds part value count m → IsMark Holds part value (count + 1) m
     by_case Unseen had = λ i less is. had i (earlier i less is) is
     by_case (Seen p v) had = record {
       place = had.place;
@@ -117,7 +117,7 @@ mark_pass Holds part value count mark not_here was = by_case mark was
     by_case Divided had = had
 
 -- the block lies in no group
-pub marks_pass : (Holds : ℕ → ℕ → Type 0) (part value : ℕ → ℕ) (count wide : ℕ) (marks : List Mark) → ((k : ℕ) → k < wide → ¬ Holds k count)
+pub marks_pass : (Holds : ℕ → ℕ → Type 0) (part value : ℕ → ℕ) (count wide : ℕ) (marks : List GroupMark) → ((k : ℕ) → k < wide → ¬ Holds k count)
     → AreMarks Holds part value count wide marks → AreMarks Holds part value (count + 1) wide marks
 marks_pass Holds part value count wide marks none was = record {
   long = was.long;
@@ -125,7 +125,7 @@ marks_pass Holds part value count wide marks none was = record {
 }
 
 -- the block lies in one group
-pub marks_take : (Holds : ℕ → ℕ → Type 0) (part value : ℕ → ℕ) (count wide place : ℕ) (marks : List Mark) → place < wide → Holds place count → ((k : ℕ) → Holds k count → k ≡ place)
+pub marks_take : (Holds : ℕ → ℕ → Type 0) (part value : ℕ → ℕ) (count wide place : ℕ) (marks : List GroupMark) → place < wide → Holds place count → ((k : ℕ) → Holds k count → k ≡ place)
     → ((i : ℕ) → i < count → Holds place i → part i ≤ part count) → AreMarks Holds part value count wide marks
     → AreMarks Holds part value (count + 1) wide (set marks place (marked (mark_at marks place) (part count) (value count)))
 marks_take Holds part value count wide place marks inside here one rising was = record {
@@ -138,5 +138,5 @@ marks_take Holds part value count wide place marks inside here one rising was = 
       (cases_eq k place);
 }
   where
-    new : Mark
+    new : GroupMark
     new = marked (mark_at marks place) (part count) (value count)

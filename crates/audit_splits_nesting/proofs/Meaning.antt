@@ -3,8 +3,8 @@ use Rattle.std.proofs.Common.{◌≡◌, ◌≢◌, ℕ, ◌+◌, ◌<◌, ◌�
 use Rattle.std.proofs.lemmas.Bool.{cases_lt, cases_eq}
 use Rattle.std.proofs.lemmas.List.{get_or_past}
 use Rattle.desk_model.specs.declared.block.BlockRow.{BlockRow}
-use Rattle.audit_splits_nesting.specs.declared.mark.Mark.{Mark}
-use Rattle.audit_splits_nesting.specs.declared.mark.Mark.TheVariants.{Unseen, Seen, Divided}
+use Rattle.audit_splits_nesting.specs.declared.mark.GroupMark.{GroupMark}
+use Rattle.audit_splits_nesting.specs.declared.mark.GroupMark.TheVariants.{Unseen, Seen, Divided}
 use Rattle.audit_splits_nesting.specs.Divided.{county_at, IsInCounty, IsInCity, AreDivided, IsDividedCounty, IsDividedCity, IsDividedWithinCounty}
 use Rattle.audit_splits_nesting.specs.Exactly.{AreExactly}
 use Rattle.audit_splits_nesting.specs.Nested.{IsIn, IsNested, BreaksNesting}
@@ -13,22 +13,22 @@ use Rattle.audit_splits_nesting.proofs.Listing.{exactly_same}
 use Rattle.audit_splits_nesting.proofs.Places.{county_below}
 
 -- a mark past the end isn't there
-inside : (marks : List Mark) (k : ℕ) → IsDividedAt marks k → k < length marks
+inside : (marks : List GroupMark) (k : ℕ) → IsDividedAt marks k → k < length marks
 inside marks k is =
     ⊎_elim (λ (less : k < length marks). less)
     (λ (past : length marks ≤ k). let none : mark_at marks k ≡ Unseen = get_or_past marks k Unseen past in let bad : Unseen ≡ Divided = sym none ∙ is in absurd cc)
     (cases_lt k (length marks))
 
-pub split_from_mark : (Holds : ℕ → ℕ → Type 0) (part value : ℕ → ℕ) (count wide : ℕ) (marks : List Mark) (k : ℕ) → AreMarks Holds part value count wide marks → IsDividedAt marks k
+pub split_from_mark : (Holds : ℕ → ℕ → Type 0) (part value : ℕ → ℕ) (count wide : ℕ) (marks : List GroupMark) (k : ℕ) → AreMarks Holds part value count wide marks → IsDividedAt marks k
     → IsSplit (Holds k) part value
 split_from_mark Holds part value count wide marks k are is =
-    subst (λ (m : Mark). IsMark (Holds k) part value count m) is (are.each k (rw are.long at (inside marks k is)))
+    subst (λ (m : GroupMark). IsMark (Holds k) part value count m) is (are.each k (rw are.long at (inside marks k is)))
 
-pub mark_from_split : (Holds : ℕ → ℕ → Type 0) (part value : ℕ → ℕ) (count wide : ℕ) (marks : List Mark) (k : ℕ) → AreMarks Holds part value count wide marks → k < wide
+pub mark_from_split : (Holds : ℕ → ℕ → Type 0) (part value : ℕ → ℕ) (count wide : ℕ) (marks : List GroupMark) (k : ℕ) → AreMarks Holds part value count wide marks → k < wide
     → ((i : ℕ) → Holds k i → i < count) → IsSplit (Holds k) part value → IsDividedAt marks k
 mark_from_split Holds part value count wide marks k are less within split = by_case (mark_at marks k) (are.each k less)
   where
-    by_case : (m : Mark) → IsMark (Holds k) part value count m → m ≡ Divided
+    by_case : (m : GroupMark) → IsMark (Holds k) part value count m → m ≡ Divided
     by_case Unseen none = absurd (none split.one (within split.one split.one_holds) split.one_holds)
     by_case (Seen p v) whole =
         absurd (split.differ (whole.whole split.one split.other (within split.one split.one_holds) (within split.other split.other_holds) split.one_holds split.other_holds split.part_is))
@@ -53,7 +53,7 @@ split_from_divided Holds plan divided = record {
   differ = divided.differ;
 }
 
-pub counties_are : (blocks : List BlockRow) (plan : List ℕ) (marks : List Mark) (codes : List ℕ) → AreMarks (IsInCounty blocks) one_part (value_at plan) (length blocks) 1000 marks
+pub counties_are : (blocks : List BlockRow) (plan : List ℕ) (marks : List GroupMark) (codes : List ℕ) → AreMarks (IsInCounty blocks) one_part (value_at plan) (length blocks) 1000 marks
     → AreExactly (IsDividedAt marks) codes → AreExactly (IsDividedCounty blocks plan) codes
 counties_are blocks plan marks codes are exactly =
     exactly_same (IsDividedAt marks) (IsDividedCounty blocks plan) codes
@@ -62,7 +62,7 @@ counties_are blocks plan marks codes are exactly =
     (split_from_divided (IsInCounty blocks k) plan is))
     exactly
 
-pub cities_are : (blocks : List BlockRow) (plan : List ℕ) (wide : ℕ) (marks : List Mark) (codes : List ℕ) → ((city place : ℕ) → IsInCity blocks city place → city < wide)
+pub cities_are : (blocks : List BlockRow) (plan : List ℕ) (wide : ℕ) (marks : List GroupMark) (codes : List ℕ) → ((city place : ℕ) → IsInCity blocks city place → city < wide)
     → AreMarks (IsInCity blocks) one_part (value_at plan) (length blocks) wide marks → AreExactly (IsDividedAt marks) codes → AreExactly (IsDividedCity blocks plan) codes
 cities_are blocks plan wide marks codes above are exactly =
     exactly_same (IsDividedAt marks) (IsDividedCity blocks plan) codes
@@ -93,7 +93,7 @@ split_from_within blocks plan city is = record {
   differ = is.divided.differ;
 }
 
-pub cities_within_are : (blocks : List BlockRow) (plan : List ℕ) (wide : ℕ) (marks : List Mark) (codes : List ℕ) → ((city place : ℕ) → IsInCity blocks city place → city < wide)
+pub cities_within_are : (blocks : List BlockRow) (plan : List ℕ) (wide : ℕ) (marks : List GroupMark) (codes : List ℕ) → ((city place : ℕ) → IsInCity blocks city place → city < wide)
     → AreMarks (IsInCity blocks) (county_at blocks) (value_at plan) (length blocks) wide marks → AreExactly (IsDividedAt marks) codes → AreExactly (IsDividedWithinCounty blocks plan) codes
 cities_within_are blocks plan wide marks codes above are exactly =
     exactly_same (IsDividedAt marks) (IsDividedWithinCounty blocks plan) codes
@@ -103,12 +103,12 @@ cities_within_are blocks plan wide marks codes above are exactly =
     exactly
 
 -- the mark of a district says whether it is nested
-not_nested : (plan companion : List ℕ) (d : ℕ) (m : Mark) → IsMark (IsIn plan d) one_part (value_at companion) (length plan) m → IsAsunder m → ¬ IsNested plan companion d
+not_nested : (plan companion : List ℕ) (d : ℕ) (m : GroupMark) → IsMark (IsIn plan d) one_part (value_at companion) (length plan) m → IsAsunder m → ¬ IsNested plan companion d
 not_nested plan companion d Unseen is asunder nested = asunder
 not_nested plan companion d (Seen p v) is asunder nested = omega (arith, nested.assigned, nested.each is.place is.holds, is.value_is, asunder)
 not_nested plan companion d Divided is asunder nested = is.differ (nested.each is.one is.one_holds ∙ sym (nested.each is.other is.other_holds))
 
-asunder : (plan companion : List ℕ) (d : ℕ) (m : Mark) → IsMark (IsIn plan d) one_part (value_at companion) (length plan) m → ¬ IsNested plan companion d → IsAsunder m
+asunder : (plan companion : List ℕ) (d : ℕ) (m : GroupMark) → IsMark (IsIn plan d) one_part (value_at companion) (length plan) m → ¬ IsNested plan companion d → IsAsunder m
 asunder plan companion d Unseen is broken = broken (record { over = 1; assigned = omega arith; each = λ place lies. absurd (is place lies.within lies) })
 asunder plan companion d (Seen p v) is broken =
     ⊎_elim (λ (e : v ≡ 0). e)
@@ -120,16 +120,16 @@ asunder plan companion d (Seen p v) is broken =
     (cases_eq v 0)
 asunder plan companion d Divided is broken = tt
 
-asunder_inside : (marks : List Mark) (d : ℕ) → IsAsunder (mark_at marks d) → d < length marks
+asunder_inside : (marks : List GroupMark) (d : ℕ) → IsAsunder (mark_at marks d) → d < length marks
 asunder_inside marks d is =
     ⊎_elim (λ (less : d < length marks). less)
     (λ (past : length marks ≤ d). absurd (subst IsAsunder (get_or_past marks d Unseen past) is))
     (cases_lt d (length marks))
 
-pub asunder_below : (marks : List Mark) (d : ℕ) → IsAsunderAt marks d → d < length marks
+pub asunder_below : (marks : List GroupMark) (d : ℕ) → IsAsunderAt marks d → d < length marks
 asunder_below marks d is = asunder_inside marks d is.asunder
 
-pub nesting_are : (n wide : ℕ) (plan companion : List ℕ) (marks : List Mark) (districts : List ℕ) → wide ≡ n + 1
+pub nesting_are : (n wide : ℕ) (plan companion : List ℕ) (marks : List GroupMark) (districts : List ℕ) → wide ≡ n + 1
     → AreMarks (IsIn plan) one_part (value_at companion) (length plan) wide marks → AreExactly (IsAsunderAt marks) districts
     → AreExactly (BreaksNesting n plan companion) districts
 nesting_are n wide plan companion marks districts size are exactly =
@@ -142,5 +142,5 @@ nesting_are n wide plan companion marks districts size are exactly =
     (λ d is. record { from_first = is.from_first; asunder = asunder plan companion d (mark_at marks d) (are.each d (omega (arith, is.to_last, size))) is.broken })
     exactly
 
-pub divided_below : (marks : List Mark) (k : ℕ) → IsDividedAt marks k → k < length marks
+pub divided_below : (marks : List GroupMark) (k : ℕ) → IsDividedAt marks k → k < length marks
 divided_below marks k is = inside marks k is

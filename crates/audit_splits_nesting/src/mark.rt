@@ -7,7 +7,7 @@ use std::alloc::{AllocError, Global};
 
 /// The values of a group's blocks. A group has parts, told by numbers that never fall along the blocks.
 #[derive(Clone, Copy)]
-pub enum Mark {
+pub enum GroupMark {
     Unseen,
     /// No part has two values: the last part that was seen, and its value.
     Seen { part: u16, value: u16 },
@@ -15,41 +15,41 @@ pub enum Mark {
     Divided,
 }
 
-impl Mark {
+impl GroupMark {
     /// Notes a block more. What stays the same isn't written.
     pub fn note(&mut self, part: u16, value: u16)
         ensures { self.new ≡ marked self.old part value }
     {
         match *self {
-            Mark::Seen {
+            GroupMark::Seen {
                 part: last,
                 value: known,
             } if last == part => {
                 if known != value {
-                    *self = Mark::Divided;
+                    *self = GroupMark::Divided;
                 }
             }
-            Mark::Unseen | Mark::Seen { .. } => *self = Mark::Seen { part, value },
-            Mark::Divided => {}
+            GroupMark::Unseen | GroupMark::Seen { .. } => *self = GroupMark::Seen { part, value },
+            GroupMark::Divided => {}
         }
     }
 }
 
 /// So many groups of which no block was seen.
-pub fn unseen(alloc: Global, count: usize) -> Result<Vec<Mark>, AllocError>
+pub fn unseen(alloc: Global, count: usize) -> Result<Vec<GroupMark>, AllocError>
     ensures { IfOk result (λ v. AreUnseen count v.items) }
 {
-    vec![in alloc; Mark::Unseen; count]
+    vec![in alloc; GroupMark::Unseen; count]
 }
 
 /// The groups that are divided, rising.
-pub fn divided_u16(alloc: Global, marks: &[Mark]) -> Result<Vec<u16>, AllocError>
+pub fn divided_u16(alloc: Global, marks: &[GroupMark]) -> Result<Vec<u16>, AllocError>
     requires { length marks.now ≤ 2 ^ 16 }
     ensures { IfOk result (λ v. AreExactly (IsDividedAt marks.now) v.items) }
 {
     let mut codes = Vec::new(alloc);
     for (k, mark) in marks.iter().enumerate() {
-        if let Mark::Divided = mark {
+        if let GroupMark::Divided = mark {
             codes.push(k as u16)?;
         }
     }
@@ -57,13 +57,13 @@ pub fn divided_u16(alloc: Global, marks: &[Mark]) -> Result<Vec<u16>, AllocError
 }
 
 /// The groups that are divided, rising.
-pub fn divided_u32(alloc: Global, marks: &[Mark]) -> Result<Vec<u32>, AllocError>
+pub fn divided_u32(alloc: Global, marks: &[GroupMark]) -> Result<Vec<u32>, AllocError>
     requires { length marks.now ≤ 2 ^ 32 }
     ensures { IfOk result (λ v. AreExactly (IsDividedAt marks.now) v.items) }
 {
     let mut codes = Vec::new(alloc);
     for (k, mark) in marks.iter().enumerate() {
-        if let Mark::Divided = mark {
+        if let GroupMark::Divided = mark {
             codes.push(k as u32)?;
         }
     }

@@ -4,11 +4,11 @@ ghost use Rattle.audit_splits_nesting.specs.Exactly.{AreExactly};
 ghost use Rattle.audit_splits_nesting.specs.Nested.{IsIn, BreaksNesting};
 ghost use Rattle.audit_splits_nesting.specs.Marks.{AreUnseen, AreMarks, one_part, value_at, IsAsunder, IsAsunderAt};
 
-use crate::mark::{Mark, unseen};
+use crate::mark::{GroupMark, unseen};
 use std::alloc::{AllocError, Global};
 
 /// Marks the districts with the companion's values.
-fn mark_districts(plan: &[u16], companion: &[u16], marks: &mut [Mark])
+fn mark_districts(plan: &[u16], companion: &[u16], marks: &mut [GroupMark])
     requires beside { length companion.now ≡ length plan.now }
     requires none { AreUnseen (length marks.old) marks.old }
     ensures { AreMarks (IsIn plan.now) one_part (value_at companion.now) (length plan.now) (length marks.old) marks.new }
@@ -22,18 +22,18 @@ fn mark_districts(plan: &[u16], companion: &[u16], marks: &mut [Mark])
 }
 
 /// Whether a district's blocks have different values, or the value 0.
-fn is_asunder(mark: &Mark) -> bool
+fn is_asunder(mark: &GroupMark) -> bool
     ensures { IsTrue result ↔ IsAsunder mark.now }
 {
     match mark {
-        Mark::Unseen => false,
-        Mark::Seen { value, .. } => *value == 0,
-        Mark::Divided => true,
+        GroupMark::Unseen => false,
+        GroupMark::Seen { value, .. } => *value == 0,
+        GroupMark::Divided => true,
     }
 }
 
 /// The districts from 1 on that are asunder, rising.
-fn asunder(alloc: Global, marks: &[Mark]) -> Result<Vec<u16>, AllocError>
+fn asunder(alloc: Global, marks: &[GroupMark]) -> Result<Vec<u16>, AllocError>
     requires { length marks.now ≤ 2 ^ 16 }
     ensures { IfOk result (λ v. AreExactly (IsAsunderAt marks.now) v.items) }
 {

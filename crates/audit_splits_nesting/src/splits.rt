@@ -5,7 +5,7 @@ ghost use Rattle.audit_splits_nesting.specs.Exactly.{AreExactly};
 ghost use Rattle.audit_splits_nesting.specs.Divided.{county_at, IsInCounty, IsInCity, IsDividedCounty, IsDividedCity, IsDividedWithinCounty};
 ghost use Rattle.audit_splits_nesting.specs.Marks.{AreUnseen, AreMarks, one_part, value_at};
 
-use crate::mark::{Mark, divided_u16, divided_u32, unseen};
+use crate::mark::{GroupMark, divided_u16, divided_u32, unseen};
 use desk_model::block::BlockRow;
 use desk_model::geography::Geography;
 use std::alloc::{AllocError, Global};
@@ -14,7 +14,7 @@ use std::alloc::{AllocError, Global};
 const COUNTIES: usize = 1_000;
 
 /// Marks the counties.
-fn mark_counties(blocks: &[BlockRow], plan: &[u16], marks: &mut [Mark])
+fn mark_counties(blocks: &[BlockRow], plan: &[u16], marks: &mut [GroupMark])
     requires beside { length plan.now ≡ length blocks.now }
     requires wide { length marks.old ≡ COUNTIES }
     requires none { AreUnseen (length marks.old) marks.old }
@@ -43,7 +43,7 @@ fn city_codes(blocks: &[BlockRow]) -> usize
 }
 
 /// Marks the cities.
-fn mark_cities(blocks: &[BlockRow], plan: &[u16], marks: &mut [Mark])
+fn mark_cities(blocks: &[BlockRow], plan: &[u16], marks: &mut [GroupMark])
     requires beside { length plan.now ≡ length blocks.now }
     requires wide { (city place : ℕ) → IsInCity blocks.now city place → city < length marks.old }
     requires none { AreUnseen (length marks.old) marks.old }
@@ -57,7 +57,7 @@ fn mark_cities(blocks: &[BlockRow], plan: &[u16], marks: &mut [Mark])
 }
 
 /// Marks the cities, with their counties for parts.
-fn mark_cities_by_county(blocks: &[BlockRow], plan: &[u16], marks: &mut [Mark])
+fn mark_cities_by_county(blocks: &[BlockRow], plan: &[u16], marks: &mut [GroupMark])
     requires blocks { AreBlocks blocks.now }
     requires beside { length plan.now ≡ length blocks.now }
     requires wide { (city place : ℕ) → IsInCity blocks.now city place → city < length marks.old }

@@ -5,7 +5,7 @@ ghost use Rattle.audit_workers.specs.Share.{AreNumberedBelow};
 ghost use Rattle.audit_workers.specs.Work.{IsFound, breaks_in, shown_of};
 
 use audit_contiguity::breaks::Break;
-use audit_contiguity::parts::{Trees, part_count};
+use audit_contiguity::parts::{DistrictTrees, part_count};
 use audit_report::pieces::{People, Splits, Unnested, find_nesting, find_people, find_splits};
 use desk_model::companions::Companions;
 use desk_model::geography::Geography;
@@ -115,9 +115,9 @@ impl<'a> Work<'a> {
     }
 
     /// The trees of the parts of districts that are own by their numbers.
-    pub fn trees(&self, alloc: Global, own: Vec<bool>) -> Result<Trees<'a>, AllocError>
+    pub fn trees(&self, alloc: Global, own: Vec<bool>) -> Result<DistrictTrees<'a>, AllocError>
         ensures { IfOk result (λ t. t ≡ shown_of self.now own.items) }
     {
-        Trees::new(alloc, self.geography, self.count, self.plan, own)
+        DistrictTrees::new(alloc, self.geography, self.count, self.plan, own)
     }
 }

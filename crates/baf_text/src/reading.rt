@@ -8,7 +8,7 @@ ghost use Rattle.baf_text.specs.Faults.{IsFaultOf};
 ghost use Rattle.baf_text.specs.declared.reading.BafFault.TheVariants.{Memory};
 
 use crate::listed::Listed;
-use crate::row::{ID_DIGITS, Row, next_row};
+use crate::row::{BafRow, ID_DIGITS, next_row};
 use desk_model::geography::{Geography, place_near};
 use desk_model::reply::BodyFault;
 use field_text::lines::first_line;
@@ -50,7 +50,7 @@ fn entry_of(
     listed: &Listed,
     geography: &Geography,
     n: u16,
-    row: Option<Row>,
+    row: Option<BafRow>,
     likely: usize,
 ) -> Result<(usize, u16), BodyFault>
     requires { length listed.now ≡ length geography.now.blocks }
@@ -80,7 +80,7 @@ fn take_line(
     listed: &mut Listed,
     geography: &Geography,
     n: u16,
-    said: Option<Option<Row>>,
+    said: Option<Option<BafRow>>,
     number: u64,
     likely: usize,
 ) -> Result<usize, BafFault>

@@ -18,7 +18,7 @@ const UNASSIGNED_OF_TWO: &[u8] = b"ZZ";
 const UNASSIGNED_OF_THREE: &[u8] = b"ZZZ";
 
 /// A block, and the number that its code writes, if any.
-pub type Row = (BlockId, Option<u16>);
+pub type BafRow = (BlockId, Option<u16>);
 
 /// The number that a code writes that may have any number of bytes, `Some(None)` for an unassigned block.
 fn any_code(code: &[u8]) -> Option<Option<u16>>
@@ -57,7 +57,7 @@ fn head_of(text: &[u8]) -> Option<BlockId>
 }
 
 /// The block of a line and the number that its code writes; `None` where the line has another shape.
-fn row_of(line: &[u8]) -> Option<Row>
+fn row_of(line: &[u8]) -> Option<BafRow>
     ensures { result ≡ fields_of (fields line.now) }
 {
     let Some(block) = head_of(line) else {
@@ -70,7 +70,7 @@ fn row_of(line: &[u8]) -> Option<Row>
 }
 
 /// The row that is a text's first line and the text behind that line, found in one pass. `None` says nothing of the text.
-fn front_row(text: &[u8]) -> Option<(Row, &[u8])>
+fn front_row(text: &[u8]) -> Option<(BafRow, &[u8])>
     ensures { IfSome result (λ front. HasFirst text.now (Some (Some front.0)) front.1.now) }
 {
     let Some(block) = head_of(text) else {
@@ -86,7 +86,7 @@ fn front_row(text: &[u8]) -> Option<(Row, &[u8])>
 }
 
 /// What a line says: `None` where it has no bytes, `Some(None)` where it is no row.
-fn parts_of(line: &[u8]) -> Option<Option<Row>>
+fn parts_of(line: &[u8]) -> Option<Option<BafRow>>
     ensures { result ≡ line_parts line.now }
 {
     if line.is_empty() {
@@ -97,7 +97,7 @@ fn parts_of(line: &[u8]) -> Option<Option<Row>>
 }
 
 /// What a text's first line says, and the text behind it. `None` where there is no line.
-pub fn next_row(text: &[u8]) -> Option<(Option<Option<Row>>, &[u8])>
+pub fn next_row(text: &[u8]) -> Option<(Option<Option<BafRow>>, &[u8])>
     ensures { MatchOption result (lines text.now ≡ []) (λ next. HasFirst text.now next.0 next.1.now) }
 {
     match front_row(text) {

@@ -21,7 +21,7 @@ use Rattle.btree_scan.proofs.Prefixes.{under_from, none_under, rises_from_key, a
 use Rattle.btree_scan.specs.Parts.{page_of}
 use Rattle.btree_scan.specs.Turning.{IsTurned}
 use Rattle.btree_scan.specs.Scanning.{IsReady, IsWithin, IsStep, IsTakenRow, ScanErr}
-use Rattle.btree_scan.specs.declared.held.Held.{Held}
+use Rattle.btree_scan.specs.declared.held.HeldLeaves.{HeldLeaves}
 use Rattle.btree_scan.specs.declared.rows.Row.{Row}
 
 true_is : (b : Bool) → T b → b ≡ true
@@ -43,7 +43,7 @@ no_others zero pages rows none are = are
 no_others (suc m) pages rows none are = absurd (omega arith)
 
 -- a scan's beginning
-pub ready_new : (prefix : List ℕ) (m : KeyMap) (leaf : Leaf) (held : Held) → leaf.at ≡ 0 → leaf.left ≡ 0 → leaf.more ≡ 0 → bound_in leaf ≡ Some prefix → IsReady false prefix leaf held (entries m) (under prefix (entries m))
+pub ready_new : (prefix : List ℕ) (m : KeyMap) (leaf : Leaf) (held : HeldLeaves) → leaf.at ≡ 0 → leaf.left ≡ 0 → leaf.more ≡ 0 → bound_in leaf ≡ Some prefix → IsReady false prefix leaf held (entries m) (under prefix (entries m))
 ready_new prefix m leaf held at left more bound = record {
   here = [];
   others = [];
@@ -59,17 +59,17 @@ ready_new prefix m leaf held at left more bound = record {
 }
 
 -- no row is left
-none_left : (covered : Bool) (prefix : List ℕ) (leaf : Leaf) (held : Held) (all rest : List Entry) (is : IsReady covered prefix leaf held all rest) → leaf.left ≡ 0 → leaf.more ≡ 0 → is.behind ≡ [] → rest ≡ []
+none_left : (covered : Bool) (prefix : List ℕ) (leaf : Leaf) (held : HeldLeaves) (all rest : List Entry) (is : IsReady covered prefix leaf held all rest) → leaf.left ≡ 0 → leaf.more ≡ 0 → is.behind ≡ [] → rest ≡ []
 none_left covered prefix leaf held all rest is none alone last =
     let here : is.here ≡ [] = no_rows is.here (sym is.left_is ∙ none) in
     let others : is.others ≡ [] = no_others leaf.more (drop (held.which + 1) held.pages) is.others alone is.others_are in
     is.rest_are ∙ (λ i. under prefix (here i ++ (others i ++ last i)))
 
-pub ready_last : (covered : Bool) (prefix : List ℕ) (leaf : Leaf) (held : Held) (all rest : List Entry) → IsReady covered prefix leaf held all rest → bound_in leaf ≡ None → leaf.left ≡ 0 → leaf.more ≡ 0 → rest ≡ []
+pub ready_last : (covered : Bool) (prefix : List ℕ) (leaf : Leaf) (held : HeldLeaves) (all rest : List Entry) → IsReady covered prefix leaf held all rest → bound_in leaf ≡ None → leaf.left ≡ 0 → leaf.more ≡ 0 → rest ≡ []
 ready_last covered prefix leaf held all rest is bound none alone = none_left covered prefix leaf held all rest is none alone (subst (λ (b : Option (List ℕ)). IsNext b all is.behind) bound is.next)
 
 -- the next leaves are read
-pub ready_read : (was now : Bool) (prefix b : List ℕ) (old leaf : Leaf) (before held : Held) (all rest : List Entry) → IsReady was prefix old before all rest → old.left ≡ 0 → old.more ≡ 0 → bound_in old ≡ Some b → IsFrom b all leaf held.pages → held.which ≡ 0 → (now ≡ true → IsWithin prefix leaf) → IsReady now prefix leaf held all rest × (leaf.left ≡ 0 → leaf.more ≡ 0 → rest ≡ [])
+pub ready_read : (was now : Bool) (prefix b : List ℕ) (old leaf : Leaf) (before held : HeldLeaves) (all rest : List Entry) → IsReady was prefix old before all rest → old.left ≡ 0 → old.more ≡ 0 → bound_in old ≡ Some b → IsFrom b all leaf held.pages → held.which ≡ 0 → (now ≡ true → IsWithin prefix leaf) → IsReady now prefix leaf held all rest × (leaf.left ≡ 0 → leaf.more ≡ 0 → rest ≡ [])
 ready_read was now prefix b old leaf before held all rest is none alone bound there first within =
     let here : is.here ≡ [] = no_rows is.here (sym is.left_is ∙ none) in
     let others : is.others ≡ [] = no_others old.more (drop (before.which + 1) before.pages) is.others alone is.others_are in
@@ -97,7 +97,7 @@ ready_read was now prefix b old leaf before held all rest is none alone bound th
     (ready, λ nothing single. none_left now prefix leaf held all rest ready nothing single (there.some nothing single))
 
 -- or the next one of those that are held is taken
-pub ready_turn : (covered : Bool) (prefix : List ℕ) (old leaf : Leaf) (before held : Held) (all rest : List Entry) (is : IsReady covered prefix old before all rest) → old.left ≡ 0 → IsTurned is.others leaf held → bound_in leaf ≡ bound_in old → IsReady covered prefix leaf held all rest × (leaf.left ≡ 0 → rest ≡ [])
+pub ready_turn : (covered : Bool) (prefix : List ℕ) (old leaf : Leaf) (before held : HeldLeaves) (all rest : List Entry) (is : IsReady covered prefix old before all rest) → old.left ≡ 0 → IsTurned is.others leaf held → bound_in leaf ≡ bound_in old → IsReady covered prefix leaf held all rest × (leaf.left ≡ 0 → rest ≡ [])
 ready_turn covered prefix old leaf before held all rest is none there bound =
     let here : is.here ≡ [] = no_rows is.here (sym is.left_is ∙ none) in
     let rows = there.rows_are in
@@ -121,7 +121,7 @@ ready_turn covered prefix old leaf before held all rest is none there bound =
     )
 
 -- a row is taken
-pub record IsHead (covered : Bool) (prefix : List ℕ) (leaf : Leaf) (held : Held) (all rest : List Entry) : Type 0 where
+pub record IsHead (covered : Bool) (prefix : List ℕ) (leaf : Leaf) (held : HeldLeaves) (all rest : List Entry) : Type 0 where
   pub e : Entry
   pub es : List Entry
   pub ahead : IsAhead (page_of held) leaf.at (e ∷ es)
@@ -129,7 +129,7 @@ pub record IsHead (covered : Bool) (prefix : List ℕ) (leaf : Leaf) (held : Hel
   pub on : covered ≡ true → starts_with nat_eq e.0 prefix ≡ true
   pub ends : starts_with nat_eq e.0 prefix ≡ false → rest ≡ []
 
-pub head_of : (covered : Bool) (prefix : List ℕ) (leaf : Leaf) (held : Held) (all rest : List Entry) → IsReady covered prefix leaf held all rest → 0 < leaf.left → IsHead covered prefix leaf held all rest
+pub head_of : (covered : Bool) (prefix : List ℕ) (leaf : Leaf) (held : HeldLeaves) (all rest : List Entry) → IsReady covered prefix leaf held all rest → 0 < leaf.left → IsHead covered prefix leaf held all rest
 head_of covered prefix leaf held all rest is some = by is.here is.left_is is.ahead is.rest_are is.rises is.from is.covers
   where
     by : (here : List Entry) → leaf.left ≡ length here → IsAhead (page_of held) leaf.at here → rest ≡ under prefix (here ++ (is.others ++ is.behind)) → Rises (here ++ (is.others ++ is.behind)) → AllFrom prefix (here ++ (is.others ++ is.behind)) → (covered ≡ true → AllUnder prefix (here ++ is.others)) → IsHead covered prefix leaf held all rest
@@ -162,7 +162,7 @@ head_of covered prefix leaf held all rest is some = by is.here is.left_is is.ahe
           ends = λ off. rest_are ∙ ap (λ (b : Bool). cond b (e ∷ under prefix later) (under prefix later)) off ∙ none_under prefix e later from.0 off parts.0;
         }
 
-pub step_of : (covered : Bool) (prefix : List ℕ) (leaf next : Leaf) (held : Held) (row : Row) (all rest : List Entry) (h : IsHead covered prefix leaf held all rest) (found : Bool) → IsTakenRow h.e h.es row (page_of held) next.at → next.left + 1 ≡ leaf.left → next.more ≡ leaf.more → bound_in next ≡ bound_in leaf → found ≡ starts_with nat_eq row.key prefix → IsStep found covered prefix next held row all rest
+pub step_of : (covered : Bool) (prefix : List ℕ) (leaf next : Leaf) (held : HeldLeaves) (row : Row) (all rest : List Entry) (h : IsHead covered prefix leaf held all rest) (found : Bool) → IsTakenRow h.e h.es row (page_of held) next.at → next.left + 1 ≡ leaf.left → next.more ≡ leaf.more → bound_in next ≡ bound_in leaf → found ≡ starts_with nat_eq row.key prefix → IsStep found covered prefix next held row all rest
 step_of covered prefix leaf next held row all rest h true taken less same bound is =
     let on : starts_with nat_eq h.e.0 prefix ≡ true = ap (λ (k : List ℕ). starts_with nat_eq k prefix) (sym taken.key_is) ∙ sym is in
     let g = h.goes on next taken.ahead less same bound in
@@ -170,7 +170,7 @@ step_of covered prefix leaf next held row all rest h true taken less same bound 
 step_of covered prefix leaf next held row all rest h false taken less same bound is = h.ends (ap (λ (k : List ℕ). starts_with nat_eq k prefix) (sym taken.key_is) ∙ sym is)
 
 -- the row of a covered leaf
-pub covered_step : (covered : Bool) (prefix : List ℕ) (leaf next : Leaf) (held : Held) (row : Row) (all rest : List Entry) (h : IsHead covered prefix leaf held all rest) → covered ≡ true → IsTakenRow h.e h.es row (page_of held) next.at → next.left + 1 ≡ leaf.left → next.more ≡ leaf.more → bound_in next ≡ bound_in leaf → IsStep true covered prefix next held row all rest
+pub covered_step : (covered : Bool) (prefix : List ℕ) (leaf next : Leaf) (held : HeldLeaves) (row : Row) (all rest : List Entry) (h : IsHead covered prefix leaf held all rest) → covered ≡ true → IsTakenRow h.e h.es row (page_of held) next.at → next.left + 1 ≡ leaf.left → next.more ≡ leaf.more → bound_in next ≡ bound_in leaf → IsStep true covered prefix next held row all rest
 covered_step covered prefix leaf next held row all rest h is taken less same bound = step_of covered prefix leaf next held row all rest h true taken less same bound (sym (ap (λ (k : List ℕ). starts_with nat_eq k prefix) taken.key_is ∙ h.on is))
 
 -- ---- results

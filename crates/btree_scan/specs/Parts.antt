@@ -2,13 +2,13 @@
 use Rattle.std.specs.Prelude.{ℕ, List, []}
 use Rattle.std.proofs.Common.{get_or}
 use Rattle.page_node.specs.Walking.{part_of}
-use Rattle.btree_scan.specs.declared.held.Held.{Held}
+use Rattle.btree_scan.specs.declared.held.HeldLeaves.{HeldLeaves}
 use Rattle.btree_scan.specs.declared.parts.Parts.{Parts}
 use Rattle.btree_scan.specs.declared.rows.Row.{Row}
 use Rattle.btree_scan.specs.declared.scans.Scan.{Scan}
 
 -- the page of the leaf at which a scan stands
-abbrev pub page_of : Held → List ℕ
+abbrev pub page_of : HeldLeaves → List ℕ
 page_of held = get_or {A = List ℕ} held.pages held.which []
 
 abbrev pub row_at : List ℕ → Parts → Row

@@ -17,15 +17,15 @@ use Rattle.page_btree.specs.declared.error.TreeError.{TreeError}
 use Rattle.page_btree.specs.declared.error.TreeError.TheVariants.{DeviceFault, Halted, NoPages, TooDeep, Memory}
 use Rattle.btree_scan.specs.Prefixes.{under, AllFrom, AllUnder}
 use Rattle.btree_scan.specs.Parts.{page_of}
-use Rattle.btree_scan.specs.declared.held.Held.{Held}
-use Rattle.btree_scan.specs.declared.parts.Place.{Place}
+use Rattle.btree_scan.specs.declared.held.HeldLeaves.{HeldLeaves}
+use Rattle.btree_scan.specs.declared.parts.ScanPlace.{ScanPlace}
 use Rattle.btree_scan.specs.declared.rows.Row.{Row}
 use Rattle.btree_scan.specs.declared.scans.Scan.{Scan}
 
 -- A leaf stands before the rows of which those under the prefix are still to come: some are ahead in its page, others in the leaves
 -- that are held with it, and the others behind these. They rise, and none is below the prefix. Where the leaves are covered, none
 -- of theirs isn't under it.
-pub record IsReady (covered : Bool) (prefix : List ℕ) (leaf : Leaf) (held : Held) (all rest : List Entry) : Type 0 where
+pub record IsReady (covered : Bool) (prefix : List ℕ) (leaf : Leaf) (held : HeldLeaves) (all rest : List Entry) : Type 0 where
   pub here : List Entry
   pub others : List Entry
   pub behind : List Entry
@@ -38,7 +38,7 @@ pub record IsReady (covered : Bool) (prefix : List ℕ) (leaf : Leaf) (held : He
   pub from : AllFrom prefix (here ++ (others ++ behind))
   pub covers : covered ≡ true → AllUnder prefix (here ++ others)
 
-abbrev pub RestWhere : Bool → Bool → List ℕ → Leaf → Held → List Entry → List Entry → Type 0
+abbrev pub RestWhere : Bool → Bool → List ℕ → Leaf → HeldLeaves → List Entry → List Entry → Type 0
 RestWhere true covered prefix leaf held all rest = rest ≡ []
 RestWhere false covered prefix leaf held all rest = IsReady covered prefix leaf held all rest
 
@@ -58,18 +58,18 @@ abbrev pub is_open : Scan → Bool
 is_open scan = cond scan.ended false scan.covered
 
 -- a place has rows of such a leaf alone
-abbrev pub FitsIn : Scan → Place → Type 0
+abbrev pub FitsIn : Scan → ScanPlace → Type 0
 FitsIn scan place = is_open scan ≡ false → place.left ≡ 0
 
 -- a leaf that stands at a place
-abbrev pub leaf_at : Leaf → Place → Leaf
+abbrev pub leaf_at : Leaf → ScanPlace → Leaf
 leaf_at leaf place = record { at = place.at; left = place.left; more = leaf.more; bounded = leaf.bounded; bound = leaf.bound }
 
 -- a scan whose leaf does
-abbrev pub moved_to : Scan → Place → Scan
+abbrev pub moved_to : Scan → ScanPlace → Scan
 moved_to scan place = record { prefix = scan.prefix; leaf = leaf_at scan.leaf place; held = scan.held; covered = scan.covered; last = scan.last; parts = scan.parts; ended = scan.ended; fault = scan.fault }
 
-abbrev pub stood_at : Scan → Place → Scan
+abbrev pub stood_at : Scan → ScanPlace → Scan
 stood_at scan place = cond (is_open scan) (moved_to scan place) scan
 
 -- ----
@@ -92,14 +92,14 @@ abbrev pub CanScan : Scan → KeyMap → Type 0
 CanScan scan m = (rest : List Entry) × Rest scan (entries m) rest
 
 -- ---- within a call
-abbrev pub CanStep : Bool → List ℕ → Leaf → Held → KeyMap → Type 0
+abbrev pub CanStep : Bool → List ℕ → Leaf → HeldLeaves → KeyMap → Type 0
 CanStep covered prefix leaf held m = (rest : List Entry) × IsReady covered prefix leaf held (entries m) rest
 
 -- a key that begins with the prefix bounds the leaf's rows
 abbrev pub IsWithin : List ℕ → Leaf → Type 0
 IsWithin prefix leaf = (bound : List ℕ) × (bound_in leaf ≡ Some bound) × (starts_with nat_eq bound prefix ≡ true)
 
-abbrev pub IsStep : Bool → Bool → List ℕ → Leaf → Held → Row → List Entry → List Entry → Type 0
+abbrev pub IsStep : Bool → Bool → List ℕ → Leaf → HeldLeaves → Row → List Entry → List Entry → Type 0
 IsStep true covered prefix leaf held row all rest = (more : List Entry) × (rest ≡ (row.key, row.value) ∷ more) × IsReady covered prefix leaf held all more
 IsStep false covered prefix leaf held row all rest = rest ≡ []
 

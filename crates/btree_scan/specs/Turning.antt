@@ -5,10 +5,10 @@ use Rattle.page_node.specs.Walking.{IsAhead}
 use Rattle.page_btree.specs.Seeking.{AreLeaves}
 use Rattle.page_btree.specs.declared.seeks.Leaf.{Leaf}
 use Rattle.btree_scan.specs.Parts.{page_of}
-use Rattle.btree_scan.specs.declared.held.Held.{Held}
+use Rattle.btree_scan.specs.declared.held.HeldLeaves.{HeldLeaves}
 
 -- of the rows of leaves those of the first are ahead in its page, and the others are in the leaves behind it
-pub record IsTurned (rows : List Entry) (leaf : Leaf) (held : Held) : Type 0 where
+pub record IsTurned (rows : List Entry) (leaf : Leaf) (held : HeldLeaves) : Type 0 where
   pub here : List Entry
   pub others : List Entry
   pub rows_are : rows ≡ here ++ others

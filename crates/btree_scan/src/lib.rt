@@ -9,7 +9,7 @@ mod turns;
 mod whole;
 
 pub use page_btree::{SmallBytes, TreeError};
-pub use parts::{Parts, Place};
+pub use parts::{Parts, ScanPlace};
 pub use rows::Row;
 pub use scans::Scan;
 pub use whole::{laws, row_limit};

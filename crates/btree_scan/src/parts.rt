@@ -18,13 +18,13 @@ pub struct Parts {
 
 /// A place in the leaf at which a scan stands, for a loop over its rows.
 #[derive(Drop)]
-pub struct Place {
+pub struct ScanPlace {
     pub(crate) at: usize,
     pub(crate) left: usize,
     pub(crate) last: Lengths,
 }
 
-impl Place {
+impl ScanPlace {
     /// How many rows stand there that are known to be under the prefix.
     pub fn left(&self) -> usize
         ensures { result ≡ self.now.left }

@@ -10,8 +10,8 @@ ghost use Rattle.btree_scan.specs.Prefixes.{under};
 ghost use Rattle.btree_scan.specs.Parts.{page_of, row_at, row_in, row_of};
 ghost use Rattle.btree_scan.specs.Scanning.{Rest, IsReady, IsWithin, IsStep, IsNextRow, has_ended, fault_in, is_open, FitsIn, stood_at, CanScan, CanStep, ScanErr};
 
-use crate::held::Held;
-use crate::parts::{Parts, Place};
+use crate::held::HeldLeaves;
+use crate::parts::{Parts, ScanPlace};
 use crate::rows::{Row, parts_at, take_row};
 use crate::turns::turn;
 use page_btree::{Leaf, SmallBytes, TreeError, leaf_from};
@@ -25,7 +25,7 @@ use sector_device::SectorDevice;
 pub struct Scan {
     prefix: SmallBytes,
     leaf: Leaf,
-    held: Held,
+    held: HeldLeaves,
     /// Whether each row of the leaves that are held is known to be under the prefix.
     covered: bool,
     last: Lengths,
@@ -44,7 +44,7 @@ impl Scan {
         let mut scan = Scan {
             prefix: SmallBytes::empty(),
             leaf: Leaf::empty(),
-            held: Held::empty(),
+            held: HeldLeaves::empty(),
             covered: false,
             last: Lengths::NONE,
             parts: Parts {
@@ -135,12 +135,12 @@ impl Scan {
 
     /// The place at which it stands, where each row that is left of its leaf is known to be under the prefix. A loop takes these rows
     /// one after the other by `take_at`, and tells how far it came by `go_on`. Of another leaf no row is left there.
-    pub fn place(&self) -> Place
+    pub fn place(&self) -> ScanPlace
         ensures left { result.left ≡ cond (is_open self.now) self.now.leaf.left 0 }
         ensures fits { FitsIn self.now result }
         ensures stands { stood_at self.now result ≡ self.now }
     {
-        let mut place = Place {
+        let mut place = ScanPlace {
             at: self.leaf.at,
             left: 0,
             last: Lengths::NONE,
@@ -156,7 +156,7 @@ impl Scan {
 
     /// Takes the row at a place, and moves the place behind it: where its key and value lie. Gives none where no row is left there, or
     /// where the bytes aren't one: the call of `advance` behind `go_on` tells which.
-    pub fn take_at(&self, place: &mut Place) -> Option<Parts>
+    pub fn take_at(&self, place: &mut ScanPlace) -> Option<Parts>
         ensures rows { (all rest : List Entry) → FitsIn self.now place.old → Rest (stood_at self.now place.old) all rest → IfSome result (λ parts. IsNextRow true (stood_at self.now place.new) (row_in self.now parts) all rest) }
         ensures fits { FitsIn self.now place.old → FitsIn self.now place.new }
         ensures left { IfSome result (λ parts. place.new.left + 1 ≡ place.old.left) }
@@ -192,7 +192,7 @@ impl Scan {
 
     /// Stands at a place: the rows up to it are taken. `key` and `value` are still those of the row that the last call of `advance`
     /// took.
-    pub fn go_on(&mut self, place: Place)
+    pub fn go_on(&mut self, place: ScanPlace)
         ensures { self.new ≡ stood_at self.old place }
     {
         if self.ended {
@@ -218,7 +218,7 @@ fn step<D: SectorDevice>(
     pages: &mut Pages<D>,
     prefix: &SmallBytes,
     leaf: &mut Leaf,
-    held: &mut Held,
+    held: &mut HeldLeaves,
     covered: &mut bool,
     last: &mut Lengths,
     parts: &mut Parts,
@@ -247,7 +247,7 @@ fn refill<D: SectorDevice>(
     pages: &mut Pages<D>,
     prefix: &SmallBytes,
     leaf: &mut Leaf,
-    held: &mut Held,
+    held: &mut HeldLeaves,
     covered: &mut bool,
 ) -> Result<(), TreeError>
     requires begun { txn_pages txn.now ≡ count_of pages.old }
@@ -278,7 +278,7 @@ fn read_on<D: SectorDevice>(
     pages: &mut Pages<D>,
     prefix: &SmallBytes,
     leaf: &mut Leaf,
-    held: &mut Held,
+    held: &mut HeldLeaves,
     covered: &mut bool,
 ) -> Result<(), TreeError>
     requires begun { txn_pages txn.now ≡ count_of pages.old }

@@ -5,12 +5,12 @@ ghost use Rattle.page_btree.specs.Seeking.{bound_in, AreLeaves};
 ghost use Rattle.page_btree.specs.declared.error.TreeError.TheVariants.{DeviceFault};
 ghost use Rattle.btree_scan.specs.Turning.{IsTurned};
 
-use crate::held::Held;
+use crate::held::HeldLeaves;
 use page_btree::{Leaf, TreeError};
 use page_node::place_from;
 
 /// Stands before the first row of the next leaf that is held.
-pub(crate) fn turn(leaf: &mut Leaf, held: &mut Held) -> Result<(), TreeError>
+pub(crate) fn turn(leaf: &mut Leaf, held: &mut HeldLeaves) -> Result<(), TreeError>
     requires { 0 < leaf.old.more }
     ensures turned { (rows : List Entry) → AreLeaves leaf.old.more (drop (held.old.which + 1) held.old.pages) rows → OnOk result (IsTurned rows leaf.new held.new) }
     ensures bound { bound_in leaf.new ≡ bound_in leaf.old }

@@ -1,7 +1,7 @@
 -- What is recorded of a device in memory owns nothing, so it may go to another thread.
 use denote.Param.Send.{IsSend, IsSync, sendable, owning_send, whole-keyless}
 use Rattle.std.proofs.Crossing.{crosses}
-use Rattle.sector_memory.specs.contracts.past.Past as Past
+use Rattle.sector_memory.specs.contracts.past.PastStates as PastStates
 use Rattle.sector_memory.specs.contracts.memory.MemoryDevice as MemoryDevice
 
 pub past_send : IsSend Past.the_row

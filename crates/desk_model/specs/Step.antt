@@ -7,7 +7,7 @@ use Rattle.desk_model.specs.declared.command.Command.{Command}
 use Rattle.desk_model.specs.declared.command.Command.TheVariants.{Create, Whole, Counties, Retire}
 use Rattle.desk_model.specs.declared.command.Query.{Query}
 use Rattle.desk_model.specs.declared.command.Query.TheVariants.{Plans, Blocks, Revision, Audit}
-use Rattle.desk_model.specs.declared.reply.PlanRow.{PlanRow}
+use Rattle.desk_model.specs.declared.reply.PlanLine.{PlanLine}
 use Rattle.desk_model.specs.declared.reply.Reply.{Reply}
 use Rattle.desk_model.specs.declared.reply.Reply.TheVariants as reply
 use Rattle.desk_model.specs.declared.reply.Refusal.{Refusal}
@@ -113,7 +113,7 @@ abbrev pub step : Desk → Command → Outcome
 step d c = step_at d.geography d c
 
 -- a line of the list of plans
-abbrev pub plan_row : List ℕ × Plan → PlanRow
+abbrev pub plan_row : List ℕ × Plan → PlanLine
 plan_row e = record { name = e.0; kind = e.1.kind; n = e.1.n; revisions = length e.1.revisions }
 
 abbrev pub place_text : Option ℕ → List ℕ

@@ -9,7 +9,7 @@ use std::marker::Model;
 
 /// A line of the list of plans.
 #[derive(Clone, Copy, Debug)]
-pub struct PlanRow {
+pub struct PlanLine {
     pub name: PlanName,
     pub kind: Kind,
     pub n: u16,
@@ -19,26 +19,26 @@ pub struct PlanRow {
 /// Lines of the list of plans, which contracts see as their list.
 #[derive(Drop)]
 pub struct PlanRows {
-    rows: Vec<PlanRow>,
+    rows: Vec<PlanLine>,
 }
 
 impl Model for PlanRows {
     ghost use Rattle.std.specs.Prelude.{List};
-    ghost use Rattle.desk_model.specs.declared.reply.PlanRow.{PlanRow};
+    ghost use Rattle.desk_model.specs.declared.reply.PlanLine.{PlanLine};
 
-    ghost Value = { List PlanRow };
+    ghost Value = { List PlanLine };
 
     ghost view = { λ a. a.rows.items };
 }
 
 impl PlanRows {
-    pub fn from_vec(rows: Vec<PlanRow>) -> PlanRows
+    pub fn from_vec(rows: Vec<PlanLine>) -> PlanRows
         ensures { result ≡ rows.items }
     {
         PlanRows { rows }
     }
 
-    pub fn as_slice(&self) -> &[PlanRow]
+    pub fn as_slice(&self) -> &[PlanLine]
         ensures { result.now ≡ self.now }
     {
         self.rows.as_slice()

@@ -6,7 +6,7 @@ ghost use Rattle.desk_model.specs.Subject.{revision_at};
 
 use desk_model::kind::Kind;
 use desk_model::name::PlanName;
-use desk_model::reply::PlanRow;
+use desk_model::reply::PlanLine;
 use desk_model::size::PlanSize;
 use shared_districts::Districts;
 use shared_list::SharedList;
@@ -87,10 +87,10 @@ impl Entry {
     }
 
     /// The plan's line in the list of plans.
-    pub fn row(&self) -> PlanRow
+    pub fn row(&self) -> PlanLine
         ensures { result ≡ plan_row self.now }
     {
-        PlanRow {
+        PlanLine {
             name: self.name,
             kind: self.size.kind(),
             n: self.size.n(),

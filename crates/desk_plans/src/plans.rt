@@ -10,7 +10,7 @@ ghost use Rattle.desk_plans.specs.Tree.{rows_of};
 use crate::entry::Entry;
 use crate::tree::{Tree, order, place, same, share};
 use desk_model::name::PlanName;
-use desk_model::reply::{PlanRow, PlanRows};
+use desk_model::reply::{PlanLine, PlanRows};
 use std::alloc::{AllocError, Global};
 use std::marker::Model;
 use std::sync::Arc;
@@ -128,7 +128,7 @@ fn without(
 }
 
 /// The lines of a tree's plans, which are so many.
-fn lines(alloc: Global, root: &Option<Arc<Tree>>, count: usize) -> Result<Vec<PlanRow>, AllocError>
+fn lines(alloc: Global, root: &Option<Arc<Tree>>, count: usize) -> Result<Vec<PlanLine>, AllocError>
     ensures { IfOk result (λ rows. rows.items ≡ map plan_row (rows_of root.now)) }
 {
     let Some(tree) = root else {

@@ -8,7 +8,7 @@ ghost use Rattle.desk_plans.specs.Tree.{rows_of};
 
 use crate::entry::Entry;
 use desk_model::name::PlanName;
-use desk_model::reply::PlanRow;
+use desk_model::reply::PlanLine;
 use std::alloc::{AllocError, Global};
 use std::cmp::Ordering;
 use std::marker::Model;
@@ -428,7 +428,7 @@ impl Tree {
     }
 
     /// Puts the lines of the plans behind.
-    pub fn add_rows(&self, rows: &mut Vec<PlanRow>) -> Result<(), AllocError>
+    pub fn add_rows(&self, rows: &mut Vec<PlanLine>) -> Result<(), AllocError>
         ensures { OnOk result (rows.new.items ≡ rows.old.items ++ map plan_row self.now) }
     {
         if let Some(left) = &self.left {

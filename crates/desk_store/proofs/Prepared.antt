@@ -19,8 +19,8 @@ use Rattle.desk_model.specs.Outcome.{IsFull, RefusalMay}
 use Rattle.desk_model.specs.Room.{need, command_rows}
 use Rattle.desk_catalogue.specs.Accepting.{IsAfter}
 use Rattle.plan_table.specs.Outcomes.{HasSpent}
-use Rattle.plan_table.specs.declared.change.Change.{Change}
-use Rattle.plan_table.specs.declared.change.Change.TheVariants.{Made, Spent}
+use Rattle.plan_table.specs.declared.change.ChangeOutcome.{ChangeOutcome}
+use Rattle.plan_table.specs.declared.change.ChangeOutcome.TheVariants.{Made, Spent}
 use Rattle.plan_revisions.specs.Steps.{HasStepped, IsStepped, LeavesNumbers, StepErr}
 use Rattle.desk_pages.specs.Commits.{HoldsAfter}
 use Rattle.desk_pages.specs.Desks.{HoldsDesk, InPages, InTxn}
@@ -138,13 +138,13 @@ module _ {D : Type 0} {g : Ghosts D} where
   )
 
   -- ---- of the desk that is shown, by another name
-  pub made_of : (s d : Desk) (c : Command) (e : Desk) (t u : Txn) (a b : Pages D g) (change : Change) → s ≡ d → change ≡ Made → IsStepped (λ z. z ≡ s) (λ z. e) (command_rows s c) (HasNumbers s c) t u a b change → HasStepped (λ z. z ≡ d) (λ z. e) (command_rows d c) t u a b × LeavesNumbers (HasNumbers d c) t a b
+  pub made_of : (s d : Desk) (c : Command) (e : Desk) (t u : Txn) (a b : Pages D g) (change : ChangeOutcome) → s ≡ d → change ≡ Made → IsStepped (λ z. z ≡ s) (λ z. e) (command_rows s c) (HasNumbers s c) t u a b change → HasStepped (λ z. z ≡ d) (λ z. e) (command_rows d c) t u a b × LeavesNumbers (HasNumbers d c) t a b
   made_of s d c e t u a b change same is did = subst (λ (z : Desk). HasStepped (λ x. x ≡ z) (λ x. e) (command_rows z c) t u a b × LeavesNumbers (HasNumbers z c) t a b) same
-      (subst (λ (x : Change). IsStepped (λ z. z ≡ s) (λ z. e) (command_rows s c) (HasNumbers s c) t u a b x) is did)
+      (subst (λ (x : ChangeOutcome). IsStepped (λ z. z ≡ s) (λ z. e) (command_rows s c) (HasNumbers s c) t u a b x) is did)
 
-  pub spent_of : (s d : Desk) (c : Command) (e : Desk) (t u : Txn) (a b : Pages D g) (change : Change) → s ≡ d → change ≡ Spent → IsStepped (λ z. z ≡ s) (λ z. e) (command_rows s c) (HasNumbers s c) t u a b change → HasSpent (HasNumbers d c) t u a b
+  pub spent_of : (s d : Desk) (c : Command) (e : Desk) (t u : Txn) (a b : Pages D g) (change : ChangeOutcome) → s ≡ d → change ≡ Spent → IsStepped (λ z. z ≡ s) (λ z. e) (command_rows s c) (HasNumbers s c) t u a b change → HasSpent (HasNumbers d c) t u a b
   spent_of s d c e t u a b change same is did = subst (λ (z : Desk). HasSpent (HasNumbers z c) t u a b) same
-      (subst (λ (x : Change). IsStepped (λ z. z ≡ s) (λ z. e) (command_rows s c) (HasNumbers s c) t u a b x) is did)
+      (subst (λ (x : ChangeOutcome). IsStepped (λ z. z ≡ s) (λ z. e) (command_rows s c) (HasNumbers s c) t u a b x) is did)
 
   pub error_of : (s d : Desk) (c : Command) (t : Txn) (a b : Pages D g) (error : TreeError) → s ≡ d → StepErr (λ z. z ≡ s) (command_rows s c) t a b error → StepErr (λ z. z ≡ d) (command_rows d c) t a b error
   error_of s d c t a b error same why = subst (λ (z : Desk). StepErr (λ x. x ≡ z) (command_rows z c) t a b error) same why

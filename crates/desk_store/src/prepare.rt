@@ -16,7 +16,7 @@ use desk_model::command::Command;
 use desk_model::reply::{Refusal, Reply};
 use desk_room::laws::cuts_are_within;
 use page_store::Prepared;
-use plan_revisions::{Change, TreeError, command_rows, put_command};
+use plan_revisions::{ChangeOutcome, TreeError, command_rows, put_command};
 use row_table::ROW_PAGES;
 use sector_device::SectorDevice;
 use std::alloc::Global;
@@ -112,11 +112,11 @@ impl<D: SectorDevice> Clerk<D> {
             after,
             changes,
         ) {
-            Ok(Change::Made) => match desk_pages::prepare(txn) {
+            Ok(ChangeOutcome::Made) => match desk_pages::prepare(txn) {
                 Ok(prepared) => Ok(prepared),
                 Err(_) => Err(Refusal::Memory),
             },
-            Ok(Change::Spent) => Err(Refusal::Full),
+            Ok(ChangeOutcome::Spent) => Err(Refusal::Full),
             Err(e) => {
                 if is_fault(e) || self.pages.is_halted() {
                     self.halted = true;

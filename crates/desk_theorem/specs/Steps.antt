@@ -10,11 +10,11 @@ use Rattle.desk_model.specs.Step.{step}
 use Rattle.desk_catalogue.specs.Audits.{AskMay}
 use Rattle.desk_theorem.specs.declared.event.Event.{Event}
 use Rattle.desk_theorem.specs.declared.event.Event.TheVariants.{Commit, Acknowledge, Show, Visit, Learn, Stop}
-use Rattle.desk_theorem.specs.declared.world.Change.{Change}
+use Rattle.desk_theorem.specs.declared.world.WorldChange.{WorldChange}
 use Rattle.desk_theorem.specs.World.{World, after, move, shown_list}
 
 -- each change's catalogue is the desk after its command, from this desk on
-abbrev pub Follow : Desk → List Change → Type 0
+abbrev pub Follow : Desk → List WorldChange → Type 0
 Follow d [] = ⊤
 Follow d (c ∷ cs) = (c.catalogue.value ≡ (step d c.command).1) × Follow c.catalogue.value cs
 

@@ -14,7 +14,7 @@ use std::sync::Arc;
 
 /// A command and the catalogue after it.
 #[derive(Drop)]
-pub struct Change {
+pub struct WorldChange {
     command: Command,
     catalogue: Arc<Catalogue>,
 }
@@ -24,7 +24,7 @@ pub struct Change {
 #[derive(Drop)]
 pub struct World {
     first: Arc<Catalogue>,
-    changes: Vec<Change>,
+    changes: Vec<WorldChange>,
     acknowledged: usize,
     shown: usize,
     views: Vec<u64>,
@@ -105,14 +105,14 @@ impl World {
         let Ok(catalogue) = Arc::new(alloc, catalogue) else {
             return Some(Reply::Refused(Refusal::Memory));
         };
-        match self.join(Change { command, catalogue }) {
+        match self.join(WorldChange { command, catalogue }) {
             Ok(()) => None,
             Err(_) => Some(Reply::Refused(Refusal::Memory)),
         }
     }
 
     /// Puts a change behind the others.
-    fn join(&mut self, change: Change) -> Result<(), AllocError>
+    fn join(&mut self, change: WorldChange) -> Result<(), AllocError>
         requires { change.catalogue.value ≡ (step (after self.old.0 self.old.1.changes) change.command).1 }
         ensures ok { OnOk result (self.new ≡ (self.old.0, record self.old.1 { changes = self.old.1.changes ++ change.command ∷ [] })) }
         ensures err { OnErr result (self.new ≡ self.old) }

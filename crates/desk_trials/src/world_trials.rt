@@ -4,7 +4,7 @@ use desk_model::command::{Command, Query};
 use desk_model::geography::sample;
 use desk_model::kind::Kind;
 use desk_model::name::PlanName;
-use desk_model::reply::{PlanRow, Reply};
+use desk_model::reply::{PlanLine, Reply};
 use desk_model::size::PlanSize;
 use desk_theorem::event::Event;
 use desk_theorem::world::World;
@@ -32,7 +32,7 @@ fn creates<R: Abort>(rt: &R, text: &str) -> Event {
     })
 }
 
-fn is_row<R: Abort>(rt: &R, row: &PlanRow, text: &str) -> bool {
+fn is_row<R: Abort>(rt: &R, row: &PlanLine, text: &str) -> bool {
     row.name == named(rt, text) && row.kind == Kind::Congress && row.n == 2 && row.revisions == 0
 }
 

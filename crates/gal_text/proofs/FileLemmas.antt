@@ -23,8 +23,8 @@ use Rattle.gal_text.specs.declared.fault.TextFault.TheVariants.{Header, EndsEarl
 use Rattle.gal_text.specs.declared.fault.GalFault.{GalFault}
 use Rattle.gal_text.specs.declared.fault.GalFault.TheVariants as fault
 use Rattle.gal_text.specs.declared.units.Graph.{Graph}
-use Rattle.gal_text.specs.declared.units.Refusal.{Refusal}
-use Rattle.gal_text.specs.declared.units.Refusal.TheVariants as refusal
+use Rattle.gal_text.specs.declared.units.UnitRefusal.{UnitRefusal}
+use Rattle.gal_text.specs.declared.units.UnitRefusal.TheVariants as refusal
 
 -- ---- the header
 
@@ -133,7 +133,7 @@ module _ (blocks : List BlockRow) where
   told_words old left next text line held count result came l is reads =
       (text ++ reads.0, Consumes-then old left next text reads.0 came reads.1, reads_on text line held reads.0 count next result l is reads.2)
 
-  pub told_refused : (old left : Option (List ℕ)) (text line held : List ℕ) (r : Refusal) → Consumes old left text → BeginsWithLine text line held → Begins blocks line (Err r) → Told old left (Err (refused r))
+  pub told_refused : (old left : Option (List ℕ)) (text line held : List ℕ) (r : UnitRefusal) → Consumes old left text → BeginsWithLine text line held → Begins blocks line (Err r) → Told old left (Err (refused r))
   told_refused old left text line held (refusal.Fault f) came l is =
       (text, came, inl (λ rest. bad_header (ids_of blocks) (text ++ rest) line (held ++ rest) f (inl (line_more text line held rest l)) is))
   told_refused old left text line held refusal.Memory came l is = (text, came, tt)
@@ -141,7 +141,7 @@ module _ (blocks : List BlockRow) where
   last_header : (text line : List ℕ) → IsLastLine text line → HasHeader text line []
   last_header text line l = inr (record { is = l.is; one = l.one }, refl)
 
-  pub told_refused_last : (old left : Option (List ℕ)) (text line : List ℕ) (r : Refusal) → Consumes old left text → IsAtEnd left → IsLastLine text line → Begins blocks line (Err r) → Told old left (Err (refused r))
+  pub told_refused_last : (old left : Option (List ℕ)) (text line : List ℕ) (r : UnitRefusal) → Consumes old left text → IsAtEnd left → IsLastLine text line → Begins blocks line (Err r) → Told old left (Err (refused r))
   told_refused_last old left text line (refusal.Fault f) came end l is = (text, came, inr (end, bad_header (ids_of blocks) text line [] f (last_header text line l) is))
   told_refused_last old left text line refusal.Memory came end l is = (text, came, tt)
 

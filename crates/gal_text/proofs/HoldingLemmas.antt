@@ -18,7 +18,7 @@ use Rattle.gal_text.specs.declared.units.Link.{Link}
 use Rattle.gal_text.specs.declared.units.Awaited.{Awaited}
 use Rattle.gal_text.specs.declared.units.Awaited.TheVariants as awaited
 use Rattle.gal_text.specs.declared.units.Graph.{Graph}
-use Rattle.gal_text.specs.declared.units.Refusal.{Refusal}
+use Rattle.gal_text.specs.declared.units.UnitRefusal.{UnitRefusal}
 
 -- ---- numbers in a list
 
@@ -165,7 +165,7 @@ block_said ids p number id word some is =
     ap (λ (b : Bool). cond b (Err (TrailingWord number)) (unit_read p number (block_of ids word))) (not_both (eqb p.left 0) (λ none. absurd (some (eqb-true p.left 0 none))))
     ∙ ap (unit_read p number) is
 
-pub met_as : (blocks : List BlockRow) (p : Progress) (number : ℕ) (word : List ℕ) (next : Awaited) (result : Result (Unit {0}) Refusal) (new : Graph) → p.next ≡ next
+pub met_as : (blocks : List BlockRow) (p : Progress) (number : ℕ) (word : List ℕ) (next : Awaited) (result : Result (Unit {0}) UnitRefusal) (new : Graph) → p.next ≡ next
     → Meets blocks (word_awaited (ids_of blocks) p number word next) result new → Meets blocks (word_read (ids_of blocks) p number word) result new
 met_as blocks p number word next result new is met =
     subst (λ (a : Awaited). Meets blocks (word_awaited (ids_of blocks) p number word a) result new) (sym is) met

@@ -15,8 +15,8 @@ use Rattle.gal_text.specs.Parts.{Stands, ReadsWords, AreCutWords, refused, read_
 use Rattle.gal_text.specs.declared.fault.TextFault.{TextFault}
 use Rattle.gal_text.specs.declared.fault.GalFault.{GalFault}
 use Rattle.gal_text.specs.declared.units.Graph.{Graph}
-use Rattle.gal_text.specs.declared.units.Refusal.{Refusal}
-use Rattle.gal_text.specs.declared.units.Refusal.TheVariants as refusal
+use Rattle.gal_text.specs.declared.units.UnitRefusal.{UnitRefusal}
+use Rattle.gal_text.specs.declared.units.UnitRefusal.TheVariants as refusal
 
 -- ---- words behind words
 
@@ -84,7 +84,7 @@ module _ (blocks : List BlockRow) (count : ℕ) (start : List ℕ) (old : Option
   }
 
   -- what was judged of the word at hand, of any progress that the state holds
-  abbrev pub Took : Graph → ℕ → List ℕ → Result (Unit {0}) Refusal → Graph → Type 0
+  abbrev pub Took : Graph → ℕ → List ℕ → Result (Unit {0}) UnitRefusal → Graph → Type 0
   Took g number word result new = (p : Progress) → Holds blocks g p → Takes blocks p number word result new
 
   -- a word that was taken
@@ -151,7 +151,7 @@ module _ (blocks : List BlockRow) (count : ℕ) (start : List ℕ) (old : Option
 
   -- ---- why there is no state
 
-  pub told_refused : (left : Option (List ℕ)) (held word rest : List ℕ) (number : ℕ) (g new : Graph) (r : Refusal) → Stands blocks count start old left held number g → BeginsWithWord held word rest
+  pub told_refused : (left : Option (List ℕ)) (held word rest : List ℕ) (number : ℕ) (g new : Graph) (r : UnitRefusal) → Stands blocks count start old left held number g → BeginsWithWord held word rest
       → Took g number word (Err r) new → Told left (Err (refused r))
   told_refused left held word rest number g new (refusal.Fault f) s b took = (
     s.came,
@@ -162,7 +162,7 @@ module _ (blocks : List BlockRow) (count : ℕ) (start : List ℕ) (old : Option
   )
   told_refused left held word rest number g new refusal.Memory s b took = (s.came, s.consumed, tt)
 
-  pub told_refused_last : (left : Option (List ℕ)) (held word : List ℕ) (number : ℕ) (g new : Graph) (r : Refusal) → Stands blocks count start old left held number g → IsAtEnd left → IsOneWord held word
+  pub told_refused_last : (left : Option (List ℕ)) (held word : List ℕ) (number : ℕ) (g new : Graph) (r : UnitRefusal) → Stands blocks count start old left held number g → IsAtEnd left → IsOneWord held word
       → Took g number word (Err r) new → Told left (Err (refused r))
   told_refused_last left held word number g new (refusal.Fault f) s end one took = (
     s.came,
@@ -199,7 +199,7 @@ module _ (blocks : List BlockRow) (count : ℕ) (start : List ℕ) (old : Option
   told_fault left held number g long read.Failed r s is_long gives = (s.came, s.consumed, told_cut left held number g s gives)
   told_fault left held number g long read.TurnLimit r s is_long gives = (s.came, s.consumed, told_cut left held number g s gives)
 
-  pub took_at : (g new : Graph) (number at : ℕ) (given word : List ℕ) (r : Result (Unit {0}) Refusal) → at ≡ number → given ≡ word → Took g at given r new → Took g number word r new
+  pub took_at : (g new : Graph) (number at : ℕ) (given word : List ℕ) (r : Result (Unit {0}) UnitRefusal) → at ≡ number → given ≡ word → Took g at given r new → Took g number word r new
   took_at g new number at given word r same_number same took =
       subst (λ (w : List ℕ). Took g number w r new) same (subst (λ (k : ℕ). Took g k given r new) same_number took)
 

@@ -8,8 +8,8 @@ use Rattle.gal_text.specs.declared.units.Link.{Link}
 use Rattle.gal_text.specs.declared.units.Awaited.{Awaited}
 use Rattle.gal_text.specs.declared.units.Awaited.TheVariants as awaited
 use Rattle.gal_text.specs.declared.units.Graph.{Graph}
-use Rattle.gal_text.specs.declared.units.Refusal.{Refusal}
-use Rattle.gal_text.specs.declared.units.Refusal.TheVariants as refusal
+use Rattle.gal_text.specs.declared.units.UnitRefusal.{UnitRefusal}
+use Rattle.gal_text.specs.declared.units.UnitRefusal.TheVariants as refusal
 
 -- what the unit lists stands among the links from this place on
 abbrev pub ListsFrom : List Link → ℕ → ℕ → Type 0
@@ -55,11 +55,11 @@ IsPlaced blocks word None = block_of (ids_of blocks) word ≡ None
 IsPlaced blocks word (Some p) = (block_of (ids_of blocks) word ≡ Some p.1) × (p.0 < length blocks) × (id_at blocks p.0 ≡ p.1)
 
 -- the answer is what is said, and the state holds the progress
-abbrev pub Meets : List BlockRow → Result Progress TextFault → Result (Unit {0}) Refusal → Graph → Type 0
+abbrev pub Meets : List BlockRow → Result Progress TextFault → Result (Unit {0}) UnitRefusal → Graph → Type 0
 Meets blocks said (Ok u) new = (p : Progress) × (said ≡ Ok p) × Holds blocks new p
 Meets blocks said (Err (refusal.Fault f)) new = said ≡ Err f
 Meets blocks said (Err refusal.Memory) new = ⊤
 
 -- one more word of this number is taken, or it has a fault
-abbrev pub Takes : List BlockRow → Progress → ℕ → List ℕ → Result (Unit {0}) Refusal → Graph → Type 0
+abbrev pub Takes : List BlockRow → Progress → ℕ → List ℕ → Result (Unit {0}) UnitRefusal → Graph → Type 0
 Takes blocks p number word result new = Meets blocks (word_read (ids_of blocks) p number word) result new

@@ -19,11 +19,11 @@ use Rattle.gal_text.specs.declared.links.Unpaired.{Unpaired}
 use Rattle.gal_text.specs.declared.links.Unpaired.TheVariants as unpaired
 use Rattle.gal_text.specs.declared.units.Link.{Link}
 use Rattle.gal_text.specs.declared.units.Graph.{Graph}
-use Rattle.gal_text.specs.declared.units.Refusal.{Refusal}
-use Rattle.gal_text.specs.declared.units.Refusal.TheVariants as refusal
+use Rattle.gal_text.specs.declared.units.UnitRefusal.{UnitRefusal}
+use Rattle.gal_text.specs.declared.units.UnitRefusal.TheVariants as refusal
 
 -- how a refusal is told
-abbrev pub refused : Refusal → GalFault
+abbrev pub refused : UnitRefusal → GalFault
 refused (refusal.Fault f) = fault.Text f
 refused refusal.Memory = fault.Memory
 
@@ -44,7 +44,7 @@ failures_after_graph before (Ok g) = before
 failures_after_graph before (Err e) = failures_after_file before (Err e)
 
 -- what the header's line gives: the state before the first word
-abbrev pub Begins : List BlockRow → List ℕ → Result Graph Refusal → Type 0
+abbrev pub Begins : List BlockRow → List ℕ → Result Graph UnitRefusal → Type 0
 Begins blocks line (Ok g) = (header_count line ≡ Ok g.left) × Holds blocks g (at_start g.left)
 Begins blocks line (Err (refusal.Fault f)) = header_count line ≡ Err f
 Begins blocks line (Err refusal.Memory) = ⊤

@@ -14,18 +14,18 @@ ghost use Rattle.gal_text.specs.Parts.{refused, read_told, pairs_told, failures_
 use crate::fault::{GalFault, TextFault};
 use crate::header::header_count;
 use crate::links::{Unpaired, first_missing, pairs_of};
-use crate::units::{Graph, Link, Refusal};
+use crate::units::{Graph, Link, UnitRefusal};
 use byte_stream::source::Source;
 use desk_model::block::{BlockId, BlockRow};
 use field_text::reader::{LineReader, ReadFault, Step, WordStep};
 use std::alloc::Global;
 
-fn refused(refusal: Refusal) -> GalFault
+fn refused(refusal: UnitRefusal) -> GalFault
     ensures { result ≡ refused refusal }
 {
     match refusal {
-        Refusal::Fault(fault) => GalFault::Text(fault),
-        Refusal::Memory => GalFault::Memory,
+        UnitRefusal::Fault(fault) => GalFault::Text(fault),
+        UnitRefusal::Memory => GalFault::Memory,
     }
 }
 
@@ -41,16 +41,16 @@ fn read_told(long: TextFault, fault: ReadFault) -> GalFault
 }
 
 /// The state before the first word.
-fn begin(alloc: Global, line: &[u8], blocks: &[BlockRow]) -> Result<Graph, Refusal>
+fn begin(alloc: Global, line: &[u8], blocks: &[BlockRow]) -> Result<Graph, UnitRefusal>
     ensures { Begins blocks.now line.now result }
 {
     let count = match header_count(line) {
         Ok(count) => count,
-        Err(fault) => return Err(Refusal::Fault(fault)),
+        Err(fault) => return Err(UnitRefusal::Fault(fault)),
     };
     match Graph::new(alloc, blocks, count) {
         Ok(graph) => Ok(graph),
-        Err(_) => Err(Refusal::Memory),
+        Err(_) => Err(UnitRefusal::Memory),
     }
 }
 

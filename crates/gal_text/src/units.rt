@@ -36,7 +36,7 @@ pub enum Awaited {
 
 /// Why a word isn't taken.
 #[derive(Clone, Copy, Debug)]
-pub enum Refusal {
+pub enum UnitRefusal {
     Fault(TextFault),
     Memory,
 }
@@ -125,13 +125,13 @@ impl Graph {
     }
 
     /// Takes a unit's block, at the place given.
-    fn take_unit(&mut self, place: usize, id: BlockId, number: u64) -> Result<(), Refusal>
+    fn take_unit(&mut self, place: usize, id: BlockId, number: u64) -> Result<(), UnitRefusal>
         requires { place < vec_len self.old.seen }
         ensures { (blocks : List Row) (p : Progress) → IsStrictlyIncreasing (ids_of blocks) → Holds blocks self.old p → id_at blocks place ≡ id
             → Meets blocks (unit_read p number (Some id)) result self.new }
     {
         if self.seen[place] {
-            return Err(Refusal::Fault(TextFault::RepeatedUnit(id)));
+            return Err(UnitRefusal::Fault(TextFault::RepeatedUnit(id)));
         }
         self.seen[place] = true;
         self.first = self.links.len();
@@ -142,37 +142,42 @@ impl Graph {
     }
 
     /// Takes the word of a unit's block.
-    fn take_block(&mut self, blocks: &[BlockRow], number: u64, word: &[u8]) -> Result<(), Refusal>
+    fn take_block(
+        &mut self,
+        blocks: &[BlockRow],
+        number: u64,
+        word: &[u8],
+    ) -> Result<(), UnitRefusal>
         requires rising { IsStrictlyIncreasing (ids_of blocks.now) }
         requires held { IsHeld blocks.now self.old }
         ensures { (p : Progress) → Holds blocks.now self.old p → Meets blocks.now (word_awaited (ids_of blocks.now) p number word.now Awaited.Block) result self.new }
     {
         if self.left == 0 {
-            return Err(Refusal::Fault(TextFault::TrailingWord(number)));
+            return Err(UnitRefusal::Fault(TextFault::TrailingWord(number)));
         }
         match block_of(blocks, self.likely, word) {
             Some(found) => self.take_unit(found.0, found.1, number),
-            None => Err(Refusal::Fault(TextFault::UnknownBlock(number))),
+            None => Err(UnitRefusal::Fault(TextFault::UnknownBlock(number))),
         }
     }
 
     /// Takes the word of a unit's number of neighbours.
-    fn take_count(&mut self, unit: BlockId, number: u64, word: &[u8]) -> Result<(), Refusal>
+    fn take_count(&mut self, unit: BlockId, number: u64, word: &[u8]) -> Result<(), UnitRefusal>
         ensures { (blocks : List Row) (p : Progress) → Holds blocks self.old p → p.next ≡ Awaited.Count unit
             → Meets blocks (word_awaited (ids_of blocks) p number word.now (Awaited.Count unit)) result self.new }
     {
         let Some(count) = number_of(word, 10) else {
-            return Err(Refusal::Fault(TextFault::Count(number)));
+            return Err(UnitRefusal::Fault(TextFault::Count(number)));
         };
         if count > NEIGHBOUR_LIMIT {
-            return Err(Refusal::Fault(TextFault::TooManyNeighbours(unit)));
+            return Err(UnitRefusal::Fault(TextFault::TooManyNeighbours(unit)));
         }
         self.next = neighbours_left(unit, count);
         Ok(())
     }
 
     /// Adds a link of the unit at hand, of which so many are left behind it.
-    fn add_link(&mut self, link: Link, left: u64) -> Result<(), Refusal>
+    fn add_link(&mut self, link: Link, left: u64) -> Result<(), UnitRefusal>
         ensures { (blocks : List Row) (p : Progress) → Holds blocks self.old p → IsAtHand p.units p.links self.old.first link.from
             → Meets blocks (Ok (with_link p link left)) result self.new }
     {
@@ -182,7 +187,7 @@ impl Graph {
                 self.next = next;
                 Ok(())
             }
-            Err(_) => Err(Refusal::Memory),
+            Err(_) => Err(UnitRefusal::Memory),
         }
     }
 
@@ -193,16 +198,16 @@ impl Graph {
         left: u64,
         number: u64,
         other: BlockId,
-    ) -> Result<(), Refusal>
+    ) -> Result<(), UnitRefusal>
         requires { self.old.first ≤ vec_len self.old.links }
         ensures { (blocks : List Row) (p : Progress) → Holds blocks self.old p → p.next ≡ Awaited.Neighbour unit left
             → Meets blocks (neighbour_read p unit left number (Some other)) result self.new }
     {
         if other.number() == unit.number() {
-            return Err(Refusal::Fault(TextFault::OwnNeighbour(unit)));
+            return Err(UnitRefusal::Fault(TextFault::OwnNeighbour(unit)));
         }
         if lists(&self.links[self.first..], unit, other) {
-            return Err(Refusal::Fault(TextFault::RepeatedNeighbour(unit, other)));
+            return Err(UnitRefusal::Fault(TextFault::RepeatedNeighbour(unit, other)));
         }
         let link = Link {
             from: unit,
@@ -219,7 +224,7 @@ impl Graph {
         left: u64,
         number: u64,
         word: &[u8],
-    ) -> Result<(), Refusal>
+    ) -> Result<(), UnitRefusal>
         requires rising { IsStrictlyIncreasing (ids_of blocks.now) }
         requires held { IsHeld blocks.now self.old }
         ensures { (p : Progress) → Holds blocks.now self.old p → p.next ≡ Awaited.Neighbour unit left
@@ -227,12 +232,12 @@ impl Graph {
     {
         match block_of(blocks, self.likely, word) {
             Some((_, id)) => self.take_link(unit, left, number, id),
-            None => Err(Refusal::Fault(TextFault::UnknownBlock(number))),
+            None => Err(UnitRefusal::Fault(TextFault::UnknownBlock(number))),
         }
     }
 
     /// Takes the next word, of this number.
-    pub fn take(&mut self, blocks: &[BlockRow], number: u64, word: &[u8]) -> Result<(), Refusal>
+    pub fn take(&mut self, blocks: &[BlockRow], number: u64, word: &[u8]) -> Result<(), UnitRefusal>
         requires blocks { AreBlocks blocks.now }
         requires held { IsHeld blocks.now self.old }
         ensures { (p : Progress) → Holds blocks.now self.old p → Takes blocks.now p number word.now result self.new }

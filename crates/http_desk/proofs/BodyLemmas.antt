@@ -10,7 +10,7 @@ use Rattle.serde_json.specs.View.{items_of}
 use Rattle.serde_json.specs.Written.{compact_text, comma_if, items_text}
 use Rattle.desk_model.specs.declared.kind.Kind.{Kind}
 use Rattle.desk_model.specs.declared.kind.Kind.TheVariants.{Congress, Senate, House}
-use Rattle.desk_model.specs.declared.reply.PlanRow.{PlanRow}
+use Rattle.desk_model.specs.declared.reply.PlanLine.{PlanLine}
 use Rattle.desk_model.specs.Kind.{kind_name}
 use Rattle.desk_model.specs.Name.{is_name_byte, IsPlanName}
 use Rattle.http_desk.specs.Bodies.{row_data, plans_body}
@@ -41,16 +41,16 @@ plain_kind Senate = refl
 plain_kind House = refl
 
 -- the bytes of a line
-abbrev pub line_of : PlanRow → List ℕ
+abbrev pub line_of : PlanLine → List ℕ
 line_of row =
     codes "{\"districts\":" ++ (decimal row.n ++ (codes ",\"kind\":\"" ++ (kind_name row.kind ++ (codes "\",\"name\":\"" ++ (row.name ++ (codes "\",\"revisions\":" ++ (decimal row.revisions ++ codes "}")))))))
 
-open_line : (row : PlanRow)
+open_line : (row : PlanLine)
     → compact_text (row_data row) ≡ codes "{\"districts\":" ++ (decimal row.n ++ (codes ",\"kind\":\"" ++ ((escape (kind_name row.kind) ++ 34 ∷ []) ++ (codes ",\"name\":\"" ++ ((escape row.name ++ 34 ∷ []) ++ (codes ",\"revisions\":" ++ (decimal row.revisions ++ codes "}")))))))
 unfolding escape_byte
 open_line row = refl
 
-pub line_is : (row : PlanRow) → IsPlanName row.name → compact_text (row_data row) ≡ line_of row
+pub line_is : (row : PlanLine) → IsPlanName row.name → compact_text (row_data row) ≡ line_of row
 line_is row is =
     rw (
       open_line row,
@@ -61,15 +61,15 @@ line_is row is =
     ) refl
 
 -- what is still to be written of the list
-abbrev pub rest_of : Bool → List PlanRow → List ℕ
+abbrev pub rest_of : Bool → List PlanLine → List ℕ
 rest_of later rows = items_text later (items_of (map row_data rows)) ++ codes "}"
 
-pub begins : (rows : List PlanRow) → plans_body rows ≡ codes "{\"plans\":[" ++ rest_of false rows
+pub begins : (rows : List PlanLine) → plans_body rows ≡ codes "{\"plans\":[" ++ rest_of false rows
 unfolding escape_byte
 begins rows = refl
 
 -- one line less
-pub goes_on : (text : List ℕ) (later : Bool) (row : PlanRow) (rows : List PlanRow) → (text ++ (comma_if later ++ compact_text (row_data row))) ++ rest_of true rows ≡ text ++ rest_of later (row ∷ rows)
+pub goes_on : (text : List ℕ) (later : Bool) (row : PlanLine) (rows : List PlanLine) → (text ++ (comma_if later ++ compact_text (row_data row))) ++ rest_of true rows ≡ text ++ rest_of later (row ∷ rows)
 goes_on text later row rows =
     append_assoc text (comma_if later ++ compact_text (row_data row)) (rest_of true rows)
     ∙ ap (λ (t : List ℕ). text ++ t) (
@@ -79,7 +79,7 @@ goes_on text later row rows =
     )
 
 -- a line that was written part by part
-line_written : (row : PlanRow) (kind name t a b c d e f g h i : List ℕ) → kind ≡ kind_name row.kind → name ≡ row.name → IsPlanName row.name
+line_written : (row : PlanLine) (kind name t a b c d e f g h i : List ℕ) → kind ≡ kind_name row.kind → name ≡ row.name → IsPlanName row.name
     → a ≡ t ++ codes "{\"districts\":" → b ≡ a ++ decimal row.n → c ≡ b ++ codes ",\"kind\":\"" → d ≡ c ++ kind → e ≡ d ++ codes "\",\"name\":\"" → f ≡ e ++ name
     → g ≡ f ++ codes "\",\"revisions\":" → h ≡ g ++ decimal row.revisions → i ≡ h ++ codes "}" → i ≡ t ++ compact_text (row_data row)
 line_written row kind name t a b c d e f g h i k n is a1 b1 c1 d1 e1 f1 g1 h1 i1 =
@@ -100,7 +100,7 @@ line_written row kind name t a b c d e f g h i k n is a1 b1 c1 d1 e1 f1 g1 h1 i1
     ∙ ap (λ (x : List ℕ). t ++ x) (sym (line_is row is))
 
 -- the same, behind a comma where it isn't the first, in fewer parts
-pub item_written : (later : Bool) (row : PlanRow) (start member name t a b c f g h i : List ℕ) → start ≡ comma_if later ++ codes "{\"districts\":" → member ≡ codes ",\"kind\":\"" ++ (kind_name row.kind ++ codes "\",\"name\":\"")
+pub item_written : (later : Bool) (row : PlanLine) (start member name t a b c f g h i : List ℕ) → start ≡ comma_if later ++ codes "{\"districts\":" → member ≡ codes ",\"kind\":\"" ++ (kind_name row.kind ++ codes "\",\"name\":\"")
     → name ≡ row.name → IsPlanName row.name → a ≡ t ++ start → b ≡ a ++ decimal row.n → c ≡ b ++ member → f ≡ c ++ name → g ≡ f ++ codes "\",\"revisions\":" → h ≡ g ++ decimal row.revisions → i ≡ h ++ codes "}"
     → i ≡ t ++ (comma_if later ++ compact_text (row_data row))
 item_written later row start member name t a b c f g h i s m n is a1 b1 c1 f1 g1 h1 i1 =
@@ -113,10 +113,10 @@ item_written later row start member name t a b c f g h i s m n is a1 b1 c1 f1 g1
     ∙ append_assoc t (comma_if later) (compact_text (row_data row))
 
 -- what is still to be written, behind one line more
-pub kept : (text new all : List ℕ) (later : Bool) (row : PlanRow) (rows : List PlanRow) (k : ℕ) → k < length rows → row ≡ get_or rows k row
+pub kept : (text new all : List ℕ) (later : Bool) (row : PlanLine) (rows : List PlanLine) (k : ℕ) → k < length rows → row ≡ get_or rows k row
     → new ≡ text ++ (comma_if later ++ compact_text (row_data row)) → text ++ rest_of later (drop k rows) ≡ all → new ++ rest_of true (drop (k + 1) rows) ≡ all
 kept text new all later row rows k within is wrote before =
     ap (λ (t : List ℕ). t ++ rest_of true (drop (k + 1) rows)) wrote
     ∙ goes_on text later row (drop (k + 1) rows)
-    ∙ ap (λ (rs : List PlanRow). text ++ rest_of later rs) (sym (drop_more rows k row within ∙ ap (λ (x : PlanRow). x ∷ drop (k + 1) rows) (sym is)))
+    ∙ ap (λ (rs : List PlanLine). text ++ rest_of later rs) (sym (drop_more rows k row within ∙ ap (λ (x : PlanLine). x ∷ drop (k + 1) rows) (sym is)))
     ∙ before

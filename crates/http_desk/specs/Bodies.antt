@@ -3,24 +3,24 @@ use Rattle.std.specs.Prelude.{ℕ, List, ◌++◌, map, codes, decimal}
 use Rattle.serde_json.specs.Data.{Data, number, unsigned, string, array, object, member, no_members}
 use Rattle.serde_json.specs.View.{items_of}
 use Rattle.serde_json.specs.Written.{compact_text}
-use Rattle.desk_model.specs.declared.reply.PlanRow.{PlanRow}
+use Rattle.desk_model.specs.declared.reply.PlanLine.{PlanLine}
 use Rattle.desk_model.specs.declared.reply.Refusal.{Refusal}
 use Rattle.desk_model.specs.declared.reply.Refusal.TheVariants.{NoPlan, NoRevision, PlanExists, Stale, BadBody, NotWholeCounty, BadCompanion, Limit, Full, Memory, Halted, NotSealed}
 use Rattle.desk_model.specs.Baf.{fault_code, padded_decimal}
 use Rattle.desk_model.specs.Kind.{kind_name}
 
 -- a line of the list of plans
-abbrev pub row_data : PlanRow → Data
+abbrev pub row_data : PlanLine → Data
 row_data row =
     object (member (codes "districts") (number (unsigned row.n))
     (member (codes "kind") (string (kind_name row.kind))
     (member (codes "name") (string row.name)
     (member (codes "revisions") (number (unsigned row.revisions)) no_members))))
 
-abbrev pub plans_data : List PlanRow → Data
+abbrev pub plans_data : List PlanLine → Data
 plans_data rows = object (member (codes "plans") (array (items_of (map row_data rows))) no_members)
 
-abbrev pub plans_body : List PlanRow → List ℕ
+abbrev pub plans_body : List PlanLine → List ℕ
 plans_body rows = compact_text (plans_data rows)
 
 -- a plan stands with so many revisions

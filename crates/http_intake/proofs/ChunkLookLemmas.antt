@@ -10,7 +10,7 @@ use Rattle.httparse.specs.Spans.{header_bytes, name_and_value, IsChunkLineAt, Is
 use Rattle.httparse.specs.declared.spans.HeaderSpan.{HeaderSpan}
 use Rattle.http_intake.specs.Lines.{section_lines}
 use Rattle.http_intake.specs.Chunks.{HasTrailers, IsOpenEnd, line_window}
-use Rattle.http_intake.specs.declared.chunk_line.Line.{Line}
+use Rattle.http_intake.specs.declared.chunk_line.FoundLine.{FoundLine}
 use Rattle.http_intake.specs.ChunkParts.{IsLineAt}
 use Rattle.http_intake.proofs.Fronts.{front_of_front, take_min}
 use Rattle.http_intake.proofs.LineLemmas.{fields_lines, lines_of_section, section_lines_grow}
@@ -34,7 +34,7 @@ front_fits bytes front n m e =
     )
 
 -- a line of the first n bytes
-pub line_at : (bytes : List ℕ) (n : ℕ) (found : Line) (l : ChunkLine) → n ≤ 256 → IsChunkLineAt (take n bytes) found.len found.size l → IsLineAt bytes found
+pub line_at : (bytes : List ℕ) (n : ℕ) (found : FoundLine) (l : ChunkLine) → n ≤ 256 → IsChunkLineAt (take n bytes) found.len found.size l → IsLineAt bytes found
 line_at bytes n found l few at =
     let fits = front_fits bytes (print_chunk_line l) n found.len at.reads.1 in
     record {

@@ -6,7 +6,7 @@ use Rattle.std.proofs.KnownBytes.{Consumes-trans, Consumes-nil}
 use Rattle.std.specs.Io.KnownBytes.{Consumes}
 use Rattle.httparse.specs.Grammar.{ChunkLine, chunk_size}
 use Rattle.httparse.proofs.ChunkLemmas.{ReadsChunkLine-append}
-use Rattle.http_intake.specs.declared.chunk_line.Line.{Line}
+use Rattle.http_intake.specs.declared.chunk_line.FoundLine.{FoundLine}
 use Rattle.http_intake.specs.declared.chunks.Chunked.{Chunked}
 use Rattle.http_intake.specs.declared.chunks.Chunked.TheVariants as came
 use Rattle.http_intake.specs.declared.chunk_fault.Fault.{Fault}
@@ -55,16 +55,16 @@ module _ (held : List ℕ) (new rest : List ℕ) where
 -- ---- one chunk
 
 -- the line that was found, before more bytes
-abbrev behind_line : List ℕ → Line → List ℕ → List ℕ
+abbrev behind_line : List ℕ → FoundLine → List ℕ → List ℕ
 behind_line input found more = drop found.len input ++ more
 
-found_line : (input more : List ℕ) (found : Line) → (s : IsLineAt input found) → HasLine (input ++ more) s.line (behind_line input found more)
+found_line : (input more : List ℕ) (found : FoundLine) → (s : IsLineAt input found) → HasLine (input ++ more) s.line (behind_line input found more)
 found_line input more found s = line_before input s.line (drop found.len input) more s.stands
 
-last_line : (input more : List ℕ) (found : Line) → (s : IsLineAt input found) → found.size ≡ 0 → HasLastLine (input ++ more) s.line (behind_line input found more)
+last_line : (input more : List ℕ) (found : FoundLine) → (s : IsLineAt input found) → found.size ≡ 0 → HasLastLine (input ++ more) s.line (behind_line input found more)
 last_line input more found s zero_size = record { line = found_line input more found s; none = sym s.size ∙ zero_size }
 
-data_line : (n : ℕ) (input more : List ℕ) (found : Line) → (s : IsLineAt input found) → 0 < found.size → n + found.size ≤ 33554432 → HasDataLine n (input ++ more) s.line (behind_line input found more)
+data_line : (n : ℕ) (input more : List ℕ) (found : FoundLine) → (s : IsLineAt input found) → 0 < found.size → n + found.size ≤ 33554432 → HasDataLine n (input ++ more) s.line (behind_line input found more)
 data_line n input more found s some room = record {
   line = found_line input more found s;
   some = omega (arith, s.size, some);
@@ -72,11 +72,11 @@ data_line n input more found s some room = record {
 }
 
 -- its size passes what a body may have
-pub line_too_large : (n : ℕ) (input more : List ℕ) (found : Line) → IsLineAt input found → 33554432 < n + found.size → HasChunkFault n (input ++ more) BodyTooLarge
+pub line_too_large : (n : ℕ) (input more : List ℕ) (found : FoundLine) → IsLineAt input found → 33554432 < n + found.size → HasChunkFault n (input ++ more) BodyTooLarge
 line_too_large n input more found s large = HasChunkFault.too_large n (input ++ more) s.line (behind_line input found more) (found_line input more found s) (omega (arith, s.size, large))
 
 -- the last chunk and its trailers
-pub last_reads : (old input more : List ℕ) (found : Line) (c : Result Chunked WireFault) (rest : List ℕ) → IsLineAt input found → found.size ≡ 0 → TrailersCame (behind_line input found more) c rest
+pub last_reads : (old input more : List ℕ) (found : FoundLine) (c : Result Chunked WireFault) (rest : List ℕ) → IsLineAt input found → found.size ≡ 0 → TrailersCame (behind_line input found more) c rest
     → StepCame old (input ++ more) (after_trailers c) old rest
 last_reads old input more found (Ok came.Whole) rest s none t = (HasChunks.last _ _ s.line (behind_line input found more) rest (last_line input more found s none) t, refl)
 last_reads old input more found (Ok came.Lacking) rest s none t = LacksChunks.no_trailers _ _ s.line (behind_line input found more) (last_line input more found s none) t
@@ -114,7 +114,7 @@ data_step old input text n l (Err fault.TurnLimit) new rest s e d = lacks_data o
 data_step old input text n l (Err fault.Memory) new rest s e d = tt
 
 -- a chunk and its data
-pub data_reads : (old input more : List ℕ) (found : Line) (n : ℕ) (c : Result Chunked WireFault) (new rest : List ℕ) → IsLineAt input found → 0 < found.size → n ≡ length old + found.size → n ≤ 33554432
+pub data_reads : (old input more : List ℕ) (found : FoundLine) (n : ℕ) (c : Result Chunked WireFault) (new rest : List ℕ) → IsLineAt input found → 0 < found.size → n ≡ length old + found.size → n ≤ 33554432
     → DataCame old n (behind_line input found more) c new rest → StepCame old (input ++ more) (after_data c) new rest
 data_reads old input more found n c new rest s some e room d =
     data_step old (input ++ more) (behind_line input found more) n s.line c new rest (data_line (length old) input more found s some (omega (arith, e, room))) (omega (arith, e, s.size)) d

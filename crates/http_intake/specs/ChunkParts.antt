@@ -1,7 +1,7 @@
 -- What looks for the parts of a body in chunks tell, and what reading them gives.
 use Rattle.std.specs.Prelude.{◌≡◌, ℕ, ◌+◌, ◌<◌, ◌≤◌, ◌⊎◌, List, [], ◌∷◌, ◌++◌, length, drop, Option, Some, None, Result, Ok, Err, ⊤}
 use Rattle.httparse.specs.Grammar.{ChunkLine, chunk_size}
-use Rattle.http_intake.specs.declared.chunk_line.Line.{Line}
+use Rattle.http_intake.specs.declared.chunk_line.FoundLine.{FoundLine}
 use Rattle.http_intake.specs.declared.chunks.Chunked.{Chunked}
 use Rattle.http_intake.specs.declared.chunks.Chunked.TheVariants as came
 use Rattle.http_intake.specs.declared.chunk_fault.Fault.{Fault}
@@ -14,7 +14,7 @@ use Rattle.http_intake.specs.Chunked.{LacksChunksAtEnd}
 use Rattle.http_intake.specs.Chunks.{HasLine, HasChunk, HasChunks, HasChunkFault, HasTrailers, LacksChunks, RefusesLine, RefusesTrailers, IsNoEnd, IsOpenLine, IsOpenEnd, AreOpenTrailers}
 
 -- the line of a chunk stands at the front, and this is its length and its size
-pub record IsLineAt (bytes : List ℕ) (found : Line) : Type 0 where
+pub record IsLineAt (bytes : List ℕ) (found : FoundLine) : Type 0 where
   pub line : ChunkLine
   pub stands : HasLine bytes line (drop found.len bytes)
   pub within : found.len ≤ length bytes
@@ -22,7 +22,7 @@ pub record IsLineAt (bytes : List ℕ) (found : Line) : Type 0 where
   pub size : found.size ≡ chunk_size line
 
 -- what a look for a chunk's line tells
-abbrev pub SeesLine : List ℕ → Seen Line Fault → Type 0
+abbrev pub SeesLine : List ℕ → Seen FoundLine Fault → Type 0
 SeesLine bytes (Found found) = IsLineAt bytes found
 SeesLine bytes (Refused f) = (f ≡ BadChunk) × RefusesLine bytes
 SeesLine bytes Wanting = IsOpenLine bytes

@@ -11,7 +11,7 @@ pub const CHUNK_LINE_LIMIT: usize = 256;
 
 /// A chunk's line.
 #[derive(Clone, Copy, Debug)]
-pub struct Line {
+pub struct FoundLine {
     /// Its length, with its CR LF.
     pub len: usize,
     /// The size of the chunk's data, which is none in the last chunk.
@@ -19,13 +19,13 @@ pub struct Line {
 }
 
 /// Looks for a chunk's line at the front of the bytes.
-fn look_at_line(bytes: &[u8]) -> Seen<Line, Fault>
+fn look_at_line(bytes: &[u8]) -> Seen<FoundLine, Fault>
     ensures sees { SeesLine bytes.now result }
     ensures short { result ≡ Seen.Wanting → length bytes.now < 16384 }
 {
     let part = &bytes[..bytes.len().min(CHUNK_LINE_LIMIT)];
     match parse_chunk_size(part) {
-        Ok(Status::Complete((len, size))) => Seen::Found(Line { len, size }),
+        Ok(Status::Complete((len, size))) => Seen::Found(FoundLine { len, size }),
         Ok(Status::Partial) => {
             if bytes.len() >= CHUNK_LINE_LIMIT {
                 return Seen::Refused(Fault::BadChunk);
@@ -42,7 +42,7 @@ pub struct LineSought;
 impl Sought for LineSought {
     ghost use Rattle.http_intake.specs.ChunkParts.{SeesLine};
 
-    type Part = Line;
+    type Part = FoundLine;
 
     type Refusal = Fault;
 
@@ -50,7 +50,7 @@ impl Sought for LineSought {
 
     ghost waits = { λ b. ⊥ };
 
-    fn look(&self, bytes: &[u8]) -> Seen<Line, Fault> {
+    fn look(&self, bytes: &[u8]) -> Seen<FoundLine, Fault> {
         look_at_line(bytes)
     }
 

@@ -7,7 +7,7 @@ ghost use Rattle.http_intake.specs.Chunked.{ChunksCame, LacksChunksAtEnd};
 use crate::body::read_body;
 use crate::chunk_end::EndSought;
 use crate::chunk_fault::Fault;
-use crate::chunk_line::{Line, LineSought};
+use crate::chunk_line::{FoundLine, LineSought};
 use crate::fault::WireFault;
 use crate::intake::Intake;
 use crate::limits::BODY_LIMIT;
@@ -104,7 +104,7 @@ fn after_data(came: Result<Chunked, WireFault>) -> Result<Option<Chunked>, WireF
 fn read_chunk_rest<R: Source>(
     intake: &mut Intake<'_, R>,
     body: &mut Vec<u8>,
-    line: Line,
+    line: FoundLine,
 ) -> Result<Option<Chunked>, WireFault>
     requires line { IsLineAt intake.old.inbox.now line }
     requires within { vec_len body.old ≤ 33554432 }

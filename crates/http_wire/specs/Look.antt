@@ -5,7 +5,7 @@ use Rattle.httparse.specs.Spans.{header_bytes, name_and_value, span_bytes, IsWit
 use Rattle.httparse.specs.declared.spans.HeaderSpan.{HeaderSpan}
 use Rattle.httparse.specs.declared.spans.RequestSpans.{RequestSpans}
 use Rattle.http_wire.specs.declared.look.Head.{Head}
-use Rattle.http_wire.specs.declared.look.Refusal.{Refusal}
+use Rattle.http_wire.specs.declared.look.HeadRefusal.{HeadRefusal}
 use Rattle.http_intake.specs.declared.sought.Seen.{Seen}
 use Rattle.http_intake.specs.declared.sought.Seen.TheVariants.{Found, Refused, Wanting}
 use Rattle.http_wire.specs.Interim.{asks_by}
@@ -41,7 +41,7 @@ pub record IsFound (bytes : List ℕ) (found : Head) : Type 0 where
   pub expects : found.expects ≡ asks_by (Ok found.framing) head
 
 -- what a look for a head tells
-abbrev pub Sees : List ℕ → Seen Head Refusal → Type 0
+abbrev pub Sees : List ℕ → Seen Head HeadRefusal → Type 0
 Sees bytes (Found found) = IsFound bytes found
 Sees bytes (Refused refusal) = RefusesFront bytes refusal.fault refusal.bare
 Sees bytes Wanting = IsOpen bytes

@@ -37,7 +37,7 @@ pub struct Head {
 
 /// Why no head that may stand is at the front. The answer has no body where it is bare.
 #[derive(Clone, Copy, Debug)]
-pub struct Refusal {
+pub struct HeadRefusal {
     pub fault: Fault,
     pub bare: bool,
 }
@@ -96,13 +96,13 @@ fn after_parse(
     part: &[u8],
     head: RequestSpans,
     headers: &[HeaderSpan],
-) -> Seen<Head, Refusal>
+) -> Seen<Head, HeadRefusal>
     requires { IsParsed bytes.now part.now headers.now head }
     ensures { Sees bytes.now result }
 {
     let bare = is_head(head.method.of(bytes));
     match judge(head.version, part, headers) {
-        Err(fault) => Seen::Refused(Refusal { fault, bare }),
+        Err(fault) => Seen::Refused(HeadRefusal { fault, bare }),
         Ok(framing) => Seen::Found(Head {
             method: head.method,
             target: head.path,
@@ -116,20 +116,20 @@ fn after_parse(
 }
 
 /// No head has come: whether one still may.
-fn unfinished(bytes: &[u8], part: &[u8]) -> Seen<Head, Refusal>
+fn unfinished(bytes: &[u8], part: &[u8]) -> Seen<Head, HeadRefusal>
     requires part_is { part.now ≡ window bytes.now }
     requires none { HasNoRequest part.now }
     requires goes_on { MayBecomeRequest part.now }
     ensures { Sees bytes.now result }
 {
     if bytes.len() >= HEAD_LIMIT {
-        return Seen::Refused(Refusal {
+        return Seen::Refused(HeadRefusal {
             fault: Fault::HeadTooLarge,
             bare: false,
         });
     }
     if head_lines(part) >= FIELD_LIMIT + 2 {
-        return Seen::Refused(Refusal {
+        return Seen::Refused(HeadRefusal {
             fault: Fault::HeadTooLarge,
             bare: false,
         });
@@ -138,7 +138,7 @@ fn unfinished(bytes: &[u8], part: &[u8]) -> Seen<Head, Refusal>
 }
 
 /// No head can come, which only the end of a target would show where the bytes end in one.
-fn after_error(bytes: &[u8], part: &[u8]) -> Seen<Head, Refusal>
+fn after_error(bytes: &[u8], part: &[u8]) -> Seen<Head, HeadRefusal>
     requires part_is { part.now ≡ window bytes.now }
     requires never { NeverHasRequest part.now }
     ensures { Sees bytes.now result }
@@ -146,14 +146,14 @@ fn after_error(bytes: &[u8], part: &[u8]) -> Seen<Head, Refusal>
     if ends_in_target(part) {
         return unfinished(bytes, part);
     }
-    Seen::Refused(Refusal {
+    Seen::Refused(HeadRefusal {
         fault: Fault::BadHead,
         bare: false,
     })
 }
 
 /// Looks for a head at the front of the bytes, with room for where its lines are.
-pub fn look_at(bytes: &[u8], headers: &mut [HeaderSpan]) -> Seen<Head, Refusal>
+pub fn look_at(bytes: &[u8], headers: &mut [HeaderSpan]) -> Seen<Head, HeadRefusal>
     requires { length headers.old ≡ 64 }
     ensures { Sees bytes.now result }
 {
@@ -164,7 +164,7 @@ pub fn look_at(bytes: &[u8], headers: &mut [HeaderSpan]) -> Seen<Head, Refusal>
             after_parse(bytes, part, head, &headers[..count])
         }
         Ok(Status::Partial) => unfinished(bytes, part),
-        Err(Error::TooManyHeaders) => Seen::Refused(Refusal {
+        Err(Error::TooManyHeaders) => Seen::Refused(HeadRefusal {
             fault: Fault::HeadTooLarge,
             bare: false,
         }),
@@ -181,14 +181,14 @@ impl Sought for HeadSought {
 
     type Part = Head;
 
-    type Refusal = Refusal;
+    type HeadRefusal = HeadRefusal;
 
     ghost sees = { Sees };
 
     ghost waits = { IsWithinLine };
 
     #[tactic(auto, using(crate::proofs::LookLemmas::sees_short))]
-    fn look(&self, bytes: &[u8]) -> Seen<Head, Refusal> {
+    fn look(&self, bytes: &[u8]) -> Seen<Head, HeadRefusal> {
         let mut headers = [EMPTY_HEADER_SPAN; FIELD_LIMIT];
         look_at(bytes, &mut headers)
     }

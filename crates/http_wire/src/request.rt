@@ -15,7 +15,7 @@ ghost use Rattle.http_wire.specs.Target.{target_of};
 use crate::fault::RequestFault;
 use crate::head::Framing;
 use crate::interim::write_interim;
-use crate::look::{Head, HeadSought, Refusal, look_at};
+use crate::look::{Head, HeadRefusal, HeadSought, look_at};
 use crate::room::HeadRoom;
 use crate::target::{Target, read_target};
 use byte_stream::sink::Sink;
@@ -158,7 +158,7 @@ fn finish(
 }
 
 /// The front has this fault.
-fn refused(refusal: Refusal) -> Incoming
+fn refused(refusal: HeadRefusal) -> Incoming
     ensures { result ≡ Incoming.Refused refusal.fault refusal.bare }
 {
     Incoming::Refused {

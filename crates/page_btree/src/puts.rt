@@ -14,7 +14,7 @@ ghost use Rattle.page_btree.specs.Putting.{CanPut, CanPutSome, IsRaised, IsGrown
 ghost use Rattle.page_btree.specs.declared.error.TreeError.TheVariants.{NoPages, TooDeep};
 
 use crate::error::TreeError;
-use crate::tree::{Room, place_behind, settle, step_down, write_node};
+use crate::tree::{Workspace, place_behind, settle, step_down, write_node};
 use page_node::{NodeBuf, level_of};
 use page_store::{Pages, Txn};
 use sector_device::SectorDevice;
@@ -48,7 +48,7 @@ pub(crate) fn put_cutting<D: SectorDevice>(
     ensures deep { IfErr result (λ e. e ≡ TooDeep → txn_free txn.old ≡ txn_free txn.new + 6) }
     ensures err { IfErr result (λ e. PutErr txn.old pages.old pages.new e) }
 {
-    let mut room = Room {
+    let mut room = Workspace {
         page: [0; 4096],
         node: NodeBuf::EMPTY,
         upper: NodeBuf::EMPTY,
@@ -77,7 +77,7 @@ pub(crate) fn put_cutting<D: SectorDevice>(
 fn put_first<D: SectorDevice>(
     txn: &mut Txn,
     pages: &mut Pages<D>,
-    room: &mut Room,
+    room: &mut Workspace,
     key: &[u8],
     value: &[u8],
 ) -> Result<(), TreeError>
@@ -105,7 +105,7 @@ fn put_first<D: SectorDevice>(
 fn grow<D: SectorDevice>(
     txn: &mut Txn,
     pages: &mut Pages<D>,
-    room: &mut Room,
+    room: &mut Workspace,
     root: u32,
     right: u32,
     level: u8,
@@ -140,7 +140,7 @@ fn grow<D: SectorDevice>(
 fn put_at<D: SectorDevice>(
     txn: &mut Txn,
     pages: &mut Pages<D>,
-    room: &mut Room,
+    room: &mut Workspace,
     page: u32,
     level: u8,
     key: &[u8],
@@ -183,7 +183,7 @@ fn put_at<D: SectorDevice>(
 fn put_row<D: SectorDevice>(
     txn: &mut Txn,
     pages: &mut Pages<D>,
-    room: &mut Room,
+    room: &mut Workspace,
     page: u32,
     key: &[u8],
     value: &[u8],
@@ -226,7 +226,7 @@ fn put_row<D: SectorDevice>(
 fn link<D: SectorDevice>(
     txn: &mut Txn,
     pages: &mut Pages<D>,
-    room: &mut Room,
+    room: &mut Workspace,
     page: u32,
     key: &[u8],
     right: u32,

@@ -18,7 +18,7 @@ use sector_device::SectorDevice;
 
 /// What a put works in: a page's bytes, the node that they stand for, and the upper half of a node that was cut.
 #[derive(Drop)]
-pub(crate) struct Room {
+pub(crate) struct Workspace {
     pub(crate) page: [u8; 4096],
     pub(crate) node: NodeBuf,
     pub(crate) upper: NodeBuf,
@@ -65,7 +65,7 @@ pub(crate) fn place_behind(node: &NodeBuf, key: &[u8]) -> usize
 pub(crate) fn settle<D: SectorDevice>(
     txn: &mut Txn,
     pages: &mut Pages<D>,
-    room: &mut Room,
+    room: &mut Workspace,
     page: u32,
     added: usize,
 ) -> Result<Option<u32>, TreeError>
@@ -94,7 +94,7 @@ pub(crate) fn settle<D: SectorDevice>(
 fn cut<D: SectorDevice>(
     txn: &mut Txn,
     pages: &mut Pages<D>,
-    room: &mut Room,
+    room: &mut Workspace,
     page: u32,
     added: usize,
 ) -> Result<u32, TreeError>

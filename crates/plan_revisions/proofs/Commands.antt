@@ -13,8 +13,8 @@ use Rattle.page_store.specs.declared.txn.Txn.{Txn}
 use Rattle.page_btree.specs.declared.error.TreeError.{TreeError}
 use Rattle.row_table.proofs.Outcomes.{map_both}
 use Rattle.plan_table.specs.PlanRows.{HasPlanNumber, HasChunkNumbers}
-use Rattle.plan_table.specs.declared.change.Change.{Change}
-use Rattle.plan_table.specs.declared.change.Change.TheVariants.{Made}
+use Rattle.plan_table.specs.declared.change.ChangeOutcome.{ChangeOutcome}
+use Rattle.plan_table.specs.declared.change.ChangeOutcome.TheVariants.{Made}
 use Rattle.plan_revisions.specs.Plans.{TakesPlan, with_plan, HasPlanAt, without_plan}
 use Rattle.plan_revisions.specs.Steps.{HasStepped, IsStepped, StepErr}
 use Rattle.plan_revisions.specs.Rows.{HasNumbers, added_by, rows_added_by}
@@ -23,13 +23,13 @@ use Rattle.plan_revisions.proofs.Stepped.{stepped_as, change_as, err_as}
 
 module _ {D : Type 0} {g : Ghosts D} where
   -- the rows of a command were put, or not
-  abbrev pub IsPut : Desk → Command → Desk → Txn → Txn → Pages D g → Pages D g → Result Change TreeError → Type 0
+  abbrev pub IsPut : Desk → Command → Desk → Txn → Txn → Pages D g → Pages D g → Result ChangeOutcome TreeError → Type 0
   IsPut d q e t u a b result = MatchResult result (λ change. IsStepped (λ x. x ≡ d) (λ x. e) (command_rows d q) (HasNumbers d q) t u a b change) (λ x. StepErr (λ y. y ≡ d) (command_rows d q) t a b x)
 
-  pub as_command : (d : Desk) (q r : Command) (e : Desk) (t u : Txn) (a b : Pages D g) (result : Result Change TreeError) → q ≡ r → IsPut d r e t u a b result → IsPut d q e t u a b result
+  pub as_command : (d : Desk) (q r : Command) (e : Desk) (t u : Txn) (a b : Pages D g) (result : Result ChangeOutcome TreeError) → q ≡ r → IsPut d r e t u a b result → IsPut d q e t u a b result
   as_command d q r e t u a b result is put = subst (λ (x : Command). IsPut d x e t u a b result) (sym is) put
 
-  pub create_put : (d : Desk) (q : Command) (e : Desk) (name : List ℕ) (size : Kind × ℕ) (t u : Txn) (a b : Pages D g) (result : Result Change TreeError) → q ≡ Create name size → IsAfter d q e
+  pub create_put : (d : Desk) (q : Command) (e : Desk) (name : List ℕ) (size : Kind × ℕ) (t u : Txn) (a b : Pages D g) (result : Result ChangeOutcome TreeError) → q ≡ Create name size → IsAfter d q e
       → MatchResult result (λ change. IsStepped (TakesPlan name) (with_plan name size) 2 HasPlanNumber t u a b change) (λ x. StepErr (TakesPlan name) 2 t a b x)
       → IsPut d q e t u a b result
   create_put d q e name size t u a b result is after put =
@@ -58,7 +58,7 @@ module _ {D : Type 0} {g : Ghosts D} where
       (err_as (HasPlanAt name) (λ y. y ≡ d) 2 t a b (λ y same. subst (λ (z : Desk). HasPlanAt name z) (sym same) told.0) x why)
 
   -- a revision, by its whole or by counties
-  pub revision_as : (d : Desk) (q : Command) (e : Desk) (name : List ℕ) (after : ℕ) (t u : Txn) (a b : Pages D g) (result : Result Change TreeError) → ((body : List ℕ) × (q ≡ Whole name after body)) ⊎ ((body : List ℕ) × (q ≡ Counties name after body)) → IsAfter d q e
+  pub revision_as : (d : Desk) (q : Command) (e : Desk) (name : List ℕ) (after : ℕ) (t u : Txn) (a b : Pages D g) (result : Result ChangeOutcome TreeError) → ((body : List ℕ) × (q ≡ Whole name after body)) ⊎ ((body : List ℕ) × (q ≡ Counties name after body)) → IsAfter d q e
       → MatchResult result (λ change. IsStepped (λ x. x ≡ d) (λ x. e) (rows_added_by d name e) (HasChunkNumbers (added_by d name e)) t u a b change) (λ x. StepErr (λ y. y ≡ d) (rows_added_by d name e) t a b x)
       → IsPut d q e t u a b result
   revision_as d q e name after t u a b result (inl whole) is put =

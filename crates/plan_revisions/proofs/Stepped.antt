@@ -16,8 +16,8 @@ use Rattle.store_rows.specs.declared.value.Counters.{Counters}
 use Rattle.store_rows.specs.Changes.{with_revision}
 use Rattle.row_table.proofs.Outcomes.{map_both}
 use Rattle.plan_table.specs.PlanRows.{HasChunkNumbers}
-use Rattle.plan_table.specs.declared.change.Change.{Change}
-use Rattle.plan_table.specs.declared.change.Change.TheVariants.{Made, Spent}
+use Rattle.plan_table.specs.declared.change.ChangeOutcome.{ChangeOutcome}
+use Rattle.plan_table.specs.declared.change.ChangeOutcome.TheVariants.{Made, Spent}
 use Rattle.desk_pages.specs.Desks.{InTxn}
 use Rattle.plan_revisions.specs.Plans.{TakesRevision, with_next, with_next_of}
 use Rattle.plan_revisions.specs.Steps.{HasStepped, IsStepped, StepErr}
@@ -39,7 +39,7 @@ module _ {D : Type 0} {g : Ghosts D} where
   }
 
   pub change_as : (says other : Desk → Type 0) (next then : Desk → Desk) (rows : ℕ) (enough : Counters → Type 0) (t u : Txn) (a b : Pages D g) → ((d : Desk) → other d → says d) → ((d : Desk) → other d → next d ≡ then d)
-      → (change : Change) → IsStepped says next rows enough t u a b change → IsStepped other then rows enough t u a b change
+      → (change : ChangeOutcome) → IsStepped says next rows enough t u a b change → IsStepped other then rows enough t u a b change
   change_as says other next then rows enough t u a b gives same Made did = (stepped_as says other next then rows t u a b gives same did.0, did.1)
   change_as says other next then rows enough t u a b gives same Spent did = did
 
@@ -54,7 +54,7 @@ module _ {D : Type 0} {g : Ghosts D} where
   err_as says other rows t a b gives Memory why = tt
 
   -- a revision of the plan that the desk has
-  pub revision_put : (d : Desk) (name : List ℕ) (after : ℕ) (e : Desk) (r : IsRevised d name after e) (ground : Ground) (last : Option (List ℕ)) (next : List ℕ) (t u : Txn) (a b : Pages D g) (result : Result Change TreeError)
+  pub revision_put : (d : Desk) (name : List ℕ) (after : ℕ) (e : Desk) (r : IsRevised d name after e) (ground : Ground) (last : Option (List ℕ)) (next : List ℕ) (t u : Txn) (a b : Pages D g) (result : Result ChangeOutcome TreeError)
       → d.geography ≡ Some ground → last ≡ revision_in (map_of.get d.plans name) after → next ≡ r.districts
       → MatchResult result (λ change. IsStepped (TakesRevision ground name last) (with_next name next) (revision_rows ground last next) (HasChunkNumbers (length (changed ground last next))) t u a b change) (λ x. StepErr (TakesRevision ground name last) (revision_rows ground last next) t a b x)
       → MatchResult result (λ change. IsStepped (λ x. x ≡ d) (λ x. e) (rows_added_by d name e) (HasChunkNumbers (added_by d name e)) t u a b change) (λ x. StepErr (λ x. x ≡ d) (rows_added_by d name e) t a b x)

@@ -17,7 +17,7 @@ use desk_model::geography::Geography;
 use desk_model::name::PlanName;
 use desk_room::laws::cuts_are_within;
 use page_store::{Pages, Txn};
-use plan_table::Change;
+use plan_table::ChangeOutcome;
 use row_table::TreeError;
 use sector_device::SectorDevice;
 use shared_districts::Districts;
@@ -37,7 +37,7 @@ pub fn add<D: SectorDevice>(
     changes: &[bool],
     name: &PlanName,
     next: &Districts,
-) -> Result<Change, TreeError>
+) -> Result<ChangeOutcome, TreeError>
     requires begun { txn_pages txn.old ≡ count_of pages.old }
     requires cut { cuts.now ≡ cuts_of geography.now }
     requires each { length changes.now ≡ length cuts.now }
@@ -56,7 +56,7 @@ pub fn add<D: SectorDevice>(
     let used = count_changes(changes);
     let first = read.next.chunk;
     if used > u64::MAX - first {
-        return Ok(Change::Spent);
+        return Ok(ChangeOutcome::Spent);
     }
     let Ok(numbers) = draw(alloc, changes, read.kept.as_slice(), first) else {
         return Err(TreeError::Memory);
@@ -74,5 +74,5 @@ pub fn add<D: SectorDevice>(
         numbers.as_slice(),
         used,
     )?;
-    Ok(Change::Made)
+    Ok(ChangeOutcome::Made)
 }

@@ -18,7 +18,7 @@ mod rows;
 
 pub use adds::add;
 pub use lookups::append_districts;
-pub use plan_table::Change;
+pub use plan_table::ChangeOutcome;
 pub use plans::{create, retire};
 pub use puts::put_command;
 pub use row_table::TreeError;

@@ -12,7 +12,7 @@ ghost use Rattle.plan_revisions.specs.Rows.{HasNumbers, added_by, cuts_in, rows_
 ghost use Rattle.plan_revisions.specs.Accepted.{IsRevised};
 
 use crate::rows::next_of;
-use crate::{Change, TreeError, add, create, retire};
+use crate::{ChangeOutcome, TreeError, add, create, retire};
 use desk_catalogue::catalogue::Catalogue;
 use desk_model::command::Command;
 use desk_model::cuts::Cut;
@@ -34,7 +34,7 @@ fn put_revision<D: SectorDevice>(
     after: u32,
     then: &Catalogue,
     changes: &[bool],
-) -> Result<Change, TreeError>
+) -> Result<ChangeOutcome, TreeError>
     requires begun { txn_pages txn.old ≡ count_of pages.old }
     requires geography { shown.now.geography ≡ Some geography.now }
     requires cut { cuts.now ≡ cuts_in shown.now.geography }
@@ -63,7 +63,7 @@ pub fn put_command<D: SectorDevice>(
     command: &Command,
     then: &Catalogue,
     changes: &[bool],
-) -> Result<Change, TreeError>
+) -> Result<ChangeOutcome, TreeError>
     requires begun { txn_pages txn.old ≡ count_of pages.old }
     requires cut { cuts.now ≡ cuts_in shown.now.geography }
     requires after { IsAfter shown.now command.now then.now }
@@ -75,7 +75,7 @@ pub fn put_command<D: SectorDevice>(
         (λ e. StepErr (λ d. d ≡ shown.now) (rows_of_command shown.now command.now) txn.old pages.old pages.new e) }
 {
     let Some(geography) = shown.geography() else {
-        return Ok(Change::Spent);
+        return Ok(ChangeOutcome::Spent);
     };
     match command {
         Command::Create { plan, size } => create(txn, pages, plan, *size),
@@ -83,7 +83,7 @@ pub fn put_command<D: SectorDevice>(
             alloc, txn, pages, geography, cuts, shown, plan, *after, then, changes,
         ),
         Command::Retire { plan } => match retire(txn, pages, plan) {
-            Ok(()) => Ok(Change::Made),
+            Ok(()) => Ok(ChangeOutcome::Made),
             Err(e) => Err(e),
         },
     }

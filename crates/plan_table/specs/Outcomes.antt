@@ -16,8 +16,8 @@ use Rattle.store_rows.specs.Puts.{Row}
 use Rattle.store_rows.specs.Tidy.{IsNext, CountersFit}
 use Rattle.row_table.specs.Puts.{HasPut, HasDeepened}
 use Rattle.plan_table.specs.PlanRows.{retired_rows, retired_map}
-use Rattle.plan_table.specs.declared.change.Change.{Change}
-use Rattle.plan_table.specs.declared.change.Change.TheVariants.{Made, Spent}
+use Rattle.plan_table.specs.declared.change.ChangeOutcome.{ChangeOutcome}
+use Rattle.plan_table.specs.declared.change.ChangeOutcome.TheVariants.{Made, Spent}
 
 module _ {D : Type 0} {g : Ghosts D} where
   -- the transaction's map has these numbers
@@ -40,7 +40,7 @@ module _ {D : Type 0} {g : Ghosts D} where
     pub passed : Passed old new
     pub same : u ≡ t
 
-  abbrev pub IsChanged : (Counters → Type 0) → (Counters → List Row) → Txn → Txn → Pages D g → Pages D g → Change → Type 0
+  abbrev pub IsChanged : (Counters → Type 0) → (Counters → List Row) → Txn → Txn → Pages D g → Pages D g → ChangeOutcome → Type 0
   IsChanged enough rows t u old new Made = HasNumbered enough rows t u old new
   IsChanged enough rows t u old new Spent = HasSpent enough t u old new
 

@@ -7,7 +7,7 @@ ghost use Rattle.row_table.specs.Puts.{HasPut, PutsErr};
 ghost use Rattle.plan_table.specs.PlanRows.{plan_rows, created_rows, revised_rows, HasPlanNumber, HasChunkNumbers};
 ghost use Rattle.plan_table.specs.Outcomes.{IsChanged, ChangeErr, HasRetired, RetireErr};
 
-use crate::change::Change;
+use crate::change::ChangeOutcome;
 use desk_model::kind::Kind;
 use desk_model::name::PlanName;
 use page_btree::remove;
@@ -43,7 +43,7 @@ pub fn create_plan<D: SectorDevice>(
     name: &PlanName,
     kind: Kind,
     districts: u16,
-) -> Result<Change, TreeError>
+) -> Result<ChangeOutcome, TreeError>
     requires begun { txn_pages txn.old ≡ count_of pages.old }
     ensures quiet { IsQuiet pages.old pages.new }
     ensures begun { txn_pages txn.new ≡ count_of pages.new }
@@ -52,7 +52,7 @@ pub fn create_plan<D: SectorDevice>(
 {
     let next = next_numbers(txn, pages)?;
     if next.plan == u64::MAX {
-        return Ok(Change::Spent);
+        return Ok(ChangeOutcome::Spent);
     }
     let row = PlanRow {
         number: next.plan,
@@ -66,7 +66,7 @@ pub fn create_plan<D: SectorDevice>(
         load: next.load,
     };
     put_plan(txn, pages, name, &row, &then)?;
-    Ok(Change::Made)
+    Ok(ChangeOutcome::Made)
 }
 
 /// Puts the row of a plan with one revision more, and moves the chunks' number on by those that the revision took. The row is

@@ -6,6 +6,6 @@ mod changes;
 pub mod laws;
 mod reads;
 
-pub use change::Change;
+pub use change::ChangeOutcome;
 pub use changes::{create_plan, retire_plan, revise_plan};
 pub use reads::find_plan;

@@ -1,11 +1,11 @@
 -- Sectors that are held in memory.
 use Rattle.std.specs.Prelude.{◌≡◌, ℕ, true, List, []}
 use Rattle.std.proofs.Common.{get_or}
-use Rattle.sector_file.specs.declared.recent.Held.{Held}
+use Rattle.sector_file.specs.declared.recent.HeldSector.{HeldSector}
 use Rattle.sector_file.specs.declared.recent.Recent.{Recent}
 
 -- what is held of a sector is what these sectors have
-abbrev pub IsRight : Held → List (List ℕ) → Type 0
+abbrev pub IsRight : HeldSector → List (List ℕ) → Type 0
 IsRight held sectors = held.is ≡ true → get_or sectors held.sector [] ≡ held.bytes
 
 abbrev pub Recalls : Recent → List (List ℕ) → Type 0

@@ -5,20 +5,20 @@ ghost use Rattle.sector_file.specs.Recalled.{IsRight, Recalls};
 
 /// A sector that was read, if there is one.
 #[derive(Drop)]
-pub struct Held {
+pub struct HeldSector {
     is: bool,
     sector: u32,
     bytes: [u8; 4096],
 }
 
-impl Held {
+impl HeldSector {
     ghost use Rattle.std.specs.Prelude.{◌≡◌, false, true};
 
     /// None.
-    fn none() -> Held
+    fn none() -> HeldSector
         ensures { result.is ≡ false }
     {
-        Held {
+        HeldSector {
             is: false,
             sector: 0,
             bytes: [0; 4096],
@@ -57,8 +57,8 @@ impl Held {
 /// The two sectors that were read last.
 #[derive(Drop)]
 pub struct Recent {
-    first: Held,
-    second: Held,
+    first: HeldSector,
+    second: HeldSector,
     /// Whether the first gives way to the next.
     turn: bool,
 }
@@ -69,8 +69,8 @@ impl Recent {
         ensures { (sectors : List (List ℕ)) → Recalls result sectors }
     {
         Recent {
-            first: Held::none(),
-            second: Held::none(),
+            first: HeldSector::none(),
+            second: HeldSector::none(),
             turn: true,
         }
     }

@@ -3,7 +3,7 @@ ghost use Rattle.std.specs.Prelude.{◌≡◌, ◌<◌, ◌^◌, ℕ, length};
 ghost use Rattle.sector_device.specs.Held.{image_of};
 ghost use Rattle.sector_memory.specs.Memory.{after_pick, after_stop};
 
-use crate::past::Past;
+use crate::past::PastStates;
 use sector_device::{DeviceFault, SectorDevice};
 use std::alloc::{AllocError, Global};
 
@@ -13,7 +13,7 @@ pub struct MemoryDevice {
     sectors: Vec<[u8; 4096]>,
     /// Which sectors were written since the last sync.
     unsynced: Vec<bool>,
-    past: Past,
+    past: PastStates,
     ghost one_each: { length unsynced.items ≡ length sectors.items },
     ghost few: { length sectors.items < 2 ^ 32 },
 }
@@ -55,7 +55,7 @@ impl MemoryDevice {
         Ok(MemoryDevice {
             sectors,
             unsynced,
-            past: Past::new(),
+            past: PastStates::new(),
         })
     }
 

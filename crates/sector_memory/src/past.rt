@@ -5,20 +5,20 @@ ghost use Rattle.std.specs.Borrow.{ftrue};
 use std::marker::{Model, PhantomData};
 
 #[derive(Drop)]
-pub struct Past {
+pub struct PastStates {
     marker: PhantomData<u8>,
     pub ghost states: { List (List (List ℕ) × List Bool × Bool) },
 }
 
-impl Model for Past {
+impl Model for PastStates {
     ghost also_owns = { λ _. ftrue };
 }
 
-impl Past {
-    pub(crate) fn new() -> Past
+impl PastStates {
+    pub(crate) fn new() -> PastStates
         ensures { result.states ≡ [] }
     {
-        Past {
+        PastStates {
             marker: PhantomData,
         }
     }

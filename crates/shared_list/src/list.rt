@@ -3,7 +3,7 @@ ghost use Rattle.std.specs.Prelude.{◌≡◌, ◌<◌, ◌^◌, ◌++◌, ◌�
 ghost use Rattle.std.specs.Option.{option_copied};
 ghost use Rattle.std.specs.List.{slice_get};
 
-use crate::trees::{Row, Trees};
+use crate::trees::{TreeRow, Trees};
 use std::alloc::{AllocError, Global};
 use std::marker::Model;
 use std::sync::Arc;
@@ -12,7 +12,7 @@ use std::sync::Arc;
 /// number of items. An item is read by way of at most twice as many nodes as that number has binary digits, a late one by fewer.
 #[derive(Drop)]
 pub struct SharedList<T: Drop> {
-    trees: Row<T>,
+    trees: TreeRow<T>,
 }
 
 impl<T: Drop> Model for SharedList<T> {

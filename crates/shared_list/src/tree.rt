@@ -9,13 +9,13 @@ use std::marker::Model;
 use std::sync::Arc;
 
 /// A tree of items, or none.
-pub type Part<T> = Option<Arc<Branch<T>>>;
+pub type Subtree<T> = Option<Arc<Branch<T>>>;
 
 /// An item, and two trees of one size with the items before it.
 #[derive(Drop)]
 pub struct Branch<T: Drop> {
-    older: Part<T>,
-    newer: Part<T>,
+    older: Subtree<T>,
+    newer: Subtree<T>,
     item: T,
 }
 
@@ -40,8 +40,8 @@ impl<T: Drop> Branch<T> {
     /// An item behind those of two trees of one size.
     pub fn new(
         alloc: Global,
-        older: Part<T>,
-        newer: Part<T>,
+        older: Subtree<T>,
+        newer: Subtree<T>,
         item: T,
     ) -> Result<Arc<Branch<T>>, AllocError>
         requires { length (part_of older) ≡ length (part_of newer) }

@@ -10,13 +10,13 @@ use std::marker::Model;
 use std::sync::Arc;
 
 /// Trees in a row, or none.
-pub type Row<T> = Option<Arc<Trees<T>>>;
+pub type TreeRow<T> = Option<Arc<Trees<T>>>;
 
 /// A tree, and the trees with the items before its own. Each is larger than the one behind it, but that the last two may be of
 /// one size: they are as few as the number of items has binary digits.
 #[derive(Drop)]
 pub struct Trees<T: Drop> {
-    older: Row<T>,
+    older: TreeRow<T>,
     /// The number of their items.
     before: usize,
     tree: Arc<Branch<T>>,
@@ -42,7 +42,7 @@ impl<T: Drop> Model for Trees<T> {
 }
 
 /// The same trees.
-fn same<T: Drop>(row: &Row<T>) -> Result<Row<T>, AllocError>
+fn same<T: Drop>(row: &TreeRow<T>) -> Result<TreeRow<T>, AllocError>
     ensures { IfOk result (λ same. part_of same ≡ part_of row.now) }
 {
     match row {
@@ -53,7 +53,12 @@ fn same<T: Drop>(row: &Row<T>) -> Result<Row<T>, AllocError>
 
 impl<T: Drop> Trees<T> {
     /// A tree of one item, behind the others.
-    fn single(alloc: Global, older: Row<T>, before: usize, item: T) -> Result<Trees<T>, AllocError>
+    fn single(
+        alloc: Global,
+        older: TreeRow<T>,
+        before: usize,
+        item: T,
+    ) -> Result<Trees<T>, AllocError>
         requires { before ≡ length (part_of older) }
         ensures { IfOk result (λ trees. trees ≡ part_of older ++ item ∷ []) }
     {

@@ -21,17 +21,17 @@ use denote.Triple.Entry.{on_entry}
 use denote.Triple.Spec.{Meets, triple_of}
 use denote.Triple.Table.{entered}
 use denote.Triple.Walked.{says, ends_at, walked, walk_Meets}
-use Rattle.sector_memory.specs.declared.past.Past.{Past}
-use Rattle.sector_memory.specs.contracts.past.Past as T
-use Rattle.sector_memory.specs.contracts.past.Past.new.Key.{name as #it}
-use Rattle.sector_memory.specs.contracts.past.Past.new as it
-use Rattle.sector_memory.proofs.past.Past.new.Statement as stated
-use Rattle.sector_memory.proofs.past.Past.new.Code as code
+use Rattle.sector_memory.specs.declared.past.PastStates.{PastStates}
+use Rattle.sector_memory.specs.contracts.past.PastStates as T
+use Rattle.sector_memory.specs.contracts.past.PastStates.new.Key.{name as #it}
+use Rattle.sector_memory.specs.contracts.past.PastStates.new as it
+use Rattle.sector_memory.proofs.past.PastStates.new.Statement as stated
+use Rattle.sector_memory.proofs.past.PastStates.new.Code as code
 
 abbrev v : Val
 v = vstruct (vcons (vstruct vnil) vnil)
 
-abbrev r : Past
+abbrev r : PastStates
 r = record { marker = record {}; states = [] }
 
 meets : {M : Type 1} {𝓤 : Ura M} (𝓛 : Logic 𝓤) → (at_mem : Memory → SProp 𝓤) (run : Routine → Fun 𝓤) (𝓣 : Tables 𝓤 𝓛.H)

@@ -3,7 +3,7 @@ use Rattle.std.proofs.lemmas.Result.{IfOk-weaker}
 use Rattle.audit_contiguity.specs.Breaks.{AreBreaks}
 use Rattle.audit_contiguity.specs.Parts.{Shown}
 use Rattle.audit_contiguity.proofs.Keeping.{forest_within, own_breaks}
-use Rattle.audit_contiguity.proofs.parts.Trees.breaks.Goals as goal
+use Rattle.audit_contiguity.proofs.parts.DistrictTrees.breaks.Goals as goal
 
 pub tell-requires-clause-forest : goal.tell-requires-clause-forest
 tell-requires-clause-forest c =

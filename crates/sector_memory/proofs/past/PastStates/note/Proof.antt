@@ -1,5 +1,5 @@
 -- An empty body. The borrow is opened and closed at another ghost value.
-use Rattle.std.proofs.Common.{ℕ, Bool, true, List, [], ◌∷◌, refl, MutBor}
+use Rattle.std.proofs.Common.{ℕ, Bool, false, List, [], ◌∷◌, refl, MutBor}
 use seplogic.Ra.Ura.{Ura}
 use mir.Syntax.{named}
 use mir.Val.{Val, vunit, vptr}
@@ -25,12 +25,12 @@ use denote.Triple.Entry.{on_entry}
 use denote.Triple.Spec.{Meets, triple_of}
 use denote.Triple.Table.{entered}
 use denote.Triple.Walked.{says, Stays, stay_ref, walk_of, AllGo, Goes-ref, Walks, ends_at, walked, walk_Meets}
-use Rattle.sector_memory.specs.declared.past.Past.{Past}
-use Rattle.sector_memory.specs.contracts.past.Past as T
-use Rattle.sector_memory.specs.contracts.past.Past.note_fault.Key.{name as #it}
-use Rattle.sector_memory.specs.contracts.past.Past.note_fault as it
-use Rattle.sector_memory.proofs.past.Past.note_fault.Statement as stated
-use Rattle.sector_memory.proofs.past.Past.note_fault.Code as code
+use Rattle.sector_memory.specs.declared.past.PastStates.{PastStates}
+use Rattle.sector_memory.specs.contracts.past.PastStates as T
+use Rattle.sector_memory.specs.contracts.past.PastStates.note.Key.{name as #it}
+use Rattle.sector_memory.specs.contracts.past.PastStates.note as it
+use Rattle.sector_memory.proofs.past.PastStates.note.Statement as stated
+use Rattle.sector_memory.proofs.past.PastStates.note.Code as code
 use denote.Ref.{Bor}
 use denote.Builtin.{u8, bool, Array}
 use denote.Exit.{yes}
@@ -39,19 +39,19 @@ use denote.Triple.Walked.{stay_none_slice, Goes-none_slice}
 use Rattle.std.proofs.Common.{◌<◌, ◌^◌, length}
 
 abbrev Arg : Type 0
-Arg = MutBor Past × (Bor (List (List ℕ)) × (Bor (List Bool) × Unit {0}))
+Arg = MutBor PastStates × (Bor (List (List ℕ)) × (Bor (List Bool) × Unit {0}))
 
 abbrev stayed : Stays (it.ended).signature.params (it.ended).kept
 stayed = (stay_ref (0 ∷ []) tt (plain (λ _. T.the_row)), (stay_none_slice (1 ∷ []) tt (plain (λ _. Array u8 tt 4096)) yes, (stay_none_slice (2 ∷ []) tt (plain (λ _. bool)) yes, tt)))
 
-module _ {M : Type 1} {𝓤 : Ura M} (𝓛 : Logic 𝓤) (at_mem : Memory → SProp 𝓤) (run : Routine → Fun 𝓤) (κ κ' κ'' : Lft) (q q' q'' : Share) (b o : ℕ) (γ : GName) (h : Past) (k : Bor (List (List ℕ))) (s : Bor (List Bool)) where
+module _ {M : Type 1} {𝓤 : Ura M} (𝓛 : Logic 𝓤) (at_mem : Memory → SProp 𝓤) (run : Routine → Fun 𝓤) (κ κ' κ'' : Lft) (q q' q'' : Share) (b o : ℕ) (γ : GName) (h : PastStates) (k : Bor (List (List ℕ))) (s : Bor (List Bool)) where
   open 𝓛 use {H, A}
 
   abbrev x : Arg
   x = (record { ref_ptr = (b, o); ghost_name = γ; now = h }, (k, (s, tt)))
 
-  abbrev h' : Past
-  h' = record { marker = h.marker; states = (k.now, s.now, true) ∷ h.states }
+  abbrev h' : PastStates
+  h' = record { marker = h.marker; states = (k.now, s.now, false) ∷ h.states }
 
   abbrev at : List Val × (List Val × (List Val × Unit {0}))
   at = (vptr b o ∷ [], (slice_val k.ref_ptr (length k.now) ∷ [], (slice_val s.ref_ptr (length s.now) ∷ [], tt)))
@@ -95,9 +95,9 @@ meets : {M : Type 1} {𝓤 : Ura M} (𝓛 : Logic 𝓤) → (at_mem : Memory →
     → Meets 𝓛 it.signature (WpFn 𝓤 𝓛.H 𝓣.C 𝓣.Λ code.function) (it.spec 𝓛 at_mem run)
 meets {𝓤 = 𝓤} 𝓛 at_mem run 𝓣 = walk_Meets 𝓛 it.ended stayed (goes 𝓛 at_mem run) (it.clauses 𝓛 at_mem run) (WpFn 𝓤 𝓛.H 𝓣.C 𝓣.Λ code.function) (WpFn-mono 𝓤 𝓛.H 𝓛.laws 𝓣 code.function) (walks 𝓛 at_mem run 𝓣.C 𝓣.Λ)
 
-pub note_fault_spec : {M : Type 1} → stated.statement M
+pub note_spec : {M : Type 1} → stated.statement M
 unfolding tables_of
-note_fault_spec 𝓤 𝓛 𝓜 𝓡 wired =
+note_spec 𝓤 𝓛 𝓜 𝓡 wired =
     entered 𝓤 𝓛.H (triple_of 𝓛 it.signature (it.spec 𝓛 𝓜.mem 𝓡.returns))
     (tables 𝓤 𝓛.H 𝓜 𝓡 𝓡.env).C (tables 𝓤 𝓛.H 𝓜 𝓡 𝓡.env).Λ #it code.function (code.unfolded 𝓤 𝓛.H 𝓜 𝓡 wired)
     (meets 𝓛 𝓜.mem 𝓡.returns (tables_of 𝓤 𝓛.H 𝓜 (tables 𝓤 𝓛.H 𝓜 𝓡 𝓡.env)))
