@@ -1,5 +1,5 @@
-pub mod Commits
-pub mod Laws
+pub mod Openings
+pub mod DeskLaws
 pub mod Formatted
 pub mod Committed
 pub mod Kept

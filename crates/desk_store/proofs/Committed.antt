@@ -18,7 +18,7 @@ use Rattle.desk_model.specs.Desk.{Desk}
 use Rattle.desk_model.specs.Room.{need}
 use Rattle.desk_catalogue.specs.Accepting.{acceptance}
 use Rattle.desk_pages.specs.Commits.{HoldsAfter, OpensRows}
-use Rattle.desk_pages.proofs.Commits.{leaves_desk}
+use Rattle.desk_pages.proofs.Openings.{leaves_desk}
 use Rattle.desk_pages.specs.Desks.{InPages, OpensDesk}
 use Rattle.desk_store.specs.Keeping.{IsLeft}
 use Rattle.desk_store.specs.Clerks.{desk_of, disk_of, sectors_of, free_of, Keeps}

@@ -24,7 +24,7 @@ use Rattle.plan_table.specs.declared.change.ChangeOutcome.TheVariants.{Made, Spe
 use Rattle.plan_revisions.specs.Steps.{HasStepped, IsStepped, LeavesNumbers, StepErr}
 use Rattle.desk_pages.specs.Commits.{HoldsAfter}
 use Rattle.desk_pages.specs.Desks.{HoldsDesk, InPages, InTxn}
-use Rattle.desk_pages.proofs.Laws.{begun_desk}
+use Rattle.desk_pages.proofs.DeskLaws.{begun_desk}
 use Rattle.plan_revisions.specs.Rows.{HasNumbers}
 use Rattle.plan_revisions.proofs.Accepted.{rows_some, ground_stays}
 use Rattle.desk_store.specs.Clerks.{desk_of, disk_of, free_of, room_of, Keeps, Reads}

@@ -1,5 +1,5 @@
 pub mod Contents
-pub mod Steps
+pub mod SoFar
 pub mod Images
 pub mod Commit
 mod Lists

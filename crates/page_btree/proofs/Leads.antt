@@ -21,7 +21,7 @@ use Rattle.page_btree.specs.Getting.{CanGet, CanGetAt, ReadsErr}
 use Rattle.page_btree.specs.Leading.{LeadsTo, CanLead}
 use Rattle.page_btree.specs.Putting.{IsRaised, CanPut}
 use Rattle.page_btree.specs.Fitting.{IsLeafPut}
-use Rattle.page_btree.proofs.Fitting.{nothing}
+use Rattle.page_btree.proofs.EmptyLeaf.{nothing}
 use Rattle.page_btree.specs.Removing.{CanRemove, Removes}
 use Rattle.page_btree.specs.Sparing.{IsLeafTaken}
 use Rattle.page_btree.proofs.Sparing.{did_take}

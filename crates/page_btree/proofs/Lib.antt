@@ -1,4 +1,4 @@
-pub mod Fitting
+pub mod EmptyLeaf
 pub mod Laws
 pub mod Removing
 pub mod Sparing

@@ -12,7 +12,7 @@ use Rattle.store_rows.specs.Rows.{KeyMap}
 use Rattle.store_rows.specs.Puts.{Row}
 use Rattle.store_rows.specs.Tidy.{IsNext, CountersFit}
 use Rattle.row_table.specs.Puts.{HasPut, PutsErr}
-use Rattle.row_table.proofs.Puts.{more_put, then_not_put}
+use Rattle.row_table.proofs.RowsPut.{more_put, then_not_put}
 use Rattle.row_table.specs.Reading.{HasNext, ReadErr}
 use Rattle.plan_table.specs.Outcomes.{AreNext, HasNumbered, ChangeErr}
 

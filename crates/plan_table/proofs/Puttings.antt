@@ -11,7 +11,7 @@ use Rattle.store_rows.specs.declared.value.Counters.{Counters}
 use Rattle.store_rows.specs.declared.value.PlanRow.{PlanRow}
 use Rattle.store_rows.specs.Puts.{Row}
 use Rattle.row_table.specs.Puts.{HasPut, PutsErr}
-use Rattle.row_table.proofs.Puts.{more_put, then_not_put, front_not_put}
+use Rattle.row_table.proofs.RowsPut.{more_put, then_not_put, front_not_put}
 use Rattle.plan_table.specs.PlanRows.{plan_rows}
 
 one_row : (k v key value : List ℕ) → k ≡ key → v ≡ value → ◌≡◌ {A = List Row} ((k, v) ∷ []) ((key, value) ∷ [])

@@ -1,4 +1,4 @@
 pub mod Appending
 pub mod Outcomes
-pub mod Puts
+pub mod RowsPut
 pub mod Reading

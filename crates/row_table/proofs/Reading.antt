@@ -17,7 +17,7 @@ use Rattle.store_rows.specs.declared.value.Counters.{Counters}
 use Rattle.store_rows.specs.Rows.{KeyMap}
 use Rattle.store_rows.specs.Puts.{Row}
 use Rattle.row_table.specs.Puts.{HasPut, PutsErr}
-use Rattle.row_table.proofs.Puts.{more_put, then_not_put}
+use Rattle.row_table.proofs.RowsPut.{more_put, then_not_put}
 use Rattle.store_rows.specs.Tidy.{no_numbers}
 use Rattle.row_table.specs.Reading.{HasNext, ReadErr, StandsAs}
 

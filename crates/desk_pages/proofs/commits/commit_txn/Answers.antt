@@ -2,7 +2,7 @@ use Rattle.std.proofs.Common.{inl}
 use Rattle.std.specs.Prelude.{◌⊎◌}
 use Rattle.page_store.proofs.Stops.{leaves_here}
 use Rattle.page_store.specs.Transactions.{stored, disk_in}
-use Rattle.desk_pages.proofs.Commits.{leaves_desk}
+use Rattle.desk_pages.proofs.Openings.{leaves_desk}
 use Rattle.desk_pages.specs.Desks.{OpensDesk}
 use Rattle.desk_pages.proofs.Kept.{opens_now, rows_after}
 use Rattle.desk_pages.proofs.commits.commit_txn.Goals as goal

@@ -1,4 +1,4 @@
-use Rattle.desk_pages.proofs.Laws.{begun_desk, prepared_desk}
+use Rattle.desk_pages.proofs.DeskLaws.{begun_desk, prepared_desk}
 use Rattle.desk_pages.proofs.laws.desks_are_kept.Goals as goal
 
 pub returns-clause-begun : goal.returns-clause-begun

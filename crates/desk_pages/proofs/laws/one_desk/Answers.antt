@@ -1,4 +1,4 @@
-use Rattle.desk_pages.proofs.Laws.{one_desk}
+use Rattle.desk_pages.proofs.DeskLaws.{one_desk}
 use Rattle.desk_pages.proofs.laws.one_desk.Goals as goal
 
 pub returns : goal.returns

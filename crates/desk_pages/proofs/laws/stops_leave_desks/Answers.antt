@@ -1,4 +1,4 @@
-use Rattle.desk_pages.proofs.Laws.{opens_desks}
+use Rattle.desk_pages.proofs.DeskLaws.{opens_desks}
 use Rattle.desk_pages.proofs.laws.stops_leave_desks.Goals as goal
 
 pub returns : goal.returns

@@ -1,7 +1,7 @@
 use Rattle.std.proofs.Common.{◌≡◌, take}
 use Rattle.gate_journal.specs.Store.{Homes, home, copies, list_word}
 use Rattle.gate_journal.specs.Steps.{HasHomes}
-use Rattle.gate_journal.proofs.Steps.{SoFar}
+use Rattle.gate_journal.proofs.SoFar.{SoFar}
 use Rattle.gate_journal.specs.Store.{IsValid}
 use Rattle.gate_journal.proofs.recovery.copy_back.Given as goal
 

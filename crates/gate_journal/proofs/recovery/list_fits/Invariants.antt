@@ -1,7 +1,7 @@
 use Rattle.std.proofs.Common.{◌≡◌, ◌<◌, ◌≤◌, ◌*◌, ℕ}
 use Rattle.sector_device.specs.Disk.{Nowhere}
 use Rattle.gate_journal.specs.Store.{list_word}
-use Rattle.gate_journal.proofs.Steps.{SoFar}
+use Rattle.gate_journal.proofs.SoFar.{SoFar}
 use Rattle.gate_journal.proofs.recovery.list_fits.Given as goal
 
 abbrev pub invariant-loop-s : goal.invariant-loop-s

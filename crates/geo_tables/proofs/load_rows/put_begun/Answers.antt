@@ -5,7 +5,7 @@ use Rattle.store_rows.specs.Keys.{key_of, begun, counters}
 use Rattle.store_rows.specs.Values.{counters_bytes}
 use Rattle.store_rows.specs.Puts.{Row}
 use Rattle.row_table.specs.Puts.{HasPut, PutsErr}
-use Rattle.row_table.proofs.Puts.{front_not_put}
+use Rattle.row_table.proofs.RowsPut.{front_not_put}
 use Rattle.geo_tables.specs.Rows.{begun_rows, load_taken}
 use Rattle.row_table.proofs.Outcomes.{match_of}
 use Rattle.geo_tables.proofs.RowAfterRow.{then_put}

@@ -1,4 +1,4 @@
--- Lemmas on the definitions of Steps.
+-- What a step did so far.
 use Rattle.std.specs.Prelude.{◌≡◌, ℕ}
 use Rattle.sector_device.specs.Disk.{Disk, Touches}
 
