@@ -1,5 +1,5 @@
-// For bench/desk alone: what asks `plandesk serve` for commands and queries and times them, and the plain counterpart of a patch: the
-// same pages at the same places with the same syncs, as strace noted them of one.
+// For bench/desk, bench/served and bench/sizes: what asks `plandesk serve` for commands and queries and times them, and the plain
+// counterpart of a command: the same pages at the same places with the same syncs, as strace noted them of one.
 mod calls;
 mod client;
 
@@ -91,6 +91,18 @@ fn patches(words: &[String]) {
     println!("  peak KB: {}", peak(&words[1]));
 }
 
+// PORT PROCESS NAME COUNT: creates of plans whose names begin so
+fn creates(words: &[String]) {
+    let mut connection = Connection::new(words[0].parse().unwrap());
+    let (mut waits, before) = (Vec::new(), processor(&words[1]));
+    for i in 0..words[3].parse().unwrap() {
+        let start = Instant::now();
+        create(&mut connection, &format!("{}-{i}", words[2]));
+        waits.push(start.elapsed().as_secs_f64() * 1e6);
+    }
+    told("a create", waits, processor(&words[1]) - before);
+}
+
 // PORT PROCESS TEXT NAME COUNT: whole revisions of a new plan, each county of which changes
 fn wholes(words: &[String]) {
     let text = fs::read_to_string(&words[2]).unwrap();
@@ -133,6 +145,21 @@ fn plans(words: &[String]) {
     }
 }
 
+// PORT TEXT COUNT PATCHES: plans of one whole revision each, no two alike, and so many patches of one county behind each
+fn patched(words: &[String]) {
+    plans(&words[..3]);
+    let text = fs::read_to_string(&words[1]).unwrap();
+    let counties = counties_of(&text);
+    let mut connection = Connection::new(words[0].parse().unwrap());
+    for i in 0..words[2].parse().unwrap() {
+        for k in 1..=words[3].parse().unwrap() {
+            let body = text_of(counties[(i + k) % counties.len()].iter(), i % DISTRICTS + k);
+            let request = with_body(&format!("POST /plans/many-{i}/counties?after={k}"), body.as_bytes());
+            assert_eq!(connection.ask(&request, None), 201);
+        }
+    }
+}
+
 // PLANDESK STORE PORT: from the start of `serve` to its first answer
 fn opening(words: &[String]) {
     let start = Instant::now();
@@ -172,9 +199,11 @@ fn main() {
     let words: Vec<String> = env::args().skip(1).collect();
     match words[0].as_str() {
         "patches" => patches(&words[1..]),
+        "creates" => creates(&words[1..]),
         "wholes" => wholes(&words[1..]),
         "reads" => reads(&words[1..]),
         "plans" => plans(&words[1..]),
+        "patched" => patched(&words[1..]),
         "opening" => opening(&words[1..]),
         "bare" => bare(&words[1..]),
         word => panic!("{word}?"),
