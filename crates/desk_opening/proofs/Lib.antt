@@ -1,3 +1,5 @@
+pub mod Chunks
+pub mod Laying
 pub mod Revisions
 pub mod Scanned
 pub mod Parts

@@ -1,19 +1,21 @@
 -- What is read back of a desk.
-use Rattle.std.specs.Prelude.{◌≡◌, ◌≤◌, ℕ, List, length, All}
+use Rattle.std.specs.Prelude.{◌≡◌, ◌≤◌, ◌<◌, ℕ, List, length, take, drop, get_or, All, IfSome}
 use Rattle.sector_device.specs.declared.SectorDevice.{Ghosts}
 use Rattle.desk_model.specs.Geography.{Ground}
 use Rattle.desk_model.specs.Cuts.{cut, cuts_of}
+use Rattle.desk_model.specs.declared.cuts.Cut.{Cut}
 use Rattle.desk_model.specs.Desk.{Plan}
 use Rattle.desk_model.specs.Kind.{most_districts}
+use Rattle.desk_model.specs.Subject.{revision_at}
 use Rattle.page_store.specs.Transactions.{stored, disk_in, Passed}
 use Rattle.page_store.specs.declared.pages.Pages.{Pages}
 use Rattle.page_store.specs.declared.txn.Txn.{Txn}
 use Rattle.page_btree.specs.Map.{InTxn}
 use Rattle.store_rows.specs.declared.value.PlanRow.{PlanRow}
 use Rattle.store_rows.specs.Rows.{KeyMap}
-use Rattle.store_rows.specs.RevisionRows.{HasRevision}
+use Rattle.store_rows.specs.RevisionRows.{HasChunk, HasRevision}
 use Rattle.store_rows.specs.DeskRows.{HasPlan}
-use Rattle.revision_table.specs.Reading.{AreKnown}
+use Rattle.chunk_table.specs.Reading.{IsChunk}
 
 -- `says` is what a map is to say of a value, and `told` what is read where it says that
 pub record HasRead {D : Type 0} {g : Ghosts D} {X V : Type 0} (says : KeyMap → X → Type 0) (told : X → V) (t : Txn) (old new : Pages D g) (value : V) : Type 0 where
@@ -25,7 +27,13 @@ pub record IsOfBlocks (g : Ground) (plan revision : ℕ) (m : KeyMap) (districts
   pub has : HasRevision m plan revision (cut g districts)
   pub whole : length districts ≡ length g.blocks
 
--- and the numbers of an earlier one name its districts
+-- ---- a revision beside the one before it
+-- the numbers name what the list has at the places of the first counties
+abbrev pub AreKnown : List ℕ → List ℕ → List Cut → KeyMap → Type 0
+AreKnown names districts cuts m = (county : ℕ) (c : Cut) → county < length names → county < length cuts
+    → HasChunk m (get_or names county 0) (take (get_or cuts county c).count (drop (get_or cuts county c).first districts))
+
+-- a revision of a plan has a district for each block, and the numbers of the one before name its districts
 pub record IsNext (g : Ground) (plan revision : ℕ) (last before : List ℕ) (m : KeyMap) (districts : List ℕ) : Type 0 where
   pub is : IsOfBlocks g plan revision m districts
   pub known : AreKnown last before (cuts_of g) m
@@ -33,6 +41,35 @@ pub record IsNext (g : Ground) (plan revision : ℕ) (last before : List ℕ) (m
 -- where that was so, these numbers name these districts
 abbrev pub BecomesKnown : {D : Type 0} {g : Ghosts D} → Ground → ℕ → ℕ → List ℕ → List ℕ → Txn → Pages D g → Pages D g → List ℕ → List ℕ → Type 0
 BecomesKnown g plan revision last before t old new names districts = (disk_in new).is_honest → (m : KeyMap) (all : List ℕ) → InTxn t (stored old) m → IsNext g plan revision last before m all → AreKnown names districts (cuts_of g) m
+
+-- the numbers name the districts of a revision, and those of the one before its districts
+pub record AreNamed (g : Ground) (names last before : List ℕ) (m : KeyMap) (districts : List ℕ) : Type 0 where
+  pub whole : length districts ≡ length g.blocks
+  pub named : AreKnown names districts (cuts_of g) m
+  pub known : AreKnown last before (cuts_of g) m
+
+-- a number names the districts of one county, and that of the revision before, if it has one, those that a list has at its place
+pub record IsCounty (number : ℕ) (c : Cut) (last : List ℕ) (county : ℕ) (before : List ℕ) (m : KeyMap) (districts : List ℕ) : Type 0 where
+  pub is : IsChunk number c.count m districts
+  pub known : county < length last → HasChunk m (get_or last county 0) (take c.count (drop c.first before))
+
+-- ---- a plan's last revision
+-- these are its districts; any are, where the plan has no revision
+abbrev pub IsLast : Plan → List ℕ → Type 0
+IsLast p districts = IfSome (revision_at p (length p.revisions)) (λ last. districts ≡ last)
+
+-- the numbers name its districts
+abbrev pub NamesLast : Ground → List ℕ → Plan → KeyMap → Type 0
+NamesLast g last p m = (before : List ℕ) → IsLast p before → AreKnown last before (cuts_of g) m
+
+-- a revision of a plan has a district for each block, and the numbers name those of the plan's last one
+pub record IsAfter (g : Ground) (plan revision : ℕ) (last : List ℕ) (p : Plan) (m : KeyMap) (districts : List ℕ) : Type 0 where
+  pub is : IsOfBlocks g plan revision m districts
+  pub known : NamesLast g last p m
+
+-- where that was so, these numbers name the districts of the last one of this plan
+abbrev pub BecomesLast : {D : Type 0} {g : Ghosts D} → Ground → ℕ → ℕ → List ℕ → Plan → Txn → Pages D g → Pages D g → List ℕ → Plan → Type 0
+BecomesLast g plan revision last p t old new names next = (disk_in new).is_honest → (m : KeyMap) (all : List ℕ) → InTxn t (stored old) m → IsAfter g plan revision last p m all → NamesLast g names next m
 
 -- each revision of the plan has a district for each block
 abbrev pub IsWhole : Ground → Plan → Type 0

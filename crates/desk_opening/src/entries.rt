@@ -1,83 +1,112 @@
 //! Reads plans.
-ghost use Rattle.std.specs.Prelude.{◌≡◌, ◌≤◌, ◌<◌, ◌+◌, ◌*◌, ◌^◌, length, IfOk, OnOk, MatchResult};
+ghost use Rattle.std.specs.Prelude.{◌≡◌, ◌≤◌, ◌<◌, ◌+◌, ◌*◌, ◌^◌, length, replicate, IfOk, IfErr, MatchResult};
 ghost use Rattle.desk_model.specs.Cuts.{cuts_of};
 ghost use Rattle.desk_model.specs.Step.{revision_limit};
 ghost use Rattle.page_store.specs.Transactions.{count_of, txn_pages, IsQuiet};
 ghost use Rattle.store_rows.specs.Changes.{plan_row_of, with_revision};
+ghost use Rattle.page_btree.specs.declared.error.TreeError.TheVariants.{Memory};
 ghost use Rattle.row_table.specs.Appending.{AppendErr};
-ghost use Rattle.revision_table.specs.Reading.{AreRead};
-ghost use Rattle.desk_opening.specs.Reading.{BecomesKnown, HasRead, IsNext, IsPlanRow, IsWhole};
+ghost use Rattle.desk_opening.specs.Reading.{BecomesKnown, BecomesLast, HasRead, IsAfter, IsLast, IsNext, IsPlanRow, IsWhole};
 
+use crate::counties::lay_counties;
 use desk_model::cuts::Cut;
 use desk_model::geography::Geography;
-use desk_model::laws::lists_are_cut;
 use desk_model::name::PlanName;
 use desk_model::size::PlanSize;
 use desk_plans::entry::{Entry, REVISION_LIMIT};
 use page_store::{Pages, Txn};
-use revision_table::append_later;
+use revision_table::append_names;
 use row_table::TreeError;
 use sector_device::SectorDevice;
+use shared_districts::Districts;
 use std::alloc::Global;
 use store_rows::PlanRow;
 
-/// A revision that was read: the numbers of its chunks, and its districts. Both are empty before the first.
-#[derive(Drop)]
-struct Last {
-    names: Vec<u64>,
-    districts: Vec<u16>,
-}
-
-/// A revision that stands under a plan's number. Counties whose chunks the last one names are copied from it.
+/// A revision that stands under a plan's number. Its counties are laid over `before`, the districts of the revision before, whose
+/// chunks have the numbers of `last`; it gets the numbers of this one's.
 fn read_next<D: SectorDevice>(
     alloc: Global,
     txn: &Txn,
     pages: &mut Pages<D>,
     geography: &Geography,
     cuts: &[Cut],
-    last: &Last,
+    last: &mut Vec<u64>,
+    before: Districts,
     plan: u64,
     revision: u32,
-) -> Result<Last, TreeError>
+) -> Result<Districts, TreeError>
     requires begun { txn_pages txn.now ≡ count_of pages.old }
     requires cut { cuts.now ≡ cuts_of geography.now }
+    requires whole { length before ≡ length geography.now.blocks }
     ensures quiet { IsQuiet pages.old pages.new }
-    ensures whole { IfOk result (λ next. length next.districts.items ≡ length geography.now.blocks) }
-    ensures read { MatchResult result (λ next. HasRead (IsNext geography.now plan revision last.now.names.items last.now.districts.items) (λ districts. districts) txn.now pages.old pages.new next.districts.items) (λ e. AppendErr (IsNext geography.now plan revision last.now.names.items last.now.districts.items) txn.now pages.old pages.new e) }
-    ensures names { IfOk result (λ next. AreRead plan revision (length cuts.now) txn.now pages.old pages.new next.names.items) }
+    ensures whole { IfOk result (λ next. length next ≡ length geography.now.blocks) }
+    ensures read { MatchResult result (λ next. HasRead (IsNext geography.now plan revision last.old.items before) (λ districts. districts) txn.now pages.old pages.new next) (λ e. AppendErr (IsNext geography.now plan revision last.old.items before) txn.now pages.old pages.new e) }
+    ensures known { IfOk result (λ next. BecomesKnown geography.now plan revision last.old.items before txn.now pages.old pages.new last.new.items next) }
 {
-    lists_are_cut();
     let Ok(mut names) = Vec::with_capacity(alloc, cuts.len()) else {
         return Err(TreeError::Memory);
     };
-    let Ok(mut districts) = Vec::with_capacity(alloc, geography.blocks().len()) else {
-        return Err(TreeError::Memory);
-    };
-    append_later(
-        txn,
-        pages,
-        plan,
-        revision,
-        cuts,
-        last.names.as_slice(),
-        last.districts.as_slice(),
-        &mut names,
-        &mut districts,
-    )?;
-    if districts.len() != geography.blocks().len() {
+    append_names(txn, pages, plan, revision, cuts.len(), &mut names)?;
+    if names.len() != cuts.len() {
         return Err(TreeError::DeviceFault);
     }
-    Ok(Last { names, districts })
+    let next = lay_counties(
+        alloc,
+        txn,
+        pages,
+        geography,
+        cuts,
+        names.as_slice(),
+        last.as_slice(),
+        before,
+    )?;
+    *last = names;
+    Ok(next)
 }
 
-/// The plan of an entry with one revision more, which stands under a plan's number, and which `last` becomes.
+/// So many blocks without a district.
+fn unassigned(alloc: Global, count: usize) -> Result<Districts, TreeError>
+    ensures zeros { IfOk result (λ districts. districts ≡ replicate count 0) }
+    ensures err { IfErr result (λ e. e ≡ Memory) }
+{
+    let Ok(zeros) = vec![in alloc; 0u16; count] else {
+        return Err(TreeError::Memory);
+    };
+    match Districts::new(alloc, zeros.as_slice(), None) {
+        Ok(districts) => Ok(districts),
+        Err(_) => Err(TreeError::Memory),
+    }
+}
+
+/// What a plan's next revision is laid over: its last one, or blocks without a district before the first.
+fn districts_before(
+    alloc: Global,
+    geography: &Geography,
+    entry: &Entry,
+) -> Result<Districts, TreeError>
+    requires whole { IsWhole geography.now entry.now.1 }
+    ensures last { IfOk result (λ districts. IsLast entry.now.1 districts) }
+    ensures whole { IfOk result (λ districts. length districts ≡ length geography.now.blocks) }
+    ensures err { IfErr result (λ e. e ≡ Memory) }
+{
+    let Some(last) = entry.revision(entry.count()) else {
+        return unassigned(alloc, geography.blocks().len());
+    };
+    match last.share(alloc) {
+        Ok(districts) => Ok(districts),
+        Err(_) => Err(TreeError::Memory),
+    }
+}
+
+/// The plan of an entry with one revision more, which stands under a plan's number. `last` are the numbers of the chunks of the last
+/// one, and then of this one.
 fn with_next<D: SectorDevice>(
     alloc: Global,
     txn: &Txn,
     pages: &mut Pages<D>,
     geography: &Geography,
     cuts: &[Cut],
-    last: &mut Last,
+    last: &mut Vec<u64>,
     entry: &Entry,
     plan: u64,
     revision: u32,
@@ -85,27 +114,28 @@ fn with_next<D: SectorDevice>(
     requires begun { txn_pages txn.now ≡ count_of pages.old }
     requires cut { cuts.now ≡ cuts_of geography.now }
     requires room { length entry.now.1.revisions < revision_limit }
+    requires whole { IsWhole geography.now entry.now.1 }
     ensures quiet { IsQuiet pages.old pages.new }
     ensures named { IfOk result (λ next. next.0 ≡ entry.now.0) }
     ensures sized { IfOk result (λ next. (next.1.kind ≡ entry.now.1.kind) × (next.1.n ≡ entry.now.1.n)) }
     ensures longer { IfOk result (λ next. length next.1.revisions ≡ length entry.now.1.revisions + 1) }
-    ensures whole { IfOk result (λ next. IsWhole geography.now entry.now.1 → IsWhole geography.now next.1) }
-    ensures read { MatchResult result (λ next. HasRead (IsNext geography.now plan revision last.old.names.items last.old.districts.items) (λ districts. (entry.now.0, with_revision entry.now.1 districts)) txn.now pages.old pages.new next) (λ e. AppendErr (IsNext geography.now plan revision last.old.names.items last.old.districts.items) txn.now pages.old pages.new e) }
-    ensures known { OnOk result (BecomesKnown geography.now plan revision last.old.names.items last.old.districts.items txn.now pages.old pages.new last.new.names.items last.new.districts.items) }
+    ensures whole { IfOk result (λ next. IsWhole geography.now next.1) }
+    ensures read { MatchResult result (λ next. HasRead (IsAfter geography.now plan revision last.old.items entry.now.1) (λ districts. (entry.now.0, with_revision entry.now.1 districts)) txn.now pages.old pages.new next) (λ e. AppendErr (IsAfter geography.now plan revision last.old.items entry.now.1) txn.now pages.old pages.new e) }
+    ensures known { IfOk result (λ next. BecomesLast geography.now plan revision last.old.items entry.now.1 txn.now pages.old pages.new last.new.items next.1) }
 {
-    let next = read_next(alloc, txn, pages, geography, cuts, last, plan, revision)?;
-    match entry.revised(alloc, next.districts.as_slice()) {
-        Ok(with) => {
-            *last = next;
-            Ok(with)
-        }
+    let before = districts_before(alloc, geography, entry)?;
+    let next = read_next(
+        alloc, txn, pages, geography, cuts, last, before, plan, revision,
+    )?;
+    match entry.with_revision(alloc, next) {
+        Ok(with) => Ok(with),
         Err(_) => Err(TreeError::Memory),
     }
 }
 
 /// The plan that stands under a name with this row, with all its revisions. `cuts` are the geography's counties. `DeviceFault` comes
 /// also where the store has no such plan, `Memory` where a growth was refused.
-#[tactic(auto, using(crate::proofs::Revisions::none_known))]
+#[tactic(auto, using(crate::proofs::Revisions::none_last))]
 pub fn read_entry<D: SectorDevice>(
     alloc: Global,
     txn: &Txn,
@@ -130,10 +160,7 @@ pub fn read_entry<D: SectorDevice>(
         return Err(TreeError::DeviceFault);
     };
     let mut entry = Entry::new(name, size);
-    let mut last = Last {
-        names: Vec::new(alloc),
-        districts: Vec::new(alloc),
-    };
+    let mut last = Vec::new(alloc);
     for before in 0..row.revisions {
         entry = with_next(
             alloc,

@@ -9,4 +9,4 @@ mod reads;
 
 pub use names::append_names;
 pub use puts::put_names;
-pub use reads::{append_later, append_revision};
+pub use reads::append_revision;

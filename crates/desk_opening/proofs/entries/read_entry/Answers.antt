@@ -5,7 +5,7 @@ use Rattle.page_btree.specs.Map.{InTxn}
 use Rattle.row_table.proofs.Outcomes.{match_of}
 use Rattle.row_table.specs.Appending.{AppendErr}
 use Rattle.row_table.proofs.Appending.{then_unappended}
-use Rattle.desk_opening.specs.Reading.{HasRead, IsNext, IsPlanRow}
+use Rattle.desk_opening.specs.Reading.{HasRead, IsAfter, IsPlanRow}
 use Rattle.desk_opening.proofs.Shown.{row_is}
 use Rattle.desk_opening.proofs.Revisions.{of_blocks, one_revision_more}
 use Rattle.desk_opening.proofs.entries.read_entry.Goals as goal
@@ -19,7 +19,7 @@ returns-in_err-entry-clause-read g c =
     let i = c.loop-before.before in
     let error = c.in_err-entry.field-0.0 in
     match_of c.from_residual.result (λ entry. HasRead says (λ (plan : Plan). (c.args.name, plan)) c.args.txn.now c.args.pages.now c.with_next.new.pages entry) error (λ e. AppendErr says c.args.txn.now c.args.pages.now c.with_next.new.pages e) c.from_residual.ensures.1
-    (then_unappended says (IsNext c.args.geography.now c.args.row.now.number (i + 1) c.loop-before.last.names.items c.loop-before.last.districts.items) c.args.txn.now c.args.pages.now c.loop-before.pages c.with_next.new.pages error
+    (then_unappended says (IsAfter c.args.geography.now c.args.row.now.number (i + 1) c.loop-before.last.items c.loop-before.entry.1) c.args.txn.now c.args.pages.now c.loop-before.pages c.with_next.new.pages error
     (λ honest m p holds said. (get_or p.revisions i [], record { is = of_blocks c.args.geography.now c.args.name c.args.row.now m p i said c.loop-before-test.true; known = c.loop-before.invariant.known honest m p holds said }))
     c.loop-before.invariant.read.passed c.in_err-entry.ensures.quiet c.in_err-entry.ensures.read)
 
@@ -44,7 +44,7 @@ loop-before-preserved g c =
           let then = now.quiet.honest honest in
           let still = subst (λ P. InTxn c.args.txn.now P m) (sym (before.read.passed.quiet.same then)) holds in
           now.known honest m (get_or p.revisions i []) still (record { is = of_blocks c.args.geography.now c.args.name c.args.row.now m p i said less; known = before.known then m p holds said });
-      whole = now.whole before.whole;
+      whole = now.whole;
       named = now.named ∙ before.named;
       kind = now.sized.0 ∙ before.kind;
       districts = now.sized.1 ∙ before.districts;

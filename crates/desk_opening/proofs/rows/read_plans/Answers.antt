@@ -19,7 +19,7 @@ use Rattle.row_table.specs.Appending.{AppendErr}
 use Rattle.row_table.proofs.Appending.{then_unappended, unread_unappended}
 use Rattle.desk_opening.specs.Reading.{HasRead}
 use Rattle.desk_opening.specs.Opening.{ArePlans, IsFreshPlan}
-use Rattle.desk_opening.proofs.PlanNumbers.{AreNoted, none_noted, unused, noted_more, all_apart}
+use Rattle.desk_opening.proofs.PlanNumbers.{none_noted, unused, noted_more, all_apart}
 use Rattle.desk_opening.proofs.Parts.{Plans, AreRead, none_read, all_read}
 use Rattle.desk_opening.proofs.Shown.{AreShown, none_shown, more_shown, all_shown}
 use Rattle.desk_opening.proofs.Turns.{new_plan}

@@ -1,0 +1,34 @@
+use Rattle.std.proofs.Common.{List, ℕ}
+use Rattle.page_store.proofs.Stops.{passed_none}
+use Rattle.row_table.proofs.Outcomes.{map_both}
+use Rattle.row_table.specs.Appending.{AppendErr}
+use Rattle.row_table.proofs.Appending.{then_unappended}
+use Rattle.chunk_table.specs.Reading.{IsChunk}
+use Rattle.shared_districts.specs.Laid.{with_at}
+use Rattle.desk_opening.specs.Reading.{HasRead, IsCounty}
+use Rattle.desk_opening.proofs.Laying.{known_stays}
+use Rattle.desk_opening.proofs.counties.lay_changed.Goals as goal
+
+pub returns-then-is_known-clause-read : goal.returns-then-is_known-clause-read
+returns-then-is_known-clause-read g c = record {
+  passed = passed_none c.args.pages.now;
+  read = λ honest m chunk holds said.
+      let is = c.is_known.ensures c.if-is_known.true in
+      known_stays c.args.number c.args.cut c.args.last.now c.args.county c.args.districts m chunk c.requires.within is.0 is.1 said;
+}
+
+pub returns-clause-read : goal.returns-clause-read
+returns-clause-read g c =
+    let chunk = IsChunk c.args.number c.args.cut.count in
+    let says = IsCounty c.args.number c.args.cut c.args.last.now c.args.county c.args.districts in
+    let t = c.args.txn.now in
+    let a = c.args.pages.now in
+    let b = c.lay_county.new.pages in
+    map_both c.lay_county.result
+    (λ (all : List ℕ). HasRead chunk (λ (part : List ℕ). with_at c.args.cut.first part c.args.districts) t a b all)
+    (λ (all : List ℕ). HasRead says (λ (part : List ℕ). with_at c.args.cut.first part c.args.districts) t a b all)
+    (λ e. AppendErr chunk t a b e)
+    (λ e. AppendErr says t a b e)
+    (λ all had. record { passed = had.passed; read = λ honest m part holds said. had.read honest m part holds said.is })
+    (λ e why. then_unappended says chunk t a a b e (λ honest m part holds said. (part, said.is)) (passed_none a) c.lay_county.ensures.quiet why)
+    c.lay_county.ensures.read

@@ -1,0 +1,12 @@
+use Rattle.std.proofs.Common.{◌≡◌, length}
+use Rattle.page_store.specs.Transactions.{count_of, txn_pages}
+use Rattle.desk_opening.specs.Reading.{AreNamed, HasRead}
+use Rattle.desk_opening.proofs.Laying.{so_far}
+use Rattle.desk_opening.proofs.counties.lay_counties.Given as goal
+
+abbrev pub invariant-loop-county : goal.invariant-loop-county
+invariant-loop-county g l = record {
+  read : HasRead (AreNamed l.geography l.names l.last l.fn.before) (λ all. so_far l.geography all l.fn.before l.county) l.txn l.initial.pages l.pages l.districts;
+  whole : length l.districts ≡ length l.geography.blocks;
+  begun : txn_pages l.txn ≡ count_of l.pages;
+}

@@ -1,0 +1,40 @@
+use Rattle.std.proofs.Common.{◌++◌, List, ℕ, length, inr, ap, ◌∙◌, arith}
+use Rattle.row_table.proofs.Outcomes.{match_of}
+use Rattle.row_table.specs.Appending.{AppendErr}
+use Rattle.chunk_table.specs.Reading.{IsChunk}
+use Rattle.shared_districts.specs.Laid.{with_at}
+use Rattle.desk_opening.specs.Reading.{HasRead}
+use Rattle.desk_opening.proofs.Laying.{with_long}
+use Rattle.desk_opening.proofs.counties.lay_county.Goals as goal
+
+pub returns-in_err-append_chunk-clause-read : goal.returns-in_err-append_chunk-clause-read
+returns-in_err-append_chunk-clause-read g c =
+    let says = IsChunk c.args.number c.args.cut.count in
+    let a = c.args.pages.now in
+    let b = c.append_chunk.new.pages in
+    match_of c.from_residual.result (λ all. HasRead says (λ (chunk : List ℕ). with_at c.args.cut.first chunk c.args.districts) c.args.txn.now a b all) c.in_err-append_chunk.field-0.0 (λ e. AppendErr says c.args.txn.now a b e) c.from_residual.ensures.1
+    c.in_err-append_chunk.ensures.append
+
+pub returns-then-len-cut-clause-read : goal.returns-then-len-cut-clause-read
+returns-then-len-cut-clause-read g c = inr (λ honest m x holds said.
+    let read = c.in_ok-append_chunk.ensures.append.appended honest m x holds said ∙ ap (λ (l : List ℕ). l ++ x) c.clear.ensures.items in
+    absurd (c.if-len-cut.true (c.len.ensures ∙ c.append_chunk.new.into.ok.0 ∙ ap length read ∙ said.long)))
+
+pub with_part-requires : goal.with_part-requires
+with_part-requires g c = let within = c.requires.within in let long = c.as_slice.ensures.len in let same = c.len.ensures in let count = c.if-len-cut.false in omega arith
+
+pub returns-in-Ok-clause-long : goal.returns-in-Ok-clause-long
+returns-in-Ok-clause-long g c =
+    let within = c.requires.within in
+    let long = c.as_slice.ensures.len in
+    let same = c.len.ensures in
+    let count = c.if-len-cut.false in
+    ap (λ (l : List ℕ). length l) c.in-Ok.ensures ∙ with_long c.args.cut.first c.as_slice.result.now c.args.districts (omega arith)
+
+pub returns-in-Ok-clause-read : goal.returns-in-Ok-clause-read
+returns-in-Ok-clause-read g c = record {
+  passed = c.in_ok-append_chunk.ensures.append.passed;
+  read = λ honest m x holds said.
+      c.in-Ok.ensures ∙ ap (λ (l : List ℕ). with_at c.args.cut.first l c.args.districts)
+      (c.as_slice.ensures.value ∙ c.in_ok-append_chunk.ensures.append.appended honest m x holds said ∙ ap (λ (l : List ℕ). l ++ x) c.clear.ensures.items);
+}

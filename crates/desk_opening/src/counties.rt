@@ -1,0 +1,116 @@
+//! Lays the counties of a revision over the districts of the one before.
+ghost use Rattle.std.specs.Prelude.{◌≡◌, ◌<◌, ◌≤◌, ◌+◌, true, length, get_or, IfOk, MatchResult};
+ghost use Rattle.shared_districts.specs.Laid.{with_at};
+ghost use Rattle.desk_model.specs.Cuts.{cuts_of};
+ghost use Rattle.page_store.specs.Transactions.{count_of, txn_pages, IsQuiet};
+ghost use Rattle.row_table.specs.Appending.{AppendErr};
+ghost use Rattle.chunk_table.specs.Reading.{IsChunk};
+ghost use Rattle.desk_opening.specs.Reading.{AreNamed, HasRead, IsCounty};
+
+use chunk_table::append_chunk;
+use desk_model::cuts::Cut;
+use desk_model::geography::Geography;
+use desk_model::laws::lists_are_cut;
+use page_store::{Pages, Txn};
+use row_table::TreeError;
+use sector_device::SectorDevice;
+use shared_districts::Districts;
+use std::alloc::Global;
+
+/// These districts with those of a county, which are read from its chunk, in the place of theirs. `part` is room for them.
+fn lay_county<D: SectorDevice>(
+    alloc: Global,
+    txn: &Txn,
+    pages: &mut Pages<D>,
+    cut: Cut,
+    number: u64,
+    part: &mut Vec<u16>,
+    districts: Districts,
+) -> Result<Districts, TreeError>
+    requires begun { txn_pages txn.now ≡ count_of pages.old }
+    requires within { cut.first + cut.count ≤ length districts }
+    ensures quiet { IsQuiet pages.old pages.new }
+    ensures long { IfOk result (λ all. length all ≡ length districts) }
+    ensures read { MatchResult result (λ all. HasRead (IsChunk number cut.count) (λ chunk. with_at cut.first chunk districts) txn.now pages.old pages.new all) (λ e. AppendErr (IsChunk number cut.count) txn.now pages.old pages.new e) }
+{
+    part.clear();
+    append_chunk(txn, pages, number, cut.count as usize, part)?;
+    if part.len() != cut.count as usize {
+        return Err(TreeError::DeviceFault);
+    }
+    match districts.with_part(alloc, cut.first as usize, part.as_slice()) {
+        Ok(all) => Ok(all),
+        Err(_) => Err(TreeError::Memory),
+    }
+}
+
+/// Whether the revision before has a chunk of this number for a county.
+fn is_known(last: &[u64], county: usize, number: u64) -> bool
+    ensures { result ≡ true → (county < length last.now) × (get_or last.now county 0 ≡ number) }
+{
+    county < last.len() && last[county] == number
+}
+
+/// These districts with those of a county in the place of theirs. Where the revision before has the same chunk they stand there, and
+/// nothing is read.
+fn lay_changed<D: SectorDevice>(
+    alloc: Global,
+    txn: &Txn,
+    pages: &mut Pages<D>,
+    cut: Cut,
+    number: u64,
+    last: &[u64],
+    county: usize,
+    part: &mut Vec<u16>,
+    districts: Districts,
+) -> Result<Districts, TreeError>
+    requires begun { txn_pages txn.now ≡ count_of pages.old }
+    requires within { cut.first + cut.count ≤ length districts }
+    ensures quiet { IsQuiet pages.old pages.new }
+    ensures long { IfOk result (λ all. length all ≡ length districts) }
+    ensures read { MatchResult result (λ all. HasRead (IsCounty number cut last.now county districts) (λ chunk. with_at cut.first chunk districts) txn.now pages.old pages.new all) (λ e. AppendErr (IsCounty number cut last.now county districts) txn.now pages.old pages.new e) }
+{
+    if is_known(last, county, number) {
+        return Ok(districts);
+    }
+    lay_county(alloc, txn, pages, cut, number, part, districts)
+}
+
+/// The districts of a revision, whose counties have these numbers. Those of the revision before are `before`, and its numbers are
+/// `last`: what it has too is not read, and lists share it. `last` may be empty, and `before` any districts then.
+pub(crate) fn lay_counties<D: SectorDevice>(
+    alloc: Global,
+    txn: &Txn,
+    pages: &mut Pages<D>,
+    geography: &Geography,
+    cuts: &[Cut],
+    names: &[u64],
+    last: &[u64],
+    before: Districts,
+) -> Result<Districts, TreeError>
+    requires begun { txn_pages txn.now ≡ count_of pages.old }
+    requires cut { cuts.now ≡ cuts_of geography.now }
+    requires each { length names.now ≡ length cuts.now }
+    requires whole { length before ≡ length geography.now.blocks }
+    ensures quiet { IsQuiet pages.old pages.new }
+    ensures whole { IfOk result (λ all. length all ≡ length geography.now.blocks) }
+    ensures read { MatchResult result (λ all. HasRead (AreNamed geography.now names.now last.now before) (λ districts. districts) txn.now pages.old pages.new all) (λ e. AppendErr (AreNamed geography.now names.now last.now before) txn.now pages.old pages.new e) }
+{
+    lists_are_cut();
+    let mut part = Vec::new(alloc);
+    let mut districts = before;
+    for county in 0..cuts.len() {
+        districts = lay_changed(
+            alloc,
+            txn,
+            pages,
+            cuts[county],
+            names[county],
+            last,
+            county,
+            &mut part,
+            districts,
+        )?;
+    }
+    Ok(districts)
+}
