@@ -1,5 +1,5 @@
 -- Which rows of a scan are still to come.
-use Rattle.std.specs.Prelude.{◌≡◌, ◌⊎◌, ℕ, Bool, true, false, List, [], ◌∷◌, ◌++◌, ◌+◌, length, drop, Option, Some, None, cond, nat_eq}
+use Rattle.std.specs.Prelude.{◌≡◌, ◌⊎◌, ℕ, Bool, true, false, List, [], ◌∷◌, ◌++◌, ◌+◌, length, drop, Option, Some, None, cond, nat_eq, Result, OnOk, IfOk, IfSome}
 use Rattle.std.specs.List.{starts_with}
 use Rattle.std.specs.FinMap.{entries}
 use Rattle.sector_device.specs.declared.SectorDevice.{Ghosts}
@@ -16,11 +16,12 @@ use Rattle.page_btree.specs.declared.seeks.Leaf.{Leaf}
 use Rattle.page_btree.specs.declared.error.TreeError.{TreeError}
 use Rattle.page_btree.specs.declared.error.TreeError.TheVariants.{DeviceFault, Halted, NoPages, TooDeep, Memory}
 use Rattle.btree_scan.specs.Prefixes.{under, AllFrom, AllUnder}
-use Rattle.btree_scan.specs.Parts.{page_of}
+use Rattle.btree_scan.specs.Parts.{page_of, row_in, row_at}
 use Rattle.btree_scan.specs.declared.held.HeldLeaves.{HeldLeaves}
 use Rattle.btree_scan.specs.declared.parts.ScanPlace.{ScanPlace}
 use Rattle.btree_scan.specs.declared.rows.Row.{Row}
 use Rattle.btree_scan.specs.declared.scans.Scan.{Scan}
+use Rattle.btree_scan.specs.declared.parts.Parts.{Parts}
 
 -- A leaf stands before the rows of which those under the prefix are still to come: some are ahead in its page, others in the leaves
 -- that are held with it, and the others behind these. They rise, and none is below the prefix. Where the leaves are covered, none
@@ -108,3 +109,42 @@ pub record IsTakenRow (e : Entry) (es : List Entry) (row : Row) (page : List ℕ
   pub key_is : row.key ≡ e.0
   pub value_is : row.value ≡ e.1
   pub ahead : IsAhead page at es
+
+-- whether its leaves are covered, the leaf in which it stands, and those that are held
+abbrev pub Standing : Type 0
+Standing = Bool × Leaf × HeldLeaves
+
+-- ---- what calls do, where the scan is one of a map of the transaction and the device is honest
+module _ {D : Type 0} {g : Ghosts D} where
+  -- the first of the rows that are still to come was taken, or there is none
+  abbrev pub TakesNextRow : Txn → Pages D g → Pages D g → Scan → Scan → Row → Bool → Type 0
+  TakesNextRow t old new was scan row found =
+      (disk_in new).is_honest → (m : KeyMap) (rest : List Entry) → InTxn t (stored old) m → Rest was (entries m) rest
+      → IsNextRow found scan row (entries m) rest
+
+  -- a step took the first of them, which is that of the parts, or there is none
+  abbrev pub Steps : {E : Type 0} → List ℕ → Txn → Pages D g → Pages D g → Standing → Standing → Parts → Result Bool E → Type 0
+  Steps prefix t old new was is parts result =
+      (disk_in new).is_honest → (m : KeyMap) (rest : List Entry) → InTxn t (stored old) m
+      → IsReady was.0 prefix was.1 was.2 (entries m) rest
+      → IfOk result (λ found. IsStep found is.0 prefix is.1 is.2 (row_at (page_of is.2) parts) (entries m) rest)
+
+  -- the same rows are still to come, and some of them are ahead in the leaf, where there are any
+  abbrev pub Refills : {T E : Type 0} → List ℕ → Txn → Pages D g → Pages D g → Standing → Standing → Result T E → Type 0
+  Refills prefix t old new was is result =
+      (disk_in new).is_honest → (m : KeyMap) (rest : List Entry) → InTxn t (stored old) m
+      → IsReady was.0 prefix was.1 was.2 (entries m) rest
+      → OnOk result (IsReady is.0 prefix is.1 is.2 (entries m) rest × (is.1.left ≡ 0 → rest ≡ []))
+
+  -- the same, where some of them may be in leaves that were read with it alone
+  abbrev pub ReadsOn : {T E : Type 0} → List ℕ → Txn → Pages D g → Pages D g → Standing → Standing → Result T E → Type 0
+  ReadsOn prefix t old new was is result =
+      (disk_in new).is_honest → (m : KeyMap) (rest : List Entry) → InTxn t (stored old) m
+      → IsReady was.0 prefix was.1 was.2 (entries m) rest
+      → OnOk result (IsReady is.0 prefix is.1 is.2 (entries m) rest × (is.1.left ≡ 0 → is.1.more ≡ 0 → rest ≡ []))
+
+-- at a place in its leaf the first of them was taken, where there is one in the leaf
+abbrev pub TakesRowAt : Scan → ScanPlace → ScanPlace → Option Parts → Type 0
+TakesRowAt scan was place taken =
+    (all rest : List Entry) → FitsIn scan was → Rest (stood_at scan was) all rest
+    → IfSome taken (λ parts. IsNextRow true (stood_at scan place) (row_in scan parts) all rest)

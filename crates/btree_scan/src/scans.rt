@@ -1,14 +1,13 @@
 //! Scans the rows under a prefix.
-ghost use Rattle.std.specs.Prelude.{◌≡◌, ◌<◌, ◌≤◌, ◌+◌, ℕ, List, [], true, false, cond, length, Option, None, Some, OnOk, IfOk, IfErr, IfSome, IfNone};
+ghost use Rattle.std.specs.Prelude.{◌≡◌, ◌<◌, ◌≤◌, ◌+◌, ℕ, List, true, false, cond, length, Option, None, Some, OnOk, IfErr, IfSome, IfNone};
 ghost use Rattle.std.specs.FinMap.{entries};
-ghost use Rattle.page_store.specs.Transactions.{stored, disk_in, count_of, txn_pages, IsQuiet, Passed};
+ghost use Rattle.page_store.specs.Transactions.{count_of, txn_pages, IsQuiet, Passed};
 ghost use Rattle.page_node.specs.Entries.{Entry};
 ghost use Rattle.page_btree.specs.Keys.{KeyMap};
-ghost use Rattle.page_btree.specs.Map.{InTxn};
 ghost use Rattle.page_btree.specs.Errors.{GetErr};
 ghost use Rattle.btree_scan.specs.Prefixes.{under};
-ghost use Rattle.btree_scan.specs.Parts.{page_of, row_at, row_in, row_of};
-ghost use Rattle.btree_scan.specs.Scanning.{Rest, IsReady, IsWithin, IsStep, IsNextRow, has_ended, fault_in, is_open, FitsIn, stood_at, CanScan, CanStep, ScanErr};
+ghost use Rattle.btree_scan.specs.Parts.{row_in, row_of};
+ghost use Rattle.btree_scan.specs.Scanning.{Rest, IsWithin, has_ended, fault_in, is_open, FitsIn, stood_at, CanScan, CanStep, ScanErr, TakesNextRow, TakesRowAt, Steps, Refills, ReadsOn};
 
 use crate::held::HeldLeaves;
 use crate::parts::{Parts, ScanPlace};
@@ -65,7 +64,7 @@ impl Scan {
     pub fn advance<D: SectorDevice>(&mut self, txn: &Txn, pages: &mut Pages<D>) -> bool
         requires begun { txn_pages txn.now ≡ count_of pages.old }
         ensures quiet { IsQuiet pages.old pages.new }
-        ensures rows { (disk_in pages.new).is_honest → (m : KeyMap) (rest : List Entry) → InTxn txn.now (stored pages.old) m → Rest self.old (entries m) rest → IsNextRow result self.new (row_of self.new) (entries m) rest }
+        ensures rows { TakesNextRow txn.now pages.old pages.new self.old self.new (row_of self.new) result }
         ensures passed { fault_in self.new ≡ None → Passed pages.old pages.new }
         ensures fault { fault_in self.old ≡ None → IfSome (fault_in self.new) (λ e. ScanErr (CanScan self.old) txn.now pages.old pages.new e) }
         ensures going { result ≡ true → (has_ended self.new ≡ false) × (fault_in self.new ≡ fault_in self.old) }
@@ -118,7 +117,7 @@ impl Scan {
     pub fn next<D: SectorDevice>(&mut self, txn: &Txn, pages: &mut Pages<D>, row: &mut Row) -> bool
         requires begun { txn_pages txn.now ≡ count_of pages.old }
         ensures quiet { IsQuiet pages.old pages.new }
-        ensures rows { (disk_in pages.new).is_honest → (m : KeyMap) (rest : List Entry) → InTxn txn.now (stored pages.old) m → Rest self.old (entries m) rest → IsNextRow result self.new row.new (entries m) rest }
+        ensures rows { TakesNextRow txn.now pages.old pages.new self.old self.new row.new result }
         ensures passed { fault_in self.new ≡ None → Passed pages.old pages.new }
         ensures fault { fault_in self.old ≡ None → IfSome (fault_in self.new) (λ e. ScanErr (CanScan self.old) txn.now pages.old pages.new e) }
         ensures going { result ≡ true → (has_ended self.new ≡ false) × (fault_in self.new ≡ fault_in self.old) }
@@ -157,7 +156,7 @@ impl Scan {
     /// Takes the row at a place, and moves the place behind it: where its key and value lie. Gives none where no row is left there, or
     /// where the bytes aren't one: the call of `advance` behind `go_on` tells which.
     pub fn take_at(&self, place: &mut ScanPlace) -> Option<Parts>
-        ensures rows { (all rest : List Entry) → FitsIn self.now place.old → Rest (stood_at self.now place.old) all rest → IfSome result (λ parts. IsNextRow true (stood_at self.now place.new) (row_in self.now parts) all rest) }
+        ensures rows { TakesRowAt self.now place.old place.new result }
         ensures fits { FitsIn self.now place.old → FitsIn self.now place.new }
         ensures left { IfSome result (λ parts. place.new.left + 1 ≡ place.old.left) }
         ensures stays { IfNone result (stood_at self.now place.new ≡ stood_at self.now place.old) }
@@ -225,7 +224,7 @@ fn step<D: SectorDevice>(
 ) -> Result<bool, TreeError>
     requires begun { txn_pages txn.now ≡ count_of pages.old }
     ensures quiet { IsQuiet pages.old pages.new }
-    ensures rows { (disk_in pages.new).is_honest → (m : KeyMap) (rest : List Entry) → InTxn txn.now (stored pages.old) m → IsReady covered.old prefix.now leaf.old held.old (entries m) rest → IfOk result (λ found. IsStep found covered.new prefix.now leaf.new held.new (row_at (page_of held.new) parts.new) (entries m) rest) }
+    ensures rows { Steps prefix.now txn.now pages.old pages.new (covered.old, leaf.old, held.old) (covered.new, leaf.new, held.new) parts.new result }
     ensures passed { OnOk result (Passed pages.old pages.new) }
     ensures err { IfErr result (λ e. ScanErr (CanStep covered.old prefix.now leaf.old held.old) txn.now pages.old pages.new e) }
 {
@@ -252,7 +251,7 @@ fn refill<D: SectorDevice>(
 ) -> Result<(), TreeError>
     requires begun { txn_pages txn.now ≡ count_of pages.old }
     ensures quiet { IsQuiet pages.old pages.new }
-    ensures rows { (disk_in pages.new).is_honest → (m : KeyMap) (rest : List Entry) → InTxn txn.now (stored pages.old) m → IsReady covered.old prefix.now leaf.old held.old (entries m) rest → OnOk result (IsReady covered.new prefix.now leaf.new held.new (entries m) rest × (leaf.new.left ≡ 0 → rest ≡ [])) }
+    ensures rows { Refills prefix.now txn.now pages.old pages.new (covered.old, leaf.old, held.old) (covered.new, leaf.new, held.new) result }
     ensures passed { OnOk result (Passed pages.old pages.new) }
     ensures err { IfErr result (λ e. ScanErr (CanStep covered.old prefix.now leaf.old held.old) txn.now pages.old pages.new e) }
 {
@@ -285,7 +284,7 @@ fn read_on<D: SectorDevice>(
     requires left { leaf.old.left ≡ 0 }
     requires more { leaf.old.more ≡ 0 }
     ensures quiet { IsQuiet pages.old pages.new }
-    ensures rows { (disk_in pages.new).is_honest → (m : KeyMap) (rest : List Entry) → InTxn txn.now (stored pages.old) m → IsReady covered.old prefix.now leaf.old held.old (entries m) rest → OnOk result (IsReady covered.new prefix.now leaf.new held.new (entries m) rest × (leaf.new.left ≡ 0 → leaf.new.more ≡ 0 → rest ≡ [])) }
+    ensures rows { ReadsOn prefix.now txn.now pages.old pages.new (covered.old, leaf.old, held.old) (covered.new, leaf.new, held.new) result }
     ensures passed { OnOk result (Passed pages.old pages.new) }
     ensures err { IfErr result (λ e. GetErr txn.now pages.old pages.new e) }
 {

@@ -1,5 +1,5 @@
 //! What a scan's rows are in the end, and how many they can be.
-ghost use Rattle.std.specs.Prelude.{◌≡◌, ◌<◌, ◌≤◌, ℕ, List, [], ◌∷◌, ◌++◌, length, true, false, None, nat_eq};
+ghost use Rattle.std.specs.Prelude.{◌≡◌, ◌<◌, ◌≤◌, ℕ, List, [], length, true, nat_eq};
 ghost use Rattle.std.specs.List.{starts_with};
 ghost use Rattle.std.specs.FinMap.{find, entries};
 ghost use Rattle.sector_device.specs.Disk.{Image};
@@ -8,9 +8,8 @@ ghost use Rattle.page_node.specs.Places.{key_cmp, Rises};
 ghost use Rattle.page_btree.specs.Keys.{KeyMap};
 ghost use Rattle.page_btree.specs.Map.{InTxn};
 ghost use Rattle.btree_scan.specs.Prefixes.{under};
-ghost use Rattle.btree_scan.specs.Scanning.{Rest, IsNextRow, fault_in};
-ghost use Rattle.btree_scan.specs.Taken.{HasTaken};
-ghost use Rattle.btree_scan.specs.declared.rows.Row.{Row};
+ghost use Rattle.btree_scan.specs.Scanning.{Rest};
+ghost use Rattle.btree_scan.specs.Taken.{HasTaken, TakenRowsGrow, TakenRowsAreAll};
 ghost use Rattle.btree_scan.specs.declared.scans.Scan.{Scan};
 
 use page_store::Txn;
@@ -26,8 +25,8 @@ pub fn row_limit(txn: &Txn) -> u64
 /// rows taken are all under the prefix. They are never more than all, and rise. A key under the prefix is found among them as it is among all.
 pub fn laws()
     ensures none { (prefix : List ℕ) (scan : Scan) (all : List Entry) → Rest scan all (under prefix all) → HasTaken prefix [] scan all }
-    ensures more { (prefix : List ℕ) (taken : List Entry) (old new : Scan) (row : Row) (all : List Entry) (h : HasTaken prefix taken old all) → IsNextRow true new row all h.rest → HasTaken prefix (taken ++ (row.key, row.value) ∷ []) new all }
-    ensures all { (prefix : List ℕ) (taken : List Entry) (old new : Scan) (row : Row) (all : List Entry) (h : HasTaken prefix taken old all) → IsNextRow false new row all h.rest → fault_in new ≡ None → under prefix all ≡ taken }
+    ensures more { TakenRowsGrow }
+    ensures all { TakenRowsAreAll }
     ensures few { (prefix : List ℕ) (taken : List Entry) (scan : Scan) (all : List Entry) → HasTaken prefix taken scan all → length taken ≤ length all }
     ensures rises { (prefix : List ℕ) (es : List Entry) → Rises es → Rises (under prefix es) }
     ensures found { (prefix key : List ℕ) (es : List Entry) → starts_with nat_eq key prefix ≡ true → find key_cmp key (under prefix es) ≡ find key_cmp key es }

@@ -17,8 +17,10 @@ use Rattle.state_files.specs.declared.fault.PlanFile.TheVariants as file
 use Rattle.state_files.specs.declared.fault.PlanFault.TheVariants as plan
 use Rattle.state_files.specs.declared.fault.FileFault.{FileFault}
 use Rattle.state_files.specs.declared.fault.FileFault.TheVariants.{Plan}
+use Rattle.state_files.specs.declared.plan_file.Companion.{Companion}
 use Rattle.command_output.specs.Telling.{Tells}
 use Rattle.command_output.specs.Writing.{Written}
+use Rattle.byte_stream.specs.declared.source.Source.{Ghosts}
 use Rattle.check_command.specs.Writing.{Prints}
 use Rattle.check_command.specs.declared.report.Audited.{Audited}
 
@@ -37,6 +39,11 @@ Reports g kind n districts beside (Err fault) = fault ≡ Plan file.Plan plan.Me
 abbrev pub ReportsBeside : Ground → Kind → ℕ → List ℕ → Option (List ℕ) → (before after : Option (Opening × ℕ)) → Result Audited FileFault → Type 0
 ReportsBeside g kind n districts senate before after =
     Then (ReadsCompanion file.Congress g before after) NoFile (λ congress. Reports g kind n districts (record { senate = senate; congress = beside congress }))
+
+-- the same, by the file of the congressional plan
+abbrev pub ReportsBesideFile : {R : Type 0} → Ghosts R → Ground → Kind → ℕ → List ℕ → Option (List ℕ) → (before after : Option (Companion R)) → Result Audited FileFault → Type 0
+ReportsBesideFile r g kind n districts senate before after outcome =
+    ReportsBeside g kind n districts senate (companion_of r.remaining r.turns r.failures before) (companion_of r.remaining r.turns r.failures after) outcome
 
 -- the openings of the files, in the order in which they are judged
 pub record Openings : Type 0 where
@@ -77,6 +84,8 @@ EndsAudit (Ok audited) status before after told_before told_after =
 EndsAudit (Err fault) status before after told_before told_after = (after ≡ before) × Tells fault status told_before told_after
 
 -- the audit of the plan that the files say
-abbrev pub Audits : (files left : Openings) → Kind → ℕ → Status → (before after told_before told_after : Written) → Type 0
-Audits files left kind n status before after told_before told_after =
-    (outcome : Result Audited FileFault) × AuditsState files left kind n outcome × EndsAudit outcome status before after told_before told_after
+abbrev pub Audits : {R : Type 0} → Ghosts R → (files left : AuditFiles R) → Kind → ℕ → Status → (before after told_before told_after : Written) → Type 0
+Audits r files left kind n status before after told_before told_after =
+    (outcome : Result Audited FileFault)
+    × AuditsState (openings_of r.remaining r.turns r.failures files) (openings_of r.remaining r.turns r.failures left) kind n outcome
+    × EndsAudit outcome status before after told_before told_after

@@ -5,10 +5,12 @@ use Rattle.desk_model.specs.declared.block.BlockRow.{BlockRow}
 use Rattle.pl94_segment.specs.declared.join.JoinFault.TheVariants as join
 use Rattle.command_output.specs.declared.status.Status.{Status}
 use Rattle.command_output.specs.declared.status.Status.TheVariants.{Done}
-use Rattle.state_files.specs.Opening.{Census}
+use Rattle.state_files.specs.Opening.{Census, census_of}
 use Rattle.state_files.specs.State.{Then, NoFile, ReadsState}
 use Rattle.state_files.specs.declared.fault.FileFault.{FileFault}
 use Rattle.state_files.specs.declared.fault.FileFault.TheVariants.{Join}
+use Rattle.state_files.specs.declared.census.CensusFiles.{CensusFiles}
+use Rattle.byte_stream.specs.declared.source.Source.{Ghosts}
 use Rattle.check_command.specs.Counts.{counts_text}
 use Rattle.command_output.specs.Telling.{Tells}
 use Rattle.command_output.specs.Writing.{Written}
@@ -28,6 +30,8 @@ Ends (Ok text) status before after told_before told_after = Prints text.items Do
 Ends (Err fault) status before after told_before told_after = (after ≡ before) × Tells fault status told_before told_after
 
 -- the counts of the files
-abbrev pub Counts : (files left : Census) → Status → (before after told_before told_after : Written) → Type 0
-Counts files left status before after told_before told_after =
-    (outcome : Result (Vec ℕ Global) FileFault) × CountsState files left outcome × Ends outcome status before after told_before told_after
+abbrev pub Counts : {R : Type 0} → Ghosts R → (files left : CensusFiles R) → Status → (before after told_before told_after : Written) → Type 0
+Counts r files left status before after told_before told_after =
+    (outcome : Result (Vec ℕ Global) FileFault)
+    × CountsState (census_of r.remaining r.turns r.failures files) (census_of r.remaining r.turns r.failures left) outcome
+    × Ends outcome status before after told_before told_after

@@ -2,9 +2,8 @@
 ghost use Rattle.std.specs.Prelude.{◌≡◌, ◌≤◌, length, IfSome, IsSome, IsTrue};
 ghost use Rattle.std.specs.Option.{option_copied};
 ghost use Rattle.desk_model.specs.Companions.{takes};
-ghost use Rattle.command_output.specs.Writing.{written_of};
-ghost use Rattle.state_files.specs.PlanFiles.{companion_of};
-ghost use Rattle.check_command.specs.Auditing.{openings_of, ReportsBeside, AuditsState, report_status as status_of_report, EndsAudit, Audits};
+ghost use Rattle.command_output.specs.Writing.{OfWriters};
+ghost use Rattle.check_command.specs.Auditing.{openings_of, AuditsState, report_status as status_of_report, EndsAudit, ReportsBesideFile, Audits};
 
 use crate::printing::print;
 use crate::report::{Audited, report_of};
@@ -43,7 +42,7 @@ fn report_beside<T: Threads + Sync, R: Source>(
     requires senate_long { IfSome (option_copied senate) (λ s. length s ≡ length geography.now.blocks) }
     requires senate_taken { IsSome senate → IsTrue (takes Kind.Senate kind) }
     requires congress_taken { IsSome congress.old → IsTrue (takes Kind.Congress kind) }
-    ensures { ReportsBeside geography.now kind districts plan.now (option_copied senate.entry) (companion_of R.remaining R.turns R.failures congress.old) (companion_of R.remaining R.turns R.failures congress.new) result }
+    ensures { ReportsBesideFile R.Source geography.now kind districts plan.now (option_copied senate.entry) congress.old congress.new result }
 {
     let congress = read_companion(alloc, PlanFile::Congress, geography, congress)?;
     let beside = Companions {
@@ -107,7 +106,7 @@ fn end_audit<W: Sink, E: Sink>(
     writer: &mut W,
     errors: &mut E,
 ) -> Status
-    ensures { EndsAudit outcome result (written_of W.contents W.failures writer.old) (written_of W.contents W.failures writer.new) (written_of E.contents E.failures errors.old) (written_of E.contents E.failures errors.new) }
+    ensures { OfWriters (EndsAudit outcome result) W.Sink writer.old writer.new E.Sink errors.old errors.new }
 {
     match outcome {
         Ok(audited) => {
@@ -135,7 +134,7 @@ pub fn audit_plan<T: Threads + Sync, R: Source, W: Sink, E: Sink>(
     requires few { districts ≤ 999 }
     requires senate { IsSome files.old.senate → IsTrue (takes Kind.Senate kind) }
     requires congress { IsSome files.old.congress → IsTrue (takes Kind.Congress kind) }
-    ensures { Audits (openings_of R.remaining R.turns R.failures files.old) (openings_of R.remaining R.turns R.failures files.new) kind districts result (written_of W.contents W.failures writer.old) (written_of W.contents W.failures writer.new) (written_of E.contents E.failures errors.old) (written_of E.contents E.failures errors.new) }
+    ensures { OfWriters (Audits R.Source files.old files.new kind districts result) W.Sink writer.old writer.new E.Sink errors.old errors.new }
 {
     let outcome = audit_of(rt, alloc, workers, files, kind, districts);
     end_audit(alloc, outcome, writer, errors)

@@ -1,8 +1,8 @@
 //! `check`: the counts of a state's census files.
 ghost use Rattle.std.specs.Prelude.{◌≡◌};
 ghost use Rattle.state_files.specs.Opening.{census_of};
-ghost use Rattle.command_output.specs.Writing.{written_of};
-ghost use Rattle.check_command.specs.Checking.{CountsState, Counts, Ends};
+ghost use Rattle.command_output.specs.Writing.{OfWriters};
+ghost use Rattle.check_command.specs.Checking.{CountsState, Ends, Counts};
 
 use crate::counts::print_counts;
 use crate::printing::print;
@@ -33,7 +33,7 @@ fn end<W: Sink, E: Sink>(
     writer: &mut W,
     errors: &mut E,
 ) -> Status
-    ensures { Ends outcome result (written_of W.contents W.failures writer.old) (written_of W.contents W.failures writer.new) (written_of E.contents E.failures errors.old) (written_of E.contents E.failures errors.new) }
+    ensures { OfWriters (Ends outcome result) W.Sink writer.old writer.new E.Sink errors.old errors.new }
 {
     match outcome {
         Ok(text) => print(text.as_slice(), Status::Done, writer, errors),
@@ -49,7 +49,7 @@ pub fn check<R: Source, W: Sink, E: Sink>(
     writer: &mut W,
     errors: &mut E,
 ) -> Status
-    ensures { Counts (census_of R.remaining R.turns R.failures files.old) (census_of R.remaining R.turns R.failures files.new) result (written_of W.contents W.failures writer.old) (written_of W.contents W.failures writer.new) (written_of E.contents E.failures errors.old) (written_of E.contents E.failures errors.new) }
+    ensures { OfWriters (Counts R.Source files.old files.new result) W.Sink writer.old writer.new E.Sink errors.old errors.new }
 {
     let outcome = counts_of(alloc, files);
     end(alloc, outcome, writer, errors)

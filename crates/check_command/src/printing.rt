@@ -1,5 +1,5 @@
 //! What is printed.
-ghost use Rattle.command_output.specs.Writing.{written_of};
+ghost use Rattle.command_output.specs.Writing.{OfWriters};
 ghost use Rattle.check_command.specs.Writing.{Prints};
 
 use byte_stream::sink::Sink;
@@ -8,7 +8,7 @@ use command_output::telling::print as print_or_tell;
 
 /// Prints a text: the status is `good`, or 6 where the writing fails, which is told.
 pub fn print<W: Sink, E: Sink>(text: &[u8], good: Status, writer: &mut W, errors: &mut E) -> Status
-    ensures { Prints text.now good result (written_of W.contents W.failures writer.old) (written_of W.contents W.failures writer.new) (written_of E.contents E.failures errors.old) (written_of E.contents E.failures errors.new) }
+    ensures { OfWriters (Prints text.now good result) W.Sink writer.old writer.new E.Sink errors.old errors.new }
 {
     print_or_tell(b"plandesk: check: WriteFault\n", text, good, writer, errors)
 }

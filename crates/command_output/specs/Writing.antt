@@ -2,6 +2,7 @@
 use Rattle.std.specs.Prelude.{◌≡◌, ℕ, List, ◌++◌, codes, Option, Result, Ok, Err}
 use Rattle.byte_stream.specs.Sends.{Sends, failures_with}
 use Rattle.byte_stream.specs.declared.sink.WriteFault.{WriteFault}
+use Rattle.byte_stream.specs.declared.sink.Sink.{Ghosts}
 use Rattle.command_output.specs.declared.status.Status.{Status}
 use Rattle.command_output.specs.declared.status.Status.TheVariants.{Stream}
 
@@ -12,6 +13,12 @@ pub record Written : Type 0 where
 
 abbrev pub written_of : {W : Type 0} → (W → Option (List ℕ)) → (W → ℕ) → W → Written
 written_of held failures writer = record { held = held writer; failures = failures writer }
+
+-- what is said of a writer and of one for errors, before and after
+abbrev pub OfWriters : {W E : Type 0} → (says : (before after told_before told_after : Written) → Type 0) → Ghosts W → (old new : W) → Ghosts E → (told_old told_new : E) → Type 0
+OfWriters says w old new e told_old told_new =
+    says (written_of w.contents w.failures old) (written_of w.contents w.failures new)
+    (written_of e.contents e.failures told_old) (written_of e.contents e.failures told_new)
 
 -- the whole text was written; or a front of it, and the writer failed once more
 abbrev pub Writes : (before after : Written) → List ℕ → Result (Unit {0}) WriteFault → Type 0

@@ -1,6 +1,6 @@
 //! What a fault means: told behind its line at a terminal, and printed for its code.
 ghost use Rattle.std.specs.Prelude.{◌≡◌};
-ghost use Rattle.command_output.specs.Writing.{written_of};
+ghost use Rattle.command_output.specs.Writing.{written_of, OfWriters};
 ghost use Rattle.command_output.specs.Explaining.{TellsKnown, TellsWords, Explains};
 
 use crate::status::Status;
@@ -47,7 +47,7 @@ pub fn explain<W: Sink, E: Sink>(
     writer: &mut W,
     errors: &mut E,
 ) -> Status
-    ensures { Explains result (written_of W.contents W.failures writer.old) (written_of W.contents W.failures writer.new) (written_of E.contents E.failures errors.old) (written_of E.contents E.failures errors.new) }
+    ensures { OfWriters (Explains result) W.Sink writer.old writer.new E.Sink errors.old errors.new }
 {
     match all_words(alloc, code) {
         Ok(text) => print(

@@ -2,7 +2,7 @@
 ghost use Rattle.std.specs.Prelude.{◌≡◌, IfOk, string_bytes};
 ghost use Rattle.state_files.specs.Texts.{segment_file, plan_file};
 ghost use Rattle.command_output.specs.Telling.{memory_at, fault_line, memory_line, Tells};
-ghost use Rattle.command_output.specs.Writing.{written_of, Told, Prints};
+ghost use Rattle.command_output.specs.Writing.{written_of, Told, Prints, OfWriters};
 
 use crate::fault_status::fault_status;
 use crate::status::Status;
@@ -67,7 +67,7 @@ pub fn print<W: Sink, E: Sink>(
     writer: &mut W,
     errors: &mut E,
 ) -> Status
-    ensures { Prints line.now text.now good result (written_of W.contents W.failures writer.old) (written_of W.contents W.failures writer.new) (written_of E.contents E.failures errors.old) (written_of E.contents E.failures errors.new) }
+    ensures { OfWriters (Prints line.now text.now good result) W.Sink writer.old writer.new E.Sink errors.old errors.new }
 {
     match writer.send(text) {
         Ok(()) => good,

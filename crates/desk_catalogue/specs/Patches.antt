@@ -1,9 +1,9 @@
 -- What a patch by counties makes of the last districts.
 use Rattle.std.specs.Prelude.{◌≡◌, ℕ, List, map, unwrap_or, Option, Some, None, Result, Err, IsOkAnd}
 use Rattle.std.specs.List.{zip}
-use Rattle.desk_model.specs.Baf.{Values, Fault}
+use Rattle.desk_model.specs.Baf.{Values, Fault, body_read}
 use Rattle.desk_model.specs.Geography.{Ground}
-use Rattle.desk_model.specs.Step.{partly_listed}
+use Rattle.desk_model.specs.Step.{partly_listed, patched}
 use Rattle.desk_model.specs.declared.reply.Refusal.{Refusal}
 use Rattle.desk_model.specs.declared.reply.Refusal.TheVariants.{NoPlan, NoRevision, PlanExists, Stale, BadBody, NotWholeCounty, BadCompanion, Limit, Full, Memory, Halted, NotSealed}
 
@@ -26,3 +26,8 @@ IsPatchRefusal g reading Limit = ⊥
 IsPatchRefusal g reading Full = ⊥
 IsPatchRefusal g reading Halted = ⊥
 IsPatchRefusal g reading NotSealed = ⊥
+
+-- the body is read, lists no county in part, and makes these districts of the last ones
+abbrev pub IsPatched : Ground → ℕ → List ℕ → Option (List ℕ) → List ℕ → Type 0
+IsPatched g n body last districts =
+    IsOkAnd (body_read g n body) (λ values. (partly_listed g values ≡ None) × (districts ≡ patched g values last))

@@ -1,5 +1,5 @@
 //! A desk that doesn't change: what is shown.
-ghost use Rattle.std.specs.Prelude.{◌≡◌, ℕ, ◌<◌, List, ◌++◌, ◌∷◌, [], length, IfOk, IfErr, IfSome, IsSome, IsTrue, Some, Ok, Err};
+ghost use Rattle.std.specs.Prelude.{◌≡◌, ℕ, ◌<◌, List, [], length, IfOk, IfErr, IfSome, IsSome, IsTrue, Some, Ok, Err};
 ghost use Rattle.std.specs.Option.{option_map, option_copied};
 ghost use Rattle.std.specs.FinMap as map_of;
 ghost use Rattle.desk_model.specs.Step.{revision_limit};
@@ -8,7 +8,7 @@ ghost use Rattle.desk_model.specs.Subject.{revision_of_kind as revision_of_kind_
 ghost use Rattle.desk_model.specs.Room.{last_revision};
 ghost use Rattle.desk_room.specs.Cutting.{StaysOutside, changes_in};
 ghost use Rattle.desk_catalogue.specs.Audits.{AskMay};
-ghost use Rattle.desk_catalogue.specs.Accepting.{IsAfter, IsRevisable, StepRefuses};
+ghost use Rattle.desk_catalogue.specs.Accepting.{IsAfter, IsRevisable, StepRefuses, with_revision_of};
 ghost use Rattle.desk_catalogue.specs.Drafts.{AreCounties, changes_of};
 ghost use Rattle.desk_catalogue.specs.Kept.{AreWhole, HasWhole, IsWhole, revision_in};
 
@@ -410,7 +410,7 @@ impl Catalogue {
         requires last { IfSome (last_revision entry.now.1) (λ l. length l ≡ length geography.now.blocks) }
         requires whole { length made.districts ≡ length geography.now.blocks }
         requires stays { IfSome (last_revision entry.now.1) (λ l. StaysOutside made.span.first made.span.end l made.districts) }
-        ensures ok { IfOk result (λ draft. draft.catalogue ≡ record self.now { plans = map_of.insert self.now.plans entry.now.0 (record entry.now.1 { revisions = entry.now.1.revisions ++ made.districts ∷ [] }) }) }
+        ensures ok { IfOk result (λ draft. draft.catalogue ≡ with_revision_of self.now entry.now made.districts) }
         ensures changes { IfOk result (λ draft. draft.changes.items ≡ changes_in (last_revision entry.now.1) made.districts cuts.now) }
         ensures err { IfErr result (λ refusal. refusal ≡ Refusal.Memory) }
     {

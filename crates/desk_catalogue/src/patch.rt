@@ -1,11 +1,11 @@
 //! The districts that a patch by counties leaves.
-ghost use Rattle.std.specs.Prelude.{◌≡◌, ◌⊎◌, ◌<◌, ◌≤◌, ℕ, length, get_or, is_some, None, IfOk, IfErr, IfSome, IsOkAnd};
+ghost use Rattle.std.specs.Prelude.{◌≡◌, ◌⊎◌, ◌<◌, ◌≤◌, ℕ, length, get_or, is_some, None, IfOk, IfErr, IfSome};
 ghost use Rattle.std.specs.Option.{option_copied};
 ghost use Rattle.desk_model.specs.Baf.{Values, body_read};
-ghost use Rattle.desk_model.specs.Step.{partly_listed, patched};
+ghost use Rattle.desk_model.specs.Step.{partly_listed};
 ghost use Rattle.baf_text.specs.Listed.{listed_of};
 ghost use Rattle.desk_room.specs.Cutting.{StaysOutside};
-ghost use Rattle.desk_catalogue.specs.Patches.{overlaid, IsPatchRefusal};
+ghost use Rattle.desk_catalogue.specs.Patches.{overlaid, IsPatchRefusal, IsPatched};
 
 use crate::posted::listed_in;
 use baf_text::listed::{Listed, whole};
@@ -98,7 +98,7 @@ pub fn patched_districts(
     last: Option<&Districts>,
 ) -> Result<Patched, Refusal>
     requires { IfSome (option_copied last) (λ d. length d ≡ length geography.now.blocks) }
-    ensures ok { IfOk result (λ made. IsOkAnd (body_read geography.now n body.now) (λ values. (partly_listed geography.now values ≡ None) × (made.districts ≡ patched geography.now values (option_copied last.entry)))) }
+    ensures ok { IfOk result (λ made. IsPatched geography.now n body.now (option_copied last.entry) made.districts) }
     ensures long { IfOk result (λ made. length made.districts ≡ length geography.now.blocks) }
     ensures stays { IfOk result (λ made. IfSome (option_copied last.entry) (λ l. StaysOutside made.span.first made.span.end l made.districts)) }
     ensures err { IfErr result (IsPatchRefusal geography.now (body_read geography.now n body.now)) }

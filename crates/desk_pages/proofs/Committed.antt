@@ -13,7 +13,7 @@ use Rattle.page_store.specs.declared.error.PageError.{PageError}
 use Rattle.page_store.specs.declared.pages.Pages.{Pages}
 use Rattle.page_store.specs.declared.txn.Txn.{Txn}
 use Rattle.page_store.specs.declared.txn.Prepared.{Prepared}
-use Rattle.page_btree.proofs.Laws.{prepared_holds}
+use Rattle.page_btree.proofs.MapLaws.{prepared_holds}
 use Rattle.page_btree.specs.Map.{Holds, InTxn, InPages}
 use Rattle.store_rows.specs.Rows.{KeyMap}
 use Rattle.desk_pages.specs.Commits.{HoldsAfter, OpensRows}

@@ -8,7 +8,7 @@ use Rattle.gate_journal.specs.Store.{home, IsBeforeOrAfter, overlay}
 use Rattle.page_store.specs.Chain.{root_in, free_in, IsPages}
 use Rattle.page_store.specs.Transactions.{txn_pages, txn_root, over, free_over}
 use Rattle.page_store.specs.declared.txn.Txn.{Txn}
-use Rattle.page_btree.proofs.Laws.{begun_holds, prepared_holds, one_map}
+use Rattle.page_btree.proofs.MapLaws.{begun_holds, prepared_holds, one_map}
 use Rattle.desk_model.specs.Desk.{Desk}
 use Rattle.store_rows.specs.Rows.{KeyMap}
 use Rattle.store_rows.specs.DeskRows.{IsDesk}

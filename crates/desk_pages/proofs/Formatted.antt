@@ -5,7 +5,7 @@ use Rattle.sector_device.specs.Disk.{Disk}
 use Rattle.gate_journal.specs.Store.{pages}
 use Rattle.gate_journal.proofs.Commit.{settled_opens}
 use Rattle.page_store.specs.Openings.{IsNew}
-use Rattle.page_btree.proofs.Laws.{new_holds}
+use Rattle.page_btree.proofs.MapLaws.{new_holds}
 use Rattle.desk_model.specs.Desk.{Plan, name_cmp}
 use Rattle.store_rows.specs.Keys.{key_of, seal, named}
 use Rattle.store_rows.specs.Order.{key_cmp}

@@ -1,3 +1,5 @@
 pub mod Desks
 pub mod Formats
 pub mod Commits
+pub mod Moments
+pub mod Laws

@@ -1,16 +1,14 @@
 //! Makes a transaction's rows lasting.
-ghost use Rattle.std.specs.Prelude.{◌≡◌, ◌≤◌, ◌+◌, ◌⊎◌, ℕ, length, true, false, Err, OnOk, IfOk, IfErr, IsErr};
+ghost use Rattle.std.specs.Prelude.{◌≡◌, ◌≤◌, ◌+◌, length, true, false, Err, OnOk, IfOk, IfErr, IsErr};
 ghost use Rattle.sector_device.specs.Disk.{Image};
-ghost use Rattle.sector_device.specs.Moments.{LeavesOnly};
-ghost use Rattle.gate_journal.specs.Store.{home};
 ghost use Rattle.page_store.specs.Chain.{free_in};
-ghost use Rattle.page_store.specs.Transactions.{stored, disk_in, count_of, journal_of, has_halted, txn_pages, txn_writes, txn_free, prepared_pages, prepared_writes, after, HasShape, IsSame, IsKept, CommitErr};
+ghost use Rattle.page_store.specs.Transactions.{stored, disk_in, count_of, has_halted, txn_pages, txn_writes, txn_free, prepared_pages, prepared_writes, after, HasShape, IsSame, IsKept, CommitErr};
 ghost use Rattle.page_store.specs.declared.error.PageError.TheVariants.{Memory};
 ghost use Rattle.page_btree.specs.Map.{InTxn, InPages};
 ghost use Rattle.store_rows.specs.Rows.{KeyMap};
-ghost use Rattle.desk_model.specs.Desk.{Desk};
 ghost use Rattle.desk_pages.specs.Commits.{HoldsAfter, OpensRows, TxnErr};
 ghost use Rattle.desk_pages.specs.Desks.{InTxn as DeskInTxn, InPages as DeskInPages, OpensDesk};
+ghost use Rattle.desk_pages.specs.Moments.{StopsLeaveEither};
 
 use page_store::{PageError, Pages, Prepared, Txn};
 use sector_device::SectorDevice;
@@ -32,7 +30,7 @@ pub fn commit<D: SectorDevice>(prepared: Prepared, pages: &mut Pages<D>) -> Resu
     requires { prepared_pages prepared ≡ count_of pages.old }
     ensures shape { HasShape pages.old pages.new }
     ensures honest { (disk_in pages.new).is_honest → (disk_in pages.old).is_honest }
-    ensures any_moment { (disk_in pages.new).is_honest → has_halted pages.old ≡ false → (sectors : ℕ) (m next : KeyMap) → home (journal_of pages.old) + count_of pages.old ≡ sectors → InPages pages.old m → HoldsAfter prepared (stored pages.old) next → LeavesOnly (λ c. OpensRows sectors m c ⊎ OpensRows sectors next c) (disk_in pages.old) (disk_in pages.new) }
+    ensures any_moment { StopsLeaveEither (InPages pages.old) (HoldsAfter prepared (stored pages.old)) OpensRows pages.old pages.new }
     ensures held { (disk_in pages.new).is_honest → OnOk result ((next : KeyMap) → HoldsAfter prepared (stored pages.old) next → InPages pages.new next) }
     ensures after { (disk_in pages.new).is_honest → OnOk result (stored pages.new ≡ after prepared (stored pages.old)) }
     ensures kept { (disk_in pages.new).is_honest → OnOk result (IsKept pages.new) }
@@ -50,7 +48,7 @@ pub fn commit_txn<D: SectorDevice>(txn: Txn, pages: &mut Pages<D>) -> Result<(),
     requires { txn_pages txn ≡ count_of pages.old }
     ensures shape { HasShape pages.old pages.new }
     ensures honest { (disk_in pages.new).is_honest → (disk_in pages.old).is_honest }
-    ensures any_moment { (disk_in pages.new).is_honest → has_halted pages.old ≡ false → (sectors : ℕ) (d next : Desk) → home (journal_of pages.old) + count_of pages.old ≡ sectors → DeskInPages pages.old d → DeskInTxn txn (stored pages.old) next → LeavesOnly (λ c. OpensDesk sectors d c ⊎ OpensDesk sectors next c) (disk_in pages.old) (disk_in pages.new) }
+    ensures any_moment { StopsLeaveEither (DeskInPages pages.old) (DeskInTxn txn (stored pages.old)) OpensDesk pages.old pages.new }
     ensures held { (disk_in pages.new).is_honest → OnOk result ((m : KeyMap) → InTxn txn (stored pages.old) m → InPages pages.new m) }
     ensures kept { (disk_in pages.new).is_honest → OnOk result (IsKept pages.new) }
     ensures passed { (disk_in pages.new).is_honest → OnOk result ((disk_in pages.new).faults ≡ (disk_in pages.old).faults) }

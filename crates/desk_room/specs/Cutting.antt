@@ -1,7 +1,9 @@
 -- The counties of lists beside the blocks, by their places.
-use Rattle.std.specs.Prelude.{◌≡◌, ◌⊎◌, ◌<◌, ◌≤◌, ◌+◌, ℕ, Bool, true, if◌then◌else◌, List, map, get_or, take, drop, All, Option, Some, None}
-use Rattle.desk_model.specs.Room.{rows_for, differs}
+use Rattle.std.specs.Prelude.{◌≡◌, ◌⊎◌, ◌<◌, ◌≤◌, ◌+◌, ℕ, Bool, true, if◌then◌else◌, List, map, get_or, take, drop, All, Option, Some, None, length, IfSome}
+use Rattle.desk_model.specs.Room.{rows_for, differs, revision_rows}
 use Rattle.desk_model.specs.declared.cuts.Cut.{Cut}
+use Rattle.desk_model.specs.Cuts.{cuts_of}
+use Rattle.desk_model.specs.Geography.{Ground}
 
 -- a county's part of a list beside the blocks
 abbrev pub part : Cut → List ℕ → List ℕ
@@ -27,3 +29,9 @@ StaysOutside first end last new = (k : ℕ) → (k < first) ⊎ (end ≤ k) → 
 -- the rows of a county's districts, which are written where it changes
 abbrev pub cut_rows : Bool → Cut → ℕ
 cut_rows changes c = if changes then rows_for 512 c.count else 0
+
+-- so many rows does a revision write, by the geography's counties and which of them change behind the last one
+abbrev pub AreRevisionRows : List Cut → List Bool → ℕ → Type 0
+AreRevisionRows cuts changes rows =
+    (g : Ground) (last : Option (List ℕ)) (new : List ℕ) → cuts ≡ cuts_of g → changes ≡ changes_in last new cuts
+    → length new ≡ length g.blocks → IfSome last (λ l. length l ≡ length g.blocks) → rows ≡ revision_rows g last new

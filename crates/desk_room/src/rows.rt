@@ -1,9 +1,7 @@
 //! The rows that a revision writes.
-ghost use Rattle.std.specs.Prelude.{◌≡◌, ◌≤◌, ◌<◌, ◌+◌, ◌^◌, ℕ, List, Option, length, IfSome};
-ghost use Rattle.desk_model.specs.Geography.{Ground};
-ghost use Rattle.desk_model.specs.Cuts.{cuts_of};
-ghost use Rattle.desk_model.specs.Room.{rows_for, revision_rows as rows_of_revision};
-ghost use Rattle.desk_room.specs.Cutting.{changes_in, cut_rows};
+ghost use Rattle.std.specs.Prelude.{◌≡◌, ◌≤◌, ◌<◌, ◌+◌, ◌^◌, length};
+ghost use Rattle.desk_model.specs.Room.{rows_for};
+ghost use Rattle.desk_room.specs.Cutting.{cut_rows, AreRevisionRows};
 
 use desk_model::cuts::Cut;
 
@@ -32,7 +30,7 @@ fn rows_of_cut(cut: Cut, changes: bool) -> usize
 pub fn revision_rows(cuts: &[Cut], changes: &[bool]) -> usize
     requires few { length cuts.now < 2 ^ 32 }
     requires each { length changes.now ≡ length cuts.now }
-    ensures { (g : Ground) (last : Option (List ℕ)) (new : List ℕ) → cuts.now ≡ cuts_of g → changes.now ≡ changes_in last new cuts.now → length new ≡ length g.blocks → IfSome last (λ l. length l ≡ length g.blocks) → result ≡ rows_of_revision g last new }
+    ensures { AreRevisionRows cuts.now changes.now result }
 {
     let mut rows = 2 + rows_for(128, cuts.len());
     for place in 0..cuts.len() {

@@ -8,7 +8,7 @@ use Rattle.page_store.specs.Transactions.{stored, disk_in, count_of, txn_pages, 
 use Rattle.page_store.specs.declared.pages.Pages.{Pages}
 use Rattle.page_store.specs.declared.txn.Txn.{Txn}
 use Rattle.page_store.specs.declared.txn.Prepared.{Prepared}
-use Rattle.page_btree.proofs.Laws.{begun_holds}
+use Rattle.page_btree.proofs.MapLaws.{begun_holds}
 use Rattle.page_btree.specs.Map.{Holds, InTxn as TxnHas, InPages as HoldsRows}
 use Rattle.page_btree.specs.declared.error.TreeError.{TreeError}
 use Rattle.page_btree.specs.declared.error.TreeError.TheVariants.{DeviceFault, Halted, NoPages, TooDeep, Memory}

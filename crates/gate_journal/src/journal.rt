@@ -23,13 +23,13 @@ pub struct Journal<D: SectorDevice> {
 }
 
 impl<D: SectorDevice> Journal<D> {
-    ghost use Rattle.std.specs.Prelude.{◌≡◌, ◌≤◌, ◌<◌, ◌⊎◌, true, false, length, OnOk, IfOk, IfErr, IsOk};
+    ghost use Rattle.std.specs.Prelude.{◌≡◌, ◌≤◌, ◌<◌, ◌⊎◌, true, false, length, OnOk, IfOk, IfErr};
     ghost use Rattle.sector_device.specs.Disk.{Disk, Image, Touches, Nowhere};
     ghost use Rattle.sector_device.specs.Moments.{LeavesOnly};
-    ghost use Rattle.gate_journal.specs.Store.{IsWithin, IsBeforeOrAfter, overlay};
+    ghost use Rattle.gate_journal.specs.Store.{IsWithin, overlay};
     ghost use Rattle.gate_journal.specs.Recovery.{HasRoom, AllStores, ReadsAs, Found};
     ghost use Rattle.gate_journal.specs.Writes.{writes_of};
-    ghost use Rattle.gate_journal.specs.Contents.{content, disk_of, device_of, device_after, page_count, journal_size, is_halted, IsKept, HasShapeOf, ReadErr, CommitErr};
+    ghost use Rattle.gate_journal.specs.Contents.{content, disk_of, device_of, device_after, page_count, journal_size, is_halted, IsKept, HasShapeOf, ReadErr, CommitErr, LeavesAllOrNone, IsCommittedWithoutFault};
 
     /// Opens the store that a device holds. What a commit left behind an open gate is brought home first. With a refusal
     /// the device comes back.
@@ -118,11 +118,11 @@ impl<D: SectorDevice> Journal<D> {
         requires { IsWithin (writes_of writes.now) (page_count self.old) }
         ensures shape { HasShapeOf self.old self.new }
         ensures honest { (disk_of self.new).is_honest → (disk_of self.old).is_honest }
-        ensures any_moment { (disk_of self.new).is_honest → is_halted self.old ≡ false → LeavesOnly (IsBeforeOrAfter (journal_size self.old) (page_count self.old) (writes_of writes.now) (content self.old)) (disk_of self.old) (disk_of self.new) }
+        ensures any_moment { LeavesAllOrNone (writes_of writes.now) self.old self.new }
         ensures after { (disk_of self.new).is_honest → OnOk result (content self.new ≡ overlay (writes_of writes.now) (content self.old)) }
         ensures kept { (disk_of self.new).is_honest → OnOk result (IsKept self.new) }
         ensures ok { OnOk result ((is_halted self.old ≡ false) × (length (writes_of writes.now) ≤ journal_size self.old) × (is_halted self.new ≡ false)) }
-        ensures succeeds { is_halted self.old ≡ false → length (writes_of writes.now) ≤ journal_size self.old → (disk_of self.new).is_honest → (disk_of self.new).faults ≡ (disk_of self.old).faults → IsOk result }
+        ensures succeeds { IsCommittedWithoutFault (writes_of writes.now) self.old self.new result }
         ensures passed { (disk_of self.new).is_honest → OnOk result ((disk_of self.new).faults ≡ (disk_of self.old).faults) }
         ensures err { IfErr result (λ e. CommitErr (length (writes_of writes.now)) self.old self.new e) }
     {

@@ -1,8 +1,7 @@
 //! How a store is found again.
-ghost use Rattle.std.specs.Prelude.{◌≡◌, ◌+◌, ◌≤◌, ◌<◌, ◌⊎◌, ℕ, OnErr, IfOk, IfErr, IfSome, MatchOption};
-ghost use Rattle.sector_device.specs.Disk.{Disk, Touches, HasCause, Nowhere, IsSynced};
-ghost use Rattle.gate_journal.specs.Store.{IsStoreOf};
-ghost use Rattle.gate_journal.specs.Recovery.{HasRoom, HasLayout, Recovers, Starts};
+ghost use Rattle.std.specs.Prelude.{◌≡◌, ◌+◌, ◌≤◌, ◌<◌, ◌⊎◌, ℕ, OnErr, IfOk, IfErr, IfSome};
+ghost use Rattle.sector_device.specs.Disk.{Disk, Touches, HasCause, Nowhere};
+ghost use Rattle.gate_journal.specs.Recovery.{HasRoom, Starts, FindsLayout, ClosesGate};
 
 use crate::OPEN;
 use crate::error::JournalError;
@@ -24,7 +23,7 @@ fn find_layout<D: SectorDevice>(device: &mut D) -> Result<Option<Layout>, Device
     ensures sectors { (D.disk device.new).sectors ≡ (D.disk device.old).sectors }
     ensures model { (D.disk device.new).is_honest → Touches Nowhere (D.disk device.old) (D.disk device.new) × HasCause (D.disk device.old) (D.disk device.new) result }
     ensures room { IfOk result (λ found. IfSome found (λ layout. HasRoom (D.disk device.old).sectors layout.journal_pages layout.pages)) }
-    ensures layout { (D.disk device.new).is_honest → IfOk result (λ found. MatchOption found (IsStoreOf (D.disk device.old).sectors (D.disk device.old).reads → ⊥) (λ layout. HasLayout (D.disk device.old).reads layout)) }
+    ensures layout { FindsLayout (D.disk device.old) (D.disk device.new) result }
 {
     let count = device.count();
     if count < 1 {
@@ -59,7 +58,7 @@ fn close_gate<D: SectorDevice>(device: &mut D, layout: Layout) -> Result<(), Jou
     ensures sectors { (D.disk device.new).sectors ≡ (D.disk device.old).sectors }
     ensures honest { (D.disk device.new).is_honest → (D.disk device.old).is_honest }
     ensures errs { IfErr result (λ e. (e ≡ JournalError.NotAStore) ⊎ (e ≡ JournalError.DeviceFault)) }
-    ensures model { (D.disk device.new).is_honest → IsSynced (D.disk device.old) → HasLayout (D.disk device.old).reads layout → Recovers layout.journal_pages layout.pages (D.disk device.old) (D.disk device.new) result }
+    ensures model { ClosesGate layout (D.disk device.old) (D.disk device.new) result }
 {
     let mut sector = [0; 4096];
     device.read(1, &mut sector)?;

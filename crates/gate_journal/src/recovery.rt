@@ -1,8 +1,8 @@
 //! What an open gate left behind is brought home.
 ghost use Rattle.std.specs.Prelude.{◌≡◌, ◌+◌, ◌*◌, ◌≤◌, ◌<◌, ◌/◌, ◌⊎◌, ℕ, length, IfOk, IfErr, IsTrue};
-ghost use Rattle.sector_device.specs.Disk.{Disk, Touches, Step, HasCause, Nowhere, Only, IsSynced};
-ghost use Rattle.gate_journal.specs.Store.{word, list_word, home, gate, IsValid, IsStore};
-ghost use Rattle.gate_journal.specs.Recovery.{CopiesBack, Copied, NamesPages, SectorNames, Reopens};
+ghost use Rattle.sector_device.specs.Disk.{Disk, Touches, Step, HasCause, Nowhere, Only};
+ghost use Rattle.gate_journal.specs.Store.{word, list_word, home};
+ghost use Rattle.gate_journal.specs.Recovery.{Copied, SectorNames, TellsWhetherNamed, CopiesListed, BringsHome};
 
 use crate::error::JournalError;
 use crate::layout::{Layout, copies_begin, homes_begin};
@@ -49,7 +49,7 @@ pub fn list_fits<D: SectorDevice>(
     requires room { home layout.journal_pages ≤ (D.disk device.old).sectors }
     ensures sectors { (D.disk device.new).sectors ≡ (D.disk device.old).sectors }
     ensures model { (D.disk device.new).is_honest → Touches Nowhere (D.disk device.old) (D.disk device.new) × HasCause (D.disk device.old) (D.disk device.new) result }
-    ensures fits { (D.disk device.new).is_honest → IfOk result (λ good. (IsTrue good → NamesPages count layout.pages (D.disk device.old).reads) × (NamesPages count layout.pages (D.disk device.old).reads → IsTrue good)) }
+    ensures fits { TellsWhetherNamed count layout.pages (D.disk device.old) (D.disk device.new) result }
 {
     let mut sector = [0; 4096];
     for s in 0..count / 1024 + 1 {
@@ -84,7 +84,7 @@ fn copy_back<D: SectorDevice>(
     ensures sectors { (D.disk device.new).sectors ≡ (D.disk device.old).sectors }
     ensures honest { (D.disk device.new).is_honest → (D.disk device.old).is_honest }
     ensures errs { IfErr result (λ e. (e ≡ JournalError.NotAStore) ⊎ (e ≡ JournalError.DeviceFault)) }
-    ensures model { (D.disk device.new).is_honest → count ≡ list_word (D.disk device.old).reads 0 → IsValid layout.journal_pages layout.pages (D.disk device.old).reads → CopiesBack layout.journal_pages (D.disk device.old) (D.disk device.new) result }
+    ensures model { CopiesListed count layout (D.disk device.old) (D.disk device.new) result }
 {
     let first_copy = copies_begin!(layout.journal_pages);
     let home = first_copy + layout.journal_pages;
@@ -109,7 +109,7 @@ pub fn bring_back<D: SectorDevice>(
     ensures sectors { (D.disk device.new).sectors ≡ (D.disk device.old).sectors }
     ensures honest { (D.disk device.new).is_honest → (D.disk device.old).is_honest }
     ensures errs { IfErr result (λ e. (e ≡ JournalError.NotAStore) ⊎ (e ≡ JournalError.DeviceFault)) }
-    ensures model { (D.disk device.new).is_honest → IsSynced (D.disk device.old) → gate (D.disk device.old).reads ≡ 165 → count ≡ list_word (D.disk device.old).reads 0 → IsStore layout.journal_pages layout.pages (D.disk device.old).reads → Reopens layout.journal_pages layout.pages (D.disk device.old) (D.disk device.new) result }
+    ensures model { BringsHome count layout (D.disk device.old) (D.disk device.new) result }
 {
     copy_back(device, layout, count)?;
     device.sync()?;

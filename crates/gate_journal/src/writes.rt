@@ -45,7 +45,7 @@ impl PageWrites {
     ghost use Rattle.sector_device.specs.Disk.{Image};
     ghost use Rattle.gate_journal.specs.Store.{Writes, IsWithin, IsOnce, overlay, put};
     ghost use Rattle.std.specs.Fn.{FnOnceReturnsAtMut};
-    ghost use Rattle.gate_journal.specs.Writes.{writes_of, room_of, IsLast, IsEdited};
+    ghost use Rattle.gate_journal.specs.Writes.{writes_of, room_of, IsLast, EditsWrite};
 
     pub fn new(alloc: Global) -> PageWrites
         ensures { writes_of result ≡ [] }
@@ -115,7 +115,7 @@ impl PageWrites {
     /// Changes the bytes of a page that is written where they lie, and tells what that told; none where the page isn't written.
     pub fn edit<R, F: FnOnce(&mut [u8; 4096]) -> R>(&mut self, page: u32, change: F) -> Option<R>
         requires { F.IsAlwaysCallable change }
-        ensures edited { MatchOption result ((Writes (writes_of self.old) page → ⊥) × (self.new ≡ self.old)) (λ told. Writes (writes_of self.old) page × IsEdited (FnOnceReturnsAtMut F.FnOnce change) told (writes_of self.old) (writes_of self.new) page) }
+        ensures edited { EditsWrite (FnOnceReturnsAtMut F.FnOnce change) page self.old self.new result }
         ensures within { (n : ℕ) → IsWithin (writes_of self.old) n → IsWithin (writes_of self.new) n }
         ensures same { length (writes_of self.new) ≡ length (writes_of self.old) }
         ensures noted { (q : ℕ) → Writes (writes_of self.old) q → Writes (writes_of self.new) q }

@@ -9,7 +9,7 @@ use Rattle.page_store.specs.Chain.{free_in, root_in}
 use Rattle.page_store.specs.Transactions.{stored, disk_in, count_of, journal_of, txn_pages, txn_root, txn_first, txn_free, over, free_over}
 use Rattle.page_store.specs.declared.pages.Pages.{Pages}
 use Rattle.page_store.specs.declared.txn.Txn.{Txn}
-use Rattle.page_btree.proofs.Laws.{begun_holds}
+use Rattle.page_btree.proofs.MapLaws.{begun_holds}
 use Rattle.page_btree.specs.Map.{Holds, InTxn, InPages}
 use Rattle.store_rows.specs.Rows.{KeyMap}
 use Rattle.geo_tables.specs.Starting.{IsStarted}

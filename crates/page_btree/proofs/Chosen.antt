@@ -11,7 +11,7 @@ use Rattle.page_btree.specs.Keys.{IsBetween, Parts}
 use Rattle.page_btree.specs.Tree.{Tree, Forest, one, more, page_of, first_key, links, rows, forest_rows, owns, forest_owns, IsTree, AreTrees, IsApart, AreApart}
 use Rattle.page_btree.specs.Putting.{IsPut, linked, behind_child}
 use Rattle.page_btree.proofs.Rows.{put_left, put_right, find_left, find_right, key_before}
-use Rattle.page_btree.proofs.Laws.{tree_same, trees_same}
+use Rattle.page_btree.proofs.MapLaws.{tree_same, trees_same}
 use Rattle.page_btree.proofs.Within.{rows_behind, rows_before}
 use Rattle.page_btree.proofs.Joined.{join, join_links, join_rows, join_size, owns_join, join_apart, join_trees}
 

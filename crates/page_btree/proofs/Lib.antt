@@ -1,5 +1,5 @@
 pub mod EmptyLeaf
-pub mod Laws
+pub mod MapLaws
 pub mod Removing
 pub mod Sparing
 pub mod Images

@@ -8,7 +8,7 @@ use Rattle.page_node.specs.Node.{Node, IsNode}
 use Rattle.page_btree.specs.Tree.{Forest, inner, one, more, first_key, links, forest_rows, owns, forest_owns, forest_size, AreTrees, AreApart}
 use Rattle.page_btree.specs.Map.{IsSound}
 use Rattle.page_btree.specs.Putting.{IsPut, IsTaken, IsWhole, IsCut, IsWritten, IsRaised}
-use Rattle.page_btree.proofs.Laws.{trees_same}
+use Rattle.page_btree.proofs.MapLaws.{trees_same}
 use Rattle.page_btree.proofs.Joined.{join, join_rows, join_size, join_owns, part_apart, part_trees, part_at, IsJoined}
 
 module _ (P Q R : Image) (n d : ℕ) (low : List ℕ) (high : Option (List ℕ)) (free left last : List ℕ) (key value : List ℕ) (had : Bool) (k : List ℕ) (p : ℕ) (f h : Forest) (positive : 0 < d) (sound : IsSound n free (inner p f)) (free_are : AreFree n free) (done : IsPut P Q (d - 1) low high free left key value had f h) where

@@ -17,7 +17,7 @@ use Rattle.page_btree.specs.Removing.{IsRemoved, AreRemoved, unlinked}
 use Rattle.page_btree.proofs.Removing.{links_left}
 use Rattle.page_btree.proofs.Rows.{Each, all_map, wider_under, put_left, put_right, find_left, find_right, key_before}
 use Rattle.page_btree.proofs.Within.{AreBetween, wider_high, wider_low, rows_behind, rows_before}
-use Rattle.page_btree.proofs.Laws.{tree_same, trees_same}
+use Rattle.page_btree.proofs.MapLaws.{tree_same, trees_same}
 use Rattle.page_btree.proofs.Edits.{put_remove, none_removed, all_unput, rises_unput}
 
 -- ---- wider bounds

@@ -13,7 +13,7 @@ use Rattle.page_btree.specs.Keys.{KeyMap, IsBetween}
 use Rattle.page_btree.specs.Tree.{Tree, Forest, leaf, inner, one, more, page_of, rows, forest_rows, links, owns, forest_owns, IsTree, AreTrees}
 use Rattle.page_btree.specs.Map.{Holds, IsBare, IsRooted}
 use Rattle.page_btree.specs.Putting.{IsPut, IsRaised, IsGrown, CanPut}
-use Rattle.page_btree.proofs.Laws.{trees_same}
+use Rattle.page_btree.proofs.MapLaws.{trees_same}
 
 pub nil_from : (key : List ℕ) → is_gt (key_cmp [] key) ≡ false
 nil_from [] = refl

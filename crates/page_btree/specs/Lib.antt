@@ -9,3 +9,4 @@ pub mod Removing
 pub mod Seeking
 pub mod Fitting
 pub mod Sparing
+pub mod Outcomes

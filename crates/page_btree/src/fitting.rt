@@ -1,19 +1,18 @@
 //! Puts a row, where its leaf has room by an edit of the leaf alone.
-ghost use Rattle.std.specs.Prelude.{◌≡◌, ◌≤◌, ◌<◌, ◌+◌, ◌-◌, ◌^◌, ℕ, List, length, Option, Some, None, OnOk, OnErr, IfOk, IfErr, IfSome, IfNone, MatchResult};
+ghost use Rattle.std.specs.Prelude.{◌≡◌, ◌≤◌, ◌<◌, ◌+◌, ◌-◌, ◌^◌, List, length, Option, None, OnOk, OnErr, IfOk, IfErr, IfSome, IfNone};
 ghost use Rattle.std.specs.Option.{option_map};
-ghost use Rattle.std.specs.FinMap.{get, insert, contains_key};
 ghost use Rattle.sector_device.specs.Disk.{Image};
 ghost use Rattle.page_store.specs.Transactions.{stored, disk_in, count_of, txn_pages, txn_root, txn_free, txn_writes, over, free_over, IsQuiet, Passed};
 ghost use Rattle.page_node.specs.Entries.{Entry, child_in};
 ghost use Rattle.page_node.specs.Node.{Node, IsNode};
 ghost use Rattle.page_node.specs.Places.{Rises, floor};
 ghost use Rattle.page_node.specs.Searching.{RisesBehind};
-ghost use Rattle.page_btree.specs.Keys.{KeyMap, IsKey};
+ghost use Rattle.page_btree.specs.Keys.{IsKey};
 ghost use Rattle.page_btree.specs.Tree.{Tree};
-ghost use Rattle.page_btree.specs.Map.{InTxn};
 ghost use Rattle.page_btree.specs.Errors.{PutErr, PlaceErr, StepErr, IsNoWant};
 ghost use Rattle.page_btree.specs.Putting.{CanPut, IsRaised};
 ghost use Rattle.page_btree.specs.Fitting.{IsAlike, IsLeafPut, LeafErr};
+ghost use Rattle.page_btree.specs.Outcomes.{PutsRow, PutsFittingRow, TakesNoPage};
 ghost use Rattle.page_btree.specs.declared.error.TreeError.TheVariants.{NoPages, TooDeep};
 
 use crate::error::TreeError;
@@ -39,11 +38,11 @@ pub fn put<D: SectorDevice>(
     requires value { length value.now ≤ 1024 }
     ensures quiet { IsQuiet pages.old pages.new }
     ensures pages { txn_pages txn.new ≡ txn_pages txn.old }
-    ensures put { (disk_in pages.new).is_honest → (m : KeyMap) → InTxn txn.old (stored pages.old) m → IfOk result (λ had. InTxn txn.new (stored pages.old) (insert m key.now value.now) × (had ≡ contains_key m key.now)) }
+    ensures put { PutsRow txn.old txn.new pages.old pages.new (key.now, value.now) result }
     ensures writes { OnOk result (txn_writes txn.new ≤ txn_writes txn.old + 11) }
     ensures taken { OnOk result (txn_free txn.old ≤ txn_free txn.new + 6) }
     ensures none_back { OnOk result (txn_free txn.new ≤ txn_free txn.old) }
-    ensures fixed { (disk_in pages.new).is_honest → (m : KeyMap) (held : List ℕ) → InTxn txn.old (stored pages.old) m → get m key.now ≡ Some held → length held ≡ length value.now → MatchResult result (λ _. txn_free txn.new ≡ txn_free txn.old) (λ e. IsNoWant e) }
+    ensures fixed { TakesNoPage txn.old txn.new pages.old pages.new (key.now, value.now) result }
     ensures passed { OnOk result (Passed pages.old pages.new) }
     ensures spent { IfErr result (λ e. e ≡ NoPages → txn_free txn.new ≡ 0) }
     ensures deep { IfErr result (λ e. e ≡ TooDeep → txn_free txn.old ≡ txn_free txn.new + 6) }
@@ -67,7 +66,7 @@ fn put_fitting<D: SectorDevice>(
     requires value { length value.now ≤ 1024 }
     ensures quiet { IsQuiet pages.old pages.new }
     ensures pages { txn_pages txn.new ≡ txn_pages txn.old }
-    ensures put { (disk_in pages.new).is_honest → (m : KeyMap) → InTxn txn.old (stored pages.old) m → IfOk result (λ did. IfSome did (λ had. InTxn txn.new (stored pages.old) (insert m key.now value.now) × (had ≡ contains_key m key.now))) }
+    ensures put { PutsFittingRow txn.old txn.new pages.old pages.new (key.now, value.now) result }
     ensures kept { IfOk result (λ did. did ≡ None → IsAlike txn.old txn.new) }
     ensures writes { OnOk result (txn_writes txn.new ≤ txn_writes txn.old + 1) }
     ensures free { txn_free txn.new ≡ txn_free txn.old }

@@ -10,10 +10,10 @@ ghost use Rattle.page_node.specs.Node.{Node, IsNode};
 ghost use Rattle.page_node.specs.Places.{key_cmp, Rises, floor};
 ghost use Rattle.page_node.specs.Searching.{RisesBehind};
 ghost use Rattle.page_btree.specs.Keys.{KeyMap};
-ghost use Rattle.page_btree.specs.Tree.{rows};
 ghost use Rattle.page_btree.specs.Map.{InTxn};
 ghost use Rattle.page_btree.specs.Errors.{GetErr};
-ghost use Rattle.page_btree.specs.Getting.{CanGet, CanGetAt, IsCopied, IsLevel, ReadsErr};
+ghost use Rattle.page_btree.specs.Getting.{CanGetAt, IsCopied, IsLevel, ReadsErr};
+ghost use Rattle.page_btree.specs.Outcomes.{ReadsValueAt};
 
 use crate::error::TreeError;
 use page_node::{NotANode, level_of, value_for, way_for};
@@ -59,7 +59,7 @@ fn get_below<D: SectorDevice>(
     into: &mut [u8; 1024],
 ) -> Result<Option<usize>, TreeError>
     requires begun { txn_pages txn.now ≡ count_of pages.old }
-    ensures value { (disk_in pages.new).is_honest → (can : CanGet (txn_pages txn.now) (over txn.now (stored pages.old)) level key.now (over txn.now (stored pages.old) p)) → IfOk result (λ found. IsCopied found into.new (find key_cmp key.now (rows can.tree))) }
+    ensures value { ReadsValueAt txn.now pages.old pages.new level p key.now into.new result }
     ensures quiet { IsQuiet pages.old pages.new }
     ensures short { IfOk result (λ found. IfSome found (λ length_is. length_is ≤ 1024)) }
     ensures passed { OnOk result (Passed pages.old pages.new) }

@@ -1,16 +1,10 @@
 //! Puts a row through nodes that are read, and cut where they overflow.
-ghost use Rattle.std.specs.Prelude.{◌≡◌, ◌≤◌, ◌<◌, ◌+◌, ℕ, List, [], ◌∷◌, length, Option, Some, None, is_some, OnOk, IfOk, IfErr, IfSome, MatchResult};
-ghost use Rattle.std.specs.FinMap.{find, get, insert, contains_key, put as put_entry};
-ghost use Rattle.page_store.specs.Chain.{IsIn, AreFree};
-ghost use Rattle.page_store.specs.Transactions.{stored, disk_in, count_of, txn_pages, txn_root, txn_free, txn_writes, over, free_over, IsQuiet, Passed};
-ghost use Rattle.page_node.specs.Entries.{Entry, key_at, child_bytes};
-ghost use Rattle.page_node.specs.Node.{Node, IsNode};
-ghost use Rattle.page_node.specs.Places.{key_cmp, Rises};
-ghost use Rattle.page_btree.specs.Keys.{KeyMap, IsKey};
-ghost use Rattle.page_btree.specs.Tree.{Tree, rows};
-ghost use Rattle.page_btree.specs.Map.{InTxn};
-ghost use Rattle.page_btree.specs.Errors.{PutErr, PlaceErr, WriteErr, RowErr, LinkErr, GrowErr, IsNoWant};
-ghost use Rattle.page_btree.specs.Putting.{CanPut, CanPutSome, IsRaised, IsGrown, IsWritten, linked, AreFew};
+ghost use Rattle.std.specs.Prelude.{◌≡◌, ◌≤◌, ◌<◌, ◌+◌, length, OnOk, IfOk, IfErr, IfSome};
+ghost use Rattle.page_store.specs.Transactions.{count_of, txn_pages, txn_root, txn_free, txn_writes, over, free_over, IsQuiet, Passed};
+ghost use Rattle.page_btree.specs.Keys.{IsKey};
+ghost use Rattle.page_btree.specs.Errors.{PutErr, PlaceErr, WriteErr, RowErr, LinkErr, GrowErr};
+ghost use Rattle.page_btree.specs.Putting.{CanPutSome, linked, AreFew};
+ghost use Rattle.page_btree.specs.Outcomes.{PutsRow, PutsFirstRow, PutsRowAt, PutsRowInLeaf, PutsLink, MakesRoot, TakesNoPage, TakesNoPageAt, IsNotCut};
 ghost use Rattle.page_btree.specs.declared.error.TreeError.TheVariants.{NoPages, TooDeep};
 
 use crate::error::TreeError;
@@ -38,11 +32,11 @@ pub(crate) fn put_cutting<D: SectorDevice>(
     requires value { length value.now ≤ 1024 }
     ensures quiet { IsQuiet pages.old pages.new }
     ensures pages { txn_pages txn.new ≡ txn_pages txn.old }
-    ensures put { (disk_in pages.new).is_honest → (m : KeyMap) → InTxn txn.old (stored pages.old) m → IfOk result (λ had. InTxn txn.new (stored pages.old) (insert m key.now value.now) × (had ≡ contains_key m key.now)) }
+    ensures put { PutsRow txn.old txn.new pages.old pages.new (key.now, value.now) result }
     ensures writes { OnOk result (txn_writes txn.new ≤ txn_writes txn.old + 11) }
     ensures taken { OnOk result (txn_free txn.old ≤ txn_free txn.new + 6) }
     ensures none_back { OnOk result (txn_free txn.new ≤ txn_free txn.old) }
-    ensures fixed { (disk_in pages.new).is_honest → (m : KeyMap) (held : List ℕ) → InTxn txn.old (stored pages.old) m → get m key.now ≡ Some held → length held ≡ length value.now → MatchResult result (λ _. txn_free txn.new ≡ txn_free txn.old) (λ e. IsNoWant e) }
+    ensures fixed { TakesNoPage txn.old txn.new pages.old pages.new (key.now, value.now) result }
     ensures passed { OnOk result (Passed pages.old pages.new) }
     ensures spent { IfErr result (λ e. e ≡ NoPages → txn_free txn.new ≡ 0) }
     ensures deep { IfErr result (λ e. e ≡ TooDeep → txn_free txn.old ≡ txn_free txn.new + 6) }
@@ -86,7 +80,7 @@ fn put_first<D: SectorDevice>(
     requires value { length value.now ≤ 1024 }
     ensures quiet { IsQuiet pages.old pages.new }
     ensures pages { txn_pages txn.new ≡ txn_pages txn.old }
-    ensures put { (disk_in pages.new).is_honest → (m : KeyMap) → txn_root txn.old ≡ 0 → InTxn txn.old (stored pages.old) m → OnOk result (InTxn txn.new (stored pages.old) (insert m key.now value.now)) }
+    ensures put { PutsFirstRow txn.old txn.new pages.old pages.new (key.now, value.now) result }
     ensures writes { OnOk result (txn_writes txn.new ≤ txn_writes txn.old + 1) }
     ensures taken { OnOk result (txn_free txn.old ≡ txn_free txn.new + 1) }
     ensures passed { OnOk result (Passed pages.old pages.new) }
@@ -115,7 +109,7 @@ fn grow<D: SectorDevice>(
     requires upper { 0 < length room.old.upper.entries }
     ensures quiet { IsQuiet pages.old pages.new }
     ensures pages { txn_pages txn.new ≡ txn_pages txn.old }
-    ensures grown { (disk_in pages.new).is_honest → AreFree (txn_pages txn.old) (free_over txn.old (stored pages.old)) → OnOk result (IsGrown (over txn.old (stored pages.old)) (over txn.new (stored pages.old)) (free_over txn.old (stored pages.old)) (free_over txn.new (stored pages.old)) root right level (key_at room.old.upper.entries 0) (txn_root txn.new)) }
+    ensures grown { MakesRoot txn.old txn.new pages.old pages.new root right level room.old.upper result }
     ensures writes { OnOk result (txn_writes txn.new ≤ txn_writes txn.old + 1) }
     ensures taken { OnOk result (txn_free txn.old ≡ txn_free txn.new + 1) }
     ensures few { OnOk result (level ≤ 4) }
@@ -155,8 +149,8 @@ fn put_at<D: SectorDevice>(
     ensures pages { txn_pages txn.new ≡ txn_pages txn.old }
     ensures root { txn_root txn.new ≡ txn_root txn.old }
     ensures passed { OnOk result (Passed pages.old pages.new) }
-    ensures put { (disk_in pages.new).is_honest → (low : List ℕ) (high : Option (List ℕ)) (t : Tree) → CanPut (txn_pages txn.old) (over txn.old (stored pages.old)) level low high (free_over txn.old (stored pages.old)) page room.old.page key.now t → IfOk result (λ placed. (k : List ℕ) → IsRaised (over txn.old (stored pages.old)) (over txn.new (stored pages.old)) level low high (free_over txn.old (stored pages.old)) (free_over txn.new (stored pages.old)) key.now value.now placed.had k page t placed.right room.new.upper) }
-    ensures fixed { (disk_in pages.new).is_honest → (low : List ℕ) (high : Option (List ℕ)) (t : Tree) (held : List ℕ) → CanPut (txn_pages txn.old) (over txn.old (stored pages.old)) level low high (free_over txn.old (stored pages.old)) page room.old.page key.now t → find key_cmp key.now (rows t) ≡ Some held → length held ≡ length value.now → MatchResult result (λ placed. (placed.right ≡ None) × (txn_free txn.new ≡ txn_free txn.old)) (λ e. IsNoWant e) }
+    ensures put { PutsRowAt txn.old txn.new pages.old pages.new level page room.old.page (key.now, value.now) room.new.upper result }
+    ensures fixed { TakesNoPageAt txn.old txn.new pages.old pages.new level page room.old.page (key.now, value.now) result }
     ensures few { IfOk result (λ placed. AreFew level txn.old txn.new placed.right) }
     ensures some { IfOk result (λ placed. IfSome placed.right (λ right. (right < txn_pages txn.old) × (0 < length room.new.upper.entries))) }
     ensures spent { IfErr result (λ e. e ≡ NoPages → txn_free txn.new ≡ 0) }
@@ -196,8 +190,8 @@ fn put_row<D: SectorDevice>(
     ensures pages { txn_pages txn.new ≡ txn_pages txn.old }
     ensures root { txn_root txn.new ≡ txn_root txn.old }
     ensures passed { OnOk result (Passed pages.old pages.new) }
-    ensures put { (disk_in pages.new).is_honest → (es : List Entry) → IsNode room.old.page (record { level = 0; entries = es }) → Rises es → AreFree (txn_pages txn.old) (free_over txn.old (stored pages.old)) → (IsIn page (free_over txn.old (stored pages.old)) → ⊥) → IfOk result (λ placed. (placed.had ≡ is_some (find key_cmp key.now es)) × IsWritten (over txn.old (stored pages.old)) (over txn.new (stored pages.old)) (free_over txn.old (stored pages.old)) (free_over txn.new (stored pages.old)) page placed.right (record { level = 0; entries = put_entry key_cmp key.now value.now es }) room.new.upper) }
-    ensures fixed { (es : List Entry) (held : List ℕ) → IsNode room.old.page (record { level = 0; entries = es }) → Rises es → find key_cmp key.now es ≡ Some held → length held ≡ length value.now → MatchResult result (λ placed. placed.right ≡ None) (λ e. IsNoWant e) }
+    ensures put { PutsRowInLeaf txn.old txn.new pages.old pages.new page room.old.page (key.now, value.now) room.new.upper result }
+    ensures fixed { IsNotCut room.old.page (key.now, value.now) result }
     ensures few { IfOk result (λ placed. AreFew 0 txn.old txn.new placed.right) }
     ensures some { IfOk result (λ placed. IfSome placed.right (λ right. (right < txn_pages txn.old) × (0 < length room.new.upper.entries))) }
     ensures spent { IfErr result (λ e. e ≡ NoPages → txn_free txn.new ≡ 0) }
@@ -238,7 +232,7 @@ fn link<D: SectorDevice>(
     ensures pages { txn_pages txn.new ≡ txn_pages txn.old }
     ensures root { txn_root txn.new ≡ txn_root txn.old }
     ensures passed { OnOk result (Passed pages.old pages.new) }
-    ensures linked { (disk_in pages.new).is_honest → (node : Node) → IsNode (over txn.old (stored pages.old) page) node → 0 < length node.entries → AreFree (txn_pages txn.old) (free_over txn.old (stored pages.old)) → (IsIn page (free_over txn.old (stored pages.old)) → ⊥) → IfOk result (λ cut. IsWritten (over txn.old (stored pages.old)) (over txn.new (stored pages.old)) (free_over txn.old (stored pages.old)) (free_over txn.new (stored pages.old)) page cut (record node { entries = linked key.now ((key_at room.old.upper.entries 0, child_bytes right) ∷ []) node.entries }) room.new.upper) }
+    ensures linked { PutsLink txn.old txn.new pages.old pages.new page key.now right room.old.upper room.new.upper result }
     ensures few { IfOk result (λ cut. AreFew 0 txn.old txn.new cut) }
     ensures some { IfOk result (λ cut. IfSome cut (λ q. (q < txn_pages txn.old) × (0 < length room.new.upper.entries))) }
     ensures spent { IfErr result (λ e. e ≡ NoPages → txn_free txn.new ≡ 0) }

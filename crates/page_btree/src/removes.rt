@@ -1,16 +1,16 @@
 //! Takes a key out, and gives back the pages that are left without entries.
 ghost use Rattle.std.specs.Prelude.{◌≡◌, ◌≢◌, ◌≤◌, ◌<◌, ◌+◌, ℕ, List, [], length, remove as without, Option, Some, None, OnOk, IfOk, IfErr};
-ghost use Rattle.std.specs.FinMap.{find, contains_key, remove as remove_key};
+ghost use Rattle.std.specs.FinMap.{find};
 ghost use Rattle.sector_device.specs.Disk.{Image};
 ghost use Rattle.page_store.specs.Chain.{IsIn, AreFree};
-ghost use Rattle.page_store.specs.Transactions.{stored, disk_in, count_of, txn_pages, txn_root, txn_free, txn_writes, over, free_over, IsQuiet, Passed};
+ghost use Rattle.page_store.specs.Transactions.{count_of, txn_pages, txn_root, txn_free, txn_writes, over, free_over, IsQuiet, Passed};
 ghost use Rattle.page_node.specs.Entries.{Entry};
 ghost use Rattle.page_node.specs.Node.{Node, IsNode, Fits};
 ghost use Rattle.page_node.specs.Places.{key_cmp, Rises, IsFound, IsGap};
-ghost use Rattle.page_btree.specs.Keys.{KeyMap, IsKey};
-ghost use Rattle.page_btree.specs.Map.{InTxn};
+ghost use Rattle.page_btree.specs.Keys.{IsKey};
 ghost use Rattle.page_btree.specs.Errors.{RemoveErr};
-ghost use Rattle.page_btree.specs.Removing.{CanRemove, Removes, StaysAt, IsDone, IsPutBack, unlinked, RowRemoves, BackErr, TakenErr, LinkErr, BelowErr};
+ghost use Rattle.page_btree.specs.Removing.{CanRemove, StaysAt, IsDone, IsPutBack, unlinked, RowRemoves, BackErr, TakenErr, LinkErr, BelowErr};
+ghost use Rattle.page_btree.specs.Outcomes.{RemovesKey, RemovesKeyAt};
 
 use crate::error::TreeError;
 use crate::gets::read_level;
@@ -37,7 +37,7 @@ pub(crate) fn remove_through<D: SectorDevice>(
     requires key { IsKey key.now }
     ensures quiet { IsQuiet pages.old pages.new }
     ensures pages { txn_pages txn.new ≡ txn_pages txn.old }
-    ensures remove { (disk_in pages.new).is_honest → (m : KeyMap) → InTxn txn.old (stored pages.old) m → IfOk result (λ had. InTxn txn.new (stored pages.old) (remove_key m key.now) × (had ≡ contains_key m key.now)) }
+    ensures remove { RemovesKey txn.old txn.new pages.old pages.new key.now result }
     ensures writes { OnOk result (txn_writes txn.new ≤ txn_writes txn.old + 6) }
     ensures given { OnOk result (txn_free txn.old ≤ txn_free txn.new) }
     ensures most { OnOk result (txn_free txn.new ≤ txn_free txn.old + 6) }
@@ -78,7 +78,7 @@ fn remove_below<D: SectorDevice>(
     ensures quiet { IsQuiet pages.old pages.new }
     ensures pages { txn_pages txn.new ≡ txn_pages txn.old }
     ensures root { txn_root txn.new ≡ txn_root txn.old }
-    ensures removed { (disk_in pages.new).is_honest → page.old ≡ over txn.old (stored pages.old) p → (can : CanRemove (txn_pages txn.old) (over txn.old (stored pages.old)) (free_over txn.old (stored pages.old)) level key.now p) → IfOk result (λ did. Removes (over txn.new (stored pages.old)) (free_over txn.new (stored pages.old)) can did) }
+    ensures removed { RemovesKeyAt txn.old txn.new pages.old pages.new level p page.old key.now result }
     ensures stays { IfOk result (λ did. StaysAt txn.old txn.new did) }
     ensures writes { OnOk result (txn_writes txn.new ≤ txn_writes txn.old + level + 1) }
     ensures given { OnOk result (txn_free txn.old ≤ txn_free txn.new) }

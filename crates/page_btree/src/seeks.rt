@@ -4,17 +4,18 @@ ghost use Rattle.std.proofs.Common.{get_or, []};
 ghost use Rattle.std.specs.Option.{option_map};
 ghost use Rattle.std.specs.FinMap.{entries};
 ghost use Rattle.sector_device.specs.Disk.{Image};
-ghost use Rattle.page_store.specs.Transactions.{stored, disk_in, count_of, txn_pages, txn_root, over, free_over, IsQuiet, Passed};
+ghost use Rattle.page_store.specs.Transactions.{stored, disk_in, count_of, txn_pages, txn_root, over, IsQuiet, Passed};
 ghost use Rattle.page_node.specs.Entries.{Entry, child_in};
 ghost use Rattle.page_node.specs.Node.{Node, IsNode};
 ghost use Rattle.page_node.specs.Places.{Rises, floor, ceiling, entries_from};
 ghost use Rattle.page_node.specs.Searching.{RisesBehind};
 ghost use Rattle.page_node.specs.Walking.{IsAhead};
 ghost use Rattle.page_btree.specs.Keys.{KeyMap};
-ghost use Rattle.page_btree.specs.Map.{InTxn, IsRooted};
+ghost use Rattle.page_btree.specs.Map.{InTxn};
 ghost use Rattle.page_btree.specs.Errors.{GetErr};
-ghost use Rattle.page_btree.specs.Getting.{CanGet, CanGetAt, IsLevel, ReadsErr};
-ghost use Rattle.page_btree.specs.Seeking.{bound_in, nearer, AreWays, HasWays, IsRead, IsFrom};
+ghost use Rattle.page_btree.specs.Getting.{CanGetAt, IsLevel, ReadsErr};
+ghost use Rattle.page_btree.specs.Seeking.{bound_in, nearer, AreWays, HasWays, IsFrom};
+ghost use Rattle.page_btree.specs.Outcomes.{ReadsLeaf, ReadsLeafAt};
 ghost use Rattle.page_btree.specs.declared.error.TreeError.TheVariants.{DeviceFault};
 
 use crate::error::TreeError;
@@ -107,7 +108,7 @@ fn leaf_behind<D: SectorDevice>(
     requires begun { txn_pages txn.now ≡ count_of pages.old }
     ensures quiet { IsQuiet pages.old pages.new }
     ensures few { OnOk result (leaf.new.more ≤ 3) }
-    ensures read { (disk_in pages.new).is_honest → (m : KeyMap) (r : IsRooted (txn_pages txn.now) (over txn.now (stored pages.old)) (txn_root txn.now) (free_over txn.now (stored pages.old)) m) → OnOk result (IsRead r.tree None None leaf.old.bound leaf.new held.new) }
+    ensures read { ReadsLeaf txn.now pages.old pages.new leaf.old.bound leaf.new held.new result }
     ensures passed { OnOk result (Passed pages.old pages.new) }
     ensures err { IfErr result (λ e. GetErr txn.now pages.old pages.new e) }
 {
@@ -130,7 +131,7 @@ fn leaf_for<D: SectorDevice>(
     ensures quiet { IsQuiet pages.old pages.new }
     ensures few { OnOk result (leaf.new.more ≤ 3) }
     ensures bare { txn_root txn.now ≡ 0 → OnOk result ((leaf.new.at ≡ 0) × (leaf.new.left ≡ 0) × (leaf.new.more ≡ 0) × (bound_in leaf.new ≡ None)) }
-    ensures read { (disk_in pages.new).is_honest → (m : KeyMap) (r : IsRooted (txn_pages txn.now) (over txn.now (stored pages.old)) (txn_root txn.now) (free_over txn.now (stored pages.old)) m) → OnOk result (IsRead r.tree None None key.now leaf.new held.new) }
+    ensures read { ReadsLeaf txn.now pages.old pages.new key.now leaf.new held.new result }
     ensures passed { OnOk result (Passed pages.old pages.new) }
     ensures err { IfErr result (λ e. GetErr txn.now pages.old pages.new e) }
 {
@@ -165,7 +166,7 @@ fn leaf_below<D: SectorDevice>(
     requires begun { txn_pages txn.now ≡ count_of pages.old }
     ensures quiet { IsQuiet pages.old pages.new }
     ensures few { OnOk result (leaf.new.more ≤ 3) }
-    ensures read { (disk_in pages.new).is_honest → (can : CanGet (txn_pages txn.now) (over txn.now (stored pages.old)) level key.now (over txn.now (stored pages.old) p)) → OnOk result (IsRead can.tree can.high (bound_in leaf.old) key.now leaf.new held.new) }
+    ensures read { ReadsLeafAt txn.now pages.old pages.new level p key.now leaf.old leaf.new held.new result }
     ensures passed { OnOk result (Passed pages.old pages.new) }
     ensures err { IfErr result (λ e. ReadsErr (λ P. CanGetAt (txn_pages txn.now) (over txn.now P) level key.now p) pages.old pages.new e) }
 {
@@ -198,7 +199,7 @@ fn leaves_below<D: SectorDevice>(
     requires begun { txn_pages txn.now ≡ count_of pages.old }
     ensures quiet { IsQuiet pages.old pages.new }
     ensures few { OnOk result (leaf.new.more ≤ 3) }
-    ensures read { (disk_in pages.new).is_honest → (can : CanGet (txn_pages txn.now) (over txn.now (stored pages.old)) 1 key.now (over txn.now (stored pages.old) p)) → OnOk result (IsRead can.tree can.high (bound_in leaf.old) key.now leaf.new held.new) }
+    ensures read { ReadsLeafAt txn.now pages.old pages.new 1 p key.now leaf.old leaf.new held.new result }
     ensures passed { OnOk result (Passed pages.old pages.new) }
     ensures err { IfErr result (λ e. ReadsErr (λ P. CanGetAt (txn_pages txn.now) (over txn.now P) 1 key.now p) pages.old pages.new e) }
 {

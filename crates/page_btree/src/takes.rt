@@ -1,16 +1,15 @@
 //! Takes a key out, where its leaf keeps other rows by an edit of the leaf alone.
 ghost use Rattle.std.specs.Prelude.{◌≡◌, ◌≤◌, ◌<◌, ◌+◌, ℕ, List, Option, Some, None, true, OnOk, OnErr, IfOk, IfErr, IfSome, IfNone};
-ghost use Rattle.std.specs.FinMap.{contains_key, remove as remove_key};
 ghost use Rattle.sector_device.specs.Disk.{Image};
 ghost use Rattle.page_store.specs.Transactions.{stored, disk_in, count_of, txn_pages, txn_root, txn_free, txn_writes, over, free_over, IsQuiet, Passed};
 ghost use Rattle.page_node.specs.Entries.{Entry};
 ghost use Rattle.page_node.specs.Node.{Node, IsNode};
 ghost use Rattle.page_node.specs.Places.{Rises};
-ghost use Rattle.page_btree.specs.Keys.{KeyMap, IsKey};
-ghost use Rattle.page_btree.specs.Map.{InTxn};
+ghost use Rattle.page_btree.specs.Keys.{IsKey};
 ghost use Rattle.page_btree.specs.Errors.{RemoveErr};
 ghost use Rattle.page_btree.specs.Fitting.{IsAlike, LeafErr};
 ghost use Rattle.page_btree.specs.Sparing.{IsLeafTaken};
+ghost use Rattle.page_btree.specs.Outcomes.{RemovesKey, RemovesSpareKey};
 
 use crate::error::TreeError;
 use crate::gets::read_level;
@@ -32,7 +31,7 @@ pub fn remove<D: SectorDevice>(
     requires key { IsKey key.now }
     ensures quiet { IsQuiet pages.old pages.new }
     ensures pages { txn_pages txn.new ≡ txn_pages txn.old }
-    ensures remove { (disk_in pages.new).is_honest → (m : KeyMap) → InTxn txn.old (stored pages.old) m → IfOk result (λ had. InTxn txn.new (stored pages.old) (remove_key m key.now) × (had ≡ contains_key m key.now)) }
+    ensures remove { RemovesKey txn.old txn.new pages.old pages.new key.now result }
     ensures writes { OnOk result (txn_writes txn.new ≤ txn_writes txn.old + 6) }
     ensures given { OnOk result (txn_free txn.old ≤ txn_free txn.new) }
     ensures most { OnOk result (txn_free txn.new ≤ txn_free txn.old + 6) }
@@ -54,7 +53,7 @@ fn take_spare<D: SectorDevice>(
     requires begun { txn_pages txn.old ≡ count_of pages.old }
     ensures quiet { IsQuiet pages.old pages.new }
     ensures pages { txn_pages txn.new ≡ txn_pages txn.old }
-    ensures remove { (disk_in pages.new).is_honest → (m : KeyMap) → InTxn txn.old (stored pages.old) m → IfOk result (λ did. IfSome did (λ had. InTxn txn.new (stored pages.old) (remove_key m key.now) × (had ≡ contains_key m key.now))) }
+    ensures remove { RemovesSpareKey txn.old txn.new pages.old pages.new key.now result }
     ensures kept { IfOk result (λ did. did ≡ None → IsAlike txn.old txn.new) }
     ensures writes { OnOk result (txn_writes txn.new ≤ txn_writes txn.old + 1) }
     ensures free { txn_free txn.new ≡ txn_free txn.old }

@@ -2,13 +2,14 @@
 ghost use Rattle.std.specs.Prelude.{◌≡◌, ◌≤◌, ◌<◌, ◌+◌, ◌^◌, ℕ, [], ◌∷◌, length, insert, option_map, Option, Some, None, OnOk, IfOk, IfErr, IfSome, MatchResult};
 ghost use Rattle.sector_device.specs.Disk.{Image};
 ghost use Rattle.gate_journal.specs.Store.{put as put_page};
-ghost use Rattle.page_store.specs.Chain.{IsIn, AreFree};
+ghost use Rattle.page_store.specs.Chain.{IsIn};
 ghost use Rattle.page_store.specs.Transactions.{stored, disk_in, count_of, txn_pages, txn_root, txn_free, txn_writes, over, free_over, IsQuiet, Passed};
 ghost use Rattle.page_node.specs.Entries.{Entry, size_of, child_in};
 ghost use Rattle.page_node.specs.Places.{floor};
 ghost use Rattle.page_node.specs.Node.{Node, IsNode, Fits, bytes_of};
-ghost use Rattle.page_btree.specs.Putting.{IsWritten, linked, IsCut, AreFew, CanPutSome};
+ghost use Rattle.page_btree.specs.Putting.{linked, AreFew, CanPutSome};
 ghost use Rattle.page_btree.specs.Errors.{WriteErr, StepErr};
+ghost use Rattle.page_btree.specs.Outcomes.{WritesNode, CutsNode};
 ghost use Rattle.page_btree.specs.declared.error.TreeError.TheVariants.{Memory, NoPages};
 
 use crate::error::TreeError;
@@ -76,7 +77,7 @@ pub(crate) fn settle<D: SectorDevice>(
     ensures root { txn_root txn.new ≡ txn_root txn.old }
     ensures passed { OnOk result (Passed pages.old pages.new) }
     ensures below { IfOk result (λ right. IfSome right (λ q. (q < txn_pages txn.old) × (0 < length room.new.upper.entries))) }
-    ensures written { (disk_in pages.new).is_honest → AreFree (txn_pages txn.old) (free_over txn.old (stored pages.old)) → (IsIn page (free_over txn.old (stored pages.old)) → ⊥) → IfOk result (λ right. IsWritten (over txn.old (stored pages.old)) (over txn.new (stored pages.old)) (free_over txn.old (stored pages.old)) (free_over txn.new (stored pages.old)) page right room.old.node room.new.upper) }
+    ensures written { WritesNode txn.old txn.new pages.old pages.new page room.old.node room.new.upper result }
     ensures few { IfOk result (λ right. AreFew 0 txn.old txn.new right) }
     ensures fits { Fits room.old.node → MatchResult result (λ right. right ≡ None) (λ e. e ≡ Memory) }
     ensures spent { IfErr result (λ e. e ≡ NoPages → txn_free txn.new ≡ 0) }
@@ -106,7 +107,7 @@ fn cut<D: SectorDevice>(
     ensures root { txn_root txn.new ≡ txn_root txn.old }
     ensures passed { OnOk result (Passed pages.old pages.new) }
     ensures below { IfOk result (λ right. right < txn_pages txn.old) }
-    ensures written { (disk_in pages.new).is_honest → AreFree (txn_pages txn.old) (free_over txn.old (stored pages.old)) → (IsIn page (free_over txn.old (stored pages.old)) → ⊥) → IfOk result (λ right. IsCut (over txn.old (stored pages.old)) (over txn.new (stored pages.old)) (free_over txn.old (stored pages.old)) (free_over txn.new (stored pages.old)) page right room.old.node room.new.upper) }
+    ensures written { CutsNode txn.old txn.new pages.old pages.new page room.old.node room.new.upper result }
     ensures writes { OnOk result (txn_writes txn.new ≤ txn_writes txn.old + 2) }
     ensures taken { OnOk result (txn_free txn.old ≡ txn_free txn.new + 1) }
     ensures some { OnOk result (0 < length room.new.upper.entries) }

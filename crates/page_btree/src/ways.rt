@@ -1,9 +1,10 @@
 //! Finds the leaf that a key belongs to.
-ghost use Rattle.std.specs.Prelude.{◌≡◌, ◌<◌, ◌≤◌, ◌^◌, ℕ, OnOk, IfOk, IfErr};
+ghost use Rattle.std.specs.Prelude.{◌≡◌, ◌<◌, ◌≤◌, ◌^◌, OnOk, IfOk, IfErr};
 ghost use Rattle.sector_device.specs.Disk.{Image};
 ghost use Rattle.page_store.specs.Transactions.{stored, disk_in, count_of, txn_pages, over, IsQuiet, Passed};
 ghost use Rattle.page_btree.specs.Getting.{CanGetAt, ReadsErr};
 ghost use Rattle.page_btree.specs.Leading.{LeadsTo, CanLead};
+ghost use Rattle.page_btree.specs.Outcomes.{FindsLeaf};
 
 use crate::error::TreeError;
 use crate::gets::{child_of_key, lend_level, place_of};
@@ -24,7 +25,7 @@ pub(crate) fn find_leaf<D: SectorDevice>(
     ensures passed { OnOk result (Passed pages.old pages.new) }
     ensures below { IfOk result (λ leaf. leaf < txn_pages txn.now) }
     ensures few { txn_pages txn.now ≤ 2 ^ 32 }
-    ensures leads { (disk_in pages.new).is_honest → (d : ℕ) → CanGetAt (txn_pages txn.now) (over txn.now (stored pages.old)) d key.now root → IfOk result (λ leaf. LeadsTo (over txn.now (stored pages.old)) d root key.now leaf) }
+    ensures leads { FindsLeaf txn.now pages.old pages.new root key.now result }
     ensures err { IfErr result (λ e. ReadsErr (λ S. CanLead (txn_pages txn.now) (over txn.now S) key.now root) pages.old pages.new e) }
 {
     let count = txn.page_count();

@@ -1,9 +1,10 @@
 -- Where a row stands in a page, and what the edits of a page do.
-use Rattle.std.specs.Prelude.{◌≡◌, ◌<◌, ◌+◌, ℕ, Bool, true, false, List, length, take, remove, Option, Some, None, is_some}
+use Rattle.std.specs.Prelude.{◌≡◌, ◌<◌, ◌+◌, ◌≤◌, ℕ, Bool, true, false, List, length, take, remove, Option, Some, None, is_some, insert, slice_set, Result, IfOk}
 use Rattle.std.specs.FinMap.{find, put}
 use Rattle.page_node.specs.Entries.{Entry, size_of}
 use Rattle.page_node.specs.Node.{Node, IsNode, Fits}
 use Rattle.page_node.specs.Places.{key_cmp, IsFound, IsGap}
+use Rattle.page_node.specs.declared.scan.NotANode.{NotANode}
 
 -- the key's entry begins and ends at these places and has so many before it, or it isn't there and would begin there
 abbrev pub IsSpot : List ℕ → List Entry → Bool → ℕ → ℕ → ℕ → Type 0
@@ -31,3 +32,24 @@ abbrev pub IsSpareTaken : List ℕ → List ℕ → List ℕ → List Entry → 
 IsSpareTaken old new key es (Some true) = (i : ℕ) × IsFound key es i × IsNode new (record { level = 0; entries = remove es i }) × (0 < length (remove es i))
 IsSpareTaken old new key es (Some false) = (new ≡ old) × (find key_cmp key es ≡ None)
 IsSpareTaken old new key es None = (new ≡ old) × (length es ≡ 1)
+
+-- an entry was put before the one at a place, or has no room: in each node that the page stands for
+abbrev pub InsertsEntry : List ℕ → List ℕ → ℕ → ℕ → Entry → Result Bool NotANode → Type 0
+InsertsEntry old new index at entry result =
+    (node : Node) → IsNode old node → (0 < node.level → length entry.1 ≡ 4) → index ≤ length node.entries
+    → at ≡ 4 + size_of (take index node.entries)
+    → IfOk result (λ fits. Becomes old new (record node { entries = insert node.entries index entry }) fits)
+
+-- an entry was put in the place of one that begins and ends at two places, or has no room
+abbrev pub ReplacesEntry : List ℕ → List ℕ → ℕ → ℕ → ℕ → Entry → Result Bool NotANode → Type 0
+ReplacesEntry old new index at end entry result =
+    (node : Node) → IsNode old node → (0 < node.level → length entry.1 ≡ 4) → index < length node.entries
+    → at ≡ 4 + size_of (take index node.entries) → end ≡ 4 + size_of (take (index + 1) node.entries)
+    → IfOk result (λ fits. Becomes old new (record node { entries = slice_set node.entries index entry }) fits)
+
+-- the entry that begins and ends at two places was taken out, and so many are left
+abbrev pub RemovesEntry : List ℕ → List ℕ → ℕ → ℕ → Result ℕ NotANode → Type 0
+RemovesEntry old new at end result =
+    (node : Node) (i : ℕ) → IsNode old node → i < length node.entries → at ≡ 4 + size_of (take i node.entries)
+    → end ≡ 4 + size_of (take (i + 1) node.entries)
+    → IfOk result (λ left. IsNode new (record node { entries = remove node.entries i }) × (left ≡ length (remove node.entries i)))

@@ -1,7 +1,12 @@
 -- Entries that lie ahead in a page's bytes, taken one after the other.
 use Rattle.std.proofs.Common.{◌≡◌, ℕ, ◌+◌, ◌-◌, ◌≤◌, List, length, take, drop}
 use Rattle.std.specs.List.{All}
+use Rattle.std.specs.Prelude.{Result, IfOk}
 use Rattle.page_node.specs.Entries.{Entry, IsEntry, body_of, size_of}
+use Rattle.page_node.specs.Node.{Node, IsNode}
+use Rattle.page_node.specs.Places.{Rises, entries_from}
+use Rattle.page_node.specs.declared.scan.NotANode.{NotANode}
+use Rattle.page_node.specs.declared.search.Place.{Place}
 
 -- the entries stand from a place on
 pub record IsAhead (page : List ℕ) (at : ℕ) (es : List Entry) : Type 0 where
@@ -16,3 +21,9 @@ PassesTo page at n end = (es : List Entry) → IsAhead page at es → n ≤ leng
 -- a part of a page
 abbrev pub part_of : List ℕ → ℕ → ℕ → List ℕ
 part_of page from end = take (end - from) (drop from page)
+
+-- the place that was found is where the entries from a key on begin, and so many they are: of each node that the page stands for
+abbrev pub FindsPlace : List ℕ → List ℕ → Result Place NotANode → Type 0
+FindsPlace page key result =
+    (node : Node) → IsNode page node → Rises node.entries
+    → IfOk result (λ place. IsAhead page place.at (entries_from key node.entries) × (place.left ≡ length (entries_from key node.entries)))

@@ -1,11 +1,11 @@
 //! Rows put into a page and taken out of it where they lie.
-ghost use Rattle.std.specs.Prelude.{◌≡◌, ◌≤◌, ◌<◌, ◌+◌, ◌-◌, ◌/◌, ◌%◌, ◌++◌, ℕ, List, length, take, drop, insert, remove, slice_set, IfOk, OnErr, cond, true, false, Option, Some, None};
+ghost use Rattle.std.specs.Prelude.{◌≡◌, ◌≤◌, ◌<◌, ◌+◌, ◌-◌, ◌/◌, ◌%◌, ◌++◌, List, length, take, drop, slice_set, IfOk, OnErr, cond, true, false, Option, Some, None};
 ghost use Rattle.std.specs.List.{copy_within};
 ghost use Rattle.page_node.specs.Entries.{Entry, entry_bytes, entry_size, key_at, size_of};
 ghost use Rattle.page_node.specs.Node.{Node, IsNode};
 ghost use Rattle.page_node.specs.Places.{Rises};
 ghost use Rattle.page_node.specs.Bytes.{with_entry};
-ghost use Rattle.page_node.specs.Spots.{Becomes, IsRowPut, IsRowTaken, IsSpareTaken};
+ghost use Rattle.page_node.specs.Spots.{IsRowPut, IsRowTaken, IsSpareTaken, InsertsEntry, ReplacesEntry, RemovesEntry};
 
 use crate::scan::NotANode;
 use crate::search::count_of;
@@ -72,7 +72,7 @@ fn insert_in(
     requires key { length key.now ≤ 72 }
     requires value { length value.now ≤ 1024 }
     requires at { at ≤ 4096 }
-    ensures inserted { (node : Node) → IsNode page.old node → (0 < node.level → length value.now ≡ 4) → index ≤ length node.entries → at ≡ 4 + size_of (take index node.entries) → IfOk result (λ fits. Becomes page.old page.new (record node { entries = insert node.entries index (key.now, value.now) }) fits) }
+    ensures inserted { InsertsEntry page.old page.new index at (key.now, value.now) result }
     ensures kept { IfOk result (λ fits. fits ≡ false → page.new ≡ page.old) }
     ensures err { OnErr result ((node : Node) → IsNode page.old node → index ≤ length node.entries → at ≡ 4 + size_of (take index node.entries) → ⊥) }
 {
@@ -103,7 +103,7 @@ fn replace_in(
     requires order { at ≤ end }
     requires end { end ≤ 4096 }
     requires index { index < 65536 }
-    ensures replaced { (node : Node) → IsNode page.old node → (0 < node.level → length value.now ≡ 4) → index < length node.entries → at ≡ 4 + size_of (take index node.entries) → end ≡ 4 + size_of (take (index + 1) node.entries) → IfOk result (λ fits. Becomes page.old page.new (record node { entries = slice_set node.entries index (key.now, value.now) }) fits) }
+    ensures replaced { ReplacesEntry page.old page.new index at end (key.now, value.now) result }
     ensures kept { IfOk result (λ fits. fits ≡ false → page.new ≡ page.old) }
     ensures err { OnErr result ((node : Node) → IsNode page.old node → index < length node.entries → end ≡ 4 + size_of (take (index + 1) node.entries) → ⊥) }
 {
@@ -120,7 +120,7 @@ fn replace_in(
 fn remove_in(page: &mut [u8; 4096], at: usize, end: usize) -> Result<usize, NotANode>
     requires order { at ≤ end }
     requires end { end ≤ 4096 }
-    ensures removed { (node : Node) (i : ℕ) → IsNode page.old node → i < length node.entries → at ≡ 4 + size_of (take i node.entries) → end ≡ 4 + size_of (take (i + 1) node.entries) → IfOk result (λ left. IsNode page.new (record node { entries = remove node.entries i }) × (left ≡ length (remove node.entries i))) }
+    ensures removed { RemovesEntry page.old page.new at end result }
     ensures err { OnErr result ((node : Node) → IsNode page.old node → 0 < length node.entries → ⊥) }
 {
     let count = count_of(page);

@@ -1,5 +1,6 @@
 //! Where entries end: the k-th number is where the first k of them do.
-ghost use Rattle.std.specs.Prelude.{◌≡◌, ◌≤◌, ◌<◌, ◌+◌, ◌-◌, ◌*◌, ◌^◌, ℕ, get_or};
+ghost use Rattle.std.specs.Prelude.{◌≡◌, ◌≤◌, ◌<◌, ◌+◌, ◌-◌, ◌^◌, ℕ, get_or};
+ghost use Rattle.page_node.specs.Held.{IsEndAtHalf};
 
 /// Makes room for an entry of so many bytes at a place.
 pub fn insert_end(ends: &mut [u16; 1366], i: usize, count: usize, size: u16)
@@ -73,7 +74,7 @@ pub fn cut_at(ends: &[u16; 1366], count: usize, added: usize) -> usize
     ensures left { get_or ends.now result 0 ≤ 4096 }
     ensures right { get_or ends.now count 0 ≤ get_or ends.now result 0 + 4092 }
     ensures last { added + 1 ≡ count → get_or ends.now added 0 ≤ 4096 → result ≡ added }
-    ensures half { (added + 1 ≡ count → 4096 < get_or ends.now added 0) → (get_or ends.now count 0 + 4 ≤ 2 * get_or ends.now result 0) × (2 * get_or ends.now result 0 < get_or ends.now count 0 + 2202) }
+    ensures half { IsEndAtHalf ends.now count added result }
 {
     let last = count - 1;
     if added == last && ends[last] <= 4096 {

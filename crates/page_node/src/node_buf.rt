@@ -29,9 +29,10 @@ impl Model for NodeBuf {
 }
 
 impl NodeBuf {
-    ghost use Rattle.std.specs.Prelude.{◌≡◌, ◌≤◌, ◌<◌, ◌+◌, ◌*◌, ◌↔◌, ℕ, List, [], ◌++◌, length, take, insert, remove, slice_set, IsTrue, OnOk, OnErr, IfOk, IfErr, MatchResult};
+    ghost use Rattle.std.specs.Prelude.{◌≡◌, ◌≤◌, ◌<◌, ◌+◌, ◌↔◌, ℕ, List, [], ◌++◌, length, take, insert, remove, slice_set, IsTrue, OnOk, OnErr, IfOk, IfErr, MatchResult};
     ghost use Rattle.page_node.specs.Entries.{key_at, value_at, child_in, size_of};
     ghost use Rattle.page_node.specs.Node.{Node, IsNode, IsShape, Fits, bytes_of};
+    ghost use Rattle.page_node.specs.Held.{IsCutAtHalf};
     ghost use Rattle.page_node.specs.Places.{Rises, IsFound, IsGap};
 
     /// A leaf without entries. It is a constant, since what a function makes is copied to where it stands.
@@ -246,7 +247,7 @@ impl NodeBuf {
         ensures some { (0 < length self.new.entries) × (0 < length right.new.entries) }
         ensures fits { Fits self.new × Fits right.new }
         ensures last { added + 1 ≡ length self.old.entries → size_of (take added self.old.entries) ≤ 4092 → self.new.entries ≡ take added self.old.entries }
-        ensures half { (added + 1 ≡ length self.old.entries → 4092 < size_of (take added self.old.entries)) → (size_of self.old.entries ≤ 2 * size_of self.new.entries) × (2 * size_of self.new.entries < size_of self.old.entries + 2198) }
+        ensures half { IsCutAtHalf added self.old.entries self.new.entries }
     {
         let used = self.ends[self.count] as usize;
         let cut = cut_at(&self.ends, self.count, added);

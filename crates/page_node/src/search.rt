@@ -7,8 +7,8 @@ ghost use Rattle.std.proofs.Common.{get_or};
 ghost use Rattle.page_node.specs.Bytes.{LiesAt};
 ghost use Rattle.page_node.specs.Entries.{child_in};
 ghost use Rattle.page_node.specs.Node.{Node, IsNode, count_in};
-ghost use Rattle.page_node.specs.Places.{key_cmp, Rises, floor, ceiling, entries_from};
-ghost use Rattle.page_node.specs.Walking.{IsAhead};
+ghost use Rattle.page_node.specs.Places.{key_cmp, Rises, floor, ceiling};
+ghost use Rattle.page_node.specs.Walking.{FindsPlace};
 ghost use Rattle.page_node.specs.Searching.{IsBelow, IsLast, IsTurn, RisesBehind};
 
 use crate::entry::{Lengths, bounds_in};
@@ -234,14 +234,14 @@ pub(crate) struct Above {
 
 /// The child that a key belongs to, and the entry behind it, if there is one.
 #[derive(Clone, Copy, Drop)]
-pub(crate) struct Turn {
+pub(crate) struct WayDown {
     pub(crate) child: u32,
     pub(crate) above: Option<Above>,
 }
 
 /// The child that a key belongs to, as `child_for` finds it, with the first entry whose key is above it, in a page whose keys rise
 /// behind the first, which is not looked at.
-pub(crate) fn turn_for(page: &[u8; 4096], key: &[u8]) -> Result<Turn, NotANode>
+pub(crate) fn turn_for(page: &[u8; 4096], key: &[u8]) -> Result<WayDown, NotANode>
     ensures child { (node : Node) → IsNode page.now node → RisesBehind node.entries → IfOk result (λ turn. option_map child_in (floor key.now node.entries) ≡ Some turn.child) }
     ensures lies { IfOk result (λ turn. IfSome turn.above (λ above. LiesAt page.now above.at above.value above.end)) }
     ensures few { IfOk result (λ turn. IfSome turn.above (λ above. above.k < 65536)) }
@@ -270,7 +270,7 @@ pub(crate) fn turn_for(page: &[u8; 4096], key: &[u8]) -> Result<Turn, NotANode>
                 value: bounds.value,
                 end: bounds.end,
             };
-            return Ok(Turn {
+            return Ok(WayDown {
                 child,
                 above: Some(above),
             });
@@ -279,7 +279,7 @@ pub(crate) fn turn_for(page: &[u8; 4096], key: &[u8]) -> Result<Turn, NotANode>
         at = bounds.end;
     }
     let child = child_at(page, value, at)?;
-    Ok(Turn { child, above: None })
+    Ok(WayDown { child, above: None })
 }
 
 /// The way down from a node: a child, and the first key of the children behind it, if there are some.
@@ -317,7 +317,7 @@ pub struct Place {
 
 /// Where the entries from a key on begin in a page whose keys rise.
 pub fn place_from(page: &[u8; 4096], key: &[u8]) -> Result<Place, NotANode>
-    ensures place { (node : Node) → IsNode page.now node → Rises node.entries → IfOk result (λ place. IsAhead page.now place.at (entries_from key.now node.entries) × (place.left ≡ length (entries_from key.now node.entries))) }
+    ensures place { FindsPlace page.now key.now result }
     ensures err { OnErr result ((node : Node) → IsNode page.now node → ⊥) }
 {
     let count = count_of(page);

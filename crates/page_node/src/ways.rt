@@ -1,14 +1,12 @@
 //! The ways down to children that follow one another, as a scan under a prefix goes them.
-ghost use Rattle.std.specs.Prelude.{◌≡◌, ◌≤◌, ◌<◌, ◌+◌, ◌-◌, ℕ, List, true, length, take, drop, None, Some, nat_eq, IfOk, IfSome, IsSomeAnd, OnErr};
+ghost use Rattle.std.specs.Prelude.{◌≡◌, ◌≤◌, ◌<◌, ◌+◌, ◌-◌, ℕ, List, true, length, take, drop, None, nat_eq, IfOk, IfSome, IsSomeAnd, OnErr};
 ghost use Rattle.std.specs.List.{starts_with};
-ghost use Rattle.std.specs.Option.{option_copied, option_map};
 ghost use Rattle.page_node.specs.Bytes.{LiesAt};
-ghost use Rattle.page_node.specs.Entries.{child_in};
 ghost use Rattle.page_node.specs.Node.{Node, IsNode};
 ghost use Rattle.page_node.specs.Places.{floor, ceiling};
 ghost use Rattle.page_node.specs.Searching.{IsTurn, RisesBehind};
 ghost use Rattle.page_node.specs.Walking.{part_of};
-ghost use Rattle.page_node.specs.Ways.{AreWays};
+ghost use Rattle.page_node.specs.Ways.{FollowsWays, FindsWays};
 
 use crate::entry::{Lengths, bounds_in};
 use crate::scan::NotANode;
@@ -43,7 +41,7 @@ fn follow(
     ensures few { IfOk result (λ found. found.more ≤ 3) }
     ensures lies { IfOk result (λ found. LiesAt page.now found.bound.at found.bound.value found.bound.end) }
     ensures under { IfOk result (λ found. starts_with nat_eq (part_of page.now (found.bound.at + 3) found.bound.value) prefix.now ≡ true) }
-    ensures ways { (node : Node) → IsNode page.now node → RisesBehind node.entries → (key : List ℕ) (child : ℕ) → IsTurn key node.entries first.k first.at → option_map child_in (floor key node.entries) ≡ Some child → IfOk result (λ found. AreWays prefix.now node.entries key child found.more behind.new (Some (part_of page.now (found.bound.at + 3) found.bound.value))) }
+    ensures ways { FollowsWays page.now prefix.now first behind.new result }
     ensures err { OnErr result ((node : Node) → IsNode page.now node → (key : List ℕ) → IsTurn key node.entries first.k first.at → 0 < node.level → ⊥) }
 {
     let count = count_of(page);
@@ -82,7 +80,7 @@ pub fn ways_for<'a>(
     prefix: &[u8],
     behind: &mut [u32; 3],
 ) -> Result<Ways<'a>, NotANode>
-    ensures ways { (node : Node) → IsNode page.now node → RisesBehind node.entries → IfOk result (λ ways. AreWays prefix.now node.entries key.now ways.child ways.more behind.new (option_copied ways.bound)) }
+    ensures ways { FindsWays page.now key.now prefix.now behind.new result }
     ensures few { IfOk result (λ ways. ways.more ≤ 3) }
     ensures under { IfOk result (λ ways. 0 < ways.more → IsSomeAnd ways.bound (λ bound. starts_with nat_eq bound.now prefix.now ≡ true)) }
     ensures short { IfOk result (λ ways. IfSome ways.bound (λ bound. length bound.now ≤ 72)) }

@@ -40,13 +40,12 @@ pub struct Prepared {
 }
 
 impl Txn {
-    ghost use Rattle.std.specs.Prelude.{◌≡◌, ◌≢◌, ◌⊎◌, ◌<◌, ◌≤◌, ◌+◌, ◌-◌, ◌∷◌, ℕ, length, OnOk, OnErr, IfOk, IfErr, MatchResult, MatchOption};
+    ghost use Rattle.std.specs.Prelude.{◌≡◌, ◌≤◌, ◌≢◌, ◌⊎◌, ◌<◌, ◌+◌, ◌∷◌, ℕ, length, OnOk, OnErr, IfOk, IfErr, MatchResult};
     ghost use Rattle.sector_device.specs.Disk.{Image};
     ghost use Rattle.std.specs.Fn.{FnOnceReturnsAtMut};
     ghost use Rattle.gate_journal.specs.Store.{put};
-    ghost use Rattle.gate_journal.specs.Writes.{IsEdited};
-    ghost use Rattle.page_store.specs.Chain.{chain, IsIn, AreFree, IsPages, root_in, free_in};
-    ghost use Rattle.page_store.specs.Transactions.{stored, disk_in, count_of, has_halted, txn_pages, txn_list, txn_writes, IsWritten, txn_root, txn_first, txn_free, over, free_over, prepared_pages, prepared_writes, after, IsQuiet, ReadErr, TakeErr, GiveErr};
+    ghost use Rattle.page_store.specs.Chain.{IsIn, AreFree, IsPages, root_in, free_in};
+    ghost use Rattle.page_store.specs.Transactions.{stored, disk_in, count_of, has_halted, txn_pages, txn_list, txn_writes, IsWritten, txn_root, txn_first, txn_free, over, free_over, prepared_pages, prepared_writes, after, IsQuiet, ReadErr, TakeErr, GiveErr, EditsPage, TellsNextFree};
     ghost use Rattle.page_store.specs.declared.error.PageError.TheVariants.{Memory};
     ghost use Rattle.page_store.specs.Lent.{lent_bytes};
 
@@ -123,7 +122,7 @@ impl Txn {
         ensures first { txn_first self.new ≡ txn_first self.old }
         ensures count { txn_free self.new ≡ txn_free self.old }
         ensures writes { txn_writes self.new ≡ txn_writes self.old }
-        ensures edited { MatchOption result ((IsWritten self.old p → ⊥) × (self.new ≡ self.old)) (λ told. IsWritten self.old p × IsEdited (FnOnceReturnsAtMut F.FnOnce change) told (txn_list self.old) (txn_list self.new) p) }
+        ensures edited { EditsPage (FnOnceReturnsAtMut F.FnOnce change) p self.old self.new result }
         ensures free { (P : Image) → (IsIn p (free_over self.old P) → ⊥) → free_over self.new P ≡ free_over self.old P }
         ensures noted { (q : ℕ) → IsWritten self.old q → IsWritten self.new q }
     {
@@ -136,7 +135,7 @@ impl Txn {
         requires some { 0 < txn_free self.now }
         ensures quiet { IsQuiet pages.old pages.new }
         ensures below { IfOk result (λ next. next < txn_pages self.now) }
-        ensures next { (disk_in pages.new).is_honest → IfOk result (λ next. free_over self.now (stored pages.old) ≡ txn_first self.now ∷ chain (over self.now (stored pages.old)) next (txn_free self.now - 1)) }
+        ensures next { TellsNextFree self.now pages.old pages.new result }
         ensures passed { (disk_in pages.new).is_honest → OnOk result ((disk_in pages.new).faults ≡ (disk_in pages.old).faults) }
         ensures ok { OnOk result (has_halted pages.new ≡ has_halted pages.old) }
         ensures err { IfErr result (λ e. TakeErr self.now pages.old pages.new e) }
@@ -279,11 +278,9 @@ impl Txn {
 }
 
 impl Prepared {
-    ghost use Rattle.std.specs.Prelude.{◌≡◌, ◌≤◌, length, true, false, Err, OnOk, IfErr, IsOk};
+    ghost use Rattle.std.specs.Prelude.{◌≡◌, ◌≤◌, length, true, false, Err, OnOk, IfErr};
     ghost use Rattle.sector_device.specs.Disk.{Image};
-    ghost use Rattle.sector_device.specs.Moments.{LeavesOnly};
-    ghost use Rattle.gate_journal.specs.Store.{IsBeforeOrAfter};
-    ghost use Rattle.page_store.specs.Transactions.{stored, disk_in, count_of, journal_of, has_halted, prepared_pages, prepared_writes, after, HasShape, IsSame, IsKept, CommitErr};
+    ghost use Rattle.page_store.specs.Transactions.{stored, disk_in, count_of, journal_of, has_halted, prepared_pages, prepared_writes, after, HasShape, IsSame, IsKept, CommitErr, LeavesAllOrNone, IsCommittedWithoutFault};
     ghost use Rattle.page_store.specs.declared.error.PageError.TheVariants.{Halted};
 
     /// Writes the pages, all or none of them. It takes no memory.
@@ -291,12 +288,12 @@ impl Prepared {
         requires { prepared_pages self ≡ count_of pages.old }
         ensures shape { HasShape pages.old pages.new }
         ensures honest { (disk_in pages.new).is_honest → (disk_in pages.old).is_honest }
-        ensures any_moment { (disk_in pages.new).is_honest → has_halted pages.old ≡ false → LeavesOnly (IsBeforeOrAfter (journal_of pages.old) (count_of pages.old) (prepared_writes self) (stored pages.old)) (disk_in pages.old) (disk_in pages.new) }
+        ensures any_moment { LeavesAllOrNone (prepared_writes self) pages.old pages.new }
         ensures after { (disk_in pages.new).is_honest → OnOk result (stored pages.new ≡ after self (stored pages.old)) }
         ensures kept { (disk_in pages.new).is_honest → OnOk result (IsKept pages.new) }
         ensures passed { (disk_in pages.new).is_honest → OnOk result ((disk_in pages.new).faults ≡ (disk_in pages.old).faults) }
         ensures ok { OnOk result ((has_halted pages.old ≡ false) × (length (prepared_writes self) ≤ journal_of pages.old) × (has_halted pages.new ≡ false)) }
-        ensures succeeds { has_halted pages.old ≡ false → length (prepared_writes self) ≤ journal_of pages.old → (disk_in pages.new).is_honest → (disk_in pages.new).faults ≡ (disk_in pages.old).faults → IsOk result }
+        ensures succeeds { IsCommittedWithoutFault (prepared_writes self) pages.old pages.new result }
         ensures still { has_halted pages.old ≡ true → (result ≡ Err Halted) × IsSame pages.old pages.new }
         ensures err { IfErr result (λ e. CommitErr (length (prepared_writes self)) pages.old pages.new e) }
     {

@@ -3,9 +3,9 @@ ghost use Rattle.std.specs.Prelude.{◌≡◌, ◌<◌, ◌+◌, IfErr, MatchRes
 ghost use Rattle.page_store.specs.Transactions.{count_of, txn_pages, txn_free, IsQuiet};
 ghost use Rattle.page_btree.specs.declared.error.TreeError.TheVariants.{NoPages};
 ghost use Rattle.store_rows.specs.DeskRows.{most_revisions};
-ghost use Rattle.row_table.specs.Puts.{HasPut, PutsErr};
+ghost use Rattle.row_table.specs.Puts.{PutsRows};
 ghost use Rattle.plan_table.specs.PlanRows.{plan_rows, created_rows, revised_rows, HasPlanNumber, HasChunkNumbers};
-ghost use Rattle.plan_table.specs.Outcomes.{IsChanged, ChangeErr, HasRetired, RetireErr};
+ghost use Rattle.plan_table.specs.Outcomes.{HasRetired, RetireErr, Changes};
 
 use crate::change::ChangeOutcome;
 use desk_model::kind::Kind;
@@ -27,7 +27,7 @@ fn put_plan<D: SectorDevice>(
     requires begun { txn_pages txn.old ≡ count_of pages.old }
     ensures quiet { IsQuiet pages.old pages.new }
     ensures begun { txn_pages txn.new ≡ count_of pages.new }
-    ensures put { MatchResult result (λ _. HasPut (plan_rows name.now row.now next.now) txn.old txn.new pages.old pages.new) (λ e. PutsErr (plan_rows name.now row.now next.now) txn.old pages.old pages.new e) }
+    ensures put { PutsRows (plan_rows name.now row.now next.now) txn.old txn.new pages.old pages.new result }
     ensures spent { IfErr result (λ e. e ≡ NoPages → txn_free txn.new ≡ 0) }
 {
     put_row(txn, pages, &Key::named(name), &plan_value(row))?;
@@ -47,7 +47,7 @@ pub fn create_plan<D: SectorDevice>(
     requires begun { txn_pages txn.old ≡ count_of pages.old }
     ensures quiet { IsQuiet pages.old pages.new }
     ensures begun { txn_pages txn.new ≡ count_of pages.new }
-    ensures create { MatchResult result (λ change. IsChanged HasPlanNumber (created_rows name.now kind districts) txn.old txn.new pages.old pages.new change) (λ e. ChangeErr (created_rows name.now kind districts) txn.old pages.old pages.new e) }
+    ensures create { Changes HasPlanNumber (created_rows name.now kind districts) txn.old txn.new pages.old pages.new result }
     ensures spent { IfErr result (λ e. e ≡ NoPages → txn_free txn.new ≡ 0) }
 {
     let next = next_numbers(txn, pages)?;
@@ -85,7 +85,7 @@ pub fn revise_plan<D: SectorDevice>(
     requires left { HasChunkNumbers chunks_used next.now }
     ensures quiet { IsQuiet pages.old pages.new }
     ensures begun { txn_pages txn.new ≡ count_of pages.new }
-    ensures revise { MatchResult result (λ _. HasPut (revised_rows name.now row.now chunks_used next.now) txn.old txn.new pages.old pages.new) (λ e. PutsErr (revised_rows name.now row.now chunks_used next.now) txn.old pages.old pages.new e) }
+    ensures revise { PutsRows (revised_rows name.now row.now chunks_used next.now) txn.old txn.new pages.old pages.new result }
     ensures spent { IfErr result (λ e. e ≡ NoPages → txn_free txn.new ≡ 0) }
 {
     let revised = PlanRow {

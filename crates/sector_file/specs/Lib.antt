@@ -1,3 +1,4 @@
 pub mod Told
 pub mod Device
 pub mod Recalled
+pub mod Kinds

@@ -1,6 +1,7 @@
 //! Why a file is no device.
 ghost use Rattle.std.specs.Prelude.{◌≡◌, ◌≢◌, ◌⊎◌};
 ghost use Rattle.std.specs.IoError.{error_kind};
+ghost use Rattle.sector_file.specs.Kinds.{IsDenial, IsWantOfSpace};
 
 use std::io::{Error, ErrorKind};
 
@@ -29,7 +30,7 @@ pub fn of_opening(error: &Error) -> FileError
     ensures denied { error_kind error.now ≡ ErrorKind.PermissionDenied → result ≡ FileError.NotPermitted }
     ensures read_only { error_kind error.now ≡ ErrorKind.ReadOnlyFilesystem → result ≡ FileError.NotPermitted }
     ensures folder { error_kind error.now ≡ ErrorKind.IsADirectory → result ≡ FileError.NotPermitted }
-    ensures only_denied { result ≡ FileError.NotPermitted → (error_kind error.now ≡ ErrorKind.PermissionDenied) ⊎ (error_kind error.now ≡ ErrorKind.ReadOnlyFilesystem) ⊎ (error_kind error.now ≡ ErrorKind.IsADirectory) }
+    ensures only_denied { result ≡ FileError.NotPermitted → IsDenial (error_kind error.now) }
     ensures only_none { result ≡ FileError.NotFound → error_kind error.now ≡ ErrorKind.NotFound }
     ensures one { (result ≡ FileError.NotFound) ⊎ (result ≡ FileError.NotPermitted) ⊎ (result ≡ FileError.DeviceFault) }
 {
@@ -51,7 +52,7 @@ pub fn of_making(error: &Error) -> FileError
     ensures quota { error_kind error.now ≡ ErrorKind.QuotaExceeded → result ≡ FileError.NoSpace }
     ensures only_there { result ≡ FileError.Exists → error_kind error.now ≡ ErrorKind.AlreadyExists }
     ensures only_none { result ≡ FileError.NotFound → error_kind error.now ≡ ErrorKind.NotFound }
-    ensures only_full { result ≡ FileError.NoSpace → (error_kind error.now ≡ ErrorKind.StorageFull) ⊎ (error_kind error.now ≡ ErrorKind.QuotaExceeded) ⊎ (error_kind error.now ≡ ErrorKind.FileTooLarge) }
+    ensures only_full { result ≡ FileError.NoSpace → IsWantOfSpace (error_kind error.now) }
     ensures one { (result ≢ FileError.WrongSize) × (result ≢ FileError.InUse) }
 {
     match error.kind() {

@@ -8,6 +8,7 @@ use Rattle.desk_model.specs.Step.{whole}
 use Rattle.baf_text.specs.Faults.{IsFaultOf}
 use Rattle.baf_text.specs.declared.reading.BafFault.{BafFault}
 use Rattle.baf_text.specs.declared.reading.BafFault.TheVariants as baf
+use Rattle.byte_stream.specs.declared.source.Source.{Ghosts}
 use Rattle.state_files.specs.Opening.{File, Opening, opening_of}
 use Rattle.state_files.specs.State.{IsAtLimit, Then, NoFile}
 use Rattle.state_files.specs.Whole.{IsWholeFile, failures_after_whole}
@@ -65,6 +66,10 @@ ReadsPlan f g n before after = Then (ReadsBytes f before after) NoFile (λ bytes
 abbrev pub companion_of : {R : Type 0} → (R → Option (List ℕ)) → (R → ℕ) → (R → ℕ) → Option (Companion R) → Option (Opening × ℕ)
 companion_of unread turns failures None = None
 companion_of unread turns failures (Some companion) = Some (opening_of unread turns failures companion.opened, companion.districts)
+
+abbrev pub ReadsPlanBeside : {R : Type 0} → Ghosts R → PlanFile → Ground → (before after : Companion R) → Result (Vec ℕ Global) FileFault → Type 0
+ReadsPlanBeside r f g before after outcome =
+    ReadsPlan f g before.districts (opening_of r.remaining r.turns r.failures before.opened) (opening_of r.remaining r.turns r.failures after.opened) outcome
 
 abbrev pub ReadsCompanion : PlanFile → Ground → (before after : Option (Opening × ℕ)) → Result (Option (Vec ℕ Global)) FileFault → Type 0
 ReadsCompanion f g None after outcome = (after ≡ None) × (outcome ≡ Ok None)

@@ -2,7 +2,7 @@
 ghost use Rattle.std.specs.Prelude.{◌≡◌, IfOk, IfSome, length, is_some};
 ghost use Rattle.std.specs.Option.{option_copied};
 ghost use Rattle.state_files.specs.Opening.{opening_of};
-ghost use Rattle.state_files.specs.PlanFiles.{plan_fault_of_open, plan_fault_of_whole, ReadsBytes, JudgesPlan, ReadsPlan, companion_of, ReadsCompanion, beside};
+ghost use Rattle.state_files.specs.PlanFiles.{plan_fault_of_open, plan_fault_of_whole, ReadsBytes, JudgesPlan, ReadsPlan, companion_of, ReadsCompanion, beside, ReadsPlanBeside};
 
 use crate::fault::{FileFault, OpenFault, PlanFault, PlanFile};
 use crate::whole::{WholeFault, read_whole};
@@ -98,7 +98,7 @@ fn read_beside<R: Source>(
     geography: &Geography,
     companion: &mut Companion<R>,
 ) -> Result<Vec<u16>, FileFault>
-    ensures read { ReadsPlan file geography.now companion.old.districts (opening_of R.remaining R.turns R.failures companion.old.opened) (opening_of R.remaining R.turns R.failures companion.new.opened) result }
+    ensures read { ReadsPlanBeside R.Source file geography.now companion.old companion.new result }
     ensures same { companion.new.districts ≡ companion.old.districts }
     ensures beside { IfOk result (λ plan. length plan.items ≡ length geography.now.blocks) }
 {

@@ -8,6 +8,7 @@ ghost use Rattle.store_rows.specs.Rows.{KeyMap};
 ghost use Rattle.store_rows.specs.Tidy.{Tidy};
 ghost use Rattle.store_sweep.specs.Leftovers.{IsOfLoad, IsSpared};
 ghost use Rattle.store_sweep.specs.Finding.{IsLeftKey, IsPlanLeft, IsLoadLeft, IsNextLeft, HasPlanMark, HasLoadMark, spared_key};
+ghost use Rattle.store_sweep.specs.Sought.{FindsLeftOfPlan};
 
 use crate::firsts::{first_mark, first_under};
 use crate::pieces::{eight, first_piece};
@@ -38,7 +39,7 @@ fn left_of_plan<D: SectorDevice>(
     requires begun { txn_pages txn.now ≡ count_of pages.old }
     ensures quiet { IsQuiet pages.old pages.new }
     ensures passed { OnOk result (Passed pages.old pages.new) }
-    ensures found { (disk_in pages.new).is_honest → (m : KeyMap) → InTxn txn.now (stored pages.old) m → HasPlanMark plan m → OnOk result (IsLeftKey m row.new.key (λ left. (load : ℕ) → IsOfLoad load left → ⊥)) }
+    ensures found { FindsLeftOfPlan plan txn.now pages.old pages.new row.new.key result }
     ensures err { IfErr result (λ e. ReadErr (HasPlanMark plan) txn.now pages.old pages.new e) }
 {
     let prefix = Key::plan_parts(plan);

@@ -10,7 +10,8 @@ ghost use Rattle.row_table.specs.Reading.{ReadErr};
 ghost use Rattle.store_rows.specs.Keys.{in_eight};
 ghost use Rattle.store_rows.specs.Rows.{KeyMap};
 ghost use Rattle.store_rows.specs.Tidy.{AreRows};
-ghost use Rattle.store_sweep.specs.Finding.{IsFirstFrom, IsNextChunk, IsGap, IsSought, IsFirstPiece};
+ghost use Rattle.store_sweep.specs.Finding.{IsFirstFrom, IsNextChunk, IsFirstPiece};
+ghost use Rattle.store_sweep.specs.Sought.{SeeksPiece};
 
 use btree_scan::{Row, SmallBytes};
 use page_btree::{Leaf, leaf_from};
@@ -122,7 +123,7 @@ fn seek_piece<D: SectorDevice>(
     requires begun { txn_pages txn.now ≡ count_of pages.old }
     ensures quiet { IsQuiet pages.old pages.new }
     ensures passed { OnOk result (Passed pages.old pages.new) }
-    ensures found { (disk_in pages.new).is_honest → (m : KeyMap) → InTxn txn.now (stored pages.old) m → AreRows m → IsGap gap.old row.old.key m → IfOk result (λ found. IsSought found number gap.new row.new.key m) }
+    ensures found { SeeksPiece number txn.now pages.old pages.new gap.old row.old.key gap.new row.new.key result }
     ensures err { IfErr result (λ e. ReadErr AreRows txn.now pages.old pages.new e) }
 {
     if gap.from <= number && number < gap.to {

@@ -1,13 +1,12 @@
 //! Sweeps a store, a few rows in each commit.
-ghost use Rattle.std.specs.Prelude.{◌≡◌, ◌≤◌, ◌<◌, ◌+◌, ◌↔◌, ℕ, Err, true, false, Option, OnOk, IfOk, IfErr, length};
-ghost use Rattle.sector_device.specs.Moments.{LeavesOnly};
-ghost use Rattle.gate_journal.specs.Store.{home};
+ghost use Rattle.std.specs.Prelude.{◌≡◌, ◌≤◌, ◌<◌, ◌↔◌, Err, true, false, Option, OnOk, IfOk, IfErr, length};
 ghost use Rattle.page_store.specs.Chain.{free_in};
-ghost use Rattle.page_store.specs.Transactions.{stored, disk_in, count_of, journal_of, has_halted, HasShape, IsSame, IsKept};
+ghost use Rattle.page_store.specs.Transactions.{stored, disk_in, has_halted, HasShape, IsSame, IsKept};
 ghost use Rattle.page_btree.specs.Map.{InPages};
 ghost use Rattle.desk_model.specs.Desk.{Desk};
 ghost use Rattle.store_rows.specs.Rows.{KeyMap};
 ghost use Rattle.desk_pages.specs.Desks.{IsDeskMap, InPages as DeskInPages, OpensDesk};
+ghost use Rattle.desk_pages.specs.Moments.{StopsLeave};
 ghost use Rattle.store_sweep.specs.Leftovers.{IsSweptClean};
 ghost use Rattle.store_sweep.specs.Sweeping.{HoldsSwept, SweepErr};
 
@@ -29,7 +28,7 @@ pub fn sweep_step<D: SectorDevice>(
 ) -> Result<usize, SweepError>
     ensures shape { HasShape pages.old pages.new }
     ensures honest { (disk_in pages.new).is_honest → (disk_in pages.old).is_honest }
-    ensures any_moment { (disk_in pages.new).is_honest → has_halted pages.old ≡ false → (sectors : ℕ) (d : Desk) → home (journal_of pages.old) + count_of pages.old ≡ sectors → DeskInPages pages.old d → LeavesOnly (OpensDesk sectors d) (disk_in pages.old) (disk_in pages.new) }
+    ensures any_moment { StopsLeave (DeskInPages pages.old) OpensDesk pages.old pages.new }
     ensures few { IfOk result (λ count. count ≤ 16) }
     ensures swept { (disk_in pages.new).is_honest → (m : KeyMap) (d : Desk) → InPages pages.old m → IsDeskMap m d → IfOk result (λ count. HoldsSwept running count m d pages.new) }
     ensures exact { (disk_in pages.new).is_honest → (m : KeyMap) (d : Desk) → InPages pages.old m → IsDeskMap m d → IfOk result (λ count. (count ≡ 0) ↔ IsSweptClean running m) }

@@ -16,6 +16,8 @@ use Rattle.http_desk.specs.Serving.{IsCutTalk}
 use Rattle.http_desk.specs.declared.serve.Served.{Served}
 use Rattle.http_desk.specs.declared.serve.ServeFault.{ServeFault}
 use Rattle.http_desk.specs.declared.serve.ServeFault.TheVariants as fault
+use Rattle.sector_device.specs.declared.SectorDevice.{Ghosts}
+use Rattle.talk_command.specs.Talking.{ServesSample}
 
 -- A command has the desk's step, or it is refused for want of room or of memory, or since the device failed, and the desk is as it was.
 abbrev pub desk_commands : Desk → Command → Reply → Desk → Type 0
@@ -56,3 +58,9 @@ pub record ServesDesk (served : Result Served ServeFault) (unread left before af
   pub reads : Consumes unread left input
   pub writes : Appends before after output
   pub serves : DeskServesTo sample_desk served left input output last
+
+-- a talk of clerks over the sample desk is one of desks
+abbrev pub SampleIsServed : {D : Type 0} → Ghosts D → Type 0
+SampleIsServed g =
+    (served : Result Served ServeFault) (unread left before after : Option (List ℕ)) → ServesSample g served unread left before after
+    → ServesDesk served unread left before after

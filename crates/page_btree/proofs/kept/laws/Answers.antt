@@ -1,4 +1,4 @@
-use Rattle.page_btree.proofs.Laws.{one_map, new_holds, begun_holds, prepared_holds, opens_maps, few_rows}
+use Rattle.page_btree.proofs.MapLaws.{one_map, new_holds, begun_holds, prepared_holds, opens_maps, few_rows}
 use Rattle.page_btree.proofs.kept.laws.Goals as goal
 
 pub returns : goal.returns
