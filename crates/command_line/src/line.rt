@@ -1,6 +1,6 @@
 //! The command line, made of its tables.
 use crate::helps::STATUSES;
-use crate::tables::{Entry, KINDS, ORDERS, Order, Values};
+use crate::tables::{Argument, KINDS, ORDERS, Subcommand, Values};
 use clap::builder::ValueParser;
 use clap::{Arg, ArgAction, Command};
 use std::alloc::{AllocError, Global};
@@ -26,15 +26,15 @@ fn of_values<'a>(option: Arg<'a>, values: Values) -> Arg<'a> {
     }
 }
 
-fn arg_of<'a>(alloc: Global, entry: &Entry) -> Result<Arg<'a>, AllocError> {
+fn arg_of<'a>(alloc: Global, entry: &Argument) -> Result<Arg<'a>, AllocError> {
     match entry {
-        Entry::Store => Ok(
+        Argument::Store => Ok(
             Arg::new(alloc, "store")
                 .value_name("STORE")
                 .help("The store's file")
                 .required(true),
         ),
-        Entry::Code => Ok(
+        Argument::Code => Ok(
             Arg::new(alloc, "code")
                 .value_name("CODE")
                 .help(
@@ -42,19 +42,19 @@ fn arg_of<'a>(alloc: Global, entry: &Entry) -> Result<Arg<'a>, AllocError> {
                 )
                 .required(true),
         ),
-        Entry::File(name, help) => Ok(option(alloc, name, "FILE", help).required(true)),
-        Entry::Number(name, value, help, least, most) => {
+        Argument::File(name, help) => Ok(option(alloc, name, "FILE", help).required(true)),
+        Argument::Number(name, value, help, least, most) => {
             let option = option(alloc, name, value, help).required(true);
             Ok(of_values(option, Values::Numbers(*least, *most)))
         }
-        Entry::Beside(name, value, help, values, others) => {
+        Argument::Beside(name, value, help, values, others) => {
             of_values(option(alloc, name, value, help), *values).requires_all(others)
         }
     }
 }
 
 /// A command that takes what its table says.
-fn command_of<'a>(alloc: Global, order: &Order) -> Result<Command<'a>, AllocError> {
+fn command_of<'a>(alloc: Global, order: &Subcommand) -> Result<Command<'a>, AllocError> {
     let mut command = Command::new(alloc, order.name)
         .about(order.about)
         .after_help(order.after);

@@ -4,15 +4,15 @@ use crate::helps::{
 };
 
 /// A command: its name, what it does, what is told behind its options, and these.
-pub(crate) struct Order {
+pub(crate) struct Subcommand {
     pub(crate) name: &'static str,
     pub(crate) about: &'static str,
     pub(crate) after: &'static str,
-    pub(crate) entries: &'static [Entry],
+    pub(crate) entries: &'static [Argument],
 }
 
 /// A word or an option of a command.
-pub(crate) enum Entry {
+pub(crate) enum Argument {
     /// The file of a store, a word that stands alone.
     Store,
     /// The code of a fault, a word that stands alone.
@@ -39,77 +39,77 @@ pub(crate) enum Values {
 pub(crate) const KINDS: &[&str] = &["congress", "senate", "house"];
 
 /// The header and the three segments of the census files.
-const GEO: Entry = Entry::File("geo", "The geographic header");
+const GEO: Argument = Argument::File("geo", "The geographic header");
 
-const SEG1: Entry = Entry::File("seg1", "Segment 1");
+const SEG1: Argument = Argument::File("seg1", "Segment 1");
 
-const SEG2: Entry = Entry::File("seg2", "Segment 2");
+const SEG2: Argument = Argument::File("seg2", "Segment 2");
 
-const SEG3: Entry = Entry::File("seg3", "Segment 3");
+const SEG3: Argument = Argument::File("seg3", "Segment 3");
 
 /// The options of an audit go together: each requires the next, and the last the first. So do those of each companion.
-const CHECK: &[Entry] = &[
+const CHECK: &[Argument] = &[
     GEO,
     SEG1,
     SEG2,
     SEG3,
-    Entry::Beside(
+    Argument::Beside(
         "gal",
         "FILE",
         "The neighbour file (GAL)",
         Values::Texts,
         &["plan"],
     ),
-    Entry::Beside(
+    Argument::Beside(
         "plan",
         "FILE",
         "The plan to be audited, a block assignment file",
         Values::Texts,
         &["kind"],
     ),
-    Entry::Beside(
+    Argument::Beside(
         "kind",
         "KIND",
         "The plan's kind",
         Values::Kinds,
         &["districts"],
     ),
-    Entry::Beside(
+    Argument::Beside(
         "districts",
         "N",
         "The plan's number of districts: 1 to 99 for congress, else 1 to 999",
         Values::Numbers(1, 999),
         &["gal"],
     ),
-    Entry::Beside(
+    Argument::Beside(
         "senate",
         "FILE",
         "The senate plan that a house plan is nested in",
         Values::Texts,
         &["senate-districts"],
     ),
-    Entry::Beside(
+    Argument::Beside(
         "senate-districts",
         "N",
         "The senate plan's number of districts: 1 to 999",
         Values::Numbers(1, 999),
         &["senate", "plan"],
     ),
-    Entry::Beside(
+    Argument::Beside(
         "congress",
         "FILE",
         "The congressional plan that the districts of a house or senate plan are held against",
         Values::Texts,
         &["congress-districts"],
     ),
-    Entry::Beside(
+    Argument::Beside(
         "congress-districts",
         "N",
         "The congressional plan's number of districts: 1 to 99",
         Values::Numbers(1, 99),
         &["congress", "plan"],
     ),
-    Entry::Beside(
+    Argument::Beside(
         "workers",
         "N",
         "How many threads audit the plan: 1 to 64, by default 1",
@@ -118,16 +118,16 @@ const CHECK: &[Entry] = &[
     ),
 ];
 
-const FORMAT: &[Entry] = &[
-    Entry::Store,
-    Entry::Number(
+const FORMAT: &[Argument] = &[
+    Argument::Store,
+    Argument::Number(
         "sectors",
         "N",
         "How many sectors of 4,096 bytes",
         1,
         4_294_967_295,
     ),
-    Entry::Number(
+    Argument::Number(
         "journal",
         "J",
         "How many pages a commit may write: 256 to 65536",
@@ -136,27 +136,27 @@ const FORMAT: &[Entry] = &[
     ),
 ];
 
-const LOAD: &[Entry] = &[
-    Entry::Store,
+const LOAD: &[Argument] = &[
+    Argument::Store,
     GEO,
     SEG1,
     SEG2,
     SEG3,
-    Entry::File("gal", "The neighbour file (GAL)"),
+    Argument::File("gal", "The neighbour file (GAL)"),
 ];
 
-const SERVE: &[Entry] = &[
-    Entry::Store,
-    Entry::Number("port", "P", "The port of 127.0.0.1: 1 to 65535", 1, 65_535),
-    Entry::Number("workers", "W", "How many threads serve: 1 to 64", 1, 64),
-    Entry::Number(
+const SERVE: &[Argument] = &[
+    Argument::Store,
+    Argument::Number("port", "P", "The port of 127.0.0.1: 1 to 65535", 1, 65_535),
+    Argument::Number("workers", "W", "How many threads serve: 1 to 64", 1, 64),
+    Argument::Number(
         "connections",
         "C",
         "After how many connections it ends: 1 to 4294967295",
         1,
         4_294_967_295,
     ),
-    Entry::Beside(
+    Argument::Beside(
         "idle",
         "SECONDS",
         "How long a connection may be silent before it is ended: 1 to 86400, by default 60",
@@ -165,49 +165,49 @@ const SERVE: &[Entry] = &[
     ),
 ];
 
-const SWEEP: &[Entry] = &[Entry::Store];
+const SWEEP: &[Argument] = &[Argument::Store];
 
-const EXPLAIN: &[Entry] = &[Entry::Code];
+const EXPLAIN: &[Argument] = &[Argument::Code];
 
 /// The commands, in the order of the help.
-pub(crate) static ORDERS: [Order; 7] = [
-    Order {
+pub(crate) static ORDERS: [Subcommand; 7] = [
+    Subcommand {
         name: "check",
         about: "Prints the counts of a state's census files, or with a plan its audit",
         after: CHECK_HELP,
         entries: CHECK,
     },
-    Order {
+    Subcommand {
         name: "format",
         about: "Makes an empty store in a new file",
         after: FORMAT_HELP,
         entries: FORMAT,
     },
-    Order {
+    Subcommand {
         name: "load",
         about: "Fills an empty store with a state's blocks and neighbours",
         after: LOAD_HELP,
         entries: LOAD,
     },
-    Order {
+    Subcommand {
         name: "serve",
         about: "Serves a store over HTTP/1.1",
         after: SERVE_HELP,
         entries: SERVE,
     },
-    Order {
+    Subcommand {
         name: "sweep",
         about: "Takes out of a store what deleted plans and ended loads left in it",
         after: SWEEP_HELP,
         entries: SWEEP,
     },
-    Order {
+    Subcommand {
         name: "talk",
         about: "Serves HTTP/1.1 from standard input to standard output, over a sample geography",
         after: TALK_HELP,
         entries: &[],
     },
-    Order {
+    Subcommand {
         name: "explain",
         about: "Prints what the code of a fault means, and what to do",
         after: EXPLAIN_HELP,

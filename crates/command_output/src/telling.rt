@@ -7,7 +7,7 @@ ghost use Rattle.command_output.specs.Writing.{written_of, Told, Prints, OfWrite
 use crate::fault_status::fault_status;
 use crate::status::Status;
 use byte_stream::sink::Sink;
-use pl94_segment::record::Part;
+use pl94_segment::record::SegmentNumber;
 use state_files::fault::{FileFault, PlanFile};
 use std::alloc::{AllocError, Global};
 
@@ -18,13 +18,13 @@ fn line_of(alloc: Global, fault: &FileFault) -> Result<String, AllocError>
     format!(in alloc; "plandesk: {fault}\n")
 }
 
-fn segment_memory(part: Part) -> &'static [u8]
+fn segment_memory(part: SegmentNumber) -> &'static [u8]
     ensures { result.now ≡ memory_at (segment_file part) }
 {
     match part {
-        Part::One => b"plandesk: seg1: Memory\n",
-        Part::Two => b"plandesk: seg2: Memory\n",
-        Part::Three => b"plandesk: seg3: Memory\n",
+        SegmentNumber::One => b"plandesk: seg1: Memory\n",
+        SegmentNumber::Two => b"plandesk: seg2: Memory\n",
+        SegmentNumber::Three => b"plandesk: seg3: Memory\n",
     }
 }
 

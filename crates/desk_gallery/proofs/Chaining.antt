@@ -5,11 +5,11 @@ use Rattle.std.proofs.lemmas.List.Elements.{All-head, All-tail}
 use Rattle.std.proofs.lemmas.Bool.Decides.{nat_tests}
 use mathlib.Core.List.{IsPrefix}
 use Rattle.desk_model.specs.declared.command.Command.{Command}
-use Rattle.desk_gallery.specs.declared.book.Entry.{Entry}
+use Rattle.desk_gallery.specs.declared.book.LogEntry.{LogEntry}
 use Rattle.desk_gallery.specs.Rules.{key_after, chained, NoneBy}
 
 -- a chain goes on after a beginning
-pub chained_on : (k : ℕ) (xs ys : List Entry) → chained k (xs ++ ys) ≡ chained k xs ++ chained (key_after k xs) ys
+pub chained_on : (k : ℕ) (xs ys : List LogEntry) → chained k (xs ++ ys) ≡ chained k xs ++ chained (key_after k xs) ys
 chained_on k [] ys = refl
 chained_on k (e ∷ xs) ys = by_key (chained_on e.next xs ys) (chained_on k xs ys) (e.by == k)
   where
@@ -17,7 +17,7 @@ chained_on k (e ∷ xs) ys = by_key (chained_on e.next xs ys) (chained_on k xs y
     by_key on off true = ap (λ (l : List (Option Command)). e.what ∷ l) on
     by_key on off false = off
 
-pub key_on : (k : ℕ) (xs ys : List Entry) → key_after k (xs ++ ys) ≡ key_after (key_after k xs) ys
+pub key_on : (k : ℕ) (xs ys : List LogEntry) → key_after k (xs ++ ys) ≡ key_after (key_after k xs) ys
 key_on k [] ys = refl
 key_on k (e ∷ xs) ys = by_key (key_on e.next xs ys) (key_on k xs ys) (e.by == k)
   where
@@ -26,7 +26,7 @@ key_on k (e ∷ xs) ys = by_key (key_on e.next xs ys) (key_on k xs ys) (e.by == 
     by_key on off false = off
 
 -- where no entry uses up the key, none follows
-pub chained_none : (k : ℕ) (xs : List Entry) → NoneBy k xs → chained k xs ≡ []
+pub chained_none : (k : ℕ) (xs : List LogEntry) → NoneBy k xs → chained k xs ≡ []
 chained_none k [] none = refl
 chained_none k (e ∷ xs) none = by_key (chained_none k xs (All-tail (λ e. e.by ≢ k) e xs none)) (e.by == k) refl
   where
@@ -34,7 +34,7 @@ chained_none k (e ∷ xs) none = by_key (chained_none k xs (All-tail (λ e. e.by
     by_key rest true is = let same : e.by ≡ k = grind (arith, nat_tests) in absurd (All-head (λ e. e.by ≢ k) e xs none same)
     by_key rest false is = rest
 
-pub key_none : (k : ℕ) (xs : List Entry) → NoneBy k xs → key_after k xs ≡ k
+pub key_none : (k : ℕ) (xs : List LogEntry) → NoneBy k xs → key_after k xs ≡ k
 key_none k [] none = refl
 key_none k (e ∷ xs) none = by_key (key_none k xs (All-tail (λ e. e.by ≢ k) e xs none)) (e.by == k) refl
   where
@@ -42,38 +42,38 @@ key_none k (e ∷ xs) none = by_key (key_none k xs (All-tail (λ e. e.by ≢ k) 
     by_key rest true is = let same : e.by ≡ k = grind (arith, nat_tests) in absurd (All-head (λ e. e.by ≢ k) e xs none same)
     by_key rest false is = rest
 
-pub rest_none : (k : ℕ) (xs ys : List Entry) → NoneBy k (xs ++ ys) → NoneBy k ys
+pub rest_none : (k : ℕ) (xs ys : List LogEntry) → NoneBy k (xs ++ ys) → NoneBy k ys
 rest_none k [] ys none = none
 rest_none k (e ∷ xs) ys none = rest_none k xs ys (All-tail (λ e. e.by ≢ k) e (xs ++ ys) none)
 
 -- of one log, whoever has seen some of it knows no more than who has the key that is next
-whole_chained : (k : ℕ) (xs zs : List Entry) → IsPrefix xs zs → NoneBy (key_after k xs) zs → chained k zs ≡ chained k xs
+whole_chained : (k : ℕ) (xs zs : List LogEntry) → IsPrefix xs zs → NoneBy (key_after k xs) zs → chained k zs ≡ chained k xs
 whole_chained k xs zs p none =
-    let later : NoneBy (key_after k xs) p.0 = rest_none (key_after k xs) xs p.0 (subst (λ (l : List Entry). NoneBy (key_after k xs) l) (sym p.1) none) in
+    let later : NoneBy (key_after k xs) p.0 = rest_none (key_after k xs) xs p.0 (subst (λ (l : List LogEntry). NoneBy (key_after k xs) l) (sym p.1) none) in
     sym (ap (chained k) p.1) ∙ chained_on k xs p.0 ∙ ap (λ (l : List (Option Command)). chained k xs ++ l) (chained_none (key_after k xs) p.0 later) ∙ append-nil (chained k xs)
 
-pub begins_whole : (k : ℕ) (xs ys zs : List Entry) → IsPrefix xs zs → IsPrefix ys zs → NoneBy (key_after k xs) zs → IsPrefix (chained k ys) (chained k xs)
+pub begins_whole : (k : ℕ) (xs ys zs : List LogEntry) → IsPrefix xs zs → IsPrefix ys zs → NoneBy (key_after k xs) zs → IsPrefix (chained k ys) (chained k xs)
 begins_whole k xs ys zs p q none =
     subst (λ (l : List (Option Command)). IsPrefix (chained k ys) l) (whole_chained k xs zs p none) (chained (key_after k ys) q.0, sym (chained_on k ys q.0) ∙ ap (chained k) q.1)
 
 -- an entry that uses up the key that is next
-one_more : (k : ℕ) (e : Entry) → e.by ≡ k → chained k (e ∷ []) ≡ e.what ∷ []
+one_more : (k : ℕ) (e : LogEntry) → e.by ≡ k → chained k (e ∷ []) ≡ e.what ∷ []
 one_more k e same = let is : (e.by == k) ≡ true = grind (arith, nat_tests) in ap (λ (b : Bool). if b then e.what ∷ [] else []) is
 
-one_key : (k : ℕ) (e : Entry) → e.by ≡ k → key_after k (e ∷ []) ≡ e.next
+one_key : (k : ℕ) (e : LogEntry) → e.by ≡ k → key_after k (e ∷ []) ≡ e.next
 one_key k e same = let is : (e.by == k) ≡ true = grind (arith, nat_tests) in ap (λ (b : Bool). if b then e.next else k) is
 
-pub chained_more : (k : ℕ) (xs rest : List Entry) (e : Entry) → e.by ≡ key_after k xs → NoneBy (key_after k xs) rest → chained k (xs ++ rest ++ e ∷ []) ≡ chained k xs ++ e.what ∷ []
+pub chained_more : (k : ℕ) (xs rest : List LogEntry) (e : LogEntry) → e.by ≡ key_after k xs → NoneBy (key_after k xs) rest → chained k (xs ++ rest ++ e ∷ []) ≡ chained k xs ++ e.what ∷ []
 chained_more k xs rest e same none =
     let n : ℕ = key_after k xs in
     let last : chained (key_after n rest) (e ∷ []) ≡ e.what ∷ [] = one_more (key_after n rest) e (same ∙ sym (key_none n rest none)) in
     let later : chained n (rest ++ e ∷ []) ≡ e.what ∷ [] = chained_on n rest (e ∷ []) ∙ ap (λ (l : List (Option Command)). l ++ chained (key_after n rest) (e ∷ [])) (chained_none n rest none) ∙ last in
     ap (chained k) (append_assoc xs rest (e ∷ [])) ∙ chained_on k xs (rest ++ e ∷ []) ∙ ap (λ (l : List (Option Command)). chained k xs ++ l) later
 
-pub key_more : (k : ℕ) (xs rest : List Entry) (e : Entry) → e.by ≡ key_after k xs → NoneBy (key_after k xs) rest → key_after k (xs ++ rest ++ e ∷ []) ≡ e.next
+pub key_more : (k : ℕ) (xs rest : List LogEntry) (e : LogEntry) → e.by ≡ key_after k xs → NoneBy (key_after k xs) rest → key_after k (xs ++ rest ++ e ∷ []) ≡ e.next
 key_more k xs rest e same none =
     let n : ℕ = key_after k xs in
     ap (key_after k) (append_assoc xs rest (e ∷ [])) ∙ key_on k xs (rest ++ e ∷ []) ∙ key_on n rest (e ∷ []) ∙ one_key (key_after n rest) e (same ∙ sym (key_none n rest none))
 
-pub prefix_on : (xs ys zs : List Entry) → IsPrefix xs ys → IsPrefix ys zs → IsPrefix xs zs
-prefix_on xs ys zs p q = (p.0 ++ q.0, sym (append_assoc xs p.0 q.0) ∙ (ap (λ (w : List Entry). w ++ q.0) p.1 ∙ q.1))
+pub prefix_on : (xs ys zs : List LogEntry) → IsPrefix xs ys → IsPrefix ys zs → IsPrefix xs zs
+prefix_on xs ys zs p q = (p.0 ++ q.0, sym (append_assoc xs p.0 q.0) ∙ (ap (λ (w : List LogEntry). w ++ q.0) p.1 ∙ q.1))

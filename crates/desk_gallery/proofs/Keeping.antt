@@ -4,18 +4,18 @@ use Rattle.std.proofs.lemmas.List.{append-nil}
 use Rattle.std.proofs.lemmas.List.Elements.{All-nil, All-cons, All-append, All-weaker}
 use prog.Atomic.{either}
 use Rattle.logbook.specs.Pages.{Cell, cell, Nib, no_nib, may_write, keeps, gives, adds, step, Moves}
-use Rattle.desk_gallery.specs.declared.book.Entry.{Entry}
+use Rattle.desk_gallery.specs.declared.book.LogEntry.{LogEntry}
 use Rattle.desk_gallery.specs.Rules.{IsKept, NoneBy, Makes, Looks, Adds}
 use Rattle.desk_gallery.proofs.Chaining.{rest_none}
 
 -- what is asked for where nothing is added
-abbrev pub no_entry : Entry
+abbrev pub no_entry : LogEntry
 no_entry = record { what = None; by = 0; next = 0 }
 
-abbrev pub shown : List Entry → List Entry
+abbrev pub shown : List LogEntry → List LogEntry
 shown log = []
 
-abbrev pub moved : List Entry → List Entry → ℕ → Type 0
+abbrev pub moved : List LogEntry → List LogEntry → ℕ → Type 0
 moved xs ys n = Unit {0}
 
 -- cells at home
@@ -47,20 +47,20 @@ still_within (x ∷ cs) zero k c lt = lt
 still_within (x ∷ cs) (suc i) zero c lt = omega arith
 still_within (x ∷ cs) (suc i) (suc k) c lt = let r : k < length (slice_set cs i c) = still_within cs i k c (omega (arith, lt)) in omega (arith, r)
 
-kept_set : (cs : List Cell) (log : List Entry) (i n : ℕ) → IsKept cs log → IsKept (slice_set cs i (n, true)) log
+kept_set : (cs : List Cell) (log : List LogEntry) (i n : ℕ) → IsKept cs log → IsKept (slice_set cs i (n, true)) log
 kept_set cs log i n kept = (home_set cs i 0 n kept.0, All-weaker (λ e. (cell cs e.by).1 ≡ true) (λ e. (cell (slice_set cs i (n, true)) e.by).1 ≡ true) (λ e h. home_set cs i e.by n h) log kept.1)
 
-kept_more : (cs more : List Cell) (log : List Entry) → IsKept cs log → IsKept (cs ++ more) log
+kept_more : (cs more : List Cell) (log : List LogEntry) → IsKept cs log → IsKept (cs ++ more) log
 kept_more cs more log kept = (home_more cs more 0 kept.0, All-weaker (λ e. (cell cs e.by).1 ≡ true) (λ e. (cell (cs ++ more) e.by).1 ≡ true) (λ e h. home_more cs more e.by h) log kept.1)
 
 -- a key whose pen is held was not used up
-not_used : (cs : List Cell) (log : List Entry) (k : ℕ) → IsKept cs log → (cell cs k).1 ≡ false → NoneBy k log
+not_used : (cs : List Cell) (log : List LogEntry) (k : ℕ) → IsKept cs log → (cell cs k).1 ≡ false → NoneBy k log
 not_used cs log k kept off = All-weaker (λ e. (cell cs e.by).1 ≡ true) (λ e. e.by ≢ k) (λ e h same. let both : true ≡ false = sym h ∙ ap (λ (n : ℕ). (cell cs n).1) same ∙ off in absurd (cc both)) log kept.1
 
-same_log : (log : List Entry) (cs : List Cell) → IsKept cs log → IsKept cs (log ++ [])
-same_log log cs kept = subst (λ (l : List Entry). IsKept cs l) (sym (append-nil log)) kept
+same_log : (log : List LogEntry) (cs : List Cell) → IsKept cs log → IsKept cs (log ++ [])
+same_log log cs kept = subst (λ (l : List LogEntry). IsKept cs l) (sym (append-nil log)) kept
 
-pub make_moves : (v : List Entry) (a : Entry) → Moves IsKept shown moved 0 (v, (no_nib, None)) (λ n. either (n == 0) 0 n) (Makes (step 0 0 0 a) (v, (no_nib, None)))
+pub make_moves : (v : List LogEntry) (a : LogEntry) → Moves IsKept shown moved 0 (v, (no_nib, None)) (λ n. either (n == 0) 0 n) (Makes (step 0 0 0 a) (v, (no_nib, None)))
 make_moves v a cs log kept pre away = (
   within cs 0 kept.0,
   kept.0,
@@ -75,7 +75,7 @@ make_moves v a cs log kept pre away = (
   ),
 )
 
-pub look_moves : (v : List Entry) (p : Nib) (a : Entry) → p.right ≡ may_write → Moves IsKept shown moved 0 (v, (p, None)) (λ n. either (n == 0) 0 n) (Looks (step 0 0 0 a) (v, (p, None)))
+pub look_moves : (v : List LogEntry) (p : Nib) (a : LogEntry) → p.right ≡ may_write → Moves IsKept shown moved 0 (v, (p, None)) (λ n. either (n == 0) 0 n) (Looks (step 0 0 0 a) (v, (p, None)))
 look_moves v p a right cs log kept pre away = (
   within cs 0 kept.0,
   kept.0,
@@ -86,11 +86,11 @@ look_moves v p a right cs log kept pre away = (
     tt,
     same_log log _ (kept_set cs log 0 _ kept),
     inl (refl, refl),
-    (refl, subst (λ (l : List Entry). NoneBy p.key l) (sym (append-nil log)) (not_used cs log p.key kept (away right).1)),
+    (refl, subst (λ (l : List LogEntry). NoneBy p.key l) (sym (append-nil log)) (not_used cs log p.key kept (away right).1)),
   ),
 )
 
-pub add_moves : (v : List Entry) (p : Nib) (a : Entry) → p.right ≡ may_write → a.by ≡ p.key → Moves IsKept shown moved 0 (v, (p, None)) (λ n. either (n == 0) 0 n) (Adds (step 0 0 0 a) (v, (p, None)))
+pub add_moves : (v : List LogEntry) (p : Nib) (a : LogEntry) → p.right ≡ may_write → a.by ≡ p.key → Moves IsKept shown moved 0 (v, (p, None)) (λ n. either (n == 0) 0 n) (Adds (step 0 0 0 a) (v, (p, None)))
 add_moves v p a right same cs log kept pre away =
     let n : ℕ = either ((cell cs 0).0 == 0) 0 (cell cs 0).0 in
     let one : List Cell = slice_set cs 0 (n, true) in
@@ -98,7 +98,7 @@ add_moves v p a right same cs log kept pre away =
     let so_far : IsKept two log = kept_set one log p.key p.value (kept_set cs log 0 n kept) in
     let used : (cell two p.key).1 ≡ true = home_here one p.key p.value (still_within cs 0 p.key (n, true) (away right).0) in
     let here : (cell two a.by).1 ≡ true = subst (λ (k : ℕ). (cell two k).1 ≡ true) (sym same) used in
-    let P : Entry → Type 0 = λ e. (cell two e.by).1 ≡ true in
+    let P : LogEntry → Type 0 = λ e. (cell two e.by).1 ≡ true in
     let all : All P (log ++ a ∷ []) = All-append P log (a ∷ []) so_far.1 (All-cons P a [] here (All-nil P)) in
     let none : NoneBy p.key log = not_used cs log p.key kept (away right).1 in (
       within cs 0 kept.0,
@@ -112,8 +112,8 @@ add_moves v p a right same cs log kept pre away =
         inl (refl, refl),
         (
           pre.0,
-          ap (λ (l : List Entry). l ++ a ∷ []) (sym pre.1),
-          rest_none p.key v pre.0 (subst (λ (l : List Entry). NoneBy p.key l) (sym pre.1) none),
+          ap (λ (l : List LogEntry). l ++ a ∷ []) (sym pre.1),
+          rest_none p.key v pre.0 (subst (λ (l : List LogEntry). NoneBy p.key l) (sym pre.1) none),
         ),
       ),
     )

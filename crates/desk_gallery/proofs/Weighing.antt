@@ -2,7 +2,7 @@
 use Rattle.std.proofs.Common.{◌≡◌, ℕ, Option, Some, None, List, [], ◌∷◌, ◌++◌, refl, sym, ap, ◌∙◌, subst}
 use mathlib.Core.List.{IsPrefix}
 use Rattle.desk_model.specs.declared.command.Command.{Command}
-use Rattle.desk_gallery.specs.declared.book.Entry.{Entry}
+use Rattle.desk_gallery.specs.declared.book.LogEntry.{LogEntry}
 use Rattle.desk_gallery.specs.Rules.{key_after, chained, weighed, lists_of, shown_of, NoneBy}
 use Rattle.desk_gallery.proofs.Chaining.{chained_on, chained_more, begins_whole}
 use Rattle.desk_gallery.proofs.Pasts.{prefix_self, prefix_trans}
@@ -28,17 +28,17 @@ shown_begins xs zs p =
     subst (λ (acts : List (Option Command)). IsPrefix (weighed ([], []) xs).0 (weighed ([], []) acts).0) p.1
     (subst (λ (s : List Command × List Command). IsPrefix (weighed ([], []) xs).0 s.0) (sym (weighed_on ([], []) xs p.0)) (grows (weighed ([], []) xs) p.0 (ordered ([], []) xs ([], refl))))
 
-chain_begins : (k : ℕ) (xs zs : List Entry) → IsPrefix xs zs → IsPrefix (chained k xs) (chained k zs)
+chain_begins : (k : ℕ) (xs zs : List LogEntry) → IsPrefix xs zs → IsPrefix (chained k xs) (chained k zs)
 chain_begins k xs zs p = (chained (key_after k xs) p.0, sym (chained_on k xs p.0) ∙ ap (chained k) p.1)
 
 -- of two beginnings of one log, the shorter shows a beginning of what the longer shows
-pub log_begins : (k : ℕ) (xs zs : List Entry) → IsPrefix xs zs → IsPrefix (shown_of k xs) (shown_of k zs)
+pub log_begins : (k : ℕ) (xs zs : List LogEntry) → IsPrefix xs zs → IsPrefix (shown_of k xs) (shown_of k zs)
 log_begins k xs zs p = shown_begins (chained k xs) (chained k zs) (chain_begins k xs zs p)
 
 -- whoever has seen some of the log knows of no more than who has the key that is next
-pub whole_begins : (k : ℕ) (xs ys zs : List Entry) → IsPrefix xs zs → IsPrefix ys zs → NoneBy (key_after k xs) zs → IsPrefix (shown_of k ys) (shown_of k xs)
+pub whole_begins : (k : ℕ) (xs ys zs : List LogEntry) → IsPrefix xs zs → IsPrefix ys zs → NoneBy (key_after k xs) zs → IsPrefix (shown_of k ys) (shown_of k xs)
 whole_begins k xs ys zs p q none = shown_begins (chained k ys) (chained k xs) (begins_whole k xs ys zs p q none)
 
 -- an entry that uses up the key that is next
-pub lists_more : (k : ℕ) (xs rest : List Entry) (e : Entry) → e.by ≡ key_after k xs → NoneBy (key_after k xs) rest → lists_of k (xs ++ rest ++ e ∷ []) ≡ weighed (lists_of k xs) (e.what ∷ [])
+pub lists_more : (k : ℕ) (xs rest : List LogEntry) (e : LogEntry) → e.by ≡ key_after k xs → NoneBy (key_after k xs) rest → lists_of k (xs ++ rest ++ e ∷ []) ≡ weighed (lists_of k xs) (e.what ∷ [])
 lists_more k xs rest e same none = ap (weighed ([], [])) (chained_more k xs rest e same none) ∙ weighed_on ([], []) (chained k xs) (e.what ∷ [])

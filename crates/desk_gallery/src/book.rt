@@ -16,7 +16,7 @@ use std::marker::{Brand, Model, PhantomData};
 /// An entry of the log: a change that is appended, or none where all that is pending is shown; the key that it uses up, and the
 /// key that the next one uses up. No value of it is made.
 #[derive(Drop)]
-pub struct Entry {
+pub struct LogEntry {
     pub what: Option<Command>,
     pub by: u64,
     pub next: u64,
@@ -25,7 +25,7 @@ pub struct Entry {
 /// The rule of the log: the key of each entry is used up.
 pub struct Law;
 
-impl Rule<Entry, u64> for Law {
+impl Rule<LogEntry, u64> for Law {
     ghost use Rattle.std.specs.Prelude.{[]};
     ghost use base.Fml.{ftrue};
     ghost use Rattle.desk_gallery.specs.Rules.{IsKept};
@@ -46,7 +46,7 @@ impl Rule<Entry, u64> for Law {
 /// Callers trade nothing.
 pub struct Nothing;
 
-impl Gain<Entry, u64> for Nothing {
+impl Gain<LogEntry, u64> for Nothing {
     ghost use base.Fml.{ftrue};
 
     ghost after = { λ names about answer. ftrue };
@@ -55,7 +55,7 @@ impl Gain<Entry, u64> for Nothing {
 /// A step that makes a key.
 pub struct Make;
 
-impl Play<Entry, u64> for Make {
+impl Play<LogEntry, u64> for Make {
     ghost use Rattle.desk_gallery.specs.Rules.{Makes};
 
     ghost then = { Makes };
@@ -64,13 +64,13 @@ impl Play<Entry, u64> for Make {
 /// A step that looks, with a key in hand.
 pub struct Look;
 
-impl Play<Entry, u64> for Look {
+impl Play<LogEntry, u64> for Look {
     ghost use Rattle.desk_gallery.specs.Rules.{Looks};
 
     ghost then = { Looks };
 }
 
-impl Plain<u64, Entry, u64> for Look {
+impl Plain<u64, LogEntry, u64> for Look {
     ghost use Rattle.std.specs.Prelude.{None};
 
     ghost ask = { λ n. record { what = None; by = n; next = n } };
@@ -81,7 +81,7 @@ impl Plain<u64, Entry, u64> for Look {
 /// A step that uses up the key in hand and adds an entry.
 pub struct Add;
 
-impl Play<Entry, u64> for Add {
+impl Play<LogEntry, u64> for Add {
     ghost use Rattle.desk_gallery.specs.Rules.{Adds};
 
     ghost then = { Adds };
@@ -95,7 +95,7 @@ pub struct Appending<'a> {
     next: &'a Pen,
 }
 
-impl<'a> Plain<Appending<'a>, Entry, u64> for Add {
+impl<'a> Plain<Appending<'a>, LogEntry, u64> for Add {
     ghost use Rattle.std.specs.Prelude.{None, Some};
 
     ghost ask = { λ a. record { what = Some a.command.now; by = a.by.now.nib.key; next = a.next.now.nib.key } };
@@ -110,7 +110,7 @@ pub struct Showing<'a> {
     next: &'a Pen,
 }
 
-impl<'a> Plain<Showing<'a>, Entry, u64> for Add {
+impl<'a> Plain<Showing<'a>, LogEntry, u64> for Add {
     ghost use Rattle.std.specs.Prelude.{None};
 
     ghost ask = { λ a. record { what = None; by = a.by.now.nib.key; next = a.next.now.nib.key } };
@@ -148,24 +148,24 @@ impl Room for Brand {
 }
 
 /// A new key.
-fn make_key(head: &Word<Entry, u64, Law>, seen: &Seen<Entry, u64, Law>) -> Pen
+fn make_key(head: &Word<LogEntry, u64, Law>, seen: &Seen<LogEntry, u64, Law>) -> Pen
     requires { head.now ≡ head_of seen.now.book }
     ensures book { result.book ≡ seen.now.book }
     ensures right { result.nib.right ≡ may_write }
 {
     let mut seen = seen.again();
-    let mut offer: Offer<Entry, u64, Law, Nothing> = seen.plain::<Nothing, u64, Look>(&0);
+    let mut offer: Offer<LogEntry, u64, Law, Nothing> = seen.plain::<Nothing, u64, Look>(&0);
     let mut pen = seen.no_pen();
     head.compare_exchange::<Make, Nothing>(0, 0, &mut seen, &mut offer, &mut pen);
-    let _word: Word<Entry, u64, Law> = Word::tracked(0, &mut pen);
+    let _word: Word<LogEntry, u64, Law> = Word::tracked(0, &mut pen);
     pen
 }
 
 /// An empty list, which has no name yet.
 #[derive(Drop)]
 pub struct Opened {
-    head: Word<Entry, u64, Law>,
-    seen: Seen<Entry, u64, Law>,
+    head: Word<LogEntry, u64, Law>,
+    seen: Seen<LogEntry, u64, Law>,
     pen: Pen,
     pub ghost empty: { seen.log ≡ [] },
     pub ghost head_is: { head ≡ head_of seen.book },
@@ -186,7 +186,7 @@ impl Opened {
 #[derive(Drop)]
 pub struct Mark {
     pub number: u64,
-    pub seen: Seen<Entry, u64, Law>,
+    pub seen: Seen<LogEntry, u64, Law>,
 }
 
 impl Mark {
@@ -205,7 +205,7 @@ impl Mark {
 #[derive(Drop)]
 pub struct Past<J: Room> {
     number: u64,
-    seen: Seen<Entry, u64, Law>,
+    seen: Seen<LogEntry, u64, Law>,
     of: PhantomData<J>,
 }
 
@@ -269,9 +269,9 @@ impl<J: Room> Past<J> {
 /// The whole list, with the one token that lengthens it. Contracts see it as what is shown, and that with what is pending after it.
 #[derive(Drop)]
 pub struct Whole<J: Room> {
-    head: Word<Entry, u64, Law>,
+    head: Word<LogEntry, u64, Law>,
     pen: Pen,
-    seen: Seen<Entry, u64, Law>,
+    seen: Seen<LogEntry, u64, Law>,
     number: u64,
     of: PhantomData<J>,
 }
@@ -334,7 +334,7 @@ impl<J: Room> Whole<J> {
     {
         let mut seen = self.seen.again();
         seen.learn(&other.seen);
-        let mut offer: Offer<Entry, u64, Law, Nothing> = seen.plain::<Nothing, u64, Look>(&0);
+        let mut offer: Offer<LogEntry, u64, Law, Nothing> = seen.plain::<Nothing, u64, Look>(&0);
         self.head
             .compare_exchange::<Look, Nothing>(0, 0, &mut seen, &mut offer, &mut self.pen);
     }
@@ -350,7 +350,7 @@ impl<J: Room> Whole<J> {
             by: &self.pen,
             next: &next,
         };
-        let mut offer: Offer<Entry, u64, Law, Nothing> = self
+        let mut offer: Offer<LogEntry, u64, Law, Nothing> = self
             .seen
             .plain::<Nothing, Appending, Add>(&asked);
         self.head
@@ -368,7 +368,7 @@ impl<J: Room> Whole<J> {
             by: &self.pen,
             next: &next,
         };
-        let mut offer: Offer<Entry, u64, Law, Nothing> = self
+        let mut offer: Offer<LogEntry, u64, Law, Nothing> = self
             .seen
             .plain::<Nothing, Showing, Add>(&asked);
         self.head

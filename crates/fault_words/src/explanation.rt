@@ -41,7 +41,7 @@ pub(crate) fn case_of(reason: Option<Reason>) -> &'static str {
 
 /// Whose fault it is.
 #[derive(Clone, Copy, Debug, PartialEq, Eq)]
-pub enum Place {
+pub enum FaultPlace {
     EveryFile,
     Geo,
     Segment,
@@ -58,47 +58,47 @@ pub enum Place {
 }
 
 /// All places, in the order of docs/FAULTS.md.
-pub(crate) static PLACES: [Place; 10] = [
-    Place::EveryFile,
-    Place::Geo,
-    Place::Segment,
-    Place::Join,
-    Place::Gal,
-    Place::Plan,
-    Place::Store,
-    Place::Command,
-    Place::Bytes,
-    Place::Requests,
+pub(crate) static PLACES: [FaultPlace; 10] = [
+    FaultPlace::EveryFile,
+    FaultPlace::Geo,
+    FaultPlace::Segment,
+    FaultPlace::Join,
+    FaultPlace::Gal,
+    FaultPlace::Plan,
+    FaultPlace::Store,
+    FaultPlace::Command,
+    FaultPlace::Bytes,
+    FaultPlace::Requests,
 ];
 
 /// The codes of a place.
-pub(crate) fn table_of(place: Place) -> &'static [Explanation] {
+pub(crate) fn table_of(place: FaultPlace) -> &'static [Explanation] {
     match place {
-        Place::EveryFile => &EVERY_FILE,
-        Place::Geo => &GEO,
-        Place::Segment => &SEGMENT,
-        Place::Join => &JOIN,
-        Place::Gal => &GAL,
-        Place::Plan => &PLAN,
-        Place::Store => &STORE,
-        Place::Command => &COMMAND,
-        Place::Bytes => &BYTES,
-        Place::Requests => &REQUESTS,
+        FaultPlace::EveryFile => &EVERY_FILE,
+        FaultPlace::Geo => &GEO,
+        FaultPlace::Segment => &SEGMENT,
+        FaultPlace::Join => &JOIN,
+        FaultPlace::Gal => &GAL,
+        FaultPlace::Plan => &PLAN,
+        FaultPlace::Store => &STORE,
+        FaultPlace::Command => &COMMAND,
+        FaultPlace::Bytes => &BYTES,
+        FaultPlace::Requests => &REQUESTS,
     }
 }
 
 /// What a place is called.
-pub(crate) fn name_of(place: Place) -> &'static str {
+pub(crate) fn name_of(place: FaultPlace) -> &'static str {
     match place {
-        Place::EveryFile => "any file",
-        Place::Geo => "geo",
-        Place::Segment => "seg1, seg2 or seg3",
-        Place::Join => "join",
-        Place::Gal => "gal",
-        Place::Plan => "plan, senate or congress",
-        Place::Store => "store",
-        Place::Command => "standard streams and sockets",
-        Place::Bytes | Place::Requests => "over HTTP",
+        FaultPlace::EveryFile => "any file",
+        FaultPlace::Geo => "geo",
+        FaultPlace::Segment => "seg1, seg2 or seg3",
+        FaultPlace::Join => "join",
+        FaultPlace::Gal => "gal",
+        FaultPlace::Plan => "plan, senate or congress",
+        FaultPlace::Store => "store",
+        FaultPlace::Command => "standard streams and sockets",
+        FaultPlace::Bytes | FaultPlace::Requests => "over HTTP",
     }
 }
 

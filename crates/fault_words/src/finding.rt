@@ -4,32 +4,32 @@ ghost use mathlib.Core.List.{IsPrefix};
 ghost use Rattle.fault_words.specs.Lines.{AreWords};
 
 use crate::explanation::{
-    Explanation, PLACES, Place, Reason, case_of, name_of, put_entry, table_of,
+    Explanation, FaultPlace, PLACES, Reason, case_of, name_of, put_entry, table_of,
 };
 use std::alloc::{AllocError, Global};
 
 /// Whose fault a line tells, by the word behind the program's name: a file's role, or a command.
-static ROLES: [(&str, Place); 17] = [
-    ("geo", Place::Geo),
-    ("seg1", Place::Segment),
-    ("seg2", Place::Segment),
-    ("seg3", Place::Segment),
-    ("join", Place::Join),
-    ("gal", Place::Gal),
-    ("plan", Place::Plan),
-    ("senate", Place::Plan),
-    ("congress", Place::Plan),
-    ("store", Place::Store),
-    ("check", Place::Command),
-    ("explain", Place::Command),
-    ("format", Place::Command),
-    ("load", Place::Command),
-    ("serve", Place::Command),
-    ("sweep", Place::Command),
-    ("talk", Place::Command),
+static ROLES: [(&str, FaultPlace); 17] = [
+    ("geo", FaultPlace::Geo),
+    ("seg1", FaultPlace::Segment),
+    ("seg2", FaultPlace::Segment),
+    ("seg3", FaultPlace::Segment),
+    ("join", FaultPlace::Join),
+    ("gal", FaultPlace::Gal),
+    ("plan", FaultPlace::Plan),
+    ("senate", FaultPlace::Plan),
+    ("congress", FaultPlace::Plan),
+    ("store", FaultPlace::Store),
+    ("check", FaultPlace::Command),
+    ("explain", FaultPlace::Command),
+    ("format", FaultPlace::Command),
+    ("load", FaultPlace::Command),
+    ("serve", FaultPlace::Command),
+    ("sweep", FaultPlace::Command),
+    ("talk", FaultPlace::Command),
 ];
 
-fn place_of(role: &[u8]) -> Option<Place> {
+fn place_of(role: &[u8]) -> Option<FaultPlace> {
     for (name, place) in &ROLES {
         if name.as_bytes() == role {
             return Some(*place);
@@ -70,7 +70,7 @@ fn among(table: &'static [Explanation], code: &[u8], case: &str) -> Option<&'sta
 }
 
 /// The words of a place for a code, for this reason where there are such.
-fn at_place(place: Place, code: &[u8], reason: Option<Reason>) -> Option<&'static Explanation>
+fn at_place(place: FaultPlace, code: &[u8], reason: Option<Reason>) -> Option<&'static Explanation>
     ensures { IfSome result (λ words. words.now.code.now ≡ code.now) }
 {
     let table = table_of(place);
@@ -81,14 +81,18 @@ fn at_place(place: Place, code: &[u8], reason: Option<Reason>) -> Option<&'stati
 }
 
 /// The words of a place for the code that a line has behind its role.
-fn behind_role(place: Place, text: &[u8], reason: Option<Reason>) -> Option<&'static Explanation>
+fn behind_role(
+    place: FaultPlace,
+    text: &[u8],
+    reason: Option<Reason>,
+) -> Option<&'static Explanation>
     ensures { IfSome result (λ words. (more : List ℕ) × (text.now ≡ codes ": " ++ words.now.code.now ++ more)) }
 {
     let rest = behind(text, b": ")?;
     let code = before(rest, b' ', b'\n');
     match at_place(place, code, reason) {
         Some(words) => Some(words),
-        None => at_place(Place::EveryFile, code, None),
+        None => at_place(FaultPlace::EveryFile, code, None),
     }
 }
 
@@ -100,7 +104,7 @@ pub fn explained(line: &[u8], reason: Option<Reason>) -> Option<&'static Explana
     let role = before(rest, b':', b'\n');
     match place_of(role) {
         Some(place) => behind_role(place, behind(rest, role)?, reason),
-        None => at_place(Place::Command, role, None),
+        None => at_place(FaultPlace::Command, role, None),
     }
 }
 
@@ -117,7 +121,7 @@ pub fn is_code(code: &str) -> bool {
 }
 
 /// Puts what is known of a code at a place behind a text.
-fn put_place(text: &mut Vec<u8>, place: Place, code: &str) -> Result<(), AllocError> {
+fn put_place(text: &mut Vec<u8>, place: FaultPlace, code: &str) -> Result<(), AllocError> {
     for words in table_of(place) {
         if words.code == code {
             put_entry(text, name_of(place), *words)?;

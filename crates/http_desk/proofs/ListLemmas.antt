@@ -10,8 +10,8 @@ use Rattle.http_answer.specs.Queue.{Queued}
 use Rattle.http_routes.specs.Orders.{order_of}
 use Rattle.http_desk.specs.declared.serve.Next.{Next}
 use Rattle.http_desk.specs.declared.serve.Next.TheVariants as next
-use Rattle.http_desk.specs.declared.serve.ServeFault.{ServeFault}
-use Rattle.http_desk.specs.declared.serve.ServeFault.TheVariants as fault
+use Rattle.http_desk.specs.declared.serve.StreamFault.{StreamFault}
+use Rattle.http_desk.specs.declared.serve.StreamFault.TheVariants as fault
 use Rattle.http_desk.specs.Talk.{Talk, Handles}
 use Rattle.http_desk.specs.Serving.{Closes, Exchanges, IsFrontTalk, Leaves, TakesSome}
 use Rattle.http_desk.proofs.TalkLemmas.{Appends-none, HandlesHead, last, on, cut, closing}
@@ -20,7 +20,7 @@ use Rattle.http_desk.proofs.TalkLemmas.{Appends-none, HandlesHead, last, on, cut
 abbrev pub IsList : List ℕ → Bool → List ℕ → Type 0
 IsList input closes rest = IsPlain input (codes "GET") (codes "/plans") closes rest
 
-pub takes : (k a b : ℕ) (r : Result Next ServeFault) → b < a → TakesSome r (k + a) (k + b)
+pub takes : (k a b : ℕ) (r : Result Next StreamFault) → b < a → TakesSome r (k + a) (k + b)
 takes k a b (Ok next.Again) less = omega (arith, less)
 takes k a b (Ok next.Last) less = omega (arith, less)
 takes k a b (Ok next.End) less = omega (arith, less)
@@ -28,11 +28,11 @@ takes k a b (Err e) less = omega (arith, less)
 
 module _ {X : Type 0} (commands : X → Command → Reply → X → Type 0) (asks : X → Query → Reply → X → Type 0) where
   -- what an exchange tells of the bytes
-  abbrev pub Told : (u v a b : Option (List ℕ)) → X → Result Next ServeFault → (start rest before after : List ℕ) → X → Type 0
+  abbrev pub Told : (u v a b : Option (List ℕ)) → X → Result Next StreamFault → (start rest before after : List ℕ) → X → Type 0
   Told u v a b x result start rest before after y =
       (more : List ℕ) × (output : List ℕ) × (unsent : List ℕ) × Consumes u v more × Queued a b before unsent output × Exchanges commands asks x result v (start ++ more) rest output y × Leaves result unsent after
 
-  pub told_from : (u v a b : Option (List ℕ)) (x y : X) (r : Result Next ServeFault) (start other rest before after : List ℕ) → start ≡ other → Told u v a b x r start rest before after y → Told u v a b x r other rest before after y
+  pub told_from : (u v a b : Option (List ℕ)) (x y : X) (r : Result Next StreamFault) (start other rest before after : List ℕ) → start ≡ other → Told u v a b x r start rest before after y → Told u v a b x r other rest before after y
   told_from u v a b x y r start other rest before after e t = subst (λ (xs : List ℕ). Told u v a b x r xs rest before after y) e t
 
   -- the answer to the list
@@ -54,7 +54,7 @@ module _ {X : Type 0} (commands : X → Command → Reply → X → Type 0) (ask
       let front = cut commands asks x y (input ++ []) rest text p.head (codes "/plans") [] p.front (append-nil input ∙ p.cut) p.alone (of_list x y input rest text closes false p h) in
       ([], text, s.0, none, s.1, subst (λ (t : List ℕ). IsFrontTalk commands asks x (input ++ []) (t ++ text) y) (sym p.asks) front, tt)
 
-  pub list_ends : (x y : X) (u a b : Option (List ℕ)) (input rest before after text : List ℕ) (closes : Bool) (r : Result Next ServeFault) → Consumes u u [] → IsList input closes rest → Lists x closes text true y
+  pub list_ends : (x y : X) (u a b : Option (List ℕ)) (input rest before after text : List ℕ) (closes : Bool) (r : Result Next StreamFault) → Consumes u u [] → IsList input closes rest → Lists x closes text true y
       → Closes a b before r text → Told u u a b x r input rest before after y
   list_ends x y u a b input rest before after text closes r none p h c =
       let whole = input ++ [] in

@@ -13,8 +13,8 @@ use Rattle.desk_model.specs.declared.command.Query.{Query}
 use Rattle.desk_model.specs.declared.reply.Reply.{Reply}
 use Rattle.http_desk.specs.declared.serve.Next.{Next}
 use Rattle.http_desk.specs.declared.serve.Next.TheVariants as next
-use Rattle.http_desk.specs.declared.serve.ServeFault.{ServeFault}
-use Rattle.http_desk.specs.declared.serve.ServeFault.TheVariants as fault
+use Rattle.http_desk.specs.declared.serve.StreamFault.{StreamFault}
+use Rattle.http_desk.specs.declared.serve.StreamFault.TheVariants as fault
 use Rattle.http_routes.specs.Orders.{order_of}
 use Rattle.http_desk.specs.Serving.{Closes, CutsNext, Exchanges, IsCutTalk, IsFrontTalk, IsShortTalk, GoesOn, Leaves, ServesTo}
 use Rattle.http_desk.specs.Talk.{Talk, Handles, over, ended, starved, closed, went}
@@ -131,7 +131,7 @@ module _ {X : Type 0} (commands : X → Command → Reply → X → Type 0) (ask
   })
 
   -- a closing answer, written whole or in part
-  pub closing : (x y : X) (old mid new left : Option (List ℕ)) (input rest before pending unsent interim text end : List ℕ) (result : Result Next ServeFault) → Talk commands asks x input (interim ++ text) 1 true y
+  pub closing : (x y : X) (old mid new left : Option (List ℕ)) (input rest before pending unsent interim text end : List ℕ) (result : Result Next StreamFault) → Talk commands asks x input (interim ++ text) 1 true y
       → Queued old mid before unsent interim → unsent ≡ pending → Closes mid new pending result text
       → (output : List ℕ) × (unsent : List ℕ) × Queued old new before unsent output × Exchanges commands asks x result left input rest output y × Leaves result unsent end
   closing x y old mid new left input rest before pending unsent interim text end (Ok next.Last) talk q e c =
@@ -244,7 +244,7 @@ module _ {X : Type 0} (commands : X → Command → Reply → X → Type 0) (ask
       )
 
   -- a fault of an exchange ends the stream
-  pub fails : (x0 x y : X) (u v w b0 b1 b2 : Option (List ℕ)) (inbox rest pending after came sent unsent : List ℕ) (requests : ℕ) (e : ServeFault) → Stands x0 u v b0 b1 x inbox pending requests → Consumes v w came
+  pub fails : (x0 x y : X) (u v w b0 b1 b2 : Option (List ℕ)) (inbox rest pending after came sent unsent : List ℕ) (requests : ℕ) (e : StreamFault) → Stands x0 u v b0 b1 x inbox pending requests → Consumes v w came
       → Queued b1 b2 pending unsent sent → Exchanges commands asks x (Err e) w (inbox ++ came) rest sent y → Leaves (Err e) unsent after
       → (input : List ℕ) × (output : List ℕ) × Consumes u w input × Appends b0 b2 output × ServesTo commands asks x0 (Err e) w input output y
   fails x0 x y u v w b0 b1 b2 inbox rest pending after came sent unsent requests fault.Read s read write t none = ends_short x0 x y u v w b0 b1 b2 inbox pending came sent unsent requests s read write none t

@@ -7,15 +7,15 @@ use Rattle.desk_model.specs.declared.reply.Reply.{Reply}
 use Rattle.http_answer.specs.Queue.{Queued}
 use Rattle.http_desk.specs.declared.serve.Next.{Next}
 use Rattle.http_desk.specs.declared.serve.Next.TheVariants as next
-use Rattle.http_desk.specs.declared.serve.ServeFault.{ServeFault}
-use Rattle.http_desk.specs.declared.serve.ServeFault.TheVariants as fault
+use Rattle.http_desk.specs.declared.serve.StreamFault.{StreamFault}
+use Rattle.http_desk.specs.declared.serve.StreamFault.TheVariants as fault
 use Rattle.http_desk.specs.Talk.{Talk, over}
 use Rattle.http_desk.specs.Serving.{Exchanges, Turned, TakesSome}
 use Rattle.http_desk.proofs.TalkLemmas.{Consumes-then, queued_then, cut_next}
 use Rattle.http_desk.proofs.ListLemmas.{Told}
 
 -- what the turn left is no more than what there was
-pub takes_from : (old mid new : ℕ) (r : Result Next ServeFault) → mid ≤ old → TakesSome r mid new → TakesSome r old new
+pub takes_from : (old mid new : ℕ) (r : Result Next StreamFault) → mid ≤ old → TakesSome r mid new → TakesSome r old new
 takes_from old mid new (Ok next.Again) less t = omega (arith, less, t)
 takes_from old mid new (Ok next.Last) less t = omega (arith, less, t)
 takes_from old mid new (Ok next.End) less t = omega (arith, less, t)
@@ -23,7 +23,7 @@ takes_from old mid new (Err e) less t = omega (arith, less, t)
 
 module _ {X : Type 0} (commands : X → Command → Reply → X → Type 0) (asks : X → Query → Reply → X → Type 0) where
   -- the exchange over what it brought
-  pub turn_then : (u v w a b c : Option (List ℕ)) (x y : X) (r : Result Next ServeFault) (start inbox rest before between after : List ℕ) → start ≡ [] → Consumes u v inbox × Appends a b before × (between ≡ [])
+  pub turn_then : (u v w a b c : Option (List ℕ)) (x y : X) (r : Result Next StreamFault) (start inbox rest before between after : List ℕ) → start ≡ [] → Consumes u v inbox × Appends a b before × (between ≡ [])
       → Told commands asks v w b c x r inbox rest between after y → Told commands asks u w a c x r start rest before after y
   turn_then u v w a b c x y r start inbox rest before between after none came t =
       let first : Queued a b before between [] = (before, came.1, ap (λ (xs : List ℕ). before ++ xs) (sym came.2)) in (
@@ -44,7 +44,7 @@ module _ {X : Type 0} (commands : X → Command → Reply → X → Type 0) (ask
   turn_over u v a b x start inbox before pending none t = ([], [], [], t.0, (before, t.2, refl), (nothing x start none, t.1), refl)
 
   -- a fault before it
-  pub turn_fails : (u v a b : Option (List ℕ)) (x : X) (start inbox before pending : List ℕ) (e : ServeFault) → start ≡ [] → Turned u v a b before (Err e) inbox pending → Told commands asks u v a b x (Err e) start inbox before pending x
+  pub turn_fails : (u v a b : Option (List ℕ)) (x : X) (start inbox before pending : List ℕ) (e : StreamFault) → start ≡ [] → Turned u v a b before (Err e) inbox pending → Told commands asks u v a b x (Err e) start inbox before pending x
   turn_fails u v a b x start inbox before pending fault.Read none t = ([], [], [], t.0, (before, t.1, refl), inl (0, nothing x start none), refl)
   turn_fails u v a b x start inbox before pending fault.TurnLimit none t = ([], [], [], t.0, (before, t.1, refl), inl (0, nothing x start none), refl)
   turn_fails u v a b x start inbox before pending fault.Write none t = (

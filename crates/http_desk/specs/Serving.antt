@@ -7,8 +7,8 @@ use Rattle.desk_model.specs.declared.reply.Reply.{Reply}
 use Rattle.http_desk.specs.declared.serve.Served.{Served}
 use Rattle.http_desk.specs.declared.serve.Next.{Next}
 use Rattle.http_desk.specs.declared.serve.Next.TheVariants as next
-use Rattle.http_desk.specs.declared.serve.ServeFault.{ServeFault}
-use Rattle.http_desk.specs.declared.serve.ServeFault.TheVariants as fault
+use Rattle.http_desk.specs.declared.serve.StreamFault.{StreamFault}
+use Rattle.http_desk.specs.declared.serve.StreamFault.TheVariants as fault
 use Rattle.byte_stream.specs.Counts.{counted}
 use Rattle.http_answer.specs.Queue.{Queued}
 use Rattle.http_wire.specs.Front.{IsIncomplete}
@@ -21,7 +21,7 @@ use Rattle.http_wire.specs.declared.request.Incoming.TheVariants as came
 use Rattle.http_desk.specs.Talk.{Talk}
 
 -- a read fault is one failure of the reader more, and all else none
-abbrev pub read_failures : {A : Type 0} → ℕ → Result A ServeFault → ℕ
+abbrev pub read_failures : {A : Type 0} → ℕ → Result A StreamFault → ℕ
 read_failures n (Ok a) = n
 read_failures n (Err fault.Read) = counted n 1
 read_failures n (Err fault.Write) = n
@@ -29,7 +29,7 @@ read_failures n (Err fault.Memory) = n
 read_failures n (Err fault.TurnLimit) = n
 
 -- a write fault is one failure of the writer more, and all else none
-abbrev pub write_failures : {A : Type 0} → ℕ → Result A ServeFault → ℕ
+abbrev pub write_failures : {A : Type 0} → ℕ → Result A StreamFault → ℕ
 write_failures n (Ok a) = n
 write_failures n (Err fault.Read) = n
 write_failures n (Err fault.Write) = counted n 1
@@ -37,14 +37,14 @@ write_failures n (Err fault.Memory) = n
 write_failures n (Err fault.TurnLimit) = n
 
 -- what a stream can still give never grows, and each request that is answered takes some of it
-abbrev pub TakesSome : Result Next ServeFault → ℕ → ℕ → Type 0
+abbrev pub TakesSome : Result Next StreamFault → ℕ → ℕ → Type 0
 TakesSome (Ok next.Again) old new = new < old
 TakesSome (Ok next.Last) old new = new ≤ old
 TakesSome (Ok next.End) old new = new ≤ old
 TakesSome (Err e) old new = new ≤ old
 
 -- the last answer was written with what waited, or a front of them
-abbrev pub Closes : (old new : Option (List ℕ)) → (before : List ℕ) → Result Next ServeFault → List ℕ → Type 0
+abbrev pub Closes : (old new : Option (List ℕ)) → (before : List ℕ) → Result Next StreamFault → List ℕ → Type 0
 Closes old new before (Ok next.Last) text = Queued old new before [] text
 Closes old new before (Err fault.Write) text = (unsent : List ℕ) × Queued old new before unsent text
 Closes old new before (Ok next.Again) text = ⊥
@@ -54,7 +54,7 @@ Closes old new before (Err fault.Memory) text = ⊥
 Closes old new before (Err fault.TurnLimit) text = ⊥
 
 -- what is unsent waits, but at the end and at a read fault nothing does
-abbrev pub Leaves : Result Next ServeFault → (unsent pending : List ℕ) → Type 0
+abbrev pub Leaves : Result Next StreamFault → (unsent pending : List ℕ) → Type 0
 Leaves (Ok next.Again) unsent pending = unsent ≡ pending
 Leaves (Ok next.Last) unsent pending = unsent ≡ []
 Leaves (Ok next.End) unsent pending = unsent ≡ []
@@ -88,7 +88,7 @@ NextCame input (Err request.TurnLimit) rest interim = IsCutShort input interim
 NextCame input (Err request.Write) rest interim = CutsNext input interim
 
 -- What waited is sent, and then a turn is taken, where nothing had come: at the end it brings nothing
-abbrev pub Turned : (unread left before after : Option (List ℕ)) → (waiting : List ℕ) → Result Bool ServeFault → (inbox pending : List ℕ) → Type 0
+abbrev pub Turned : (unread left before after : Option (List ℕ)) → (waiting : List ℕ) → Result Bool StreamFault → (inbox pending : List ℕ) → Type 0
 Turned unread left before after waiting (Ok true) inbox pending = Consumes unread left [] × IsAtEnd left × Appends before after waiting × (inbox ≡ []) × (pending ≡ [])
 Turned unread left before after waiting (Ok false) inbox pending = Consumes unread left inbox × Appends before after waiting × (pending ≡ [])
 Turned unread left before after waiting (Err fault.Read) inbox pending = Consumes unread left [] × Appends before after waiting × (inbox ≡ []) × (pending ≡ [])
@@ -128,7 +128,7 @@ module _ {X : Type 0} (commands : X → Command → Reply → X → Type 0) (ask
   IsShortTalk x input answers y = ((n : ℕ) × Talk commands asks x input answers n false y) ⊎ IsCutInHead x input answers y
 
   -- Ok comes only at the end of the input or after an answer that closes
-  abbrev pub ServesTo : X → Result Served ServeFault → Option (List ℕ) → List ℕ → List ℕ → X → Type 0
+  abbrev pub ServesTo : X → Result Served StreamFault → Option (List ℕ) → List ℕ → List ℕ → X → Type 0
   ServesTo x (Ok served) left input output y = (shut : Bool) × Talk commands asks x input output served.requests shut y × (shut ≡ false → IsAtEnd left)
   ServesTo x (Err fault.Read) left input output y = IsShortTalk x input output y
   ServesTo x (Err fault.TurnLimit) left input output y = IsShortTalk x input output y
@@ -141,7 +141,7 @@ module _ {X : Type 0} (commands : X → Command → Reply → X → Type 0) (ask
     pub read : input ≡ front ++ rest
     pub on : (later more : List ℕ) (n : ℕ) (shut : Bool) (z : X) → Talk commands asks y later more n shut z → Talk commands asks x (front ++ later) (output ++ more) (suc n) shut z
 
-  abbrev pub Exchanges : X → Result Next ServeFault → Option (List ℕ) → List ℕ → List ℕ → List ℕ → X → Type 0
+  abbrev pub Exchanges : X → Result Next StreamFault → Option (List ℕ) → List ℕ → List ℕ → List ℕ → X → Type 0
   Exchanges x (Ok next.Again) left input rest output y = GoesOn x input rest output y
   Exchanges x (Ok next.Last) left input rest output y = Talk commands asks x input output 1 true y
   Exchanges x (Ok next.End) left input rest output y = Talk commands asks x input output 0 false y × IsAtEnd left
@@ -151,6 +151,6 @@ module _ {X : Type 0} (commands : X → Command → Reply → X → Type 0) (ask
   Exchanges x (Err fault.Memory) left input rest output y = ⊥
 
   -- seen from the reader and the writer
-  abbrev pub Serves : X → Result Served ServeFault → X → Option (List ℕ) → Option (List ℕ) → Option (List ℕ) → Option (List ℕ) → Type 0
+  abbrev pub Serves : X → Result Served StreamFault → X → Option (List ℕ) → Option (List ℕ) → Option (List ℕ) → Option (List ℕ) → Type 0
   Serves x result y unread left before after =
       (input : List ℕ) × (output : List ℕ) × Consumes unread left input × Appends before after output × ServesTo x result left input output y

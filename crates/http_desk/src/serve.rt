@@ -43,7 +43,7 @@ pub struct Served {
 
 /// Why a stream was not served to its end.
 #[derive(Clone, Copy, Debug, PartialEq, Eq)]
-pub enum ServeFault {
+pub enum StreamFault {
     /// A read failed. The answers to all requests that were read whole are written.
     Read,
     /// A write failed. What was written is a front of the answers; accepted commands stay.
@@ -115,17 +115,17 @@ fn close<W: GatherSink>(
     writer: &mut W,
     answer: &Answer,
     outbox: &mut Outbox,
-) -> Result<Next, ServeFault>
+) -> Result<Next, StreamFault>
     ensures bytes { Closes (W.contents writer.old) (W.contents writer.new) outbox.old result answer.now }
     ensures failures { W.failures writer.new ≡ write_failures (W.failures writer.old) result }
 {
     match answer.send(writer, outbox) {
         Ok(()) => {}
-        Err(_) => return Err(ServeFault::Write),
+        Err(_) => return Err(StreamFault::Write),
     }
     match outbox.flush(writer) {
         Ok(()) => Ok(Next::Last),
-        Err(_) => Err(ServeFault::Write),
+        Err(_) => Err(StreamFault::Write),
     }
 }
 
@@ -166,7 +166,7 @@ fn exchange_any<R: Source, W: GatherSink, C: Counter, G: Gate>(
     gate: &G,
     stream: &mut Stream,
     piece: u32,
-) -> Result<Next, ServeFault>
+) -> Result<Next, StreamFault>
     ensures talks { (more : List ℕ) × (output : List ℕ) × (unsent : List ℕ) × Consumes (R.remaining reader.old) (R.remaining reader.new) more
         × Queued (W.contents writer.old) (W.contents writer.new) stream.old.outbox unsent output
         × Exchanges C.commands C.asks counter.old result (R.remaining reader.new) (stream.old.inbox ++ more) stream.new.inbox output counter.new
@@ -174,13 +174,13 @@ fn exchange_any<R: Source, W: GatherSink, C: Counter, G: Gate>(
     ensures read_failures { R.failures reader.new ≡ read_failures (R.failures reader.old) result }
     ensures write_failures { W.failures writer.new ≡ write_failures (W.failures writer.old) result }
     ensures turns { Spends stream.old.turns stream.new.turns (R.turns reader.old) (R.turns reader.new) }
-    ensures limit { result ≡ Err ServeFault.TurnLimit → stream.new.turns ≡ 0 }
+    ensures limit { result ≡ Err StreamFault.TurnLimit → stream.new.turns ≡ 0 }
     ensures left { TakesSome result (reading_left stream.old.turns stream.old.inbox) (reading_left stream.new.turns stream.new.inbox) }
 {
     match next_request(alloc, reader, writer, stream) {
-        Err(RequestFault::Read) => Err(ServeFault::Read),
-        Err(RequestFault::Write) => Err(ServeFault::Write),
-        Err(RequestFault::TurnLimit) => Err(ServeFault::TurnLimit),
+        Err(RequestFault::Read) => Err(StreamFault::Read),
+        Err(RequestFault::Write) => Err(StreamFault::Write),
+        Err(RequestFault::TurnLimit) => Err(StreamFault::TurnLimit),
         Ok(Incoming::End) => Ok(Next::End),
         Ok(Incoming::Starved { bare }) => {
             stream.answer.put_memory(bare);
@@ -197,7 +197,7 @@ fn exchange_any<R: Source, W: GatherSink, C: Counter, G: Gate>(
             }
             match stream.answer.send(writer, &mut stream.outbox) {
                 Ok(()) => Ok(Next::Again),
-                Err(_) => Err(ServeFault::Write),
+                Err(_) => Err(StreamFault::Write),
             }
         }
     }
@@ -235,7 +235,7 @@ fn exchange_held<R: Source, W: GatherSink, C: Counter, G: Gate>(
     gate: &G,
     stream: &mut Stream,
     piece: u32,
-) -> Result<Next, ServeFault>
+) -> Result<Next, StreamFault>
     ensures talks { (more : List ℕ) × (output : List ℕ) × (unsent : List ℕ) × Consumes (R.remaining reader.old) (R.remaining reader.new) more
         × Queued (W.contents writer.old) (W.contents writer.new) stream.old.outbox unsent output
         × Exchanges C.commands C.asks counter.old result (R.remaining reader.new) (stream.old.inbox ++ more) stream.new.inbox output counter.new
@@ -243,7 +243,7 @@ fn exchange_held<R: Source, W: GatherSink, C: Counter, G: Gate>(
     ensures read_failures { R.failures reader.new ≡ read_failures (R.failures reader.old) result }
     ensures write_failures { W.failures writer.new ≡ write_failures (W.failures writer.old) result }
     ensures turns { Spends stream.old.turns stream.new.turns (R.turns reader.old) (R.turns reader.new) }
-    ensures limit { result ≡ Err ServeFault.TurnLimit → stream.new.turns ≡ 0 }
+    ensures limit { result ≡ Err StreamFault.TurnLimit → stream.new.turns ≡ 0 }
     ensures left { TakesSome result (reading_left stream.old.turns stream.old.inbox) (reading_left stream.new.turns stream.new.inbox) }
 {
     let Some(closes) = take_list(&mut stream.inbox, &mut stream.room) else {
@@ -255,7 +255,7 @@ fn exchange_held<R: Source, W: GatherSink, C: Counter, G: Gate>(
     }
     match stream.answer.send(writer, &mut stream.outbox) {
         Ok(()) => Ok(Next::Again),
-        Err(_) => Err(ServeFault::Write),
+        Err(_) => Err(StreamFault::Write),
     }
 }
 
@@ -264,25 +264,25 @@ fn take_turn<R: Source, W: Sink>(
     reader: &mut R,
     writer: &mut W,
     stream: &mut Stream,
-) -> Result<bool, ServeFault>
+) -> Result<bool, StreamFault>
     requires { stream.old.inbox ≡ [] }
     ensures turned { Turned (R.remaining reader.old) (R.remaining reader.new) (W.contents writer.old) (W.contents writer.new) stream.old.outbox result stream.new.inbox stream.new.outbox }
     ensures read_failures { R.failures reader.new ≡ read_failures (R.failures reader.old) result }
     ensures write_failures { W.failures writer.new ≡ write_failures (W.failures writer.old) result }
     ensures turns { Spends stream.old.turns stream.new.turns (R.turns reader.old) (R.turns reader.new) }
-    ensures limit { result ≡ Err ServeFault.TurnLimit → stream.new.turns ≡ 0 }
+    ensures limit { result ≡ Err StreamFault.TurnLimit → stream.new.turns ≡ 0 }
     ensures left { reading_left stream.new.turns stream.new.inbox ≤ reading_left stream.old.turns stream.old.inbox }
     ensures none { stream.old.inbox ≡ [] }
 {
     match stream.outbox.flush(writer) {
         Ok(()) => {}
-        Err(_) => return Err(ServeFault::Write),
+        Err(_) => return Err(StreamFault::Write),
     }
     match stream.inbox.fill(reader, &mut stream.turns) {
         Ok(true) => Ok(true),
         Ok(false) => Ok(false),
-        Err(WireFault::Read) => Err(ServeFault::Read),
-        Err(WireFault::TurnLimit) => Err(ServeFault::TurnLimit),
+        Err(WireFault::Read) => Err(StreamFault::Read),
+        Err(WireFault::TurnLimit) => Err(StreamFault::TurnLimit),
         Err(WireFault::Memory) => unreachable!(),
     }
 }
@@ -296,7 +296,7 @@ fn exchange<R: Source, W: GatherSink, C: Counter, G: Gate>(
     gate: &G,
     stream: &mut Stream,
     piece: u32,
-) -> Result<Next, ServeFault>
+) -> Result<Next, StreamFault>
     ensures talks { (more : List ℕ) × (output : List ℕ) × (unsent : List ℕ) × Consumes (R.remaining reader.old) (R.remaining reader.new) more
         × Queued (W.contents writer.old) (W.contents writer.new) stream.old.outbox unsent output
         × Exchanges C.commands C.asks counter.old result (R.remaining reader.new) (stream.old.inbox ++ more) stream.new.inbox output counter.new
@@ -304,7 +304,7 @@ fn exchange<R: Source, W: GatherSink, C: Counter, G: Gate>(
     ensures read_failures { R.failures reader.new ≡ read_failures (R.failures reader.old) result }
     ensures write_failures { W.failures writer.new ≡ write_failures (W.failures writer.old) result }
     ensures turns { Spends stream.old.turns stream.new.turns (R.turns reader.old) (R.turns reader.new) }
-    ensures limit { result ≡ Err ServeFault.TurnLimit → stream.new.turns ≡ 0 }
+    ensures limit { result ≡ Err StreamFault.TurnLimit → stream.new.turns ≡ 0 }
     ensures left { TakesSome result (reading_left stream.old.turns stream.old.inbox) (reading_left stream.new.turns stream.new.inbox) }
 {
     if !stream.inbox.as_slice().is_empty() {
@@ -353,14 +353,14 @@ pub fn serve<R: Source, W: GatherSink, C: Counter, G: Gate>(
     writer: &mut W,
     counter: &mut C,
     gate: &G,
-) -> Result<Served, ServeFault>
+) -> Result<Served, StreamFault>
     ensures talks { Serves C.commands C.asks counter.old result counter.new (R.remaining reader.old) (R.remaining reader.new) (W.contents writer.old) (W.contents writer.new) }
     ensures read_failures { R.failures reader.new ≡ read_failures (R.failures reader.old) result }
     ensures write_failures { W.failures writer.new ≡ write_failures (W.failures writer.old) result }
-    ensures turn_limit { result ≡ Err ServeFault.TurnLimit → R.turns reader.new ≡ counted (R.turns reader.old) 4294967296 }
+    ensures turn_limit { result ≡ Err StreamFault.TurnLimit → R.turns reader.new ≡ counted (R.turns reader.old) 4294967296 }
 {
     let Some(mut stream) = start(alloc) else {
-        return Err(ServeFault::Memory);
+        return Err(StreamFault::Memory);
     };
     let mut requests = 0u64;
     loop {

@@ -18,13 +18,13 @@ use Rattle.pl94_geo.specs.Holding.{Holds, Judges}
 use Rattle.pl94_geo.specs.GeoFile.{row_ids, AreGeoRows, IsRead, Finishes, Stands, told, refused}
 use Rattle.field_text.specs.declared.reader.ReadFault.{ReadFault}
 use Rattle.field_text.specs.declared.reader.ReadFault.TheVariants as read
-use Rattle.pl94_geo.specs.declared.entry.Entry.{Entry}
-use Rattle.pl94_geo.specs.declared.entry.LineFault.{LineFault}
-use Rattle.pl94_geo.specs.declared.entry.LineFault.TheVariants.{Shape}
+use Rattle.pl94_geo.specs.declared.entry.GeoRecord.{GeoRecord}
+use Rattle.pl94_geo.specs.declared.entry.HeaderLineFault.{HeaderLineFault}
+use Rattle.pl94_geo.specs.declared.entry.HeaderLineFault.TheVariants.{Shape}
 use Rattle.pl94_geo.specs.declared.header.GeoBlock.{GeoBlock}
 use Rattle.pl94_geo.specs.declared.header.Header.{Header}
-use Rattle.pl94_geo.specs.declared.header.Refusal.{Refusal}
-use Rattle.pl94_geo.specs.declared.header.Refusal.TheVariants.{Fault, Memory}
+use Rattle.pl94_geo.specs.declared.header.HeaderRefusal.{HeaderRefusal}
+use Rattle.pl94_geo.specs.declared.header.HeaderRefusal.TheVariants.{Fault, Memory}
 use Rattle.pl94_geo.specs.declared.geo.GeoRows.{GeoRows}
 use Rattle.pl94_geo.specs.declared.geo.GeoFault.{GeoFault}
 use Rattle.pl94_geo.specs.declared.geo.GeoFault.TheVariants as fault
@@ -32,12 +32,12 @@ use Rattle.pl94_geo.proofs.HoldingLemmas.{length-blocks_of}
 
 -- ---- the rows of the taken records
 
-row_ids-cons : (e : Entry) (o : Option ℕ) (bs : List GeoBlock) (ids : List ℕ) → row_ids bs ≡ ids
+row_ids-cons : (e : GeoRecord) (o : Option ℕ) (bs : List GeoBlock) (ids : List ℕ) → row_ids bs ≡ ids
     → row_ids (cons_option (option_map (λ (id : ℕ). let b : GeoBlock = record { number = e.number; id = id; city = e.city } in b) o) bs) ≡ cons_option o ids
 row_ids-cons e None bs ids same = same
 row_ids-cons e (Some id) bs ids same = ap (λ (t : List ℕ). id ∷ t) same
 
-pub row_ids-blocks_of : (es : List Entry) → row_ids (blocks_of es) ≡ ids_of es
+pub row_ids-blocks_of : (es : List GeoRecord) → row_ids (blocks_of es) ≡ ids_of es
 row_ids-blocks_of [] = refl
 row_ids-blocks_of (e ∷ es) = row_ids-cons e e.block (blocks_of es) (ids_of es) (row_ids-blocks_of es)
 
@@ -47,7 +47,7 @@ one_state-cons own state None ids same valid rest = rest
 one_state-cons own state (Some id) ids same valid rest = All-cons (λ id'. state_of id' ≡ own) id ids (valid ∙ same) rest
 
 -- all blocks are of the one state
-one_state : (own : ℕ) (es : List Entry) → other_state es own ≡ false → All IsEntry es → All (λ id. state_of id ≡ own) (ids_of es)
+one_state : (own : ℕ) (es : List GeoRecord) → other_state es own ≡ false → All IsEntry es → All (λ id. state_of id ≡ own) (ids_of es)
 one_state own [] same valid = λ k d inside. absurd (omega arith)
 one_state own (e ∷ es) same valid = one_state-cons own e.state e.block (ids_of es) (first (eqb e.state own) refl same) (valid 0 e (omega arith)).state (one_state own es (others (eqb e.state own) same) (All-tail IsEntry e es valid))
   where
@@ -59,7 +59,7 @@ one_state own (e ∷ es) same valid = one_state-cons own e.state e.block (ids_of
     others true all = all
     others false all = absurd (cc)
 
-states_known : (h : Header) (es : List Entry) (o : Option ℕ) → ((s : ℕ) → other_state es s ≡ option_map_or (λ own. not (eqb own s)) o false) → All IsEntry es
+states_known : (h : Header) (es : List GeoRecord) (o : Option ℕ) → ((s : ℕ) → other_state es s ≡ option_map_or (λ own. not (eqb own s)) o false) → All IsEntry es
     → (own : ℕ) × All (λ id. state_of id ≡ own) (ids_of es)
 states_known h es None same valid = (0, one_state 0 es (same 0) valid)
 states_known h es (Some own) same valid =
@@ -71,7 +71,7 @@ all_as_first own [] all = λ k d inside. absurd (omega arith)
 all_as_first own (x ∷ ids) all = λ k d inside. all k d inside ∙ sym (all 0 0 (omega arith))
 
 -- the rows of the records
-pub rows_from : (h : Header) (es : List Entry) (rows : GeoRows) → Holds h es → rows.blocks.items ≡ blocks_of es → 0 < length (blocks_of es) → AreGeoRows rows
+pub rows_from : (h : Header) (es : List GeoRecord) (rows : GeoRows) → Holds h es → rows.blocks.items ≡ blocks_of es → 0 < length (blocks_of es) → AreGeoRows rows
 rows_from h es rows holds same some =
     let ids : row_ids rows.blocks.items ≡ ids_of es = ap row_ids same ∙ row_ids-blocks_of es in
     let known = states_known h es h.state holds.state holds.entries in
@@ -107,7 +107,7 @@ stands_more old left next held more number h s came = record {
   counted = s.counted;
 }
 
-pub judged_at : (h new : Header) (r : Result (Unit {0}) Refusal) (given line : List ℕ) → given ≡ line → ((ls : List (List ℕ)) → Holds h (entries ls) → Judges ls given r new)
+pub judged_at : (h new : Header) (r : Result (Unit {0}) HeaderRefusal) (given line : List ℕ) → given ≡ line → ((ls : List (List ℕ)) → Holds h (entries ls) → Judges ls given r new)
     → (ls : List (List ℕ)) → Holds h (entries ls) → Judges ls line r new
 judged_at h new r given line same judged = subst (λ (l : List ℕ). (ls : List (List ℕ)) → Holds h (entries ls) → Judges ls l r new) same judged
 
@@ -130,12 +130,12 @@ stands_line old left held line rest number h new u s l judged =
 abbrev pub Told : Option (List ℕ) → Option (List ℕ) → Result GeoRows GeoFault → Type 0
 Told old left result = (text : List ℕ) × Consumes old left text × IsRead text left result
 
-pub told_line : (old left : Option (List ℕ)) (held line rest : List ℕ) (number : ℕ) (h new : Header) (f : LineFault) → Stands old left held number h → BeginsWithLine held line rest
+pub told_line : (old left : Option (List ℕ)) (held line rest : List ℕ) (number : ℕ) (h new : Header) (f : HeaderLineFault) → Stands old left held number h → BeginsWithLine held line rest
     → ((ls : List (List ℕ)) → Holds h (entries ls) → Judges ls line (Err (Fault f)) new) → Told old left (Err (fault.Line f (number + 1)))
 told_line old left held line rest number h new f s l judged =
     (s.text, s.consumed, rw s.counted (shown_line judge s.text held line rest left s.ls f s.begins l s.good (judged s.ls s.holds)))
 
-pub told_last : (old left : Option (List ℕ)) (held line : List ℕ) (number : ℕ) (h new : Header) (f : LineFault) → Stands old left held number h → IsAtEnd left → IsLastLine held line
+pub told_last : (old left : Option (List ℕ)) (held line : List ℕ) (number : ℕ) (h new : Header) (f : HeaderLineFault) → Stands old left held number h → IsAtEnd left → IsLastLine held line
     → ((ls : List (List ℕ)) → Holds h (entries ls) → Judges ls line (Err (Fault f)) new) → Told old left (Err (fault.Line f (number + 1)))
 told_last old left held line number h new f s end l judged =
     (s.text, s.consumed, rw s.counted (shown_last judge s.text held line left s.ls f s.begins end l s.good (judged s.ls s.holds)))
@@ -162,13 +162,13 @@ finished text left ls number (Err e) end same good counted f =
     (end, record { good = subst (AreGood judge) (sym same) good; none = ap (λ (t : List (List ℕ)). ids_of (entries t)) same ∙ f.1; counted = counted ∙ ap length (sym same) })
 
 pub told_end : (old left : Option (List ℕ)) (held : List ℕ) (number : ℕ) (h : Header) (result : Result GeoRows GeoFault) → Stands old left held number h → IsAtEnd left → held ≡ []
-    → ((es : List Entry) → Holds h es → Finishes es number result) → Told old left result
+    → ((es : List GeoRecord) → Holds h es → Finishes es number result) → Told old left result
 told_end old left held number h result s end none f =
     (s.text, s.consumed, finished s.text left s.ls number result end (lines-ended s.text held s.ls s.begins none) s.good s.counted (f (entries s.ls) s.holds))
 
 pub told_last_end : (old left : Option (List ℕ)) (held line : List ℕ) (number : ℕ) (h new : Header) (u : Unit {0}) (result : Result GeoRows GeoFault) → Stands old left held number h → IsAtEnd left → IsLastLine held line
     → ((ls : List (List ℕ)) → Holds h (entries ls) → Judges ls line (Ok u) new)
-    → ((es : List Entry) → Holds new es → Finishes es (number + 1) result) → Told old left result
+    → ((es : List GeoRecord) → Holds new es → Finishes es (number + 1) result) → Told old left result
 told_last_end old left held line number h new u result s end l judged f =
     let is = judged s.ls s.holds in (
       s.text,
@@ -179,12 +179,12 @@ told_last_end old left held line number h new u result s end l judged f =
 
 -- ---- why no rows are given
 
-pub told_refused : (old left : Option (List ℕ)) (held line rest : List ℕ) (number : ℕ) (h new : Header) (r : Refusal) → Stands old left held number h → BeginsWithLine held line rest
+pub told_refused : (old left : Option (List ℕ)) (held line rest : List ℕ) (number : ℕ) (h new : Header) (r : HeaderRefusal) → Stands old left held number h → BeginsWithLine held line rest
     → ((ls : List (List ℕ)) → Holds h (entries ls) → Judges ls line (Err r) new) → Told old left (Err (refused r (number + 1)))
 told_refused old left held line rest number h new (Fault f) s l judged = told_line old left held line rest number h new f s l judged
 told_refused old left held line rest number h new Memory s l judged = (s.text, s.consumed, tt)
 
-pub told_refused_last : (old left : Option (List ℕ)) (held line : List ℕ) (number : ℕ) (h new : Header) (r : Refusal) → Stands old left held number h → IsAtEnd left → IsLastLine held line
+pub told_refused_last : (old left : Option (List ℕ)) (held line : List ℕ) (number : ℕ) (h new : Header) (r : HeaderRefusal) → Stands old left held number h → IsAtEnd left → IsLastLine held line
     → ((ls : List (List ℕ)) → Holds h (entries ls) → Judges ls line (Err r) new) → Told old left (Err (refused r (number + 1)))
 told_refused_last old left held line number h new (Fault f) s end l judged = told_last old left held line number h new f s end l judged
 told_refused_last old left held line number h new Memory s end l judged = (s.text, s.consumed, tt)

@@ -13,11 +13,11 @@ use Rattle.desk_model.specs.Geography.{block_limit}
 use Rattle.pl94_geo.specs.Entries.{IsEntry, line_read}
 use Rattle.pl94_geo.specs.Judging.{states_of, numbers_of, ids_of, blocks_of, geo_block, state_record_of, other_state, repeats, conflict, entries, entry_of, taken_entry, judged}
 use Rattle.pl94_geo.specs.Holding.{Holds, Numbers, Takes, Judges}
-use Rattle.pl94_geo.specs.declared.entry.Entry.{Entry}
-use Rattle.pl94_geo.specs.declared.entry.LineFault.{LineFault}
-use Rattle.pl94_geo.specs.declared.entry.LineFault.TheVariants.{TooManyBlocks}
-use Rattle.pl94_geo.specs.declared.header.Refusal.{Refusal}
-use Rattle.pl94_geo.specs.declared.header.Refusal.TheVariants.{Fault, Memory}
+use Rattle.pl94_geo.specs.declared.entry.GeoRecord.{GeoRecord}
+use Rattle.pl94_geo.specs.declared.entry.HeaderLineFault.{HeaderLineFault}
+use Rattle.pl94_geo.specs.declared.entry.HeaderLineFault.TheVariants.{TooManyBlocks}
+use Rattle.pl94_geo.specs.declared.header.HeaderRefusal.{HeaderRefusal}
+use Rattle.pl94_geo.specs.declared.header.HeaderRefusal.TheVariants.{Fault, Memory}
 use Rattle.pl94_geo.specs.declared.header.Header.{Header}
 use Rattle.pl94_geo.specs.declared.header.GeoBlock.{GeoBlock}
 
@@ -34,24 +34,24 @@ or-end false false = refl
 repeats-push : (ns : List ℕ) (n q : ℕ) → repeats (ns ++ n ∷ []) q ≡ (nat_eq n q || repeats ns q)
 repeats-push ns n q = list_any-append (nat_eq q) ns (n ∷ []) ∙ or-end (repeats ns q) (nat_eq q n) ∙ ap (λ (b : Bool). b || repeats ns q) (eqb-flip q n)
 
-pub numbers_of-push : (es : List Entry) (e : Entry) → numbers_of (es ++ e ∷ []) ≡ numbers_of es ++ e.number ∷ []
-numbers_of-push es e = map-append (λ (x : Entry). x.number) es (e ∷ [])
+pub numbers_of-push : (es : List GeoRecord) (e : GeoRecord) → numbers_of (es ++ e ∷ []) ≡ numbers_of es ++ e.number ∷ []
+numbers_of-push es e = map-append (λ (x : GeoRecord). x.number) es (e ∷ [])
 
-pub states_of-push : (es : List Entry) (e : Entry) → states_of (es ++ e ∷ []) ≡ states_of es ++ e.state ∷ []
-states_of-push es e = map-append (λ (x : Entry). x.state) es (e ∷ [])
+pub states_of-push : (es : List GeoRecord) (e : GeoRecord) → states_of (es ++ e ∷ []) ≡ states_of es ++ e.state ∷ []
+states_of-push es e = map-append (λ (x : GeoRecord). x.state) es (e ∷ [])
 
-pub ids_of-push : (es : List Entry) (e : Entry) → ids_of (es ++ e ∷ []) ≡ ids_of es ++ cons_option e.block []
-ids_of-push es e = filter_map-append (λ (x : Entry). x.block) es (e ∷ [])
+pub ids_of-push : (es : List GeoRecord) (e : GeoRecord) → ids_of (es ++ e ∷ []) ≡ ids_of es ++ cons_option e.block []
+ids_of-push es e = filter_map-append (λ (x : GeoRecord). x.block) es (e ∷ [])
 
-blocks_of-push : (es : List Entry) (e : Entry) → blocks_of (es ++ e ∷ []) ≡ blocks_of es ++ cons_option (geo_block e) []
+blocks_of-push : (es : List GeoRecord) (e : GeoRecord) → blocks_of (es ++ e ∷ []) ≡ blocks_of es ++ cons_option (geo_block e) []
 blocks_of-push es e = filter_map-append geo_block es (e ∷ [])
 
 -- the first state record
-state_record_of-block : (es : List Entry) (e : Entry) (id : ℕ) → e.block ≡ Some id → state_record_of (es ++ e ∷ []) ≡ state_record_of es
+state_record_of-block : (es : List GeoRecord) (e : GeoRecord) (id : ℕ) → e.block ≡ Some id → state_record_of (es ++ e ∷ []) ≡ state_record_of es
 state_record_of-block [] e id is = rw is refl
 state_record_of-block (x ∷ es) e id is = ap (λ (r : Option ℕ). cond (is_none x.block) (Some x.number) r) (state_record_of-block es e id is)
 
-state_record_of-first : (es : List Entry) (e : Entry) → e.block ≡ None → state_record_of es ≡ None → state_record_of (es ++ e ∷ []) ≡ Some e.number
+state_record_of-first : (es : List GeoRecord) (e : GeoRecord) → e.block ≡ None → state_record_of es ≡ None → state_record_of (es ++ e ∷ []) ≡ Some e.number
 state_record_of-first [] e is none = rw is refl
 state_record_of-first (x ∷ es) e is none = at_first (is_none x.block) none (λ later. state_record_of-first es e is later)
   where
@@ -76,20 +76,20 @@ own_state (Some own) state s same =
     let is : own ≡ state = grind (arith, nat_tests) in
     rw is (or-self (not (eqb state s)))
 
-other_state-push : (h : Header) (es : List Entry) (e : Entry) (s : ℕ) → ((q : ℕ) → other_state es q ≡ option_map_or (λ own. not (eqb own q)) h.state false)
+other_state-push : (h : Header) (es : List GeoRecord) (e : GeoRecord) (s : ℕ) → ((q : ℕ) → other_state es q ≡ option_map_or (λ own. not (eqb own q)) h.state false)
     → other_state es e.state ≡ false → other_state (es ++ e ∷ []) s ≡ not (eqb e.state s)
 other_state-push h es e s state same =
     ap (list_any (λ x. not (eqb x s))) (states_of-push es e) ∙ list_any-append (λ x. not (eqb x s)) (states_of es) (e.state ∷ [])
     ∙ ap (λ (b : Bool). b || (not (eqb e.state s) || false)) (state s)
     ∙ own_state h.state e.state s (sym (state e.state) ∙ same)
 
-cons_length : (e : Entry) (o : Option ℕ) (xs : List ℕ) (ys : List GeoBlock) → length ys ≡ length xs
+cons_length : (e : GeoRecord) (o : Option ℕ) (xs : List ℕ) (ys : List GeoBlock) → length ys ≡ length xs
     → length (cons_option (option_map (λ (id : ℕ). let b : GeoBlock = record { number = e.number; id = id; city = e.city } in b) o) ys) ≡ length (cons_option o xs)
 cons_length e None xs ys same = same
 cons_length e (Some id) xs ys same = ap (λ (n : ℕ). suc n) same
 
 -- as many blocks as their numbers
-pub length-blocks_of : (es : List Entry) → length (blocks_of es) ≡ length (ids_of es)
+pub length-blocks_of : (es : List GeoRecord) → length (blocks_of es) ≡ length (ids_of es)
 length-blocks_of [] = refl
 length-blocks_of (e ∷ es) = cons_length e e.block (ids_of es) (blocks_of es) (length-blocks_of es)
 
@@ -101,7 +101,7 @@ more_numbers : (old new : Numbers) (ns : List ℕ) (n q : ℕ) → ((q : ℕ) �
 more_numbers old new ns n q same grown = repeats-push ns n q ∙ ap (λ (b : Bool). nat_eq n q || b) (same q) ∙ sym (grown q)
 
 -- a block that goes with the records before it
-pub holds_block : (h new : Header) (es : List Entry) (e : Entry) (id : ℕ) → Holds h es → IsEntry e → e.block ≡ Some id → other_state es e.state ≡ false
+pub holds_block : (h new : Header) (es : List GeoRecord) (e : GeoRecord) (id : ℕ) → Holds h es → IsEntry e → e.block ≡ Some id → other_state es e.state ≡ false
     → contains nat_eq h.ids id ≡ false → ((q : ℕ) → contains nat_eq new.ids q ≡ (nat_eq id q || contains nat_eq h.ids q))
     → contains nat_eq h.numbers e.number ≡ false → ((q : ℕ) → contains nat_eq new.numbers q ≡ (nat_eq e.number q || contains nat_eq h.numbers q))
     → new.state ≡ Some e.state → new.state_record ≡ h.state_record → new.blocks.items ≡ h.blocks.items ++ record { number = e.number; id = id; city = e.city } ∷ []
@@ -129,7 +129,7 @@ holds_block h new es e id holds valid is same new_id ids new_number numbers stat
     )
 
 -- the state record
-pub holds_state : (h new : Header) (es : List Entry) (e : Entry) → Holds h es → IsEntry e → e.block ≡ None → other_state es e.state ≡ false
+pub holds_state : (h new : Header) (es : List GeoRecord) (e : GeoRecord) → Holds h es → IsEntry e → e.block ≡ None → other_state es e.state ≡ false
     → h.state_record ≡ None
     → contains nat_eq h.numbers e.number ≡ false → ((q : ℕ) → contains nat_eq new.numbers q ≡ (nat_eq e.number q || contains nat_eq h.numbers q))
     → new.state ≡ Some e.state → new.state_record ≡ Some e.number → new.blocks.items ≡ h.blocks.items → new.ids ≡ h.ids
@@ -154,7 +154,7 @@ holds_state h new es e holds valid is same first new_number numbers state state_
     )
 
 -- a block too many
-pub too_many : (h : Header) (es : List Entry) (e : Entry) (id : ℕ) → Holds h es → e.block ≡ Some id → other_state es e.state ≡ false
+pub too_many : (h : Header) (es : List GeoRecord) (e : GeoRecord) (id : ℕ) → Holds h es → e.block ≡ Some id → other_state es e.state ≡ false
     → contains nat_eq h.ids id ≡ false → contains nat_eq h.numbers e.number ≡ false → block_limit ≤ length h.blocks.items → conflict es e ≡ Some TooManyBlocks
 too_many h es e id holds is same new_id new_number many =
     let no_id : repeats (ids_of es) id ≡ false = fresh h.ids (ids_of es) id holds.ids new_id in
@@ -168,14 +168,14 @@ too_many h es e id holds is same new_id new_number many =
 entries-push : (ls : List (List ℕ)) (line : List ℕ) → entries (ls ++ line ∷ []) ≡ entries ls ++ cons_option (entry_of line) []
 entries-push ls line = filter_map-append entry_of ls (line ∷ [])
 
-pub entries_taken : (ls : List (List ℕ)) (line : List ℕ) (e : Entry) → line_read line ≡ Ok (Some e) → entries (ls ++ line ∷ []) ≡ entries ls ++ e ∷ []
-entries_taken ls line e is = entries-push ls line ∙ ap (λ (r : Result (Option Entry) LineFault). entries ls ++ cons_option (taken_entry r) []) is
+pub entries_taken : (ls : List (List ℕ)) (line : List ℕ) (e : GeoRecord) → line_read line ≡ Ok (Some e) → entries (ls ++ line ∷ []) ≡ entries ls ++ e ∷ []
+entries_taken ls line e is = entries-push ls line ∙ ap (λ (r : Result (Option GeoRecord) HeaderLineFault). entries ls ++ cons_option (taken_entry r) []) is
 
 pub entries_passed : (ls : List (List ℕ)) (line : List ℕ) → line_read line ≡ Ok None → entries (ls ++ line ∷ []) ≡ entries ls
-entries_passed ls line is = entries-push ls line ∙ ap (λ (r : Result (Option Entry) LineFault). entries ls ++ cons_option (taken_entry r) []) is ∙ append-nil (entries ls)
+entries_passed ls line is = entries-push ls line ∙ ap (λ (r : Result (Option GeoRecord) HeaderLineFault). entries ls ++ cons_option (taken_entry r) []) is ∙ append-nil (entries ls)
 
 -- what taking its record says of the line
-pub judges : (ls : List (List ℕ)) (line : List ℕ) (e : Entry) (r : Result (Unit {0}) Refusal) (new : Header) → line_read line ≡ Ok (Some e) → Takes (entries ls) e r new → Judges ls line r new
+pub judges : (ls : List (List ℕ)) (line : List ℕ) (e : GeoRecord) (r : Result (Unit {0}) HeaderRefusal) (new : Header) → line_read line ≡ Ok (Some e) → Takes (entries ls) e r new → Judges ls line r new
 judges ls line e (Ok u) new is took = (ap (judged (entries ls)) is ∙ took.0, subst (Holds new) (sym (entries_taken ls line e is)) took.1)
 judges ls line e (Err (Fault f)) new is took = ap (judged (entries ls)) is ∙ took
 judges ls line e (Err Memory) new is took = tt

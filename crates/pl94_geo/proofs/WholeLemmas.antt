@@ -14,9 +14,9 @@ use Rattle.field_text.specs.Judged.{AreGood}
 use Rattle.pl94_geo.specs.Entries.{line_read}
 use Rattle.pl94_geo.specs.Judging.{states_of, numbers_of, ids_of, state_record_of, other_state, repeats, conflict, kind_conflict, repeated_record, entries, entry_of, taken_entry, judge, judged}
 use Rattle.pl94_geo.specs.Whole.{AreHeaderLines, AreTogether}
-use Rattle.pl94_geo.specs.declared.entry.Entry.{Entry}
-use Rattle.pl94_geo.specs.declared.entry.LineFault.{LineFault}
-use Rattle.pl94_geo.specs.declared.entry.LineFault.TheVariants.{State, RepeatedBlock, RepeatedRecord, TooManyBlocks}
+use Rattle.pl94_geo.specs.declared.entry.GeoRecord.{GeoRecord}
+use Rattle.pl94_geo.specs.declared.entry.HeaderLineFault.{HeaderLineFault}
+use Rattle.pl94_geo.specs.declared.entry.HeaderLineFault.TheVariants.{State, RepeatedBlock, RepeatedRecord, TooManyBlocks}
 use Rattle.pl94_geo.proofs.HoldingLemmas.{entries_taken, entries_passed, numbers_of-push, states_of-push, ids_of-push}
 
 -- ---- tests over lists
@@ -58,10 +58,10 @@ before_differs (x ∷ xs) ys y distinct =
 
 -- ---- the state record
 
-count-cons : (e : Entry) (es : List Entry) → count_by (λ x. is_none x.block) (e ∷ es) ≡ cond {A = ℕ} (is_none e.block) 1 0 + count_by (λ x. is_none x.block) es
-count-cons e es = sum_by-cons (λ (x : Entry). cond {A = ℕ} (is_none x.block) 1 0) e es
+count-cons : (e : GeoRecord) (es : List GeoRecord) → count_by (λ x. is_none x.block) (e ∷ es) ≡ cond {A = ℕ} (is_none e.block) 1 0 + count_by (λ x. is_none x.block) es
+count-cons e es = sum_by-cons (λ (x : GeoRecord). cond {A = ℕ} (is_none x.block) 1 0) e es
 
-none_counted : (es : List Entry) → is_some (state_record_of es) ≡ false → count_by (λ e. is_none e.block) es ≡ 0
+none_counted : (es : List GeoRecord) → is_some (state_record_of es) ≡ false → count_by (λ e. is_none e.block) es ≡ 0
 none_counted [] none = refl
 none_counted (e ∷ es) none = count-cons e es ∙ at_first (is_none e.block) none (λ later. none_counted es later)
   where
@@ -70,7 +70,7 @@ none_counted (e ∷ es) none = count-cons e es ∙ at_first (is_none e.block) no
     at_first true none later = absurd (cc)
     at_first false none later = let rest = later none in omega arith
 
-some_counted : (es : List Entry) → is_some (state_record_of es) ≡ true → 1 ≤ count_by (λ e. is_none e.block) es
+some_counted : (es : List GeoRecord) → is_some (state_record_of es) ≡ true → 1 ≤ count_by (λ e. is_none e.block) es
 some_counted [] some = absurd (cc)
 some_counted (e ∷ es) some = subst (λ (n : ℕ). 1 ≤ n) (sym (count-cons e es)) (at_first (is_none e.block) some (λ later. some_counted es later))
   where
@@ -81,7 +81,7 @@ some_counted (e ∷ es) some = subst (λ (n : ℕ). 1 ≤ n) (sym (count-cons e 
 
 -- ---- one more record
 
-cond_none : (b : Bool) (f : LineFault) (o : Option LineFault) → cond b (Some f) o ≡ None → (b ≡ false) × (o ≡ None)
+cond_none : (b : Bool) (f : HeaderLineFault) (o : Option HeaderLineFault) → cond b (Some f) o ≡ None → (b ≡ false) × (o ≡ None)
 cond_none true f o none = absurd (cc)
 cond_none false f o none = (refl, none)
 
@@ -94,12 +94,12 @@ test_from_same a b is = grind (arith, nat_tests)
 both_false : (a b : Bool) → a ≡ false → b ≡ false → (a || (b || false)) ≡ false
 both_false a b ia ib = rw (ia, ib) refl
 
-other_state-push : (es : List Entry) (e : Entry) (s : ℕ) → other_state es s ≡ false → e.state ≡ s → other_state (es ++ e ∷ []) s ≡ false
+other_state-push : (es : List GeoRecord) (e : GeoRecord) (s : ℕ) → other_state es s ≡ false → e.state ≡ s → other_state (es ++ e ∷ []) s ≡ false
 other_state-push es e s none same =
     ap (list_any (λ x. not (eqb x s))) (states_of-push es e) ∙ list_any-append (λ x. not (eqb x s)) (states_of es) (e.state ∷ [])
     ∙ both_false (other_state es s) (not (eqb e.state s)) none (test_from_same e.state s same)
 
-one_state-push : (es : List Entry) (e : Entry) → All (λ s. other_state es s ≡ false) (states_of es) → other_state es e.state ≡ false
+one_state-push : (es : List GeoRecord) (e : GeoRecord) → All (λ s. other_state es s ≡ false) (states_of es) → other_state es e.state ≡ false
     → All (λ s. other_state (es ++ e ∷ []) s ≡ false) (states_of (es ++ e ∷ []))
 one_state-push es e all none =
     subst (λ (ss : List ℕ). All (λ s. other_state (es ++ e ∷ []) s ≡ false) ss) (sym (states_of-push es e))
@@ -107,10 +107,10 @@ one_state-push es e all none =
     (λ k d inside. other_state-push es e (get_or (states_of es) k d) (all k d inside) (sym (same_from_test (get_or (states_of es) k d) e.state (none_at (λ s. not (eqb s e.state)) (states_of es) k d none inside))))
     (other_state-push es e e.state none refl))
 
-count-push : (es : List Entry) (e : Entry) → count_by (λ x. is_none x.block) (es ++ e ∷ []) ≡ count_by (λ x. is_none x.block) es + (cond {A = ℕ} (is_none e.block) 1 0 + 0)
-count-push es e = sum_by-append (λ (x : Entry). cond {A = ℕ} (is_none x.block) 1 0) es (e ∷ []) ∙ ap (λ (n : ℕ). count_by (λ x. is_none x.block) es + n) (count-cons e [])
+count-push : (es : List GeoRecord) (e : GeoRecord) → count_by (λ x. is_none x.block) (es ++ e ∷ []) ≡ count_by (λ x. is_none x.block) es + (cond {A = ℕ} (is_none e.block) 1 0 + 0)
+count-push es e = sum_by-append (λ (x : GeoRecord). cond {A = ℕ} (is_none x.block) 1 0) es (e ∷ []) ∙ ap (λ (n : ℕ). count_by (λ x. is_none x.block) es + n) (count-cons e [])
 
-together_kind : (es : List Entry) (e : Entry) (o : Option ℕ) → e.block ≡ o → AreTogether es → other_state es e.state ≡ false → kind_conflict es e.number o ≡ None → AreTogether (es ++ e ∷ [])
+together_kind : (es : List GeoRecord) (e : GeoRecord) (o : Option ℕ) → e.block ≡ o → AreTogether es → other_state es e.state ≡ false → kind_conflict es e.number o ≡ None → AreTogether (es ++ e ∷ [])
 together_kind es e None is t same none =
     let first = cond_none (is_some (state_record_of es)) State (repeated_record es e.number) none in
     let second = cond_none (repeats (numbers_of es) e.number) RepeatedRecord None first.1 in
@@ -140,27 +140,27 @@ together_kind es e (Some id) is t same none =
       few = omega (arith, ap length ids_are, length-append (ids_of es) (id ∷ []));
     }
 
-together_more : (es : List Entry) (e : Entry) → AreTogether es → conflict es e ≡ None → AreTogether (es ++ e ∷ [])
+together_more : (es : List GeoRecord) (e : GeoRecord) → AreTogether es → conflict es e ≡ None → AreTogether (es ++ e ∷ [])
 together_more es e t none =
     let state = cond_none (other_state es e.state) State (kind_conflict es e.number e.block) none in
     together_kind es e e.block refl t state.0 state.1
 
 -- ---- a record among others
 
-states_of-cut : (before after : List Entry) (e : Entry) → states_of (before ++ e ∷ after) ≡ states_of before ++ e.state ∷ states_of after
-states_of-cut before after e = map-append (λ (x : Entry). x.state) before (e ∷ after)
+states_of-cut : (before after : List GeoRecord) (e : GeoRecord) → states_of (before ++ e ∷ after) ≡ states_of before ++ e.state ∷ states_of after
+states_of-cut before after e = map-append (λ (x : GeoRecord). x.state) before (e ∷ after)
 
-numbers_of-cut : (before after : List Entry) (e : Entry) → numbers_of (before ++ e ∷ after) ≡ numbers_of before ++ e.number ∷ numbers_of after
-numbers_of-cut before after e = map-append (λ (x : Entry). x.number) before (e ∷ after)
+numbers_of-cut : (before after : List GeoRecord) (e : GeoRecord) → numbers_of (before ++ e ∷ after) ≡ numbers_of before ++ e.number ∷ numbers_of after
+numbers_of-cut before after e = map-append (λ (x : GeoRecord). x.number) before (e ∷ after)
 
-ids_of-cut : (before after : List Entry) (e : Entry) → ids_of (before ++ e ∷ after) ≡ ids_of before ++ cons_option e.block (ids_of after)
-ids_of-cut before after e = filter_map-append (λ (x : Entry). x.block) before (e ∷ after)
+ids_of-cut : (before after : List GeoRecord) (e : GeoRecord) → ids_of (before ++ e ∷ after) ≡ ids_of before ++ cons_option e.block (ids_of after)
+ids_of-cut before after e = filter_map-append (λ (x : GeoRecord). x.block) before (e ∷ after)
 
-count-cut : (before after : List Entry) (e : Entry)
+count-cut : (before after : List GeoRecord) (e : GeoRecord)
     → count_by (λ x. is_none x.block) (before ++ e ∷ after) ≡ count_by (λ x. is_none x.block) before + (cond {A = ℕ} (is_none e.block) 1 0 + count_by (λ x. is_none x.block) after)
-count-cut before after e = sum_by-append (λ (x : Entry). cond {A = ℕ} (is_none x.block) 1 0) before (e ∷ after) ∙ ap (λ (n : ℕ). count_by (λ x. is_none x.block) before + n) (count-cons e after)
+count-cut before after e = sum_by-append (λ (x : GeoRecord). cond {A = ℕ} (is_none x.block) 1 0) before (e ∷ after) ∙ ap (λ (n : ℕ). count_by (λ x. is_none x.block) before + n) (count-cons e after)
 
-same_before : (before after : List Entry) (e : Entry) → All (λ s. other_state (before ++ e ∷ after) s ≡ false) (states_of (before ++ e ∷ after)) → other_state before e.state ≡ false
+same_before : (before after : List GeoRecord) (e : GeoRecord) → All (λ s. other_state (before ++ e ∷ after) s ≡ false) (states_of (before ++ e ∷ after)) → other_state before e.state ≡ false
 same_before before after e all =
     let there : get_or (states_of (before ++ e ∷ after)) (length (states_of before)) 0 ≡ e.state =
     ap (λ (ss : List ℕ). get_or ss (length (states_of before)) 0) (states_of-cut before after e) ∙ get_or_at (states_of before) e.state (states_of after) 0 (length (states_of before)) refl in
@@ -168,14 +168,14 @@ same_before before after e all =
     let whole : other_state (before ++ e ∷ after) e.state ≡ false = ap (other_state (before ++ e ∷ after)) (sym there) ∙ all (length (states_of before)) 0 inside in
     any_left (λ s. not (eqb s e.state)) (states_of before) (e.state ∷ states_of after) (ap (list_any (λ s. not (eqb s e.state))) (sym (states_of-cut before after e)) ∙ whole)
 
-no_state_before : (es : List Entry) → count_by (λ x. is_none x.block) es ≡ 0 → is_some (state_record_of es) ≡ false
+no_state_before : (es : List GeoRecord) → count_by (λ x. is_none x.block) es ≡ 0 → is_some (state_record_of es) ≡ false
 no_state_before es none = by_case (is_some (state_record_of es)) refl
   where
     by_case : (b : Bool) → is_some (state_record_of es) ≡ b → b ≡ false
     by_case true is = absurd (let some = some_counted es is in omega arith)
     by_case false is = refl
 
-kind_before : (before after : List Entry) (e : Entry) (o : Option ℕ) → e.block ≡ o → AreTogether (before ++ e ∷ after) → kind_conflict before e.number o ≡ None
+kind_before : (before after : List GeoRecord) (e : GeoRecord) (o : Option ℕ) → e.block ≡ o → AreTogether (before ++ e ∷ after) → kind_conflict before e.number o ≡ None
 kind_before before after e None is t =
     let number : repeats (numbers_of before) e.number ≡ false = before_differs (numbers_of before) (numbers_of after) e.number (subst (IsDistinct nat_eq) (numbers_of-cut before after e) t.different_records) in
     let one : cond {A = ℕ} (is_none e.block) 1 0 ≡ 1 = ap (λ (x : Option ℕ). cond {A = ℕ} (is_none x) 1 0) is in
@@ -189,13 +189,13 @@ kind_before before after e (Some id) is t =
     let room : leb block_limit (length (ids_of before)) ≡ false = grind (arith, nat_tests) in
     rw (block, number, room) refl
 
-together_before : (before after : List Entry) (e : Entry) → AreTogether (before ++ e ∷ after) → conflict before e ≡ None
+together_before : (before after : List GeoRecord) (e : GeoRecord) → AreTogether (before ++ e ∷ after) → conflict before e ≡ None
 together_before before after e t =
     ap (λ (b : Bool). cond b (Some State) (kind_conflict before e.number e.block)) (same_before before after e t.one_state) ∙ kind_before before after e e.block refl t
 
 -- ---- lines
 
-line_more : (ls : List (List ℕ)) (line : List ℕ) (r : Result (Option Entry) LineFault) → line_read line ≡ r → AreHeaderLines ls → judged (entries ls) r ≡ None → AreHeaderLines (ls ++ line ∷ [])
+line_more : (ls : List (List ℕ)) (line : List ℕ) (r : Result (Option GeoRecord) HeaderLineFault) → line_read line ≡ r → AreHeaderLines ls → judged (entries ls) r ≡ None → AreHeaderLines (ls ++ line ∷ [])
 line_more ls line (Err f) is whole none = absurd (cc)
 line_more ls line (Ok None) is whole none = record {
   shaped = All-push (λ l. is_ok (line_read l) ≡ true) ls line whole.shaped (ap is_ok is);
@@ -230,11 +230,11 @@ whole_from_good ls good = whole_on ls [] ls good refl whole_none
 entries-cut : (before after : List (List ℕ)) (line : List ℕ) → entries (before ++ line ∷ after) ≡ entries before ++ cons_option (entry_of line) (entries after)
 entries-cut before after line = filter_map-append entry_of before (line ∷ after)
 
-line_before : (ls before after : List (List ℕ)) (line : List ℕ) (r : Result (Option Entry) LineFault) → line_read line ≡ r → AreHeaderLines ls → ls ≡ before ++ line ∷ after → judged (entries before) r ≡ None
+line_before : (ls before after : List (List ℕ)) (line : List ℕ) (r : Result (Option GeoRecord) HeaderLineFault) → line_read line ≡ r → AreHeaderLines ls → ls ≡ before ++ line ∷ after → judged (entries before) r ≡ None
 line_before ls before after line (Ok None) is whole cut = refl
 line_before ls before after line (Ok (Some e)) is whole cut =
     let es : entries ls ≡ entries before ++ e ∷ entries after =
-    ap entries cut ∙ entries-cut before after line ∙ ap (λ (x : Result (Option Entry) LineFault). entries before ++ cons_option (taken_entry x) (entries after)) is in
+    ap entries cut ∙ entries-cut before after line ∙ ap (λ (x : Result (Option GeoRecord) HeaderLineFault). entries before ++ cons_option (taken_entry x) (entries after)) is in
     together_before (entries before) (entries after) e (subst AreTogether es whole.together)
 line_before ls before after line (Err f) is whole cut =
     let there : get_or ls (length before) [] ≡ line = ap (λ (t : List (List ℕ)). get_or t (length before) []) cut ∙ get_or_at before line after [] (length before) refl in

@@ -5,10 +5,10 @@ use Rattle.field_text.specs.Digits.{number_of, number_of_digits}
 use Rattle.field_text.specs.Fields.{fields}
 use Rattle.field_text.specs.Reading.{line_limit}
 use Rattle.desk_model.specs.Block.{state_of}
-use Rattle.pl94_geo.specs.declared.entry.Entry.{Entry}
+use Rattle.pl94_geo.specs.declared.entry.GeoRecord.{GeoRecord}
 use Rattle.pl94_geo.specs.declared.entry.BlockFields.{BlockFields}
-use Rattle.pl94_geo.specs.declared.entry.LineFault.{LineFault}
-use Rattle.pl94_geo.specs.declared.entry.LineFault.TheVariants.{Shape, RecordNumber, Codes}
+use Rattle.pl94_geo.specs.declared.entry.HeaderLineFault.{HeaderLineFault}
+use Rattle.pl94_geo.specs.declared.entry.HeaderLineFault.TheVariants.{Shape, RecordNumber, Codes}
 
 -- field n of a line, counted from 1
 abbrev pub field : ℕ → List (List ℕ) → List ℕ
@@ -56,7 +56,7 @@ abbrev pub block_number : ℕ → ℕ → ℕ → ℕ → ℕ
 block_number state county tract block = state * 10 ^ 13 + county * 10 ^ 10 + tract * 10 ^ 4 + block
 
 -- a block by its record number, state, county, PLACE, whether that is a city, tract and block
-abbrev pub block_entry : Option ℕ → Option ℕ → Option ℕ → Option (Option ℕ) → Bool → Option ℕ → Option ℕ → Result Entry LineFault
+abbrev pub block_entry : Option ℕ → Option ℕ → Option ℕ → Option (Option ℕ) → Bool → Option ℕ → Option ℕ → Result GeoRecord HeaderLineFault
 block_entry None s c p i t b = Err RecordNumber
 block_entry (Some n) None c p i t b = Err Codes
 block_entry (Some n) (Some s) None p i t b = Err Codes
@@ -66,22 +66,22 @@ block_entry (Some n) (Some s) (Some c) (Some p) i (Some t) None = Err Codes
 block_entry (Some n) (Some s) (Some c) (Some p) i (Some t) (Some b) =
     Ok (record { block = Some (block_number s c t b); number = n; state = s; city = if i then p else None })
 
-abbrev pub block_read : List (List ℕ) → Result Entry LineFault
+abbrev pub block_read : List (List ℕ) → Result GeoRecord HeaderLineFault
 block_read whole = block_entry (logrecno whole) (state_code whole) (county_code whole) (place_of (field 30 whole)) (is_city (field 31 whole)) (tract_code whole) (block_code whole)
 
-abbrev pub state_entry : Option ℕ → Option ℕ → Result Entry LineFault
+abbrev pub state_entry : Option ℕ → Option ℕ → Result GeoRecord HeaderLineFault
 state_entry None s = Err RecordNumber
 state_entry (Some n) None = Err Codes
 state_entry (Some n) (Some s) = Ok (record { block = None; number = n; state = s; city = None })
 
-abbrev pub state_record_read : List (List ℕ) → Result Entry LineFault
+abbrev pub state_record_read : List (List ℕ) → Result GeoRecord HeaderLineFault
 state_record_read whole = state_entry (logrecno whole) (state_code whole)
 
-abbrev pub taken : Result Entry LineFault → Result (Option Entry) LineFault
+abbrev pub taken : Result GeoRecord HeaderLineFault → Result (Option GeoRecord) HeaderLineFault
 taken (Ok e) = Ok (Some e)
 taken (Err f) = Err f
 
-abbrev pub fields_read : List (List ℕ) → Result (Option Entry) LineFault
+abbrev pub fields_read : List (List ℕ) → Result (Option GeoRecord) HeaderLineFault
 fields_read whole =
     if not (pointwise nat_eq (geocomp whole) (codes "00")) then Ok None
     else if pointwise nat_eq (sumlev whole) (codes "750") then taken (block_read whole)
@@ -89,13 +89,13 @@ fields_read whole =
     else Ok None
 
 -- what a line says by itself: nothing where its record isn't taken
-abbrev pub line_read : List ℕ → Result (Option Entry) LineFault
+abbrev pub line_read : List ℕ → Result (Option GeoRecord) HeaderLineFault
 line_read line =
     if nat_lt line_limit (length line) || not (length (fields line) == 97) then Err Shape
     else fields_read (fields line)
 
 -- the state is the one of the block's number
-pub record IsEntry (e : Entry) : Type 0 where
+pub record IsEntry (e : GeoRecord) : Type 0 where
   pub state : IfSome e.block (λ id. state_of id ≡ e.state)
 
 -- the fields of a block record that are read

@@ -11,12 +11,12 @@ use Rattle.field_text.specs.declared.reader.ReadFault.{ReadFault}
 use Rattle.field_text.specs.declared.reader.ReadFault.TheVariants as read
 use Rattle.pl94_geo.specs.Holding.{Holds}
 use Rattle.pl94_geo.specs.Judging.{entries, blocks_of, state_record_of, ids_of, judge}
-use Rattle.pl94_geo.specs.declared.entry.Entry.{Entry}
-use Rattle.pl94_geo.specs.declared.entry.LineFault.TheVariants.{Shape}
+use Rattle.pl94_geo.specs.declared.entry.GeoRecord.{GeoRecord}
+use Rattle.pl94_geo.specs.declared.entry.HeaderLineFault.TheVariants.{Shape}
 use Rattle.pl94_geo.specs.declared.header.GeoBlock.{GeoBlock}
 use Rattle.pl94_geo.specs.declared.header.Header.{Header}
-use Rattle.pl94_geo.specs.declared.header.Refusal.{Refusal}
-use Rattle.pl94_geo.specs.declared.header.Refusal.TheVariants as refusal
+use Rattle.pl94_geo.specs.declared.header.HeaderRefusal.{HeaderRefusal}
+use Rattle.pl94_geo.specs.declared.header.HeaderRefusal.TheVariants as refusal
 use Rattle.pl94_geo.specs.declared.geo.GeoRows.{GeoRows}
 use Rattle.pl94_geo.specs.declared.geo.GeoFault.{GeoFault}
 use Rattle.pl94_geo.specs.declared.geo.GeoFault.TheVariants as fault
@@ -69,12 +69,12 @@ told read.Failed number = fault.Read number
 told read.TurnLimit number = fault.TurnLimit number
 
 -- how a refusal is told
-abbrev pub refused : Refusal → ℕ → GeoFault
+abbrev pub refused : HeaderRefusal → ℕ → GeoFault
 refused (refusal.Fault f) number = fault.Line f number
 refused refusal.Memory number = fault.Memory
 
 -- the records of all lines
-abbrev pub Finishes : List Entry → ℕ → Result GeoRows GeoFault → Type 0
+abbrev pub Finishes : List GeoRecord → ℕ → Result GeoRows GeoFault → Type 0
 Finishes es number (Ok rows) = AreGeoRows rows × (0 < length (ids_of es)) × (rows.blocks.items ≡ blocks_of es) × (rows.state_record ≡ state_record_of es)
 Finishes es number (Err e) = (e ≡ fault.NoBlock number) × (ids_of es ≡ [])
 

@@ -8,17 +8,17 @@ use Rattle.std.specs.declared.hash.BuildHasherDefault.{BuildHasherDefault}
 use Rattle.desk_model.specs.Geography.{block_limit}
 use Rattle.pl94_geo.specs.Entries.{IsEntry}
 use Rattle.pl94_geo.specs.Judging.{numbers_of, ids_of, blocks_of, state_record_of, other_state, repeats, conflict, entries, judge}
-use Rattle.pl94_geo.specs.declared.entry.Entry.{Entry}
-use Rattle.pl94_geo.specs.declared.entry.LineFault.{LineFault}
+use Rattle.pl94_geo.specs.declared.entry.GeoRecord.{GeoRecord}
+use Rattle.pl94_geo.specs.declared.entry.HeaderLineFault.{HeaderLineFault}
 use Rattle.pl94_geo.specs.declared.header.Header.{Header}
-use Rattle.pl94_geo.specs.declared.header.Refusal.{Refusal}
-use Rattle.pl94_geo.specs.declared.header.Refusal.TheVariants.{Fault, Memory}
+use Rattle.pl94_geo.specs.declared.header.HeaderRefusal.{HeaderRefusal}
+use Rattle.pl94_geo.specs.declared.header.HeaderRefusal.TheVariants.{Fault, Memory}
 
 abbrev pub Numbers : Type 0
 Numbers = HashSet ℕ (BuildHasherDefault FoldHasher)
 
 -- these are the taken records, and they go together
-pub record Holds (h : Header) (es : List Entry) : Type 0 where
+pub record Holds (h : Header) (es : List GeoRecord) : Type 0 where
   pub state : (s : ℕ) → other_state es s ≡ option_map_or (λ own. not (own == s)) h.state false
   pub state_record : h.state_record ≡ state_record_of es
   pub blocks : h.blocks.items ≡ blocks_of es
@@ -30,19 +30,19 @@ pub record Holds (h : Header) (es : List Entry) : Type 0 where
   pub entries : All IsEntry es
 
 -- the set gets a number that it hasn't
-abbrev pub Adds : Numbers → Numbers → ℕ → LineFault → Result (Unit {0}) Refusal → Type 0
+abbrev pub Adds : Numbers → Numbers → ℕ → HeaderLineFault → Result (Unit {0}) HeaderRefusal → Type 0
 Adds old new number repeated (Ok u) = (contains nat_eq old number ≡ false) × ((n : ℕ) → contains nat_eq new n ≡ (nat_eq number n || contains nat_eq old n))
 Adds old new number repeated (Err (Fault f)) = (contains nat_eq old number ≡ true) × (f ≡ repeated)
 Adds old new number repeated (Err Memory) = ⊤
 
 -- one more record is taken, or it has a fault
-abbrev pub Takes : List Entry → Entry → Result (Unit {0}) Refusal → Header → Type 0
+abbrev pub Takes : List GeoRecord → GeoRecord → Result (Unit {0}) HeaderRefusal → Header → Type 0
 Takes es e (Ok u) new = (conflict es e ≡ None) × Holds new (es ++ e ∷ [])
 Takes es e (Err (Fault f)) new = conflict es e ≡ Some f
 Takes es e (Err Memory) new = ⊤
 
 -- one more line is good, or it has a fault
-abbrev pub Judges : List (List ℕ) → List ℕ → Result (Unit {0}) Refusal → Header → Type 0
+abbrev pub Judges : List (List ℕ) → List ℕ → Result (Unit {0}) HeaderRefusal → Header → Type 0
 Judges ls line (Ok u) new = (judge ls line ≡ None) × Holds new (entries (ls ++ line ∷ []))
 Judges ls line (Err (Fault f)) new = judge ls line ≡ Some f
 Judges ls line (Err Memory) new = ⊤

@@ -1,11 +1,11 @@
 -- How a fault of a header is told: its code and its line.
 use Rattle.std.specs.Prelude.{ℕ, List, ◌++◌, codes, decimal}
-use Rattle.pl94_geo.specs.declared.entry.LineFault.{LineFault}
-use Rattle.pl94_geo.specs.declared.entry.LineFault.TheVariants as line
+use Rattle.pl94_geo.specs.declared.entry.HeaderLineFault.{HeaderLineFault}
+use Rattle.pl94_geo.specs.declared.entry.HeaderLineFault.TheVariants as line
 use Rattle.pl94_geo.specs.declared.geo.GeoFault.{GeoFault}
 use Rattle.pl94_geo.specs.declared.geo.GeoFault.TheVariants as geo
 
-abbrev pub line_code : LineFault → List ℕ
+abbrev pub line_code : HeaderLineFault → List ℕ
 line_code line.Shape = codes "G1"
 line_code line.RecordNumber = codes "G2"
 line_code line.Codes = codes "G3"

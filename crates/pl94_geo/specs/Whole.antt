@@ -4,12 +4,12 @@ use Rattle.std.specs.List.{IsDistinct, count_by}
 use Rattle.desk_model.specs.Geography.{block_limit}
 use Rattle.field_text.specs.Judged.{AreGood}
 use Rattle.pl94_geo.specs.Entries.{line_read}
-use Rattle.pl94_geo.specs.declared.entry.Entry.{Entry}
+use Rattle.pl94_geo.specs.declared.entry.GeoRecord.{GeoRecord}
 use Rattle.pl94_geo.specs.Judging.{states_of, numbers_of, ids_of, other_state, entries, judge}
 
 -- Taken records of one state, with one state record at most, different record numbers and different blocks, of which
 -- there are no more than the limit.
-pub record AreTogether (es : List Entry) : Type 0 where
+pub record AreTogether (es : List GeoRecord) : Type 0 where
   pub one_state : All (λ s. other_state es s ≡ false) (states_of es)
   pub one_state_record : count_by (λ e. is_none e.block) es ≤ 1
   pub different_records : IsDistinct nat_eq (numbers_of es)

@@ -15,7 +15,7 @@ pub const FIELD_COUNT: usize = 97;
 
 /// The fault of a line, by its code.
 #[derive(Clone, Copy, Debug, PartialEq, Eq)]
-pub enum LineFault {
+pub enum HeaderLineFault {
     /// G1: not 97 fields, or longer than 65,536 bytes.
     Shape,
     /// G2: LOGRECNO of a taken record isn't 1 to 10 digits.
@@ -32,26 +32,26 @@ pub enum LineFault {
     TooManyBlocks,
 }
 
-impl LineFault {
+impl HeaderLineFault {
     /// Its code.
     pub fn code(self) -> &'static str
         ensures { result.now ≡ line_code self }
     {
         match self {
-            LineFault::Shape => "G1",
-            LineFault::RecordNumber => "G2",
-            LineFault::Codes => "G3",
-            LineFault::State => "G4",
-            LineFault::RepeatedBlock => "G5",
-            LineFault::RepeatedRecord => "G6",
-            LineFault::TooManyBlocks => "G7",
+            HeaderLineFault::Shape => "G1",
+            HeaderLineFault::RecordNumber => "G2",
+            HeaderLineFault::Codes => "G3",
+            HeaderLineFault::State => "G4",
+            HeaderLineFault::RepeatedBlock => "G5",
+            HeaderLineFault::RepeatedRecord => "G6",
+            HeaderLineFault::TooManyBlocks => "G7",
         }
     }
 }
 
 /// A taken record: a block (SUMLEV 750) or the state (SUMLEV 040), both with GEOCOMP 00.
 #[derive(Clone, Copy, Debug)]
-pub struct Entry {
+pub struct GeoRecord {
     /// None for the state record.
     pub block: Option<BlockId>,
     /// LOGRECNO, which the segments' records have too.
@@ -133,29 +133,29 @@ fn block_fields(line: &[u8]) -> BlockFields<'_>
 }
 
 /// A block record.
-fn read_block(line: &[u8]) -> Result<Entry, LineFault>
+fn read_block(line: &[u8]) -> Result<GeoRecord, HeaderLineFault>
     requires { length (fields line.now) ≡ 97 }
     ensures entry { result ≡ block_read (fields line.now) }
     ensures valid { IfOk result IsEntry }
 {
     let found = block_fields(line);
     let Some(number) = record_number(found.number, 10) else {
-        return Err(LineFault::RecordNumber);
+        return Err(HeaderLineFault::RecordNumber);
     };
     let Some(state) = digits_exactly(found.state, 2) else {
-        return Err(LineFault::Codes);
+        return Err(HeaderLineFault::Codes);
     };
     let Some(county) = digits_exactly(found.county, 3) else {
-        return Err(LineFault::Codes);
+        return Err(HeaderLineFault::Codes);
     };
     let Some(place) = place(found.place) else {
-        return Err(LineFault::Codes);
+        return Err(HeaderLineFault::Codes);
     };
     let Some(tract) = digits_exactly(found.tract, 6) else {
-        return Err(LineFault::Codes);
+        return Err(HeaderLineFault::Codes);
     };
     let Some(block) = digits_exactly(found.block, 4) else {
-        return Err(LineFault::Codes);
+        return Err(HeaderLineFault::Codes);
     };
     let id = block_id(state, county, tract, block);
     let city = if is_incorporated(found.place_class) {
@@ -163,7 +163,7 @@ fn read_block(line: &[u8]) -> Result<Entry, LineFault>
     } else {
         None
     };
-    Ok(Entry {
+    Ok(GeoRecord {
         block: Some(id),
         number,
         state,
@@ -172,19 +172,19 @@ fn read_block(line: &[u8]) -> Result<Entry, LineFault>
 }
 
 /// A state record.
-fn read_state(line: &[u8]) -> Result<Entry, LineFault>
+fn read_state(line: &[u8]) -> Result<GeoRecord, HeaderLineFault>
     requires { length (fields line.now) ≡ 97 }
     ensures entry { result ≡ state_record_read (fields line.now) }
     ensures valid { IfOk result IsEntry }
 {
     let mut fields = Fields::new(line);
     let Some(number) = record_number(fields.field_after(7), 10) else {
-        return Err(LineFault::RecordNumber);
+        return Err(HeaderLineFault::RecordNumber);
     };
     let Some(state) = digits_exactly(fields.field_after(4), 2) else {
-        return Err(LineFault::Codes);
+        return Err(HeaderLineFault::Codes);
     };
-    Ok(Entry {
+    Ok(GeoRecord {
         block: None,
         number,
         state,
@@ -193,12 +193,12 @@ fn read_state(line: &[u8]) -> Result<Entry, LineFault>
 }
 
 /// What a line says. `None` where it is no taken record.
-pub fn read_line(line: &[u8]) -> Result<Option<Entry>, LineFault>
+pub fn read_line(line: &[u8]) -> Result<Option<GeoRecord>, HeaderLineFault>
     ensures entry { result ≡ line_read line.now }
     ensures valid { IfOk result (λ entry. IfSome entry IsEntry) }
 {
     if line.len() > LINE_LIMIT || count_fields(line) != FIELD_COUNT {
-        return Err(LineFault::Shape);
+        return Err(HeaderLineFault::Shape);
     }
     let mut fields = Fields::new(line);
     let level = fields.field_after(2);

@@ -5,10 +5,10 @@ ghost use Rattle.std.specs.Io.KnownBytes.{Consumes};
 ghost use Rattle.field_text.specs.Reading.{turn_limit};
 ghost use Rattle.pl94_geo.specs.Holding.{Holds};
 ghost use Rattle.pl94_geo.specs.GeoFile.{AreGeoRows, IsRead, Finishes, told, refused, failures_after_file};
-ghost use Rattle.pl94_geo.specs.declared.entry.Entry.{Entry as TakenEntry};
+ghost use Rattle.pl94_geo.specs.declared.entry.GeoRecord.{GeoRecord as TakenEntry};
 
-use crate::entry::LineFault;
-use crate::header::{GeoBlock, Header, Refusal};
+use crate::entry::HeaderLineFault;
+use crate::header::{GeoBlock, Header, HeaderRefusal};
 use byte_stream::source::Source;
 use field_text::reader::{LineReader, ReadFault, Step};
 use std::alloc::Global;
@@ -27,7 +27,7 @@ pub struct GeoRows {
 #[derive(Clone, Copy, Debug, PartialEq, Eq)]
 pub enum GeoFault {
     /// G1 to G7: the first line with a fault.
-    Line(LineFault, u64),
+    Line(HeaderLineFault, u64),
     /// G8: the source failed.
     Read(u64),
     /// G9: no block. The line is the number of lines.
@@ -62,18 +62,18 @@ fn read_fault(fault: ReadFault, line: u64) -> GeoFault
     ensures { result ≡ told fault line }
 {
     match fault {
-        ReadFault::TooLong => GeoFault::Line(LineFault::Shape, line),
+        ReadFault::TooLong => GeoFault::Line(HeaderLineFault::Shape, line),
         ReadFault::Failed => GeoFault::Read(line),
         ReadFault::TurnLimit => GeoFault::TurnLimit(line),
     }
 }
 
-fn line_fault(refusal: Refusal, line: u64) -> GeoFault
+fn line_fault(refusal: HeaderRefusal, line: u64) -> GeoFault
     ensures { result ≡ refused refusal line }
 {
     match refusal {
-        Refusal::Fault(fault) => GeoFault::Line(fault, line),
-        Refusal::Memory => GeoFault::Memory,
+        HeaderRefusal::Fault(fault) => GeoFault::Line(fault, line),
+        HeaderRefusal::Memory => GeoFault::Memory,
     }
 }
 

@@ -4,9 +4,9 @@ ghost use Rattle.std.specs.Option.{option_map_or};
 ghost use Rattle.pl94_geo.specs.Entries.{IsEntry};
 ghost use Rattle.pl94_geo.specs.Judging.{entries, other_state};
 ghost use Rattle.pl94_geo.specs.Holding.{Holds, Takes, Judges, Adds};
-ghost use Rattle.pl94_geo.specs.declared.entry.Entry.{Entry as TakenEntry};
+ghost use Rattle.pl94_geo.specs.declared.entry.GeoRecord.{GeoRecord as TakenEntry};
 
-use crate::entry::{Entry, LineFault, read_line};
+use crate::entry::{GeoRecord, HeaderLineFault, read_line};
 use desk_model::block::BlockId;
 use desk_model::geography::BLOCK_LIMIT;
 use std::alloc::Global;
@@ -23,8 +23,8 @@ pub struct GeoBlock {
 
 /// Why a line isn't taken.
 #[derive(Clone, Copy, Debug)]
-pub enum Refusal {
-    Fault(LineFault),
+pub enum HeaderRefusal {
+    Fault(HeaderLineFault),
     Memory,
 }
 
@@ -39,13 +39,13 @@ pub struct Header {
 }
 
 /// Adds a number to a set that hasn't it yet.
-fn add(set: &mut HashSet<u64>, number: u64, repeated: LineFault) -> Result<(), Refusal>
+fn add(set: &mut HashSet<u64>, number: u64, repeated: HeaderLineFault) -> Result<(), HeaderRefusal>
     ensures { Adds set.old set.new number repeated result }
 {
     match set.insert(number) {
         Ok(true) => Ok(()),
-        Ok(false) => Err(Refusal::Fault(repeated)),
-        Err(_) => Err(Refusal::Memory),
+        Ok(false) => Err(HeaderRefusal::Fault(repeated)),
+        Err(_) => Err(HeaderRefusal::Memory),
     }
 }
 
@@ -73,30 +73,38 @@ impl Header {
     }
 
     /// Takes the state record.
-    fn take_state(&mut self, entry: Entry) -> Result<(), Refusal>
+    fn take_state(&mut self, entry: GeoRecord) -> Result<(), HeaderRefusal>
         requires valid { IsEntry entry }
         requires kind { entry.block ≡ None }
         ensures { (es : List TakenEntry) → Holds self.old es → other_state es entry.state ≡ false → Takes es entry result self.new }
     {
         if self.state_record.is_some() {
-            return Err(Refusal::Fault(LineFault::State));
+            return Err(HeaderRefusal::Fault(HeaderLineFault::State));
         }
-        add(&mut self.numbers, entry.number, LineFault::RepeatedRecord)?;
+        add(
+            &mut self.numbers,
+            entry.number,
+            HeaderLineFault::RepeatedRecord,
+        )?;
         self.state_record = Some(entry.number);
         self.state = Some(entry.state);
         Ok(())
     }
 
     /// Takes a block.
-    fn take_block(&mut self, entry: Entry, id: BlockId) -> Result<(), Refusal>
+    fn take_block(&mut self, entry: GeoRecord, id: BlockId) -> Result<(), HeaderRefusal>
         requires valid { IsEntry entry }
         requires kind { entry.block ≡ Some id }
         ensures { (es : List TakenEntry) → Holds self.old es → other_state es entry.state ≡ false → Takes es entry result self.new }
     {
-        add(&mut self.ids, id.number(), LineFault::RepeatedBlock)?;
-        add(&mut self.numbers, entry.number, LineFault::RepeatedRecord)?;
+        add(&mut self.ids, id.number(), HeaderLineFault::RepeatedBlock)?;
+        add(
+            &mut self.numbers,
+            entry.number,
+            HeaderLineFault::RepeatedRecord,
+        )?;
         if self.blocks.len() >= BLOCK_LIMIT {
-            return Err(Refusal::Fault(LineFault::TooManyBlocks));
+            return Err(HeaderRefusal::Fault(HeaderLineFault::TooManyBlocks));
         }
         let block = GeoBlock {
             number: entry.number,
@@ -104,19 +112,19 @@ impl Header {
             city: entry.city,
         };
         let Ok(()) = self.blocks.push(block) else {
-            return Err(Refusal::Memory);
+            return Err(HeaderRefusal::Memory);
         };
         self.state = Some(entry.state);
         Ok(())
     }
 
     /// Takes a record.
-    fn take(&mut self, entry: Entry) -> Result<(), Refusal>
+    fn take(&mut self, entry: GeoRecord) -> Result<(), HeaderRefusal>
         requires { IsEntry entry }
         ensures { (es : List TakenEntry) → Holds self.old es → Takes es entry result self.new }
     {
         if self.is_of_other_state(entry.state) {
-            return Err(Refusal::Fault(LineFault::State));
+            return Err(HeaderRefusal::Fault(HeaderLineFault::State));
         }
         match entry.block {
             None => self.take_state(entry),
@@ -125,13 +133,13 @@ impl Header {
     }
 
     /// Judges a line and takes its record.
-    pub fn judge_line(&mut self, line: &[u8]) -> Result<(), Refusal>
+    pub fn judge_line(&mut self, line: &[u8]) -> Result<(), HeaderRefusal>
         ensures { (ls : List (List ℕ)) → Holds self.old (entries ls) → Judges ls line.now result self.new }
     {
         match read_line(line) {
             Ok(Some(entry)) => self.take(entry),
             Ok(None) => Ok(()),
-            Err(fault) => Err(Refusal::Fault(fault)),
+            Err(fault) => Err(HeaderRefusal::Fault(fault)),
         }
     }
 }

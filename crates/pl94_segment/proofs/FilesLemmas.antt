@@ -20,10 +20,10 @@ use Rattle.pl94_segment.specs.Files.{AreSegmentLines, taken_in, people_in, count
 use Rattle.pl94_segment.specs.Join.{AreJoined, NoneMissing, lacking_part, taken_numbers, rows_of, total_people, people_at_number}
 use Rattle.pl94_segment.specs.Records.{line_read, record_of, records, has_number, judged, judge}
 use Rattle.pl94_segment.specs.SegFile.{people_of, IsSegment}
-use Rattle.pl94_segment.specs.declared.record.LineFault.{LineFault}
-use Rattle.pl94_segment.specs.declared.record.LineFault.TheVariants.{RepeatedRecord}
-use Rattle.pl94_segment.specs.declared.record.Part.{Part}
-use Rattle.pl94_segment.specs.declared.record.Part.TheVariants.{One, Two, Three}
+use Rattle.pl94_segment.specs.declared.record.SegmentLineFault.{SegmentLineFault}
+use Rattle.pl94_segment.specs.declared.record.SegmentLineFault.TheVariants.{RepeatedRecord}
+use Rattle.pl94_segment.specs.declared.record.SegmentNumber.{SegmentNumber}
+use Rattle.pl94_segment.specs.declared.record.SegmentNumber.TheVariants.{One, Two, Three}
 use Rattle.pl94_segment.specs.declared.record.SegRecord.{SegRecord}
 use Rattle.pl94_segment.specs.declared.segment.SegRows.{SegRows}
 use Rattle.pl94_segment.proofs.SegLemmas.{records-push}
@@ -44,8 +44,8 @@ not_repeated : (b : Bool) → cond b (Some RepeatedRecord) None ≡ None → b �
 not_repeated true none = absurd (cc)
 not_repeated false none = refl
 
-module _ (part : Part) where
-  segment_more : (ls : List (List ℕ)) (line : List ℕ) (r : Result SegRecord LineFault) → line_read part line ≡ r → AreSegmentLines part ls → judged (records part ls) r ≡ None
+module _ (part : SegmentNumber) where
+  segment_more : (ls : List (List ℕ)) (line : List ℕ) (r : Result SegRecord SegmentLineFault) → line_read part line ≡ r → AreSegmentLines part ls → judged (records part ls) r ≡ None
       → AreSegmentLines part (ls ++ line ∷ [])
   segment_more ls line (Err f) is whole none = absurd (cc)
   segment_more ls line (Ok r) is whole none =
@@ -71,9 +71,9 @@ module _ (part : Part) where
 
   records-cut : (before after : List (List ℕ)) (line : List ℕ) (r : SegRecord) → line_read part line ≡ Ok r → records part (before ++ line ∷ after) ≡ records part before ++ r ∷ records part after
   records-cut before after line r is =
-      filter_map-append (record_of part) before (line ∷ after) ∙ ap (λ (x : Result SegRecord LineFault). records part before ++ cons_option (result_ok x) (records part after)) is
+      filter_map-append (record_of part) before (line ∷ after) ∙ ap (λ (x : Result SegRecord SegmentLineFault). records part before ++ cons_option (result_ok x) (records part after)) is
 
-  segment_before : (ls before after : List (List ℕ)) (line : List ℕ) (r : Result SegRecord LineFault) → line_read part line ≡ r → AreSegmentLines part ls → ls ≡ before ++ line ∷ after
+  segment_before : (ls before after : List (List ℕ)) (line : List ℕ) (r : Result SegRecord SegmentLineFault) → line_read part line ≡ r → AreSegmentLines part ls → ls ≡ before ++ line ∷ after
       → judged (records part before) r ≡ None
   segment_before ls before after line (Ok r) is whole cut =
       let all : numbers (records part ls) ≡ numbers (records part before) ++ r.number ∷ numbers (records part after) =

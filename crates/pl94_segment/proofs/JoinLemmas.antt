@@ -16,7 +16,7 @@ use Rattle.pl94_geo.specs.declared.header.GeoBlock.{GeoBlock}
 use Rattle.pl94_geo.proofs.GeoLemmas.{all_as_first}
 use Rattle.pl94_segment.specs.Join.{taken_numbers, row_of, rows_of, total_people, IsLeast}
 use Rattle.pl94_segment.specs.declared.segment.SegRows.{SegRows}
-use Rattle.pl94_segment.specs.declared.record.Part.{Part}
+use Rattle.pl94_segment.specs.declared.record.SegmentNumber.{SegmentNumber}
 
 -- order by number, as a list of the numbers
 pub ids_rise : (rows : List BlockRow) → IsNonDecreasingBy (λ (b : BlockRow). b.id) rows → IsNonDecreasing (ids_of rows)
@@ -36,7 +36,7 @@ all_numbers geo i o all is =
     ap (λ (bs : List GeoBlock). map (λ (b : GeoBlock). b.number) bs ++ option_to_list o) (take_all i geo.blocks.items all)
     ∙ ap (λ (p : Option ℕ). map (λ (b : GeoBlock). b.number) geo.blocks.items ++ option_to_list p) (sym is)
 
-pub least_of_all : (geo : GeoRows) (first second third : SegRows) (i number : ℕ) (o : Option (ℕ × Part)) → length geo.blocks.items ≤ i → geo.state_record ≡ Some number
+pub least_of_all : (geo : GeoRows) (first second third : SegRows) (i number : ℕ) (o : Option (ℕ × SegmentNumber)) → length geo.blocks.items ≤ i → geo.state_record ≡ Some number
     → IsLeast first second third (map (λ (b : GeoBlock). b.number) (take i geo.blocks.items) ++ number ∷ []) o → IsLeast first second third (taken_numbers geo) o
 least_of_all geo first second third i number o all is least =
     subst (λ (ns : List ℕ). IsLeast first second third ns o) (all_numbers geo i (Some number) all is) least

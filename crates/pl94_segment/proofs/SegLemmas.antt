@@ -15,13 +15,13 @@ use Rattle.field_text.proofs.ReadingLemmas.{Consumes-nothing, Consumes-then}
 use Rattle.field_text.proofs.JudgedLemmas.{begins, begins_more, begins_line, good_none, good_more, shown_line, shown_last, shown_long, cut_short, lines-ended, lines-last_one}
 use Rattle.pl94_segment.specs.Records.{field_count_of, line_read, record_read, record_of, records, people_at, has_number, judged, judge}
 use Rattle.pl94_segment.specs.SegFile.{people_of, Holds, Takes, Judges, IsSegment, IsRead, Stands, told, refused}
-use Rattle.pl94_segment.specs.declared.record.Part.{Part}
+use Rattle.pl94_segment.specs.declared.record.SegmentNumber.{SegmentNumber}
 use Rattle.pl94_segment.specs.declared.record.SegRecord.{SegRecord}
-use Rattle.pl94_segment.specs.declared.record.LineFault.{LineFault}
-use Rattle.pl94_segment.specs.declared.record.LineFault.TheVariants.{Shape, RepeatedRecord}
+use Rattle.pl94_segment.specs.declared.record.SegmentLineFault.{SegmentLineFault}
+use Rattle.pl94_segment.specs.declared.record.SegmentLineFault.TheVariants.{Shape, RepeatedRecord}
 use Rattle.pl94_segment.specs.declared.segment.SegRows.{SegRows}
-use Rattle.pl94_segment.specs.declared.segment.Refusal.{Refusal}
-use Rattle.pl94_segment.specs.declared.segment.Refusal.TheVariants.{Fault, Memory}
+use Rattle.pl94_segment.specs.declared.segment.SegmentRefusal.{SegmentRefusal}
+use Rattle.pl94_segment.specs.declared.segment.SegmentRefusal.TheVariants.{Fault, Memory}
 use Rattle.pl94_segment.specs.declared.segment.SegFault.{SegFault}
 use Rattle.pl94_segment.specs.declared.segment.SegFault.TheVariants as fault
 
@@ -70,11 +70,11 @@ repeated old rs r p holds there =
     let is : has_number rs r.number ≡ true = has_number-is_some rs r.number ∙ some_test _ p (sym (holds.people r.number) ∙ there) in
     ap (λ (b : Bool). cond b (Some RepeatedRecord) None) is
 
-pub records-push : (part : Part) (ls : List (List ℕ)) (line : List ℕ) (r : SegRecord) → line_read part line ≡ Ok r → records part (ls ++ line ∷ []) ≡ records part ls ++ r ∷ []
-records-push part ls line r is = filter_map-append (record_of part) ls (line ∷ []) ∙ ap (λ (x : Result SegRecord LineFault). records part ls ++ cons_option (result_ok x) []) is
+pub records-push : (part : SegmentNumber) (ls : List (List ℕ)) (line : List ℕ) (r : SegRecord) → line_read part line ≡ Ok r → records part (ls ++ line ∷ []) ≡ records part ls ++ r ∷ []
+records-push part ls line r is = filter_map-append (record_of part) ls (line ∷ []) ∙ ap (λ (x : Result SegRecord SegmentLineFault). records part ls ++ cons_option (result_ok x) []) is
 
 -- what taking its record says of the line
-pub judges : (part : Part) (ls : List (List ℕ)) (line : List ℕ) (r : SegRecord) (result : Result (Unit {0}) Refusal) (new : SegRows) → line_read part line ≡ Ok r
+pub judges : (part : SegmentNumber) (ls : List (List ℕ)) (line : List ℕ) (r : SegRecord) (result : Result (Unit {0}) SegmentRefusal) (new : SegRows) → line_read part line ≡ Ok r
     → Takes (records part ls) r result new → Judges part ls line result new
 judges part ls line r (Ok u) new is took =
     (ap (judged (records part ls)) is ∙ ap (λ (b : Bool). cond b (Some RepeatedRecord) None) took.0, subst (Holds new) (sym (records-push part ls line r is)) took.1)
@@ -83,7 +83,7 @@ judges part ls line r (Err Memory) new is took = tt
 
 -- ---- the lines, one after the other
 
-module _ (part : Part) where
+module _ (part : SegmentNumber) where
   pub stands_start : (left : Option (List ℕ)) (held : List ℕ) (h : SegRows) → held ≡ [] → Holds h [] → Stands part left left held 0 h
   stands_start left held h none holds = record {
     text = [];
@@ -107,7 +107,7 @@ module _ (part : Part) where
     counted = s.counted;
   }
 
-  pub judged_at : (h new : SegRows) (r : Result (Unit {0}) Refusal) (given line : List ℕ) → given ≡ line → ((ls : List (List ℕ)) → Holds h (records part ls) → Judges part ls given r new)
+  pub judged_at : (h new : SegRows) (r : Result (Unit {0}) SegmentRefusal) (given line : List ℕ) → given ≡ line → ((ls : List (List ℕ)) → Holds h (records part ls) → Judges part ls given r new)
       → (ls : List (List ℕ)) → Holds h (records part ls) → Judges part ls line r new
   judged_at h new r given line same judged = subst (λ (l : List ℕ). (ls : List (List ℕ)) → Holds h (records part ls) → Judges part ls l r new) same judged
 
@@ -130,12 +130,12 @@ module _ (part : Part) where
   abbrev pub Told : Option (List ℕ) → Option (List ℕ) → Result SegRows SegFault → Type 0
   Told old left result = (text : List ℕ) × Consumes old left text × IsRead part text left result
 
-  pub told_line : (old left : Option (List ℕ)) (held line rest : List ℕ) (number : ℕ) (h new : SegRows) (f : LineFault) → Stands part old left held number h → BeginsWithLine held line rest
+  pub told_line : (old left : Option (List ℕ)) (held line rest : List ℕ) (number : ℕ) (h new : SegRows) (f : SegmentLineFault) → Stands part old left held number h → BeginsWithLine held line rest
       → ((ls : List (List ℕ)) → Holds h (records part ls) → Judges part ls line (Err (Fault f)) new) → Told old left (Err (fault.Line f (number + 1)))
   told_line old left held line rest number h new f s l judged =
       (s.text, s.consumed, rw s.counted (shown_line (judge part) s.text held line rest left s.ls f s.begins l s.good (judged s.ls s.holds)))
 
-  pub told_last : (old left : Option (List ℕ)) (held line : List ℕ) (number : ℕ) (h new : SegRows) (f : LineFault) → Stands part old left held number h → IsAtEnd left → IsLastLine held line
+  pub told_last : (old left : Option (List ℕ)) (held line : List ℕ) (number : ℕ) (h new : SegRows) (f : SegmentLineFault) → Stands part old left held number h → IsAtEnd left → IsLastLine held line
       → ((ls : List (List ℕ)) → Holds h (records part ls) → Judges part ls line (Err (Fault f)) new) → Told old left (Err (fault.Line f (number + 1)))
   told_last old left held line number h new f s end l judged =
       (s.text, s.consumed, rw s.counted (shown_last (judge part) s.text held line left s.ls f s.begins end l s.good (judged s.ls s.holds)))
@@ -168,12 +168,12 @@ module _ (part : Part) where
 
   -- ---- why no rows are given
 
-  pub told_refused : (old left : Option (List ℕ)) (held line rest : List ℕ) (number : ℕ) (h new : SegRows) (r : Refusal) → Stands part old left held number h → BeginsWithLine held line rest
+  pub told_refused : (old left : Option (List ℕ)) (held line rest : List ℕ) (number : ℕ) (h new : SegRows) (r : SegmentRefusal) → Stands part old left held number h → BeginsWithLine held line rest
       → ((ls : List (List ℕ)) → Holds h (records part ls) → Judges part ls line (Err r) new) → Told old left (Err (refused r (number + 1)))
   told_refused old left held line rest number h new (Fault f) s l judged = told_line old left held line rest number h new f s l judged
   told_refused old left held line rest number h new Memory s l judged = (s.text, s.consumed, tt)
 
-  pub told_refused_last : (old left : Option (List ℕ)) (held line : List ℕ) (number : ℕ) (h new : SegRows) (r : Refusal) → Stands part old left held number h → IsAtEnd left → IsLastLine held line
+  pub told_refused_last : (old left : Option (List ℕ)) (held line : List ℕ) (number : ℕ) (h new : SegRows) (r : SegmentRefusal) → Stands part old left held number h → IsAtEnd left → IsLastLine held line
       → ((ls : List (List ℕ)) → Holds h (records part ls) → Judges part ls line (Err r) new) → Told old left (Err (refused r (number + 1)))
   told_refused_last old left held line number h new (Fault f) s end l judged = told_last old left held line number h new f s end l judged
   told_refused_last old left held line number h new Memory s end l judged = (s.text, s.consumed, tt)

@@ -10,27 +10,27 @@ use Rattle.field_text.specs.Judged.{AreGood}
 use Rattle.pl94_geo.specs.GeoFile.{IsHeader}
 use Rattle.pl94_geo.specs.Judging.{entries, blocks_of, state_record_of}
 use Rattle.pl94_geo.specs.Whole.{AreHeaderLines}
-use Rattle.pl94_geo.specs.declared.entry.Entry.{Entry}
+use Rattle.pl94_geo.specs.declared.entry.GeoRecord.{GeoRecord}
 use Rattle.pl94_geo.specs.declared.geo.GeoRows.{GeoRows}
 use Rattle.pl94_geo.specs.declared.header.GeoBlock.{GeoBlock}
 use Rattle.pl94_segment.specs.Join.{AreJoined}
 use Rattle.pl94_segment.specs.Records.{line_read, records, people_at, judge}
 use Rattle.pl94_segment.specs.SegFile.{IsSegment}
-use Rattle.pl94_segment.specs.declared.record.Part.{Part}
-use Rattle.pl94_segment.specs.declared.record.Part.TheVariants.{One, Two, Three}
+use Rattle.pl94_segment.specs.declared.record.SegmentNumber.{SegmentNumber}
+use Rattle.pl94_segment.specs.declared.record.SegmentNumber.TheVariants.{One, Two, Three}
 use Rattle.pl94_segment.specs.declared.segment.SegRows.{SegRows}
 
 -- every line has its shape, and no record number stands twice
-pub record AreSegmentLines (part : Part) (ls : List (List ℕ)) : Type 0 where
+pub record AreSegmentLines (part : SegmentNumber) (ls : List (List ℕ)) : Type 0 where
   pub shaped : All (λ line. is_ok (line_read part line) ≡ true) ls
   pub different : IsDistinct nat_eq (map (λ r. r.number) (records part ls))
 
 -- the record numbers of the blocks and of the state record
-abbrev pub taken_in : List Entry → List ℕ
+abbrev pub taken_in : List GeoRecord → List ℕ
 taken_in es = map (λ b. b.number) (blocks_of es) ++ option_to_list (state_record_of es)
 
 -- the people of a record number in a segment's text
-abbrev pub people_in : Part → List ℕ → ℕ → Option ℕ
+abbrev pub people_in : SegmentNumber → List ℕ → ℕ → Option ℕ
 people_in part text n = people_at (records part (lines text)) n
 
 -- every segment has the record
@@ -74,4 +74,4 @@ FilesLaw = (header first second third : List ℕ) (geo : GeoRows) (a b c : SegRo
 
 -- a segment's lines are good one after the other exactly where they are a segment's as a whole
 abbrev pub SegmentLaw : Type 0
-SegmentLaw = (part : Part) (ls : List (List ℕ)) → (AreGood (judge part) ls → AreSegmentLines part ls) × (AreSegmentLines part ls → AreGood (judge part) ls)
+SegmentLaw = (part : SegmentNumber) (ls : List (List ℕ)) → (AreGood (judge part) ls → AreSegmentLines part ls) × (AreSegmentLines part ls → AreGood (judge part) ls)

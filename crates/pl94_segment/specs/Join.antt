@@ -9,8 +9,8 @@ use Rattle.desk_model.specs.declared.block.BlockRow.{BlockRow}
 use Rattle.pl94_geo.specs.declared.geo.GeoRows.{GeoRows}
 use Rattle.pl94_geo.specs.declared.header.GeoBlock.{GeoBlock}
 use Rattle.pl94_segment.specs.SegFile.{people_of}
-use Rattle.pl94_segment.specs.declared.record.Part.{Part}
-use Rattle.pl94_segment.specs.declared.record.Part.TheVariants.{One, Two, Three}
+use Rattle.pl94_segment.specs.declared.record.SegmentNumber.{SegmentNumber}
+use Rattle.pl94_segment.specs.declared.record.SegmentNumber.TheVariants.{One, Two, Three}
 use Rattle.pl94_segment.specs.declared.segment.SegRows.{SegRows}
 use Rattle.pl94_segment.specs.declared.join.JoinFault.{JoinFault}
 use Rattle.pl94_segment.specs.declared.join.JoinFault.TheVariants.{Missing, TooManyPeople, OtherTotal, Memory}
@@ -20,7 +20,7 @@ abbrev pub taken_numbers : GeoRows → List ℕ
 taken_numbers geo = map (λ b. b.number) geo.blocks.items ++ option_to_list geo.state_record
 
 -- the least segment that lacks a record
-abbrev pub lacking_part : SegRows → SegRows → SegRows → ℕ → Option Part
+abbrev pub lacking_part : SegRows → SegRows → SegRows → ℕ → Option SegmentNumber
 lacking_part first second third n =
     if is_none (people_of first n) then Some One
     else if is_none (people_of second n) then Some Two
@@ -32,12 +32,12 @@ abbrev pub NoneMissing : SegRows → SegRows → SegRows → List ℕ → Type 0
 NoneMissing first second third numbers = All (λ n. lacking_part first second third n ≡ None) numbers
 
 -- this is the least of the records that some segment lacks, and the least segment that lacks it
-pub record IsLeastMissing (first second third : SegRows) (numbers : List ℕ) (number : ℕ) (part : Part) : Type 0 where
+pub record IsLeastMissing (first second third : SegRows) (numbers : List ℕ) (number : ℕ) (part : SegmentNumber) : Type 0 where
   pub taken : Contains numbers number
   pub lacks : lacking_part first second third number ≡ Some part
   pub least : All (λ n. IsSome (lacking_part first second third n) → number ≤ n) numbers
 
-abbrev pub IsLeast : SegRows → SegRows → SegRows → List ℕ → Option (ℕ × Part) → Type 0
+abbrev pub IsLeast : SegRows → SegRows → SegRows → List ℕ → Option (ℕ × SegmentNumber) → Type 0
 IsLeast first second third numbers o = MatchOption o (NoneMissing first second third numbers) (λ p. IsLeastMissing first second third numbers p.0 p.1)
 
 -- a block with its people

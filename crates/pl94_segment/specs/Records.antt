@@ -6,18 +6,18 @@ use Rattle.field_text.specs.Digits.{number_of}
 use Rattle.field_text.specs.Fields.{fields}
 use Rattle.field_text.specs.Judged.{Judge}
 use Rattle.field_text.specs.Reading.{line_limit}
-use Rattle.pl94_segment.specs.declared.record.Part.{Part}
-use Rattle.pl94_segment.specs.declared.record.Part.TheVariants.{One, Two, Three}
-use Rattle.pl94_segment.specs.declared.record.LineFault.{LineFault}
-use Rattle.pl94_segment.specs.declared.record.LineFault.TheVariants.{Shape, RecordNumber, People, RepeatedRecord}
+use Rattle.pl94_segment.specs.declared.record.SegmentNumber.{SegmentNumber}
+use Rattle.pl94_segment.specs.declared.record.SegmentNumber.TheVariants.{One, Two, Three}
+use Rattle.pl94_segment.specs.declared.record.SegmentLineFault.{SegmentLineFault}
+use Rattle.pl94_segment.specs.declared.record.SegmentLineFault.TheVariants.{Shape, RecordNumber, People, RepeatedRecord}
 use Rattle.pl94_segment.specs.declared.record.SegRecord.{SegRecord}
 
-abbrev pub part_number : Part → ℕ
+abbrev pub part_number : SegmentNumber → ℕ
 part_number One = 1
 part_number Two = 2
 part_number Three = 3
 
-abbrev pub field_count_of : Part → ℕ
+abbrev pub field_count_of : SegmentNumber → ℕ
 field_count_of One = 149
 field_count_of Two = 152
 field_count_of Three = 15
@@ -39,30 +39,30 @@ abbrev pub people_of_field : List ℕ → Option ℕ
 people_of_field text = in_people (number_of 10 text)
 
 -- P0010001, which segment 1 has
-abbrev pub p0010001 : Part → List (List ℕ) → Option ℕ
+abbrev pub p0010001 : SegmentNumber → List (List ℕ) → Option ℕ
 p0010001 One whole = people_of_field (field 6 whole)
 p0010001 Two whole = Some 0
 p0010001 Three whole = Some 0
 
-abbrev pub segment_record : Option ℕ → Option ℕ → Result SegRecord LineFault
+abbrev pub segment_record : Option ℕ → Option ℕ → Result SegRecord SegmentLineFault
 segment_record None p = Err RecordNumber
 segment_record (Some n) None = Err People
 segment_record (Some n) (Some p) = Ok (record { number = n; people = p })
 
-abbrev pub record_read : Part → List (List ℕ) → Result SegRecord LineFault
+abbrev pub record_read : SegmentNumber → List (List ℕ) → Result SegRecord SegmentLineFault
 record_read part whole = segment_record (logrecno whole) (p0010001 part whole)
 
 -- what a line says by itself
-abbrev pub line_read : Part → List ℕ → Result SegRecord LineFault
+abbrev pub line_read : SegmentNumber → List ℕ → Result SegRecord SegmentLineFault
 line_read part line =
     if nat_lt line_limit (length line) || not (length (fields line) == field_count_of part) then Err Shape
     else record_read part (fields line)
 
 -- the records of the lines
-abbrev pub record_of : Part → List ℕ → Option SegRecord
+abbrev pub record_of : SegmentNumber → List ℕ → Option SegRecord
 record_of part line = result_ok (line_read part line)
 
-abbrev pub records : Part → List (List ℕ) → List SegRecord
+abbrev pub records : SegmentNumber → List (List ℕ) → List SegRecord
 records part ls = filter_map (record_of part) ls
 
 -- the people of the record of that number, where there is one
@@ -74,10 +74,10 @@ people_at (r ∷ rs) n = if r.number == n then Some r.people else people_at rs n
 abbrev pub has_number : List SegRecord → ℕ → Bool
 has_number rs n = list_any (λ r. r.number == n) rs
 
-abbrev pub judged : List SegRecord → Result SegRecord LineFault → Option LineFault
+abbrev pub judged : List SegRecord → Result SegRecord SegmentLineFault → Option SegmentLineFault
 judged rs (Err f) = Some f
 judged rs (Ok r) = if has_number rs r.number then Some RepeatedRecord else None
 
 -- the fault of a line, given the lines before it
-abbrev pub judge : Part → Judge LineFault
+abbrev pub judge : SegmentNumber → Judge SegmentLineFault
 judge part before line = judged (records part before) (line_read part line)

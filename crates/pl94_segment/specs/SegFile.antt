@@ -8,12 +8,12 @@ use Rattle.field_text.specs.Judged.{AreGood, ShowsFault, IsCutShort, BeginsWithL
 use Rattle.field_text.specs.declared.reader.ReadFault.{ReadFault}
 use Rattle.field_text.specs.declared.reader.ReadFault.TheVariants as read
 use Rattle.pl94_segment.specs.Records.{people_at, has_number, records, judged, judge}
-use Rattle.pl94_segment.specs.declared.record.Part.{Part}
+use Rattle.pl94_segment.specs.declared.record.SegmentNumber.{SegmentNumber}
 use Rattle.pl94_segment.specs.declared.record.SegRecord.{SegRecord}
-use Rattle.pl94_segment.specs.declared.record.LineFault.TheVariants.{Shape}
+use Rattle.pl94_segment.specs.declared.record.SegmentLineFault.TheVariants.{Shape}
 use Rattle.pl94_segment.specs.declared.segment.SegRows.{SegRows}
-use Rattle.pl94_segment.specs.declared.segment.Refusal.{Refusal}
-use Rattle.pl94_segment.specs.declared.segment.Refusal.TheVariants as refusal
+use Rattle.pl94_segment.specs.declared.segment.SegmentRefusal.{SegmentRefusal}
+use Rattle.pl94_segment.specs.declared.segment.SegmentRefusal.TheVariants as refusal
 use Rattle.pl94_segment.specs.declared.segment.SegFault.{SegFault}
 use Rattle.pl94_segment.specs.declared.segment.SegFault.TheVariants as fault
 
@@ -26,12 +26,12 @@ pub record Holds (rows : SegRows) (rs : List SegRecord) : Type 0 where
   pub people : (n : ℕ) → people_of rows n ≡ people_at rs n
 
 -- the lines are a segment, and these are its records
-pub record IsSegment (part : Part) (ls : List (List ℕ)) (rows : SegRows) : Type 0 where
+pub record IsSegment (part : SegmentNumber) (ls : List (List ℕ)) (rows : SegRows) : Type 0 where
   pub good : AreGood (judge part) ls
   pub people : (n : ℕ) → people_of rows n ≡ people_at (records part ls) n
 
 -- what the bytes that came are, where the reader has this left
-abbrev pub IsRead : Part → List ℕ → Option (List ℕ) → Result SegRows SegFault → Type 0
+abbrev pub IsRead : SegmentNumber → List ℕ → Option (List ℕ) → Result SegRows SegFault → Type 0
 IsRead part text left (Ok rows) = IsAtEnd left × IsSegment part (lines text) rows
 IsRead part text left (Err (fault.Line f number)) = ShowsFault (judge part) text left number f
 IsRead part text left (Err (fault.Read number)) = IsCutShort (judge part) text number
@@ -53,24 +53,24 @@ told read.Failed number = fault.Read number
 told read.TurnLimit number = fault.TurnLimit number
 
 -- how a refusal is told
-abbrev pub refused : Refusal → ℕ → SegFault
+abbrev pub refused : SegmentRefusal → ℕ → SegFault
 refused (refusal.Fault f) number = fault.Line f number
 refused refusal.Memory number = fault.Memory
 
 -- one more record is taken, or it has a fault
-abbrev pub Takes : List SegRecord → SegRecord → Result (Unit {0}) Refusal → SegRows → Type 0
+abbrev pub Takes : List SegRecord → SegRecord → Result (Unit {0}) SegmentRefusal → SegRows → Type 0
 Takes rs r (Ok u) new = (has_number rs r.number ≡ false) × Holds new (rs ++ r ∷ [])
 Takes rs r (Err (refusal.Fault f)) new = judged rs (Ok r) ≡ Some f
 Takes rs r (Err refusal.Memory) new = ⊤
 
 -- one more line is good, or it has a fault
-abbrev pub Judges : Part → List (List ℕ) → List ℕ → Result (Unit {0}) Refusal → SegRows → Type 0
+abbrev pub Judges : SegmentNumber → List (List ℕ) → List ℕ → Result (Unit {0}) SegmentRefusal → SegRows → Type 0
 Judges part ls line (Ok u) new = (judge part ls line ≡ None) × Holds new (records part (ls ++ line ∷ []))
 Judges part ls line (Err (refusal.Fault f)) new = judge part ls line ≡ Some f
 Judges part ls line (Err refusal.Memory) new = ⊤
 
 -- the bytes that came are these good lines, whose records the rows hold, and the held bytes
-pub record Stands (part : Part) (old left : Option (List ℕ)) (held : List ℕ) (number : ℕ) (rows : SegRows) : Type 0 where
+pub record Stands (part : SegmentNumber) (old left : Option (List ℕ)) (held : List ℕ) (number : ℕ) (rows : SegRows) : Type 0 where
   pub text : List ℕ
   pub ls : List (List ℕ)
   pub consumed : Consumes old left text

@@ -1,14 +1,14 @@
 -- How a fault of a segment is told, and one of the join: its code and what it carries.
 use Rattle.std.specs.Prelude.{ℕ, List, ◌++◌, codes, decimal}
 use Rattle.pl94_segment.specs.Records.{part_number}
-use Rattle.pl94_segment.specs.declared.record.LineFault.{LineFault}
-use Rattle.pl94_segment.specs.declared.record.LineFault.TheVariants as line
+use Rattle.pl94_segment.specs.declared.record.SegmentLineFault.{SegmentLineFault}
+use Rattle.pl94_segment.specs.declared.record.SegmentLineFault.TheVariants as line
 use Rattle.pl94_segment.specs.declared.segment.SegFault.{SegFault}
 use Rattle.pl94_segment.specs.declared.segment.SegFault.TheVariants as segment
 use Rattle.pl94_segment.specs.declared.join.JoinFault.{JoinFault}
 use Rattle.pl94_segment.specs.declared.join.JoinFault.TheVariants as join
 
-abbrev pub line_code : LineFault → List ℕ
+abbrev pub line_code : SegmentLineFault → List ℕ
 line_code line.Shape = codes "S1"
 line_code line.RecordNumber = codes "S2"
 line_code line.People = codes "S3"

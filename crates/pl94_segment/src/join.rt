@@ -5,7 +5,7 @@ ghost use Rattle.desk_model.specs.Geography.{block_limit, ids_of};
 ghost use Rattle.pl94_geo.specs.GeoFile.{AreGeoRows};
 ghost use Rattle.pl94_segment.specs.Join.{lacking_part, taken_numbers, IsLeast, row_of, state_people_of, IsJoined};
 
-use crate::record::Part;
+use crate::record::SegmentNumber;
 use crate::segment::SegRows;
 use desk_model::block::BlockRow;
 use pl94_geo::geo::GeoRows;
@@ -17,7 +17,7 @@ use std::fmt;
 #[derive(Clone, Copy, Debug, PartialEq, Eq)]
 pub enum JoinFault {
     /// S7: the least number of a taken record that a segment lacks, and the least such segment.
-    Missing(u64, Part),
+    Missing(u64, SegmentNumber),
     /// S9: the blocks have more than 4,294,967,295 people.
     TooManyPeople,
     /// S8: the people of the state record and of all blocks, where they differ.
@@ -43,29 +43,34 @@ impl fmt::Display for JoinFault {
 }
 
 /// The least segment that lacks a record.
-fn missing_part(number: u64, first: &SegRows, second: &SegRows, third: &SegRows) -> Option<Part>
+fn missing_part(
+    number: u64,
+    first: &SegRows,
+    second: &SegRows,
+    third: &SegRows,
+) -> Option<SegmentNumber>
     ensures { result ≡ lacking_part first.now second.now third.now number }
 {
     if first.people(number).is_none() {
-        return Some(Part::One);
+        return Some(SegmentNumber::One);
     }
     if second.people(number).is_none() {
-        return Some(Part::Two);
+        return Some(SegmentNumber::Two);
     }
     if third.people(number).is_none() {
-        return Some(Part::Three);
+        return Some(SegmentNumber::Three);
     }
     None
 }
 
 /// The least missing record, with one more number looked at.
 fn with_number(
-    least: Option<(u64, Part)>,
+    least: Option<(u64, SegmentNumber)>,
     number: u64,
     first: &SegRows,
     second: &SegRows,
     third: &SegRows,
-) -> Option<(u64, Part)>
+) -> Option<(u64, SegmentNumber)>
     ensures { (numbers : List ℕ) → IsLeast first.now second.now third.now numbers least
         → IsLeast first.now second.now third.now (numbers ++ number ∷ []) result }
 {
@@ -86,7 +91,7 @@ fn least_missing(
     first: &SegRows,
     second: &SegRows,
     third: &SegRows,
-) -> Option<(u64, Part)>
+) -> Option<(u64, SegmentNumber)>
     ensures { IsLeast first.now second.now third.now (taken_numbers geo.now) result }
 {
     let mut least = None;

@@ -10,21 +10,21 @@ use field_text::reader::LINE_LIMIT;
 
 /// A segment's number.
 #[derive(Clone, Copy, Debug, PartialEq, Eq)]
-pub enum Part {
+pub enum SegmentNumber {
     One,
     Two,
     Three,
 }
 
-impl Part {
+impl SegmentNumber {
     /// 1, 2 or 3.
     pub fn number(self) -> u8
         ensures { result ≡ part_number self }
     {
         match self {
-            Part::One => 1,
-            Part::Two => 2,
-            Part::Three => 3,
+            SegmentNumber::One => 1,
+            SegmentNumber::Two => 2,
+            SegmentNumber::Three => 3,
         }
     }
 
@@ -33,16 +33,16 @@ impl Part {
         ensures { result ≡ field_count_of self }
     {
         match self {
-            Part::One => 149,
-            Part::Two => 152,
-            Part::Three => 15,
+            SegmentNumber::One => 149,
+            SegmentNumber::Two => 152,
+            SegmentNumber::Three => 15,
         }
     }
 }
 
 /// The fault of a line, by its code.
 #[derive(Clone, Copy, Debug, PartialEq, Eq)]
-pub enum LineFault {
+pub enum SegmentLineFault {
     /// S1: a wrong number of fields, or longer than 65,536 bytes.
     Shape,
     /// S2: LOGRECNO isn't 1 to 10 digits.
@@ -53,16 +53,16 @@ pub enum LineFault {
     RepeatedRecord,
 }
 
-impl LineFault {
+impl SegmentLineFault {
     /// Its code.
     pub fn code(self) -> &'static str
         ensures { result.now ≡ line_code self }
     {
         match self {
-            LineFault::Shape => "S1",
-            LineFault::RecordNumber => "S2",
-            LineFault::People => "S3",
-            LineFault::RepeatedRecord => "S4",
+            SegmentLineFault::Shape => "S1",
+            SegmentLineFault::RecordNumber => "S2",
+            SegmentLineFault::People => "S3",
+            SegmentLineFault::RepeatedRecord => "S4",
         }
     }
 }
@@ -86,29 +86,29 @@ fn read_people(text: &[u8]) -> Option<u32>
 }
 
 /// The record of a line with the right number of fields.
-fn read_record(part: Part, line: &[u8]) -> Result<SegRecord, LineFault>
+fn read_record(part: SegmentNumber, line: &[u8]) -> Result<SegRecord, SegmentLineFault>
     requires { 6 ≤ length (fields line.now) }
     ensures { result ≡ record_read part (fields line.now) }
 {
     let mut fields = Fields::new(line);
     let Some(number) = record_number(fields.field_after(4), 10) else {
-        return Err(LineFault::RecordNumber);
+        return Err(SegmentLineFault::RecordNumber);
     };
-    if part != Part::One {
+    if part != SegmentNumber::One {
         return Ok(SegRecord { number, people: 0 });
     }
     let Some(people) = read_people(fields.field_after(0)) else {
-        return Err(LineFault::People);
+        return Err(SegmentLineFault::People);
     };
     Ok(SegRecord { number, people })
 }
 
 /// What a line says.
-pub fn read_line(part: Part, line: &[u8]) -> Result<SegRecord, LineFault>
+pub fn read_line(part: SegmentNumber, line: &[u8]) -> Result<SegRecord, SegmentLineFault>
     ensures { result ≡ line_read part line.now }
 {
     if line.len() > LINE_LIMIT || count_fields(line) != part.field_count() {
-        return Err(LineFault::Shape);
+        return Err(SegmentLineFault::Shape);
     }
     read_record(part, line)
 }

@@ -7,7 +7,7 @@ ghost use Rattle.pl94_segment.specs.Records.{records};
 ghost use Rattle.pl94_segment.specs.SegFile.{people_of, Holds, Takes, Judges, IsRead, told, refused, failures_after_file};
 ghost use Rattle.pl94_segment.specs.declared.record.SegRecord.{SegRecord as SegmentRecord};
 
-use crate::record::{LineFault, Part, SegRecord, read_line};
+use crate::record::{SegRecord, SegmentLineFault, SegmentNumber, read_line};
 use byte_stream::source::Source;
 use field_text::reader::{LineReader, ReadFault, Step};
 use std::alloc::Global;
@@ -24,7 +24,7 @@ pub struct SegRows {
 #[derive(Clone, Copy, Debug, PartialEq, Eq)]
 pub enum SegFault {
     /// S1 to S4: the first line with a fault.
-    Line(LineFault, u64),
+    Line(SegmentLineFault, u64),
     /// S5: the source failed.
     Read(u64),
     /// S6: the source was asked 4,294,967,296 times.
@@ -51,8 +51,8 @@ impl fmt::Display for SegFault {
 
 /// Why a line isn't taken.
 #[derive(Clone, Copy, Debug)]
-pub enum Refusal {
-    Fault(LineFault),
+pub enum SegmentRefusal {
+    Fault(SegmentLineFault),
     Memory,
 }
 
@@ -63,18 +63,18 @@ fn read_fault(fault: ReadFault, line: u64) -> SegFault
     ensures { result ≡ told fault line }
 {
     match fault {
-        ReadFault::TooLong => SegFault::Line(LineFault::Shape, line),
+        ReadFault::TooLong => SegFault::Line(SegmentLineFault::Shape, line),
         ReadFault::Failed => SegFault::Read(line),
         ReadFault::TurnLimit => SegFault::TurnLimit(line),
     }
 }
 
-fn line_fault(refusal: Refusal, line: u64) -> SegFault
+fn line_fault(refusal: SegmentRefusal, line: u64) -> SegFault
     ensures { result ≡ refused refusal line }
 {
     match refusal {
-        Refusal::Fault(fault) => SegFault::Line(fault, line),
-        Refusal::Memory => SegFault::Memory,
+        SegmentRefusal::Fault(fault) => SegFault::Line(fault, line),
+        SegmentRefusal::Memory => SegFault::Memory,
     }
 }
 
@@ -95,30 +95,34 @@ impl SegRows {
     }
 
     /// Takes a record.
-    fn take(&mut self, row: SegRecord) -> Result<(), Refusal>
+    fn take(&mut self, row: SegRecord) -> Result<(), SegmentRefusal>
         ensures { (rs : List SegmentRecord) → Holds self.old rs → Takes rs row result self.new }
     {
         match self.people.insert(row.number, row.people) {
             Ok(None) => Ok(()),
-            Ok(Some(_)) => Err(Refusal::Fault(LineFault::RepeatedRecord)),
-            Err(_) => Err(Refusal::Memory),
+            Ok(Some(_)) => Err(SegmentRefusal::Fault(SegmentLineFault::RepeatedRecord)),
+            Err(_) => Err(SegmentRefusal::Memory),
         }
     }
 
     /// Judges a line and takes its record.
-    fn judge_line(&mut self, part: Part, line: &[u8]) -> Result<(), Refusal>
+    fn judge_line(&mut self, part: SegmentNumber, line: &[u8]) -> Result<(), SegmentRefusal>
         ensures { (ls : List (List ℕ)) → Holds self.old (records part ls) → Judges part ls line.now result self.new }
     {
         match read_line(part, line) {
             Ok(row) => self.take(row),
-            Err(fault) => Err(Refusal::Fault(fault)),
+            Err(fault) => Err(SegmentRefusal::Fault(fault)),
         }
     }
 }
 
 impl SegmentReader {
     /// Reads the segment to the end of the source. It holds one line at a time.
-    pub fn read<R: Source>(alloc: Global, part: Part, reader: &mut R) -> Result<SegRows, SegFault>
+    pub fn read<R: Source>(
+        alloc: Global,
+        part: SegmentNumber,
+        reader: &mut R,
+    ) -> Result<SegRows, SegFault>
         ensures read { (text : List ℕ) × Consumes (R.remaining reader.old) (R.remaining reader.new) text × IsRead part text (R.remaining reader.new) result }
         ensures failures { R.failures reader.new ≡ failures_after_file (R.failures reader.old) result }
         ensures turns { (line : ℕ) → result ≡ Err (SegFault.TurnLimit line) → R.turns reader.new ≡ counted (R.turns reader.old) turn_limit }

@@ -8,8 +8,8 @@ use Rattle.http_routes.specs.declared.order.Order.TheVariants as order
 use Rattle.http_routes.specs.Orders.{order_of}
 use Rattle.http_wire.specs.Front.{closes_after, is_head}
 use Rattle.http_desk.specs.declared.serve.Served.{Served}
-use Rattle.http_desk.specs.declared.serve.ServeFault.{ServeFault}
-use Rattle.http_desk.specs.declared.serve.ServeFault.TheVariants as fault
+use Rattle.http_desk.specs.declared.serve.StreamFault.{StreamFault}
+use Rattle.http_desk.specs.declared.serve.StreamFault.TheVariants as fault
 use Rattle.http_desk.specs.Talk.{Talk, MayAnswer}
 use Rattle.http_desk.specs.Serving.{ServesTo, IsShortTalk}
 use Rattle.served_runs.specs.Served.{DoesAtCounter, AsksAtCounter, calls_with, calls_in, short_calls, calls_served, SurvivesEachStream}
@@ -38,7 +38,7 @@ module _ {D : Type 0} {g : Ghosts D} where
   short_talked x input answers y (inl talk) = talked x input answers talk.0 false y talk.1
   short_talked x input answers y (inr cut) = talked x (cut.taken ++ []) (answers ++ []) (cut.count + 0) false y (cut.on [] [] 0 false y (Talk.over y))
 
-  served : (x : Clerk D g) (result : Result Served ServeFault) (left : Option (List ℕ)) (input output : List ℕ) (y : Clerk D g) (serves : ServesTo DoesAtCounter AsksAtCounter x result left input output y)
+  served : (x : Clerk D g) (result : Result Served StreamFault) (left : Option (List ℕ)) (input output : List ℕ) (y : Clerk D g) (serves : ServesTo DoesAtCounter AsksAtCounter x result left input output y)
       → Run x (calls_served x result left input output y serves) y
   served x (Ok s) left input output y serves = talked x input output s.requests serves.0 y serves.1
   served x (Err fault.Read) left input output y serves = short_talked x input output y serves

@@ -16,8 +16,8 @@ use Rattle.http_routes.specs.declared.order.Order.TheVariants as order
 use Rattle.http_routes.specs.Orders.{order_of}
 use Rattle.http_wire.specs.Front.{closes_after, is_head}
 use Rattle.http_desk.specs.declared.serve.Served.{Served}
-use Rattle.http_desk.specs.declared.serve.ServeFault.{ServeFault}
-use Rattle.http_desk.specs.declared.serve.ServeFault.TheVariants as fault
+use Rattle.http_desk.specs.declared.serve.StreamFault.{StreamFault}
+use Rattle.http_desk.specs.declared.serve.StreamFault.TheVariants as fault
 use Rattle.http_desk.specs.Talk.{Talk, MayAnswer}
 use Rattle.http_desk.specs.Serving.{ServesTo, IsShortTalk}
 
@@ -49,7 +49,7 @@ module _ {D : Type 0} {g : Ghosts D} where
   short_calls x input answers y (inr cut) = calls_in x (cut.taken ++ []) (answers ++ []) (cut.count + 0) false y (cut.on [] [] 0 false y (Talk.over y))
 
   -- the commands of a served stream; where the writer failed, of all that was answered
-  abbrev pub calls_served : (x : Clerk D g) (result : Result Served ServeFault) (left : Option (List ℕ)) (input output : List ℕ) (y : Clerk D g) → ServesTo DoesAtCounter AsksAtCounter x result left input output y → List Call
+  abbrev pub calls_served : (x : Clerk D g) (result : Result Served StreamFault) (left : Option (List ℕ)) (input output : List ℕ) (y : Clerk D g) → ServesTo DoesAtCounter AsksAtCounter x result left input output y → List Call
   calls_served x (Ok s) left input output y serves = calls_in x input output s.requests serves.0 y serves.1
   calls_served x (Err fault.Read) left input output y serves = short_calls x input output y serves
   calls_served x (Err fault.TurnLimit) left input output y serves = short_calls x input output y serves
@@ -62,11 +62,11 @@ module _ {D : Type 0} {g : Ghosts D} where
     pub survives : Keeps x → x.halted ≡ false → (disk_of y).is_honest → Survives x calls y run
 
   abbrev pub SurvivesEachStream : Clerk D g → Type 0
-  SurvivesEachStream x = (result : Result Served ServeFault) (left : Option (List ℕ)) (input output : List ℕ) (y : Clerk D g)
+  SurvivesEachStream x = (result : Result Served StreamFault) (left : Option (List ℕ)) (input output : List ℕ) (y : Clerk D g)
       (serves : ServesTo DoesAtCounter AsksAtCounter x result left input output y) → StreamSurvives x (calls_served x result left input output y serves) y
 
   -- a served stream, and what a stop at any moment of it leaves
-  pub record ServesDurably (x : Clerk D g) (result : Result Served ServeFault) (y : Clerk D g) (unread left before after : Option (List ℕ)) : Type 0 where
+  pub record ServesDurably (x : Clerk D g) (result : Result Served StreamFault) (y : Clerk D g) (unread left before after : Option (List ℕ)) : Type 0 where
     pub input : List ℕ
     pub output : List ℕ
     pub reads : Consumes unread left input

@@ -9,7 +9,7 @@ use byte_stream::source::Source;
 use desk_model::gate::Gate;
 use desk_store::clerk::Clerk;
 use http_answer::gather::GatherSink;
-use http_desk::serve::{ServeFault, Served, serve};
+use http_desk::serve::{Served, StreamFault, serve};
 use sector_device::SectorDevice;
 use std::alloc::Global;
 
@@ -21,11 +21,11 @@ pub fn serve_clerk<R: Source, W: GatherSink, D: SectorDevice, G: Gate>(
     writer: &mut W,
     clerk: &mut Clerk<D>,
     gate: &G,
-) -> Result<Served, ServeFault>
+) -> Result<Served, StreamFault>
     ensures serves { ServesDurably clerk.old result clerk.new (R.remaining reader.old) (R.remaining reader.new) (W.contents writer.old) (W.contents writer.new) }
     ensures read_failures { R.failures reader.new ≡ read_failures (R.failures reader.old) result }
     ensures write_failures { W.failures writer.new ≡ write_failures (W.failures writer.old) result }
-    ensures turn_limit { result ≡ Err ServeFault.TurnLimit → R.turns reader.new ≡ counted (R.turns reader.old) 4294967296 }
+    ensures turn_limit { result ≡ Err StreamFault.TurnLimit → R.turns reader.new ≡ counted (R.turns reader.old) 4294967296 }
 {
     streams_survive(clerk);
     serve(alloc, reader, writer, clerk, gate)

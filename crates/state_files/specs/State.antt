@@ -11,8 +11,8 @@ use Rattle.pl94_geo.specs.declared.geo.GeoFault.{GeoFault}
 use Rattle.pl94_geo.specs.declared.geo.GeoFault.TheVariants as geo
 use Rattle.pl94_segment.specs.Join.{IsJoined}
 use Rattle.pl94_segment.specs.SegFile.{IsRead as IsSegmentRead, failures_after_file as failures_after_segment}
-use Rattle.pl94_segment.specs.declared.record.Part.{Part}
-use Rattle.pl94_segment.specs.declared.record.Part.TheVariants.{One, Two, Three}
+use Rattle.pl94_segment.specs.declared.record.SegmentNumber.{SegmentNumber}
+use Rattle.pl94_segment.specs.declared.record.SegmentNumber.TheVariants.{One, Two, Three}
 use Rattle.pl94_segment.specs.declared.segment.SegRows.{SegRows}
 use Rattle.pl94_segment.specs.declared.segment.SegFault.{SegFault}
 use Rattle.pl94_segment.specs.declared.segment.SegFault.TheVariants as segment
@@ -26,7 +26,7 @@ abbrev pub header_outcome : Result GeoRows GeoFault → Result GeoRows FileFault
 header_outcome (Ok rows) = Ok rows
 header_outcome (Err fault) = Err (Header fault)
 
-abbrev pub segment_outcome : Part → Result SegRows SegFault → Result SegRows FileFault
+abbrev pub segment_outcome : SegmentNumber → Result SegRows SegFault → Result SegRows FileFault
 segment_outcome part (Ok rows) = Ok rows
 segment_outcome part (Err fault) = Err (Segment part fault)
 
@@ -51,12 +51,12 @@ ReadsHeader (Ok before) (Err fault) outcome = ⊥
 ReadsHeader (Ok before) (Ok after) outcome = (read : Result GeoRows GeoFault) × IsHeaderOf before after read × (outcome ≡ header_outcome read)
 
 -- the same of a segment
-abbrev pub IsSegmentOf : Part → (before after : File) → Result SegRows SegFault → Type 0
+abbrev pub IsSegmentOf : SegmentNumber → (before after : File) → Result SegRows SegFault → Type 0
 IsSegmentOf part before after read = (text : List ℕ) × Consumes before.unread after.unread text × IsSegmentRead part text after.unread read
     × (after.failures ≡ failures_after_segment before.failures read)
     × ((line : ℕ) → read ≡ Err (segment.TurnLimit line) → IsAtLimit before after)
 
-abbrev pub ReadsSegment : Part → (before after : Opening) → Result SegRows FileFault → Type 0
+abbrev pub ReadsSegment : SegmentNumber → (before after : Opening) → Result SegRows FileFault → Type 0
 ReadsSegment part (Err fault) after outcome = (after ≡ Err fault) × (outcome ≡ Err (NoSegment part fault))
 ReadsSegment part (Ok before) (Err fault) outcome = ⊥
 ReadsSegment part (Ok before) (Ok after) outcome = (read : Result SegRows SegFault) × IsSegmentOf part before after read × (outcome ≡ segment_outcome part read)

@@ -3,8 +3,8 @@ use Rattle.std.specs.Prelude.{ℕ, List, ◌++◌, codes, decimal}
 use Rattle.desk_model.specs.Baf.{fault_code}
 use Rattle.pl94_geo.specs.Texts.{header_text}
 use Rattle.pl94_segment.specs.Texts.{segment_text, join_text}
-use Rattle.pl94_segment.specs.declared.record.Part.{Part}
-use Rattle.pl94_segment.specs.declared.record.Part.TheVariants.{One, Two, Three}
+use Rattle.pl94_segment.specs.declared.record.SegmentNumber.{SegmentNumber}
+use Rattle.pl94_segment.specs.declared.record.SegmentNumber.TheVariants.{One, Two, Three}
 use Rattle.gal_text.specs.Texts.{gal_fault_text}
 use Rattle.state_files.specs.declared.fault.OpenFault.{OpenFault}
 use Rattle.state_files.specs.declared.fault.OpenFault.TheVariants as opening
@@ -25,7 +25,7 @@ plan_text plan.TooLarge = codes "TooLarge"
 plan_text (plan.Body fault line) = fault_code fault ++ codes " line " ++ decimal line
 plan_text plan.Memory = codes "Memory"
 
-abbrev pub segment_file : Part → List ℕ
+abbrev pub segment_file : SegmentNumber → List ℕ
 segment_file One = codes "seg1"
 segment_file Two = codes "seg2"
 segment_file Three = codes "seg3"

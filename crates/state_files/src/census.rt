@@ -10,7 +10,7 @@ use byte_stream::source::Source;
 use desk_model::block::BlockRow;
 use pl94_geo::geo::{GeoReader, GeoRows};
 use pl94_segment::join::{JoinFault, join};
-use pl94_segment::record::Part;
+use pl94_segment::record::SegmentNumber;
 use pl94_segment::segment::{SegRows, SegmentReader};
 use std::alloc::Global;
 
@@ -41,7 +41,7 @@ fn read_header<R: Source>(
 
 fn read_segment<R: Source>(
     alloc: Global,
-    part: Part,
+    part: SegmentNumber,
     opened: &mut Result<R, OpenFault>,
 ) -> Result<SegRows, FileFault>
     ensures { ReadsSegment part (opening_of R.remaining R.turns R.failures opened.old) (opening_of R.remaining R.turns R.failures opened.new) result }
@@ -82,8 +82,8 @@ pub fn read_state<R: Source>(
     ensures blocks { IfOk result (λ rows. AreBlocks rows.items) }
 {
     let header = read_header(alloc, &mut files.geo)?;
-    let first = read_segment(alloc, Part::One, &mut files.seg1)?;
-    let second = read_segment(alloc, Part::Two, &mut files.seg2)?;
-    let third = read_segment(alloc, Part::Three, &mut files.seg3)?;
+    let first = read_segment(alloc, SegmentNumber::One, &mut files.seg1)?;
+    let second = read_segment(alloc, SegmentNumber::Two, &mut files.seg2)?;
+    let third = read_segment(alloc, SegmentNumber::Three, &mut files.seg3)?;
     join_rows(alloc, &header, &first, &second, &third)
 }

@@ -6,7 +6,7 @@ use desk_model::reply::BodyFault;
 use gal_text::fault::GalFault;
 use pl94_geo::geo::GeoFault;
 use pl94_segment::join::JoinFault;
-use pl94_segment::record::Part;
+use pl94_segment::record::SegmentNumber;
 use pl94_segment::segment::SegFault;
 use std::fmt;
 
@@ -45,8 +45,8 @@ pub enum FileFault {
     NoHeader(OpenFault),
     Header(GeoFault),
     /// A segment isn't opened.
-    NoSegment(Part, OpenFault),
-    Segment(Part, SegFault),
+    NoSegment(SegmentNumber, OpenFault),
+    Segment(SegmentNumber, SegFault),
     /// The files don't go together, or memory for the blocks or for their counts was refused.
     Join(JoinFault),
     /// The neighbour file isn't opened.
@@ -86,13 +86,13 @@ impl fmt::Display for PlanFault {
     }
 }
 
-fn segment_file(part: Part) -> &'static str
+fn segment_file(part: SegmentNumber) -> &'static str
     ensures { result.now ≡ segment_file part }
 {
     match part {
-        Part::One => "seg1",
-        Part::Two => "seg2",
-        Part::Three => "seg3",
+        SegmentNumber::One => "seg1",
+        SegmentNumber::Two => "seg2",
+        SegmentNumber::Three => "seg3",
     }
 }
 

@@ -19,8 +19,8 @@ use Rattle.desk_store.specs.Commands.{Does}
 use Rattle.http_desk.specs.Talk.{Talk}
 use Rattle.http_desk.specs.Serving.{ServesTo, IsCutTalk, IsFrontTalk, IsCutInHead, IsShortTalk}
 use Rattle.http_desk.specs.declared.serve.Served.{Served}
-use Rattle.http_desk.specs.declared.serve.ServeFault.{ServeFault}
-use Rattle.http_desk.specs.declared.serve.ServeFault.TheVariants as fault
+use Rattle.http_desk.specs.declared.serve.StreamFault.{StreamFault}
+use Rattle.http_desk.specs.declared.serve.StreamFault.TheVariants as fault
 use Rattle.talk_command.specs.Talking.{clerk_commands, clerk_asks, ServesSample, ServesClerk, IsUnserved}
 use Rattle.talk_command.specs.Desks.{desk_commands, desk_asks, DeskTalk, IsTalkToHead, IsTalkSoFar, DeskServesTo, ServesDesk}
 use Rattle.talk_command.proofs.Seen.{talk_seen}
@@ -52,14 +52,14 @@ outcome_seen must may failed d c (reply.Baf text) e told = absurd told
 outcome_seen must may failed d c (reply.Audited text) e told = absurd told
 
 -- no clerk could be made
-unserved_seen : (served : Result Served ServeFault) (unread left before after : Option (List ℕ)) → IsUnserved served unread left before after → ServesDesk served unread left before after
+unserved_seen : (served : Result Served StreamFault) (unread left before after : Option (List ℕ)) → IsUnserved served unread left before after → ServesDesk served unread left before after
 unserved_seen served unread left before after is = record {
   last = sample_desk;
   input = [];
   output = [];
   reads = is.reads;
   writes = is.writes;
-  serves = subst (λ (s : Result Served ServeFault). DeskServesTo sample_desk s left [] [] sample_desk) (sym is.memory) (refl, refl);
+  serves = subst (λ (s : Result Served StreamFault). DeskServesTo sample_desk s left [] [] sample_desk) (sym is.memory) (refl, refl);
 }
 
 module _ {D : Type 0} {g : Ghosts D} where
@@ -101,14 +101,14 @@ module _ {D : Type 0} {g : Ghosts D} where
     talk = desks_talk x front.front answers front.count front.shut y front.talk;
   }
 
-  served_seen : (served : Result Served ServeFault) (left : Option (List ℕ)) (x : Clerk D g) (input output : List ℕ) (y : Clerk D g) → ServesTo (clerk_commands g) (clerk_asks g) x served left input output y → DeskServesTo (desk_of x) served left input output (desk_of y)
+  served_seen : (served : Result Served StreamFault) (left : Option (List ℕ)) (x : Clerk D g) (input output : List ℕ) (y : Clerk D g) → ServesTo (clerk_commands g) (clerk_asks g) x served left input output y → DeskServesTo (desk_of x) served left input output (desk_of y)
   served_seen (Ok served) left x input output y told = (told.0, desks_talk x input output served.requests told.0 y told.1, told.2)
   served_seen (Err fault.Read) left x input output y told = short_seen x input output y told
   served_seen (Err fault.TurnLimit) left x input output y told = short_seen x input output y told
   served_seen (Err fault.Write) left x input output y told = record { answers = told.answers; unwritten = told.unwritten; written = told.written; over_front = front_seen x input told.answers y told.over_front }
   served_seen (Err fault.Memory) left x input output y told = (told.0, told.1)
 
-  clerk_seen : (served : Result Served ServeFault) (unread left before after : Option (List ℕ)) → ServesClerk g served unread left before after → ServesDesk served unread left before after
+  clerk_seen : (served : Result Served StreamFault) (unread left before after : Option (List ℕ)) → ServesClerk g served unread left before after → ServesDesk served unread left before after
   clerk_seen served unread left before after is = record {
     last = desk_of is.last;
     input = is.serves.input;
@@ -118,5 +118,5 @@ module _ {D : Type 0} {g : Ghosts D} where
     serves = subst (λ (d : Desk). DeskServesTo d served left is.serves.input is.serves.output (desk_of is.last)) is.desk (served_seen served left is.clerk is.serves.input is.serves.output is.last is.serves.serves);
   }
 
-  pub sample_seen : (served : Result Served ServeFault) (unread left before after : Option (List ℕ)) → ServesSample g served unread left before after → ServesDesk served unread left before after
+  pub sample_seen : (served : Result Served StreamFault) (unread left before after : Option (List ℕ)) → ServesSample g served unread left before after → ServesDesk served unread left before after
   sample_seen served unread left before after = ⊎_elim (clerk_seen served unread left before after) (unserved_seen served unread left before after)

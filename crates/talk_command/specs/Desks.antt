@@ -14,8 +14,8 @@ use Rattle.http_wire.specs.Interim.{IsCutHead}
 use Rattle.http_desk.specs.Talk.{Talk}
 use Rattle.http_desk.specs.Serving.{IsCutTalk}
 use Rattle.http_desk.specs.declared.serve.Served.{Served}
-use Rattle.http_desk.specs.declared.serve.ServeFault.{ServeFault}
-use Rattle.http_desk.specs.declared.serve.ServeFault.TheVariants as fault
+use Rattle.http_desk.specs.declared.serve.StreamFault.{StreamFault}
+use Rattle.http_desk.specs.declared.serve.StreamFault.TheVariants as fault
 use Rattle.sector_device.specs.declared.SectorDevice.{Ghosts}
 use Rattle.talk_command.specs.Talking.{ServesSample}
 
@@ -43,7 +43,7 @@ abbrev pub IsTalkSoFar : Desk → (input answers : List ℕ) → Desk → Type 0
 IsTalkSoFar d input answers e = ((n : ℕ) × DeskTalk d input answers n false e) ⊎ IsTalkToHead d input answers e
 
 -- how it ended: at the end of the input or after an answer that closes, within a request, at a write that failed, or before it began
-abbrev pub DeskServesTo : Desk → Result Served ServeFault → Option (List ℕ) → List ℕ → List ℕ → Desk → Type 0
+abbrev pub DeskServesTo : Desk → Result Served StreamFault → Option (List ℕ) → List ℕ → List ℕ → Desk → Type 0
 DeskServesTo d (Ok served) left input output e = (shut : Bool) × DeskTalk d input output served.requests shut e × (shut ≡ false → IsAtEnd left)
 DeskServesTo d (Err fault.Read) left input output e = IsTalkSoFar d input output e
 DeskServesTo d (Err fault.TurnLimit) left input output e = IsTalkSoFar d input output e
@@ -51,7 +51,7 @@ DeskServesTo d (Err fault.Write) left input output e = IsCutTalk desk_commands d
 DeskServesTo d (Err fault.Memory) left input output e = (input ≡ []) × (output ≡ [])
 
 -- what was written is a talk of the sample desk over what was read
-pub record ServesDesk (served : Result Served ServeFault) (unread left before after : Option (List ℕ)) : Type 0 where
+pub record ServesDesk (served : Result Served StreamFault) (unread left before after : Option (List ℕ)) : Type 0 where
   pub last : Desk
   pub input : List ℕ
   pub output : List ℕ
@@ -62,5 +62,5 @@ pub record ServesDesk (served : Result Served ServeFault) (unread left before af
 -- a talk of clerks over the sample desk is one of desks
 abbrev pub SampleIsServed : {D : Type 0} → Ghosts D → Type 0
 SampleIsServed g =
-    (served : Result Served ServeFault) (unread left before after : Option (List ℕ)) → ServesSample g served unread left before after
+    (served : Result Served StreamFault) (unread left before after : Option (List ℕ)) → ServesSample g served unread left before after
     → ServesDesk served unread left before after

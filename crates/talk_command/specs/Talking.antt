@@ -13,13 +13,13 @@ use Rattle.desk_store.specs.Commands.{Does}
 use Rattle.byte_stream.specs.Counts.{counted}
 use Rattle.http_desk.specs.Serving.{read_failures, write_failures}
 use Rattle.http_desk.specs.declared.serve.Served.{Served}
-use Rattle.http_desk.specs.declared.serve.ServeFault.{ServeFault}
-use Rattle.http_desk.specs.declared.serve.ServeFault.TheVariants as fault
+use Rattle.http_desk.specs.declared.serve.StreamFault.{StreamFault}
+use Rattle.http_desk.specs.declared.serve.StreamFault.TheVariants as fault
 use Rattle.served_runs.specs.Served.{ServesDurably}
 use Rattle.command_output.specs.declared.status.Status.{Status}
 use Rattle.command_output.specs.declared.status.Status.TheVariants.{Done, Memory, Stream}
 
-abbrev pub status_of : Result Served ServeFault → Status
+abbrev pub status_of : Result Served StreamFault → Status
 status_of (Ok served) = Done
 status_of (Err fault.Read) = Stream
 status_of (Err fault.Write) = Stream
@@ -27,7 +27,7 @@ status_of (Err fault.Memory) = Memory
 status_of (Err fault.TurnLimit) = Stream
 
 -- no clerk could be made, and nothing was read or written
-pub record IsUnserved (served : Result Served ServeFault) (unread left before after : Option (List ℕ)) : Type 0 where
+pub record IsUnserved (served : Result Served StreamFault) (unread left before after : Option (List ℕ)) : Type 0 where
   pub memory : served ≡ Err fault.Memory
   pub reads : Consumes unread left []
   pub writes : Appends before after []
@@ -42,7 +42,7 @@ module _ {D : Type 0} (g : Ghosts D) where
 
   -- What was written is a talk over what was read, of a clerk whose store keeps the sample desk, and whose device has not failed; and since
   -- each acknowledgement what a stop leaves opens to a desk that has it.
-  pub record ServesClerk (served : Result Served ServeFault) (unread left before after : Option (List ℕ)) : Type 0 where
+  pub record ServesClerk (served : Result Served StreamFault) (unread left before after : Option (List ℕ)) : Type 0 where
     pub clerk : Clerk D g
     pub keeps : Keeps clerk
     pub desk : desk_of clerk ≡ sample_desk
@@ -52,12 +52,12 @@ module _ {D : Type 0} (g : Ghosts D) where
     pub stays_honest : (disk_of last).is_honest
     pub serves : ServesDurably clerk served last unread left before after
 
-  abbrev pub ServesSample : Result Served ServeFault → (unread left before after : Option (List ℕ)) → Type 0
+  abbrev pub ServesSample : Result Served StreamFault → (unread left before after : Option (List ℕ)) → Type 0
   ServesSample served unread left before after = ServesClerk served unread left before after ⊎ IsUnserved served unread left before after
 
   -- The same, and the status tells how it ended: a read fault or a write fault only where the reader or the writer failed, and the turn
   -- limit only where all its turns were made.
   abbrev pub Talks : Status → (unread left before after : Option (List ℕ)) → (reads_failed reads_fail writes_failed writes_fail turned turns : ℕ) → Type 0
   Talks status unread left before after reads_failed reads_fail writes_failed writes_fail turned turns =
-      (served : Result Served ServeFault) × (status ≡ status_of served) × ServesSample served unread left before after × (reads_fail ≡ read_failures reads_failed served)
+      (served : Result Served StreamFault) × (status ≡ status_of served) × ServesSample served unread left before after × (reads_fail ≡ read_failures reads_failed served)
       × (writes_fail ≡ write_failures writes_failed served) × (served ≡ Err fault.TurnLimit → turns ≡ counted turned 4294967296)

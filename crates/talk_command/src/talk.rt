@@ -13,7 +13,7 @@ use desk_model::gate::NoGate;
 use desk_model::geography::sample;
 use desk_store::clerk::Clerk;
 use http_answer::gather::GatherSink;
-use http_desk::serve::{ServeFault, Served};
+use http_desk::serve::{Served, StreamFault};
 use sector_device::SectorDevice;
 use sector_memory::MemoryDevice;
 use served_runs::serve::serve_clerk;
@@ -43,35 +43,35 @@ fn serve_sample<R: Source, W: GatherSink>(
     alloc: Global,
     reader: &mut R,
     writer: &mut W,
-) -> Result<Served, ServeFault>
+) -> Result<Served, StreamFault>
     ensures serves { ServesSample ⟦<MemoryDevice as SectorDevice>⟧ result (R.remaining reader.old) (R.remaining reader.new) (W.contents writer.old) (W.contents writer.new) }
     ensures read_failures { R.failures reader.new ≡ read_failures (R.failures reader.old) result }
     ensures write_failures { W.failures writer.new ≡ write_failures (W.failures writer.old) result }
-    ensures turns { result ≡ Err ServeFault.TurnLimit → R.turns reader.new ≡ counted (R.turns reader.old) 4294967296 }
+    ensures turns { result ≡ Err StreamFault.TurnLimit → R.turns reader.new ≡ counted (R.turns reader.old) 4294967296 }
 {
     match sample_clerk(alloc) {
         Some(mut clerk) => serve_clerk(alloc, reader, writer, &mut clerk, &NoGate),
-        None => Err(ServeFault::Memory),
+        None => Err(StreamFault::Memory),
     }
 }
 
-fn status_of(served: Result<Served, ServeFault>) -> Status
+fn status_of(served: Result<Served, StreamFault>) -> Status
     ensures { result ≡ status_of_served served }
 {
     match served {
         Ok(_) => Status::Done,
-        Err(ServeFault::Memory) => Status::Memory,
-        Err(ServeFault::Read | ServeFault::Write | ServeFault::TurnLimit) => Status::Stream,
+        Err(StreamFault::Memory) => Status::Memory,
+        Err(StreamFault::Read | StreamFault::Write | StreamFault::TurnLimit) => Status::Stream,
     }
 }
 
 /// What is told of a fault on standard error.
-fn fault_line(fault: ServeFault) -> &'static [u8] {
+fn fault_line(fault: StreamFault) -> &'static [u8] {
     match fault {
-        ServeFault::Read => b"plandesk: talk: ReadFault\n",
-        ServeFault::Write => b"plandesk: talk: WriteFault\n",
-        ServeFault::Memory => b"plandesk: talk: Memory\n",
-        ServeFault::TurnLimit => b"plandesk: talk: TurnLimit\n",
+        StreamFault::Read => b"plandesk: talk: ReadFault\n",
+        StreamFault::Write => b"plandesk: talk: WriteFault\n",
+        StreamFault::Memory => b"plandesk: talk: Memory\n",
+        StreamFault::TurnLimit => b"plandesk: talk: TurnLimit\n",
     }
 }
 

@@ -1,7 +1,7 @@
 use Rattle.std.proofs.Common.{◌≤◌, ap, subst, arith, length, List}
 use mathlib.Core.List.{IsPrefix}
 use Rattle.std.proofs.lemmas.Bool.Decides.{nat_tests}
-use Rattle.desk_gallery.specs.declared.book.Entry.{Entry}
+use Rattle.desk_gallery.specs.declared.book.LogEntry.{LogEntry}
 use Rattle.desk_gallery.specs.Rules.{shown_of}
 use Rattle.desk_gallery.proofs.Pasts.{prefix_shorter}
 use Rattle.desk_gallery.proofs.Weighing.{log_begins}
@@ -10,10 +10,10 @@ use Rattle.desk_gallery.proofs.book.Past.begins.Goals as goal
 pub returns-clause-yes : goal.returns-clause-yes
 returns-clause-yes g c told =
     let k = g.J.Room.root in
-    let own : List Entry = c.self.inside.seen.log in
-    let theirs : List Entry = c.other.inside.seen.log in
-    let both : List Entry = c.learn.new.self.log in
-    let this : IsPrefix own both = subst (λ (l : List Entry). IsPrefix l both) (ap (λ s. s.log) c.again-both.ensures) c.learn.ensures.2 in
+    let own : List LogEntry = c.self.inside.seen.log in
+    let theirs : List LogEntry = c.other.inside.seen.log in
+    let both : List LogEntry = c.learn.new.self.log in
+    let this : IsPrefix own both = subst (λ (l : List LogEntry). IsPrefix l both) (ap (λ s. s.log) c.again-both.ensures) c.learn.ensures.2 in
     let at_most : c.self.inside.number ≤ c.other.inside.number = grind (arith, nat_tests) in
     let less : length (shown_of k own) ≤ length (shown_of k theirs) = omega (arith, c.self.invariant.0, c.other.invariant.0, at_most) in
     rw (← c.self.view_is, ← c.other.view_is) (prefix_shorter (shown_of k own) (shown_of k theirs) (shown_of k both) (log_begins k own both this) (log_begins k theirs both c.learn.ensures.3) less)

@@ -1,6 +1,6 @@
 use Rattle.std.proofs.Common.{◌≤◌, ap, subst, arith, length, List}
 use mathlib.Core.List.{IsPrefix}
-use Rattle.desk_gallery.specs.declared.book.Entry.{Entry}
+use Rattle.desk_gallery.specs.declared.book.LogEntry.{LogEntry}
 use Rattle.desk_gallery.specs.Rules.{shown_of}
 use Rattle.desk_gallery.proofs.Pasts.{prefix_shorter}
 use Rattle.desk_gallery.proofs.Weighing.{log_begins}
@@ -9,19 +9,19 @@ use Rattle.desk_gallery.proofs.book.Past.learn.Goals as goal
 pub returns-then-self-other-clause-this : goal.returns-then-self-other-clause-this
 returns-then-self-other-clause-this g c =
     let k = g.J.Room.root in
-    let own : List Entry = c.self.inside.seen.log in
-    let theirs : List Entry = c.other.inside.seen.log in
-    let both : List Entry = c.learn.new.self.log in
-    let this : IsPrefix own both = subst (λ (l : List Entry). IsPrefix l both) (ap (λ s. s.log) c.again-both.ensures) c.learn.ensures.2 in
+    let own : List LogEntry = c.self.inside.seen.log in
+    let theirs : List LogEntry = c.other.inside.seen.log in
+    let both : List LogEntry = c.learn.new.self.log in
+    let this : IsPrefix own both = subst (λ (l : List LogEntry). IsPrefix l both) (ap (λ s. s.log) c.again-both.ensures) c.learn.ensures.2 in
     let less : length (shown_of k own) ≤ length (shown_of k theirs) = omega (arith, c.self.invariant.0, c.other.invariant.0) in
     rw (← c.self.view_is) (prefix_shorter (shown_of k own) (shown_of k theirs) (shown_of k both) (log_begins k own both this) (log_begins k theirs both c.learn.ensures.3) less)
 
 pub returns-else-self-other-clause-that : goal.returns-else-self-other-clause-that
 returns-else-self-other-clause-that g c =
     let k = g.J.Room.root in
-    let own : List Entry = c.self.inside.seen.log in
-    let theirs : List Entry = c.other.inside.seen.log in
-    let both : List Entry = c.learn.new.self.log in
-    let this : IsPrefix own both = subst (λ (l : List Entry). IsPrefix l both) (ap (λ s. s.log) c.again-both.ensures) c.learn.ensures.2 in
+    let own : List LogEntry = c.self.inside.seen.log in
+    let theirs : List LogEntry = c.other.inside.seen.log in
+    let both : List LogEntry = c.learn.new.self.log in
+    let this : IsPrefix own both = subst (λ (l : List LogEntry). IsPrefix l both) (ap (λ s. s.log) c.again-both.ensures) c.learn.ensures.2 in
     let less : length (shown_of k theirs) ≤ length (shown_of k own) = omega (arith, c.self.invariant.0, c.other.invariant.0) in
     rw (← c.self.view_is, ← c.other.view_is) (prefix_shorter (shown_of k theirs) (shown_of k own) (shown_of k both) (log_begins k theirs both c.learn.ensures.3) (log_begins k own both this) less)

@@ -1,6 +1,6 @@
 use Rattle.std.proofs.Common.{sym, ◌∙◌, ap, subst, List, ℕ}
 use mathlib.Core.List.{IsPrefix}
-use Rattle.desk_gallery.specs.declared.book.Entry.{Entry}
+use Rattle.desk_gallery.specs.declared.book.LogEntry.{LogEntry}
 use Rattle.desk_gallery.specs.Rules.{key_after, NoneBy}
 use Rattle.desk_gallery.proofs.Chaining.{prefix_on}
 use Rattle.desk_gallery.proofs.Keeping.{look_moves, no_entry}
@@ -21,10 +21,10 @@ compare_exchange-requires g c =
 
 pub returns-clause-begins : goal.returns-clause-begins
 returns-clause-begins g c =
-    let own : List Entry = c.self.inside.seen.log in
-    let theirs : List Entry = c.other.inside.seen.log in
-    let all : List Entry = c.compare_exchange.new.seen.log in
+    let own : List LogEntry = c.self.inside.seen.log in
+    let theirs : List LogEntry = c.other.inside.seen.log in
+    let all : List LogEntry = c.compare_exchange.new.seen.log in
     let on = c.compare_exchange.ensures.6 in
-    let this : IsPrefix own c.learn.new.self.log = subst (λ (l : List Entry). IsPrefix l c.learn.new.self.log) (ap (λ s. s.log) c.again-seen.ensures) c.learn.ensures.2 in
+    let this : IsPrefix own c.learn.new.self.log = subst (λ (l : List LogEntry). IsPrefix l c.learn.new.self.log) (ap (λ s. s.log) c.again-seen.ensures) c.learn.ensures.2 in
     let none : NoneBy (key_after g.J.Room.root own) all = subst (λ (k : ℕ). NoneBy k all) c.self.invariant.4 c.compare_exchange.ensures.7.1 in
     rw (← c.other.view_is) (whole_begins g.J.Room.root own theirs all (prefix_on own c.learn.new.self.log all this on) (prefix_on theirs c.learn.new.self.log all c.learn.ensures.3 on) none)

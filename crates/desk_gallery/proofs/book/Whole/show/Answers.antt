@@ -1,6 +1,6 @@
 use Rattle.std.proofs.Common.{◌≡◌, ◌++◌, ◌∷◌, [], sym, ◌∙◌, ap, subst, List, ℕ, None, refl, length}
 use Rattle.desk_model.specs.declared.command.Command.{Command}
-use Rattle.desk_gallery.specs.declared.book.Entry.{Entry}
+use Rattle.desk_gallery.specs.declared.book.LogEntry.{LogEntry}
 use Rattle.desk_gallery.specs.Rules.{key_after, lists_of, NoneBy}
 use Rattle.desk_gallery.proofs.Chaining.{key_more}
 use Rattle.desk_gallery.proofs.Keeping.{add_moves}
@@ -22,12 +22,12 @@ compare_exchange-requires g c =
 pub invariant_of-self : goal.invariant_of-self
 invariant_of-self g c =
     let k : ℕ = g.J.Room.root in
-    let old : List Entry = c.self.inside.seen.log in
-    let new : List Entry = c.compare_exchange.new.seen.log in
-    let e : Entry = record { what = None; by = c.self.inside.pen.nib.key; next = c.make_key-next.result.nib.key } in
+    let old : List LogEntry = c.self.inside.seen.log in
+    let new : List LogEntry = c.compare_exchange.new.seen.log in
+    let e : LogEntry = record { what = None; by = c.self.inside.pen.nib.key; next = c.make_key-next.result.nib.key } in
     let then = c.compare_exchange.ensures.7 in
-    let rest : List Entry = then.0 in
-    let log : new ≡ old ++ rest ++ e ∷ [] = then.1 ∙ ap (λ (a : Entry). old ++ rest ++ a ∷ []) c.plain-offer.ensures.1 in
+    let rest : List LogEntry = then.0 in
+    let log : new ≡ old ++ rest ++ e ∷ [] = then.1 ∙ ap (λ (a : LogEntry). old ++ rest ++ a ∷ []) c.plain-offer.ensures.1 in
     let none : NoneBy (key_after k old) rest = subst (λ (n : ℕ). NoneBy n rest) c.self.invariant.4 then.2 in
     let next : e.next ≡ key_after k new = sym (ap (key_after k) log ∙ key_more k old rest e c.self.invariant.4 none) in
     let is = ap (lists_of k) log ∙ lists_more k old rest e c.self.invariant.4 none in (
@@ -42,11 +42,11 @@ invariant_of-self g c =
 pub returns : goal.returns
 returns g c =
     let k : ℕ = g.J.Room.root in
-    let old : List Entry = c.self.inside.seen.log in
-    let new : List Entry = c.compare_exchange.new.seen.log in
-    let e : Entry = record { what = None; by = c.self.inside.pen.nib.key; next = c.make_key-next.result.nib.key } in
+    let old : List LogEntry = c.self.inside.seen.log in
+    let new : List LogEntry = c.compare_exchange.new.seen.log in
+    let e : LogEntry = record { what = None; by = c.self.inside.pen.nib.key; next = c.make_key-next.result.nib.key } in
     let then = c.compare_exchange.ensures.7 in
-    let rest : List Entry = then.0 in
-    let log : new ≡ old ++ rest ++ e ∷ [] = then.1 ∙ ap (λ (a : Entry). old ++ rest ++ a ∷ []) c.plain-offer.ensures.1 in
+    let rest : List LogEntry = then.0 in
+    let log : new ≡ old ++ rest ++ e ∷ [] = then.1 ∙ ap (λ (a : LogEntry). old ++ rest ++ a ∷ []) c.plain-offer.ensures.1 in
     let none : NoneBy (key_after k old) rest = subst (λ (n : ℕ). NoneBy n rest) c.self.invariant.4 then.2 in
     ap (lists_of k) log ∙ lists_more k old rest e c.self.invariant.4 none ∙ ap (λ (s : List Command × List Command). (s.1, s.1)) c.self.view_is
