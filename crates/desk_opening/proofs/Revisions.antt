@@ -1,10 +1,10 @@
 -- A revision of a geography's blocks, county by county.
-use Rattle.std.proofs.Common.{◌≡◌, ◌<◌, ◌+◌, ◌-◌, ℕ, zero, suc, List, [], ◌∷◌, ◌++◌, length, get_or, take, drop, Some, refl, sym, ap, subst, ◌∙◌, inl, inr, arith, cond, length-append}
-use Rattle.std.specs.Prelude.{Bool, true, false, ◌==◌, Option, None, IfSome}
+use Rattle.std.proofs.Common.{◌≡◌, ◌<◌, ◌+◌, ◌-◌, ℕ, zero, suc, List, [], ◌∷◌, ◌++◌, length, get_or, take, drop, Some, cond}
+use Rattle.std.proofs.Common.{refl, sym, ap, subst, ◌∙◌, arith, length-append}
+use Rattle.std.specs.Prelude.{false, ◌==◌, Option, None, IfSome}
 use Rattle.std.specs.List.{slice_get}
 use Rattle.std.proofs.lemmas.Bool.Decides.{nat_tests}
 use Rattle.std.proofs.lemmas.List.{take_more, drop-drop}
-use Rattle.std.proofs.lemmas.Option.{get_or_from_slice_get, slice_get_cases}
 use Rattle.sector_device.specs.declared.SectorDevice.{Ghosts}
 use Rattle.desk_model.specs.Geography.{Ground}
 use Rattle.desk_model.specs.Cuts.{cut, cuts_of, laid, parts, sizes}
@@ -22,7 +22,8 @@ use Rattle.store_rows.specs.Changes.{with_revision}
 use Rattle.store_rows.specs.RevisionRows.{HasChunk}
 use Rattle.row_table.specs.Appending.{HasAppended}
 use Rattle.revision_table.specs.Reading.{AreNames}
-use Rattle.desk_opening.specs.Reading.{AreKnown, AreNamed, BecomesKnown, BecomesLast, HasRead, IsAfter, IsLast, IsNext, IsOfBlocks, IsPlanRow, IsWhole, NamesLast}
+use Rattle.desk_opening.specs.Reading.{AreKnown, AreNamed, BecomesKnown, BecomesLast, HasRead}
+use Rattle.desk_opening.specs.Reading.{IsAfter, IsLast, IsNext, IsOfBlocks, IsPlanRow, NamesLast}
 use Rattle.desk_opening.proofs.Laying.{laid_long}
 
 parts_long : (ns xs : List ℕ) → length (parts ns xs) ≡ length ns
@@ -37,7 +38,8 @@ part_at (n ∷ ns) first xs (suc k) c less = ap (λ (l : List ℕ). get_or (part
 
 -- ---- the numbers of a revision's chunks
 -- as many as there are counties
-pub names_of : (g : Ground) (cuts : List Cut) (plan revision : ℕ) (m : KeyMap) (districts : List ℕ) → cuts ≡ cuts_of g → (is : IsOfBlocks g plan revision m districts) → AreNames plan revision (length cuts) m is.has.numbers
+pub names_of : (g : Ground) (cuts : List Cut) (plan revision : ℕ) (m : KeyMap) (districts : List ℕ) → cuts ≡ cuts_of g
+    → (is : IsOfBlocks g plan revision m districts) → AreNames plan revision (length cuts) m is.has.numbers
 names_of g cuts plan revision m districts same is =
     let count = is.has.count in
     let laid_as = laid_long 0 (sizes g) in
@@ -46,7 +48,8 @@ names_of g cuts plan revision m districts same is =
     record { names = is.has.names; long = omega arith }
 
 -- name its districts
-now_known : (g : Ground) (plan revision : ℕ) (m : KeyMap) (names districts : List ℕ) (is : IsOfBlocks g plan revision m districts) → names ≡ is.has.numbers → AreKnown names districts (cuts_of g) m
+now_known : (g : Ground) (plan revision : ℕ) (m : KeyMap) (names districts : List ℕ) (is : IsOfBlocks g plan revision m districts)
+    → names ≡ is.has.numbers → AreKnown names districts (cuts_of g) m
 now_known g plan revision m names districts is same county c there within =
     let laid_as = laid_long 0 (sizes g) in
     let parted = parts_long (sizes g) districts in
@@ -54,17 +57,25 @@ now_known g plan revision m names districts is same county c there within =
     subst (λ (l : List ℕ). HasChunk m (get_or names county 0) l) (part_at (sizes g) 0 districts county c (omega arith))
     (subst (λ (ns : List ℕ). HasChunk m (get_or ns county 0) (get_or (cut g districts) county [])) (sym same) (is.has.chunks county among))
 
-module _ {D : Type 0} {h : Ghosts D} (g : Ground) (cuts : List Cut) (plan revision : ℕ) (last before nothing names : List ℕ) (t : Txn) (a b : Pages D h) (same : cuts ≡ cuts_of g) (none : nothing ≡ [])
+module _ {D : Type 0} {h : Ghosts D} (g : Ground) (cuts : List Cut) (plan revision : ℕ) (last before nothing names : List ℕ)
+    (t : Txn) (a b : Pages D h) (same : cuts ≡ cuts_of g) (none : nothing ≡ [])
     (named : HasAppended (AreNames plan revision (length cuts)) (λ (numbers : List ℕ). numbers) t a b nothing names) where
-  pub are_names : (disk_in b).is_honest → (m : KeyMap) (all : List ℕ) → InTxn t (stored a) m → (is : IsOfBlocks g plan revision m all) → names ≡ is.has.numbers
-  are_names honest m all holds is = named.appended honest m is.has.numbers holds (names_of g cuts plan revision m all same is) ∙ ap (λ (l : List ℕ). l ++ is.has.numbers) none
+  pub are_names : (disk_in b).is_honest → (m : KeyMap) (all : List ℕ) → InTxn t (stored a) m
+      → (is : IsOfBlocks g plan revision m all) → names ≡ is.has.numbers
+  are_names honest m all holds is =
+      named.appended honest m is.has.numbers holds (names_of g cuts plan revision m all same is)
+      ∙ ap (λ (l : List ℕ). l ++ is.has.numbers) none
 
-  pub so_many : (disk_in b).is_honest → (m : KeyMap) (all : List ℕ) → InTxn t (stored a) m → IsOfBlocks g plan revision m all → length names ≡ length cuts
-  so_many honest m all holds is = ap (λ (l : List ℕ). length l) (are_names honest m all holds is) ∙ (names_of g cuts plan revision m all same is).long
+  pub so_many : (disk_in b).is_honest → (m : KeyMap) (all : List ℕ) → InTxn t (stored a) m → IsOfBlocks g plan revision m all
+      → length names ≡ length cuts
+  so_many honest m all holds is =
+      ap (λ (l : List ℕ). length l) (are_names honest m all holds is)
+      ∙ (names_of g cuts plan revision m all same is).long
 
   -- with them the next revision is named
   module _ (shown shown_last : List ℕ) (one : shown ≡ names) (other : shown_last ≡ last) where
-    pub are_named : (disk_in b).is_honest → (m : KeyMap) (all : List ℕ) → InTxn t (stored a) m → IsNext g plan revision last before m all → AreNamed g shown shown_last before m all
+    pub are_named : (disk_in b).is_honest → (m : KeyMap) (all : List ℕ) → InTxn t (stored a) m
+        → IsNext g plan revision last before m all → AreNamed g shown shown_last before m all
     are_named honest m all holds said = record {
       whole = said.is.whole;
       named = now_known g plan revision m shown all said.is (one ∙ are_names honest m all holds said.is);
@@ -72,8 +83,10 @@ module _ {D : Type 0} {h : Ghosts D} (g : Ground) (cuts : List Cut) (plan revisi
     }
 
     -- and what is read by them is it
-    module _ (d : Pages D h) (next : List ℕ) (read : HasRead (AreNamed g shown shown_last before) (λ (all : List ℕ). all) t b d next) where
-      is_next : (disk_in d).is_honest → (m : KeyMap) (all : List ℕ) → InTxn t (stored a) m → IsNext g plan revision last before m all → next ≡ all
+    module _ (d : Pages D h) (next : List ℕ)
+        (read : HasRead (AreNamed g shown shown_last before) (λ (all : List ℕ). all) t b d next) where
+      is_next : (disk_in d).is_honest → (m : KeyMap) (all : List ℕ) → InTxn t (stored a) m
+          → IsNext g plan revision last before m all → next ≡ all
       is_next honest m all holds said =
           let then = read.passed.quiet.honest honest in
           let still = subst (λ P. InTxn t P m) (sym (named.passed.quiet.same then)) holds in
@@ -86,25 +99,14 @@ module _ {D : Type 0} {h : Ghosts D} (g : Ground) (cuts : List Cut) (plan revisi
       next_known honest m all holds said =
           let then = read.passed.quiet.honest honest in
           subst (λ (l : List ℕ). AreKnown l next (cuts_of g) m) one
-          (subst (λ (l : List ℕ). AreKnown shown l (cuts_of g) m) (sym (is_next honest m all holds said)) (are_named then m all holds said).named)
+          (subst (λ (l : List ℕ). AreKnown shown l (cuts_of g) m) (sym (is_next honest m all holds said))
+          (are_named then m all holds said).named)
 
 -- ---- a plan's last revision
 -- of none the numbers are none
 pub none_last : (names : List ℕ) (g : Ground) (p : Plan) (m : KeyMap) → names ≡ [] → NamesLast g names p m
-none_last names g p m none before is county c there within = absurd (let long : length names ≡ 0 = ap (λ (l : List ℕ). length l) none in omega arith)
-
-pub last_whole : (g : Ground) (p : Plan) (k : ℕ) (districts : List ℕ) → IsWhole g p → revision_at p k ≡ Some districts → length districts ≡ length g.blocks
-last_whole g p k districts whole is = by_test (k == 0) is
-  where
-    at_place : (place : ℕ) → slice_get p.revisions place ≡ Some districts → length districts ≡ length g.blocks
-    at_place place there = elim (slice_get_cases p.revisions place).1 [
-      | inl found ↦ ap length (sym (get_or_from_slice_get p.revisions place districts districts there)) ∙ whole place districts found.1
-      | inr past ↦ absurd (let clash : ◌≡◌ {A = Option (List ℕ)} None (Some districts) = sym past.1 ∙ there in cc)
-    ]
-
-    by_test : (b : Bool) → cond b None (slice_get p.revisions (k - 1)) ≡ Some districts → length districts ≡ length g.blocks
-    by_test true clash = absurd (cc)
-    by_test false there = at_place (k - 1) there
+none_last names g p m none before is county c there within =
+    absurd (let long : length names ≡ 0 = ap (λ (l : List ℕ). length l) none in omega arith)
 
 end_of : (xs : List (List ℕ)) (x : List ℕ) → slice_get (xs ++ x ∷ []) (length xs) ≡ Some x
 end_of [] x = refl
@@ -113,9 +115,11 @@ end_of (y ∷ ys) x = end_of ys x
 no_zero : (n : ℕ) → (suc n == 0) ≡ false
 no_zero n = grind (arith, nat_tests)
 
-revision_at_end : (p : Plan) (districts : List ℕ) → revision_at (with_revision p districts) (length (p.revisions ++ districts ∷ [])) ≡ Some districts
+revision_at_end : (p : Plan) (districts : List ℕ)
+    → revision_at (with_revision p districts) (length (p.revisions ++ districts ∷ [])) ≡ Some districts
 revision_at_end p districts =
-    let long : length (p.revisions ++ districts ∷ []) ≡ suc (length p.revisions) = (let more = length-append p.revisions (districts ∷ []) in omega arith) in
+    let more = length-append p.revisions (districts ∷ []) in
+    let long : length (p.revisions ++ districts ∷ []) ≡ suc (length p.revisions) = omega arith in
     let back : suc (length p.revisions) - 1 ≡ length p.revisions = omega arith in
     ap (λ n. revision_at (with_revision p districts) n) long
     ∙ ap (λ b. cond b None (slice_get (p.revisions ++ districts ∷ []) (suc (length p.revisions) - 1))) (no_zero (length p.revisions))
@@ -125,14 +129,17 @@ revision_at_end p districts =
 last_is : (p : Plan) (districts before : List ℕ) → IsLast (with_revision p districts) before → before ≡ districts
 last_is p districts before is = subst (λ (o : Option (List ℕ)). IfSome o (λ last. before ≡ last)) (revision_at_end p districts) is
 
-pub next_of : (g : Ground) (plan revision : ℕ) (last before : List ℕ) (p : Plan) (m : KeyMap) (all : List ℕ) → IsLast p before → IsAfter g plan revision last p m all → IsNext g plan revision last before m all
+pub next_of : (g : Ground) (plan revision : ℕ) (last before : List ℕ) (p : Plan) (m : KeyMap) (all : List ℕ) → IsLast p before
+    → IsAfter g plan revision last p m all → IsNext g plan revision last before m all
 next_of g plan revision last before p m all is said = record { is = said.is; known = said.known before is }
 
 module _ {D : Type 0} {h : Ghosts D} where
-  pub becomes_last : (g : Ground) (plan revision : ℕ) (last before : List ℕ) (p : Plan) (t : Txn) (a b : Pages D h) (names next : List ℕ) → IsLast p before → BecomesKnown g plan revision last before t a b names next
+  pub becomes_last : (g : Ground) (plan revision : ℕ) (last before : List ℕ) (p : Plan) (t : Txn) (a b : Pages D h)
+      (names next : List ℕ) → IsLast p before → BecomesKnown g plan revision last before t a b names next
       → BecomesLast g plan revision last p t a b names (with_revision p next)
   becomes_last g plan revision last before p t a b names next was known = λ honest m all holds said other is.
-      subst (λ (l : List ℕ). AreKnown names l (cuts_of g) m) (sym (last_is p next other is)) (known honest m all holds (next_of g plan revision last before p m all was said))
+      subst (λ (l : List ℕ). AreKnown names l (cuts_of g) m) (sym (last_is p next other is))
+      (known honest m all holds (next_of g plan revision last before p m all was said))
 
 -- a plan's revisions, one after the other
 pub of_blocks : (g : Ground) (name : List ℕ) (row : PlanRow) (m : KeyMap) (p : Plan) (i : ℕ) → IsPlanRow g name row m p → i < row.revisions → IsOfBlocks g row.number (i + 1) m (get_or p.revisions i [])

@@ -39,8 +39,10 @@ pub record IsNext (g : Ground) (plan revision : ℕ) (last before : List ℕ) (m
   pub known : AreKnown last before (cuts_of g) m
 
 -- where that was so, these numbers name these districts
-abbrev pub BecomesKnown : {D : Type 0} {g : Ghosts D} → Ground → ℕ → ℕ → List ℕ → List ℕ → Txn → Pages D g → Pages D g → List ℕ → List ℕ → Type 0
-BecomesKnown g plan revision last before t old new names districts = (disk_in new).is_honest → (m : KeyMap) (all : List ℕ) → InTxn t (stored old) m → IsNext g plan revision last before m all → AreKnown names districts (cuts_of g) m
+abbrev pub BecomesKnown : {D : Type 0} {g : Ghosts D} → Ground → ℕ → ℕ → List ℕ → List ℕ → Txn → Pages D g → Pages D g
+    → List ℕ → List ℕ → Type 0
+BecomesKnown g plan revision last before t old new names districts = (disk_in new).is_honest → (m : KeyMap) (all : List ℕ)
+    → InTxn t (stored old) m → IsNext g plan revision last before m all → AreKnown names districts (cuts_of g) m
 
 -- the numbers name the districts of a revision, and those of the one before its districts
 pub record AreNamed (g : Ground) (names last before : List ℕ) (m : KeyMap) (districts : List ℕ) : Type 0 where
@@ -49,7 +51,8 @@ pub record AreNamed (g : Ground) (names last before : List ℕ) (m : KeyMap) (di
   pub known : AreKnown last before (cuts_of g) m
 
 -- a number names the districts of one county, and that of the revision before, if it has one, those that a list has at its place
-pub record IsCounty (number : ℕ) (c : Cut) (last : List ℕ) (county : ℕ) (before : List ℕ) (m : KeyMap) (districts : List ℕ) : Type 0 where
+pub record IsCounty (number : ℕ) (c : Cut) (last : List ℕ) (county : ℕ) (before : List ℕ) (m : KeyMap) (districts : List ℕ)
+    : Type 0 where
   pub is : IsChunk number c.count m districts
   pub known : county < length last → HasChunk m (get_or last county 0) (take c.count (drop c.first before))
 
@@ -68,8 +71,10 @@ pub record IsAfter (g : Ground) (plan revision : ℕ) (last : List ℕ) (p : Pla
   pub known : NamesLast g last p m
 
 -- where that was so, these numbers name the districts of the last one of this plan
-abbrev pub BecomesLast : {D : Type 0} {g : Ghosts D} → Ground → ℕ → ℕ → List ℕ → Plan → Txn → Pages D g → Pages D g → List ℕ → Plan → Type 0
-BecomesLast g plan revision last p t old new names next = (disk_in new).is_honest → (m : KeyMap) (all : List ℕ) → InTxn t (stored old) m → IsAfter g plan revision last p m all → NamesLast g names next m
+abbrev pub BecomesLast : {D : Type 0} {g : Ghosts D} → Ground → ℕ → ℕ → List ℕ → Plan → Txn → Pages D g → Pages D g
+    → List ℕ → Plan → Type 0
+BecomesLast g plan revision last p t old new names next = (disk_in new).is_honest → (m : KeyMap) (all : List ℕ)
+    → InTxn t (stored old) m → IsAfter g plan revision last p m all → NamesLast g names next m
 
 -- each revision of the plan has a district for each block
 abbrev pub IsWhole : Ground → Plan → Type 0

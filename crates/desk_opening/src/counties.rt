@@ -31,7 +31,9 @@ fn lay_county<D: SectorDevice>(
     requires within { cut.first + cut.count ≤ length districts }
     ensures quiet { IsQuiet pages.old pages.new }
     ensures long { IfOk result (λ all. length all ≡ length districts) }
-    ensures read { MatchResult result (λ all. HasRead (IsChunk number cut.count) (λ chunk. with_at cut.first chunk districts) txn.now pages.old pages.new all) (λ e. AppendErr (IsChunk number cut.count) txn.now pages.old pages.new e) }
+    ensures read { MatchResult result
+        (λ all. HasRead (IsChunk number cut.count) (λ chunk. with_at cut.first chunk districts) txn.now pages.old pages.new all)
+        (λ e. AppendErr (IsChunk number cut.count) txn.now pages.old pages.new e) }
 {
     part.clear();
     append_chunk(txn, pages, number, cut.count as usize, part)?;
@@ -51,8 +53,8 @@ fn is_known(last: &[u64], county: usize, number: u64) -> bool
     county < last.len() && last[county] == number
 }
 
-/// These districts with those of a county in the place of theirs. Where the revision before has the same chunk they stand there, and
-/// nothing is read.
+/// These districts with those of a county in the place of theirs. Where the revision before has the same chunk they stand there,
+/// and nothing is read.
 fn lay_changed<D: SectorDevice>(
     alloc: Global,
     txn: &Txn,
@@ -68,7 +70,10 @@ fn lay_changed<D: SectorDevice>(
     requires within { cut.first + cut.count ≤ length districts }
     ensures quiet { IsQuiet pages.old pages.new }
     ensures long { IfOk result (λ all. length all ≡ length districts) }
-    ensures read { MatchResult result (λ all. HasRead (IsCounty number cut last.now county districts) (λ chunk. with_at cut.first chunk districts) txn.now pages.old pages.new all) (λ e. AppendErr (IsCounty number cut last.now county districts) txn.now pages.old pages.new e) }
+    ensures read { MatchResult result
+        (λ all. HasRead (IsCounty number cut last.now county districts) (λ chunk. with_at cut.first chunk districts)
+        txn.now pages.old pages.new all)
+        (λ e. AppendErr (IsCounty number cut last.now county districts) txn.now pages.old pages.new e) }
 {
     if is_known(last, county, number) {
         return Ok(districts);
@@ -94,7 +99,10 @@ pub(crate) fn lay_counties<D: SectorDevice>(
     requires whole { length before ≡ length geography.now.blocks }
     ensures quiet { IsQuiet pages.old pages.new }
     ensures whole { IfOk result (λ all. length all ≡ length geography.now.blocks) }
-    ensures read { MatchResult result (λ all. HasRead (AreNamed geography.now names.now last.now before) (λ districts. districts) txn.now pages.old pages.new all) (λ e. AppendErr (AreNamed geography.now names.now last.now before) txn.now pages.old pages.new e) }
+    ensures read { MatchResult result
+        (λ all. HasRead (AreNamed geography.now names.now last.now before) (λ districts. districts)
+        txn.now pages.old pages.new all)
+        (λ e. AppendErr (AreNamed geography.now names.now last.now before) txn.now pages.old pages.new e) }
 {
     lists_are_cut();
     let mut part = Vec::new(alloc);

@@ -40,8 +40,12 @@ fn read_next<D: SectorDevice>(
     requires whole { length before ≡ length geography.now.blocks }
     ensures quiet { IsQuiet pages.old pages.new }
     ensures whole { IfOk result (λ next. length next ≡ length geography.now.blocks) }
-    ensures read { MatchResult result (λ next. HasRead (IsNext geography.now plan revision last.old.items before) (λ districts. districts) txn.now pages.old pages.new next) (λ e. AppendErr (IsNext geography.now plan revision last.old.items before) txn.now pages.old pages.new e) }
-    ensures known { IfOk result (λ next. BecomesKnown geography.now plan revision last.old.items before txn.now pages.old pages.new last.new.items next) }
+    ensures read { MatchResult result
+        (λ next. HasRead (IsNext geography.now plan revision last.old.items before) (λ districts. districts)
+        txn.now pages.old pages.new next)
+        (λ e. AppendErr (IsNext geography.now plan revision last.old.items before) txn.now pages.old pages.new e) }
+    ensures known { IfOk result
+        (λ next. BecomesKnown geography.now plan revision last.old.items before txn.now pages.old pages.new last.new.items next) }
 {
     let Ok(mut names) = Vec::with_capacity(alloc, cuts.len()) else {
         return Err(TreeError::Memory);
@@ -98,8 +102,8 @@ fn districts_before(
     }
 }
 
-/// The plan of an entry with one revision more, which stands under a plan's number. `last` are the numbers of the chunks of the last
-/// one, and then of this one.
+/// The plan of an entry with one revision more, which stands under a plan's number. `last` are the numbers of the chunks of the
+/// last one, and then of this one.
 fn with_next<D: SectorDevice>(
     alloc: Global,
     txn: &Txn,
@@ -120,8 +124,13 @@ fn with_next<D: SectorDevice>(
     ensures sized { IfOk result (λ next. (next.1.kind ≡ entry.now.1.kind) × (next.1.n ≡ entry.now.1.n)) }
     ensures longer { IfOk result (λ next. length next.1.revisions ≡ length entry.now.1.revisions + 1) }
     ensures whole { IfOk result (λ next. IsWhole geography.now next.1) }
-    ensures read { MatchResult result (λ next. HasRead (IsAfter geography.now plan revision last.old.items entry.now.1) (λ districts. (entry.now.0, with_revision entry.now.1 districts)) txn.now pages.old pages.new next) (λ e. AppendErr (IsAfter geography.now plan revision last.old.items entry.now.1) txn.now pages.old pages.new e) }
-    ensures known { IfOk result (λ next. BecomesLast geography.now plan revision last.old.items entry.now.1 txn.now pages.old pages.new last.new.items next.1) }
+    ensures read { MatchResult result
+        (λ next. HasRead (IsAfter geography.now plan revision last.old.items entry.now.1)
+        (λ districts. (entry.now.0, with_revision entry.now.1 districts)) txn.now pages.old pages.new next)
+        (λ e. AppendErr (IsAfter geography.now plan revision last.old.items entry.now.1) txn.now pages.old pages.new e) }
+    ensures known { IfOk result
+        (λ next. BecomesLast geography.now plan revision last.old.items entry.now.1
+        txn.now pages.old pages.new last.new.items next.1) }
 {
     let before = districts_before(alloc, geography, entry)?;
     let next = read_next(
