@@ -4,7 +4,8 @@ ghost use Rattle.page_store.specs.Transactions.{stored, disk_in, count_of, txn_p
 ghost use Rattle.page_btree.specs.Map.{InTxn};
 ghost use Rattle.store_rows.specs.Keys.{seal};
 ghost use Rattle.store_rows.specs.Rows.{KeyMap, Lacks};
-ghost use Rattle.row_table.specs.Puts.{PutsErr, PutsRows};
+ghost use Rattle.row_table.specs.Puts.{PutsErr};
+ghost use Rattle.row_table.specs.Outcomes.{PutsRows};
 ghost use Rattle.geo_tables.specs.Rows.{begun_rows, seal_row};
 ghost use Rattle.geo_tables.specs.Loads.{AreSpent, HasBegun, BeginErr, HasSealed};
 

@@ -6,7 +6,7 @@ ghost use Rattle.store_rows.specs.Values.{block_bytes};
 ghost use Rattle.store_rows.specs.Rows.{KeyMap};
 ghost use Rattle.store_rows.specs.Puts.{put_rows};
 ghost use Rattle.store_rows.specs.GeographyRows.{IsBlockRow, IsStaged, geography_rows, neighbours_bytes};
-ghost use Rattle.row_table.specs.Puts.{PutsRows};
+ghost use Rattle.row_table.specs.Outcomes.{PutsRows};
 ghost use Rattle.geo_tables.specs.Rows.{staged_row, staged_rows};
 ghost use Rattle.geo_tables.specs.Staging.{Stages};
 

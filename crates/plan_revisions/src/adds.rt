@@ -2,7 +2,7 @@
 ghost use Rattle.std.specs.Prelude.{◌≡◌, length};
 ghost use Rattle.desk_model.specs.Cuts.{cuts_of};
 ghost use Rattle.page_store.specs.Transactions.{count_of, txn_pages, IsQuiet};
-ghost use Rattle.plan_revisions.specs.Revised.{AddsRevision};
+ghost use Rattle.plan_revisions.specs.Outcomes.{AddsRevision};
 
 use crate::counties::{count_changes, draw};
 use crate::laws::{counties_are_chunks, desks_are_added};

@@ -5,7 +5,7 @@ ghost use Rattle.page_store.specs.Transactions.{count_of, txn_pages, IsQuiet};
 ghost use Rattle.store_rows.specs.DeskRows.{most_revisions};
 ghost use Rattle.desk_room.specs.Cutting.{AreWithin};
 ghost use Rattle.plan_revisions.specs.Counties.{count_new};
-ghost use Rattle.plan_revisions.specs.Revised.{AddsRows};
+ghost use Rattle.plan_revisions.specs.Outcomes.{AddsRows};
 
 use crate::chunks::put_changes;
 use desk_model::cuts::Cut;

@@ -1,22 +1,34 @@
--- A revision that is added to a plan.
-use Rattle.std.specs.Prelude.{◌≡◌, ℕ, Bool, List, length, Option, Result}
+-- What becomes of a step of a desk's plans, and of a revision that is added.
+use Rattle.std.specs.Prelude.{◌≡◌, ℕ, Bool, List, length, Option, Result, MatchResult}
 use Rattle.sector_device.specs.declared.SectorDevice.{Ghosts}
 use Rattle.desk_model.specs.declared.cuts.Cut.{Cut}
 use Rattle.desk_model.specs.Geography.{Ground}
+use Rattle.desk_model.specs.Desk.{Desk}
 use Rattle.desk_model.specs.Room.{changed, revision_rows}
 use Rattle.page_store.specs.declared.pages.Pages.{Pages}
 use Rattle.page_store.specs.declared.txn.Txn.{Txn}
 use Rattle.page_btree.specs.declared.error.TreeError.{TreeError}
 use Rattle.store_rows.specs.declared.value.Counters.{Counters}
 use Rattle.store_rows.specs.declared.value.PlanRow.{PlanRow}
-use Rattle.row_table.specs.Puts.{PutsRows}
+use Rattle.row_table.specs.Outcomes.{PutsRows}
 use Rattle.plan_table.specs.PlanRows.{HasChunkNumbers}
 use Rattle.plan_table.specs.declared.change.ChangeOutcome.{ChangeOutcome}
 use Rattle.desk_room.specs.Cutting.{changes_in}
-use Rattle.plan_revisions.specs.Steps.{StepsWhereLeft}
+use Rattle.plan_revisions.specs.Steps.{HasStepped, IsStepped, StepErr}
 use Rattle.plan_revisions.specs.Plans.{TakesRevision, with_next}
 use Rattle.plan_revisions.specs.Counties.{new_lists}
 use Rattle.plan_revisions.specs.Adding.{rows_put}
+
+module _ {D : Type 0} {g : Ghosts D} where
+  -- the step was made, or it is told why not
+  abbrev pub Steps : {T : Type 0} → (Desk → Type 0) → (Desk → Desk) → ℕ → Txn → Txn → Pages D g → Pages D g → Result T TreeError → Type 0
+  Steps says next rows t u old new result =
+      MatchResult result (λ _. HasStepped says next rows t u old new) (λ e. StepErr says rows t old new e)
+
+  -- the same of one that asks for numbers, where they were left
+  abbrev pub StepsWhereLeft : (Desk → Type 0) → (Desk → Desk) → ℕ → (Counters → Type 0) → Txn → Txn → Pages D g → Pages D g → Result ChangeOutcome TreeError → Type 0
+  StepsWhereLeft says next rows enough t u old new result =
+      MatchResult result (λ change. IsStepped says next rows enough t u old new change) (λ e. StepErr says rows t old new e)
 
 -- the rows of a revision in which these counties change, with the numbers of its chunks, of which so many are used
 abbrev pub AddsRows : {D T : Type 0} {g : Ghosts D} → List ℕ → PlanRow → Counters → List Bool → List ℕ → List Cut → List ℕ → ℕ → Txn → Txn → Pages D g → Pages D g → Result T TreeError → Type 0
