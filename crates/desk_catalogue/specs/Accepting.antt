@@ -1,5 +1,5 @@
 -- What a catalogue makes of a command.
-use Rattle.std.specs.Prelude.{◌≡◌, ℕ, ◌+◌, ◌<◌, ◌≤◌, ◌++◌, ◌∷◌, List, length, Some, []}
+use Rattle.std.specs.Prelude.{◌≡◌, ℕ, ◌+◌, ◌<◌, ◌≤◌, List, length, Some}
 use Rattle.std.specs.FinMap as map_of
 use Rattle.desk_model.specs.declared.command.Command.{Command}
 use Rattle.desk_model.specs.declared.command.Command.TheVariants.{Create, Whole, Counties, Retire}
@@ -41,8 +41,3 @@ pub record IsRevisable (d : Desk) (name : List ℕ) (after : ℕ) (row : Row) : 
   pub found : map_of.get d.plans name ≡ Some row.1
   pub last : after ≡ length row.1.revisions
   pub few : after < revision_limit
-
--- the desk with one more revision of the plan in a row
-abbrev pub with_revision_of : Desk → Row → List ℕ → Desk
-with_revision_of d row districts =
-    record d { plans = map_of.insert d.plans row.0 (record row.1 { revisions = row.1.revisions ++ districts ∷ [] }) }

@@ -1,11 +1,14 @@
 -- What a patch by counties makes of the last districts.
-use Rattle.std.specs.Prelude.{◌≡◌, ℕ, List, map, unwrap_or, Option, Some, None, Result, Err, IsOkAnd}
+use Rattle.std.specs.Prelude.{◌≡◌, ℕ, List, map, unwrap_or, Option, Some, None, Result, Err, IsOkAnd, ◌++◌, ◌∷◌, []}
 use Rattle.std.specs.List.{zip}
+use Rattle.std.specs.FinMap as map_of
 use Rattle.desk_model.specs.Baf.{Values, Fault, body_read}
 use Rattle.desk_model.specs.Geography.{Ground}
 use Rattle.desk_model.specs.Step.{partly_listed, patched}
+use Rattle.desk_model.specs.Desk.{Desk}
 use Rattle.desk_model.specs.declared.reply.Refusal.{Refusal}
 use Rattle.desk_model.specs.declared.reply.Refusal.TheVariants.{NoPlan, NoRevision, PlanExists, Stale, BadBody, NotWholeCounty, BadCompanion, Limit, Full, Memory, Halted, NotSealed}
+use Rattle.desk_plans.specs.Rows.{Row}
 
 -- the listed districts, and the last ones where none is listed, 0 before there are any
 abbrev pub overlaid : List (Option ℕ) → Option (List ℕ) → List ℕ
@@ -31,3 +34,8 @@ IsPatchRefusal g reading NotSealed = ⊥
 abbrev pub IsPatched : Ground → ℕ → List ℕ → Option (List ℕ) → List ℕ → Type 0
 IsPatched g n body last districts =
     IsOkAnd (body_read g n body) (λ values. (partly_listed g values ≡ None) × (districts ≡ patched g values last))
+
+-- the desk with one more revision of the plan in a row
+abbrev pub with_revision_of : Desk → Row → List ℕ → Desk
+with_revision_of d row districts =
+    record d { plans = map_of.insert d.plans row.0 (record row.1 { revisions = row.1.revisions ++ districts ∷ [] }) }

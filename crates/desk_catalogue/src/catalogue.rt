@@ -8,9 +8,10 @@ ghost use Rattle.desk_model.specs.Subject.{revision_of_kind as revision_of_kind_
 ghost use Rattle.desk_model.specs.Room.{last_revision};
 ghost use Rattle.desk_room.specs.Cutting.{StaysOutside, changes_in};
 ghost use Rattle.desk_catalogue.specs.Audits.{AskMay};
-ghost use Rattle.desk_catalogue.specs.Accepting.{IsAfter, IsRevisable, StepRefuses, with_revision_of};
+ghost use Rattle.desk_catalogue.specs.Accepting.{IsAfter, IsRevisable, StepRefuses};
 ghost use Rattle.desk_catalogue.specs.Drafts.{AreCounties, changes_of};
 ghost use Rattle.desk_catalogue.specs.Kept.{AreWhole, HasWhole, IsWhole, revision_in};
+ghost use Rattle.desk_catalogue.specs.Patches.{with_revision_of};
 
 use crate::blocks::blocks_text;
 use crate::patch::{Patched, patched_districts};

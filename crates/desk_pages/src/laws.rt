@@ -21,7 +21,7 @@ pub fn desks_are_kept()
 {}
 
 /// An image with the pages before a commit or those after it opens to the desk before it or to the desk after it. So does each
-/// that a stop leaves at any moment of it (`leaves_desks` in specs/ says it of a device's moments).
+/// that a stop leaves at any moment of it (`leaves_desks` in proofs/ says it of a device's moments).
 pub fn stops_leave_desks()
     ensures { OpensOneOfTwo }
 {}

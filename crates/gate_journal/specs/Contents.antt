@@ -1,9 +1,8 @@
 -- A journal as the layers above see it.
-use Rattle.std.specs.Prelude.{◌≡◌, ◌≤◌, ◌<◌, ℕ, Bool, true, false, Result, Ok, Err, List, length, IsOk}
+use Rattle.std.specs.Prelude.{◌≡◌, ◌≤◌, ◌<◌, ℕ, Bool, true, false, Result, Ok, Err}
 use Rattle.sector_device.specs.Disk.{Disk, Image}
-use Rattle.sector_device.specs.Moments.{LeavesOnly}
 use Rattle.sector_device.specs.declared.SectorDevice.{Ghosts}
-use Rattle.gate_journal.specs.Store.{pages, Opens, IsBeforeOrAfter}
+use Rattle.gate_journal.specs.Store.{pages, Opens}
 use Rattle.gate_journal.specs.declared.journal.Journal.{Journal}
 use Rattle.gate_journal.specs.declared.error.JournalError.{JournalError}
 use Rattle.gate_journal.specs.declared.error.JournalError.TheVariants.{NotAStore, DeviceFault, Halted, TooManyPages, TooSmall}
@@ -65,15 +64,3 @@ module _ {D : Type 0} {g : Ghosts D} where
   abbrev pub device_after : Result (Journal D g) (JournalError × D) → D
   device_after (Ok j) = j.device
   device_after (Err e) = e.1
-
-  -- a commit of writes to a journal that had not halted, on an honest device: each image that a stop leaves has all of them or none
-  abbrev pub LeavesAllOrNone : List (ℕ × List ℕ) → Journal D g → Journal D g → Type 0
-  LeavesAllOrNone ws old new =
-      (disk_of new).is_honest → is_halted old ≡ false
-      → LeavesOnly (IsBeforeOrAfter (journal_size old) (page_count old) ws (content old)) (disk_of old) (disk_of new)
-
-  -- where there is room for them and the device doesn't fail, they are committed
-  abbrev pub IsCommittedWithoutFault : {T E : Type 0} → List (ℕ × List ℕ) → Journal D g → Journal D g → Result T E → Type 0
-  IsCommittedWithoutFault ws old new result =
-      is_halted old ≡ false → length ws ≤ journal_size old → (disk_of new).is_honest → (disk_of new).faults ≡ (disk_of old).faults
-      → IsOk result

@@ -4,3 +4,4 @@ pub mod Recovery
 pub mod Contents
 pub mod Writes
 pub mod Format
+pub mod Outcomes

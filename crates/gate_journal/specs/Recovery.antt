@@ -1,8 +1,8 @@
 -- What an opening finds, and what it leaves.
-use Rattle.std.specs.Prelude.{◌≡◌, ◌≤◌, ◌<◌, ◌+◌, ℕ, List, Result, OnOk, IsErrOf, IfOk, IfErr, Bool, IsTrue, Option, MatchOption}
-use Rattle.sector_device.specs.Disk.{Disk, Image, Touches, Nowhere, HasCause, IsSynced}
+use Rattle.std.specs.Prelude.{◌≡◌, ◌≤◌, ◌<◌, ◌+◌, ℕ, List, Result, OnOk, IsErrOf, IfOk, IfErr}
+use Rattle.sector_device.specs.Disk.{Disk, Image, Touches, Nowhere, HasCause}
 use Rattle.sector_device.specs.Moments.{LeavesOnly}
-use Rattle.gate_journal.specs.Store.{home, header_of, word, list_word, copies, Homes, IsStore, IsStoreOf, Opens, pages, IsSettled, gate, IsValid}
+use Rattle.gate_journal.specs.Store.{home, header_of, word, list_word, copies, Homes, IsStore, IsStoreOf, Opens, pages, IsSettled}
 use Rattle.gate_journal.specs.Steps.{HasHomes}
 use Rattle.gate_journal.specs.declared.layout.Layout.{Layout}
 use Rattle.gate_journal.specs.declared.error.JournalError.{JournalError}
@@ -88,31 +88,3 @@ pub record Starts (old new : Disk) (result : Result Layout JournalError) : Type 
   pub untouched : IsErrOf result NotAStore → Touches Nowhere old new
   pub settled : IfOk result (λ l. IsSettled l.journal_pages l.pages new)
   pub found : IfOk result (λ l. Found l.journal_pages l.pages old new)
-
--- ---- the same, where the device is honest and what an opening comes from stands
--- whether the pages that the list names are all pages of the store
-abbrev pub TellsWhetherNamed : {E : Type 0} → ℕ → ℕ → Disk → Disk → Result Bool E → Type 0
-TellsWhetherNamed count n old new result =
-    new.is_honest → IfOk result (λ good. (IsTrue good → NamesPages count n old.reads) × (NamesPages count n old.reads → IsTrue good))
-
--- of a valid list, each copy was brought back
-abbrev pub CopiesListed : {T : Type 0} → ℕ → Layout → Disk → Disk → Result T JournalError → Type 0
-CopiesListed count layout old new result =
-    new.is_honest → count ≡ list_word old.reads 0 → IsValid layout.journal_pages layout.pages old.reads
-    → CopiesBack layout.journal_pages old new result
-
--- of a store whose gate is open, what that left was brought home
-abbrev pub BringsHome : {T : Type 0} → ℕ → Layout → Disk → Disk → Result T JournalError → Type 0
-BringsHome count layout old new result =
-    new.is_honest → IsSynced old → gate old.reads ≡ 165 → count ≡ list_word old.reads 0
-    → IsStore layout.journal_pages layout.pages old.reads → Reopens layout.journal_pages layout.pages old new result
-
--- the layout that was found is the header's, and where none was, the image is one of no store
-abbrev pub FindsLayout : {E : Type 0} → Disk → Disk → Result (Option Layout) E → Type 0
-FindsLayout old new result =
-    new.is_honest → IfOk result (λ found. MatchOption found (IsStoreOf old.sectors old.reads → ⊥) (λ layout. HasLayout old.reads layout))
-
--- of a disk whose header names the layout, the gate was closed
-abbrev pub ClosesGate : {T : Type 0} → Layout → Disk → Disk → Result T JournalError → Type 0
-ClosesGate layout old new result =
-    new.is_honest → IsSynced old → HasLayout old.reads layout → Recovers layout.journal_pages layout.pages old new result

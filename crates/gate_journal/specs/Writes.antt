@@ -1,7 +1,7 @@
-use Rattle.std.specs.Prelude.{◌≡◌, ◌≢◌, ◌<◌, ℕ, List, [], length, min, vec_capacity, Option, MatchOption}
+use Rattle.std.specs.Prelude.{◌≡◌, ◌≢◌, ◌<◌, ℕ, List, [], length, min, vec_capacity}
 use Rattle.std.proofs.Common.{get_or}
 use Rattle.sector_device.specs.Disk.{Image}
-use Rattle.gate_journal.specs.Store.{overlay, put, Writes}
+use Rattle.gate_journal.specs.Store.{overlay, put}
 use Rattle.gate_journal.specs.declared.writes.PageWrites.{PageWrites}
 
 -- the pages to be written, each with its bytes
@@ -25,9 +25,3 @@ pub record IsEdited {R : Type 0} (step : List ℕ → R → List ℕ → Type 0)
   pub before_is : (P : Image) → overlay old P page ≡ before
   pub steps : step before told after
   pub put_is : (P : Image) (p : ℕ) → overlay new P p ≡ put (page, after) (overlay old P) p
-
--- a page that is written was changed by the step; one that isn't, nothing was
-abbrev pub EditsWrite : {R : Type 0} → (List ℕ → R → List ℕ → Type 0) → ℕ → PageWrites → PageWrites → Option R → Type 0
-EditsWrite step page old new result =
-    MatchOption result ((Writes (writes_of old) page → ⊥) × (new ≡ old))
-    (λ told. Writes (writes_of old) page × IsEdited step told (writes_of old) (writes_of new) page)

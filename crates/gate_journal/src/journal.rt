@@ -29,7 +29,8 @@ impl<D: SectorDevice> Journal<D> {
     ghost use Rattle.gate_journal.specs.Store.{IsWithin, overlay};
     ghost use Rattle.gate_journal.specs.Recovery.{HasRoom, AllStores, ReadsAs, Found};
     ghost use Rattle.gate_journal.specs.Writes.{writes_of};
-    ghost use Rattle.gate_journal.specs.Contents.{content, disk_of, device_of, device_after, page_count, journal_size, is_halted, IsKept, HasShapeOf, ReadErr, CommitErr, LeavesAllOrNone, IsCommittedWithoutFault};
+    ghost use Rattle.gate_journal.specs.Contents.{content, disk_of, device_of, device_after, page_count, journal_size, is_halted, IsKept, HasShapeOf, ReadErr, CommitErr};
+    ghost use Rattle.gate_journal.specs.Outcomes.{LeavesAllOrNone, IsCommittedWithoutFault};
 
     /// Opens the store that a device holds. What a commit left behind an open gate is brought home first. With a refusal
     /// the device comes back.

@@ -1,7 +1,8 @@
 //! How a store is found again.
 ghost use Rattle.std.specs.Prelude.{◌≡◌, ◌+◌, ◌≤◌, ◌<◌, ◌⊎◌, ℕ, OnErr, IfOk, IfErr, IfSome};
 ghost use Rattle.sector_device.specs.Disk.{Disk, Touches, HasCause, Nowhere};
-ghost use Rattle.gate_journal.specs.Recovery.{HasRoom, Starts, FindsLayout, ClosesGate};
+ghost use Rattle.gate_journal.specs.Recovery.{HasRoom, Starts};
+ghost use Rattle.gate_journal.specs.Outcomes.{FindsLayout, ClosesGate};
 
 use crate::OPEN;
 use crate::error::JournalError;

@@ -2,7 +2,8 @@
 ghost use Rattle.std.specs.Prelude.{◌≡◌, ◌+◌, ◌*◌, ◌≤◌, ◌<◌, ◌/◌, ◌⊎◌, ℕ, length, IfOk, IfErr, IsTrue};
 ghost use Rattle.sector_device.specs.Disk.{Disk, Touches, Step, HasCause, Nowhere, Only};
 ghost use Rattle.gate_journal.specs.Store.{word, list_word, home};
-ghost use Rattle.gate_journal.specs.Recovery.{Copied, SectorNames, TellsWhetherNamed, CopiesListed, BringsHome};
+ghost use Rattle.gate_journal.specs.Recovery.{Copied, SectorNames};
+ghost use Rattle.gate_journal.specs.Outcomes.{TellsWhetherNamed, CopiesListed, BringsHome};
 
 use crate::error::JournalError;
 use crate::layout::{Layout, copies_begin, homes_begin};

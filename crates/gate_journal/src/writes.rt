@@ -45,7 +45,8 @@ impl PageWrites {
     ghost use Rattle.sector_device.specs.Disk.{Image};
     ghost use Rattle.gate_journal.specs.Store.{Writes, IsWithin, IsOnce, overlay, put};
     ghost use Rattle.std.specs.Fn.{FnOnceReturnsAtMut};
-    ghost use Rattle.gate_journal.specs.Writes.{writes_of, room_of, IsLast, EditsWrite};
+    ghost use Rattle.gate_journal.specs.Writes.{writes_of, room_of, IsLast};
+    ghost use Rattle.gate_journal.specs.Outcomes.{EditsWrite};
 
     pub fn new(alloc: Global) -> PageWrites
         ensures { writes_of result ≡ [] }

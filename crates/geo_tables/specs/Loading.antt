@@ -1,6 +1,7 @@
 -- A load that is under way, and the pages that hold its rows.
-use Rattle.std.specs.Prelude.{◌≡◌, ◌+◌, ℕ, []}
+use Rattle.std.specs.Prelude.{◌≡◌, ◌+◌, ◌⊎◌, ℕ, []}
 use Rattle.sector_device.specs.declared.SectorDevice.{Ghosts}
+use Rattle.sector_device.specs.Disk.{Image}
 use Rattle.page_store.specs.declared.pages.Pages.{Pages}
 use Rattle.page_btree.specs.Map.{InPages}
 use Rattle.desk_model.specs.Geography.{Ground}
@@ -8,7 +9,8 @@ use Rattle.desk_model.specs.Desk.{Desk}
 use Rattle.store_rows.specs.Keys.{begun, seal}
 use Rattle.store_rows.specs.Rows.{KeyMap, Has, Lacks}
 use Rattle.store_rows.specs.GeographyRows.{IsStaged}
-use Rattle.desk_pages.specs.Desks.{IsDeskMap}
+use Rattle.store_rows.specs.Changes.{desk_with}
+use Rattle.desk_pages.specs.Desks.{IsDeskMap, OpensDesk}
 use Rattle.geo_tables.specs.declared.load.Load.{Load}
 
 -- its number, its geography, and how many of the geography's rows are staged
@@ -43,3 +45,7 @@ HoldsFurther ps d load rows = (next : Load) → IsFurther load next rows → Hol
 
 abbrev pub HoldsNew : {D : Type 0} {g : Ghosts D} → Pages D g → Desk → ℕ → Type 0
 HoldsNew ps d number = (load : Load) → number_of load ≡ number → done_of load ≡ 0 → HoldsLoad ps d load
+
+-- an image of so many sectors opens to the desk, or to that with the load's geography
+abbrev pub OpensOrIsSealed : Load → ℕ → Desk → Image → Type 0
+OpensOrIsSealed load sectors d c = OpensDesk sectors d c ⊎ OpensDesk sectors (desk_with (ground_of load) d.plans) c

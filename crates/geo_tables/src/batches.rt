@@ -1,11 +1,10 @@
 //! Stages rows of a load.
-ghost use Rattle.std.specs.Prelude.{◌≡◌, ◌≤◌, ◌+◌, ℕ, Err, true, false, OnOk, OnErr, IfOk, IfErr};
-ghost use Rattle.sector_device.specs.Moments.{LeavesOnly};
-ghost use Rattle.gate_journal.specs.Store.{home};
-ghost use Rattle.page_store.specs.Transactions.{disk_in, count_of, journal_of, has_halted, HasShape, IsSame, IsKept};
+ghost use Rattle.std.specs.Prelude.{◌≡◌, ◌≤◌, ◌+◌, Err, true, false, OnOk, OnErr, IfOk, IfErr};
+ghost use Rattle.page_store.specs.Transactions.{disk_in, has_halted, HasShape, IsSame, IsKept};
 ghost use Rattle.desk_model.specs.Desk.{Desk};
 ghost use Rattle.store_rows.specs.GeographyRows.{geography_rows};
 ghost use Rattle.desk_pages.specs.Desks.{OpensDesk};
+ghost use Rattle.desk_pages.specs.Moments.{StopsLeave};
 ghost use Rattle.geo_tables.specs.Loading.{HoldsLoad, HoldsFurther, IsFurther, ground_of, done_of};
 ghost use Rattle.geo_tables.specs.Refusals.{HasRoom, BatchErr};
 
@@ -31,7 +30,7 @@ fn stage<D: SectorDevice>(
     requires left { done_of load.now + rows ≤ geography_rows (ground_of load.now) }
     ensures shape { HasShape pages.old pages.new }
     ensures honest { (disk_in pages.new).is_honest → (disk_in pages.old).is_honest }
-    ensures any_moment { (disk_in pages.new).is_honest → has_halted pages.old ≡ false → (sectors : ℕ) (d : Desk) → home (journal_of pages.old) + count_of pages.old ≡ sectors → HoldsLoad pages.old d load.now → LeavesOnly (OpensDesk sectors d) (disk_in pages.old) (disk_in pages.new) }
+    ensures any_moment { StopsLeave (λ d. HoldsLoad pages.old d load.now) OpensDesk pages.old pages.new }
     ensures staged { (disk_in pages.new).is_honest → (d : Desk) → HoldsLoad pages.old d load.now → OnOk result (HoldsFurther pages.new d load.now rows) }
     ensures kept { (disk_in pages.new).is_honest → OnOk result (IsKept pages.new) }
     ensures passed { (disk_in pages.new).is_honest → OnOk result ((disk_in pages.new).faults ≡ (disk_in pages.old).faults) }
@@ -66,7 +65,7 @@ pub fn load_batch<D: SectorDevice>(
     requires left { done_of load.old + rows ≤ geography_rows (ground_of load.old) }
     ensures shape { HasShape pages.old pages.new }
     ensures honest { (disk_in pages.new).is_honest → (disk_in pages.old).is_honest }
-    ensures any_moment { (disk_in pages.new).is_honest → has_halted pages.old ≡ false → (sectors : ℕ) (d : Desk) → home (journal_of pages.old) + count_of pages.old ≡ sectors → HoldsLoad pages.old d load.old → LeavesOnly (OpensDesk sectors d) (disk_in pages.old) (disk_in pages.new) }
+    ensures any_moment { StopsLeave (λ d. HoldsLoad pages.old d load.old) OpensDesk pages.old pages.new }
     ensures staged { (disk_in pages.new).is_honest → (d : Desk) → HoldsLoad pages.old d load.old → OnOk result (HoldsLoad pages.new d load.new) }
     ensures further { OnOk result (IsFurther load.old load.new rows) }
     ensures left { IfOk result (λ left. left + done_of load.new ≡ geography_rows (ground_of load.new)) }

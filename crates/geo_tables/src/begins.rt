@@ -1,8 +1,6 @@
 //! Begins a load.
-ghost use Rattle.std.specs.Prelude.{◌≡◌, ◌≤◌, ◌<◌, ◌+◌, ◌*◌, ◌^◌, ◌↔◌, ℕ, length, None, Err, true, false, OnOk, IfOk, IfErr, IsTrue};
-ghost use Rattle.sector_device.specs.Moments.{LeavesOnly};
-ghost use Rattle.gate_journal.specs.Store.{home};
-ghost use Rattle.page_store.specs.Transactions.{stored, disk_in, count_of, journal_of, has_halted, txn_free, HasShape, IsQuiet, IsSame, IsKept, Passed};
+ghost use Rattle.std.specs.Prelude.{◌≡◌, ◌≤◌, ◌<◌, ◌*◌, ◌^◌, ◌↔◌, length, None, Err, true, false, OnOk, IfOk, IfErr, IsTrue};
+ghost use Rattle.page_store.specs.Transactions.{stored, disk_in, journal_of, has_halted, txn_free, HasShape, IsQuiet, IsSame, IsKept, Passed};
 ghost use Rattle.page_btree.specs.Map.{InPages as HoldsRows};
 ghost use Rattle.desk_model.specs.Desk.{Desk};
 ghost use Rattle.store_rows.specs.Keys.{seal};
@@ -10,6 +8,7 @@ ghost use Rattle.store_rows.specs.declared.value.Counters.{Counters};
 ghost use Rattle.store_rows.specs.Rows.{KeyMap, Lacks};
 ghost use Rattle.store_rows.specs.Tidy.{IsNext};
 ghost use Rattle.desk_pages.specs.Desks.{InPages, OpensDesk};
+ghost use Rattle.desk_pages.specs.Moments.{StopsLeave, StopsLeaveAtWork};
 ghost use Rattle.geo_tables.specs.Starting.{IsStarted};
 ghost use Rattle.geo_tables.specs.Loading.{HoldsLoad, HoldsNew, number_of, done_of};
 ghost use Rattle.geo_tables.specs.Refusals.{HasRoom, BeginErr, NextErr, SealedErr};
@@ -58,7 +57,7 @@ fn begin_next<D: SectorDevice>(mut txn: Txn, pages: &mut Pages<D>) -> Result<u64
     requires unsealed { (disk_in pages.old).is_honest → (m : KeyMap) → HoldsRows pages.old m → Lacks m seal }
     ensures shape { HasShape pages.old pages.new }
     ensures honest { (disk_in pages.new).is_honest → (disk_in pages.old).is_honest }
-    ensures any_moment { (disk_in pages.new).is_honest → (sectors : ℕ) (d : Desk) → home (journal_of pages.old) + count_of pages.old ≡ sectors → InPages pages.old d → LeavesOnly (OpensDesk sectors d) (disk_in pages.old) (disk_in pages.new) }
+    ensures any_moment { StopsLeaveAtWork (InPages pages.old) OpensDesk pages.old pages.new }
     ensures begun { (disk_in pages.new).is_honest → (d : Desk) → InPages pages.old d → IfOk result (λ number. HoldsNew pages.new d number) }
     ensures number { (disk_in pages.new).is_honest → (m : KeyMap) → HoldsRows pages.old m → IfOk result (λ number. (next : Counters) × IsNext m next × (number ≡ next.load)) }
     ensures kept { (disk_in pages.new).is_honest → OnOk result (IsKept pages.new) }
@@ -84,7 +83,7 @@ pub fn begin_load<D: SectorDevice>(
 ) -> Result<Load, LoadFault>
     ensures shape { HasShape pages.old pages.new }
     ensures honest { (disk_in pages.new).is_honest → (disk_in pages.old).is_honest }
-    ensures any_moment { (disk_in pages.new).is_honest → has_halted pages.old ≡ false → (sectors : ℕ) (d : Desk) → home (journal_of pages.old) + count_of pages.old ≡ sectors → InPages pages.old d → LeavesOnly (OpensDesk sectors d) (disk_in pages.old) (disk_in pages.new) }
+    ensures any_moment { StopsLeave (InPages pages.old) OpensDesk pages.old pages.new }
     ensures begun { (disk_in pages.new).is_honest → (d : Desk) → InPages pages.old d → IfOk result (λ load. HoldsLoad pages.new d load) }
     ensures unsealed { (disk_in pages.new).is_honest → (d : Desk) → InPages pages.old d → OnOk result (d.geography ≡ None) }
     ensures load { IfOk result (λ load. (load.geography ≡ geography) × (done_of load ≡ 0)) }

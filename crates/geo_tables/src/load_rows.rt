@@ -1,10 +1,11 @@
 //! Begins loads and seals them.
-ghost use Rattle.std.specs.Prelude.{◌≡◌, ◌≤◌, ◌<◌, ◌+◌, ◌^◌, [], ◌∷◌, length, IfErr, IfOk, MatchOption, MatchResult, OnOk};
+ghost use Rattle.std.specs.Prelude.{◌≡◌, ◌≤◌, ◌<◌, ◌+◌, ◌^◌, [], ◌∷◌, length, IfErr, IfOk, MatchOption, OnOk};
 ghost use Rattle.page_store.specs.Transactions.{stored, disk_in, count_of, txn_pages, IsQuiet, Passed};
 ghost use Rattle.page_btree.specs.Map.{InTxn};
 ghost use Rattle.store_rows.specs.Keys.{seal};
 ghost use Rattle.store_rows.specs.Rows.{KeyMap, Lacks};
-ghost use Rattle.row_table.specs.Puts.{HasPut, PutsErr};
+ghost use Rattle.row_table.specs.Puts.{PutsErr};
+ghost use Rattle.row_table.specs.Outcomes.{PutsRows};
 ghost use Rattle.geo_tables.specs.Rows.{begun_rows, seal_row};
 ghost use Rattle.geo_tables.specs.Loads.{AreSpent, HasBegun, BeginErr, HasSealed};
 
@@ -25,7 +26,7 @@ fn put_begun<D: SectorDevice>(
     requires left { next.now.load + 1 < 2 ^ 64 }
     ensures quiet { IsQuiet pages.old pages.new }
     ensures begun { txn_pages txn.new ≡ count_of pages.new }
-    ensures put { MatchResult result (λ _. HasPut (begun_rows next.now) txn.old txn.new pages.old pages.new) (λ e. PutsErr (begun_rows next.now) txn.old pages.old pages.new e) }
+    ensures put { PutsRows (begun_rows next.now) txn.old txn.new pages.old pages.new result }
 {
     let begun = Key::begun(next.load);
     put_row(txn, pages, &begun, &[])?;

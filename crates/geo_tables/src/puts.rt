@@ -1,12 +1,12 @@
 //! Puts the rows of a geography.
-ghost use Rattle.std.specs.Prelude.{◌≡◌, ◌≤◌, ◌<◌, ◌+◌, ◌^◌, ◌↔◌, [], ◌∷◌, length, IfSome, IsTrue, MatchResult, OnOk};
+ghost use Rattle.std.specs.Prelude.{◌≡◌, ◌≤◌, ◌<◌, ◌+◌, ◌^◌, ◌↔◌, [], ◌∷◌, length, IfSome, IsTrue, OnOk};
 ghost use Rattle.page_store.specs.Transactions.{count_of, txn_pages, IsQuiet};
 ghost use Rattle.store_rows.specs.Keys.{key_of, block, pair};
 ghost use Rattle.store_rows.specs.Values.{block_bytes};
 ghost use Rattle.store_rows.specs.Rows.{KeyMap};
 ghost use Rattle.store_rows.specs.Puts.{put_rows};
 ghost use Rattle.store_rows.specs.GeographyRows.{IsBlockRow, IsStaged, geography_rows, neighbours_bytes};
-ghost use Rattle.row_table.specs.Puts.{HasPut, PutsErr};
+ghost use Rattle.row_table.specs.Outcomes.{PutsRows};
 ghost use Rattle.geo_tables.specs.Rows.{staged_row, staged_rows};
 ghost use Rattle.geo_tables.specs.Staging.{Stages};
 
@@ -57,7 +57,7 @@ fn put_block<D: SectorDevice>(
     requires begun { txn_pages txn.old ≡ count_of pages.old }
     ensures quiet { IsQuiet pages.old pages.new }
     ensures begun { txn_pages txn.new ≡ count_of pages.new }
-    ensures put { MatchResult result (λ _. HasPut ((key_of (block load place), block_bytes row.now) ∷ []) txn.old txn.new pages.old pages.new) (λ e. PutsErr ((key_of (block load place), block_bytes row.now) ∷ []) txn.old pages.old pages.new e) }
+    ensures put { PutsRows ((key_of (block load place), block_bytes row.now) ∷ []) txn.old txn.new pages.old pages.new result }
     ensures fits { IsBlockRow row.now }
 {
     block_fits(row);
@@ -75,7 +75,7 @@ fn put_pair<D: SectorDevice>(
     requires begun { txn_pages txn.old ≡ count_of pages.old }
     ensures quiet { IsQuiet pages.old pages.new }
     ensures begun { txn_pages txn.new ≡ count_of pages.new }
-    ensures put { MatchResult result (λ _. HasPut ((key_of (pair load place), neighbours_bytes neighbours.now) ∷ []) txn.old txn.new pages.old pages.new) (λ e. PutsErr ((key_of (pair load place), neighbours_bytes neighbours.now) ∷ []) txn.old pages.old pages.new e) }
+    ensures put { PutsRows ((key_of (pair load place), neighbours_bytes neighbours.now) ∷ []) txn.old txn.new pages.old pages.new result }
 {
     let value = pair_value((neighbours.first, neighbours.second));
     put_row(txn, pages, &Key::pair(load, place), &value)
@@ -94,7 +94,7 @@ fn put_place<D: SectorDevice>(
     requires within { place < geography_rows geography.now }
     ensures quiet { IsQuiet pages.old pages.new }
     ensures begun { txn_pages txn.new ≡ count_of pages.new }
-    ensures put { MatchResult result (λ _. HasPut (staged_row load geography.now place ∷ []) txn.old txn.new pages.old pages.new) (λ e. PutsErr (staged_row load geography.now place ∷ []) txn.old pages.old pages.new e) }
+    ensures put { PutsRows (staged_row load geography.now place ∷ []) txn.old txn.new pages.old pages.new result }
     ensures staged { (m : KeyMap) → IsStaged m load geography.now place → IsStaged (put_rows m (staged_row load geography.now place ∷ [])) load geography.now (place + 1) }
 {
     let blocks = geography.blocks();
@@ -128,7 +128,7 @@ pub fn put_batch<D: SectorDevice>(
     requires left { done + rows ≤ geography_rows geography.now }
     ensures quiet { IsQuiet pages.old pages.new }
     ensures begun { txn_pages txn.new ≡ count_of pages.new }
-    ensures put { MatchResult result (λ _. HasPut (staged_rows load geography.now done rows) txn.old txn.new pages.old pages.new) (λ e. PutsErr (staged_rows load geography.now done rows) txn.old pages.old pages.new e) }
+    ensures put { PutsRows (staged_rows load geography.now done rows) txn.old txn.new pages.old pages.new result }
     ensures staged { OnOk result (Stages load geography.now done rows) }
 {
     let _blocks = geography.blocks();

@@ -1,12 +1,12 @@
 //! Reads what stands in the rows of a load.
-ghost use Rattle.std.specs.Prelude.{◌≡◌, ◌++◌, ◌∷◌, [], ℕ, List, None, OnOk, IfOk, IfErr};
+ghost use Rattle.std.specs.Prelude.{◌≡◌, ◌++◌, ◌∷◌, [], ℕ, None, OnOk, IfOk, IfErr};
 ghost use Rattle.page_store.specs.Transactions.{stored, disk_in, count_of, txn_pages, IsQuiet, Passed};
 ghost use Rattle.page_btree.specs.Map.{InTxn};
 ghost use Rattle.store_rows.specs.Rows.{KeyMap};
 ghost use Rattle.row_table.specs.Appending.{AppendErr};
 ghost use Rattle.row_table.specs.Reading.{ReadErr};
 ghost use Rattle.btree_scan.specs.Scanning.{fault_in};
-ghost use Rattle.geo_tables.specs.Following.{HoldsAlong, HoldsBeside, IsFound, IsTaken, Scans};
+ghost use Rattle.geo_tables.specs.Following.{HoldsAlong, HoldsBeside, IsTaken, Scans, AddsElement, AddsElementBeside, ReadsElements};
 ghost use Rattle.geo_tables.specs.Elements.{HoldsElement, HoldsElements, ValueErr};
 
 use crate::elements::Element;
@@ -41,7 +41,7 @@ fn append_element<D: SectorDevice, E: Element>(
     requires begun { txn_pages txn.now ≡ count_of pages.old }
     ensures quiet { IsQuiet pages.old pages.new }
     ensures passed { OnOk result (Passed pages.old pages.new) }
-    ensures read { (disk_in pages.new).is_honest → (m : KeyMap) (x : E) → InTxn txn.now (stored pages.old) m → HoldsElement E.bytes_of E.fits (E.key_at load place) m x → OnOk result (all.new.items ≡ all.old.items ++ x ∷ []) }
+    ensures read { AddsElement (HoldsElement E.bytes_of E.fits (E.key_at load place)) txn.now pages.old pages.new all.old all.new result }
     ensures err { IfErr result (λ e. AppendErr (HoldsElement E.bytes_of E.fits (E.key_at load place)) txn.now pages.old pages.new e) }
 {
     let mut bytes = [0; 1024];
@@ -85,7 +85,7 @@ fn append_next<D: SectorDevice, E: Element>(
     requires begun { txn_pages txn.now ≡ count_of pages.old }
     ensures quiet { IsQuiet pages.old pages.new }
     ensures passed { OnOk result (Passed pages.old pages.new) }
-    ensures read { (disk_in pages.new).is_honest → (m : KeyMap) (x : E) → InTxn txn.now (stored pages.old) m → IsFound found row.now m → HoldsElement E.bytes_of E.fits (E.key_at load place) m x → OnOk result (all.new.items ≡ all.old.items ++ x ∷ []) }
+    ensures read { AddsElementBeside found row.now E.bytes_of E.fits (E.key_at load place) txn.now pages.old pages.new all.old all.new result }
     ensures err { IfErr result (λ e. AppendErr (HoldsBeside found row.now E.bytes_of E.fits (E.key_at load place)) txn.now pages.old pages.new e) }
 {
     if found {
@@ -113,7 +113,7 @@ fn append_along<D: SectorDevice, E: Element>(
     ensures passed { OnOk result (Passed pages.old pages.new) }
     ensures working { OnOk result (fault_in scan.new ≡ None) }
     ensures scans { (disk_in pages.new).is_honest → (m : KeyMap) → InTxn txn.now (stored pages.old) m → Scans scan.old m → OnOk result (Scans scan.new m) }
-    ensures read { (disk_in pages.new).is_honest → (m : KeyMap) (x : E) → InTxn txn.now (stored pages.old) m → HoldsAlong scan.old E.bytes_of E.fits (E.key_at load place) m x → OnOk result (all.new.items ≡ all.old.items ++ x ∷ []) }
+    ensures read { AddsElement (HoldsAlong scan.old E.bytes_of E.fits (E.key_at load place)) txn.now pages.old pages.new all.old all.new result }
     ensures err { IfErr result (λ e. AppendErr (HoldsAlong scan.old E.bytes_of E.fits (E.key_at load place)) txn.now pages.old pages.new e) }
 {
     let found = take_next(scan, row, txn, pages)?;
@@ -132,7 +132,7 @@ pub(crate) fn read_elements<D: SectorDevice, E: Element>(
     requires begun { txn_pages txn.now ≡ count_of pages.old }
     ensures quiet { IsQuiet pages.old pages.new }
     ensures passed { OnOk result (Passed pages.old pages.new) }
-    ensures read { (disk_in pages.new).is_honest → (m : KeyMap) (xs : List E) → InTxn txn.now (stored pages.old) m → HoldsElements E.bytes_of E.fits (E.key_at load) count m xs → IfOk result (λ all. all.items ≡ xs) }
+    ensures read { ReadsElements (HoldsElements E.bytes_of E.fits (E.key_at load) count) txn.now pages.old pages.new result }
     ensures err { IfErr result (λ e. AppendErr (HoldsElements E.bytes_of E.fits (E.key_at load) count) txn.now pages.old pages.new e) }
 {
     let prefix = E::prefix(load);

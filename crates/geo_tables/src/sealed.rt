@@ -1,12 +1,12 @@
 //! Reads the sealed geography of a store.
-ghost use Rattle.std.specs.Prelude.{◌≡◌, ◌<◌, ◌^◌, Option, OnOk, IfOk, IfErr};
+ghost use Rattle.std.specs.Prelude.{◌≡◌, ◌<◌, ◌^◌, OnOk, IfOk, IfErr};
 ghost use Rattle.page_store.specs.Transactions.{stored, disk_in, count_of, txn_pages, IsQuiet, Passed};
 ghost use Rattle.page_btree.specs.Map.{InTxn};
 ghost use Rattle.page_btree.specs.declared.error.TreeError.TheVariants.{DeviceFault};
 ghost use Rattle.desk_model.specs.Geography.{Ground, IsGround};
 ghost use Rattle.store_rows.specs.Rows.{KeyMap};
 ghost use Rattle.store_rows.specs.GeographyRows.{IsGeography};
-ghost use Rattle.row_table.specs.Appending.{AppendErr};
+ghost use Rattle.row_table.specs.Appending.{AppendErr, TellsOfEach};
 ghost use Rattle.geo_tables.specs.Elements.{IsSealedAs, IsSealRow};
 
 use crate::checks::are_blocks;
@@ -77,7 +77,7 @@ pub fn geography<D: SectorDevice>(
     requires begun { txn_pages txn.now ≡ count_of pages.old }
     ensures quiet { IsQuiet pages.old pages.new }
     ensures passed { OnOk result (Passed pages.old pages.new) }
-    ensures read { (disk_in pages.new).is_honest → (m : KeyMap) (found : Option Ground) → InTxn txn.now (stored pages.old) m → IsGeography m found → IfOk result (λ geography. geography ≡ found) }
+    ensures read { TellsOfEach IsGeography txn.now pages.old pages.new (λ found. IfOk result (λ geography. geography ≡ found)) }
     ensures err { IfErr result (λ e. AppendErr IsGeography txn.now pages.old pages.new e) }
 {
     let found: Option<SealRow> = get_row(txn, pages, &Key::seal())?;

@@ -1,13 +1,12 @@
 //! Seals a load.
-ghost use Rattle.std.specs.Prelude.{◌≡◌, ◌+◌, ◌⊎◌, ℕ, Err, true, false, OnOk, IfErr};
-ghost use Rattle.sector_device.specs.Moments.{LeavesOnly};
-ghost use Rattle.gate_journal.specs.Store.{home};
-ghost use Rattle.page_store.specs.Transactions.{disk_in, count_of, journal_of, has_halted, HasShape, IsSame, IsKept};
+ghost use Rattle.std.specs.Prelude.{◌≡◌, Err, true, false, OnOk, IfErr};
+ghost use Rattle.page_store.specs.Transactions.{disk_in, has_halted, HasShape, IsSame, IsKept};
 ghost use Rattle.desk_model.specs.Desk.{Desk};
 ghost use Rattle.store_rows.specs.GeographyRows.{geography_rows};
 ghost use Rattle.store_rows.specs.Changes.{desk_with};
-ghost use Rattle.desk_pages.specs.Desks.{InPages, OpensDesk};
-ghost use Rattle.geo_tables.specs.Loading.{HoldsLoad, ground_of, done_of};
+ghost use Rattle.desk_pages.specs.Desks.{InPages};
+ghost use Rattle.desk_pages.specs.Moments.{StopsLeave};
+ghost use Rattle.geo_tables.specs.Loading.{HoldsLoad, ground_of, done_of, OpensOrIsSealed};
 ghost use Rattle.geo_tables.specs.Refusals.{HasRoom, SealErr};
 
 use crate::error::LoadFault;
@@ -27,7 +26,7 @@ fn put_seal<D: SectorDevice>(
     requires { done_of load.now ≡ geography_rows (ground_of load.now) }
     ensures shape { HasShape pages.old pages.new }
     ensures honest { (disk_in pages.new).is_honest → (disk_in pages.old).is_honest }
-    ensures any_moment { (disk_in pages.new).is_honest → has_halted pages.old ≡ false → (sectors : ℕ) (d : Desk) → home (journal_of pages.old) + count_of pages.old ≡ sectors → HoldsLoad pages.old d load.now → LeavesOnly (λ c. OpensDesk sectors d c ⊎ OpensDesk sectors (desk_with (ground_of load.now) d.plans) c) (disk_in pages.old) (disk_in pages.new) }
+    ensures any_moment { StopsLeave (λ d. HoldsLoad pages.old d load.now) (OpensOrIsSealed load.now) pages.old pages.new }
     ensures sealed { (disk_in pages.new).is_honest → (d : Desk) → HoldsLoad pages.old d load.now → OnOk result (InPages pages.new (desk_with (ground_of load.now) d.plans)) }
     ensures kept { (disk_in pages.new).is_honest → OnOk result (IsKept pages.new) }
     ensures passed { (disk_in pages.new).is_honest → OnOk result ((disk_in pages.new).faults ≡ (disk_in pages.old).faults) }
@@ -51,7 +50,7 @@ pub fn seal<D: SectorDevice>(
     requires { done_of load ≡ geography_rows (ground_of load) }
     ensures shape { HasShape pages.old pages.new }
     ensures honest { (disk_in pages.new).is_honest → (disk_in pages.old).is_honest }
-    ensures any_moment { (disk_in pages.new).is_honest → has_halted pages.old ≡ false → (sectors : ℕ) (d : Desk) → home (journal_of pages.old) + count_of pages.old ≡ sectors → HoldsLoad pages.old d load → LeavesOnly (λ c. OpensDesk sectors d c ⊎ OpensDesk sectors (desk_with (ground_of load) d.plans) c) (disk_in pages.old) (disk_in pages.new) }
+    ensures any_moment { StopsLeave (λ d. HoldsLoad pages.old d load) (OpensOrIsSealed load) pages.old pages.new }
     ensures sealed { (disk_in pages.new).is_honest → (d : Desk) → HoldsLoad pages.old d load → OnOk result (InPages pages.new (desk_with (ground_of load) d.plans)) }
     ensures back { IfErr result (λ e. e.1 ≡ load) }
     ensures kept { (disk_in pages.new).is_honest → OnOk result (IsKept pages.new) }

@@ -4,3 +4,4 @@ pub mod Lending
 pub mod Openings
 pub mod Transactions
 pub mod Lent
+pub mod Outcomes

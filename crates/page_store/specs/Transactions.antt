@@ -1,10 +1,9 @@
 -- Pages and transactions over them, as the layers above see them.
-use Rattle.std.specs.Prelude.{◌≡◌, ◌≤◌, ◌<◌, ◌+◌, ◌⊎◌, ◌-◌, ◌∷◌, ℕ, Bool, true, false, List, Result, Ok, Err, length, Option, MatchOption, IfOk, IsOk}
+use Rattle.std.specs.Prelude.{◌≡◌, ◌≤◌, ◌<◌, ◌+◌, ◌⊎◌, ℕ, Bool, true, false, List, Result, Ok, Err, length}
 use Rattle.sector_device.specs.Disk.{Disk, Image, Touches, Nowhere}
-use Rattle.sector_device.specs.Moments.{LeavesOnly}
 use Rattle.sector_device.specs.declared.SectorDevice.{Ghosts}
-use Rattle.gate_journal.specs.Store.{overlay, home, Writes, pages, IsBeforeOrAfter}
-use Rattle.gate_journal.specs.Writes.{writes_of, IsEdited}
+use Rattle.gate_journal.specs.Store.{overlay, home, Writes, pages}
+use Rattle.gate_journal.specs.Writes.{writes_of}
 use Rattle.gate_journal.specs.Recovery.{Found}
 use Rattle.gate_journal.specs.Contents.{content, disk_of, device_of, page_count, journal_size, is_halted, HasShapeOf, HasHalted, IsKept as kept}
 use Rattle.page_store.specs.Chain.{chain, AreFree, IsIn, IsPages}
@@ -46,11 +45,6 @@ over t P = overlay (writes_of t.writes) P
 
 abbrev pub free_over : Txn → Image → List ℕ
 free_over t P = chain (overlay (writes_of t.writes) P) t.first t.free
-
--- a page that it writes was changed by the step; with one that it doesn't, nothing was
-abbrev pub EditsPage : {R : Type 0} → (List ℕ → R → List ℕ → Type 0) → ℕ → Txn → Txn → Option R → Type 0
-EditsPage step p old new result =
-    MatchOption result ((IsWritten old p → ⊥) × (new ≡ old)) (λ told. IsWritten old p × IsEdited step told (txn_list old) (txn_list new) p)
 
 -- ---- one that is prepared
 abbrev pub prepared_pages : Prepared → ℕ
@@ -159,24 +153,6 @@ module _ {D : Type 0} {g : Ghosts D} where
   -- each image that a stop now may leave stands for the pages
   abbrev pub IsKept : Pages D g → Type 0
   IsKept ps = kept ps.journal
-
-  -- the number that was read is that of the free page after the first
-  abbrev pub TellsNextFree : {E : Type 0} → Txn → Pages D g → Pages D g → Result ℕ E → Type 0
-  TellsNextFree t old new result =
-      (disk_in new).is_honest
-      → IfOk result (λ next. free_over t (stored old) ≡ txn_first t ∷ chain (over t (stored old)) next (txn_free t - 1))
-
-  -- a commit of writes to pages that had not halted, on an honest device: each image that a stop leaves has all of them or none
-  abbrev pub LeavesAllOrNone : List (ℕ × List ℕ) → Pages D g → Pages D g → Type 0
-  LeavesAllOrNone ws old new =
-      (disk_in new).is_honest → has_halted old ≡ false
-      → LeavesOnly (IsBeforeOrAfter (journal_of old) (count_of old) ws (stored old)) (disk_in old) (disk_in new)
-
-  -- where there is room for them and the device doesn't fail, they are committed
-  abbrev pub IsCommittedWithoutFault : {T E : Type 0} → List (ℕ × List ℕ) → Pages D g → Pages D g → Result T E → Type 0
-  IsCommittedWithoutFault ws old new result =
-      has_halted old ≡ false → length ws ≤ journal_of old → (disk_in new).is_honest → (disk_in new).faults ≡ (disk_in old).faults
-      → IsOk result
 
 -- the journal was opened, and its pages, which are as they were, are no store's
 pub record HasBadPages (old new : Disk) : Type 0 where

@@ -45,7 +45,8 @@ impl Txn {
     ghost use Rattle.std.specs.Fn.{FnOnceReturnsAtMut};
     ghost use Rattle.gate_journal.specs.Store.{put};
     ghost use Rattle.page_store.specs.Chain.{IsIn, AreFree, IsPages, root_in, free_in};
-    ghost use Rattle.page_store.specs.Transactions.{stored, disk_in, count_of, has_halted, txn_pages, txn_list, txn_writes, IsWritten, txn_root, txn_first, txn_free, over, free_over, prepared_pages, prepared_writes, after, IsQuiet, ReadErr, TakeErr, GiveErr, EditsPage, TellsNextFree};
+    ghost use Rattle.page_store.specs.Transactions.{stored, disk_in, count_of, has_halted, txn_pages, txn_list, txn_writes, IsWritten, txn_root, txn_first, txn_free, over, free_over, prepared_pages, prepared_writes, after, IsQuiet, ReadErr, TakeErr, GiveErr};
+    ghost use Rattle.page_store.specs.Outcomes.{EditsPage, TellsNextFree};
     ghost use Rattle.page_store.specs.declared.error.PageError.TheVariants.{Memory};
     ghost use Rattle.page_store.specs.Lent.{lent_bytes};
 
@@ -280,7 +281,8 @@ impl Txn {
 impl Prepared {
     ghost use Rattle.std.specs.Prelude.{◌≡◌, ◌≤◌, length, true, false, Err, OnOk, IfErr};
     ghost use Rattle.sector_device.specs.Disk.{Image};
-    ghost use Rattle.page_store.specs.Transactions.{stored, disk_in, count_of, journal_of, has_halted, prepared_pages, prepared_writes, after, HasShape, IsSame, IsKept, CommitErr, LeavesAllOrNone, IsCommittedWithoutFault};
+    ghost use Rattle.page_store.specs.Transactions.{stored, disk_in, count_of, journal_of, has_halted, prepared_pages, prepared_writes, after, HasShape, IsSame, IsKept, CommitErr};
+    ghost use Rattle.page_store.specs.Outcomes.{LeavesAllOrNone, IsCommittedWithoutFault};
     ghost use Rattle.page_store.specs.declared.error.PageError.TheVariants.{Halted};
 
     /// Writes the pages, all or none of them. It takes no memory.

@@ -1,5 +1,10 @@
 -- The rows of a revision that is added, and what is read before they are put.
 use Rattle.std.specs.Prelude.{◌<◌, ◌+◌, ◌≡◌, ℕ, List, ◌++◌, Some}
+use Rattle.sector_device.specs.declared.SectorDevice.{Ghosts}
+use Rattle.page_store.specs.Transactions.{stored, disk_in}
+use Rattle.page_store.specs.declared.pages.Pages.{Pages}
+use Rattle.page_store.specs.declared.txn.Txn.{Txn}
+use Rattle.page_btree.specs.Map.{InTxn}
 use Rattle.store_rows.specs.declared.value.Counters.{Counters}
 use Rattle.store_rows.specs.declared.value.PlanRow.{PlanRow}
 use Rattle.store_rows.specs.Rows.{KeyMap}
@@ -23,3 +28,9 @@ pub record AreRead (name : List ℕ) (count : ℕ) (row : PlanRow) (next : Count
   pub found : IsFound m name (Some row)
   pub is_next : IsNext m next
   pub names : (numbers : List ℕ) → 0 < row.revisions → AreNames row.number row.revisions count m numbers → kept ≡ numbers
+
+-- `tells` holds of the names of the chunks of a plan's last revision, where it has one
+abbrev pub TellsOfNames : {D : Type 0} {g : Ghosts D} → PlanRow → ℕ → Txn → Pages D g → Pages D g → (List ℕ → Type 0) → Type 0
+TellsOfNames row count t old new tells =
+    (disk_in new).is_honest → (m : KeyMap) (numbers : List ℕ) → InTxn t (stored old) m → 0 < row.revisions
+    → AreNames row.number row.revisions count m numbers → tells numbers

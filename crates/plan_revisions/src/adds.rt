@@ -1,12 +1,8 @@
 //! Plans that get one revision more.
-ghost use Rattle.std.specs.Prelude.{◌≡◌, ℕ, List, Option, length, MatchResult};
+ghost use Rattle.std.specs.Prelude.{◌≡◌, length};
 ghost use Rattle.desk_model.specs.Cuts.{cuts_of};
-ghost use Rattle.desk_model.specs.Room.{changed, revision_rows};
 ghost use Rattle.page_store.specs.Transactions.{count_of, txn_pages, IsQuiet};
-ghost use Rattle.plan_table.specs.PlanRows.{HasChunkNumbers};
-ghost use Rattle.desk_room.specs.Cutting.{changes_in};
-ghost use Rattle.plan_revisions.specs.Steps.{IsStepped, StepErr};
-ghost use Rattle.plan_revisions.specs.Plans.{TakesRevision, with_next};
+ghost use Rattle.plan_revisions.specs.Outcomes.{AddsRevision};
 
 use crate::counties::{count_changes, draw};
 use crate::laws::{counties_are_chunks, desks_are_added};
@@ -44,7 +40,7 @@ pub fn add<D: SectorDevice>(
     requires next { length next.now ≡ length geography.now.blocks }
     ensures quiet { IsQuiet pages.old pages.new }
     ensures begun { txn_pages txn.new ≡ count_of pages.new }
-    ensures add { (last : Option (List ℕ)) → changes.now ≡ changes_in last next.now cuts.now → MatchResult result (λ change. IsStepped (TakesRevision geography.now name.now last) (with_next name.now next.now) (revision_rows geography.now last next.now) (HasChunkNumbers (length (changed geography.now last next.now))) txn.old txn.new pages.old pages.new change) (λ e. StepErr (TakesRevision geography.now name.now last) (revision_rows geography.now last next.now) txn.old pages.old pages.new e) }
+    ensures add { AddsRevision geography.now cuts.now changes.now name.now next.now txn.old txn.new pages.old pages.new result }
 {
     desks_are_added();
     counties_are_chunks();

@@ -1,12 +1,11 @@
 //! Puts the rows of a revision.
-ghost use Rattle.std.specs.Prelude.{◌≡◌, ◌≤◌, ◌<◌, ◌+◌, ◌*◌, ◌^◌, length, MatchResult};
+ghost use Rattle.std.specs.Prelude.{◌≡◌, ◌≤◌, ◌<◌, ◌+◌, ◌*◌, ◌^◌, length};
 ghost use Rattle.desk_model.specs.Geography.{block_limit};
 ghost use Rattle.page_store.specs.Transactions.{count_of, txn_pages, IsQuiet};
 ghost use Rattle.store_rows.specs.DeskRows.{most_revisions};
-ghost use Rattle.row_table.specs.Puts.{HasPut, PutsErr};
 ghost use Rattle.desk_room.specs.Cutting.{AreWithin};
-ghost use Rattle.plan_revisions.specs.Counties.{count_new, new_lists};
-ghost use Rattle.plan_revisions.specs.Adding.{rows_put};
+ghost use Rattle.plan_revisions.specs.Counties.{count_new};
+ghost use Rattle.plan_revisions.specs.Outcomes.{AddsRows};
 
 use crate::chunks::put_changes;
 use desk_model::cuts::Cut;
@@ -45,7 +44,7 @@ pub fn put_revision<D: SectorDevice>(
     requires fits { counters.now.chunk + used < 2 ^ 64 }
     ensures quiet { IsQuiet pages.old pages.new }
     ensures begun { txn_pages txn.new ≡ count_of pages.new }
-    ensures put { MatchResult result (λ _. HasPut (rows_put name.now row.now counters.now (new_lists changes.now next.now cuts.now) numbers.now used) txn.old txn.new pages.old pages.new) (λ e. PutsErr (rows_put name.now row.now counters.now (new_lists changes.now next.now cuts.now) numbers.now used) txn.old pages.old pages.new e) }
+    ensures put { AddsRows name.now row.now counters.now changes.now next.now cuts.now numbers.now used txn.old txn.new pages.old pages.new result }
 {
     put_changes(alloc, txn, pages, cuts, changes, next, counters.chunk)?;
     put_names(txn, pages, row.number, row.revisions + 1, numbers)?;

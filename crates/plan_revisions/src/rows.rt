@@ -1,11 +1,10 @@
 //! How many rows a command writes.
-ghost use Rattle.std.specs.Prelude.{◌≡◌, ◌+◌, ℕ, List, length, Some, IsSome};
+ghost use Rattle.std.specs.Prelude.{◌≡◌, ◌+◌, ℕ, List, Some, IsSome};
 ghost use Rattle.std.specs.FinMap as map_of;
-ghost use Rattle.desk_model.specs.Geography.{Ground};
 ghost use Rattle.desk_model.specs.Room.{added_rows, command_rows as rows_of_command};
 ghost use Rattle.desk_catalogue.specs.Accepting.{IsAfter};
 ghost use Rattle.desk_catalogue.specs.Drafts.{changes_between, changes_of};
-ghost use Rattle.desk_catalogue.specs.Kept.{revision_in};
+ghost use Rattle.desk_catalogue.specs.Kept.{revision_in, IsWhole};
 ghost use Rattle.plan_revisions.specs.Rows.{cuts_in};
 ghost use Rattle.plan_revisions.specs.Accepted.{IsRevised};
 
@@ -21,7 +20,7 @@ use shared_districts::Districts;
 pub(crate) fn next_of<'a>(then: &'a Catalogue, name: &PlanName, k: u32) -> &'a Districts
     requires { IsSome (revision_in (map_of.get then.now.plans name.now) k) }
     ensures value { (districts : List ℕ) → revision_in (map_of.get then.now.plans name.now) k ≡ Some districts → result.now ≡ districts }
-    ensures whole { (g : Ground) (districts : List ℕ) → then.now.geography ≡ Some g → revision_in (map_of.get then.now.plans name.now) k ≡ Some districts → length districts ≡ length g.blocks }
+    ensures whole { IsWhole then.now.geography (revision_in (map_of.get then.now.plans name.now) k) }
 {
     match then.districts(name, k) {
         Some(districts) => districts,

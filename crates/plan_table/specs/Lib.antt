@@ -1,3 +1,4 @@
 pub mod PlanRows
 pub mod Outcomes
 pub mod Laws
+pub mod Changing

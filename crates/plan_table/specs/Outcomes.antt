@@ -1,5 +1,5 @@
 -- What became of a change of plans, and why it was refused.
-use Rattle.std.specs.Prelude.{◌≡◌, ◌⊎◌, ◌<◌, ◌≤◌, ◌+◌, ℕ, List, true, Result, MatchResult}
+use Rattle.std.specs.Prelude.{◌≡◌, ◌⊎◌, ◌<◌, ◌≤◌, ◌+◌, ℕ, List, true}
 use Rattle.std.specs.FinMap.{remove}
 use Rattle.sector_device.specs.declared.SectorDevice.{Ghosts}
 use Rattle.page_store.specs.Transactions.{stored, disk_in, has_halted, txn_pages, txn_free, txn_writes, HasFailed, Passed}
@@ -51,11 +51,6 @@ module _ {D : Type 0} {g : Ghosts D} where
   ChangeErr rows t old new NoPages = txn_free t < 12
   ChangeErr rows t old new TooDeep = (disk_in new).is_honest → (m : KeyMap) → InTxn t (stored old) m → (next : Counters) × CountersFit next × IsNext m next × HasDeepened (rows next) t old m
   ChangeErr rows t old new Memory = Unit {0}
-
-  -- what became of a change, or why it was refused
-  abbrev pub Changes : (Counters → Type 0) → (Counters → List Row) → Txn → Txn → Pages D g → Pages D g → Result ChangeOutcome TreeError → Type 0
-  Changes enough rows t u old new result =
-      MatchResult result (λ change. IsChanged enough rows t u old new change) (λ e. ChangeErr rows t old new e)
 
   -- the plan was taken away
   pub record HasRetired (name : List ℕ) (number : ℕ) (t u : Txn) (old new : Pages D g) : Type 0 where

@@ -3,9 +3,10 @@ ghost use Rattle.std.specs.Prelude.{◌≡◌, ◌<◌, ◌+◌, IfErr, MatchRes
 ghost use Rattle.page_store.specs.Transactions.{count_of, txn_pages, txn_free, IsQuiet};
 ghost use Rattle.page_btree.specs.declared.error.TreeError.TheVariants.{NoPages};
 ghost use Rattle.store_rows.specs.DeskRows.{most_revisions};
-ghost use Rattle.row_table.specs.Puts.{PutsRows};
+ghost use Rattle.row_table.specs.Outcomes.{PutsRows};
 ghost use Rattle.plan_table.specs.PlanRows.{plan_rows, created_rows, revised_rows, HasPlanNumber, HasChunkNumbers};
-ghost use Rattle.plan_table.specs.Outcomes.{HasRetired, RetireErr, Changes};
+ghost use Rattle.plan_table.specs.Outcomes.{HasRetired, RetireErr};
+ghost use Rattle.plan_table.specs.Changing.{Changes};
 
 use crate::change::ChangeOutcome;
 use desk_model::kind::Kind;

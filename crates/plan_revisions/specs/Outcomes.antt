@@ -1,0 +1,43 @@
+-- What becomes of a step of a desk's plans, and of a revision that is added.
+use Rattle.std.specs.Prelude.{◌≡◌, ℕ, Bool, List, length, Option, Result, MatchResult}
+use Rattle.sector_device.specs.declared.SectorDevice.{Ghosts}
+use Rattle.desk_model.specs.declared.cuts.Cut.{Cut}
+use Rattle.desk_model.specs.Geography.{Ground}
+use Rattle.desk_model.specs.Desk.{Desk}
+use Rattle.desk_model.specs.Room.{changed, revision_rows}
+use Rattle.page_store.specs.declared.pages.Pages.{Pages}
+use Rattle.page_store.specs.declared.txn.Txn.{Txn}
+use Rattle.page_btree.specs.declared.error.TreeError.{TreeError}
+use Rattle.store_rows.specs.declared.value.Counters.{Counters}
+use Rattle.store_rows.specs.declared.value.PlanRow.{PlanRow}
+use Rattle.row_table.specs.Outcomes.{PutsRows}
+use Rattle.plan_table.specs.PlanRows.{HasChunkNumbers}
+use Rattle.plan_table.specs.declared.change.ChangeOutcome.{ChangeOutcome}
+use Rattle.desk_room.specs.Cutting.{changes_in}
+use Rattle.plan_revisions.specs.Steps.{HasStepped, IsStepped, StepErr}
+use Rattle.plan_revisions.specs.Plans.{TakesRevision, with_next}
+use Rattle.plan_revisions.specs.Counties.{new_lists}
+use Rattle.plan_revisions.specs.Adding.{rows_put}
+
+module _ {D : Type 0} {g : Ghosts D} where
+  -- the step was made, or it is told why not
+  abbrev pub Steps : {T : Type 0} → (Desk → Type 0) → (Desk → Desk) → ℕ → Txn → Txn → Pages D g → Pages D g → Result T TreeError → Type 0
+  Steps says next rows t u old new result =
+      MatchResult result (λ _. HasStepped says next rows t u old new) (λ e. StepErr says rows t old new e)
+
+  -- the same of one that asks for numbers, where they were left
+  abbrev pub StepsWhereLeft : (Desk → Type 0) → (Desk → Desk) → ℕ → (Counters → Type 0) → Txn → Txn → Pages D g → Pages D g → Result ChangeOutcome TreeError → Type 0
+  StepsWhereLeft says next rows enough t u old new result =
+      MatchResult result (λ change. IsStepped says next rows enough t u old new change) (λ e. StepErr says rows t old new e)
+
+-- the rows of a revision in which these counties change, with the numbers of its chunks, of which so many are used
+abbrev pub AddsRows : {D T : Type 0} {g : Ghosts D} → List ℕ → PlanRow → Counters → List Bool → List ℕ → List Cut → List ℕ → ℕ → Txn → Txn → Pages D g → Pages D g → Result T TreeError → Type 0
+AddsRows name row counters changes next cuts numbers used t u old new result =
+    PutsRows (rows_put name row counters (new_lists changes next cuts) numbers used) t u old new result
+
+-- behind a last revision since which these counties change: the desk's plan has one more, where numbers were left for their chunks
+abbrev pub AddsRevision : {D : Type 0} {g : Ghosts D} → Ground → List Cut → List Bool → List ℕ → List ℕ → Txn → Txn → Pages D g → Pages D g → Result ChangeOutcome TreeError → Type 0
+AddsRevision geography cuts changes name next t u old new result =
+    (last : Option (List ℕ)) → changes ≡ changes_in last next cuts
+    → StepsWhereLeft (TakesRevision geography name last) (with_next name next) (revision_rows geography last next)
+    (HasChunkNumbers (length (changed geography last next))) t u old new result
