@@ -1,1 +1,3 @@
+pub mod Moves
 pub mod Opened
+pub mod Staged

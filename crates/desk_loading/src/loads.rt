@@ -2,10 +2,10 @@
 ghost use Rattle.std.specs.Prelude.{◌≡◌, ◌≤◌, ◌+◌, ◌*◌, None, OnOk, OnErr, IfErr};
 ghost use Rattle.store_rows.specs.GeographyRows.{geography_rows};
 ghost use Rattle.geo_tables.specs.Loading.{ground_of, done_of};
-ghost use Rattle.desk_store.specs.Clerks.{desk_of, Keeps};
+ghost use Rattle.desk_store.specs.Clerks.{desk_of, Moves, MovesIf};
 ghost use Rattle.desk_store.specs.Keeping.{sealed_desk};
 ghost use Rattle.desk_store.specs.Loads.{Stages, IsLast};
-ghost use Rattle.desk_loading.specs.Loads.{GoesOn, LoadRefused, StageRefused};
+ghost use Rattle.desk_loading.specs.Loads.{batch_rows as rows_of_batch, HasStaged, StageRefused, IsLoaded, LoadRefused};
 
 use command_progress::Progress;
 use desk_model::geography::Geography;
@@ -19,6 +19,7 @@ use std::sync::Arc;
 
 /// How many rows a batch may have: 13 journal pages for each, and for the mark of the load, but one at least and 512 at most.
 fn batch_rows(journal_pages: u32) -> usize
+    ensures exact { result ≡ rows_of_batch journal_pages }
     ensures some { 1 ≤ result }
     ensures few { result ≤ 512 }
     ensures fits { 26 ≤ journal_pages → 13 * (result + 1) ≤ journal_pages }
@@ -42,17 +43,20 @@ fn stage_rows<D: SectorDevice, P: Progress>(
 ) -> Result<(), LoadError>
     requires last { IsLast clerk.old load.old }
     requires unsealed { (desk_of clerk.old).geography ≡ None }
+    ensures moves { MovesIf (Stages clerk.old load.old) (desk_of clerk.old) clerk.old clerk.new }
     ensures desk { desk_of clerk.new ≡ desk_of clerk.old }
-    ensures keeps { Stages clerk.old load.old → Keeps clerk.new }
-    ensures on { OnOk result (GoesOn clerk.old load.old clerk.new load.new) }
+    ensures staged { OnOk result (HasStaged clerk.old load.old clerk.new load.new) }
     ensures done { OnOk result (done_of load.new ≡ geography_rows (ground_of load.new)) }
-    ensures err { IfErr result (λ e. StageRefused e clerk.new) }
+    ensures err { IfErr result (λ e. StageRefused clerk.old load.old e clerk.new) }
 {
     let most = batch_rows(clerk.journal_pages());
     let all = load.left();
     let mut left = all;
     while left > 0 {
-        left = clerk.load_batch(alloc, load, left.min(most))?;
+        left = match clerk.load_batch(alloc, load, left.min(most)) {
+            Ok(left) => left,
+            Err(e) => return Err(e),
+        };
         progress.note(all.wrapping_sub(left) as u64);
     }
     Ok(())
@@ -66,16 +70,21 @@ pub fn load_geography<D: SectorDevice, P: Progress>(
     geography: Arc<Geography>,
     progress: &mut P,
 ) -> Result<(), LoadError>
-    ensures keeps { Keeps clerk.old → Keeps clerk.new }
-    ensures loaded { OnOk result (desk_of clerk.new ≡ sealed_desk geography.value) }
-    ensures unsealed { OnOk result ((desk_of clerk.old).geography ≡ None) }
+    ensures moves { Moves (sealed_desk geography.value) clerk.old clerk.new }
+    ensures loaded { OnOk result (IsLoaded clerk.old geography.value clerk.new) }
     ensures same { OnErr result (desk_of clerk.new ≡ desk_of clerk.old) }
-    ensures err { IfErr result (λ e. LoadRefused clerk.old e clerk.new) }
+    ensures err { IfErr result (λ e. LoadRefused clerk.old geography.value e clerk.new) }
 {
-    let mut load = clerk.begin_load(alloc, geography)?;
-    stage_rows(alloc, clerk, &mut load, progress)?;
+    let mut load = match clerk.begin_load(alloc, geography) {
+        Ok(load) => load,
+        Err(e) => return Err(e),
+    };
+    match stage_rows(alloc, clerk, &mut load, progress) {
+        Ok(()) => {}
+        Err(e) => return Err(e),
+    }
     match clerk.seal(alloc, load) {
-        Ok(()) => Ok(()),
-        Err((e, _)) => Err(e),
+        Ok(()) => return Ok(()),
+        Err((e, _)) => return Err(e),
     }
 }

@@ -1,12 +1,13 @@
 //! Makes a device a store that holds a geography and no plan.
-ghost use Rattle.std.specs.Prelude.{◌≡◌, ◌≤◌, ◌+◌, ◌<◌, false, IfOk, IfErr};
-ghost use Rattle.gate_journal.specs.Store.{home};
+ghost use Rattle.std.specs.Prelude.{◌≡◌, ◌≤◌, false, IfOk, IfErr};
 ghost use Rattle.desk_pages.specs.Formats.{OpensNew};
 ghost use Rattle.desk_store.specs.Clerks.{desk_of, is_halted, Keeps};
 ghost use Rattle.desk_store.specs.Keeping.{sealed_desk};
-ghost use Rattle.desk_loading.specs.Starts.{StartRefused};
+ghost use Rattle.desk_loading.specs.Openings.{IsOpened, IsUnopened};
+ghost use Rattle.desk_loading.specs.Starts.{start_of_format, start_of_open, start_of_load, IsFormatted, IsUnformatted, IsStarted, StartRefused};
 
 use crate::loads::load_geography;
+use crate::openings::open_store;
 use command_progress::Untold;
 use desk_model::geography::Geography;
 use desk_pages::{FormatError, format};
@@ -30,6 +31,35 @@ pub enum StartError {
     Fault,
 }
 
+fn format_error(e: FormatError) -> StartError
+    ensures { result ≡ start_of_format e }
+{
+    match e {
+        FormatError::TooSmall => StartError::TooSmall,
+        FormatError::Memory => StartError::Memory,
+        FormatError::DeviceFault => StartError::Fault,
+    }
+}
+
+fn open_error(e: OpenError) -> StartError
+    ensures { result ≡ start_of_open e }
+{
+    match e {
+        OpenError::Memory => StartError::Memory,
+        OpenError::NotAStore | OpenError::DeviceFault => StartError::Fault,
+    }
+}
+
+fn load_error(e: LoadError) -> StartError
+    ensures { result ≡ start_of_load e }
+{
+    match e {
+        LoadError::Memory => StartError::Memory,
+        LoadError::Full => StartError::Full,
+        LoadError::AlreadySealed | LoadError::Halted | LoadError::Ended => StartError::Fault,
+    }
+}
+
 /// Formats a device.
 fn formatted<D: SectorDevice + Drop>(
     alloc: Global,
@@ -38,27 +68,26 @@ fn formatted<D: SectorDevice + Drop>(
 ) -> Result<D, StartError>
     requires least { 256 ≤ journal_pages }
     requires most { journal_pages ≤ 65536 }
-    ensures new { IfOk result (λ new. (D.disk new).is_honest → OpensNew (D.disk new)) }
-    ensures ok { IfOk result (λ new. home journal_pages + 64 ≤ (D.disk device).sectors) }
-    ensures err { IfErr result (StartRefused D.SectorDevice journal_pages device) }
+    ensures ok { IfOk result (λ new. IsFormatted D.SectorDevice journal_pages device new) }
+    ensures err { IfErr result (λ e. IsUnformatted D.SectorDevice journal_pages device e) }
 {
     let mut device = device;
     match format(alloc, &mut device, journal_pages) {
         Ok(()) => Ok(device),
-        Err(FormatError::TooSmall) => Err(StartError::TooSmall),
-        Err(FormatError::Memory) => Err(StartError::Memory),
-        Err(FormatError::DeviceFault) => Err(StartError::Fault),
+        Err(e) => Err(format_error(e)),
     }
 }
 
-/// Opens a device that was formatted.
-fn opened<D: SectorDevice + Drop>(alloc: Global, device: D) -> Result<Clerk<D>, OpenError>
+/// Opens a device that was formatted: the clerk's store keeps the desk.
+fn opened<D: SectorDevice + Drop>(alloc: Global, device: D) -> Result<Clerk<D>, (OpenError, D)>
     requires new { (D.disk device).is_honest → OpensNew (D.disk device) }
     ensures keeps { IfOk result Keeps }
+    ensures ok { IfOk result (λ x. IsOpened device x) }
+    ensures err { IfErr result (λ e. IsUnopened D.SectorDevice device e.0 e.1) }
 {
-    match Clerk::open(alloc, device) {
+    match open_store(alloc, device) {
         Ok(clerk) => Ok(clerk),
-        Err((e, _)) => Err(e),
+        Err((e, left)) => Err((e, left)),
     }
 }
 
@@ -75,25 +104,19 @@ pub fn start<D: SectorDevice + Drop>(
     ensures keeps { IfOk result Keeps }
     ensures desk { IfOk result (λ clerk. desk_of clerk ≡ sealed_desk geography.value) }
     ensures working { IfOk result (λ clerk. is_halted clerk ≡ false) }
-    ensures err { IfErr result (StartRefused D.SectorDevice journal_pages device) }
+    ensures started { IfOk result (λ clerk. IsStarted D.SectorDevice journal_pages device geography.value clerk) }
+    ensures err { IfErr result (λ e. StartRefused D.SectorDevice journal_pages device geography.value e) }
 {
-    let device = formatted(alloc, device, journal_pages)?;
+    let device = match formatted(alloc, device, journal_pages) {
+        Ok(device) => device,
+        Err(e) => return Err(e),
+    };
     let mut clerk = match opened(alloc, device) {
         Ok(clerk) => clerk,
-        Err(OpenError::Memory) => return Err(StartError::Memory),
-        Err(OpenError::NotAStore | OpenError::DeviceFault) => return Err(StartError::Fault),
+        Err((e, _)) => return Err(open_error(e)),
     };
     match load_geography(alloc, &mut clerk, geography, &mut Untold) {
-        Ok(()) => {
-            if clerk.halted() {
-                return Err(StartError::Fault);
-            }
-            Ok(clerk)
-        }
-        Err(LoadError::Memory) => Err(StartError::Memory),
-        Err(LoadError::Full) => Err(StartError::Full),
-        Err(LoadError::AlreadySealed | LoadError::Halted | LoadError::Ended) => Err(
-            StartError::Fault,
-        ),
+        Ok(()) => Ok(clerk),
+        Err(e) => Err(load_error(e)),
     }
 }

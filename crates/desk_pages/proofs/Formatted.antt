@@ -13,7 +13,7 @@ use Rattle.store_rows.specs.Rows.{KeyMap}
 use Rattle.store_rows.specs.DeskRows.{IsPlanAt, IsDesk}
 use Rattle.store_rows.proofs.TidyFree.{empty_tidy}
 use Rattle.desk_pages.specs.Desks.{new_desk, IsSized, IsWithinLimits}
-use Rattle.desk_pages.specs.Formats.{OpensNew}
+use Rattle.desk_pages.specs.Formats.{OpensNew, HasJournal}
 
 abbrev none : KeyMap
 none = empty
@@ -45,3 +45,7 @@ new_opens J disk new c leaves = record {
   };
   sound = new.sound;
 }
+
+-- and is one of a store with so many journal pages
+pub new_journal : (J : ℕ) (disk : Disk) → IsNew J disk → HasJournal J disk
+new_journal J disk new c leaves = (new.n, new.whole, (settled_opens J new.n disk new.settled c leaves).store)

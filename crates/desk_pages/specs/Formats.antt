@@ -2,7 +2,7 @@
 use Rattle.std.specs.Prelude.{◌≡◌, ◌≤◌, ◌<◌, ◌+◌, ℕ}
 use Rattle.sector_device.specs.Disk.{Disk, Image}
 use Rattle.sector_device.specs.declared.SectorDevice.{Ghosts}
-use Rattle.gate_journal.specs.Store.{home}
+use Rattle.gate_journal.specs.Store.{home, IsStore}
 use Rattle.desk_pages.specs.Desks.{OpensDesk, new_desk}
 use Rattle.desk_pages.specs.declared.formatting.FormatError.{FormatError}
 use Rattle.desk_pages.specs.declared.formatting.FormatError.TheVariants.{TooSmall, Memory, DeviceFault}
@@ -10,6 +10,10 @@ use Rattle.desk_pages.specs.declared.formatting.FormatError.TheVariants.{TooSmal
 -- each image that a stop may leave opens to the desk without geography and plans
 abbrev pub OpensNew : Disk → Type 0
 OpensNew disk = (c : Image) → disk.leaves c → OpensDesk disk.sectors new_desk c
+
+-- each image that a stop may leave is one of a store with J journal pages, whose other pages fill the device
+abbrev pub HasJournal : ℕ → Disk → Type 0
+HasJournal J disk = (c : Image) → disk.leaves c → (n : ℕ) × (home J + n ≡ disk.sectors) × IsStore J n c
 
 -- why a device is not formatted: after the first two it is as it was
 abbrev pub FormatErr : {D : Type 0} (g : Ghosts D) → ℕ → D → D → FormatError → Type 0

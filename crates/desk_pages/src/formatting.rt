@@ -1,7 +1,7 @@
 //! Makes a device a store without geography and plans.
 ghost use Rattle.std.specs.Prelude.{◌≡◌, ◌≤◌, ◌+◌, OnOk, IfErr};
 ghost use Rattle.gate_journal.specs.Store.{home};
-ghost use Rattle.desk_pages.specs.Formats.{FormatErr, OpensNew};
+ghost use Rattle.desk_pages.specs.Formats.{FormatErr, OpensNew, HasJournal};
 
 use page_store::PageError;
 use sector_device::SectorDevice;
@@ -30,6 +30,7 @@ pub fn format<D: SectorDevice>(
     ensures sectors { (D.disk device.new).sectors ≡ (D.disk device.old).sectors }
     ensures honest { (D.disk device.new).is_honest → (D.disk device.old).is_honest }
     ensures new { (D.disk device.new).is_honest → OnOk result (OpensNew (D.disk device.new)) }
+    ensures journal { (D.disk device.new).is_honest → OnOk result (HasJournal journal_pages (D.disk device.new)) }
     ensures passed { (D.disk device.new).is_honest → OnOk result ((D.disk device.new).faults ≡ (D.disk device.old).faults) }
     ensures ok { OnOk result (home journal_pages + 64 ≤ (D.disk device.old).sectors) }
     ensures err { IfErr result (λ e. FormatErr D.SectorDevice journal_pages device.old device.new e) }

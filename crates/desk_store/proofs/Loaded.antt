@@ -90,7 +90,7 @@ module _ {D : Type 0} {g : Ghosts D} where
   begin_quiet area x b Halted off why = absurd (cc)
 
   pub begin_refused : (area : Ground) (x : Clerk D g) (b : Pages D g) (e : LoadFault) → x.halted ≡ false → ((disk_in b).is_honest → (disk_of x).is_honest) → is_load_fault e ≡ false → BeginErr area x.pages b e → BeginRefused area x (load_error_of e) x.halted b
-  begin_refused area x b AlreadySealed working honest off why = λ keeps is_honest. why.1 is_honest (desk_of x) (keeps.holds working (honest is_honest))
+  begin_refused area x b AlreadySealed working honest off why = (refl, λ keeps is_honest. why.1 is_honest (desk_of x) (keeps.holds working (honest is_honest)))
   begin_refused area x b Full working honest off why = (working, why)
   begin_refused area x b Memory working honest off why = (working, why.0)
   begin_refused area x b DeviceFault working honest off why = absurd (cc)

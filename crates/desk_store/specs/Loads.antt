@@ -29,7 +29,7 @@ module _ {D : Type 0} {g : Ghosts D} where
 
   -- why no load is begun
   abbrev pub BeginRefused : Ground → Clerk D g → LoadError → Bool → Pages D g → Type 0
-  BeginRefused area x AlreadySealed halted b = Keeps x → (disk_in b).is_honest → HasGeography x
+  BeginRefused area x AlreadySealed halted b = (halted ≡ x.halted) × (Keeps x → (disk_in b).is_honest → HasGeography x)
   BeginRefused area x Full halted b = (halted ≡ false) × BeginErr area x.pages b below.Full
   BeginRefused area x Memory halted b = (halted ≡ false) × IsQuiet x.pages b
   BeginRefused area x Halted halted b = halted ≡ true

@@ -76,6 +76,7 @@ impl<D: SectorDevice> Clerk<D> {
         ensures load { IfOk result (λ load. (load.geography ≡ geography) × (done_of load ≡ 0)) }
         ensures unsealed { OnOk result ((desk_of self.old).geography ≡ None) }
         ensures loading { OnErr result (self.new.loading ≡ self.old.loading) }
+        ensures working { OnOk result ((self.old.halted ≡ false) × (self.new.halted ≡ false)) }
         ensures quiet { self.new.halted ≡ false → OnErr result (IsQuiet self.old.pages self.new.pages) }
         ensures err { IfErr result (λ e. BeginRefused geography.value self.old e self.new.halted self.new.pages) }
     {
@@ -136,6 +137,7 @@ impl<D: SectorDevice> Clerk<D> {
         ensures left { IfOk result (λ left. left + done_of load.new ≡ geography_rows (ground_of load.new)) }
         ensures same { OnErr result (load.new ≡ load.old) }
         ensures loading { self.new.loading ≡ self.old.loading }
+        ensures working { OnOk result ((self.old.halted ≡ false) × (self.new.halted ≡ false)) }
         ensures quiet { self.new.halted ≡ false → OnErr result (IsQuiet self.old.pages self.new.pages) }
         ensures err { IfErr result (λ e. BatchRefused load.old rows self.old e self.new.halted self.new.pages) }
     {
@@ -162,6 +164,7 @@ impl<D: SectorDevice> Clerk<D> {
         ensures unsealed { OnErr result (desk_of self.new ≡ desk_of self.old) }
         ensures back { IfErr result (λ e. e.1 ≡ load) }
         ensures loading { self.new.loading ≡ self.old.loading }
+        ensures working { OnOk result ((self.old.halted ≡ false) × (self.new.halted ≡ false)) }
         ensures quiet { self.new.halted ≡ false → OnErr result (IsQuiet self.old.pages self.new.pages) }
         ensures err { IfErr result (λ e. SealRefused load self.old e.0 self.new.halted self.new.pages) }
     {

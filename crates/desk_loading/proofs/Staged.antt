@@ -1,0 +1,122 @@
+-- Batches of a load, one after the other, and a whole load.
+use Rattle.std.proofs.Common.{◌≡◌, ◌-◌, ℕ, false, Some, None, inl, inr, refl, sym, ap, subst, ◌∙◌}
+use Rattle.std.specs.Prelude.{min}
+use Rattle.sector_device.specs.declared.SectorDevice.{Ghosts}
+use Rattle.page_store.specs.Transactions.{IsQuiet}
+use Rattle.desk_model.specs.Desk.{Desk}
+use Rattle.desk_model.specs.Geography.{Ground}
+use Rattle.store_rows.specs.GeographyRows.{geography_rows}
+use Rattle.geo_tables.specs.declared.load.Load.{Load}
+use Rattle.geo_tables.specs.Loading.{IsFurther, ground_of, done_of}
+use Rattle.desk_store.specs.declared.clerk.Clerk.{Clerk}
+use Rattle.desk_store.specs.declared.loads.LoadError.{LoadError}
+use Rattle.desk_store.specs.declared.loads.LoadError.TheVariants.{AlreadySealed, Full, Memory, Halted, Ended}
+use Rattle.desk_store.specs.Clerks.{desk_of, room_of, Keeps, Moves, MovesIf}
+use Rattle.desk_store.specs.Keeping.{sealed_desk}
+use Rattle.desk_store.specs.Loads.{Stages, IsLast, HasGeography, BatchRefused, SealRefused}
+use Rattle.desk_store.proofs.Moved.{unmoved}
+use Rattle.desk_loading.specs.Loads.{batch_rows, HasBegun, HasStaged, HasWhole, IsLoaded, BeginStopped, BatchStopped, StageRefused, StageStopped, SealStopped, LoadRefused}
+use Rattle.desk_loading.proofs.Moves.{then_moved}
+
+module _ {D : Type 0} {g : Ghosts D} where
+  -- ---- batches
+  pub none_staged : (x : Clerk D g) (load : Load) → HasStaged x load x load
+  none_staged x load = record {
+    moves = unmoved (Stages x load) (desk_of x) x (λ stages. stages.keeps);
+    desk = refl;
+    loading = refl;
+    number = refl;
+    geography = refl;
+    staged = λ stages. stages;
+    works = λ off. off;
+  }
+
+  -- calls behind those that staged
+  pub staged_moved : (x y z : Clerk D g) (load so_far : Load) (next : Desk) → HasStaged x load y so_far → MovesIf (Stages y so_far) next y z → MovesIf (Stages x load) next x z
+  staged_moved x y z load so_far next one moves = then_moved (Stages x load) (Stages y so_far) next x y z one.moves one.desk one.staged moves
+
+  -- and such a call that leaves the desk
+  pub batch_moved : (x y z : Clerk D g) (load so_far : Load) → HasStaged x load y so_far → MovesIf (Stages y so_far) (desk_of y) y z → MovesIf (Stages x load) (desk_of x) x z
+  batch_moved x y z load so_far one moves = staged_moved x y z load so_far (desk_of x) one (subst (λ (d : Desk). MovesIf (Stages y so_far) d y z) one.desk moves)
+
+  pub more_staged : (x y z : Clerk D g) (load so_far more : Load) (rows : ℕ) → HasStaged x load y so_far → MovesIf (Stages y so_far) (desk_of y) y z → desk_of z ≡ desk_of y → z.loading ≡ y.loading → IsFurther so_far more rows
+      → (Stages y so_far → Stages z more) → z.halted ≡ false → HasStaged x load z more
+  more_staged x y z load so_far more rows one moves desk loading further staged works = record {
+    moves = batch_moved x y z load so_far one moves;
+    desk = desk ∙ one.desk;
+    loading = loading ∙ one.loading;
+    number = further.number ∙ one.number;
+    geography = further.geography ∙ one.geography;
+    staged = λ stages. staged (one.staged stages);
+    works = λ off. works;
+  }
+
+  -- a batch that was refused
+  module _ (x w y : Clerk D g) (load so_far : Load) (rows : ℕ) (before : HasStaged x load w so_far) (last : IsLast w so_far) (unsealed : (desk_of w).geography ≡ None)
+      (rows_are : rows ≡ min (geography_rows (ground_of load) - done_of so_far) (batch_rows (room_of x))) (moves : MovesIf (Stages w so_far) (desk_of w) w y) (desk : desk_of y ≡ desk_of w) (loading : y.loading ≡ w.loading)
+      (quiet : y.halted ≡ false → IsQuiet w.pages y.pages) where
+    stopped : (e : LoadError) → BatchRefused so_far rows w e y.halted y.pages → BatchStopped x load e y
+    stopped e why = record { w = w; so_far = so_far; before = before; rows = rows; rows_are = rows_are; moves = moves; desk = desk; loading = loading; quiet = quiet; why = why }
+
+    pub stage_refused : (e : LoadError) → BatchRefused so_far rows w e y.halted y.pages → StageRefused x load e y
+    stage_refused AlreadySealed why = absurd (let clash : Some why.0 ≡ None = sym why.1 ∙ unsealed in cc)
+    stage_refused Full why = stopped Full why
+    stage_refused Memory why = stopped Memory why
+    stage_refused Halted why = stopped Halted why
+    stage_refused Ended why = absurd (why last)
+
+  -- ---- a whole load
+  -- calls behind a load's beginning
+  pub begun_moved : (x w z : Clerk D g) (area : Ground) (load : Load) (next : Desk) → HasBegun x area w load → MovesIf (Stages w load) next w z → Moves next x z
+  begun_moved x w z area load next begun moves = then_moved (Keeps x) (Stages w load) next x w z begun.moves begun.desk begun.staged moves
+
+  pub begin_refused : (x y : Clerk D g) (area : Ground) (e : LoadError) → BeginStopped x area e y → LoadRefused x area e y
+  begin_refused x y area AlreadySealed stopped = stopped
+  begin_refused x y area Full stopped = inl stopped
+  begin_refused x y area Memory stopped = inl stopped
+  begin_refused x y area Halted stopped = inl stopped
+  begin_refused x y area Ended stopped = absurd stopped.why
+
+  stage_stopped : (x w y : Clerk D g) (area : Ground) (load : Load) → HasBegun x area w load → (e : LoadError) → StageRefused w load e y → StageStopped x area e y
+  stage_stopped x w y area load begun e why = record { w = w; load = load; begun = begun; why = why }
+
+  pub staging_refused : (x w y : Clerk D g) (area : Ground) (load : Load) → HasBegun x area w load → (e : LoadError) → StageRefused w load e y → LoadRefused x area e y
+  staging_refused x w y area load begun AlreadySealed why = absurd why
+  staging_refused x w y area load begun Full why = inr (inl (stage_stopped x w y area load begun Full why))
+  staging_refused x w y area load begun Memory why = inr (inl (stage_stopped x w y area load begun Memory why))
+  staging_refused x w y area load begun Halted why = inr (inl (stage_stopped x w y area load begun Halted why))
+  staging_refused x w y area load begun Ended why = absurd why
+
+  module _ (x w v y : Clerk D g) (area : Ground) (load all : Load) (begun : HasBegun x area w load) (staged : HasStaged w load v all) (done : done_of all ≡ geography_rows (ground_of all))
+      (moved : MovesIf (Stages v all) (sealed_desk (ground_of all)) v y) (loading : y.loading ≡ v.loading) where
+    ground : ground_of all ≡ area
+    ground = (λ i. (staged.geography i).value) ∙ begun.ground
+
+    whole : HasWhole x area v all
+    whole = record { w = w; load = load; begun = begun; staged = staged; done = done ∙ ap geography_rows ground }
+
+    moves : MovesIf (Stages v all) (sealed_desk area) v y
+    moves = subst (λ (a : Ground). MovesIf (Stages v all) (sealed_desk a) v y) ground moved
+
+    last : IsLast v all
+    last = staged.loading ∙ begun.last ∙ ap Some (sym staged.number)
+
+    pub load_moved : Moves (sealed_desk area) x y
+    load_moved = begun_moved x w y area load (sealed_desk area) begun (staged_moved w v y load all (sealed_desk area) staged moves)
+
+    pub load_sealed : desk_of y ≡ sealed_desk (ground_of all) → y.halted ≡ false → IsLoaded x area y
+    load_sealed desk works = record { w = v; load = all; whole = whole; moves = moves; desk = desk ∙ ap sealed_desk ground; last = loading ∙ last; works = works }
+
+    module _ (desk : desk_of y ≡ desk_of v) (quiet : y.halted ≡ false → IsQuiet v.pages y.pages) where
+      seal_stopped : (e : LoadError) → SealRefused all v e y.halted y.pages → SealStopped x area e y
+      seal_stopped e why = record { w = v; load = all; whole = whole; moves = moves; desk = desk; loading = loading; quiet = quiet; why = why }
+
+      sealed_before : HasGeography v → ⊥
+      sealed_before why = let clash : Some why.0 ≡ None = sym why.1 ∙ ap (λ (d : Desk). d.geography) (staged.desk ∙ begun.desk) ∙ begun.unsealed in cc
+
+      pub seal_refused : (e : LoadError) → SealRefused all v e y.halted y.pages → LoadRefused x area e y
+      seal_refused AlreadySealed why = absurd (sealed_before why)
+      seal_refused Full why = inr (inr (seal_stopped Full why))
+      seal_refused Memory why = inr (inr (seal_stopped Memory why))
+      seal_refused Halted why = inr (inr (seal_stopped Halted why))
+      seal_refused Ended why = absurd (why last)

@@ -1,0 +1,43 @@
+use Rattle.std.proofs.Common.{◌≡◌, ◌-◌, ◌∙◌, ap, arith}
+use Rattle.std.specs.Prelude.{min}
+use Rattle.store_rows.specs.GeographyRows.{geography_rows}
+use Rattle.geo_tables.specs.Loading.{ground_of, done_of}
+use Rattle.desk_loading.specs.Loads.{batch_rows}
+use Rattle.desk_store.specs.Clerks.{room_of}
+use Rattle.desk_loading.proofs.Staged.{none_staged, more_staged, batch_moved, stage_refused}
+use Rattle.desk_loading.proofs.loads.stage_rows.Goals as goal
+
+pub loop-left-init : goal.loop-left-init
+loop-left-init g c = record {
+  staged = none_staged c.args.clerk.now c.args.load.now;
+  last = c.requires.last;
+  unsealed = c.requires.unsealed;
+  left = c.left-all.ensures;
+}
+
+pub loop-left-preserved : goal.loop-left-preserved
+loop-left-preserved g c =
+    let before = c.loop-left.invariant in
+    let did = c.in-Ok.ensures in
+    record {
+      staged = more_staged c.args.clerk.now c.loop-left.clerk c.load_batch.new.self c.args.load.now c.loop-left.load c.load_batch.new.load c.min.result before.staged did.moves did.desk did.loading did.further did.staged did.working.1;
+      last = did.last;
+      unsealed = ap (λ d. d.geography) did.desk ∙ before.unsealed;
+      left = did.left;
+    }
+
+pub returns-in-Err-clause-moves : goal.returns-in-Err-clause-moves
+returns-in-Err-clause-moves g c = batch_moved c.args.clerk.now c.loop-left.clerk c.load_batch.new.self c.args.load.now c.loop-left.load c.loop-left.invariant.staged c.in-Err.ensures.moves
+
+pub returns-in-Err-clause-err : goal.returns-in-Err-clause-err
+returns-in-Err-clause-err g c =
+    let x = c.args.clerk.now in
+    let load = c.args.load.now in
+    let so_far = c.loop-left.load in
+    let before = c.loop-left.invariant in
+    let did = c.in-Err.ensures in
+    let all : geography_rows (ground_of so_far) ≡ geography_rows (ground_of load) = ap (λ a. geography_rows a.value) before.staged.geography in
+    let left : c.loop-left.left ≡ geography_rows (ground_of load) - done_of so_far = omega (arith, before.left, all) in
+    let most : c.batch_rows-most.result ≡ batch_rows (room_of x) = c.batch_rows-most.ensures.exact ∙ ap batch_rows c.journal_pages.ensures in
+    let rows : c.min.result ≡ min (geography_rows (ground_of load) - done_of so_far) (batch_rows (room_of x)) = c.min.ensures ∙ (λ i. min (left i) (most i)) in
+    stage_refused x c.loop-left.clerk c.load_batch.new.self load so_far c.min.result before.staged before.last before.unsealed rows did.moves did.desk did.loading did.quiet c.in-Err.e did.err
