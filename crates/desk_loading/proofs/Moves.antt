@@ -1,7 +1,8 @@
 -- Calls at a clerk, one after the other.
 use Rattle.std.proofs.Common.{◌≡◌, ◌⊎◌, ◌<◌, ℕ, Bool, true, false, inl, inr, ⊎_elim, refl, sym, subst, ◌∙◌, arith}
 use Rattle.sector_device.specs.Disk.{Image}
-use Rattle.sector_device.specs.Moments.{LeavesOnly, leaves_more, leaves_wider}
+use Rattle.sector_device.specs.Moments.{LeavesOnly}
+use Rattle.sector_device.proofs.Moments.{leaves_more, leaves_wider}
 use Rattle.sector_device.specs.declared.SectorDevice.{Ghosts}
 use Rattle.desk_model.specs.Desk.{Desk}
 use Rattle.desk_pages.specs.Desks.{OpensDesk}
