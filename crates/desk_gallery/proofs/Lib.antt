@@ -3,6 +3,7 @@ mod Chaining
 mod Keeping
 pub mod Outcomes
 pub mod Pasts
+pub mod Running
 pub mod Showing
 mod Weighing
 pub mod Working

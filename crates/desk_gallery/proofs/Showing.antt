@@ -1,5 +1,5 @@
 -- What waits, and what is shown of it.
-use Rattle.std.proofs.Common.{◌≡◌, true, false, Option, Some, None, Result, Ok, Err, IfOk, MatchOption, MatchResult, is_ok, is_err, sym, subst}
+use Rattle.std.proofs.Common.{◌≡◌, true, Option, Some, None, Result, Ok, Err, IfOk, MatchOption, is_ok, sym, subst}
 
 pub from_ok : {A E : Type 0} (r : Result A E) (P : Type 0) → is_ok r ≡ true → IfOk r (λ _. P) → P
 from_ok (Ok a) P is h = h
@@ -10,11 +10,3 @@ waits_some p a P Q e w = subst (λ o. MatchOption o P Q) e w
 
 pub waits_none : {A : Type 0} (p : Option A) (P : Type 0) (Q : A → Type 0) → p ≡ None → P → MatchOption p P Q
 waits_none p P Q e h = subst (λ o. MatchOption o P Q) (sym e) h
-
-pub from_good : {A E : Type 0} (r : Result A E) (P Q : Type 0) → is_err r ≡ false → MatchResult r (λ _. P) (λ _. Q) → P
-from_good (Ok a) P Q is h = h
-from_good (Err e) P Q is h = absurd cc
-
-pub from_err : {A E : Type 0} (r : Result A E) (P Q : Type 0) → is_err r ≡ true → MatchResult r (λ _. P) (λ _. Q) → Q
-from_err (Ok a) P Q is h = absurd cc
-from_err (Err e) P Q is h = h

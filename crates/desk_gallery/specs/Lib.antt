@@ -4,3 +4,4 @@ pub mod Shelves
 pub mod Outcomes
 pub mod Fronts
 pub mod Working
+pub mod Begun

@@ -118,12 +118,13 @@ impl<'a> Plain<Showing<'a>, LogEntry, u64> for Add {
     ghost state = { λ a. None };
 }
 
-/// Names one gallery: its list of changes with the first key, the desk before them, and what is known of the store from the
-/// start. Each call of a program picks it.
+/// Names one gallery: its list of changes with the first key, the desk before them, and what is known of the store and of the clerk
+/// from the start. Each call of a program picks it.
 pub trait Room {
     ghost use Rattle.std.specs.Prelude.{ℕ};
     ghost use Rattle.logbook.specs.Pages.{Book};
     ghost use Rattle.desk_model.specs.Desk.{Desk};
+    ghost use Rattle.desk_gallery.specs.Begun.{Beginning};
 
     ghost book: { Book };
 
@@ -133,9 +134,13 @@ pub trait Room {
 
     // what the clerk's promise on its store rests on
     ghost sound: { Type 0 };
+
+    // what is known of the clerk with whom it begins
+    ghost begins: { Beginning };
 }
 
 impl Room for Brand {
+    ghost use Rattle.desk_gallery.specs.Begun.{nobody};
     ghost use Rattle.desk_gallery.specs.Rules.{no_desk};
 
     ghost book = { record { number = 0; log_name = 0; cells_name = 0 } };
@@ -145,6 +150,8 @@ impl Room for Brand {
     ghost first = { no_desk };
 
     ghost sound = { ⊥ };
+
+    ghost begins = { nobody };
 }
 
 /// A new key.
@@ -242,27 +249,15 @@ impl<J: Room> Past<J> {
         self.number
     }
 
-    /// Whether it is no longer than another, which it then begins.
+    /// Whether it is no longer than another, which it then begins; else the other begins it.
     pub fn begins(&self, other: &Past<J>) -> bool
         ensures yes { IsTrue result → IsPrefix self.now other.now }
         ensures no { length other.now < length self.now ⊎ IsTrue result }
+        ensures other { IsPrefix other.now self.now ⊎ IsTrue result }
     {
         let mut both = self.seen.again();
         both.learn(&other.seen);
         self.number <= other.number
-    }
-
-    /// Takes in another: the longer of the two, which both begin.
-    pub fn learn(&mut self, other: Past<J>)
-        ensures one { (self.new ≡ self.old) ⊎ (self.new ≡ other) }
-        ensures this { IsPrefix self.old self.new }
-        ensures that { IsPrefix other self.new }
-    {
-        let mut both = self.seen.again();
-        both.learn(&other.seen);
-        if self.number < other.number {
-            *self = other;
-        }
     }
 }
 

@@ -2,11 +2,13 @@
 ghost use Rattle.std.specs.Prelude.{◌≡◌, false, true};
 ghost use Rattle.desk_store.specs.Clerks.{is_halted};
 ghost use Rattle.desk_store.specs.Commands.{IsReady, Commits};
+ghost use Rattle.desk_gallery.specs.After.{after};
 ghost use Rattle.desk_gallery.specs.Working.{Agree, Worked};
 
 use crate::book::Room;
 use crate::shower::Shower;
 use crate::visitor::{Told, Visitor};
+use desk_catalogue::catalogue::Catalogue;
 use desk_model::command::Command;
 use desk_model::reply::{Refusal, Reply};
 use desk_store::clerk::Clerk;
@@ -14,49 +16,55 @@ use desk_store::ready::Ready;
 use sector_device::SectorDevice;
 use std::alloc::Global;
 use std::marker::Model;
-use std::sync::Wait;
+use std::sync::{Arc, Wait};
 
-/// Commits a command whose change waits to be shown, and shows it once the commit is done. A fault leaves it pending.
+/// Commits a command whose change waits to be shown, and shows it once the commit is done. A fault leaves it pending. What is shown
+/// then is told with the catalogue after it.
 fn settle<J: Room, D: SectorDevice, R: Wait>(
     rt: &R,
     clerk: &mut Clerk<D>,
     shower: &mut Shower<J>,
     ready: Ready,
-) -> Reply
-    requires { IsReady clerk.old ready }
-    ensures commits { Commits clerk.old ready result clerk.new }
+    next: Arc<Catalogue>,
+) -> (Reply, Told<J>)
+    requires ready { IsReady clerk.old ready }
+    requires next { next.value ≡ after J.first shower.old.1 }
+    ensures commits { Commits clerk.old ready result.0 clerk.new }
     ensures shown { is_halted clerk.new ≡ false → shower.new ≡ (shower.old.1, shower.old.1) }
     ensures hidden { is_halted clerk.new ≡ true → shower.new ≡ shower.old }
+    ensures told { result.1 ≡ shower.new.0 }
 {
     let reply = ready.commit(clerk);
-    if !clerk.halted() {
-        shower.show(rt);
+    if clerk.halted() {
+        return (reply, shower.tell());
     }
-    reply
+    shower.show(rt);
+    (reply, shower.tell_of(next))
 }
 
-/// The outcome of a command; its change is shown once its commit is done.
+/// The outcome of a command, with what is shown then; its change is shown once its commit is done.
 fn work<J: Room, D: SectorDevice, R: Wait>(
     rt: &R,
     alloc: Global,
     clerk: &mut Clerk<D>,
     shower: &mut Shower<J>,
     command: Command,
-) -> Reply
+) -> (Reply, Told<J>)
     requires { Agree J.first clerk.old shower.old }
-    ensures { Worked J.first clerk.old shower.old command result clerk.new shower.new }
+    ensures worked { Worked J.first clerk.old shower.old command result.0 clerk.new shower.new }
+    ensures told { result.1 ≡ shower.new.0 }
 {
     let ready = match clerk.prepare(alloc, command) {
         Ok(ready) => ready,
-        Err(refusal) => return Reply::Refused(refusal),
+        Err(refusal) => return (Reply::Refused(refusal), shower.tell()),
     };
     let Ok(change) = ready.change() else {
-        return Reply::Refused(Refusal::Memory);
+        return (Reply::Refused(Refusal::Memory), shower.tell());
     };
-    if shower.append(change).is_err() {
-        return Reply::Refused(Refusal::Memory);
-    }
-    settle(rt, clerk, shower, ready)
+    let Ok(next) = shower.append(change) else {
+        return (Reply::Refused(Refusal::Memory), shower.tell());
+    };
+    settle(rt, clerk, shower, ready, next)
 }
 
 /// What lies under an office's lock: a clerk, and the writer that shows its desk.
@@ -69,6 +77,7 @@ pub struct Front<J: Room, D: SectorDevice> {
 
 impl<J: Room, D: SectorDevice> Model for Front<J, D> {
     ghost use Rattle.desk_store.specs.Clerks.{Keeps};
+    ghost use Rattle.desk_gallery.specs.Begun.{HasRun};
     ghost use Rattle.desk_gallery.specs.Fronts.{Kept, kept_of};
     ghost use Rattle.desk_gallery.specs.Working.{Agree};
 
@@ -76,7 +85,7 @@ impl<J: Room, D: SectorDevice> Model for Front<J, D> {
 
     ghost view = { λ f. kept_of f.clerk f.shower };
 
-    ghost invariant = { λ f. Agree J.first f.clerk f.shower × (J.sound → Keeps f.clerk) };
+    ghost invariant = { λ f. Agree J.first f.clerk f.shower × (J.sound → Keeps f.clerk) × HasRun J.begins f.clerk f.shower.0 };
 }
 
 impl<J: Room, D: SectorDevice> Front<J, D> {
@@ -85,6 +94,7 @@ impl<J: Room, D: SectorDevice> Front<J, D> {
     ghost use Rattle.desk_model.specs.Outcome.{IsAcceptance};
     ghost use Rattle.desk_store.specs.Clerks.{desk_of, is_halted, Keeps};
     ghost use Rattle.desk_gallery.specs.After.{after};
+    ghost use Rattle.desk_gallery.specs.Begun.{BeginsWith, HasRun};
     ghost use Rattle.desk_gallery.specs.Fronts.{kept_of, IsClerk, Works, OpensShown};
     ghost use Rattle.desk_gallery.specs.Outcomes.{OutcomeMay};
     ghost use Rattle.desk_gallery.specs.Working.{AreAccepted, Joins};
@@ -94,6 +104,7 @@ impl<J: Room, D: SectorDevice> Front<J, D> {
         requires none { shower ≡ ([], []) }
         requires same { desk_of clerk ≡ after J.first shower.0 }
         requires kept { J.sound → Keeps clerk }
+        requires begins { BeginsWith J.begins clerk }
         ensures { result ≡ kept_of clerk shower }
     {
         Front { clerk, shower }
@@ -118,7 +129,7 @@ impl<J: Room, D: SectorDevice> Front<J, D> {
         ensures begins { IsPrefix visitor.now self.new.shown }
         ensures same { self.new ≡ self.old }
     {
-        self.shower.knows(&visitor.past);
+        self.shower.knows(&visitor.heard.past);
     }
 
     /// What is shown begins with what any note tells.
@@ -157,15 +168,15 @@ impl<J: Room, D: SectorDevice> Front<J, D> {
         ensures joins { Joins J.first (self.old.shown, self.old.all) command result.0 (self.new.shown, self.new.all) }
         ensures told { result.1 ≡ self.new.shown }
     {
-        let reply = work(rt, alloc, &mut self.clerk, &mut self.shower, command);
-        (reply, self.shower.tell())
+        work(rt, alloc, &mut self.clerk, &mut self.shower, command)
     }
 
-    /// The clerk. It waits for those that are visiting.
+    /// The clerk, whom commands left of the first one, those that are shown acknowledged. It waits for those that are visiting.
     pub fn close<R: Wait>(self, rt: &R) -> Clerk<D>
         ensures clerk { IsClerk J.first self result }
         ensures kept { J.sound → Keeps result }
         ensures accepted { AreAccepted J.first self.shown }
+        ensures ran { HasRun J.begins result self.shown }
     {
         let Front { clerk, shower } = self;
         shower.close(rt);

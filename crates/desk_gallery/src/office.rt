@@ -2,6 +2,7 @@
 ghost use Rattle.std.specs.Prelude.{◌≡◌, []};
 ghost use Rattle.desk_store.specs.Clerks.{desk_of, Keeps};
 ghost use Rattle.desk_gallery.specs.After.{after};
+ghost use Rattle.desk_gallery.specs.Begun.{BeginsWith, IsLeftBy};
 ghost use Rattle.desk_gallery.specs.Working.{IsRunFrom};
 
 use crate::book::Room;
@@ -22,6 +23,7 @@ impl<J: Room, D: SectorDevice> Office<J, D> {
         requires none { shower ≡ ([], []) }
         requires same { desk_of clerk ≡ after J.first shower.0 }
         requires kept { J.sound → Keeps clerk }
+        requires begins { BeginsWith J.begins clerk }
     {
         Office {
             front: Mutex::new(Front::new(clerk, shower)),
@@ -33,10 +35,12 @@ impl<J: Room, D: SectorDevice> Office<J, D> {
         self.front.lock(rt)
     }
 
-    /// The clerk, once nobody has the front. Its desk is what commands led to that were accepted one after the other.
+    /// The clerk, once nobody has the front. Its desk is what commands led to that were accepted one after the other, and commands one
+    /// after the other left it of the clerk with whom the office began.
     pub fn close<R: Wait>(self, rt: &R) -> Clerk<D>
         ensures kept { J.sound → Keeps result }
         ensures ran { IsRunFrom J.first (desk_of result) }
+        ensures left { IsLeftBy J.first J.begins result }
     {
         let Office { front } = self;
         front.into_inner().close(rt)

@@ -110,7 +110,7 @@ impl<J: Room> Shower<J> {
         ensures { IfOk result (λ v. v ≡ []) }
     {
         let reader = self.copies.factory().reader()?;
-        Ok(Visitor::over(reader, self.past()))
+        Ok(Visitor::over(reader, self.tell()))
     }
 
     /// How many changes are shown.
@@ -120,19 +120,21 @@ impl<J: Room> Shower<J> {
         self.copies.published().past.number
     }
 
-    /// Appends a change to the list. Err where one more owner is refused, or the list has 2^64 - 1 changes; nothing pending
-    /// has changed then.
-    pub fn append(&mut self, change: Change) -> Result<(), AllocError>
+    /// Appends a change to the list: the catalogue after it. Err where one more owner is refused, or the list has 2^64 - 1
+    /// changes; nothing pending has changed then.
+    pub fn append(&mut self, change: Change) -> Result<Arc<Catalogue>, AllocError>
         requires { change.after ≡ (step (after J.first self.old.1) change.command).1 }
-        ensures { MatchResult result (λ _. self.new ≡ (self.old.0, self.old.1 ++ change.command ∷ [])) (λ _. self.new ≡ self.old) }
+        ensures appended { MatchResult result (λ _. self.new ≡ (self.old.0, self.old.1 ++ change.command ∷ [])) (λ _. self.new ≡ self.old) }
+        ensures after { IfOk result (λ next. next.value ≡ after J.first self.new.1) }
     {
         if self.whole.len() == u64::MAX {
             return Err(AllocError);
         }
         let after = change.after()?;
+        let next = change.after()?;
         self.whole.append(change.command());
         self.pending = Some(after);
-        Ok(())
+        Ok(next)
     }
 
     /// Shows the appended changes, all at once: in the list first, so that no catalogue is published before the list leads to it.
@@ -151,11 +153,19 @@ impl<J: Room> Shower<J> {
         publish(rt, &mut self.copies);
     }
 
-    /// The list that is shown, for visitors to learn.
+    /// What is shown, for visitors to learn.
     pub fn tell(&self) -> Told<J>
         ensures { result ≡ self.now.0 }
     {
-        Told::of(self.past())
+        Told::of(self.past(), self.copies.published().shown.clone().ok())
+    }
+
+    /// The same with the catalogue after it, for which no memory is taken.
+    pub(crate) fn tell_of(&self, shown: Arc<Catalogue>) -> Told<J>
+        requires { shown.value ≡ after J.first self.now.0 }
+        ensures { result ≡ self.now.0 }
+    {
+        Told::of(self.past(), Some(shown))
     }
 
     /// Nobody has seen more than is shown: what is shown begins with it, whenever and by whomever it was seen.

@@ -1,7 +1,8 @@
 //! Visitors of a gallery, who wait for nobody.
-ghost use Rattle.std.specs.Prelude.{◌≡◌, ◌⊎◌, length, IfOk, IfSome, OnErr};
+ghost use Rattle.std.specs.Prelude.{◌≡◌, ◌⊎◌, ◌<◌, length, IfOk, IfSome, IsTrue, OnErr};
 ghost use mathlib.Core.List.{IsPrefix};
 ghost use Rattle.desk_gallery.specs.After.{after};
+ghost use Rattle.desk_gallery.specs.Rules.{shown_of};
 ghost use Rattle.desk_gallery.specs.Shelves.{Stands};
 
 use crate::book::{Past, Room};
@@ -13,26 +14,64 @@ use std::alloc::AllocError;
 use std::marker::Model;
 use std::sync::Arc;
 
-/// A note of what is shown. Contracts see it as its changes.
+/// A note of what is shown: its changes, and the catalogue after them. Contracts see it as its changes.
 #[derive(Drop)]
 pub struct Told<J: Room> {
     pub(crate) past: Past<J>,
+    /// None where one more owner was refused when the note was made.
+    shown: Option<Arc<Catalogue>>,
 }
 
 impl<J: Room> Model for Told<J> {
-    ghost use Rattle.std.specs.Prelude.{List};
+    ghost use Rattle.std.specs.Prelude.{◌≡◌, List, IfSome};
     ghost use Rattle.desk_model.specs.declared.command.Command.{Command};
+    ghost use Rattle.desk_gallery.specs.After.{after};
 
     ghost Value = { List Command };
 
     ghost view = { λ t. t.past };
+
+    ghost invariant = { λ t. IfSome t.shown (λ s. s.value ≡ after J.first t.past) };
 }
 
 impl<J: Room> Told<J> {
-    pub(crate) fn of(past: Past<J>) -> Told<J>
+    /// Of a list and the catalogue after it, if there is one.
+    pub(crate) fn of(past: Past<J>, shown: Option<Arc<Catalogue>>) -> Told<J>
+        requires { IfSome shown (λ s. s.value ≡ after J.first past) }
         ensures { result ≡ past }
     {
-        Told { past }
+        Told { past, shown }
+    }
+
+    /// What a copy shows.
+    pub(crate) fn of_shelf(shelf: Shelf) -> Told<J>
+        requires { Stands J.book J.root J.first shelf }
+        ensures { result ≡ shown_of J.root shelf.past.seen.log }
+    {
+        let Shelf { shown, past } = shelf;
+        Told {
+            past: Past::of(past),
+            shown: Some(shown),
+        }
+    }
+
+    /// The catalogue after its changes. Err where one more owner is refused, or was when the note was made.
+    fn catalogue(&self) -> Result<Arc<Catalogue>, AllocError>
+        ensures { IfOk result (λ shown. shown.value ≡ after J.first self.now) }
+    {
+        match &self.shown {
+            Some(shown) => shown.clone(),
+            None => Err(AllocError),
+        }
+    }
+
+    /// Whether it has no more changes than another, which it then begins; else the other begins it.
+    fn begins(&self, other: &Told<J>) -> bool
+        ensures yes { IsTrue result → IsPrefix self.now other.now }
+        ensures no { length other.now < length self.now ⊎ IsTrue result }
+        ensures other { IsPrefix other.now self.now ⊎ IsTrue result }
+    {
+        self.past.begins(&other.past)
     }
 }
 
@@ -53,7 +92,7 @@ fn look<J: Room>(eye: Eye<J>, _none: ()) -> (Eye<J>, Option<Shelf>)
 #[derive(Drop)]
 pub struct Visitor<J: Room> {
     eye: Eye<J>,
-    pub(crate) past: Past<J>,
+    pub(crate) heard: Told<J>,
 }
 
 impl<J: Room> Model for Visitor<J> {
@@ -62,25 +101,26 @@ impl<J: Room> Model for Visitor<J> {
 
     ghost Value = { List Command };
 
-    ghost view = { λ v. v.past };
+    ghost view = { λ v. v.heard };
 }
 
 impl<J: Room> Visitor<J> {
-    pub(crate) fn over(eye: Eye<J>, past: Past<J>) -> Visitor<J>
-        ensures { result ≡ past }
+    pub(crate) fn over(eye: Eye<J>, heard: Told<J>) -> Visitor<J>
+        ensures { result ≡ heard }
     {
-        Visitor { eye, past }
+        Visitor { eye, heard }
     }
 
     /// How many changes it saw or was told of.
     pub fn heard(&self) -> u128
         ensures { result ≡ length self.now }
     {
-        u128::from(self.past.len())
+        u128::from(self.heard.past.len())
     }
 
-    /// The catalogue after a list of shown changes that begins with all that this visitor saw or was told of. Err where no
-    /// reader is let in, one more owner is refused, or the copy that is shown has fewer changes; nothing was heard of then.
+    /// The catalogue after a list of shown changes that begins with all that this visitor saw or was told of: of the copy that is
+    /// shown, or, where that has fewer changes, what the visitor has heard of already. Err where no reader is let in or one more
+    /// owner is refused; nothing was heard of then.
     pub fn visit(&mut self) -> Result<Arc<Catalogue>, AllocError>
         ensures later { IsPrefix self.old self.new }
         ensures value { IfOk result (λ shown. shown.value ≡ after J.first self.new) }
@@ -89,12 +129,12 @@ impl<J: Room> Visitor<J> {
         let Some(shelf) = replace_with(&mut self.eye, (), look) else {
             return Err(AllocError);
         };
-        let Shelf { shown, past } = shelf;
-        let past = Past::of(past);
-        if !self.past.begins(&past) {
-            return Err(AllocError);
+        let seen = Told::of_shelf(shelf);
+        if !self.heard.begins(&seen) {
+            return self.heard.catalogue();
         }
-        self.past = past;
+        let shown = seen.catalogue()?;
+        self.heard = seen;
         Ok(shown)
     }
 
@@ -104,7 +144,8 @@ impl<J: Room> Visitor<J> {
         ensures this { IsPrefix self.old self.new }
         ensures that { IsPrefix told self.new }
     {
-        let Told { past } = told;
-        self.past.learn(past);
+        if self.heard.begins(&told) {
+            self.heard = told;
+        }
     }
 }

@@ -1,5 +1,6 @@
 use Rattle.std.proofs.Common.{List, sym, subst}
 use Rattle.desk_model.specs.declared.command.Command.{Command}
+use Rattle.desk_gallery.specs.Begun.{HasRun}
 use Rattle.desk_gallery.specs.Fronts.{Kept}
 use Rattle.desk_gallery.specs.Working.{AreAccepted}
 use Rattle.desk_gallery.proofs.Afters.{accepted_first}
@@ -11,3 +12,6 @@ returns-clause-accepted g c =
     let begins = c.self.invariant.0.begins in
     let all = subst (λ (l : List Command). AreAccepted g.J.Room.first l) (sym begins.1) c.self.invariant.0.accepted in
     subst (λ (k : Kept g.row.D.Denot). AreAccepted g.J.Room.first k.shown) c.self.view_is (accepted_first g.J.Room.first shower.0 begins.0 all)
+
+pub returns-clause-ran : goal.returns-clause-ran
+returns-clause-ran g c = subst (λ (k : Kept g.row.D.Denot). HasRun g.J.Room.begins c.self.inside.clerk k.shown) c.self.view_is c.self.invariant.2

@@ -1,0 +1,44 @@
+-- A run with one command more.
+use Rattle.std.proofs.Common.{◌≡◌, List, [], ◌∷◌, ◌++◌, refl, sym, ap, ◌∙◌, append_assoc}
+use Rattle.std.proofs.lemmas.List.{append-nil}
+use Rattle.sector_device.specs.declared.SectorDevice.{Ghosts}
+use Rattle.desk_model.specs.declared.command.Command.{Command}
+use Rattle.desk_model.specs.declared.reply.Reply.{Reply}
+use Rattle.desk_model.specs.declared.reply.Reply.TheVariants as reply
+use Rattle.desk_model.specs.Outcome.{IsAcceptance}
+use Rattle.desk_store.specs.declared.clerk.Clerk.{Clerk}
+use Rattle.desk_store.specs.Commands.{Does}
+use Rattle.desk_runs.specs.Runs.{Call, Run, acknowledged, if_accepted}
+use Rattle.desk_gallery.specs.Begun.{Beginning, BeginsWith, HasRun}
+
+acknowledged_more : (calls : List Call) (c : Command) (r : Reply) → acknowledged (calls ++ (c, r) ∷ []) ≡ acknowledged calls ++ if_accepted c r
+acknowledged_more [] c r = append-nil (if_accepted c r)
+acknowledged_more (e ∷ calls) c r = ap (λ l. if_accepted e.0 e.1 ++ l) (acknowledged_more calls c r) ∙ sym (append_assoc (if_accepted e.0 e.1) (acknowledged calls) (if_accepted c r))
+
+-- what is shown grows by a command that is accepted, and by no other
+grown_by : (shown new : List Command) (c : Command) (r : Reply) → (IsAcceptance r → new ≡ shown ++ c ∷ []) → ((IsAcceptance r → ⊥) → new ≡ shown) → new ≡ shown ++ if_accepted c r
+grown_by shown new c (reply.Created name revisions) joined same = joined tt
+grown_by shown new c (reply.Retired name) joined same = joined tt
+grown_by shown new c (reply.Plans rows) joined same = same (λ none. none) ∙ sym (append-nil shown)
+grown_by shown new c (reply.Blocks text) joined same = same (λ none. none) ∙ sym (append-nil shown)
+grown_by shown new c (reply.Baf text) joined same = same (λ none. none) ∙ sym (append-nil shown)
+grown_by shown new c (reply.Audited text) joined same = same (λ none. none) ∙ sym (append-nil shown)
+grown_by shown new c (reply.Refused refusal) joined same = same (λ none. none) ∙ sym (append-nil shown)
+
+module _ {D : Type 0} {g : Ghosts D} where
+  run_more : (x y z : Clerk D g) (calls : List Call) (c : Command) (r : Reply) → Run x calls y → Does y c r z → Run x (calls ++ (c, r) ∷ []) z
+  run_more x _ z _ c r (Run.over _) does = Run.went x c r z [] z does (Run.over z)
+  run_more x y z _ c r (Run.went _ d q w calls _ does run) last = Run.went x d q w (calls ++ (c, r) ∷ []) z does (run_more w y z calls c r run last)
+
+  pub has_run_more : (begins : Beginning) (x y : Clerk D g) (shown new : List Command) (c : Command) (r : Reply) → HasRun begins x shown → Does x c r y
+      → (IsAcceptance r → new ≡ shown ++ c ∷ []) → ((IsAcceptance r → ⊥) → new ≡ shown) → HasRun begins y new
+  has_run_more begins x y shown new c r so_far does joined same = record {
+    first = so_far.first;
+    began = so_far.began;
+    calls = so_far.calls ++ (c, r) ∷ [];
+    run = run_more so_far.first x y so_far.calls c r so_far.run does;
+    are_shown = acknowledged_more so_far.calls c r ∙ (ap (λ (l : List Command). l ++ if_accepted c r) so_far.are_shown ∙ sym (grown_by shown new c r joined same));
+  }
+
+  pub has_run_none : (begins : Beginning) (x : Clerk D g) (shown : List Command) → BeginsWith begins x → shown ≡ [] → HasRun begins x shown
+  has_run_none begins x shown began none = record { first = x; began = began; calls = []; run = Run.over x; are_shown = sym none }

@@ -1,0 +1,22 @@
+use Rattle.std.proofs.Common.{◌≡◌, List, ap, sym, ◌∙◌, subst, arith, length}
+use mathlib.Core.List.{IsPrefix}
+use Rattle.desk_model.specs.declared.command.Command.{Command}
+use Rattle.desk_gallery.specs.Working.{AreAccepted}
+use Rattle.desk_gallery.proofs.Pasts.{prefix_self}
+use Rattle.desk_gallery.proofs.Running.{has_run_none}
+use Rattle.desk_gallery.proofs.front.Front.new.Goals as goal
+
+pub invariant_of-result : goal.invariant_of-result
+invariant_of-result g c =
+    let none = c.requires.none in
+    let same = ap (λ (s : List Command × List Command). s.1) none ∙ sym (ap (λ (s : List Command × List Command). s.0) none) in (
+      record {
+        desk = c.requires.same;
+        none = λ off. same;
+        few = omega (arith, ap length same);
+        begins = subst (λ (l : List Command). IsPrefix c.args.shower.0 l) (sym same) (prefix_self c.args.shower.0);
+        accepted = subst (λ (s : List Command × List Command). AreAccepted g.J.Room.first s.1) (sym none) tt;
+      },
+      c.requires.kept,
+      has_run_none g.J.Room.begins c.args.clerk c.args.shower.0 c.requires.begins (ap (λ (s : List Command × List Command). s.0) none),
+    )

@@ -1,0 +1,36 @@
+-- A clerk behind a front, by the clerk with whom its gallery began.
+use Rattle.std.specs.Prelude.{◌≡◌, List}
+use Rattle.sector_device.specs.declared.SectorDevice.{Ghosts}
+use Rattle.desk_model.specs.declared.command.Command.{Command}
+use Rattle.desk_model.specs.Desk.{Desk}
+use Rattle.desk_store.specs.declared.clerk.Clerk.{Clerk}
+use Rattle.desk_runs.specs.Runs.{Call, Run, acknowledged}
+use Rattle.desk_gallery.specs.Working.{AreAccepted}
+
+-- what is known of the clerk with whom a gallery begins
+abbrev pub Beginning : Type 1
+Beginning = (D : Type 0) → (g : Ghosts D) → Clerk D g → Type 0
+
+-- stands where nothing is picked
+abbrev pub nobody : Beginning
+nobody D g x = ⊥
+
+module _ {D : Type 0} {g : Ghosts D} where
+  -- this clerk is such a one
+  abbrev pub BeginsWith : Beginning → Clerk D g → Type 0
+  BeginsWith begins x = begins D g x
+
+  -- Commands were done one after the other, from a clerk on of whom this is known to this one; those that were acknowledged are what
+  -- is shown.
+  pub record HasRun (begins : Beginning) (last : Clerk D g) (shown : List Command) : Type 0 where
+    pub first : Clerk D g
+    pub began : BeginsWith begins first
+    pub calls : List Call
+    pub run : Run first calls last
+    pub are_shown : acknowledged calls ≡ shown
+
+  -- so they were, and each of the acknowledged ones is accepted after those before it
+  pub record IsLeftBy (start : Desk) (begins : Beginning) (last : Clerk D g) : Type 0 where
+    pub commands : List Command
+    pub accepted : AreAccepted start commands
+    pub ran : HasRun begins last commands
