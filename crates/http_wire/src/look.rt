@@ -181,7 +181,7 @@ impl Sought for HeadSought {
 
     type Part = Head;
 
-    type HeadRefusal = HeadRefusal;
+    type Refusal = HeadRefusal;
 
     ghost sees = { Sees };
 
