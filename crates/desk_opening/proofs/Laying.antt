@@ -2,16 +2,15 @@
 use Rattle.std.proofs.Common.{◌≡◌, ◌<◌, ◌≤◌, ◌+◌, ◌++◌, ℕ, zero, suc, List, [], ◌∷◌, length, get_or, take, take_all, drop, map}
 use Rattle.std.proofs.Common.{refl, sym, ap, subst, ◌∙◌, arith, append_assoc, length-append, length-drop, length-take}
 use Rattle.std.proofs.Math.Seq.{take-add}
-use Rattle.std.proofs.lemmas.List.{append-nil, drop-drop, drop_all, drop_at, length-map}
+use Rattle.std.proofs.lemmas.List.{append-nil, drop-drop, drop_all, drop_at}
 use Rattle.std.proofs.lemmas.List.{length-take-le, take_at, take-append-drop}
 use Rattle.std.specs.List.{concat}
-use Rattle.desk_model.specs.Geography.{Ground}
-use Rattle.desk_model.specs.Cuts.{cut, cuts_of, laid, sizes, ListsAreCut}
+use Rattle.desk_model.specs.Cuts.{cut, laid, sizes, ListsAreCut}
 use Rattle.desk_model.specs.declared.cuts.Cut.{Cut}
 use Rattle.shared_districts.specs.Laid.{with_at}
 use Rattle.store_rows.specs.Rows.{KeyMap}
 use Rattle.store_rows.specs.RevisionRows.{HasChunk}
-use Rattle.desk_opening.specs.Reading.{AreNamed, IsCounty}
+use Rattle.desk_opening.specs.Reading.{AreCountiesOf, AreNamed, IsCounty}
 use Rattle.desk_opening.proofs.Chunks.{one_chunk}
 
 -- ---- a part in the place of its own
@@ -66,114 +65,115 @@ known_stays number c last county districts m chunk within there same said =
 
 -- ---- where counties begin
 -- behind those before it
-abbrev pub place_at : ℕ → List ℕ → ℕ
-place_at zero ns = 0
+abbrev pub place_at : ℕ → List Cut → ℕ
+place_at zero cuts = 0
 place_at (suc k) [] = 0
-place_at (suc k) (n ∷ ns) = n + place_at k ns
+place_at (suc k) (c ∷ cuts) = c.count + place_at k cuts
 
-pub laid_long : (first : ℕ) (ns : List ℕ) → length (laid first ns) ≡ length ns
-laid_long first [] = refl
-laid_long first (n ∷ ns) = ap suc (laid_long (first + n) ns)
+place_more : (k : ℕ) (cuts : List Cut) (d : Cut) → k < length cuts → place_at (suc k) cuts ≡ place_at k cuts + (get_or cuts k d).count
+place_more k [] d within = absurd (omega arith)
+place_more zero (c ∷ cuts) d within = omega arith
+place_more (suc k) (c ∷ cuts) d within = let rest = place_more k cuts d (omega arith) in omega arith
 
-first_at : (first : ℕ) (ns : List ℕ) (k : ℕ) (c : Cut) → k < length ns
-    → (get_or (laid first ns) k c).first ≡ first + place_at k ns
-first_at first [] k c within = absurd (omega arith)
-first_at first (n ∷ ns) zero c within = omega arith
-first_at first (n ∷ ns) (suc k) c within = let rest = first_at (first + n) ns k c (omega arith) in omega arith
-
-place_more : (first : ℕ) (ns : List ℕ) (k : ℕ) (c : Cut) → k < length ns
-    → place_at (suc k) ns ≡ place_at k ns + (get_or (laid first ns) k c).count
-place_more first [] k c within = absurd (omega arith)
-place_more first (n ∷ ns) zero c within = omega arith
-place_more first (n ∷ ns) (suc k) c within = let rest = place_more (first + n) ns k c (omega arith) in omega arith
-
-never_past : (k : ℕ) (ns : List ℕ) → place_at k ns ≤ place_at (length ns) ns
-never_past zero ns = omega arith
+never_past : (k : ℕ) (cuts : List Cut) → place_at k cuts ≤ place_at (length cuts) cuts
+never_past zero cuts = omega arith
 never_past (suc k) [] = omega arith
-never_past (suc k) (n ∷ ns) = let rest = never_past k ns in omega arith
+never_past (suc k) (c ∷ cuts) = let rest = never_past k cuts in omega arith
 
-joined_long : (parts : List (List ℕ)) → length (concat parts) ≡ place_at (length parts) (map length parts)
+first_at : (first : ℕ) (ns : List ℕ) (k : ℕ) (d : Cut) → k < length (laid first ns)
+    → (get_or (laid first ns) k d).first ≡ first + place_at k (laid first ns)
+first_at first [] k d within = absurd (omega arith)
+first_at first (n ∷ ns) zero d within = omega arith
+first_at first (n ∷ ns) (suc k) d within = let rest = first_at (first + n) ns k d (omega arith) in omega arith
+
+-- all of them have as many blocks as there are
+abbrev total : List ℕ → ℕ
+total [] = 0
+total (n ∷ ns) = n + total ns
+
+laid_total : (first : ℕ) (ns : List ℕ) → place_at (length (laid first ns)) (laid first ns) ≡ total ns
+laid_total first [] = refl
+laid_total first (n ∷ ns) = ap (λ k. n + k) (laid_total (first + n) ns)
+
+joined_long : (parts : List (List ℕ)) → length (concat parts) ≡ total (map length parts)
 joined_long [] = refl
 joined_long (part ∷ parts) = length-append part (concat parts) ∙ ap (λ n. length part + n) (joined_long parts)
 
-all_placed : ListsAreCut → (g : Ground) (xs : List ℕ) → length xs ≡ length g.blocks
-    → place_at (length (sizes g)) (sizes g) ≡ length xs
-all_placed lists g xs whole =
-    let cut_up = lists g xs whole in
-    ap (λ (ns : List ℕ). place_at (length ns) ns) (sym cut_up.lengths)
-    ∙ ap (λ k. place_at k (map length (cut g xs))) (length-map (cut g xs) length)
-    ∙ sym (joined_long (cut g xs))
-    ∙ ap (λ (l : List ℕ). length l) cut_up.whole
-
 -- ---- the counties before one are those of a revision, and the others those of the one before
-abbrev pub so_far : Ground → List ℕ → List ℕ → ℕ → List ℕ
-so_far g all before k = take (place_at k (sizes g)) all ++ drop (place_at k (sizes g)) before
+abbrev pub so_far : List Cut → List ℕ → List ℕ → ℕ → List ℕ
+so_far cuts all before k = take (place_at k cuts) all ++ drop (place_at k cuts) before
 
-pub all_laid : ListsAreCut → (g : Ground) (all before : List ℕ) (k : ℕ)
-    → length all ≡ length g.blocks → length before ≡ length g.blocks → k ≡ length (cuts_of g) → so_far g all before k ≡ all
-all_laid lists g all before k whole other end =
-    let cuts = laid_long 0 (sizes g) in
-    let last : k ≡ length (sizes g) = omega arith in
-    let placed : place_at k (sizes g) ≡ length all = ap (λ n. place_at n (sizes g)) last ∙ all_placed lists g all whole in
-    ap (λ p. take p all ++ drop p before) placed
-    ∙ (λ i. take_all (length all) all (omega arith) i ++ drop_all (length all) before (omega arith) i)
-    ∙ append-nil all
+module _ (lists : ListsAreCut) (cuts : List Cut) (count : ℕ) (are : AreCountiesOf cuts count) where
+  all_placed : (xs : List ℕ) → length xs ≡ count → place_at (length cuts) cuts ≡ length xs
+  all_placed xs whole =
+      let cut_up = lists are.ground xs (whole ∙ are.blocks) in
+      ap (λ (cs : List Cut). place_at (length cs) cs) are.are
+      ∙ laid_total 0 (sizes are.ground)
+      ∙ ap total (sym cut_up.lengths)
+      ∙ sym (joined_long (cut are.ground xs))
+      ∙ ap (λ (l : List ℕ). length l) cut_up.whole
 
-module _ (lists : ListsAreCut) (g : Ground) (k : ℕ) (c d : Cut)
-    (within : k < length (cuts_of g)) (is : c ≡ get_or (cuts_of g) k d) where
-  among : k < length (sizes g)
-  among = let long = laid_long 0 (sizes g) in omega arith
+  pub all_laid : (all before : List ℕ) (k : ℕ) → length before ≡ count → length all ≡ length before → k ≡ length cuts
+      → so_far cuts all before k ≡ all
+  all_laid all before k whole long end =
+      let placed : place_at k cuts ≡ length all = ap (λ n. place_at n cuts) end ∙ all_placed all (long ∙ whole) in
+      ap (λ p. take p all ++ drop p before) placed
+      ∙ (λ i. take_all (length all) all (omega arith) i ++ drop_all (length all) before (omega arith) i)
+      ∙ append-nil all
 
-  begins : c.first ≡ place_at k (sizes g)
-  begins = let at = first_at 0 (sizes g) k d among in let same = ap (λ (x : Cut). x.first) is in omega arith
+  module _ (k : ℕ) (d : Cut) (within : k < length cuts) where
+    abbrev pub here : Cut
+    here = get_or cuts k d
 
-  ends : c.first + c.count ≡ place_at (suc k) (sizes g)
-  ends = let at = begins in let more = place_more 0 (sizes g) k d among in let same = ap (λ (x : Cut). x.count) is in omega arith
+    begins : here.first ≡ place_at k cuts
+    begins =
+        let at : here.first ≡ 0 + place_at k cuts
+        = subst (λ (cs : List Cut). k < length cs → (get_or cs k d).first ≡ 0 + place_at k cs) (sym are.are) (first_at 0 (sizes are.ground) k d) within in
+        omega arith
 
-  pub county_fits : (xs : List ℕ) → length xs ≡ length g.blocks → c.first + c.count ≤ length xs
-  county_fits xs whole =
-      let end = ends in
-      let past = never_past (suc k) (sizes g) in
-      let all = all_placed lists g xs whole in
-      omega arith
+    ends : here.first + here.count ≡ place_at (suc k) cuts
+    ends = let at = begins in let more = place_more k cuts d within in omega arith
 
-  at_place : (xs : List ℕ)
-      → take (get_or (cuts_of g) k d).count (drop (get_or (cuts_of g) k d).first xs) ≡ take c.count (drop c.first xs)
-  at_place xs = ap (λ (x : Cut). take x.count (drop x.first xs)) (sym is)
+    pub county_fits : (xs : List ℕ) → length xs ≡ count → here.first + here.count ≤ length xs
+    county_fits xs whole =
+        let end = ends in
+        let past = never_past (suc k) cuts in
+        let all = all_placed xs whole in
+        omega arith
 
-  module _ (names last before all districts : List ℕ) (number : ℕ) (m : KeyMap) (said : AreNamed g names last before m all)
-      (each : length names ≡ length (cuts_of g)) (numbered : number ≡ get_or names k 0)
-      (laid_so : districts ≡ so_far g all before k) where
-    abbrev pub chunk_of : List ℕ
-    chunk_of = take c.count (drop c.first all)
+    module _ (names last before all districts : List ℕ) (number : ℕ) (m : KeyMap) (whole : length before ≡ count)
+        (said : AreNamed cuts names last before m all) (each : length names ≡ length cuts) (numbered : number ≡ get_or names k 0)
+        (laid_so : districts ≡ so_far cuts all before k) where
+      fits : here.first + here.count ≤ length all
+      fits = county_fits all (said.long ∙ whole)
 
-    from_first : districts ≡ take c.first all ++ drop c.first before
-    from_first = laid_so ∙ ap (λ p. take p all ++ drop p before) (sym begins)
+      abbrev pub chunk_of : List ℕ
+      chunk_of = take here.count (drop here.first all)
 
-    still_before : take c.count (drop c.first districts) ≡ take c.count (drop c.first before)
-    still_before =
-        ap (λ (l : List ℕ). take c.count (drop c.first l)) from_first
-        ∙ ap (λ (l : List ℕ). take c.count l) (behind c.first c.count all before (county_fits all said.whole))
+      from_first : districts ≡ take here.first all ++ drop here.first before
+      from_first = laid_so ∙ ap (λ p. take p all ++ drop p before) (sym begins)
 
-    -- so the next county is this one's chunk
-    pub is_county : IsCounty number c last k districts m chunk_of
-    is_county =
-        let there : k < length names = omega arith in
-        record {
-          is = record {
-            has = subst (λ n. HasChunk m n chunk_of) (sym numbered)
-                (subst (λ (l : List ℕ). HasChunk m (get_or names k 0) l) (at_place all) (said.named k d there within));
-            long = part_long c.first c.count all before (county_fits all said.whole);
-          };
-          known = λ known.
-              subst (λ (l : List ℕ). HasChunk m (get_or last k 0) l) (at_place before ∙ sym still_before)
-              (said.known k d known within);
-        }
+      still_before : take here.count (drop here.first districts) ≡ take here.count (drop here.first before)
+      still_before =
+          ap (λ (l : List ℕ). take here.count (drop here.first l)) from_first
+          ∙ ap (λ (l : List ℕ). take here.count l) (behind here.first here.count all before fits)
 
-    -- and with it one county more is laid
-    pub county_more : with_at c.first chunk_of districts ≡ so_far g all before (k + 1)
-    county_more =
-        let next : suc k ≡ k + 1 = omega arith in
-        ap (λ (l : List ℕ). with_at c.first chunk_of l) from_first
-        ∙ laid_more c.first c.count all before (county_fits all said.whole)
-        ∙ ap (λ p. take p all ++ drop p before) (ends ∙ ap (λ n. place_at n (sizes g)) next)
+      -- so the next county is this one's chunk
+      pub is_county : IsCounty number here last k districts m chunk_of
+      is_county =
+          let there : k < length names = omega arith in
+          record {
+            is = record {
+              has = subst (λ n. HasChunk m n chunk_of) (sym numbered) (said.named k d there within);
+              long = part_long here.first here.count all before fits;
+            };
+            known = λ known. subst (λ (l : List ℕ). HasChunk m (get_or last k 0) l) (sym still_before) (said.known k d known within);
+          }
+
+      -- and with it one county more is laid
+      pub county_more : with_at here.first chunk_of districts ≡ so_far cuts all before (k + 1)
+      county_more =
+          let next : suc k ≡ k + 1 = omega arith in
+          ap (λ (l : List ℕ). with_at here.first chunk_of l) from_first
+          ∙ laid_more here.first here.count all before fits
+          ∙ ap (λ p. take p all ++ drop p before) (ends ∙ ap (λ n. place_at n cuts) next)

@@ -24,7 +24,10 @@ use Rattle.row_table.specs.Appending.{HasAppended}
 use Rattle.revision_table.specs.Reading.{AreNames}
 use Rattle.desk_opening.specs.Reading.{AreKnown, AreNamed, BecomesKnown, BecomesLast, HasRead}
 use Rattle.desk_opening.specs.Reading.{IsAfter, IsLast, IsNext, IsOfBlocks, IsPlanRow, NamesLast}
-use Rattle.desk_opening.proofs.Laying.{laid_long}
+
+laid_long : (first : ℕ) (ns : List ℕ) → length (laid first ns) ≡ length ns
+laid_long first [] = refl
+laid_long first (n ∷ ns) = ap suc (laid_long (first + n) ns)
 
 parts_long : (ns xs : List ℕ) → length (parts ns xs) ≡ length ns
 parts_long [] xs = refl
@@ -73,18 +76,20 @@ module _ {D : Type 0} {h : Ghosts D} (g : Ground) (cuts : List Cut) (plan revisi
       ∙ (names_of g cuts plan revision m all same is).long
 
   -- with them the next revision is named
-  module _ (shown shown_last : List ℕ) (one : shown ≡ names) (other : shown_last ≡ last) where
+  module _ (whole : length before ≡ length g.blocks) (shown shown_last : List ℕ) (one : shown ≡ names) (other : shown_last ≡ last) where
     pub are_named : (disk_in b).is_honest → (m : KeyMap) (all : List ℕ) → InTxn t (stored a) m
-        → IsNext g plan revision last before m all → AreNamed g shown shown_last before m all
+        → IsNext g plan revision last before m all → AreNamed cuts shown shown_last before m all
     are_named honest m all holds said = record {
-      whole = said.is.whole;
-      named = now_known g plan revision m shown all said.is (one ∙ are_names honest m all holds said.is);
-      known = subst (λ (l : List ℕ). AreKnown l before (cuts_of g) m) (sym other) said.known;
+      long = said.is.whole ∙ sym whole;
+      named = subst (λ (l : List Cut). AreKnown shown all l m) (sym same)
+          (now_known g plan revision m shown all said.is (one ∙ are_names honest m all holds said.is));
+      known = subst (λ (l : List Cut). AreKnown shown_last before l m) (sym same)
+          (subst (λ (l : List ℕ). AreKnown l before (cuts_of g) m) (sym other) said.known);
     }
 
     -- and what is read by them is it
     module _ (d : Pages D h) (next : List ℕ)
-        (read : HasRead (AreNamed g shown shown_last before) (λ (all : List ℕ). all) t b d next) where
+        (read : HasRead (AreNamed cuts shown shown_last before) (λ (all : List ℕ). all) t b d next) where
       is_next : (disk_in d).is_honest → (m : KeyMap) (all : List ℕ) → InTxn t (stored a) m
           → IsNext g plan revision last before m all → next ≡ all
       is_next honest m all holds said =
@@ -98,9 +103,10 @@ module _ {D : Type 0} {h : Ghosts D} (g : Ground) (cuts : List Cut) (plan revisi
       pub next_known : BecomesKnown g plan revision last before t a d names next
       next_known honest m all holds said =
           let then = read.passed.quiet.honest honest in
-          subst (λ (l : List ℕ). AreKnown l next (cuts_of g) m) one
-          (subst (λ (l : List ℕ). AreKnown shown l (cuts_of g) m) (sym (is_next honest m all holds said))
-          (are_named then m all holds said).named)
+          subst (λ (l : List Cut). AreKnown names next l m) same
+          (subst (λ (l : List ℕ). AreKnown l next cuts m) one
+          (subst (λ (l : List ℕ). AreKnown shown l cuts m) (sym (is_next honest m all holds said))
+          (are_named then m all holds said).named))
 
 -- ---- a plan's last revision
 -- of none the numbers are none

@@ -45,10 +45,16 @@ BecomesKnown g plan revision last before t old new names districts = (disk_in ne
     → InTxn t (stored old) m → IsNext g plan revision last before m all → AreKnown names districts (cuts_of g) m
 
 -- the numbers name the districts of a revision, and those of the one before its districts
-pub record AreNamed (g : Ground) (names last before : List ℕ) (m : KeyMap) (districts : List ℕ) : Type 0 where
-  pub whole : length districts ≡ length g.blocks
-  pub named : AreKnown names districts (cuts_of g) m
-  pub known : AreKnown last before (cuts_of g) m
+pub record AreNamed (cuts : List Cut) (names last before : List ℕ) (m : KeyMap) (districts : List ℕ) : Type 0 where
+  pub long : length districts ≡ length before
+  pub named : AreKnown names districts cuts m
+  pub known : AreKnown last before cuts m
+
+-- the counties of a geography that has so many blocks
+pub record AreCountiesOf (cuts : List Cut) (count : ℕ) : Type 0 where
+  pub ground : Ground
+  pub are : cuts ≡ cuts_of ground
+  pub blocks : count ≡ length ground.blocks
 
 -- a number names the districts of one county, and that of the revision before, if it has one, those that a list has at its place
 pub record IsCounty (number : ℕ) (c : Cut) (last : List ℕ) (county : ℕ) (before : List ℕ) (m : KeyMap) (districts : List ℕ)

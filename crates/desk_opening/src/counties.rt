@@ -1,15 +1,13 @@
 //! Lays the counties of a revision over the districts of the one before.
 ghost use Rattle.std.specs.Prelude.{◌≡◌, ◌<◌, ◌≤◌, ◌+◌, true, length, get_or, IfOk, MatchResult};
 ghost use Rattle.shared_districts.specs.Laid.{with_at};
-ghost use Rattle.desk_model.specs.Cuts.{cuts_of};
 ghost use Rattle.page_store.specs.Transactions.{count_of, txn_pages, IsQuiet};
 ghost use Rattle.row_table.specs.Appending.{AppendErr};
 ghost use Rattle.chunk_table.specs.Reading.{IsChunk};
-ghost use Rattle.desk_opening.specs.Reading.{AreNamed, HasRead, IsCounty};
+ghost use Rattle.desk_opening.specs.Reading.{AreCountiesOf, AreNamed, HasRead, IsCounty};
 
 use chunk_table::append_chunk;
 use desk_model::cuts::Cut;
-use desk_model::geography::Geography;
 use desk_model::laws::lists_are_cut;
 use page_store::{Pages, Txn};
 use row_table::TreeError;
@@ -87,22 +85,19 @@ pub(crate) fn lay_counties<D: SectorDevice>(
     alloc: Global,
     txn: &Txn,
     pages: &mut Pages<D>,
-    geography: &Geography,
     cuts: &[Cut],
     names: &[u64],
     last: &[u64],
     before: Districts,
 ) -> Result<Districts, TreeError>
     requires begun { txn_pages txn.now ≡ count_of pages.old }
-    requires cut { cuts.now ≡ cuts_of geography.now }
+    requires cut { AreCountiesOf cuts.now (length before) }
     requires each { length names.now ≡ length cuts.now }
-    requires whole { length before ≡ length geography.now.blocks }
     ensures quiet { IsQuiet pages.old pages.new }
-    ensures whole { IfOk result (λ all. length all ≡ length geography.now.blocks) }
+    ensures long { IfOk result (λ all. length all ≡ length before) }
     ensures read { MatchResult result
-        (λ all. HasRead (AreNamed geography.now names.now last.now before) (λ districts. districts)
-        txn.now pages.old pages.new all)
-        (λ e. AppendErr (AreNamed geography.now names.now last.now before) txn.now pages.old pages.new e) }
+        (λ all. HasRead (AreNamed cuts.now names.now last.now before) (λ districts. districts) txn.now pages.old pages.new all)
+        (λ e. AppendErr (AreNamed cuts.now names.now last.now before) txn.now pages.old pages.new e) }
 {
     lists_are_cut();
     let mut part = Vec::new(alloc);

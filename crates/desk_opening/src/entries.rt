@@ -58,7 +58,6 @@ fn read_next<D: SectorDevice>(
         alloc,
         txn,
         pages,
-        geography,
         cuts,
         names.as_slice(),
         last.as_slice(),

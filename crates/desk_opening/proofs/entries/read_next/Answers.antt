@@ -25,6 +25,9 @@ returns-then-len-cuts-clause-read g c = inr (λ honest m x holds said.
     ∙ so_many c.args.geography.now c.args.cuts.now c.args.plan c.args.revision c.args.last.now.items c.args.before c.in-Ok.names.items c.append_names.new.into.items c.args.txn.now c.args.pages.now c.append_names.new.pages c.requires.cut c.in-Ok.ensures.items
     c.in_ok-append_names.ensures.append honest m x holds said.is)))
 
+pub lay_counties-requires-clause-cut : goal.lay_counties-requires-clause-cut
+lay_counties-requires-clause-cut g c = record { ground = c.args.geography.now; are = c.requires.cut; blocks = c.requires.whole }
+
 pub lay_counties-requires-clause-each : goal.lay_counties-requires-clause-each
 lay_counties-requires-clause-each g c = let long = c.as_slice.ensures.len in let same = c.len.ensures in let many = c.if-len-cuts.false in omega arith
 
@@ -41,21 +44,24 @@ returns-in_err-next-clause-read g c =
     let d = c.lay_counties.new.pages in
     let error = c.in_err-next.field-0.0 in
     match_of c.from_residual-in_err-next.result (λ next. HasRead says (λ (districts : List ℕ). districts) c.args.txn.now a d next) error (λ e. AppendErr says c.args.txn.now a d e) c.from_residual-in_err-next.ensures.1
-    (then_unappended says (AreNamed ground c.as_slice.result.now c.as_slice-2.result.now c.args.before) c.args.txn.now a b d error
+    (then_unappended says (AreNamed c.args.cuts.now c.as_slice.result.now c.as_slice-2.result.now c.args.before) c.args.txn.now a b d error
     (λ honest m x holds said. (
       x,
       are_named ground c.args.cuts.now c.args.plan c.args.revision last c.args.before c.in-Ok.names.items c.append_names.new.into.items c.args.txn.now a b c.requires.cut c.in-Ok.ensures.items c.in_ok-append_names.ensures.append
-          c.as_slice.result.now c.as_slice-2.result.now c.as_slice.ensures.value c.as_slice-2.ensures.value honest m x holds said,
+          c.requires.whole c.as_slice.result.now c.as_slice-2.result.now c.as_slice.ensures.value c.as_slice-2.ensures.value honest m x holds said,
     ))
     c.in_ok-append_names.ensures.append.passed c.in_err-next.ensures.quiet c.in_err-next.ensures.read)
 
 pub returns-clause-quiet : goal.returns-clause-quiet
 returns-clause-quiet g c = quiet_more c.args.pages.now c.append_names.new.pages c.lay_counties.new.pages c.in_ok-append_names.ensures.quiet c.in_ok-next.ensures.quiet
 
+pub returns-clause-whole : goal.returns-clause-whole
+returns-clause-whole g c = c.in_ok-next.ensures.long ∙ c.requires.whole
+
 pub returns-clause-read : goal.returns-clause-read
 returns-clause-read g c = next_read c.args.geography.now c.args.cuts.now c.args.plan c.args.revision c.args.last.now.items c.args.before c.in-Ok.names.items c.append_names.new.into.items c.args.txn.now c.args.pages.now c.append_names.new.pages c.requires.cut
-    c.in-Ok.ensures.items c.in_ok-append_names.ensures.append c.as_slice.result.now c.as_slice-2.result.now c.as_slice.ensures.value c.as_slice-2.ensures.value c.lay_counties.new.pages c.in_ok-next.next c.in_ok-next.ensures.read
+    c.in-Ok.ensures.items c.in_ok-append_names.ensures.append c.requires.whole c.as_slice.result.now c.as_slice-2.result.now c.as_slice.ensures.value c.as_slice-2.ensures.value c.lay_counties.new.pages c.in_ok-next.next c.in_ok-next.ensures.read
 
 pub returns-clause-known : goal.returns-clause-known
 returns-clause-known g c = next_known c.args.geography.now c.args.cuts.now c.args.plan c.args.revision c.args.last.now.items c.args.before c.in-Ok.names.items c.append_names.new.into.items c.args.txn.now c.args.pages.now c.append_names.new.pages c.requires.cut
-    c.in-Ok.ensures.items c.in_ok-append_names.ensures.append c.as_slice.result.now c.as_slice-2.result.now c.as_slice.ensures.value c.as_slice-2.ensures.value c.lay_counties.new.pages c.in_ok-next.next c.in_ok-next.ensures.read
+    c.in-Ok.ensures.items c.in_ok-append_names.ensures.append c.requires.whole c.as_slice.result.now c.as_slice-2.result.now c.as_slice.ensures.value c.as_slice-2.ensures.value c.lay_counties.new.pages c.in_ok-next.next c.in_ok-next.ensures.read
