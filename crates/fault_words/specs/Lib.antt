@@ -1,2 +1,4 @@
+pub mod Tables
 pub mod Sentences
 pub mod Lines
+pub mod Entries

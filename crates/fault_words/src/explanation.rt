@@ -1,6 +1,7 @@
 //! The words for a code, and whose code it is.
-ghost use Rattle.std.specs.Prelude.{◌≡◌, ◌++◌, IfOk};
+ghost use Rattle.std.specs.Prelude.{◌≡◌, ◌++◌, map, IfOk};
 ghost use Rattle.fault_words.specs.Sentences.{words_of, sentence_of, case_text, entry_of};
+ghost use Rattle.fault_words.specs.Tables.{told, row_words, case_at, words_at, place_name};
 
 use crate::census::{GEO, JOIN, SEGMENT};
 use crate::http::{BYTES, REQUESTS};
@@ -18,6 +19,22 @@ pub struct Explanation {
     pub remedy: &'static str,
 }
 
+/// A row of a table: a code, its case, what it means, and what to do.
+pub(crate) type Row = (&'static str, &'static str, &'static str, &'static str);
+
+/// What a row says.
+pub(crate) fn explanation_of(row: &Row) -> Explanation
+    ensures { told result ≡ row_words row.now }
+{
+    let (code, case, means, remedy) = *row;
+    Explanation {
+        code,
+        case,
+        means,
+        remedy,
+    }
+}
+
 /// Why a device fails, where that is told apart.
 #[derive(Clone, Copy, Debug, PartialEq, Eq)]
 pub enum Reason {
@@ -30,7 +47,10 @@ pub enum Reason {
 }
 
 /// The case of a reason, as the table of stores has it.
-pub(crate) fn case_of(reason: Option<Reason>) -> &'static str {
+#[tactic(auto, unfolding(crate::specs::Tables::case_at))]
+pub(crate) fn case_of(reason: Option<Reason>) -> &'static str
+    ensures { result.now ≡ case_at reason }
+{
     match reason {
         Some(Reason::InUse) => "in use",
         Some(Reason::NotPermitted) => "not permitted",
@@ -72,7 +92,9 @@ pub(crate) static PLACES: [FaultPlace; 10] = [
 ];
 
 /// The codes of a place.
-pub(crate) fn table_of(place: FaultPlace) -> &'static [Explanation] {
+pub(crate) fn table_of(place: FaultPlace) -> &'static [Row]
+    ensures { map row_words result.now ≡ words_at place }
+{
     match place {
         FaultPlace::EveryFile => &EVERY_FILE,
         FaultPlace::Geo => &GEO,
@@ -88,7 +110,10 @@ pub(crate) fn table_of(place: FaultPlace) -> &'static [Explanation] {
 }
 
 /// What a place is called.
-pub(crate) fn name_of(place: FaultPlace) -> &'static str {
+#[tactic(auto, unfolding(crate::specs::Tables::place_name))]
+pub(crate) fn name_of(place: FaultPlace) -> &'static str
+    ensures { result.now ≡ place_name place }
+{
     match place {
         FaultPlace::EveryFile => "any file",
         FaultPlace::Geo => "geo",
@@ -104,7 +129,7 @@ pub(crate) fn name_of(place: FaultPlace) -> &'static str {
 
 /// Puts what is meant and what to do behind a text.
 fn put_words(text: &mut Vec<u8>, words: Explanation) -> Result<(), AllocError>
-    ensures { IfOk result (λ _. text.new.items ≡ text.old.items ++ words_of words) }
+    ensures { IfOk result (λ _. text.new.items ≡ text.old.items ++ words_of (told words)) }
 {
     text.extend_from_slice(words.means.as_bytes())?;
     text.extend_from_slice(b". What to do: ")?;
@@ -115,7 +140,7 @@ fn put_words(text: &mut Vec<u8>, words: Explanation) -> Result<(), AllocError>
 
 /// The line that follows a fault's line.
 pub fn sentence(alloc: Global, words: Explanation) -> Result<Vec<u8>, AllocError>
-    ensures { IfOk result (λ text. text.items ≡ sentence_of words) }
+    ensures { IfOk result (λ text. text.items ≡ sentence_of (told words)) }
 {
     let mut text = Vec::new(alloc);
     text.extend_from_slice(b"  It means: ")?;
@@ -140,7 +165,7 @@ pub(crate) fn put_entry(
     place: &str,
     words: Explanation,
 ) -> Result<(), AllocError>
-    ensures { IfOk result (λ _. text.new.items ≡ text.old.items ++ entry_of place.now words) }
+    ensures { IfOk result (λ _. text.new.items ≡ text.old.items ++ entry_of place.now (told words)) }
 {
     text.extend_from_slice(words.code.as_bytes())?;
     text.extend_from_slice(b", ")?;

@@ -1,53 +1,79 @@
 //! The words for a line, and for a code.
-ghost use Rattle.std.specs.Prelude.{◌≡◌, ◌++◌, IfSome, codes, ℕ, List};
-ghost use mathlib.Core.List.{IsPrefix};
-ghost use Rattle.fault_words.specs.Lines.{AreWords};
+ghost use Rattle.std.specs.Prelude.{◌≡◌, ◌++◌, map, IfOk, OnOk, codes};
+ghost use Rattle.std.specs.Option.{option_copied, option_map};
+ghost use Rattle.fault_words.specs.Tables.{told, row_words, is_segment_role, is_plan_role, is_command, place_at};
+ghost use Rattle.fault_words.specs.Lines.{rest_behind, word_to, row_for, place_words, code_words, line_words};
+ghost use Rattle.fault_words.specs.Entries.{entries_among, entries_in, entries_for, stands_among, stands_in, is_known};
 
 use crate::explanation::{
-    Explanation, FaultPlace, PLACES, Reason, case_of, name_of, put_entry, table_of,
+    Explanation, FaultPlace, PLACES, Reason, Row, case_of, explanation_of, name_of, put_entry,
+    table_of,
 };
 use std::alloc::{AllocError, Global};
 
-/// Whose fault a line tells, by the word behind the program's name: a file's role, or a command.
-static ROLES: [(&str, FaultPlace); 17] = [
-    ("geo", FaultPlace::Geo),
-    ("seg1", FaultPlace::Segment),
-    ("seg2", FaultPlace::Segment),
-    ("seg3", FaultPlace::Segment),
-    ("join", FaultPlace::Join),
-    ("gal", FaultPlace::Gal),
-    ("plan", FaultPlace::Plan),
-    ("senate", FaultPlace::Plan),
-    ("congress", FaultPlace::Plan),
-    ("store", FaultPlace::Store),
-    ("check", FaultPlace::Command),
-    ("explain", FaultPlace::Command),
-    ("format", FaultPlace::Command),
-    ("load", FaultPlace::Command),
-    ("serve", FaultPlace::Command),
-    ("sweep", FaultPlace::Command),
-    ("talk", FaultPlace::Command),
-];
+fn is_segment(role: &[u8]) -> bool
+    ensures { result ≡ is_segment_role role.now }
+{
+    role == b"seg1".as_slice() || role == b"seg2".as_slice() || role == b"seg3".as_slice()
+}
 
-fn place_of(role: &[u8]) -> Option<FaultPlace> {
-    for (name, place) in &ROLES {
-        if name.as_bytes() == role {
-            return Some(*place);
-        }
+fn is_plan(role: &[u8]) -> bool
+    ensures { result ≡ is_plan_role role.now }
+{
+    role == b"plan".as_slice() || role == b"senate".as_slice() || role == b"congress".as_slice()
+}
+
+fn is_command(role: &[u8]) -> bool
+    ensures { result ≡ is_command role.now }
+{
+    role == b"check".as_slice()
+        || role == b"explain".as_slice()
+        || role == b"format".as_slice()
+        || role == b"load".as_slice()
+        || role == b"serve".as_slice()
+        || role == b"sweep".as_slice()
+        || role == b"talk".as_slice()
+}
+
+/// Whose fault a line tells, by the word behind the program's name: a file's role, or a command.
+#[tactic(auto, unfolding(crate::specs::Tables::place_at))]
+fn place_of(role: &[u8]) -> Option<FaultPlace>
+    ensures { result ≡ place_at role.now }
+{
+    if role == b"geo".as_slice() {
+        return Some(FaultPlace::Geo);
+    }
+    if is_segment(role) {
+        return Some(FaultPlace::Segment);
+    }
+    if role == b"join".as_slice() {
+        return Some(FaultPlace::Join);
+    }
+    if role == b"gal".as_slice() {
+        return Some(FaultPlace::Gal);
+    }
+    if is_plan(role) {
+        return Some(FaultPlace::Plan);
+    }
+    if role == b"store".as_slice() {
+        return Some(FaultPlace::Store);
+    }
+    if is_command(role) {
+        return Some(FaultPlace::Command);
     }
     None
 }
 
 /// What a text has behind its beginning, where that is this one.
 fn behind<'a>(text: &'a [u8], start: &[u8]) -> Option<&'a [u8]>
-    ensures { IfSome result (λ rest. text.now ≡ start.now ++ rest.now) }
+    ensures { option_copied result ≡ rest_behind start.now text.now }
 {
     text.strip_prefix(start)
 }
 
 /// The text before the first of two bytes, or all of it.
 fn before(text: &[u8], first: u8, second: u8) -> &[u8]
-    ensures { IsPrefix result.now text.now }
+    ensures { result.now ≡ word_to first second text.now }
 {
     for (i, byte) in text.iter().enumerate() {
         if *byte == first || *byte == second {
@@ -57,21 +83,21 @@ fn before(text: &[u8], first: u8, second: u8) -> &[u8]
     text
 }
 
-/// The first words among these for this code in this case.
-fn among(table: &'static [Explanation], code: &[u8], case: &str) -> Option<&'static Explanation>
-    ensures { IfSome result (λ words. (words.now.code.now ≡ code.now) × (words.now.case.now ≡ case.now)) }
+/// What the first of these rows says that is of this code in this case.
+fn among(table: &[Row], code: &[u8], case: &str) -> Option<Explanation>
+    ensures { option_map told result ≡ row_for code.now case.now (map row_words table.now) }
 {
-    for words in table {
-        if words.code.as_bytes() == code && words.case == case {
-            return Some(words);
+    for row in table {
+        if row.0.as_bytes() == code && row.1 == case {
+            return Some(explanation_of(row));
         }
     }
     None
 }
 
 /// The words of a place for a code, for this reason where there are such.
-fn at_place(place: FaultPlace, code: &[u8], reason: Option<Reason>) -> Option<&'static Explanation>
-    ensures { IfSome result (λ words. words.now.code.now ≡ code.now) }
+fn at_place(place: FaultPlace, code: &[u8], reason: Option<Reason>) -> Option<Explanation>
+    ensures { option_map told result ≡ place_words place code.now reason }
 {
     let table = table_of(place);
     match among(table, code, case_of(reason)) {
@@ -81,12 +107,8 @@ fn at_place(place: FaultPlace, code: &[u8], reason: Option<Reason>) -> Option<&'
 }
 
 /// The words of a place for the code that a line has behind its role.
-fn behind_role(
-    place: FaultPlace,
-    text: &[u8],
-    reason: Option<Reason>,
-) -> Option<&'static Explanation>
-    ensures { IfSome result (λ words. (more : List ℕ) × (text.now ≡ codes ": " ++ words.now.code.now ++ more)) }
+fn behind_role(place: FaultPlace, text: &[u8], reason: Option<Reason>) -> Option<Explanation>
+    ensures { option_map told result ≡ code_words place reason (rest_behind (codes ": ") text.now) }
 {
     let rest = behind(text, b": ")?;
     let code = before(rest, b' ', b'\n');
@@ -97,8 +119,9 @@ fn behind_role(
 }
 
 /// The words for a fault's line, as `plandesk: geo: G1 line 2`: of `geo` and G1. A device's fault has some for its reason.
-pub fn explained(line: &[u8], reason: Option<Reason>) -> Option<&'static Explanation>
-    ensures { IfSome result (λ words. AreWords line.now words.now) }
+#[tactic(auto, unfolding(crate::specs::Lines::line_words))]
+pub fn explained(line: &[u8], reason: Option<Reason>) -> Option<Explanation>
+    ensures { option_map told result ≡ line_words line.now reason }
 {
     let rest = behind(line, b"plandesk: ")?;
     let role = before(rest, b':', b'\n');
@@ -108,33 +131,66 @@ pub fn explained(line: &[u8], reason: Option<Reason>) -> Option<&'static Explana
     }
 }
 
-/// Whether this is the code of a fault.
-pub fn is_code(code: &str) -> bool {
-    for place in &PLACES {
-        for words in table_of(*place) {
-            if words.code == code {
-                return true;
-            }
+/// Whether a table has this code.
+fn stands_in(table: &[Row], code: &str) -> bool
+    ensures { result ≡ stands_among code.now (map row_words table.now) }
+{
+    for row in table {
+        if row.0 == code {
+            return true;
         }
     }
     false
 }
 
-/// Puts what is known of a code at a place behind a text.
-fn put_place(text: &mut Vec<u8>, place: FaultPlace, code: &str) -> Result<(), AllocError> {
-    for words in table_of(place) {
-        if words.code == code {
-            put_entry(text, name_of(place), *words)?;
+/// Whether the table of one of these places has this code.
+fn stands_at(places: &[FaultPlace], code: &str) -> bool
+    ensures { result ≡ stands_in code.now places.now }
+{
+    for place in places {
+        if stands_in(table_of(*place), code) {
+            return true;
+        }
+    }
+    false
+}
+
+/// Whether this is the code of a fault.
+#[tactic(auto, unfolding(crate::specs::Entries::is_known))]
+pub fn is_code(code: &str) -> bool
+    ensures { result ≡ is_known code.now }
+{
+    stands_at(&PLACES, code)
+}
+
+/// Puts what a table has of a code behind a text.
+fn put_among(text: &mut Vec<u8>, table: &[Row], place: &str, code: &str) -> Result<(), AllocError>
+    ensures { OnOk result (text.new.items ≡ text.old.items ++ entries_among code.now place.now (map row_words table.now)) }
+{
+    for row in table {
+        if row.0 == code {
+            put_entry(text, place, explanation_of(row))?;
         }
     }
     Ok(())
 }
 
-/// What is known of a code, a line for each place and case.
-pub fn all_words(alloc: Global, code: &str) -> Result<Vec<u8>, AllocError> {
-    let mut text = Vec::new(alloc);
-    for place in &PLACES {
-        put_place(&mut text, *place, code)?;
+/// Puts what these places have of a code behind a text.
+fn put_all(text: &mut Vec<u8>, places: &[FaultPlace], code: &str) -> Result<(), AllocError>
+    ensures { OnOk result (text.new.items ≡ text.old.items ++ entries_in code.now places.now) }
+{
+    for place in places {
+        put_among(text, table_of(*place), name_of(*place), code)?;
     }
+    Ok(())
+}
+
+/// What is known of a code, a line for each place and case.
+#[tactic(auto, unfolding(crate::specs::Entries::entries_for))]
+pub fn all_words(alloc: Global, code: &str) -> Result<Vec<u8>, AllocError>
+    ensures { IfOk result (λ text. text.items ≡ entries_for code.now) }
+{
+    let mut text = Vec::new(alloc);
+    put_all(&mut text, &PLACES, code)?;
     Ok(text)
 }

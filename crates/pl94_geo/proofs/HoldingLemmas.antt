@@ -2,7 +2,6 @@
 use Rattle.std.proofs.Common.{◌≡◌, ℕ, suc, ◌<◌, ◌≤◌, Bool, true, false, not, cond, ◌||◌, eqb, leb, List, [], ◌∷◌, ◌++◌, length, Option, Some, None, Result, Ok, Err, is_some, is_none, refl, sym, ap, subst, ◌∙◌, arith, nat_eq, length-append}
 use Rattle.std.specs.List.{list_any, cons_option, IsDistinct}
 use Rattle.std.specs.Option.{option_map_or, option_map}
-use Rattle.std.specs.HashSet.{contains}
 use Rattle.std.proofs.lemmas.Bool.Decides.{nat_tests}
 use Rattle.std.proofs.lemmas.Cmp.{nat_eq_equiv}
 use Rattle.std.proofs.lemmas.List.{map-append, append-nil}
@@ -12,7 +11,8 @@ use Rattle.std.proofs.lemmas.Map.Keys.{IsDistinct-push}
 use Rattle.desk_model.specs.Geography.{block_limit}
 use Rattle.pl94_geo.specs.Entries.{IsEntry, line_read}
 use Rattle.pl94_geo.specs.Judging.{states_of, numbers_of, ids_of, blocks_of, geo_block, state_record_of, other_state, repeats, conflict, entries, entry_of, taken_entry, judged}
-use Rattle.pl94_geo.specs.Holding.{Holds, Numbers, Takes, Judges}
+use Rattle.pl94_geo.specs.Holding.{Holds, Takes, Judges}
+use Rattle.pl94_geo.specs.Sets.{has}
 use Rattle.pl94_geo.specs.declared.entry.GeoRecord.{GeoRecord}
 use Rattle.pl94_geo.specs.declared.entry.HeaderLineFault.{HeaderLineFault}
 use Rattle.pl94_geo.specs.declared.entry.HeaderLineFault.TheVariants.{TooManyBlocks}
@@ -20,6 +20,7 @@ use Rattle.pl94_geo.specs.declared.header.HeaderRefusal.{HeaderRefusal}
 use Rattle.pl94_geo.specs.declared.header.HeaderRefusal.TheVariants.{Fault, Memory}
 use Rattle.pl94_geo.specs.declared.header.Header.{Header}
 use Rattle.pl94_geo.specs.declared.header.GeoBlock.{GeoBlock}
+use Rattle.pl94_geo.specs.declared.number_set.NumberSet.{NumberSet}
 
 eqb-flip : (a b : ℕ) → eqb a b ≡ eqb b a
 eqb-flip a b = grind (arith, nat_tests)
@@ -93,17 +94,32 @@ pub length-blocks_of : (es : List GeoRecord) → length (blocks_of es) ≡ lengt
 length-blocks_of [] = refl
 length-blocks_of (e ∷ es) = cons_length e e.block (ids_of es) (blocks_of es) (length-blocks_of es)
 
-fresh : (set : Numbers) (ns : List ℕ) (n : ℕ) → ((q : ℕ) → repeats ns q ≡ contains nat_eq set q) → contains nat_eq set n ≡ false → repeats ns n ≡ false
+fresh : (set : NumberSet) (ns : List ℕ) (n : ℕ) → ((q : ℕ) → repeats ns q ≡ has set q) → has set n ≡ false → repeats ns n ≡ false
 fresh set ns n same none = same n ∙ none
 
-more_numbers : (old new : Numbers) (ns : List ℕ) (n q : ℕ) → ((q : ℕ) → repeats ns q ≡ contains nat_eq old q) → ((q : ℕ) → contains nat_eq new q ≡ (nat_eq n q || contains nat_eq old q))
-    → repeats (ns ++ n ∷ []) q ≡ contains nat_eq new q
+more_numbers : (old new : NumberSet) (ns : List ℕ) (n q : ℕ) → ((q : ℕ) → repeats ns q ≡ has old q) → ((q : ℕ) → has new q ≡ (nat_eq n q || has old q))
+    → repeats (ns ++ n ∷ []) q ≡ has new q
 more_numbers old new ns n q same grown = repeats-push ns n q ∙ ap (λ (b : Bool). nat_eq n q || b) (same q) ∙ sym (grown q)
+
+-- no record yet
+pub holds_none : (h : Header) → h.state ≡ None → h.state_record ≡ None → h.blocks.items ≡ [] → ((n : ℕ) → has h.ids n ≡ false) → ((n : ℕ) → has h.numbers n ≡ false) → Holds h []
+unfolding IsDistinct
+holds_none h state state_record blocks ids numbers = record {
+  state = λ s. ap (λ (o : Option ℕ). option_map_or (λ own. not (eqb own s)) o false) (sym state);
+  state_record = state_record;
+  blocks = blocks;
+  ids = λ n. sym (ids n);
+  numbers = λ n. sym (numbers n);
+  distinct_ids = tt;
+  distinct_numbers = tt;
+  few = omega arith;
+  entries = λ k d inside. absurd (omega arith);
+}
 
 -- a block that goes with the records before it
 pub holds_block : (h new : Header) (es : List GeoRecord) (e : GeoRecord) (id : ℕ) → Holds h es → IsEntry e → e.block ≡ Some id → other_state es e.state ≡ false
-    → contains nat_eq h.ids id ≡ false → ((q : ℕ) → contains nat_eq new.ids q ≡ (nat_eq id q || contains nat_eq h.ids q))
-    → contains nat_eq h.numbers e.number ≡ false → ((q : ℕ) → contains nat_eq new.numbers q ≡ (nat_eq e.number q || contains nat_eq h.numbers q))
+    → has h.ids id ≡ false → ((q : ℕ) → has new.ids q ≡ (nat_eq id q || has h.ids q))
+    → has h.numbers e.number ≡ false → ((q : ℕ) → has new.numbers q ≡ (nat_eq e.number q || has h.numbers q))
     → new.state ≡ Some e.state → new.state_record ≡ h.state_record → new.blocks.items ≡ h.blocks.items ++ record { number = e.number; id = id; city = e.city } ∷ []
     → length h.blocks.items < block_limit
     → (conflict es e ≡ None) × Holds new (es ++ e ∷ [])
@@ -131,7 +147,7 @@ holds_block h new es e id holds valid is same new_id ids new_number numbers stat
 -- the state record
 pub holds_state : (h new : Header) (es : List GeoRecord) (e : GeoRecord) → Holds h es → IsEntry e → e.block ≡ None → other_state es e.state ≡ false
     → h.state_record ≡ None
-    → contains nat_eq h.numbers e.number ≡ false → ((q : ℕ) → contains nat_eq new.numbers q ≡ (nat_eq e.number q || contains nat_eq h.numbers q))
+    → has h.numbers e.number ≡ false → ((q : ℕ) → has new.numbers q ≡ (nat_eq e.number q || has h.numbers q))
     → new.state ≡ Some e.state → new.state_record ≡ Some e.number → new.blocks.items ≡ h.blocks.items → new.ids ≡ h.ids
     → (conflict es e ≡ None) × Holds new (es ++ e ∷ [])
 holds_state h new es e holds valid is same first new_number numbers state state_record blocks ids =
@@ -144,7 +160,7 @@ holds_state h new es e holds valid is same first new_number numbers state state_
         state_record = state_record ∙ sym (state_record_of-first es e is none);
         blocks = blocks ∙ holds.blocks
             ∙ sym (blocks_of-push es e ∙ ap (λ (o : Option ℕ). blocks_of es ++ cons_option (option_map (λ (i : ℕ). let b : GeoBlock = record { number = e.number; id = i; city = e.city } in b) o) []) is ∙ append-nil (blocks_of es));
-        ids = λ q. ap (λ (ns : List ℕ). repeats ns q) ids_are ∙ holds.ids q ∙ ap (λ (set : Numbers). contains nat_eq set q) (sym ids);
+        ids = λ q. ap (λ (ns : List ℕ). repeats ns q) ids_are ∙ holds.ids q ∙ ap (λ (set : NumberSet). has set q) (sym ids);
         numbers = λ q. ap (λ (ns : List ℕ). repeats ns q) (numbers_of-push es e) ∙ more_numbers h.numbers new.numbers (numbers_of es) e.number q holds.numbers numbers;
         distinct_ids = subst (IsDistinct nat_eq) (sym ids_are) holds.distinct_ids;
         distinct_numbers = subst (IsDistinct nat_eq) (sym (numbers_of-push es e)) (IsDistinct-push nat_eq_equiv (numbers_of es) e.number holds.distinct_numbers no_number);
@@ -155,7 +171,7 @@ holds_state h new es e holds valid is same first new_number numbers state state_
 
 -- a block too many
 pub too_many : (h : Header) (es : List GeoRecord) (e : GeoRecord) (id : ℕ) → Holds h es → e.block ≡ Some id → other_state es e.state ≡ false
-    → contains nat_eq h.ids id ≡ false → contains nat_eq h.numbers e.number ≡ false → block_limit ≤ length h.blocks.items → conflict es e ≡ Some TooManyBlocks
+    → has h.ids id ≡ false → has h.numbers e.number ≡ false → block_limit ≤ length h.blocks.items → conflict es e ≡ Some TooManyBlocks
 too_many h es e id holds is same new_id new_number many =
     let no_id : repeats (ids_of es) id ≡ false = fresh h.ids (ids_of es) id holds.ids new_id in
     let no_number : repeats (numbers_of es) e.number ≡ false = fresh h.numbers (numbers_of es) e.number holds.numbers new_number in

@@ -2,37 +2,33 @@
 use Rattle.std.specs.Prelude.{◌≡◌, ℕ, ◌≤◌, true, false, not, ◌||◌, ◌==◌, nat_eq, List, [], ◌∷◌, ◌++◌, length, All, Some, None, Result, Ok, Err, ⊤}
 use Rattle.std.specs.List.{IsDistinct}
 use Rattle.std.specs.Option.{option_map_or}
-use Rattle.std.specs.HashSet.{HashSet, contains}
-use Rattle.std.specs.declared.hash.FoldHasher.{FoldHasher}
-use Rattle.std.specs.declared.hash.BuildHasherDefault.{BuildHasherDefault}
 use Rattle.desk_model.specs.Geography.{block_limit}
 use Rattle.pl94_geo.specs.Entries.{IsEntry}
 use Rattle.pl94_geo.specs.Judging.{numbers_of, ids_of, blocks_of, state_record_of, other_state, repeats, conflict, entries, judge}
+use Rattle.pl94_geo.specs.Sets.{has}
 use Rattle.pl94_geo.specs.declared.entry.GeoRecord.{GeoRecord}
 use Rattle.pl94_geo.specs.declared.entry.HeaderLineFault.{HeaderLineFault}
 use Rattle.pl94_geo.specs.declared.header.Header.{Header}
+use Rattle.pl94_geo.specs.declared.number_set.NumberSet.{NumberSet}
 use Rattle.pl94_geo.specs.declared.header.HeaderRefusal.{HeaderRefusal}
 use Rattle.pl94_geo.specs.declared.header.HeaderRefusal.TheVariants.{Fault, Memory}
-
-abbrev pub Numbers : Type 0
-Numbers = HashSet ℕ (BuildHasherDefault FoldHasher)
 
 -- these are the taken records, and they go together
 pub record Holds (h : Header) (es : List GeoRecord) : Type 0 where
   pub state : (s : ℕ) → other_state es s ≡ option_map_or (λ own. not (own == s)) h.state false
   pub state_record : h.state_record ≡ state_record_of es
   pub blocks : h.blocks.items ≡ blocks_of es
-  pub ids : (id : ℕ) → repeats (ids_of es) id ≡ contains nat_eq h.ids id
-  pub numbers : (n : ℕ) → repeats (numbers_of es) n ≡ contains nat_eq h.numbers n
+  pub ids : (id : ℕ) → repeats (ids_of es) id ≡ has h.ids id
+  pub numbers : (n : ℕ) → repeats (numbers_of es) n ≡ has h.numbers n
   pub distinct_ids : IsDistinct nat_eq (ids_of es)
   pub distinct_numbers : IsDistinct nat_eq (numbers_of es)
   pub few : length (ids_of es) ≤ block_limit
   pub entries : All IsEntry es
 
 -- the set gets a number that it hasn't
-abbrev pub Adds : Numbers → Numbers → ℕ → HeaderLineFault → Result (Unit {0}) HeaderRefusal → Type 0
-Adds old new number repeated (Ok u) = (contains nat_eq old number ≡ false) × ((n : ℕ) → contains nat_eq new n ≡ (nat_eq number n || contains nat_eq old n))
-Adds old new number repeated (Err (Fault f)) = (contains nat_eq old number ≡ true) × (f ≡ repeated)
+abbrev pub Adds : NumberSet → NumberSet → ℕ → HeaderLineFault → Result (Unit {0}) HeaderRefusal → Type 0
+Adds old new number repeated (Ok u) = (has old number ≡ false) × ((n : ℕ) → has new n ≡ (nat_eq number n || has old n))
+Adds old new number repeated (Err (Fault f)) = (has old number ≡ true) × (f ≡ repeated)
 Adds old new number repeated (Err Memory) = ⊤
 
 -- one more record is taken, or it has a fault

@@ -1,16 +1,17 @@
 //! The taken records of the lines so far.
-ghost use Rattle.std.specs.Prelude.{◌≡◌, [], ℕ, List, true, false, not, ◌==◌, Some, None, Err, Ok};
+ghost use Rattle.std.specs.Prelude.{◌≡◌, [], ℕ, List, true, false, not, ◌==◌, nat_le, length, Some, None, Err, Ok};
 ghost use Rattle.std.specs.Option.{option_map_or};
+ghost use Rattle.desk_model.specs.Geography.{block_limit};
 ghost use Rattle.pl94_geo.specs.Entries.{IsEntry};
 ghost use Rattle.pl94_geo.specs.Judging.{entries, other_state};
 ghost use Rattle.pl94_geo.specs.Holding.{Holds, Takes, Judges, Adds};
 ghost use Rattle.pl94_geo.specs.declared.entry.GeoRecord.{GeoRecord as TakenEntry};
 
 use crate::entry::{GeoRecord, HeaderLineFault, read_line};
+use crate::number_set::NumberSet;
 use desk_model::block::BlockId;
 use desk_model::geography::BLOCK_LIMIT;
 use std::alloc::Global;
-use std::collections::HashSet;
 
 /// A block of the header.
 #[derive(Clone, Copy, Debug)]
@@ -34,12 +35,12 @@ pub struct Header {
     pub state: Option<u64>,
     pub state_record: Option<u64>,
     pub blocks: Vec<GeoBlock>,
-    pub ids: HashSet<u64>,
-    pub numbers: HashSet<u64>,
+    pub ids: NumberSet,
+    pub numbers: NumberSet,
 }
 
 /// Adds a number to a set that hasn't it yet.
-fn add(set: &mut HashSet<u64>, number: u64, repeated: HeaderLineFault) -> Result<(), HeaderRefusal>
+fn add(set: &mut NumberSet, number: u64, repeated: HeaderLineFault) -> Result<(), HeaderRefusal>
     ensures { Adds set.old set.new number repeated result }
 {
     match set.insert(number) {
@@ -57,8 +58,8 @@ impl Header {
             state: None,
             state_record: None,
             blocks: Vec::new(alloc),
-            ids: HashSet::new(alloc),
-            numbers: HashSet::new(alloc),
+            ids: NumberSet::new(alloc),
+            numbers: NumberSet::new(alloc),
         }
     }
 
@@ -91,6 +92,13 @@ impl Header {
         Ok(())
     }
 
+    /// Whether it has as many blocks as a state may have.
+    fn is_full(&self) -> bool
+        ensures { result ≡ nat_le block_limit (length self.now.blocks.items) }
+    {
+        self.blocks.len() >= BLOCK_LIMIT
+    }
+
     /// Takes a block.
     fn take_block(&mut self, entry: GeoRecord, id: BlockId) -> Result<(), HeaderRefusal>
         requires valid { IsEntry entry }
@@ -103,7 +111,7 @@ impl Header {
             entry.number,
             HeaderLineFault::RepeatedRecord,
         )?;
-        if self.blocks.len() >= BLOCK_LIMIT {
+        if self.is_full() {
             return Err(HeaderRefusal::Fault(HeaderLineFault::TooManyBlocks));
         }
         let block = GeoBlock {

@@ -5,3 +5,4 @@ pub mod entry;
 pub mod geo;
 pub mod header;
 pub mod law;
+mod number_set;

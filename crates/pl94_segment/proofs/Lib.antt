@@ -1,3 +1,5 @@
 pub mod FilesLemmas
 pub mod JoinLemmas
+pub mod LeastLemmas
+pub mod RunLemmas
 pub mod SegLemmas

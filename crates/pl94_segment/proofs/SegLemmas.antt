@@ -39,9 +39,6 @@ has_number-is_some (r ∷ rs) n = ap (λ (b : Bool). eqb r.number n || b) (has_n
 pub none_test : (o : Option ℕ) → o ≡ None → is_some o ≡ false
 none_test o none = ap is_some none
 
-pub some_test : (o : Option ℕ) (x : ℕ) → o ≡ Some x → is_some o ≡ true
-some_test o x is = ap is_some is
-
 people_at-push : (rs : List SegRecord) (r : SegRecord) (q : ℕ) → people_at rs r.number ≡ None → people_at (rs ++ r ∷ []) q ≡ cond (eqb r.number q) (Some r.people) (people_at rs q)
 people_at-push [] r q fresh = refl
 people_at-push (x ∷ rs) r q fresh = by_case (eqb x.number q) (eqb x.number r.number) (eqb r.number q) refl refl refl fresh (λ later. people_at-push rs r q later)
@@ -65,9 +62,9 @@ holds_more old new rs r holds fresh grown =
       record { people = λ q. grown q ∙ ap (λ (o : Option ℕ). cond (eqb r.number q) (Some r.people) o) (holds.people q) ∙ sym (people_at-push rs r q none) },
     )
 
-pub repeated : (old : SegRows) (rs : List SegRecord) (r : SegRecord) (p : ℕ) → Holds old rs → people_of old r.number ≡ Some p → judged rs (Ok r) ≡ Some RepeatedRecord
-repeated old rs r p holds there =
-    let is : has_number rs r.number ≡ true = has_number-is_some rs r.number ∙ some_test _ p (sym (holds.people r.number) ∙ there) in
+pub repeated : (old : SegRows) (rs : List SegRecord) (r : SegRecord) → Holds old rs → is_some (people_of old r.number) ≡ true → judged rs (Ok r) ≡ Some RepeatedRecord
+repeated old rs r holds there =
+    let is : has_number rs r.number ≡ true = has_number-is_some rs r.number ∙ ap is_some (sym (holds.people r.number)) ∙ there in
     ap (λ (b : Bool). cond b (Some RepeatedRecord) None) is
 
 pub records-push : (part : SegmentNumber) (ls : List (List ℕ)) (line : List ℕ) (r : SegRecord) → line_read part line ≡ Ok r → records part (ls ++ line ∷ []) ≡ records part ls ++ r ∷ []

@@ -1,6 +1,7 @@
 -- A segment as a whole: which texts are segments, and what they say.
-use Rattle.std.specs.Prelude.{◌≡◌, ℕ, ◌+◌, ◌-◌, ◌^◌, List, [], ◌∷◌, ◌++◌, length, min, nat_eq, false, Option, Some, None, Result, Ok, Err, ⊤}
-use Rattle.std.specs.HashMap.{get}
+use Rattle.std.specs.Prelude.{◌≡◌, ℕ, ◌-◌, List, [], ◌∷◌, ◌++◌, length, get_or, if◌then◌else◌, ◌==◌, nat_lt, false, Option, Some, None, Result, Ok, Err, ⊤}
+use Rattle.std.specs.BTreeMap.{get}
+use Rattle.std.specs.Ordering.{nat_cmp}
 use Rattle.std.specs.Io.KnownBytes.{Consumes, IsAtEnd}
 use Rattle.std.specs.Str.Lines.{lines}
 use Rattle.byte_stream.specs.Counts.{counted}
@@ -17,9 +18,21 @@ use Rattle.pl94_segment.specs.declared.segment.SegmentRefusal.TheVariants as ref
 use Rattle.pl94_segment.specs.declared.segment.SegFault.{SegFault}
 use Rattle.pl94_segment.specs.declared.segment.SegFault.TheVariants as fault
 
--- the people of a record number, where the segment has it
-abbrev pub people_of : SegRows → ℕ → Option ℕ
-people_of rows n = get nat_eq rows.people n
+-- the people of a number in the run
+abbrev pub in_run : SegRows → ℕ → Option ℕ
+in_run rows n = if nat_lt n rows.first then None else get_or rows.run.items (n - rows.first) None
+
+abbrev pub or_else : Option ℕ → Option ℕ → Option ℕ
+or_else None other = other
+or_else (Some p) other = Some p
+
+-- the people of a record number, where the segment has it: in the run, or among the others
+unfoldable pub people_of : SegRows → ℕ → Option ℕ
+people_of rows n = or_else (in_run rows n) (get nat_cmp rows.others n)
+
+-- the rows have the record beside what they had, where it is new to them
+abbrev pub Grows : SegRows → SegRecord → SegRows → Type 0
+Grows old r new = people_of old r.number ≡ None → (n : ℕ) → people_of new n ≡ (if r.number == n then Some r.people else people_of old n)
 
 -- the rows are these records
 pub record Holds (rows : SegRows) (rs : List SegRecord) : Type 0 where

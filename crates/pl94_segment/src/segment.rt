@@ -1,23 +1,31 @@
 //! A segment of a whole state.
-ghost use Rattle.std.specs.Prelude.{◌≡◌, ◌+◌, ◌-◌, ◌^◌, ◌≤◌, [], ℕ, List, Err, Ok, min};
+ghost use Rattle.std.specs.Prelude.{◌≡◌, ◌+◌, ◌-◌, ◌^◌, ◌≤◌, [], ℕ, List, None, Some, Err, Ok, true, OnOk, if◌then◌else◌, ◌==◌, get_or, min};
 ghost use Rattle.byte_stream.specs.Counts.{counted};
 ghost use Rattle.std.specs.Io.KnownBytes.{Consumes};
 ghost use Rattle.field_text.specs.Reading.{turn_limit};
 ghost use Rattle.pl94_segment.specs.Records.{records};
-ghost use Rattle.pl94_segment.specs.SegFile.{people_of, Holds, Takes, Judges, IsRead, told, refused, failures_after_file};
+ghost use Rattle.pl94_segment.specs.SegFile.{in_run, people_of, Grows, Holds, Takes, Judges, IsRead, told, refused, failures_after_file};
 ghost use Rattle.pl94_segment.specs.declared.record.SegRecord.{SegRecord as SegmentRecord};
 
 use crate::record::{SegRecord, SegmentLineFault, SegmentNumber, read_line};
 use byte_stream::source::Source;
 use field_text::reader::{LineReader, ReadFault, Step};
-use std::alloc::Global;
-use std::collections::HashMap;
+use std::alloc::{AllocError, Global};
+use std::collections::BTreeMap;
 use std::fmt;
+
+/// How far behind the last number of a run another one still goes into it.
+const GAP: usize = 16;
 
 /// The records of a segment: the people of each record number.
 #[derive(Drop)]
 pub struct SegRows {
-    people: HashMap<u64, u32>,
+    /// The number that came first.
+    first: u64,
+    /// The people of the numbers from it on, which stand one behind the other but for small gaps.
+    run: Vec<Option<u32>>,
+    /// The people of all other numbers.
+    others: BTreeMap<u64, u32>,
 }
 
 /// Why a segment isn't read. Each carries the number of its line, counted from 1.
@@ -78,12 +86,44 @@ fn line_fault(refusal: SegmentRefusal, line: u64) -> SegFault
     }
 }
 
+/// Puts the people of a place into a run. Places between its end and this one are empty.
+fn put_at(run: &mut Vec<Option<u32>>, place: usize, people: u32) -> Result<(), AllocError>
+    ensures { OnOk result ((k : ℕ) → get_or run.new.items k None ≡ (if place == k then Some people else get_or run.old.items k None)) }
+{
+    if place < run.len() {
+        run[place] = Some(people);
+        return Ok(());
+    }
+    if place > run.len() {
+        run.resize(place, None)?;
+    }
+    if run.push(Some(people)).is_err() {
+        return Err(AllocError);
+    }
+    Ok(())
+}
+
 impl SegRows {
     fn new(alloc: Global) -> SegRows
         ensures { Holds result [] }
     {
         SegRows {
-            people: HashMap::new(alloc),
+            first: 0,
+            run: Vec::new(alloc),
+            others: BTreeMap::new(alloc),
+        }
+    }
+
+    /// The people of a number in the run.
+    fn in_run(&self, number: u64) -> Option<u32>
+        ensures { result ≡ in_run self.now number }
+    {
+        if number < self.first {
+            return None;
+        }
+        match self.run.get((number - self.first) as usize) {
+            Some(people) => *people,
+            None => None,
         }
     }
 
@@ -91,16 +131,54 @@ impl SegRows {
     pub fn people(&self, number: u64) -> Option<u32>
         ensures { result ≡ people_of self.now number }
     {
-        self.people.get(&number).copied()
+        match self.in_run(number) {
+            Some(people) => Some(people),
+            None => self.others.get(&number).copied(),
+        }
+    }
+
+    /// Whether a number has its place in the run, or shortly behind it.
+    fn is_near(&self, number: u64) -> bool
+        ensures { result ≡ true → self.now.first ≤ number }
+    {
+        number >= self.first && number - self.first < (self.run.len() + GAP) as u64
+    }
+
+    /// A run without a number begins at this one.
+    fn begin_run(&mut self, number: u64)
+        ensures { (n : ℕ) → people_of self.new n ≡ people_of self.old n }
+    {
+        if !self.run.is_empty() {
+            return;
+        }
+        self.first = number;
+    }
+
+    /// Puts a record that isn't there yet.
+    fn put(&mut self, row: SegRecord) -> Result<(), AllocError>
+        ensures { OnOk result (Grows self.old row self.new) }
+    {
+        self.begin_run(row.number);
+        if self.is_near(row.number) {
+            let place = (row.number - self.first) as usize;
+            put_at(&mut self.run, place, row.people)?;
+            return Ok(());
+        }
+        match self.others.insert(row.number, row.people) {
+            Ok(_) => Ok(()),
+            Err(_) => Err(AllocError),
+        }
     }
 
     /// Takes a record.
     fn take(&mut self, row: SegRecord) -> Result<(), SegmentRefusal>
         ensures { (rs : List SegmentRecord) → Holds self.old rs → Takes rs row result self.new }
     {
-        match self.people.insert(row.number, row.people) {
-            Ok(None) => Ok(()),
-            Ok(Some(_)) => Err(SegmentRefusal::Fault(SegmentLineFault::RepeatedRecord)),
+        if self.people(row.number).is_some() {
+            return Err(SegmentRefusal::Fault(SegmentLineFault::RepeatedRecord));
+        }
+        match self.put(row) {
+            Ok(()) => Ok(()),
             Err(_) => Err(SegmentRefusal::Memory),
         }
     }

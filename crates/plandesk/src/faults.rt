@@ -20,6 +20,7 @@ pub fn explain_line(rt: &HostRuntime, told: &Noting<Stderr>, reason: Option<Reas
     let terminal = rt.stderr();
     let is_terminal = terminal.is_terminal();
     let mut errors = WriteSink::new(terminal);
-    tell_words(rt.alloc(), is_terminal, told.line(), reason, &mut errors);
+    // without memory for them the line stands without words
+    let _ = tell_words(rt.alloc(), is_terminal, told.line(), reason, &mut errors);
     let _ = errors.into_inner();
 }

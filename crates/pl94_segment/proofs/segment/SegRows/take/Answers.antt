@@ -1,11 +1,13 @@
-use Rattle.std.proofs.Common.{sym}
+use Rattle.std.proofs.Common.{sym, ap, ◌∙◌, is_some}
 use Rattle.pl94_segment.proofs.SegLemmas.{holds_more, repeated}
+use Rattle.pl94_segment.proofs.RunLemmas.{none_from_test}
 use Rattle.pl94_segment.proofs.segment.SegRows.take.Goals as goal
 
-pub returns-in-Ok-None : goal.returns-in-Ok-None
-returns-in-Ok-None c = λ rs holds.
-    holds_more c.args.self.now _ rs c.args.row holds (sym (rw c.in-Ok-None.field-0-is at c.in-Ok-None.ensures.old)) c.in-Ok-None.ensures.updates.0
+pub returns-then-is_some : goal.returns-then-is_some
+returns-then-is_some c = λ rs holds.
+    repeated c.args.self.now rs c.args.row holds (ap is_some (sym c.people.ensures) ∙ sym c.is_some.ensures ∙ c.if-is_some.true)
 
-pub returns-in-Ok-Some : goal.returns-in-Ok-Some
-returns-in-Ok-Some c = λ rs holds.
-    repeated c.args.self.now rs c.args.row c.in-Ok-Some.field-0-0 holds (sym (rw c.in-Ok-Some.field-0-is at c.in-Ok-Some.ensures.old))
+pub returns-in-Ok : goal.returns-in-Ok
+returns-in-Ok c = λ rs holds.
+    let none = sym c.people.ensures ∙ none_from_test c.people.result (sym c.is_some.ensures ∙ c.if-is_some.false) in
+    holds_more c.args.self.now c.put.new.self rs c.args.row holds none (c.in-Ok.ensures none)
