@@ -1,6 +1,7 @@
 //! Two streams at the seats of one office, served by two workers at once.
 ghost use Rattle.std.specs.Prelude.{◌≡◌};
 ghost use Rattle.desk_store.specs.Clerks.{desk_of, Keeps};
+ghost use Rattle.desk_gallery.specs.Begun.{BeginsWith};
 
 use crate::stores::{device_of, sealed};
 use byte_stream::sink::WriteSink;
@@ -12,6 +13,7 @@ use desk_gallery::office::Office;
 use desk_gallery::visitor::Visitor;
 use desk_model::gate::Gate;
 use desk_store::clerk::Clerk;
+use http_desk::serve::{StreamFault, Served};
 use http_seats::many::{Arrivals, serve_many};
 use http_seats::ran::Ran;
 use sector_memory::MemoryDevice;
@@ -56,11 +58,12 @@ impl Write for Noted<'_> {
     }
 }
 
-/// So many streams, each of which asks for the plans.
+/// So many streams, each of which asks for the plans; it counts those that come back as served.
 #[derive(Drop)]
 struct Streams<'a> {
     count: u64,
     taken: AtomicU64,
+    ended: AtomicU64,
     is_written: &'a AtomicBool,
 }
 
@@ -77,6 +80,17 @@ impl<'a> Arrivals for Streams<'a> {
             is_written: self.is_written,
         };
         Some((ReadSource::new(ASKED), WriteSink::new(noted)))
+    }
+
+    fn ended(
+        &self,
+        _reader: ReadSource<&'static [u8]>,
+        _writer: WriteSink<Noted<'a>>,
+        served: Result<Served, StreamFault>,
+    ) {
+        if served.is_ok() {
+            self.ended.fetch_add(1, Ordering::SeqCst);
+        }
     }
 }
 
@@ -140,6 +154,7 @@ fn served_in<
     requires first { catalogue.value ≡ J.first }
     requires same { desk_of clerk ≡ J.first }
     requires kept { J.sound → Keeps clerk }
+    requires begins { BeginsWith J.begins clerk }
 {
     let (shower, visitors) = match Gallery::new::<J>(alloc, opened, catalogue, 2) {
         Ok(gallery) => gallery,
@@ -174,6 +189,7 @@ fn two_streams_are_served_at_once(rt: HostRuntime) {
     let streams = Streams {
         count: 2,
         taken: AtomicU64::new(0),
+        ended: AtomicU64::new(0),
         is_written: &is_written,
     };
     let gate = HoldsFirst {
@@ -184,6 +200,7 @@ fn two_streams_are_served_at_once(rt: HostRuntime) {
     };
     let ran = served(&rt, rt.alloc(), &streams, &gate);
     assert!(rt; ran.streams == 2 && ran.requests == 2 && ran.faults == 0);
+    assert!(rt; streams.ended.load(Ordering::SeqCst) == 2);
     assert!(rt; !gate.is_late.load(Ordering::SeqCst));
     assert!(rt; gate.workers.load(Ordering::SeqCst) == 3);
 }

@@ -1,6 +1,7 @@
 //! What is shown once a device has failed.
 ghost use Rattle.std.specs.Prelude.{◌≡◌};
 ghost use Rattle.desk_store.specs.Clerks.{desk_of, Keeps};
+ghost use Rattle.desk_gallery.specs.Begun.{BeginsWith};
 
 use crate::visitors::{clerk_failing_at, create, is_created, is_halted, plans_seen};
 use desk_catalogue::catalogue::Catalogue;
@@ -27,6 +28,7 @@ fn is_shown<J: Room, R: Wait + Abort>(
     requires first { catalogue.value ≡ J.first }
     requires same { desk_of clerk ≡ J.first }
     requires kept { J.sound → Keeps clerk }
+    requires begins { BeginsWith J.begins clerk }
 {
     let (shower, visitors) = match Gallery::new::<J>(alloc, opened, catalogue, 1) {
         Ok(gallery) => gallery,

@@ -11,8 +11,6 @@ use Rattle.std.specs.contracts.alloc.Global as Global
 use Rattle.std.specs.contracts.sync.Arc as Arc
 use Rattle.std.specs.contracts.impls.GlobalAllocator.TheImpl as heap
 use Rattle.std.specs.contracts.option.Option as Option
-use Rattle.std.specs.contracts.sync.Mutex as Mutex
-use Rattle.http_seats.specs.contracts.ran.Tally as Tally
 use Rattle.atomic_table.proofs.send_lease.SendLease.TheSendSync.{the_send as lease_send, the_sync as lease_sync}
 use Rattle.atomic_table.proofs.shared.Seat.TheSendSync.{the_send as seat_send}
 use Rattle.atomic_table.proofs.shared.Shared.TheSendSync.{the_send as table_send, the_sync as table_sync}
@@ -36,6 +34,7 @@ use Rattle.desk_gallery.specs.contracts.shelf.ShelfAbsorb.TheImpl as absorb
 use Rattle.desk_gallery.specs.contracts.front.Front as Front
 use Rattle.desk_gallery.specs.contracts.front.Front.TheInside as FrontInside
 use Rattle.desk_gallery.specs.contracts.shower.Shower.TheInside as ShowerInside
+use Rattle.desk_gallery.specs.contracts.visitor.Told.TheInside as ToldInside
 use Rattle.desk_gallery.specs.contracts.visitor.Visitor.TheInside as VisitorInside
 use Rattle.desk_catalogue.specs.contracts.catalogue.Catalogue as Catalogue
 use Rattle.left_right.specs.contracts.writer.Writer as Writer
@@ -44,7 +43,9 @@ use Rattle.desk_gallery.specs.contracts.shelf.Shelf as Shelf
 use Rattle.desk_gallery.specs.contracts.shower.Shower as Shower
 use Rattle.desk_gallery.specs.contracts.tied.Tied as Tied
 use Rattle.desk_gallery.specs.contracts.tied.TiedProtocolShelfUnit.TheImpl as tie
+use Rattle.desk_gallery.specs.contracts.visitor.Told as Told
 use Rattle.desk_gallery.specs.contracts.visitor.Visitor as Visitor
+use Rattle.http_seats.specs.contracts.many.Place as Place
 use Rattle.http_seats.proofs.Crosses.{catalogue_send, catalogue_sync, shelf_send, shelf_sync}
 
 slot_send : IsSend (Option.the_row (Part.the_row Shelf.the_row))
@@ -53,8 +54,8 @@ slot_send = let p : IsSend (Part.the_row Shelf.the_row) = part_send Shelf.the_ro
 place_send : IsSend (Seat.the_row (Option.the_row (Part.the_row Shelf.the_row)) (Doing.the_row Shelf.the_row unit))
 place_send = seat_send (Option.the_row (Part.the_row Shelf.the_row)) (Doing.the_row Shelf.the_row unit) slot_send
 
-pending_send : IsSend (Option.the_row (Arc.the_row Catalogue.the_row Global.the_row heap.ghosts))
-pending_send = search (sendable, crosses, catalogue_send, catalogue_sync) depth 30
+shown_send : IsSend (Option.the_row (Arc.the_row Catalogue.the_row Global.the_row heap.ghosts))
+shown_send = search (sendable, crosses, catalogue_send, catalogue_sync) depth 30
 
 module _ (J : RattleType) (g : room.Ghosts J.Denot) where
   factory_send : IsSend (Factory.the_row Shelf.the_row unit (Tied.the_row J) Global.the_row (tie.ghosts J g tie.no_dict) heap.ghosts)
@@ -66,8 +67,15 @@ module _ (J : RattleType) (g : room.Ghosts J.Denot) where
   past_send : IsSend J → IsSend (Past.the_row J g)
   past_send s = search (sendable, seen_send) depth 40 fits 20000
 
+  told_send : IsSend J → IsSend (Told.the_row J g)
+  told_send s = view_send (ToldInside.the_row J g) _ _ _ _ (declared_send (ToldInside.the_type J g) (past_send s, (shown_send, tt)))
+
   pub visitor_send : IsSend J → IsSend (Visitor.the_row J g)
-  visitor_send s = view_send (VisitorInside.the_row J g) _ _ _ _ (declared_send (VisitorInside.the_type J g) (reader_send, (past_send s, tt)))
+  visitor_send s = view_send (VisitorInside.the_row J g) _ _ _ _ (declared_send (VisitorInside.the_type J g) (reader_send, (told_send s, tt)))
+
+  -- a worker's place
+  pub worker_send : IsSend J → IsSend (Place.the_row J g)
+  worker_send s = search (sendable, crosses, visitor_send) depth 40 fits 20000
 
   writer_send : IsSend (Writer.the_row Shelf.the_row Shelf.the_row unit (Tied.the_row J) Global.the_row (Tuple (Catalogue.the_row ∷ Mark.the_row ∷ [])) absorb.ghosts (tie.ghosts J g tie.no_dict) heap.ghosts)
   writer_send = search (sendable, crosses, table_send, table_sync, lease_send, lease_sync, slot_send, seat_send, part_send, deed_send, shelf_send, shelf_sync) depth 60 fits 20000
@@ -76,7 +84,7 @@ module _ (J : RattleType) (g : room.Ghosts J.Denot) where
   whole_send s = search (sendable, word_send, pen_send, seen_send) depth 40 fits 20000
 
   pub shower_send : IsSend J → IsSend (Shower.the_row J g)
-  shower_send s = view_send (ShowerInside.the_row J g) _ _ _ _ (declared_send (ShowerInside.the_type J g) (writer_send, (whole_send s, (pending_send, tt))))
+  shower_send s = view_send (ShowerInside.the_row J g) _ _ _ _ (declared_send (ShowerInside.the_type J g) (writer_send, (whole_send s, (shown_send, tt))))
 
 module _ (D : RattleType) (h : device.Ghosts D.Denot) where
   pub clerk_send : IsSend D → IsSend (Clerk.the_row D h)
@@ -89,9 +97,6 @@ module _ (J D : RattleType) (g : room.Ghosts J.Denot) (h : device.Ghosts D.Denot
   pub office_sync : IsSend J → IsSend D → IsSync (Office.the_row J D g h)
   office_sync s t = search (sendable, crosses, front_send) depth 60 fits 20000
 
-pub tally_sync : IsSync (Mutex.the_row Tally.the_row)
-tally_sync = search (sendable, crosses) depth 30
-
 -- what a worker's closure captures
-pub captures_sync : (ν : Sym) (A B C D E F : RattleType) → IsSync A → IsSync B → IsSync C → IsSync D → IsSync E → IsSync F → IsSync (TupleAt ν (A ∷ B ∷ C ∷ D ∷ E ∷ F ∷ []))
-captures_sync ν A B C D E F a b c d e f = search sendable depth 30
+pub captures_sync : (ν : Sym) (A B C D E : RattleType) → IsSync A → IsSync B → IsSync C → IsSync D → IsSync E → IsSync (TupleAt ν (A ∷ B ∷ C ∷ D ∷ E ∷ []))
+captures_sync ν A B C D E a b c d e = search sendable depth 30

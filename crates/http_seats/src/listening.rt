@@ -4,6 +4,7 @@ ghost use Rattle.std.specs.Prelude.{◌≡◌, ◌≤◌, ◌⊎◌, true};
 use crate::many::Arrivals;
 use byte_stream::source::ReadSource;
 use http_answer::gather::Gathering;
+use http_desk::serve::{StreamFault, Served};
 use std::io::ErrorKind;
 use std::net::{TcpListener, TcpStream};
 use std::sync::atomic::{AtomicU64, Ordering};
@@ -127,4 +128,12 @@ impl<'a> Arrivals for Listening<'a> {
         };
         Some((ReadSource::new(stream), Gathering::new(other)))
     }
+
+    /// Closes it.
+    fn ended(
+        &self,
+        _reader: ReadSource<TcpStream>,
+        _writer: Gathering<TcpStream>,
+        _served: Result<Served, StreamFault>,
+    ) {}
 }

@@ -1,5 +1,6 @@
 //! Many streams, served at seats of one office.
-ghost use Rattle.std.specs.Prelude.{◌≤◌, IfOk};
+ghost use Rattle.std.specs.Prelude.{◌≡◌, ◌≤◌, IfOk, MatchOption, map};
+ghost use Rattle.http_seats.specs.Streams.{AreCounted, HasWorked, WereVisitors, total_of};
 
 use crate::ran::{Ran, Tally};
 use crate::seat::Seat;
@@ -9,20 +10,23 @@ use desk_gallery::office::Office;
 use desk_gallery::visitor::Visitor;
 use desk_model::gate::Gate;
 use http_answer::gather::GatherSink;
-use http_desk::serve::serve;
+use http_desk::serve::{StreamFault, Served, serve};
 use sector_device::SectorDevice;
 use std::alloc::{AllocError, Global};
-use std::sync::{Mutex, Wait};
+use std::sync::Wait;
 use std::thread::{Threads, for_each_mut};
 
-/// Where streams come from.
+/// Where streams come from, and where each goes back to. Nothing else can let go of one.
 pub trait Arrivals {
-    type Reader: Source + Drop + Send + Sync;
+    type Reader: Source + Send + Sync;
 
-    type Writer: GatherSink + Drop + Send + Sync;
+    type Writer: GatherSink + Send + Sync;
 
     /// The next stream, or None where no further one comes. It may wait.
     fn next(&self) -> Option<(Self::Reader, Self::Writer)>;
+
+    /// Takes a stream back once it is served, with what it came to.
+    fn ended(&self, reader: Self::Reader, writer: Self::Writer, served: Result<Served, StreamFault>);
 }
 
 /// A gate as one worker passes it.
@@ -38,21 +42,15 @@ impl<'a, G: Gate> Gate for AtWorker<'a, G> {
     }
 }
 
-/// A worker's number, and its visitor until it begins.
+/// A worker's number, its visitor until it begins, and what its streams came to.
 #[derive(Drop)]
 struct Place<J: Room> {
     worker: u32,
     visitor: Option<Visitor<J>>,
+    tally: Tally,
 }
 
-/// Counts one stream: its requests, or none where it ended with a fault.
-fn note<R: Wait>(rt: &R, tally: &Mutex<Tally>, requests: Option<u64>) {
-    let mut guard = tally.lock(rt);
-    let next = guard.with_stream(requests);
-    *guard = next;
-}
-
-/// Serves streams at one seat until no further one comes.
+/// Serves streams at one seat until no further one comes: what they came to.
 fn work<J: Room, D: SectorDevice, A: Arrivals, G: Gate, R: Wait>(
     rt: &R,
     alloc: Global,
@@ -61,20 +59,24 @@ fn work<J: Room, D: SectorDevice, A: Arrivals, G: Gate, R: Wait>(
     worker: u32,
     arrivals: &A,
     gate: &G,
-    tally: &Mutex<Tally>,
-) {
+) -> Tally
+    ensures { HasWorked J.first visitor result.ran }
+{
     let mut seat = Seat::new(rt, office, visitor);
+    let mut tally = Tally::new();
     let gate = AtWorker { gate, worker };
     for _ in rt.forever() {
         let Some((mut reader, mut writer)) = arrivals.next() else {
-            return;
+            return tally;
         };
         let served = serve(alloc, &mut reader, &mut writer, &mut seat, &gate);
-        note(rt, tally, served.ok().map(|s| s.requests));
+        tally = tally.with_stream(&served);
+        arrivals.ended(reader, writer, served);
     }
+    unreachable!()
 }
 
-/// Serves streams at the seat of a place.
+/// Serves streams at the seat of a place, and counts them there.
 fn work_at<J: Room, D: SectorDevice, A: Arrivals, G: Gate, R: Wait>(
     rt: &R,
     alloc: Global,
@@ -82,19 +84,11 @@ fn work_at<J: Room, D: SectorDevice, A: Arrivals, G: Gate, R: Wait>(
     place: &mut Place<J>,
     arrivals: &A,
     gate: &G,
-    tally: &Mutex<Tally>,
-) {
+)
+    ensures { MatchOption place.old.visitor (place.new.tally ≡ place.old.tally) (λ visitor. HasWorked J.first visitor place.new.tally.ran) }
+{
     if let Some(visitor) = place.visitor.take() {
-        work(
-            rt,
-            alloc,
-            office,
-            visitor,
-            place.worker,
-            arrivals,
-            gate,
-            tally,
-        );
+        place.tally = work(rt, alloc, office, visitor, place.worker, arrivals, gate);
     }
 }
 
@@ -102,13 +96,16 @@ fn work_at<J: Room, D: SectorDevice, A: Arrivals, G: Gate, R: Wait>(
 fn places_for<J: Room>(
     alloc: Global,
     visitors: Vec<Visitor<J>>,
-) -> Result<Vec<Place<J>>, AllocError> {
+) -> Result<Vec<Place<J>>, AllocError>
+    ensures { IfOk result (λ places. WereVisitors visitors.items (map (λ p. p.visitor) places.items)) }
+{
     let mut places = Vec::with_capacity(alloc, visitors.len())?;
     let mut worker = 0u32;
     for visitor in visitors {
         places.push(Place {
             worker,
             visitor: Some(visitor),
+            tally: Tally::new(),
         })?;
         worker = worker.saturating_add(1);
     }
@@ -116,9 +113,21 @@ fn places_for<J: Room>(
     Ok(places)
 }
 
+/// What all workers came to together.
+fn together<J: Room>(places: &[Place<J>]) -> Tally
+    ensures { result.ran ≡ total_of (map (λ p. p.tally.ran) places.now) }
+{
+    let mut tally = Tally::new();
+    for place in places {
+        tally = tally.with_worker(&place.tally);
+    }
+    tally
+}
+
 /// Serves the streams that arrive, by one worker a visitor, whose number is the visitor's place. The calling thread is worker 0;
-/// the streams of a worker that can't be started are taken by the others. Err where memory for the workers is refused, and then no
-/// stream was taken.
+/// the streams of a worker that can't be started are taken by the others. What they came to is that of the streams of each worker,
+/// served one after the other: what was written to one is a talk over what was read from it, explained along one list of changes
+/// that grows, from what the visitor had heard of on. Err where memory for the workers is refused, and then no stream was taken.
 pub fn serve_many<
     J: Room + Send + Sync,
     D: SectorDevice + Drop + Send + Sync,
@@ -133,17 +142,19 @@ pub fn serve_many<
     arrivals: &A,
     gate: &G,
 ) -> Result<Ran, AllocError>
-    ensures { IfOk result (λ ran. ran.faults ≤ ran.streams) }
+    ensures fewer { IfOk result (λ ran. ran.faults ≤ ran.streams) }
+    ensures counted { IfOk result (λ ran. AreCounted J.first visitors.items ran) }
 {
     let mut places = places_for(alloc, visitors)?;
     let threads = places.len().max(1);
-    let tally = Mutex::new(Tally::new());
-    let lent = &tally;
+    let stands = places.as_mut_slice();
     for_each_mut(
         rt,
-        places.as_mut_slice(),
+        stands,
         threads,
-        &|_, place: &mut Place<J>| work_at(rt, alloc, office, place, arrivals, gate, lent),
+        &|_, place: &mut Place<J>|
+            ensures { MatchOption place.old.visitor (place.new.tally ≡ place.old.tally) (λ visitor. HasWorked J.first visitor place.new.tally.ran) }
+        { work_at(rt, alloc, office, place, arrivals, gate) },
     );
-    Ok(tally.into_inner().ran)
+    Ok(together(stands).ran)
 }

@@ -1,6 +1,8 @@
 //! What a run over many streams came to.
 ghost use Rattle.std.specs.Prelude.{◌≡◌, ◌≤◌};
-ghost use Rattle.http_seats.specs.Running.{one_more};
+ghost use Rattle.http_seats.specs.Running.{joined, no_streams, one_more, requests_of};
+
+use http_desk::serve::{StreamFault, Served};
 
 /// What a run came to. The numbers stay at their greatest value.
 #[derive(Clone, Copy, Debug, PartialEq, Eq)]
@@ -21,7 +23,9 @@ pub(crate) struct Tally {
 }
 
 impl Tally {
-    pub(crate) fn new() -> Tally {
+    pub(crate) fn new() -> Tally
+        ensures { result.ran ≡ no_streams }
+    {
         Tally {
             ran: Ran {
                 streams: 0,
@@ -31,29 +35,42 @@ impl Tally {
         }
     }
 
-    /// The same with one stream more: its requests, or none where it ended with a fault.
-    pub(crate) fn with_stream(&self, requests: Option<u64>) -> Tally
-        ensures { result.ran ≡ one_more self.now.ran requests }
+    /// The same with one stream more.
+    pub(crate) fn with_stream(&self, served: &Result<Served, StreamFault>) -> Tally
+        ensures { result.ran ≡ one_more self.now.ran (requests_of served.now) }
     {
         let Ran {
             streams,
-            requests: before,
+            requests,
             faults,
         } = self.ran;
-        match requests {
-            Some(requests) => Tally {
+        match served {
+            Ok(served) => Tally {
                 ran: Ran {
                     streams: streams.saturating_add(1),
-                    requests: before.saturating_add(requests),
+                    requests: requests.saturating_add(served.requests),
                     faults,
                 },
             },
-            None => Tally {
+            Err(_) => Tally {
                 ran: Ran {
                     streams: streams.saturating_add(1),
-                    requests: before,
+                    requests,
                     faults: faults.saturating_add(1),
                 },
+            },
+        }
+    }
+
+    /// The same with what another worker's streams came to.
+    pub(crate) fn with_worker(&self, other: &Tally) -> Tally
+        ensures { result.ran ≡ joined self.now.ran other.now.ran }
+    {
+        Tally {
+            ran: Ran {
+                streams: self.ran.streams.saturating_add(other.ran.streams),
+                requests: self.ran.requests.saturating_add(other.ran.requests),
+                faults: self.ran.faults.saturating_add(other.ran.faults),
             },
         }
     }

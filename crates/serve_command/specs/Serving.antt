@@ -8,10 +8,12 @@ use Rattle.command_output.specs.Writing.{Written, Writes, Told}
 use Rattle.desk_store.specs.declared.clerk.Clerk.{Clerk}
 use Rattle.desk_store.specs.Clerks.{desk_of, is_halted, Keeps}
 use Rattle.desk_gallery.specs.Working.{IsRunFrom}
+use Rattle.http_seats.specs.declared.ran.Ran.{Ran}
 use Rattle.store_command.specs.Filling.{IsOpened, IsUnopened}
 use Rattle.store_command.specs.Telling.{store_line, status_of as status_of_store}
 use Rattle.store_command.specs.declared.fault.StoreFault.{StoreFault}
 use Rattle.store_command.specs.declared.fault.StoreFault.TheVariants.{Memory, DeviceFault}
+use Rattle.serve_command.specs.Lasting.{HasTalked, Outlasts}
 use Rattle.serve_command.specs.declared.fault.ServeFault.{ServeFault}
 use Rattle.serve_command.specs.declared.fault.ServeFault.TheVariants.{Store, Socket, Output}
 
@@ -61,13 +63,16 @@ module _ {D O : Type 0} (g : Ghosts D) (opens : O → List ℕ → Result D Stor
   OpensStore before name (Err fault) after = opens before name (Err fault) after ⊎ IsNoStore before name fault after
 
   -- the store of the name was opened and served; who has it last keeps it if who opened it did, and has the desk after commands that
-  -- were accepted one after the other
+  -- were accepted one after the other, which outlive a stop at any moment; and what the connections came to
   pub record IsServed (before : O) (name : List ℕ) (has_halted : Bool) (after : O) : Type 0 where
     pub first : Clerk D g
     pub found : IsOpen before name first after
     pub last : Clerk D g
     pub keeps : Keeps first → Keeps last
     pub ran : IsRunFrom (desk_of first) (desk_of last)
+    pub lasts : Outlasts first last
+    pub came_to : Ran
+    pub talked : HasTalked (desk_of first) came_to
     pub halted : is_halted last ≡ has_halted
 
   -- where memory is refused before, nothing is opened

@@ -1,22 +1,27 @@
 //! A clerk's desk, served at the seats of an office.
 ghost use Rattle.std.specs.Prelude.{◌≡◌, ◌≤◌, IfOk};
 ghost use Rattle.desk_store.specs.Clerks.{desk_of, Keeps};
+ghost use Rattle.desk_gallery.specs.Begun.{BeginsWith, IsLeftBy};
 ghost use Rattle.desk_gallery.specs.Working.{IsRunFrom};
+ghost use Rattle.serve_command.specs.Lasting.{HasTalked, Outlasts};
 
 use desk_catalogue::catalogue::Catalogue;
 use desk_gallery::book::{Opened, Room};
 use desk_gallery::gallery::{Gallery, GalleryFault};
 use desk_gallery::office::Office;
 use desk_model::gate::NoGate;
+use desk_runs::law::each_run_survives;
 use desk_store::clerk::Clerk;
 use http_seats::many::{Arrivals, serve_many};
+use http_seats::ran::Ran;
 use sector_device::SectorDevice;
 use std::alloc::{AllocError, Global};
 use std::marker::Brand;
 use std::sync::{Arc, Wait};
 use std::thread::Threads;
 
-/// Serves what a clerk keeps at the seats of so many workers, until no further stream comes: the clerk as it then is.
+/// Serves what a clerk keeps at the seats of so many workers, until no further stream comes: the clerk as it then is, and what the
+/// streams came to.
 fn serve_named<
     J: Room + Send + Sync,
     D: SectorDevice + Drop + Send + Sync,
@@ -30,15 +35,18 @@ fn serve_named<
     catalogue: Arc<Catalogue>,
     workers: u16,
     arrivals: &A,
-) -> Result<Clerk<D>, AllocError>
+) -> Result<(Clerk<D>, Ran), AllocError>
     requires book { opened.seen.book ≡ J.book }
     requires root { opened.pen.nib.key ≡ J.root }
     requires first { catalogue.value ≡ J.first }
     requires same { desk_of clerk ≡ J.first }
     requires kept { J.sound → Keeps clerk }
+    requires begins { BeginsWith J.begins clerk }
     requires workers { 1 ≤ workers }
-    ensures kept { IfOk result (λ last. J.sound → Keeps last) }
-    ensures ran { IfOk result (λ last. IsRunFrom J.first (desk_of last)) }
+    ensures kept { IfOk result (λ end. J.sound → Keeps end.0) }
+    ensures ran { IfOk result (λ end. IsRunFrom J.first (desk_of end.0)) }
+    ensures left { IfOk result (λ end. IsLeftBy J.first J.begins end.0) }
+    ensures talked { IfOk result (λ end. HasTalked J.first end.1) }
 {
     let (shower, visitors) = match Gallery::new::<J>(alloc, opened, catalogue, workers as usize) {
         Ok(gallery) => gallery,
@@ -52,14 +60,15 @@ fn serve_named<
     let ran = serve_many(rt, alloc, &office, visitors, arrivals, &NoGate);
     let last = office.close(rt);
     match ran {
-        Ok(_) => Ok(last),
+        Ok(ran) => Ok((last, ran)),
         Err(e) => Err(e),
     }
 }
 
 /// Serves what a clerk keeps by so many workers, until no further stream comes: the clerk as it then is, whose desk is what commands
-/// led to that were accepted one after the other. Err where memory is refused,
-/// and then nothing was served.
+/// led to that were accepted one after the other, and what the streams came to. At whatever moment a stop comes: since a command was
+/// acknowledged, each image that the stop may leave opens to the desk after that command and all before it. Err where memory is
+/// refused, and then nothing was served.
 pub fn serve_clerk<
     D: SectorDevice + Drop + Send + Sync,
     A: Arrivals + Sync,
@@ -70,11 +79,14 @@ pub fn serve_clerk<
     clerk: Clerk<D>,
     workers: u16,
     arrivals: &A,
-) -> Result<Clerk<D>, AllocError>
+) -> Result<(Clerk<D>, Ran), AllocError>
     requires { 1 ≤ workers }
-    ensures kept { IfOk result (λ last. Keeps clerk → Keeps last) }
-    ensures ran { IfOk result (λ last. IsRunFrom (desk_of clerk) (desk_of last)) }
+    ensures kept { IfOk result (λ end. Keeps clerk → Keeps end.0) }
+    ensures ran { IfOk result (λ end. IsRunFrom (desk_of clerk) (desk_of end.0)) }
+    ensures lasts { IfOk result (λ end. Outlasts clerk end.0) }
+    ensures talked { IfOk result (λ end. HasTalked (desk_of clerk) end.1) }
 {
+    each_run_survives::<D>();
     let catalogue = clerk.published()?;
     serve_named::<Brand, _, _, _>(
         rt,

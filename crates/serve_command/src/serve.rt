@@ -83,7 +83,7 @@ fn serve_store<
         Err(_) => return Err(ServeFault::Output),
     }
     match serve_clerk(rt, alloc, clerk, serving.workers, listening) {
-        Ok(last) => end_run(&last, listening.has_failed()),
+        Ok((last, _ran)) => end_run(&last, listening.has_failed()),
         Err(_) => Err(ServeFault::Store(StoreFault::Memory)),
     }
 }

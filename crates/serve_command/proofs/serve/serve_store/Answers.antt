@@ -30,6 +30,9 @@ returns-in-Ok-serve_clerk g c =
       last = c.in-Ok-serve_clerk.last;
       keeps = c.in-Ok-serve_clerk.ensures.kept;
       ran = c.in-Ok-serve_clerk.ensures.ran;
+      lasts = c.in-Ok-serve_clerk.ensures.lasts;
+      came_to = c.in-Ok-serve_clerk._ran;
+      talked = c.in-Ok-serve_clerk.ensures.talked;
       halted = refl;
     }))
 

@@ -1,0 +1,37 @@
+-- What a stop at any moment of a served store leaves, and what its streams came to.
+use Rattle.std.specs.Prelude.{◌≡◌, false, All, List, []}
+use Rattle.sector_device.specs.declared.SectorDevice.{Ghosts}
+use Rattle.desk_model.specs.declared.command.Command.{Command}
+use Rattle.desk_model.specs.Desk.{Desk}
+use Rattle.desk_store.specs.declared.clerk.Clerk.{Clerk}
+use Rattle.desk_store.specs.Clerks.{desk_of, disk_of, is_halted, sectors_of, Keeps}
+use Rattle.desk_runs.specs.Runs.{Call, Run, Survives, acknowledged}
+use Rattle.desk_gallery.specs.Working.{AreAccepted}
+use Rattle.http_seats.specs.declared.ran.Ran.{Ran}
+use Rattle.http_seats.specs.Streams.{AreCounted}
+
+-- the same desk, in a store of as many sectors, at the same moment of its device, which keeps it where the other does
+pub record IsLike {D : Type 0} {g : Ghosts D} {E : Type 0} {h : Ghosts E} (x : Clerk D g) (y : Clerk E h) : Type 0 where
+  pub desk : desk_of y ≡ desk_of x
+  pub sectors : sectors_of y ≡ sectors_of x
+  pub moment : (disk_of y).moment ≡ (disk_of x).moment
+  pub halted : is_halted y ≡ is_halted x
+  pub keeps : Keeps x → Keeps y
+
+module _ {D : Type 0} {g : Ghosts D} where
+  -- Commands were done one after the other, from the first clerk's desk, store and moment to the last clerk; the acknowledged ones are
+  -- each accepted after those before it. They outlive each stop: since the j-th acknowledgement each image opens to the desk after the
+  -- first j of them and some that follow, the one in which a fault came behind them.
+  pub record Outlasts (first last : Clerk D g) : Type 0 where
+    pub start : Clerk D g
+    pub is_first : IsLike first start
+    pub calls : List Call
+    pub run : Run start calls last
+    pub accepted : AreAccepted (desk_of first) (acknowledged calls)
+    pub survives : Keeps first → is_halted first ≡ false → (disk_of last).is_honest → Survives start calls last run
+
+-- the streams were served at the seats of visitors who had heard of nothing, from this desk on, and came to this
+pub record HasTalked (first : Desk) (ran : Ran) : Type 0 where
+  pub visitors : List (List Command)
+  pub fresh : All (λ (v : List Command). v ≡ []) visitors
+  pub counted : AreCounted first visitors ran
