@@ -1,55 +1,68 @@
 -- A store that is filled with a geography.
-use Rattle.std.specs.Prelude.{◌≡◌, ◌⊎◌, ℕ, false, Some, None}
+use Rattle.std.specs.Prelude.{◌≡◌, ◌⊎◌, false, Result, Ok, Err}
+use Rattle.sector_device.specs.Disk.{Disk, Image}
+use Rattle.sector_device.specs.Moments.{LeavesOnly}
 use Rattle.sector_device.specs.declared.SectorDevice.{Ghosts}
+use Rattle.page_store.specs.Transactions.{device_in}
+use Rattle.desk_model.specs.Desk.{Desk}
 use Rattle.desk_model.specs.Geography.{Ground}
+use Rattle.desk_pages.specs.Desks.{OpensDesk}
 use Rattle.desk_store.specs.declared.clerk.Clerk.{Clerk}
 use Rattle.desk_store.specs.declared.opening.OpenError.{OpenError}
 use Rattle.desk_store.specs.declared.loads.LoadError.{LoadError}
-use Rattle.desk_store.specs.Clerks.{desk_of, disk_of, is_halted, sectors_of, Keeps}
+use Rattle.desk_store.specs.Clerks.{desk_of, is_halted}
 use Rattle.desk_store.specs.Keeping.{sealed_desk}
-use Rattle.desk_store.specs.Openings.{AllDesks, IsOneOf, OpenRefused}
-use Rattle.desk_loading.specs.Loads.{LoadRefused}
+use Rattle.desk_store.specs.Openings.{AllDesks, OpensOneOf}
+use Rattle.desk_loading.specs.Openings.{IsOpened, IsUnopened}
+use Rattle.desk_loading.specs.Loads.{IsLoaded, LoadRefused}
 use Rattle.store_command.specs.Faults.{fault_of_open, fault_of_load}
 use Rattle.store_command.specs.declared.fault.StoreFault.{StoreFault}
 
-module _ {D : Type 0} {g : Ghosts D} where
-  -- a clerk who opened the device
-  pub record IsOpened (device : D) (x : Clerk D g) : Type 0 where
-    pub sectors : sectors_of x ≡ (g.disk device).sectors
-    pub honest : (disk_of x).is_honest → (g.disk device).is_honest
-    pub working : is_halted x ≡ false
-    pub keeps : AllDesks (g.disk device) → Keeps x
-    pub one : AllDesks (g.disk device) → (disk_of x).is_honest → IsOneOf (g.disk device) (desk_of x)
+-- the image opens to a desk to which one opened before, or to the next one
+abbrev pub OpensOneOr : Disk → Desk → Image → Type 0
+OpensOneOr old next c = OpensOneOf old c ⊎ OpensDesk old.sectors next c
 
-  -- a clerk who opened the device, and found no geography, keeps this one and no plan
-  pub record HasLoaded (device : D) (area : Ground) (y : Clerk D g) : Type 0 where
-    pub x : Clerk D g
-    pub opened : IsOpened device x
-    pub unsealed : (desk_of x).geography ≡ None
-    pub desk : desk_of y ≡ sealed_desk area
-    pub keeps : Keeps x → Keeps y
+-- each image that a stop may leave now opens to the desk
+abbrev pub LeavesDesk : (old new : Disk) → Desk → Type 0
+LeavesDesk old new d = (c : Image) → new.leaves c → OpensDesk old.sectors d c
 
 module _ {D : Type 0} (g : Ghosts D) where
-  -- a clerk who opened the device keeps the desk that was there
-  pub record HasKept (device : D) (e : LoadError) : Type 0 where
+  -- The device was opened, and the clerk loaded the geography where none was sealed and gave it back so. A stop at any moment of both
+  -- left what opens to a desk to which one opened before, or to that with this geography and no plan; and what it leaves from then on
+  -- opens to that.
+  pub record HasLoaded (device : D) (area : Ground) (left : D) : Type 0 where
     pub x : Clerk D g
-    pub y : Clerk D g
     pub opened : IsOpened device x
-    pub desk : desk_of y ≡ desk_of x
-    pub keeps : Keeps x → Keeps y
-    pub why : LoadRefused x e y
+    pub y : Clerk D g
+    pub loaded : IsLoaded x area y
+    pub back : left ≡ device_in y.pages
+    pub any_moment : (g.disk left).is_honest → AllDesks (g.disk device) → LeavesOnly (OpensOneOr (g.disk device) (sealed_desk area)) (g.disk device) (g.disk left)
+    pub after : (g.disk left).is_honest → AllDesks (g.disk device) → LeavesDesk (g.disk device) (g.disk left) (sealed_desk area)
 
-  -- the device isn't opened, or the geography isn't loaded
-  pub record IsUnopened (device : D) (fault : StoreFault) : Type 0 where
+  -- The device was opened, and a load that was refused left the desk. Where no fault came, what a stop leaves from then on opens to it.
+  pub record HasKept (device : D) (area : Ground) (e : LoadError) (left : D) : Type 0 where
+    pub x : Clerk D g
+    pub opened : IsOpened device x
+    pub y : Clerk D g
+    pub why : LoadRefused x area e y
+    pub desk : desk_of y ≡ desk_of x
+    pub back : left ≡ device_in y.pages
+    pub any_moment : (g.disk left).is_honest → AllDesks (g.disk device) → LeavesOnly (OpensOneOr (g.disk device) (sealed_desk area)) (g.disk device) (g.disk left)
+    pub after : (g.disk left).is_honest → AllDesks (g.disk device) → is_halted y ≡ false → LeavesDesk (g.disk device) (g.disk left) (desk_of x)
+
+  -- the device isn't opened, and is left so
+  pub record IsNotOpened (device : D) (fault : StoreFault) (left : D) : Type 0 where
     pub error : OpenError
     pub told : fault ≡ fault_of_open error
-    pub left : D
-    pub why : OpenRefused g device left error
+    pub why : IsUnopened g device error left
 
-  pub record IsUnloaded (device : D) (fault : StoreFault) : Type 0 where
+  -- or the geography isn't loaded
+  pub record IsUnloaded (device : D) (area : Ground) (fault : StoreFault) (left : D) : Type 0 where
     pub error : LoadError
     pub told : fault ≡ fault_of_load error
-    pub kept : HasKept device error
+    pub kept : HasKept device area error left
 
-  abbrev pub FillRefused : D → StoreFault → Type 0
-  FillRefused device fault = IsUnopened device fault ⊎ IsUnloaded device fault
+  -- what became of the device
+  abbrev pub FillsDevice : D → Ground → Result (Unit {0}) StoreFault → D → Type 0
+  FillsDevice device area (Ok u) left = HasLoaded device area left
+  FillsDevice device area (Err fault) left = IsNotOpened device fault left ⊎ IsUnloaded device area fault left

@@ -3,7 +3,7 @@ use Rattle.std.specs.Prelude.{◌≡◌, ◌⊎◌, ◌≤◌, ◌<◌, ◌+◌,
 use Rattle.std.specs.declared.alloc.Global.{Global}
 use Rattle.sector_device.specs.declared.SectorDevice.{Ghosts}
 use Rattle.gate_journal.specs.Store.{home}
-use Rattle.desk_pages.specs.Formats.{OpensNew, FormatErr}
+use Rattle.desk_pages.specs.Formats.{OpensNew, HasJournal, FormatErr}
 use Rattle.desk_pages.specs.declared.formatting.FormatError.{FormatError}
 use Rattle.command_output.specs.declared.status.Status.{Status}
 use Rattle.command_output.specs.Writing.{Written, write_fault_line}
@@ -14,7 +14,8 @@ use Rattle.store_command.specs.declared.fault.StoreFault.{StoreFault}
 use Rattle.store_command.specs.declared.fault.StoreFault.TheVariants.{TooSmall, Memory}
 
 module _ {D O : Type 0} (g : Ghosts D) (makes : O → List ℕ → ℕ → Result D StoreFault → O → Type 0) (closes : O → D → O → Type 0) where
-  -- a device of so many sectors was made under the name, and was closed as a store whose desk has no geography and no plan
+  -- A device of so many sectors was made under the name, and was closed as a store with J journal pages whose desk has no geography and
+  -- no plan.
   pub record IsStore (before : O) (name : List ℕ) (sectors J : ℕ) (after : O) : Type 0 where
     pub device : D
     pub middle : O
@@ -24,6 +25,7 @@ module _ {D O : Type 0} (g : Ghosts D) (makes : O → List ℕ → ℕ → Resul
     pub size : (g.disk new).sectors ≡ sectors
     pub honest : (g.disk new).is_honest → (g.disk device).is_honest
     pub opens : (g.disk new).is_honest → OpensNew (g.disk new)
+    pub journal : (g.disk new).is_honest → HasJournal J (g.disk new)
     pub room : home J + 64 ≤ sectors
 
   -- one was made, and was closed as what is no store, for this reason

@@ -10,8 +10,7 @@ use Rattle.state_files.specs.Grounds.{ReadsGround}
 use Rattle.state_files.specs.declared.fault.FileFault.{FileFault}
 use Rattle.command_output.specs.Telling.{Tells}
 use Rattle.command_output.specs.Writing.{Written, write_fault_line}
-use Rattle.desk_store.specs.declared.clerk.Clerk.{Clerk}
-use Rattle.store_command.specs.Filling.{HasLoaded, FillRefused}
+use Rattle.store_command.specs.Filling.{FillsDevice}
 use Rattle.store_command.specs.Telling.{EndsStore}
 use Rattle.store_command.specs.Texts.{loaded_text}
 use Rattle.store_command.specs.declared.fault.StoreFault.{StoreFault}
@@ -34,25 +33,21 @@ abbrev pub ReadsGeography : (before after : Openings) → Result Ground FileFaul
 ReadsGeography before after =
     Then (ReadsState before.census after.census) (after.neighbours ≡ before.neighbours) (λ rows. ReadsGround rows.items before.neighbours after.neighbours)
 
-module _ {D O : Type 0} (g : Ghosts D) (opens : O → List ℕ → Result D StoreFault → O → Type 0) where
-  -- the store of the name was opened, and filled with the geography
-  pub record IsFilled (before : O) (name : List ℕ) (area : Ground) (after : O) : Type 0 where
+module _ {D O : Type 0} (g : Ghosts D) (opens : O → List ℕ → Result D StoreFault → O → Type 0) (closes : O → D → O → Type 0) where
+  -- the device of the name was opened, and closed as what was to be filled with the geography came to
+  pub record IsUsed (before : O) (name : List ℕ) (area : Ground) (filled : Result (Unit {0}) StoreFault) (after : O) : Type 0 where
     pub device : D
-    pub opened : opens before name (Ok device) after
-    pub clerk : Clerk D g
-    pub loaded : HasLoaded device area clerk
-
-  -- it was opened, and isn't filled, for this reason
-  pub record IsUnfilled (before : O) (name : List ℕ) (fault : StoreFault) (after : O) : Type 0 where
-    pub device : D
-    pub opened : opens before name (Ok device) after
-    pub why : FillRefused g device fault
+    pub middle : O
+    pub opened : opens before name (Ok device) middle
+    pub left : D
+    pub fills : FillsDevice g device area filled left
+    pub closed : closes middle left after
 
   -- what comes of a store, with the text that is printed; where memory is refused before, none is opened
   abbrev pub Fills : (before : O) → List ℕ → Ground → Result (Vec ℕ Global) StoreFault → (after : O) → Type 0
-  Fills before name area (Ok text) after = (text.items ≡ loaded_text area) × IsFilled before name area after
+  Fills before name area (Ok text) after = (text.items ≡ loaded_text area) × IsUsed before name area (Ok tt) after
   Fills before name area (Err fault) after =
-      ((fault ≡ Memory) × (after ≡ before)) ⊎ (opens before name (Err fault) after ⊎ IsUnfilled before name fault after)
+      ((fault ≡ Memory) × (after ≡ before)) ⊎ (opens before name (Err fault) after ⊎ IsUsed before name area (Err fault) after)
 
   -- what comes of the files: a store is filled with their geography; or none is touched, and their fault is told
   abbrev pub EndsLoad : (stores stores_after : O) → List ℕ → Result Ground FileFault → Status → (before after told_before told_after : Written) → Type 0

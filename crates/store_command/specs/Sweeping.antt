@@ -1,17 +1,21 @@
 -- A store that is swept until nothing is left to be taken out.
-use Rattle.std.specs.Prelude.{◌≡◌, ◌⊎◌, ◌≤◌, ◌^◌, ℕ, List, ◌++◌, codes, decimal, true, false, Result, Ok, Err, Vec}
+use Rattle.std.specs.Prelude.{◌≡◌, ◌⊎◌, ◌≤◌, ◌^◌, ℕ, List, ◌++◌, codes, decimal, false, Result, Ok, Err, Vec}
 use Rattle.std.specs.declared.alloc.Global.{Global}
+use Rattle.sector_device.specs.Moments.{LeavesOnly}
 use Rattle.sector_device.specs.declared.SectorDevice.{Ghosts}
+use Rattle.page_store.specs.Transactions.{device_in}
 use Rattle.command_output.specs.declared.status.Status.{Status}
 use Rattle.store_rows.specs.Rows.{KeyMap}
 use Rattle.store_sweep.specs.Leftovers.{IsSweptBy}
 use Rattle.store_sweep.specs.declared.error.SweepError.{SweepError}
 use Rattle.store_sweep.specs.declared.error.SweepError.TheVariants as sweep
 use Rattle.desk_store.specs.declared.clerk.Clerk.{Clerk}
-use Rattle.desk_store.specs.Clerks.{desk_of, disk_of, is_halted, Keeps}
-use Rattle.desk_store.specs.Sweeps.{HasRows, IsClean}
+use Rattle.desk_store.specs.Clerks.{desk_of, disk_of, is_halted, Moves}
+use Rattle.desk_store.specs.Openings.{AllDesks, OpensOneOf}
+use Rattle.desk_store.specs.Sweeps.{HasRows, IsClean, SweepRefused}
+use Rattle.desk_loading.specs.Openings.{IsOpened}
 use Rattle.command_output.specs.Writing.{Written, write_fault_line}
-use Rattle.store_command.specs.Filling.{IsOpened, IsUnopened}
+use Rattle.store_command.specs.Filling.{LeavesDesk, IsNotOpened}
 use Rattle.store_command.specs.Telling.{EndsStore}
 use Rattle.store_command.specs.declared.fault.StoreFault.{StoreFault}
 use Rattle.store_command.specs.declared.fault.StoreFault.TheVariants.{DeviceFault, Memory}
@@ -26,10 +30,9 @@ fault_of_sweep sweep.DeviceFault = DeviceFault
 fault_of_sweep sweep.Halted = DeviceFault
 
 module _ {D : Type 0} {g : Ghosts D} where
-  -- the same desk is shown and kept
-  pub record KeepsDesk (x y : Clerk D g) : Type 0 where
-    pub honest : (disk_of y).is_honest → (disk_of x).is_honest
-    pub keeps : Keeps x → Keeps y
+  -- the same desk is shown and kept, at any moment since then
+  pub record KeepsDesk (x : Clerk D g) (y : Clerk D g) : Type 0 where
+    pub moves : Moves (desk_of x) x y
     pub desk : desk_of y ≡ desk_of x
     pub loading : y.loading ≡ x.loading
 
@@ -44,47 +47,69 @@ module _ {D : Type 0} {g : Ghosts D} where
     pub taken : HasTaken x m rows y
     pub clean : IsClean y taken.n
 
-  -- more of them were taken out than a store has
+  -- so many rows were taken out, and none is left
+  pub record IsSweptOut (x : Clerk D g) (rows : ℕ) (y : Clerk D g) : Type 0 where
+    pub works : is_halted y ≡ false
+    pub swept : (disk_of y).is_honest → (m : KeyMap) → HasRows x m → HasSweptAll x m rows y
+
+  -- ---- refusals
+  -- a step was refused behind those that took rows out
+  pub record StepStopped (x : Clerk D g) (e : SweepError) (y : Clerk D g) : Type 0 where
+    pub w : Clerk D g
+    pub before : KeepsDesk x w
+    pub worked : is_halted w ≡ false
+    pub why : SweepRefused w e (is_halted y) y.pages
+
+  -- more rows were taken out than a store has
   pub record HasEndless (x : Clerk D g) (m : KeyMap) (y : Clerk D g) : Type 0 where
     pub rows : ℕ
     pub many : 2 ^ 48 ≤ rows
     pub taken : HasTaken x m rows y
 
-  -- memory was refused, or the device failed; or it holds what no store has
+  -- a step was refused for this reason; or the device holds what no store has
   abbrev pub IsStopped : Clerk D g → StoreFault → Clerk D g → Type 0
-  IsStopped x fault y = ((fault ≡ Memory) × (is_halted y ≡ false))
-      ⊎ ((fault ≡ DeviceFault) × ((is_halted y ≡ true) ⊎ ((disk_of y).is_honest → (m : KeyMap) → HasRows x m → HasEndless x m y)))
+  IsStopped x fault y = ((e : SweepError) × (fault ≡ fault_of_sweep e) × StepStopped x e y)
+      ⊎ ((fault ≡ DeviceFault) × ((disk_of y).is_honest → (m : KeyMap) → HasRows x m → HasEndless x m y))
 
-module _ {D O : Type 0} (g : Ghosts D) (opens : O → List ℕ → Result D StoreFault → O → Type 0) where
-  -- the store of the name was opened, and so many rows were taken out of it
-  pub record IsSwept (before : O) (name : List ℕ) (rows : ℕ) (after : O) : Type 0 where
-    pub device : D
-    pub opened : opens before name (Ok device) after
+  -- what a sweep at a clerk came to
+  abbrev pub SweepsAll : Clerk D g → Result ℕ StoreFault → Clerk D g → Type 0
+  SweepsAll x (Ok rows) y = IsSweptOut x rows y
+  SweepsAll x (Err fault) y = IsStopped x fault y
+
+module _ {D : Type 0} (g : Ghosts D) where
+  -- The device was opened, and the clerk swept it and gave it back so. A stop at any moment of both left what opens to a desk to which
+  -- one opened before. Where no fault came, what it leaves from then on opens to the one that was shown.
+  pub record HasSwept (device : D) (swept : Result ℕ StoreFault) (left : D) : Type 0 where
     pub x : Clerk D g
-    pub is_opened : IsOpened device x
+    pub opened : IsOpened device x
     pub y : Clerk D g
     pub keeps : KeepsDesk x y
-    pub working : is_halted y ≡ false
-    pub swept : (disk_of y).is_honest → (m : KeyMap) → HasRows x m → HasSweptAll x m rows y
+    pub sweeps : SweepsAll x swept y
+    pub back : left ≡ device_in y.pages
+    pub any_moment : (g.disk left).is_honest → AllDesks (g.disk device) → LeavesOnly (OpensOneOf (g.disk device)) (g.disk device) (g.disk left)
+    pub after : (g.disk left).is_honest → AllDesks (g.disk device) → is_halted y ≡ false → LeavesDesk (g.disk device) (g.disk left) (desk_of x)
 
-  -- a clerk who opened it stopped for this reason, and keeps the desk that was there
-  pub record HasStopped (device : D) (fault : StoreFault) : Type 0 where
-    pub x : Clerk D g
-    pub is_opened : IsOpened device x
-    pub y : Clerk D g
-    pub keeps : KeepsDesk x y
-    pub why : IsStopped x fault y
+  -- what became of the device: it isn't opened, or it was swept
+  abbrev pub SweepsDevice : D → Result ℕ StoreFault → D → Type 0
+  SweepsDevice device (Ok rows) left = HasSwept device (Ok rows) left
+  SweepsDevice device (Err fault) left = IsNotOpened g device fault left ⊎ HasSwept device (Err fault) left
 
-  -- it was opened, and isn't swept to the end
-  pub record IsUnswept (before : O) (name : List ℕ) (fault : StoreFault) (after : O) : Type 0 where
+module _ {D O : Type 0} (g : Ghosts D) (opens : O → List ℕ → Result D StoreFault → O → Type 0) (closes : O → D → O → Type 0) where
+  -- the device of the name was opened, and closed as the sweep left it
+  pub record IsSwept (before : O) (name : List ℕ) (swept : Result ℕ StoreFault) (after : O) : Type 0 where
     pub device : D
-    pub opened : opens before name (Ok device) after
-    pub why : IsUnopened g device fault ⊎ HasStopped device fault
+    pub middle : O
+    pub opened : opens before name (Ok device) middle
+    pub left : D
+    pub sweeps : SweepsDevice g device swept left
+    pub closed : closes middle left after
 
-  -- what comes of a store, with the text that is printed
+  -- What comes of a store, with the text that is printed: its device is refused; or it was opened, swept and closed, and memory for the
+  -- text may be refused behind that.
   abbrev pub Sweeps : (before : O) → List ℕ → Result (Vec ℕ Global) StoreFault → (after : O) → Type 0
-  Sweeps before name (Ok text) after = (rows : ℕ) × (text.items ≡ swept_text rows) × IsSwept before name rows after
-  Sweeps before name (Err fault) after = opens before name (Err fault) after ⊎ IsUnswept before name fault after
+  Sweeps before name (Ok text) after = (rows : ℕ) × (text.items ≡ swept_text rows) × IsSwept before name (Ok rows) after
+  Sweeps before name (Err fault) after =
+      opens before name (Err fault) after ⊎ (IsSwept before name (Err fault) after ⊎ ((fault ≡ Memory) × (rows : ℕ) × IsSwept before name (Ok rows) after))
 
   -- the store of the name, whose rows that were left over are taken out
   abbrev pub SweepsStore : (stores stores_after : O) → List ℕ → Status → (before after told_before told_after : Written) → Type 0

@@ -1,41 +1,47 @@
 //! Fills a store with a geography.
 ghost use Rattle.std.specs.Prelude.{IfOk, IfErr};
-ghost use Rattle.store_command.specs.Filling.{IsOpened, HasLoaded, IsUnopened, FillRefused};
+ghost use Rattle.desk_loading.specs.Openings.{IsOpened};
+ghost use Rattle.store_command.specs.Filling.{IsNotOpened, FillsDevice};
 
 use crate::fault::{StoreFault, load_fault, open_fault};
 use command_progress::Progress;
-use desk_loading::load_geography;
+use desk_loading::{load_geography, open_store};
 use desk_model::geography::Geography;
 use desk_store::clerk::Clerk;
 use sector_device::SectorDevice;
 use std::alloc::Global;
 use std::sync::Arc;
 
-/// The clerk who opens the store that a device holds.
-pub fn open_clerk<D: SectorDevice + Drop>(alloc: Global, device: D) -> Result<Clerk<D>, StoreFault>
-    ensures ok { IfOk result (IsOpened device) }
-    ensures err { IfErr result (IsUnopened D.SectorDevice device) }
+/// The clerk who opens the store that a device holds. A refusal hands the device back.
+pub fn open_clerk<D: SectorDevice + Drop>(
+    alloc: Global,
+    device: D,
+) -> Result<Clerk<D>, (StoreFault, D)>
+    ensures ok { IfOk result (λ x. IsOpened device x) }
+    ensures err { IfErr result (λ e. IsNotOpened D.SectorDevice device e.0 e.1) }
 {
-    match Clerk::open(alloc, device) {
+    match open_store(alloc, device) {
         Ok(clerk) => Ok(clerk),
-        Err((e, _)) => Err(open_fault(e)),
+        Err((e, left)) => Err((open_fault(e), left)),
     }
 }
 
-/// Fills the store that a device holds with a geography: the clerk who keeps it then. `progress` hears how many rows were written so
+/// Fills the store that a device holds with a geography, and gives the device back. `progress` hears how many rows were written so
 /// far.
 pub fn fill<D: SectorDevice + Drop, P: Progress>(
     alloc: Global,
     device: D,
     geography: Arc<Geography>,
     progress: &mut P,
-) -> Result<Clerk<D>, StoreFault>
-    ensures ok { IfOk result (HasLoaded device geography.value) }
-    ensures err { IfErr result (FillRefused D.SectorDevice device) }
+) -> (Result<(), StoreFault>, D)
+    ensures { FillsDevice D.SectorDevice device geography.value result.0 result.1 }
 {
-    let mut clerk = open_clerk(alloc, device)?;
+    let mut clerk = match open_clerk(alloc, device) {
+        Ok(clerk) => clerk,
+        Err((fault, left)) => return (Err(fault), left),
+    };
     match load_geography(alloc, &mut clerk, geography, progress) {
-        Ok(()) => Ok(clerk),
-        Err(e) => Err(load_fault(e)),
+        Ok(()) => (Ok(()), clerk.into_device()),
+        Err(e) => (Err(load_fault(e)), clerk.into_device()),
     }
 }

@@ -39,7 +39,7 @@ fn read_geography<R: Source>(
     read_ground(alloc, rows, &mut files.gal)
 }
 
-/// Fills the store of a name with a geography: what is printed of it.
+/// Fills the store of a name with a geography, and closes it: what is printed of it.
 fn fill_store<D: SectorDevice + Drop, O: Stores<D>, P: Progress>(
     alloc: Global,
     stores: &mut O,
@@ -47,15 +47,17 @@ fn fill_store<D: SectorDevice + Drop, O: Stores<D>, P: Progress>(
     geography: Geography,
     progress: &mut P,
 ) -> Result<Vec<u8>, StoreFault>
-    ensures { Fills D.SectorDevice O.opens stores.old name.now geography result stores.new }
+    ensures { Fills D.SectorDevice O.opens O.closes stores.old name.now geography result stores.new }
 {
     let text = loaded_text(alloc, &geography)?;
     let Ok(geography) = Arc::new(alloc, geography) else {
         return Err(StoreFault::Memory);
     };
     let device = stores.open(name)?;
-    match fill(alloc, device, geography, progress) {
-        Ok(_) => Ok(text),
+    let (filled, left) = fill(alloc, device, geography, progress);
+    stores.close(left);
+    match filled {
+        Ok(()) => Ok(text),
         Err(fault) => Err(fault),
     }
 }
@@ -70,7 +72,7 @@ fn end_load<D: SectorDevice + Drop, O: Stores<D>, P: Progress, W: Sink, E: Sink>
     writer: &mut W,
     errors: &mut E,
 ) -> Status
-    ensures { EndsLoad D.SectorDevice O.opens stores.old stores.new name.now read result (written_of W.contents W.failures writer.old) (written_of W.contents W.failures writer.new) (written_of E.contents E.failures errors.old) (written_of E.contents E.failures errors.new) }
+    ensures { EndsLoad D.SectorDevice O.opens O.closes stores.old stores.new name.now read result (written_of W.contents W.failures writer.old) (written_of W.contents W.failures writer.new) (written_of E.contents E.failures errors.old) (written_of E.contents E.failures errors.new) }
 {
     match read {
         Ok(geography) => {
@@ -83,7 +85,8 @@ fn end_load<D: SectorDevice + Drop, O: Stores<D>, P: Progress, W: Sink, E: Sink>
 
 /// Fills a store with the geography that the files say, and prints its blocks, counties and people: 0. 3 where a file is refused, 4
 /// where the store is and 5 where memory is, with the fault told and nothing printed; 6 where the writing fails. The files are
-/// judged before the store is opened. `progress` hears how many rows were written so far.
+/// judged before the store is opened, and its device is closed whatever came of it. `progress` hears how many rows were written so
+/// far.
 pub fn load<R: Source, D: SectorDevice + Drop, O: Stores<D>, P: Progress, W: Sink, E: Sink>(
     alloc: Global,
     files: &mut StateFiles<R>,
@@ -93,7 +96,7 @@ pub fn load<R: Source, D: SectorDevice + Drop, O: Stores<D>, P: Progress, W: Sin
     writer: &mut W,
     errors: &mut E,
 ) -> Status
-    ensures { Loads D.SectorDevice O.opens (openings_of R.remaining R.turns R.failures files.old) (openings_of R.remaining R.turns R.failures files.new) stores.old stores.new name.now result (written_of W.contents W.failures writer.old) (written_of W.contents W.failures writer.new) (written_of E.contents E.failures errors.old) (written_of E.contents E.failures errors.new) }
+    ensures { Loads D.SectorDevice O.opens O.closes (openings_of R.remaining R.turns R.failures files.old) (openings_of R.remaining R.turns R.failures files.new) stores.old stores.new name.now result (written_of W.contents W.failures writer.old) (written_of W.contents W.failures writer.new) (written_of E.contents E.failures errors.old) (written_of E.contents E.failures errors.new) }
 {
     let read = read_geography(alloc, files);
     end_load(alloc, read, stores, name, progress, writer, errors)

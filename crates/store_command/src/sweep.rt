@@ -1,7 +1,7 @@
 //! `sweep`: a store is swept until nothing is left to be taken out.
 ghost use Rattle.std.specs.Prelude.{◌≡◌};
 ghost use Rattle.command_output.specs.Writing.{written_of};
-ghost use Rattle.store_command.specs.Sweeping.{Sweeps, SweepsStore};
+ghost use Rattle.store_command.specs.Sweeping.{SweepsDevice, Sweeps, SweepsStore};
 
 use crate::fault::StoreFault;
 use crate::filling::open_clerk;
@@ -15,25 +15,50 @@ use command_progress::Progress;
 use sector_device::SectorDevice;
 use std::alloc::Global;
 
-/// Sweeps the store of a name: what is printed of it.
+/// Sweeps the store that a device holds, and gives the device back: how many rows were taken out.
+fn sweep_device<D: SectorDevice + Drop, P: Progress>(
+    alloc: Global,
+    device: D,
+    progress: &mut P,
+) -> (Result<u64, StoreFault>, D)
+    ensures { SweepsDevice D.SectorDevice device result.0 result.1 }
+{
+    let mut clerk = match open_clerk(alloc, device) {
+        Ok(clerk) => clerk,
+        Err((fault, left)) => return (Err(fault), left),
+    };
+    let swept = sweep_all(alloc, &mut clerk, progress);
+    (swept, clerk.into_device())
+}
+
+/// Sweeps the store of a name, and closes it: what is printed of it.
 fn sweep_store<D: SectorDevice + Drop, O: Stores<D>, P: Progress>(
     alloc: Global,
     stores: &mut O,
     name: &str,
     progress: &mut P,
 ) -> Result<Vec<u8>, StoreFault>
-    ensures { Sweeps D.SectorDevice O.opens stores.old name.now result stores.new }
+    ensures { Sweeps D.SectorDevice O.opens O.closes stores.old name.now result stores.new }
 {
-    let device = stores.open(name)?;
-    let mut clerk = open_clerk(alloc, device)?;
-    let rows = sweep_all(alloc, &mut clerk, progress)?;
-    let text = swept_text(alloc, rows)?;
-    Ok(text)
+    let device = match stores.open(name) {
+        Ok(device) => device,
+        Err(fault) => return Err(fault),
+    };
+    let (swept, left) = sweep_device(alloc, device, progress);
+    stores.close(left);
+    let rows = match swept {
+        Ok(rows) => rows,
+        Err(fault) => return Err(fault),
+    };
+    match swept_text(alloc, rows) {
+        Ok(text) => Ok(text),
+        Err(_) => Err(StoreFault::Memory),
+    }
 }
 
 /// Sweeps the store of a name until nothing is left to be taken out, and prints how many rows were: 0. 4 where the store is refused
-/// or its device fails, and 5 where memory is refused, with the fault told and nothing printed; 6 where the writing fails. `progress`
-/// hears after each step how many rows there were so far.
+/// or its device fails, and 5 where memory is refused, with the fault told and nothing printed; 6 where the writing fails. The device
+/// is closed whatever came of it. `progress` hears after each step how many rows there were so far.
 pub fn sweep<D: SectorDevice + Drop, O: Stores<D>, P: Progress, W: Sink, E: Sink>(
     alloc: Global,
     stores: &mut O,
@@ -42,7 +67,7 @@ pub fn sweep<D: SectorDevice + Drop, O: Stores<D>, P: Progress, W: Sink, E: Sink
     writer: &mut W,
     errors: &mut E,
 ) -> Status
-    ensures { SweepsStore D.SectorDevice O.opens stores.old stores.new name.now result (written_of W.contents W.failures writer.old) (written_of W.contents W.failures writer.new) (written_of E.contents E.failures errors.old) (written_of E.contents E.failures errors.new) }
+    ensures { SweepsStore D.SectorDevice O.opens O.closes stores.old stores.new name.now result (written_of W.contents W.failures writer.old) (written_of W.contents W.failures writer.new) (written_of E.contents E.failures errors.old) (written_of E.contents E.failures errors.new) }
 {
     let given = sweep_store(alloc, stores, name, progress);
     end_store(b"plandesk: sweep: WriteFault\n", given, writer, errors)

@@ -1,9 +1,7 @@
 //! Sweeps a store by as many steps as it takes.
-ghost use Rattle.std.specs.Prelude.{◌≡◌, false, IfOk, IfErr};
-ghost use Rattle.store_rows.specs.Rows.{KeyMap};
-ghost use Rattle.desk_store.specs.Clerks.{disk_of, is_halted};
-ghost use Rattle.desk_store.specs.Sweeps.{HasRows};
-ghost use Rattle.store_command.specs.Sweeping.{fault_of_sweep, KeepsDesk, HasSweptAll, IsStopped};
+ghost use Rattle.std.specs.Prelude.{◌≡◌, false};
+ghost use Rattle.desk_store.specs.Clerks.{is_halted};
+ghost use Rattle.store_command.specs.Sweeping.{fault_of_sweep, KeepsDesk, SweepsAll};
 
 use crate::fault::StoreFault;
 use command_progress::Progress;
@@ -33,9 +31,7 @@ pub fn sweep_all<D: SectorDevice, P: Progress>(
 ) -> Result<u64, StoreFault>
     requires { is_halted clerk.old ≡ false }
     ensures keeps { KeepsDesk clerk.old clerk.new }
-    ensures swept { (disk_of clerk.new).is_honest → (m : KeyMap) → HasRows clerk.old m → IfOk result (λ rows. HasSweptAll clerk.old m rows clerk.new) }
-    ensures working { IfOk result (λ _. is_halted clerk.new ≡ false) }
-    ensures err { IfErr result (λ fault. IsStopped clerk.old fault clerk.new) }
+    ensures sweeps { SweepsAll clerk.old result clerk.new }
 {
     let mut rows = 0;
     for steps in 0..MOST_STEPS {

@@ -1,16 +1,17 @@
 use Rattle.std.proofs.Common.{inr}
+use Rattle.store_command.proofs.Used.{has_loaded, has_kept}
 use Rattle.store_command.proofs.filling.fill.Goals as goal
 
-pub returns-in-Err-clause-err : goal.returns-in-Err-clause-err
-returns-in-Err-clause-err g c = inr (record {
-  error = c.in-Err.e;
-  told = c.load_fault.ensures;
-  kept = record {
-    x = c.in_ok-clerk.clerk;
-    y = c.load_geography.new.clerk;
-    opened = c.in_ok-clerk.ensures.ok;
-    desk = c.in-Err.ensures.same;
-    keeps = c.in-Err.ensures.keeps;
-    why = c.in-Err.ensures.err;
-  };
-})
+pub returns-in-Ok-load_geography : goal.returns-in-Ok-load_geography
+returns-in-Ok-load_geography g c =
+    let did = c.in-Ok-load_geography.ensures in
+    has_loaded c.args.device c.in-Ok.clerk c.load_geography.new.clerk c.in-Ok.ensures.ok c.args.geography.value did.moves c.into_device.result c.into_device.ensures did.loaded
+
+pub returns-in-Err-load_geography : goal.returns-in-Err-load_geography
+returns-in-Err-load_geography g c =
+    let did = c.in-Err-load_geography.ensures in
+    inr (record {
+      error = c.in-Err-load_geography.e;
+      told = c.load_fault.ensures;
+      kept = has_kept c.args.device c.in-Ok.clerk c.load_geography.new.clerk c.in-Ok.ensures.ok c.args.geography.value did.moves c.into_device-in-Err-load_geography.result c.into_device-in-Err-load_geography.ensures c.in-Err-load_geography.e did.err did.same;
+    })

@@ -1,5 +1,5 @@
-use Rattle.std.proofs.Common.{refl, arith}
-use Rattle.store_command.proofs.Swept.{none_kept, more_kept, none_taken, more_taken, all_taken, endless}
+use Rattle.std.proofs.Common.{arith}
+use Rattle.store_command.proofs.Swept.{none_kept, more_kept, none_taken, more_taken, all_taken, step_stopped, endless}
 use Rattle.store_command.proofs.sweeping.sweep_all.Goals as goal
 
 pub loop-steps-init : goal.loop-steps-init
@@ -28,14 +28,32 @@ loop-steps-preserved g c =
           more_taken x y z m c.loop-steps.rows c.in-Ok.count before.kept.loading one (did.swept honest one.n one.has);
     }
 
-pub returns-then-count-eq0-clause-swept : goal.returns-then-count-eq0-clause-swept
-returns-then-count-eq0-clause-swept g c = λ honest m has.
+pub returns-then-count-eq0-clause-keeps : goal.returns-then-count-eq0-clause-keeps
+returns-then-count-eq0-clause-keeps g c =
+    let did = c.in-Ok.ensures in
+    more_kept c.args.clerk.now c.loop-steps.clerk c.sweep_step.new.self c.loop-steps.invariant.kept did.moves did.desk did.loading
+
+pub returns-then-count-eq0-clause-sweeps : goal.returns-then-count-eq0-clause-sweeps
+returns-then-count-eq0-clause-sweeps g c =
     let did = c.in-Ok.ensures in
     let before = c.loop-steps.invariant in
-    all_taken c.args.clerk.now c.loop-steps.clerk c.sweep_step.new.self m c.loop-steps.rows c.in-Ok.count before.kept.loading c.if-count-eq0.true (before.taken (did.moves.honest honest) m has) (λ n rows. did.swept honest n rows)
+    record {
+      works = did.working.1;
+      swept = λ honest m has. all_taken c.args.clerk.now c.loop-steps.clerk c.sweep_step.new.self m c.loop-steps.rows c.in-Ok.count before.kept.loading c.if-count-eq0.true (before.taken (did.moves.honest honest) m has) (λ n rows. did.swept honest n rows);
+    }
 
-pub returns-clause-err : goal.returns-clause-err
-returns-clause-err g c =
+pub returns-in-Err-clause-keeps : goal.returns-in-Err-clause-keeps
+returns-in-Err-clause-keeps g c =
+    let did = c.in-Err.ensures in
+    more_kept c.args.clerk.now c.loop-steps.clerk c.sweep_step.new.self c.loop-steps.invariant.kept did.moves did.desk did.loading
+
+pub returns-in-Err-clause-sweeps : goal.returns-in-Err-clause-sweeps
+returns-in-Err-clause-sweeps g c =
+    let before = c.loop-steps.invariant in
+    step_stopped c.args.clerk.now c.loop-steps.clerk c.sweep_step.new.self c.in-Err.e c.sweep_fault.result c.sweep_fault.ensures before.kept before.working c.in-Err.ensures.err
+
+pub returns-clause-sweeps : goal.returns-clause-sweeps
+returns-clause-sweeps g c =
     let done = c.loop-steps-test.false in
     let least = c.loop-steps.invariant.least in
     endless c.args.clerk.now c.loop-steps.clerk c.loop-steps.rows (omega arith) c.loop-steps.invariant.taken
