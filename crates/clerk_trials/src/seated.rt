@@ -13,7 +13,7 @@ use desk_gallery::office::Office;
 use desk_gallery::visitor::Visitor;
 use desk_model::gate::Gate;
 use desk_store::clerk::Clerk;
-use http_desk::serve::{StreamFault, Served};
+use http_desk::serve::{Served, StreamFault};
 use http_seats::many::{Arrivals, serve_many};
 use http_seats::ran::Ran;
 use sector_memory::MemoryDevice;

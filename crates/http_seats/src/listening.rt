@@ -4,7 +4,7 @@ ghost use Rattle.std.specs.Prelude.{◌≡◌, ◌≤◌, ◌⊎◌, true};
 use crate::many::Arrivals;
 use byte_stream::source::ReadSource;
 use http_answer::gather::Gathering;
-use http_desk::serve::{StreamFault, Served};
+use http_desk::serve::{Served, StreamFault};
 use std::io::ErrorKind;
 use std::net::{TcpListener, TcpStream};
 use std::sync::atomic::{AtomicU64, Ordering};

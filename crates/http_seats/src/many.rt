@@ -10,7 +10,7 @@ use desk_gallery::office::Office;
 use desk_gallery::visitor::Visitor;
 use desk_model::gate::Gate;
 use http_answer::gather::GatherSink;
-use http_desk::serve::{StreamFault, Served, serve};
+use http_desk::serve::{Served, StreamFault, serve};
 use sector_device::SectorDevice;
 use std::alloc::{AllocError, Global};
 use std::sync::Wait;
@@ -26,7 +26,12 @@ pub trait Arrivals {
     fn next(&self) -> Option<(Self::Reader, Self::Writer)>;
 
     /// Takes a stream back once it is served, with what it came to.
-    fn ended(&self, reader: Self::Reader, writer: Self::Writer, served: Result<Served, StreamFault>);
+    fn ended(
+        &self,
+        reader: Self::Reader,
+        writer: Self::Writer,
+        served: Result<Served, StreamFault>,
+    );
 }
 
 /// A gate as one worker passes it.

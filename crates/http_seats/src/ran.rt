@@ -2,7 +2,7 @@
 ghost use Rattle.std.specs.Prelude.{◌≡◌, ◌≤◌};
 ghost use Rattle.http_seats.specs.Running.{joined, no_streams, one_more, requests_of};
 
-use http_desk::serve::{StreamFault, Served};
+use http_desk::serve::{Served, StreamFault};
 
 /// What a run came to. The numbers stay at their greatest value.
 #[derive(Clone, Copy, Debug, PartialEq, Eq)]

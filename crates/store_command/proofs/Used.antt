@@ -1,7 +1,8 @@
 -- A device that was opened, used by the clerk, and given back.
 use Rattle.std.proofs.Common.{◌≡◌, ℕ, Bool, true, false, inl, inr, ⊎_elim, refl, sym, subst, ◌∙◌}
 use Rattle.sector_device.specs.Disk.{Disk, Image}
-use Rattle.sector_device.specs.Moments.{LeavesOnly, leaves_more, leaves_wider}
+use Rattle.sector_device.specs.Moments.{LeavesOnly}
+use Rattle.sector_device.proofs.Moments.{leaves_more, leaves_wider}
 use Rattle.sector_device.specs.declared.SectorDevice.{Ghosts}
 use Rattle.page_store.specs.Transactions.{device_in}
 use Rattle.desk_model.specs.Desk.{Desk}
