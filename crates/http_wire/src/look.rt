@@ -194,7 +194,7 @@ impl Sought for HeadSought {
     }
 
     // A head is judged once for each of its lines, however many pieces they come in.
-    #[tactic(auto, using(http_intake::specs::LineLemmas::no_line_ends))]
+    #[tactic(auto, using(http_intake::proofs::LineLemmas::no_line_ends))]
     fn is_due(&self, more: &[u8]) -> bool {
         ends_line(more)
     }
