@@ -22,12 +22,18 @@ use store_command::stores::Stores;
 #[derive(Drop)]
 pub struct StoreFiles<'a> {
     rt: &'a HostRuntime,
+    /// The last device is that of a new file.
+    is_new: bool,
     reason: Option<Reason>,
 }
 
 impl<'a> StoreFiles<'a> {
     pub fn new(rt: &'a HostRuntime) -> StoreFiles<'a> {
-        StoreFiles { rt, reason: None }
+        StoreFiles {
+            rt,
+            is_new: false,
+            reason: None,
+        }
     }
 
     /// Why the device of a store fails, where that is told apart.
@@ -120,21 +126,28 @@ impl<'a> Stores<FileDevice<Unknown>> for StoreFiles<'a> {
 
     fn make(&mut self, name: &str, sectors: u32) -> Result<FileDevice<Unknown>, StoreFault> {
         match FileDevice::create(self.rt, name, sectors, Unknown) {
-            Ok(device) => Ok(device),
+            Ok(device) => {
+                self.is_new = true;
+                Ok(device)
+            }
             Err(e) => Err(self.refuse(refused_as(e))),
         }
     }
 
     fn open(&mut self, name: &str) -> Result<FileDevice<Unknown>, StoreFault> {
         match open_device(self.rt, name) {
-            Ok(device) => Ok(device),
+            Ok(device) => {
+                self.is_new = false;
+                Ok(device)
+            }
             Err(refused) => Err(self.refuse(refused)),
         }
     }
 
-    // A device's file closes where the device is dropped.
+    // A device's file closes where the device is dropped. That the disk is full is a reason for a new file alone, which is to be made
+    // again.
     fn close(&mut self, device: FileDevice<Unknown>) {
-        if device.is_full() {
+        if self.is_new && device.is_full() {
             self.reason = Some(Reason::NoRoom);
         }
         drop(device)
