@@ -4,13 +4,14 @@ ghost use Rattle.byte_stream.specs.Counts.{counted};
 ghost use Rattle.http_desk.specs.Serving.{read_failures, write_failures};
 ghost use Rattle.desk_model.specs.Sample.{sample_desk};
 ghost use Rattle.desk_store.specs.Clerks.{desk_of, is_halted, Keeps};
+ghost use Rattle.desk_store.specs.Keeping.{sealed_desk};
 ghost use Rattle.talk_command.specs.Talking.{Talks, ServesSample, status_of as status_of_served};
 
 use byte_stream::source::Source;
 use command_output::status::Status;
 use desk_loading::start;
 use desk_model::gate::NoGate;
-use desk_model::geography::sample;
+use desk_model::geography::{Geography, sample};
 use desk_store::clerk::Clerk;
 use http_answer::gather::GatherSink;
 use http_desk::serve::{Served, StreamFault};
@@ -26,6 +27,22 @@ const SECTORS: u32 = 2000;
 
 const JOURNAL_PAGES: u32 = 256;
 
+/// A clerk with a geography in a new store on a device in memory, or `None` where memory is refused.
+fn clerk_in(
+    alloc: Global,
+    device: MemoryDevice,
+    geography: Arc<Geography>,
+) -> Option<Clerk<MemoryDevice>>
+    ensures keeps { IfSome result Keeps }
+    ensures desk { IfSome result (λ clerk. desk_of clerk ≡ sealed_desk geography.value) }
+    ensures working { IfSome result (λ clerk. is_halted clerk ≡ false) }
+{
+    match start(alloc, device, JOURNAL_PAGES, geography) {
+        Ok(clerk) => Some(clerk),
+        Err(_) => None,
+    }
+}
+
 /// A clerk with the sample geography in a store in memory, or `None` where memory is refused.
 fn sample_clerk(alloc: Global) -> Option<Clerk<MemoryDevice>>
     ensures keeps { IfSome result Keeps }
@@ -35,7 +52,7 @@ fn sample_clerk(alloc: Global) -> Option<Clerk<MemoryDevice>>
     let geography = sample(alloc).ok()?;
     let shared = Arc::new(alloc, geography).ok()?;
     let device = MemoryDevice::new(alloc, SECTORS).ok()?;
-    start(alloc, device, JOURNAL_PAGES, shared).ok()
+    clerk_in(alloc, device, shared)
 }
 
 /// Serves the sample desk.
