@@ -4,10 +4,10 @@ use Rattle.std.proofs.Crossing.{crosses}
 use Rattle.sector_memory.specs.contracts.past.PastStates as PastStates
 use Rattle.sector_memory.specs.contracts.memory.MemoryDevice as MemoryDevice
 
-pub past_send : IsSend Past.the_row
-past_send = owning_send Past.the_type (search sendable, tt) (λ d. tt) (λ k x w. tt)
+pub past_send : IsSend PastStates.the_row
+past_send = owning_send PastStates.the_type (search sendable, tt) (λ d. tt) (λ k x w. tt)
 
-pub past_sync : IsSync Past.the_row
+pub past_sync : IsSync PastStates.the_row
 past_sync = record { shared = λ d b o κ q. whole-keyless _ _ past_send.owned q d b o }
 
 pub memory_send : IsSend MemoryDevice.the_row
