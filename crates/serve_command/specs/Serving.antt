@@ -2,13 +2,15 @@
 use Rattle.std.specs.Prelude.{◌≡◌, ◌⊎◌, ℕ, List, ◌++◌, codes, decimal, Bool, true, false, Result, Ok, Err}
 use Rattle.byte_stream.specs.declared.sink.WriteFault.{WriteFault}
 use Rattle.sector_device.specs.declared.SectorDevice.{Ghosts}
+use Rattle.page_store.specs.Transactions.{device_in}
 use Rattle.command_output.specs.declared.status.Status.{Status}
 use Rattle.command_output.specs.declared.status.Status.TheVariants as status
 use Rattle.command_output.specs.Writing.{Written, Writes, Told}
 use Rattle.desk_store.specs.declared.clerk.Clerk.{Clerk}
 use Rattle.desk_store.specs.Clerks.{desk_of, is_halted, Keeps}
 use Rattle.desk_gallery.specs.Working.{IsRunFrom}
-use Rattle.store_command.specs.Filling.{IsOpened, IsUnopened}
+use Rattle.desk_loading.specs.Openings.{IsOpened}
+use Rattle.store_command.specs.Filling.{IsNotOpened}
 use Rattle.store_command.specs.Telling.{store_line, status_of as status_of_store}
 use Rattle.store_command.specs.declared.fault.StoreFault.{StoreFault}
 use Rattle.store_command.specs.declared.fault.StoreFault.TheVariants.{Memory, DeviceFault}
@@ -43,38 +45,54 @@ abbrev pub EndsServing : Result (Unit {0}) ServeFault → Status → (told_befor
 EndsServing (Ok u) end told_before told_after = (end ≡ status.Done) × (told_after ≡ told_before)
 EndsServing (Err fault) end told_before told_after = (end ≡ status_of fault) × Told told_before told_after (fault_line fault)
 
-module _ {D O : Type 0} (g : Ghosts D) (opens : O → List ℕ → Result D StoreFault → O → Type 0) where
+module _ {D O : Type 0} (g : Ghosts D) (opens : O → List ℕ → Result D StoreFault → O → Type 0) (closes : O → D → O → Type 0) where
   -- this clerk opened the store of the name
   pub record IsOpen (before : O) (name : List ℕ) (clerk : Clerk D g) (after : O) : Type 0 where
     pub device : D
     pub given : opens before name (Ok device) after
     pub opened : IsOpened device clerk
 
-  -- the name's device was opened, and not as a store
+  -- a clerk's device was closed as the clerk left it
+  abbrev pub ClosesClerk : (before : O) → Clerk D g → (after : O) → Type 0
+  ClosesClerk before clerk after = closes before (device_in clerk.pages) after
+
+  -- this clerk opened the store of the name, and its device was closed as it was then
+  pub record IsUnused (before : O) (name : List ℕ) (after : O) : Type 0 where
+    pub clerk : Clerk D g
+    pub middle : O
+    pub given : IsOpen before name clerk middle
+    pub closed : ClosesClerk middle clerk after
+
+  -- the name's device was opened, and not as a store, and was closed so
   pub record IsNoStore (before : O) (name : List ℕ) (fault : StoreFault) (after : O) : Type 0 where
     pub device : D
-    pub given : opens before name (Ok device) after
-    pub why : IsUnopened g device fault
+    pub middle : O
+    pub given : opens before name (Ok device) middle
+    pub left : D
+    pub why : IsNotOpened g device fault left
+    pub closed : closes middle left after
 
   abbrev pub OpensStore : (before : O) → List ℕ → Result (Clerk D g) StoreFault → (after : O) → Type 0
   OpensStore before name (Ok clerk) after = IsOpen before name clerk after
   OpensStore before name (Err fault) after = opens before name (Err fault) after ⊎ IsNoStore before name fault after
 
-  -- the store of the name was opened and served; who has it last keeps it if who opened it did, and has the desk after commands that
-  -- were accepted one after the other
+  -- the store of the name was opened and served; who has it last keeps it if who opened it did, has the desk after commands that were
+  -- accepted one after the other, and its device was closed
   pub record IsServed (before : O) (name : List ℕ) (has_halted : Bool) (after : O) : Type 0 where
     pub first : Clerk D g
-    pub found : IsOpen before name first after
+    pub middle : O
+    pub found : IsOpen before name first middle
     pub last : Clerk D g
     pub keeps : Keeps first → Keeps last
     pub ran : IsRunFrom (desk_of first) (desk_of last)
     pub halted : is_halted last ≡ has_halted
+    pub closed : ClosesClerk middle last after
 
   -- where memory is refused before, nothing is opened
   abbrev pub NotOpened : (before : O) → List ℕ → StoreFault → (after : O) → Type 0
   NotOpened before name fault after = ((fault ≡ Memory) × (after ≡ before)) ⊎ OpensStore before name (Err fault) after
 
-  -- memory for the seats was refused, or the device failed while the store was served
+  -- memory for the seats was refused, behind which the clerk is gone, or the device failed while the store was served
   abbrev pub HasStopped : (before : O) → List ℕ → StoreFault → (after : O) → Type 0
   HasStopped before name fault after =
       ((fault ≡ Memory) × (clerk : Clerk D g) × IsOpen before name clerk after) ⊎ ((fault ≡ DeviceFault) × IsServed before name true after)
@@ -88,7 +106,7 @@ module _ {D O : Type 0} (g : Ghosts D) (opens : O → List ℕ → Result D Stor
   Announces port stores name (Err Socket) stores_after before after =
       ((after ≡ before) × (stores_after ≡ stores)) ⊎ (HasAnnounced port before after × IsServed stores name false stores_after)
   Announces port stores name (Err Output) stores_after before after =
-      ((fault : WriteFault) × Writes before after (listening_text port) (Err fault)) × (clerk : Clerk D g) × IsOpen stores name clerk stores_after
+      ((fault : WriteFault) × Writes before after (listening_text port) (Err fault)) × IsUnused stores name stores_after
 
   -- the store of the name, served
   abbrev pub Serves : (port : ℕ) → (stores : O) → List ℕ → Status → (stores_after : O) → (before after told_before told_after : Written) → Type 0

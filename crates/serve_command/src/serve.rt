@@ -21,13 +21,13 @@ use store_command::fault::StoreFault;
 use store_command::filling::open_clerk;
 use store_command::stores::Stores;
 
-/// The clerk who opens the store of a name.
+/// The clerk who opens the store of a name. What is no store is closed.
 fn open_store<D: SectorDevice + Drop, O: Stores<D>>(
     alloc: Global,
     stores: &mut O,
     name: &str,
 ) -> Result<Clerk<D>, StoreFault>
-    ensures { OpensStore D.SectorDevice O.opens stores.old name.now result stores.new }
+    ensures { OpensStore D.SectorDevice O.opens O.closes stores.old name.now result stores.new }
 {
     let device = match stores.open(name) {
         Ok(device) => device,
@@ -35,7 +35,10 @@ fn open_store<D: SectorDevice + Drop, O: Stores<D>>(
     };
     match open_clerk(alloc, device) {
         Ok(clerk) => Ok(clerk),
-        Err(fault) => Err(fault),
+        Err((fault, left)) => {
+            stores.close(left);
+            Err(fault)
+        }
     }
 }
 
@@ -69,7 +72,7 @@ fn serve_store<
     writer: &mut W,
 ) -> Result<(), ServeFault>
     requires { 1 ≤ serving.workers }
-    ensures { Announces D.SectorDevice O.opens serving.port stores.old name.now result stores.new (written_of W.contents W.failures writer.old) (written_of W.contents W.failures writer.new) }
+    ensures { Announces D.SectorDevice O.opens O.closes serving.port stores.old name.now result stores.new (written_of W.contents W.failures writer.old) (written_of W.contents W.failures writer.new) }
 {
     let Ok(text) = listening_text(alloc, serving.port) else {
         return Err(ServeFault::Store(StoreFault::Memory));
@@ -80,17 +83,24 @@ fn serve_store<
     };
     match writer.send(text.as_slice()) {
         Ok(()) => {}
-        Err(_) => return Err(ServeFault::Output),
+        Err(_) => {
+            stores.close(clerk.into_device());
+            return Err(ServeFault::Output);
+        }
     }
     match serve_clerk(rt, alloc, clerk, serving.workers, listening) {
-        Ok(last) => end_run(&last, listening.has_failed()),
+        Ok(last) => {
+            let ended = end_run(&last, listening.has_failed());
+            stores.close(last.into_device());
+            ended
+        }
         Err(_) => Err(ServeFault::Store(StoreFault::Memory)),
     }
 }
 
 /// Serves the store of a name to the connections that come: 0 once no further one comes. 4 where the store is refused or its device
 /// fails, 5 where memory is refused, and 6 where no socket listens or standard output fails, with the fault told. The line that says
-/// where it listens is printed once the store is open.
+/// where it listens is printed once the store is open, and the store is closed once the last clerk gives it back.
 pub fn serve<
     D: SectorDevice + Drop + Send + Sync,
     O: Stores<D>,
@@ -109,7 +119,7 @@ pub fn serve<
     errors: &mut E,
 ) -> Status
     requires { 1 ≤ serving.workers }
-    ensures { Serves D.SectorDevice O.opens serving.port stores.old name.now result stores.new (written_of W.contents W.failures writer.old) (written_of W.contents W.failures writer.new) (written_of E.contents E.failures errors.old) (written_of E.contents E.failures errors.new) }
+    ensures { Serves D.SectorDevice O.opens O.closes serving.port stores.old name.now result stores.new (written_of W.contents W.failures writer.old) (written_of W.contents W.failures writer.new) (written_of E.contents E.failures errors.old) (written_of E.contents E.failures errors.new) }
 {
     let ended = match listening {
         Some(listening) => serve_store(rt, alloc, stores, name, serving, listening, writer),

@@ -12,8 +12,12 @@ returns-in-Err-send g c =
     let front : List ℕ → Type 0 = λ line. Writes before after line (Err c.in-Err-send.field-0) in
     let is : c.as_slice.result.now ≡ listening_text c.args.serving.port = c.as_slice.ensures.value ∙ c.in-Ok.ensures in (
       (c.in-Err-send.field-0, subst front is (c.in-Err-send.ensures.bytes, c.in-Err-send.ensures.failures)),
-      c.in-Ok-open_store.clerk,
-      c.in-Ok-open_store.ensures,
+      record {
+        clerk = c.in-Ok-open_store.clerk;
+        middle = c.open_store.new.stores;
+        given = c.in-Ok-open_store.ensures;
+        closed = subst (λ d. g.O.Stores.closes c.open_store.new.stores d c.close.new.self) c.into_device.ensures c.close.ensures;
+      },
     )
 
 pub returns-in-Ok-serve_clerk : goal.returns-in-Ok-serve_clerk
@@ -23,14 +27,16 @@ returns-in-Ok-serve_clerk g c =
     let whole : List ℕ → Type 0 = λ line. Writes before after line (Ok tt) in
     let is : c.as_slice.result.now ≡ listening_text c.args.serving.port = c.as_slice.ensures.value ∙ c.in-Ok.ensures in
     let line : HasAnnounced c.args.serving.port before after = subst whole is (c.in-Ok-send.ensures.bytes, c.in-Ok-send.ensures.failures) in
-    let ends : Result (Unit {0}) ServeFault → Type 0 = λ ended. Announces g.D.SectorDevice g.O.Stores.opens c.args.serving.port c.args.stores.now c.args.name.now ended c.open_store.new.stores before after in
-    subst ends (sym c.end_run.ensures) (run_ends g.D.SectorDevice g.O.Stores.opens c.args.serving.port c.args.stores.now c.args.name.now c.open_store.new.stores before after _ c.has_failed.result line (record {
+    let ends : Result (Unit {0}) ServeFault → Type 0 = λ ended. Announces g.D.SectorDevice g.O.Stores.opens g.O.Stores.closes c.args.serving.port c.args.stores.now c.args.name.now ended c.close-in-Ok-serve_clerk.new.self before after in
+    subst ends (sym c.end_run-ended.ensures) (run_ends g.D.SectorDevice g.O.Stores.opens g.O.Stores.closes c.args.serving.port c.args.stores.now c.args.name.now c.close-in-Ok-serve_clerk.new.self before after _ c.has_failed.result line (record {
       first = c.in-Ok-open_store.clerk;
+      middle = c.open_store.new.stores;
       found = c.in-Ok-open_store.ensures;
       last = c.in-Ok-serve_clerk.last;
       keeps = c.in-Ok-serve_clerk.ensures.kept;
       ran = c.in-Ok-serve_clerk.ensures.ran;
       halted = refl;
+      closed = subst (λ d. g.O.Stores.closes c.open_store.new.stores d c.close-in-Ok-serve_clerk.new.self) c.into_device-in-Ok-serve_clerk.ensures c.close-in-Ok-serve_clerk.ensures;
     }))
 
 pub returns : goal.returns
