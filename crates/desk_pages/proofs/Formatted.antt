@@ -41,7 +41,7 @@ new_opens J disk new c leaves = record {
   holds = record {
     m = none;
     holds = new_holds new.n (pages J disk.reads) new.root new.sound new.free;
-    is = record { desk = no_rows_desk; tidy = empty_tidy.0; limits = no_plans_within };
+    is = record { desk = no_rows_desk; tidy = empty_tidy.0; old = empty_tidy.2; limits = no_plans_within };
   };
   sound = new.sound;
 }

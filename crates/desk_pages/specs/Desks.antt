@@ -1,5 +1,5 @@
 -- Pages that hold a desk.
-use Rattle.std.specs.Prelude.{◌≡◌, ◌≤◌, ◌+◌, ℕ, List, Some, None}
+use Rattle.std.specs.Prelude.{false, ◌≡◌, ◌≤◌, ◌+◌, ℕ, List, Some, None}
 use Rattle.std.specs.FinMap as map_of
 use Rattle.sector_device.specs.Disk.{Image}
 use Rattle.sector_device.specs.declared.SectorDevice.{Ghosts}
@@ -26,10 +26,11 @@ pub record IsWithinLimits (d : Desk) : Type 0 where
   pub few : map_of.len d.plans ≤ plan_limit
   pub sizes : (name : List ℕ) (p : Plan) → map_of.get d.plans name ≡ Some p → IsSized p
 
--- the rows are those of the desk, and no others but what is staged or was left behind
+-- the rows are those of the desk, and no others but what is staged or was left behind; no row tells which plans hold a chunk
 pub record IsDeskMap (m : KeyMap) (d : Desk) : Type 0 where
   pub desk : IsDesk m d
   pub tidy : Tidy m
+  pub old : tidy.new ≡ false
   pub limits : IsWithinLimits d
 
 -- n pages with a root and free pages hold the desk

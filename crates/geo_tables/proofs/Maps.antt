@@ -52,9 +52,12 @@ unseen m n d is none go =
 pub begun_is : (m : KeyMap) (d : Desk) (next : Counters) → IsDeskMap m d → IsNext m next → CountersFit next → next.load + 1 < 2 ^ 64 → IsDeskMap (put_rows m (begun_rows next)) d
 begun_is m d next is is_next fits more =
     let same : next ≡ is.tidy.next = one_next m next is.tidy.next fits is.tidy.fits is_next is.tidy.is_next in
+    let begun = begun_tidy m is.tidy (subst (λ (c : Counters). c.load + 1 < 2 ^ 64) same more) in
+    let after = subst (λ (c : Counters). (then : Tidy (put_rows m (begun_rows c))) × (then.new ≡ is.tidy.new)) (sym same) (begun.0, begun.2) in
     record {
       desk = begun_desk m next d is.desk;
-      tidy = subst (λ (c : Counters). Tidy (put_rows m (begun_rows c))) (sym same) (begun_tidy m is.tidy (subst (λ (c : Counters). c.load + 1 < 2 ^ 64) same more)).0;
+      tidy = after.0;
+      old = after.1 ∙ is.old;
       limits = is.limits;
     }
 
@@ -72,12 +75,15 @@ load_key load g place blocks_few pairs_few within = elim (cases_lt place (length
 
 module _ (m : KeyMap) (d : Desk) (load : ℕ) (g : Ground) (done rows : ℕ) (is : IsDeskMap m d) (mark : Has m (begun load) []) (unsealed : Lacks m seal) where
   pub batch_is : load < 2 ^ 64 → length g.blocks ≤ 2 ^ 32 → length g.pairs ≤ 2 ^ 32 → done + rows ≤ geography_rows g → IsDeskMap (put_rows m (staged_rows load g done rows)) d
-  batch_is load_fits blocks_few pairs_few within = record {
-    desk = unseen m (put_rows m (staged_rows load g done rows)) d is.desk unsealed (batch_unseen m load g done rows d.plans);
-    tidy = (staged_tidy m is.tidy load (staged_rows load g done rows) load_fits (inr mark)
-        (told_all (λ row. IsLoadKey load row.0) (λ k. staged_row load g (done + k)) rows (λ k less. load_key load g (done + k) blocks_few pairs_few (omega arith)))).0;
-    limits = is.limits;
-  }
+  batch_is load_fits blocks_few pairs_few within =
+      let after = staged_tidy m is.tidy load (staged_rows load g done rows) load_fits (inr mark)
+      (told_all (λ row. IsLoadKey load row.0) (λ k. staged_row load g (done + k)) rows (λ k less. load_key load g (done + k) blocks_few pairs_few (omega arith))) in
+      record {
+        desk = unseen m (put_rows m (staged_rows load g done rows)) d is.desk unsealed (batch_unseen m load g done rows d.plans);
+        tidy = after.0;
+        old = after.2 ∙ is.old;
+        limits = is.limits;
+      }
 
   pub batch_mark : Has (put_rows m (staged_rows load g done rows)) (begun load) []
   batch_mark = batch_tag m load g done rows 76 (λ same. absurd (omega arith)) _ ∙ mark
@@ -89,8 +95,10 @@ module _ (m : KeyMap) (d : Desk) (load : ℕ) (g : Ground) (done rows : ℕ) (is
 pub seal_is : (m : KeyMap) (d : Desk) (load : ℕ) (g : Ground) → IsDeskMap m d → IsStaged m load g (geography_rows g) → Has m (begun load) [] → Lacks m seal → IsGround g → load < 2 ^ 64 → length g.pairs < 2 ^ 32 → IsDeskMap (sealed_rows load g m) (desk_with g d.plans)
 seal_is m d load g is staged mark unsealed sound load_fits pairs_fit =
     let s : SealRow = record { load = load; blocks = length g.blocks; pairs = length g.pairs } in
+    let after = sealed_tidy m is.tidy s load_fits unsealed mark in
     record {
       desk = sealed_desk m load g d.plans staged sound load_fits pairs_fit (subst (λ (e : Desk). IsDesk m e) (without d (no_geography m d is.desk unsealed)) is.desk);
-      tidy = (sealed_tidy m is.tidy s load_fits unsealed mark).0;
+      tidy = after.0;
+      old = after.2 ∙ is.old;
       limits = record { few = is.limits.few; sizes = is.limits.sizes };
     }

@@ -46,7 +46,9 @@ rows_few counted g name last next row counters kept =
     let chunks = new_chunk_rows counters.chunk (changed g last next) in
     let names = name_rows row.number (row.revisions + 1) numbers in
     let two = revised_rows name row (length (changed g last next)) counters in
-    ap length (append_assoc chunks names two) ∙ counted g last next counters name row numbers long
+    let all = counted false g last next counters name row numbers long in
+    let same : length (rows_of_revision false counters name row (changed g last next) numbers) ≡ revision_rows g last next = omega (arith, all) in
+    ap length (append_assoc chunks names two) ∙ same
 
 -- ---- the chunks of the revision
 clash : (o : Option (List ℕ)) (x : List ℕ) → o ≡ None → o ≡ Some x → ⊥
@@ -92,10 +94,10 @@ module _ (kept_law : ChunksAreKept) (firsts : FirstsAreDrawn) (changes : Changes
       (changes m counters row.number kept (cut g last) (cut g next) (subst (λ (numbers : List ℕ). AreKept m row.number numbers (cut g last)) (sym same) stay) (also ∙ sym many) (omega arith) (are_chunk_lists counties cut_law g next can.blocks can.long can.each))
 
 -- ---- the rows, in the order in which they are put
-in_order : (counters : Counters) (name : List ℕ) (row other : PlanRow) (lists : List (List ℕ)) (numbers : List ℕ) → row ≡ other → rows_put name row counters lists numbers (length lists) ≡ rows_of_revision counters name other lists numbers
+in_order : (counters : Counters) (name : List ℕ) (row other : PlanRow) (lists : List (List ℕ)) (numbers : List ℕ) → row ≡ other → rows_put name row counters lists numbers (length lists) ≡ rows_of_revision false counters name other lists numbers
 in_order counters name row other lists numbers told =
     append_assoc (new_chunk_rows counters.chunk lists) (name_rows row.number (row.revisions + 1) numbers) (revised_rows name row (length lists) counters)
-    ∙ ap (λ (r : PlanRow). rows_of_revision counters name r lists numbers) told
+    ∙ ap (λ (r : PlanRow). rows_of_revision false counters name r lists numbers) told
 
 next_there : (d : Desk) (name : List ℕ) (next : List ℕ) (p : Plan) → get d.plans name ≡ Some p → record d { plans = insert d.plans name (with_revision p next) } ≡ with_next name next d
 next_there d name next p there = ap (λ (o : Option Plan). with_next_of d name next o) (sym there)
@@ -114,12 +116,15 @@ module _ (told : PlansAreTold) (one : NextIsOne) (makes : RevisionsMakeDesks) (k
       let made = (makes m is.tidy g d.plans name row.number p next lists numbers (is_with m d g says.geography is.desk) says.there row_is.1 can.long says.room
       (subst (λ (n : Counters). n.chunk + length lists < 2 ^ 64) (sym are) can.room)
       (subst (λ (n : Counters). IsDrawn m n row.number lists numbers (cut g next)) (sym are) draws)).put in
-      let rows : all_rows g name last next row counters kept ≡ rows_of_revision is.tidy.next name (plan_row_of row.number p) lists numbers =
-      in_order counters name row (plan_row_of row.number p) lists numbers row_is.0 ∙ ap (λ (n : Counters). rows_of_revision n name (plan_row_of row.number p) lists numbers) (sym are) in
+      let rows : all_rows g name last next row counters kept ≡ rows_of_revision is.tidy.new is.tidy.next name (plan_row_of row.number p) lists numbers =
+      in_order counters name row (plan_row_of row.number p) lists numbers row_is.0
+      ∙ ap (λ (n : Counters). rows_of_revision false n name (plan_row_of row.number p) lists numbers) (sym are)
+      ∙ ap (λ (b : Bool). rows_of_revision b is.tidy.next name (plan_row_of row.number p) lists numbers) (sym is.old) in
       let sized = is.limits.sizes name p says.there in
       subst (λ (e : Desk). IsDeskMap (put_rows m (all_rows g name last next row counters kept)) e) (next_there d name next p says.there)
       (subst (λ (rs : List Row). IsDeskMap (put_rows m rs) (record d { plans = insert d.plans name (with_revision p next) })) (sym rows) (record {
         desk = is_still _ d g _ says.geography made.desk;
         tidy = made.tidy.0;
+        old = made.tidy.2 ∙ is.old;
         limits = with_another d name (with_revision p next) p says.there (record { some = sized.some; most = sized.most }) is.limits;
       }))

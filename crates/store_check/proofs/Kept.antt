@@ -16,7 +16,7 @@ use Rattle.page_btree.specs.declared.error.TreeError.TheVariants.{DeviceFault, H
 use Rattle.row_table.specs.Reading.{ReadErr}
 use Rattle.desk_model.specs.Geography.{Ground}
 use Rattle.desk_model.specs.Desk.{Desk, Plan}
-use Rattle.store_rows.specs.Keys.{RowKey, key_of, Fits, counters, retired, begun, named, part, seal, block, pair, chunk}
+use Rattle.store_rows.specs.Keys.{RowKey, key_of, Fits, counters, retired, begun, holding, tally, named, part, seal, version, block, pair, chunk}
 use Rattle.store_rows.specs.Values.{plan_bytes, seal_bytes}
 use Rattle.store_rows.specs.Lists.{AreChunks, chunks_bytes}
 use Rattle.store_rows.proofs.ListLaws.{chunks_differ}
@@ -35,9 +35,12 @@ fit_numbers : (of : RowKey) → Fits of → NumbersFit of
 fit_numbers counters fits = tt
 fit_numbers (retired plan) fits = fits
 fit_numbers (begun load) fits = fits
+fit_numbers (holding plan number) fits = tt
+fit_numbers (tally number) fits = tt
 fit_numbers (named name) fits = tt
 fit_numbers (part plan revision index) fits = fits.0
 fit_numbers seal fits = tt
+fit_numbers version fits = tt
 fit_numbers (block load place) fits = tt
 fit_numbers (pair load place) fits = tt
 fit_numbers (chunk number piece) fits = tt
@@ -76,9 +79,12 @@ module _ (m : KeyMap) (tidy : Tidy m) where
   kept_below desk is counters value fits has = tt
   kept_below desk is (retired plan) value fits has = tidy.below.retired_plans plan value fits has
   kept_below desk is (begun load) value fits has = tidy.below.begun_loads load value fits has
+  kept_below desk is (holding plan number) value fits has = tt
+  kept_below desk is (tally number) value fits has = tt
   kept_below desk is (named name) value fits has = plan_below desk.geography name value (get desk.plans name) (is.plans name) has
   kept_below desk is (part plan revision index) value fits has = part_below plan revision index value fits has
   kept_below desk is seal value fits has = seal_below desk.geography value is.geography has
+  kept_below desk is version value fits has = tt
   kept_below desk is (block load place) value fits has = tt
   kept_below desk is (pair load place) value fits has = tt
   kept_below desk is (chunk number piece) value fits has = tt

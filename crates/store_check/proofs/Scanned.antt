@@ -14,7 +14,7 @@ use Rattle.page_node.specs.Places.{key_cmp, Rises}
 use Rattle.page_node.proofs.Laws.{is_less, flip_less, above_middle, find_none}
 use Rattle.btree_scan.specs.Prefixes.{under}
 use Rattle.btree_scan.proofs.Prefixes.{find_under, head_rises, under_rises}
-use Rattle.store_rows.specs.Keys.{RowKey, key_of, counters, retired, begun, named, part, seal, block, pair, chunk}
+use Rattle.store_rows.specs.Keys.{RowKey, key_of, counters, retired, begun, holding, tally, named, part, seal, version, block, pair, chunk}
 use Rattle.store_rows.specs.declared.value.Counters.{Counters}
 use Rattle.store_rows.specs.Rows.{KeyMap, Has}
 use Rattle.store_rows.proofs.Frames.{differs, is_equal, itself, same_key}
@@ -114,9 +114,12 @@ module _ (next : Counters) (m : KeyMap) (taken : List Entry) (e : Entry) (more :
   past_below counters value fits has = tt
   past_below (retired plan) value fits has = found_so (retired plan) value fits (before_past e.0 68 (drop 1 (key_of (retired plan))) (omega arith) past) has
   past_below (begun load) value fits has = found_so (begun load) value fits (before_past e.0 76 (drop 1 (key_of (begun load))) (omega arith) past) has
+  past_below (holding plan number) value fits has = tt
+  past_below (tally number) value fits has = tt
   past_below (named name) value fits has = found_so (named name) value fits (before_past e.0 80 (drop 1 (key_of (named name))) (omega arith) past) has
   past_below (part plan revision index) value fits has = found_so (part plan revision index) value fits (before_past e.0 82 (drop 1 (key_of (part plan revision index))) (omega arith) past) has
   past_below seal value fits has = found_so seal value fits (before_past e.0 83 (drop 1 (key_of seal)) (omega arith) past) has
+  past_below version value fits has = tt
   past_below (block load place) value fits has = tt
   past_below (pair load place) value fits has = tt
   past_below (chunk number piece) value fits has = tt

@@ -1,7 +1,7 @@
 -- Numbers in use, and those that come next.
 use Rattle.std.specs.Prelude.{◌≡◌, ◌<◌, ◌^◌, ℕ, List, ◌∷◌, All}
 use Rattle.desk_model.specs.Desk.{Desk}
-use Rattle.store_rows.specs.Keys.{RowKey, counters, retired, begun, named, part, seal, block, pair, chunk}
+use Rattle.store_rows.specs.Keys.{RowKey, counters, retired, begun, holding, tally, named, part, seal, version, block, pair, chunk}
 use Rattle.store_rows.specs.Values.{plan_bytes, seal_bytes}
 use Rattle.store_rows.specs.Lists.{AreChunks, chunks_bytes}
 use Rattle.store_rows.specs.declared.value.Counters.{Counters}
@@ -16,9 +16,12 @@ abbrev pub IsBelow : Counters → RowKey → List ℕ → Type 0
 IsBelow next counters value = Unit {0}
 IsBelow next (retired plan) value = plan < next.plan
 IsBelow next (begun load) value = load < next.load
+IsBelow next (holding plan number) value = Unit {0}
+IsBelow next (tally number) value = Unit {0}
 IsBelow next (named name) value = (p : PlanRow) × (plan_bytes p ≡ value) × (p.number < next.plan)
 IsBelow next (part plan revision index) value = (plan < next.plan) × ((numbers : List ℕ) × AreChunks numbers × (chunks_bytes numbers ≡ value) × All (λ n. n < next.chunk) numbers)
 IsBelow next seal value = (s : SealRow) × (seal_bytes s ≡ value) × (s.load < next.load)
+IsBelow next version value = Unit {0}
 IsBelow next (block load place) value = Unit {0}
 IsBelow next (pair load place) value = Unit {0}
 IsBelow next (chunk number piece) value = Unit {0}
@@ -28,9 +31,12 @@ abbrev pub NumbersFit : RowKey → Type 0
 NumbersFit counters = Unit {0}
 NumbersFit (retired plan) = plan < 2 ^ 64
 NumbersFit (begun load) = load < 2 ^ 64
+NumbersFit (holding plan number) = Unit {0}
+NumbersFit (tally number) = Unit {0}
 NumbersFit (named name) = Unit {0}
 NumbersFit (part plan revision index) = plan < 2 ^ 64
 NumbersFit seal = Unit {0}
+NumbersFit version = Unit {0}
 NumbersFit (block load place) = Unit {0}
 NumbersFit (pair load place) = Unit {0}
 NumbersFit (chunk number piece) = Unit {0}

@@ -2,7 +2,7 @@
 use Rattle.std.proofs.Common.{◌≡◌, ◌<◌, ◌≤◌, ◌*◌, ◌^◌, ℕ, cond, List, length, take, drop, All, Some, None, sym, ap, ◌∙◌, inl, inr, arith}
 use Rattle.std.proofs.lemmas.Bool.{cases_lt, lt-ltb, le-ltb}
 use Rattle.desk_model.specs.Room.{rows_for}
-use Rattle.store_rows.specs.Keys.{RowKey, key_of, counters, retired, begun, named, part, seal, block, pair, chunk}
+use Rattle.store_rows.specs.Keys.{RowKey, key_of, counters, retired, begun, holding, tally, named, part, seal, version, block, pair, chunk}
 use Rattle.store_rows.specs.Lists.{districts_bytes}
 use Rattle.store_rows.proofs.RowLaws.{keys_differ}
 use Rattle.store_rows.specs.Rows.{KeyMap}
@@ -15,9 +15,12 @@ number_of : RowKey → ℕ
 number_of counters = 0
 number_of (retired plan) = 0
 number_of (begun load) = 0
+number_of (holding plan number) = 0
+number_of (tally number) = 0
 number_of (named name) = 0
 number_of (part plan revision index) = 0
 number_of seal = 0
+number_of version = 0
 number_of (block load place) = 0
 number_of (pair load place) = 0
 number_of (chunk number piece) = number
@@ -26,9 +29,12 @@ piece_of : RowKey → ℕ
 piece_of counters = 0
 piece_of (retired plan) = 0
 piece_of (begun load) = 0
+piece_of (holding plan number) = 0
+piece_of (tally number) = 0
 piece_of (named name) = 0
 piece_of (part plan revision index) = 0
 piece_of seal = 0
+piece_of version = 0
 piece_of (block load place) = 0
 piece_of (pair load place) = 0
 piece_of (chunk number piece) = piece

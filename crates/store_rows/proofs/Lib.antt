@@ -24,6 +24,13 @@ pub mod SweepPlans
 pub mod SweepLoads
 pub mod NewChunks
 pub mod RevisionDesk
+pub mod Sharing
+pub mod Forked
 pub mod Clean
 pub mod SweepRows
+pub mod TurnPlans
+pub mod TurnHolds
+pub mod Turns
 pub mod Drawing
+pub mod Counting
+pub mod Tallies

@@ -1,5 +1,5 @@
 -- The rows of one revision more make the desk with that revision.
-use Rattle.std.proofs.Common.{All, ◌≡◌, ◌<◌, ◌≤◌, ◌+◌, ◌-◌, ◌*◌, ◌^◌, ℕ, cond, List, [], ◌∷◌, length, get_or, take, drop, Option, Some, None, refl, sym, ap, subst, ◌∙◌, inl, inr, arith, length-append}
+use Rattle.std.proofs.Common.{All, false, ◌≡◌, ◌<◌, ◌≤◌, ◌+◌, ◌-◌, ◌*◌, ◌^◌, ℕ, cond, List, [], ◌∷◌, length, get_or, take, drop, Option, Some, None, refl, sym, ap, subst, ◌∙◌, inl, inr, arith, length-append}
 use Rattle.std.specs.FinMap.{FinMap, get}
 use Rattle.std.proofs.lemmas.Bool.{lt-ltb}
 use Rattle.std.proofs.lemmas.List.{get_or_default}
@@ -32,7 +32,7 @@ use Rattle.store_rows.proofs.RevisionPuts.{revision_put, chunks_put}
 use Rattle.store_rows.proofs.NewChunks.{new_there}
 
 -- ---- the numbers that are drawn are the plan's own, or given
-its_chunks : (m : KeyMap) (next : Counters) (plan : ℕ) (lists : List (List ℕ)) (numbers : List ℕ) (counties : List (List ℕ)) → IsDrawn m next plan lists numbers counties → AreItsChunks m next (length lists) plan numbers
+pub its_chunks : (m : KeyMap) (next : Counters) (plan : ℕ) (lists : List (List ℕ)) (numbers : List ℕ) (counties : List (List ℕ)) → IsDrawn m next plan lists numbers counties → AreItsChunks m next (length lists) plan numbers
 its_chunks m next plan lists numbers counties drawn = record {
   few = drawn.few;
   own = λ number (k, within, is).
@@ -60,7 +60,7 @@ chunk_below m tidy given number districts has is =
     let row = has.pieces 0 (omega arith) ∙ ap (λ b. cond b (Some (districts_bytes (take 512 (drop (512 * 0) districts)))) None) (lt-ltb (512 * 0) (length districts) some) in
     no_value (districts_bytes (take 512 (drop (512 * 0) districts))) (sym row ∙ free_chunk m tidy number is.0 has.number_fits 0 (omega arith))
 
-module _ (m n : KeyMap) (tidy : Tidy m) (given : ℕ) (name : List ℕ) (p : PlanRow) (numbers : List ℕ) (adds : AddsRevision m n tidy.next given name p numbers) where
+module _ (m n : KeyMap) (tidy : Tidy m) (given : ℕ) (name : List ℕ) (p : PlanRow) (numbers : List ℕ) (adds : AddsRevision m n tidy.new tidy.next given name p numbers) where
   chunk_moves : (number : ℕ) (districts : List ℕ) → HasChunk m number districts → HasChunk n number districts
   chunk_moves number districts has = record {
     number_fits = has.number_fits;
@@ -82,8 +82,8 @@ module _ (m n : KeyMap) (tidy : Tidy m) (given : ℕ) (name : List ℕ) (p : Pla
     chunks = λ county within. chunk_moves (get_or has.numbers county 0) (get_or counties county []) (has.chunks county within);
   }
 
-  revision_added : (lists counties : List (List ℕ)) → IsDrawn m tidy.next p.number lists numbers counties → tidy.next.chunk + length lists < 2 ^ 64 → ((place : ℕ) → place < length lists → HasChunk n (tidy.next.chunk + place) (get_or lists place [])) → HasRevision n p.number (p.revisions + 1) counties
-  revision_added lists counties drawn room there = record {
+  revision_added : (source : ℕ) (lists counties : List (List ℕ)) → IsDrawn m tidy.next source lists numbers counties → tidy.next.chunk + length lists < 2 ^ 64 → ((place : ℕ) → place < length lists → HasChunk n (tidy.next.chunk + place) (get_or lists place [])) → HasRevision n p.number (p.revisions + 1) counties
+  revision_added source lists counties drawn room there = record {
     numbers = numbers;
     names = record {
       few = drawn.few;
@@ -108,7 +108,7 @@ module _ (m n : KeyMap) (tidy : Tidy m) (given : ℕ) (name : List ℕ) (p : Pla
 some_is : (p q : Plan) → ◌≡◌ {A = Option Plan} (Some p) (Some q) → p ≡ q
 some_is p q same = cc
 
-module _ (m n : KeyMap) (tidy : Tidy m) (g : Ground) (plans : FinMap name_cmp Plan) (name : List ℕ) (number : ℕ) (p : Plan) (districts : List ℕ) (lists : List (List ℕ)) (numbers : List ℕ) (there : get plans name ≡ Some p) (has : HasPlan m g name number p) (few : length p.revisions < most_revisions) (room : tidy.next.chunk + length lists < 2 ^ 64) (drawn : IsDrawn m tidy.next number lists numbers (cut g districts)) (adds : AddsRevision m n tidy.next (length lists) name (plan_row_of number p) numbers) (made : (place : ℕ) → place < length lists → HasChunk n (tidy.next.chunk + place) (get_or lists place [])) where
+module _ (m n : KeyMap) (tidy : Tidy m) (g : Ground) (plans : FinMap name_cmp Plan) (name : List ℕ) (number : ℕ) (p : Plan) (districts : List ℕ) (lists : List (List ℕ)) (numbers : List ℕ) (there : get plans name ≡ Some p) (has : HasPlan m g name number p) (few : length p.revisions < most_revisions) (room : tidy.next.chunk + length lists < 2 ^ 64) (source : ℕ) (own : tidy.new ≡ false → source ≡ number) (drawn : IsDrawn m tidy.next source lists numbers (cut g districts)) (adds : AddsRevision m n tidy.new tidy.next (length lists) name (plan_row_of number p) numbers) (made : (place : ℕ) → place < length lists → HasChunk n (tidy.next.chunk + place) (get_or lists place [])) where
   abbrev row : PlanRow
   row = plan_row_of number p
 
@@ -141,29 +141,29 @@ module _ (m n : KeyMap) (tidy : Tidy m) (g : Ground) (plans : FinMap name_cmp Pl
     others = adds.others;
     row = new_row;
     earlier = stays;
-    added = revision_added m n tidy (length lists) name row numbers adds lists (cut g districts) drawn room made;
+    added = revision_added m n tidy (length lists) name row numbers adds source lists (cut g districts) drawn room made;
   }
 
-  pub revision_made : IsDesk m (desk_with g plans) → length districts ≡ length g.blocks → MakesRevision g plans name p districts (chunks_more tidy.next (length lists)) n
+  pub revision_made : IsDesk m (desk_with g plans) → length districts ≡ length g.blocks → MakesRevision g plans name p districts (chunks_more tidy.next (length lists)) tidy.new n
   revision_made is long = record {
     desk = plan_revised m n g plans name number p districts is there has long few is_revised;
-    tidy = revised_tidy m n tidy (length lists) name row numbers has.number_fits few_more room has.row (its_chunks m tidy.next number lists numbers (cut g districts) drawn) adds;
+    tidy = revised_tidy m n tidy (length lists) source name row numbers has.number_fits few_more room has.row (its_chunks m tidy.next source lists numbers (cut g districts) drawn) own adds;
   }
 
 -- ---- its rows, as they are listed
-module _ (m : KeyMap) (tidy : Tidy m) (name : List ℕ) (p : PlanRow) (lists : List (List ℕ)) (numbers : List ℕ) (number_fits : p.number < 2 ^ 64) (few_more : p.revisions + 1 < 2 ^ 32) (room : tidy.next.chunk + length lists < 2 ^ 64) (has : Has m (named name) (plan_bytes p)) (few : length numbers ≤ 128 * 2 ^ 8) (sound : All IsChunkList lists) where
+module _ (m : KeyMap) (tidy : Tidy m) (name : List ℕ) (p : PlanRow) (lists : List (List ℕ)) (numbers : List ℕ) (number_fits : p.number < 2 ^ 64) (few_more : p.revisions + 1 < 2 ^ 32) (room : tidy.next.chunk + length lists < 2 ^ 64) (has : Has m (named name) (plan_bytes p)) (few : length numbers ≤ 128 * 2 ^ 8) (sound : All IsChunkList lists) (its : AreItsChunks m tidy.next (length lists) p.number numbers) where
   abbrev after : KeyMap
-  after = put_rows m (rows_of_revision tidy.next name p lists numbers)
+  after = put_rows m (rows_of_revision tidy.new tidy.next name p lists numbers)
 
   fits_key : Fits (named name)
   fits_key = name_fits m name (plan_bytes p) tidy.rows has
 
-  pub rows_add : AddsRevision m after tidy.next (length lists) name p numbers
-  rows_add = revision_put m tidy name p lists numbers number_fits few_more fits_key room has few sound
+  pub rows_add : AddsRevision m after tidy.new tidy.next (length lists) name p numbers
+  rows_add = revision_put m tidy name p lists numbers number_fits few_more fits_key room has few sound its
 
   pub rows_make : (place : ℕ) → place < length lists → HasChunk after (tidy.next.chunk + place) (get_or lists place [])
   rows_make place within = chunk_stays (put_rows m (new_chunk_rows tidy.next.chunk lists)) after (tidy.next.chunk + place) (get_or lists place [])
-      (chunks_put m tidy name p lists numbers number_fits few_more fits_key room has few sound)
+      (chunks_put m tidy name p lists numbers number_fits few_more fits_key room has few sound its)
       (new_there m tidy.next.chunk lists place sound room (free_chunk m tidy) within)
 
 -- ---- chunks of the revision before

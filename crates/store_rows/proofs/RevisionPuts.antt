@@ -1,10 +1,10 @@
 -- The rows of one revision more, put one after the other, are what such rows are to be.
-use Rattle.std.proofs.Common.{◌≡◌, ◌<◌, ◌≤◌, ◌+◌, ◌*◌, ◌^◌, ℕ, suc, cond, List, [], ◌∷◌, ◌++◌, length, take, drop, All, Some, None, refl, sym, ap, subst, ◌∙◌, inl, inr, arith}
-use Rattle.std.proofs.lemmas.Bool.{cases_lt, le-ltb}
+use Rattle.std.proofs.Common.{Bool, true, false, ◌≡◌, ◌<◌, ◌≤◌, ◌+◌, ◌-◌, ◌*◌, ◌^◌, ℕ, suc, cond, List, [], ◌∷◌, ◌++◌, length, take, drop, All, Some, None, refl, sym, ap, subst, ◌∙◌, inl, inr, arith}
+use Rattle.std.proofs.lemmas.Bool.{cases_eq, cases_lt, le-ltb}
 use Rattle.std.proofs.lemmas.List.Elements.{All-cons, All-nil, All-append}
 use Rattle.std.specs.FinMap.{get, insert}
 use Rattle.desk_model.specs.Room.{rows_for}
-use Rattle.store_rows.specs.Keys.{RowKey, key_of, Fits, counters, retired, begun, named, part, seal, block, pair, chunk}
+use Rattle.store_rows.specs.Keys.{RowKey, key_of, Fits, counters, retired, begun, holding, tally, named, part, seal, version, block, pair, chunk, in_eight}
 use Rattle.store_rows.specs.Values.{plan_bytes, counters_bytes}
 use Rattle.store_rows.specs.Lists.{chunks_bytes}
 use Rattle.store_rows.proofs.RowLaws.{keys_differ}
@@ -12,39 +12,60 @@ use Rattle.store_rows.specs.declared.value.Counters.{Counters}
 use Rattle.store_rows.specs.declared.value.PlanRow.{PlanRow}
 use Rattle.store_rows.specs.Rows.{KeyMap, row_in, Has, SameTag, part_row}
 use Rattle.store_rows.proofs.Frames.{put_is_there, put_keeps, other_tag}
-use Rattle.store_rows.specs.Puts.{Row, put_rows}
+use Rattle.store_rows.specs.Puts.{Row, put_rows, rows_told}
 use Rattle.store_rows.proofs.Puts.{put_rows-append, told_are, told_keep}
 use Rattle.store_rows.specs.ChunkRows.{piece_row, chunk_rows}
 use Rattle.store_rows.specs.NameRows.{name_row, name_rows}
 use Rattle.store_rows.specs.Steps.{chunks_more, one_revision_more}
-use Rattle.store_rows.specs.RevisionSteps.{IsGiven, AddsRevision, IsChunkList, new_chunk_rows, rows_of_revision}
-use Rattle.store_rows.specs.Tidy.{IsPiece, Tidy}
-use Rattle.store_rows.proofs.OneGeography.{no_value}
+use Rattle.store_rows.specs.RevisionSteps.{IsGiven, AreItsChunks, AddsRevision, IsChunkList, new_chunk_rows, new_holding, new_tally, told_held, rows_of_revision}
+use Rattle.store_rows.specs.Holders.{IsHeld, AreTallied}
+use Rattle.store_rows.specs.Tidy.{IsPiece, IsNamedBy, Tidy}
+use Rattle.store_rows.proofs.OneGeography.{value_is, no_value}
 use Rattle.store_rows.proofs.NewChunks.{pieces_are}
 use Rattle.store_rows.proofs.PartNumbers.{part_there}
 use Rattle.store_rows.proofs.PutAll.{IsRowOf, told_all, keeps_key, keeps_row, keeps_rows, tells_value}
-use Rattle.store_rows.proofs.TidyFree.{free_revision, free_chunk}
+use Rattle.store_rows.proofs.TidyFree.{free_revision, free_chunk, free_holding}
+use Rattle.store_rows.proofs.Counting.{OthersHold, no_holders, holders_joined}
+use Rattle.store_rows.proofs.Tallies.{tallied_moved}
+use Rattle.store_rows.proofs.TidyRevisions.{given_or_not}
+
+-- ---- how many of the new chunks are told as held
+few_told : (new : Bool) (given : ℕ) → told_held new given ≤ given
+few_told true given = omega arith
+few_told false given = omega arith
+
+all_told : (new : Bool) (given : ℕ) → new ≡ true → told_held new given ≡ given
+all_told new given is = ap (λ (b : Bool). told_held b given) is
+
+none_told : (new : Bool) (given : ℕ) → new ≡ false → told_held new given ≡ 0
+none_told new given is = ap (λ (b : Bool). told_held b given) is
 
 -- the rows that are put
-abbrev IsPut : Counters → ℕ → List ℕ → PlanRow → RowKey → Type 0
-IsPut next given name p counters = Unit {0}
-IsPut next given name p (retired plan) = ⊥
-IsPut next given name p (begun load) = ⊥
-IsPut next given name p (named other) = other ≡ name
-IsPut next given name p (part plan revision index) = (plan ≡ p.number) × (revision ≡ p.revisions + 1)
-IsPut next given name p seal = ⊥
-IsPut next given name p (block load place) = ⊥
-IsPut next given name p (pair load place) = ⊥
-IsPut next given name p (chunk number piece) = IsGiven next given number
+abbrev IsPut : Counters → ℕ → ℕ → List ℕ → PlanRow → RowKey → Type 0
+IsPut next given many name p counters = Unit {0}
+IsPut next given many name p (retired plan) = ⊥
+IsPut next given many name p (begun load) = ⊥
+IsPut next given many name p (holding plan number) = (plan ≡ p.number) × IsGiven next many number
+IsPut next given many name p (tally number) = IsGiven next many number
+IsPut next given many name p (named other) = other ≡ name
+IsPut next given many name p (part plan revision index) = (plan ≡ p.number) × (revision ≡ p.revisions + 1)
+IsPut next given many name p seal = ⊥
+IsPut next given many name p version = ⊥
+IsPut next given many name p (block load place) = ⊥
+IsPut next given many name p (pair load place) = ⊥
+IsPut next given many name p (chunk number piece) = IsGiven next given number
 
 -- of these, the rows of new chunks
 abbrev IsNewPiece : Counters → ℕ → RowKey → Type 0
 IsNewPiece next given counters = ⊥
 IsNewPiece next given (retired plan) = ⊥
 IsNewPiece next given (begun load) = ⊥
+IsNewPiece next given (holding plan number) = ⊥
+IsNewPiece next given (tally number) = ⊥
 IsNewPiece next given (named other) = ⊥
 IsNewPiece next given (part plan revision index) = ⊥
 IsNewPiece next given seal = ⊥
+IsNewPiece next given version = ⊥
 IsNewPiece next given (block load place) = ⊥
 IsNewPiece next given (pair load place) = ⊥
 IsNewPiece next given (chunk number piece) = IsGiven next given number
@@ -73,39 +94,45 @@ chunks_are Q next given told room first (districts ∷ lists) from within few =
     }))
     (chunks_are Q next given told room (first + 1) lists (omega arith) (omega arith) (λ k d less. few (suc k) d (omega arith)))
 
-module _ (next : Counters) (given : ℕ) (name : List ℕ) (p : PlanRow) (number_fits : p.number < 2 ^ 64) (few_revisions : p.revisions + 1 < 2 ^ 32) (name_fits : Fits (named name)) where
-  parts_are : (numbers : List ℕ) → length numbers ≤ 128 * 2 ^ 8 → All (IsRowOf (IsPut next given name p)) (name_rows p.number (p.revisions + 1) numbers)
-  parts_are numbers few = told_all (IsRowOf (IsPut next given name p)) (name_row p.number (p.revisions + 1) numbers) (rows_for 128 (length numbers)) (λ k less. record {
+module _ (next : Counters) (given many : ℕ) (name : List ℕ) (p : PlanRow) (number_fits : p.number < 2 ^ 64) (few_revisions : p.revisions + 1 < 2 ^ 32) (name_fits : Fits (named name)) where
+  parts_are : (numbers : List ℕ) → length numbers ≤ 128 * 2 ^ 8 → All (IsRowOf (IsPut next given many name p)) (name_rows p.number (p.revisions + 1) numbers)
+  parts_are numbers few = told_all (IsRowOf (IsPut next given many name p)) (name_row p.number (p.revisions + 1) numbers) (rows_for 128 (length numbers)) (λ k less. record {
     key = part p.number (p.revisions + 1) k;
     fits = (number_fits, few_revisions, few_parts (length numbers) k few less);
     is = refl;
     holds = (refl, refl);
   })
 
-  ends_are : (plan_value counters_value : List ℕ) → All (IsRowOf (IsPut next given name p)) ((key_of (named name), plan_value) ∷ (key_of counters, counters_value) ∷ [])
+  ends_are : (plan_value counters_value : List ℕ) → All (IsRowOf (IsPut next given many name p)) ((key_of (named name), plan_value) ∷ (key_of counters, counters_value) ∷ [])
   ends_are plan_value counters_value =
-      All-cons (IsRowOf (IsPut next given name p)) (key_of (named name), plan_value) ((key_of counters, counters_value) ∷ []) (record { key = named name; fits = name_fits; is = refl; holds = refl })
-      (All-cons (IsRowOf (IsPut next given name p)) (key_of counters, counters_value) [] (record { key = counters; fits = tt; is = refl; holds = tt }) (All-nil (IsRowOf (IsPut next given name p))))
+      All-cons (IsRowOf (IsPut next given many name p)) (key_of (named name), plan_value) ((key_of counters, counters_value) ∷ []) (record { key = named name; fits = name_fits; is = refl; holds = refl })
+      (All-cons (IsRowOf (IsPut next given many name p)) (key_of counters, counters_value) [] (record { key = counters; fits = tt; is = refl; holds = tt }) (All-nil (IsRowOf (IsPut next given many name p))))
 
   -- keys of other tags, and of other plans, are none of them
-  other_tags : (tag : ℕ) (rest : List ℕ) → (tag ≡ 65 → ⊥) → (tag ≡ 80 → ⊥) → (tag ≡ 82 → ⊥) → (tag ≡ 107 → ⊥) → (k : RowKey) → Fits k → IsPut next given name p k → tag ∷ rest ≡ key_of k → ⊥
-  other_tags tag rest a b c d counters fits holds same = other_tag tag 65 rest _ a same
-  other_tags tag rest a b c d (retired plan) fits holds same = holds
-  other_tags tag rest a b c d (begun load) fits holds same = holds
-  other_tags tag rest a b c d (named other) fits holds same = other_tag tag 80 rest _ b same
-  other_tags tag rest a b c d (part plan revision index) fits holds same = other_tag tag 82 rest _ c same
-  other_tags tag rest a b c d seal fits holds same = holds
-  other_tags tag rest a b c d (block load place) fits holds same = holds
-  other_tags tag rest a b c d (pair load place) fits holds same = holds
-  other_tags tag rest a b c d (chunk number piece) fits holds same = other_tag tag 107 rest _ d same
+  other_tags : (tag : ℕ) (rest : List ℕ) → (tag ≡ 65 → ⊥) → (tag ≡ 80 → ⊥) → (tag ≡ 82 → ⊥) → (tag ≡ 107 → ⊥) → (tag ≡ 72 → ⊥) → (tag ≡ 75 → ⊥) → (k : RowKey) → Fits k → IsPut next given many name p k → tag ∷ rest ≡ key_of k → ⊥
+  other_tags tag rest a b c d e f counters fits holds same = other_tag tag 65 rest _ a same
+  other_tags tag rest a b c d e f (retired plan) fits holds same = holds
+  other_tags tag rest a b c d e f (begun load) fits holds same = holds
+  other_tags tag rest a b c d e f (holding plan number) fits holds same = other_tag tag 72 rest _ e same
+  other_tags tag rest a b c d e f (tally number) fits holds same = other_tag tag 75 rest _ f same
+  other_tags tag rest a b c d e f (named other) fits holds same = other_tag tag 80 rest _ b same
+  other_tags tag rest a b c d e f (part plan revision index) fits holds same = other_tag tag 82 rest _ c same
+  other_tags tag rest a b c d e f seal fits holds same = holds
+  other_tags tag rest a b c d e f version fits holds same = holds
+  other_tags tag rest a b c d e f (block load place) fits holds same = holds
+  other_tags tag rest a b c d e f (pair load place) fits holds same = holds
+  other_tags tag rest a b c d e f (chunk number piece) fits holds same = other_tag tag 107 rest _ d same
 
-  other_names : (other : List ℕ) → (other ≡ name → ⊥) → (k : RowKey) → Fits k → IsPut next given name p k → key_of (named other) ≡ key_of k → ⊥
+  other_names : (other : List ℕ) → (other ≡ name → ⊥) → (k : RowKey) → Fits k → IsPut next given many name p k → key_of (named other) ≡ key_of k → ⊥
   other_names other apart counters fits holds same = other_tag 80 65 other _ (λ e. absurd (omega arith)) same
   other_names other apart (retired plan) fits holds same = holds
   other_names other apart (begun load) fits holds same = holds
+  other_names other apart (holding plan number) fits holds same = other_tag 80 72 other _ (λ e. absurd (omega arith)) same
+  other_names other apart (tally number) fits holds same = other_tag 80 75 other _ (λ e. absurd (omega arith)) same
   other_names other apart (named x) fits holds same = apart (ap (drop 1) same ∙ holds)
   other_names other apart (part plan revision index) fits holds same = other_tag 80 82 other _ (λ e. absurd (omega arith)) same
   other_names other apart seal fits holds same = holds
+  other_names other apart version fits holds same = holds
   other_names other apart (block load place) fits holds same = holds
   other_names other apart (pair load place) fits holds same = holds
   other_names other apart (chunk number piece) fits holds same = other_tag 80 107 other _ (λ e. absurd (omega arith)) same
@@ -113,9 +140,15 @@ module _ (next : Counters) (given : ℕ) (name : List ℕ) (p : PlanRow) (number
 one_part : (plan revision i j : ℕ) → Fits (part plan revision i) → Fits (part plan revision j) → key_of (part plan revision i) ≡ key_of (part plan revision j) → i ≡ j
 one_part plan revision i j fits also same = (let rows : part plan revision i ≡ part plan revision j = keys_differ (part plan revision i) (part plan revision j) fits also same in cc)
 
-module _ (m : KeyMap) (tidy : Tidy m) (name : List ℕ) (p : PlanRow) (lists : List (List ℕ)) (numbers : List ℕ) (number_fits : p.number < 2 ^ 64) (few_revisions : p.revisions + 1 < 2 ^ 32) (name_fits : Fits (named name)) (room : tidy.next.chunk + length lists < 2 ^ 64) (has : Has m (named name) (plan_bytes p)) (few : length numbers ≤ 128 * 2 ^ 8) (sound : All IsChunkList lists) where
+module _ (m : KeyMap) (tidy : Tidy m) (name : List ℕ) (p : PlanRow) (lists : List (List ℕ)) (numbers : List ℕ) (number_fits : p.number < 2 ^ 64) (few_revisions : p.revisions + 1 < 2 ^ 32) (name_fits : Fits (named name)) (room : tidy.next.chunk + length lists < 2 ^ 64) (has : Has m (named name) (plan_bytes p)) (few : length numbers ≤ 128 * 2 ^ 8) (sound : All IsChunkList lists) (its : AreItsChunks m tidy.next (length lists) p.number numbers) where
+  abbrev many : ℕ
+  many = told_held tidy.new (length lists)
+
+  few_many : many ≤ length lists
+  few_many = few_told tidy.new (length lists)
+
   abbrev Q : RowKey → Type 0
-  Q = IsPut tidy.next (length lists) name p
+  Q = IsPut tidy.next (length lists) many name p
 
   abbrev plan_row : Row
   plan_row = (key_of (named name), plan_bytes (one_revision_more p))
@@ -124,28 +157,62 @@ module _ (m : KeyMap) (tidy : Tidy m) (name : List ℕ) (p : PlanRow) (lists : L
   counters_row = (key_of counters, counters_bytes (chunks_more tidy.next (length lists)))
 
   abbrev after : KeyMap
-  after = put_rows m (rows_of_revision tidy.next name p lists numbers)
+  after = put_rows m (rows_of_revision tidy.new tidy.next name p lists numbers)
 
   abbrev with_chunks : KeyMap
   with_chunks = put_rows m (new_chunk_rows tidy.next.chunk lists)
 
+  abbrev holdings : List Row
+  holdings = rows_told (new_holding p.number tidy.next.chunk) many
+
+  abbrev counts : List Row
+  counts = rows_told (new_tally tidy.next.chunk) many
+
+  abbrev with_holdings : KeyMap
+  with_holdings = put_rows with_chunks holdings
+
+  abbrev with_counts : KeyMap
+  with_counts = put_rows with_holdings counts
+
   abbrev with_parts : KeyMap
-  with_parts = put_rows with_chunks (name_rows p.number (p.revisions + 1) numbers)
+  with_parts = put_rows with_counts (name_rows p.number (p.revisions + 1) numbers)
+
+  abbrev last_rows : List Row
+  last_rows = name_rows p.number (p.revisions + 1) numbers ++ plan_row ∷ counters_row ∷ []
 
   in_steps : after ≡ insert (insert with_parts plan_row.0 plan_row.1) counters_row.0 counters_row.1
-  in_steps = put_rows-append m (new_chunk_rows tidy.next.chunk lists) (name_rows p.number (p.revisions + 1) numbers ++ plan_row ∷ counters_row ∷ [])
-      ∙ put_rows-append with_chunks (name_rows p.number (p.revisions + 1) numbers) (plan_row ∷ counters_row ∷ [])
+  in_steps = put_rows-append m (new_chunk_rows tidy.next.chunk lists) ((holdings ++ counts) ++ last_rows)
+      ∙ put_rows-append with_chunks (holdings ++ counts) last_rows
+      ∙ ap (λ n. put_rows n last_rows) (put_rows-append with_chunks holdings counts)
+      ∙ put_rows-append with_counts (name_rows p.number (p.revisions + 1) numbers) (plan_row ∷ counters_row ∷ [])
 
   new_are : All (IsRowOf Q) (new_chunk_rows tidy.next.chunk lists)
   new_are = chunks_are Q tidy.next (length lists) (λ number piece is. is) room tidy.next.chunk lists (omega arith) (omega arith) (short lists sound)
 
-  all_are : All (IsRowOf Q) (rows_of_revision tidy.next name p lists numbers)
-  all_are = All-append (IsRowOf Q) (new_chunk_rows tidy.next.chunk lists) (name_rows p.number (p.revisions + 1) numbers ++ plan_row ∷ counters_row ∷ []) new_are
-      (All-append (IsRowOf Q) (name_rows p.number (p.revisions + 1) numbers) (plan_row ∷ counters_row ∷ []) (parts_are tidy.next (length lists) name p number_fits few_revisions name_fits numbers few)
-      (ends_are tidy.next (length lists) name p number_fits few_revisions name_fits plan_row.1 counters_row.1))
+  holdings_are : All (IsRowOf Q) holdings
+  holdings_are = told_all (IsRowOf Q) (new_holding p.number tidy.next.chunk) many (λ k less. let few = few_many in record {
+    key = holding p.number (tidy.next.chunk + k);
+    fits = (number_fits, omega arith);
+    is = refl;
+    holds = (refl, (omega arith, omega arith));
+  })
 
-  tag_stays : (tag : ℕ) → (tag ≡ 65 → ⊥) → (tag ≡ 80 → ⊥) → (tag ≡ 82 → ⊥) → (tag ≡ 107 → ⊥) → SameTag tag m after
-  tag_stays tag a b c d rest = keeps_key Q m (rows_of_revision tidy.next name p lists numbers) (tag ∷ rest) all_are (other_tags tidy.next (length lists) name p number_fits few_revisions name_fits tag rest a b c d)
+  counts_are : All (IsRowOf Q) counts
+  counts_are = told_all (IsRowOf Q) (new_tally tidy.next.chunk) many (λ k less. let few = few_many in record {
+    key = tally (tidy.next.chunk + k);
+    fits = omega arith;
+    is = refl;
+    holds = (omega arith, omega arith);
+  })
+
+  all_are : All (IsRowOf Q) (rows_of_revision tidy.new tidy.next name p lists numbers)
+  all_are = All-append (IsRowOf Q) (new_chunk_rows tidy.next.chunk lists) ((holdings ++ counts) ++ last_rows) new_are
+      (All-append (IsRowOf Q) (holdings ++ counts) last_rows (All-append (IsRowOf Q) holdings counts holdings_are counts_are)
+      (All-append (IsRowOf Q) (name_rows p.number (p.revisions + 1) numbers) (plan_row ∷ counters_row ∷ []) (parts_are tidy.next (length lists) many name p number_fits few_revisions name_fits numbers few)
+      (ends_are tidy.next (length lists) many name p number_fits few_revisions name_fits plan_row.1 counters_row.1)))
+
+  tag_stays : (tag : ℕ) → (tag ≡ 65 → ⊥) → (tag ≡ 80 → ⊥) → (tag ≡ 82 → ⊥) → (tag ≡ 107 → ⊥) → (tag ≡ 72 → ⊥) → (tag ≡ 75 → ⊥) → SameTag tag m after
+  tag_stays tag a b c d e f rest = keeps_key Q m (rows_of_revision tidy.new tidy.next name p lists numbers) (tag ∷ rest) all_are (other_tags tidy.next (length lists) many name p number_fits few_revisions name_fits tag rest a b c d e f)
 
   named_row : Has after (named name) (plan_bytes (one_revision_more p))
   named_row = ap (λ n. row_in n (named name)) in_steps
@@ -168,13 +235,18 @@ module _ (m : KeyMap) (tidy : Tidy m) (name : List ℕ) (p : PlanRow) (lists : L
   no_part index less = keeps_row (IsNewPiece tidy.next (length lists)) m (new_chunk_rows tidy.next.chunk lists) (part p.number (p.revisions + 1) index)
       (chunks_are (IsNewPiece tidy.next (length lists)) tidy.next (length lists) (λ number piece is. is) room tidy.next.chunk lists (omega arith) (omega arith) (short lists sound)) (part_fits index less) (λ none. none)
 
+  part_before : (index : ℕ) → row_in with_counts (part p.number (p.revisions + 1) index) ≡ row_in with_chunks (part p.number (p.revisions + 1) index)
+  part_before index = told_keep with_holdings (new_tally tidy.next.chunk) many (key_of (part p.number (p.revisions + 1) index)) (λ k less. other_tag 82 75 _ _ (λ e. absurd (omega arith)))
+      ∙ told_keep with_chunks (new_holding p.number tidy.next.chunk) many (key_of (part p.number (p.revisions + 1) index)) (λ k less. other_tag 82 72 _ _ (λ e. absurd (omega arith)))
+
   part_is : (index : ℕ) → index < 2 ^ 8 → row_in with_parts (part p.number (p.revisions + 1) index) ≡ part_row 128 chunks_bytes numbers index
   part_is index less = elim (cases_lt index (rows_for 128 (length numbers))) [
-    | inl within ↦ told_are with_chunks (name_row p.number (p.revisions + 1) numbers) (rows_for 128 (length numbers)) index
+    | inl within ↦ told_are with_counts (name_row p.number (p.revisions + 1) numbers) (rows_for 128 (length numbers)) index
         (λ i j one other same. one_part p.number (p.revisions + 1) i j (part_fits i (few_parts (length numbers) i few one)) (part_fits j (few_parts (length numbers) j few other)) same) within
         ∙ sym (part_there numbers index (omega arith))
-    | inr past ↦ told_keep with_chunks (name_row p.number (p.revisions + 1) numbers) (rows_for 128 (length numbers)) (key_of (part p.number (p.revisions + 1) index))
+    | inr past ↦ told_keep with_counts (name_row p.number (p.revisions + 1) numbers) (rows_for 128 (length numbers)) (key_of (part p.number (p.revisions + 1) index))
         (λ k within same. let one : index ≡ k = one_part p.number (p.revisions + 1) index k (part_fits index less) (part_fits k (few_parts (length numbers) k few within)) same in omega arith)
+        ∙ part_before index
         ∙ no_part index less
         ∙ free_revision m tidy name p number_fits (omega arith) has (p.revisions + 1) index (omega arith) (part_fits index less)
         ∙ sym (ap (λ b. cond b (Some (chunks_bytes (take 128 (drop (128 * index) numbers)))) None) (le-ltb (128 * index) (length numbers) (omega arith)))
@@ -185,7 +257,9 @@ module _ (m : KeyMap) (tidy : Tidy m) (name : List ℕ) (p : PlanRow) (lists : L
   chunk_rows_stay rest = ap (λ n. get n (107 ∷ rest)) in_steps
       ∙ put_keeps (insert with_parts plan_row.0 plan_row.1) counters_row.0 counters_row.1 (107 ∷ rest) (other_tag 107 65 rest [] (λ e. absurd (omega arith)))
       ∙ put_keeps with_parts plan_row.0 plan_row.1 (107 ∷ rest) (other_tag 107 80 rest name (λ e. absurd (omega arith)))
-      ∙ told_keep with_chunks (name_row p.number (p.revisions + 1) numbers) (rows_for 128 (length numbers)) (107 ∷ rest) (λ k less. other_tag 107 82 rest _ (λ e. absurd (omega arith)))
+      ∙ told_keep with_counts (name_row p.number (p.revisions + 1) numbers) (rows_for 128 (length numbers)) (107 ∷ rest) (λ k less. other_tag 107 82 rest _ (λ e. absurd (omega arith)))
+      ∙ told_keep with_holdings (new_tally tidy.next.chunk) many (107 ∷ rest) (λ k less. other_tag 107 75 rest _ (λ e. absurd (omega arith)))
+      ∙ told_keep with_chunks (new_holding p.number tidy.next.chunk) many (107 ∷ rest) (λ k less. other_tag 107 72 rest _ (λ e. absurd (omega arith)))
 
   -- what they hold is pieces of chunks
   new_piece : (number piece : ℕ) (value : List ℕ) → Fits (chunk number piece) → IsGiven tidy.next (length lists) number → Has after (chunk number piece) value → IsPiece value
@@ -194,28 +268,128 @@ module _ (m : KeyMap) (tidy : Tidy m) (name : List ℕ) (p : PlanRow) (lists : L
     | inr before ↦ absurd (no_value value (sym before ∙ free_chunk m tidy number given.0 fits.0 piece fits.1))
   ]
 
-  adds_revision : AddsRevision m after tidy.next (length lists) name p numbers
+  -- the plan holds its new chunks, and each is counted
+  held_last : (tag : ℕ) (rest : List ℕ) → (tag ≡ 65 → ⊥) → (tag ≡ 80 → ⊥) → (tag ≡ 82 → ⊥) → get after (tag ∷ rest) ≡ get with_counts (tag ∷ rest)
+  held_last tag rest a b c = ap (λ n. get n (tag ∷ rest)) in_steps
+      ∙ put_keeps (insert with_parts plan_row.0 plan_row.1) counters_row.0 counters_row.1 (tag ∷ rest) (other_tag tag 65 rest [] a)
+      ∙ put_keeps with_parts plan_row.0 plan_row.1 (tag ∷ rest) (other_tag tag 80 rest name b)
+      ∙ told_keep with_counts (name_row p.number (p.revisions + 1) numbers) (rows_for 128 (length numbers)) (tag ∷ rest) (λ k less. other_tag tag 82 rest _ c)
+
+  -- those numbers are given
+  given_too : (number : ℕ) → IsGiven tidy.next many number → IsGiven tidy.next (length lists) number
+  given_too number is = (let few = few_many in let from = is.0 in let below = is.1 in (from, omega arith))
+
+  holding_fits : (k : ℕ) → k < many → Fits (holding p.number (tidy.next.chunk + k))
+  holding_fits k less = (let few = few_many in (number_fits, omega arith))
+
+  tally_fits : (k : ℕ) → k < many → Fits (tally (tidy.next.chunk + k))
+  tally_fits k less = (let few = few_many in omega arith)
+
+  one_holding : (i j : ℕ) → i < many → j < many → key_of (holding p.number (tidy.next.chunk + i)) ≡ key_of (holding p.number (tidy.next.chunk + j)) → i ≡ j
+  one_holding i j one other same =
+      let rows : holding p.number (tidy.next.chunk + i) ≡ holding p.number (tidy.next.chunk + j) = keys_differ (holding p.number (tidy.next.chunk + i)) (holding p.number (tidy.next.chunk + j)) (holding_fits i one) (holding_fits j other) same in
+      let equal : tidy.next.chunk + i ≡ tidy.next.chunk + j = cc in
+      omega arith
+
+  one_tally : (i j : ℕ) → i < many → j < many → key_of (tally (tidy.next.chunk + i)) ≡ key_of (tally (tidy.next.chunk + j)) → i ≡ j
+  one_tally i j one other same =
+      let rows : tally (tidy.next.chunk + i) ≡ tally (tidy.next.chunk + j) = keys_differ (tally (tidy.next.chunk + i)) (tally (tidy.next.chunk + j)) (tally_fits i one) (tally_fits j other) same in
+      let equal : tidy.next.chunk + i ≡ tidy.next.chunk + j = cc in
+      omega arith
+
+  holding_there : (k : ℕ) → k < many → IsHeld after p.number (tidy.next.chunk + k)
+  holding_there k less = held_last 72 _ (λ e. absurd (omega arith)) (λ e. absurd (omega arith)) (λ e. absurd (omega arith))
+      ∙ told_keep with_holdings (new_tally tidy.next.chunk) many (key_of (holding p.number (tidy.next.chunk + k))) (λ i within. other_tag 72 75 _ _ (λ e. absurd (omega arith)))
+      ∙ told_are with_chunks (new_holding p.number tidy.next.chunk) many k one_holding less
+
+  tally_there : (k : ℕ) → k < many → Has after (tally (tidy.next.chunk + k)) (in_eight 1)
+  tally_there k less = held_last 75 _ (λ e. absurd (omega arith)) (λ e. absurd (omega arith)) (λ e. absurd (omega arith)) ∙ told_are with_holdings (new_tally tidy.next.chunk) many k one_tally less
+
+  held_new : (number : ℕ) → IsGiven tidy.next many number → IsHeld after p.number number
+  held_new number given =
+      let from = given.0 in
+      let below = given.1 in
+      let same : tidy.next.chunk + (number - tidy.next.chunk) ≡ number = omega arith in
+      subst (λ (x : ℕ). IsHeld after p.number x) same (holding_there (number - tidy.next.chunk) (omega arith))
+
+  tallied_new : (number : ℕ) → IsGiven tidy.next many number → Has after (tally number) (in_eight 1)
+  tallied_new number given =
+      let from = given.0 in
+      let below = given.1 in
+      let same : tidy.next.chunk + (number - tidy.next.chunk) ≡ number = omega arith in
+      subst (λ (x : ℕ). Has after (tally x) (in_eight 1)) same (tally_there (number - tidy.next.chunk) (omega arith))
+
+  -- what the plan named already it holds already
+  held_still : tidy.new ≡ true → (number : ℕ) → IsNamedBy m p.number number → IsHeld after p.number number
+  held_still is_new number own =
+      let less = tidy.below.named_chunks p.number number own in
+      keeps_row Q m (rows_of_revision tidy.new tidy.next name p lists numbers) (holding p.number number) all_are (number_fits, omega arith) (λ both. let from = both.1.0 in absurd (omega arith))
+      ∙ tidy.holdings.hold is_new name p.number number (record { plan = p; row = has; is = refl; fits = number_fits }) own
+
+  other_holding : (plan number : ℕ) → Fits (holding plan number) → ((plan ≡ p.number) × IsGiven tidy.next many number → ⊥) → row_in after (holding plan number) ≡ row_in m (holding plan number)
+  other_holding plan number fits apart = keeps_row Q m (rows_of_revision tidy.new tidy.next name p lists numbers) (holding plan number) all_are fits apart
+
+  none_before : (plan number : ℕ) → Fits (holding plan number) → IsGiven tidy.next many number → IsHeld m plan number → ⊥
+  none_before plan number fits is held = no_value [] (sym held ∙ free_holding m tidy plan number is.0 fits)
+
+  tallied_now : AreTallied after
+  tallied_now number fits = elim (given_or_not tidy.next many number) [
+    | inl is ↦ (let others : OthersHold m after p.number number = λ other other_fits apart. other_holding other number (other_fits, fits) (λ both. apart both.0) in record {
+      count = 1;
+      fits = omega arith;
+      row = tallied_new number is;
+      holders = holders_joined m after p.number number 0 number_fits others (none_before p.number number (number_fits, fits) is) (held_new number is)
+          (no_holders m number (λ plan small held. none_before plan number (small, fits) is held));
+    })
+    | inr other ↦ tallied_moved m after number (λ plan small. other_holding plan number (small, fits) (λ both. other both.1))
+        (keeps_row Q m (rows_of_revision tidy.new tidy.next name p lists numbers) (tally number) all_are fits other) (tidy.holdings.tallied number fits)
+  ]
+
+  -- a holding tells nothing else
+  empty_after : (plan number : ℕ) (value : List ℕ) → Fits (holding plan number) → Has after (holding plan number) value → value ≡ []
+  empty_after plan number value fits there = elim (cases_eq plan p.number) [
+    | inl same ↦ elim (given_or_not tidy.next many number) [
+      | inl is ↦ value_is value [] (sym there ∙ ap (λ (k : ℕ). row_in after (holding k number)) same ∙ held_new number is)
+      | inr other ↦ (tidy.holdings.held plan number value fits (sym (other_holding plan number fits (λ both. other both.1)) ∙ there)).0
+    ]
+    | inr apart ↦ (tidy.holdings.held plan number value fits (sym (other_holding plan number fits (λ both. apart both.0)) ∙ there)).0
+  ]
+
+  adds_revision : AddsRevision m after tidy.new tidy.next (length lists) name p numbers
   adds_revision = record {
-    rows = keeps_rows Q m (rows_of_revision tidy.next name p lists numbers) all_are tidy.rows;
+    rows = keeps_rows Q m (rows_of_revision tidy.new tidy.next name p lists numbers) all_are tidy.rows;
     moved = counters_there;
     row = named_row;
-    others = λ other apart. keeps_key Q m (rows_of_revision tidy.next name p lists numbers) (key_of (named other)) all_are (other_names tidy.next (length lists) name p number_fits few_revisions name_fits other apart);
-    marks = tag_stays 68 (λ e. absurd (omega arith)) (λ e. absurd (omega arith)) (λ e. absurd (omega arith)) (λ e. absurd (omega arith));
-    starts = tag_stays 76 (λ e. absurd (omega arith)) (λ e. absurd (omega arith)) (λ e. absurd (omega arith)) (λ e. absurd (omega arith));
-    seals = tag_stays 83 (λ e. absurd (omega arith)) (λ e. absurd (omega arith)) (λ e. absurd (omega arith)) (λ e. absurd (omega arith));
-    loads = tag_stays 103 (λ e. absurd (omega arith)) (λ e. absurd (omega arith)) (λ e. absurd (omega arith)) (λ e. absurd (omega arith));
+    others = λ other apart. keeps_key Q m (rows_of_revision tidy.new tidy.next name p lists numbers) (key_of (named other)) all_are (other_names tidy.next (length lists) many name p number_fits few_revisions name_fits other apart);
+    marks = tag_stays 68 (λ e. absurd (omega arith)) (λ e. absurd (omega arith)) (λ e. absurd (omega arith)) (λ e. absurd (omega arith)) (λ e. absurd (omega arith)) (λ e. absurd (omega arith));
+    starts = tag_stays 76 (λ e. absurd (omega arith)) (λ e. absurd (omega arith)) (λ e. absurd (omega arith)) (λ e. absurd (omega arith)) (λ e. absurd (omega arith)) (λ e. absurd (omega arith));
+    seals = tag_stays 83 (λ e. absurd (omega arith)) (λ e. absurd (omega arith)) (λ e. absurd (omega arith)) (λ e. absurd (omega arith)) (λ e. absurd (omega arith)) (λ e. absurd (omega arith));
+    loads = tag_stays 103 (λ e. absurd (omega arith)) (λ e. absurd (omega arith)) (λ e. absurd (omega arith)) (λ e. absurd (omega arith)) (λ e. absurd (omega arith)) (λ e. absurd (omega arith));
     parts = λ index less. in_parts index ∙ part_is index less;
-    other_parts = λ plan revision index fits apart. keeps_row Q m (rows_of_revision tidy.next name p lists numbers) (part plan revision index) all_are fits apart;
+    other_parts = λ plan revision index fits apart. keeps_row Q m (rows_of_revision tidy.new tidy.next name p lists numbers) (part plan revision index) all_are fits apart;
     pieces = new_piece;
-    other_chunks = λ number piece fits apart. keeps_row Q m (rows_of_revision tidy.next name p lists numbers) (chunk number piece) all_are fits apart;
+    other_chunks = λ number piece fits apart. keeps_row Q m (rows_of_revision tidy.new tidy.next name p lists numbers) (chunk number piece) all_are fits apart;
+    told = tag_stays 86 (λ e. absurd (omega arith)) (λ e. absurd (omega arith)) (λ e. absurd (omega arith)) (λ e. absurd (omega arith)) (λ e. absurd (omega arith)) (λ e. absurd (omega arith)) [];
+    empty = empty_after;
+    holdings = λ is_new number among. elim (its.own number among) [
+      | inl own ↦ held_still is_new number own
+      | inr given ↦ held_new number (subst (λ (k : ℕ). IsGiven tidy.next k number) (sym (all_told tidy.new (length lists) is_new)) given)
+    ];
+    other_holdings = λ plan number fits apart. keeps_row Q m (rows_of_revision tidy.new tidy.next name p lists numbers) (holding plan number) all_are fits (λ both. apart (both.0, its.whole number (given_too number both.1)));
+    tallied = tallied_now;
+    unheld = λ old plan number fits. other_holding plan number fits (λ both.
+        let none = none_told tidy.new (length lists) old in
+        let from = both.1.0 in
+        let below = both.1.1 in
+        absurd (omega arith));
   }
 
 -- rows as a revision puts them are rows that add it
 pub revision_put : (m : KeyMap) (tidy : Tidy m) (name : List ℕ) (p : PlanRow) (lists : List (List ℕ)) (numbers : List ℕ) → p.number < 2 ^ 64 → p.revisions + 1 < 2 ^ 32 → Fits (named name) → tidy.next.chunk + length lists < 2 ^ 64
-    → Has m (named name) (plan_bytes p) → length numbers ≤ 128 * 2 ^ 8 → All IsChunkList lists → AddsRevision m (put_rows m (rows_of_revision tidy.next name p lists numbers)) tidy.next (length lists) name p numbers
-revision_put m tidy name p lists numbers number_fits few_revisions name_fits room has few sound = adds_revision m tidy name p lists numbers number_fits few_revisions name_fits room has few sound
+    → Has m (named name) (plan_bytes p) → length numbers ≤ 128 * 2 ^ 8 → All IsChunkList lists → AreItsChunks m tidy.next (length lists) p.number numbers → AddsRevision m (put_rows m (rows_of_revision tidy.new tidy.next name p lists numbers)) tidy.new tidy.next (length lists) name p numbers
+revision_put m tidy name p lists numbers number_fits few_revisions name_fits room has few sound its = adds_revision m tidy name p lists numbers number_fits few_revisions name_fits room has few sound its
 
 -- and the chunks that it has behind them are those of its new ones
 pub chunks_put : (m : KeyMap) (tidy : Tidy m) (name : List ℕ) (p : PlanRow) (lists : List (List ℕ)) (numbers : List ℕ) → p.number < 2 ^ 64 → p.revisions + 1 < 2 ^ 32 → Fits (named name) → tidy.next.chunk + length lists < 2 ^ 64
-    → Has m (named name) (plan_bytes p) → length numbers ≤ 128 * 2 ^ 8 → All IsChunkList lists → SameTag 107 (put_rows m (new_chunk_rows tidy.next.chunk lists)) (put_rows m (rows_of_revision tidy.next name p lists numbers))
-chunks_put m tidy name p lists numbers number_fits few_revisions name_fits room has few sound = chunk_rows_stay m tidy name p lists numbers number_fits few_revisions name_fits room has few sound
+    → Has m (named name) (plan_bytes p) → length numbers ≤ 128 * 2 ^ 8 → All IsChunkList lists → AreItsChunks m tidy.next (length lists) p.number numbers → SameTag 107 (put_rows m (new_chunk_rows tidy.next.chunk lists)) (put_rows m (rows_of_revision tidy.new tidy.next name p lists numbers))
+chunks_put m tidy name p lists numbers number_fits few_revisions name_fits room has few sound its = chunk_rows_stay m tidy name p lists numbers number_fits few_revisions name_fits room has few sound its

@@ -2,7 +2,7 @@
 use Rattle.std.proofs.Common.{◌≡◌, ◌%◌, ℕ, List, [], ◌∷◌, drop, get_or, if◌then◌else◌, nat_eq, refl, sym, ap, ◌∙◌, w16, w32, w64, arith}
 use Rattle.std.specs.Int.{from_be_bytes}
 use Rattle.std.proofs.lemmas.Nat.{from_be_bytes-to_be_bytes_2, from_be_bytes-to_be_bytes_4, from_be_bytes-to_be_bytes_8}
-use Rattle.store_rows.specs.Keys.{RowKey, counters, retired, begun, named, part, seal, block, pair, chunk, key_of, Fits}
+use Rattle.store_rows.specs.Keys.{RowKey, counters, retired, begun, holding, tally, named, part, seal, version, block, pair, chunk, key_of, Fits}
 
 load_row : ℕ → ℕ → ℕ → RowKey
 load_row load kind place = if nat_eq kind 98 then block load place else pair load place
@@ -12,9 +12,12 @@ row_in [] = counters
 row_in (tag ∷ bytes) =
     if nat_eq tag 68 then retired (from_be_bytes w64 bytes)
     else if nat_eq tag 76 then begun (from_be_bytes w64 bytes)
+    else if nat_eq tag 72 then holding (from_be_bytes w64 bytes) (from_be_bytes w64 (drop 8 bytes))
+    else if nat_eq tag 75 then tally (from_be_bytes w64 bytes)
     else if nat_eq tag 80 then named bytes
     else if nat_eq tag 82 then part (from_be_bytes w64 bytes) (from_be_bytes w32 (drop 8 bytes)) (get_or bytes 12 0)
     else if nat_eq tag 83 then seal
+    else if nat_eq tag 86 then version
     else if nat_eq tag 103 then load_row (from_be_bytes w64 bytes) (get_or bytes 8 0) (from_be_bytes w32 (drop 9 bytes))
     else if nat_eq tag 107 then chunk (from_be_bytes w64 bytes) (from_be_bytes w16 (drop 8 bytes))
     else counters
@@ -24,11 +27,14 @@ unfolding row_in load_row
 read_back counters fits = refl
 read_back (retired plan) fits = ap retired (from_be_bytes-to_be_bytes_8 plan fits)
 read_back (begun load) fits = ap begun (from_be_bytes-to_be_bytes_8 load fits)
+read_back (holding plan number) fits = λ i. holding (from_be_bytes-to_be_bytes_8 plan fits.0 i) (from_be_bytes-to_be_bytes_8 number fits.1 i)
+read_back (tally number) fits = ap tally (from_be_bytes-to_be_bytes_8 number fits)
 read_back (named name) fits = refl
 read_back (part plan revision index) fits =
     let one : index % 256 ≡ index = omega (arith, fits.2) in
     λ i. part (from_be_bytes-to_be_bytes_8 plan fits.0 i) (from_be_bytes-to_be_bytes_4 revision fits.1 i) (one i)
 read_back seal fits = refl
+read_back version fits = refl
 read_back (block load place) fits = λ i. block (from_be_bytes-to_be_bytes_8 load fits.0 i) (from_be_bytes-to_be_bytes_4 place fits.1 i)
 read_back (pair load place) fits = λ i. pair (from_be_bytes-to_be_bytes_8 load fits.0 i) (from_be_bytes-to_be_bytes_4 place fits.1 i)
 read_back (chunk number piece) fits = λ i. chunk (from_be_bytes-to_be_bytes_8 number fits.0 i) (from_be_bytes-to_be_bytes_2 piece fits.1 i)

@@ -12,7 +12,7 @@ use Rattle.store_rows.proofs.Frames.{remove_keeps_row, remove_keeps_tag, plan_at
 use Rattle.store_rows.specs.Tidy.{IsLoad, Tidy}
 use Rattle.store_rows.specs.SweepLaws.{IsSwept}
 use Rattle.store_rows.proofs.OneGeography.{no_value}
-use Rattle.store_rows.proofs.TidyParts.{load_moves, AllKept, kept_of, stays_tidy, plans_stay, chunks_stay, rows_removed}
+use Rattle.store_rows.proofs.TidyParts.{load_moves, AllKept, kept_of, stays_tidy, plans_stay, chunks_stay, holders_stay, owners_stay, rows_removed}
 use Rattle.store_rows.proofs.SweepPlans.{still_there, still_none}
 
 -- the sealed load is none that was begun
@@ -47,16 +47,18 @@ module _ (m : KeyMap) (tidy : Tidy m) (d : Desk) (is : IsDesk m d) (load : ℕ) 
           },
         )
 
-    row_swept : IsSwept d tidy.next fewer
+    row_swept : IsSwept d tidy.next tidy.new fewer
     row_swept =
         let next = tidy.next in
         let kept = kept_of m tidy in
         let seals : SameTag 83 m fewer = fewer_same 83 (λ e. absurd (omega arith)) in
         let marks : SameTag 76 m fewer = fewer_same 76 (λ e. absurd (omega arith)) in
-        let all : AllKept fewer next = record {
+        let all : AllKept fewer next tidy.new = record {
           rows = rows_removed m (key_of row) kept.rows;
           plans = plans_stay m fewer next.plan next.plan (omega arith) (fewer_same 80 (λ e. absurd (omega arith))) (fewer_same 68 (λ e. absurd (omega arith))) (fewer_same 82 (λ e. absurd (omega arith))) kept.plans;
           chunks = chunks_stay m fewer next.chunk next.chunk (omega arith) (fewer_same 82 (λ e. absurd (omega arith))) (fewer_same 107 (λ e. absurd (omega arith))) kept.chunks;
+          holders = holders_stay m fewer tidy.new (fewer_same 80 (λ e. absurd (omega arith))) (fewer_same 72 (λ e. absurd (omega arith))) (fewer_same 75 (λ e. absurd (omega arith))) (fewer_same 82 (λ e. absurd (omega arith))) (fewer_same 86 (λ e. absurd (omega arith))) kept.holders;
+          owners = owners_stay m fewer tidy.new (fewer_same 72 (λ e. absurd (omega arith))) (fewer_same 82 (λ e. absurd (omega arith))) kept.owners;
           loads = record {
             below = λ other value few there. kept.loads.below other value few (sym (marks _) ∙ there);
             sealed_below = λ sealed few there. kept.loads.sealed_below sealed few (sym (seals _) ∙ there);
@@ -73,10 +75,10 @@ module _ (m : KeyMap) (tidy : Tidy m) (d : Desk) (is : IsDesk m d) (load : ℕ) 
           tidy = stays_tidy m fewer tidy (fewer_same 65 (λ e. absurd (omega arith)) []) all;
         }
 
-  pub block_swept : (place : ℕ) → place < 2 ^ 32 → IsSwept d tidy.next (remove m (key_of (block load place)))
+  pub block_swept : (place : ℕ) → place < 2 ^ 32 → IsSwept d tidy.next tidy.new (remove m (key_of (block load place)))
   block_swept place small = row_swept (block load place) (in_eight load ++ (98 ∷ in_four place)) (load_fits, small) refl (λ other at same. cc) (λ other at same. cc)
 
-  pub pair_swept : (place : ℕ) → place < 2 ^ 32 → IsSwept d tidy.next (remove m (key_of (pair load place)))
+  pub pair_swept : (place : ℕ) → place < 2 ^ 32 → IsSwept d tidy.next tidy.new (remove m (key_of (pair load place)))
   pair_swept place small = row_swept (pair load place) (in_eight load ++ (112 ∷ in_four place)) (load_fits, small) refl (λ other at same. cc) (λ other at same. cc)
 
   -- ---- the mark where no row is left
@@ -91,16 +93,18 @@ module _ (m : KeyMap) (tidy : Tidy m) (d : Desk) (is : IsDesk m d) (load : ℕ) 
     still_load other few apart (inl (sealed, row, same)) = inl (sealed, unmarked_same 83 (λ e. absurd (omega arith)) _ ∙ row, same)
     still_load other few apart (inr there) = inr (remove_keeps_row m (begun load) (begun other) load_fits few (λ same. apart (cc)) ∙ there)
 
-    pub load_mark_swept : IsSwept d tidy.next unmarked
+    pub load_mark_swept : IsSwept d tidy.next tidy.new unmarked
     load_mark_swept =
         let next = tidy.next in
         let kept = kept_of m tidy in
         let seals : SameTag 83 m unmarked = unmarked_same 83 (λ e. absurd (omega arith)) in
         let rows : SameTag 103 m unmarked = unmarked_same 103 (λ e. absurd (omega arith)) in
-        let all : AllKept unmarked next = record {
+        let all : AllKept unmarked next tidy.new = record {
           rows = rows_removed m (key_of (begun load)) kept.rows;
           plans = plans_stay m unmarked next.plan next.plan (omega arith) (unmarked_same 80 (λ e. absurd (omega arith))) (unmarked_same 68 (λ e. absurd (omega arith))) (unmarked_same 82 (λ e. absurd (omega arith))) kept.plans;
           chunks = chunks_stay m unmarked next.chunk next.chunk (omega arith) (unmarked_same 82 (λ e. absurd (omega arith))) (unmarked_same 107 (λ e. absurd (omega arith))) kept.chunks;
+          holders = holders_stay m unmarked tidy.new (unmarked_same 80 (λ e. absurd (omega arith))) (unmarked_same 72 (λ e. absurd (omega arith))) (unmarked_same 75 (λ e. absurd (omega arith))) (unmarked_same 82 (λ e. absurd (omega arith))) (unmarked_same 86 (λ e. absurd (omega arith))) kept.holders;
+          owners = owners_stay m unmarked tidy.new (unmarked_same 72 (λ e. absurd (omega arith))) (unmarked_same 82 (λ e. absurd (omega arith))) kept.owners;
           loads = record {
             below = λ other value few there. kept.loads.below other value few (still_there m (key_of (begun load)) (key_of (begun other)) value there).1;
             sealed_below = λ sealed few there. kept.loads.sealed_below sealed few (sym (seals _) ∙ there);

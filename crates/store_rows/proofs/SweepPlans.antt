@@ -1,5 +1,5 @@
 -- Rows of plans that were taken away can go.
-use Rattle.std.proofs.Common.{◌≡◌, ◌<◌, ◌^◌, ℕ, List, [], ◌++◌, length, get_or, Option, Some, None, refl, sym, ap, subst, ◌∙◌, inl, inr, arith}
+use Rattle.std.proofs.Common.{Bool, true, false, ◌≡◌, ◌<◌, ◌^◌, ℕ, List, [], ◌++◌, length, get_or, Option, Some, None, refl, sym, ap, subst, ◌∙◌, inl, inr, arith}
 use Rattle.std.specs.Prelude.{Contains}
 use Rattle.std.specs.FinMap as map_of
 use Rattle.std.specs.FinMap.{get, remove}
@@ -17,11 +17,12 @@ use Rattle.store_rows.specs.DeskRows.{HasPlan, IsPlanAt, IsDesk}
 use Rattle.store_rows.specs.Changes.{plan_row_of, RevisionsStay}
 use Rattle.store_rows.proofs.Changes.{cases_key, plan_at_moves}
 use Rattle.store_rows.proofs.Frames.{removed_is_gone, remove_keeps, remove_keeps_row, remove_keeps_tag, geography_stays, names_stay, chunk_stays, desk_stays}
-use Rattle.store_rows.specs.Tidy.{IsNumbered, IsNamedBy, IsKnown, Tidy}
+use Rattle.store_rows.specs.Tidy.{IsNumbered, IsNamedBy, IsKnown, HasOwners, AreHoldings, Tidy}
 use Rattle.store_rows.specs.SweepLaws.{IsSwept}
 use Rattle.store_rows.proofs.OneGeography.{value_is, no_value}
 use Rattle.store_rows.proofs.PartNumbers.{part_at, part_there, part_chunks, among_part}
-use Rattle.store_rows.proofs.TidyParts.{AllKept, kept_of, stays_tidy, numbered_moves, naming_moves, plans_stay, chunks_stay, loads_stay, rows_removed}
+use Rattle.store_rows.proofs.Tallies.{tallies_stay}
+use Rattle.store_rows.proofs.TidyParts.{AllKept, kept_of, stays_tidy, numbered_moves, naming_moves, plans_stay, chunks_stay, holders_stay, owners_stay, loads_stay, rows_removed}
 
 -- the numbers of a revision are named by its parts
 pub numbers_named : (m : KeyMap) (plan revision : ℕ) (numbers : List ℕ) → plan < 2 ^ 64 → revision < 2 ^ 32 → NamesChunks m plan revision numbers → (number : ℕ) → Contains numbers number → IsNamedBy m plan number
@@ -55,7 +56,7 @@ living : (m : KeyMap) (g : Ground) (name : List ℕ) (number : ℕ) (p : Plan) �
 living m g name number p has = record { plan = plan_row_of number p; row = has.row; is = refl; fits = has.number_fits }
 
 -- the number of a plan that is there is no number that was taken away
-apart_from_gone : (m : KeyMap) (tidy : Tidy m) (name : List ℕ) (number plan : ℕ) → IsNumbered m name number → Has m (retired plan) [] → number ≡ plan → ⊥
+pub apart_from_gone : (m : KeyMap) (tidy : Tidy m) (name : List ℕ) (number plan : ℕ) → IsNumbered m name number → Has m (retired plan) [] → number ≡ plan → ⊥
 apart_from_gone m tidy name number plan is mark same = no_value [] (sym mark ∙ ap (λ k. row_in m (retired k)) (sym same) ∙ tidy.owned.gone name number is)
 
 plans_move : (m n : KeyMap) (geography : Option Ground) (name : List ℕ) (p : Option Plan) → row_in n (named name) ≡ row_in m (named name) → ((number last : ℕ) → IsNumbered m name number → last < 2 ^ 32 → RevisionsStay m n number last) → IsPlanAt m geography name p → IsPlanAt n geography name p
@@ -64,17 +65,32 @@ plans_move m n None name (Some p) same stay is = is
 plans_move m n (Some g) name p same stay is = plan_at_moves m n g name p same (λ number q found has. let few = has.few in stay number (length q.revisions) (living m g name number q has) (omega arith)) is
 
 -- where the rows of plans and of the geography are the same, and each revision of a plan that is there stays, so does the desk
-desk_moves : (m n : KeyMap) (d : Desk) → SameTag 80 m n → SameTag 83 m n → SameTag 103 m n → ((name : List ℕ) (number last : ℕ) → IsNumbered m name number → last < 2 ^ 32 → RevisionsStay m n number last) → IsDesk m d → IsDesk n d
+pub desk_moves : (m n : KeyMap) (d : Desk) → SameTag 80 m n → SameTag 83 m n → SameTag 103 m n → ((name : List ℕ) (number last : ℕ) → IsNumbered m name number → last < 2 ^ 32 → RevisionsStay m n number last) → IsDesk m d → IsDesk n d
 desk_moves m n d names seals loads stay is = record {
   geography = geography_stays m n d.geography seals loads is.geography;
   plans = λ name. plans_move m n d.geography name (map_of.get d.plans name) (names name) (stay name) (is.plans name);
 }
 
+-- ---- in the old version no plan is told to hold a chunk
+not_new : (new : Bool) {X : Type 0} → new ≡ false → new ≡ true → X
+not_new new old is = absurd (let clash : true ≡ false = sym is ∙ old in cc)
+
+holders_left : (m n : KeyMap) (new : Bool) → new ≡ false → (new ≡ false → HasOwners m) → SameTag 72 m n → SameTag 75 m n → SameTag 86 m n → AreHoldings m new → AreHoldings n new
+holders_left m n new old owners rows counts versions kept = record {
+  told = versions _ ∙ kept.told;
+  held = λ plan number value fits there. absurd (no_value value (sym there ∙ rows _ ∙ (owners old).unheld plan number fits));
+  tallied = tallies_stay m n rows counts kept.tallied;
+  hold = λ is. not_new new old is;
+}
+
 -- ---- a piece of a chunk
-other_piece : (number other i j : ℕ) → (other ≡ number → ⊥) → chunk other i ≡ chunk number j → ⊥
+pub other_piece : (number other i j : ℕ) → (other ≡ number → ⊥) → chunk other i ≡ chunk number j → ⊥
 other_piece number other i j apart same = apart (cc)
 
-module _ (m : KeyMap) (tidy : Tidy m) (d : Desk) (is : IsDesk m d) (plan : ℕ) (mark : Has m (retired plan) []) where
+module _ (m : KeyMap) (tidy : Tidy m) (old : tidy.new ≡ false) (d : Desk) (is : IsDesk m d) (plan : ℕ) (mark : Has m (retired plan) []) where
+  abbrev owners : HasOwners m
+  owners = tidy.owners old
+
   module _ (number piece : ℕ) (fits : Fits (chunk number piece)) (naming : IsNamedBy m plan number) where
     abbrev fewer : KeyMap
     fewer = remove m (key_of (chunk number piece))
@@ -94,7 +110,7 @@ module _ (m : KeyMap) (tidy : Tidy m) (d : Desk) (is : IsDesk m d) (plan : ℕ) 
     -- the chunks of a plan that is there are its own
     own_chunk : (name : List ℕ) (owner other : ℕ) → IsNumbered m name owner → IsNamedBy m owner other → other ≡ number → ⊥
     own_chunk name owner other there named_by same = apart_from_gone m tidy name owner plan there mark
-        (sym (tidy.owners.is owner other named_by) ∙ ap tidy.owners.owner same ∙ tidy.owners.is plan number naming)
+        (sym (owners.is owner other named_by) ∙ ap owners.owner same ∙ owners.is plan number naming)
 
     revisions_here : (name : List ℕ) (owner last : ℕ) → IsNumbered m name owner → last < 2 ^ 32 → RevisionsStay m fewer owner last
     revisions_here name owner last there few revision counties some within has = record {
@@ -108,11 +124,11 @@ module _ (m : KeyMap) (tidy : Tidy m) (d : Desk) (is : IsDesk m d) (plan : ℕ) 
           other_chunk other (get_or counties county []) (own_chunk name owner other there (numbers_named m owner revision has.numbers there.fits (omega arith) has.names other among)) (has.chunks county inside);
     }
 
-    pub piece_swept : IsSwept d tidy.next fewer
+    pub piece_swept : IsSwept d tidy.next tidy.new fewer
     piece_swept =
         let next = tidy.next in
         let kept = kept_of m tidy in
-        let all : AllKept fewer next = record {
+        let all : AllKept fewer next tidy.new = record {
           rows = rows_removed m (key_of (chunk number piece)) kept.rows;
           plans = plans_stay m fewer next.plan next.plan (omega arith) (fewer_same 80 (λ e. absurd (omega arith))) (fewer_same 68 (λ e. absurd (omega arith))) (fewer_same 82 (λ e. absurd (omega arith))) kept.plans;
           chunks = record {
@@ -121,8 +137,9 @@ module _ (m : KeyMap) (tidy : Tidy m) (d : Desk) (is : IsDesk m d) (plan : ℕ) 
                 let before = kept.chunks.chunks other index value few (still_there m (key_of (chunk number piece)) (key_of (chunk other index)) value there).1 in
                 (before.0, naming_moves m fewer before.0 other (fewer_same 82 (λ e. absurd (omega arith))) before.1);
             pieces = λ other index value few there. kept.chunks.pieces other index value few (still_there m (key_of (chunk number piece)) (key_of (chunk other index)) value there).1;
-            owners = record { owner = kept.chunks.owners.owner; is = λ owner other named_by. kept.chunks.owners.is owner other (naming_moves fewer m owner other (λ rest. sym (fewer_same 82 (λ e. absurd (omega arith)) rest)) named_by) };
           };
+          holders = holders_left m fewer tidy.new old tidy.owners (fewer_same 72 (λ e. absurd (omega arith))) (fewer_same 75 (λ e. absurd (omega arith))) (fewer_same 86 (λ e. absurd (omega arith))) kept.holders;
+          owners = owners_stay m fewer tidy.new (fewer_same 72 (λ e. absurd (omega arith))) (fewer_same 82 (λ e. absurd (omega arith))) tidy.owners;
           loads = loads_stay m fewer next.load next.load (omega arith) (fewer_same 76 (λ e. absurd (omega arith))) (fewer_same 83 (λ e. absurd (omega arith))) (fewer_same 103 (λ e. absurd (omega arith))) kept.loads;
         } in
         record {
@@ -189,11 +206,11 @@ module _ (m : KeyMap) (tidy : Tidy m) (d : Desk) (is : IsDesk m d) (plan : ℕ) 
     numbered_before : (name : List ℕ) (owner : ℕ) → IsNumbered without name owner → IsNumbered m name owner
     numbered_before name owner there = numbered_moves without m name owner (sym (without_same 80 (λ e. absurd (omega arith)) _)) there
 
-    pub part_swept : IsSwept d tidy.next without
+    pub part_swept : IsSwept d tidy.next tidy.new without
     part_swept =
         let next = tidy.next in
         let kept = kept_of m tidy in
-        let all : AllKept without next = record {
+        let all : AllKept without next tidy.new = record {
           rows = rows_removed m (key_of (part plan revision index)) kept.rows;
           plans = record {
             below = λ name owner there. kept.plans.below name owner (numbered_before name owner there);
@@ -212,7 +229,12 @@ module _ (m : KeyMap) (tidy : Tidy m) (d : Desk) (is : IsDesk m d) (plan : ℕ) 
                 let before = kept.chunks.chunks number i value few piece in
                 (before.0, naming_after before.0 number i value few.1 piece before.1);
             pieces = λ number i value few there. kept.chunks.pieces number i value few (still_there m (key_of (part plan revision index)) (key_of (chunk number i)) value there).1;
-            owners = record { owner = kept.chunks.owners.owner; is = λ owner number there. kept.chunks.owners.is owner number (naming_before owner number there) };
+          };
+          holders = holders_left m without tidy.new old tidy.owners (without_same 72 (λ e. absurd (omega arith))) (without_same 75 (λ e. absurd (omega arith))) (without_same 86 (λ e. absurd (omega arith))) kept.holders;
+          owners = λ version. record {
+            owner = owners.owner;
+            is = λ owner number there. owners.is owner number (naming_before owner number there);
+            unheld = λ owner number few. without_same 72 (λ e. absurd (omega arith)) _ ∙ owners.unheld owner number few;
           };
           loads = loads_stay m without next.load next.load (omega arith) (without_same 76 (λ e. absurd (omega arith))) (without_same 83 (λ e. absurd (omega arith))) (without_same 103 (λ e. absurd (omega arith))) kept.loads;
         } in
@@ -221,46 +243,48 @@ module _ (m : KeyMap) (tidy : Tidy m) (d : Desk) (is : IsDesk m d) (plan : ℕ) 
           tidy = stays_tidy m without tidy (without_same 65 (λ e. absurd (omega arith)) []) all;
         }
 
-  -- ---- the mark where no part is left
-  module _ (plan_fits : plan < 2 ^ 64) (none : (revision index : ℕ) → Fits (part plan revision index) → Lacks m (part plan revision index)) where
-    abbrev unmarked : KeyMap
-    unmarked = remove m (key_of (retired plan))
+-- ---- the mark where no part is left, in either version
+module _ (m : KeyMap) (tidy : Tidy m) (d : Desk) (is : IsDesk m d) (plan : ℕ) (mark : Has m (retired plan) []) (plan_fits : plan < 2 ^ 64) (none : (revision index : ℕ) → Fits (part plan revision index) → Lacks m (part plan revision index)) where
+  abbrev unmarked : KeyMap
+  unmarked = remove m (key_of (retired plan))
 
-    unmarked_same : (tag : ℕ) → (tag ≡ 68 → ⊥) → SameTag tag m unmarked
-    unmarked_same tag apart = remove_keeps_tag m tag 68 (in_eight plan) apart
+  unmarked_same : (tag : ℕ) → (tag ≡ 68 → ⊥) → SameTag tag m unmarked
+  unmarked_same tag apart = remove_keeps_tag m tag 68 (in_eight plan) apart
 
-    known_still : (owner : ℕ) → owner < 2 ^ 64 → (owner ≡ plan → ⊥) → IsKnown m owner → IsKnown unmarked owner
-    known_still owner few apart (inl (name, there)) = inl (name, numbered_moves m unmarked name owner (unmarked_same 80 (λ e. absurd (omega arith)) _) there)
-    known_still owner few apart (inr gone) = inr (remove_keeps_row m (retired plan) (retired owner) plan_fits few (λ same. apart (cc)) ∙ gone)
+  known_still : (owner : ℕ) → owner < 2 ^ 64 → (owner ≡ plan → ⊥) → IsKnown m owner → IsKnown unmarked owner
+  known_still owner few apart (inl (name, there)) = inl (name, numbered_moves m unmarked name owner (unmarked_same 80 (λ e. absurd (omega arith)) _) there)
+  known_still owner few apart (inr gone) = inr (remove_keeps_row m (retired plan) (retired owner) plan_fits few (λ same. apart (cc)) ∙ gone)
 
-    numbered_there : (name : List ℕ) (owner : ℕ) → IsNumbered unmarked name owner → IsNumbered m name owner
-    numbered_there name owner there = numbered_moves unmarked m name owner (sym (unmarked_same 80 (λ e. absurd (omega arith)) _)) there
+  numbered_there : (name : List ℕ) (owner : ℕ) → IsNumbered unmarked name owner → IsNumbered m name owner
+  numbered_there name owner there = numbered_moves unmarked m name owner (sym (unmarked_same 80 (λ e. absurd (omega arith)) _)) there
 
-    part_there_still : (owner k i : ℕ) (value : List ℕ) → Has unmarked (part owner k i) value → Has m (part owner k i) value
-    part_there_still owner k i value there = (still_there m (key_of (retired plan)) (key_of (part owner k i)) value there).1
+  part_there_still : (owner k i : ℕ) (value : List ℕ) → Has unmarked (part owner k i) value → Has m (part owner k i) value
+  part_there_still owner k i value there = (still_there m (key_of (retired plan)) (key_of (part owner k i)) value there).1
 
-    pub mark_swept : IsSwept d tidy.next unmarked
-    mark_swept =
-        let next = tidy.next in
-        let kept = kept_of m tidy in
-        let all : AllKept unmarked next = record {
-          rows = rows_removed m (key_of (retired plan)) kept.rows;
-          plans = record {
-            below = λ name owner there. kept.plans.below name owner (numbered_there name owner there);
-            marks_below = λ owner value few there. kept.plans.marks_below owner value few (still_there m (key_of (retired plan)) (key_of (retired owner)) value there).1;
-            one = λ name other owner there also. kept.plans.one name other owner (numbered_there name owner there) (numbered_there other owner also);
-            gone = λ name owner there. still_none m (key_of (retired plan)) (key_of (retired owner)) (kept.plans.gone name owner (numbered_there name owner there));
-            parts = λ owner k i value few there.
-                let before = part_there_still owner k i value there in
-                known_still owner few.0 (λ same. no_value value (sym before ∙ ap (λ o. row_in m (part o k i)) same ∙ none k i (plan_fits, few.1, few.2))) (kept.plans.parts owner k i value few before);
-            told = λ owner k i value few there. kept.plans.told owner k i value few (part_there_still owner k i value there);
-            counted = λ name p p_fits small there k i value few also.
-                kept.plans.counted name p p_fits small (still_there m (key_of (retired plan)) (key_of (named name)) (plan_bytes p) there).1 k i value few (part_there_still p.number k i value also);
-          };
-          chunks = chunks_stay m unmarked next.chunk next.chunk (omega arith) (unmarked_same 82 (λ e. absurd (omega arith))) (unmarked_same 107 (λ e. absurd (omega arith))) kept.chunks;
-          loads = loads_stay m unmarked next.load next.load (omega arith) (unmarked_same 76 (λ e. absurd (omega arith))) (unmarked_same 83 (λ e. absurd (omega arith))) (unmarked_same 103 (λ e. absurd (omega arith))) kept.loads;
-        } in
-        record {
-          desk = desk_stays m unmarked d (unmarked_same 80 (λ e. absurd (omega arith))) (unmarked_same 82 (λ e. absurd (omega arith))) (unmarked_same 83 (λ e. absurd (omega arith))) (unmarked_same 103 (λ e. absurd (omega arith))) (unmarked_same 107 (λ e. absurd (omega arith))) is;
-          tidy = stays_tidy m unmarked tidy (unmarked_same 65 (λ e. absurd (omega arith)) []) all;
-        }
+  pub mark_swept : IsSwept d tidy.next tidy.new unmarked
+  mark_swept =
+      let next = tidy.next in
+      let kept = kept_of m tidy in
+      let all : AllKept unmarked next tidy.new = record {
+        rows = rows_removed m (key_of (retired plan)) kept.rows;
+        plans = record {
+          below = λ name owner there. kept.plans.below name owner (numbered_there name owner there);
+          marks_below = λ owner value few there. kept.plans.marks_below owner value few (still_there m (key_of (retired plan)) (key_of (retired owner)) value there).1;
+          one = λ name other owner there also. kept.plans.one name other owner (numbered_there name owner there) (numbered_there other owner also);
+          gone = λ name owner there. still_none m (key_of (retired plan)) (key_of (retired owner)) (kept.plans.gone name owner (numbered_there name owner there));
+          parts = λ owner k i value few there.
+              let before = part_there_still owner k i value there in
+              known_still owner few.0 (λ same. no_value value (sym before ∙ ap (λ o. row_in m (part o k i)) same ∙ none k i (plan_fits, few.1, few.2))) (kept.plans.parts owner k i value few before);
+          told = λ owner k i value few there. kept.plans.told owner k i value few (part_there_still owner k i value there);
+          counted = λ name p p_fits small there k i value few also.
+              kept.plans.counted name p p_fits small (still_there m (key_of (retired plan)) (key_of (named name)) (plan_bytes p) there).1 k i value few (part_there_still p.number k i value also);
+        };
+        chunks = chunks_stay m unmarked next.chunk next.chunk (omega arith) (unmarked_same 82 (λ e. absurd (omega arith))) (unmarked_same 107 (λ e. absurd (omega arith))) kept.chunks;
+        holders = holders_stay m unmarked tidy.new (unmarked_same 80 (λ e. absurd (omega arith))) (unmarked_same 72 (λ e. absurd (omega arith))) (unmarked_same 75 (λ e. absurd (omega arith))) (unmarked_same 82 (λ e. absurd (omega arith))) (unmarked_same 86 (λ e. absurd (omega arith))) kept.holders;
+        owners = owners_stay m unmarked tidy.new (unmarked_same 72 (λ e. absurd (omega arith))) (unmarked_same 82 (λ e. absurd (omega arith))) tidy.owners;
+        loads = loads_stay m unmarked next.load next.load (omega arith) (unmarked_same 76 (λ e. absurd (omega arith))) (unmarked_same 83 (λ e. absurd (omega arith))) (unmarked_same 103 (λ e. absurd (omega arith))) kept.loads;
+      } in
+      record {
+        desk = desk_stays m unmarked d (unmarked_same 80 (λ e. absurd (omega arith))) (unmarked_same 82 (λ e. absurd (omega arith))) (unmarked_same 83 (λ e. absurd (omega arith))) (unmarked_same 103 (λ e. absurd (omega arith))) (unmarked_same 107 (λ e. absurd (omega arith))) is;
+        tidy = stays_tidy m unmarked tidy (unmarked_same 65 (λ e. absurd (omega arith)) []) all;
+      }

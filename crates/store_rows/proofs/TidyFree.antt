@@ -1,18 +1,20 @@
 -- A map without rows is tidy; in a tidy map the numbers that come next are free, and it has one row of counters' numbers.
-use Rattle.std.proofs.Common.{◌≡◌, ◌<◌, ◌≤◌, ◌^◌, ℕ, List, [], drop, Option, Some, None, refl, sym, ap, ◌∙◌, inl, inr, w64, arith}
+use Rattle.std.proofs.Common.{false, ◌≡◌, ◌<◌, ◌≤◌, ◌^◌, ℕ, List, [], drop, Option, Some, None, refl, sym, ap, ◌∙◌, inl, inr, w64, arith}
 use Rattle.std.specs.Int.{from_be_bytes}
 use Rattle.std.specs.Prelude.{MatchOption}
 use Rattle.std.specs.FinMap.{get, empty, get-empty}
 use Rattle.std.proofs.lemmas.Nat.{from_be_bytes-to_be_bytes_8}
-use Rattle.store_rows.specs.Keys.{key_of, Fits, counters, retired, begun, named, part, block, pair, chunk}
+use Rattle.store_rows.specs.Keys.{key_of, Fits, counters, retired, begun, holding, tally, named, part, version, block, pair, chunk}
 use Rattle.store_rows.specs.Values.{plan_bytes, counters_bytes}
 use Rattle.store_rows.specs.declared.value.Counters.{Counters}
 use Rattle.store_rows.specs.declared.value.PlanRow.{PlanRow}
 use Rattle.store_rows.specs.Order.{key_cmp}
+use Rattle.store_rows.specs.Lists.{chunks_bytes}
 use Rattle.store_rows.specs.Rows.{KeyMap, row_in, Has, Lacks}
 use Rattle.store_rows.specs.ChunkRows.{IsFreeChunk}
 use Rattle.store_rows.specs.Tidy.{no_numbers, IsNext, CountersFit, IsKnown, IsLoad, Tidy, TidyWith}
 use Rattle.store_rows.proofs.OneGeography.{no_value}
+use Rattle.store_rows.proofs.Tallies.{nothing_tallied, some_holder}
 use Rattle.store_rows.proofs.TidyParts.{some_or_none, AllKept, tidy_at}
 
 -- ---- no rows
@@ -22,11 +24,11 @@ nothing_there key = get-empty key_cmp key
 never : (key value : List ℕ) → get {K = List ℕ} {X = List ℕ} {R = key_cmp} empty key ≡ Some value → ⊥
 never key value there = no_value value (sym there ∙ nothing_there key)
 
-pub empty_tidy : TidyWith empty no_numbers
+pub empty_tidy : TidyWith empty no_numbers false
 empty_tidy =
     let m : KeyMap = empty in
     let is : IsNext m no_numbers = rw (nothing_there (key_of counters)) refl in
-    let kept : AllKept m no_numbers = record {
+    let kept : AllKept m no_numbers false = record {
       rows = λ key value there. absurd (never key value there);
       plans = record {
         below = λ name number is. absurd (never _ _ is.row);
@@ -41,7 +43,6 @@ empty_tidy =
         below = λ plan number is. absurd (never _ _ is.row);
         chunks = λ number index value fits has. absurd (never _ _ has);
         pieces = λ number piece value fits has. absurd (never _ _ has);
-        owners = record { owner = λ number. 0; is = λ plan number is. absurd (never _ _ is.row) };
       };
       loads = record {
         below = λ load value fits has. absurd (never _ _ has);
@@ -50,8 +51,15 @@ empty_tidy =
         pairs = λ load place value fits has. absurd (never _ _ has);
         ended = λ sealed fits has. absurd (never _ _ has);
       };
+      holders = record {
+        told = nothing_there (key_of version);
+        held = λ plan number value fits has. absurd (never _ _ has);
+        tallied = nothing_tallied;
+        hold = λ is_new name plan number is naming. absurd (never _ _ is.row);
+      };
+      owners = λ old. record { owner = λ number. number; is = λ plan number is. absurd (never _ _ is.row); unheld = λ plan number fits. nothing_there (key_of (holding plan number)) };
     } in
-    tidy_at m no_numbers is (record { plan_fits = omega arith; chunk_fits = omega arith; load_fits = omega arith }) kept
+    tidy_at m no_numbers false is (record { plan_fits = omega arith; chunk_fits = omega arith; load_fits = omega arith }) kept
 
 -- ---- one row of counters
 counters_say : (a b : Counters) → CountersFit a → CountersFit b → counters_bytes a ≡ counters_bytes b → a ≡ b
@@ -69,7 +77,7 @@ pub one_next : (m : KeyMap) (a b : Counters) → CountersFit a → CountersFit b
 one_next m a b fa fb is also = next_by (row_in m counters) a b fa fb is also
 
 -- ---- numbers that come next
-known_below : (m : KeyMap) (tidy : Tidy m) (plan : ℕ) → plan < 2 ^ 64 → IsKnown m plan → plan < tidy.next.plan
+pub known_below : (m : KeyMap) (tidy : Tidy m) (plan : ℕ) → plan < 2 ^ 64 → IsKnown m plan → plan < tidy.next.plan
 known_below m tidy plan fits (inl (name, is)) = tidy.below.plans name plan is
 known_below m tidy plan fits (inr mark) = tidy.below.retired_plans plan [] fits mark
 
@@ -81,6 +89,24 @@ pub free_chunk : (m : KeyMap) (tidy : Tidy m) (number : ℕ) → tidy.next.chunk
 free_chunk m tidy number more fits index few = some_or_none (row_in m (chunk number index)) (λ value there.
     let is = tidy.owned.chunks number index value (fits, few) there in
     let below = tidy.below.named_chunks is.0 number is.1 in
+    absurd (omega arith))
+
+-- a chunk that is next or later is held by none, and has no count
+pub free_holding : (m : KeyMap) (tidy : Tidy m) (plan number : ℕ) → tidy.next.chunk ≤ number → Fits (holding plan number) → Lacks m (holding plan number)
+free_holding m tidy plan number more fits = some_or_none (row_in m (holding plan number)) (λ value there.
+    let below = tidy.below.named_chunks plan number (tidy.holdings.held plan number value fits there).1 in
+    absurd (omega arith))
+
+pub free_tally : (m : KeyMap) (tidy : Tidy m) (number : ℕ) → tidy.next.chunk ≤ number → number < 2 ^ 64 → Lacks m (tally number)
+free_tally m tidy number more fits = some_or_none (row_in m (tally number)) (λ value there.
+    let is = some_holder m number value tidy.holdings.tallied fits there in
+    absurd (no_value [] (sym is.2 ∙ free_holding m tidy is.0 number more (is.1, fits))))
+
+-- and a plan that is next or later holds none
+pub free_holder : (m : KeyMap) (tidy : Tidy m) (plan number : ℕ) → tidy.next.plan ≤ plan → Fits (holding plan number) → Lacks m (holding plan number)
+free_holder m tidy plan number more fits = some_or_none (row_in m (holding plan number)) (λ value there.
+    let naming = (tidy.holdings.held plan number value fits there).1 in
+    let below = known_below m tidy plan fits.0 (tidy.owned.parts plan naming.revision naming.index (chunks_bytes naming.numbers) naming.part_fits naming.row) in
     absurd (omega arith))
 
 pub free_mark : (m : KeyMap) (tidy : Tidy m) (plan : ℕ) → tidy.next.plan ≤ plan → plan < 2 ^ 64 → Lacks m (retired plan)

@@ -17,7 +17,7 @@ use Rattle.store_rows.proofs.Staging.{none_staged}
 use Rattle.store_rows.specs.Tidy.{IsLoad, Tidy, TidyWith}
 use Rattle.store_rows.proofs.OneGeography.{value_is, no_value, seal_load}
 use Rattle.store_rows.proofs.TidyFree.{free_block, free_pair}
-use Rattle.store_rows.proofs.TidyParts.{load_moves, LoadsKept, AllKept, kept_of, plans_stay, chunks_stay, rows_put, rows_removed, counters_put, stays_tidy}
+use Rattle.store_rows.proofs.TidyParts.{load_moves, LoadsKept, AllKept, kept_of, plans_stay, chunks_stay, holders_stay, owners_stay, rows_put, rows_removed, counters_put, stays_tidy}
 
 other_load : (load other : ℕ) → (load ≡ other → ⊥) → begun load ≡ begun other → ⊥
 other_load load other apart same = apart (cc)
@@ -56,7 +56,7 @@ module _ (m : KeyMap) (limit : ℕ) (kept : LoadsKept m limit) (fits : limit < 2
   }
 
 pub begun_tidy : (m : KeyMap) (tidy : Tidy m) → tidy.next.load + 1 < 2 ^ 64
-    → TidyWith (insert (insert m (key_of (begun tidy.next.load)) []) (key_of counters) (counters_bytes (one_load_more tidy.next))) (one_load_more tidy.next)
+    → TidyWith (insert (insert m (key_of (begun tidy.next.load)) []) (key_of counters) (counters_bytes (one_load_more tidy.next))) (one_load_more tidy.next) tidy.new
 begun_tidy m tidy room =
     let next = tidy.next in
     let kept = kept_of m tidy in
@@ -64,11 +64,13 @@ begun_tidy m tidy room =
     let same = λ (tag : ℕ) (apart : tag ≡ 76 → ⊥). put_keeps_tag m tag 76 (in_eight next.load) [] apart in
     let plan_fits = tidy.fits.plan_fits in
     let chunk_fits = tidy.fits.chunk_fits in
-    counters_put n (one_load_more next) (record { plan_fits = plan_fits; chunk_fits = chunk_fits; load_fits = room }) (record {
+    counters_put n (one_load_more next) tidy.new (record { plan_fits = plan_fits; chunk_fits = chunk_fits; load_fits = room }) (record {
       rows = rows_put m (begun next.load) [] tidy.fits.load_fits kept.rows;
       plans = plans_stay m n next.plan next.plan (omega arith) (same 80 (λ e. absurd (omega arith))) (same 68 (λ e. absurd (omega arith))) (same 82 (λ e. absurd (omega arith))) kept.plans;
       chunks = chunks_stay m n next.chunk next.chunk (omega arith) (same 82 (λ e. absurd (omega arith))) (same 107 (λ e. absurd (omega arith))) kept.chunks;
       loads = loads_started m next.load kept.loads tidy.fits.load_fits;
+      holders = holders_stay m n tidy.new (same 80 (λ e. absurd (omega arith))) (same 72 (λ e. absurd (omega arith))) (same 75 (λ e. absurd (omega arith))) (same 82 (λ e. absurd (omega arith))) (same 86 (λ e. absurd (omega arith))) kept.holders;
+      owners = owners_stay m n tidy.new (same 72 (λ e. absurd (omega arith))) (same 82 (λ e. absurd (omega arith))) kept.owners;
     })
 
 -- no row stands under its number
@@ -87,7 +89,7 @@ begun_unstaged m tidy g =
 -- a row of a load is that of a block or of a pair of the load
 pub load_row_tidy : (m : KeyMap) (tidy : Tidy m) (load : ℕ) (row : RowKey) (rest value : List ℕ) → key_of row ≡ 103 ∷ rest → Fits row → IsLoad m load
     → ((other place : ℕ) → Fits (block other place) → row ≡ block other place → other ≡ load) → ((other place : ℕ) → Fits (pair other place) → row ≡ pair other place → other ≡ load)
-    → TidyWith (insert m (key_of row) value) tidy.next
+    → TidyWith (insert m (key_of row) value) tidy.next tidy.new
 load_row_tidy m tidy load row rest value tagged fits is block_load pair_load =
     let next = tidy.next in
     let kept = kept_of m tidy in
@@ -108,24 +110,26 @@ load_row_tidy m tidy load row rest value tagged fits is block_load pair_load =
       ]);
       ended = λ sealed few there. marks _ ∙ kept.loads.ended sealed few (sym (seals _) ∙ there);
     } in
-    let here : AllKept n next = record {
+    let here : AllKept n next tidy.new = record {
       rows = rows_put m row value fits kept.rows;
       plans = plans_stay m n next.plan next.plan (omega arith) (same 80 (λ e. absurd (omega arith))) (same 68 (λ e. absurd (omega arith))) (same 82 (λ e. absurd (omega arith))) kept.plans;
       chunks = chunks_stay m n next.chunk next.chunk (omega arith) (same 82 (λ e. absurd (omega arith))) (same 107 (λ e. absurd (omega arith))) kept.chunks;
       loads = loads;
+      holders = holders_stay m n tidy.new (same 80 (λ e. absurd (omega arith))) (same 72 (λ e. absurd (omega arith))) (same 75 (λ e. absurd (omega arith))) (same 82 (λ e. absurd (omega arith))) (same 86 (λ e. absurd (omega arith))) kept.holders;
+      owners = owners_stay m n tidy.new (same 72 (λ e. absurd (omega arith))) (same 82 (λ e. absurd (omega arith))) kept.owners;
     } in
     stays_tidy m n tidy (same 65 (λ e. absurd (omega arith)) []) here
 
-pub block_tidy : (m : KeyMap) (tidy : Tidy m) (load place : ℕ) (value : List ℕ) → Fits (block load place) → IsLoad m load → TidyWith (insert m (key_of (block load place)) value) tidy.next
+pub block_tidy : (m : KeyMap) (tidy : Tidy m) (load place : ℕ) (value : List ℕ) → Fits (block load place) → IsLoad m load → TidyWith (insert m (key_of (block load place)) value) tidy.next tidy.new
 block_tidy m tidy load place value fits is = load_row_tidy m tidy load (block load place) (in_eight load ++ (98 ∷ in_four place)) value refl fits is (λ other at few same. cc) (λ other at few same. cc)
 
-pub pair_tidy : (m : KeyMap) (tidy : Tidy m) (load place : ℕ) (value : List ℕ) → Fits (pair load place) → IsLoad m load → TidyWith (insert m (key_of (pair load place)) value) tidy.next
+pub pair_tidy : (m : KeyMap) (tidy : Tidy m) (load place : ℕ) (value : List ℕ) → Fits (pair load place) → IsLoad m load → TidyWith (insert m (key_of (pair load place)) value) tidy.next tidy.new
 pair_tidy m tidy load place value fits is = load_row_tidy m tidy load (pair load place) (in_eight load ++ (112 ∷ in_four place)) value refl fits is (λ other at few same. cc) (λ other at few same. cc)
 
 -- ---- rows of a load, one after the other
-one_staged : (m : KeyMap) (tidy : Tidy m) (load : ℕ) (key value : List ℕ) → load < 2 ^ 64 → IsLoad m load → IsLoadKey load key → TidyWith (insert m key value) tidy.next
-one_staged m tidy load key value fits is (inl (place, few, same)) = subst (λ (k : List ℕ). TidyWith (insert m k value) tidy.next) (sym same) (block_tidy m tidy load place value (fits, few) is)
-one_staged m tidy load key value fits is (inr (place, few, same)) = subst (λ (k : List ℕ). TidyWith (insert m k value) tidy.next) (sym same) (pair_tidy m tidy load place value (fits, few) is)
+one_staged : (m : KeyMap) (tidy : Tidy m) (load : ℕ) (key value : List ℕ) → load < 2 ^ 64 → IsLoad m load → IsLoadKey load key → TidyWith (insert m key value) tidy.next tidy.new
+one_staged m tidy load key value fits is (inl (place, few, same)) = subst (λ (k : List ℕ). TidyWith (insert m k value) tidy.next tidy.new) (sym same) (block_tidy m tidy load place value (fits, few) is)
+one_staged m tidy load key value fits is (inr (place, few, same)) = subst (λ (k : List ℕ). TidyWith (insert m k value) tidy.next tidy.new) (sym same) (pair_tidy m tidy load place value (fits, few) is)
 
 still_there : (m : KeyMap) (load other : ℕ) (key value : List ℕ) → IsLoadKey load key → IsLoad m other → IsLoad (insert m key value) other
 still_there m load other key value (inl (place, few, same)) is = subst (λ (k : List ℕ). IsLoad (insert m k value) other) (sym same)
@@ -133,13 +137,13 @@ still_there m load other key value (inl (place, few, same)) is = subst (λ (k : 
 still_there m load other key value (inr (place, few, same)) is = subst (λ (k : List ℕ). IsLoad (insert m k value) other) (sym same)
     (load_moves m (insert m (key_of (pair load place)) value) other (put_keeps_tag m 83 103 (in_eight load ++ (112 ∷ in_four place)) value (λ e. absurd (omega arith))) (put_keeps_tag m 76 103 (in_eight load ++ (112 ∷ in_four place)) value (λ e. absurd (omega arith))) is)
 
-pub staged_tidy : (m : KeyMap) (tidy : Tidy m) (load : ℕ) (rows : List Row) → load < 2 ^ 64 → IsLoad m load → All (λ row. IsLoadKey load row.0) rows → TidyWith (put_rows m rows) tidy.next
-staged_tidy m tidy load [] fits is all = (tidy, refl)
+pub staged_tidy : (m : KeyMap) (tidy : Tidy m) (load : ℕ) (rows : List Row) → load < 2 ^ 64 → IsLoad m load → All (λ row. IsLoadKey load row.0) rows → TidyWith (put_rows m rows) tidy.next tidy.new
+staged_tidy m tidy load [] fits is all = (tidy, refl, refl)
 staged_tidy m tidy load (row ∷ rows) fits is all =
     let first : IsLoadKey load row.0 = all 0 row (omega arith) in
-    let one : TidyWith (insert m row.0 row.1) tidy.next = one_staged m tidy load row.0 row.1 fits is first in
-    let rest : TidyWith (put_rows (insert m row.0 row.1) rows) one.0.next = staged_tidy (insert m row.0 row.1) one.0 load rows fits (still_there m load load row.0 row.1 first is) (λ k d within. all (suc k) d (omega arith)) in
-    (rest.0, rest.1 ∙ one.1)
+    let one : TidyWith (insert m row.0 row.1) tidy.next tidy.new = one_staged m tidy load row.0 row.1 fits is first in
+    let rest : TidyWith (put_rows (insert m row.0 row.1) rows) one.0.next one.0.new = staged_tidy (insert m row.0 row.1) one.0 load rows fits (still_there m load load row.0 row.1 first is) (λ k d within. all (suc k) d (omega arith)) in
+    (rest.0, rest.1 ∙ one.1, rest.2 ∙ one.2)
 
 -- ---- a load is sealed
 module _ (m : KeyMap) (limit : ℕ) (s : SealRow) (kept : LoadsKept m limit) (fits : s.load < 2 ^ 64) (lacks : Lacks m seal) (mark : Has m (begun s.load) []) where
@@ -187,17 +191,19 @@ module _ (m : KeyMap) (limit : ℕ) (s : SealRow) (kept : LoadsKept m limit) (fi
     ended = λ sealed few there. ap (λ k. row_in closed (begun k)) (seal_says sealed few there) ∙ ended_mark;
   }
 
-pub sealed_tidy : (m : KeyMap) (tidy : Tidy m) (s : SealRow) → s.load < 2 ^ 64 → Lacks m seal → Has m (begun s.load) [] → TidyWith (remove (insert m (key_of seal) (seal_bytes s)) (key_of (begun s.load))) tidy.next
+pub sealed_tidy : (m : KeyMap) (tidy : Tidy m) (s : SealRow) → s.load < 2 ^ 64 → Lacks m seal → Has m (begun s.load) [] → TidyWith (remove (insert m (key_of seal) (seal_bytes s)) (key_of (begun s.load))) tidy.next tidy.new
 sealed_tidy m tidy s fits lacks mark =
     let next = tidy.next in
     let kept = kept_of m tidy in
     let mid = insert m (key_of seal) (seal_bytes s) in
     let n = remove mid (key_of (begun s.load)) in
     let same = λ (tag : ℕ) (not_seal : tag ≡ 83 → ⊥) (not_mark : tag ≡ 76 → ⊥). tag_follows tag m mid n (put_keeps_tag m tag 83 [] (seal_bytes s) not_seal) (remove_keeps_tag mid tag 76 (in_eight s.load) not_mark) in
-    let here : AllKept n next = record {
+    let here : AllKept n next tidy.new = record {
       rows = rows_removed mid (key_of (begun s.load)) (rows_put m seal (seal_bytes s) tt kept.rows);
       plans = plans_stay m n next.plan next.plan (omega arith) (same 80 (λ e. absurd (omega arith)) (λ e. absurd (omega arith))) (same 68 (λ e. absurd (omega arith)) (λ e. absurd (omega arith))) (same 82 (λ e. absurd (omega arith)) (λ e. absurd (omega arith))) kept.plans;
       chunks = chunks_stay m n next.chunk next.chunk (omega arith) (same 82 (λ e. absurd (omega arith)) (λ e. absurd (omega arith))) (same 107 (λ e. absurd (omega arith)) (λ e. absurd (omega arith))) kept.chunks;
       loads = loads_closed m next.load s kept.loads fits lacks mark;
+      holders = holders_stay m n tidy.new (same 80 (λ e. absurd (omega arith)) (λ e. absurd (omega arith))) (same 72 (λ e. absurd (omega arith)) (λ e. absurd (omega arith))) (same 75 (λ e. absurd (omega arith)) (λ e. absurd (omega arith))) (same 82 (λ e. absurd (omega arith)) (λ e. absurd (omega arith))) (same 86 (λ e. absurd (omega arith)) (λ e. absurd (omega arith))) kept.holders;
+      owners = owners_stay m n tidy.new (same 72 (λ e. absurd (omega arith)) (λ e. absurd (omega arith))) (same 82 (λ e. absurd (omega arith)) (λ e. absurd (omega arith))) kept.owners;
     } in
     stays_tidy m n tidy (same 65 (λ e. absurd (omega arith)) (λ e. absurd (omega arith)) []) here

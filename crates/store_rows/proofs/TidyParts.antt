@@ -1,7 +1,7 @@
 -- What is kept of plans, of chunks and of loads, each by itself: a change of rows mostly reaches one of the three.
-use Rattle.std.proofs.Common.{◌≡◌, ◌<◌, ◌≤◌, ◌^◌, ℕ, List, [], drop, Option, Some, None, sym, ap, subst, ◌∙◌, inl, inr, arith}
+use Rattle.std.proofs.Common.{Bool, false, ◌≡◌, ◌<◌, ◌≤◌, ◌^◌, ℕ, List, [], drop, Option, Some, None, sym, ap, subst, ◌∙◌, inl, inr, arith}
 use Rattle.std.specs.FinMap.{get, insert, remove}
-use Rattle.store_rows.specs.Keys.{RowKey, key_of, Fits, counters, retired, begun, named, part, seal, block, pair, chunk}
+use Rattle.store_rows.specs.Keys.{RowKey, key_of, Fits, counters, retired, begun, holding, tally, named, part, seal, version, block, pair, chunk}
 use Rattle.store_rows.specs.Values.{counters_bytes, plan_bytes, seal_bytes}
 use Rattle.store_rows.specs.declared.value.Counters.{Counters}
 use Rattle.store_rows.specs.declared.value.PlanRow.{PlanRow}
@@ -9,8 +9,9 @@ use Rattle.store_rows.specs.declared.value.SealRow.{SealRow}
 use Rattle.store_rows.specs.Rows.{KeyMap, row_in, Has, SameTag}
 use Rattle.store_rows.proofs.Changes.{cases_key}
 use Rattle.store_rows.proofs.Frames.{put_is_there, put_keeps, put_keeps_tag, removed_is_gone, remove_keeps, other_tag}
-use Rattle.store_rows.specs.Tidy.{IsNext, CountersFit, IsNumbered, IsNamedBy, IsPart, IsPiece, AreRows, IsKnown, IsLoad, HasOwners, Tidy, TidyWith}
+use Rattle.store_rows.specs.Tidy.{IsNext, CountersFit, IsNumbered, IsNamedBy, IsPart, IsPiece, AreRows, IsKnown, IsLoad, HasOwners, AreHoldings, Tidy, TidyWith}
 use Rattle.store_rows.proofs.OneGeography.{no_value}
+use Rattle.store_rows.proofs.Tallies.{tallies_stay}
 
 pub record PlansKept (m : KeyMap) (limit : ℕ) : Type 0 where
   pub below : (name : List ℕ) (number : ℕ) → IsNumbered m name number → number < limit
@@ -26,7 +27,6 @@ pub record ChunksKept (m : KeyMap) (limit : ℕ) : Type 0 where
   pub below : (plan number : ℕ) → IsNamedBy m plan number → number < limit
   pub chunks : (number index : ℕ) (value : List ℕ) → Fits (chunk number index) → Has m (chunk number index) value → (plan : ℕ) × IsNamedBy m plan number
   pub pieces : (number piece : ℕ) (value : List ℕ) → Fits (chunk number piece) → Has m (chunk number piece) value → IsPiece value
-  pub owners : HasOwners m
 
 pub record LoadsKept (m : KeyMap) (limit : ℕ) : Type 0 where
   pub below : (load : ℕ) (value : List ℕ) → Fits (begun load) → Has m (begun load) value → load < limit
@@ -36,14 +36,16 @@ pub record LoadsKept (m : KeyMap) (limit : ℕ) : Type 0 where
   pub ended : (sealed : SealRow) → sealed.load < 2 ^ 64 → Has m seal (seal_bytes sealed) → row_in m (begun sealed.load) ≡ None
 
 -- all but the row of counters
-pub record AllKept (m : KeyMap) (next : Counters) : Type 0 where
+pub record AllKept (m : KeyMap) (next : Counters) (new : Bool) : Type 0 where
   pub rows : AreRows m
   pub plans : PlansKept m next.plan
   pub chunks : ChunksKept m next.chunk
   pub loads : LoadsKept m next.load
+  pub holders : AreHoldings m new
+  pub owners : new ≡ false → HasOwners m
 
 -- ---- what is kept is tidiness
-pub kept_of : (m : KeyMap) (tidy : Tidy m) → AllKept m tidy.next
+pub kept_of : (m : KeyMap) (tidy : Tidy m) → AllKept m tidy.next tidy.new
 kept_of m tidy = record {
   rows = tidy.rows;
   plans = record {
@@ -55,7 +57,7 @@ kept_of m tidy = record {
     told = tidy.counted.parts;
     counted = tidy.counted.counted;
   };
-  chunks = record { below = tidy.below.named_chunks; chunks = tidy.owned.chunks; pieces = tidy.counted.pieces; owners = tidy.owners };
+  chunks = record { below = tidy.below.named_chunks; chunks = tidy.owned.chunks; pieces = tidy.counted.pieces };
   loads = record {
     below = tidy.below.begun_loads;
     sealed_below = tidy.below.sealed_load;
@@ -63,11 +65,14 @@ kept_of m tidy = record {
     pairs = tidy.owned.pairs;
     ended = tidy.owned.ended;
   };
+  holders = tidy.holdings;
+  owners = tidy.owners;
 }
 
-abbrev tidy_of : (m : KeyMap) (next : Counters) → IsNext m next → CountersFit next → AllKept m next → Tidy m
-tidy_of m next is fits kept = record {
+abbrev tidy_of : (m : KeyMap) (next : Counters) (new : Bool) → IsNext m next → CountersFit next → AllKept m next new → Tidy m
+tidy_of m next new is fits kept = record {
   next = next;
+  new = new;
   is_next = is;
   fits = fits;
   rows = kept.rows;
@@ -87,7 +92,8 @@ tidy_of m next is fits kept = record {
     pairs = kept.loads.pairs;
     ended = kept.loads.ended;
   };
-  owners = kept.chunks.owners;
+  holdings = kept.holders;
+  owners = kept.owners;
   counted = record { parts = kept.plans.told; pieces = kept.chunks.pieces; counted = kept.plans.counted };
 }
 
@@ -137,7 +143,23 @@ chunks_stay m n limit more few rows pieces kept =
       below = λ plan number is. let less = kept.below plan number (old plan number is) in omega arith;
       chunks = λ number index value fits has. let is = kept.chunks number index value fits (sym (pieces _) ∙ has) in (is.0, naming_moves m n is.0 number rows is.1);
       pieces = λ number piece value fits has. kept.pieces number piece value fits (sym (pieces _) ∙ has);
-      owners = record { owner = kept.owners.owner; is = λ plan number is. kept.owners.is plan number (old plan number is) };
+    }
+
+pub holders_stay : (m n : KeyMap) (new : Bool) → SameTag 80 m n → SameTag 72 m n → SameTag 75 m n → SameTag 82 m n → SameTag 86 m n → AreHoldings m new → AreHoldings n new
+holders_stay m n new names rows counts parts versions kept = record {
+  told = versions _ ∙ kept.told;
+  held = λ plan number value fits has. let is = kept.held plan number value fits (sym (rows _) ∙ has) in (is.0, naming_moves m n plan number parts is.1);
+  tallied = tallies_stay m n rows counts kept.tallied;
+  hold = λ is_new name plan number is naming. rows _ ∙ kept.hold is_new name plan number (numbered_moves n m name plan (sym (names _)) is) (naming_moves n m plan number (tag_back 82 m n parts) naming);
+}
+
+pub owners_stay : (m n : KeyMap) (new : Bool) → SameTag 72 m n → SameTag 82 m n → (new ≡ false → HasOwners m) → new ≡ false → HasOwners n
+owners_stay m n new rows parts kept old =
+    let before = kept old in
+    record {
+      owner = before.owner;
+      is = λ plan number is. before.is plan number (naming_moves n m plan number (tag_back 82 m n parts) is);
+      unheld = λ plan number fits. rows _ ∙ before.unheld plan number fits;
     }
 
 pub loads_stay : (m n : KeyMap) (limit more : ℕ) → limit ≤ more → SameTag 76 m n → SameTag 83 m n → SameTag 103 m n → LoadsKept m limit → LoadsKept n more
@@ -170,9 +192,12 @@ name_of_key : (name : List ℕ) (row : RowKey) → Fits row → key_of (named na
 name_of_key name counters fits same = absurd (other_tag 80 65 name _ (λ e. absurd (omega arith)) same)
 name_of_key name (retired plan) fits same = absurd (other_tag 80 68 name _ (λ e. absurd (omega arith)) same)
 name_of_key name (begun load) fits same = absurd (other_tag 80 76 name _ (λ e. absurd (omega arith)) same)
+name_of_key name (holding plan number) fits same = absurd (other_tag 80 72 name _ (λ e. absurd (omega arith)) same)
+name_of_key name (tally number) fits same = absurd (other_tag 80 75 name _ (λ e. absurd (omega arith)) same)
 name_of_key name (named other) fits same = (let equal : name ≡ other = ap (drop 1) same in subst (λ o. Fits (named o)) (sym equal) fits)
 name_of_key name (part plan revision index) fits same = absurd (other_tag 80 82 name _ (λ e. absurd (omega arith)) same)
 name_of_key name seal fits same = absurd (other_tag 80 83 name _ (λ e. absurd (omega arith)) same)
+name_of_key name version fits same = absurd (other_tag 80 86 name _ (λ e. absurd (omega arith)) same)
 name_of_key name (block load place) fits same = absurd (other_tag 80 103 name _ (λ e. absurd (omega arith)) same)
 name_of_key name (pair load place) fits same = absurd (other_tag 80 103 name _ (λ e. absurd (omega arith)) same)
 name_of_key name (chunk number piece) fits same = absurd (other_tag 80 107 name _ (λ e. absurd (omega arith)) same)
@@ -182,28 +207,30 @@ pub name_fits : (m : KeyMap) (name value : List ℕ) → AreRows m → Has m (na
 name_fits m name value rows has = (let row = rows (key_of (named name)) value has in name_of_key name row.0 row.1 row.2)
 
 -- ---- the counters
-next_moves : (m n : KeyMap) (next : Counters) → row_in n counters ≡ row_in m counters → IsNext m next → IsNext n next
+pub next_moves : (m n : KeyMap) (next : Counters) → row_in n counters ≡ row_in m counters → IsNext m next → IsNext n next
 next_moves m n next same is = rw same is
 
-pub tidy_at : (n : KeyMap) (next : Counters) → IsNext n next → CountersFit next → AllKept n next → TidyWith n next
-tidy_at n next is fits kept = (tidy_of n next is fits kept, λ i. next)
+pub tidy_at : (n : KeyMap) (next : Counters) (new : Bool) → IsNext n next → CountersFit next → AllKept n next new → TidyWith n next new
+tidy_at n next new is fits kept = (tidy_of n next new is fits kept, λ i. next, λ i. new)
 
 -- where they stay as they are, so does what comes next
-pub stays_tidy : (m n : KeyMap) (tidy : Tidy m) → row_in n counters ≡ row_in m counters → AllKept n tidy.next → TidyWith n tidy.next
-stays_tidy m n tidy same kept = tidy_at n tidy.next (next_moves m n tidy.next same tidy.is_next) tidy.fits kept
+pub stays_tidy : (m n : KeyMap) (tidy : Tidy m) → row_in n counters ≡ row_in m counters → AllKept n tidy.next tidy.new → TidyWith n tidy.next tidy.new
+stays_tidy m n tidy same kept = tidy_at n tidy.next tidy.new (next_moves m n tidy.next same tidy.is_next) tidy.fits kept
 
 -- with a row of counters that bounds what is there, all is tidy
-pub counters_put : (m : KeyMap) (next : Counters) → CountersFit next → AllKept m next → TidyWith (insert m (key_of counters) (counters_bytes next)) next
-counters_put m next fits kept =
+pub counters_put : (m : KeyMap) (next : Counters) (new : Bool) → CountersFit next → AllKept m next new → TidyWith (insert m (key_of counters) (counters_bytes next)) next new
+counters_put m next new fits kept =
     let value = counters_bytes next in
     let n = insert m (key_of counters) value in
     let same = λ (tag : ℕ) (apart : tag ≡ 65 → ⊥). put_keeps_tag m tag 65 [] value apart in
     let row : Some value ≡ row_in n counters = sym (put_is_there m (key_of counters) value) in
     let is : IsNext n next = rw (← row) (λ i. value) in
-    let here : AllKept n next = record {
+    let here : AllKept n next new = record {
       rows = rows_put m counters value tt kept.rows;
       plans = plans_stay m n next.plan next.plan (omega arith) (same 80 (λ e. absurd (omega arith))) (same 68 (λ e. absurd (omega arith))) (same 82 (λ e. absurd (omega arith))) kept.plans;
       chunks = chunks_stay m n next.chunk next.chunk (omega arith) (same 82 (λ e. absurd (omega arith))) (same 107 (λ e. absurd (omega arith))) kept.chunks;
       loads = loads_stay m n next.load next.load (omega arith) (same 76 (λ e. absurd (omega arith))) (same 83 (λ e. absurd (omega arith))) (same 103 (λ e. absurd (omega arith))) kept.loads;
+      holders = holders_stay m n new (same 80 (λ e. absurd (omega arith))) (same 72 (λ e. absurd (omega arith))) (same 75 (λ e. absurd (omega arith))) (same 82 (λ e. absurd (omega arith))) (same 86 (λ e. absurd (omega arith))) kept.holders;
+      owners = owners_stay m n new (same 72 (λ e. absurd (omega arith))) (same 82 (λ e. absurd (omega arith))) kept.owners;
     } in
-    tidy_at n next is fits here
+    tidy_at n next new is fits here

@@ -1,18 +1,20 @@
 -- Plans come and go, and the rows stay tidy.
-use Rattle.std.proofs.Common.{◌≡◌, ◌⊎◌, ◌<◌, ◌+◌, ◌^◌, ℕ, List, [], None, sym, ap, subst, ◌∙◌, inl, inr, arith}
+use Rattle.std.proofs.Common.{Bool, ◌≡◌, ◌⊎◌, ◌<◌, ◌+◌, ◌^◌, ℕ, List, [], None, sym, ap, subst, ◌∙◌, inl, inr, arith}
 use Rattle.std.proofs.lemmas.Bool.{cases_eq}
 use Rattle.std.specs.FinMap.{insert, remove}
 use Rattle.store_rows.specs.Keys.{key_of, Fits, counters, retired, named}
 use Rattle.store_rows.specs.Values.{plan_bytes, counters_bytes}
+use Rattle.store_rows.specs.Lists.{chunks_bytes}
 use Rattle.store_rows.specs.declared.value.PlanRow.{PlanRow}
 use Rattle.store_rows.specs.Rows.{KeyMap, row_in, Has, Lacks, SameTag}
 use Rattle.store_rows.proofs.Changes.{cases_key, other_row}
 use Rattle.store_rows.proofs.Frames.{put_is_there, put_keeps, put_keeps_tag, put_keeps_row, removed_is_gone, remove_keeps, remove_keeps_tag, tag_follows}
 use Rattle.store_rows.specs.Steps.{one_plan_more}
-use Rattle.store_rows.specs.Tidy.{IsNumbered, IsKnown, Tidy, TidyWith}
+use Rattle.store_rows.specs.Tidy.{IsNumbered, IsNamedBy, IsKnown, AreHoldings, Tidy, TidyWith}
 use Rattle.store_rows.proofs.OneGeography.{value_is, no_value}
 use Rattle.store_rows.proofs.OneDesk.{row_number}
-use Rattle.store_rows.proofs.TidyParts.{PlansKept, AllKept, kept_of, some_or_none, numbered_moves, chunks_stay, loads_stay, rows_put, rows_removed, counters_put, stays_tidy}
+use Rattle.store_rows.proofs.Tallies.{tallies_stay}
+use Rattle.store_rows.proofs.TidyParts.{PlansKept, AllKept, kept_of, some_or_none, numbered_moves, naming_moves, chunks_stay, owners_stay, loads_stay, rows_put, rows_removed, counters_put, stays_tidy}
 
 -- ---- one row, one plan
 pub row_says : (m : KeyMap) (name : List ℕ) (p q : PlanRow) → Has m (named name) (plan_bytes p) → Has m (named name) (plan_bytes q) → plan_bytes p ≡ plan_bytes q
@@ -104,9 +106,29 @@ module _ (m : KeyMap) (limit : ℕ) (name : List ℕ) (p : PlanRow) (kept : Plan
     ];
   }
 
+  holdings_made : SameTag 72 m made
+  holdings_made = put_keeps_tag m 72 80 name (plan_bytes p) (λ e. absurd (omega arith))
+
+  tallies_made : SameTag 75 m made
+  tallies_made = put_keeps_tag m 75 80 name (plan_bytes p) (λ e. absurd (omega arith))
+
+  -- the new plan names no chunk
+  holders_made : (new : Bool) → AreHoldings m new → AreHoldings made new
+  holders_made new holders = record {
+    told = put_keeps_tag m 86 80 name (plan_bytes p) (λ e. absurd (omega arith)) [] ∙ holders.told;
+    held = λ plan number value few there. let is = holders.held plan number value few (sym (holdings_made _) ∙ there) in (is.0, naming_moves m made plan number parts is.1);
+    tallied = tallies_stay m made holdings_made tallies_made holders.tallied;
+    hold = λ is_new other plan number there naming.
+        let before : IsNamedBy m plan number = naming_moves made m plan number (λ rest. sym (parts rest)) naming in
+        elim (came other plan there) [
+          | inl new ↦ absurd (not_known (subst (λ k. IsKnown m k) new.1 (kept.parts plan before.revision before.index (chunks_bytes before.numbers) before.part_fits before.row)))
+          | inr old ↦ holdings_made _ ∙ holders.hold is_new other plan number old before
+        ];
+  }
+
 -- so the rows stay tidy, with the counters one plan further
 pub created_tidy : (m : KeyMap) (tidy : Tidy m) (name : List ℕ) (p : PlanRow) → Fits (named name) → Lacks m (named name) → p.number ≡ tidy.next.plan → p.revisions ≡ 0 → tidy.next.plan + 1 < 2 ^ 64
-    → TidyWith (insert (insert m (key_of (named name)) (plan_bytes p)) (key_of counters) (counters_bytes (one_plan_more tidy.next))) (one_plan_more tidy.next)
+    → TidyWith (insert (insert m (key_of (named name)) (plan_bytes p)) (key_of counters) (counters_bytes (one_plan_more tidy.next))) (one_plan_more tidy.next) tidy.new
 created_tidy m tidy name p fits lacks is none room =
     let next = tidy.next in
     let kept = kept_of m tidy in
@@ -115,11 +137,13 @@ created_tidy m tidy name p fits lacks is none room =
     let same = λ (tag : ℕ) (apart : tag ≡ 80 → ⊥). put_keeps_tag m tag 80 name value apart in
     let chunk_fits = tidy.fits.chunk_fits in
     let load_fits = tidy.fits.load_fits in
-    counters_put n (one_plan_more next) (record { plan_fits = room; chunk_fits = chunk_fits; load_fits = load_fits }) (record {
+    counters_put n (one_plan_more next) tidy.new (record { plan_fits = room; chunk_fits = chunk_fits; load_fits = load_fits }) (record {
       rows = rows_put m (named name) value fits kept.rows;
       plans = plans_made m next.plan name p kept.plans lacks is none (omega arith);
       chunks = chunks_stay m n next.chunk next.chunk (omega arith) (same 82 (λ e. absurd (omega arith))) (same 107 (λ e. absurd (omega arith))) kept.chunks;
       loads = loads_stay m n next.load next.load (omega arith) (same 76 (λ e. absurd (omega arith))) (same 83 (λ e. absurd (omega arith))) (same 103 (λ e. absurd (omega arith))) kept.loads;
+      holders = holders_made m next.plan name p kept.plans lacks is none (omega arith) tidy.new kept.holders;
+      owners = owners_stay m n tidy.new (same 72 (λ e. absurd (omega arith))) (same 82 (λ e. absurd (omega arith))) kept.owners;
     })
 
 -- ---- a plan is taken away
@@ -189,18 +213,35 @@ module _ (m : KeyMap) (limit : ℕ) (name : List ℕ) (number : ℕ) (kept : Pla
         kept.counted other q q_fits small (sym (other_left other (apart_from other (plan_bytes q) has)) ∙ has) revision index value few (sym (left_parts _) ∙ there);
   }
 
+  left_holdings : SameTag 72 m left
+  left_holdings = tag_follows 72 m less left (remove_keeps_tag m 72 80 name (λ e. absurd (omega arith))) (put_keeps_tag less 72 68 _ [] (λ e. absurd (omega arith)))
+
+  left_tallies : SameTag 75 m left
+  left_tallies = tag_follows 75 m less left (remove_keeps_tag m 75 80 name (λ e. absurd (omega arith))) (put_keeps_tag less 75 68 _ [] (λ e. absurd (omega arith)))
+
+  -- what the plan holds it holds still
+  holders_left : (new : Bool) → AreHoldings m new → AreHoldings left new
+  holders_left new holders = record {
+    told = tag_follows 86 m less left (remove_keeps_tag m 86 80 name (λ e. absurd (omega arith))) (put_keeps_tag less 86 68 _ [] (λ e. absurd (omega arith))) [] ∙ holders.told;
+    held = λ plan number value few there. let is = holders.held plan number value few (sym (left_holdings _) ∙ there) in (is.0, naming_moves m left plan number left_parts is.1);
+    tallied = tallies_stay m left left_holdings left_tallies holders.tallied;
+    hold = λ is_new other plan number there naming. left_holdings _ ∙ holders.hold is_new other plan number (was other plan there) (naming_moves left m plan number (λ rest. sym (left_parts rest)) naming);
+  }
+
 -- so the rows stay tidy, with the same counters
-pub retired_tidy : (m : KeyMap) (tidy : Tidy m) (name : List ℕ) (number : ℕ) → IsNumbered m name number → TidyWith (insert (remove m (key_of (named name))) (key_of (retired number)) []) tidy.next
+pub retired_tidy : (m : KeyMap) (tidy : Tidy m) (name : List ℕ) (number : ℕ) → IsNumbered m name number → TidyWith (insert (remove m (key_of (named name))) (key_of (retired number)) []) tidy.next tidy.new
 retired_tidy m tidy name number is =
     let next = tidy.next in
     let kept = kept_of m tidy in
     let mid = remove m (key_of (named name)) in
     let n = insert mid (key_of (retired number)) [] in
     let same = λ (tag : ℕ) (not_name : tag ≡ 80 → ⊥) (not_mark : tag ≡ 68 → ⊥). tag_follows tag m mid n (remove_keeps_tag m tag 80 name not_name) (put_keeps_tag mid tag 68 _ [] not_mark) in
-    let here : AllKept n next = record {
+    let here : AllKept n next tidy.new = record {
       rows = rows_put mid (retired number) [] is.fits (rows_removed m (key_of (named name)) kept.rows);
       plans = plans_left m next.plan name number kept.plans is;
       chunks = chunks_stay m n next.chunk next.chunk (omega arith) (same 82 (λ e. absurd (omega arith)) (λ e. absurd (omega arith))) (same 107 (λ e. absurd (omega arith)) (λ e. absurd (omega arith))) kept.chunks;
       loads = loads_stay m n next.load next.load (omega arith) (same 76 (λ e. absurd (omega arith)) (λ e. absurd (omega arith))) (same 83 (λ e. absurd (omega arith)) (λ e. absurd (omega arith))) (same 103 (λ e. absurd (omega arith)) (λ e. absurd (omega arith))) kept.loads;
+      holders = holders_left m next.plan name number kept.plans is tidy.new kept.holders;
+      owners = owners_stay m n tidy.new (same 72 (λ e. absurd (omega arith)) (λ e. absurd (omega arith))) (same 82 (λ e. absurd (omega arith)) (λ e. absurd (omega arith))) kept.owners;
     } in
     stays_tidy m n tidy (same 65 (λ e. absurd (omega arith)) (λ e. absurd (omega arith)) []) here

@@ -1,10 +1,10 @@
 -- A plan gets one revision more, and the rows stay tidy.
-use Rattle.std.proofs.Common.{◌≡◌, ◌⊎◌, ◌<◌, ◌≤◌, ◌+◌, ◌^◌, ℕ, cond, List, get_or, All, Some, refl, sym, ap, subst, ◌∙◌, inl, inr, arith}
+use Rattle.std.proofs.Common.{Bool, true, false, ◌≡◌, ◌⊎◌, ◌<◌, ◌≤◌, ◌+◌, ◌^◌, ℕ, zero, suc, cond, List, [], ◌∷◌, get_or, All, Some, refl, sym, ap, subst, ◌∙◌, inl, inr, arith}
 use Rattle.std.specs.Prelude.{Contains}
 use Rattle.std.proofs.Math.Dec.{ltb}
 use Rattle.std.proofs.lemmas.Bool.{cases_eq, cases_lt, lt-ltb, le-ltb}
 use Rattle.std.proofs.lemmas.List.{get_or_default}
-use Rattle.store_rows.specs.Keys.{Fits, counters, named, part, chunk}
+use Rattle.store_rows.specs.Keys.{Fits, counters, holding, named, part, chunk}
 use Rattle.store_rows.specs.Values.{plan_bytes, counters_bytes}
 use Rattle.store_rows.specs.Lists.{chunks_bytes}
 use Rattle.store_rows.proofs.ListLaws.{chunks_differ}
@@ -14,14 +14,30 @@ use Rattle.store_rows.specs.Rows.{KeyMap, row_in, Has, part_row}
 use Rattle.store_rows.proofs.Changes.{cases_key}
 use Rattle.store_rows.specs.Steps.{chunks_more, one_revision_more}
 use Rattle.store_rows.specs.RevisionSteps.{IsGiven, AreItsChunks, AddsRevision}
-use Rattle.store_rows.specs.Tidy.{IsNext, IsNumbered, IsNamedBy, IsPart, IsPiece, IsKnown, Tidy, TidyWith}
+use Rattle.store_rows.specs.Tidy.{IsNext, IsNumbered, IsNamedBy, IsPart, IsPiece, IsKnown, HasOwners, AreHoldings, Tidy, TidyWith}
+use Rattle.store_rows.specs.Holders.{IsHeld}
 use Rattle.store_rows.proofs.OneDesk.{row_number, row_revisions}
 use Rattle.store_rows.proofs.PartNumbers.{part_at, part_there, part_within, part_says, part_chunks, part_among, among_part}
 use Rattle.store_rows.proofs.TidyParts.{PlansKept, ChunksKept, kept_of, tidy_at, numbered_moves, loads_stay}
 use Rattle.store_rows.proofs.TidyPlans.{row_says, number_says}
 
+-- whether a list has a number
+not_among : (x : ℕ) (numbers : List ℕ) (number : ℕ) → (x ≡ number → ⊥) → (Contains numbers number → ⊥) → Contains (x ∷ numbers) number → ⊥
+not_among x numbers number apart none (zero, within, is) = apart is
+not_among x numbers number apart none (suc k, within, is) = none (k, omega arith, is)
+
+pub contains_or_not : (numbers : List ℕ) (number : ℕ) → Contains numbers number ⊎ (Contains numbers number → ⊥)
+contains_or_not [] number = inr (λ there. let within = there.1 in absurd (omega arith))
+contains_or_not (x ∷ numbers) number = elim (cases_eq x number) [
+  | inl same ↦ inl (0, omega arith, same)
+  | inr apart ↦ elim (contains_or_not numbers number) [
+    | inl there ↦ (let within = there.1 in inl (suc there.0, omega arith, there.2))
+    | inr none ↦ inr (not_among x numbers number apart none)
+  ]
+]
+
 -- whether a number of chunks was given
-given_or_not : (next : Counters) (given number : ℕ) → IsGiven next given number ⊎ (IsGiven next given number → ⊥)
+pub given_or_not : (next : Counters) (given number : ℕ) → IsGiven next given number ⊎ (IsGiven next given number → ⊥)
 given_or_not next given number = elim (cases_lt number next.chunk) [
   | inl below ↦ inr (λ is. let more = is.0 in absurd (omega arith))
   | inr from ↦ elim (cases_lt number (next.chunk + given)) [
@@ -30,7 +46,7 @@ given_or_not next given number = elim (cases_lt number next.chunk) [
   ]
 ]
 
-module _ (m n : KeyMap) (next : Counters) (given : ℕ) (name : List ℕ) (p : PlanRow) (numbers : List ℕ) (plans : PlansKept m next.plan) (kept : ChunksKept m next.chunk) (number_fits : p.number < 2 ^ 64) (few_revisions : p.revisions + 1 < 2 ^ 32) (room : next.chunk + given < 2 ^ 64) (has : Has m (named name) (plan_bytes p)) (its : AreItsChunks m next given p.number numbers) (adds : AddsRevision m n next given name p numbers) where
+module _ (m n : KeyMap) (new : Bool) (next : Counters) (given source : ℕ) (name : List ℕ) (p : PlanRow) (numbers : List ℕ) (plans : PlansKept m next.plan) (kept : ChunksKept m next.chunk) (number_fits : p.number < 2 ^ 64) (few_revisions : p.revisions + 1 < 2 ^ 32) (room : next.chunk + given < 2 ^ 64) (has : Has m (named name) (plan_bytes p)) (its : AreItsChunks m next given source numbers) (adds : AddsRevision m n new next given name p numbers) where
   abbrev IsNew : ℕ → ℕ → Type 0
   IsNew plan revision = (plan ≡ p.number) × (revision ≡ p.revisions + 1)
 
@@ -82,7 +98,7 @@ module _ (m n : KeyMap) (next : Counters) (given : ℕ) (name : List ℕ) (p : P
       let x = get_or numbers k d in
       let here : Contains numbers x = (k, within, get_or_default numbers k x d within) in
       elim (its.own x here) [
-        | inl old ↦ (let less = kept.below p.number x old in omega arith)
+        | inl old ↦ (let less = kept.below source x old in omega arith)
         | inr new ↦ (let less = new.1 in omega arith)
       ]
 
@@ -182,7 +198,7 @@ module _ (m n : KeyMap) (next : Counters) (given : ℕ) (name : List ℕ) (p : P
   below_now : (plan number : ℕ) → IsNamedBy n plan number → number < next.chunk + given
   below_now plan number is = elim (came plan number is) [
     | inl new ↦ elim (its.own number new.1) [
-      | inl own ↦ (let less = kept.below p.number number own in omega arith)
+      | inl own ↦ (let less = kept.below source number own in omega arith)
       | inr made ↦ made.1
     ]
     | inr old ↦ (let less = kept.below plan number old in omega arith)
@@ -200,34 +216,76 @@ module _ (m n : KeyMap) (next : Counters) (given : ℕ) (name : List ℕ) (p : P
     | inr other ↦ kept.pieces number piece value fits (sym (adds.other_chunks number piece fits other) ∙ there)
   ]
 
-  -- a new chunk is this plan's
-  abbrev owner_now : ℕ → ℕ
-  owner_now number = cond (ltb number next.chunk) (kept.owners.owner number) p.number
+  chunks_revised : ChunksKept n (next.chunk + given)
+  chunks_revised = record { below = below_now; chunks = chunk_named; pieces = piece_now }
 
-  owner_before : (number : ℕ) → number < next.chunk → owner_now number ≡ kept.owners.owner number
-  owner_before number less = ap (λ b. cond b (kept.owners.owner number) p.number) (lt-ltb number next.chunk less)
+  -- ---- holdings
+  abbrev IsNewHolding : ℕ → ℕ → Type 0
+  IsNewHolding plan number = (plan ≡ p.number) × Contains numbers number
 
-  owner_given : (number : ℕ) → next.chunk ≤ number → owner_now number ≡ p.number
-  owner_given number more = ap (λ b. cond b (kept.owners.owner number) p.number) (le-ltb number next.chunk more)
+  among_or_not : (number : ℕ) → Contains numbers number ⊎ (Contains numbers number → ⊥)
+  among_or_not number = contains_or_not numbers number
 
-  owned_before : (plan number : ℕ) → IsNamedBy m plan number → owner_now number ≡ plan
-  owned_before plan number is = owner_before number (kept.below plan number is) ∙ kept.owners.is plan number is
-
-  owned_now : (plan number : ℕ) → IsNamedBy n plan number → owner_now number ≡ plan
-  owned_now plan number is = elim (came plan number is) [
-    | inl new ↦ elim (its.own number new.1) [
-      | inl own ↦ owned_before p.number number own ∙ sym new.0
-      | inr made ↦ owner_given number made.0 ∙ sym new.0
+  new_holding_or_not : (plan number : ℕ) → IsNewHolding plan number ⊎ (IsNewHolding plan number → ⊥)
+  new_holding_or_not plan number = elim (cases_eq plan p.number) [
+    | inl same ↦ elim (among_or_not number) [
+      | inl is ↦ inl (same, is)
+      | inr other ↦ inr (λ is. other is.1)
     ]
-    | inr old ↦ owned_before plan number old
+    | inr apart ↦ inr (λ is. apart is.0)
   ]
 
-  chunks_revised : ChunksKept n (next.chunk + given)
-  chunks_revised = record { below = below_now; chunks = chunk_named; pieces = piece_now; owners = record { owner = owner_now; is = owned_now } }
+  -- the plan holds what the revision names, and names what it holds
+  held_now : AreHoldings m new → (plan number : ℕ) (value : List ℕ) → Fits (holding plan number) → Has n (holding plan number) value → (value ≡ []) × IsNamedBy n plan number
+  held_now holders plan number value fits there = elim (new_holding_or_not plan number) [
+    | inl is ↦ (adds.empty plan number value fits there, subst (λ k. IsNamedBy n k number) (sym is.0) (named_now number is.1))
+    | inr old ↦ (let before = holders.held plan number value fits (sym (adds.other_holdings plan number fits old) ∙ there) in (before.0, stays_named plan number before.1))
+  ]
 
-pub revised_tidy : (m n : KeyMap) (tidy : Tidy m) (given : ℕ) (name : List ℕ) (p : PlanRow) (numbers : List ℕ) → p.number < 2 ^ 64 → p.revisions + 1 < 2 ^ 32 → tidy.next.chunk + given < 2 ^ 64
-    → Has m (named name) (plan_bytes p) → AreItsChunks m tidy.next given p.number numbers → AddsRevision m n tidy.next given name p numbers → TidyWith n (chunks_more tidy.next given)
-revised_tidy m n tidy given name p numbers number_fits few room has its adds =
+  hold_now : AreHoldings m new → new ≡ true → (other : List ℕ) (plan number : ℕ) → IsNumbered n other plan → IsNamedBy n plan number → IsHeld n plan number
+  hold_now holders is_new other plan number there is = elim (came plan number is) [
+    | inl mine ↦ subst (λ k. IsHeld n k number) (sym mine.0) (adds.holdings is_new number mine.1)
+    | inr old ↦ elim (new_holding_or_not plan number) [
+      | inl mine ↦ subst (λ k. IsHeld n k number) (sym mine.0) (adds.holdings is_new number mine.1)
+      | inr apart ↦ (let less = kept.below plan number old in adds.other_holdings plan number (there.fits, omega arith) apart ∙ holders.hold is_new other plan number (was_numbered other plan there) old)
+    ]
+  ]
+
+  holders_revised : AreHoldings m new → AreHoldings n new
+  holders_revised holders = record { told = adds.told ∙ holders.told; held = held_now holders; tallied = adds.tallied; hold = hold_now holders }
+
+  -- ---- owners: a new chunk is this plan's
+  module _ (owners : HasOwners m) (own : source ≡ p.number) where
+    abbrev owner_now : ℕ → ℕ
+    owner_now number = cond (ltb number next.chunk) (owners.owner number) p.number
+
+    owner_before : (number : ℕ) → number < next.chunk → owner_now number ≡ owners.owner number
+    owner_before number less = ap (λ b. cond b (owners.owner number) p.number) (lt-ltb number next.chunk less)
+
+    owner_given : (number : ℕ) → next.chunk ≤ number → owner_now number ≡ p.number
+    owner_given number more = ap (λ b. cond b (owners.owner number) p.number) (le-ltb number next.chunk more)
+
+    owned_before : (plan number : ℕ) → IsNamedBy m plan number → owner_now number ≡ plan
+    owned_before plan number is = owner_before number (kept.below plan number is) ∙ owners.is plan number is
+
+    owned_now : (plan number : ℕ) → IsNamedBy n plan number → owner_now number ≡ plan
+    owned_now plan number is = elim (came plan number is) [
+      | inl mine ↦ elim (its.own number mine.1) [
+        | inl old ↦ owned_before source number old ∙ own ∙ sym mine.0
+        | inr made ↦ owner_given number made.0 ∙ sym mine.0
+      ]
+      | inr old ↦ owned_before plan number old
+    ]
+
+    owners_here : new ≡ false → HasOwners n
+    owners_here old = record { owner = owner_now; is = owned_now; unheld = λ plan number fits. adds.unheld old plan number fits ∙ owners.unheld plan number fits }
+
+  owners_revised : (new ≡ false → HasOwners m) → (new ≡ false → source ≡ p.number) → new ≡ false → HasOwners n
+  owners_revised owners own old = owners_here (owners old) (own old) old
+
+pub revised_tidy : (m n : KeyMap) (tidy : Tidy m) (given source : ℕ) (name : List ℕ) (p : PlanRow) (numbers : List ℕ) → p.number < 2 ^ 64 → p.revisions + 1 < 2 ^ 32 → tidy.next.chunk + given < 2 ^ 64
+    → Has m (named name) (plan_bytes p) → AreItsChunks m tidy.next given source numbers → (tidy.new ≡ false → source ≡ p.number) → AddsRevision m n tidy.new tidy.next given name p numbers → TidyWith n (chunks_more tidy.next given) tidy.new
+revised_tidy m n tidy given source name p numbers number_fits few room has its own adds =
     let next = tidy.next in
     let kept = kept_of m tidy in
     let more = chunks_more next given in
@@ -235,9 +293,11 @@ revised_tidy m n tidy given name p numbers number_fits few room has its adds =
     let load_fits = tidy.fits.load_fits in
     let row : Some (counters_bytes more) ≡ row_in n counters = sym adds.moved in
     let is : IsNext n more = rw (← row) refl in
-    tidy_at n more is (record { plan_fits = plan_fits; chunk_fits = room; load_fits = load_fits }) (record {
+    tidy_at n more tidy.new is (record { plan_fits = plan_fits; chunk_fits = room; load_fits = load_fits }) (record {
       rows = adds.rows;
-      plans = plans_revised m n next given name p numbers kept.plans kept.chunks number_fits few room has its adds;
-      chunks = chunks_revised m n next given name p numbers kept.plans kept.chunks number_fits few room has its adds;
+      plans = plans_revised m n tidy.new next given source name p numbers kept.plans kept.chunks number_fits few room has its adds;
+      chunks = chunks_revised m n tidy.new next given source name p numbers kept.plans kept.chunks number_fits few room has its adds;
       loads = loads_stay m n next.load next.load (omega arith) adds.starts adds.seals adds.loads kept.loads;
+      holders = holders_revised m n tidy.new next given source name p numbers kept.plans kept.chunks number_fits few room has its adds kept.holders;
+      owners = owners_revised m n tidy.new next given source name p numbers kept.plans kept.chunks number_fits few room has its adds kept.owners own;
     })

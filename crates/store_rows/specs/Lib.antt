@@ -18,3 +18,8 @@ pub mod Laws
 pub mod Draws
 pub mod TidyLaws
 pub mod SweepLaws
+pub mod TurnLaws
+pub mod Holders
+pub mod HolderLaws
+pub mod Shares
+pub mod ForkLaws

@@ -1,13 +1,14 @@
 -- The rows that change as one revision of a plan is added.
-use Rattle.std.specs.Prelude.{◌≡◌, ◌⊎◌, ◌<◌, ◌≤◌, ◌+◌, ◌*◌, ◌^◌, ℕ, List, [], ◌∷◌, ◌++◌, length, get_or, All, Contains}
-use Rattle.store_rows.specs.Keys.{key_of, Fits, counters, named, part, chunk}
+use Rattle.std.specs.Prelude.{Bool, true, false, ◌≡◌, ◌⊎◌, ◌<◌, ◌≤◌, ◌+◌, ◌*◌, ◌^◌, ℕ, List, [], ◌∷◌, ◌++◌, length, get_or, All, Contains}
+use Rattle.store_rows.specs.Keys.{key_of, Fits, counters, holding, tally, named, part, version, chunk, in_eight}
 use Rattle.store_rows.specs.Values.{counters_bytes, plan_bytes}
 use Rattle.store_rows.specs.Lists.{chunks_bytes}
 use Rattle.store_rows.specs.declared.value.Counters.{Counters}
 use Rattle.store_rows.specs.declared.value.PlanRow.{PlanRow}
 use Rattle.store_rows.specs.Rows.{KeyMap, row_in, Has, SameTag, part_row}
 use Rattle.store_rows.specs.RevisionRows.{HasChunk}
-use Rattle.store_rows.specs.Puts.{Row}
+use Rattle.store_rows.specs.Puts.{Row, rows_told}
+use Rattle.store_rows.specs.Holders.{IsHeld, AreTallied}
 use Rattle.store_rows.specs.ChunkRows.{chunk_rows}
 use Rattle.store_rows.specs.NameRows.{name_rows}
 use Rattle.store_rows.specs.Steps.{chunks_more, one_revision_more}
@@ -17,15 +18,17 @@ use Rattle.store_rows.specs.Tidy.{IsNamedBy, IsPiece, AreRows}
 abbrev pub IsGiven : Counters → ℕ → ℕ → Type 0
 IsGiven next given number = (next.chunk ≤ number) × (number < next.chunk + given)
 
--- A revision names chunks that a part of its own plan names already, and new ones: each number that is given is named.
+-- A revision names chunks that a part of its own plan names already, or, the first revision of a fork, of the plan that it comes from,
+-- and new ones: each number that is given is named.
 pub record AreItsChunks (m : KeyMap) (next : Counters) (given plan : ℕ) (numbers : List ℕ) : Type 0 where
   pub few : length numbers ≤ 128 * 2 ^ 8
   pub own : (number : ℕ) → Contains numbers number → IsNamedBy m plan number ⊎ IsGiven next given number
   pub whole : (number : ℕ) → IsGiven next given number → Contains numbers number
 
 -- The plan's row tells one revision more, and the counters that the numbers were given; the parts of the new revision name its
--- chunks, and chunks are put under numbers that are given. All else stays.
-pub record AddsRevision (m n : KeyMap) (next : Counters) (given : ℕ) (name : List ℕ) (p : PlanRow) (numbers : List ℕ) : Type 0 where
+-- chunks, and chunks are put under numbers that are given, and the plan holds each chunk that it names now, which is
+-- counted. All else stays.
+pub record AddsRevision (m n : KeyMap) (new : Bool) (next : Counters) (given : ℕ) (name : List ℕ) (p : PlanRow) (numbers : List ℕ) : Type 0 where
   pub rows : AreRows n
   pub moved : Has n counters (counters_bytes (chunks_more next given))
   pub row : Has n (named name) (plan_bytes (one_revision_more p))
@@ -38,16 +41,37 @@ pub record AddsRevision (m n : KeyMap) (next : Counters) (given : ℕ) (name : L
   pub other_parts : (plan revision index : ℕ) → Fits (part plan revision index) → ((plan ≡ p.number) × (revision ≡ p.revisions + 1) → ⊥) → row_in n (part plan revision index) ≡ row_in m (part plan revision index)
   pub pieces : (number piece : ℕ) (value : List ℕ) → Fits (chunk number piece) → IsGiven next given number → Has n (chunk number piece) value → IsPiece value
   pub other_chunks : (number piece : ℕ) → Fits (chunk number piece) → (IsGiven next given number → ⊥) → row_in n (chunk number piece) ≡ row_in m (chunk number piece)
+  pub told : row_in n version ≡ row_in m version
+  pub holdings : new ≡ true → (number : ℕ) → Contains numbers number → IsHeld n p.number number
+  pub empty : (plan number : ℕ) (value : List ℕ) → Fits (holding plan number) → Has n (holding plan number) value → value ≡ []
+  pub other_holdings : (plan number : ℕ) → Fits (holding plan number) → ((plan ≡ p.number) × Contains numbers number → ⊥) → row_in n (holding plan number) ≡ row_in m (holding plan number)
+  pub tallied : AreTallied n
+  pub unheld : new ≡ false → (plan number : ℕ) → Fits (holding plan number) → row_in n (holding plan number) ≡ row_in m (holding plan number)
 
 -- the rows of new chunks, under rising numbers from the first on
 abbrev pub new_chunk_rows : ℕ → List (List ℕ) → List Row
 new_chunk_rows first [] = []
 new_chunk_rows first (districts ∷ lists) = chunk_rows first districts ++ new_chunk_rows (first + 1) lists
 
--- the rows of one revision more: its new chunks, its parts, the plan's row and the counters
-abbrev pub rows_of_revision : Counters → List ℕ → PlanRow → List (List ℕ) → List ℕ → List Row
-rows_of_revision next name p lists numbers = new_chunk_rows next.chunk lists ++ (name_rows p.number (p.revisions + 1) numbers
-    ++ (key_of (named name), plan_bytes (one_revision_more p)) ∷ (key_of counters, counters_bytes (chunks_more next (length lists))) ∷ [])
+-- the rows by which a plan holds so many new chunks from the first on, and which count it
+abbrev pub new_holding : ℕ → ℕ → ℕ → Row
+new_holding plan first k = (key_of (holding plan (first + k)), [])
+
+abbrev pub new_tally : ℕ → ℕ → Row
+new_tally first k = (key_of (tally (first + k)), in_eight 1)
+
+abbrev pub new_holding_rows : ℕ → ℕ → ℕ → List Row
+new_holding_rows plan first given = rows_told (new_holding plan first) given ++ rows_told (new_tally first) given
+
+-- so many of its new chunks a plan is told to hold: each in the new version, none in the old one
+abbrev pub told_held : Bool → ℕ → ℕ
+told_held true given = given
+told_held false given = 0
+
+-- the rows of one revision more: its new chunks, those by which the plan holds them, its parts, the plan's row and the counters
+abbrev pub rows_of_revision : Bool → Counters → List ℕ → PlanRow → List (List ℕ) → List ℕ → List Row
+rows_of_revision new next name p lists numbers = new_chunk_rows next.chunk lists ++ (new_holding_rows p.number next.chunk (told_held new (length lists)) ++ (name_rows p.number (p.revisions + 1) numbers
+    ++ (key_of (named name), plan_bytes (one_revision_more p)) ∷ (key_of counters, counters_bytes (chunks_more next (length lists))) ∷ []))
 
 -- the districts of one chunk
 pub record IsChunkList (districts : List ℕ) : Type 0 where

@@ -1,14 +1,15 @@
 -- What is kept from the first day on, so that rows which nothing needs can be told from those that something does, and so that
 -- no number is used again.
-use Rattle.std.specs.Prelude.{◌≡◌, ◌⊎◌, ◌<◌, ◌≤◌, ◌^◌, ℕ, List, [], Some, None, Contains, MatchOption}
+use Rattle.std.specs.Prelude.{◌≡◌, ◌⊎◌, ◌<◌, ◌≤◌, ◌^◌, ℕ, Bool, true, false, Option, List, [], Some, None, Contains, MatchOption}
 use Rattle.std.specs.FinMap as map_of
-use Rattle.store_rows.specs.Keys.{RowKey, key_of, Fits, counters, retired, begun, named, part, seal, block, pair, chunk}
+use Rattle.store_rows.specs.Keys.{RowKey, key_of, Fits, counters, retired, begun, holding, named, part, seal, version, block, pair, chunk, in_four}
 use Rattle.store_rows.specs.Values.{counters_bytes, plan_bytes, seal_bytes}
 use Rattle.store_rows.specs.Lists.{chunks_bytes, districts_bytes, AreChunks, AreDistricts}
 use Rattle.store_rows.specs.declared.value.Counters.{Counters}
 use Rattle.store_rows.specs.declared.value.PlanRow.{PlanRow}
 use Rattle.store_rows.specs.declared.value.SealRow.{SealRow}
 use Rattle.store_rows.specs.Rows.{KeyMap, row_in, Has}
+use Rattle.store_rows.specs.Holders.{IsHeld, AreTallied}
 
 -- before the first row of counters no number was given
 abbrev pub no_numbers : Counters
@@ -72,10 +73,28 @@ pub record AreOwned (m : KeyMap) : Type 0 where
   -- the sealed load is none of those that were begun
   pub ended : (sealed : SealRow) → sealed.load < 2 ^ 64 → Has m seal (seal_bytes sealed) → row_in m (begun sealed.load) ≡ None
 
--- each chunk belongs to one plan
+-- In the old version each chunk belongs to one plan, and no row tells that a plan holds one.
 pub record HasOwners (m : KeyMap) : Type 0 where
   pub owner : ℕ → ℕ
   pub is : (plan number : ℕ) → IsNamedBy m plan number → owner number ≡ plan
+  pub unheld : (plan number : ℕ) → Fits (holding plan number) → row_in m (holding plan number) ≡ None
+
+-- a plan that is there holds each chunk that it names
+abbrev pub AllHold : KeyMap → Type 0
+AllHold m = (name : List ℕ) (plan number : ℕ) → IsNumbered m name plan → IsNamedBy m plan number → IsHeld m plan number
+
+-- the rows are of the new version, which this row tells, or of the old one, which has none
+abbrev pub version_row : Bool → Option (List ℕ)
+version_row true = Some (in_four 2)
+version_row false = None
+
+-- A plan holds chunks that a part of it names, and each chunk's plans are counted. In the new version a plan that is there holds each
+-- chunk that it names; one that was taken away may have let some go. In the old one none need be held.
+pub record AreHoldings (m : KeyMap) (new : Bool) : Type 0 where
+  pub told : row_in m version ≡ version_row new
+  pub held : (plan number : ℕ) (value : List ℕ) → Fits (holding plan number) → Has m (holding plan number) value → (value ≡ []) × IsNamedBy m plan number
+  pub tallied : AreTallied m
+  pub hold : new ≡ true → AllHold m
 
 -- the value of a part of a revision, and of a piece of a chunk
 abbrev pub IsPart : List ℕ → Type 0
@@ -94,14 +113,16 @@ pub record AreCounted (m : KeyMap) : Type 0 where
 
 pub record Tidy (m : KeyMap) : Type 0 where
   pub next : Counters
+  pub new : Bool
   pub is_next : IsNext m next
   pub fits : CountersFit next
   pub rows : AreRows m
   pub below : AreBelow m next
   pub owned : AreOwned m
-  pub owners : HasOwners m
+  pub holdings : AreHoldings m new
+  pub owners : new ≡ false → HasOwners m
   pub counted : AreCounted m
 
--- and these are its counters
-abbrev pub TidyWith : KeyMap → Counters → Type 0
-TidyWith m next = (tidy : Tidy m) × (tidy.next ≡ next)
+-- and these are its counters, and its version
+abbrev pub TidyWith : KeyMap → Counters → Bool → Type 0
+TidyWith m next new = (tidy : Tidy m) × (tidy.next ≡ next) × (tidy.new ≡ new)

@@ -7,6 +7,7 @@ use Rattle.store_rows.specs.Keys.{in_one, in_two, in_four, in_eight}
 use Rattle.store_rows.specs.declared.value.Counters.{Counters}
 use Rattle.store_rows.specs.declared.value.PlanRow.{PlanRow}
 use Rattle.store_rows.specs.declared.value.SealRow.{SealRow}
+use Rattle.store_rows.specs.declared.value.Tally.{Tally}
 
 abbrev pub counters_bytes : Counters → List ℕ
 counters_bytes c = in_eight c.plan ++ (in_eight c.chunk ++ in_eight c.load)
@@ -18,6 +19,9 @@ kind_code House = 2
 
 abbrev pub plan_bytes : PlanRow → List ℕ
 plan_bytes p = in_eight p.number ++ (in_one (kind_code p.kind) ++ (in_two p.districts ++ in_four p.revisions))
+
+abbrev pub tally_bytes : Tally → List ℕ
+tally_bytes t = in_eight t.plans
 
 abbrev pub seal_bytes : SealRow → List ℕ
 seal_bytes s = in_eight s.load ++ (in_four s.blocks ++ in_four s.pairs)

@@ -1,6 +1,6 @@
 //! Keys of rows.
 ghost use Rattle.std.specs.Prelude.{◌≡◌, ◌≤◌, ◌<◌, ◌+◌, ◌++◌, [], ◌∷◌, length, vec_len};
-ghost use Rattle.store_rows.specs.Keys.{RowKey, key_of, counters, retired, begun, named, part, seal, block, pair, chunk, in_one, in_two, in_four, in_eight, plans_prefix, retired_prefix, begun_prefix, parts_prefix, plan_parts_prefix, revision_prefix, load_prefix, blocks_prefix, pairs_prefix, chunks_prefix, chunk_prefix};
+ghost use Rattle.store_rows.specs.Keys.{RowKey, key_of, counters, retired, begun, holding, tally, named, part, seal, version, block, pair, chunk, in_one, in_two, in_four, in_eight, plans_prefix, retired_prefix, begun_prefix, holdings_prefix, parts_prefix, plan_parts_prefix, revision_prefix, load_prefix, blocks_prefix, pairs_prefix, chunks_prefix, chunk_prefix};
 
 use arrayvec::ArrayVec;
 use desk_model::name::PlanName;
@@ -80,6 +80,36 @@ impl Key {
         ensures { result ≡ key_of (begun load) }
     {
         Key::numbered(b'L', load)
+    }
+
+    /// The row that tells that a plan holds a chunk.
+    pub fn holding(plan: u64, number: u64) -> Key
+        ensures { result ≡ key_of (holding plan number) }
+    {
+        let mut key = Key::holdings(plan);
+        key.add(&number.to_be_bytes());
+        key
+    }
+
+    /// The row that counts the plans that hold a chunk.
+    pub fn tally(number: u64) -> Key
+        ensures { result ≡ key_of (tally number) }
+    {
+        Key::numbered(b'K', number)
+    }
+
+    /// The row of the version of the rows.
+    pub fn version() -> Key
+        ensures { result ≡ key_of version }
+    {
+        Key::tagged(b'V')
+    }
+
+    /// What the keys of all chunks that a plan holds begin with.
+    pub fn holdings(plan: u64) -> Key
+        ensures { result ≡ holdings_prefix plan }
+    {
+        Key::numbered(b'H', plan)
     }
 
     /// The row of a plan, by its name.

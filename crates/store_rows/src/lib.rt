@@ -10,6 +10,8 @@
 //! ```
 #![tactic(auto)]
 
+pub mod forks;
+pub mod holders;
 mod key;
 pub mod key_laws;
 pub mod laws;
@@ -23,6 +25,7 @@ pub use list::{
     read_chunks, read_districts,
 };
 pub use value::{
-    Counters, PlanRow, SealRow, block_value, counters_value, pair_value, plan_value, read_block,
-    read_counters, read_pair, read_plan, read_seal, seal_value,
+    Counters, PlanRow, SealRow, Tally, block_value, counters_value, pair_value, plan_value,
+    read_block, read_counters, read_pair, read_plan, read_seal, read_tally, seal_value,
+    tally_value,
 };

@@ -3,10 +3,11 @@ ghost use Rattle.std.specs.Prelude.{◌≡◌, ◌<◌, ◌^◌, ℕ, length, Op
 ghost use Rattle.store_rows.specs.declared.value.Counters.{Counters as CountersValue};
 ghost use Rattle.store_rows.specs.declared.value.PlanRow.{PlanRow as PlanValue};
 ghost use Rattle.store_rows.specs.declared.value.SealRow.{SealRow as SealValue};
+ghost use Rattle.store_rows.specs.declared.value.Tally.{Tally as TallyValue};
 ghost use Rattle.desk_model.specs.declared.kind.Kind.{Kind as KindValue};
 ghost use Rattle.desk_model.specs.declared.block.BlockRow.{BlockRow as BlockValue};
 ghost use Rattle.store_rows.specs.Keys.{in_two, in_four, in_eight};
-ghost use Rattle.store_rows.specs.Values.{counters_bytes, plan_bytes, seal_bytes, block_bytes, pair_bytes, kind_code, city_bytes};
+ghost use Rattle.store_rows.specs.Values.{counters_bytes, plan_bytes, tally_bytes, seal_bytes, block_bytes, pair_bytes, kind_code, city_bytes};
 
 use byteorder::{BigEndian, ByteOrder};
 use desk_model::block::{BlockId, BlockRow};
@@ -37,6 +38,12 @@ pub struct SealRow {
     pub load: u64,
     pub blocks: u32,
     pub pairs: u32,
+}
+
+/// How many plans hold a chunk.
+#[derive(Clone, Copy, Debug, PartialEq, Eq)]
+pub struct Tally {
+    pub plans: u64,
 }
 
 /// The value of the row of counters.
@@ -71,6 +78,13 @@ fn kind_number(kind: Kind) -> u8
         Kind::Senate => 1,
         Kind::House => 2,
     }
+}
+
+/// The value of the row that counts the plans that hold a chunk.
+pub fn tally_value(tally: &Tally) -> [u8; 8]
+    ensures { result ≡ tally_bytes tally.now }
+{
+    tally.plans.to_be_bytes()
 }
 
 /// The value of the row that names the geography.
@@ -180,6 +194,18 @@ pub fn read_plan(bytes: &[u8]) -> Option<PlanRow>
         kind,
         districts: two(&bytes[9..11]),
         revisions: four(&bytes[11..]),
+    })
+}
+
+/// What the row says that counts the plans that hold a chunk; None where it says nothing.
+pub fn read_tally(bytes: &[u8]) -> Option<Tally>
+    ensures { MatchOption result ((t : TallyValue) → tally_bytes t ≡ bytes.now → ⊥) (λ t. tally_bytes t ≡ bytes.now) }
+{
+    if bytes.len() != 8 {
+        return None;
+    }
+    Some(Tally {
+        plans: eight(bytes),
     })
 }
 

@@ -3,7 +3,7 @@ use Rattle.std.proofs.Common.{◌≡◌, ◌<◌, ◌≤◌, ◌^◌, ◌+◌, �
 use Rattle.std.specs.List.{starts_with}
 use Rattle.std.proofs.lemmas.Bool.{eqb-true}
 use Rattle.std.proofs.lemmas.Bool.Decides.{nat_tests}
-use Rattle.store_rows.specs.Keys.{RowKey, key_of, Fits, counters, retired, begun, named, part, seal, block, pair, chunk, in_one, in_two, in_four, in_eight, retired_prefix, begun_prefix, plan_parts_prefix, load_prefix, chunk_prefix}
+use Rattle.store_rows.specs.Keys.{RowKey, key_of, Fits, counters, retired, begun, holding, tally, named, part, seal, version, block, pair, chunk, in_one, in_two, in_four, in_eight, retired_prefix, begun_prefix, plan_parts_prefix, load_prefix, chunk_prefix}
 use Rattle.store_rows.proofs.RowLaws.{keys_differ}
 
 first_so : (b c : Bool) → (b && c) ≡ true → b ≡ true
@@ -39,9 +39,12 @@ plan_in : RowKey → ℕ
 plan_in counters = 0
 plan_in (retired plan) = plan
 plan_in (begun load) = load
+plan_in (holding holder held) = 0
+plan_in (tally held) = 0
 plan_in (named name) = 0
 plan_in (part plan revision index) = 0
 plan_in seal = 0
+plan_in version = 0
 plan_in (block load place) = 0
 plan_in (pair load place) = 0
 plan_in (chunk number piece) = 0
@@ -59,9 +62,12 @@ pub retired_is : (row : RowKey) → Fits row → starts_with nat_eq (key_of row)
 retired_is counters fits on = clash on
 retired_is (retired plan) fits on = (plan, fits, refl)
 retired_is (begun load) fits on = clash on
+retired_is (holding holder held) fits on = clash on
+retired_is (tally held) fits on = clash on
 retired_is (named name) fits on = clash on
 retired_is (part plan revision index) fits on = clash on
 retired_is seal fits on = clash on
+retired_is version fits on = clash on
 retired_is (block load place) fits on = clash on
 retired_is (pair load place) fits on = clash on
 retired_is (chunk number piece) fits on = clash on
@@ -70,9 +76,12 @@ pub begun_is : (row : RowKey) → Fits row → starts_with nat_eq (key_of row) b
 begun_is counters fits on = clash on
 begun_is (retired plan) fits on = clash on
 begun_is (begun load) fits on = (load, fits, refl)
+begun_is (holding holder held) fits on = clash on
+begun_is (tally held) fits on = clash on
 begun_is (named name) fits on = clash on
 begun_is (part plan revision index) fits on = clash on
 begun_is seal fits on = clash on
+begun_is version fits on = clash on
 begun_is (block load place) fits on = clash on
 begun_is (pair load place) fits on = clash on
 begun_is (chunk number piece) fits on = clash on
@@ -88,9 +97,12 @@ pub part_is : (plan : ℕ) → plan < 2 ^ 64 → (row : RowKey) → Fits row →
 part_is plan few counters fits on = clash on
 part_is plan few (retired other) fits on = clash on
 part_is plan few (begun load) fits on = clash on
+part_is plan few (holding holder held) fits on = clash on
+part_is plan few (tally held) fits on = clash on
 part_is plan few (named name) fits on = clash on
 part_is plan few (part other revision index) fits on = (revision, index, ap (λ (p : ℕ). part p revision index) (number_is other plan (in_four revision ++ in_one index) fits.0 few on))
 part_is plan few seal fits on = clash on
+part_is plan few version fits on = clash on
 part_is plan few (block load place) fits on = clash on
 part_is plan few (pair load place) fits on = clash on
 part_is plan few (chunk number piece) fits on = clash on
@@ -103,9 +115,12 @@ pub piece_is : (number : ℕ) → number < 2 ^ 64 → (row : RowKey) → Fits ro
 piece_is number few counters fits on = clash on
 piece_is number few (retired plan) fits on = clash on
 piece_is number few (begun load) fits on = clash on
+piece_is number few (holding holder held) fits on = clash on
+piece_is number few (tally held) fits on = clash on
 piece_is number few (named name) fits on = clash on
 piece_is number few (part plan revision index) fits on = clash on
 piece_is number few seal fits on = clash on
+piece_is number few version fits on = clash on
 piece_is number few (block load place) fits on = clash on
 piece_is number few (pair load place) fits on = clash on
 piece_is number few (chunk other piece) fits on = (piece, ap (λ (p : ℕ). chunk p piece) (number_is other number (in_two piece) fits.0 few on))
@@ -122,9 +137,12 @@ pub staged_is : (load : ℕ) → load < 2 ^ 64 → (row : RowKey) → Fits row �
 staged_is load few counters fits on = clash on
 staged_is load few (retired plan) fits on = clash on
 staged_is load few (begun other) fits on = clash on
+staged_is load few (holding holder held) fits on = clash on
+staged_is load few (tally held) fits on = clash on
 staged_is load few (named name) fits on = clash on
 staged_is load few (part plan revision index) fits on = clash on
 staged_is load few seal fits on = clash on
+staged_is load few version fits on = clash on
 staged_is load few (block other place) fits on = subst (λ (l : ℕ). IsStagedRow load (block l place)) (sym (number_is other load (98 ∷ in_four place) fits.0 few on)) (of_block place)
 staged_is load few (pair other place) fits on = subst (λ (l : ℕ). IsStagedRow load (pair l place)) (sym (number_is other load (112 ∷ in_four place) fits.0 few on)) (of_pair place)
 staged_is load few (chunk number piece) fits on = clash on
@@ -146,9 +164,12 @@ pub key_short : (row : RowKey) → Fits row → (0 < length (key_of row)) × (le
 key_short counters fits = short_of (key_of counters) 1 refl (omega arith) (omega arith)
 key_short (retired plan) fits = short_of (key_of (retired plan)) 9 refl (omega arith) (omega arith)
 key_short (begun load) fits = short_of (key_of (begun load)) 9 refl (omega arith) (omega arith)
+key_short (holding holder held) fits = short_of (key_of (holding holder held)) 17 refl (omega arith) (omega arith)
+key_short (tally held) fits = short_of (key_of (tally held)) 9 refl (omega arith) (omega arith)
 key_short (named name) fits = short_of (key_of (named name)) (length name + 1) (name_long name) (omega arith) (omega arith)
 key_short (part plan revision index) fits = short_of (key_of (part plan revision index)) 14 refl (omega arith) (omega arith)
 key_short seal fits = short_of (key_of seal) 1 refl (omega arith) (omega arith)
+key_short version fits = short_of (key_of version) 1 refl (omega arith) (omega arith)
 key_short (block load place) fits = short_of (key_of (block load place)) 14 refl (omega arith) (omega arith)
 key_short (pair load place) fits = short_of (key_of (pair load place)) 14 refl (omega arith) (omega arith)
 key_short (chunk number piece) fits = short_of (key_of (chunk number piece)) 11 refl (omega arith) (omega arith)

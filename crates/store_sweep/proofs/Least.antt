@@ -23,7 +23,7 @@ use Rattle.page_btree.specs.declared.error.TreeError.{TreeError}
 use Rattle.page_btree.specs.declared.error.TreeError.TheVariants.{DeviceFault}
 use Rattle.btree_scan.specs.Prefixes.{AllFrom}
 use Rattle.btree_scan.proofs.Prefixes.{all_from_key, head_rises, rises_from_key, under_is_from}
-use Rattle.store_rows.specs.Keys.{RowKey, key_of, Fits, counters, retired, begun, named, part, seal, block, pair, chunk, in_two, in_eight, chunk_prefix}
+use Rattle.store_rows.specs.Keys.{RowKey, key_of, Fits, counters, retired, begun, holding, tally, named, part, seal, version, block, pair, chunk, in_two, in_eight, chunk_prefix}
 use Rattle.store_rows.proofs.Numbers.{numbers_decide}
 use Rattle.store_rows.specs.Rows.{KeyMap}
 use Rattle.store_rows.proofs.Frames.{is_equal, itself, same_key}
@@ -192,9 +192,12 @@ row_piece : (number : ℕ) (row : RowKey) (key : List ℕ) → Fits row → key 
 row_piece number counters key fits same from = tag_more from
 row_piece number (retired plan) key fits same from = tag_more from
 row_piece number (begun load) key fits same from = tag_more from
+row_piece number (holding holder held) key fits same from = tag_more from
+row_piece number (tally held) key fits same from = tag_more from
 row_piece number (named name) key fits same from = tag_more from
 row_piece number (part plan revision index) key fits same from = tag_more from
 row_piece number seal key fits same from = tag_more from
+row_piece number version key fits same from = tag_more from
 row_piece number (block load place) key fits same from = tag_more from
 row_piece number (pair load place) key fits same from = tag_more from
 row_piece number (chunk next piece) key fits same from = record { next = next; piece = piece; fits = fits; key_is = same }

@@ -4,7 +4,7 @@ use Rattle.std.specs.Prelude.{Contains, Option}
 use Rattle.std.specs.List.{starts_with}
 use Rattle.std.specs.FinMap.{get}
 use Rattle.btree_scan.specs.declared.rows.Row.{Row}
-use Rattle.store_rows.specs.Keys.{RowKey, key_of, Fits, counters, retired, begun, named, part, seal, block, pair, chunk, in_eight, retired_prefix, begun_prefix, plan_parts_prefix, load_prefix}
+use Rattle.store_rows.specs.Keys.{RowKey, key_of, Fits, counters, retired, begun, holding, tally, named, part, seal, version, block, pair, chunk, in_eight, retired_prefix, begun_prefix, plan_parts_prefix, load_prefix}
 use Rattle.store_rows.specs.Lists.{AreChunks, chunks_bytes}
 use Rattle.store_rows.proofs.RowLaws.{keys_differ}
 use Rattle.store_rows.specs.Rows.{KeyMap, Has}
@@ -148,9 +148,12 @@ module _ (m : KeyMap) where
       same_load a b counters x y = absurd x
       same_load a b (retired plan) x y = absurd x
       same_load a b (begun other) x y = sym x ∙ y
+      same_load a b (holding plan number) x y = absurd x
+      same_load a b (tally number) x y = absurd x
       same_load a b (named name) x y = absurd x
       same_load a b (part plan revision index) x y = absurd x
       same_load a b seal x y = absurd x
+      same_load a b version x y = absurd x
       same_load a b (block other place) x y = sym x ∙ y
       same_load a b (pair other place) x y = sym x ∙ y
       same_load a b (chunk number piece) x y = absurd x

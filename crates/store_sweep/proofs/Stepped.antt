@@ -17,7 +17,7 @@ use Rattle.page_btree.specs.Map.{Holds, InTxn, InPages}
 use Rattle.page_btree.specs.declared.error.TreeError.{TreeError}
 use Rattle.page_btree.specs.declared.error.TreeError.TheVariants as tree
 use Rattle.desk_model.specs.Desk.{Desk}
-use Rattle.store_rows.specs.Keys.{RowKey, Fits, counters, retired, begun, named, part, seal, block, pair, chunk}
+use Rattle.store_rows.specs.Keys.{RowKey, Fits, counters, retired, begun, holding, tally, named, part, seal, version, block, pair, chunk}
 use Rattle.store_rows.specs.Rows.{KeyMap}
 use Rattle.store_rows.specs.SweepLaws.{IsLeftover, take_rows, AreLeftovers}
 use Rattle.store_rows.specs.Tidy.{Tidy}
@@ -46,9 +46,12 @@ mark_there : (running : Option ℕ) (m : KeyMap) → IsSweptClean running m → 
 mark_there running m clean counters fits left apart = left
 mark_there running m clean (retired plan) fits left apart = clean.plans plan fits left.0
 mark_there running m clean (begun load) fits left apart = clean.loads load fits apart left.0
+mark_there running m clean (holding plan number) fits left apart = left
+mark_there running m clean (tally number) fits left apart = left
 mark_there running m clean (named name) fits left apart = left
 mark_there running m clean (part plan revision index) fits left apart = clean.plans plan fits.0 left.0
 mark_there running m clean seal fits left apart = left
+mark_there running m clean version fits left apart = left
 mark_there running m clean (block load place) fits left apart = clean.loads load fits.0 (λ is. apart (same_spared running load place is)) left
 mark_there running m clean (pair load place) fits left apart = clean.loads load fits.0 (λ is. apart (pair_spared running load place is)) left
 mark_there running m clean (chunk number piece) fits left apart = clean.plans left.0 left.2.part_fits.0 left.1

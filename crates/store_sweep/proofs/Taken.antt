@@ -48,9 +48,9 @@ then_by running count more m n k one next = record {
 -- one leftover
 row_swept : LeftoversAreSwept → (running : Option ℕ) (m : KeyMap) (d : Desk) (key : List ℕ) → IsDeskMap m d → (left : IsLeftKey m key (λ row. IsSpared running row → ⊥)) → IsSweptMap running 1 m d (remove m (key_of left.row))
 row_swept law running m d key is left =
-    let swept = law m is.tidy d (left.row ∷ []) is.desk (left.fits, left.left, tt) in
+    let swept = law m is.tidy is.old d (left.row ∷ []) is.desk (left.fits, left.left, tt) in
     record {
-      is = record { desk = swept.desk; tidy = swept.tidy.0; limits = is.limits };
+      is = record { desk = swept.desk; tidy = swept.tidy.0; old = swept.tidy.2 ∙ is.old; limits = is.limits };
       by = record { rows = left.row ∷ []; count_is = refl; left = (left.fits, left.left, tt); apart = (left.is_apart, tt); rest = refl };
     }
 

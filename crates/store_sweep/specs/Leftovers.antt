@@ -1,6 +1,6 @@
 -- Which rows of a store are swept, and what is left once they are.
 use Rattle.std.specs.Prelude.{◌≡◌, ◌<◌, ◌^◌, ℕ, List, [], ◌∷◌, length, Option, Some, None}
-use Rattle.store_rows.specs.Keys.{RowKey, counters, retired, begun, named, part, seal, block, pair, chunk}
+use Rattle.store_rows.specs.Keys.{RowKey, counters, retired, begun, holding, tally, named, part, seal, version, block, pair, chunk}
 use Rattle.store_rows.specs.Rows.{KeyMap, Has}
 use Rattle.store_rows.specs.SweepLaws.{take_rows, AreLeftovers}
 
@@ -9,9 +9,12 @@ abbrev pub IsOfLoad : ℕ → RowKey → Type 0
 IsOfLoad load counters = ⊥
 IsOfLoad load (retired plan) = ⊥
 IsOfLoad load (begun other) = other ≡ load
+IsOfLoad load (holding plan number) = ⊥
+IsOfLoad load (tally number) = ⊥
 IsOfLoad load (named name) = ⊥
 IsOfLoad load (part plan revision index) = ⊥
 IsOfLoad load seal = ⊥
+IsOfLoad load version = ⊥
 IsOfLoad load (block other place) = other ≡ load
 IsOfLoad load (pair other place) = other ≡ load
 IsOfLoad load (chunk number piece) = ⊥

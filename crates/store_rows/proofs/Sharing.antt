@@ -1,0 +1,136 @@
+-- A plan comes to hold chunks, one after the other.
+use Rattle.std.proofs.Common.{◌≡◌, ◌<◌, ◌+◌, ◌^◌, ℕ, zero, suc, List, [], ◌∷◌, ◌++◌, Option, Some, None, refl, sym, ap, subst, ◌∙◌, inl, inr, arith}
+use Rattle.std.specs.Prelude.{Contains}
+use Rattle.std.proofs.lemmas.Bool.{cases_eq}
+use Rattle.std.proofs.lemmas.Nat.{from_be_bytes-to_be_bytes_8}
+use Rattle.std.specs.FinMap.{insert}
+use Rattle.store_rows.specs.Keys.{key_of, Fits, holding, tally, in_eight}
+use Rattle.store_rows.specs.Rows.{KeyMap, row_in, Has, SameTag}
+use Rattle.store_rows.proofs.Frames.{put_keeps_tag, put_keeps_row, tag_follows}
+use Rattle.store_rows.specs.Holders.{IsHeld, IsTallied, AreHoldersBelow, tally_row}
+use Rattle.store_rows.specs.HolderLaws.{JoinsHolders}
+use Rattle.store_rows.specs.Shares.{count_of, hold_by, hold, hold_all, AreEmpty, CanHold, Holds}
+use Rattle.store_rows.proofs.OneGeography.{value_is}
+use Rattle.store_rows.proofs.TidyParts.{rows_put}
+use Rattle.store_rows.proofs.Tallies.{joins_holders, held_too, too_holdings, too_held}
+use Rattle.store_rows.proofs.TidyRevisions.{contains_or_not}
+
+-- ---- a count is read back
+pub count_back : (count : ℕ) → count < 2 ^ 64 → count_of (tally_row count) ≡ count
+count_back zero fits = refl
+count_back (suc more) fits = (let same : more + 1 ≡ suc more = omega arith in from_be_bytes-to_be_bytes_8 (more + 1) (omega arith) ∙ same)
+
+count_read : (m : KeyMap) (number : ℕ) (is : IsTallied m number) → count_of (row_in m (tally number)) ≡ is.count
+count_read m number is = ap count_of is.row ∙ count_back is.count is.fits
+
+-- ---- lists
+pub only_one : (number x : ℕ) → Contains (number ∷ []) x → number ≡ x
+only_one number x (zero, within, is) = is
+only_one number x (suc k, within, is) = absurd (omega arith)
+
+first_one : (number : ℕ) (numbers : List ℕ) → Contains (number ∷ numbers) number
+first_one number numbers = (0, omega arith, refl)
+
+later_one : (number x : ℕ) (numbers : List ℕ) → Contains numbers x → Contains (number ∷ numbers) x
+later_one number x numbers (k, within, is) = (suc k, omega arith, is)
+
+not_later : (number x : ℕ) (numbers : List ℕ) → Contains (number ∷ numbers) x → (Contains numbers x → ⊥) → number ≡ x
+not_later number x numbers (zero, within, is) none = is
+not_later number x numbers (suc k, within, is) none = absurd (none (k, omega arith, is))
+
+-- ---- one chunk
+module _ (m : KeyMap) (limit plan number : ℕ) (can : CanHold m limit plan) (fits : number < 2 ^ 64) where
+  plan_fits : plan < 2 ^ 64
+  plan_fits = (let less = can.plan_below in let few = can.limit_fits in omega arith)
+
+  -- the plan holds it already
+  held_already : (value : List ℕ) → Has m (holding plan number) value → Holds m m limit plan (number ∷ [])
+  held_already value there = record {
+    can = can;
+    held = λ x among. subst (λ (k : ℕ). IsHeld m plan k) (only_one number x among) (there ∙ ap Some (can.empty number value (plan_fits, fits) there));
+    others = λ other x other_fits apart. refl;
+    rest = λ tag a b more. refl;
+    rows = λ rows. rows;
+  }
+
+  abbrev count : ℕ
+  count = count_of (row_in m (tally number))
+
+  abbrev made : KeyMap
+  made = held_too m plan number count plan_fits fits
+
+  holdings_then : SameTag 72 (insert m (key_of (holding plan number)) []) made
+  holdings_then = too_holdings m plan number count plan_fits fits
+
+  others_then : (other x : ℕ) → Fits (holding other x) → ((other ≡ plan) × Contains (number ∷ []) x → ⊥) → row_in made (holding other x) ≡ row_in m (holding other x)
+  others_then other x other_fits apart = holdings_then _ ∙ put_keeps_row m (holding plan number) [] (holding other x) (plan_fits, fits) other_fits (λ same.
+      let one : other ≡ plan = cc in
+      let two : number ≡ x = cc in
+      apart (one, (0, omega arith, two)))
+
+  below_then : AreHoldersBelow made limit
+  below_then other x other_fits x_fits there = elim (cases_eq other plan) [
+    | inl same ↦ (let less = can.plan_below in omega arith)
+    | inr apart ↦ can.below other x other_fits x_fits (sym (others_then other x (other_fits, x_fits) (λ both. apart both.0)) ∙ there)
+  ]
+
+  held_then : IsHeld made plan number
+  held_then = too_held m plan number count plan_fits fits
+
+  empty_then : AreEmpty made plan
+  empty_then x value x_fits there = elim (cases_eq number x) [
+    | inl same ↦ value_is value [] (sym there ∙ ap (λ (k : ℕ). row_in made (holding plan k)) (sym same) ∙ held_then)
+    | inr apart ↦ can.empty x value x_fits (sym (others_then plan x x_fits (λ both. apart (only_one number x both.1))) ∙ there)
+  ]
+
+  holds_now : row_in m (holding plan number) ≡ None → Holds m made limit plan (number ∷ [])
+  holds_now lacks =
+      let is = can.tallied number fits in
+      let same : count ≡ is.count = count_read m number is in
+      let few = is.fits in
+      let joins : JoinsHolders m limit plan number count = joins_holders m limit plan number count can.tallied can.below can.limit_fits can.plan_below fits (omega arith) lacks (is.row ∙ ap tally_row (sym same)) in
+      record {
+        can = record { tallied = joins.tallied; below = below_then; empty = empty_then; limit_fits = can.limit_fits; plan_below = can.plan_below };
+        held = λ x among. subst (λ (k : ℕ). IsHeld made plan k) (only_one number x among) held_then;
+        others = others_then;
+        rest = λ tag a b. tag_follows tag m (insert m (key_of (holding plan number)) []) made (put_keeps_tag m tag 72 (in_eight plan ++ in_eight number) [] a) (put_keeps_tag (insert m (key_of (holding plan number)) []) tag 75 (in_eight number) (in_eight (count + 1)) b);
+        rows = λ rows. rows_put (insert m (key_of (holding plan number)) []) (tally number) (in_eight (count + 1)) fits (rows_put m (holding plan number) [] (plan_fits, fits) rows);
+      }
+
+  one_by : (o : Option (List ℕ)) → row_in m (holding plan number) ≡ o → Holds m (hold_by o m plan number) limit plan (number ∷ [])
+  one_by None is = holds_now is
+  one_by (Some value) is = held_already value is
+
+  one_held : Holds m (hold m plan number) limit plan (number ∷ [])
+  one_held = one_by (row_in m (holding plan number)) refl
+
+-- ---- one after the other
+none_held : (m : KeyMap) (limit plan : ℕ) → CanHold m limit plan → Holds m m limit plan []
+none_held m limit plan can = record {
+  can = can;
+  held = λ x there. let within = there.1 in absurd (omega arith);
+  others = λ other x fits apart. refl;
+  rest = λ tag a b more. refl;
+  rows = λ rows. rows;
+}
+
+more_held : (m n o : KeyMap) (limit plan number : ℕ) (numbers : List ℕ) → plan < 2 ^ 64 → ((x : ℕ) → Contains (number ∷ numbers) x → x < 2 ^ 64) → Holds m n limit plan (number ∷ []) → Holds n o limit plan numbers → Holds m o limit plan (number ∷ numbers)
+more_held m n o limit plan number numbers plan_fits few one rest = record {
+  can = rest.can;
+  held = λ x among. elim (contains_or_not numbers x) [
+    | inl later ↦ rest.held x later
+    | inr none ↦ rest.others plan x (plan_fits, few x among) (λ both. none both.1) ∙ one.held x (0, omega arith, not_later number x numbers among none)
+  ];
+  others = λ other x fits apart. rest.others other x fits (λ both. apart (both.0, later_one number x numbers both.1))
+      ∙ one.others other x fits (λ both. apart (both.0, subst (λ (k : ℕ). Contains (number ∷ numbers) k) (only_one number x both.1) (first_one number numbers)));
+  rest = λ tag a b. tag_follows tag m n o (one.rest tag a b) (rest.rest tag a b);
+  rows = λ rows. rest.rows (one.rows rows);
+}
+
+pub all_held : (m : KeyMap) (limit plan : ℕ) (numbers : List ℕ) → CanHold m limit plan → ((number : ℕ) → Contains numbers number → number < 2 ^ 64) → Holds m (hold_all m plan numbers) limit plan numbers
+all_held m limit plan [] can few = none_held m limit plan can
+all_held m limit plan (number ∷ numbers) can few =
+    let fits : number < 2 ^ 64 = few number (first_one number numbers) in
+    let one : Holds m (hold m plan number) limit plan (number ∷ []) = one_held m limit plan number can fits in
+    more_held m (hold m plan number) (hold_all (hold m plan number) plan numbers) limit plan number numbers (plan_fits m limit plan number can fits) few one
+    (all_held (hold m plan number) limit plan numbers one.can (λ x among. few x (later_one number x numbers among)))

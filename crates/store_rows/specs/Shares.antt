@@ -1,0 +1,59 @@
+-- A plan comes to hold chunks of another plan.
+use Rattle.std.proofs.Common.{w64}
+use Rattle.std.specs.Prelude.{◌≡◌, ◌<◌, ◌+◌, ◌^◌, ℕ, List, [], ◌∷◌, ◌++◌, Option, Some, None, Contains}
+use Rattle.std.specs.Int.{from_be_bytes}
+use Rattle.store_rows.specs.Keys.{key_of, Fits, counters, holding, tally, named}
+use Rattle.store_rows.specs.Values.{counters_bytes, plan_bytes}
+use Rattle.store_rows.specs.declared.value.Counters.{Counters}
+use Rattle.store_rows.specs.declared.value.PlanRow.{PlanRow}
+use Rattle.store_rows.specs.Rows.{KeyMap, row_in, Has, SameTag}
+use Rattle.store_rows.specs.Puts.{Row, put_rows}
+use Rattle.store_rows.specs.NameRows.{name_rows}
+use Rattle.store_rows.specs.Steps.{chunks_more, one_revision_more}
+use Rattle.store_rows.specs.Holders.{IsHeld, AreTallied, AreHoldersBelow, holding_rows}
+use Rattle.store_rows.specs.Tidy.{AreRows}
+
+-- how many plans the row of a count tells
+abbrev pub count_of : Option (List ℕ) → ℕ
+count_of None = 0
+count_of (Some value) = from_be_bytes w64 value
+
+-- The map in which a plan holds a chunk: two rows more or changed, or none where the plan holds it already.
+abbrev pub hold_by : Option (List ℕ) → KeyMap → ℕ → ℕ → KeyMap
+hold_by (Some value) m plan number = m
+hold_by None m plan number = put_rows m (holding_rows plan number (count_of (row_in m (tally number))))
+
+abbrev pub hold : KeyMap → ℕ → ℕ → KeyMap
+hold m plan number = hold_by (row_in m (holding plan number)) m plan number
+
+abbrev pub hold_all : KeyMap → ℕ → List ℕ → KeyMap
+hold_all m plan [] = m
+hold_all m plan (number ∷ numbers) = hold_all (hold m plan number) plan numbers
+
+-- holdings of a plan tell nothing but that it holds
+abbrev pub AreEmpty : KeyMap → ℕ → Type 0
+AreEmpty m plan = (number : ℕ) (value : List ℕ) → Fits (holding plan number) → Has m (holding plan number) value → value ≡ []
+
+-- what a map has to have for that
+pub record CanHold (m : KeyMap) (limit plan : ℕ) : Type 0 where
+  pub tallied : AreTallied m
+  pub below : AreHoldersBelow m limit
+  pub empty : AreEmpty m plan
+  pub limit_fits : limit < 2 ^ 64
+  pub plan_below : plan < limit
+
+-- and what it has then: all else stays
+pub record Holds (m n : KeyMap) (limit plan : ℕ) (numbers : List ℕ) : Type 0 where
+  pub can : CanHold n limit plan
+  pub held : (number : ℕ) → Contains numbers number → IsHeld n plan number
+  pub others : (other number : ℕ) → Fits (holding other number) → ((other ≡ plan) × Contains numbers number → ⊥) → row_in n (holding other number) ≡ row_in m (holding other number)
+  pub rest : (tag : ℕ) → (tag ≡ 72 → ⊥) → (tag ≡ 75 → ⊥) → SameTag tag m n
+  pub rows : AreRows m → AreRows n
+
+-- The rows of a revision that has the chunks of another plan's, and no new one: the plan holds them, its parts name them, and its row
+-- tells one revision more.
+abbrev pub shared_rows : Counters → List ℕ → PlanRow → List ℕ → List Row
+shared_rows next name p numbers = name_rows p.number (p.revisions + 1) numbers ++ (key_of (named name), plan_bytes (one_revision_more p)) ∷ (key_of counters, counters_bytes (chunks_more next 0)) ∷ []
+
+abbrev pub with_shared : KeyMap → Counters → List ℕ → PlanRow → List ℕ → KeyMap
+with_shared m next name p numbers = put_rows (hold_all m p.number numbers) (shared_rows next name p numbers)
