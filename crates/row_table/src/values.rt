@@ -1,5 +1,7 @@
 //! What is read back from a row.
-use store_rows::{Counters, PlanRow, SealRow, read_counters, read_plan, read_seal};
+use store_rows::{
+    Counters, PlanRow, SealRow, Tally, read_counters, read_plan, read_seal, read_tally,
+};
 
 /// A value of a row, which is told by its bytes.
 pub trait RowValue: Drop + Sized {
@@ -29,6 +31,16 @@ impl RowValue for PlanRow {
 
     fn read(bytes: &[u8]) -> Option<PlanRow> {
         read_plan(bytes)
+    }
+}
+
+impl RowValue for Tally {
+    ghost use Rattle.store_rows.specs.Values.{tally_bytes};
+
+    ghost bytes_of = { tally_bytes };
+
+    fn read(bytes: &[u8]) -> Option<Tally> {
+        read_tally(bytes)
     }
 }
 

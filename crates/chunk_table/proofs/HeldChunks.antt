@@ -1,0 +1,134 @@
+-- A plan comes to hold a chunk by two rows, or holds it already.
+use Rattle.std.proofs.Common.{◌≡◌, ◌<◌, ◌+◌, ◌-◌, ◌^◌, ℕ, zero, suc, true, false, List, [], ◌∷◌, Option, Some, None, refl, sym, ap, subst, ◌∙◌, inl, inr, arith}
+use Rattle.std.specs.Prelude.{option_map}
+use Rattle.sector_device.specs.declared.SectorDevice.{Ghosts}
+use Rattle.page_store.proofs.Stops.{passed_more}
+use Rattle.page_store.specs.Transactions.{stored, disk_in, IsQuiet, Passed}
+use Rattle.page_store.specs.declared.pages.Pages.{Pages}
+use Rattle.page_store.specs.declared.txn.Txn.{Txn}
+use Rattle.page_btree.specs.Map.{InTxn}
+use Rattle.page_btree.specs.Errors.{GetErr}
+use Rattle.page_btree.specs.declared.error.TreeError.{TreeError}
+use Rattle.page_btree.specs.declared.error.TreeError.TheVariants.{DeviceFault, Halted, NoPages, TooDeep, Memory}
+use Rattle.store_rows.specs.Keys.{key_of, holding, tally, in_eight}
+use Rattle.store_rows.specs.Rows.{KeyMap, row_in}
+use Rattle.store_rows.specs.Puts.{Row, put_rows}
+use Rattle.store_rows.specs.Holders.{tally_row, holding_rows}
+use Rattle.store_rows.specs.Shares.{CanHold, count_of, hold_by, hold}
+use Rattle.store_rows.proofs.Tallies.{joins_holders}
+use Rattle.store_rows.proofs.Sharing.{count_back}
+use Rattle.row_table.specs.Puts.{HasPut, PutsErr}
+use Rattle.row_table.proofs.RowsPut.{more_put, then_not_put, front_not_put}
+use Rattle.store_rows.specs.Values.{tally_bytes}
+use Rattle.store_rows.specs.declared.value.Tally.{Tally}
+use Rattle.row_table.specs.Reading.{ReadErr, StandsAs}
+use Rattle.row_table.proofs.Reading.{put_after, not_put_after, not_read_after, read_after}
+use Rattle.chunk_table.specs.Holding.{Stands, HasTally, HasHeld, HoldErr}
+
+one_row : (k v key value : List ℕ) → k ≡ key → v ≡ value → ◌≡◌ {A = List Row} ((k, v) ∷ []) ((key, value) ∷ [])
+one_row k v key value a b = λ i. (a i, b i) ∷ []
+
+-- ---- a count is a value of its row
+tally_in : (row : Option (List ℕ)) (count : ℕ) → row ≡ tally_row count → (value : Option Tally) × (option_map tally_bytes value ≡ row)
+tally_in row zero is = (None, sym is)
+tally_in row (suc more) is = (Some (record { plans = more + 1 }), sym is)
+
+pub tally_stands : (m : KeyMap) (number : ℕ) → HasTally number m → (value : Option Tally) × StandsAs tally_bytes (key_of (tally number)) m value
+tally_stands m number told = tally_in (row_in m (tally number)) told.0 told.2
+
+-- ---- maps
+stays : (m : KeyMap) (plan number : ℕ) → Stands true plan number m → hold m plan number ≡ m
+stays m plan number there = ap (λ (o : Option (List ℕ)). hold_by o m plan number) there.1
+
+made : (m : KeyMap) (plan number count : ℕ) → count < 2 ^ 64 → Stands false plan number m → row_in m (tally number) ≡ tally_row count → hold m plan number ≡ put_rows m (holding_rows plan number count)
+made m plan number count fits lacks told = ap (λ (o : Option (List ℕ)). hold_by o m plan number) lacks ∙ ap (λ (k : ℕ). put_rows m (holding_rows plan number k)) (ap count_of told ∙ count_back count fits)
+
+-- a count of a map in which the plan can hold the chunk goes up
+goes_up : (m : KeyMap) (limit plan number count : ℕ) → CanHold m limit plan → number < 2 ^ 64 → count < 2 ^ 64 → Stands false plan number m → row_in m (tally number) ≡ tally_row count → count + 1 < 2 ^ 64
+goes_up m limit plan number count can fits count_fits lacks told = (joins_holders m limit plan number count can.tallied can.below can.limit_fits can.plan_below fits count_fits lacks told).fits
+
+module _ {D : Type 0} {g : Ghosts D} (plan number count : ℕ) where
+  pub both_put : (k v l w : List ℕ) → k ≡ key_of (holding plan number) → v ≡ [] → l ≡ key_of (tally number) → w ≡ in_eight (count + 1)
+      → (t u x : Txn) (a b c : Pages D g) → HasPut ((k, v) ∷ []) t u a b → HasPut ((l, w) ∷ []) u x b c → HasPut (holding_rows plan number count) t x a c
+  both_put k v l w k_is v_is l_is w_is t u x a b c first second =
+      more_put ((key_of (holding plan number), []) ∷ []) ((key_of (tally number), in_eight (count + 1)) ∷ []) t u x a b c
+      (subst (λ rs. HasPut rs t u a b) (one_row k v (key_of (holding plan number)) [] k_is v_is) first)
+      (subst (λ rs. HasPut rs u x b c) (one_row l w (key_of (tally number)) (in_eight (count + 1)) l_is w_is) second)
+
+  pub first_not_put : (k v : List ℕ) → k ≡ key_of (holding plan number) → v ≡ [] → (t : Txn) (a b : Pages D g) (e : TreeError) → PutsErr ((k, v) ∷ []) t a b e → PutsErr (holding_rows plan number count) t a b e
+  first_not_put k v k_is v_is t a b e why =
+      front_not_put ((key_of (holding plan number), []) ∷ []) ((key_of (tally number), in_eight (count + 1)) ∷ []) t a b e
+      (subst (λ rs. PutsErr rs t a b e) (one_row k v (key_of (holding plan number)) [] k_is v_is) why)
+
+  pub second_not_put : (k v l w : List ℕ) → k ≡ key_of (holding plan number) → v ≡ [] → l ≡ key_of (tally number) → w ≡ in_eight (count + 1)
+      → (t u : Txn) (a b c : Pages D g) (e : TreeError) → HasPut ((k, v) ∷ []) t u a b → IsQuiet b c → PutsErr ((l, w) ∷ []) u b c e → PutsErr (holding_rows plan number count) t a c e
+  second_not_put k v l w k_is v_is l_is w_is t u a b c e first quiet why =
+      then_not_put ((key_of (holding plan number), []) ∷ []) ((key_of (tally number), in_eight (count + 1)) ∷ []) t u a b c e
+      (subst (λ rs. HasPut rs t u a b) (one_row k v (key_of (holding plan number)) [] k_is v_is) first) quiet
+      (subst (λ rs. PutsErr rs u b c e) (one_row l w (key_of (tally number)) (in_eight (count + 1)) l_is w_is) why)
+
+  -- ---- what is held
+  pub held_already : (t : Txn) (a b : Pages D g) → Passed a b → ((disk_in b).is_honest → (m : KeyMap) → InTxn t (stored a) m → Stands true plan number m) → HasHeld plan number t t a b
+  held_already t a b passed stands = record {
+    passed = passed;
+    pages = refl;
+    held = λ honest m holds. subst (λ (n : KeyMap). InTxn t (stored a) n) (sym (stays m plan number (stands honest m holds))) holds;
+    writes = omega arith;
+    taken = omega arith;
+  }
+
+  module _ (t : Txn) (a b c : Pages D g) (first : Passed a b) (then_read : Passed b c) (lacks : (disk_in b).is_honest → (m : KeyMap) → InTxn t (stored a) m → Stands false plan number m) (told : (disk_in c).is_honest → (m : KeyMap) → InTxn t (stored b) m → row_in m (tally number) ≡ tally_row count) (count_fits : count < 2 ^ 64) where
+    both_passed : Passed a c
+    both_passed = passed_more a b c first then_read
+
+    told_first : (disk_in c).is_honest → (m : KeyMap) → InTxn t (stored a) m → row_in m (tally number) ≡ tally_row count
+    told_first = read_after t a b first (λ m. row_in m (tally number) ≡ tally_row count) c then_read.quiet told
+
+    pub held_then : (u : Txn) (d : Pages D g) → HasPut (holding_rows plan number count) t u c d → HasHeld plan number t u a d
+    held_then u d put =
+        let whole : HasPut (holding_rows plan number count) t u a d = put_after t a c both_passed (holding_rows plan number count) u d put in
+        record {
+          passed = whole.passed;
+          pages = whole.pages;
+          held = λ honest m holds.
+              let before = put.passed.quiet.honest honest in
+              subst (λ (n : KeyMap). InTxn u (stored a) n) (sym (made m plan number count count_fits (lacks (then_read.quiet.honest before) m holds) (told_first before m holds))) (whole.put honest m holds);
+          writes = let most = whole.writes in omega arith;
+          taken = let most = whole.taken in omega arith;
+        }
+
+    pub too_many : (count ≡ 2 ^ 64 - 1) → HoldErr plan number t a c DeviceFault
+    too_many is = inr (λ honest m limit holds can fits.
+        let less = goes_up m limit plan number count can fits count_fits (lacks (then_read.quiet.honest honest) m holds) (told_first honest m holds) in
+        absurd (omega arith))
+
+    pub holding_not_put : (d : Pages D g) (e : TreeError) → IsQuiet c d → PutsErr (holding_rows plan number count) t c d e → HoldErr plan number t a d e
+    holding_not_put d e quiet why = told_of e (not_put_after t a c both_passed (holding_rows plan number count) d e quiet why)
+      where
+        told_of : (e : TreeError) → PutsErr (holding_rows plan number count) t a d e → HoldErr plan number t a d e
+        told_of DeviceFault why = elim why [ inl failed ↦ inl failed | inr none ↦ inr (λ honest m limit holds can fits. none honest m holds) ]
+        told_of Halted why = why
+        told_of NoPages why = omega arith
+        told_of TooDeep why = λ honest m holds. (count, why honest m holds)
+        told_of Memory why = tt
+
+  -- ---- why not
+  pub not_looked : (t : Txn) (a b : Pages D g) (e : TreeError) → GetErr t a b e → HoldErr plan number t a b e
+  not_looked t a b DeviceFault why = elim why [ inl failed ↦ inl failed | inr none ↦ inr (λ honest m limit holds can fits. none honest m holds) ]
+  not_looked t a b Halted why = why
+  not_looked t a b NoPages why = absurd why
+  not_looked t a b TooDeep why = absurd why
+  not_looked t a b Memory why = absurd why
+
+  not_told_here : (t : Txn) (a b : Pages D g) (e : TreeError) → ReadErr (HasTally number) t a b e → HoldErr plan number t a b e
+  not_told_here t a b DeviceFault why = elim why [
+    | inl failed ↦ inl failed
+    | inr none ↦ inr (λ honest m limit holds can fits. let is = can.tallied number fits in none honest m holds (is.count, is.fits, is.row))
+  ]
+  not_told_here t a b Halted why = why
+  not_told_here t a b NoPages why = absurd why
+  not_told_here t a b TooDeep why = absurd why
+  not_told_here t a b Memory why = absurd why
+
+  pub not_told : (t : Txn) (a b c : Pages D g) (e : TreeError) → Passed a b → IsQuiet b c → ReadErr (HasTally number) t b c e → HoldErr plan number t a c e
+  not_told t a b c e first quiet why = not_told_here t a c e (not_read_after t a b first (HasTally number) c e quiet why)

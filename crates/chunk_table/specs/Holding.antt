@@ -1,0 +1,58 @@
+-- What it is for a plan to come to hold a chunk, and why it doesn't.
+use Rattle.std.specs.Prelude.{◌≡◌, ◌⊎◌, ◌<◌, ◌≤◌, ◌+◌, ◌^◌, ℕ, Bool, true, false, List, Result, IfOk, MatchResult}
+use Rattle.sector_device.specs.declared.SectorDevice.{Ghosts}
+use Rattle.page_store.specs.Transactions.{stored, disk_in, has_halted, txn_pages, txn_free, txn_writes, HasFailed, Passed}
+use Rattle.page_store.specs.declared.pages.Pages.{Pages}
+use Rattle.page_store.specs.declared.txn.Txn.{Txn}
+use Rattle.page_btree.specs.Map.{InTxn}
+use Rattle.page_btree.specs.declared.error.TreeError.{TreeError}
+use Rattle.page_btree.specs.declared.error.TreeError.TheVariants.{DeviceFault, Halted, NoPages, TooDeep, Memory}
+use Rattle.store_rows.specs.Keys.{holding, tally}
+use Rattle.store_rows.specs.Rows.{KeyMap, row_in, Has, Lacks}
+use Rattle.store_rows.specs.Holders.{tally_row, holding_rows}
+use Rattle.store_rows.specs.Shares.{CanHold, hold}
+use Rattle.row_table.specs.Puts.{HasDeepened}
+
+-- a holding row is there, or not
+abbrev pub Stands : Bool → ℕ → ℕ → KeyMap → Type 0
+Stands true plan number m = (value : List ℕ) × Has m (holding plan number) value
+Stands false plan number m = Lacks m (holding plan number)
+
+-- the chunk's count is told
+abbrev pub HasTally : ℕ → KeyMap → Type 0
+HasTally number m = (count : ℕ) × (count < 2 ^ 64) × (row_in m (tally number) ≡ tally_row count)
+
+module _ {D : Type 0} {g : Ghosts D} where
+  -- The plan holds the chunk then, by two rows at most.
+  pub record HasHeld (plan number : ℕ) (t u : Txn) (old new : Pages D g) : Type 0 where
+    pub passed : Passed old new
+    pub pages : txn_pages u ≡ txn_pages t
+    pub held : (disk_in new).is_honest → (m : KeyMap) → InTxn t (stored old) m → InTxn u (stored old) (hold m plan number)
+    pub writes : txn_writes u ≤ txn_writes t + 22
+    pub taken : txn_free t ≤ txn_free u + 12
+
+  -- rows were put, or none, since the plan held it already
+  abbrev pub IsHolding : Bool → ℕ → ℕ → Txn → Txn → Pages D g → Pages D g → Type 0
+  IsHolding true plan number t u old new = HasHeld plan number t u old new
+  IsHolding false plan number t u old new = HasHeld plan number t u old new × (u ≡ t)
+
+  -- why it doesn't: the device failed, or the transaction reads no map in which the plan can hold chunks; too few pages were free; the
+  -- tree was too deep
+  abbrev pub HoldErr : ℕ → ℕ → Txn → Pages D g → Pages D g → TreeError → Type 0
+  HoldErr plan number t old new DeviceFault = HasFailed old new ⊎ ((disk_in new).is_honest → (m : KeyMap) (limit : ℕ) → InTxn t (stored old) m → CanHold m limit plan → number < 2 ^ 64 → ⊥)
+  HoldErr plan number t old new Halted = has_halted old ≡ true
+  HoldErr plan number t old new NoPages = txn_free t < 12
+  HoldErr plan number t old new TooDeep = (disk_in new).is_honest → (m : KeyMap) → InTxn t (stored old) m → (count : ℕ) × HasDeepened (holding_rows plan number count) t old m
+  HoldErr plan number t old new Memory = Unit {0}
+
+  -- ---- what calls tell of it
+  abbrev pub HoldsChunk : ℕ → ℕ → Txn → Txn → Pages D g → Pages D g → Result Bool TreeError → Type 0
+  HoldsChunk plan number t u old new result = MatchResult result (λ put. IsHolding put plan number t u old new) (λ e. HoldErr plan number t old new e)
+
+  -- whether the plan holds the chunk
+  abbrev pub TellsHeld : ℕ → ℕ → Txn → Pages D g → Pages D g → Result Bool TreeError → Type 0
+  TellsHeld plan number t old new result = (disk_in new).is_honest → (m : KeyMap) → InTxn t (stored old) m → IfOk result (λ is. Stands is plan number m)
+
+  -- how many plans do
+  abbrev pub TellsTally : ℕ → Txn → Pages D g → Pages D g → Result ℕ TreeError → Type 0
+  TellsTally number t old new result = (disk_in new).is_honest → (m : KeyMap) → InTxn t (stored old) m → IfOk result (λ count. row_in m (tally number) ≡ tally_row count)

@@ -1,0 +1,70 @@
+//! Puts the rows by which a plan holds new chunks.
+ghost use Rattle.std.specs.Prelude.{◌≡◌, ◌<◌, ◌+◌, ◌^◌};
+ghost use Rattle.page_store.specs.Transactions.{count_of, txn_pages, IsQuiet};
+ghost use Rattle.store_rows.specs.Puts.{rows_told};
+ghost use Rattle.store_rows.specs.RevisionSteps.{new_holding, new_tally, new_holding_rows};
+ghost use Rattle.row_table.specs.Outcomes.{PutsRows};
+
+use page_store::{Pages, Txn};
+use row_table::{TreeError, put_row};
+use sector_device::SectorDevice;
+use store_rows::{Key, Tally, tally_value};
+
+/// Puts the rows that tell that a plan holds so many chunks from the first on.
+fn put_held<D: SectorDevice>(
+    txn: &mut Txn,
+    pages: &mut Pages<D>,
+    plan: u64,
+    first: u64,
+    count: u64,
+) -> Result<(), TreeError>
+    requires begun { txn_pages txn.old ≡ count_of pages.old }
+    requires fits { first + count < 2 ^ 64 }
+    ensures quiet { IsQuiet pages.old pages.new }
+    ensures begun { txn_pages txn.new ≡ count_of pages.new }
+    ensures put { PutsRows (rows_told (new_holding plan first) count) txn.old txn.new pages.old pages.new result }
+{
+    for k in 0..count {
+        put_row(txn, pages, &Key::holding(plan, first + k), &[])?;
+    }
+    Ok(())
+}
+
+/// Puts the rows that tell that so many chunks from the first on are held by one plan.
+fn put_counts<D: SectorDevice>(
+    txn: &mut Txn,
+    pages: &mut Pages<D>,
+    first: u64,
+    count: u64,
+) -> Result<(), TreeError>
+    requires begun { txn_pages txn.old ≡ count_of pages.old }
+    requires fits { first + count < 2 ^ 64 }
+    ensures quiet { IsQuiet pages.old pages.new }
+    ensures begun { txn_pages txn.new ≡ count_of pages.new }
+    ensures put { PutsRows (rows_told (new_tally first) count) txn.old txn.new pages.old pages.new result }
+{
+    for k in 0..count {
+        let tally = Tally { plans: 1 };
+        put_row(txn, pages, &Key::tally(first + k), &tally_value(&tally))?;
+    }
+    Ok(())
+}
+
+/// Puts the rows by which a plan holds so many new chunks from the first on, and no other plan does: their numbers are for the
+/// caller to choose, as ones that name no chunk. Nothing is read. After an error the transaction can only be abandoned.
+pub fn put_holdings<D: SectorDevice>(
+    txn: &mut Txn,
+    pages: &mut Pages<D>,
+    plan: u64,
+    first: u64,
+    count: u64,
+) -> Result<(), TreeError>
+    requires begun { txn_pages txn.old ≡ count_of pages.old }
+    requires fits { first + count < 2 ^ 64 }
+    ensures quiet { IsQuiet pages.old pages.new }
+    ensures begun { txn_pages txn.new ≡ count_of pages.new }
+    ensures put { PutsRows (new_holding_rows plan first count) txn.old txn.new pages.old pages.new result }
+{
+    put_held(txn, pages, plan, first, count)?;
+    put_counts(txn, pages, first, count)
+}
