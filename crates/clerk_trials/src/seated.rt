@@ -126,12 +126,13 @@ fn serve_at<
 >(
     rt: &R,
     alloc: Global,
-    office: &Office<J, MemoryDevice>,
+    office: Office<J, MemoryDevice>,
     visitors: Vec<Visitor<J>>,
     streams: &A,
     gate: &G,
 ) -> Ran {
-    serve_many(rt, alloc, office, visitors, streams, gate).expect(rt, "no memory")
+    let (_, ran) = serve_many(rt, alloc, office, visitors, streams, gate);
+    ran.expect(rt, "no memory")
 }
 
 /// Serves streams at two seats: what it came to.
@@ -165,9 +166,7 @@ fn served_in<
         }
     };
     let office = Office::new(clerk, shower);
-    let ran = serve_at(rt, alloc, &office, visitors, streams, gate);
-    office.close(rt);
-    ran
+    serve_at(rt, alloc, office, visitors, streams, gate)
 }
 
 /// The same, of the sample geography.

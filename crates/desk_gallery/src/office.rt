@@ -35,6 +35,12 @@ impl<J: Room, D: SectorDevice> Office<J, D> {
         self.front.lock(rt)
     }
 
+    /// The front, once nobody has it.
+    pub fn into_front(self) -> Front<J, D> {
+        let Office { front } = self;
+        front.into_inner()
+    }
+
     /// The clerk, once nobody has the front. Its desk is what commands led to that were accepted one after the other, and commands one
     /// after the other left it of the clerk with whom the office began.
     pub fn close<R: Wait>(self, rt: &R) -> Clerk<D>

@@ -1,10 +1,17 @@
 -- What the streams of many workers came to, and what they were answered.
-use Rattle.std.specs.Prelude.{◌≡◌, ℕ, List, [], ◌∷◌, map, reverse, fold, Option, Some, Result, ⊤}
+use Rattle.std.specs.Prelude.{◌≡◌, ℕ, All, List, [], ◌∷◌, map, reverse, fold, Option, Some, None, Result, ⊤}
+use mathlib.Core.List.{IsPrefix}
+use Rattle.byte_stream.specs.declared.source.Source as source
+use Rattle.byte_stream.specs.declared.sink.Sink as sink
+use Rattle.sector_device.specs.declared.SectorDevice as device
 use Rattle.desk_model.specs.declared.command.Command.{Command}
 use Rattle.desk_model.specs.Desk.{Desk}
+use Rattle.desk_store.specs.declared.clerk.Clerk.{Clerk}
+use Rattle.desk_gallery.specs.Begun.{Beginning, HasRun}
+use Rattle.desk_gallery.specs.Working.{AreAccepted}
 use Rattle.http_desk.specs.declared.serve.Served.{Served}
 use Rattle.http_desk.specs.declared.serve.StreamFault.{StreamFault}
-use Rattle.http_desk.specs.Serving.{Serves}
+use Rattle.http_desk.specs.Serving.{Serves, read_failures, write_failures}
 use Rattle.http_seats.specs.declared.ran.Ran.{Ran}
 use Rattle.http_seats.specs.Explained.{ExplainsCommand, ExplainsQuery}
 use Rattle.http_seats.specs.Running.{joined, no_streams, one_more, requests_of}
@@ -18,15 +25,42 @@ counts_of (served ∷ streams) = one_more (counts_of streams) (requests_of serve
 abbrev pub total_of : List Ran → Ran
 total_of workers = fold joined no_streams workers
 
-module _ (first : Desk) where
-  -- What was written to a stream is a talk over what was read from it, each answer of which is explained by a list of changes that
-  -- begins with all that was heard of before. It began with what the seat had heard of, and this is heard of in the end.
+-- What is known of streams: what was given where the next one was asked for, and what was taken back, with what it came to; what is
+-- unread of a reader, what a writer holds, and how often each failed.
+pub record Traffic (R W : Type 0) : Type 1 where
+  pub gives : Option (R × W) → Type 0
+  pub takes_back : R → W → Result Served StreamFault → Type 0
+  pub unread : R → Option (List ℕ)
+  pub failed_reads : R → ℕ
+  pub written : W → Option (List ℕ)
+  pub failed_writes : W → ℕ
+
+-- of what comes from here
+abbrev pub traffic : {A R W : Type 0} → (A → Option (R × W) → Type 0) → (A → R → W → Result Served StreamFault → Type 0)
+    → source.Ghosts R → sink.Ghosts W → A → Traffic R W
+traffic gives takes_back r w from =
+    record { gives = gives from; takes_back = takes_back from; unread = r.remaining; failed_reads = r.failures; written = w.contents; failed_writes = w.failures }
+
+-- what a worker's visitor has heard of in the end, and what its streams came to
+pub record Worker : Type 0 where
+  pub heard : List Command
+  pub ran : Ran
+
+module _ {R W : Type 0} (s : Traffic R W) (first : Desk) where
+  -- A stream was given, and taken back as it was left, with what it came to. What was written to it since is a talk over what was read
+  -- from it since, each answer of which is explained by a list of changes that begins with all that was heard of before. It began with
+  -- what the seat had heard of, and this is heard of in the end.
   pub record IsTalkedTo (before : List Command) (served : Result Served StreamFault) (heard : List Command) : Type 0 where
-    pub unread : Option (List ℕ)
-    pub left : Option (List ℕ)
-    pub unwritten : Option (List ℕ)
-    pub written : Option (List ℕ)
-    pub serves : Serves (ExplainsCommand first) (ExplainsQuery first) before served heard unread left unwritten written
+    pub reader : R
+    pub writer : W
+    pub given : s.gives (Some (reader, writer))
+    pub reader_left : R
+    pub writer_left : W
+    pub serves : Serves (ExplainsCommand first) (ExplainsQuery first) before served heard
+        (s.unread reader) (s.unread reader_left) (s.written writer) (s.written writer_left)
+    pub failed_reads : s.failed_reads reader_left ≡ read_failures (s.failed_reads reader) served
+    pub failed_writes : s.failed_writes writer_left ≡ write_failures (s.failed_writes writer) served
+    pub taken_back : s.takes_back reader_left writer_left served
 
   -- streams one after the other, the last first, at a seat that had heard of this before
   abbrev pub AreTalkedTo : List Command → List (Result Served StreamFault) → List Command → Type 0
@@ -39,22 +73,45 @@ module _ (first : Desk) where
     pub talked : AreTalkedTo before streams heard
     pub counts : ran ≡ counts_of streams
 
-  -- what a worker came to whose visitor had heard of this before
-  abbrev pub HasWorked : List Command → Ran → Type 0
-  HasWorked before ran = (heard : List Command) × AreServed before heard ran
+  -- What a worker came to whose visitor had heard of this before, and of that in the end. It ended where no further stream was given.
+  pub record HasWorked (before heard : List Command) (ran : Ran) : Type 0 where
+    pub served : AreServed before heard ran
+    pub over : s.gives None
 
-  -- what each of the workers came to
-  abbrev pub EachHasWorked : List (List Command) → List Ran → Type 0
+  -- what a worker leaves of its place: the visitor is back, and so much its streams came to
+  abbrev pub LeavesPlace : Option (List Command) → Option (List Command) → Ran → Type 0
+  LeavesPlace None after ran = after ≡ None
+  LeavesPlace (Some before) after ran = (heard : List Command) × (after ≡ Some heard) × HasWorked before heard ran
+
+  -- the same of each place
+  abbrev pub LeavesPlaces : List (Option (List Command)) → List (Option (List Command) × Ran) → Type 0
+  LeavesPlaces [] [] = ⊤
+  LeavesPlaces (before ∷ old) (after ∷ new) = LeavesPlace before after.0 after.1 × LeavesPlaces old new
+  LeavesPlaces [] (after ∷ new) = ⊥
+  LeavesPlaces (before ∷ old) [] = ⊥
+
+  -- what each of the workers came to whose visitors had heard of this
+  abbrev pub EachHasWorked : List (List Command) → List Worker → Type 0
   EachHasWorked [] [] = ⊤
-  EachHasWorked (visitor ∷ visitors) (ran ∷ rans) = HasWorked visitor ran × EachHasWorked visitors rans
-  EachHasWorked [] (ran ∷ rans) = ⊥
-  EachHasWorked (visitor ∷ visitors) [] = ⊥
+  EachHasWorked (before ∷ visitors) (worker ∷ workers) = HasWorked before worker.heard worker.ran × EachHasWorked visitors workers
+  EachHasWorked [] (worker ∷ workers) = ⊥
+  EachHasWorked (before ∷ visitors) [] = ⊥
 
-  -- a run is what the workers of these visitors came to together
-  pub record AreCounted (visitors : List (List Command)) (ran : Ran) : Type 0 where
-    pub workers : List Ran
+  -- A run is what the workers of these visitors came to together. In the end the changes begin with all that any of them has heard of.
+  pub record AreCounted (changes : List Command) (visitors : List (List Command)) (ran : Ran) : Type 0 where
+    pub workers : List Worker
     pub each : EachHasWorked (reverse visitors) workers
-    pub total : ran ≡ total_of workers
+    pub shown : All (λ w. IsPrefix w.heard changes) workers
+    pub total : ran ≡ total_of (map (λ w. w.ran) workers)
+
+  module _ {D : Type 0} {g : device.Ghosts D} where
+    -- Streams were served at the seats of these visitors, and came to this. The changes along which they were answered are the commands
+    -- that were done one after the other, each accepted after those before it, from the clerk with whom the office began to this one.
+    pub record HasServed (begins : Beginning) (visitors : List (List Command)) (last : Clerk D g) (ran : Ran) : Type 0 where
+      pub changes : List Command
+      pub accepted : AreAccepted first changes
+      pub left : HasRun begins last changes
+      pub counted : AreCounted changes visitors ran
 
 -- the last visitor's place is the first
 abbrev pub WereVisitors : List (List Command) → List (Option (List Command)) → Type 0

@@ -1,14 +1,24 @@
 //! Many streams, served at seats of one office.
-ghost use Rattle.std.specs.Prelude.{◌≡◌, ◌≤◌, IfOk, MatchOption, map};
-ghost use Rattle.http_seats.specs.Streams.{AreCounted, HasWorked, WereVisitors, total_of};
+ghost use Rattle.std.specs.Prelude.{◌≡◌, ◌≤◌, All, IfOk, IfSome, Option, Result, map};
+ghost use mathlib.Core.List.{IsPrefix};
+ghost use Rattle.http_desk.specs.declared.serve.Served.{Served as Answered};
+ghost use Rattle.http_desk.specs.declared.serve.StreamFault.{StreamFault as Fault};
+ghost use Rattle.desk_store.specs.Clerks.{desk_of, Keeps};
+ghost use Rattle.desk_gallery.specs.Begun.{IsLeftBy};
+ghost use Rattle.desk_gallery.specs.Working.{IsRunFrom};
+ghost use Rattle.http_seats.specs.Running.{no_streams};
+ghost use Rattle.http_seats.specs.Streams.{HasServed, HasWorked, LeavesPlace, LeavesPlaces, WereVisitors, total_of, traffic};
 
+use crate::acceptor::Acceptor;
 use crate::ran::{Ran, Tally};
 use crate::seat::Seat;
 use byte_stream::source::Source;
 use desk_gallery::book::Room;
+use desk_gallery::front::Front;
 use desk_gallery::office::Office;
 use desk_gallery::visitor::Visitor;
 use desk_model::gate::Gate;
+use desk_store::clerk::Clerk;
 use http_answer::gather::GatherSink;
 use http_desk::serve::{Served, StreamFault, serve};
 use sector_device::SectorDevice;
@@ -22,16 +32,19 @@ pub trait Arrivals {
 
     type Writer: GatherSink + Send + Sync;
 
+    // The next stream was asked for, and this was given.
+    ghost gives: { Self → Option (Self.Reader × Self.Writer) → Type 0 } = { λ _ _. Unit {0} };
+
+    // A stream was taken back so, with what it came to.
+    ghost takes_back: { Self → Self.Reader → Self.Writer → Result Answered Fault → Type 0 } = { λ _ _ _ _. Unit {0} };
+
     /// The next stream, or None where no further one comes. It may wait.
-    fn next(&self) -> Option<(Self::Reader, Self::Writer)>;
+    fn next(&self) -> Option<(Self::Reader, Self::Writer)>
+        ensures { gives self.now result };
 
     /// Takes a stream back once it is served, with what it came to.
-    fn ended(
-        &self,
-        reader: Self::Reader,
-        writer: Self::Writer,
-        served: Result<Served, StreamFault>,
-    );
+    fn ended(&self, reader: Self::Reader, writer: Self::Writer, served: Result<Served, StreamFault>)
+        ensures { takes_back self.now reader writer served };
 }
 
 /// A gate as one worker passes it.
@@ -59,29 +72,25 @@ struct Place<J: Room> {
 fn work<J: Room, D: SectorDevice, A: Arrivals, G: Gate, R: Wait>(
     rt: &R,
     alloc: Global,
-    office: &Office<J, D>,
-    visitor: Visitor<J>,
-    worker: u32,
-    arrivals: &A,
-    gate: &G,
+    seat: &mut Seat<'_, J, D, R>,
+    acceptor: Acceptor<'_, A>,
+    gate: &AtWorker<'_, G>,
 ) -> Tally
-    ensures { HasWorked J.first visitor result.ran }
+    requires { acceptor.tally.ran ≡ no_streams }
+    ensures { HasWorked (traffic A.gives A.takes_back A.Reader.Source A.Writer.Sink acceptor.entry.arrivals.now) J.first seat.old seat.new result.ran }
 {
-    let mut seat = Seat::new(rt, office, visitor);
-    let mut tally = Tally::new();
-    let gate = AtWorker { gate, worker };
+    let mut acceptor = acceptor;
     for _ in rt.forever() {
-        let Some((mut reader, mut writer)) = arrivals.next() else {
-            return tally;
+        let Some((mut reader, mut writer)) = acceptor.accept() else {
+            return acceptor.into_tally();
         };
-        let served = serve(alloc, &mut reader, &mut writer, &mut seat, &gate);
-        tally = tally.with_stream(&served);
-        arrivals.ended(reader, writer, served);
+        let served = serve(alloc, &mut reader, &mut writer, seat, gate);
+        acceptor.finish(reader, writer, served);
     }
     unreachable!()
 }
 
-/// Serves streams at the seat of a place, and counts them there.
+/// Serves streams at the seat of a place, and counts them there. The visitor comes back to it.
 fn work_at<J: Room, D: SectorDevice, A: Arrivals, G: Gate, R: Wait>(
     rt: &R,
     alloc: Global,
@@ -90,11 +99,18 @@ fn work_at<J: Room, D: SectorDevice, A: Arrivals, G: Gate, R: Wait>(
     arrivals: &A,
     gate: &G,
 )
-    ensures { MatchOption place.old.visitor (place.new.tally ≡ place.old.tally) (λ visitor. HasWorked J.first visitor place.new.tally.ran) }
+    ensures { LeavesPlace (traffic A.gives A.takes_back A.Reader.Source A.Writer.Sink arrivals.now) J.first place.old.visitor place.new.visitor place.new.tally.ran }
 {
-    if let Some(visitor) = place.visitor.take() {
-        place.tally = work(rt, alloc, office, visitor, place.worker, arrivals, gate);
-    }
+    let Some(visitor) = place.visitor.take() else {
+        return;
+    };
+    let mut seat = Seat::new(rt, office, visitor);
+    let gate = AtWorker {
+        gate,
+        worker: place.worker,
+    };
+    place.tally = work(rt, alloc, &mut seat, Acceptor::new(arrivals), &gate);
+    place.visitor = Some(seat.into_visitor());
 }
 
 /// The places of the visitors' workers, the last first.
@@ -129,10 +145,55 @@ fn together<J: Room>(places: &[Place<J>]) -> Tally
     tally
 }
 
-/// Serves the streams that arrive, by one worker a visitor, whose number is the visitor's place. The calling thread is worker 0;
-/// the streams of a worker that can't be started are taken by the others. What they came to is that of the streams of each worker,
-/// served one after the other: what was written to one is a talk over what was read from it, explained along one list of changes
-/// that grows, from what the visitor had heard of on. Err where memory for the workers is refused, and then no stream was taken.
+/// Serves streams at each place, by one worker a place.
+fn serve_places<
+    J: Room + Send + Sync,
+    D: SectorDevice + Drop + Send + Sync,
+    A: Arrivals + Sync,
+    G: Gate + Sync,
+    R: Threads + Wait + Sync,
+>(rt: &R, alloc: Global, office: &Office<J, D>, places: &mut [Place<J>], arrivals: &A, gate: &G)
+    ensures { LeavesPlaces (traffic A.gives A.takes_back A.Reader.Source A.Writer.Sink arrivals.now) J.first (map (λ p. p.visitor) places.old) (map (λ p. (p.visitor, p.tally.ran)) places.new) }
+{
+    let threads = places.len().max(1);
+    for_each_mut(
+        rt,
+        places,
+        threads,
+        &|_, place: &mut Place<J>|
+            ensures { LeavesPlace (traffic A.gives A.takes_back A.Reader.Source A.Writer.Sink arrivals.entry.now) J.first place.old.visitor place.new.visitor place.new.tally.ran }
+        { work_at(rt, alloc, office, place, arrivals, gate) },
+    );
+}
+
+/// The visitor of a place has heard of no more than the front shows.
+fn know_at<J: Room, D: SectorDevice>(front: &mut Front<J, D>, place: &Place<J>)
+    ensures begins { IfSome place.now.visitor (λ v. IsPrefix v front.new.shown) }
+    ensures same { front.new ≡ front.old }
+{
+    if let Some(visitor) = &place.visitor {
+        front.knows(visitor);
+    }
+}
+
+/// None of the places' visitors has heard of more than the front shows.
+fn know_all<J: Room, D: SectorDevice>(front: &mut Front<J, D>, places: &[Place<J>])
+    ensures all { All (λ p. IfSome p.visitor (λ v. IsPrefix v front.new.shown)) places.now }
+    ensures same { front.new ≡ front.old }
+{
+    for place in places {
+        know_at(front, place);
+    }
+}
+
+/// Serves the streams that arrive, by one worker a visitor, whose number is the visitor's place, until no further one comes, and then
+/// closes the office: its clerk, and what the streams came to. The calling thread is worker 0; the streams of a worker that can't be
+/// started are taken by the others.
+///
+/// What they came to is that of the streams of each worker, each of which was given by `Arrivals::next`, served, and taken back by
+/// `Arrivals::ended` as it was left: what was written to it is a talk over what was read from it, explained along one list of changes
+/// that grows, from what the visitor had heard of on, and that the commands begin with which the clerk has carried out in the end.
+/// Err where memory for the workers is refused, and then no stream was taken.
 pub fn serve_many<
     J: Room + Send + Sync,
     D: SectorDevice + Drop + Send + Sync,
@@ -142,24 +203,25 @@ pub fn serve_many<
 >(
     rt: &R,
     alloc: Global,
-    office: &Office<J, D>,
+    office: Office<J, D>,
     visitors: Vec<Visitor<J>>,
     arrivals: &A,
     gate: &G,
-) -> Result<Ran, AllocError>
-    ensures fewer { IfOk result (λ ran. ran.faults ≤ ran.streams) }
-    ensures counted { IfOk result (λ ran. AreCounted J.first visitors.items ran) }
+) -> (Clerk<D>, Result<Ran, AllocError>)
+    ensures kept { J.sound → Keeps result.0 }
+    ensures ran { IsRunFrom J.first (desk_of result.0) }
+    ensures left { IsLeftBy J.first J.begins result.0 }
+    ensures fewer { IfOk result.1 (λ ran. ran.faults ≤ ran.streams) }
+    ensures served { IfOk result.1 (HasServed (traffic A.gives A.takes_back A.Reader.Source A.Writer.Sink arrivals.now) J.first J.begins visitors.items result.0) }
 {
-    let mut places = places_for(alloc, visitors)?;
-    let threads = places.len().max(1);
+    let Ok(mut places) = places_for(alloc, visitors) else {
+        return (office.close(rt), Err(AllocError));
+    };
     let stands = places.as_mut_slice();
-    for_each_mut(
-        rt,
-        stands,
-        threads,
-        &|_, place: &mut Place<J>|
-            ensures { MatchOption place.old.visitor (place.new.tally ≡ place.old.tally) (λ visitor. HasWorked J.first visitor place.new.tally.ran) }
-        { work_at(rt, alloc, office, place, arrivals, gate) },
-    );
-    Ok(together(stands).ran)
+    serve_places(rt, alloc, &office, stands, arrivals, gate);
+    let mut front = office.into_front();
+    know_all(&mut front, stands);
+    let tally = together(stands);
+    let last = front.close(rt);
+    (last, Ok(tally.ran))
 }

@@ -70,6 +70,13 @@ impl<'a, J: Room, D: SectorDevice, R: Wait> Seat<'a, J, D, R> {
             visitor,
         }
     }
+
+    /// Its visitor, who has heard of what the seat has.
+    pub fn into_visitor(self) -> Visitor<J>
+        ensures { result ≡ self.entry }
+    {
+        self.visitor
+    }
 }
 
 impl<'a, J: Room, D: SectorDevice, R: Wait> Counter for Seat<'a, J, D, R> {

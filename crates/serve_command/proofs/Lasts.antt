@@ -6,24 +6,31 @@ use Rattle.desk_model.specs.Desk.{Desk}
 use Rattle.desk_store.specs.declared.clerk.Clerk.{Clerk}
 use Rattle.desk_store.specs.Clerks.{desk_of}
 use Rattle.desk_runs.specs.Runs.{SurvivesEachRun}
-use Rattle.desk_gallery.specs.Begun.{IsLeftBy}
 use Rattle.desk_gallery.specs.Working.{AreAccepted}
-use Rattle.serve_command.specs.Lasting.{IsLike, Outlasts}
+use Rattle.http_seats.specs.declared.ran.Ran.{Ran}
+use Rattle.http_seats.specs.Streams.{Traffic, AreCounted}
+use Rattle.serve_command.specs.Lasting.{IsLike, HasTalked, ServesStreams}
 
-module _ {D : Type 0} {g : Ghosts D} where
-  outlasts : (first last : Clerk D g) (start : Desk) → start ≡ desk_of first → ((x : Clerk D g) → SurvivesEachRun x) → IsLeftBy start (λ E h x. IsLike first x) last → Outlasts first last
-  outlasts first last start same survive left =
-      let ran = left.ran in
+module _ {D : Type 0} {g : Ghosts D} {R W : Type 0} (s : Traffic R W) where
+  serves_streams : (first last : Clerk D g) (start : Desk) (came_to : Ran) → start ≡ desk_of first → ((x : Clerk D g) → SurvivesEachRun x) → HasTalked s start (λ E h x. IsLike first x) last came_to
+      → ServesStreams s first last came_to
+  serves_streams first last start came_to same survive talked =
+      let ran = talked.served.left in
       record {
-        start = ran.first;
-        is_first = ran.began;
-        calls = ran.calls;
-        run = ran.run;
-        accepted = subst (λ (l : List Command). AreAccepted (desk_of first) l) (sym ran.are_shown) (subst (λ (d : Desk). AreAccepted d left.commands) same left.accepted);
-        survives = λ keeps working honest. survive ran.first ran.calls last ran.run (ran.began.keeps keeps) (ran.began.halted ∙ working) honest;
+        lasts = record {
+          start = ran.first;
+          is_first = ran.began;
+          calls = ran.calls;
+          run = ran.run;
+          accepted = subst (λ (l : List Command). AreAccepted (desk_of first) l) (sym ran.are_shown) (subst (λ (d : Desk). AreAccepted d talked.served.changes) same talked.served.accepted);
+          survives = λ keeps working honest. survive ran.first ran.calls last ran.run (ran.began.keeps keeps) (ran.began.halted ∙ working) honest;
+        };
+        visitors = talked.visitors;
+        fresh = talked.fresh;
+        counted = subst (λ (l : List Command). AreCounted s (desk_of first) l talked.visitors came_to) (sym ran.are_shown) (subst (λ (d : Desk). AreCounted s d talked.served.changes talked.visitors came_to) same talked.served.counted);
       }
 
-  pub all_outlast : {A E : Type 0} (first : Clerk D g) (start : Desk) (r : Result (Clerk D g × A) E) → start ≡ desk_of first → ((x : Clerk D g) → SurvivesEachRun x) → IfOk r (λ end. IsLeftBy start (λ E h x. IsLike first x) end.0)
-      → IfOk r (λ end. Outlasts first end.0)
-  all_outlast first start (Ok end) same survive left = outlasts first end.0 start same survive left
-  all_outlast first start (Err e) same survive none = none
+  pub all_serve : {E : Type 0} (first : Clerk D g) (start : Desk) (r : Result (Clerk D g × Ran) E) → start ≡ desk_of first → ((x : Clerk D g) → SurvivesEachRun x) → IfOk r (λ end. HasTalked s start (λ E h x. IsLike first x) end.0 end.1)
+      → IfOk r (λ end. ServesStreams s first end.0 end.1)
+  all_serve first start (Ok end) same survive talked = serves_streams first end.0 start end.1 same survive talked
+  all_serve first start (Err e) same survive none = none

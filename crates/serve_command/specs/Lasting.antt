@@ -6,9 +6,10 @@ use Rattle.desk_model.specs.Desk.{Desk}
 use Rattle.desk_store.specs.declared.clerk.Clerk.{Clerk}
 use Rattle.desk_store.specs.Clerks.{desk_of, disk_of, is_halted, sectors_of, Keeps}
 use Rattle.desk_runs.specs.Runs.{Call, Run, Survives, acknowledged}
+use Rattle.desk_gallery.specs.Begun.{Beginning}
 use Rattle.desk_gallery.specs.Working.{AreAccepted}
 use Rattle.http_seats.specs.declared.ran.Ran.{Ran}
-use Rattle.http_seats.specs.Streams.{AreCounted}
+use Rattle.http_seats.specs.Streams.{Traffic, AreCounted, HasServed}
 
 -- the same desk, in a store of as many sectors, at the same moment of its device, which keeps it where the other does
 pub record IsLike {D : Type 0} {g : Ghosts D} {E : Type 0} {h : Ghosts E} (x : Clerk D g) (y : Clerk E h) : Type 0 where
@@ -30,8 +31,18 @@ module _ {D : Type 0} {g : Ghosts D} where
     pub accepted : AreAccepted (desk_of first) (acknowledged calls)
     pub survives : Keeps first → is_halted first ≡ false → (disk_of last).is_honest → Survives start calls last run
 
--- the streams were served at the seats of visitors who had heard of nothing, from this desk on, and came to this
-pub record HasTalked (first : Desk) (ran : Ran) : Type 0 where
-  pub visitors : List (List Command)
-  pub fresh : All (λ (v : List Command). v ≡ []) visitors
-  pub counted : AreCounted first visitors ran
+  module _ {R W : Type 0} (s : Traffic R W) where
+    -- Streams were served at the seats of visitors who had heard of nothing, by an office that began with such a clerk and this desk.
+    -- They came to this, and this clerk came back.
+    pub record HasTalked (first : Desk) (begins : Beginning) (last : Clerk D g) (ran : Ran) : Type 0 where
+      pub visitors : List (List Command)
+      pub fresh : All (λ (v : List Command). v ≡ []) visitors
+      pub served : HasServed s first begins visitors last ran
+
+    -- Commands were done one after the other from the first clerk to the last, and outlive each stop. Along those that were
+    -- acknowledged, streams were served at the seats of visitors who had heard of nothing, and came to this.
+    pub record ServesStreams (first last : Clerk D g) (ran : Ran) : Type 0 where
+      pub lasts : Outlasts first last
+      pub visitors : List (List Command)
+      pub fresh : All (λ (v : List Command). v ≡ []) visitors
+      pub counted : AreCounted s (desk_of first) (acknowledged lasts.calls) visitors ran

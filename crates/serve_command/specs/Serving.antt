@@ -1,5 +1,6 @@
 -- A store that is served: what is opened, printed and told, and the status that goes with it.
-use Rattle.std.specs.Prelude.{◌≡◌, ◌⊎◌, ℕ, List, ◌++◌, codes, decimal, Bool, true, false, Result, Ok, Err}
+use Rattle.std.specs.Prelude.{◌≡◌, ◌⊎◌, ℕ, List, ◌++◌, codes, decimal, Bool, true, false, Option, Some, None, Result, Ok, Err}
+use Rattle.std.specs.Borrow.{Bor}
 use Rattle.byte_stream.specs.declared.sink.WriteFault.{WriteFault}
 use Rattle.sector_device.specs.declared.SectorDevice.{Ghosts}
 use Rattle.page_store.specs.Transactions.{device_in}
@@ -10,12 +11,13 @@ use Rattle.desk_store.specs.declared.clerk.Clerk.{Clerk}
 use Rattle.desk_store.specs.Clerks.{desk_of, is_halted, Keeps}
 use Rattle.desk_gallery.specs.Working.{IsRunFrom}
 use Rattle.http_seats.specs.declared.ran.Ran.{Ran}
+use Rattle.http_seats.specs.Streams.{Traffic}
 use Rattle.desk_loading.specs.Openings.{IsOpened}
 use Rattle.store_command.specs.Filling.{IsNotOpened}
 use Rattle.store_command.specs.Telling.{store_line, status_of as status_of_store}
 use Rattle.store_command.specs.declared.fault.StoreFault.{StoreFault}
 use Rattle.store_command.specs.declared.fault.StoreFault.TheVariants.{Memory, DeviceFault}
-use Rattle.serve_command.specs.Lasting.{HasTalked, Outlasts}
+use Rattle.serve_command.specs.Lasting.{ServesStreams}
 use Rattle.serve_command.specs.declared.fault.ServeFault.{ServeFault}
 use Rattle.serve_command.specs.declared.fault.ServeFault.TheVariants.{Store, Socket, Output}
 
@@ -37,6 +39,11 @@ abbrev pub end_of : (has_halted has_failed : Bool) → Result (Unit {0}) ServeFa
 end_of true _ = Err (Store DeviceFault)
 end_of false true = Err Socket
 end_of false false = Ok tt
+
+-- what listens, where anything does
+abbrev pub listener_of : {A : Type 0} → Option (Bor A) → Option A
+listener_of None = None
+listener_of (Some listener) = Some listener.now
 
 -- the line was printed whole
 abbrev pub HasAnnounced : (port : ℕ) → (before after : Written) → Type 0
@@ -78,42 +85,46 @@ module _ {D O : Type 0} (g : Ghosts D) (opens : O → List ℕ → Result D Stor
   OpensStore before name (Ok clerk) after = IsOpen before name clerk after
   OpensStore before name (Err fault) after = opens before name (Err fault) after ⊎ IsNoStore before name fault after
 
-  -- the store of the name was opened and served; who has it last keeps it if who opened it did, and has the desk after commands that
-  -- were accepted one after the other, which outlive a stop at any moment; what the connections came to; and its device was closed
-  pub record IsServed (before : O) (name : List ℕ) (has_halted : Bool) (after : O) : Type 0 where
-    pub first : Clerk D g
-    pub middle : O
-    pub found : IsOpen before name first middle
-    pub last : Clerk D g
-    pub keeps : Keeps first → Keeps last
-    pub ran : IsRunFrom (desk_of first) (desk_of last)
-    pub lasts : Outlasts first last
-    pub came_to : Ran
-    pub talked : HasTalked (desk_of first) came_to
-    pub halted : is_halted last ≡ has_halted
-    pub closed : ClosesClerk middle last after
-
   -- where memory is refused before, nothing is opened
   abbrev pub NotOpened : (before : O) → List ℕ → StoreFault → (after : O) → Type 0
   NotOpened before name fault after = ((fault ≡ Memory) × (after ≡ before)) ⊎ OpensStore before name (Err fault) after
 
-  -- memory for the seats was refused, behind which the clerk is gone, or the device failed while the store was served
-  abbrev pub HasStopped : (before : O) → List ℕ → StoreFault → (after : O) → Type 0
-  HasStopped before name fault after =
-      ((fault ≡ Memory) × (clerk : Clerk D g) × IsOpen before name clerk after) ⊎ ((fault ≡ DeviceFault) × IsServed before name true after)
+  -- what streams come from, where that is anything
+  module _ {A R W : Type 0} (streams : A → Traffic R W) (listening : Option A) where
+    -- The store of the name was opened and served; who has it last keeps it if who opened it did, and has the desk after commands that
+    -- were accepted one after the other, which outlive a stop at any moment. Along these the connections were answered that came from
+    -- what listens, and came to this. Its device was closed.
+    pub record IsServed (before : O) (name : List ℕ) (has_halted : Bool) (after : O) : Type 0 where
+      pub first : Clerk D g
+      pub middle : O
+      pub found : IsOpen before name first middle
+      pub last : Clerk D g
+      pub keeps : Keeps first → Keeps last
+      pub ran : IsRunFrom (desk_of first) (desk_of last)
+      pub listener : A
+      pub listens : listening ≡ Some listener
+      pub came_to : Ran
+      pub served : ServesStreams (streams listener) first last came_to
+      pub halted : is_halted last ≡ has_halted
+      pub closed : ClosesClerk middle last after
 
-  -- What comes of a store and is printed: the line once it is open, nothing where it isn't, and a front of the line where standard
-  -- output fails, after which nothing is served. Where no socket listens, no store is opened.
-  abbrev pub Announces : (port : ℕ) → (stores : O) → List ℕ → Result (Unit {0}) ServeFault → (stores_after : O) → (before after : Written) → Type 0
-  Announces port stores name (Ok u) stores_after before after = HasAnnounced port before after × IsServed stores name false stores_after
-  Announces port stores name (Err (Store fault)) stores_after before after =
-      ((after ≡ before) × NotOpened stores name fault stores_after) ⊎ (HasAnnounced port before after × HasStopped stores name fault stores_after)
-  Announces port stores name (Err Socket) stores_after before after =
-      ((after ≡ before) × (stores_after ≡ stores)) ⊎ (HasAnnounced port before after × IsServed stores name false stores_after)
-  Announces port stores name (Err Output) stores_after before after =
-      ((fault : WriteFault) × Writes before after (listening_text port) (Err fault)) × IsUnused stores name stores_after
+    -- memory for the seats was refused, behind which the clerk is gone, or the device failed while the store was served
+    abbrev pub HasStopped : (before : O) → List ℕ → StoreFault → (after : O) → Type 0
+    HasStopped before name fault after =
+        ((fault ≡ Memory) × (clerk : Clerk D g) × IsOpen before name clerk after) ⊎ ((fault ≡ DeviceFault) × IsServed before name true after)
 
-  -- the store of the name, served
-  abbrev pub Serves : (port : ℕ) → (stores : O) → List ℕ → Status → (stores_after : O) → (before after told_before told_after : Written) → Type 0
-  Serves port stores name end stores_after before after told_before told_after = (ended : Result (Unit {0}) ServeFault)
-      × Announces port stores name ended stores_after before after × EndsServing ended end told_before told_after
+    -- What comes of a store and is printed: the line once it is open, nothing where it isn't, and a front of the line where standard
+    -- output fails, after which nothing is served. Where no socket listens, no store is opened.
+    abbrev pub Announces : (port : ℕ) → (stores : O) → List ℕ → Result (Unit {0}) ServeFault → (stores_after : O) → (before after : Written) → Type 0
+    Announces port stores name (Ok u) stores_after before after = HasAnnounced port before after × IsServed stores name false stores_after
+    Announces port stores name (Err (Store fault)) stores_after before after =
+        ((after ≡ before) × NotOpened stores name fault stores_after) ⊎ (HasAnnounced port before after × HasStopped stores name fault stores_after)
+    Announces port stores name (Err Socket) stores_after before after =
+        ((after ≡ before) × (stores_after ≡ stores)) ⊎ (HasAnnounced port before after × IsServed stores name false stores_after)
+    Announces port stores name (Err Output) stores_after before after =
+        ((fault : WriteFault) × Writes before after (listening_text port) (Err fault)) × IsUnused stores name stores_after
+
+    -- the store of the name, served
+    abbrev pub Serves : (port : ℕ) → (stores : O) → List ℕ → Status → (stores_after : O) → (before after told_before told_after : Written) → Type 0
+    Serves port stores name end stores_after before after told_before told_after = (ended : Result (Unit {0}) ServeFault)
+        × Announces port stores name ended stores_after before after × EndsServing ended end told_before told_after

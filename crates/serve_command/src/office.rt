@@ -3,7 +3,8 @@ ghost use Rattle.std.specs.Prelude.{◌≡◌, ◌≤◌, IfOk};
 ghost use Rattle.desk_store.specs.Clerks.{desk_of, Keeps};
 ghost use Rattle.desk_gallery.specs.Begun.{BeginsWith, IsLeftBy};
 ghost use Rattle.desk_gallery.specs.Working.{IsRunFrom};
-ghost use Rattle.serve_command.specs.Lasting.{HasTalked, Outlasts};
+ghost use Rattle.http_seats.specs.Streams.{traffic};
+ghost use Rattle.serve_command.specs.Lasting.{HasTalked, ServesStreams};
 
 use desk_catalogue::catalogue::Catalogue;
 use desk_gallery::book::{Opened, Room};
@@ -46,7 +47,7 @@ fn serve_named<
     ensures kept { IfOk result (λ end. J.sound → Keeps end.0) }
     ensures ran { IfOk result (λ end. IsRunFrom J.first (desk_of end.0)) }
     ensures left { IfOk result (λ end. IsLeftBy J.first J.begins end.0) }
-    ensures talked { IfOk result (λ end. HasTalked J.first end.1) }
+    ensures talked { IfOk result (λ end. HasTalked (traffic A.gives A.takes_back A.Reader.Source A.Writer.Sink arrivals.now) J.first J.begins end.0 end.1) }
 {
     let (shower, visitors) = match Gallery::new::<J>(alloc, opened, catalogue, workers as usize) {
         Ok(gallery) => gallery,
@@ -57,8 +58,7 @@ fn serve_named<
         }
     };
     let office = Office::new(clerk, shower);
-    let ran = serve_many(rt, alloc, &office, visitors, arrivals, &NoGate);
-    let last = office.close(rt);
+    let (last, ran) = serve_many(rt, alloc, office, visitors, arrivals, &NoGate);
     match ran {
         Ok(ran) => Ok((last, ran)),
         Err(e) => Err(e),
@@ -67,8 +67,8 @@ fn serve_named<
 
 /// Serves what a clerk keeps by so many workers, until no further stream comes: the clerk as it then is, whose desk is what commands
 /// led to that were accepted one after the other, and what the streams came to. At whatever moment a stop comes: since a command was
-/// acknowledged, each image that the stop may leave opens to the desk after that command and all before it. Err where memory is
-/// refused, and then nothing was served.
+/// acknowledged, each image that the stop may leave opens to the desk after that command and all before it. Each stream was answered
+/// along these very commands. Err where memory is refused, and then nothing was served.
 pub fn serve_clerk<
     D: SectorDevice + Drop + Send + Sync,
     A: Arrivals + Sync,
@@ -83,8 +83,7 @@ pub fn serve_clerk<
     requires { 1 ≤ workers }
     ensures kept { IfOk result (λ end. Keeps clerk → Keeps end.0) }
     ensures ran { IfOk result (λ end. IsRunFrom (desk_of clerk) (desk_of end.0)) }
-    ensures lasts { IfOk result (λ end. Outlasts clerk end.0) }
-    ensures talked { IfOk result (λ end. HasTalked (desk_of clerk) end.1) }
+    ensures served { IfOk result (λ end. ServesStreams (traffic A.gives A.takes_back A.Reader.Source A.Writer.Sink arrivals.now) clerk end.0 end.1) }
 {
     each_run_survives::<D>();
     let catalogue = clerk.published()?;

@@ -1,8 +1,9 @@
 //! `serve`: a store is served to connections.
-ghost use Rattle.std.specs.Prelude.{◌≡◌, ◌≤◌};
+ghost use Rattle.std.specs.Prelude.{◌≡◌, ◌≤◌, Some};
 ghost use Rattle.desk_store.specs.Clerks.{is_halted};
 ghost use Rattle.command_output.specs.Writing.{written_of};
-ghost use Rattle.serve_command.specs.Serving.{end_of, OpensStore, Announces, Serves, EndsServing};
+ghost use Rattle.http_seats.specs.Streams.{traffic};
+ghost use Rattle.serve_command.specs.Serving.{end_of, listener_of, OpensStore, Announces, Serves, EndsServing};
 
 use crate::fault::{ServeFault, fault_line, fault_status};
 use crate::office::serve_clerk;
@@ -72,7 +73,7 @@ fn serve_store<
     writer: &mut W,
 ) -> Result<(), ServeFault>
     requires { 1 ≤ serving.workers }
-    ensures { Announces D.SectorDevice O.opens O.closes serving.port stores.old name.now result stores.new (written_of W.contents W.failures writer.old) (written_of W.contents W.failures writer.new) }
+    ensures { Announces D.SectorDevice O.opens O.closes (traffic A.gives A.takes_back A.Reader.Source A.Writer.Sink) (Some listening.now) serving.port stores.old name.now result stores.new (written_of W.contents W.failures writer.old) (written_of W.contents W.failures writer.new) }
 {
     let Ok(text) = listening_text(alloc, serving.port) else {
         return Err(ServeFault::Store(StoreFault::Memory));
@@ -119,7 +120,7 @@ pub fn serve<
     errors: &mut E,
 ) -> Status
     requires { 1 ≤ serving.workers }
-    ensures { Serves D.SectorDevice O.opens O.closes serving.port stores.old name.now result stores.new (written_of W.contents W.failures writer.old) (written_of W.contents W.failures writer.new) (written_of E.contents E.failures errors.old) (written_of E.contents E.failures errors.new) }
+    ensures { Serves D.SectorDevice O.opens O.closes (traffic A.gives A.takes_back A.Reader.Source A.Writer.Sink) (listener_of listening.entry) serving.port stores.old name.now result stores.new (written_of W.contents W.failures writer.old) (written_of W.contents W.failures writer.new) (written_of E.contents E.failures errors.old) (written_of E.contents E.failures errors.new) }
 {
     let ended = match listening {
         Some(listening) => serve_store(rt, alloc, stores, name, serving, listening, writer),

@@ -1,17 +1,26 @@
+use Rattle.std.proofs.Common.{◌∙◌, Some, subst}
+use Rattle.http_seats.specs.Streams.{traffic}
 use Rattle.http_seats.proofs.Counts.{served_more}
 use Rattle.http_seats.proofs.many.work.Goals as goal
 
 pub loop-preserved : goal.loop-preserved
-loop-preserved g c = (
-  tt,
-  tt,
-  served_more g.J.Room.first c.args.visitor c.loop.seat c.serve-served.new.counter c.loop.tally.ran c.with_stream-tally.result.ran c.serve-served.result c.loop.invariant.2
-      (record {
-        unread = g.A.Reader.Source.remaining c.in-Some-next.reader;
-        left = g.A.Reader.Source.remaining c.serve-served.new.reader;
-        unwritten = g.A.Writer.Sink.contents c.in-Some-next.writer;
-        written = g.A.Writer.Sink.contents c.serve-served.new.writer;
-        serves = c.serve-served.ensures.talks;
-      })
-      c.with_stream-tally.ensures,
-)
+loop-preserved g c =
+    let s = traffic g.A.Arrivals.gives g.A.Arrivals.takes_back g.A.Reader.Source g.A.Writer.Sink c.args.acceptor.arrivals.now in
+    let from = c.loop.invariant.3 in (
+      tt,
+      tt,
+      served_more s g.J.Room.first c.args.seat.now c.loop.seat c.serve-served.new.counter c.loop.acceptor.tally.ran c.finish.new.self.tally.ran c.serve-served.result c.loop.invariant.2
+          (record {
+            reader = c.in-Some-accept.reader;
+            writer = c.in-Some-accept.writer;
+            given = subst (λ (a : g.row.A.Denot). g.A.Arrivals.gives a (Some (c.in-Some-accept.reader, c.in-Some-accept.writer))) from c.in-Some-accept.ensures;
+            reader_left = c.serve-served.new.reader;
+            writer_left = c.serve-served.new.writer;
+            serves = c.serve-served.ensures.talks;
+            failed_reads = c.serve-served.ensures.read_failures;
+            failed_writes = c.serve-served.ensures.write_failures;
+            taken_back = subst (λ (a : g.row.A.Denot). g.A.Arrivals.takes_back a c.serve-served.new.reader c.serve-served.new.writer c.serve-served.result) from c.finish.ensures.back;
+          })
+          c.finish.ensures.counted,
+      c.finish.ensures.from ∙ from,
+    )

@@ -1,7 +1,9 @@
-use Rattle.http_seats.specs.Streams.{AreServed}
+use Rattle.std.proofs.Common.{◌≡◌}
+use Rattle.http_seats.specs.Streams.{AreServed, traffic}
 use Rattle.http_seats.proofs.many.work.Given as goal
 
 abbrev pub invariant-loop : goal.invariant-loop
 invariant-loop g l =
     (goal.iterator-loop g).can_next l.iterator' × (goal.iterator-loop g).is_finite l.iterator'
-    × AreServed g.J.Room.first l.fn.visitor l.seat l.tally.ran
+    × AreServed (traffic g.A.Arrivals.gives g.A.Arrivals.takes_back g.A.Reader.Source g.A.Writer.Sink l.fn.acceptor.arrivals.now) g.J.Room.first l.fn.seat l.seat l.acceptor.tally.ran
+    × (l.acceptor.arrivals.now ≡ l.fn.acceptor.arrivals.now)
