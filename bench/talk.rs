@@ -154,8 +154,56 @@ fn put_number(text: &mut String, mut number: usize) {
     text.push_str(std::str::from_utf8(&digits[at..]).unwrap());
 }
 
+// what each commit of the desk's store copies in memory: three pages that it changes, a list of them and the journal's copies, the
+// gate, the pages at home and the gate once more, and after each a sync, which notes that no sector waits
+struct Store {
+    sectors: Vec<[u8; 4096]>,
+    waits: Vec<bool>,
+    changed: [[u8; 4096]; 3],
+}
+
+impl Store {
+    fn new() -> Store {
+        Store { sectors: vec![[0; 4096]; 2000], waits: vec![false; 2000], changed: [[0; 4096]; 3] }
+    }
+
+    fn write(&mut self, at: usize, from: usize) {
+        let page = &self.changed[from];
+        self.sectors[at].copy_from_slice(page);
+        self.waits[at] = true;
+    }
+
+    fn sync(&mut self) {
+        std::hint::black_box(&mut self.sectors);
+        self.waits.fill(false);
+    }
+
+    fn commit(&mut self, count: usize) {
+        // the leaf of a plan's row, the one of the numbers, and the first page
+        let homes = [300 + count * 7919 % 1500, 299, 258];
+        for (i, home) in homes.iter().enumerate() {
+            self.changed[i].copy_from_slice(&self.sectors[*home]);
+            self.changed[i][count % 4096] += 1;
+        }
+        self.write(2, 0);
+        for i in 0..3 {
+            self.write(3 + i, i);
+        }
+        self.sync();
+        self.write(1, 0);
+        self.sync();
+        for (i, home) in homes.iter().enumerate() {
+            self.write(*home, i);
+        }
+        self.sync();
+        self.write(1, 0);
+        self.sync();
+        self.sync();
+    }
+}
+
 // puts the answer behind those that wait
-fn answer(plans: &mut BTreeMap<String, (String, u16)>, list: bool, target: &str, body: &mut String, out: &mut String) {
+fn answer(store: &mut Option<Store>, plans: &mut BTreeMap<String, (String, u16)>, list: bool, target: &str, body: &mut String, out: &mut String) {
     let (path, query) = target.split_once('?').unwrap_or((target, ""));
     body.clear();
     let status = if list && path == "/plans" {
@@ -186,6 +234,9 @@ fn answer(plans: &mut BTreeMap<String, (String, u16)>, list: bool, target: &str,
             }
             Entry::Vacant(place) => {
                 place.insert((kind.to_string(), n));
+                if let Some(store) = store {
+                    store.commit(plans.len());
+                }
                 write!(body, "{{\"plan\":\"{name}\",\"revisions\":0}}").unwrap();
                 "201 Created"
             }
@@ -265,7 +316,7 @@ impl Inbox {
     }
 }
 
-fn talk() {
+fn talk(mut store: Option<Store>) {
     let (mut input, mut output) = (io::stdin().lock(), straight());
     let mut plans = BTreeMap::new();
     let mut inbox = Inbox { buffer: vec![0; 65_536], start: 0, end: 0 };
@@ -291,7 +342,7 @@ fn talk() {
             } else if !inbox.take(&mut input, &mut body, length) {
                 return;
             }
-            answer(&mut plans, list, &target, &mut text, &mut out);
+            answer(&mut store, &mut plans, list, &target, &mut text, &mut out);
             if out.len() > 15_884 {
                 send(&mut out);
             }
@@ -324,7 +375,7 @@ fn main() {
         "make-chunks" => make_chunks(count(), &mut out),
         _ => {
             drop(out);
-            talk();
+            talk((words[1] == "talk-pages").then(Store::new));
         }
     }
 }
