@@ -43,6 +43,18 @@ fn make_listed(count: usize, out: &mut impl Write) {
     make_lists(10, out);
 }
 
+// a plan, and whole revisions of it, of which each changes the last block of the sample
+fn make_posts(count: usize, out: &mut impl Write) {
+    out.write_all(b"PUT /plans/a?kind=senate&districts=2 HTTP/1.1\r\nHost: d\r\n\r\n").unwrap();
+    for i in 0..count {
+        write!(out, "POST /plans/a/revisions?after={i} HTTP/1.1\r\nHost: d\r\nContent-Length: 97\r\n\r\n").unwrap();
+        out.write_all(b"BLOCKID|DISTRICT\n").unwrap();
+        for (block, district) in [("190010001001001", 1), ("190010001001002", 1), ("190030001001001", 2), ("190030001001002", 1 + i % 2)] {
+            write!(out, "{block}|{district:03}\n").unwrap();
+        }
+    }
+}
+
 fn make_body(size: usize, out: &mut impl Write) {
     write!(out, "GET /plans HTTP/1.1\r\nHost: d\r\nContent-Length: {size}\r\n\r\n").unwrap();
     let piece = vec![b'x'; 65_536];
@@ -154,18 +166,114 @@ fn put_number(text: &mut String, mut number: usize) {
     text.push_str(std::str::from_utf8(&digits[at..]).unwrap());
 }
 
+// what each commit of the desk's store copies in memory: three pages that it changes, a list of them and the journal's copies, the
+// gate, the pages at home and the gate once more, and after each a sync, which notes that no sector waits
+struct Store {
+    sectors: Vec<[u8; 4096]>,
+    waits: Vec<bool>,
+    changed: [[u8; 4096]; 3],
+}
+
+impl Store {
+    fn new() -> Store {
+        Store { sectors: vec![[0; 4096]; 2000], waits: vec![false; 2000], changed: [[0; 4096]; 3] }
+    }
+
+    fn write(&mut self, at: usize, from: usize) {
+        let page = &self.changed[from];
+        self.sectors[at].copy_from_slice(page);
+        self.waits[at] = true;
+    }
+
+    fn sync(&mut self) {
+        std::hint::black_box(&mut self.sectors);
+        self.waits.fill(false);
+    }
+
+    fn commit(&mut self, count: usize) {
+        // the leaf of a plan's row, the one of the numbers, and the first page
+        let homes = [300 + count * 7919 % 1500, 299, 258];
+        for (i, home) in homes.iter().enumerate() {
+            self.changed[i].copy_from_slice(&self.sectors[*home]);
+            self.changed[i][count % 4096] += 1;
+        }
+        self.write(2, 0);
+        for i in 0..3 {
+            self.write(3 + i, i);
+        }
+        self.sync();
+        self.write(1, 0);
+        self.sync();
+        for (i, home) in homes.iter().enumerate() {
+            self.write(*home, i);
+        }
+        self.sync();
+        self.write(1, 0);
+        self.sync();
+        self.sync();
+    }
+}
+
+struct Plan {
+    kind: String,
+    n: u16,
+    revisions: Vec<[u16; 4]>,
+}
+
+// the districts of the four blocks of the sample, by the lines of a body
+fn districts_of(sent: &[u8], n: u16) -> Option<[u16; 4]> {
+    const BLOCKS: [u64; 4] = [190010001001001, 190010001001002, 190030001001001, 190030001001002];
+    let mut districts = [0; 4];
+    let mut lines = sent.strip_prefix(b"BLOCKID|DISTRICT\n")?.split_inclusive(|b| *b == b'\n');
+    for (place, block) in BLOCKS.iter().enumerate() {
+        let line = lines.next()?.strip_suffix(b"\n")?;
+        let (digits, code) = (line.get(..15)?, line.get(16..19)?);
+        let mut number = 0;
+        for digit in digits {
+            number = 10 * number + u64::from(digit.checked_sub(b'0')?);
+        }
+        let mut district = 0;
+        for digit in code {
+            district = 10 * district + u16::from(digit.checked_sub(b'0')?);
+        }
+        if number != *block || line[15] != b'|' || district > n {
+            return None;
+        }
+        districts[place] = district;
+    }
+    lines.next().is_none().then_some(districts)
+}
+
 // puts the answer behind those that wait
-fn answer(plans: &mut BTreeMap<String, (String, u16)>, list: bool, target: &str, body: &mut String, out: &mut String) {
+fn answer(store: &mut Option<Store>, plans: &mut BTreeMap<String, Plan>, list: bool, target: &str, sent: &[u8], body: &mut String, out: &mut String) {
     let (path, query) = target.split_once('?').unwrap_or((target, ""));
     body.clear();
-    let status = if list && path == "/plans" {
+    let posted = path.strip_suffix("/revisions").and_then(|path| path.strip_prefix("/plans/"));
+    let status = if let (false, Some(name)) = (list, posted) {
+        let plan = plans.get_mut(name).unwrap();
+        let after: usize = query.strip_prefix("after=").unwrap().parse().unwrap();
+        assert_eq!(after, plan.revisions.len());
+        plan.revisions.push(districts_of(sent, plan.n).unwrap());
+        let count = plan.revisions.len();
+        for part in ["{\"plan\":\"", name, "\",\"revisions\":"] {
+            body.push_str(part);
+        }
+        put_number(body, count);
+        body.push('}');
+        if let Some(store) = store {
+            store.commit(count);
+        }
+        "201 Created"
+    } else if list && path == "/plans" {
         *body += "{\"plans\":[";
-        for (i, (name, (kind, n))) in plans.iter().enumerate() {
+        for (i, (name, Plan { kind, n, revisions })) in plans.iter().enumerate() {
             body.push_str(if i == 0 { "{\"districts\":" } else { ",{\"districts\":" });
             put_number(body, *n as usize);
-            for part in [",\"kind\":\"", kind, "\",\"name\":\"", name, "\",\"revisions\":0}"] {
+            for part in [",\"kind\":\"", kind, "\",\"name\":\"", name, "\",\"revisions\":"] {
                 body.push_str(part);
             }
+            put_number(body, revisions.len());
+            body.push('}');
         }
         *body += "]}";
         "200 OK"
@@ -185,7 +293,10 @@ fn answer(plans: &mut BTreeMap<String, (String, u16)>, list: bool, target: &str,
                 "409 Conflict"
             }
             Entry::Vacant(place) => {
-                place.insert((kind.to_string(), n));
+                place.insert(Plan { kind: kind.to_string(), n, revisions: Vec::new() });
+                if let Some(store) = store {
+                    store.commit(plans.len());
+                }
                 write!(body, "{{\"plan\":\"{name}\",\"revisions\":0}}").unwrap();
                 "201 Created"
             }
@@ -265,7 +376,7 @@ impl Inbox {
     }
 }
 
-fn talk() {
+fn talk(mut store: Option<Store>) {
     let (mut input, mut output) = (io::stdin().lock(), straight());
     let mut plans = BTreeMap::new();
     let mut inbox = Inbox { buffer: vec![0; 65_536], start: 0, end: 0 };
@@ -291,7 +402,7 @@ fn talk() {
             } else if !inbox.take(&mut input, &mut body, length) {
                 return;
             }
-            answer(&mut plans, list, &target, &mut text, &mut out);
+            answer(&mut store, &mut plans, list, &target, &body, &mut text, &mut out);
             if out.len() > 15_884 {
                 send(&mut out);
             }
@@ -316,6 +427,7 @@ fn main() {
     match words[1].as_str() {
         "make-lists" => make_lists(count(), &mut out),
         "make-creates" => make_creates(count(), &mut out),
+        "make-posts" => make_posts(count(), &mut out),
         "make-listed" => make_listed(count(), &mut out),
         "make-body" => make_body(count(), &mut out),
         "make-promise" => make_promise(count(), &mut out),
@@ -324,7 +436,7 @@ fn main() {
         "make-chunks" => make_chunks(count(), &mut out),
         _ => {
             drop(out);
-            talk();
+            talk((words[1] == "talk-pages").then(Store::new));
         }
     }
 }

@@ -1,5 +1,5 @@
 -- What is read back of a desk.
-use Rattle.std.specs.Prelude.{◌≡◌, ◌≤◌, ◌<◌, ℕ, List, length, take, drop, get_or, All, IfSome}
+use Rattle.std.specs.Prelude.{◌≡◌, ◌≤◌, ◌<◌, ℕ, List, length, take, drop, get_or, All, IfSome, Result, MatchResult}
 use Rattle.sector_device.specs.declared.SectorDevice.{Ghosts}
 use Rattle.desk_model.specs.Geography.{Ground}
 use Rattle.desk_model.specs.Cuts.{cut, cuts_of}
@@ -11,16 +11,22 @@ use Rattle.page_store.specs.Transactions.{stored, disk_in, Passed}
 use Rattle.page_store.specs.declared.pages.Pages.{Pages}
 use Rattle.page_store.specs.declared.txn.Txn.{Txn}
 use Rattle.page_btree.specs.Map.{InTxn}
+use Rattle.page_btree.specs.declared.error.TreeError.{TreeError}
 use Rattle.store_rows.specs.declared.value.PlanRow.{PlanRow}
 use Rattle.store_rows.specs.Rows.{KeyMap}
 use Rattle.store_rows.specs.RevisionRows.{HasChunk, HasRevision}
 use Rattle.store_rows.specs.DeskRows.{HasPlan}
+use Rattle.row_table.specs.Appending.{AppendErr}
 use Rattle.chunk_table.specs.Reading.{IsChunk}
 
 -- `says` is what a map is to say of a value, and `told` what is read where it says that
 pub record HasRead {D : Type 0} {g : Ghosts D} {X V : Type 0} (says : KeyMap → X → Type 0) (told : X → V) (t : Txn) (old new : Pages D g) (value : V) : Type 0 where
   pub passed : Passed old new
   pub read : (disk_in new).is_honest → (m : KeyMap) (x : X) → InTxn t (stored old) m → says m x → value ≡ told x
+
+-- that was read, or it is told why not
+abbrev pub Reads : {D X V : Type 0} {g : Ghosts D} → (KeyMap → X → Type 0) → (X → V) → Txn → Pages D g → Pages D g → Result V TreeError → Type 0
+Reads says told t old new result = MatchResult result (λ value. HasRead says told t old new value) (λ e. AppendErr says t old new e)
 
 -- a revision of a plan has a district for each block
 pub record IsOfBlocks (g : Ground) (plan revision : ℕ) (m : KeyMap) (districts : List ℕ) : Type 0 where

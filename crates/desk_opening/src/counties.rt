@@ -1,10 +1,9 @@
 //! Lays the counties of a revision over the districts of the one before.
-ghost use Rattle.std.specs.Prelude.{◌≡◌, ◌<◌, ◌≤◌, ◌+◌, true, length, get_or, IfOk, MatchResult};
+ghost use Rattle.std.specs.Prelude.{◌≡◌, ◌<◌, ◌≤◌, ◌+◌, true, length, get_or, IfOk};
 ghost use Rattle.shared_districts.specs.Laid.{with_at};
 ghost use Rattle.page_store.specs.Transactions.{count_of, txn_pages, IsQuiet};
-ghost use Rattle.row_table.specs.Appending.{AppendErr};
 ghost use Rattle.chunk_table.specs.Reading.{IsChunk};
-ghost use Rattle.desk_opening.specs.Reading.{AreCountiesOf, AreNamed, HasRead, IsCounty};
+ghost use Rattle.desk_opening.specs.Reading.{AreCountiesOf, AreNamed, Reads, IsCounty};
 
 use chunk_table::append_chunk;
 use desk_model::cuts::Cut;
@@ -29,9 +28,7 @@ fn lay_county<D: SectorDevice>(
     requires within { cut.first + cut.count ≤ length districts }
     ensures quiet { IsQuiet pages.old pages.new }
     ensures long { IfOk result (λ all. length all ≡ length districts) }
-    ensures read { MatchResult result
-        (λ all. HasRead (IsChunk number cut.count) (λ chunk. with_at cut.first chunk districts) txn.now pages.old pages.new all)
-        (λ e. AppendErr (IsChunk number cut.count) txn.now pages.old pages.new e) }
+    ensures read { Reads (IsChunk number cut.count) (λ chunk. with_at cut.first chunk districts) txn.now pages.old pages.new result }
 {
     part.clear();
     append_chunk(txn, pages, number, cut.count as usize, part)?;
@@ -68,10 +65,7 @@ fn lay_changed<D: SectorDevice>(
     requires within { cut.first + cut.count ≤ length districts }
     ensures quiet { IsQuiet pages.old pages.new }
     ensures long { IfOk result (λ all. length all ≡ length districts) }
-    ensures read { MatchResult result
-        (λ all. HasRead (IsCounty number cut last.now county districts) (λ chunk. with_at cut.first chunk districts)
-        txn.now pages.old pages.new all)
-        (λ e. AppendErr (IsCounty number cut last.now county districts) txn.now pages.old pages.new e) }
+    ensures read { Reads (IsCounty number cut last.now county districts) (λ chunk. with_at cut.first chunk districts) txn.now pages.old pages.new result }
 {
     if is_known(last, county, number) {
         return Ok(districts);
@@ -95,9 +89,7 @@ pub(crate) fn lay_counties<D: SectorDevice>(
     requires each { length names.now ≡ length cuts.now }
     ensures quiet { IsQuiet pages.old pages.new }
     ensures long { IfOk result (λ all. length all ≡ length before) }
-    ensures read { MatchResult result
-        (λ all. HasRead (AreNamed cuts.now names.now last.now before) (λ districts. districts) txn.now pages.old pages.new all)
-        (λ e. AppendErr (AreNamed cuts.now names.now last.now before) txn.now pages.old pages.new e) }
+    ensures read { Reads (AreNamed cuts.now names.now last.now before) (λ districts. districts) txn.now pages.old pages.new result }
 {
     lists_are_cut();
     let mut part = Vec::new(alloc);

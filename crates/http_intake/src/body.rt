@@ -49,6 +49,7 @@ fn make_room(body: &mut Vec<u8>, filled: usize, n: usize) -> Result<(), WireFaul
         return Ok(());
     }
     let more = (n - filled).min(filled.max(INBOX_LEN));
+    body.reserve_exact(more)?;
     body.resize(filled + more, 0u8)?;
     Ok(())
 }

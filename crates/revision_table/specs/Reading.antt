@@ -1,5 +1,5 @@
 -- What is read of a revision.
-use Rattle.std.specs.Prelude.{◌≡◌, ◌<◌, ℕ, List, [], length, get_or, map}
+use Rattle.std.specs.Prelude.{◌≡◌, ◌<◌, ◌*◌, ℕ, List, [], length, get_or, map, take, drop}
 use Rattle.desk_model.specs.declared.cuts.Cut.{Cut}
 use Rattle.store_rows.specs.Rows.{KeyMap}
 use Rattle.store_rows.specs.RevisionRows.{HasChunk, NamesChunks, HasRevision}
@@ -8,6 +8,10 @@ use Rattle.store_rows.specs.RevisionRows.{HasChunk, NamesChunks, HasRevision}
 pub record AreNames (plan revision count : ℕ) (m : KeyMap) (numbers : List ℕ) : Type 0 where
   pub names : NamesChunks m plan revision numbers
   pub long : length numbers ≡ count
+
+-- those of them in one part
+abbrev pub names_in : ℕ → List ℕ → List ℕ
+names_in index numbers = take 128 (drop (128 * index) numbers)
 
 -- each county has as many districts as its cut says
 abbrev pub AreLong : List Cut → List (List ℕ) → Type 0

@@ -1,8 +1,8 @@
 //! Reads which chunks a revision names.
-ghost use Rattle.std.specs.Prelude.{◌≡◌, ◌≤◌, ◌*◌, ◌<◌, ◌^◌, take, drop, MatchResult};
+ghost use Rattle.std.specs.Prelude.{◌≡◌, ◌≤◌, ◌*◌, ◌<◌, ◌^◌};
 ghost use Rattle.page_store.specs.Transactions.{count_of, txn_pages, IsQuiet};
-ghost use Rattle.row_table.specs.Appending.{HasAppended, AppendErr};
-ghost use Rattle.revision_table.specs.Reading.{AreNames};
+ghost use Rattle.row_table.specs.Appending.{Appends};
+ghost use Rattle.revision_table.specs.Reading.{AreNames, names_in};
 
 use page_store::{Pages, Txn};
 use row_table::{TreeError, read_row};
@@ -23,7 +23,7 @@ fn append_part<D: SectorDevice>(
     requires index { index < 2 ^ 8 }
     requires within { 128 * index < count }
     ensures quiet { IsQuiet pages.old pages.new }
-    ensures append { MatchResult result (λ _. HasAppended (AreNames plan revision count) (λ numbers. take 128 (drop (128 * index) numbers)) txn.now pages.old pages.new into.old.items into.new.items) (λ e. AppendErr (AreNames plan revision count) txn.now pages.old pages.new e) }
+    ensures append { Appends (AreNames plan revision count) (names_in index) txn.now pages.old pages.new into.old.items into.new.items result }
 {
     let mut bytes = [0; 1024];
     let length = read_row(
@@ -53,7 +53,7 @@ pub fn append_names<D: SectorDevice>(
 ) -> Result<(), TreeError>
     requires begun { txn_pages txn.now ≡ count_of pages.old }
     ensures quiet { IsQuiet pages.old pages.new }
-    ensures append { MatchResult result (λ _. HasAppended (AreNames plan revision count) (λ numbers. numbers) txn.now pages.old pages.new into.old.items into.new.items) (λ e. AppendErr (AreNames plan revision count) txn.now pages.old pages.new e) }
+    ensures append { Appends (AreNames plan revision count) (λ numbers. numbers) txn.now pages.old pages.new into.old.items into.new.items result }
 {
     if count > PART_CHUNKS * 256 {
         return Err(TreeError::DeviceFault);

@@ -1,8 +1,8 @@
 //! Puts the rows of revisions.
-ghost use Rattle.std.specs.Prelude.{◌≡◌, ◌≤◌, ◌*◌, ◌<◌, ◌^◌, [], ◌∷◌, length, MatchResult};
+ghost use Rattle.std.specs.Prelude.{◌≡◌, ◌≤◌, ◌*◌, ◌<◌, ◌^◌, [], ◌∷◌, length};
 ghost use Rattle.page_store.specs.Transactions.{count_of, txn_pages, IsQuiet};
 ghost use Rattle.store_rows.specs.NameRows.{name_row, name_rows};
-ghost use Rattle.row_table.specs.Puts.{HasPut, PutsErr};
+ghost use Rattle.row_table.specs.Outcomes.{PutsRows};
 
 use page_store::{Pages, Txn};
 use row_table::{TreeError, part_of, put_row};
@@ -24,7 +24,7 @@ fn put_part<D: SectorDevice>(
     requires within { 128 * index < length numbers.now }
     ensures quiet { IsQuiet pages.old pages.new }
     ensures begun { txn_pages txn.new ≡ count_of pages.new }
-    ensures put { MatchResult result (λ _. HasPut (name_row plan revision numbers.now index ∷ []) txn.old txn.new pages.old pages.new) (λ e. PutsErr (name_row plan revision numbers.now index ∷ []) txn.old pages.old pages.new e) }
+    ensures put { PutsRows (name_row plan revision numbers.now index ∷ []) txn.old txn.new pages.old pages.new result }
 {
     fill_chunks(value, part_of(numbers, PART_CHUNKS, index));
     put_row(
@@ -48,7 +48,7 @@ pub fn put_names<D: SectorDevice>(
     requires few { length numbers.now ≤ 128 * 2 ^ 8 }
     ensures quiet { IsQuiet pages.old pages.new }
     ensures begun { txn_pages txn.new ≡ count_of pages.new }
-    ensures put { MatchResult result (λ _. HasPut (name_rows plan revision numbers.now) txn.old txn.new pages.old pages.new) (λ e. PutsErr (name_rows plan revision numbers.now) txn.old pages.old pages.new e) }
+    ensures put { PutsRows (name_rows plan revision numbers.now) txn.old txn.new pages.old pages.new result }
 {
     let mut value = ListValue::new();
     let count = (numbers.len() + (PART_CHUNKS - 1)) / PART_CHUNKS;

@@ -1,8 +1,8 @@
 //! Reads revisions.
-ghost use Rattle.std.specs.Prelude.{◌≡◌, ◌≤◌, ◌*◌, ◌<◌, ◌^◌, [], length, get_or, MatchResult};
+ghost use Rattle.std.specs.Prelude.{◌≡◌, ◌≤◌, ◌*◌, ◌<◌, ◌^◌, [], length, get_or};
 ghost use Rattle.std.specs.List.{concat};
 ghost use Rattle.page_store.specs.Transactions.{count_of, txn_pages, IsQuiet};
-ghost use Rattle.row_table.specs.Appending.{HasAppended, AppendErr};
+ghost use Rattle.row_table.specs.Appending.{Appends};
 ghost use Rattle.revision_table.specs.Reading.{AreCounties, IsRevision};
 
 use crate::names::append_names;
@@ -25,7 +25,7 @@ fn append_county<D: SectorDevice>(
     requires each { length numbers.now ≡ length cuts.now }
     requires within { county < length cuts.now }
     ensures quiet { IsQuiet pages.old pages.new }
-    ensures append { MatchResult result (λ _. HasAppended (AreCounties numbers.now cuts.now) (λ counties. get_or counties county []) txn.now pages.old pages.new into.old.items into.new.items) (λ e. AppendErr (AreCounties numbers.now cuts.now) txn.now pages.old pages.new e) }
+    ensures append { Appends (AreCounties numbers.now cuts.now) (λ all. get_or all county []) txn.now pages.old pages.new into.old.items into.new.items result }
 {
     append_chunk(
         txn,
@@ -47,7 +47,7 @@ fn append_counties<D: SectorDevice>(
     requires begun { txn_pages txn.now ≡ count_of pages.old }
     requires each { length numbers.now ≡ length cuts.now }
     ensures quiet { IsQuiet pages.old pages.new }
-    ensures append { MatchResult result (λ _. HasAppended (AreCounties numbers.now cuts.now) concat txn.now pages.old pages.new into.old.items into.new.items) (λ e. AppendErr (AreCounties numbers.now cuts.now) txn.now pages.old pages.new e) }
+    ensures append { Appends (AreCounties numbers.now cuts.now) concat txn.now pages.old pages.new into.old.items into.new.items result }
 {
     for county in 0..cuts.len() {
         append_county(txn, pages, numbers, cuts, county, into)?;
@@ -69,7 +69,7 @@ pub fn append_revision<D: SectorDevice>(
 ) -> Result<(), TreeError>
     requires begun { txn_pages txn.now ≡ count_of pages.old }
     ensures quiet { IsQuiet pages.old pages.new }
-    ensures append { MatchResult result (λ _. HasAppended (IsRevision plan revision cuts.now) concat txn.now pages.old pages.new into.old.items into.new.items) (λ e. AppendErr (IsRevision plan revision cuts.now) txn.now pages.old pages.new e) }
+    ensures append { Appends (IsRevision plan revision cuts.now) concat txn.now pages.old pages.new into.old.items into.new.items result }
 {
     names.clear();
     append_names(txn, pages, plan, revision, cuts.len(), names)?;

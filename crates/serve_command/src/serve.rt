@@ -1,7 +1,7 @@
 //! `serve`: a store is served to connections.
 ghost use Rattle.std.specs.Prelude.{◌≡◌, ◌≤◌, Some};
 ghost use Rattle.desk_store.specs.Clerks.{is_halted};
-ghost use Rattle.command_output.specs.Writing.{written_of};
+ghost use Rattle.command_output.specs.Writing.{OfWriters, written_of};
 ghost use Rattle.http_seats.specs.Streams.{traffic};
 ghost use Rattle.serve_command.specs.Serving.{end_of, listener_of, OpensStore, Announces, Serves, EndsServing};
 
@@ -120,7 +120,10 @@ pub fn serve<
     errors: &mut E,
 ) -> Status
     requires { 1 ≤ serving.workers }
-    ensures { Serves D.SectorDevice O.opens O.closes (traffic A.gives A.takes_back A.Reader.Source A.Writer.Sink) (listener_of listening.entry) serving.port stores.old name.now result stores.new (written_of W.contents W.failures writer.old) (written_of W.contents W.failures writer.new) (written_of E.contents E.failures errors.old) (written_of E.contents E.failures errors.new) }
+    ensures { OfWriters
+        (Serves D.SectorDevice O.opens O.closes (traffic A.gives A.takes_back A.Reader.Source A.Writer.Sink)
+        (listener_of listening.entry) serving.port stores.old name.now result stores.new)
+        W.Sink writer.old writer.new E.Sink errors.old errors.new }
 {
     let ended = match listening {
         Some(listening) => serve_store(rt, alloc, stores, name, serving, listening, writer),

@@ -1,6 +1,6 @@
 //! `format`: a store is made in a new file.
 ghost use Rattle.std.specs.Prelude.{◌≡◌, ◌≤◌};
-ghost use Rattle.command_output.specs.Writing.{written_of};
+ghost use Rattle.command_output.specs.Writing.{OfWriters};
 ghost use Rattle.store_command.specs.Formatting.{Makes, Formats};
 
 use crate::fault::{StoreFault, format_fault};
@@ -52,7 +52,7 @@ pub fn format<D: SectorDevice + Drop, O: Stores<D>, W: Sink, E: Sink>(
 ) -> Status
     requires least { 256 ≤ journal_pages }
     requires most { journal_pages ≤ 65536 }
-    ensures { Formats D.SectorDevice O.makes O.closes stores.old stores.new name.now sectors journal_pages result (written_of W.contents W.failures writer.old) (written_of W.contents W.failures writer.new) (written_of E.contents E.failures errors.old) (written_of E.contents E.failures errors.new) }
+    ensures { OfWriters (Formats D.SectorDevice O.makes O.closes stores.old stores.new name.now sectors journal_pages result) W.Sink writer.old writer.new E.Sink errors.old errors.new }
 {
     let given = make_store(alloc, stores, name, sectors, journal_pages);
     end_store(b"plandesk: format: WriteFault\n", given, writer, errors)

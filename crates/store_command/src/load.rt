@@ -1,6 +1,6 @@
 //! `load`: a store is filled with what a state's files say.
 ghost use Rattle.std.specs.Prelude.{◌≡◌};
-ghost use Rattle.command_output.specs.Writing.{written_of};
+ghost use Rattle.command_output.specs.Writing.{OfWriters};
 ghost use Rattle.store_command.specs.Loading.{openings_of, ReadsGeography, Fills, EndsLoad, Loads};
 
 use crate::fault::StoreFault;
@@ -72,7 +72,7 @@ fn end_load<D: SectorDevice + Drop, O: Stores<D>, P: Progress, W: Sink, E: Sink>
     writer: &mut W,
     errors: &mut E,
 ) -> Status
-    ensures { EndsLoad D.SectorDevice O.opens O.closes stores.old stores.new name.now read result (written_of W.contents W.failures writer.old) (written_of W.contents W.failures writer.new) (written_of E.contents E.failures errors.old) (written_of E.contents E.failures errors.new) }
+    ensures { OfWriters (EndsLoad D.SectorDevice O.opens O.closes stores.old stores.new name.now read result) W.Sink writer.old writer.new E.Sink errors.old errors.new }
 {
     match read {
         Ok(geography) => {
@@ -96,7 +96,10 @@ pub fn load<R: Source, D: SectorDevice + Drop, O: Stores<D>, P: Progress, W: Sin
     writer: &mut W,
     errors: &mut E,
 ) -> Status
-    ensures { Loads D.SectorDevice O.opens O.closes (openings_of R.remaining R.turns R.failures files.old) (openings_of R.remaining R.turns R.failures files.new) stores.old stores.new name.now result (written_of W.contents W.failures writer.old) (written_of W.contents W.failures writer.new) (written_of E.contents E.failures errors.old) (written_of E.contents E.failures errors.new) }
+    ensures { OfWriters
+        (Loads D.SectorDevice O.opens O.closes (openings_of R.remaining R.turns R.failures files.old)
+        (openings_of R.remaining R.turns R.failures files.new) stores.old stores.new name.now result)
+        W.Sink writer.old writer.new E.Sink errors.old errors.new }
 {
     let read = read_geography(alloc, files);
     end_load(alloc, read, stores, name, progress, writer, errors)

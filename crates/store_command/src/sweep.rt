@@ -1,6 +1,6 @@
 //! `sweep`: a store is swept until nothing is left to be taken out.
 ghost use Rattle.std.specs.Prelude.{◌≡◌};
-ghost use Rattle.command_output.specs.Writing.{written_of};
+ghost use Rattle.command_output.specs.Writing.{OfWriters};
 ghost use Rattle.store_command.specs.Sweeping.{SweepsDevice, Sweeps, SweepsStore};
 
 use crate::fault::StoreFault;
@@ -67,7 +67,7 @@ pub fn sweep<D: SectorDevice + Drop, O: Stores<D>, P: Progress, W: Sink, E: Sink
     writer: &mut W,
     errors: &mut E,
 ) -> Status
-    ensures { SweepsStore D.SectorDevice O.opens O.closes stores.old stores.new name.now result (written_of W.contents W.failures writer.old) (written_of W.contents W.failures writer.new) (written_of E.contents E.failures errors.old) (written_of E.contents E.failures errors.new) }
+    ensures { OfWriters (SweepsStore D.SectorDevice O.opens O.closes stores.old stores.new name.now result) W.Sink writer.old writer.new E.Sink errors.old errors.new }
 {
     let given = sweep_store(alloc, stores, name, progress);
     end_store(b"plandesk: sweep: WriteFault\n", given, writer, errors)

@@ -1,6 +1,6 @@
 //! What is printed and told of a store.
 ghost use Rattle.std.specs.Prelude.{◌≡◌};
-ghost use Rattle.command_output.specs.Writing.{written_of};
+ghost use Rattle.command_output.specs.Writing.{OfWriters, written_of};
 ghost use Rattle.store_command.specs.Telling.{status_of, store_line as line_of_fault, TellsStore, EndsStore};
 
 use crate::fault::StoreFault;
@@ -50,7 +50,7 @@ pub fn end_store<W: Sink, E: Sink>(
     writer: &mut W,
     errors: &mut E,
 ) -> Status
-    ensures { EndsStore line.now given result (written_of W.contents W.failures writer.old) (written_of W.contents W.failures writer.new) (written_of E.contents E.failures errors.old) (written_of E.contents E.failures errors.new) }
+    ensures { OfWriters (EndsStore line.now given result) W.Sink writer.old writer.new E.Sink errors.old errors.new }
 {
     match given {
         Ok(text) => print(line, text.as_slice(), Status::Done, writer, errors),
