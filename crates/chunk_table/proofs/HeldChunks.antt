@@ -23,7 +23,7 @@ use Rattle.store_rows.specs.Values.{tally_bytes}
 use Rattle.store_rows.specs.declared.value.Tally.{Tally}
 use Rattle.row_table.specs.Reading.{ReadErr, StandsAs}
 use Rattle.row_table.proofs.Reading.{put_after, not_put_after, not_read_after, read_after}
-use Rattle.chunk_table.specs.Holding.{Stands, HasTally, HasHeld, HoldErr}
+use Rattle.chunk_table.specs.Holding.{Stands, HasTally, HasHeld, WasHeld, HoldErr}
 
 one_row : (k v key value : List ℕ) → k ≡ key → v ≡ value → ◌≡◌ {A = List Row} ((k, v) ∷ []) ((key, value) ∷ [])
 one_row k v key value a b = λ i. (a i, b i) ∷ []
@@ -96,6 +96,9 @@ module _ {D : Type 0} {g : Ghosts D} (plan number count : ℕ) where
           writes = let most = whole.writes in omega arith;
           taken = let most = whole.taken in omega arith;
         }
+
+    pub not_held_then : (u : Txn) (d : Pages D g) → HasPut (holding_rows plan number count) t u c d → WasHeld false plan number t a d
+    not_held_then u d put honest m holds = lacks (then_read.quiet.honest (put.passed.quiet.honest honest)) m holds
 
     pub too_many : (count ≡ 2 ^ 64 - 1) → HoldErr plan number t a c DeviceFault
     too_many is = inr (λ honest m limit holds can fits.

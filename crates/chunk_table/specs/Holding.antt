@@ -31,10 +31,14 @@ module _ {D : Type 0} {g : Ghosts D} where
     pub writes : txn_writes u ≤ txn_writes t + 22
     pub taken : txn_free t ≤ txn_free u + 12
 
-  -- rows were put, or none, since the plan held it already
+  -- whether the plan held it before
+  abbrev pub WasHeld : Bool → ℕ → ℕ → Txn → Pages D g → Pages D g → Type 0
+  WasHeld was plan number t old new = (disk_in new).is_honest → (m : KeyMap) → InTxn t (stored old) m → Stands was plan number m
+
+  -- rows were put, since it didn't, or none, since it did
   abbrev pub IsHolding : Bool → ℕ → ℕ → Txn → Txn → Pages D g → Pages D g → Type 0
-  IsHolding true plan number t u old new = HasHeld plan number t u old new
-  IsHolding false plan number t u old new = HasHeld plan number t u old new × (u ≡ t)
+  IsHolding true plan number t u old new = HasHeld plan number t u old new × WasHeld false plan number t old new
+  IsHolding false plan number t u old new = HasHeld plan number t u old new × WasHeld true plan number t old new × (u ≡ t)
 
   -- why it doesn't: the device failed, or the transaction reads no map in which the plan can hold chunks; too few pages were free; the
   -- tree was too deep

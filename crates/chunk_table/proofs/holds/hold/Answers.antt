@@ -1,8 +1,8 @@
-use Rattle.std.proofs.Common.{Bool, subst}
+use Rattle.std.proofs.Common.{Bool, true, false, subst, refl}
 use Rattle.page_store.proofs.Stops.{quiet_more}
 use Rattle.row_table.proofs.Outcomes.{match_of}
-use Rattle.chunk_table.specs.Holding.{Stands, IsHolding, HoldErr}
-use Rattle.chunk_table.proofs.HeldChunks.{held_then, too_many, holding_not_put, not_looked, not_told}
+use Rattle.chunk_table.specs.Holding.{Stands, WasHeld, IsHolding, HoldErr}
+use Rattle.chunk_table.proofs.HeldChunks.{held_already, held_then, not_held_then, too_many, holding_not_put, not_looked, not_told}
 use Rattle.chunk_table.proofs.holds.hold.Goals as goal
 
 pub returns-in_err-is_held-clause-hold : goal.returns-in_err-is_held-clause-hold
@@ -13,6 +13,13 @@ returns-in_err-is_held-clause-hold g c =
     let e = c.in_err-is_held.field-0.0 in
     match_of c.from_residual.result (λ put. IsHolding put c.args.plan c.args.number t t a b) e (HoldErr c.args.plan c.args.number t a b) c.from_residual.ensures.1
     (not_looked c.args.plan c.args.number 0 t a b e c.in_err-is_held.ensures.err)
+
+pub returns-then-branch-clause-hold : goal.returns-then-branch-clause-hold
+returns-then-branch-clause-hold g c =
+    let plan = c.args.plan in
+    let number = c.args.number in
+    let stands : WasHeld true plan number c.args.txn.now c.args.pages.now c.is_held.new.pages = λ honest m holds. subst (λ (b : Bool). Stands b plan number m) c.if-branch.true (c.in_ok-is_held.ensures.held honest m holds) in
+    (held_already plan number 0 c.args.txn.now c.args.pages.now c.is_held.new.pages c.in_ok-is_held.ensures.passed stands, stands, refl)
 
 pub returns-in_err-count-clause-quiet : goal.returns-in_err-count-clause-quiet
 returns-in_err-count-clause-quiet g c = quiet_more c.args.pages.now c.is_held.new.pages c.tally_of.new.pages c.in_ok-is_held.ensures.quiet c.in_err-count.ensures.quiet
@@ -60,6 +67,9 @@ pub returns-clause-hold : goal.returns-clause-hold
 returns-clause-hold g c =
     let plan = c.args.plan in
     let number = c.args.number in
-    held_then plan number c.in_ok-count.count c.args.txn.now c.args.pages.now c.is_held.new.pages c.tally_of.new.pages c.in_ok-is_held.ensures.passed c.in_ok-count.ensures.passed
-    (λ honest m holds. subst (λ (b : Bool). Stands b plan number m) c.if-branch.false (c.in_ok-is_held.ensures.held honest m holds))
-    c.in_ok-count.ensures.told c.in_ok-count.ensures.fits c.put_holding.new.txn c.put_holding.new.pages c.in_ok-put_holding.ensures.put
+    let lacks : WasHeld false plan number c.args.txn.now c.args.pages.now c.is_held.new.pages = λ honest m holds. subst (λ (b : Bool). Stands b plan number m) c.if-branch.false (c.in_ok-is_held.ensures.held honest m holds) in (
+      held_then plan number c.in_ok-count.count c.args.txn.now c.args.pages.now c.is_held.new.pages c.tally_of.new.pages c.in_ok-is_held.ensures.passed c.in_ok-count.ensures.passed lacks
+          c.in_ok-count.ensures.told c.in_ok-count.ensures.fits c.put_holding.new.txn c.put_holding.new.pages c.in_ok-put_holding.ensures.put,
+      not_held_then plan number c.in_ok-count.count c.args.txn.now c.args.pages.now c.is_held.new.pages c.tally_of.new.pages c.in_ok-is_held.ensures.passed c.in_ok-count.ensures.passed lacks
+          c.in_ok-count.ensures.told c.in_ok-count.ensures.fits c.put_holding.new.txn c.put_holding.new.pages c.in_ok-put_holding.ensures.put,
+    )
