@@ -190,7 +190,7 @@ is_greater Equal h = cc
 is_greater Greater h = refl
 
 -- a key from the prefix on, below one that begins with it, begins with it
-between_under : (prefix x bound : List ℕ) → is_gt (key_cmp prefix x) ≡ false → is_gt (key_cmp bound x) ≡ true → starts_with nat_eq bound prefix ≡ true → starts_with nat_eq x prefix ≡ true
+pub between_under : (prefix x bound : List ℕ) → is_gt (key_cmp prefix x) ≡ false → is_gt (key_cmp bound x) ≡ true → starts_with nat_eq bound prefix ≡ true → starts_with nat_eq x prefix ≡ true
 between_under prefix x bound from above on = elim (either (starts_with nat_eq x prefix)) [
   | inl there ↦ there
   | inr off ↦ absurd (clash (starts_with nat_eq bound prefix) on (none_above prefix x bound from off (flip_greater bound x (is_greater (key_cmp bound x) above))))

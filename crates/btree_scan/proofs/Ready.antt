@@ -17,12 +17,13 @@ use Rattle.page_btree.specs.declared.seeks.Leaf.{Leaf}
 use Rattle.page_btree.specs.declared.error.TreeError.{TreeError}
 use Rattle.page_btree.specs.declared.error.TreeError.TheVariants.{DeviceFault, Halted, NoPages, TooDeep, Memory}
 use Rattle.btree_scan.specs.Prefixes.{under, AllFrom, AllUnder}
-use Rattle.btree_scan.proofs.Prefixes.{under_from, none_under, rises_from_key, all_from_key, head_rises, all_between, front_from, below_bound}
+use Rattle.btree_scan.proofs.Prefixes.{under_from, under_is_from, none_under, rises_from_key, all_from_key, head_rises, all_between, front_from, below_bound}
 use Rattle.btree_scan.specs.Parts.{page_of}
 use Rattle.btree_scan.specs.Turning.{IsTurned}
-use Rattle.btree_scan.specs.Scanning.{IsReady, IsWithin, IsStep, IsTakenRow, ScanErr}
+use Rattle.btree_scan.specs.Scanning.{IsReady, Rest, RestWhere, IsWithin, IsStep, IsTakenRow, ScanErr}
 use Rattle.btree_scan.specs.declared.held.HeldLeaves.{HeldLeaves}
 use Rattle.btree_scan.specs.declared.rows.Row.{Row}
+use Rattle.btree_scan.specs.declared.scans.Scan.{Scan}
 
 true_is : (b : Bool) → T b → b ≡ true
 true_is true h = refl
@@ -43,7 +44,7 @@ no_others zero pages rows none are = are
 no_others (suc m) pages rows none are = absurd (omega arith)
 
 -- a scan's beginning
-pub ready_new : (prefix : List ℕ) (m : KeyMap) (leaf : Leaf) (held : HeldLeaves) → leaf.at ≡ 0 → leaf.left ≡ 0 → leaf.more ≡ 0 → bound_in leaf ≡ Some prefix → IsReady false prefix leaf held (entries m) (under prefix (entries m))
+ready_new : (prefix : List ℕ) (m : KeyMap) (leaf : Leaf) (held : HeldLeaves) → leaf.at ≡ 0 → leaf.left ≡ 0 → leaf.more ≡ 0 → bound_in leaf ≡ Some prefix → IsReady false prefix leaf held (entries m) (under prefix (entries m))
 ready_new prefix m leaf held at left more bound = record {
   here = [];
   others = [];
@@ -57,6 +58,50 @@ ready_new prefix m leaf held at left more bound = record {
   from = all_from_key prefix (entries m);
   covers = λ covered. not_covered covered;
 }
+
+-- the beginning of one that goes over all rows from a key on
+all_under : (key : List ℕ) → starts_with nat_eq key [] ≡ true
+all_under [] = refl
+all_under (x ∷ xs) = refl
+
+under_nothing : (es : List Entry) → under [] es ≡ es
+under_nothing [] = refl
+under_nothing (e ∷ es) = ap (λ (b : Bool). cond b (e ∷ under [] es) (under [] es)) (all_under e.0) ∙ ap (λ (l : List Entry). e ∷ l) (under_nothing es)
+
+all_from_nothing : (es : List Entry) → AllFrom [] es
+all_from_nothing [] = tt
+all_from_nothing (e ∷ es) = (under_is_from [] e.0 (all_under e.0), all_from_nothing es)
+
+ready_from : (key : List ℕ) (m : KeyMap) (leaf : Leaf) (held : HeldLeaves) → leaf.at ≡ 0 → leaf.left ≡ 0 → leaf.more ≡ 0 → bound_in leaf ≡ Some key → IsReady false [] leaf held (entries m) (entries_from key (entries m))
+ready_from key m leaf held at left more bound = record {
+  here = [];
+  others = [];
+  behind = entries_from key (entries m);
+  ahead = record { body = refl; entries = All-nil IsEntry; within = omega arith };
+  left_is = left;
+  others_are = subst (λ (n : ℕ). AreLeaves n (drop (held.which + 1) held.pages) []) (sym more) refl;
+  next = subst (λ (b : Option (List ℕ)). IsNext b (entries m) (entries_from key (entries m))) (sym bound) refl;
+  rest_are = sym (under_nothing (entries_from key (entries m)));
+  rises = rises_from_key key (entries m) (true_is _ (entries_sorted m));
+  from = all_from_nothing (entries_from key (entries m));
+  covers = λ covered. not_covered covered;
+}
+
+-- a scan that stands before them
+module _ (scan : Scan) (prefix : List ℕ) (prefix_is : scan.prefix ≡ prefix) (uncovered : scan.covered ≡ false) (going : scan.ended ≡ false) (m : KeyMap) (rest : List Entry) where
+  stands : IsReady false prefix scan.leaf scan.held (entries m) rest → Rest scan (entries m) rest
+  stands ready =
+      subst (λ (b : Bool). RestWhere b scan.covered scan.prefix scan.leaf scan.held (entries m) rest) (sym going)
+      (subst (λ (b : Bool). IsReady b scan.prefix scan.leaf scan.held (entries m) rest) (sym uncovered)
+      (subst (λ (p : List ℕ). IsReady false p scan.leaf scan.held (entries m) rest) (sym prefix_is) ready))
+
+pub rest_new : (scan : Scan) (prefix : List ℕ) → scan.prefix ≡ prefix → scan.covered ≡ false → scan.ended ≡ false → scan.leaf.at ≡ 0 → scan.leaf.left ≡ 0 → scan.leaf.more ≡ 0 → bound_in scan.leaf ≡ Some prefix
+    → (m : KeyMap) → Rest scan (entries m) (under prefix (entries m))
+rest_new scan prefix prefix_is uncovered going at left more bound m = stands scan prefix prefix_is uncovered going m (under prefix (entries m)) (ready_new prefix m scan.leaf scan.held at left more bound)
+
+pub rest_from : (scan : Scan) (key : List ℕ) → scan.prefix ≡ [] → scan.covered ≡ false → scan.ended ≡ false → scan.leaf.at ≡ 0 → scan.leaf.left ≡ 0 → scan.leaf.more ≡ 0 → bound_in scan.leaf ≡ Some key
+    → (m : KeyMap) → Rest scan (entries m) (entries_from key (entries m))
+rest_from scan key prefix_is uncovered going at left more bound m = stands scan [] prefix_is uncovered going m (entries_from key (entries m)) (ready_from key m scan.leaf scan.held at left more bound)
 
 -- no row is left
 none_left : (covered : Bool) (prefix : List ℕ) (leaf : Leaf) (held : HeldLeaves) (all rest : List Entry) (is : IsReady covered prefix leaf held all rest) → leaf.left ≡ 0 → leaf.more ≡ 0 → is.behind ≡ [] → rest ≡ []

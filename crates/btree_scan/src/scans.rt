@@ -3,8 +3,10 @@ ghost use Rattle.std.specs.Prelude.{◌≡◌, ◌<◌, ◌≤◌, ◌+◌, ℕ,
 ghost use Rattle.std.specs.FinMap.{entries};
 ghost use Rattle.page_store.specs.Transactions.{count_of, txn_pages, IsQuiet, Passed};
 ghost use Rattle.page_node.specs.Entries.{Entry};
+ghost use Rattle.page_node.specs.Places.{entries_from};
 ghost use Rattle.page_btree.specs.Keys.{KeyMap};
 ghost use Rattle.page_btree.specs.Errors.{GetErr};
+ghost use Rattle.page_btree.specs.Seeking.{bound_in};
 ghost use Rattle.btree_scan.specs.Prefixes.{under};
 ghost use Rattle.btree_scan.specs.Parts.{row_in, row_of};
 ghost use Rattle.btree_scan.specs.Scanning.{Rest, IsWithin, has_ended, fault_in, is_open, FitsIn, stood_at, CanScan, CanStep, ScanErr, TakesNextRow, TakesRowAt, Steps, Refills, ReadsOn};
@@ -34,10 +36,17 @@ pub struct Scan {
 }
 
 impl Scan {
-    /// A scan before the first row.
-    pub fn new(prefix: &[u8]) -> Self
-        requires { length prefix.now ≤ 1024 }
-        ensures rows { (m : KeyMap) → Rest result (entries m) (under prefix.now (entries m)) }
+    /// A scan of the rows under a prefix, before the first one whose key isn't below another key.
+    fn before(prefix: &[u8], key: &[u8]) -> Self
+        requires prefix { length prefix.now ≤ 1024 }
+        requires key { length key.now ≤ 1024 }
+        ensures prefix { result.prefix ≡ prefix.now }
+        ensures at { result.leaf.at ≡ 0 }
+        ensures left { result.leaf.left ≡ 0 }
+        ensures more { result.leaf.more ≡ 0 }
+        ensures bound { bound_in result.leaf ≡ Some key.now }
+        ensures uncovered { result.covered ≡ false }
+        ensures going { has_ended result ≡ false }
         ensures fault { fault_in result ≡ None }
     {
         let mut scan = Scan {
@@ -55,9 +64,27 @@ impl Scan {
             fault: None,
         };
         scan.prefix.set(prefix);
-        scan.leaf.bound.set(prefix);
+        scan.leaf.bound.set(key);
         scan.leaf.bounded = true;
         scan
+    }
+
+    /// A scan before the first row.
+    pub fn new(prefix: &[u8]) -> Self
+        requires { length prefix.now ≤ 1024 }
+        ensures rows { (m : KeyMap) → Rest result (entries m) (under prefix.now (entries m)) }
+        ensures fault { fault_in result ≡ None }
+    {
+        Scan::before(prefix, prefix)
+    }
+
+    /// A scan of all rows, before the first one whose key isn't below this one.
+    pub fn from_key(key: &[u8]) -> Self
+        requires { length key.now ≤ 1024 }
+        ensures rows { (m : KeyMap) → Rest result (entries m) (entries_from key.now (entries m)) }
+        ensures fault { fault_in result ≡ None }
+    {
+        Scan::before(&[], key)
     }
 
     /// Stands at the next row, or tells that none comes: none is left, or there was a fault, which is kept. It takes no memory.

@@ -150,7 +150,8 @@ pub record IsShown (m : KeyMap) (d : Desk) : Type 0 where
   pub plans : ArePlansShown m d.plans
   pub apart : ArePlansApart m
 
--- No number in use is one that comes next, the sealed load is none that was begun, and what the rows of plans and the seal say is shown.
+-- No number in use is one that comes next, no row stands where a desk has none, the sealed load is none that was begun, and what the
+-- rows of plans and the seal say is shown.
 pub record IsReadFrom (m : KeyMap) (d : Desk) : Type 0 where
   pub numbers : HasSoundNumbers m
   pub shown : IsShown m d

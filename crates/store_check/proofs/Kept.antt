@@ -13,7 +13,7 @@ use Rattle.page_store.specs.declared.txn.Txn.{Txn}
 use Rattle.page_btree.specs.Map.{InTxn}
 use Rattle.page_btree.specs.declared.error.TreeError.{TreeError}
 use Rattle.page_btree.specs.declared.error.TreeError.TheVariants.{DeviceFault, Halted, NoPages, TooDeep, Memory}
-use Rattle.row_table.specs.Reading.{ReadErr}
+use Rattle.row_table.specs.Reading.{ReadErr, StandsAs}
 use Rattle.desk_model.specs.Geography.{Ground}
 use Rattle.desk_model.specs.Desk.{Desk, Plan}
 use Rattle.store_rows.specs.Keys.{RowKey, key_of, Fits, counters, retired, begun, holding, tally, named, part, seal, version, block, pair, chunk}
@@ -30,6 +30,7 @@ use Rattle.store_rows.specs.Tidy.{IsNext, CountersFit, IsNumbered, IsNamedBy, Is
 use Rattle.store_rows.proofs.OneGeography.{value_is, no_value}
 use Rattle.store_rows.proofs.TidyFree.{one_next}
 use Rattle.store_check.specs.Numbers.{IsBelow, AllBelow, NumbersFit, IsKept, IsDue, HasNumbersBelow}
+use Rattle.store_check.specs.Rows.{AreBehindSeal, AreRowsToSeal}
 
 fit_numbers : (of : RowKey) → Fits of → NumbersFit of
 fit_numbers counters fits = tt
@@ -90,13 +91,13 @@ module _ (m : KeyMap) (tidy : Tidy m) where
   kept_below desk is (chunk number piece) value fits has = tt
 
 -- a row that isn't is no row of such a map
-pub no_due : (next : Counters) (m : KeyMap) (key value : List ℕ) → IsDue next m → get m key ≡ Some value → ((of : RowKey) → NumbersFit of → key ≡ key_of of → IsBelow next of value → ⊥) → ⊥
+pub no_due : (next : Counters) (m : KeyMap) (key value : List ℕ) → IsDue next m → get m key ≡ Some value → ((of : RowKey) → Fits of → NumbersFit of → key ≡ key_of of → IsBelow next of value → ⊥) → ⊥
 no_due next m key value due there above =
     let tidy = due.kept.tidy in
     let (of, fits, is) = tidy.rows key value there in
     let same = one_next m tidy.next next tidy.fits due.fits tidy.is_next due.is_next in
     let has : Has m of value = ap (get m) (sym is) ∙ there in
-    above of (fit_numbers of fits) is (subst (λ (n : Counters). IsBelow n of value) same (kept_below m tidy due.kept.desk due.kept.is of value fits has))
+    above of fits (fit_numbers of fits) is (subst (λ (n : Counters). IsBelow n of value) same (kept_below m tidy due.kept.desk due.kept.is of value fits has))
 
 -- ---- what is below
 module _ (next : Counters) (m : KeyMap) (fits : CountersFit next) (all : AllBelow next m) where
@@ -121,8 +122,8 @@ module _ (next : Counters) (m : KeyMap) (fits : CountersFit next) (all : AllBelo
       let same = chunks_differ numbers is.numbers chunks is.chunks bytes in
       All-contains (λ n. n < next.chunk) is.numbers number (subst (λ (l : List ℕ). All (λ n. n < next.chunk) l) same each) is.among
 
-  pub are_below : IsNext m next → HasNumbersBelow m
-  are_below is = record {
+  pub are_below : IsNext m next → AreRowsToSeal m → AreBehindSeal next.chunk m → HasNumbersBelow m
+  are_below is rows behind = record {
     next = next;
     is_next = is;
     fits = fits;
@@ -133,6 +134,8 @@ module _ (next : Counters) (m : KeyMap) (fits : CountersFit next) (all : AllBelo
       begun_loads = λ load value small has. all (begun load) value small has;
       sealed_load = sealed_below;
     };
+    rows = rows;
+    behind = behind;
   }
 
 -- counters that are read fit
@@ -158,3 +161,19 @@ kept_unread next t a b c fits told read quiet Halted why = sym read.halted ∙ w
 kept_unread next t a b c fits told read quiet NoPages why = why
 kept_unread next t a b c fits told read quiet TooDeep why = why
 kept_unread next t a b c fits told read quiet Memory why = why
+
+-- what isn't read after calls that passed, where the rows say what it needs
+pub then_unread : {D : Type 0} {g : Ghosts D} (has says : KeyMap → Type 0) (t : Txn) (a b c : Pages D g) → Passed a b → IsQuiet b c → ((disk_in b).is_honest → (m : KeyMap) → InTxn t (stored a) m → says m → has m) → (e : TreeError) → ReadErr has t b c e → ReadErr says t a c e
+then_unread has says t a b c read quiet gives DeviceFault why = elim why [
+  | inl failed ↦ inl (failed_more a b c read quiet failed)
+  | inr none ↦ inr (λ honest m holds said. let then = quiet.honest honest in none honest m (subst (λ (P : Image). InTxn t P m) (sym (read.quiet.same then)) holds) (gives then m holds said))
+]
+then_unread has says t a b c read quiet gives Halted why = sym read.halted ∙ why
+then_unread has says t a b c read quiet gives NoPages why = why
+then_unread has says t a b c read quiet gives TooDeep why = why
+then_unread has says t a b c read quiet gives Memory why = why
+
+-- the seal is a row or none
+pub seal_of : (m : KeyMap) (g : Option Ground) → IsGeography m g → (value : Option SealRow) × StandsAs seal_bytes (key_of seal) m value
+seal_of m None lacks = (None, sym lacks)
+seal_of m (Some g) is = (Some _, sym is.1.named)

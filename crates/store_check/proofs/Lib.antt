@@ -1,2 +1,5 @@
 mod Scanned
-mod Kept
+pub mod Kept
+mod FirstRows
+mod KeyBytes
+mod Behind

@@ -1,5 +1,6 @@
 -- The rows that a scan takes from the first on are rows of the map.
-use Rattle.std.proofs.Common.{◌≡◌, ◌≤◌, ◌<◌, ℕ, List, [], ◌∷◌, ◌++◌, Bool, true, false, cond, ◌&&◌, nat_eq, Some, None, drop, refl, sym, ap, subst, ◌∙◌, arith}
+use Rattle.std.proofs.lemmas.Bool.{cases_lt}
+use Rattle.std.proofs.Common.{◌≡◌, inl, inr, ◌≤◌, ◌<◌, ℕ, List, [], ◌∷◌, ◌++◌, Bool, true, false, cond, ◌&&◌, nat_eq, Some, None, drop, refl, sym, ap, subst, ◌∙◌, arith}
 use Rattle.std.specs.Prelude.{Option, T}
 use Rattle.std.specs.List.{starts_with}
 use Rattle.std.specs.Ordering.{is_lt, eq_by_cmp, nat_cmp, ordering_then}
@@ -18,17 +19,18 @@ use Rattle.store_rows.specs.Keys.{RowKey, key_of, counters, retired, begun, hold
 use Rattle.store_rows.specs.declared.value.Counters.{Counters}
 use Rattle.store_rows.specs.Rows.{KeyMap, Has}
 use Rattle.store_rows.proofs.Frames.{differs, is_equal, itself, same_key}
-use Rattle.store_check.specs.Numbers.{IsBelow, AllBelow, IsPast, NumbersFit}
+use Rattle.store_check.specs.Numbers.{IsBelow, AllBelow, AreSoundRows, NumbersFit}
+use Rattle.store_check.specs.Rows.{IsPast, IsRow}
 
-first_so : (b c : Bool) → (b && c) ≡ true → b ≡ true
+pub first_so : (b c : Bool) → (b && c) ≡ true → b ≡ true
 first_so true c h = refl
 first_so false c h = h
 
-second_so : (b c : Bool) → (b && c) ≡ true → c ≡ true
+pub second_so : (b c : Bool) → (b && c) ≡ true → c ≡ true
 second_so true c h = h
 second_so false c h = cc
 
-either_way : (b : Bool) (P : Type 0) → (b ≡ true → P) → (b ≡ false → P) → P
+pub either_way : (b : Bool) (P : Type 0) → (b ≡ true → P) → (b ≡ false → P) → P
 either_way true P yes_so no_so = yes_so refl
 either_way false P yes_so no_so = no_so refl
 
@@ -58,8 +60,11 @@ found_middle (f ∷ taken) e more rises =
     let apart = differs e.0 f.0 (unlike f.0 e.0 (below_middle f.0 taken e more h.0)) in
     ap (λ (b : Bool). cond b (Some f.1) (find key_cmp e.0 (taken ++ e ∷ more))) apart ∙ found_middle taken e more h.1
 
+pub all_rises : (m : KeyMap) → Rises (entries m)
+all_rises m = true_is (is_sorted key_cmp (entries m)) (entries_sorted m)
+
 all_rise : (m : KeyMap) → Rises (under [] (entries m))
-all_rise m = under_rises [] (entries m) (true_is (is_sorted key_cmp (entries m)) (entries_sorted m))
+all_rise m = under_rises [] (entries m) (all_rises m)
 
 get_is : (m : KeyMap) (key : List ℕ) → get m key ≡ find key_cmp key (under [] (entries m))
 get_is m key = get-entries m key ∙ sym (find_under [] key (entries m) (all_under key))
@@ -95,7 +100,7 @@ below_found next of value (e ∷ es) all fits there = either_way (eq_by_cmp key_
     subst (λ (v : List ℕ). IsBelow next of v) equal (all.0 of fits (sym is)))
     (λ other. below_found next of value es all.1 fits (sym (ap (λ (b : Bool). cond b (Some e.1) (find key_cmp (key_of of) es)) other) ∙ there))
 
-pub all_below : (next : Counters) (m : KeyMap) (taken : List Entry) → under [] (entries m) ≡ taken → AreEntriesBelow next taken → AllBelow next m
+all_below : (next : Counters) (m : KeyMap) (taken : List Entry) → under [] (entries m) ≡ taken → AreEntriesBelow next taken → AllBelow next m
 all_below next m taken whole all of value fits has = below_found next of value taken all fits (sym (get_is m (key_of of) ∙ ap (λ (es : List Entry). find key_cmp (key_of of) es) whole) ∙ has)
 
 -- ---- rows that come before one that is past
@@ -123,3 +128,38 @@ module _ (next : Counters) (m : KeyMap) (taken : List Entry) (e : Entry) (more :
   past_below (block load place) value fits has = tt
   past_below (pair load place) value fits has = tt
   past_below (chunk number piece) value fits has = tt
+
+-- ---- rows whose keys are those of rows
+abbrev pub AreRowEntries : List Entry → Type 0
+AreRowEntries [] = Unit {0}
+AreRowEntries (e ∷ es) = IsRow e.0 × AreRowEntries es
+
+pub rows_more : (es : List Entry) (e : Entry) → IsRow e.0 → AreRowEntries es → AreRowEntries (es ++ e ∷ [])
+rows_more [] e is all = (is, tt)
+rows_more (f ∷ es) e is all = (all.0, rows_more es e is all.1)
+
+row_found : (key value : List ℕ) (es : List Entry) → AreRowEntries es → find key_cmp key es ≡ Some value → IsRow key
+row_found key value [] all there = let clash : ◌≡◌ {A = Option (List ℕ)} None (Some value) = there in absurd (cc)
+row_found key value (e ∷ es) all there = either_way (eq_by_cmp key_cmp key e.0) (IsRow key)
+    (λ same. subst IsRow (sym (same_key key e.0 (is_equal (key_cmp key e.0) same))) all.0)
+    (λ other. row_found key value es all.1 (sym (ap (λ (b : Bool). cond b (Some e.1) (find key_cmp key es)) other) ∙ there))
+
+pub all_sound : (next : Counters) (m : KeyMap) (taken : List Entry) → under [] (entries m) ≡ taken → AreEntriesBelow next taken → AreRowEntries taken → AreSoundRows next m
+all_sound next m taken whole below rows = record {
+  below = all_below next m taken whole below;
+  rows = λ key value there before. row_found key value taken rows (sym (get_is m key ∙ ap (λ (es : List Entry). find key_cmp key es) whole) ∙ there);
+}
+
+before_key : (key other : List ℕ) → IsPast other → (IsPast key → ⊥) → key_cmp key other ≡ Less
+before_key [] other past before = subst (λ (k : List ℕ). key_cmp [] k ≡ Less) (sym past.is) refl
+before_key (tag ∷ rest) other past before = elim (cases_lt 83 tag) [
+  | inl above ↦ absurd (before (record { tag = tag; rest = rest; is = refl; past = above }))
+  | inr few ↦ before_past other tag rest few past
+]
+
+pub past_sound : (next : Counters) (m : KeyMap) (taken : List Entry) (e : Entry) (more : List Entry) → under [] (entries m) ≡ taken ++ e ∷ more → AreEntriesBelow next taken → AreRowEntries taken → IsPast e.0 → AreSoundRows next m
+past_sound next m taken e more whole below rows past = record {
+  below = past_below next m taken e more whole below past;
+  rows = λ key value there before. row_found key value taken rows
+      (sym (found_before key taken e more (subst Rises whole (all_rise m)) (before_key key e.0 past before)) ∙ sym (get_is m key ∙ ap (λ (es : List Entry). find key_cmp key es) whole) ∙ there);
+}

@@ -1,5 +1,5 @@
 -- Numbers in use, and those that come next.
-use Rattle.std.specs.Prelude.{◌≡◌, ◌<◌, ◌^◌, ℕ, List, ◌∷◌, All}
+use Rattle.std.specs.Prelude.{◌≡◌, ◌<◌, ◌^◌, ℕ, List, All}
 use Rattle.desk_model.specs.Desk.{Desk}
 use Rattle.store_rows.specs.Keys.{RowKey, counters, retired, begun, holding, tally, named, part, seal, version, block, pair, chunk}
 use Rattle.store_rows.specs.Values.{plan_bytes, seal_bytes}
@@ -10,6 +10,7 @@ use Rattle.store_rows.specs.declared.value.SealRow.{SealRow}
 use Rattle.store_rows.specs.Rows.{KeyMap, Has}
 use Rattle.store_rows.specs.DeskRows.{IsDesk}
 use Rattle.store_rows.specs.Tidy.{IsNext, CountersFit, AreBelow, Tidy}
+use Rattle.store_check.specs.Rows.{AreBehindSeal, AreRowsToSeal}
 
 -- the numbers of a plan, of chunks and of a load that a row has are below those that come next
 abbrev pub IsBelow : Counters → RowKey → List ℕ → Type 0
@@ -44,12 +45,10 @@ NumbersFit (chunk number piece) = Unit {0}
 abbrev pub AllBelow : Counters → KeyMap → Type 0
 AllBelow next m = (of : RowKey) (value : List ℕ) → NumbersFit of → Has m of value → IsBelow next of value
 
--- a key behind those of all rows that have such numbers
-pub record IsPast (key : List ℕ) : Type 0 where
-  pub tag : ℕ
-  pub rest : List ℕ
-  pub is : key ≡ tag ∷ rest
-  pub past : 83 < tag
+-- of the rows up to the seal each key is one of a row, and the numbers in them are below those that come next
+pub record AreSoundRows (next : Counters) (m : KeyMap) : Type 0 where
+  pub below : AllBelow next m
+  pub rows : AreRowsToSeal m
 
 -- the rows are those of a desk, as commands keep them
 pub record IsKept (m : KeyMap) : Type 0 where
@@ -63,9 +62,12 @@ pub record IsDue (next : Counters) (m : KeyMap) : Type 0 where
   pub is_next : IsNext m next
   pub fits : CountersFit next
 
--- the numbers that are in use are below those that come next
+-- The numbers that are in use are below those that come next. Up to the seal each key is one of a row, and behind it stand rows of
+-- loads that are known, and of chunks with such numbers, alone.
 pub record HasNumbersBelow (m : KeyMap) : Type 0 where
   pub next : Counters
   pub is_next : IsNext m next
   pub fits : CountersFit next
   pub below : AreBelow m next
+  pub rows : AreRowsToSeal m
+  pub behind : AreBehindSeal next.chunk m

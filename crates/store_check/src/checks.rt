@@ -6,13 +6,15 @@ ghost use Rattle.row_table.specs.Reading.{ReadErr};
 ghost use Rattle.store_rows.specs.Rows.{KeyMap};
 ghost use Rattle.store_check.specs.Numbers.{HasNumbersBelow, IsKept};
 
+use crate::counts::check_behind;
 use crate::scans::check_rows;
 use page_store::{Pages, Txn};
 use row_table::{TreeError, next_numbers};
 use sector_device::SectorDevice;
 
-/// Checks that the numbers of plans, chunks and loads that are in use are below those that come next. It takes no memory. An error is
-/// `DeviceFault`, which comes where one isn't, or where the device failed, or `Halted`.
+/// Checks that the numbers of plans, chunks and loads that are in use are below those that come next, and that no row stands where a
+/// desk has none. It takes no memory. An error is `DeviceFault`, which comes where that isn't so, or where the device failed, or
+/// `Halted`.
 pub fn check_numbers<D: SectorDevice>(txn: &Txn, pages: &mut Pages<D>) -> Result<(), TreeError>
     requires begun { txn_pages txn.now ≡ count_of pages.old }
     ensures quiet { IsQuiet pages.old pages.new }
@@ -21,5 +23,6 @@ pub fn check_numbers<D: SectorDevice>(txn: &Txn, pages: &mut Pages<D>) -> Result
     ensures err { IfErr result (λ e. ReadErr IsKept txn.now pages.old pages.new e) }
 {
     let next = next_numbers(txn, pages)?;
-    check_rows(txn, pages, next)
+    check_rows(txn, pages, next)?;
+    check_behind(txn, pages, next)
 }

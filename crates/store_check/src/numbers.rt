@@ -2,14 +2,23 @@
 ghost use Rattle.std.specs.Prelude.{◌≡◌, ◌<◌, ◌^◌, ℕ, List, ◌∷◌, ◌++◌, All, true, false, length};
 ghost use Rattle.store_rows.specs.declared.value.PlanRow.{PlanRow as PlanValue};
 ghost use Rattle.store_rows.specs.declared.value.SealRow.{SealRow as SealValue};
-ghost use Rattle.store_rows.specs.Keys.{in_eight};
+ghost use Rattle.store_rows.specs.Keys.{in_four, in_eight};
 ghost use Rattle.store_rows.specs.Values.{plan_bytes, seal_bytes};
 ghost use Rattle.store_rows.specs.Lists.{AreChunks, chunks_bytes};
 
 use store_rows::{read_chunks, read_plan, read_seal};
 
+/// The number of 4 bytes, the highest first.
+pub(crate) fn four(bytes: &[u8]) -> u32
+    requires { length bytes.now ≡ 4 }
+    ensures bytes { in_four result ≡ bytes.now }
+    ensures fits { result < 2 ^ 32 }
+{
+    u32::from_be_bytes([bytes[0], bytes[1], bytes[2], bytes[3]])
+}
+
 /// The number of 8 bytes, the highest first.
-fn eight(bytes: &[u8]) -> u64
+pub(crate) fn eight(bytes: &[u8]) -> u64
     requires { length bytes.now ≡ 8 }
     ensures bytes { in_eight result ≡ bytes.now }
     ensures fits { result < 2 ^ 64 }

@@ -4,17 +4,17 @@ ghost use Rattle.page_store.specs.Transactions.{stored, disk_in, count_of, txn_p
 ghost use Rattle.page_btree.specs.Map.{InTxn};
 ghost use Rattle.row_table.specs.Reading.{ReadErr};
 ghost use Rattle.store_rows.specs.Rows.{KeyMap};
-ghost use Rattle.store_check.specs.Numbers.{AllBelow, IsDue};
+ghost use Rattle.store_check.specs.Numbers.{AreSoundRows, IsDue};
 
-use crate::rows::{is_below, is_past};
+use crate::rows::{is_past, is_sound};
 use btree_scan::{Row, Scan, row_limit};
 use page_store::{Pages, Txn};
 use row_table::TreeError;
 use sector_device::SectorDevice;
 use store_rows::Counters;
 
-/// Goes over the rows up to those of geographies and of chunks' pieces. An error is `DeviceFault`, where a row has a number that comes
-/// next or later or the device failed, or `Halted`.
+/// Goes over the rows up to those of geographies and of chunks' pieces. An error is `DeviceFault`, where a key is that of no row, a row
+/// has a number that comes next or later or the device failed, or `Halted`.
 pub(crate) fn check_rows<D: SectorDevice>(
     txn: &Txn,
     pages: &mut Pages<D>,
@@ -23,7 +23,7 @@ pub(crate) fn check_rows<D: SectorDevice>(
     requires begun { txn_pages txn.now ≡ count_of pages.old }
     ensures quiet { IsQuiet pages.old pages.new }
     ensures passed { OnOk result (Passed pages.old pages.new) }
-    ensures below { (disk_in pages.new).is_honest → (m : KeyMap) → InTxn txn.now (stored pages.old) m → OnOk result (AllBelow next m) }
+    ensures sound { (disk_in pages.new).is_honest → (m : KeyMap) → InTxn txn.now (stored pages.old) m → OnOk result (AreSoundRows next m) }
     ensures err { IfErr result (λ e. ReadErr (IsDue next) txn.now pages.old pages.new e) }
 {
     let mut scan = Scan::new(&[]);
@@ -38,7 +38,7 @@ pub(crate) fn check_rows<D: SectorDevice>(
         if is_past(&row) {
             return Ok(());
         }
-        if !is_below(&row, next) {
+        if !is_sound(&row, next) {
             return Err(TreeError::DeviceFault);
         }
     }

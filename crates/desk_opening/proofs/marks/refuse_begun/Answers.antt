@@ -11,7 +11,8 @@ use Rattle.row_table.proofs.Outcomes.{err_of}
 use Rattle.row_table.specs.Reading.{ReadErr, StandsAs}
 use Rattle.row_table.proofs.Reading.{less_unread}
 use Rattle.desk_opening.specs.Opening.{IsSealEnded, IsSealKept}
-use Rattle.desk_opening.proofs.Seals.{none_ended, some_ended, some_lacks, then_unread}
+use Rattle.store_check.proofs.Kept.{then_unread}
+use Rattle.desk_opening.proofs.Seals.{none_ended, some_ended, some_lacks}
 use Rattle.desk_opening.proofs.WholeDesks.{ok_then, err_then}
 use Rattle.desk_opening.proofs.marks.refuse_begun.Goals as goal
 

@@ -11,7 +11,7 @@ use Rattle.btree_scan.proofs.Taken.{taken_none, taken_more, taken_all, taken_few
 use Rattle.btree_scan.proofs.Refused.{scan_refused}
 use Rattle.row_table.proofs.Reading.{get_unread}
 use Rattle.store_check.specs.Numbers.{IsDue}
-use Rattle.store_check.proofs.Scanned.{row_there, below_more, all_below, past_below}
+use Rattle.store_check.proofs.Scanned.{row_there, below_more, rows_more, all_sound, past_sound}
 use Rattle.store_check.proofs.Kept.{no_due}
 use Rattle.store_check.proofs.scans.check_rows.Goals as goal
 
@@ -20,7 +20,7 @@ loop-taken-init g c = record {
   begun = c.requires.begun;
   passed = passed_none c.args.pages.now;
   fault = c.new-scan.ensures.fault;
-  taken = λ honest m holds. ([], refl, taken_none [] c.new-scan.result (entries m) (c.new-scan.ensures.rows m), tt);
+  taken = λ honest m holds. ([], refl, taken_none [] c.new-scan.result (entries m) (c.new-scan.ensures.rows m), tt, tt);
 }
 
 pub returns-in-None-clause-quiet : goal.returns-in-None-clause-quiet
@@ -29,15 +29,15 @@ returns-in-None-clause-quiet g c = quiet_more c.args.pages.now c.loop-taken.page
 pub returns-in-None-clause-passed : goal.returns-in-None-clause-passed
 returns-in-None-clause-passed g c = passed_more c.args.pages.now c.loop-taken.pages c.next.new.pages c.loop-taken.invariant.passed (c.next.ensures.passed (sym c.fault.ensures ∙ c.in-None.is))
 
-pub returns-in-None-clause-below : goal.returns-in-None-clause-below
-returns-in-None-clause-below g c = λ honest m holds.
+pub returns-in-None-clause-sound : goal.returns-in-None-clause-sound
+returns-in-None-clause-sound g c = λ honest m holds.
     let none : fault_in c.next.new.self ≡ None = sym c.fault.ensures ∙ c.in-None.is in
     let before = c.loop-taken.invariant in
     let then = c.next.ensures.quiet.honest honest in
     let t = before.taken then m holds in
     let there = subst (λ (P : Image). InTxn c.args.txn.now P m) (sym (before.passed.quiet.same then)) holds in
     let next = subst (λ b. IsNextRow b c.next.new.self c.next.new.row (entries m) t.2.rest) c.if-not-next.true (c.next.ensures.rows honest m t.2.rest there t.2.rest_are) in
-    all_below c.args.next m t.0 (taken_all [] t.0 c.loop-taken.scan c.next.new.self c.next.new.row (entries m) t.2 next none) t.3
+    all_sound c.args.next m t.0 (taken_all [] t.0 c.loop-taken.scan c.next.new.self c.next.new.row (entries m) t.2 next none) t.3 t.4
 
 pub returns-in-Some-clause-quiet : goal.returns-in-Some-clause-quiet
 returns-in-Some-clause-quiet g c = quiet_more c.args.pages.now c.loop-taken.pages c.next.new.pages c.loop-taken.invariant.passed.quiet c.next.ensures.quiet
@@ -61,28 +61,28 @@ returns-then-is_past-clause-passed g c =
     let going = c.next.ensures.going c.if-not-next.false in
     passed_more c.args.pages.now c.loop-taken.pages c.next.new.pages c.loop-taken.invariant.passed (c.next.ensures.passed (going.1 ∙ c.loop-taken.invariant.fault))
 
-pub returns-then-is_past-clause-below : goal.returns-then-is_past-clause-below
-returns-then-is_past-clause-below g c = λ honest m holds.
+pub returns-then-is_past-clause-sound : goal.returns-then-is_past-clause-sound
+returns-then-is_past-clause-sound g c = λ honest m holds.
     let before = c.loop-taken.invariant in
     let then = c.next.ensures.quiet.honest honest in
     let t = before.taken then m holds in
     let there = subst (λ (P : Image). InTxn c.args.txn.now P m) (sym (before.passed.quiet.same then)) holds in
     let next = subst (λ b. IsNextRow b c.next.new.self c.next.new.row (entries m) t.2.rest) c.if-not-next.false (c.next.ensures.rows honest m t.2.rest there t.2.rest_are) in
     let e : Entry = (c.next.new.row.key, c.next.new.row.value) in
-    past_below c.args.next m t.0 e next.0 (t.2.whole ∙ ap (λ (l : List Entry). t.0 ++ l) next.1) t.3 (c.if-is_past.ensures refl)
+    past_sound c.args.next m t.0 e next.0 (t.2.whole ∙ ap (λ (l : List Entry). t.0 ++ l) next.1) t.3 t.4 (c.if-is_past.ensures.past refl)
 
-pub returns-then-not-is_below-clause-quiet : goal.returns-then-not-is_below-clause-quiet
-returns-then-not-is_below-clause-quiet g c = quiet_more c.args.pages.now c.loop-taken.pages c.next.new.pages c.loop-taken.invariant.passed.quiet c.next.ensures.quiet
+pub returns-then-not-is_sound-clause-quiet : goal.returns-then-not-is_sound-clause-quiet
+returns-then-not-is_sound-clause-quiet g c = quiet_more c.args.pages.now c.loop-taken.pages c.next.new.pages c.loop-taken.invariant.passed.quiet c.next.ensures.quiet
 
-pub returns-then-not-is_below-clause-err : goal.returns-then-not-is_below-clause-err
-returns-then-not-is_below-clause-err g c = inr (λ honest m holds due.
+pub returns-then-not-is_sound-clause-err : goal.returns-then-not-is_sound-clause-err
+returns-then-not-is_sound-clause-err g c = inr (λ honest m holds due.
     let before = c.loop-taken.invariant in
     let then = c.next.ensures.quiet.honest honest in
     let t = before.taken then m holds in
     let there = subst (λ (P : Image). InTxn c.args.txn.now P m) (sym (before.passed.quiet.same then)) holds in
     let next = subst (λ b. IsNextRow b c.next.new.self c.next.new.row (entries m) t.2.rest) c.if-not-next.false (c.next.ensures.rows honest m t.2.rest there t.2.rest_are) in
     let e : Entry = (c.next.new.row.key, c.next.new.row.value) in
-    no_due c.args.next m e.0 e.1 due (row_there m t.0 e next.0 (t.2.whole ∙ ap (λ (l : List Entry). t.0 ++ l) next.1)) (c.if-not-is_below.ensures.above refl))
+    no_due c.args.next m e.0 e.1 due (row_there m t.0 e next.0 (t.2.whole ∙ ap (λ (l : List Entry). t.0 ++ l) next.1)) (c.if-not-is_sound.ensures.none refl (c.if-is_past.ensures.before refl)))
 
 pub loop-taken-preserved : goal.loop-taken-preserved
 loop-taken-preserved g c =
@@ -103,7 +103,8 @@ loop-taken-preserved g c =
             rows.0 ++ e ∷ [],
             length-append rows.0 (e ∷ []) ∙ ap (λ k. k + 1) rows.1,
             taken_more [] rows.0 c.loop-taken.scan c.next.new.self c.next.new.row (entries m) rows.2 next,
-            below_more c.args.next rows.0 e (c.if-not-is_below.ensures.below refl) rows.3,
+            below_more c.args.next rows.0 e (c.if-not-is_sound.ensures.below refl) rows.3,
+            rows_more rows.0 e (c.if-not-is_sound.ensures.row refl) rows.4,
           );
     }
 

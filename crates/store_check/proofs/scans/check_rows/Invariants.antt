@@ -7,7 +7,7 @@ use Rattle.page_btree.specs.Map.{InTxn}
 use Rattle.btree_scan.specs.Scanning.{fault_in}
 use Rattle.btree_scan.specs.Taken.{HasTaken}
 use Rattle.store_rows.specs.Rows.{KeyMap}
-use Rattle.store_check.proofs.Scanned.{AreEntriesBelow}
+use Rattle.store_check.proofs.Scanned.{AreEntriesBelow, AreRowEntries}
 use Rattle.store_check.proofs.scans.check_rows.Given as goal
 
 abbrev pub invariant-loop-taken : goal.invariant-loop-taken
@@ -16,5 +16,5 @@ invariant-loop-taken g l = record {
   passed : Passed l.fn.pages l.pages;
   fault : fault_in l.scan ≡ None;
   taken : (disk_in l.pages).is_honest → (m : KeyMap) → InTxn l.txn (stored l.fn.pages) m →
-      (rows : List Entry) × (length rows ≡ l.taken) × HasTaken [] rows l.scan (entries m) × AreEntriesBelow l.next rows;
+      (rows : List Entry) × (length rows ≡ l.taken) × HasTaken [] rows l.scan (entries m) × AreEntriesBelow l.next rows × AreRowEntries rows;
 }

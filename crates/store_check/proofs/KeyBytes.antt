@@ -1,0 +1,33 @@
+-- Keys of rows by their bytes.
+use Rattle.std.proofs.Common.{◌≡◌, ◌<◌, ◌≤◌, ◌^◌, ◌%◌, ℕ, List, [], ◌∷◌, ◌++◌, length, drop, get_or, sym, ap, ◌∙◌, arith}
+use Rattle.store_rows.specs.Keys.{Fits, counters, retired, begun, named, part, seal, in_four, in_eight}
+use Rattle.store_check.specs.Rows.{IsRow}
+
+pub counters_row : (key : List ℕ) → length key ≡ 1 → get_or key 0 0 ≡ 65 → IsRow key
+counters_row [] long is = absurd (omega arith)
+counters_row (x ∷ []) long is = record { row = counters; fits = tt; is = ap (λ (y : ℕ). y ∷ []) is }
+counters_row (x ∷ y ∷ xs) long is = absurd (omega arith)
+
+pub seal_row : (key : List ℕ) → length key ≡ 1 → get_or key 0 0 ≡ 83 → IsRow key
+seal_row [] long is = absurd (omega arith)
+seal_row (x ∷ []) long is = record { row = seal; fits = tt; is = ap (λ (y : ℕ). y ∷ []) is }
+seal_row (x ∷ y ∷ xs) long is = absurd (omega arith)
+
+pub named_row : (key : List ℕ) → length key ≤ 72 → get_or key 0 0 ≡ 80 → IsRow key
+named_row [] few is = absurd (omega (arith, is))
+named_row (x ∷ xs) few is = record { row = named xs; fits = omega arith; is = ap (λ (y : ℕ). y ∷ xs) is }
+
+pub retired_row : (key : List ℕ) (number : ℕ) → get_or key 0 0 ≡ 68 → number < 2 ^ 64 → drop 1 key ≡ in_eight number → IsRow key
+retired_row [] number is fits rest = absurd (omega (arith, is))
+retired_row (x ∷ xs) number is fits rest = record { row = retired number; fits = fits; is = λ i. is i ∷ rest i }
+
+pub begun_row : (key : List ℕ) (number : ℕ) → get_or key 0 0 ≡ 76 → number < 2 ^ 64 → drop 1 key ≡ in_eight number → IsRow key
+begun_row [] number is fits rest = absurd (omega (arith, is))
+begun_row (x ∷ xs) number is fits rest = record { row = begun number; fits = fits; is = λ i. is i ∷ rest i }
+
+pub part_row : (key : List ℕ) (plan revision index : ℕ) → get_or key 0 0 ≡ 82 → Fits (part plan revision index) → drop 1 key ≡ in_eight plan ++ (in_four revision ++ index ∷ []) → IsRow key
+part_row [] plan revision index is fits rest = absurd (omega (arith, is))
+part_row (x ∷ xs) plan revision index is fits rest =
+    let one : index % 256 ≡ index = omega (arith, fits.2) in
+    let same : xs ≡ in_eight plan ++ (in_four revision ++ (index % 256) ∷ []) = rest ∙ ap (λ (n : ℕ). in_eight plan ++ (in_four revision ++ n ∷ [])) (sym one) in
+    record { row = part plan revision index; fits = fits; is = λ i. is i ∷ same i }

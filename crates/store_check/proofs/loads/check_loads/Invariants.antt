@@ -1,0 +1,20 @@
+use Rattle.std.proofs.Common.{◌≡◌, ◌+◌, ◌≤◌, length}
+use Rattle.std.specs.FinMap.{entries}
+use Rattle.page_store.specs.Transactions.{stored, disk_in, count_of, txn_pages, Passed}
+use Rattle.page_node.specs.Places.{entries_from}
+use Rattle.page_btree.specs.Map.{InTxn}
+use Rattle.row_table.specs.Reading.{StandsAs}
+use Rattle.store_rows.specs.Keys.{key_of, seal}
+use Rattle.store_rows.specs.Values.{seal_bytes}
+use Rattle.store_rows.specs.Rows.{KeyMap}
+use Rattle.store_check.specs.Rows.{AreOfLoadsTo, IsPast}
+use Rattle.store_check.proofs.loads.check_loads.Given as goal
+
+abbrev pub invariant-loop-taken : goal.invariant-loop-taken
+invariant-loop-taken g l = record {
+  begun : txn_pages l.txn ≡ count_of l.pages;
+  passed : Passed l.fn.pages l.pages;
+  past : IsPast l.from;
+  loads : (disk_in l.pages).is_honest → (m : KeyMap) → InTxn l.txn (stored l.fn.pages) m → StandsAs seal_bytes (key_of seal) m l.sealed →
+      AreOfLoadsTo l.from m × (length (entries_from l.from (entries m)) + l.taken ≤ length (entries m));
+}

@@ -1,0 +1,28 @@
+use Rattle.std.proofs.Common.{[], inr, refl}
+use Rattle.store_rows.specs.Keys.{begun}
+use Rattle.store_rows.specs.Rows.{Has}
+use Rattle.store_rows.specs.Tidy.{IsLoad}
+use Rattle.row_table.specs.Reading.{ReadErr}
+use Rattle.row_table.proofs.Reading.{less_unread}
+use Rattle.store_check.proofs.Kept.{ok_then, err_then}
+use Rattle.store_check.specs.Rows.{IsKnownLoad}
+use Rattle.store_check.proofs.Behind.{sealed_known, mark_known}
+use Rattle.store_check.proofs.loads.refuse_unknown.Goals as goal
+
+pub returns-then-is_sealed-clause-known : goal.returns-then-is_sealed-clause-known
+returns-then-is_sealed-clause-known g c = λ honest m holds stands.
+    let is = c.if-is_sealed.ensures.sealed refl in
+    sealed_known m c.args.sealed c.args.load stands is.0 is.1
+
+pub returns-clause-known : goal.returns-clause-known
+returns-clause-known g c = λ honest m holds stands.
+    ok_then c.refuse_unbegun.result (Has m (begun c.args.load) []) (IsLoad m c.args.load) (λ mark. inr mark) (c.refuse_unbegun.ensures.known honest m holds)
+
+pub returns-clause-err : goal.returns-clause-err
+returns-clause-err g c =
+    let t = c.args.txn.now in
+    let a = c.args.pages.now in
+    let b = c.refuse_unbegun.new.pages in
+    let load = c.args.load in
+    err_then c.refuse_unbegun.result (λ e. ReadErr (λ m. Has m (begun load) []) t a b e) (λ e. ReadErr (IsKnownLoad c.args.sealed load) t a b e)
+    (less_unread (λ m. Has m (begun load) []) (IsKnownLoad c.args.sealed load) t a b (λ m known. mark_known m c.args.sealed load known.stands (c.if-is_sealed.ensures.other refl) known.fits known.is)) c.refuse_unbegun.ensures.err

@@ -1,0 +1,62 @@
+//! The first row from a key on.
+ghost use Rattle.std.specs.Prelude.{◌≡◌, ◌≤◌, true, length, nat_eq, OnOk, IfOk, IfErr};
+ghost use Rattle.std.specs.List.{starts_with};
+ghost use Rattle.page_store.specs.Transactions.{stored, disk_in, count_of, txn_pages, IsQuiet, Passed};
+ghost use Rattle.page_btree.specs.Map.{InTxn};
+ghost use Rattle.row_table.specs.Reading.{ReadErr};
+ghost use Rattle.store_rows.specs.Rows.{KeyMap};
+ghost use Rattle.store_check.specs.Rows.{IsFirst, NoneFrom};
+
+use btree_scan::{Row, Scan};
+use page_store::{Pages, Txn};
+use row_table::TreeError;
+use sector_device::SectorDevice;
+use store_rows::Key;
+
+/// Copies the first row whose key isn't below this one: whether there is one. It takes no memory. An error is `DeviceFault` or `Halted`.
+pub(crate) fn first_from<D: SectorDevice>(
+    txn: &Txn,
+    pages: &mut Pages<D>,
+    key: &[u8],
+    row: &mut Row,
+) -> Result<bool, TreeError>
+    requires begun { txn_pages txn.now ≡ count_of pages.old }
+    requires short { length key.now ≤ 1024 }
+    ensures quiet { IsQuiet pages.old pages.new }
+    ensures passed { OnOk result (Passed pages.old pages.new) }
+    ensures first { (disk_in pages.new).is_honest → (m : KeyMap) → InTxn txn.now (stored pages.old) m → IfOk result (λ found. IsFirst found key.now row.new m) }
+    ensures err { IfErr result (λ e. ReadErr (λ m. Unit {0}) txn.now pages.old pages.new e) }
+{
+    let mut scan = Scan::from_key(key);
+    let found = scan.next(txn, pages, row);
+    match scan.fault() {
+        Some(fault) => Err(fault),
+        None => Ok(found),
+    }
+}
+
+/// Refuses where a row from a key on has a key that begins with a prefix. It takes no memory. An error is `DeviceFault`, which comes
+/// where there is such a row, or where the device failed, or `Halted`.
+pub fn refuse_from<D: SectorDevice>(
+    txn: &Txn,
+    pages: &mut Pages<D>,
+    key: &Key,
+    prefix: &[u8],
+) -> Result<(), TreeError>
+    requires begun { txn_pages txn.now ≡ count_of pages.old }
+    requires under { starts_with nat_eq key.now prefix.now ≡ true }
+    ensures quiet { IsQuiet pages.old pages.new }
+    ensures passed { OnOk result (Passed pages.old pages.new) }
+    ensures none { (disk_in pages.new).is_honest → (m : KeyMap) → InTxn txn.now (stored pages.old) m → OnOk result (NoneFrom key.now prefix.now m) }
+    ensures err { IfErr result (λ e. ReadErr (NoneFrom key.now prefix.now) txn.now pages.old pages.new e) }
+{
+    let mut row = Row::empty();
+    let found = first_from(txn, pages, key.as_slice(), &mut row)?;
+    if !found {
+        return Ok(());
+    }
+    if row.key.as_slice().starts_with(prefix) {
+        return Err(TreeError::DeviceFault);
+    }
+    Ok(())
+}

@@ -1,0 +1,163 @@
+//! Checks that the rows of geographies are those of loads that are known.
+ghost use Rattle.std.specs.Prelude.{◌≡◌, ◌≤◌, ◌<◌, ◌^◌, true, false, length, [], None, OnOk, IfOk, IfErr, IfSome};
+ghost use Rattle.page_store.specs.Transactions.{stored, disk_in, count_of, txn_pages, IsQuiet, Passed};
+ghost use Rattle.page_btree.specs.Map.{InTxn};
+ghost use Rattle.row_table.specs.Reading.{ReadErr, StandsAs};
+ghost use Rattle.store_rows.specs.Keys.{begun, key_of, seal, chunks_prefix};
+ghost use Rattle.store_rows.specs.Values.{seal_bytes};
+ghost use Rattle.store_rows.specs.Rows.{Has, KeyMap};
+ghost use Rattle.store_rows.specs.Tidy.{AreRows, IsLoad};
+ghost use Rattle.store_check.specs.Rows.{AreOfLoads, AreOfLoadsTo, GoesOn, HasKnownLoads, IsFrom, IsKnownLoad, IsNextLoad, IsPast, behind_load};
+
+use crate::firsts::first_from;
+use crate::keys::load_in;
+use btree_scan::{Row, SmallBytes, row_limit};
+use page_store::{Pages, Txn};
+use row_table::{TreeError, read_row};
+use sector_device::SectorDevice;
+use store_rows::{Key, SealRow};
+
+/// A key behind all rows of a load.
+fn key_behind(load: u64) -> [u8; 10]
+    ensures { result ≡ behind_load load }
+{
+    let n = load.to_be_bytes();
+    [b'g', n[0], n[1], n[2], n[3], n[4], n[5], n[6], n[7], b'q']
+}
+
+/// Whether a key is one of chunks, or stands behind these.
+fn is_chunk(key: &[u8]) -> bool
+    ensures chunk { result ≡ true → IsFrom chunks_prefix key.now }
+    ensures other { result ≡ false → IsFrom chunks_prefix key.now → ⊥ }
+{
+    !key.is_empty() && key[0] >= b'k'
+}
+
+/// The load of the first row from a key on, which stands behind the seal's; None where only rows of chunks do, or none.
+fn load_from<D: SectorDevice>(
+    txn: &Txn,
+    pages: &mut Pages<D>,
+    key: &[u8],
+) -> Result<Option<u64>, TreeError>
+    requires begun { txn_pages txn.now ≡ count_of pages.old }
+    requires short { length key.now ≤ 1024 }
+    requires past { IsPast key.now }
+    ensures quiet { IsQuiet pages.old pages.new }
+    ensures passed { OnOk result (Passed pages.old pages.new) }
+    ensures load { (disk_in pages.new).is_honest → (m : KeyMap) → InTxn txn.now (stored pages.old) m → IfOk result (IsNextLoad key.now m) }
+    ensures err { IfErr result (λ e. ReadErr AreRows txn.now pages.old pages.new e) }
+{
+    let mut row = Row::empty();
+    let found = first_from(txn, pages, key, &mut row)?;
+    if !found {
+        return Ok(None);
+    }
+    if is_chunk(row.key.as_slice()) {
+        return Ok(None);
+    }
+    match load_in(row.key.as_slice()) {
+        None => Err(TreeError::DeviceFault),
+        Some(load) => Ok(Some(load)),
+    }
+}
+
+/// Refuses where a load wasn't begun.
+fn refuse_unbegun<D: SectorDevice>(
+    txn: &Txn,
+    pages: &mut Pages<D>,
+    load: u64,
+) -> Result<(), TreeError>
+    requires begun { txn_pages txn.now ≡ count_of pages.old }
+    ensures quiet { IsQuiet pages.old pages.new }
+    ensures passed { OnOk result (Passed pages.old pages.new) }
+    ensures known { (disk_in pages.new).is_honest → (m : KeyMap) → InTxn txn.now (stored pages.old) m → OnOk result (Has m (begun load) []) }
+    ensures err { IfErr result (λ e. ReadErr (λ m. Has m (begun load) []) txn.now pages.old pages.new e) }
+{
+    let mut bytes = [0; 1024];
+    let length = read_row(txn, pages, &Key::begun(load), &mut bytes)?;
+    if length > 0 {
+        return Err(TreeError::DeviceFault);
+    }
+    Ok(())
+}
+
+/// Whether a load is the sealed one, whose row this is, if there is one.
+fn is_sealed(sealed: Option<SealRow>, load: u64) -> bool
+    ensures sealed { result ≡ true → IfSome sealed (λ row. row.load ≡ load) × (sealed ≡ None → ⊥) }
+    ensures other { result ≡ false → IfSome sealed (λ row. (row.load < 2 ^ 64) × (row.load ≡ load → ⊥)) }
+{
+    match sealed {
+        None => false,
+        Some(row) => row.load == load,
+    }
+}
+
+/// Refuses where a load is neither the sealed one, whose row was read, nor one that was begun.
+fn refuse_unknown<D: SectorDevice>(
+    txn: &Txn,
+    pages: &mut Pages<D>,
+    sealed: Option<SealRow>,
+    load: u64,
+) -> Result<(), TreeError>
+    requires begun { txn_pages txn.now ≡ count_of pages.old }
+    ensures quiet { IsQuiet pages.old pages.new }
+    ensures passed { OnOk result (Passed pages.old pages.new) }
+    ensures known { (disk_in pages.new).is_honest → (m : KeyMap) → InTxn txn.now (stored pages.old) m → StandsAs seal_bytes (key_of seal) m sealed → OnOk result (IsLoad m load) }
+    ensures err { IfErr result (λ e. ReadErr (IsKnownLoad sealed load) txn.now pages.old pages.new e) }
+{
+    if is_sealed(sealed, load) {
+        return Ok(());
+    }
+    refuse_unbegun(txn, pages, load)
+}
+
+/// Goes on from a key to one behind the rows of the load that has the next one: whether there is one. Refuses where that load is none
+/// that is known.
+fn pass_load<D: SectorDevice>(
+    txn: &Txn,
+    pages: &mut Pages<D>,
+    sealed: Option<SealRow>,
+    from: &mut SmallBytes,
+) -> Result<bool, TreeError>
+    requires begun { txn_pages txn.now ≡ count_of pages.old }
+    requires past { IsPast from.old }
+    ensures quiet { IsQuiet pages.old pages.new }
+    ensures passed { OnOk result (Passed pages.old pages.new) }
+    ensures past { OnOk result (IsPast from.new) }
+    ensures loads { (disk_in pages.new).is_honest → (m : KeyMap) → InTxn txn.now (stored pages.old) m → StandsAs seal_bytes (key_of seal) m sealed → AreOfLoadsTo from.old m → IfOk result (λ more. GoesOn more from.old from.new m) }
+    ensures err { IfErr result (λ e. ReadErr (HasKnownLoads sealed) txn.now pages.old pages.new e) }
+{
+    let found = load_from(txn, pages, from.as_slice())?;
+    match found {
+        None => Ok(false),
+        Some(load) => {
+            refuse_unknown(txn, pages, sealed, load)?;
+            from.set(&key_behind(load));
+            Ok(true)
+        }
+    }
+}
+
+/// Refuses where a row stands behind the seal's and before those of chunks that is none of a load that is sealed, or was begun.
+/// `sealed` is the seal's row, if there is one.
+pub(crate) fn check_loads<D: SectorDevice>(
+    txn: &Txn,
+    pages: &mut Pages<D>,
+    sealed: Option<SealRow>,
+) -> Result<(), TreeError>
+    requires begun { txn_pages txn.now ≡ count_of pages.old }
+    ensures quiet { IsQuiet pages.old pages.new }
+    ensures passed { OnOk result (Passed pages.old pages.new) }
+    ensures loads { (disk_in pages.new).is_honest → (m : KeyMap) → InTxn txn.now (stored pages.old) m → StandsAs seal_bytes (key_of seal) m sealed → OnOk result (AreOfLoads m) }
+    ensures err { IfErr result (λ e. ReadErr (HasKnownLoads sealed) txn.now pages.old pages.new e) }
+{
+    let mut from = SmallBytes::empty();
+    from.set(b"T");
+    for taken in 0..row_limit(txn) {
+        let more = pass_load(txn, pages, sealed, &mut from)?;
+        if !more {
+            return Ok(());
+        }
+    }
+    Err(TreeError::DeviceFault)
+}
