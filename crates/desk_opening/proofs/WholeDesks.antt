@@ -75,7 +75,7 @@ unopened t a b Memory why = why
 pub unkept : {D : Type 0} {g : Ghosts D} (t : Txn) (a b : Pages D g) (e : TreeError) → ReadErr IsKept t a b e → OpenErr t a b e
 unkept t a b DeviceFault why = elim why [
   | inl failed ↦ inl failed
-  | inr none ↦ inr (λ honest d held. none honest held.m held.holds (record { desk = d; is = held.is.desk; tidy = held.is.tidy }))
+  | inr none ↦ inr (λ honest d held. none honest held.m held.holds (record { desk = d; is = held.is.desk; tidy = held.is.tidy; old = held.is.old }))
 ]
 unkept t a b Halted why = why
 unkept t a b NoPages why = why

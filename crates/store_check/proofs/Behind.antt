@@ -19,18 +19,18 @@ use Rattle.page_node.proofs.Laws.{flip_less}
 use Rattle.btree_scan.proofs.Prefixes.{between_under, under_is_from}
 use Rattle.desk_model.specs.Geography.{Ground}
 use Rattle.desk_model.specs.Desk.{Desk}
-use Rattle.store_rows.specs.Keys.{RowKey, key_of, Fits, counters, retired, begun, named, part, seal, block, pair, chunk, in_two, in_four, in_eight, load_prefix, blocks_prefix, pairs_prefix, chunks_prefix, chunk_prefix}
+use Rattle.store_rows.specs.Keys.{RowKey, key_of, Fits, counters, retired, begun, holding, tally, named, part, seal, version, block, pair, chunk, in_two, in_four, in_eight, load_prefix, blocks_prefix, pairs_prefix, chunks_prefix, chunk_prefix}
 use Rattle.store_rows.specs.Values.{seal_bytes, block_bytes}
 use Rattle.store_rows.specs.declared.value.Counters.{Counters}
 use Rattle.store_rows.specs.declared.value.SealRow.{SealRow}
-use Rattle.store_rows.specs.Rows.{KeyMap, Has, element_row}
+use Rattle.store_rows.specs.Rows.{KeyMap, Has, Lacks, element_row}
 use Rattle.store_rows.specs.GeographyRows.{IsGeography, IsSealed, geography_rows, neighbours_bytes}
 use Rattle.store_rows.specs.DeskRows.{IsDesk}
 use Rattle.store_rows.specs.Tidy.{AreOwned, AreRows, IsLoad, Tidy}
 use Rattle.store_rows.proofs.Numbers.{numbers_decide}
 use Rattle.store_rows.proofs.OneGeography.{no_value, seal_load, value_is}
 use Rattle.row_table.specs.Reading.{StandsAs}
-use Rattle.store_check.specs.Rows.{AreOfLoadsTo, AreSealCounted, GoesOn, HasChunksBelow, IsFrom, IsNextLoad, IsOfLoad, IsPast, IsSealCounted, IsUnder, NoneFrom, behind_load}
+use Rattle.store_check.specs.Rows.{AreOfLoadsTo, AreSealCounted, AreUnversioned, GoesOn, HasChunksBelow, IsFrom, IsNextLoad, IsOfLoad, IsPast, IsSealCounted, IsUnder, NoneFrom, behind_load}
 use Rattle.store_rows.proofs.TidyFree.{one_next}
 use Rattle.store_check.specs.Numbers.{IsDue}
 use Rattle.store_check.proofs.FirstRows.{above_more, clash, first_is_from, first_least, first_there, from_trans, less_from, lower_tag}
@@ -93,9 +93,12 @@ module _ (m : KeyMap) (tidy : Tidy m) where
   chunk_below counters value fits has from = lower_tag 65 107 (in_eight tidy.next.chunk) (drop 1 (key_of counters)) (omega arith) from
   chunk_below (retired plan) value fits has from = lower_tag 68 107 (in_eight tidy.next.chunk) (drop 1 (key_of (retired plan))) (omega arith) from
   chunk_below (begun load) value fits has from = lower_tag 76 107 (in_eight tidy.next.chunk) (drop 1 (key_of (begun load))) (omega arith) from
+  chunk_below (holding plan number) value fits has from = lower_tag 72 107 (in_eight tidy.next.chunk) (drop 1 (key_of (holding plan number))) (omega arith) from
+  chunk_below (tally number) value fits has from = lower_tag 75 107 (in_eight tidy.next.chunk) (drop 1 (key_of (tally number))) (omega arith) from
   chunk_below (named name) value fits has from = lower_tag 80 107 (in_eight tidy.next.chunk) (drop 1 (key_of (named name))) (omega arith) from
   chunk_below (part plan revision index) value fits has from = lower_tag 82 107 (in_eight tidy.next.chunk) (drop 1 (key_of (part plan revision index))) (omega arith) from
   chunk_below seal value fits has from = lower_tag 83 107 (in_eight tidy.next.chunk) (drop 1 (key_of seal)) (omega arith) from
+  chunk_below version value fits has from = lower_tag 86 107 (in_eight tidy.next.chunk) (drop 1 (key_of version)) (omega arith) from
   chunk_below (block load place) value fits has from = lower_tag 103 107 (in_eight tidy.next.chunk) (drop 1 (key_of (block load place))) (omega arith) from
   chunk_below (pair load place) value fits has from = lower_tag 103 107 (in_eight tidy.next.chunk) (drop 1 (key_of (pair load place))) (omega arith) from
   chunk_below (chunk number piece) value fits has from =
@@ -129,9 +132,12 @@ module _ (m : KeyMap) (s : SealRow) (load_fits : s.load < 2 ^ 64) where
     block_counted counters value fits has from on = cc
     block_counted (retired plan) value fits has from on = cc
     block_counted (begun load) value fits has from on = cc
+    block_counted (holding plan number) value fits has from on = cc
+    block_counted (tally number) value fits has from on = cc
     block_counted (named name) value fits has from on = cc
     block_counted (part plan revision index) value fits has from on = cc
     block_counted seal value fits has from on = cc
+    block_counted version value fits has from on = cc
     block_counted (chunk number piece) value fits has from on = cc
     block_counted (pair load place) value fits has from on =
         let same = starts_same (blocks_prefix s.load) (pairs_prefix load) (in_four place) refl on in
@@ -149,9 +155,12 @@ module _ (m : KeyMap) (s : SealRow) (load_fits : s.load < 2 ^ 64) where
     pair_counted counters value fits has from on = cc
     pair_counted (retired plan) value fits has from on = cc
     pair_counted (begun load) value fits has from on = cc
+    pair_counted (holding plan number) value fits has from on = cc
+    pair_counted (tally number) value fits has from on = cc
     pair_counted (named name) value fits has from on = cc
     pair_counted (part plan revision index) value fits has from on = cc
     pair_counted seal value fits has from on = cc
+    pair_counted version value fits has from on = cc
     pair_counted (chunk number piece) value fits has from on = cc
     pair_counted (block load place) value fits has from on =
         let same = starts_same (pairs_prefix s.load) (blocks_prefix load) (in_four place) refl on in
@@ -202,9 +211,12 @@ module _ (m : KeyMap) (owned : AreOwned m) (load kind : ℕ) (rest : List ℕ) (
   load_of counters value fits has same = absurd (let e : 103 ≡ 65 = ap (λ (l : List ℕ). get_or l 0 0) same in omega (arith, e))
   load_of (retired plan) value fits has same = absurd (let e : 103 ≡ 68 = ap (λ (l : List ℕ). get_or l 0 0) same in omega (arith, e))
   load_of (begun other) value fits has same = absurd (let e : 103 ≡ 76 = ap (λ (l : List ℕ). get_or l 0 0) same in omega (arith, e))
+  load_of (holding plan number) value fits has same = absurd (let e : 103 ≡ 72 = ap (λ (l : List ℕ). get_or l 0 0) same in omega (arith, e))
+  load_of (tally number) value fits has same = absurd (let e : 103 ≡ 75 = ap (λ (l : List ℕ). get_or l 0 0) same in omega (arith, e))
   load_of (named name) value fits has same = absurd (let e : 103 ≡ 80 = ap (λ (l : List ℕ). get_or l 0 0) same in omega (arith, e))
   load_of (part plan revision index) value fits has same = absurd (let e : 103 ≡ 82 = ap (λ (l : List ℕ). get_or l 0 0) same in omega (arith, e))
   load_of seal value fits has same = absurd (let e : 103 ≡ 83 = ap (λ (l : List ℕ). get_or l 0 0) same in omega (arith, e))
+  load_of version value fits has same = absurd (let e : 103 ≡ 86 = ap (λ (l : List ℕ). get_or l 0 0) same in omega (arith, e))
   load_of (chunk number piece) value fits has same = absurd (let e : 103 ≡ 107 = ap (λ (l : List ℕ). get_or l 0 0) same in omega (arith, e))
   load_of (block other place) value fits has same = subst (IsLoad m) (number_is other _ fits.0 (from_be_bytes-to_be_bytes_8 other fits.0) same) (owned.blocks other place value fits has)
   load_of (pair other place) value fits has same = subst (IsLoad m) (number_is other _ fits.0 (from_be_bytes-to_be_bytes_8 other fits.0) same) (owned.pairs other place value fits has)
@@ -282,22 +294,26 @@ low_past tag rest few past =
     let over = past.past in
     omega arith
 
-past_row : (row : RowKey) → IsPast (key_of row) → (IsFrom chunks_prefix (key_of row) → ⊥) → ((load place : ℕ) → (key_of row ≡ key_of (block load place)) ⊎ (key_of row ≡ key_of (pair load place)) → ⊥) → ⊥
-past_row counters past other load = low_past 65 _ (omega arith) past
-past_row (retired plan) past other load = low_past 68 _ (omega arith) past
-past_row (begun number) past other load = low_past 76 _ (omega arith) past
-past_row (named name) past other load = low_past 80 _ (omega arith) past
-past_row (part plan revision index) past other load = low_past 82 _ (omega arith) past
-past_row seal past other load = low_past 83 _ (omega arith) past
-past_row (block number place) past other load = load number place (inl refl)
-past_row (pair number place) past other load = load number place (inr refl)
-past_row (chunk number piece) past other load = other (from_tag 107 107 (drop 1 (key_of (chunk number piece))) (omega arith))
+past_row : (m : KeyMap) (row : RowKey) (value : List ℕ) → Lacks m version → Has m row value → IsPast (key_of row) → (IsFrom chunks_prefix (key_of row) → ⊥) → ((load place : ℕ) → (key_of row ≡ key_of (block load place)) ⊎ (key_of row ≡ key_of (pair load place)) → ⊥) → ⊥
+past_row m counters value lacks has past other load = low_past 65 _ (omega arith) past
+past_row m (retired plan) value lacks has past other load = low_past 68 _ (omega arith) past
+past_row m (begun number) value lacks has past other load = low_past 76 _ (omega arith) past
+past_row m (holding plan number) value lacks has past other load = low_past 72 _ (omega arith) past
+past_row m (tally number) value lacks has past other load = low_past 75 _ (omega arith) past
+past_row m (named name) value lacks has past other load = low_past 80 _ (omega arith) past
+past_row m (part plan revision index) value lacks has past other load = low_past 82 _ (omega arith) past
+past_row m seal value lacks has past other load = low_past 83 _ (omega arith) past
+past_row m version value lacks has past other load = no_value value (sym has ∙ lacks)
+past_row m (block number place) value lacks has past other load = load number place (inl refl)
+past_row m (pair number place) value lacks has past other load = load number place (inr refl)
+past_row m (chunk number piece) value lacks has past other load = other (from_tag 107 107 (drop 1 (key_of (chunk number piece))) (omega arith))
 
-pub no_load : (m : KeyMap) (from : List ℕ) (e : Entry) (more : List Entry) → entries_from from (entries m) ≡ e ∷ more → IsPast from → AreRows m → (IsFrom chunks_prefix e.0 → ⊥) → ((load place : ℕ) → (e.0 ≡ key_of (block load place)) ⊎ (e.0 ≡ key_of (pair load place)) → ⊥) → ⊥
-no_load m from e more first past rows other load =
-    let (row, fits, is) = rows e.0 e.1 (first_there m from e more first) in
+pub no_load : (m : KeyMap) (from : List ℕ) (e : Entry) (more : List Entry) → entries_from from (entries m) ≡ e ∷ more → IsPast from → AreUnversioned m → (IsFrom chunks_prefix e.0 → ⊥) → ((load place : ℕ) → (e.0 ≡ key_of (block load place)) ⊎ (e.0 ≡ key_of (pair load place)) → ⊥) → ⊥
+no_load m from e more first past kept other load =
+    let here = first_there m from e more first in
+    let (row, fits, is) = kept.rows e.0 e.1 here in
     let there : IsPast (key_of row) = subst IsPast is (past_more from e.0 past (first_is_from m from e more first)) in
-    past_row row there (λ at. other (subst (λ (k : List ℕ). IsFrom chunks_prefix k) (sym is) at))
+    past_row m row e.1 kept.none (ap (get m) (sym is) ∙ here) there (λ at. other (subst (λ (k : List ℕ). IsFrom chunks_prefix k) (sym is) at))
     (λ number place of. load number place (subst (λ (k : List ℕ). (k ≡ key_of (block number place)) ⊎ (k ≡ key_of (pair number place))) (sym is) of))
 
 pub behind_past : (load : ℕ) → IsPast (behind_load load)

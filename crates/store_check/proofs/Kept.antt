@@ -1,5 +1,5 @@
 -- Rows as commands keep them have numbers below those that come next, and where all rows have, no number in use comes next.
-use Rattle.std.proofs.Common.{◌≡◌, ◌<◌, ◌^◌, ℕ, List, [], All, Option, Some, None, Ok, Err, Result, OnOk, IfErr, inl, inr, refl, sym, ap, subst, ◌∙◌, w64, arith}
+use Rattle.std.proofs.Common.{◌≡◌, ◌<◌, ◌^◌, ℕ, zero, suc, false, List, [], All, Option, Some, None, Ok, Err, Result, OnOk, IfErr, inl, inr, refl, sym, ap, subst, ◌∙◌, w64, arith}
 use Rattle.std.specs.Int.{from_be_bytes}
 use Rattle.std.specs.FinMap.{get}
 use Rattle.std.proofs.lemmas.Nat.{from_be_bytes-to_be_bytes_8}
@@ -22,11 +22,12 @@ use Rattle.store_rows.specs.Lists.{AreChunks, chunks_bytes}
 use Rattle.store_rows.proofs.ListLaws.{chunks_differ}
 use Rattle.store_rows.specs.declared.value.Counters.{Counters}
 use Rattle.store_rows.specs.declared.value.SealRow.{SealRow}
-use Rattle.store_rows.specs.Rows.{KeyMap, Has}
+use Rattle.store_rows.specs.Rows.{KeyMap, row_in, Has}
+use Rattle.store_rows.specs.Holders.{AreHolders, tally_row}
 use Rattle.store_rows.specs.GeographyRows.{IsGeography}
 use Rattle.store_rows.specs.DeskRows.{IsPlanAt, IsDesk}
 use Rattle.store_rows.specs.Changes.{plan_row_of}
-use Rattle.store_rows.specs.Tidy.{IsNext, CountersFit, IsNumbered, IsNamedBy, IsKnown, Tidy}
+use Rattle.store_rows.specs.Tidy.{IsNext, CountersFit, IsNumbered, IsNamedBy, IsKnown, Tidy, version_row}
 use Rattle.store_rows.proofs.OneGeography.{value_is, no_value}
 use Rattle.store_rows.proofs.TidyFree.{one_next}
 use Rattle.store_check.specs.Numbers.{IsBelow, AllBelow, NumbersFit, IsKept, IsDue, HasNumbersBelow}
@@ -36,8 +37,8 @@ fit_numbers : (of : RowKey) → Fits of → NumbersFit of
 fit_numbers counters fits = tt
 fit_numbers (retired plan) fits = fits
 fit_numbers (begun load) fits = fits
-fit_numbers (holding plan number) fits = tt
-fit_numbers (tally number) fits = tt
+fit_numbers (holding plan number) fits = fits
+fit_numbers (tally number) fits = fits
 fit_numbers (named name) fits = tt
 fit_numbers (part plan revision index) fits = fits.0
 fit_numbers seal fits = tt
@@ -76,19 +77,33 @@ module _ (m : KeyMap) (tidy : Tidy m) where
   seal_below None value is has = absurd (no_value value (sym has ∙ is))
   seal_below (Some g) value (load, is) has = (_, value_is _ value (sym is.named ∙ has), tidy.below.sealed_load _ is.load_fits is.named)
 
-  pub kept_below : (desk : Desk) → IsDesk m desk → (of : RowKey) (value : List ℕ) → Fits of → Has m of value → IsBelow tidy.next of value
-  kept_below desk is counters value fits has = tt
-  kept_below desk is (retired plan) value fits has = tidy.below.retired_plans plan value fits has
-  kept_below desk is (begun load) value fits has = tidy.below.begun_loads load value fits has
-  kept_below desk is (holding plan number) value fits has = tt
-  kept_below desk is (tally number) value fits has = tt
-  kept_below desk is (named name) value fits has = plan_below desk.geography name value (get desk.plans name) (is.plans name) has
-  kept_below desk is (part plan revision index) value fits has = part_below plan revision index value fits has
-  kept_below desk is seal value fits has = seal_below desk.geography value is.geography has
-  kept_below desk is version value fits has = tt
-  kept_below desk is (block load place) value fits has = tt
-  kept_below desk is (pair load place) value fits has = tt
-  kept_below desk is (chunk number piece) value fits has = tt
+  no_tally : tidy.new ≡ false → (number : ℕ) (value : List ℕ) → number < 2 ^ 64 → Has m (tally number) value → ⊥
+  no_tally old number value fits has =
+      let is = tidy.holdings.tallied number fits in
+      by is.count is.row is.holders
+    where
+      by : (count : ℕ) → row_in m (tally number) ≡ tally_row count → AreHolders m number count → ⊥
+      by zero row holders = no_value value (sym has ∙ row)
+      by (suc more) row holders =
+          let (small, held) = holders.each 0 (omega arith) in
+          no_value [] (sym held ∙ (tidy.owners old).unheld (holders.plan_at 0) number (small, fits))
+
+  pub no_version : tidy.new ≡ false → row_in m version ≡ None
+  no_version old = tidy.holdings.told ∙ ap version_row old
+
+  pub kept_below : tidy.new ≡ false → (desk : Desk) → IsDesk m desk → (of : RowKey) (value : List ℕ) → Fits of → Has m of value → IsBelow tidy.next of value
+  kept_below old desk is counters value fits has = tt
+  kept_below old desk is (retired plan) value fits has = tidy.below.retired_plans plan value fits has
+  kept_below old desk is (begun load) value fits has = tidy.below.begun_loads load value fits has
+  kept_below old desk is (holding plan number) value fits has = no_value value (sym has ∙ (tidy.owners old).unheld plan number fits)
+  kept_below old desk is (tally number) value fits has = no_tally old number value fits has
+  kept_below old desk is (named name) value fits has = plan_below desk.geography name value (get desk.plans name) (is.plans name) has
+  kept_below old desk is (part plan revision index) value fits has = part_below plan revision index value fits has
+  kept_below old desk is seal value fits has = seal_below desk.geography value is.geography has
+  kept_below old desk is version value fits has = tt
+  kept_below old desk is (block load place) value fits has = tt
+  kept_below old desk is (pair load place) value fits has = tt
+  kept_below old desk is (chunk number piece) value fits has = tt
 
 -- a row that isn't is no row of such a map
 pub no_due : (next : Counters) (m : KeyMap) (key value : List ℕ) → IsDue next m → get m key ≡ Some value → ((of : RowKey) → Fits of → NumbersFit of → key ≡ key_of of → IsBelow next of value → ⊥) → ⊥
@@ -97,7 +112,7 @@ no_due next m key value due there above =
     let (of, fits, is) = tidy.rows key value there in
     let same = one_next m tidy.next next tidy.fits due.fits tidy.is_next due.is_next in
     let has : Has m of value = ap (get m) (sym is) ∙ there in
-    above of fits (fit_numbers of fits) is (subst (λ (n : Counters). IsBelow n of value) same (kept_below m tidy due.kept.desk due.kept.is of value fits has))
+    above of fits (fit_numbers of fits) is (subst (λ (n : Counters). IsBelow n of value) same (kept_below m tidy due.kept.old due.kept.desk due.kept.is of value fits has))
 
 -- ---- what is below
 module _ (next : Counters) (m : KeyMap) (fits : CountersFit next) (all : AllBelow next m) where

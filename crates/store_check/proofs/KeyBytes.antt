@@ -1,6 +1,6 @@
 -- Keys of rows by their bytes.
 use Rattle.std.proofs.Common.{◌≡◌, ◌<◌, ◌≤◌, ◌^◌, ◌%◌, ℕ, List, [], ◌∷◌, ◌++◌, length, drop, get_or, sym, ap, ◌∙◌, arith}
-use Rattle.store_rows.specs.Keys.{Fits, counters, retired, begun, named, part, seal, in_four, in_eight}
+use Rattle.store_rows.specs.Keys.{Fits, counters, retired, begun, holding, tally, named, part, seal, in_four, in_eight}
 use Rattle.store_check.specs.Rows.{IsRow}
 
 pub counters_row : (key : List ℕ) → length key ≡ 1 → get_or key 0 0 ≡ 65 → IsRow key
@@ -24,6 +24,14 @@ retired_row (x ∷ xs) number is fits rest = record { row = retired number; fits
 pub begun_row : (key : List ℕ) (number : ℕ) → get_or key 0 0 ≡ 76 → number < 2 ^ 64 → drop 1 key ≡ in_eight number → IsRow key
 begun_row [] number is fits rest = absurd (omega (arith, is))
 begun_row (x ∷ xs) number is fits rest = record { row = begun number; fits = fits; is = λ i. is i ∷ rest i }
+
+pub tally_row : (key : List ℕ) (number : ℕ) → get_or key 0 0 ≡ 75 → number < 2 ^ 64 → drop 1 key ≡ in_eight number → IsRow key
+tally_row [] number is fits rest = absurd (omega (arith, is))
+tally_row (x ∷ xs) number is fits rest = record { row = tally number; fits = fits; is = λ i. is i ∷ rest i }
+
+pub holding_row : (key : List ℕ) (plan number : ℕ) → get_or key 0 0 ≡ 72 → Fits (holding plan number) → drop 1 key ≡ in_eight plan ++ in_eight number → IsRow key
+holding_row [] plan number is fits rest = absurd (omega (arith, is))
+holding_row (x ∷ xs) plan number is fits rest = record { row = holding plan number; fits = fits; is = λ i. is i ∷ rest i }
 
 pub part_row : (key : List ℕ) (plan revision index : ℕ) → get_or key 0 0 ≡ 82 → Fits (part plan revision index) → drop 1 key ≡ in_eight plan ++ (in_four revision ++ index ∷ []) → IsRow key
 part_row [] plan revision index is fits rest = absurd (omega (arith, is))

@@ -119,8 +119,8 @@ module _ (next : Counters) (m : KeyMap) (taken : List Entry) (e : Entry) (more :
   past_below counters value fits has = tt
   past_below (retired plan) value fits has = found_so (retired plan) value fits (before_past e.0 68 (drop 1 (key_of (retired plan))) (omega arith) past) has
   past_below (begun load) value fits has = found_so (begun load) value fits (before_past e.0 76 (drop 1 (key_of (begun load))) (omega arith) past) has
-  past_below (holding plan number) value fits has = tt
-  past_below (tally number) value fits has = tt
+  past_below (holding plan number) value fits has = found_so (holding plan number) value fits (before_past e.0 72 (drop 1 (key_of (holding plan number))) (omega arith) past) has
+  past_below (tally number) value fits has = found_so (tally number) value fits (before_past e.0 75 (drop 1 (key_of (tally number))) (omega arith) past) has
   past_below (named name) value fits has = found_so (named name) value fits (before_past e.0 80 (drop 1 (key_of (named name))) (omega arith) past) has
   past_below (part plan revision index) value fits has = found_so (part plan revision index) value fits (before_past e.0 82 (drop 1 (key_of (part plan revision index))) (omega arith) past) has
   past_below seal value fits has = found_so seal value fits (before_past e.0 83 (drop 1 (key_of seal)) (omega arith) past) has

@@ -1,7 +1,7 @@
 -- Numbers in use, and those that come next.
-use Rattle.std.specs.Prelude.{◌≡◌, ◌<◌, ◌^◌, ℕ, List, All}
+use Rattle.std.specs.Prelude.{◌≡◌, ◌<◌, ◌^◌, ℕ, List, All, false}
 use Rattle.desk_model.specs.Desk.{Desk}
-use Rattle.store_rows.specs.Keys.{RowKey, counters, retired, begun, holding, tally, named, part, seal, version, block, pair, chunk}
+use Rattle.store_rows.specs.Keys.{RowKey, Fits, counters, retired, begun, holding, tally, named, part, seal, version, block, pair, chunk}
 use Rattle.store_rows.specs.Values.{plan_bytes, seal_bytes}
 use Rattle.store_rows.specs.Lists.{AreChunks, chunks_bytes}
 use Rattle.store_rows.specs.declared.value.Counters.{Counters}
@@ -12,13 +12,13 @@ use Rattle.store_rows.specs.DeskRows.{IsDesk}
 use Rattle.store_rows.specs.Tidy.{IsNext, CountersFit, AreBelow, Tidy}
 use Rattle.store_check.specs.Rows.{AreBehindSeal, AreRowsToSeal}
 
--- the numbers of a plan, of chunks and of a load that a row has are below those that come next
+-- The numbers of a plan, of chunks and of a load that a row has are below those that come next. No row tells which plans hold a chunk.
 abbrev pub IsBelow : Counters → RowKey → List ℕ → Type 0
 IsBelow next counters value = Unit {0}
 IsBelow next (retired plan) value = plan < next.plan
 IsBelow next (begun load) value = load < next.load
-IsBelow next (holding plan number) value = Unit {0}
-IsBelow next (tally number) value = Unit {0}
+IsBelow next (holding plan number) value = ⊥
+IsBelow next (tally number) value = ⊥
 IsBelow next (named name) value = (p : PlanRow) × (plan_bytes p ≡ value) × (p.number < next.plan)
 IsBelow next (part plan revision index) value = (plan < next.plan) × ((numbers : List ℕ) × AreChunks numbers × (chunks_bytes numbers ≡ value) × All (λ n. n < next.chunk) numbers)
 IsBelow next seal value = (s : SealRow) × (seal_bytes s ≡ value) × (s.load < next.load)
@@ -32,8 +32,8 @@ abbrev pub NumbersFit : RowKey → Type 0
 NumbersFit counters = Unit {0}
 NumbersFit (retired plan) = plan < 2 ^ 64
 NumbersFit (begun load) = load < 2 ^ 64
-NumbersFit (holding plan number) = Unit {0}
-NumbersFit (tally number) = Unit {0}
+NumbersFit (holding plan number) = Fits (holding plan number)
+NumbersFit (tally number) = number < 2 ^ 64
 NumbersFit (named name) = Unit {0}
 NumbersFit (part plan revision index) = plan < 2 ^ 64
 NumbersFit seal = Unit {0}
@@ -55,6 +55,7 @@ pub record IsKept (m : KeyMap) : Type 0 where
   pub desk : Desk
   pub is : IsDesk m desk
   pub tidy : Tidy m
+  pub old : tidy.new ≡ false
 
 -- and these numbers come next
 pub record IsDue (next : Counters) (m : KeyMap) : Type 0 where

@@ -6,10 +6,10 @@ use Rattle.std.specs.FinMap.{entries, get}
 use Rattle.page_node.specs.Entries.{Entry}
 use Rattle.page_node.specs.Places.{key_cmp, entries_from}
 use Rattle.btree_scan.specs.declared.rows.Row.{Row}
-use Rattle.store_rows.specs.Keys.{RowKey, key_of, Fits, seal, block, pair, load_prefix, blocks_prefix, pairs_prefix, chunks_prefix, chunk_prefix}
+use Rattle.store_rows.specs.Keys.{RowKey, key_of, Fits, seal, version, block, pair, load_prefix, blocks_prefix, pairs_prefix, chunks_prefix, chunk_prefix}
 use Rattle.store_rows.specs.Values.{seal_bytes}
 use Rattle.store_rows.specs.declared.value.SealRow.{SealRow}
-use Rattle.store_rows.specs.Rows.{KeyMap, Has}
+use Rattle.store_rows.specs.Rows.{KeyMap, Has, Lacks}
 use Rattle.store_rows.specs.Tidy.{AreOwned, AreRows, IsLoad}
 use Rattle.row_table.specs.Reading.{StandsAs}
 
@@ -29,6 +29,11 @@ pub record IsRow (key : List ℕ) : Type 0 where
 -- each key up to that of the seal is that of a row
 abbrev pub AreRowsToSeal : KeyMap → Type 0
 AreRowsToSeal m = (key value : List ℕ) → get m key ≡ Some value → (IsPast key → ⊥) → IsRow key
+
+-- each key is that of a row, and no row tells a version
+pub record AreUnversioned (m : KeyMap) : Type 0 where
+  pub rows : AreRows m
+  pub none : Lacks m version
 
 -- the row is the first one whose key isn't below this one, or there is none
 abbrev pub IsFirst : Bool → List ℕ → Row → KeyMap → Type 0
@@ -107,7 +112,7 @@ pub record IsKnownLoad (sealed : Option SealRow) (load : ℕ) (m : KeyMap) : Typ
 
 pub record HasKnownLoads (sealed : Option SealRow) (m : KeyMap) : Type 0 where
   pub stands : StandsAs seal_bytes (key_of seal) m sealed
-  pub rows : AreRows m
+  pub rows : AreUnversioned m
   pub owned : AreOwned m
 
 pub record HasCountedSeal (sealed : Option SealRow) (m : KeyMap) : Type 0 where

@@ -1,6 +1,6 @@
 //! Keys of rows.
 ghost use Rattle.std.specs.Prelude.{◌≡◌, ◌⊎◌, ◌<◌, ◌≤◌, ◌^◌, ℕ, [], ◌∷◌, ◌++◌, true, false, length, drop, MatchOption};
-ghost use Rattle.store_rows.specs.Keys.{key_of, Fits, part, block, pair, in_four, in_eight};
+ghost use Rattle.store_rows.specs.Keys.{key_of, Fits, holding, part, block, pair, in_four, in_eight};
 ghost use Rattle.store_check.specs.Rows.{IsPast, IsRow, IsUnder};
 
 use crate::numbers::{eight, four};
@@ -14,6 +14,19 @@ fn is_numbered(key: &[u8]) -> bool
         return false;
     }
     let _number = eight(&key[1..9]);
+    true
+}
+
+/// Whether a key is a tag and the numbers of a plan and of a chunk.
+fn is_holding(key: &[u8]) -> bool
+    ensures numbers { result ≡ true → (plan : ℕ) × (number : ℕ) × Fits (holding plan number) × (drop 1 key.now ≡ in_eight plan ++ in_eight number) }
+    ensures long { result ≡ false → length key.now ≡ 17 → ⊥ }
+{
+    if key.len() != 17 {
+        return false;
+    }
+    let _plan = eight(&key[1..9]);
+    let _number = eight(&key[9..17]);
     true
 }
 
@@ -58,6 +71,8 @@ pub(crate) fn is_row(key: &[u8]) -> bool
     match key[0] {
         b'A' => key.len() == 1,
         b'D' => is_numbered(key),
+        b'H' => is_holding(key),
+        b'K' => is_numbered(key),
         b'L' => is_numbered(key),
         b'P' => key.len() <= 72,
         b'R' => is_part(key),

@@ -6,8 +6,8 @@ ghost use Rattle.row_table.specs.Reading.{ReadErr, StandsAs};
 ghost use Rattle.store_rows.specs.Keys.{begun, key_of, seal, chunks_prefix};
 ghost use Rattle.store_rows.specs.Values.{seal_bytes};
 ghost use Rattle.store_rows.specs.Rows.{Has, KeyMap};
-ghost use Rattle.store_rows.specs.Tidy.{AreRows, IsLoad};
-ghost use Rattle.store_check.specs.Rows.{AreOfLoads, AreOfLoadsTo, GoesOn, HasKnownLoads, IsFrom, IsKnownLoad, IsNextLoad, IsPast, behind_load};
+ghost use Rattle.store_rows.specs.Tidy.{IsLoad};
+ghost use Rattle.store_check.specs.Rows.{AreOfLoads, AreOfLoadsTo, AreUnversioned, GoesOn, HasKnownLoads, IsFrom, IsKnownLoad, IsNextLoad, IsPast, behind_load};
 
 use crate::firsts::first_from;
 use crate::keys::load_in;
@@ -45,7 +45,7 @@ fn load_from<D: SectorDevice>(
     ensures quiet { IsQuiet pages.old pages.new }
     ensures passed { OnOk result (Passed pages.old pages.new) }
     ensures load { (disk_in pages.new).is_honest → (m : KeyMap) → InTxn txn.now (stored pages.old) m → IfOk result (IsNextLoad key.now m) }
-    ensures err { IfErr result (λ e. ReadErr AreRows txn.now pages.old pages.new e) }
+    ensures err { IfErr result (λ e. ReadErr AreUnversioned txn.now pages.old pages.new e) }
 {
     let mut row = Row::empty();
     let found = first_from(txn, pages, key, &mut row)?;

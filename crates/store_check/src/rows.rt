@@ -9,8 +9,8 @@ use crate::numbers::{are_chunks_below, is_key_below, is_plan_below, is_seal_belo
 use btree_scan::Row;
 use store_rows::Counters;
 
-/// Whether each number that a row has is below the one of its kind that comes next. The rows of blocks, of neighbours and of chunks'
-/// pieces are not looked at.
+/// Whether each number that a row has is below the one of its kind that comes next, and it isn't one that tells which plans hold a
+/// chunk, as no store has any. The rows of blocks, of neighbours and of chunks' pieces are not looked at.
 fn is_below(row: &Row, next: Counters) -> bool
     ensures below { result ≡ true → (of : RowKey) → NumbersFit of → row.now.key ≡ key_of of → IsBelow next of row.now.value }
     ensures above { result ≡ false → (of : RowKey) → NumbersFit of → row.now.key ≡ key_of of → IsBelow next of row.now.value → ⊥ }
@@ -22,6 +22,7 @@ fn is_below(row: &Row, next: Counters) -> bool
     }
     match key[0] {
         b'D' => is_key_below(key, next.plan),
+        b'H' | b'K' => false,
         b'L' => is_key_below(key, next.load),
         b'P' => is_plan_below(value, next.plan),
         b'R' => is_key_below(key, next.plan) && are_chunks_below(value, next.chunk),
