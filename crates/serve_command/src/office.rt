@@ -3,7 +3,7 @@ ghost use Rattle.std.specs.Prelude.{◌≡◌, ◌≤◌, IfOk};
 ghost use Rattle.desk_store.specs.Clerks.{desk_of, Keeps};
 ghost use Rattle.desk_gallery.specs.Begun.{BeginsWith, IsLeftBy};
 ghost use Rattle.desk_gallery.specs.Working.{IsRunFrom};
-ghost use Rattle.serve_command.specs.Lasting.{HasTalked, Outlasts};
+ghost use Rattle.serve_command.specs.Lasting.{HasTalked, Outlasts, clerk_in};
 
 use desk_catalogue::catalogue::Catalogue;
 use desk_gallery::book::{Opened, Room};
@@ -21,7 +21,7 @@ use std::sync::{Arc, Wait};
 use std::thread::Threads;
 
 /// Serves what a clerk keeps at the seats of so many workers, until no further stream comes: the clerk as it then is, and what the
-/// streams came to.
+/// streams came to. Where memory for the seats is refused the clerk comes back with that.
 fn serve_named<
     J: Room + Send + Sync,
     D: SectorDevice + Drop + Send + Sync,
@@ -35,7 +35,7 @@ fn serve_named<
     catalogue: Arc<Catalogue>,
     workers: u16,
     arrivals: &A,
-) -> Result<(Clerk<D>, Ran), AllocError>
+) -> Result<(Clerk<D>, Ran), (AllocError, Clerk<D>)>
     requires book { opened.seen.book ≡ J.book }
     requires root { opened.pen.nib.key ≡ J.root }
     requires first { catalogue.value ≡ J.first }
@@ -43,17 +43,17 @@ fn serve_named<
     requires kept { J.sound → Keeps clerk }
     requires begins { BeginsWith J.begins clerk }
     requires workers { 1 ≤ workers }
-    ensures kept { IfOk result (λ end. J.sound → Keeps end.0) }
-    ensures ran { IfOk result (λ end. IsRunFrom J.first (desk_of end.0)) }
+    ensures kept { J.sound → Keeps (clerk_in result) }
+    ensures ran { IsRunFrom J.first (desk_of (clerk_in result)) }
     ensures left { IfOk result (λ end. IsLeftBy J.first J.begins end.0) }
     ensures talked { IfOk result (λ end. HasTalked J.first end.1) }
 {
     let (shower, visitors) = match Gallery::new::<J>(alloc, opened, catalogue, workers as usize) {
         Ok(gallery) => gallery,
-        Err(GalleryFault::Memory) => return Err(AllocError),
+        Err(GalleryFault::Memory) => return Err((AllocError, clerk)),
         Err(GalleryFault::Refused(shower)) => {
             shower.close(rt);
-            return Err(AllocError);
+            return Err((AllocError, clerk));
         }
     };
     let office = Office::new(clerk, shower);
@@ -61,14 +61,14 @@ fn serve_named<
     let last = office.close(rt);
     match ran {
         Ok(ran) => Ok((last, ran)),
-        Err(e) => Err(e),
+        Err(e) => Err((e, last)),
     }
 }
 
 /// Serves what a clerk keeps by so many workers, until no further stream comes: the clerk as it then is, whose desk is what commands
 /// led to that were accepted one after the other, and what the streams came to. At whatever moment a stop comes: since a command was
 /// acknowledged, each image that the stop may leave opens to the desk after that command and all before it. Err where memory is
-/// refused, and then nothing was served.
+/// refused, with the clerk, and then nothing was served.
 pub fn serve_clerk<
     D: SectorDevice + Drop + Send + Sync,
     A: Arrivals + Sync,
@@ -79,15 +79,17 @@ pub fn serve_clerk<
     clerk: Clerk<D>,
     workers: u16,
     arrivals: &A,
-) -> Result<(Clerk<D>, Ran), AllocError>
+) -> Result<(Clerk<D>, Ran), (AllocError, Clerk<D>)>
     requires { 1 ≤ workers }
-    ensures kept { IfOk result (λ end. Keeps clerk → Keeps end.0) }
-    ensures ran { IfOk result (λ end. IsRunFrom (desk_of clerk) (desk_of end.0)) }
+    ensures kept { Keeps clerk → Keeps (clerk_in result) }
+    ensures ran { IsRunFrom (desk_of clerk) (desk_of (clerk_in result)) }
     ensures lasts { IfOk result (λ end. Outlasts clerk end.0) }
     ensures talked { IfOk result (λ end. HasTalked (desk_of clerk) end.1) }
 {
     each_run_survives::<D>();
-    let catalogue = clerk.published()?;
+    let Ok(catalogue) = clerk.published() else {
+        return Err((AllocError, clerk));
+    };
     serve_named::<Brand, _, _, _>(
         rt,
         alloc,
