@@ -1,5 +1,6 @@
 -- What a stop at any moment of a served store leaves, and what its streams came to.
-use Rattle.std.specs.Prelude.{◌≡◌, false, All, List, []}
+use Rattle.std.specs.Prelude.{◌≡◌, false, All, List, [], Result, Ok, Err}
+use Rattle.std.specs.declared.alloc.AllocError.{AllocError}
 use Rattle.sector_device.specs.declared.SectorDevice.{Ghosts}
 use Rattle.desk_model.specs.declared.command.Command.{Command}
 use Rattle.desk_model.specs.Desk.{Desk}
@@ -46,3 +47,8 @@ module _ {D : Type 0} {g : Ghosts D} where
       pub visitors : List (List Command)
       pub fresh : All (λ (v : List Command). v ≡ []) visitors
       pub counted : AreCounted s (desk_of first) (acknowledged lasts.calls) visitors ran
+
+-- the clerk behind a run, and behind one for which memory was refused
+abbrev pub clerk_in : {D : Type 0} {g : Ghosts D} → Result (Clerk D g × Ran) (AllocError × Clerk D g) → Clerk D g
+clerk_in (Ok end) = end.0
+clerk_in (Err e) = e.1

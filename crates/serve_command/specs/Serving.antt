@@ -85,6 +85,17 @@ module _ {D O : Type 0} (g : Ghosts D) (opens : O → List ℕ → Result D Stor
   OpensStore before name (Ok clerk) after = IsOpen before name clerk after
   OpensStore before name (Err fault) after = opens before name (Err fault) after ⊎ IsNoStore before name fault after
 
+  -- the store of the name was opened and not served: who has it last keeps it if who opened it did, and has the desk after commands
+  -- that were accepted one after the other; and its device was closed
+  pub record IsGivenUp (before : O) (name : List ℕ) (after : O) : Type 0 where
+    pub first : Clerk D g
+    pub middle : O
+    pub found : IsOpen before name first middle
+    pub last : Clerk D g
+    pub keeps : Keeps first → Keeps last
+    pub ran : IsRunFrom (desk_of first) (desk_of last)
+    pub closed : ClosesClerk middle last after
+
   -- where memory is refused before, nothing is opened
   abbrev pub NotOpened : (before : O) → List ℕ → StoreFault → (after : O) → Type 0
   NotOpened before name fault after = ((fault ≡ Memory) × (after ≡ before)) ⊎ OpensStore before name (Err fault) after
@@ -108,10 +119,10 @@ module _ {D O : Type 0} (g : Ghosts D) (opens : O → List ℕ → Result D Stor
       pub halted : is_halted last ≡ has_halted
       pub closed : ClosesClerk middle last after
 
-    -- memory for the seats was refused, behind which the clerk is gone, or the device failed while the store was served
+    -- memory for the seats was refused, or the device failed while the store was served
     abbrev pub HasStopped : (before : O) → List ℕ → StoreFault → (after : O) → Type 0
     HasStopped before name fault after =
-        ((fault ≡ Memory) × (clerk : Clerk D g) × IsOpen before name clerk after) ⊎ ((fault ≡ DeviceFault) × IsServed before name true after)
+        ((fault ≡ Memory) × IsGivenUp before name after) ⊎ ((fault ≡ DeviceFault) × IsServed before name true after)
 
     -- What comes of a store and is printed: the line once it is open, nothing where it isn't, and a front of the line where standard
     -- output fails, after which nothing is served. Where no socket listens, no store is opened.

@@ -4,7 +4,7 @@ ghost use Rattle.desk_store.specs.Clerks.{desk_of, Keeps};
 ghost use Rattle.desk_gallery.specs.Begun.{BeginsWith, IsLeftBy};
 ghost use Rattle.desk_gallery.specs.Working.{IsRunFrom};
 ghost use Rattle.http_seats.specs.Streams.{traffic};
-ghost use Rattle.serve_command.specs.Lasting.{HasTalked, ServesStreams};
+ghost use Rattle.serve_command.specs.Lasting.{HasTalked, ServesStreams, clerk_in};
 
 use desk_catalogue::catalogue::Catalogue;
 use desk_gallery::book::{Opened, Room};
@@ -22,7 +22,7 @@ use std::sync::{Arc, Wait};
 use std::thread::Threads;
 
 /// Serves what a clerk keeps at the seats of so many workers, until no further stream comes: the clerk as it then is, and what the
-/// streams came to.
+/// streams came to. Where memory for the seats is refused the clerk comes back with that.
 fn serve_named<
     J: Room + Send + Sync,
     D: SectorDevice + Drop + Send + Sync,
@@ -36,7 +36,7 @@ fn serve_named<
     catalogue: Arc<Catalogue>,
     workers: u16,
     arrivals: &A,
-) -> Result<(Clerk<D>, Ran), AllocError>
+) -> Result<(Clerk<D>, Ran), (AllocError, Clerk<D>)>
     requires book { opened.seen.book ≡ J.book }
     requires root { opened.pen.nib.key ≡ J.root }
     requires first { catalogue.value ≡ J.first }
@@ -44,31 +44,31 @@ fn serve_named<
     requires kept { J.sound → Keeps clerk }
     requires begins { BeginsWith J.begins clerk }
     requires workers { 1 ≤ workers }
-    ensures kept { IfOk result (λ end. J.sound → Keeps end.0) }
-    ensures ran { IfOk result (λ end. IsRunFrom J.first (desk_of end.0)) }
+    ensures kept { J.sound → Keeps (clerk_in result) }
+    ensures ran { IsRunFrom J.first (desk_of (clerk_in result)) }
     ensures left { IfOk result (λ end. IsLeftBy J.first J.begins end.0) }
     ensures talked { IfOk result (λ end. HasTalked (traffic A.gives A.takes_back A.Reader.Source A.Writer.Sink arrivals.now) J.first J.begins end.0 end.1) }
 {
     let (shower, visitors) = match Gallery::new::<J>(alloc, opened, catalogue, workers as usize) {
         Ok(gallery) => gallery,
-        Err(GalleryFault::Memory) => return Err(AllocError),
+        Err(GalleryFault::Memory) => return Err((AllocError, clerk)),
         Err(GalleryFault::Refused(shower)) => {
             shower.close(rt);
-            return Err(AllocError);
+            return Err((AllocError, clerk));
         }
     };
     let office = Office::new(clerk, shower);
     let (last, ran) = serve_many(rt, alloc, office, visitors, arrivals, &NoGate);
     match ran {
         Ok(ran) => Ok((last, ran)),
-        Err(e) => Err(e),
+        Err(e) => Err((e, last)),
     }
 }
 
 /// Serves what a clerk keeps by so many workers, until no further stream comes: the clerk as it then is, whose desk is what commands
 /// led to that were accepted one after the other, and what the streams came to. At whatever moment a stop comes: since a command was
 /// acknowledged, each image that the stop may leave opens to the desk after that command and all before it. Each stream was answered
-/// along these very commands. Err where memory is refused, and then nothing was served.
+/// along these very commands. Err where memory is refused, with the clerk, and then nothing was served.
 pub fn serve_clerk<
     D: SectorDevice + Drop + Send + Sync,
     A: Arrivals + Sync,
@@ -79,14 +79,16 @@ pub fn serve_clerk<
     clerk: Clerk<D>,
     workers: u16,
     arrivals: &A,
-) -> Result<(Clerk<D>, Ran), AllocError>
+) -> Result<(Clerk<D>, Ran), (AllocError, Clerk<D>)>
     requires { 1 ≤ workers }
-    ensures kept { IfOk result (λ end. Keeps clerk → Keeps end.0) }
-    ensures ran { IfOk result (λ end. IsRunFrom (desk_of clerk) (desk_of end.0)) }
+    ensures kept { Keeps clerk → Keeps (clerk_in result) }
+    ensures ran { IsRunFrom (desk_of clerk) (desk_of (clerk_in result)) }
     ensures served { IfOk result (λ end. ServesStreams (traffic A.gives A.takes_back A.Reader.Source A.Writer.Sink arrivals.now) clerk end.0 end.1) }
 {
     each_run_survives::<D>();
-    let catalogue = clerk.published()?;
+    let Ok(catalogue) = clerk.published() else {
+        return Err((AllocError, clerk));
+    };
     serve_named::<Brand, _, _, _>(
         rt,
         alloc,

@@ -95,7 +95,10 @@ fn serve_store<
             stores.close(last.into_device());
             ended
         }
-        Err(_) => Err(ServeFault::Store(StoreFault::Memory)),
+        Err((_, unserved)) => {
+            stores.close(unserved.into_device());
+            Err(ServeFault::Store(StoreFault::Memory))
+        }
     }
 }
 

@@ -3,13 +3,14 @@ use Rattle.desk_model.specs.Desk.{Desk}
 use Rattle.desk_store.specs.Clerks.{desk_of}
 use Rattle.desk_gallery.specs.Working.{IsRunFrom}
 use Rattle.http_seats.specs.Streams.{traffic}
+use Rattle.serve_command.specs.Lasting.{clerk_in}
 use Rattle.serve_command.proofs.Lasts.{all_serve}
 use Rattle.serve_command.proofs.office.serve_clerk.Goals as goal
 
 pub returns-clause-ran : goal.returns-clause-ran
-returns-clause-ran g c = subst (λ (d : Desk). IfOk c.serve_named.result (λ end. IsRunFrom d (desk_of end.0))) c.in_ok-catalogue.ensures c.serve_named.ensures.ran
+returns-clause-ran g c = subst (λ (d : Desk). IsRunFrom d (desk_of (clerk_in c.serve_named.result))) c.in-Ok.ensures c.serve_named.ensures.ran
 
 pub returns-clause-served : goal.returns-clause-served
 returns-clause-served g c =
     let s = traffic g.A.Arrivals.gives g.A.Arrivals.takes_back g.A.Reader.Source g.A.Writer.Sink c.args.arrivals.now in
-    all_serve s c.args.clerk c.in_ok-catalogue.catalogue.value c.serve_named.result c.in_ok-catalogue.ensures c.each_run_survives.ensures c.serve_named.ensures.talked
+    all_serve s c.args.clerk c.in-Ok.catalogue.value c.serve_named.result c.in-Ok.ensures c.each_run_survives.ensures c.serve_named.ensures.talked

@@ -52,4 +52,18 @@ returns g c =
     let whole : List ℕ → Type 0 = λ line. Writes before after line (Ok tt) in
     let is : c.as_slice.result.now ≡ listening_text c.args.serving.port = c.as_slice.ensures.value ∙ c.in-Ok.ensures in
     let line : HasAnnounced c.args.serving.port before after = subst whole is (c.in-Ok-send.ensures.bytes, c.in-Ok-send.ensures.failures) in
-    inr (line, inl (refl, c.in-Ok-open_store.clerk, c.in-Ok-open_store.ensures))
+    inr (
+      line,
+      inl (
+        refl,
+        record {
+          first = c.in-Ok-open_store.clerk;
+          middle = c.open_store.new.stores;
+          found = c.in-Ok-open_store.ensures;
+          last = c.in-Err-serve_clerk.unserved;
+          keeps = c.in-Err-serve_clerk.ensures.kept;
+          ran = c.in-Err-serve_clerk.ensures.ran;
+          closed = subst (λ d. g.O.Stores.closes c.open_store.new.stores d c.close-in-Err-serve_clerk.new.self) c.into_device-in-Err-serve_clerk.ensures c.close-in-Err-serve_clerk.ensures;
+        },
+      ),
+    )
