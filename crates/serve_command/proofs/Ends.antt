@@ -2,12 +2,13 @@
 use Rattle.std.proofs.Common.{ℕ, List, Bool, true, false, Result, inr, refl}
 use Rattle.sector_device.specs.declared.SectorDevice.{Ghosts}
 use Rattle.command_output.specs.Writing.{Written}
+use Rattle.http_seats.specs.declared.ran.Ran.{Ran}
 use Rattle.store_command.specs.declared.fault.StoreFault.{StoreFault}
 use Rattle.serve_command.specs.Serving.{end_of, HasAnnounced, IsServed, Announces}
 
 module _ {D O : Type 0} (g : Ghosts D) (opens : O → List ℕ → Result D StoreFault → O → Type 0) (closes : O → D → O → Type 0) where
-  pub run_ends : (port : ℕ) (stores : O) (name : List ℕ) (left : O) (before after : Written) (has_halted has_failed : Bool)
-      → HasAnnounced port before after → IsServed g opens closes stores name has_halted left → Announces g opens closes port stores name (end_of has_halted has_failed) left before after
-  run_ends port stores name left before after true failed line served = inr (line, inr (refl, served))
-  run_ends port stores name left before after false true line served = inr (line, served)
-  run_ends port stores name left before after false false line served = (line, served)
+  pub run_ends : (heard : Ran → Type 0) (port : ℕ) (stores : O) (name : List ℕ) (left : O) (before after : Written) (has_halted has_failed : Bool)
+      → HasAnnounced port before after → IsServed g opens closes heard stores name has_halted left → Announces g opens closes heard port stores name (end_of has_halted has_failed) left before after
+  run_ends heard port stores name left before after true failed line served = inr (line, inr (refl, served))
+  run_ends heard port stores name left before after false true line served = inr (line, served)
+  run_ends heard port stores name left before after false false line served = (line, served)

@@ -1,11 +1,14 @@
 -- A store that is served: what is opened, printed and told, and the status that goes with it.
-use Rattle.std.specs.Prelude.{◌≡◌, ◌⊎◌, ℕ, List, ◌++◌, codes, decimal, Bool, true, false, Result, Ok, Err}
+use Rattle.std.specs.Prelude.{◌≡◌, ◌⊎◌, ℕ, List, ◌++◌, codes, decimal, Bool, true, false, Option, Some, None, Result, Ok, Err}
 use Rattle.byte_stream.specs.declared.sink.WriteFault.{WriteFault}
 use Rattle.sector_device.specs.declared.SectorDevice.{Ghosts}
 use Rattle.page_store.specs.Transactions.{device_in}
 use Rattle.command_output.specs.declared.status.Status.{Status}
 use Rattle.command_output.specs.declared.status.Status.TheVariants as status
 use Rattle.command_output.specs.Writing.{Written, Writes, Told}
+use Rattle.command_output.specs.Faults.{status_of_open}
+use Rattle.state_files.specs.declared.fault.OpenFault.{OpenFault}
+use Rattle.state_files.specs.declared.fault.OpenFault.TheVariants.{Unreadable, Memory as NoMemory}
 use Rattle.desk_store.specs.declared.clerk.Clerk.{Clerk}
 use Rattle.desk_store.specs.Clerks.{desk_of, is_halted, Keeps}
 use Rattle.desk_gallery.specs.Working.{IsRunFrom}
@@ -37,6 +40,20 @@ abbrev pub end_of : (has_halted has_failed : Bool) → Result (Unit {0}) ServeFa
 end_of true _ = Err (Store DeviceFault)
 end_of false true = Err Socket
 end_of false false = Ok tt
+
+-- what was heard of a run by what listens, where anything does
+abbrev pub has_heard : {A : Type 0} → (heard : A → Ran → Type 0) → Option A → Ran → Type 0
+has_heard heard None = λ ran. ⊥
+has_heard heard (Some a) = heard a
+
+-- what is told of a log's file that can't be opened
+abbrev pub log_line : OpenFault → List ℕ
+log_line Unreadable = codes "plandesk: log: Unreadable\n"
+log_line NoMemory = codes "plandesk: log: Memory\n"
+
+-- it is told, and the status is that of every file that can't be opened
+abbrev pub RefusesLog : OpenFault → Status → (told_before told_after : Written) → Type 0
+RefusesLog fault end told_before told_after = (end ≡ status_of_open fault) × Told told_before told_after (log_line fault)
 
 -- the line was printed whole
 abbrev pub HasAnnounced : (port : ℕ) → (before after : Written) → Type 0
@@ -79,8 +96,8 @@ module _ {D O : Type 0} (g : Ghosts D) (opens : O → List ℕ → Result D Stor
   OpensStore before name (Err fault) after = opens before name (Err fault) after ⊎ IsNoStore before name fault after
 
   -- the store of the name was opened and served; who has it last keeps it if who opened it did, and has the desk after commands that
-  -- were accepted one after the other, which outlive a stop at any moment; what the connections came to; and its device was closed
-  pub record IsServed (before : O) (name : List ℕ) (has_halted : Bool) (after : O) : Type 0 where
+  -- were accepted one after the other, which outlive a stop at any moment; what the connections came to was heard; and its device was closed
+  pub record IsServed (heard : Ran → Type 0) (before : O) (name : List ℕ) (has_halted : Bool) (after : O) : Type 0 where
     pub first : Clerk D g
     pub middle : O
     pub found : IsOpen before name first middle
@@ -90,6 +107,7 @@ module _ {D O : Type 0} (g : Ghosts D) (opens : O → List ℕ → Result D Stor
     pub lasts : Outlasts first last
     pub came_to : Ran
     pub talked : HasTalked (desk_of first) came_to
+    pub told : heard came_to
     pub halted : is_halted last ≡ has_halted
     pub closed : ClosesClerk middle last after
 
@@ -98,22 +116,22 @@ module _ {D O : Type 0} (g : Ghosts D) (opens : O → List ℕ → Result D Stor
   NotOpened before name fault after = ((fault ≡ Memory) × (after ≡ before)) ⊎ OpensStore before name (Err fault) after
 
   -- memory for the seats was refused, behind which the clerk is gone, or the device failed while the store was served
-  abbrev pub HasStopped : (before : O) → List ℕ → StoreFault → (after : O) → Type 0
-  HasStopped before name fault after =
-      ((fault ≡ Memory) × (clerk : Clerk D g) × IsOpen before name clerk after) ⊎ ((fault ≡ DeviceFault) × IsServed before name true after)
+  abbrev pub HasStopped : (heard : Ran → Type 0) → (before : O) → List ℕ → StoreFault → (after : O) → Type 0
+  HasStopped heard before name fault after =
+      ((fault ≡ Memory) × (clerk : Clerk D g) × IsOpen before name clerk after) ⊎ ((fault ≡ DeviceFault) × IsServed heard before name true after)
 
   -- What comes of a store and is printed: the line once it is open, nothing where it isn't, and a front of the line where standard
   -- output fails, after which nothing is served. Where no socket listens, no store is opened.
-  abbrev pub Announces : (port : ℕ) → (stores : O) → List ℕ → Result (Unit {0}) ServeFault → (stores_after : O) → (before after : Written) → Type 0
-  Announces port stores name (Ok u) stores_after before after = HasAnnounced port before after × IsServed stores name false stores_after
-  Announces port stores name (Err (Store fault)) stores_after before after =
-      ((after ≡ before) × NotOpened stores name fault stores_after) ⊎ (HasAnnounced port before after × HasStopped stores name fault stores_after)
-  Announces port stores name (Err Socket) stores_after before after =
-      ((after ≡ before) × (stores_after ≡ stores)) ⊎ (HasAnnounced port before after × IsServed stores name false stores_after)
-  Announces port stores name (Err Output) stores_after before after =
+  abbrev pub Announces : (heard : Ran → Type 0) → (port : ℕ) → (stores : O) → List ℕ → Result (Unit {0}) ServeFault → (stores_after : O) → (before after : Written) → Type 0
+  Announces heard port stores name (Ok u) stores_after before after = HasAnnounced port before after × IsServed heard stores name false stores_after
+  Announces heard port stores name (Err (Store fault)) stores_after before after =
+      ((after ≡ before) × NotOpened stores name fault stores_after) ⊎ (HasAnnounced port before after × HasStopped heard stores name fault stores_after)
+  Announces heard port stores name (Err Socket) stores_after before after =
+      ((after ≡ before) × (stores_after ≡ stores)) ⊎ (HasAnnounced port before after × IsServed heard stores name false stores_after)
+  Announces heard port stores name (Err Output) stores_after before after =
       ((fault : WriteFault) × Writes before after (listening_text port) (Err fault)) × IsUnused stores name stores_after
 
   -- the store of the name, served
-  abbrev pub Serves : (port : ℕ) → (stores : O) → List ℕ → Status → (stores_after : O) → (before after told_before told_after : Written) → Type 0
-  Serves port stores name end stores_after before after told_before told_after = (ended : Result (Unit {0}) ServeFault)
-      × Announces port stores name ended stores_after before after × EndsServing ended end told_before told_after
+  abbrev pub Serves : (heard : Ran → Type 0) → (port : ℕ) → (stores : O) → List ℕ → Status → (stores_after : O) → (before after told_before told_after : Written) → Type 0
+  Serves heard port stores name end stores_after before after told_before told_after = (ended : Result (Unit {0}) ServeFault)
+      × Announces heard port stores name ended stores_after before after × EndsServing ended end told_before told_after

@@ -1,5 +1,6 @@
 use Rattle.std.proofs.Common.{◌≡◌, ℕ, List, Result, Ok, Err, ◌∙◌, inl, inr, refl, sym, subst}
 use Rattle.command_output.specs.Writing.{Writes, written_of}
+use Rattle.http_seats.specs.declared.ran.Ran.{Ran}
 use Rattle.serve_command.specs.declared.fault.ServeFault.{ServeFault}
 use Rattle.serve_command.specs.Serving.{listening_text, HasAnnounced, Announces}
 use Rattle.serve_command.proofs.Ends.{run_ends}
@@ -27,8 +28,9 @@ returns-in-Ok-serve_clerk g c =
     let whole : List ℕ → Type 0 = λ line. Writes before after line (Ok tt) in
     let is : c.as_slice.result.now ≡ listening_text c.args.serving.port = c.as_slice.ensures.value ∙ c.in-Ok.ensures in
     let line : HasAnnounced c.args.serving.port before after = subst whole is (c.in-Ok-send.ensures.bytes, c.in-Ok-send.ensures.failures) in
-    let ends : Result (Unit {0}) ServeFault → Type 0 = λ ended. Announces g.D.SectorDevice g.O.Stores.opens g.O.Stores.closes c.args.serving.port c.args.stores.now c.args.name.now ended c.close-in-Ok-serve_clerk.new.self before after in
-    subst ends (sym c.end_run-ended.ensures) (run_ends g.D.SectorDevice g.O.Stores.opens g.O.Stores.closes c.args.serving.port c.args.stores.now c.args.name.now c.close-in-Ok-serve_clerk.new.self before after _ c.has_failed.result line (record {
+    let heard : Ran → Type 0 = g.A.Watched.heard c.args.listening.now in
+    let ends : Result (Unit {0}) ServeFault → Type 0 = λ ended. Announces g.D.SectorDevice g.O.Stores.opens g.O.Stores.closes heard c.args.serving.port c.args.stores.now c.args.name.now ended c.close-in-Ok-serve_clerk.new.self before after in
+    subst ends (sym c.end_run-ended.ensures) (run_ends g.D.SectorDevice g.O.Stores.opens g.O.Stores.closes heard c.args.serving.port c.args.stores.now c.args.name.now c.close-in-Ok-serve_clerk.new.self before after _ c.has_failed.result line (record {
       first = c.in-Ok-open_store.clerk;
       middle = c.open_store.new.stores;
       found = c.in-Ok-open_store.ensures;
@@ -36,8 +38,9 @@ returns-in-Ok-serve_clerk g c =
       keeps = c.in-Ok-serve_clerk.ensures.kept;
       ran = c.in-Ok-serve_clerk.ensures.ran;
       lasts = c.in-Ok-serve_clerk.ensures.lasts;
-      came_to = c.in-Ok-serve_clerk._ran;
+      came_to = c.in-Ok-serve_clerk.ran;
       talked = c.in-Ok-serve_clerk.ensures.talked;
+      told = c.hear.ensures;
       halted = refl;
       closed = subst (λ d. g.O.Stores.closes c.open_store.new.stores d c.close-in-Ok-serve_clerk.new.self) c.into_device-in-Ok-serve_clerk.ensures c.close-in-Ok-serve_clerk.ensures;
     }))
