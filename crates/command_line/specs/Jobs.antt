@@ -16,7 +16,7 @@ IsJob (Counts paths) = Unit {0}
 IsJob (Audit paths terms workers) = AreTerms terms × AreAlike paths.beside terms.beside × (1 ≤ workers) × (workers ≤ 64)
 IsJob (Format store size) = IsSize size
 IsJob (Load store census gal) = Unit {0}
-IsJob (Serve store serving) = IsServing serving
+IsJob (Serve store serving log) = IsServing serving
 IsJob (Sweep store) = Unit {0}
 IsJob (Explain code) = Unit {0}
 
@@ -41,7 +41,8 @@ HasPaths found (Format store size) = (first_value found (codes "store") ≡ Some
 HasPaths found (Load store census gal) = AreCensusPaths found census
     × (first_value found (codes "store") ≡ Some store.now)
     × (first_value found (codes "gal") ≡ Some gal.now)
-HasPaths found (Serve store serving) = (first_value found (codes "store") ≡ Some store.now)
+HasPaths found (Serve store serving log) = (first_value found (codes "store") ≡ Some store.now)
     × (serving_read (first_value found (codes "port")) (first_value found (codes "workers")) (first_value found (codes "connections")) (first_value found (codes "idle")) ≡ Some serving)
+    × (first_value found (codes "log") ≡ option_copied log)
 HasPaths found (Sweep store) = first_value found (codes "store") ≡ Some store.now
 HasPaths found (Explain code) = first_value found (codes "code") ≡ Some code.now

@@ -46,14 +46,16 @@ To read: docs/IOWA.md (from the files of the census to a loaded store), docs/FAU
 pub(crate) const SERVE_HELP: &str =
     "It listens on 127.0.0.1 and ends once so many connections were served. Each worker serves one connection at a time: commands go
 one after the other, and what is read waits for nobody. One that brings no byte, or takes none, for the idle seconds ends alone.
+No connection waits for the log: lines for which there is no room are dropped, and the next one tells how many.
 
 Example, of a store that was formatted and loaded:
-  ./plandesk serve state.store --port 8080 --workers 4 --connections 1000
+  ./plandesk serve state.store --port 8080 --workers 4 --connections 1000 --log state.log
   curl http://127.0.0.1:8080/plans
 
 Statuses:
   0  so many connections were served; one that broke ended alone
   2  the command line is wrong; nothing was opened
+  3  the log's file was refused; its fault is told, and nothing else was opened
   4  the store was refused, or its device failed
   5  memory was refused
   6  the socket or standard output failed

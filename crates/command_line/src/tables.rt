@@ -163,6 +163,13 @@ const SERVE: &[Argument] = &[
         Values::Numbers(1, 86_400),
         &[],
     ),
+    Argument::Beside(
+        "log",
+        "FILE",
+        "Where a line is added for each connection that ends, by default standard error where that is a terminal",
+        Values::Texts,
+        &[],
+    ),
 ];
 
 const SWEEP: &[Argument] = &[Argument::Store];

@@ -28,8 +28,8 @@ pub enum Job<'a> {
     Format(&'a str, Size),
     /// `load`: a store is filled with what the census files and the neighbour file say.
     Load(&'a str, CensusPaths<'a>, &'a str),
-    /// `serve`: a store is served to connections.
-    Serve(&'a str, Serving),
+    /// `serve`: a store is served to connections, which are told to the file of a log where one is named.
+    Serve(&'a str, Serving, Option<&'a str>),
     /// `sweep`: what nothing needs any more is taken out of a store.
     Sweep(&'a str),
     /// `explain`: what is known of the code of a fault is printed.
@@ -180,7 +180,7 @@ fn serve_job<'a>(matches: &ArgMatches<'a>) -> Option<Job<'a>>
         bytes_of(matches.get_str("connections")),
         bytes_of(matches.get_str("idle")),
     )?;
-    Some(Job::Serve(store, serving))
+    Some(Job::Serve(store, serving, matches.get_str("log")))
 }
 
 /// What `sweep` is asked for.

@@ -73,7 +73,7 @@ case_at (Some InUse) = codes "in use"
 case_at (Some NotPermitted) = codes "not permitted"
 case_at (Some NoRoom) = codes "no room"
 
--- whose fault a line tells, by the word behind the program's name: a file's role, or a command
+-- whose fault a line tells, by the word behind the program's name: a file's role, or a command; of a log only what is of every file
 abbrev pub is_segment_role : List ℕ → Bool
 is_segment_role role = bytes_eq role (codes "seg1") || bytes_eq role (codes "seg2") || bytes_eq role (codes "seg3")
 
@@ -92,5 +92,6 @@ place_at role =
     else if bytes_eq role (codes "gal") then Some Gal
     else if is_plan_role role then Some Plan
     else if bytes_eq role (codes "store") then Some Store
+    else if bytes_eq role (codes "log") then Some EveryFile
     else if is_command role then Some Command
     else None

@@ -58,6 +58,9 @@ fn place_of(role: &[u8]) -> Option<FaultPlace>
     if role == b"store".as_slice() {
         return Some(FaultPlace::Store);
     }
+    if role == b"log".as_slice() {
+        return Some(FaultPlace::EveryFile);
+    }
     if is_command(role) {
         return Some(FaultPlace::Command);
     }

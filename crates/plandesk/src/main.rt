@@ -18,6 +18,7 @@ use std::io::ErrorKind;
 use std::process::ExitCode;
 use std::sync::Wait;
 use std::thread::Threads;
+use std::time::Clock;
 
 /// The words of the command line, the program's name first.
 fn all_words(rt: &HostRuntime) -> Result<Vec<String>, Status> {
@@ -40,7 +41,10 @@ fn all_words(rt: &HostRuntime) -> Result<Vec<String>, Status> {
     }
 }
 
-fn run_words<T: Threads + Wait + Sync>(rt: &HostRuntime, threads: &T) -> Result<Status, Status> {
+fn run_words<T: Threads + Wait + Clock + Copy + Send + Sync + 'static>(
+    rt: &HostRuntime,
+    threads: &T,
+) -> Result<Status, Status> {
     let words = all_words(rt)?;
     let mut texts = Vec::with_capacity(rt.alloc(), words.len())?;
     for word in &words {

@@ -13,6 +13,7 @@ use fault_words::noting::Noting;
 use std::io::Write;
 use std::sync::Wait;
 use std::thread::Threads;
+use std::time::Clock;
 use talk_command::talk::talk;
 
 /// Tells a text on standard error, as far as that can be written.
@@ -47,15 +48,19 @@ fn end_mistake(rt: &HostRuntime, mistake: &Mistake) -> Status {
 }
 
 /// Does what the words ask for; the first is the program's name. `threads` starts the workers of an audit or of
-/// a served store, which wait for one another.
-pub fn run<T: Threads + Wait + Sync>(rt: &HostRuntime, threads: &T, words: &[&str]) -> Status {
+/// a served store, which wait for one another, and what writes the log of a served store.
+pub fn run<T: Threads + Wait + Clock + Copy + Send + Sync + 'static>(
+    rt: &HostRuntime,
+    threads: &T,
+    words: &[&str],
+) -> Status {
     match job_of(rt.alloc(), words) {
         Ok(Job::Talk) => serve_talk(rt),
         Ok(Job::Counts(paths)) => check_counts(rt, paths),
         Ok(Job::Audit(paths, terms, workers)) => check_plan(rt, threads, paths, terms, workers),
         Ok(Job::Format(name, size)) => format_store(rt, name, size),
         Ok(Job::Load(name, paths, neighbours)) => load_state(rt, name, paths, neighbours),
-        Ok(Job::Serve(name, serving)) => serve_desk(rt, threads, name, serving),
+        Ok(Job::Serve(name, serving, log)) => serve_desk(rt, threads, name, serving, log),
         Ok(Job::Sweep(name)) => sweep_desk(rt, name),
         Ok(Job::Explain(code)) => explain_code(rt, code),
         Err(mistake) => end_mistake(rt, &mistake),

@@ -6,33 +6,153 @@ use crate::stores::StoreFiles;
 use byte_stream::sink::WriteSink;
 use command_line::options::Serving;
 use command_output::status::Status;
+use connection_log::log::{Log, start};
+use connection_log::watching::{Watched, Watching};
 use http_seats::listening::Listening;
 use sector_file::{FileDevice, Unknown};
+use serve_command::log::refuse_log;
 use serve_command::serve::serve;
+use state_files::fault::OpenFault;
+use std::alloc::Global;
+use std::fs::File;
+use std::io::{ErrorKind, IsTerminal};
 use std::net::{Ipv4Addr, TcpListener};
-use std::sync::Wait;
+use std::sync::{Arc, Wait};
 use std::thread::Threads;
+use std::time::Clock;
 
-/// Serves a store on a port of 127.0.0.1. The store is opened once the socket listens, so that where the port is taken it is left
-/// alone.
-pub fn serve_desk<T: Threads + Wait + Sync>(
+/// Opens the file of a log, to which lines are added; it is made where there is none. It is opened for reading too, which nobody does,
+/// so that a named pipe without a reader doesn't hold the opening.
+fn open_log(rt: &HostRuntime, name: &str) -> Result<File, OpenFault> {
+    match File::options()
+        .read(true)
+        .append(true)
+        .create(true)
+        .open(rt, name)
+    {
+        Ok(file) => Ok(file),
+        Err(e) => {
+            if e.kind() == ErrorKind::OutOfMemory {
+                return Err(OpenFault::Memory);
+            }
+            Err(OpenFault::Unreadable)
+        }
+    }
+}
+
+/// The log of a served store: in the file that is named, or else on standard error where that is a terminal, or else none.
+fn log_of<T: Threads + Wait + Copy + Send + 'static>(
+    rt: &HostRuntime,
+    threads: &T,
+    name: Option<&str>,
+) -> Result<Option<Arc<Log, Global>>, OpenFault> {
+    let started = match name {
+        Some(name) => start(threads, rt.alloc(), WriteSink::new(open_log(rt, name)?)),
+        None => {
+            let terminal = rt.stderr();
+            if !terminal.is_terminal() {
+                return Ok(None);
+            }
+            start(threads, rt.alloc(), WriteSink::new(terminal))
+        }
+    };
+    match started {
+        Ok(log) => Ok(Some(log)),
+        Err(_) => Err(OpenFault::Memory),
+    }
+}
+
+/// The log, where there is one.
+fn watcher_of(log: &Option<Arc<Log, Global>>) -> Option<&Log> {
+    match log {
+        Some(log) => Some(&**log),
+        None => None,
+    }
+}
+
+/// Serves a store on a port of 127.0.0.1, with a line of a log for each connection. The log's file is opened first. The store is
+/// opened once the socket listens, so that where the port is taken it is left alone.
+pub fn serve_desk<T: Threads + Wait + Clock + Copy + Send + Sync + 'static>(
+    rt: &HostRuntime,
+    threads: &T,
+    name: &str,
+    serving: Serving,
+    log: Option<&str>,
+) -> Status
+    requires workers { 1 ≤ serving.workers }
+    requires idle { 1 ≤ serving.idle }
+{
+    match log_of(rt, threads, log) {
+        Ok(log) => serve_watched(rt, threads, name, serving, watcher_of(&log)),
+        Err(fault) => {
+            let mut errors = standard_error(rt);
+            let status = refuse_log(fault, &mut errors);
+            explain_last(rt, errors, None);
+            status
+        }
+    }
+}
+
+/// The same, with a log or without one.
+fn serve_watched<T: Threads + Wait + Clock + Sync>(
+    rt: &HostRuntime,
+    threads: &T,
+    name: &str,
+    serving: Serving,
+    log: Option<&Log>,
+) -> Status
+    requires workers { 1 ≤ serving.workers }
+    requires idle { 1 ≤ serving.idle }
+{
+    match TcpListener::bind(rt, (Ipv4Addr::LOCALHOST, serving.port)) {
+        Ok(listener) => {
+            let listening = Listening::with_idle(
+                &listener,
+                serving.connections as u64,
+                serving.idle,
+            );
+            let watching = Watching::new(threads, &listening, log);
+            serve_given(rt, threads, name, serving, &watching)
+        }
+        Err(_) => serve_nowhere(rt, threads, name, serving),
+    }
+}
+
+/// Serves a store to connections that are watched.
+fn serve_given<A: Watched + Sync, T: Threads + Wait + Sync>(
+    rt: &HostRuntime,
+    threads: &T,
+    name: &str,
+    serving: Serving,
+    listening: &A,
+) -> Status
+    requires { 1 ≤ serving.workers }
+{
+    serve_at(rt, threads, name, serving, Some(listening))
+}
+
+/// Tells that no socket listens.
+fn serve_nowhere<T: Threads + Wait + Clock + Sync>(
     rt: &HostRuntime,
     threads: &T,
     name: &str,
     serving: Serving,
 ) -> Status
-    requires workers { 1 ≤ serving.workers }
-    requires idle { 1 ≤ serving.idle }
+    requires { 1 ≤ serving.workers }
 {
-    let listener = TcpListener::bind(rt, (Ipv4Addr::LOCALHOST, serving.port)).ok();
-    let listening = match &listener {
-        Some(listener) => Some(Listening::with_idle(
-            listener,
-            serving.connections as u64,
-            serving.idle,
-        )),
-        None => None,
-    };
+    serve_at::<Watching<'_, '_, '_, Listening<'_>, T>, T>(rt, threads, name, serving, None)
+}
+
+/// Serves a store to the connections that come, where a socket listens.
+fn serve_at<A: Watched + Sync, T: Threads + Wait + Sync>(
+    rt: &HostRuntime,
+    threads: &T,
+    name: &str,
+    serving: Serving,
+    listening: Option<&A>,
+) -> Status
+    requires { 1 ≤ serving.workers }
+{
     let mut stores = StoreFiles::new(rt);
     let mut writer = WriteSink::new(rt.stdout());
     let mut errors = standard_error(rt);
@@ -42,7 +162,7 @@ pub fn serve_desk<T: Threads + Wait + Sync>(
         &mut stores,
         name,
         serving,
-        listening.as_ref(),
+        listening,
         &mut writer,
         &mut errors,
     );

@@ -7,6 +7,9 @@ use Rattle.page_store.specs.Transactions.{device_in}
 use Rattle.command_output.specs.declared.status.Status.{Status}
 use Rattle.command_output.specs.declared.status.Status.TheVariants as status
 use Rattle.command_output.specs.Writing.{Written, Writes, Told}
+use Rattle.command_output.specs.Faults.{status_of_open}
+use Rattle.state_files.specs.declared.fault.OpenFault.{OpenFault}
+use Rattle.state_files.specs.declared.fault.OpenFault.TheVariants.{Unreadable, Memory as NoMemory}
 use Rattle.desk_store.specs.declared.clerk.Clerk.{Clerk}
 use Rattle.desk_store.specs.Clerks.{desk_of, is_halted, Keeps}
 use Rattle.desk_gallery.specs.Working.{IsRunFrom}
@@ -44,6 +47,15 @@ end_of false false = Ok tt
 abbrev pub listener_of : {A : Type 0} → Option (Bor A) → Option A
 listener_of None = None
 listener_of (Some listener) = Some listener.now
+
+-- what is told of a log's file that can't be opened
+abbrev pub log_line : OpenFault → List ℕ
+log_line Unreadable = codes "plandesk: log: Unreadable\n"
+log_line NoMemory = codes "plandesk: log: Memory\n"
+
+-- it is told, and the status is that of every file that can't be opened
+abbrev pub RefusesLog : OpenFault → Status → (told_before told_after : Written) → Type 0
+RefusesLog fault end told_before told_after = (end ≡ status_of_open fault) × Told told_before told_after (log_line fault)
 
 -- the line was printed whole
 abbrev pub HasAnnounced : (port : ℕ) → (before after : Written) → Type 0
@@ -100,11 +112,11 @@ module _ {D O : Type 0} (g : Ghosts D) (opens : O → List ℕ → Result D Stor
   abbrev pub NotOpened : (before : O) → List ℕ → StoreFault → (after : O) → Type 0
   NotOpened before name fault after = ((fault ≡ Memory) × (after ≡ before)) ⊎ OpensStore before name (Err fault) after
 
-  -- what streams come from, where that is anything
-  module _ {A R W : Type 0} (streams : A → Traffic R W) (listening : Option A) where
+  -- what streams come from, where that is anything, and what it heard of a run
+  module _ {A R W : Type 0} (streams : A → Traffic R W) (heard : A → Ran → Type 0) (listening : Option A) where
     -- The store of the name was opened and served; who has it last keeps it if who opened it did, and has the desk after commands that
     -- were accepted one after the other, which outlive a stop at any moment. Along these the connections were answered that came from
-    -- what listens, and came to this. Its device was closed.
+    -- what listens, and came to this, which was heard there. Its device was closed.
     pub record IsServed (before : O) (name : List ℕ) (has_halted : Bool) (after : O) : Type 0 where
       pub first : Clerk D g
       pub middle : O
@@ -116,6 +128,7 @@ module _ {D O : Type 0} (g : Ghosts D) (opens : O → List ℕ → Result D Stor
       pub listens : listening ≡ Some listener
       pub came_to : Ran
       pub served : ServesStreams (streams listener) first last came_to
+      pub told : heard listener came_to
       pub halted : is_halted last ≡ has_halted
       pub closed : ClosesClerk middle last after
 

@@ -3,6 +3,7 @@
 #![tactic(auto)]
 
 pub mod fault;
+pub mod log;
 mod office;
 pub mod serve;
 mod texts;

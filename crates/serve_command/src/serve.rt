@@ -12,8 +12,8 @@ use byte_stream::sink::Sink;
 use command_line::options::Serving;
 use command_output::status::Status;
 use command_output::telling::send_line;
+use connection_log::watching::Watched;
 use desk_store::clerk::Clerk;
-use http_seats::listening::Listens;
 use sector_device::SectorDevice;
 use std::alloc::Global;
 use std::sync::Wait;
@@ -60,7 +60,7 @@ fn end_run<D: SectorDevice>(last: &Clerk<D>, has_failed: bool) -> Result<(), Ser
 fn serve_store<
     D: SectorDevice + Drop + Send + Sync,
     O: Stores<D>,
-    A: Listens + Sync,
+    A: Watched + Sync,
     W: Sink,
     R: Threads + Wait + Sync,
 >(
@@ -73,7 +73,9 @@ fn serve_store<
     writer: &mut W,
 ) -> Result<(), ServeFault>
     requires { 1 ≤ serving.workers }
-    ensures { Announces D.SectorDevice O.opens O.closes (traffic A.gives A.takes_back A.Reader.Source A.Writer.Sink) (Some listening.now) serving.port stores.old name.now result stores.new (written_of W.contents W.failures writer.old) (written_of W.contents W.failures writer.new) }
+    ensures { Announces D.SectorDevice O.opens O.closes (traffic A.gives A.takes_back A.Reader.Source A.Writer.Sink) A.heard
+        (Some listening.now) serving.port stores.old name.now result stores.new
+        (written_of W.contents W.failures writer.old) (written_of W.contents W.failures writer.new) }
 {
     let Ok(text) = listening_text(alloc, serving.port) else {
         return Err(ServeFault::Store(StoreFault::Memory));
@@ -90,9 +92,10 @@ fn serve_store<
         }
     }
     match serve_clerk(rt, alloc, clerk, serving.workers, listening) {
-        Ok((last, _ran)) => {
+        Ok((last, ran)) => {
             let ended = end_run(&last, listening.has_failed());
             stores.close(last.into_device());
+            listening.hear(ran);
             ended
         }
         Err((_, unserved)) => {
@@ -104,11 +107,12 @@ fn serve_store<
 
 /// Serves the store of a name to the connections that come: 0 once no further one comes. 4 where the store is refused or its device
 /// fails, 5 where memory is refused, and 6 where no socket listens or standard output fails, with the fault told. The line that says
-/// where it listens is printed once the store is open, and the store is closed once the last clerk gives it back.
+/// where it listens is printed once the store is open, and the store is closed once the last clerk gives it back. Then what listens
+/// hears what the connections came to.
 pub fn serve<
     D: SectorDevice + Drop + Send + Sync,
     O: Stores<D>,
-    A: Listens + Sync,
+    A: Watched + Sync,
     W: Sink,
     E: Sink,
     R: Threads + Wait + Sync,
@@ -125,7 +129,7 @@ pub fn serve<
     requires { 1 ≤ serving.workers }
     ensures { OfWriters
         (Serves D.SectorDevice O.opens O.closes (traffic A.gives A.takes_back A.Reader.Source A.Writer.Sink)
-        (listener_of listening.entry) serving.port stores.old name.now result stores.new)
+        A.heard (listener_of listening.entry) serving.port stores.old name.now result stores.new)
         W.Sink writer.old writer.new E.Sink errors.old errors.new }
 {
     let ended = match listening {

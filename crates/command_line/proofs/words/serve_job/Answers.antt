@@ -8,4 +8,4 @@ returns-clause-paths c =
     let workers = c.bytes_of-2.ensures ∙ c.get_str-3.ensures in
     let connections = c.bytes_of-3.ensures ∙ c.get_str-4.ensures in
     let idle = c.bytes_of-4.ensures ∙ c.get_str-5.ensures in
-    (sym c.in_ok-store.ensures, sym (c.in_ok-serving.ensures.value ∙ (λ i. serving_read (port i) (workers i) (connections i) (idle i))))
+    (sym c.in_ok-store.ensures, sym (c.in_ok-serving.ensures.value ∙ (λ i. serving_read (port i) (workers i) (connections i) (idle i))), sym c.get_str-6.ensures)

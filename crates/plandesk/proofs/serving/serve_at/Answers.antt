@@ -1,7 +1,7 @@
 use denote.Param.Send.{sendable}
 use Rattle.std.proofs.Crossing.{crosses}
 use Rattle.plandesk.proofs.Devices.{record_send, record_sync}
-use Rattle.plandesk.proofs.serving.serve_desk.Goals as goal
+use Rattle.plandesk.proofs.serving.serve_at.Goals as goal
 
 pub serve-status-requires-send-D : goal.serve-status-requires-send-D
 serve-status-requires-send-D = search (sendable, crosses, record_send) depth 40

@@ -1,0 +1,3 @@
+mod Built
+mod Each
+mod Heads

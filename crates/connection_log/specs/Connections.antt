@@ -1,0 +1,25 @@
+-- What a connection came to.
+use Rattle.std.specs.Prelude.{ℕ, Result, Ok, Err}
+use Rattle.http_desk.specs.declared.serve.Served.{Served}
+use Rattle.http_desk.specs.declared.serve.StreamFault.{StreamFault}
+use Rattle.connection_log.specs.declared.connection.Connection.{Connection}
+use Rattle.connection_log.specs.declared.counting.Sent.{Sent}
+
+-- the answers of one that was served to its end are told by who served it; of another they are those that were written
+abbrev pub requests_of : Result Served StreamFault → Sent → ℕ
+requests_of (Ok served) sent = served.requests
+requests_of (Err fault) sent = sent.answers
+
+abbrev pub faults_of : Result Served StreamFault → ℕ
+faults_of (Ok served) = 0
+faults_of (Err fault) = 1
+
+abbrev pub connection_of : (number : ℕ) → Result Served StreamFault → (read : ℕ) → Sent → Connection
+connection_of number served read sent = record {
+  number = number;
+  requests = requests_of served sent;
+  refusals = sent.refusals;
+  faults = faults_of served;
+  read = read;
+  written = sent.bytes;
+}

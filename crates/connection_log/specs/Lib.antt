@@ -1,0 +1,5 @@
+pub mod Answers
+pub mod Connections
+pub mod Counts
+pub mod Lines
+pub mod Waits

@@ -1,0 +1,55 @@
+-- The lines of a log.
+use Rattle.std.specs.Prelude.{◌≡◌, ℕ, ◌==◌, if◌then◌else◌, List, [], ◌∷◌, ◌++◌, codes, decimal, Option, Some, None, Result, Ok, Err}
+use Rattle.byte_stream.specs.Counts.{counted}
+use Rattle.byte_stream.specs.Sends.{Sends}
+use Rattle.byte_stream.specs.declared.sink.WriteFault.{WriteFault}
+use Rattle.http_seats.specs.declared.ran.Ran.{Ran}
+use Rattle.connection_log.specs.declared.connection.Connection.{Connection}
+use Rattle.connection_log.specs.declared.line.Entry.{Entry}
+use Rattle.connection_log.specs.declared.line.Entry.TheVariants as entry
+
+abbrev pub connection_line : Connection → List ℕ
+connection_line c =
+    (codes "connection " ++ decimal c.number) ++ (codes ": requests " ++ decimal c.requests) ++ (codes ", refusals " ++ decimal c.refusals)
+    ++ (codes ", faults " ++ decimal c.faults) ++ (codes ", read " ++ decimal c.read) ++ (codes " bytes, written " ++ decimal c.written) ++ codes " bytes\n"
+
+abbrev pub end_line : Ran → List ℕ
+end_line ran =
+    (codes "served: streams " ++ decimal ran.streams) ++ (codes ", requests " ++ decimal ran.requests) ++ (codes ", faults " ++ decimal ran.faults) ++ codes "\n"
+
+abbrev pub entry_line : Entry → List ℕ
+entry_line (entry.Connection c) = connection_line c
+entry_line (entry.End ran) = end_line ran
+
+-- nothing where no line was dropped
+abbrev pub dropped_line : ℕ → List ℕ
+dropped_line n = if n == 0 then [] else decimal n ++ codes " lines were dropped\n"
+
+-- how many lines are still to be told as dropped, behind one that was sent so
+abbrev pub dropped_after : {A E : Type 0} → ℕ → Result A E → ℕ
+dropped_after dropped (Ok a) = 0
+dropped_after dropped (Err e) = counted dropped 1
+
+-- an entry's line is sent behind the number of those that were dropped before, and is one of these where that fails
+pub record TellsEntry (dropped : ℕ) (e : Entry) (left : ℕ) (old new : Option (List ℕ)) : Type 0 where
+  pub sent : Result (Unit {0}) WriteFault
+  pub text : Sends old new sent (dropped_line dropped ++ entry_line e)
+  pub drops : left ≡ dropped_after dropped sent
+
+-- each connection's line, one after the other
+abbrev pub TellsEach : (dropped : ℕ) → List Connection → (left : ℕ) → (old new : Option (List ℕ)) → Type 0
+TellsEach dropped [] left old new = (left ≡ dropped) × (new ≡ old)
+TellsEach dropped (c ∷ cs) left old new =
+    (more : ℕ) × (middle : Option (List ℕ)) × TellsEntry dropped (entry.Connection c) more old middle × TellsEach more cs left middle new
+
+-- the line of all connections, once they are all served
+abbrev pub TellsEnd : (dropped : ℕ) → Option Ran → (left : ℕ) → (old new : Option (List ℕ)) → Type 0
+TellsEnd dropped None left old new = (left ≡ dropped) × (new ≡ old)
+TellsEnd dropped (Some ran) left old new = TellsEntry dropped (entry.End ran) left old new
+
+-- the connections that waited, then the end, where it came; so many lines were dropped behind them for want of room
+pub record TellsBatch (dropped : ℕ) (connections : List Connection) (refused : ℕ) (end : Option Ran) (left : ℕ) (old new : Option (List ℕ)) : Type 0 where
+  pub more : ℕ
+  pub middle : Option (List ℕ)
+  pub each : TellsEach dropped connections more old middle
+  pub all : TellsEnd (counted more refused) end left middle new

@@ -1,0 +1,137 @@
+//! The lines of a log.
+ghost use Rattle.std.specs.Prelude.{◌≡◌, ◌+◌, ◌≤◌, ◌++◌, [], length, decimal, IfOk};
+ghost use Rattle.connection_log.specs.Lines.{connection_line, dropped_line, end_line, entry_line};
+
+use crate::connection::Connection;
+use http_seats::ran::Ran;
+use itoa::Buffer;
+use std::alloc::{AllocError, Global};
+use std::marker::Model;
+
+/// Room for the longest line and the one of those that were dropped before it, in bytes.
+const LINE_LEN: usize = 512;
+
+/// What a line of a log is of.
+#[derive(Clone, Copy, Debug, PartialEq, Eq)]
+pub enum Entry {
+    /// A connection that has ended.
+    Connection(Connection),
+    /// All of them.
+    End(Ran),
+}
+
+/// The text that is written next, with all the room that it ever takes.
+#[derive(Drop)]
+pub struct LineText {
+    bytes: Vec<u8>,
+}
+
+impl Model for LineText {
+    ghost use Rattle.std.specs.Prelude.{List, ℕ, ◌≤◌, vec_capacity};
+
+    ghost Value = { List ℕ };
+
+    ghost view = { λ t. t.bytes.items };
+
+    ghost invariant = { λ t. 512 ≤ vec_capacity t.bytes };
+}
+
+impl LineText {
+    /// An empty one, with all the room that it ever takes.
+    pub fn new(alloc: Global) -> Result<LineText, AllocError>
+        ensures { IfOk result (λ text. text ≡ []) }
+    {
+        Ok(LineText {
+            bytes: Vec::with_capacity(alloc, LINE_LEN)?,
+        })
+    }
+
+    /// The text.
+    pub fn as_slice(&self) -> &[u8]
+        ensures { result.now ≡ self.now }
+    {
+        self.bytes.as_slice()
+    }
+
+    /// Empties it.
+    pub fn clear(&mut self)
+        ensures { self.new ≡ [] }
+    {
+        self.bytes.clear();
+    }
+
+    fn put(&mut self, words: &[u8])
+        requires { length self.old + length words.now ≤ 512 }
+        ensures { self.new ≡ self.old ++ words.now }
+    {
+        let _ = self.bytes.extend_from_slice(words);
+    }
+
+    fn put_number(&mut self, n: u64)
+        requires { length self.old + 20 ≤ 512 }
+        ensures items { self.new ≡ self.old ++ decimal n }
+        ensures short { length self.new ≤ length self.old + 20 }
+    {
+        let mut digits = Buffer::new();
+        self.put(digits.format(n).as_bytes());
+    }
+
+    /// Puts words and a number behind them.
+    fn put_count(&mut self, words: &[u8], n: u64)
+        requires { length self.old + length words.now + 20 ≤ 512 }
+        ensures items { self.new ≡ self.old ++ (words.now ++ decimal n) }
+        ensures short { length self.new ≤ length self.old + length words.now + 20 }
+    {
+        self.put(words);
+        self.put_number(n);
+    }
+
+    /// Puts the line of a connection.
+    fn put_connection(&mut self, connection: &Connection)
+        requires { length self.old ≤ 100 }
+        ensures { self.new ≡ self.old ++ connection_line connection.now }
+    {
+        self.put_count(b"connection ", connection.number);
+        self.put_count(b": requests ", connection.requests);
+        self.put_count(b", refusals ", connection.refusals);
+        self.put_count(b", faults ", connection.faults);
+        self.put_count(b", read ", connection.read);
+        self.put_count(b" bytes, written ", connection.written);
+        self.put(b" bytes\n");
+    }
+
+    /// Puts the line of all connections.
+    fn put_end(&mut self, ran: &Ran)
+        requires { length self.old ≤ 100 }
+        ensures { self.new ≡ self.old ++ end_line ran.now }
+    {
+        self.put_count(b"served: streams ", ran.streams);
+        self.put_count(b", requests ", ran.requests);
+        self.put_count(b", faults ", ran.faults);
+        self.put(b"\n");
+    }
+
+    /// Puts the line of an entry.
+    pub fn put_entry(&mut self, entry: &Entry)
+        requires { length self.old ≤ 100 }
+        ensures { self.new ≡ self.old ++ entry_line entry.now }
+    {
+        match entry {
+            Entry::Connection(connection) => self.put_connection(connection),
+            Entry::End(ran) => self.put_end(ran),
+        }
+    }
+
+    /// Puts how many lines were dropped, where any were.
+    pub fn put_dropped(&mut self, dropped: u64)
+        requires { self.old ≡ [] }
+        ensures items { self.new ≡ dropped_line dropped }
+        ensures short { length self.new ≤ 100 }
+    {
+        if dropped == 0 {
+            return;
+        }
+        self.put_number(dropped);
+        self.put(b" lines were dropped\n");
+    }
+}

@@ -1,0 +1,116 @@
+//! A log that many threads put connections into, and one writes.
+use crate::batch::Batch;
+use crate::connection::Connection;
+use crate::line::LineText;
+use crate::telling::tell_batch;
+use crate::waiting::{Taken, Waiting};
+use byte_stream::sink::Sink;
+use http_seats::ran::Ran;
+use std::alloc::{AllocError, Global};
+use std::sync::{Arc, Condvar, CondvarTimeouts, Mutex, MutexGuard, Wait};
+use std::thread;
+use std::thread::Threads;
+use std::time::{Clock, Duration};
+
+/// How many milliseconds the end of a run waits for the last lines to be written.
+const LAST_LINES: u64 = 1_000;
+
+/// A log of connections. Its lock is held while a connection is put or taken, and never while a line is written.
+#[derive(Drop)]
+pub struct Log {
+    waiting: Mutex<Waiting>,
+    changed: Condvar,
+}
+
+/// What the thread has that writes the lines.
+#[derive(Drop)]
+struct Pen {
+    batch: Batch,
+    text: LineText,
+}
+
+impl Log {
+    pub fn new(alloc: Global) -> Result<Log, AllocError> {
+        Ok(Log {
+            waiting: Mutex::new(Waiting::new(alloc)?),
+            changed: Condvar::new(),
+        })
+    }
+
+    /// Puts a connection behind those that wait to be written, or counts it where too many do. It waits for no line.
+    pub fn note<R: Wait>(&self, rt: &R, connection: Connection) {
+        let mut waiting = self.waiting.lock(rt);
+        waiting.put(connection);
+        MutexGuard::unlock(waiting);
+        self.changed.notify_all();
+    }
+
+    /// All connections are served: waits until the last line is written, for a second at most.
+    pub fn end<R: Wait + Clock>(&self, rt: &R, ran: Ran) {
+        let mut waiting = self.waiting.lock(rt);
+        waiting.put_end(ran);
+        MutexGuard::unlock(waiting);
+        self.changed.notify_all();
+        let waiting = self.waiting.lock(rt);
+        let (waiting, _) = self.changed.wait_timeout_while(
+            rt,
+            waiting,
+            Duration::from_millis(LAST_LINES),
+            |waiting| !waiting.is_over(),
+        );
+        MutexGuard::unlock(waiting);
+    }
+
+    /// Waits until something is to be written, and takes all of it.
+    fn take<R: Wait>(&self, rt: &R, batch: &mut Batch) -> Taken {
+        batch.clear();
+        let waiting = self.waiting.lock(rt);
+        let mut waiting = self
+            .changed
+            .wait_while(rt, waiting, |waiting| waiting.is_idle());
+        let taken = waiting.take(batch);
+        MutexGuard::unlock(waiting);
+        taken
+    }
+
+    /// The last line is written.
+    fn finish<R: Wait>(&self, rt: &R) {
+        let mut waiting = self.waiting.lock(rt);
+        waiting.finish();
+        MutexGuard::unlock(waiting);
+        self.changed.notify_all();
+    }
+
+    /// Writes the lines as they come, and ends behind the last one.
+    fn write<W: Sink, R: Wait>(&self, rt: &R, pen: &mut Pen, writer: &mut W) {
+        let mut dropped = 0u64;
+        for _ in rt.forever() {
+            let taken = self.take(rt, &mut pen.batch);
+            dropped = tell_batch(writer, &mut pen.text, pen.batch.as_slice(), taken, dropped);
+            if taken.end.is_some() {
+                self.finish(rt);
+                return;
+            }
+        }
+    }
+}
+
+/// A log whose lines a thread of its own writes, which goes on where a line can't be written. It is never joined: a writer that takes
+/// nothing for ever would hold the end of the run.
+pub fn start<W: Sink + Send + Drop + 'static, R: Threads + Wait + Copy + Send + 'static>(
+    rt: &R,
+    alloc: Global,
+    writer: W,
+) -> Result<Arc<Log>, AllocError> {
+    let log = Arc::new(alloc, Log::new(alloc)?)?;
+    let written = Arc::try_clone(&log)?;
+    let mut pen = Pen {
+        batch: Batch::new(alloc)?,
+        text: LineText::new(alloc)?,
+    };
+    let mut writer = writer;
+    let own = *rt;
+    let writing = thread::spawn(rt, move || written.write(&own, &mut pen, &mut writer))?;
+    drop(writing);
+    Ok(log)
+}

@@ -1,0 +1,60 @@
+//! Lines, written one after the other as far as that can be done.
+ghost use Rattle.connection_log.specs.Lines.{TellsEntry, TellsEach, TellsEnd, TellsBatch};
+
+use crate::connection::Connection;
+use crate::line::{Entry, LineText};
+use crate::waiting::Taken;
+use byte_stream::sink::Sink;
+use http_seats::ran::Ran;
+
+/// Writes an entry's line, behind the number of those that were dropped before: the number of those that are to be told so now.
+fn tell_entry<W: Sink>(writer: &mut W, text: &mut LineText, entry: &Entry, dropped: u64) -> u64
+    ensures { TellsEntry dropped entry.now result (W.contents writer.old) (W.contents writer.new) }
+{
+    text.clear();
+    text.put_dropped(dropped);
+    text.put_entry(entry);
+    match writer.send(text.as_slice()) {
+        Ok(()) => 0,
+        Err(_) => dropped.saturating_add(1),
+    }
+}
+
+fn tell_each<W: Sink>(
+    writer: &mut W,
+    text: &mut LineText,
+    connections: &[Connection],
+    dropped: u64,
+) -> u64
+    ensures { TellsEach dropped connections.now result (W.contents writer.old) (W.contents writer.new) }
+{
+    let mut left = dropped;
+    for connection in connections {
+        left = tell_entry(writer, text, &Entry::Connection(*connection), left);
+    }
+    left
+}
+
+fn tell_end<W: Sink>(writer: &mut W, text: &mut LineText, end: Option<Ran>, dropped: u64) -> u64
+    ensures { TellsEnd dropped end result (W.contents writer.old) (W.contents writer.new) }
+{
+    match end {
+        Some(ran) => tell_entry(writer, text, &Entry::End(ran), dropped),
+        None => dropped,
+    }
+}
+
+/// Writes the lines of connections, and the one of all where the end has come. `refused` lines were dropped behind the connections'.
+/// The number of lines that the next one tells as dropped, those among them that can't be written.
+pub fn tell_batch<W: Sink>(
+    writer: &mut W,
+    text: &mut LineText,
+    connections: &[Connection],
+    taken: Taken,
+    dropped: u64,
+) -> u64
+    ensures { TellsBatch dropped connections.now taken.refused taken.end result (W.contents writer.old) (W.contents writer.new) }
+{
+    let left = tell_each(writer, text, connections, dropped);
+    tell_end(writer, text, taken.end, left.saturating_add(taken.refused))
+}

@@ -1,0 +1,93 @@
+//! What waits to be written: so many connections at most.
+ghost use Rattle.std.specs.Prelude.{◌≡◌, [], true, Some};
+ghost use Rattle.connection_log.specs.Waits.{HasPut, HasTaken};
+
+use crate::batch::{Batch, MOST_WAITING};
+use crate::connection::Connection;
+use http_seats::ran::Ran;
+use std::alloc::{AllocError, Global};
+use std::mem;
+
+/// What waits to be written.
+#[derive(Drop)]
+pub struct Waiting {
+    batch: Batch,
+    /// The connections that found no room.
+    refused: u64,
+    /// What all of them came to, once the last is served.
+    end: Option<Ran>,
+    /// The end is written, as far as it can be.
+    is_over: bool,
+}
+
+/// What was taken beside the connections.
+#[derive(Clone, Copy, Debug)]
+pub struct Taken {
+    pub refused: u64,
+    pub end: Option<Ran>,
+}
+
+impl Waiting {
+    /// Nothing waits.
+    pub fn new(alloc: Global) -> Result<Waiting, AllocError> {
+        let batch = Batch::new(alloc)?;
+        Ok(Waiting {
+            batch,
+            refused: 0,
+            end: None,
+            is_over: false,
+        })
+    }
+
+    /// Puts a connection behind those that wait. Where there is no room for it, it is counted alone.
+    pub fn put(&mut self, connection: Connection)
+        ensures { HasPut self.old connection self.new }
+    {
+        if self.batch.list.len() >= MOST_WAITING {
+            self.refused = self.refused.saturating_add(1);
+            return;
+        }
+        let _ = self.batch.list.push(connection);
+    }
+
+    /// All connections are served.
+    pub fn put_end(&mut self, ran: Ran)
+        ensures { self.new.end ≡ Some ran }
+    {
+        self.end = Some(ran);
+    }
+
+    /// Whether nothing waits.
+    pub fn is_idle(&self) -> bool {
+        self.batch.list.is_empty() && self.refused == 0 && self.end.is_none()
+    }
+
+    /// Takes all that waits. The connections are those of the other list then, which is the one that fills from now on.
+    pub fn take(&mut self, batch: &mut Batch) -> Taken
+        requires { batch.old.list.items ≡ [] }
+        ensures { HasTaken self.old batch.new.list.items result self.new }
+    {
+        mem::swap(&mut self.batch, batch);
+        let taken = Taken {
+            refused: self.refused,
+            end: self.end,
+        };
+        self.refused = 0;
+        self.end = None;
+        taken
+    }
+
+    /// The end is written.
+    pub fn finish(&mut self)
+        ensures { self.new.is_over ≡ true }
+    {
+        self.is_over = true;
+    }
+
+    /// Whether the end is written.
+    pub fn is_over(&self) -> bool
+        ensures { result ≡ self.now.is_over }
+    {
+        self.is_over
+    }
+}

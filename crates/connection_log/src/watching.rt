@@ -1,0 +1,103 @@
+//! Connections that are watched: each is told to a log when it ends.
+use crate::connection::connection_of;
+use crate::counting::{CountedSink, CountedSource};
+use crate::log::Log;
+use http_desk::serve::{Served, StreamFault};
+use http_seats::listening::Listens;
+use http_seats::many::Arrivals;
+use http_seats::ran::Ran;
+use std::sync::Wait;
+use std::sync::atomic::{AtomicU64, Ordering};
+use std::time::Clock;
+
+/// Where streams come from, and who hears what all of them came to.
+pub trait Watched: Listens {
+    // What was heard of a run.
+    ghost use Rattle.http_seats.specs.declared.ran.Ran.{Ran};
+
+    ghost heard: { Self → Ran → Type 0 };
+
+    /// Hears what all streams came to.
+    fn hear(&self, ran: Ran)
+        ensures { heard self.now ran };
+}
+
+/// Connections that are told to a log, where there is one.
+#[derive(Drop)]
+pub struct Watching<'r, 'a, 'l, A, R> {
+    rt: &'r R,
+    arrivals: &'a A,
+    log: Option<&'l Log>,
+    taken: AtomicU64,
+}
+
+impl<'r, 'a, 'l, A: Listens, R: Wait + Clock> Watching<'r, 'a, 'l, A, R> {
+    pub fn new(rt: &'r R, arrivals: &'a A, log: Option<&'l Log>) -> Watching<'r, 'a, 'l, A, R> {
+        Watching {
+            rt,
+            arrivals,
+            log,
+            taken: AtomicU64::new(0),
+        }
+    }
+}
+
+impl<'r, 'a, 'l, A: Listens, R: Wait + Clock> Arrivals for Watching<'r, 'a, 'l, A, R> {
+    ghost use Rattle.std.specs.Option.{option_map};
+
+    // What is known of the connections below.
+    ghost gives = { λ w given. A.gives w.arrivals.now (option_map (λ s. (s.0.reader, s.1.writer)) given) };
+
+    ghost takes_back = { λ w reader writer served. A.takes_back w.arrivals.now reader.reader writer.writer served };
+
+    type Reader = CountedSource<A::Reader>;
+
+    type Writer = CountedSink<A::Writer>;
+
+    /// The next one, whose bytes are counted.
+    fn next(&self) -> Option<(CountedSource<A::Reader>, CountedSink<A::Writer>)>
+        ensures { A.gives self.now.arrivals.now (option_map (λ s. (s.0.reader, s.1.writer)) result) }
+    {
+        let (reader, writer) = self.arrivals.next()?;
+        let number = self.taken.fetch_add(1, Ordering::SeqCst).wrapping_add(1);
+        Some((
+            CountedSource::new(reader, number),
+            CountedSink::new(writer, self.log.is_some()),
+        ))
+    }
+
+    /// Closes it, and then tells what it came to.
+    fn ended(
+        &self,
+        reader: CountedSource<A::Reader>,
+        writer: CountedSink<A::Writer>,
+        served: Result<Served, StreamFault>,
+    )
+        ensures { A.takes_back self.now.arrivals.now reader.reader writer.writer served }
+    {
+        let connection = connection_of(reader.number(), &served, reader.read(), &writer.sent());
+        self.arrivals
+            .ended(reader.into_inner(), writer.into_inner(), served);
+        if let Some(log) = self.log {
+            log.note(self.rt, connection);
+        }
+    }
+}
+
+impl<'r, 'a, 'l, A: Listens, R: Wait + Clock> Listens for Watching<'r, 'a, 'l, A, R> {
+    fn has_failed(&self) -> bool {
+        self.arrivals.has_failed()
+    }
+}
+
+impl<'r, 'a, 'l, A: Listens, R: Wait + Clock> Watched for Watching<'r, 'a, 'l, A, R> {
+    // What a log got of it isn't known.
+    ghost heard = { λ _ _. Unit {0} };
+
+    /// Tells it to the log, and waits for the last lines, for a second at most.
+    fn hear(&self, ran: Ran) {
+        if let Some(log) = self.log {
+            log.end(self.rt, ran);
+        }
+    }
+}

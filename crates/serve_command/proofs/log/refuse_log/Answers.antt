@@ -1,0 +1,10 @@
+use Rattle.std.proofs.Common.{ℕ, List, subst}
+use Rattle.command_output.specs.Writing.{Told, written_of}
+use Rattle.serve_command.proofs.log.refuse_log.Goals as goal
+
+pub returns : goal.returns
+returns g c =
+    let before = written_of g.E.Sink.contents g.E.Sink.failures c.args.errors.now in
+    let after = written_of g.E.Sink.contents g.E.Sink.failures c.send_line.new.errors in
+    let told : List ℕ → Type 0 = λ line. Told before after line in
+    (c.log_status.ensures, subst told c.log_line.ensures c.send_line.ensures)
