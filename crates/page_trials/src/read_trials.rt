@@ -1,7 +1,6 @@
 //! How often a scan of all rows reads each page.
 use crate::recorder::{Recorder, SECTORS};
 use crate::scan_trials::{ROWS, scanned, stored};
-use btree_scan::Scan;
 use page_store::Pages;
 use sector_device::SectorDevice;
 use sector_memory::MemoryDevice;
@@ -43,7 +42,7 @@ fn a_scan_of_all_rows_reads_each_leaf_once(rt: HostRuntime) {
     let mut pages = Pages::open(Recorder::new(device))
         .ok()
         .expect(&rt, "not opened");
-    let told = scanned(alloc, &mut pages, &model, Scan::new(&[]), 0, 0x100_0000);
+    let told = scanned(alloc, &mut pages, &model, &[], 0, 0x100_0000);
     assert!(rt; told == (ROWS, false, None));
     let recorder = pages.into_device();
     let reads = recorder.reads();

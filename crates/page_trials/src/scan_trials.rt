@@ -59,19 +59,20 @@ pub fn stored<R: Abort>(rt: &R, alloc: Global, model: &mut BTreeMap<u32, u32>) -
     pages
 }
 
-/// How many rows come of a scan that are those between two numbers in the map, whether another call gives one, and the fault.
+/// How many rows come under a prefix that are those between two numbers in the map, whether another call gives none, and the fault.
 pub fn scanned<D: SectorDevice>(
     alloc: Global,
     pages: &mut Pages<D>,
     model: &BTreeMap<u32, u32>,
-    scan: Scan,
+    prefix: &[u8],
     from: u32,
     to: u32,
 ) -> (u32, bool, Option<TreeError>)
+    requires short { length prefix.now ≤ 1024 }
     requires order { from ≤ to }
 {
     let txn = pages.begin(alloc);
-    let mut scan = scan;
+    let mut scan = Scan::new(prefix);
     let mut row = Row::empty();
     let mut found = 0u32;
     for (n, value) in model.range(from..to) {
@@ -98,15 +99,6 @@ pub static PREFIXES: [(&[u8], u32, u32, u32); 9] = [
     (&[0xff; 72], 0, 0, 0),
 ];
 
-/// Keys, the first number in the map that isn't below each, and how many are not.
-static FIRSTS: [(&[u8], u32, u32); 5] = [
-    (&[], 0, 2000),
-    (&[0x10, 0x02, 0x05], 0x10_0205, 1497),
-    (&[0x20, 0x07, 0xcf, 0x00], 0x20_07d0, 800),
-    (&[0x40, 0x07, 0xce], 0x40_07ce, 1),
-    (&[0x41], 0x41_0000, 0),
-];
-
 #[test]
 fn rows_under_a_prefix_are_a_maps_range(rt: HostRuntime) {
     let alloc = rt.alloc();
@@ -115,14 +107,7 @@ fn rows_under_a_prefix_are_a_maps_range(rt: HostRuntime) {
     for row in &PREFIXES {
         let (prefix, from, to, count) = *row;
         assert!(rt; prefix.len() <= 1024 && from <= to);
-        let told = scanned(alloc, &mut pages, &model, Scan::new(prefix), from, to);
-        assert!(rt; told == (count, false, None));
-    }
-    for row in &FIRSTS {
-        let (key, from, count) = *row;
-        assert!(rt; key.len() <= 1024 && from <= 0x100_0000);
-        let scan = Scan::from_key(key);
-        let told = scanned(alloc, &mut pages, &model, scan, from, 0x100_0000);
+        let told = scanned(alloc, &mut pages, &model, prefix, from, to);
         assert!(rt; told == (count, false, None));
     }
 }
@@ -136,7 +121,7 @@ fn fail_at(
 ) -> ((u32, bool, Option<TreeError>), MemoryDevice) {
     match Pages::open(FailOnce::new(device, k)) {
         Ok(mut pages) => {
-            let told = scanned(alloc, &mut pages, model, Scan::new(&[]), 0, 0x100_0000);
+            let told = scanned(alloc, &mut pages, model, &[], 0, 0x100_0000);
             (told, pages.into_device().stop(&[]))
         }
         Err((_, device)) => ((0, false, Some(TreeError::DeviceFault)), device.stop(&[])),
