@@ -103,6 +103,19 @@ fn creates(words: &[String]) {
     told("a create", waits, processor(&words[1]) - before);
 }
 
+// PORT PROCESS NAME:REVISION NAME COUNT: forks of a revision, whose names begin so
+fn forks(words: &[String]) {
+    let mut connection = Connection::new(words[0].parse().unwrap());
+    let (mut waits, before) = (Vec::new(), processor(&words[1]));
+    for i in 0..words[4].parse().unwrap() {
+        let request = with_body(&format!("POST /plans/{}-fork-{i}?from={}", words[3], words[2]), b"");
+        let start = Instant::now();
+        assert_eq!(connection.ask(&request, None), 201);
+        waits.push(start.elapsed().as_secs_f64() * 1e6);
+    }
+    told(&format!("a fork of {}", words[2]), waits, processor(&words[1]) - before);
+}
+
 // PORT PROCESS TEXT NAME COUNT: whole revisions of a new plan, each county of which changes
 fn wholes(words: &[String]) {
     let text = fs::read_to_string(&words[2]).unwrap();
@@ -200,6 +213,7 @@ fn main() {
     match words[0].as_str() {
         "patches" => patches(&words[1..]),
         "creates" => creates(&words[1..]),
+        "forks" => forks(&words[1..]),
         "wholes" => wholes(&words[1..]),
         "reads" => reads(&words[1..]),
         "plans" => plans(&words[1..]),

@@ -67,6 +67,10 @@ def create(plan, kind='congress'):
     return ask(f'PUT /plans/{plan}?kind={kind}&districts=2')
 
 
+def fork(plan, source, k=1):
+    return ask(f'POST /plans/{plan}?from={source}:{k}')
+
+
 def post(plan, after, body):
     return ask(f'POST /plans/{plan}/revisions{after}', body=body)
 

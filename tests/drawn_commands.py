@@ -3,7 +3,7 @@ import collections, copy, json, random
 
 from answers import ask, refused
 from made_state import ends
-from plain_desk import body_of, client_of, creates, is_kept, is_shown, opens_so, retires, revises
+from plain_desk import body_of, client_of, creates, forks, is_kept, is_shown, opens_so, retires, revises
 from store_rows import Store
 
 NAMES = 'a', 'b', 'c-1', 'D_2.x', 'y' * 64
@@ -12,7 +12,8 @@ SIZES = ('congress', 2), ('congress', 99), ('senate', 50), ('house', 999)
 WRONG = [(ask('PUT /plans/a%20b?kind=house&districts=2'), refused('BadName')),
          *((ask(f'PUT /plans/n?{query}'), refused('BadQuery')) for query in (
              'kind=town&districts=2', 'kind=congress&districts=100', 'kind=house', 'kind=senate&districts=0')),
-         *((ask(f'POST /plans/a/revisions{query}', body='x'), refused('BadQuery')) for query in ('', '?after=x'))]
+         *((ask(f'POST /plans/a/revisions{query}', body='x'), refused('BadQuery')) for query in ('', '?after=x')),
+         *((ask(f'POST /plans/a{query}'), refused('BadQuery')) for query in ('', '?from=a', '?from=a:x', '?from=a:1&from=a:1'))]
 
 
 def drawn_code(choose):
@@ -51,10 +52,19 @@ def drawn_revision(choose, model):
     return revises(name, after, listed, page, body_of(listed, drawn_code(choose)))
 
 
+def drawn_fork(choose, model):
+    """A fork of any name, mostly of a revision that is there, at times of one before the first or behind the last."""
+    source = choose.choice([*model.plans] * 4 + [*NAMES])
+    most = len(model.plans[source].revisions) if source in model.plans else 0
+    return forks(choose.choice(NAMES), source, choose.choice([*range(1, most + 1)] * 5 + [0, most + 1]))
+
+
 def drawn(choose, model):
-    kind = choose.choices(['create', 'retire', 'revise', 'none'], [4, 1, 12, 1])[0]
+    kind = choose.choices(['create', 'fork', 'retire', 'revise', 'none'], [4, 4, 2, 12, 1])[0]
     if kind == 'create':
         return creates(choose.choice(NAMES), *choose.choice(SIZES))
+    if kind == 'fork':
+        return drawn_fork(choose, model)
     if kind == 'retire':
         return retires(choose.choice(NAMES))
     if kind == 'revise':

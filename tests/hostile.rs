@@ -88,6 +88,8 @@ fn requests() -> Vec<Vec<u8>> {
         bare("DELETE /plans/a"),
         bare("GET http://d/plans"),
         bare("PUT /plans/%61b?kind=house&districts=2"),
+        bare("POST /plans/f?from=a:1"),
+        bare("POST /plans/a?fr%6Fm=f:00001"),
         bare("GET /plans/a/revisions/1/audit?senate=b:1"),
         bare("GET /plans/ab/revisions/1/audit?congress=a:1&senate=b:1"),
         "GET /plans HTTP/1.0\r\n\r\n".to_string(),

@@ -1,11 +1,12 @@
 """For tests/tables: a plain desk of lists, what it answers, and the rows that its store has by docs/FORMATS.md; commands to it;
 and comparisons of a store, and of what a served one answers, with it.
 """
-import contextlib
+import contextlib, copy
 
 from answers import BLOCKS, LIST, answer, ask, refused, text
 from serving import Client, served
-from store_rows import Block, Counters, chunk_rows, counters_row, desk_in, load_rows, part_rows, plan_row, retired_row, seal_row
+from store_rows import (VERSION, Block, Counters, chunk_rows, counters_row, desk_in, holding_row, load_rows, part_rows, plan_row,
+                        retired_row, seal_row, tally_row, version_row)
 
 SAMPLE = ([Block(int(block), city, people) for block, city, people in zip(BLOCKS, (100, 100, 100, None), (505, 505, 495, 495))],
           [(0, 1), (0, 2), (1, 3), (2, 3)])
@@ -21,14 +22,16 @@ class Plan:
 
 
 class Model:
-    """A desk of lists, the rows of its store, and what each command is answered."""
+    """A desk of lists, the rows of its store, and what each command is answered. `holders` are the numbers of the plans that hold
+    each chunk, also of those that were taken away and not swept."""
 
     def __init__(self, ground=SAMPLE, load=0):
         self.blocks, self.pairs = ground
         self.places = {f'{block.id:015}': place for place, block in enumerate(self.blocks)}
         self.plans, self.next = {}, Counters(0, 0, load + 1)
-        self.gone, self.left = set(), set()
-        self.rows = dict([*load_rows(load, *ground), seal_row(load, len(self.blocks), len(self.pairs))])
+        # the names of plans that went, and these plans, until a sweep
+        self.gone, self.unswept, self.holders = set(), [], {}
+        self.rows = dict([version_row(), *load_rows(load, *ground), seal_row(load, len(self.blocks), len(self.pairs))])
         self.put([])
 
     def counties(self, districts):
@@ -60,13 +63,36 @@ class Model:
         key, _ = self.plan_row(name)
         del self.rows[key]
         plan = self.plans.pop(name)
-        gone = [row for k, chunks in enumerate(plan.chunks) for row in part_rows(plan.number, k + 1, chunks)]
-        gone += [row for chunks, list_ in zip(plan.chunks, plan.revisions)
-                 for chunk, districts in zip(chunks, self.counties(list_)) for row in chunk_rows(chunk, districts)]
         self.gone.add(name)
-        self.left |= {key for key, _ in [retired_row(plan.number), *gone]}
+        self.unswept.append(plan)
         self.rows.update([retired_row(plan.number)])
         return answer(200, {'plan': name, 'retired': True}), 2
+
+    def hold(self, plan, chunks):
+        """The plan holds these chunks, too: the rows of those that it didn't hold."""
+        rows = []
+        for chunk in chunks:
+            holders = self.holders.setdefault(chunk, set())
+            if plan.number not in holders:
+                holders.add(plan.number)
+                rows += [holding_row(plan.number, chunk), tally_row(chunk, len(holders))]
+        return rows
+
+    def fork(self, name, source, k):
+        """A plan of another one's kind and size, with its revision k as the only one, whose chunks both hold then."""
+        if name in self.plans:
+            return refused('PlanExists'), 0
+        if source not in self.plans:
+            return refused('NoPlan'), 0
+        origin = self.plans[source]
+        if not 1 <= k <= len(origin.revisions):
+            return refused('NoRevision'), 0
+        plan = self.plans[name] = Plan(self.next.plan, origin.kind, origin.districts)
+        plan.revisions, plan.chunks = [origin.revisions[k - 1]], [origin.chunks[k - 1]]
+        rows, names = self.hold(plan, plan.chunks[0]), part_rows(plan.number, 1, plan.chunks[0])
+        self.put([*rows, *names, self.plan_row(name)], plan=self.next.plan + 1)
+        # the plan's row and the counters are written twice
+        return answer(201, {'plan': name, 'revisions': 1}), 4 + len(names) + 2 * len(self.counties(self.blocks))
 
     def revise(self, name, after, listed, whole, wrong=None):
         """A revision by what is listed of which block, or why there is none; a body may have a fault, by its code and line."""
@@ -100,7 +126,7 @@ class Model:
         for number, last, new in zip(numbers, lasts, news):
             if new != last:
                 number, chunk = chunk, chunk + 1
-                rows += chunk_rows(number, new)
+                rows += [*chunk_rows(number, new), *self.hold(plan, [number])]
             chunks.append(number)
         plan.revisions.append(districts)
         plan.chunks.append(chunks)
@@ -108,11 +134,31 @@ class Model:
         self.put(rows, chunk=chunk)
         return answer(201, {'plan': name, 'revisions': len(plan.revisions)}), len(rows) + 1
 
+    def rows_of(self, plan):
+        """The rows of a plan's revisions, and of the chunks that no other plan holds. Their districts are those of its lists."""
+        parts = [row for k, chunks in enumerate(plan.chunks) for row in part_rows(plan.number, k + 1, chunks)]
+        return [*parts, *(row for chunks, list_ in zip(plan.chunks, plan.revisions)
+                          for chunk, districts in zip(chunks, self.counties(list_)) if not self.holders[chunk]
+                          for row in chunk_rows(chunk, districts))]
+
     def swept(self):
-        """How many rows a sweep takes out."""
-        count = len(self.left)
-        self.rows = {key: value for key, value in self.rows.items() if key not in self.left}
-        self.left = set()
+        """How many rows a sweep takes out, of the plans that went, as they were made: each lets go of its chunks, and of each of them
+        the number of holders is one less or no more there."""
+        count = 0
+        for plan in sorted(self.unswept, key=lambda plan: plan.number):
+            for chunk in sorted({chunk for chunks in plan.chunks for chunk in chunks}):
+                holders = self.holders[chunk]
+                holders.remove(plan.number)
+                key, value = tally_row(chunk, len(holders))
+                self.rows[key] = value
+                for gone in [holding_row(plan.number, chunk)[0], *([] if holders else [key])]:
+                    del self.rows[gone]
+                count += 2
+            gone = {key for key, _ in [retired_row(plan.number), *self.rows_of(plan)]}
+            for key in gone:
+                del self.rows[key]
+            count += len(gone)
+        self.unswept = []
         return count
 
     def listed(self):
@@ -145,6 +191,10 @@ def creates(name, kind='congress', districts=2):
     return ask(f'PUT /plans/{name}?kind={kind}&districts={districts}'), lambda model: model.create(name, kind, districts)
 
 
+def forks(name, source, k):
+    return ask(f'POST /plans/{name}?from={source}:{k}'), lambda model: model.fork(name, source, k)
+
+
 def retires(name):
     return ask(f'DELETE /plans/{name}'), lambda model: model.retire(name)
 
@@ -173,10 +223,13 @@ def is_kept(store, model):
     desk, seen = desk_in(store)
     assert seen.rows == model.rows, (store, set(seen.rows.items()) ^ set(model.rows.items()))
     assert desk.next == model.next and desk.geography == (model.blocks, model.pairs), (desk.next, model.next)
+    assert desk.version == VERSION, store
     found = {name: (plan.row.number, plan.row.kind, plan.row.districts, plan.chunks, plan.revisions)
              for name, plan in desk.plans.items()}
     wanted = {name: (plan.number, plan.kind, plan.districts, plan.chunks, plan.revisions) for name, plan in model.plans.items()}
-    assert found == wanted and desk.left == model.left, (found, wanted, desk.left, model.left)
+    assert found == wanted, (found, wanted)
+    swept = copy.deepcopy(model)
+    assert desk.rows_left == swept.swept() and desk.left == set(model.rows) - set(swept.rows), (desk.left, desk.rows_left)
     return seen
 
 

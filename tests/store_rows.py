@@ -1,6 +1,6 @@
 """For tests/tables: an independent reader of stores, which goes by docs/FORMATS.md ('Stores') alone. It takes a store's file
 apart, down to the desk that its rows say, and asserts on the way what that page and docs/ARCHITECTURE.md ('The store above its
-pages') promise of them. Beside it a small writer, which puts rows into a store at rest, or takes them out.
+pages') promise of them. Beside it a small writer, which puts rows into a store at rest, or takes them out, and makes one anew of rows.
 """
 import collections, re
 
@@ -11,6 +11,7 @@ MOST_DISTRICTS = {'congress': 99, 'senate': 999, 'house': 999}
 MOST_REVISIONS = 65_535
 # how many chunks a part of a revision names, and how many districts a piece of a chunk has
 PART, PIECE = 128, 512
+VERSION = 2
 
 Counters = collections.namedtuple('Counters', 'plan chunk load')
 PlanRow = collections.namedtuple('PlanRow', 'number kind districts revisions')
@@ -147,6 +148,20 @@ def seal_row(load, blocks, pairs):
     return b'S', packed((load, 8), (blocks, 4), (pairs, 4))
 
 
+def version_row(version=VERSION):
+    return b'V', packed((version, 4))
+
+
+def holding_row(plan, chunk):
+    """That a plan holds a chunk."""
+    return b'H' + packed((plan, 8), (chunk, 8)), b''
+
+
+def tally_row(chunk, count):
+    """How many plans hold a chunk."""
+    return b'K' + packed((chunk, 8)), packed((count, 8))
+
+
 def load_rows(load, blocks, pairs):
     """The rows of a geography: its blocks rising, then its pairs rising."""
     begin = b'g' + packed((load, 8))
@@ -179,12 +194,24 @@ def nothing_in(value):
     assert value == b'', value
 
 
+def tally_in(value):
+    count, = fields(value, 8)
+    assert count > 0, value
+    return count
+
+
+def version_in(value):
+    assert value == packed((VERSION, 4)), value
+    return VERSION
+
+
 # of a key's tag: the sizes of the numbers behind it, and what a value says
 LAYOUTS = {
     'A': ((), lambda value: Counters(*fields(value, 8, 8, 8))), 'D': ((8,), nothing_in), 'L': ((8,), nothing_in),
     'R': ((8, 4, 1), lambda value: list_in(value, 8, PART)), 'S': ((), lambda value: Seal(*fields(value, 8, 4, 4))),
     'gb': ((8, 4), block_in), 'gp': ((8, 4), lambda value: fields(value, 4, 4)),
-    'k': ((8, 2), lambda value: list_in(value, 2, PIECE))}
+    'k': ((8, 2), lambda value: list_in(value, 2, PIECE)),
+    'H': ((8, 8), nothing_in), 'K': ((8,), tally_in), 'V': ((), version_in)}
 
 
 def said(rows):
@@ -220,12 +247,13 @@ class Store:
 
 
 class Desk:
-    """The desk that a store's rows say, once they are judged: its geography, or none, and its plans by name; the numbers that
-    come next, the plans that were taken away, the loads that were begun, and the rows that a sweep has to take out."""
+    """The desk that a store's rows say, once they are judged: its version, its geography, or none, and its plans by name; the
+    numbers that come next, the plans that were taken away, the loads that were begun, the rows that a sweep has to take out, and
+    how many rows it tells then."""
 
     def __init__(self, rows):
         told = said(rows)
-        self.told, self.next = told, told['A'].get((), Counters(0, 0, 0))
+        self.told, self.next, self.version = told, told['A'].get((), Counters(0, 0, 0)), told['V'].get((), 1)
         self.retired, self.begun = ({number for number, in told[tag]} for tag in 'DL')
         self.seal = told['S'].get(())
         self.geography = self.sealed() if self.seal else None
@@ -234,10 +262,19 @@ class Desk:
             self.parts_by_plan[plan][tuple(place)] = chunks
         for (chunk, index), districts in told['k'].items():
             self.pieces_by_chunk[chunk][index] = districts
+        # the chunks that the revisions of each plan name, and the plans that hold each chunk
+        self.named = {plan: {chunk for named in mine.values() for chunk in named} for plan, mine in self.parts_by_plan.items()}
+        self.holders = collections.defaultdict(set)
+        for plan, chunk in told['H']:
+            self.holders[chunk].add(plan)
         self.are_numbered()
         self.are_owned()
+        self.are_held()
         self.plans = {name: self.plan(row) for name, row in told['P'].items()}
         self.left = self.leftovers(rows)
+        # beside a holding row that goes, a number of holders changes or goes too
+        lets_go = sum(plan in self.retired for plan, _ in told['H'])
+        self.rows_left = len({key for key in self.left if key[:1] != b'K'}) + lets_go
 
     def sealed(self):
         """The blocks and pairs of the load that the seal names."""
@@ -261,18 +298,30 @@ class Desk:
             assert max(used, default=-1) < above, (used, self.next)
 
     def are_owned(self):
-        """Each row belongs to something: a part to a plan, a chunk to one plan alone, a row of a load to a load."""
+        """Each row belongs to something: a part to a plan, a chunk to the plans that name it, a row of a load to a load. In a store
+        of version 1 one plan alone names a chunk."""
         known = {row.number for row in self.told['P'].values()} | self.retired
         owners = collections.defaultdict(set)
-        for (plan, _, _), chunks in self.told['R'].items():
+        for plan, chunks in self.named.items():
             assert plan in known, plan
             for chunk in chunks:
                 owners[chunk].add(plan)
-        assert all(len(plans) == 1 for plans in owners.values()), owners
+        assert self.version == VERSION or all(len(plans) == 1 for plans in owners.values()), owners
         assert {chunk for chunk, _ in self.told['k']} <= set(owners), (self.told['k'], owners)
         loads = {load for tag in ('gb', 'gp') for load, _ in self.told[tag]}
         assert loads <= self.begun | ({self.seal.load} if self.seal else set()), loads
         assert self.seal or not self.told['P'], self.told['P']
+
+    def are_held(self):
+        """Each holding row is of a plan and of a chunk that this plan names; and of each chunk that has one, and of no other, a row
+        tells how many they are. Where the version row stands, each plan that is there holds all chunks that it names."""
+        for plan, chunk in self.told['H']:
+            assert chunk in self.named.get(plan, ()), (plan, chunk)
+        tallies = {chunk: count for (chunk,), count in self.told['K'].items()}
+        assert tallies == {chunk: len(plans) for chunk, plans in self.holders.items()}, (tallies, self.holders)
+        numbers = [row.number for row in self.told['P'].values() if self.version == VERSION]
+        for plan in numbers:
+            assert all(plan in self.holders[chunk] for chunk in self.named.get(plan, ())), (plan, self.named[plan])
 
     def counties(self):
         """How many blocks each county has, in their order."""
@@ -300,9 +349,10 @@ class Desk:
         return Plan(row, chunks, revisions)
 
     def leftovers(self, rows):
-        """The keys of the rows of plans that were taken away and of loads that were begun."""
-        gone = {chunk for plan in self.retired for named in self.parts_by_plan[plan].values() for chunk in named}
-        owners = {'D': self.retired, 'R': self.retired, 'k': gone, 'L': self.begun, 'g': self.begun}
+        """The keys of the rows of plans that were taken away and of loads that were begun. A chunk that a plan holds which is there
+        stays."""
+        gone = {chunk for plan in self.retired for chunk in self.named.get(plan, ()) if self.holders[chunk] <= self.retired}
+        owners = {'D': self.retired, 'H': self.retired, 'R': self.retired, 'K': gone, 'k': gone, 'L': self.begun, 'g': self.begun}
         return {key for key in rows if number(key, 1, 8) in owners.get(chr(key[0]), ())}
 
 
@@ -342,16 +392,53 @@ def put_page(path, page, data):
 
 def change(path, *rows):
     """Puts rows into a store whose journal doesn't count, and takes out those whose value is None, each in the leaf where it
-    belongs. A store without rows gets its first leaf on its first free page."""
+    belongs."""
     for key, value in rows:
         with open(path, 'rb') as file:
             pages = pages_of(file.read())
         page = leaf_for(pages, key)
-        entries = dict(node(pages[page])[1]) if page else {}
-        if not page:
-            page, count = number(pages[0], 4), number(pages[0], 8)
-            put_page(path, 0, packed((page, 4), (number(pages[page]), 4), (count - 1, 4)).ljust(SECTOR, b'\0'))
+        assert page, path
+        entries = dict(node(pages[page])[1])
         entries[key] = value
         left = sorted(row for row in entries.items() if row[1] is not None)
         assert left, key
         put_page(path, page, written(0, left))
+
+
+def filled(entries):
+    """The entries of nodes that are each as full as may be."""
+    some, room = [], SECTOR - 4
+    for key, value in entries:
+        size = 3 + len(key) + len(value)
+        if size > room:
+            yield some
+            some, room = [], SECTOR - 4
+        some.append((key, value))
+        room -= size
+    if some:
+        yield some
+
+
+def rebuild(path, rows):
+    """Puts these rows in the place of all that a store's pages hold, from page 1 on. Its journal doesn't count then."""
+    with open(path, 'rb') as file:
+        sectors = parts(file.read(), SECTOR)
+    home = layout(sectors)[2]
+    pages, level, entries = [b''], 0, sorted(rows.items())
+    while entries:
+        above = []
+        for some in filled(entries):
+            above.append((some[0][0], packed((len(pages), 4))))
+            pages.append(written(level, some))
+        level, entries = level + 1, above if len(above) > 1 else []
+    count, free = len(sectors) - home, len(pages)
+    pages += [packed(((page + 1) % count, 4)) for page in range(free, count)]
+    assert len(pages) == count, (len(pages), count)
+    pages[0] = packed((free - 1, 4), (free % count, 4), (count - free, 4))
+    with open(path, 'wb') as file:
+        file.write(b''.join([sectors[0], bytes(SECTOR), *sectors[2:home], *(page.ljust(SECTOR, b'\0') for page in pages)]))
+
+
+def make_old(path):
+    """Makes a store of version 1, which has neither holdings nor the version row."""
+    rebuild(path, {key: value for key, value in Store(path).rows.items() if key[:1] not in (b'H', b'K', b'V')})

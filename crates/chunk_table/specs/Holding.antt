@@ -1,5 +1,5 @@
 -- What it is for a plan to come to hold a chunk, and why it doesn't.
-use Rattle.std.specs.Prelude.{◌≡◌, ◌⊎◌, ◌<◌, ◌≤◌, ◌+◌, ◌^◌, ℕ, Bool, true, false, List, Result, IfOk, MatchResult}
+use Rattle.std.specs.Prelude.{◌≡◌, ◌⊎◌, ◌<◌, ◌≤◌, ◌+◌, ◌*◌, ◌^◌, ℕ, Bool, true, false, List, length, Contains, Result, IfOk, MatchResult}
 use Rattle.sector_device.specs.declared.SectorDevice.{Ghosts}
 use Rattle.page_store.specs.Transactions.{stored, disk_in, has_halted, txn_pages, txn_free, txn_writes, HasFailed, Passed}
 use Rattle.page_store.specs.declared.pages.Pages.{Pages}
@@ -10,8 +10,9 @@ use Rattle.page_btree.specs.declared.error.TreeError.TheVariants.{DeviceFault, H
 use Rattle.store_rows.specs.Keys.{holding, tally}
 use Rattle.store_rows.specs.Rows.{KeyMap, row_in, Has, Lacks}
 use Rattle.store_rows.specs.Holders.{tally_row, holding_rows}
-use Rattle.store_rows.specs.Shares.{CanHold, hold}
+use Rattle.store_rows.specs.Shares.{CanHold, hold, hold_all}
 use Rattle.row_table.specs.Puts.{HasDeepened}
+use Rattle.chunk_table.specs.Changing.{ChangesMap}
 
 -- a holding row is there, or not
 abbrev pub Stands : Bool → ℕ → ℕ → KeyMap → Type 0
@@ -21,6 +22,10 @@ Stands false plan number m = Lacks m (holding plan number)
 -- the chunk's count is told
 abbrev pub HasTally : ℕ → KeyMap → Type 0
 HasTally number m = (count : ℕ) × (count < 2 ^ 64) × (row_in m (tally number) ≡ tally_row count)
+
+-- in a map the plan can come to hold chunks of these numbers
+abbrev pub CanHoldAll : ℕ → List ℕ → KeyMap → Type 0
+CanHoldAll plan numbers m = (limit : ℕ) × CanHold m limit plan × ((number : ℕ) → Contains numbers number → number < 2 ^ 64)
 
 module _ {D : Type 0} {g : Ghosts D} where
   -- The plan holds the chunk then, by two rows at most.
@@ -60,3 +65,7 @@ module _ {D : Type 0} {g : Ghosts D} where
   -- how many plans do
   abbrev pub TellsTally : ℕ → Txn → Pages D g → Pages D g → Result ℕ TreeError → Type 0
   TellsTally number t old new result = (disk_in new).is_honest → (m : KeyMap) → InTxn t (stored old) m → IfOk result (λ count. row_in m (tally number) ≡ tally_row count)
+
+  -- the plan holds each chunk of a list then, by two rows a chunk at most
+  abbrev pub HoldsChunks : {T : Type 0} → ℕ → List ℕ → Txn → Txn → Pages D g → Pages D g → Result T TreeError → Type 0
+  HoldsChunks plan numbers t u old new result = ChangesMap (CanHoldAll plan numbers) (λ m. hold_all m plan numbers) (2 * length numbers) t u old new result

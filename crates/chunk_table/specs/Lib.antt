@@ -1,3 +1,4 @@
 pub mod Reading
+pub mod Changing
 pub mod Holding
 pub mod Releasing

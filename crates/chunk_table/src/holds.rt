@@ -4,17 +4,18 @@ ghost use Rattle.page_store.specs.Transactions.{count_of, txn_pages, IsQuiet, Pa
 ghost use Rattle.page_btree.specs.Errors.{GetErr};
 ghost use Rattle.store_rows.specs.Holders.{holding_rows};
 ghost use Rattle.row_table.specs.Outcomes.{PutsRows};
-ghost use Rattle.chunk_table.specs.Holding.{HoldsChunk, TellsHeld};
+ghost use Rattle.chunk_table.specs.Holding.{HoldsChunk, HoldsChunks, TellsHeld};
 
 use crate::tallies::tally_of;
 use page_btree::get;
 use page_store::{Pages, Txn};
 use row_table::{TreeError, put_row};
 use sector_device::SectorDevice;
+use store_rows::forks::chunks_are_held;
 use store_rows::{Key, Tally, tally_value};
 
-/// Whether a plan holds a chunk.
-fn is_held<D: SectorDevice>(
+/// Whether a plan holds a chunk. An error is `DeviceFault` or `Halted`.
+pub fn is_held<D: SectorDevice>(
     txn: &Txn,
     pages: &mut Pages<D>,
     plan: u64,
@@ -76,4 +77,24 @@ pub fn hold<D: SectorDevice>(
     }
     put_holding(txn, pages, plan, number, count)?;
     Ok(true)
+}
+
+/// Has a plan hold chunks, one after the other: a number that comes twice is held once. At most 22 pages a chunk are written, and 12
+/// taken. Errors come as from `hold`.
+pub fn hold_all<D: SectorDevice>(
+    txn: &mut Txn,
+    pages: &mut Pages<D>,
+    plan: u64,
+    numbers: &[u64],
+) -> Result<(), TreeError>
+    requires begun { txn_pages txn.old ≡ count_of pages.old }
+    ensures quiet { IsQuiet pages.old pages.new }
+    ensures begun { txn_pages txn.new ≡ count_of pages.new }
+    ensures hold { HoldsChunks plan numbers.now txn.old txn.new pages.old pages.new result }
+{
+    chunks_are_held();
+    for number in numbers {
+        hold(txn, pages, plan, *number)?;
+    }
+    Ok(())
 }

@@ -18,9 +18,14 @@ pub type Pick = (u64, [u8; 4096]);
 
 /// A pick of every sector.
 pub fn picks<R: Abort>(rt: &R, alloc: Global, fill: Option<u8>) -> Vec<Pick> {
+    picks_of(rt, alloc, SECTORS, fill)
+}
+
+/// A pick of so many sectors.
+pub fn picks_of<R: Abort>(rt: &R, alloc: Global, sectors: u32, fill: Option<u8>) -> Vec<Pick> {
     let mut all = Vec::new(alloc);
     if let Some(byte) = fill {
-        for i in 0..SECTORS {
+        for i in 0..sectors {
             all.push((i as u64, [byte; 4096])).expect(rt, "no memory");
         }
     }
@@ -63,7 +68,7 @@ pub type Image = Vec<[u8; 4096]>;
 pub fn image_of<R: Abort>(rt: &R, alloc: Global, device: MemoryDevice) -> Image {
     let mut device = device;
     let mut image = Vec::new(alloc);
-    for i in 0..SECTORS {
+    for i in 0..device.count() {
         let mut sector = [0; 4096];
         assert!(rt; i < device.count());
         device.read(i, &mut sector).expect(rt, "not read");
@@ -74,13 +79,11 @@ pub fn image_of<R: Abort>(rt: &R, alloc: Global, device: MemoryDevice) -> Image 
 
 /// A device with these sectors, all of them on the disk.
 pub fn device_with<R: Abort>(rt: &R, alloc: Global, image: &[[u8; 4096]]) -> MemoryDevice {
-    let mut device = MemoryDevice::new(alloc, SECTORS).expect(rt, "no memory");
-    assert!(rt; image.len() == SECTORS as usize);
-    for i in 0..SECTORS {
-        assert!(rt; i < device.count());
-        device
-            .write(i, &image[i as usize])
-            .expect(rt, "not written");
+    assert!(rt; image.len() <= 4096);
+    let mut device = MemoryDevice::new(alloc, image.len() as u32).expect(rt, "no memory");
+    for (i, sector) in image.iter().enumerate() {
+        assert!(rt; i < device.count() as usize);
+        device.write(i as u32, sector).expect(rt, "not written");
     }
     device.sync().expect(rt, "not synced");
     device

@@ -1,6 +1,6 @@
-//! What only the clerk's own calls show, tried on stores in memory; the gate of a served stream; a gallery; two streams at the
-//! seats of one office; and served commands, loads and openings at a device that stops or fails at one of its calls, and the desk
-//! that is found then.
+//! What only the clerk's own calls show, tried on stores in memory; a fork beside its origin; the gate of a served stream; a gallery;
+//! two streams at the seats of one office; and served commands, loads, sweeps, openings and migrations at a device that stops or fails at one of
+//! its calls, and the desk that is found then.
 #![tactic(auto)]
 
 #[cfg(test)]
@@ -8,9 +8,13 @@ mod commits;
 #[cfg(test)]
 mod devices;
 #[cfg(test)]
+mod forks;
+#[cfg(test)]
 mod gates;
 #[cfg(test)]
 mod loads;
+#[cfg(test)]
+mod migrations;
 #[cfg(test)]
 mod openings;
 #[cfg(test)]

@@ -14,7 +14,7 @@ use std::sync::Arc;
 
 /// A device whose calls all pass. It is one of which a call could fail, so that a clerk is compiled for two types of devices, this
 /// one and one that stops.
-fn passing(device: MemoryDevice) -> FailOnce {
+pub fn passing(device: MemoryDevice) -> FailOnce {
     FailOnce::new(device, u64::MAX)
 }
 

@@ -1,23 +1,26 @@
-//! Four commands for one plan, and what is answered to them and to queries behind so many of them.
+//! Six commands for a plan and a fork of it, and what is answered to them and to queries behind so many of them.
 use std::alloc::Global;
 use std::process::Abort;
 
-/// Makes the plan, keeps a revision of it, changes a county of that, and takes the plan away.
+/// Makes the plan, keeps a revision of it, changes a county of that, forks the first revision, changes the other county of the fork, and
+/// takes the plan away.
 pub const COMMANDS: &[u8] =
-    b"PUT /plans/a?kind=congress&districts=2 HTTP/1.1\r\nHost: d\r\n\r\nPOST /plans/a/revisions?after=0 HTTP/1.1\r\nHost: d\r\nContent-Length: 93\r\n\r\nBLOCKID|DISTRICT\n190010001001001|01\n190010001001002|01\n190030001001001|02\n190030001001002|02\nPOST /plans/a/counties?after=1 HTTP/1.1\r\nHost: d\r\nContent-Length: 53\r\n\r\nBLOCKID|DISTRICT\n190030001001001|1\n190030001001002|1\nDELETE /plans/a HTTP/1.1\r\nHost: d\r\n\r\n";
+    b"PUT /plans/a?kind=congress&districts=2 HTTP/1.1\r\nHost: d\r\n\r\nPOST /plans/a/revisions?after=0 HTTP/1.1\r\nHost: d\r\nContent-Length: 93\r\n\r\nBLOCKID|DISTRICT\n190010001001001|01\n190010001001002|01\n190030001001001|02\n190030001001002|02\nPOST /plans/a/counties?after=1 HTTP/1.1\r\nHost: d\r\nContent-Length: 53\r\n\r\nBLOCKID|DISTRICT\n190030001001001|1\n190030001001002|1\nPOST /plans/b?from=a:1 HTTP/1.1\r\nHost: d\r\n\r\nPOST /plans/b/counties?after=1 HTTP/1.1\r\nHost: d\r\nContent-Length: 53\r\n\r\nBLOCKID|DISTRICT\n190010001001001|2\n190010001001002|2\nDELETE /plans/a HTTP/1.1\r\nHost: d\r\n\r\n";
 
 /// How many they are.
-pub const ALL: usize = 4;
+pub const ALL: usize = 6;
 
-/// Lists the plans, and reads both revisions.
+/// Lists the plans, and reads both revisions of each.
 pub const QUERIES: &[u8] =
-    b"GET /plans HTTP/1.1\r\nHost: d\r\n\r\nGET /plans/a/revisions/1 HTTP/1.1\r\nHost: d\r\n\r\nGET /plans/a/revisions/2 HTTP/1.1\r\nHost: d\r\n\r\n";
+    b"GET /plans HTTP/1.1\r\nHost: d\r\n\r\nGET /plans/a/revisions/1 HTTP/1.1\r\nHost: d\r\n\r\nGET /plans/a/revisions/2 HTTP/1.1\r\nHost: d\r\n\r\nGET /plans/b/revisions/1 HTTP/1.1\r\nHost: d\r\n\r\nGET /plans/b/revisions/2 HTTP/1.1\r\nHost: d\r\n\r\n";
 
 /// What each command is answered where it is made.
 static MADE: [&[u8]; ALL] = [
     b"HTTP/1.1 201 Created\r\nContent-Type: application/json\r\nContent-Length: 26\r\n\r\n{\"plan\":\"a\",\"revisions\":0}",
     b"HTTP/1.1 201 Created\r\nContent-Type: application/json\r\nContent-Length: 26\r\n\r\n{\"plan\":\"a\",\"revisions\":1}",
     b"HTTP/1.1 201 Created\r\nContent-Type: application/json\r\nContent-Length: 26\r\n\r\n{\"plan\":\"a\",\"revisions\":2}",
+    b"HTTP/1.1 201 Created\r\nContent-Type: application/json\r\nContent-Length: 26\r\n\r\n{\"plan\":\"b\",\"revisions\":1}",
+    b"HTTP/1.1 201 Created\r\nContent-Type: application/json\r\nContent-Length: 26\r\n\r\n{\"plan\":\"b\",\"revisions\":2}",
     b"HTTP/1.1 200 OK\r\nContent-Type: application/json\r\nContent-Length: 27\r\n\r\n{\"plan\":\"a\",\"retired\":true}",
 ];
 
@@ -25,16 +28,15 @@ static MADE: [&[u8]; ALL] = [
 pub const HALTED: &[u8] =
     b"HTTP/1.1 503 Service Unavailable\r\nContent-Type: application/json\r\nContent-Length: 18\r\n\r\n{\"error\":\"Halted\"}";
 
-const NONE: &[u8] =
-    b"HTTP/1.1 200 OK\r\nContent-Type: application/json\r\nContent-Length: 12\r\n\r\n{\"plans\":[]}HTTP/1.1 404 Not Found\r\nContent-Type: application/json\r\nContent-Length: 18\r\n\r\n{\"error\":\"NoPlan\"}HTTP/1.1 404 Not Found\r\nContent-Type: application/json\r\nContent-Length: 18\r\n\r\n{\"error\":\"NoPlan\"}";
-
 /// What the queries are answered behind so many of the commands.
 static SHOWN: [&[u8]; ALL + 1] = [
-    NONE,
-    b"HTTP/1.1 200 OK\r\nContent-Type: application/json\r\nContent-Length: 70\r\n\r\n{\"plans\":[{\"districts\":2,\"kind\":\"congress\",\"name\":\"a\",\"revisions\":0}]}HTTP/1.1 404 Not Found\r\nContent-Type: application/json\r\nContent-Length: 22\r\n\r\n{\"error\":\"NoRevision\"}HTTP/1.1 404 Not Found\r\nContent-Type: application/json\r\nContent-Length: 22\r\n\r\n{\"error\":\"NoRevision\"}",
-    b"HTTP/1.1 200 OK\r\nContent-Type: application/json\r\nContent-Length: 70\r\n\r\n{\"plans\":[{\"districts\":2,\"kind\":\"congress\",\"name\":\"a\",\"revisions\":1}]}HTTP/1.1 200 OK\r\nContent-Type: text/plain\r\nContent-Length: 93\r\n\r\nBLOCKID|DISTRICT\n190010001001001|01\n190010001001002|01\n190030001001001|02\n190030001001002|02\nHTTP/1.1 404 Not Found\r\nContent-Type: application/json\r\nContent-Length: 22\r\n\r\n{\"error\":\"NoRevision\"}",
-    b"HTTP/1.1 200 OK\r\nContent-Type: application/json\r\nContent-Length: 70\r\n\r\n{\"plans\":[{\"districts\":2,\"kind\":\"congress\",\"name\":\"a\",\"revisions\":2}]}HTTP/1.1 200 OK\r\nContent-Type: text/plain\r\nContent-Length: 93\r\n\r\nBLOCKID|DISTRICT\n190010001001001|01\n190010001001002|01\n190030001001001|02\n190030001001002|02\nHTTP/1.1 200 OK\r\nContent-Type: text/plain\r\nContent-Length: 93\r\n\r\nBLOCKID|DISTRICT\n190010001001001|01\n190010001001002|01\n190030001001001|01\n190030001001002|01\n",
-    NONE,
+    b"HTTP/1.1 200 OK\r\nContent-Type: application/json\r\nContent-Length: 12\r\n\r\n{\"plans\":[]}HTTP/1.1 404 Not Found\r\nContent-Type: application/json\r\nContent-Length: 18\r\n\r\n{\"error\":\"NoPlan\"}HTTP/1.1 404 Not Found\r\nContent-Type: application/json\r\nContent-Length: 18\r\n\r\n{\"error\":\"NoPlan\"}HTTP/1.1 404 Not Found\r\nContent-Type: application/json\r\nContent-Length: 18\r\n\r\n{\"error\":\"NoPlan\"}HTTP/1.1 404 Not Found\r\nContent-Type: application/json\r\nContent-Length: 18\r\n\r\n{\"error\":\"NoPlan\"}",
+    b"HTTP/1.1 200 OK\r\nContent-Type: application/json\r\nContent-Length: 70\r\n\r\n{\"plans\":[{\"districts\":2,\"kind\":\"congress\",\"name\":\"a\",\"revisions\":0}]}HTTP/1.1 404 Not Found\r\nContent-Type: application/json\r\nContent-Length: 22\r\n\r\n{\"error\":\"NoRevision\"}HTTP/1.1 404 Not Found\r\nContent-Type: application/json\r\nContent-Length: 22\r\n\r\n{\"error\":\"NoRevision\"}HTTP/1.1 404 Not Found\r\nContent-Type: application/json\r\nContent-Length: 18\r\n\r\n{\"error\":\"NoPlan\"}HTTP/1.1 404 Not Found\r\nContent-Type: application/json\r\nContent-Length: 18\r\n\r\n{\"error\":\"NoPlan\"}",
+    b"HTTP/1.1 200 OK\r\nContent-Type: application/json\r\nContent-Length: 70\r\n\r\n{\"plans\":[{\"districts\":2,\"kind\":\"congress\",\"name\":\"a\",\"revisions\":1}]}HTTP/1.1 200 OK\r\nContent-Type: text/plain\r\nContent-Length: 93\r\n\r\nBLOCKID|DISTRICT\n190010001001001|01\n190010001001002|01\n190030001001001|02\n190030001001002|02\nHTTP/1.1 404 Not Found\r\nContent-Type: application/json\r\nContent-Length: 22\r\n\r\n{\"error\":\"NoRevision\"}HTTP/1.1 404 Not Found\r\nContent-Type: application/json\r\nContent-Length: 18\r\n\r\n{\"error\":\"NoPlan\"}HTTP/1.1 404 Not Found\r\nContent-Type: application/json\r\nContent-Length: 18\r\n\r\n{\"error\":\"NoPlan\"}",
+    b"HTTP/1.1 200 OK\r\nContent-Type: application/json\r\nContent-Length: 70\r\n\r\n{\"plans\":[{\"districts\":2,\"kind\":\"congress\",\"name\":\"a\",\"revisions\":2}]}HTTP/1.1 200 OK\r\nContent-Type: text/plain\r\nContent-Length: 93\r\n\r\nBLOCKID|DISTRICT\n190010001001001|01\n190010001001002|01\n190030001001001|02\n190030001001002|02\nHTTP/1.1 200 OK\r\nContent-Type: text/plain\r\nContent-Length: 93\r\n\r\nBLOCKID|DISTRICT\n190010001001001|01\n190010001001002|01\n190030001001001|01\n190030001001002|01\nHTTP/1.1 404 Not Found\r\nContent-Type: application/json\r\nContent-Length: 18\r\n\r\n{\"error\":\"NoPlan\"}HTTP/1.1 404 Not Found\r\nContent-Type: application/json\r\nContent-Length: 18\r\n\r\n{\"error\":\"NoPlan\"}",
+    b"HTTP/1.1 200 OK\r\nContent-Type: application/json\r\nContent-Length: 129\r\n\r\n{\"plans\":[{\"districts\":2,\"kind\":\"congress\",\"name\":\"a\",\"revisions\":2},{\"districts\":2,\"kind\":\"congress\",\"name\":\"b\",\"revisions\":1}]}HTTP/1.1 200 OK\r\nContent-Type: text/plain\r\nContent-Length: 93\r\n\r\nBLOCKID|DISTRICT\n190010001001001|01\n190010001001002|01\n190030001001001|02\n190030001001002|02\nHTTP/1.1 200 OK\r\nContent-Type: text/plain\r\nContent-Length: 93\r\n\r\nBLOCKID|DISTRICT\n190010001001001|01\n190010001001002|01\n190030001001001|01\n190030001001002|01\nHTTP/1.1 200 OK\r\nContent-Type: text/plain\r\nContent-Length: 93\r\n\r\nBLOCKID|DISTRICT\n190010001001001|01\n190010001001002|01\n190030001001001|02\n190030001001002|02\nHTTP/1.1 404 Not Found\r\nContent-Type: application/json\r\nContent-Length: 22\r\n\r\n{\"error\":\"NoRevision\"}",
+    b"HTTP/1.1 200 OK\r\nContent-Type: application/json\r\nContent-Length: 129\r\n\r\n{\"plans\":[{\"districts\":2,\"kind\":\"congress\",\"name\":\"a\",\"revisions\":2},{\"districts\":2,\"kind\":\"congress\",\"name\":\"b\",\"revisions\":2}]}HTTP/1.1 200 OK\r\nContent-Type: text/plain\r\nContent-Length: 93\r\n\r\nBLOCKID|DISTRICT\n190010001001001|01\n190010001001002|01\n190030001001001|02\n190030001001002|02\nHTTP/1.1 200 OK\r\nContent-Type: text/plain\r\nContent-Length: 93\r\n\r\nBLOCKID|DISTRICT\n190010001001001|01\n190010001001002|01\n190030001001001|01\n190030001001002|01\nHTTP/1.1 200 OK\r\nContent-Type: text/plain\r\nContent-Length: 93\r\n\r\nBLOCKID|DISTRICT\n190010001001001|01\n190010001001002|01\n190030001001001|02\n190030001001002|02\nHTTP/1.1 200 OK\r\nContent-Type: text/plain\r\nContent-Length: 93\r\n\r\nBLOCKID|DISTRICT\n190010001001001|02\n190010001001002|02\n190030001001001|02\n190030001001002|02\n",
+    b"HTTP/1.1 200 OK\r\nContent-Type: application/json\r\nContent-Length: 70\r\n\r\n{\"plans\":[{\"districts\":2,\"kind\":\"congress\",\"name\":\"b\",\"revisions\":2}]}HTTP/1.1 404 Not Found\r\nContent-Type: application/json\r\nContent-Length: 18\r\n\r\n{\"error\":\"NoPlan\"}HTTP/1.1 404 Not Found\r\nContent-Type: application/json\r\nContent-Length: 18\r\n\r\n{\"error\":\"NoPlan\"}HTTP/1.1 200 OK\r\nContent-Type: text/plain\r\nContent-Length: 93\r\n\r\nBLOCKID|DISTRICT\n190010001001001|01\n190010001001002|01\n190030001001001|02\n190030001001002|02\nHTTP/1.1 200 OK\r\nContent-Type: text/plain\r\nContent-Length: 93\r\n\r\nBLOCKID|DISTRICT\n190010001001001|02\n190010001001002|02\n190030001001001|02\n190030001001002|02\n",
 ];
 
 /// Whether these are the answers to the queries behind so many of the commands.

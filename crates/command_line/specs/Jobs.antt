@@ -7,7 +7,7 @@ use Rattle.state_files.specs.declared.open.CensusPaths.{CensusPaths}
 use Rattle.state_files.specs.Opens.{AreAlike}
 use Rattle.command_line.specs.Options.{AreTerms, IsSize, size_read, IsServing, serving_read}
 use Rattle.command_line.specs.declared.words.Job.{Job}
-use Rattle.command_line.specs.declared.words.Job.TheVariants.{Talk, Counts, Audit, Format, Load, Serve, Sweep, Explain}
+use Rattle.command_line.specs.declared.words.Job.TheVariants.{Talk, Counts, Audit, Format, Load, Serve, Sweep, Migrate, Explain}
 
 -- an audit is asked for with its terms in range and 1 to 64 workers, and each companion's file goes with its number of districts
 abbrev pub IsJob : Job → Type 0
@@ -18,6 +18,7 @@ IsJob (Format store size) = IsSize size
 IsJob (Load store census gal) = Unit {0}
 IsJob (Serve store serving log) = IsServing serving
 IsJob (Sweep store) = Unit {0}
+IsJob (Migrate store) = Unit {0}
 IsJob (Explain code) = Unit {0}
 
 -- each census file is the one that its option names
@@ -45,4 +46,5 @@ HasPaths found (Serve store serving log) = (first_value found (codes "store") �
     × (serving_read (first_value found (codes "port")) (first_value found (codes "workers")) (first_value found (codes "connections")) (first_value found (codes "idle")) ≡ Some serving)
     × (first_value found (codes "log") ≡ option_copied log)
 HasPaths found (Sweep store) = first_value found (codes "store") ≡ Some store.now
+HasPaths found (Migrate store) = first_value found (codes "store") ≡ Some store.now
 HasPaths found (Explain code) = first_value found (codes "code") ≡ Some code.now

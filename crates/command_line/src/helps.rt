@@ -77,6 +77,22 @@ Statuses:
 
 To read: docs/OPERATE.md (what goes wrong, and what to do), docs/FAULTS.md.";
 
+pub(crate) const MIGRATE_HELP: &str =
+    "A store of version 1 is refused by the other commands as OldVersion. Its plans and revisions stay as they are. Where it is stopped,
+the next one goes on from there; keep a copy of the file until it is done, since no earlier plandesk takes what it leaves.
+
+Example, of a store that plandesk 1.0.0 made:
+  cp state.store state.copy && ./plandesk migrate state.store
+
+Statuses:
+  0  the store is of version 2
+  2  the command line is wrong; nothing was opened
+  4  the store was refused, or its device failed
+  5  memory was refused
+  6  standard output failed; the store is of version 2
+
+To read: docs/OPERATE.md (what goes wrong, and what to do), docs/FAULTS.md.";
+
 pub(crate) const CHECK_HELP: &str =
     "With the census files alone it prints the numbers of blocks, counties and people, and the people of
 each county; with a plan its audit under Iowa Code 42.4, as one line of JSON. The files are judged in the order

@@ -6,7 +6,7 @@ use clap::{Arg, ArgAction, Command};
 use std::alloc::{AllocError, Global};
 
 /// The program's version, with the kit that it was proved by: `tests/words` holds it against README.md and the kit's own word.
-const VERSION: &str = "1.0.0 (proved by rattle-kit-13f logic dac8208d650f15bf)";
+const VERSION: &str = "2.0.0 (proved by rattle-kit-13f logic dac8208d650f15bf)";
 
 /// An option with one value.
 fn option<'a>(alloc: Global, name: &'a str, value: &'a str, help: &'a str) -> Arg<'a> {

@@ -1,6 +1,7 @@
 //! What each command takes, in the order of its help.
 use crate::helps::{
-    CHECK_HELP, EXPLAIN_HELP, FORMAT_HELP, LOAD_HELP, SERVE_HELP, SWEEP_HELP, TALK_HELP,
+    CHECK_HELP, EXPLAIN_HELP, FORMAT_HELP, LOAD_HELP, MIGRATE_HELP, SERVE_HELP, SWEEP_HELP,
+    TALK_HELP,
 };
 
 /// A command: its name, what it does, what is told behind its options, and these.
@@ -174,10 +175,12 @@ const SERVE: &[Argument] = &[
 
 const SWEEP: &[Argument] = &[Argument::Store];
 
+const MIGRATE: &[Argument] = &[Argument::Store];
+
 const EXPLAIN: &[Argument] = &[Argument::Code];
 
 /// The commands, in the order of the help.
-pub(crate) static ORDERS: [Subcommand; 7] = [
+pub(crate) static ORDERS: [Subcommand; 8] = [
     Subcommand {
         name: "check",
         about: "Prints the counts of a state's census files, or with a plan its audit",
@@ -207,6 +210,12 @@ pub(crate) static ORDERS: [Subcommand; 7] = [
         about: "Takes out of a store what deleted plans and ended loads left in it",
         after: SWEEP_HELP,
         entries: SWEEP,
+    },
+    Subcommand {
+        name: "migrate",
+        about: "Makes a store of an earlier plandesk one of version 2",
+        after: MIGRATE_HELP,
+        entries: MIGRATE,
     },
     Subcommand {
         name: "talk",

@@ -32,6 +32,8 @@ pub enum Job<'a> {
     Serve(&'a str, Serving, Option<&'a str>),
     /// `sweep`: what nothing needs any more is taken out of a store.
     Sweep(&'a str),
+    /// `migrate`: a store of version 1 becomes one of version 2.
+    Migrate(&'a str),
     /// `explain`: what is known of the code of a fault is printed.
     Explain(&'a str),
 }
@@ -191,6 +193,14 @@ fn sweep_job<'a>(matches: &ArgMatches<'a>) -> Option<Job<'a>>
     Some(Job::Sweep(matches.get_str("store")?))
 }
 
+/// What `migrate` is asked for.
+fn migrate_job<'a>(matches: &ArgMatches<'a>) -> Option<Job<'a>>
+    ensures valid { IfSome result IsJob }
+    ensures paths { IfSome result (HasPaths (found_of matches.now)) }
+{
+    Some(Job::Migrate(matches.get_str("store")?))
+}
+
 /// What `explain` is asked for, where it is the code of a fault.
 fn explain_job<'a>(matches: &ArgMatches<'a>) -> Option<Job<'a>>
     ensures valid { IfSome result IsJob }
@@ -251,6 +261,7 @@ fn job_under<'a>(name: &str, options: &ArgMatches<'a>) -> Option<Job<'a>>
         "load" => load_job(options),
         "serve" => serve_job(options),
         "sweep" => sweep_job(options),
+        "migrate" => migrate_job(options),
         "explain" => explain_job(options),
         _ => check_job(options),
     }
@@ -262,7 +273,7 @@ fn wrong_under<'a>(name: &str, options: &ArgMatches<'a>) -> &'static str {
         "format" => WRONG_SIZE,
         "load" => "error: a file is missing\n",
         "serve" => WRONG_SERVING,
-        "sweep" => "error: a store is missing\n",
+        "sweep" | "migrate" => "error: a store is missing\n",
         "explain" => WRONG_CODE,
         _ => wrong_options(options),
     }

@@ -13,6 +13,7 @@ use Rattle.desk_model.specs.Baf.{Values, Fault, value_at}
 use Rattle.desk_model.specs.Geography.{Ground, ids_of}
 use Rattle.desk_model.specs.Desk.{Plan, name_cmp}
 use Rattle.desk_model.specs.Step.{whole}
+use Rattle.desk_model.specs.Subject.{revision_at}
 use Rattle.baf_text.specs.Listed.{listed_of}
 use Rattle.desk_catalogue.specs.Kept.{AreWhole, IsWhole, revision_in}
 
@@ -59,20 +60,28 @@ revision_whole geography plans was name k g d geo = in_plan (map_of.get plans na
 pub no_revision : (g : Ground) → All (λ (d : List ℕ). length d ≡ length g.blocks) []
 no_revision g k d less = absurd (omega arith)
 
+-- one alone
+only_whole : (g : Ground) (districts : List ℕ) → length districts ≡ length g.blocks → All (λ (d : List ℕ). length d ≡ length g.blocks) (districts ∷ [])
+only_whole g districts is zero d less = is
+only_whole g districts is (suc k) d less = absurd (omega arith)
+
 -- one revision more
 revision_more : (g : Ground) (revisions : List (List ℕ)) (districts : List ℕ) → length districts ≡ length g.blocks → All (λ (d : List ℕ). length d ≡ length g.blocks) revisions
     → All (λ (d : List ℕ). length d ≡ length g.blocks) (revisions ++ districts ∷ [])
-revision_more g revisions districts is were = All-append (λ (d : List ℕ). length d ≡ length g.blocks) revisions (districts ∷ []) were one
-  where
-    one : All (λ (d : List ℕ). length d ≡ length g.blocks) (districts ∷ [])
-    one zero d less = is
-    one (suc k) d less = absurd (omega arith)
+revision_more g revisions districts is were = All-append (λ (d : List ℕ). length d ≡ length g.blocks) revisions (districts ∷ []) were (only_whole g districts is)
 
 -- a plan with one revision more
 pub revised_whole : (geography : Option Ground) (plans : map_of.FinMap name_cmp Plan) (name : List ℕ) (p : Plan) (districts : List ℕ) → AreWhole geography plans
     → map_of.get plans name ≡ Some p → IsWhole geography (Some districts) → AreWhole geography (map_of.insert plans name (record p { revisions = p.revisions ++ districts ∷ [] }))
 revised_whole geography plans name p districts was found is =
     inserted_whole geography plans name (record p { revisions = p.revisions ++ districts ∷ [] }) was (λ g there. revision_more g p.revisions districts (is g districts there refl) (was g name p there found))
+
+-- a plan with a revision of another plan alone
+pub forked_whole : (geography : Option Ground) (plans : map_of.FinMap name_cmp Plan) (name source : List ℕ) (p : Plan) (k : ℕ) (districts : List ℕ) → AreWhole geography plans
+    → map_of.get plans source ≡ Some p → revision_at p k ≡ Some districts → AreWhole geography (map_of.insert plans name (record p { revisions = districts ∷ [] }))
+forked_whole geography plans name source p k districts was found there =
+    inserted_whole geography plans name (record p { revisions = districts ∷ [] }) was (λ g geo.
+    only_whole g districts (revision_whole geography plans was source k g districts geo (ap (λ (o : Option Plan). revision_in o k) found ∙ there)))
 
 pub in_turn : (values : Values) (blocks : List BlockRow) → map (λ (d : Option ℕ). unwrap_or d 0) (map (value_at values) (ids_of blocks)) ≡ map (λ (b : BlockRow). unwrap_or (value_at values b.id) 0) blocks
 in_turn values [] = refl

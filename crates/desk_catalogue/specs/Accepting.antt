@@ -2,7 +2,7 @@
 use Rattle.std.specs.Prelude.{◌≡◌, ℕ, ◌+◌, ◌<◌, ◌≤◌, List, length, Some}
 use Rattle.std.specs.FinMap as map_of
 use Rattle.desk_model.specs.declared.command.Command.{Command}
-use Rattle.desk_model.specs.declared.command.Command.TheVariants.{Create, Whole, Counties, Retire}
+use Rattle.desk_model.specs.declared.command.Command.TheVariants.{Create, Whole, Counties, Retire, Fork}
 use Rattle.desk_model.specs.declared.reply.Reply.{Reply}
 use Rattle.desk_model.specs.declared.reply.Reply.TheVariants as reply
 use Rattle.desk_model.specs.Desk.{Desk}
@@ -21,6 +21,7 @@ revisions_after (Create name size) = 0
 revisions_after (Whole name after body) = after + 1
 revisions_after (Counties name after body) = after + 1
 revisions_after (Retire name) = 0
+revisions_after (Fork name from) = 1
 
 -- the reply to a command where it is accepted
 abbrev pub acceptance : Command → Reply
@@ -28,6 +29,7 @@ acceptance (Create name size) = reply.Created name 0
 acceptance (Whole name after body) = reply.Created name (after + 1)
 acceptance (Counties name after body) = reply.Created name (after + 1)
 acceptance (Retire name) = reply.Retired name
+acceptance (Fork name from) = reply.Created name 1
 
 -- the step accepts the command with the reply that is announced, whose number is within the limit, and leaves this desk
 pub record IsAfter (d : Desk) (c : Command) (new : Desk) : Type 0 where

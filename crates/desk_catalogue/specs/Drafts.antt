@@ -2,7 +2,7 @@
 use Rattle.std.specs.Prelude.{◌≡◌, ◌+◌, ℕ, Bool, List, [], length, Option, Some, None}
 use Rattle.std.specs.FinMap as map_of
 use Rattle.desk_model.specs.declared.command.Command.{Command}
-use Rattle.desk_model.specs.declared.command.Command.TheVariants.{Create, Whole, Counties, Retire}
+use Rattle.desk_model.specs.declared.command.Command.TheVariants.{Create, Whole, Counties, Retire, Fork}
 use Rattle.desk_model.specs.declared.cuts.Cut.{Cut}
 use Rattle.desk_model.specs.Geography.{Ground}
 use Rattle.desk_model.specs.Desk.{Desk}
@@ -18,9 +18,10 @@ abbrev pub changes_between : Option (List ℕ) → Option (List ℕ) → List Cu
 changes_between last None cuts = []
 changes_between last (Some new) cuts = changes_in last new cuts
 
--- whether each changes by a command that leaves the desk `e`: none where the command gives no plan a revision
+-- whether each changes by a command that leaves the desk `e`: none where the command gives no plan that is there a revision
 abbrev pub changes_of : Desk → Command → Desk → List Cut → List Bool
 changes_of d (Create name size) e cuts = []
 changes_of d (Whole name after body) e cuts = changes_between (revision_in (map_of.get d.plans name) after) (revision_in (map_of.get e.plans name) (after + 1)) cuts
 changes_of d (Counties name after body) e cuts = changes_between (revision_in (map_of.get d.plans name) after) (revision_in (map_of.get e.plans name) (after + 1)) cuts
 changes_of d (Retire name) e cuts = []
+changes_of d (Fork name from) e cuts = []

@@ -61,14 +61,15 @@ impl Model for Catalogue {
     ghost invariant = { λ a. AreWhole (option_map (λ g. g.value) a.geography) a.plans };
 }
 
-/// A catalogue after a command, and which of the counties the command changes: none where it gives no plan a revision.
+/// A catalogue after a command, and which of the counties the command changes: none where it gives no plan that is there a
+/// revision.
 #[derive(Drop)]
 pub struct Draft {
     pub catalogue: Catalogue,
     pub changes: Vec<bool>,
 }
 
-/// A catalogue after a command that gives no plan a revision.
+/// A catalogue after a command that gives no plan that is there a revision.
 fn unchanged(alloc: Global, after: Result<Catalogue, Refusal>) -> Result<Draft, Refusal>
     ensures ok { IfOk result (λ draft. after ≡ Ok draft.catalogue) }
     ensures changes { IfOk result (λ draft. draft.changes.items ≡ []) }
@@ -303,6 +304,7 @@ impl Catalogue {
                 alloc, cuts, plan, *after, body,
             ),
             Command::Retire { plan } => unchanged(alloc, self.without_plan(alloc, plan)),
+            Command::Fork { plan, from } => unchanged(alloc, self.with_fork(alloc, *plan, *from)),
         }
     }
 
@@ -319,6 +321,38 @@ impl Catalogue {
             return Err(Refusal::Limit);
         }
         let Ok(plans) = self.plans.insert(alloc, Entry::new(name, size)) else {
+            return Err(Refusal::Memory);
+        };
+        self.with_plans(plans)
+    }
+
+    /// The catalogue with one more plan, from a revision of another.
+    fn with_fork(
+        &self,
+        alloc: Global,
+        plan: PlanName,
+        from: (PlanName, u32),
+    ) -> Result<Catalogue, Refusal>
+        requires { IsSome self.now.geography }
+        ensures ok { IfOk result (IsAfter self.now (Command.Fork plan from)) }
+        ensures err { IfErr result (λ refusal. StepRefuses self.now (Command.Fork plan from) refusal) }
+    {
+        if self.plans.get(&plan).is_some() {
+            return Err(Refusal::PlanExists);
+        }
+        if self.plans.len() >= PLAN_LIMIT {
+            return Err(Refusal::Limit);
+        }
+        let Some(source) = self.plans.get(&from.0) else {
+            return Err(Refusal::NoPlan);
+        };
+        let Some(districts) = source.revision(from.1) else {
+            return Err(Refusal::NoRevision);
+        };
+        let Ok(entry) = source.forked(alloc, plan, districts) else {
+            return Err(Refusal::Memory);
+        };
+        let Ok(plans) = self.plans.insert(alloc, entry) else {
             return Err(Refusal::Memory);
         };
         self.with_plans(plans)

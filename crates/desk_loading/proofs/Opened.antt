@@ -1,10 +1,11 @@
 -- A device that was formatted, and then opened.
+use Rattle.std.proofs.Common.{true}
 use Rattle.sector_device.specs.declared.SectorDevice.{Ghosts}
 use Rattle.desk_pages.specs.Desks.{new_desk}
 use Rattle.desk_pages.specs.Formats.{OpensNew}
 use Rattle.desk_store.specs.declared.clerk.Clerk.{Clerk}
 use Rattle.desk_store.specs.Clerks.{disk_of, Keeps}
-use Rattle.desk_store.specs.Openings.{AllDesks}
+use Rattle.desk_store.specs.Openings.{AllVersions}
 use Rattle.desk_loading.specs.Openings.{IsOpened}
 
 module _ {D : Type 0} {g : Ghosts D} where
@@ -14,5 +15,5 @@ module _ {D : Type 0} {g : Ghosts D} where
     left = λ h. (opened.keeps (all h)).left h;
   }
     where
-      all : (disk_of x).is_honest → AllDesks (g.disk device)
-      all h c leaves = (new_desk, new (opened.honest h) c leaves)
+      all : (disk_of x).is_honest → AllVersions (g.disk device)
+      all h c leaves = ((true, new_desk), new (opened.honest h) c leaves)

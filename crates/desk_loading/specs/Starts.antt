@@ -26,6 +26,7 @@ abbrev pub start_of_open : OpenError → StartError
 start_of_open opening.NotAStore = Fault
 start_of_open opening.DeviceFault = Fault
 start_of_open opening.Memory = Memory
+start_of_open opening.OldVersion = Fault
 
 abbrev pub start_of_load : LoadError → StartError
 start_of_load load.AlreadySealed = Fault

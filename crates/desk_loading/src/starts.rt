@@ -46,7 +46,7 @@ fn open_error(e: OpenError) -> StartError
 {
     match e {
         OpenError::Memory => StartError::Memory,
-        OpenError::NotAStore | OpenError::DeviceFault => StartError::Fault,
+        OpenError::NotAStore | OpenError::DeviceFault | OpenError::OldVersion => StartError::Fault,
     }
 }
 

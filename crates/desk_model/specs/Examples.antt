@@ -4,7 +4,7 @@ use Rattle.std.specs.FinMap as map_of
 use Rattle.desk_model.specs.declared.kind.Kind.TheVariants.{Congress, Senate, House}
 use Rattle.desk_model.specs.declared.kind.Kind.{Kind}
 use Rattle.desk_model.specs.declared.companions.Companions.{Companions}
-use Rattle.desk_model.specs.declared.command.Command.TheVariants.{Create, Whole, Counties, Retire}
+use Rattle.desk_model.specs.declared.command.Command.TheVariants.{Create, Whole, Counties, Retire, Fork}
 use Rattle.desk_model.specs.declared.command.Query.TheVariants.{Plans, Blocks, Revision, Audit}
 use Rattle.desk_model.specs.declared.reply.Reply.TheVariants as reply
 use Rattle.desk_model.specs.declared.reply.Refusal.TheVariants.{NoPlan, NoRevision, PlanExists, Stale, NotWholeCounty, BadCompanion, NotSealed}
@@ -17,6 +17,12 @@ use Rattle.desk_model.specs.Sample.{sample, sample_desk}
 
 abbrev pub name_a : List ℕ
 name_a = codes "a"
+
+abbrev pub name_b : List ℕ
+name_b = codes "b"
+
+abbrev pub name_c : List ℕ
+name_c = codes "c"
 
 abbrev pub plan_of : List (List ℕ) → Plan
 plan_of revisions = record { kind = Congress; n = 2; revisions = revisions }
@@ -84,8 +90,26 @@ pub record PlansAreRetired : Type 0 where
   pub gone : step with_county (Retire name_a) ≡ (reply.Retired name_a, sample_desk)
   pub missing : step sample_desk (Retire name_a) ≡ (reply.Refused NoPlan, sample_desk)
 
-abbrev pub name_b : List ℕ
-name_b = codes "b"
+-- the plan a with one revision, and the plan b with these
+abbrev pub beside_a : Plan → Desk
+beside_a b = record with_county { plans = map_of.insert with_county.plans name_b b }
+
+abbrev pub with_fork : Desk
+with_fork = beside_a (plan_of ((1 ∷ 1 ∷ 2 ∷ 2 ∷ []) ∷ []))
+
+-- the fork b with a second revision, in which county 003 has changed
+abbrev pub with_patched_fork : Desk
+with_patched_fork = beside_a (plan_of ((1 ∷ 1 ∷ 2 ∷ 2 ∷ []) ∷ (1 ∷ 1 ∷ 1 ∷ 1 ∷ []) ∷ []))
+
+-- a plan is forked under a new name from a revision that is there; what changes behind it changes one of the two alone
+pub record PlansAreForked : Type 0 where
+  pub made : step with_county (Fork name_b (name_a, 1)) ≡ (reply.Created name_b 1, with_fork)
+  pub patched : step with_fork (Counties name_b 1 patch_text) ≡ (reply.Created name_b 2, with_patched_fork)
+  pub no_revision : step with_county (Fork name_b (name_a, 9)) ≡ (reply.Refused NoRevision, with_county)
+  pub none_before : step with_county (Fork name_b (name_a, 0)) ≡ (reply.Refused NoRevision, with_county)
+  pub no_plan : step with_county (Fork name_b (name_c, 1)) ≡ (reply.Refused NoPlan, with_county)
+  pub itself : step with_county (Fork name_a (name_a, 1)) ≡ (reply.Refused PlanExists, with_county)
+  pub again : step with_fork (Fork name_b (name_c, 1)) ≡ (reply.Refused PlanExists, with_fork)
 
 abbrev pub kept : Kind → List ℕ → Plan
 kept kind districts = record { kind = kind; n = 2; revisions = districts ∷ [] }
@@ -121,7 +145,8 @@ pub record AuditsAreFound : Type 0 where
 -- the room that commands need: 13 pages for a row
 pub record RoomIsCounted : Type 0 where
   pub create : need sample_desk (Create name_a (Congress, 2)) ≡ 26
-  pub first : need with_a (Whole name_a 0 county_text) ≡ 65
-  pub patch : need with_county (Counties name_a 1 patch_text) ≡ 52
+  pub first : need with_a (Whole name_a 0 county_text) ≡ 117
+  pub patch : need with_county (Counties name_a 1 patch_text) ≡ 78
   pub unchanged : need with_county (Whole name_a 1 county_text) ≡ 39
   pub retire : need with_county (Retire name_a) ≡ 26
+  pub fork : need with_county (Fork name_b (name_a, 1)) ≡ 117

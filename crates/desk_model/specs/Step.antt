@@ -4,7 +4,7 @@ use Rattle.std.specs.List.{slice_get, flat_map, find, list_any, zip}
 use Rattle.std.specs.FinMap as map_of
 use Rattle.desk_model.specs.declared.kind.Kind.{Kind}
 use Rattle.desk_model.specs.declared.command.Command.{Command}
-use Rattle.desk_model.specs.declared.command.Command.TheVariants.{Create, Whole, Counties, Retire}
+use Rattle.desk_model.specs.declared.command.Command.TheVariants.{Create, Whole, Counties, Retire, Fork}
 use Rattle.desk_model.specs.declared.command.Query.{Query}
 use Rattle.desk_model.specs.declared.command.Query.TheVariants.{Plans, Blocks, Revision, Audit}
 use Rattle.desk_model.specs.declared.reply.PlanLine.{PlanLine}
@@ -97,11 +97,29 @@ abbrev pub retired : Desk → List ℕ → Option Plan → Outcome
 retired d name None = refused d NoPlan
 retired d name (Some p) = (reply.Retired name, record d { plans = map_of.remove d.plans name })
 
+-- a plan like another, with one of its revisions alone
+abbrev pub fork_of : Desk → List ℕ → Plan → Option (List ℕ) → Outcome
+fork_of d name q None = refused d NoRevision
+fork_of d name q (Some districts) = (reply.Created name 1, record d { plans = map_of.insert d.plans name (record q { revisions = districts ∷ [] }) })
+
+-- the plan that is forked comes last, and the number of its revision
+abbrev pub fork_from : Desk → List ℕ → Option Plan → ℕ → Outcome
+fork_from d name None j = refused d NoPlan
+fork_from d name (Some q) j = fork_of d name q (revision_at q j)
+
+-- a new plan from a revision of another; the plan that is there under the new name comes last
+abbrev pub fork : Desk → List ℕ → List ℕ × ℕ → Option Plan → Outcome
+fork d name from (Some p) = refused d PlanExists
+fork d name from None =
+    if nat_le plan_limit (map_of.len d.plans) then refused d Limit
+    else fork_from d name (map_of.get d.plans from.0) from.1
+
 abbrev pub step_on : Ground → Desk → Command → Outcome
 step_on g d (Create name size) = create d name size.0 size.1 (map_of.get d.plans name)
 step_on g d (Whole name after body) = on_revisions d (map_of.get d.plans name) after (λ p. whole_read g d name p (body_read g p.n body))
 step_on g d (Counties name after body) = on_revisions d (map_of.get d.plans name) after (λ p. patch_read g d name p (body_read g p.n body))
 step_on g d (Retire name) = retired d name (map_of.get d.plans name)
+step_on g d (Fork name from) = fork d name from (map_of.get d.plans name)
 
 -- with a geography or none
 abbrev pub step_at : Option Ground → Desk → Command → Outcome

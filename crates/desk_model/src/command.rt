@@ -29,6 +29,12 @@ pub enum Command {
     Retire {
         plan: PlanName,
     },
+    /// Makes a plan of the kind and the number of districts of another, whose only revision is that plan's revision of that
+    /// number, from 1.
+    Fork {
+        plan: PlanName,
+        from: (PlanName, u32),
+    },
 }
 
 /// A query changes nothing.

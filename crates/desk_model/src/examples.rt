@@ -1,5 +1,5 @@
 //! Worked answers, as laws of the definitions.
-ghost use Rattle.desk_model.specs.Examples.{PlansAreCreated, RevisionsAreKept, CountiesArePatched, PlansAreRetired, AuditsAreFound, RoomIsCounted};
+ghost use Rattle.desk_model.specs.Examples.{PlansAreCreated, RevisionsAreKept, CountiesArePatched, PlansAreRetired, PlansAreForked, AuditsAreFound, RoomIsCounted};
 
 /// Plans of the sample desk are created once and listed.
 pub fn plans_are_created()
@@ -19,6 +19,11 @@ pub fn counties_are_patched()
 /// A plan of the sample desk is retired once.
 pub fn plans_are_retired()
     ensures { PlansAreRetired }
+{}
+
+/// A plan of the sample desk is forked, and refused to be.
+pub fn plans_are_forked()
+    ensures { PlansAreForked }
 {}
 
 /// What an audit on the sample desk judges, and where it is refused.

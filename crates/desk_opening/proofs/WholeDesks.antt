@@ -1,5 +1,5 @@
 -- A desk of its geography and its plans.
-use Rattle.std.proofs.Common.{◌≡◌, List, ℕ, Some, None, Result, Ok, Err, OnOk, IfOk, IfErr, inl, inr, refl, sym, subst, ◌∙◌}
+use Rattle.std.proofs.Common.{◌≡◌, List, ℕ, Bool, Some, None, Result, Ok, Err, OnOk, IfOk, IfErr, inl, inr, refl, sym, subst, ◌∙◌}
 use Rattle.std.specs.Prelude.{Option}
 use Rattle.std.specs.Cmp.Lexicographic.{nat_list_cmp_total}
 use Rattle.std.specs.FinMap.{empty, get, get-empty, same_map, slice_cmp-IsAntisymmetric, nat_cmp-IsAntisymmetric}
@@ -22,14 +22,14 @@ use Rattle.store_rows.specs.Changes.{desk_with}
 use Rattle.row_table.specs.Appending.{AppendErr}
 use Rattle.row_table.specs.Reading.{ReadErr}
 use Rattle.store_check.specs.Numbers.{IsKept}
-use Rattle.desk_pages.specs.Desks.{IsDeskMap, IsWithinLimits, InTxn, new_desk}
-use Rattle.desk_opening.specs.Opening.{ArePlans, HasNothing, OpenErr}
+use Rattle.desk_pages.specs.Desks.{IsMapOf, IsWithinLimits, InTxnOf, new_desk}
+use Rattle.desk_opening.specs.Opening.{ArePlans, HasNothing, IsMapAs, OpenErr}
 
 none_at : (m : KeyMap) (name : List ℕ) (p : Option Plan) → IsPlanAt m None name p → p ≡ None
 none_at m name None is = refl
 none_at m name (Some p) is = absurd is
 
-module _ (m : KeyMap) (d : Desk) (is : IsDeskMap m d) where
+module _ {new : Bool} (m : KeyMap) (d : Desk) (is : IsMapOf new m d) where
   -- without a geography there is no plan
   pub is_new : None ≡ d.geography → new_desk ≡ d
   is_new none =
@@ -61,10 +61,10 @@ pub some_ground : (g : Ground) → ◌≡◌ {A = Option Ground} (Some g) None �
 some_ground g same = cc
 
 -- what isn't read of the rows of a desk
-pub unopened : {D : Type 0} {g : Ghosts D} (t : Txn) (a b : Pages D g) (e : TreeError) → AppendErr IsDeskMap t a b e → OpenErr t a b e
+pub unopened : {D : Type 0} {g : Ghosts D} (t : Txn) (a b : Pages D g) (e : TreeError) → AppendErr IsMapAs t a b e → OpenErr t a b e
 unopened t a b DeviceFault why = elim why [
   | inl failed ↦ inl failed
-  | inr none ↦ inr (λ honest d held. none honest held.m d held.holds held.is)
+  | inr none ↦ inr (λ honest new d held. none honest held.m (new, d) held.holds held.is)
 ]
 unopened t a b Halted why = why
 unopened t a b NoPages why = why
@@ -75,7 +75,7 @@ unopened t a b Memory why = why
 pub unkept : {D : Type 0} {g : Ghosts D} (t : Txn) (a b : Pages D g) (e : TreeError) → ReadErr IsKept t a b e → OpenErr t a b e
 unkept t a b DeviceFault why = elim why [
   | inl failed ↦ inl failed
-  | inr none ↦ inr (λ honest d held. none honest held.m held.holds (record { desk = d; is = held.is.desk; tidy = held.is.tidy; old = held.is.old }))
+  | inr none ↦ inr (λ honest new d held. none honest held.m held.holds (record { desk = d; is = held.is.desk; tidy = held.is.tidy }))
 ]
 unkept t a b Halted why = why
 unkept t a b NoPages why = why
@@ -84,25 +84,25 @@ unkept t a b Memory why = tt
 
 -- ---- calls that passed, and then one more
 module _ {D : Type 0} {g : Ghosts D} where
-  pub still_reads : (t : Txn) (a b : Pages D g) (d : Desk) → Passed a b → (disk_in b).is_honest → InTxn t (stored a) d → InTxn t (stored b) d
+  pub still_reads : {new : Bool} (t : Txn) (a b : Pages D g) (d : Desk) → Passed a b → (disk_in b).is_honest → InTxnOf new t (stored a) d → InTxnOf new t (stored b) d
   still_reads t a b d passed honest held = record { m = held.m; holds = subst (λ (P : Image). InTree t P held.m) (sym (passed.quiet.same honest)) held.holds; is = held.is }
 
   pub then_unopened : (t : Txn) (a b c : Pages D g) → Passed a b → IsQuiet b c → (e : TreeError) → OpenErr t b c e → OpenErr t a c e
   then_unopened t a b c passed quiet DeviceFault why = elim why [
     | inl failed ↦ inl (failed_more a b c passed quiet failed)
-    | inr none ↦ inr (λ honest d held. none honest d (still_reads t a b d passed (quiet.honest honest) held))
+    | inr none ↦ inr (λ honest new d held. none honest new d (still_reads t a b d passed (quiet.honest honest) held))
   ]
   then_unopened t a b c passed quiet Halted why = sym passed.halted ∙ why
   then_unopened t a b c passed quiet NoPages why = why
   then_unopened t a b c passed quiet TooDeep why = why
   then_unopened t a b c passed quiet Memory why = tt
 
-  pub nothing_unread : (t : Txn) (a b c : Pages D g) → Passed a b → IsQuiet b c → ((disk_in b).is_honest → (m : KeyMap) (d : Desk) → InTree t (stored a) m → IsDeskMap m d → HasNothing m) → (e : TreeError) → ReadErr HasNothing t b c e → OpenErr t a c e
+  pub nothing_unread : (t : Txn) (a b c : Pages D g) → Passed a b → IsQuiet b c → ((disk_in b).is_honest → (m : KeyMap) (x : Bool × Desk) → InTree t (stored a) m → IsMapAs m x → HasNothing m) → (e : TreeError) → ReadErr HasNothing t b c e → OpenErr t a c e
   nothing_unread t a b c passed quiet gives DeviceFault why = elim why [
     | inl failed ↦ inl (failed_more a b c passed quiet failed)
-    | inr none ↦ inr (λ honest d held.
+    | inr none ↦ inr (λ honest new d held.
         let then = quiet.honest honest in
-        none honest held.m (subst (λ (P : Image). InTree t P held.m) (sym (passed.quiet.same then)) held.holds) (gives then held.m d held.holds held.is))
+        none honest held.m (subst (λ (P : Image). InTree t P held.m) (sym (passed.quiet.same then)) held.holds) (gives then held.m (new, d) held.holds held.is))
   ]
   nothing_unread t a b c passed quiet gives Halted why = sym passed.halted ∙ why
   nothing_unread t a b c passed quiet gives NoPages why = why

@@ -1,5 +1,5 @@
 -- What is read back of a desk row by row, and why it is not.
-use Rattle.std.specs.Prelude.{◌≡◌, ◌⊎◌, ◌<◌, ◌^◌, ℕ, List, true, false, Option, Some, None}
+use Rattle.std.specs.Prelude.{◌≡◌, ◌⊎◌, ◌<◌, ◌^◌, ℕ, List, Bool, true, false, Option, Some, None}
 use Rattle.std.specs.FinMap.{FinMap, get, insert, len, get as row_at}
 use Rattle.std.specs.BTreeSet.{BTreeSet, contains, Updates}
 use Rattle.std.specs.Ordering.{nat_cmp}
@@ -13,25 +13,33 @@ use Rattle.page_store.specs.declared.txn.Txn.{Txn}
 use Rattle.page_btree.specs.declared.error.TreeError.{TreeError}
 use Rattle.page_btree.specs.declared.error.TreeError.TheVariants.{DeviceFault, Halted, NoPages, TooDeep, Memory}
 use Rattle.btree_scan.specs.declared.rows.Row.{Row}
-use Rattle.store_rows.specs.Keys.{key_of, begun, named, retired, seal}
+use Rattle.store_rows.specs.Keys.{key_of, begun, named, retired, seal, version}
 use Rattle.store_rows.specs.Values.{plan_bytes, seal_bytes}
 use Rattle.store_rows.specs.declared.value.PlanRow.{PlanRow}
 use Rattle.store_rows.specs.declared.value.SealRow.{SealRow}
 use Rattle.row_table.specs.Reading.{StandsAs}
-use Rattle.store_rows.specs.Rows.{KeyMap, Has, Lacks}
+use Rattle.store_rows.specs.Rows.{KeyMap, row_in, Has, Lacks}
 use Rattle.store_rows.specs.DeskRows.{IsDesk}
-use Rattle.store_rows.specs.Tidy.{IsNumbered, Tidy}
+use Rattle.store_rows.specs.Tidy.{IsNumbered, Tidy, version_row}
 use Rattle.store_rows.specs.Changes.{desk_with, plan_row_of}
 use Rattle.store_check.specs.Numbers.{HasNumbersBelow}
-use Rattle.desk_pages.specs.Desks.{InTxn, IsSized, IsWithinLimits}
+use Rattle.desk_pages.specs.Desks.{InTxnOf, IsMapOf, IsSized, IsWithinLimits}
 
--- the device failed, or the transaction reads no desk; or a growth was refused
+-- the device failed, or the transaction reads no desk in either version; or a growth was refused
 abbrev pub OpenErr : {D : Type 0} {g : Ghosts D} → Txn → Pages D g → Pages D g → TreeError → Type 0
-OpenErr t old new DeviceFault = HasFailed old new ⊎ ((disk_in new).is_honest → (d : Desk) → InTxn t (stored old) d → ⊥)
+OpenErr t old new DeviceFault = HasFailed old new ⊎ ((disk_in new).is_honest → (new : Bool) (d : Desk) → InTxnOf new t (stored old) d → ⊥)
 OpenErr t old new Halted = has_halted old ≡ true
 OpenErr t old new NoPages = ⊥
 OpenErr t old new TooDeep = ⊥
 OpenErr t old new Memory = Unit {0}
+
+-- the rows tell a version
+abbrev pub HasVersion : KeyMap → Type 0
+HasVersion m = (new : Bool) × (row_in m version ≡ version_row new)
+
+-- they are those of a desk, in the version beside it
+abbrev pub IsMapAs : KeyMap → Bool × Desk → Type 0
+IsMapAs m x = IsMapOf x.0 m x.1
 
 -- the plans of a desk with this geography
 pub record ArePlans (g : Ground) (m : KeyMap) (all : FinMap name_cmp Plan) : Type 0 where

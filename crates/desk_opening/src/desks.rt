@@ -1,10 +1,10 @@
 //! Reads the desk of a store.
-ghost use Rattle.std.specs.Prelude.{◌≡◌, OnOk, IfOk, IfErr};
+ghost use Rattle.std.specs.Prelude.{◌≡◌, Bool, OnOk, IfOk, IfErr};
 ghost use Rattle.desk_model.specs.Desk.{Desk};
 ghost use Rattle.page_store.specs.Transactions.{stored, disk_in, count_of, txn_pages, IsQuiet, Passed};
 ghost use Rattle.page_btree.specs.Map.{InTxn as InTree};
 ghost use Rattle.store_rows.specs.Rows.{KeyMap};
-ghost use Rattle.desk_pages.specs.Desks.{InTxn};
+ghost use Rattle.desk_pages.specs.Desks.{InTxnOf};
 ghost use Rattle.desk_opening.specs.Opening.{IsReadFrom, IsShown, OpenErr};
 
 use crate::marks::check_rows;
@@ -27,7 +27,7 @@ fn read_rows<D: SectorDevice>(
     requires begun { txn_pages txn.now ≡ count_of pages.old }
     ensures quiet { IsQuiet pages.old pages.new }
     ensures passed { OnOk result (Passed pages.old pages.new) }
-    ensures read { (disk_in pages.new).is_honest → (d : Desk) → InTxn txn.now (stored pages.old) d → IfOk result (λ catalogue. catalogue ≡ d) }
+    ensures read { (disk_in pages.new).is_honest → (new : Bool) (d : Desk) → InTxnOf new txn.now (stored pages.old) d → IfOk result (λ catalogue. catalogue ≡ d) }
     ensures shown { (disk_in pages.new).is_honest → (m : KeyMap) → InTree txn.now (stored pages.old) m → IfOk result (λ catalogue. IsShown m catalogue) }
     ensures err { IfErr result (λ e. OpenErr txn.now pages.old pages.new e) }
 {
@@ -41,8 +41,8 @@ fn read_rows<D: SectorDevice>(
     }
 }
 
-/// The desk that a transaction reads: its geography, and each plan with all its revisions. The pages are only read. An error is
-/// `Memory`, where a growth was refused, `DeviceFault`, where the device failed or holds no desk, or `Halted`. A store in which a number
+/// The desk that a transaction reads in either version: its geography, and each plan with all its revisions. The pages are only read.
+/// An error is `Memory`, where a growth was refused, `DeviceFault`, where the device failed or holds no desk, or `Halted`. A store in which a number
 /// that comes next is in use holds none: what is put there later would be read as another's. Nor does one whose sealed load was begun:
 /// a sweep would take its rows out; nor one that has a row which no desk has, as far as `HasNumbersBelow` of store_check tells.
 pub fn read_desk<D: SectorDevice>(
@@ -53,7 +53,7 @@ pub fn read_desk<D: SectorDevice>(
     requires begun { txn_pages txn.now ≡ count_of pages.old }
     ensures quiet { IsQuiet pages.old pages.new }
     ensures passed { OnOk result (Passed pages.old pages.new) }
-    ensures read { (disk_in pages.new).is_honest → (d : Desk) → InTxn txn.now (stored pages.old) d → IfOk result (λ catalogue. catalogue ≡ d) }
+    ensures read { (disk_in pages.new).is_honest → (new : Bool) (d : Desk) → InTxnOf new txn.now (stored pages.old) d → IfOk result (λ catalogue. catalogue ≡ d) }
     ensures found { (disk_in pages.new).is_honest → (m : KeyMap) → InTree txn.now (stored pages.old) m → IfOk result (λ catalogue. IsReadFrom m catalogue) }
     ensures err { IfErr result (λ e. OpenErr txn.now pages.old pages.new e) }
 {

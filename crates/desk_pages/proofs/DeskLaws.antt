@@ -1,5 +1,5 @@
 -- What keeps a desk in pages, and that pages hold one desk alone.
-use Rattle.std.specs.Prelude.{◌≡◌, ◌≢◌, ◌⊎◌, ◌≤◌, ◌+◌, ◌^◌, ℕ, List}
+use Rattle.std.specs.Prelude.{◌≡◌, ◌≢◌, ◌⊎◌, ◌≤◌, ◌+◌, ◌^◌, ℕ, Bool, List}
 use Rattle.std.proofs.Common.{inl, inr, ⊎_elim, subst}
 use Rattle.sector_device.specs.Disk.{Disk, Image}
 use Rattle.sector_device.specs.Moments.{LeavesOnly}
@@ -13,31 +13,31 @@ use Rattle.desk_model.specs.Desk.{Desk}
 use Rattle.store_rows.specs.Rows.{KeyMap}
 use Rattle.store_rows.specs.DeskRows.{IsDesk}
 use Rattle.store_rows.specs.Laws.{DeskIsOne}
-use Rattle.desk_pages.specs.Desks.{HoldsDesk, InTxn, OpensDesk}
+use Rattle.desk_pages.specs.Desks.{HoldsDeskOf, InTxnOf, OpensDeskOf}
 
 -- a transaction that is begun reads the desk that the pages hold
-pub begun_desk : (t : Txn) (P : Image) (d : Desk) → HoldsDesk (txn_pages t) P (root_in P) (free_in P) d → ((q : ℕ) → over t P q ≡ P q) → txn_root t ≡ root_in P → free_over t P ≡ free_in P → InTxn t P d
+pub begun_desk : {new : Bool} (t : Txn) (P : Image) (d : Desk) → HoldsDeskOf new (txn_pages t) P (root_in P) (free_in P) d → ((q : ℕ) → over t P q ≡ P q) → txn_root t ≡ root_in P → free_over t P ≡ free_in P → InTxnOf new t P d
 begun_desk t P d holds same root free = record { m = holds.m; holds = begun_holds t P holds.m holds.holds same root free; is = holds.is }
 
 -- the pages after a commit hold the desk that the transaction read
-pub prepared_desk : (t : Txn) (P Q : Image) (d : Desk) → InTxn t P d → ((q : ℕ) → q ≢ 0 → Q q ≡ over t P q) → root_in Q ≡ txn_root t → free_in Q ≡ free_over t P → HoldsDesk (txn_pages t) Q (root_in Q) (free_in Q) d
+pub prepared_desk : {new : Bool} (t : Txn) (P Q : Image) (d : Desk) → InTxnOf new t P d → ((q : ℕ) → q ≢ 0 → Q q ≡ over t P q) → root_in Q ≡ txn_root t → free_in Q ≡ free_over t P → HoldsDeskOf new (txn_pages t) Q (root_in Q) (free_in Q) d
 prepared_desk t P Q d holds same root free = record { m = holds.m; holds = prepared_holds t P Q holds.m holds.holds same root free; is = holds.is }
 
 -- an image with the pages before a commit or those after it opens to the desk before or to the desk after
-pub opens_desks : (sectors J n : ℕ) (ws : List (ℕ × List ℕ)) (P : Image) (d next : Desk) (c : Image) → home J + n ≡ sectors → HoldsDesk n P (root_in P) (free_in P) d → HoldsDesk n (overlay ws P) (root_in (overlay ws P)) (free_in (overlay ws P)) next → IsPages n P → IsPages n (overlay ws P)
-    → IsBeforeOrAfter J n ws P c → OpensDesk sectors d c ⊎ OpensDesk sectors next c
+pub opens_desks : {was then : Bool} (sectors J n : ℕ) (ws : List (ℕ × List ℕ)) (P : Image) (d next : Desk) (c : Image) → home J + n ≡ sectors → HoldsDeskOf was n P (root_in P) (free_in P) d → HoldsDeskOf then n (overlay ws P) (root_in (overlay ws P)) (free_in (overlay ws P)) next → IsPages n P → IsPages n (overlay ws P)
+    → IsBeforeOrAfter J n ws P c → OpensDeskOf was sectors d c ⊎ OpensDeskOf then sectors next c
 opens_desks sectors J n ws P d next c whole holds holds_then sound sound_then is = ⊎_elim
     (λ opens. inl (record { J = J; n = n; P = P; whole = whole; opens = opens; holds = holds; sound = sound }))
     (λ opens. inr (record { J = J; n = n; P = overlay ws P; whole = whole; opens = opens; holds = holds_then; sound = sound_then })) is
 
 -- so does each that a stop leaves in the midst of it
-pub leaves_desks : (sectors J n : ℕ) (ws : List (ℕ × List ℕ)) (P : Image) (d next : Desk) (old new : Disk) → home J + n ≡ sectors → HoldsDesk n P (root_in P) (free_in P) d → HoldsDesk n (overlay ws P) (root_in (overlay ws P)) (free_in (overlay ws P)) next → IsPages n P → IsPages n (overlay ws P)
-    → LeavesOnly (IsBeforeOrAfter J n ws P) old new → LeavesOnly (λ c. OpensDesk sectors d c ⊎ OpensDesk sectors next c) old new
-leaves_desks sectors J n ws P d next old new whole holds holds_then sound sound_then left =
-    leaves_wider (IsBeforeOrAfter J n ws P) (λ c. OpensDesk sectors d c ⊎ OpensDesk sectors next c) old new (λ c is. opens_desks sectors J n ws P d next c whole holds holds_then sound sound_then is) left
+pub leaves_desks : {was then : Bool} (sectors J n : ℕ) (ws : List (ℕ × List ℕ)) (P : Image) (d next : Desk) (old new : Disk) → home J + n ≡ sectors → HoldsDeskOf was n P (root_in P) (free_in P) d → HoldsDeskOf then n (overlay ws P) (root_in (overlay ws P)) (free_in (overlay ws P)) next → IsPages n P → IsPages n (overlay ws P)
+    → LeavesOnly (IsBeforeOrAfter J n ws P) old new → LeavesOnly (λ c. OpensDeskOf was sectors d c ⊎ OpensDeskOf then sectors next c) old new
+leaves_desks {was} {then} sectors J n ws P d next old new whole holds holds_then sound sound_then left =
+    leaves_wider (IsBeforeOrAfter J n ws P) (λ c. OpensDeskOf was sectors d c ⊎ OpensDeskOf then sectors next c) old new (λ c is. opens_desks sectors J n ws P d next c whole holds holds_then sound sound_then is) left
 
 -- pages with a root and free pages hold one desk at most
-pub one_desk : DeskIsOne → (n : ℕ) (P : Image) (root : ℕ) (free : List ℕ) (d e : Desk) → n ≤ 2 ^ 32 → HoldsDesk n P root free d → HoldsDesk n P root free e → d ≡ e
-one_desk is_one n P root free d e few holds other =
-    let same : holds.m ≡ other.m = one_map n P root free holds.m other.m few holds.holds other.holds in
-    is_one other.m d e (subst (λ (m : KeyMap). IsDesk m d) same holds.is.desk) other.is.desk
+pub one_desk : DeskIsOne → (new other : Bool) (n : ℕ) (P : Image) (root : ℕ) (free : List ℕ) (d e : Desk) → n ≤ 2 ^ 32 → HoldsDeskOf new n P root free d → HoldsDeskOf other n P root free e → d ≡ e
+one_desk is_one new other n P root free d e few holds also =
+    let same : holds.m ≡ also.m = one_map n P root free holds.m also.m few holds.holds also.holds in
+    is_one also.m d e (subst (λ (m : KeyMap). IsDesk m d) same holds.is.desk) also.is.desk

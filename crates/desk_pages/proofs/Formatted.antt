@@ -1,16 +1,20 @@
--- A new store holds the desk without geography and plans.
+-- A new store holds the desk without geography and plans, and the row of the version alone.
 use Rattle.std.proofs.Common.{◌≡◌, ℕ, List, Option, Some, None, sym, ◌∙◌, subst, arith}
 use Rattle.std.specs.FinMap.{empty, get, len, get-empty, len-empty}
 use Rattle.sector_device.specs.Disk.{Disk}
 use Rattle.gate_journal.specs.Store.{pages}
 use Rattle.gate_journal.proofs.Commit.{settled_opens}
-use Rattle.page_store.specs.Openings.{IsNew}
-use Rattle.page_btree.proofs.MapLaws.{new_holds}
+use Rattle.page_store.specs.Chain.{free_in}
+use Rattle.page_store.specs.Openings.{IsNewWith}
+use Rattle.page_btree.specs.Map.{Holds, IsOnlyRow}
 use Rattle.desk_model.specs.Desk.{Plan, name_cmp}
-use Rattle.store_rows.specs.Keys.{key_of, seal, named}
+use Rattle.store_rows.specs.Keys.{key_of, seal, named, version, in_four}
 use Rattle.store_rows.specs.Order.{key_cmp}
 use Rattle.store_rows.specs.Rows.{KeyMap}
 use Rattle.store_rows.specs.DeskRows.{IsPlanAt, IsDesk}
+use Rattle.store_rows.specs.Tidy.{AllHold}
+use Rattle.store_rows.specs.MigrationLaws.{as_new}
+use Rattle.store_rows.proofs.Migrating.{version_told, new_tidy}
 use Rattle.store_rows.proofs.TidyFree.{empty_tidy}
 use Rattle.desk_pages.specs.Desks.{new_desk, IsSized, IsWithinLimits}
 use Rattle.desk_pages.specs.Formats.{OpensNew, HasJournal}
@@ -30,22 +34,32 @@ no_size name p is = absurd (cc (sym (get-empty {X = Plan} name_cmp name) ∙ is)
 no_plans_within : IsWithinLimits new_desk
 no_plans_within = let none : len new_desk.plans ≡ 0 = len-empty name_cmp Plan in record { few = omega arith; sizes = no_size }
 
+all_hold : AllHold none
+all_hold = λ name plan number there named_by. absurd (cc (sym (get-empty {X = List ℕ} key_cmp (key_of (named name))) ∙ there.row))
+
+pub first_desk : IsDesk (as_new none) new_desk
+first_desk = (version_told none empty_tidy.0 all_hold).desk new_desk no_rows_desk
+
 -- each image of it opens to that desk
-pub new_opens : (J : ℕ) (disk : Disk) → IsNew J disk → OpensNew disk
-new_opens J disk new c leaves = record {
-  J = J;
-  n = new.n;
-  P = pages J disk.reads;
-  whole = new.whole;
-  opens = settled_opens J new.n disk new.settled c leaves;
-  holds = record {
-    m = none;
-    holds = new_holds new.n (pages J disk.reads) new.root new.sound new.free;
-    is = record { desk = no_rows_desk; tidy = empty_tidy.0; old = empty_tidy.2; limits = no_plans_within };
-  };
-  sound = new.sound;
-}
+pub new_opens : (J : ℕ) (bytes : List ℕ) (disk : Disk) → IsOnlyRow bytes (key_of version) (in_four 2) → IsNewWith J bytes disk → OpensNew disk
+new_opens J bytes disk row new c leaves =
+    let P = pages J disk.reads in
+    let whole = new.free in
+    record {
+      J = J;
+      n = new.n;
+      P = P;
+      whole = new.whole;
+      opens = settled_opens J new.n disk new.settled c leaves;
+      holds = record {
+        m = as_new none;
+        holds = subst (λ (root : ℕ). Holds new.n P root (free_in P) (as_new none)) (sym new.root)
+            (row new.n P (free_in P) new.there (omega arith) new.sound.free new.used new.free);
+        is = record { desk = first_desk; tidy = new_tidy.0; version = new_tidy.2; limits = no_plans_within };
+      };
+      sound = new.sound;
+    }
 
 -- and is one of a store with so many journal pages
-pub new_journal : (J : ℕ) (disk : Disk) → IsNew J disk → HasJournal J disk
-new_journal J disk new c leaves = (new.n, new.whole, (settled_opens J new.n disk new.settled c leaves).store)
+pub new_journal : (J : ℕ) (bytes : List ℕ) (disk : Disk) → IsNewWith J bytes disk → HasJournal J disk
+new_journal J bytes disk new c leaves = (new.n, new.whole, (settled_opens J new.n disk new.settled c leaves).store)

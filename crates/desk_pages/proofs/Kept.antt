@@ -1,5 +1,5 @@
 -- Pages that no fault has stopped, and what a transaction leaves of them.
-use Rattle.std.proofs.Common.{◌≡◌, ◌+◌, ℕ, Result, Ok, Err, OnOk, false}
+use Rattle.std.proofs.Common.{◌≡◌, ◌+◌, ℕ, Result, Ok, Err, OnOk, Bool, false}
 use Rattle.sector_device.specs.Disk.{Image}
 use Rattle.sector_device.specs.declared.SectorDevice.{Ghosts}
 use Rattle.gate_journal.specs.Store.{home}
@@ -12,7 +12,7 @@ use Rattle.page_btree.specs.Map.{InTxn as TxnHolds, InPages as PagesHold}
 use Rattle.desk_model.specs.Desk.{Desk}
 use Rattle.store_rows.specs.Rows.{KeyMap}
 use Rattle.desk_pages.specs.Commits.{HoldsAfter}
-use Rattle.desk_pages.specs.Desks.{InPages, OpensDesk}
+use Rattle.desk_pages.specs.Desks.{InPagesOf, OpensDeskOf}
 use Rattle.desk_pages.proofs.Committed.{pages_sound}
 
 module _ {D : Type 0} {g : Ghosts D} where
@@ -21,7 +21,7 @@ module _ {D : Type 0} {g : Ghosts D} where
   kept_working ps working honest = settled_opens (journal_of ps) (count_of ps) (disk_in ps) (ps.journal.settled working honest)
 
   -- so it opens to the desk that they hold
-  pub opens_now : (ps : Pages D g) → has_halted ps ≡ false → (disk_in ps).is_honest → (sectors : ℕ) (d : Desk) → home (journal_of ps) + count_of ps ≡ sectors → InPages ps d → (c : Image) → (disk_in ps).leaves c → OpensDesk sectors d c
+  pub opens_now : {new : Bool} (ps : Pages D g) → has_halted ps ≡ false → (disk_in ps).is_honest → (sectors : ℕ) (d : Desk) → home (journal_of ps) + count_of ps ≡ sectors → InPagesOf new ps d → (c : Image) → (disk_in ps).leaves c → OpensDeskOf new sectors d c
   opens_now ps working honest sectors d whole holds c left = record {
     J = journal_of ps;
     n = count_of ps;

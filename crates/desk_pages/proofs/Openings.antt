@@ -1,16 +1,16 @@
 -- Lemmas on the definitions of Commits.
-use Rattle.std.specs.Prelude.{◌⊎◌, ℕ}
+use Rattle.std.specs.Prelude.{◌⊎◌, ℕ, Bool}
 use Rattle.std.proofs.Common.{inl, inr, ⊎_elim}
 use Rattle.sector_device.specs.Disk.{Disk, Image}
 use Rattle.sector_device.specs.Moments.{LeavesOnly}
 use Rattle.sector_device.proofs.Moments.{leaves_wider}
 use Rattle.desk_model.specs.Desk.{Desk}
 use Rattle.store_rows.specs.Rows.{KeyMap}
-use Rattle.desk_pages.specs.Desks.{IsDeskMap, OpensDesk}
+use Rattle.desk_pages.specs.Desks.{IsMapOf, OpensDeskOf}
 use Rattle.desk_pages.specs.Commits.{OpensRows}
 
 -- it opens to the desk whose rows the map has
-pub opens_desk : (sectors : ℕ) (m : KeyMap) (d : Desk) (c : Image) → IsDeskMap m d → OpensRows sectors m c → OpensDesk sectors d c
+pub opens_desk : {new : Bool} (sectors : ℕ) (m : KeyMap) (d : Desk) (c : Image) → IsMapOf new m d → OpensRows sectors m c → OpensDeskOf new sectors d c
 opens_desk sectors m d c is opens = record {
   J = opens.map.J;
   n = opens.map.n;
@@ -22,6 +22,6 @@ opens_desk sectors m d c is opens = record {
 }
 
 -- so do those that a stop leaves
-pub leaves_desk : (sectors : ℕ) (m next : KeyMap) (d e : Desk) (old new : Disk) → IsDeskMap m d → IsDeskMap next e → LeavesOnly (λ c. OpensRows sectors m c ⊎ OpensRows sectors next c) old new → LeavesOnly (λ c. OpensDesk sectors d c ⊎ OpensDesk sectors e c) old new
-leaves_desk sectors m next d e old new is then left = leaves_wider (λ c. OpensRows sectors m c ⊎ OpensRows sectors next c) (λ c. OpensDesk sectors d c ⊎ OpensDesk sectors e c) old new
-    (λ c. ⊎_elim (λ was. inl (opens_desk sectors m d c is was)) (λ now. inr (opens_desk sectors next e c then now))) left
+pub leaves_desk : {was now : Bool} (sectors : ℕ) (m next : KeyMap) (d e : Desk) (old new : Disk) → IsMapOf was m d → IsMapOf now next e → LeavesOnly (λ c. OpensRows sectors m c ⊎ OpensRows sectors next c) old new → LeavesOnly (λ c. OpensDeskOf was sectors d c ⊎ OpensDeskOf now sectors e c) old new
+leaves_desk {was} {now} sectors m next d e old new is then left = leaves_wider (λ c. OpensRows sectors m c ⊎ OpensRows sectors next c) (λ c. OpensDeskOf was sectors d c ⊎ OpensDeskOf now sectors e c) old new
+    (λ c. ⊎_elim (λ before. inl (opens_desk sectors m d c is before)) (λ after. inr (opens_desk sectors next e c then after))) left

@@ -1,5 +1,5 @@
 -- Pages that hold a desk.
-use Rattle.std.specs.Prelude.{false, ◌≡◌, ◌≤◌, ◌+◌, ℕ, List, Some, None}
+use Rattle.std.specs.Prelude.{Bool, true, false, ◌≡◌, ◌⊎◌, ◌≤◌, ◌+◌, ℕ, List, Some, None}
 use Rattle.std.specs.FinMap as map_of
 use Rattle.sector_device.specs.Disk.{Image}
 use Rattle.sector_device.specs.declared.SectorDevice.{Ghosts}
@@ -26,36 +26,73 @@ pub record IsWithinLimits (d : Desk) : Type 0 where
   pub few : map_of.len d.plans ≤ plan_limit
   pub sizes : (name : List ℕ) (p : Plan) → map_of.get d.plans name ≡ Some p → IsSized p
 
--- the rows are those of the desk, and no others but what is staged or was left behind; no row tells which plans hold a chunk
-pub record IsDeskMap (m : KeyMap) (d : Desk) : Type 0 where
+-- the rows are those of the desk, and no others but what is staged or was left behind; they are of the new version, or of the old one
+pub record IsMapOf (new : Bool) (m : KeyMap) (d : Desk) : Type 0 where
   pub desk : IsDesk m d
   pub tidy : Tidy m
-  pub old : tidy.new ≡ false
+  pub version : tidy.new ≡ new
   pub limits : IsWithinLimits d
 
--- n pages with a root and free pages hold the desk
-pub record HoldsDesk (n : ℕ) (P : Image) (root : ℕ) (free : List ℕ) (d : Desk) : Type 0 where
+-- n pages with a root and free pages hold the desk in a version
+pub record HoldsDeskOf (new : Bool) (n : ℕ) (P : Image) (root : ℕ) (free : List ℕ) (d : Desk) : Type 0 where
   pub m : KeyMap
   pub holds : Holds n P root free m
-  pub is : IsDeskMap m d
+  pub is : IsMapOf new m d
 
 -- a transaction over stored pages reads it
-abbrev pub InTxn : Txn → Image → Desk → Type 0
-InTxn t P d = HoldsDesk (txn_pages t) (over t P) (txn_root t) (free_over t P) d
+abbrev pub InTxnOf : Bool → Txn → Image → Desk → Type 0
+InTxnOf new t P d = HoldsDeskOf new (txn_pages t) (over t P) (txn_root t) (free_over t P) d
 
 -- stored pages hold it
-abbrev pub InPages : {D : Type 0} {g : Ghosts D} → Pages D g → Desk → Type 0
-InPages ps d = HoldsDesk (count_of ps) (stored ps) (root_in (stored ps)) (free_in (stored ps)) d
+abbrev pub InPagesOf : {D : Type 0} {g : Ghosts D} → Bool → Pages D g → Desk → Type 0
+InPagesOf new ps d = HoldsDeskOf new (count_of ps) (stored ps) (root_in (stored ps)) (free_in (stored ps)) d
 
--- an image of a store with so many sectors opens to the desk
-pub record OpensDesk (sectors : ℕ) (d : Desk) (c : Image) : Type 0 where
+-- an image of a store with so many sectors opens to the desk in a version
+pub record OpensDeskOf (new : Bool) (sectors : ℕ) (d : Desk) (c : Image) : Type 0 where
   pub J : ℕ
   pub n : ℕ
   pub P : Image
   pub whole : home J + n ≡ sectors
   pub opens : Opens J n P c
-  pub holds : HoldsDesk n P (root_in P) (free_in P) d
+  pub holds : HoldsDeskOf new n P (root_in P) (free_in P) d
   pub sound : IsPages n P
+
+-- ---- in the new version, of which a store is unless it is said otherwise
+abbrev pub IsDeskMap : KeyMap → Desk → Type 0
+IsDeskMap m d = IsMapOf true m d
+
+abbrev pub HoldsDesk : ℕ → Image → ℕ → List ℕ → Desk → Type 0
+HoldsDesk n P root free d = HoldsDeskOf true n P root free d
+
+abbrev pub InTxn : Txn → Image → Desk → Type 0
+InTxn t P d = InTxnOf true t P d
+
+abbrev pub InPages : {D : Type 0} {g : Ghosts D} → Pages D g → Desk → Type 0
+InPages ps d = InPagesOf true ps d
+
+abbrev pub OpensDesk : ℕ → Desk → Image → Type 0
+OpensDesk sectors d c = OpensDeskOf true sectors d c
+
+-- ---- in the old version
+abbrev pub IsOldMap : KeyMap → Desk → Type 0
+IsOldMap m d = IsMapOf false m d
+
+abbrev pub OpensOld : ℕ → Desk → Image → Type 0
+OpensOld sectors d c = OpensDeskOf false sectors d c
+
+-- ---- in either
+abbrev pub OpensEither : ℕ → Desk → Image → Type 0
+OpensEither sectors d c = OpensDesk sectors d c ⊎ OpensOld sectors d c
+
+-- a desk and the version of the rows that tell it
+abbrev pub InTxnAs : Txn → Image → Bool × Desk → Type 0
+InTxnAs t P x = InTxnOf x.0 t P x.1
+
+abbrev pub InPagesAs : {D : Type 0} {g : Ghosts D} → Pages D g → Bool × Desk → Type 0
+InPagesAs ps x = InPagesOf x.0 ps x.1
+
+abbrev pub OpensAs : ℕ → Bool × Desk → Image → Type 0
+OpensAs sectors x c = OpensDeskOf x.0 sectors x.1 c
 
 -- a desk that nothing was told
 abbrev pub new_desk : Desk

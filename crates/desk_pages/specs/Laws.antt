@@ -1,28 +1,35 @@
--- Laws of desks in pages.
-use Rattle.std.specs.Prelude.{◌≡◌, ◌≢◌, ◌⊎◌, ◌+◌, ℕ, List}
+-- Laws of desks in pages, of any version.
+use Rattle.std.specs.Prelude.{◌≡◌, ◌≢◌, ◌⊎◌, ◌≤◌, ◌+◌, ◌^◌, ℕ, Bool, List}
 use Rattle.sector_device.specs.Disk.{Image}
 use Rattle.gate_journal.specs.Store.{home, IsBeforeOrAfter, overlay}
 use Rattle.page_store.specs.Chain.{root_in, free_in, IsPages}
 use Rattle.page_store.specs.Transactions.{txn_pages, txn_root, over, free_over}
 use Rattle.page_store.specs.declared.txn.Txn.{Txn}
 use Rattle.desk_model.specs.Desk.{Desk}
-use Rattle.desk_pages.specs.Desks.{HoldsDesk, InTxn, OpensDesk}
+use Rattle.desk_pages.specs.Desks.{HoldsDeskOf, InTxnOf, OpensDeskOf}
 
 -- a transaction that begins with the pages' root and free pages reads the desk that they hold
 abbrev pub ReadsWhatPagesHold : Type 0
 ReadsWhatPagesHold =
-    (t : Txn) (P : Image) (d : Desk) → HoldsDesk (txn_pages t) P (root_in P) (free_in P) d → ((q : ℕ) → over t P q ≡ P q)
-    → txn_root t ≡ root_in P → free_over t P ≡ free_in P → InTxn t P d
+    (new : Bool) (t : Txn) (P : Image) (d : Desk) → HoldsDeskOf new (txn_pages t) P (root_in P) (free_in P) d
+    → ((q : ℕ) → over t P q ≡ P q) → txn_root t ≡ root_in P → free_over t P ≡ free_in P → InTxnOf new t P d
 
 -- pages that are, but for page 0, as a transaction reads them, with its root and its free pages, hold its desk
 abbrev pub HoldsWhatWasPrepared : Type 0
 HoldsWhatWasPrepared =
-    (t : Txn) (P Q : Image) (d : Desk) → InTxn t P d → ((q : ℕ) → q ≢ 0 → Q q ≡ over t P q) → root_in Q ≡ txn_root t
-    → free_in Q ≡ free_over t P → HoldsDesk (txn_pages t) Q (root_in Q) (free_in Q) d
+    (new : Bool) (t : Txn) (P Q : Image) (d : Desk) → InTxnOf new t P d → ((q : ℕ) → q ≢ 0 → Q q ≡ over t P q)
+    → root_in Q ≡ txn_root t → free_in Q ≡ free_over t P → HoldsDeskOf new (txn_pages t) Q (root_in Q) (free_in Q) d
 
 -- an image with all writes or none opens to the desk with them or to the one without
 abbrev pub OpensOneOfTwo : Type 0
 OpensOneOfTwo =
-    (sectors J n : ℕ) (ws : List (ℕ × List ℕ)) (P : Image) (d next : Desk) (c : Image) → home J + n ≡ sectors
-    → HoldsDesk n P (root_in P) (free_in P) d → HoldsDesk n (overlay ws P) (root_in (overlay ws P)) (free_in (overlay ws P)) next
-    → IsPages n P → IsPages n (overlay ws P) → IsBeforeOrAfter J n ws P c → OpensDesk sectors d c ⊎ OpensDesk sectors next c
+    (was then : Bool) (sectors J n : ℕ) (ws : List (ℕ × List ℕ)) (P : Image) (d next : Desk) (c : Image) → home J + n ≡ sectors
+    → HoldsDeskOf was n P (root_in P) (free_in P) d
+    → HoldsDeskOf then n (overlay ws P) (root_in (overlay ws P)) (free_in (overlay ws P)) next
+    → IsPages n P → IsPages n (overlay ws P) → IsBeforeOrAfter J n ws P c → OpensDeskOf was sectors d c ⊎ OpensDeskOf then sectors next c
+
+-- pages with a root and free pages hold one desk at most, in whatever version
+abbrev pub HoldsOneDesk : Type 0
+HoldsOneDesk =
+    (new other : Bool) (n : ℕ) (P : Image) (root : ℕ) (free : List ℕ) (d e : Desk) → n ≤ 2 ^ 32 → HoldsDeskOf new n P root free d
+    → HoldsDeskOf other n P root free e → d ≡ e

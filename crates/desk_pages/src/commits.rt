@@ -7,7 +7,7 @@ ghost use Rattle.page_store.specs.declared.error.PageError.TheVariants.{Memory};
 ghost use Rattle.page_btree.specs.Map.{InTxn, InPages};
 ghost use Rattle.store_rows.specs.Rows.{KeyMap};
 ghost use Rattle.desk_pages.specs.Commits.{HoldsAfter, OpensRows, TxnErr};
-ghost use Rattle.desk_pages.specs.Desks.{InTxn as DeskInTxn, InPages as DeskInPages, OpensDesk};
+ghost use Rattle.desk_pages.specs.Desks.{InTxn as DeskInTxn, InPages as DeskInPages, OpensDesk, InTxnAs, InPagesAs, OpensAs};
 ghost use Rattle.desk_pages.specs.Moments.{StopsLeaveEither};
 
 use page_store::{PageError, Pages, Prepared, Txn};
@@ -43,12 +43,13 @@ pub fn commit<D: SectorDevice>(prepared: Prepared, pages: &mut Pages<D>) -> Resu
 }
 
 /// Prepares a transaction and commits it at once. A stop at any moment of it leaves the desk before or the desk that the
-/// transaction reads.
+/// transaction reads, each in its version.
 pub fn commit_txn<D: SectorDevice>(txn: Txn, pages: &mut Pages<D>) -> Result<(), PageError>
     requires { txn_pages txn ≡ count_of pages.old }
     ensures shape { HasShape pages.old pages.new }
     ensures honest { (disk_in pages.new).is_honest → (disk_in pages.old).is_honest }
     ensures any_moment { StopsLeaveEither (DeskInPages pages.old) (DeskInTxn txn (stored pages.old)) OpensDesk pages.old pages.new }
+    ensures any_version { StopsLeaveEither (InPagesAs pages.old) (InTxnAs txn (stored pages.old)) OpensAs pages.old pages.new }
     ensures held { (disk_in pages.new).is_honest → OnOk result ((m : KeyMap) → InTxn txn (stored pages.old) m → InPages pages.new m) }
     ensures kept { (disk_in pages.new).is_honest → OnOk result (IsKept pages.new) }
     ensures passed { (disk_in pages.new).is_honest → OnOk result ((disk_in pages.new).faults ≡ (disk_in pages.old).faults) }

@@ -1,11 +1,15 @@
 //! Makes a device a store without geography and plans.
 ghost use Rattle.std.specs.Prelude.{◌≡◌, ◌≤◌, ◌+◌, OnOk, IfErr};
 ghost use Rattle.gate_journal.specs.Store.{home};
+ghost use Rattle.page_btree.specs.Map.{IsOnlyRow};
+ghost use Rattle.store_rows.specs.Keys.{key_of, version, in_four};
 ghost use Rattle.desk_pages.specs.Formats.{FormatErr, OpensNew, HasJournal};
 
+use page_btree::write_first_row;
 use page_store::PageError;
 use sector_device::SectorDevice;
 use std::alloc::Global;
+use store_rows::Key;
 
 /// Why a device is not formatted.
 #[derive(Clone, Copy, Debug, Drop, PartialEq, Eq)]
@@ -18,8 +22,16 @@ pub enum FormatError {
     DeviceFault,
 }
 
-/// Makes a device a store with so many journal pages, 256 to 65,536, whose desk has no geography and no plan. What the device
-/// held is gone; a stop before the end isn't covered: it is formatted again.
+/// Writes the page of a store without any row but that of its version.
+fn write_version(page: &mut [u8; 4096])
+    ensures { IsOnlyRow page.new (key_of version) (in_four 2) }
+{
+    let key = Key::version();
+    write_first_row(page, key.as_slice(), &[0, 0, 0, 2]);
+}
+
+/// Makes a device a store of version 2 with so many journal pages, 256 to 65,536, whose desk has no geography and no plan. What the
+/// device held is gone; a stop before the end isn't covered: it is formatted again.
 pub fn format<D: SectorDevice>(
     alloc: Global,
     device: &mut D,
@@ -35,7 +47,9 @@ pub fn format<D: SectorDevice>(
     ensures ok { OnOk result (home journal_pages + 64 ≤ (D.disk device.old).sectors) }
     ensures err { IfErr result (λ e. FormatErr D.SectorDevice journal_pages device.old device.new e) }
 {
-    match page_store::format(alloc, device, journal_pages) {
+    let mut root = [0; 4096];
+    write_version(&mut root);
+    match page_store::format_with(alloc, device, journal_pages, &root) {
         Ok(()) => Ok(()),
         Err(PageError::TooSmall) => Err(FormatError::TooSmall),
         Err(PageError::Memory) => Err(FormatError::Memory),

@@ -1,15 +1,11 @@
 //! What holds of desks in pages.
-ghost use Rattle.std.specs.Prelude.{◌≡◌, ◌≤◌, ◌^◌, ℕ, List};
-ghost use Rattle.sector_device.specs.Disk.{Image};
-ghost use Rattle.desk_model.specs.Desk.{Desk};
-ghost use Rattle.desk_pages.specs.Desks.{HoldsDesk};
-ghost use Rattle.desk_pages.specs.Laws.{ReadsWhatPagesHold, HoldsWhatWasPrepared, OpensOneOfTwo};
+ghost use Rattle.desk_pages.specs.Laws.{ReadsWhatPagesHold, HoldsWhatWasPrepared, HoldsOneDesk, OpensOneOfTwo};
 
 use store_rows::laws::desk_is_one;
 
-/// Pages with a root and free pages hold one desk at most.
+/// Pages with a root and free pages hold one desk at most, whichever version tells it.
 pub fn one_desk()
-    ensures { (n : ℕ) (P : Image) (root : ℕ) (free : List ℕ) (d e : Desk) → n ≤ 2 ^ 32 → HoldsDesk n P root free d → HoldsDesk n P root free e → d ≡ e }
+    ensures { HoldsOneDesk }
 {
     desk_is_one();
 }

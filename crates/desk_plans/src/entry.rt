@@ -98,6 +98,20 @@ impl Entry {
         }
     }
 
+    /// A plan of that name, of this one's kind and number of districts, whose only revision has these districts. It shares them.
+    pub fn forked(
+        &self,
+        alloc: Global,
+        name: PlanName,
+        districts: &Districts,
+    ) -> Result<Entry, AllocError>
+        ensures { IfOk result (λ e. e ≡ (name, record self.now.1 { revisions = districts.now ∷ [] })) }
+    {
+        let districts = districts.share(alloc)?;
+        let plan = Entry::new(name, self.size);
+        plan.with_revision(alloc, districts)
+    }
+
     /// The plan with one more revision. It shares those before it, and of the last one the districts that stay.
     pub fn revised(&self, alloc: Global, districts: &[u16]) -> Result<Entry, AllocError>
         requires { length self.now.1.revisions < revision_limit }

@@ -1,5 +1,5 @@
 -- The rows of a revision, county by county.
-use Rattle.std.proofs.Common.{◌≡◌, ◌<◌, ◌≤◌, ◌+◌, ◌-◌, ℕ, zero, suc, Bool, List, [], ◌∷◌, length, map, take, drop, get_or, Option, Some, None, sum_by, refl, sym, ap, subst, min, ◌∙◌, inl, inr, arith}
+use Rattle.std.proofs.Common.{◌≡◌, ◌<◌, ◌≤◌, ◌+◌, ◌-◌, ◌*◌, ℕ, zero, suc, Bool, List, [], ◌∷◌, length, map, take, drop, get_or, Option, Some, None, sum_by, refl, sym, ap, subst, min, ◌∙◌, inl, inr, arith}
 use Rattle.std.specs.Prelude.{filter, if◌then◌else◌, cond, IfSome}
 use Rattle.std.specs.List.{zip}
 use Rattle.std.proofs.lemmas.Bool.{cases_Bool}
@@ -9,13 +9,16 @@ use Rattle.std.proofs.lemmas.List.Sums.{sum_by-cons}
 use Rattle.desk_model.specs.Cuts.{parts, laid, sizes, cuts_of, ListsAreCut}
 use Rattle.desk_model.specs.Geography.{Ground, ids}
 use Rattle.desk_model.specs.declared.block.BlockRow.{BlockRow}
-use Rattle.desk_model.specs.Room.{rows_for, differs, revision_rows}
+use Rattle.desk_model.specs.Room.{rows_for, differs, changed, revision_rows}
 use Rattle.desk_model.specs.declared.cuts.Cut.{Cut}
 use Rattle.desk_room.specs.Cutting.{part, AreWithin, changes_in, cut_rows}
 use Rattle.desk_room.proofs.Cutting.{changed_rows}
 
 abbrev rows_in : List (List ℕ) → ℕ
-rows_in ps = sum_by (λ p. rows_for 512 (length p)) ps
+rows_in ps = sum_by (λ p. rows_for 512 (length p)) ps + 2 * length ps
+
+more_rows : (p : List ℕ) (ps : List (List ℕ)) → rows_in (p ∷ ps) ≡ rows_for 512 (length p) + 2 + rows_in ps
+more_rows p ps = omega (arith, sum_by-cons (λ p. rows_for 512 (length p)) p ps)
 
 abbrev changed_parts : List (List ℕ) → List (List ℕ) → List (List ℕ)
 changed_parts last new = map (λ e. e.1) (filter differs (zip last new))
@@ -34,28 +37,28 @@ rest_fits : (n : ℕ) (ns : List ℕ) (first : ℕ) (xs : List ℕ) → Fit (n �
 rest_fits n ns first xs fit = ap (λ l. map length (parts ns l)) (sym (drop-drop n first xs)) ∙ ap (drop 1) fit
 
 -- how many parts there are
-laid_long : (first : ℕ) (ns : List ℕ) → length (laid first ns) ≡ length ns
+pub laid_long : (first : ℕ) (ns : List ℕ) → length (laid first ns) ≡ length ns
 laid_long first [] = refl
 laid_long first (n ∷ ns) = ap suc (laid_long (first + n) ns)
 
 all_rows : (ns : List ℕ) (first : ℕ) (new : List ℕ) → Fit ns first new → changed_rows (changes_in None new (laid first ns)) (laid first ns) ≡ rows_in (parts ns (drop first new))
 all_rows [] first new fit = refl
 all_rows (n ∷ ns) first new fit =
-    ap (λ k. rows_for 512 n + k) (all_rows ns (first + n) new (rest_fits n ns first new fit) ∙ ap (λ l. rows_in (parts ns l)) (sym (drop-drop n first new)))
-    ∙ ap (λ k. rows_for 512 k + rows_in (parts ns (drop n (drop first new)))) (sym (head_fits n ns first new fit))
-    ∙ sym (sum_by-cons (λ p. rows_for 512 (length p)) (take n (drop first new)) (parts ns (drop n (drop first new))))
+    ap (λ k. rows_for 512 n + 2 + k) (all_rows ns (first + n) new (rest_fits n ns first new fit) ∙ ap (λ l. rows_in (parts ns l)) (sym (drop-drop n first new)))
+    ∙ ap (λ k. rows_for 512 k + 2 + rows_in (parts ns (drop n (drop first new)))) (sym (head_fits n ns first new fit))
+    ∙ sym (more_rows (take n (drop first new)) (parts ns (drop n (drop first new))))
 
 none_more : (k : ℕ) → 0 + k ≡ k
 none_more k = omega arith
 
-changed_cons : (a b : List ℕ) (l m : List (List ℕ)) → rows_in (changed_parts (a ∷ l) (b ∷ m)) ≡ (if differs (a, b) then rows_for 512 (length b) else 0) + rows_in (changed_parts l m)
+changed_cons : (a b : List ℕ) (l m : List (List ℕ)) → rows_in (changed_parts (a ∷ l) (b ∷ m)) ≡ (if differs (a, b) then rows_for 512 (length b) + 2 else 0) + rows_in (changed_parts l m)
 changed_cons a b l m = elim (cases_Bool (differs (a, b))) [
   | inl same ↦ ap (λ t. rows_in (map (λ (e : List ℕ × List ℕ). e.1) (cond t ((a, b) ∷ filter differs (zip l m)) (filter differs (zip l m))))) same
-      ∙ sum_by-cons (λ p. rows_for 512 (length p)) b (changed_parts l m)
-      ∙ sym (ap (λ t. cond t (rows_for 512 (length b)) 0 + rows_in (changed_parts l m)) same)
+      ∙ more_rows b (changed_parts l m)
+      ∙ sym (ap (λ t. cond t (rows_for 512 (length b) + 2) 0 + rows_in (changed_parts l m)) same)
   | inr apart ↦ ap (λ t. rows_in (map (λ (e : List ℕ × List ℕ). e.1) (cond t ((a, b) ∷ filter differs (zip l m)) (filter differs (zip l m))))) apart
       ∙ sym (none_more (rows_in (changed_parts l m)))
-      ∙ sym (ap (λ t. cond t (rows_for 512 (length b)) 0 + rows_in (changed_parts l m)) apart)
+      ∙ sym (ap (λ t. cond t (rows_for 512 (length b) + 2) 0 + rows_in (changed_parts l m)) apart)
 ]
 
 some_rows : (ns : List ℕ) (first : ℕ) (last new : List ℕ) → Fit ns first last → Fit ns first new → changed_rows (changes_in (Some last) new (laid first ns)) (laid first ns) ≡ rows_in (changed_parts (parts ns (drop first last)) (parts ns (drop first new)))
@@ -63,16 +66,23 @@ some_rows [] first last new old fit = refl
 some_rows (n ∷ ns) first last new old fit =
     let c : Cut = record { first = first; count = n } in
     let here = differs (part c last, part c new) in
-    ap (λ k. (if here then rows_for 512 n else 0) + k) (some_rows ns (first + n) last new (rest_fits n ns first last old) (rest_fits n ns first new fit)
+    ap (λ k. (if here then rows_for 512 n + 2 else 0) + k) (some_rows ns (first + n) last new (rest_fits n ns first last old) (rest_fits n ns first new fit)
     ∙ λ i. rows_in (changed_parts (parts ns (sym (drop-drop n first last) i)) (parts ns (sym (drop-drop n first new) i))))
-    ∙ ap (λ k. (if here then rows_for 512 k else 0) + rows_in (changed_parts (parts ns (drop n (drop first last))) (parts ns (drop n (drop first new))))) (sym (head_fits n ns first new fit))
+    ∙ ap (λ k. (if here then rows_for 512 k + 2 else 0) + rows_in (changed_parts (parts ns (drop n (drop first last))) (parts ns (drop n (drop first new))))) (sym (head_fits n ns first new fit))
     ∙ sym (changed_cons (part c last) (part c new) (parts ns (drop n (drop first last))) (parts ns (drop n (drop first new))))
+
+in_turn : (g : Ground) (ps : List (List ℕ)) → 2 + rows_for 128 (length (sizes g)) + rows_in ps
+    ≡ 2 + rows_for 128 (length (sizes g)) + sum_by (λ p. rows_for 512 (length p)) ps + 2 * length ps
+in_turn g ps = omega arith
 
 -- the rows of a revision of a geography
 pub rows_told : ListsAreCut → (g : Ground) (last : Option (List ℕ)) (new : List ℕ) → length new ≡ length g.blocks → IfSome last (λ l. length l ≡ length g.blocks)
     → 2 + rows_for 128 (length (cuts_of g)) + changed_rows (changes_in last new (cuts_of g)) (cuts_of g) ≡ revision_rows g last new
-rows_told are_cut g None new long old = λ i. 2 + rows_for 128 (laid_long 0 (sizes g) i) + all_rows (sizes g) 0 new (are_cut g new long).lengths i
-rows_told are_cut g (Some last) new long old = λ i. 2 + rows_for 128 (laid_long 0 (sizes g) i) + some_rows (sizes g) 0 last new (are_cut g last old).lengths (are_cut g new long).lengths i
+rows_told are_cut g None new long old =
+    (λ i. 2 + rows_for 128 (laid_long 0 (sizes g) i) + all_rows (sizes g) 0 new (are_cut g new long).lengths i) ∙ in_turn g (changed g None new)
+rows_told are_cut g (Some last) new long old =
+    (λ i. 2 + rows_for 128 (laid_long 0 (sizes g) i) + some_rows (sizes g) 0 last new (are_cut g last old).lengths (are_cut g new long).lengths i)
+    ∙ in_turn g (changed g (Some last) new)
 
 -- the rows from a county on are its own and those of the counties behind it
 pub rows_at : (changes : List Bool) (cuts : List Cut) (place : ℕ) (b : Bool) (d : Cut) → place < length changes → place < length cuts

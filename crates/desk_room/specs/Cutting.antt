@@ -1,8 +1,8 @@
 -- The counties of lists beside the blocks, by their places.
 use Rattle.std.specs.Prelude.{◌≡◌, ◌⊎◌, ◌<◌, ◌≤◌, ◌+◌, ℕ, Bool, true, if◌then◌else◌, List, map, get_or, take, drop, All, Option, Some, None, length, IfSome}
-use Rattle.desk_model.specs.Room.{rows_for, differs, revision_rows}
+use Rattle.desk_model.specs.Room.{rows_for, differs, revision_rows, fork_rows}
 use Rattle.desk_model.specs.declared.cuts.Cut.{Cut}
-use Rattle.desk_model.specs.Cuts.{cuts_of}
+use Rattle.desk_model.specs.Cuts.{cuts_of, sizes}
 use Rattle.desk_model.specs.Geography.{Ground}
 
 -- a county's part of a list beside the blocks
@@ -26,12 +26,16 @@ changes_in last new cuts = map (is_changed last new) cuts
 abbrev pub StaysOutside : ℕ → ℕ → List ℕ → List ℕ → Type 0
 StaysOutside first end last new = (k : ℕ) → (k < first) ⊎ (end ≤ k) → get_or new k 0 ≡ get_or last k 0
 
--- the rows of a county's districts, which are written where it changes
+-- the rows of a county's districts and the two that tell who holds them, which are written where it changes
 abbrev pub cut_rows : Bool → Cut → ℕ
-cut_rows changes c = if changes then rows_for 512 c.count else 0
+cut_rows changes c = if changes then rows_for 512 c.count + 2 else 0
 
 -- so many rows does a revision write, by the geography's counties and which of them change behind the last one
 abbrev pub AreRevisionRows : List Cut → List Bool → ℕ → Type 0
 AreRevisionRows cuts changes rows =
     (g : Ground) (last : Option (List ℕ)) (new : List ℕ) → cuts ≡ cuts_of g → changes ≡ changes_in last new cuts
     → length new ≡ length g.blocks → IfSome last (λ l. length l ≡ length g.blocks) → rows ≡ revision_rows g last new
+
+-- so many rows does a fork write, where the geography has so many counties
+abbrev pub AreForkRows : ℕ → ℕ → Type 0
+AreForkRows counties rows = (g : Ground) → counties ≡ length (sizes g) → rows ≡ fork_rows g

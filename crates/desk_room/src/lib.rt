@@ -1,4 +1,4 @@
-//! Which counties a revision changes, and how many rows it writes into a store, county by county.
+//! Which counties a revision changes, and how many rows it or a fork writes into a store.
 #![tactic(auto)]
 
 mod changes;
@@ -6,4 +6,4 @@ pub mod laws;
 mod rows;
 
 pub use changes::{Span, changed_counties};
-pub use rows::revision_rows;
+pub use rows::{fork_rows, revision_rows};

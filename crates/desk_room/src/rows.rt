@@ -1,7 +1,7 @@
 //! The rows that a revision writes.
 ghost use Rattle.std.specs.Prelude.{◌≡◌, ◌≤◌, ◌<◌, ◌+◌, ◌^◌, length};
 ghost use Rattle.desk_model.specs.Room.{rows_for};
-ghost use Rattle.desk_room.specs.Cutting.{cut_rows, AreRevisionRows};
+ghost use Rattle.desk_room.specs.Cutting.{cut_rows, AreForkRows, AreRevisionRows};
 
 use desk_model::cuts::Cut;
 
@@ -14,19 +14,19 @@ fn rows_for(size: usize, count: usize) -> usize
     (count + (size - 1)) / size
 }
 
-/// The rows of a county's districts: none where it doesn't change.
+/// The rows of a county's districts, and two that tell who holds them: none where it doesn't change.
 fn rows_of_cut(cut: Cut, changes: bool) -> usize
     ensures rows { result ≡ cut_rows changes cut }
-    ensures few { result ≤ 2 ^ 23 }
+    ensures few { result ≤ 2 ^ 24 }
 {
     if !changes {
         return 0;
     }
-    rows_for(512, cut.count as usize)
+    rows_for(512, cut.count as usize) + 2
 }
 
-/// The rows that a revision writes: the plan's and the counters', one for each 128 counties, and one for each 512 blocks of a
-/// county that changes. The counties are the geography's.
+/// The rows that a revision writes: the plan's and the counters', one for each 128 counties, and of a county that changes one for
+/// each 512 blocks, and two that tell who holds them. The counties are the geography's.
 pub fn revision_rows(cuts: &[Cut], changes: &[bool]) -> usize
     requires few { length cuts.now < 2 ^ 32 }
     requires each { length changes.now ≡ length cuts.now }
@@ -37,4 +37,13 @@ pub fn revision_rows(cuts: &[Cut], changes: &[bool]) -> usize
         rows += rows_of_cut(cuts[place], changes[place]);
     }
     rows
+}
+
+/// The rows that a fork writes where the geography has so many counties: the plan's and the counters', when it is made and when it
+/// gets its revision, one for each 128 counties, and two of each county, which tell who holds its blocks.
+pub fn fork_rows(counties: usize) -> usize
+    requires few { counties < 2 ^ 32 }
+    ensures { AreForkRows counties result }
+{
+    4 + rows_for(128, counties) + 2 * counties
 }

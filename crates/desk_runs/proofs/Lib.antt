@@ -1,4 +1,5 @@
 pub mod Steps
 mod Runs
 mod One
+mod Migrated
 mod Following

@@ -1,5 +1,5 @@
 -- One image, one desk; and what an opening makes of that.
-use Rattle.std.proofs.Common.{◌≡◌, ◌≢◌, ◌≤◌, ◌^◌, ℕ, false, List, Result, Ok, Err, IfOk, IfErr, sym, subst, ◌∙◌, arith}
+use Rattle.std.proofs.Common.{◌≡◌, ◌≢◌, ◌≤◌, ◌^◌, ℕ, Bool, true, false, List, Result, Ok, Err, IfOk, IfErr, inl, inr, ⊎_elim, sym, subst, ◌∙◌, arith}
 use Rattle.sector_device.specs.Disk.{Disk, Image}
 use Rattle.sector_device.specs.Moments.{LeavesOnly}
 use Rattle.sector_device.proofs.Moments.{leaves_wider}
@@ -8,43 +8,68 @@ use Rattle.gate_journal.specs.Store.{pages}
 use Rattle.gate_journal.proofs.Headers.{same_journal}
 use Rattle.page_store.specs.Chain.{root_in, free_in}
 use Rattle.desk_model.specs.Desk.{Desk}
-use Rattle.desk_pages.specs.Desks.{HoldsDesk, OpensDesk}
+use Rattle.desk_pages.specs.Desks.{HoldsDeskOf, OpensDeskOf, OpensDesk, OpensEither}
+use Rattle.desk_pages.specs.Laws.{HoldsOneDesk}
 use Rattle.desk_store.specs.declared.clerk.Clerk.{Clerk}
 use Rattle.desk_store.specs.declared.opening.OpenError.{OpenError}
-use Rattle.desk_store.specs.declared.opening.OpenError.TheVariants.{NotAStore}
+use Rattle.desk_store.specs.declared.opening.OpenError.TheVariants.{NotAStore, OldVersion}
 use Rattle.desk_store.specs.Clerks.{desk_of, disk_of, is_halted, sectors_of, Keeps}
-use Rattle.desk_store.specs.Openings.{AllDesks, IsOneOf, OpensOneOf, OpenRefused, device_after}
-use Rattle.desk_runs.specs.Recovery.{ImagesAreOne, HoldsOne, Shows, Recovers}
+use Rattle.desk_store.specs.Openings.{AllDesks, AllVersions, IsOneOf, OpensOneOf, OpensOneAs, OpenRefused, device_after}
+use Rattle.desk_runs.specs.Recovery.{ImagesAreOne, HoldsOne, HoldsEither, Shows, Recovers}
 
 -- what pages say of their desk
-abbrev Held : ℕ → Image → Desk → Type 0
-Held n P d = HoldsDesk n P (root_in P) (free_in P) d
+abbrev Held : Bool → ℕ → Image → Desk → Type 0
+Held new n P d = HoldsDeskOf new n P (root_in P) (free_in P) d
 
-abbrev PagesAreOne : Type 0
-PagesAreOne = (n : ℕ) (P : Image) (root : ℕ) (free : List ℕ) (d e : Desk) → n ≤ 2 ^ 32 → HoldsDesk n P root free d → HoldsDesk n P root free e → d ≡ e
+held_pages : (new : Bool) (sectors : ℕ) (d : Desk) (c : Image) (is : OpensDeskOf new sectors d c) → Held new is.n (pages is.J c) d
+held_pages new sectors d c is = subst (λ (P : Image). Held new is.n P d) (λ i p. sym (is.opens.each p) i) is.holds
 
-held_pages : (sectors : ℕ) (d : Desk) (c : Image) (is : OpensDesk sectors d c) → Held is.n (pages is.J c) d
-held_pages sectors d c is = subst (λ (P : Image). Held is.n P d) (λ i p. sym (is.opens.each p) i) is.holds
-
-pub images_are_one : PagesAreOne → ImagesAreOne
-images_are_one one sectors d e c few is other =
+pub images_are_one : HoldsOneDesk → ImagesAreOne
+images_are_one one new then sectors d e c few is other =
     let most = is.opens.store.most_journal in
     let less = other.opens.store.most_journal in
     let journal : other.J ≡ is.J = same_journal other.J other.n is.J is.n (omega (arith, less)) (omega (arith, most)) (sym other.opens.store.header ∙ is.opens.store.header) in
     let count : other.n ≡ is.n = omega (arith, journal, is.whole, other.whole) in
-    let there : Held is.n (pages is.J c) e = subst (λ (J : ℕ). Held is.n (pages J c) e) journal (subst (λ (n : ℕ). Held n (pages other.J c) e) count (held_pages sectors e c other)) in
-    one is.n (pages is.J c) (root_in (pages is.J c)) (free_in (pages is.J c)) d e (omega (arith, few, is.whole)) (held_pages sectors d c is) there
+    let there : Held then is.n (pages is.J c) e = subst (λ (J : ℕ). Held then is.n (pages J c) e) journal (subst (λ (n : ℕ). Held then n (pages other.J c) e) count (held_pages then sectors e c other)) in
+    one new then is.n (pages is.J c) (root_in (pages is.J c)) (free_in (pages is.J c)) d e (omega (arith, few, is.whole)) (held_pages new sectors d c is) there
+
+-- ---- an image in one of the versions
+pub in_either : (new : Bool) (sectors : ℕ) (d : Desk) (c : Image) → OpensDeskOf new sectors d c → OpensEither sectors d c
+in_either true sectors d c opens = inl opens
+in_either false sectors d c opens = inr opens
+
+pub either_as : (sectors : ℕ) (d : Desk) (c : Image) → OpensEither sectors d c → (new : Bool) × OpensDeskOf new sectors d c
+either_as sectors d c = ⊎_elim (λ is. (true, is)) (λ is. (false, is))
+
+-- two desks to which one image opens are one
+pub one_opens : ImagesAreOne → (new : Bool) (sectors : ℕ) (d e : Desk) (c : Image) → sectors ≤ 2 ^ 32 → OpensEither sectors d c → OpensDeskOf new sectors e c → e ≡ d
+one_opens one new sectors d e c few either opens = let is = either_as sectors d c either in one new is.0 sectors e d c few opens is.1
+
+few_sectors : (disk : Disk) → disk.sectors ≤ 2 ^ 32
+few_sectors disk = let few = disk.few in omega (arith, few)
 
 -- all images open to a desk
-all_of : (disk : Disk) (d : Desk) → HoldsOne disk d → AllDesks disk
-all_of disk d holds c leaves = (d, holds c leaves)
+all_of : (disk : Disk) (d : Desk) → HoldsEither disk d → AllVersions disk
+all_of disk d holds c leaves = let is = either_as disk.sectors d c (holds c leaves) in ((is.0, d), is.1)
 
 -- a desk to which one of them opens is the desk
-one_of : ImagesAreOne → (disk : Disk) (d e : Desk) → HoldsOne disk d → IsOneOf disk e → e ≡ d
-one_of one disk d e holds is = one disk.sectors e d is.was (let few = disk.few in omega (arith, few)) is.opens (holds is.was is.left)
+one_of : ImagesAreOne → (disk : Disk) (d e : Desk) → HoldsEither disk d → IsOneOf disk e → e ≡ d
+one_of one disk d e holds is = one_opens one true disk.sectors d e is.was (few_sectors disk) (holds is.was is.left) is.opens
 
-opens_it : ImagesAreOne → (disk : Disk) (d : Desk) → HoldsOne disk d → (c : Image) → OpensOneOf disk c → OpensDesk disk.sectors d c
-opens_it one disk d holds c is = subst (λ e. OpensDesk disk.sectors e c) (one_of one disk d is.desk holds is.one) is.opens
+opens_it : ImagesAreOne → (disk : Disk) (d : Desk) → HoldsEither disk d → (c : Image) → OpensOneAs disk c → OpensEither disk.sectors d c
+opens_it one disk d holds c is =
+    let same : is.x.1 ≡ d = one_opens one is.x.0 disk.sectors d is.x.1 is.one.was (few_sectors disk) (holds is.one.was is.one.left) is.one.opens in
+    subst (λ e. OpensEither disk.sectors e c) same (in_either is.x.0 disk.sectors is.x.1 c is.opens)
+
+-- where all are of the new version
+either_of : (disk : Disk) (d : Desk) → HoldsOne disk d → HoldsEither disk d
+either_of disk d holds c leaves = inl (holds c leaves)
+
+new_of : (disk : Disk) (d : Desk) → HoldsOne disk d → AllDesks disk
+new_of disk d holds c leaves = (d, holds c leaves)
+
+opens_new : ImagesAreOne → (disk : Disk) (d : Desk) → HoldsOne disk d → (c : Image) → OpensOneOf disk c → OpensDesk disk.sectors d c
+opens_new one disk d holds c is = subst (λ e. OpensDesk disk.sectors e c) (one_of one disk d is.desk (either_of disk d holds) is.one) is.opens
 
 module _ {D : Type 0} {g : Ghosts D} where
   -- what an opening gives where all images open to desks
@@ -54,22 +79,30 @@ module _ {D : Type 0} {g : Ghosts D} where
   abbrev Works : Disk → Result (Clerk D g) (OpenError × D) → Type 0
   Works old result = IfOk result (λ x. (is_halted x ≡ false) × (sectors_of x ≡ old.sectors))
 
-  shows : ImagesAreOne → (old : Disk) (d : Desk) (result : Result (Clerk D g) (OpenError × D)) → HoldsOne old d → (g.disk (device_after result)).is_honest → Opened old result → Works old result → IfOk result (λ x. Shows old.sectors d x)
+  shows : ImagesAreOne → (old : Disk) (d : Desk) (result : Result (Clerk D g) (OpenError × D)) → HoldsEither old d → (g.disk (device_after result)).is_honest → Opened old result → Works old result → IfOk result (λ x. Shows old.sectors d x)
   shows one old d (Ok x) holds honest opened works = record { desk = one_of one old d (desk_of x) holds (opened.1 honest); keeps = opened.0; working = works.0; sectors = works.1 }
   shows one old d (Err e) holds honest opened works = tt
 
-  taken : (device : D) (d : Desk) (result : Result (Clerk D g) (OpenError × D)) → HoldsOne (g.disk device) d → (g.disk (device_after result)).is_honest → IfErr result (λ e. OpenRefused g device e.1 e.0) → IfErr result (λ e. e.0 ≢ NotAStore)
+  taken : (device : D) (d : Desk) (result : Result (Clerk D g) (OpenError × D)) → HoldsEither (g.disk device) d → (g.disk (device_after result)).is_honest → IfErr result (λ e. OpenRefused g device e.1 e.0) → IfErr result (λ e. e.0 ≢ NotAStore)
   taken device d (Ok x) holds honest refused = tt
   taken device d (Err e) holds honest refused = λ is. subst (λ (why : OpenError). OpenRefused g device e.1 why) is refused honest (all_of (g.disk device) d holds)
 
-  pub recovers : ImagesAreOne → (device : D) (d : Desk) (result : Result (Clerk D g) (OpenError × D)) → HoldsOne (g.disk device) d → (g.disk (device_after result)).is_honest
+  told : (device : D) (d : Desk) (result : Result (Clerk D g) (OpenError × D)) → HoldsOne (g.disk device) d → (g.disk (device_after result)).is_honest → IfErr result (λ e. OpenRefused g device e.1 e.0) → IfErr result (λ e. e.0 ≢ OldVersion)
+  told device d (Ok x) holds honest refused = tt
+  told device d (Err e) holds honest refused = λ is. (subst (λ (why : OpenError). OpenRefused g device e.1 why) is refused honest).1 (new_of (g.disk device) d holds)
+
+  pub recovers : ImagesAreOne → (device : D) (d : Desk) (result : Result (Clerk D g) (OpenError × D)) → HoldsEither (g.disk device) d → (g.disk (device_after result)).is_honest
       → ((g.disk (device_after result)).is_honest → AllDesks (g.disk device) → LeavesOnly (OpensOneOf (g.disk device)) (g.disk device) (g.disk (device_after result)))
-      → (AllDesks (g.disk device) → Opened (g.disk device) result) → Works (g.disk device) result → IfErr result (λ e. OpenRefused g device e.1 e.0) → Recovers g device d result
-  recovers one device d result holds honest moments opened works refused =
+      → ((g.disk (device_after result)).is_honest → AllVersions (g.disk device) → LeavesOnly (OpensOneAs (g.disk device)) (g.disk device) (g.disk (device_after result)))
+      → (AllVersions (g.disk device) → Opened (g.disk device) result) → Works (g.disk device) result → IfErr result (λ e. OpenRefused g device e.1 e.0) → Recovers g device d result
+  recovers one device d result holds honest moments versions opened works refused =
       let old = g.disk device in
+      let now = g.disk (device_after result) in
       let all = all_of old d holds in
       record {
-        any_moment = leaves_wider (OpensOneOf old) (OpensDesk old.sectors d) old (g.disk (device_after result)) (λ c is. opens_it one old d holds c is) (moments honest all);
+        any_moment = leaves_wider (OpensOneAs old) (OpensEither old.sectors d) old now (λ c is. opens_it one old d holds c is) (versions honest all);
         shown = shows one old d result holds honest (opened all) works;
         taken = taken device d result holds honest refused;
+        new = λ is_new. leaves_wider (OpensOneOf old) (OpensDesk old.sectors d) old now (λ c is. opens_new one old d is_new c is) (moments honest (new_of old d is_new));
+        told = λ is_new. told device d result is_new honest refused;
       }

@@ -4,14 +4,15 @@ use Rattle.std.specs.FinMap as map_of
 use Rattle.std.proofs.Common.{◌≡◌, ◌⊎◌, ℕ, Bool, true, false, if◌then◌else◌, List, [], length, Option, Some, None, Result, Ok, Err, inl, inr, ⊎_elim, refl}
 use Rattle.desk_model.specs.declared.kind.Kind.{Kind}
 use Rattle.desk_model.specs.declared.command.Command.{Command}
-use Rattle.desk_model.specs.declared.command.Command.TheVariants.{Create, Whole, Counties, Retire}
+use Rattle.desk_model.specs.declared.command.Command.TheVariants.{Create, Whole, Counties, Retire, Fork}
 use Rattle.desk_model.specs.declared.reply.Reply.TheVariants as reply
 use Rattle.desk_model.specs.declared.reply.Refusal.TheVariants.{Stale, Limit}
 use Rattle.desk_model.specs.Baf.{Values, Fault, body_read}
 use Rattle.desk_model.specs.Geography.{Ground}
 use Rattle.desk_model.specs.Desk.{Plan, Desk}
+use Rattle.desk_model.specs.Subject.{revision_at}
 use Rattle.desk_model.specs.Outcome.{IsAcceptance}
-use Rattle.desk_model.specs.Step.{Outcome, refused, plan_limit, create, revision_limit, on_revisions, whole_read, partly_listed, county_patched, patch_read, retired, step_on, step_at, step}
+use Rattle.desk_model.specs.Step.{Outcome, refused, plan_limit, create, revision_limit, on_revisions, whole_read, partly_listed, county_patched, patch_read, retired, fork_of, fork_from, fork, step_on, step_at, step}
 
 -- accepted, or the desk is as it was
 abbrev Moved : Desk → Outcome → Type 0
@@ -48,11 +49,26 @@ retired_moved : (d : Desk) (name : List ℕ) (p : Option Plan) → Moved d (reti
 retired_moved d name None = inr refl
 retired_moved d name (Some p) = inl tt
 
+fork_of_moved : (d : Desk) (name : List ℕ) (q : Plan) (districts : Option (List ℕ)) → Moved d (fork_of d name q districts)
+fork_of_moved d name q None = inr refl
+fork_of_moved d name q (Some districts) = inl tt
+
+fork_from_moved : (d : Desk) (name : List ℕ) (q : Option Plan) (j : ℕ) → Moved d (fork_from d name q j)
+fork_from_moved d name None j = inr refl
+fork_from_moved d name (Some q) j = fork_of_moved d name q (revision_at q j)
+
+fork_moved : (d : Desk) (name : List ℕ) (from : List ℕ × ℕ) (p : Option Plan) → Moved d (fork d name from p)
+fork_moved d name from (Some p) = inr refl
+fork_moved d name from None =
+    moved_if d (nat_le plan_limit (map_of.len d.plans)) (refused d Limit) (fork_from d name (map_of.get d.plans from.0) from.1) (inr refl)
+    (fork_from_moved d name (map_of.get d.plans from.0) from.1)
+
 step_on_moved : (g : Ground) (d : Desk) (c : Command) → Moved d (step_on g d c)
 step_on_moved g d (Create name size) = create_moved d name size.0 size.1 (map_of.get d.plans name)
 step_on_moved g d (Whole name after body) = revisions_moved d (map_of.get d.plans name) after (λ p. whole_read g d name p (body_read g p.n body)) (λ p. whole_moved g d name p (body_read g p.n body))
 step_on_moved g d (Counties name after body) = revisions_moved d (map_of.get d.plans name) after (λ p. patch_read g d name p (body_read g p.n body)) (λ p. patch_moved g d name p (body_read g p.n body))
 step_on_moved g d (Retire name) = retired_moved d name (map_of.get d.plans name)
+step_on_moved g d (Fork name from) = fork_moved d name from (map_of.get d.plans name)
 
 step_moved : (g : Option Ground) (d : Desk) (c : Command) → Moved d (step_at g d c)
 step_moved None d c = inr refl

@@ -1,23 +1,29 @@
 -- What an opening makes of a device that holds one desk.
-use Rattle.std.specs.Prelude.{◌≡◌, ◌≢◌, ◌≤◌, ◌^◌, ℕ, false, Result, IfOk, IfErr}
+use Rattle.std.specs.Prelude.{◌≡◌, ◌≢◌, ◌≤◌, ◌^◌, ℕ, Bool, false, Result, IfOk, IfErr}
 use Rattle.sector_device.specs.Disk.{Disk, Image}
 use Rattle.sector_device.specs.Moments.{LeavesOnly}
 use Rattle.sector_device.specs.declared.SectorDevice.{Ghosts}
 use Rattle.desk_model.specs.Desk.{Desk}
-use Rattle.desk_pages.specs.Desks.{OpensDesk}
+use Rattle.desk_pages.specs.Desks.{OpensDeskOf, OpensDesk, OpensEither}
 use Rattle.desk_store.specs.declared.clerk.Clerk.{Clerk}
 use Rattle.desk_store.specs.declared.opening.OpenError.{OpenError}
-use Rattle.desk_store.specs.declared.opening.OpenError.TheVariants.{NotAStore}
+use Rattle.desk_store.specs.declared.opening.OpenError.TheVariants.{NotAStore, OldVersion}
 use Rattle.desk_store.specs.Clerks.{desk_of, is_halted, sectors_of, Keeps}
 use Rattle.desk_store.specs.Openings.{device_after}
 
--- an image of a store opens to one desk at most
+-- an image of a store opens to one desk at most, in whatever version
 abbrev pub ImagesAreOne : Type 0
-ImagesAreOne = (sectors : ℕ) (d e : Desk) (c : Image) → sectors ≤ 2 ^ 32 → OpensDesk sectors d c → OpensDesk sectors e c → d ≡ e
+ImagesAreOne =
+    (new other : Bool) (sectors : ℕ) (d e : Desk) (c : Image) → sectors ≤ 2 ^ 32 → OpensDeskOf new sectors d c
+    → OpensDeskOf other sectors e c → d ≡ e
 
--- each image that a stop may leave opens to the desk
+-- each image that a stop may leave opens to the desk, in the new version
 abbrev pub HoldsOne : Disk → Desk → Type 0
 HoldsOne disk d = (c : Image) → disk.leaves c → OpensDesk disk.sectors d c
+
+-- each does so in either version: so it is where a migration was stopped
+abbrev pub HoldsEither : Disk → Desk → Type 0
+HoldsEither disk d = (c : Image) → disk.leaves c → OpensEither disk.sectors d c
 
 -- the clerk shows the desk, its store of n sectors keeps it, and no fault came
 pub record Shows {D : Type 0} {g : Ghosts D} (n : ℕ) (d : Desk) (x : Clerk D g) : Type 0 where
@@ -26,9 +32,12 @@ pub record Shows {D : Type 0} {g : Ghosts D} (n : ℕ) (d : Desk) (x : Clerk D g
   pub working : is_halted x ≡ false
   pub sectors : sectors_of x ≡ n
 
--- At each moment of the opening a stop leaves an image that opens to the desk. A clerk shows the desk; and the device is not taken for
--- what is no store.
+-- At each moment of the opening a stop leaves an image that opens to the desk, in either version. A clerk shows the desk; and the device
+-- is not taken for what is no store. Where each image is of the new version at the start, each is at any moment, and none is taken for
+-- one of the old.
 pub record Recovers {D : Type 0} (g : Ghosts D) (device : D) (d : Desk) (result : Result (Clerk D g) (OpenError × D)) : Type 0 where
-  pub any_moment : LeavesOnly (OpensDesk (g.disk device).sectors d) (g.disk device) (g.disk (device_after result))
+  pub any_moment : LeavesOnly (OpensEither (g.disk device).sectors d) (g.disk device) (g.disk (device_after result))
   pub shown : IfOk result (λ x. Shows (g.disk device).sectors d x)
   pub taken : IfErr result (λ e. e.0 ≢ NotAStore)
+  pub new : HoldsOne (g.disk device) d → LeavesOnly (OpensDesk (g.disk device).sectors d) (g.disk device) (g.disk (device_after result))
+  pub told : HoldsOne (g.disk device) d → IfErr result (λ e. e.0 ≢ OldVersion)

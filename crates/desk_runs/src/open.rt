@@ -2,21 +2,34 @@
 ghost use Rattle.desk_model.specs.Desk.{Desk};
 ghost use Rattle.desk_store.specs.Openings.{device_after};
 ghost use Rattle.desk_runs.specs.Lives.{IsOpening};
-ghost use Rattle.desk_runs.specs.Recovery.{HoldsOne, Recovers};
+ghost use Rattle.desk_runs.specs.Migrations.{IsEntry};
+ghost use Rattle.desk_runs.specs.Recovery.{HoldsEither, Recovers};
 
 use crate::desk_law::one_desk_opens;
+use desk_migration::{Migration, MigrationOpenError};
 use desk_store::clerk::Clerk;
 use desk_store::opening::OpenError;
 use sector_device::SectorDevice;
 use std::alloc::Global;
 
-/// Opens a device, as `Clerk::open`. Where each image that a stop may leave of it opens to one desk, the clerk shows that desk, and
-/// whatever the opening comes to, each image that a stop at any moment of it leaves opens to the same desk: so it does after the
-/// next opening, however many of them a stop cuts short.
+/// Opens a device, as `Clerk::open`. Where each image that a stop may leave of it opens to one desk, in either version, the clerk shows
+/// that desk, and whatever the opening comes to, each image that a stop at any moment of it leaves opens to the same desk: so it does
+/// after the next opening, however many of them a stop cuts short.
 pub fn open_again<D: SectorDevice>(alloc: Global, device: D) -> Result<Clerk<D>, (OpenError, D)>
     ensures opening { IsOpening D.SectorDevice device result }
-    ensures again { (D.disk (device_after result)).is_honest → (d : Desk) → HoldsOne (D.disk device) d → Recovers D.SectorDevice device d result }
+    ensures again { (D.disk (device_after result)).is_honest → (d : Desk) → HoldsEither (D.disk device) d → Recovers D.SectorDevice device d result }
 {
     one_desk_opens();
     Clerk::open(alloc, device)
+}
+
+/// Opens a device for a migration, as `Migration::open`. At each moment of it a stop leaves an image that opens to a desk to which one
+/// opened before, in the same version.
+pub fn enter_again<D: SectorDevice>(
+    alloc: Global,
+    device: D,
+) -> Result<Migration<D>, (MigrationOpenError, D)>
+    ensures { IsEntry D.SectorDevice device result }
+{
+    Migration::open(alloc, device)
 }

@@ -10,7 +10,7 @@ use Rattle.page_store.proofs.Stops.{leaves_here, leaves_quiet}
 use Rattle.page_store.specs.Transactions.{stored, count_of}
 use Rattle.page_btree.specs.Map.{Holds}
 use Rattle.desk_model.specs.declared.command.Command.{Command}
-use Rattle.desk_model.specs.declared.command.Command.TheVariants.{Create, Whole, Counties, Retire}
+use Rattle.desk_model.specs.declared.command.Command.TheVariants.{Create, Fork, Whole, Counties, Retire}
 use Rattle.desk_model.specs.declared.reply.Reply.{Reply}
 use Rattle.desk_model.specs.declared.reply.Reply.TheVariants.{Refused}
 use Rattle.desk_model.specs.declared.reply.Refusal.{Refusal}
@@ -34,6 +34,7 @@ either false = inr refl
 
 -- an accepted command has the step's outcome
 made_may : (must may failed : Type 0) (d : Desk) (c : Command) (e : Desk) → ¬ failed → IsAfter d c e → ¬ must → CommandMay must may failed d c (acceptance c) e
+made_may must may failed d (Fork name from) e works is room = (works, record { reply = sym is.reply; desk = is.desk; room = λ accepted. room })
 made_may must may failed d (Create name size) e works is room = (works, record { reply = sym is.reply; desk = is.desk; room = λ accepted. room })
 made_may must may failed d (Whole name after body) e works is room = (works, record { reply = sym is.reply; desk = is.desk; room = λ accepted. room })
 made_may must may failed d (Counties name after body) e works is room = (works, record { reply = sym is.reply; desk = is.desk; room = λ accepted. room })

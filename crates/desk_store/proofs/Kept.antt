@@ -8,7 +8,7 @@ use Rattle.gate_journal.specs.Store.{home}
 use Rattle.page_store.specs.Transactions.{stored, disk_in, count_of, journal_of, has_halted, IsKept}
 use Rattle.page_store.specs.declared.pages.Pages.{Pages}
 use Rattle.desk_model.specs.declared.command.Command.{Command}
-use Rattle.desk_model.specs.declared.command.Command.TheVariants.{Create, Whole, Counties, Retire}
+use Rattle.desk_model.specs.declared.command.Command.TheVariants.{Create, Fork, Whole, Counties, Retire}
 use Rattle.desk_model.specs.Desk.{Desk}
 use Rattle.desk_model.specs.Outcome.{IsAcceptance}
 use Rattle.desk_model.specs.Step.{step}
@@ -20,6 +20,7 @@ use Rattle.desk_store.specs.Keeping.{IsLeft, IsOneMore}
 -- each reply to a command that is accepted is one
 pub acceptance_is : (c : Command) → IsAcceptance (acceptance c)
 acceptance_is (Create name size) = tt
+acceptance_is (Fork name from) = tt
 acceptance_is (Whole name after body) = tt
 acceptance_is (Counties name after body) = tt
 acceptance_is (Retire name) = tt

@@ -10,7 +10,7 @@ use Rattle.gate_journal.proofs.Headers.{same_journal}
 use Rattle.page_store.specs.Chain.{root_in, free_in, IsPages}
 use Rattle.page_store.specs.Openings.{AllPageStores}
 use Rattle.page_store.proofs.Stops.{kept_quiet}
-use Rattle.page_store.specs.Transactions.{stored, disk_in, count_of, journal_of, has_halted, IsQuiet, IsKept, IsUntouched, OpenErr}
+use Rattle.page_store.specs.Transactions.{stored, disk_in, count_of, journal_of, has_halted, HasFailed, IsQuiet, IsKept, IsUntouched, OpenErr}
 use Rattle.page_store.specs.declared.pages.Pages.{Pages}
 use Rattle.page_store.specs.declared.error.PageError.{PageError}
 use Rattle.page_store.specs.declared.error.PageError.TheVariants as page
@@ -19,23 +19,31 @@ use Rattle.page_store.specs.declared.txn.Txn.{Txn}
 use Rattle.page_btree.specs.declared.error.TreeError.{TreeError}
 use Rattle.page_btree.specs.declared.error.TreeError.TheVariants as tree
 use Rattle.page_btree.specs.Map.{Holds, InPages as HasRows, InTxn as TxnHas}
-use Rattle.store_rows.specs.Rows.{KeyMap}
-use Rattle.desk_opening.specs.Opening.{IsReadFrom, OpenErr as ReadErr}
-use Rattle.desk_pages.specs.Desks.{HoldsDesk, InPages, InTxn, OpensDesk}
+use Rattle.store_rows.specs.Keys.{version, in_four}
+use Rattle.store_rows.specs.Rows.{KeyMap, row_in, Has, Lacks}
+use Rattle.store_rows.specs.Tidy.{version_row}
+use Rattle.store_rows.proofs.OneGeography.{no_value}
+use Rattle.row_table.specs.Reading.{ReadErr as RowErr}
+use Rattle.desk_opening.specs.Opening.{HasVersion, IsReadFrom, OpenErr as ReadErr}
+use Rattle.desk_pages.specs.Desks.{HoldsDeskOf, IsMapOf, InPagesOf, InPagesAs, InTxnAs, InPages, OpensDesk, OpensDeskOf}
 use Rattle.desk_store.specs.Keeping.{IsLeft}
 use Rattle.desk_store.specs.Clerks.{desk_of, disk_of, sectors_of, Keeps}
-use Rattle.desk_store.specs.Finding.{FindErr, find_error_of, missing, open_error_of}
-use Rattle.desk_store.specs.Openings.{AllDesks, IsOneOf, OpensOneOf, HasPages, IsFound, IsSpared, OpenRefused}
+use Rattle.desk_store.specs.Finding.{FindErr, ReadNewErr, VersionErr, find_error_of, missing, open_error_of}
+use Rattle.desk_store.specs.Openings.{AllDesks, AllVersions, IsOneOf, OpensOneOf, OpensOneAs, HasPages, IsOldStore, IsFound, IsSpared, OpenRefused}
 use Rattle.desk_store.specs.declared.clerk.Clerk.{Clerk}
 use Rattle.desk_store.specs.declared.opening.OpenError.{OpenError}
-use Rattle.desk_store.specs.declared.opening.OpenError.TheVariants.{NotAStore, DeviceFault, Memory}
+use Rattle.desk_store.specs.declared.opening.OpenError.TheVariants.{NotAStore, DeviceFault, Memory, OldVersion}
 use Rattle.desk_store.proofs.Kept.{kept_opens}
 use Rattle.desk_store.proofs.Prepared.{IsBegun, begun_reads, begun_rows}
 
-pub stores_of : (disk : Disk) → AllDesks disk → AllStores disk
+-- what is of the new version is of either
+pub all_versions : (disk : Disk) → AllDesks disk → AllVersions disk
+all_versions disk all c leaves = let is = all c leaves in ((true, is.0), is.1)
+
+pub stores_of : (disk : Disk) → AllVersions disk → AllStores disk
 stores_of disk all c leaves = let opens = (all c leaves).1 in record { J = opens.J; n = opens.n; whole = opens.whole; store = opens.opens.store }
 
-pub page_stores_of : (disk : Disk) → AllDesks disk → AllPageStores disk
+pub page_stores_of : (disk : Disk) → AllVersions disk → AllPageStores disk
 page_stores_of disk all c leaves =
     let opens = (all c leaves).1 in
     let same : opens.P ≡ pages opens.J c = λ i p. sym (opens.opens.each p) i in
@@ -50,7 +58,7 @@ layout_of sectors J n K m c one other whole whole' =
     (journal, omega (arith, journal, whole, whole'))
 
 -- an image that stands for the pages of another opens to its desk
-same_desk : (sectors : ℕ) (d : Desk) (was c : Image) (J n : ℕ) → OpensDesk sectors d was → IsStore J n was → home J + n ≡ sectors → Opens J n (pages J was) c → OpensDesk sectors d c
+same_desk : {new : Bool} (sectors : ℕ) (d : Desk) (was c : Image) (J n : ℕ) → OpensDeskOf new sectors d was → IsStore J n was → home J + n ≡ sectors → Opens J n (pages J was) c → OpensDeskOf new sectors d c
 same_desk sectors d was c J n opens store whole stands =
     let layout = layout_of sectors J n opens.J opens.n was store opens.opens.store whole opens.whole in
     let here : Opens opens.J opens.n (pages opens.J was) c = subst (λ (k : ℕ). Opens k opens.n (pages k was) c) (sym layout.0) (subst (λ (k : ℕ). Opens J k (pages J was) c) (sym layout.1) stands) in
@@ -73,14 +81,27 @@ reads_as_one disk c all told =
       opens = same_desk disk.sectors is.0 told.was c told.J told.n is.1 told.store told.whole told.opens;
     }
 
+pub reads_as_version : (disk : Disk) (c : Image) → AllVersions disk → ReadsAs disk c → OpensOneAs disk c
+reads_as_version disk c all told =
+    let is = all told.was told.left in
+    record {
+      x = is.0;
+      one = record { was = told.was; left = told.left; opens = is.1 };
+      opens = same_desk disk.sectors is.0.1 told.was c told.J told.n is.1 told.store told.whole told.opens;
+    }
+
+pub open_versions : (old new : Disk) → AllVersions old → LeavesOnly (ReadsAs old) old new → LeavesOnly (OpensOneAs old) old new
+open_versions old new all left = leaves_wider (ReadsAs old) (OpensOneAs old) old new (λ c told. reads_as_version old c all told) left
+
 pub open_leaves : (old new : Disk) → AllDesks old → LeavesOnly (ReadsAs old) old new → LeavesOnly (OpensOneOf old) old new
 open_leaves old new all left = leaves_wider (ReadsAs old) (OpensOneOf old) old new (λ c told. reads_as_one old c all told) left
 
 -- why a device is not opened, by what it is like afterwards
 abbrev FindTold : Disk → Disk → OpenError → Type 0
-FindTold old new NotAStore = new.is_honest → AllDesks old → ⊥
+FindTold old new NotAStore = new.is_honest → AllVersions old → ⊥
 FindTold old new DeviceFault = new.is_honest → old.faults < new.faults
 FindTold old new Memory = new.is_honest → HasPages old new
+FindTold old new OldVersion = new.is_honest → IsOldStore old new × (AllDesks old → ⊥)
 
 pub page_refused : {D : Type 0} (h : Ghosts D) (old new : D) (e : PageError) → OpenErr h old new e → OpenRefused h old new (open_error_of e)
 page_refused h old new page.NotAStore why = λ honest all. why honest (page_stores_of (h.disk old) all)
@@ -95,6 +116,7 @@ pub as_refused : {D : Type 0} (h : Ghosts D) (old new : D) (e : OpenError) → F
 as_refused h old new NotAStore told = told
 as_refused h old new DeviceFault told = told
 as_refused h old new Memory told = told
+as_refused h old new OldVersion told = told
 
 -- what is no store stays as it is
 pub page_spared : (old new : Disk) (e : PageError) → (new.is_honest → e ≡ page.NotAStore → IsUntouched old new) → ((e ≡ page.NotAStore → ⊥) → open_error_of e ≡ NotAStore → ⊥) → new.is_honest → open_error_of e ≡ NotAStore → IsSpared old new
@@ -121,9 +143,21 @@ opens_left halted sectors d c left = elim left [
   | inr more ↦ (more.next, more.opens)
 ]
 
+-- ---- versions
+-- rows that tell the new version are of it, and those of it tell it
+pub tells_new : (new : Bool) (m : KeyMap) (d : Desk) → IsMapOf new m d → Has m version (in_four 2) → new ≡ true
+tells_new new m d is has = by new (is.tidy.holdings.told ∙ ap version_row is.version)
+  where
+    by : (b : Bool) → row_in m version ≡ version_row b → b ≡ true
+    by true told = refl
+    by false told = absurd (no_value (in_four 2) (sym has ∙ told))
+
+pub new_tells : (m : KeyMap) (d : Desk) → IsMapOf true m d → Has m version (in_four 2)
+new_tells m d is = is.tidy.holdings.told ∙ ap version_row is.version
+
 module _ {D : Type 0} {g : Ghosts D} where
   -- the pages that were found hold the desk of an image that was there
-  pub found_desk : (old : Disk) (ps : Pages D g) (all : AllDesks old) (found : Found (journal_of ps) (count_of ps) old (disk_in ps)) → HasRoom old.sectors (journal_of ps) (count_of ps) → InPages ps (all found.was found.left).0
+  pub found_desk : (old : Disk) (ps : Pages D g) (all : AllVersions old) (found : Found (journal_of ps) (count_of ps) old (disk_in ps)) → HasRoom old.sectors (journal_of ps) (count_of ps) → InPagesAs ps (all found.was found.left).0
   found_desk old ps all found room =
       let is = all found.was found.left in
       let opens = is.1 in
@@ -133,18 +167,18 @@ module _ {D : Type 0} {g : Ghosts D} where
       let count : opens.n ≡ count_of ps = omega (arith, journal, opens.whole, room.whole) in
       let there : pages opens.J found.was ≡ opens.P = λ i p. opens.opens.each p i in
       let same : opens.P ≡ stored ps = sym there ∙ ap (λ (k : ℕ). pages k found.was) journal ∙ sym found.same in
-      subst (λ (n : ℕ). HoldsDesk n (stored ps) (root_in (stored ps)) (free_in (stored ps)) is.0) count
-      (subst (λ (P : Image). HoldsDesk opens.n P (root_in P) (free_in P) is.0) same opens.holds)
+      subst (λ (n : ℕ). HoldsDeskOf is.0.0 n (stored ps) (root_in (stored ps)) (free_in (stored ps)) is.0.1) count
+      (subst (λ (P : Image). HoldsDeskOf is.0.0 opens.n P (root_in P) (free_in P) is.0.1) same opens.holds)
 
   quiet_holds : (a b : Pages D g) (d : Desk) → IsQuiet a b → (disk_in b).is_honest → InPages a d → InPages b d
   quiet_holds a b d quiet honest holds =
-      subst (λ (P : Image). HoldsDesk (count_of b) P (root_in P) (free_in P) d) (sym (quiet.same honest))
-      (subst (λ (n : ℕ). HoldsDesk n (stored a) (root_in (stored a)) (free_in (stored a)) d) (sym quiet.count) holds)
+      subst (λ (P : Image). HoldsDeskOf true (count_of b) P (root_in P) (free_in P) d) (sym (quiet.same honest))
+      (subst (λ (n : ℕ). HoldsDeskOf true n (stored a) (root_in (stored a)) (free_in (stored a)) d) (sym quiet.count) holds)
 
   held_before : (a b : Pages D g) (d : Desk) → IsQuiet a b → (disk_in b).is_honest → InPages b d → InPages a d
   held_before a b d quiet honest holds =
-      subst (λ (P : Image). HoldsDesk (count_of a) P (root_in P) (free_in P) d) (quiet.same honest)
-      (subst (λ (n : ℕ). HoldsDesk n (stored b) (root_in (stored b)) (free_in (stored b)) d) quiet.count holds)
+      subst (λ (P : Image). HoldsDeskOf true (count_of a) P (root_in P) (free_in P) d) (quiet.same honest)
+      (subst (λ (n : ℕ). HoldsDeskOf true n (stored b) (root_in (stored b)) (free_in (stored b)) d) quiet.count holds)
 
   -- rows that are held after calls that read were held before
   rows_before : (a b : Pages D g) (m : KeyMap) → IsQuiet a b → (disk_in b).is_honest → HasRows b m → HasRows a m
@@ -157,24 +191,31 @@ module _ {D : Type 0} {g : Ghosts D} where
   rows_begun a b t m begun quiet honest holds = begun_rows a t m begun (quiet.honest honest) holds
 
   -- what is opened keeps it
-  module _ (old : Disk) (a : Pages D g) (x : Clerk D g) (all : AllDesks old) (room : HasRoom old.sectors (journal_of a) (count_of a)) (found : (disk_in a).is_honest → Found (journal_of a) (count_of a) old (disk_in a))
-      (kept : (disk_in a).is_honest → IsKept a) (quiet : IsQuiet a x.pages) (read : (disk_of x).is_honest → (d : Desk) → InPages a d → desk_of x ≡ d) (works : x.halted ≡ false) where
-    abbrev desk_found : (disk_of x).is_honest → Desk
-    desk_found honest = let was = found (quiet.honest honest) in (all was.was was.left).0
+  module _ (old : Disk) (a : Pages D g) (x : Clerk D g) (all : AllVersions old) (room : HasRoom old.sectors (journal_of a) (count_of a)) (found : (disk_in a).is_honest → Found (journal_of a) (count_of a) old (disk_in a))
+      (kept : (disk_in a).is_honest → IsKept a) (quiet : IsQuiet a x.pages) (read : (disk_of x).is_honest → (y : Bool × Desk) → InPagesAs a y → desk_of x ≡ y.1)
+      (told : (disk_of x).is_honest → (m : KeyMap) → HasRows a m → Has m version (in_four 2)) (works : x.halted ≡ false) where
+    abbrev found_as : (disk_of x).is_honest → Bool × Desk
+    found_as honest = let was = found (quiet.honest honest) in (all was.was was.left).0
 
-    found_holds : (honest : (disk_of x).is_honest) → InPages a (desk_found honest)
+    found_holds : (honest : (disk_of x).is_honest) → InPagesAs a (found_as honest)
     found_holds honest = found_desk old a all (found (quiet.honest honest)) room
 
-    shown_is : (honest : (disk_of x).is_honest) → desk_of x ≡ desk_found honest
-    shown_is honest = read honest (desk_found honest) (found_holds honest)
+    is_new : (honest : (disk_of x).is_honest) → (found_as honest).0 ≡ true
+    is_new honest = let holds = found_holds honest in tells_new (found_as honest).0 holds.m (found_as honest).1 holds.is (told honest holds.m holds.holds)
+
+    shown_is : (honest : (disk_of x).is_honest) → desk_of x ≡ (found_as honest).1
+    shown_is honest = read honest (found_as honest) (found_holds honest)
 
     shown_holds : (disk_of x).is_honest → InPages x.pages (desk_of x)
-    shown_holds honest = subst (λ (d : Desk). InPages x.pages d) (sym (shown_is honest)) (quiet_holds a x.pages (desk_found honest) quiet honest (found_holds honest))
+    shown_holds honest =
+        let there : InPages a (found_as honest).1 = subst (λ (b : Bool). InPagesOf b a (found_as honest).1) (is_new honest) (found_holds honest) in
+        subst (λ (d : Desk). InPages x.pages d) (sym (shown_is honest)) (quiet_holds a x.pages (found_as honest).1 quiet honest there)
 
     opened_one : (disk_of x).is_honest → IsOneOf old (desk_of x)
     opened_one honest =
         let it = found (quiet.honest honest) in
-        let opens : OpensDesk old.sectors (desk_of x) it.was = subst (λ (d : Desk). OpensDesk old.sectors d it.was) (sym (shown_is honest)) (all it.was it.left).1 in
+        let was : OpensDesk old.sectors (found_as honest).1 it.was = subst (λ (b : Bool). OpensDeskOf b old.sectors (found_as honest).1 it.was) (is_new honest) (all it.was it.left).1 in
+        let opens : OpensDesk old.sectors (desk_of x) it.was = subst (λ (d : Desk). OpensDesk old.sectors d it.was) (sym (shown_is honest)) was in
         record { was = it.was; left = it.left; opens = opens }
 
     pub opened_keeps : Keeps x × ((disk_of x).is_honest → IsOneOf old (desk_of x))
@@ -201,44 +242,96 @@ module _ {D : Type 0} {g : Ghosts D} where
   pages_left old a b found quiet honest = (journal_of b, count_of b, found_after old a b found quiet honest)
 
   -- a clerk whose pages were found, and read
-  pub is_found : (old : Disk) (a : Pages D g) (x : Clerk D g) → ((disk_in a).is_honest → Found (journal_of a) (count_of a) old (disk_in a)) → IsQuiet a x.pages → ((disk_of x).is_honest → (d : Desk) → InPages a d → desk_of x ≡ d) → ((disk_of x).is_honest → (m : KeyMap) → HasRows a m → IsReadFrom m (desk_of x))
-      → (disk_of x).is_honest → IsFound old x
-  is_found old a x found quiet read rows honest = record {
+  pub is_found : (old : Disk) (a : Pages D g) (x : Clerk D g) → ((disk_in a).is_honest → Found (journal_of a) (count_of a) old (disk_in a)) → IsQuiet a x.pages → ((disk_of x).is_honest → (y : Bool × Desk) → InPagesAs a y → desk_of x ≡ y.1) → ((disk_of x).is_honest → (m : KeyMap) → HasRows a m → IsReadFrom m (desk_of x))
+      → ((disk_of x).is_honest → (m : KeyMap) → HasRows a m → Has m version (in_four 2)) → (disk_of x).is_honest → IsFound old x
+  is_found old a x found quiet read rows told honest = record {
     pages = found_after old a x.pages found quiet honest;
-    shown = λ d holds. read honest d (held_before a x.pages d quiet honest holds);
+    shown = λ d holds. read honest (true, d) (held_before a x.pages d quiet honest holds);
     read = λ m holds. rows honest m (rows_before a x.pages m quiet honest holds);
+    version = λ m holds. told honest m (rows_before a x.pages m quiet honest holds);
   }
+
+  -- the rows of pages that were found, which tell no version
+  old_left : (old : Disk) (a b : Pages D g) → HasRoom old.sectors (journal_of a) (count_of a) → ((disk_in a).is_honest → Found (journal_of a) (count_of a) old (disk_in a)) → IsQuiet a b
+      → ((disk_in b).is_honest → (m : KeyMap) → HasRows a m → Lacks m version) → (disk_in b).is_honest → IsOldStore old (disk_in b) × (AllDesks old → ⊥)
+  unfolding all_versions
+  old_left old a b room found quiet none honest = (
+    record {
+      J = journal_of b;
+      n = count_of b;
+      found = found_after old a b found quiet honest;
+      none = λ m holds.
+          let it = found_after old a b found quiet honest in
+          let same : pages (journal_of b) it.was ≡ stored a = sym it.same ∙ quiet.same honest in
+          none honest m
+          (subst (λ (n : ℕ). Holds n (stored a) (root_in (stored a)) (free_in (stored a)) m) quiet.count
+          (subst (λ (P : Image). Holds (count_of b) P (root_in P) (free_in P) m) same holds));
+    },
+    λ all.
+        let was = found (quiet.honest honest) in
+        let holds : InPages a (all was.was was.left).0 = found_desk old a (all_versions old all) was room in
+        no_value (in_four 2) (sym (new_tells holds.m (all was.was was.left).0 holds.is) ∙ none honest holds.m holds.holds),
+  )
 
   pub find_refused : (device : D) (a b : Pages D g) (e : OpenError) → HasRoom (g.disk device).sectors (journal_of a) (count_of a) → ((disk_in a).is_honest → Found (journal_of a) (count_of a) (g.disk device) (disk_in a)) → has_halted a ≡ false
       → ((disk_in a).is_honest → (disk_in a).faults ≡ (g.disk device).faults) → IsQuiet a b → FindErr a b e → (disk : Disk) → disk_in b ≡ disk → FindTold (g.disk device) disk e
-  find_refused device a b NotAStore room found working passed quiet why disk is = subst (λ (x : Disk). x.is_honest → AllDesks (g.disk device) → ⊥) is (λ honest all. let was = found (quiet.honest honest) in why honest (all was.was was.left).0 (found_desk (g.disk device) a all was room))
+  find_refused device a b NotAStore room found working passed quiet why disk is = subst (λ (x : Disk). x.is_honest → AllVersions (g.disk device) → ⊥) is (λ honest all. let was = found (quiet.honest honest) in why honest (all was.was was.left).0 (found_desk (g.disk device) a all was room))
   find_refused device a b DeviceFault room found working passed quiet why disk is = subst (λ (x : Disk). x.is_honest → (g.disk device).faults < x.faults) is (λ honest. let rises = quiet.rose working why honest in let same = passed (quiet.honest honest) in omega (arith, rises, same))
   find_refused device a b Memory room found working passed quiet why disk is = subst (λ (x : Disk). x.is_honest → HasPages (g.disk device) x) is (λ honest. pages_left (g.disk device) a b found quiet honest)
+  find_refused device a b OldVersion room found working passed quiet why disk is = subst (λ (x : Disk). x.is_honest → IsOldStore (g.disk device) x × (AllDesks (g.disk device) → ⊥)) is (old_left (g.disk device) a b room found quiet why)
 
   -- ---- the desk that is read back
-  pub read_of : (a b : Pages D g) (t : Txn) (e d : Desk) → IsBegun a t → IsQuiet a b → (disk_in b).is_honest → ((disk_in b).is_honest → (x : Desk) → InTxn t (stored a) x → e ≡ x) → InPages a d → e ≡ d
-  read_of a b t e d begun quiet honest read holds = read honest d (begun_reads a t d begun (quiet.honest honest) holds)
+  pub read_of : (a b : Pages D g) (t : Txn) (e : Desk) (x : Bool × Desk) → IsBegun a t → IsQuiet a b → (disk_in b).is_honest → ((disk_in b).is_honest → (y : Bool × Desk) → InTxnAs t (stored a) y → e ≡ y.1) → InPagesAs a x → e ≡ x.1
+  read_of a b t e x begun quiet honest read holds = read honest x (begun_reads a t x.1 begun (quiet.honest honest) holds)
 
-  missing_read : (a b : Pages D g) (halted : Bool) → halted ≡ has_halted b → (has_halted b ≡ false → FindErr a b NotAStore) → FindErr a b (missing halted)
-  missing_read a b true is none = sym is
-  missing_read a b false is none = none (sym is)
+  halts_not : (a b : Pages D g) → has_halted b ≡ false → HasFailed a b → ⊥
+  halts_not a b works failed = let clash : true ≡ false = sym failed.halted ∙ works in cc
 
-  no_desk : (a b : Pages D g) (t : Txn) (e : TreeError) → IsBegun a t → IsQuiet a b → has_halted a ≡ false → ReadErr t a b e → (e ≡ tree.Memory → ⊥) → has_halted b ≡ false → FindErr a b NotAStore
-  no_desk a b t tree.DeviceFault begun quiet working why other works = λ honest d holds. elim why [
-    | inl failed ↦ absurd (let clash : true ≡ false = sym failed.halted ∙ works in cc)
-    | inr none ↦ none honest d (begun_reads a t d begun (quiet.honest honest) holds)
-  ]
-  no_desk a b t tree.Halted begun quiet working why other works = absurd (let clash : true ≡ false = sym why ∙ working in cc)
-  no_desk a b t tree.NoPages begun quiet working why other works = absurd why
-  no_desk a b t tree.TooDeep begun quiet working why other works = absurd why
-  no_desk a b t tree.Memory begun quiet working why other works = absurd (other refl)
+  was_halted : (a : Pages D g) → has_halted a ≡ false → has_halted a ≡ true → ⊥
+  was_halted a working on = let clash : true ≡ false = sym on ∙ working in cc
 
-  pub none_read : (a b : Pages D g) (t : Txn) (e : TreeError) (halted : Bool) → halted ≡ has_halted b → IsBegun a t → IsQuiet a b → has_halted a ≡ false → ReadErr t a b e → FindErr a b (find_error_of e halted)
-  none_read a b t tree.DeviceFault halted is begun quiet working why = missing_read a b halted is (no_desk a b t tree.DeviceFault begun quiet working why (λ same. cc))
-  none_read a b t tree.Halted halted is begun quiet working why = missing_read a b halted is (no_desk a b t tree.Halted begun quiet working why (λ same. cc))
-  none_read a b t tree.NoPages halted is begun quiet working why = absurd why
-  none_read a b t tree.TooDeep halted is begun quiet working why = absurd why
-  none_read a b t tree.Memory halted is begun quiet working why = tt
+  -- no version is told, or the device failed
+  missing_version : (t : Txn) (a b : Pages D g) (halted : Bool) → halted ≡ has_halted b → (has_halted b ≡ false → VersionErr t a b NotAStore) → VersionErr t a b (missing halted)
+  missing_version t a b true is none = sym is
+  missing_version t a b false is none = none (sym is)
+
+  pub version_unread : (t : Txn) (a b : Pages D g) (e : TreeError) (halted : Bool) → halted ≡ has_halted b → has_halted a ≡ false → RowErr HasVersion t a b e → VersionErr t a b (find_error_of e halted)
+  version_unread t a b tree.DeviceFault halted is working why = missing_version t a b halted is (λ works honest m holds has. elim why [
+    | inl failed ↦ halts_not a b works failed
+    | inr none ↦ none honest m holds has
+  ])
+  version_unread t a b tree.Halted halted is working why = absurd (was_halted a working why)
+  version_unread t a b tree.NoPages halted is working why = absurd why
+  version_unread t a b tree.TooDeep halted is working why = absurd why
+  version_unread t a b tree.Memory halted is working why = absurd why
+
+  -- what isn't of the new version isn't read
+  pub old_unread : (t : Txn) (a b : Pages D g) (e : OpenError) → VersionErr t a b e → ReadNewErr t a b e
+  old_unread t a b NotAStore why = λ honest x holds. why honest holds.m holds.holds (holds.is.tidy.new, holds.is.tidy.holdings.told)
+  old_unread t a b DeviceFault why = why
+  old_unread t a b Memory why = absurd why
+  old_unread t a b OldVersion why = why
+
+  missing_read : (t : Txn) (a b : Pages D g) (halted : Bool) → halted ≡ has_halted b → (has_halted b ≡ false → ReadNewErr t a b NotAStore) → ReadNewErr t a b (missing halted)
+  missing_read t a b true is none = sym is
+  missing_read t a b false is none = none (sym is)
+
+  pub none_read : (t : Txn) (a b : Pages D g) (e : TreeError) (halted : Bool) → halted ≡ has_halted b → has_halted a ≡ false → ReadErr t a b e → ReadNewErr t a b (find_error_of e halted)
+  none_read t a b tree.DeviceFault halted is working why = missing_read t a b halted is (λ works honest x holds. elim why [
+    | inl failed ↦ halts_not a b works failed
+    | inr none ↦ none honest x.0 x.1 holds
+  ])
+  none_read t a b tree.Halted halted is working why = absurd (was_halted a working why)
+  none_read t a b tree.NoPages halted is working why = absurd why
+  none_read t a b tree.TooDeep halted is working why = absurd why
+  none_read t a b tree.Memory halted is working why = tt
+
+  -- nor is it shown
+  pub none_found : (a b : Pages D g) (t : Txn) (e : OpenError) → IsBegun a t → IsQuiet a b → ReadNewErr t a b e → FindErr a b e
+  none_found a b t NotAStore begun quiet why = λ honest x holds. why honest x (begun_reads a t x.1 begun (quiet.honest honest) holds)
+  none_found a b t DeviceFault begun quiet why = why
+  none_found a b t Memory begun quiet why = tt
+  none_found a b t OldVersion begun quiet why = λ honest m holds. why honest m (rows_begun a b t m begun quiet honest holds)
 
   -- ---- what is kept opens again
   pub reopened : (x : Clerk D g) → Keeps x → (disk_of x).is_honest → AllDesks (disk_of x)

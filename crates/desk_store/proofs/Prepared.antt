@@ -1,5 +1,5 @@
 -- A command whose pages are made ready.
-use Rattle.std.proofs.Common.{◌≡◌, ◌≤◌, ◌+◌, ℕ, true, false, List, length, inl, inr, refl, sym, ap, subst, ◌∙◌, arith}
+use Rattle.std.proofs.Common.{◌≡◌, ◌≤◌, ◌+◌, ℕ, Bool, true, false, List, length, inl, inr, refl, sym, ap, subst, ◌∙◌, arith}
 use Rattle.sector_device.specs.Disk.{Image}
 use Rattle.sector_device.specs.declared.SectorDevice.{Ghosts}
 use Rattle.page_store.specs.Chain.{free_in, root_in}
@@ -23,7 +23,7 @@ use Rattle.plan_table.specs.declared.change.ChangeOutcome.{ChangeOutcome}
 use Rattle.plan_table.specs.declared.change.ChangeOutcome.TheVariants.{Made, Spent}
 use Rattle.plan_revisions.specs.Steps.{HasStepped, IsStepped, LeavesNumbers, StepErr}
 use Rattle.desk_pages.specs.Commits.{HoldsAfter}
-use Rattle.desk_pages.specs.Desks.{HoldsDesk, InPages, InTxn}
+use Rattle.desk_pages.specs.Desks.{HoldsDesk, HoldsDeskOf, InPages, InPagesOf, InTxn, InTxnOf}
 use Rattle.desk_pages.proofs.DeskLaws.{begun_desk}
 use Rattle.plan_revisions.specs.Rows.{HasNumbers}
 use Rattle.plan_revisions.proofs.Accepted.{rows_some, ground_stays}
@@ -50,9 +50,9 @@ module _ {D : Type 0} {g : Ghosts D} where
     pub root : (disk_in a).is_honest → txn_root t ≡ root_in (stored a)
     pub free : (disk_in a).is_honest → free_over t (stored a) ≡ free_in (stored a)
 
-  pub begun_reads : (a : Pages D g) (t : Txn) (d : Desk) → IsBegun a t → (disk_in a).is_honest → InPages a d → InTxn t (stored a) d
-  begun_reads a t d begun honest holds =
-      let there : HoldsDesk (txn_pages t) (stored a) (root_in (stored a)) (free_in (stored a)) d = subst (λ (n : ℕ). HoldsDesk n (stored a) (root_in (stored a)) (free_in (stored a)) d) (sym begun.pages) holds in
+  pub begun_reads : {new : Bool} (a : Pages D g) (t : Txn) (d : Desk) → IsBegun a t → (disk_in a).is_honest → InPagesOf new a d → InTxnOf new t (stored a) d
+  begun_reads {new} a t d begun honest holds =
+      let there : HoldsDeskOf new (txn_pages t) (stored a) (root_in (stored a)) (free_in (stored a)) d = subst (λ (n : ℕ). HoldsDeskOf new n (stored a) (root_in (stored a)) (free_in (stored a)) d) (sym begun.pages) holds in
       begun_desk t (stored a) d there begun.over_is (begun.root honest) (begun.free honest)
 
   pub begun_rows : (a : Pages D g) (t : Txn) (m : KeyMap) → IsBegun a t → (disk_in a).is_honest → HoldsRows a m → TxnHas t (stored a) m

@@ -1,5 +1,5 @@
 -- Sweeps at a clerk.
-use Rattle.std.proofs.Common.{◌≡◌, ◌⊎◌, ◌<◌, ◌^◌, ℕ, true, false, List, [], ◌∷◌, Option, Some, inl, inr, ⊎_elim, refl, sym, ap, subst, ◌∙◌}
+use Rattle.std.proofs.Common.{◌≡◌, ◌⊎◌, ◌<◌, ◌+◌, ◌^◌, ℕ, zero, suc, true, false, List, [], ◌∷◌, ◌++◌, Option, Some, inl, inr, ⊎_elim, refl, sym, ap, subst, ◌∙◌, arith}
 use Rattle.std.specs.FinMap.{remove}
 use Rattle.sector_device.specs.declared.SectorDevice.{Ghosts}
 use Rattle.page_store.specs.Transactions.{disk_in, has_halted, IsQuiet}
@@ -7,16 +7,17 @@ use Rattle.page_store.specs.declared.pages.Pages.{Pages}
 use Rattle.page_btree.specs.Map.{InPages as HoldsRows}
 use Rattle.desk_model.specs.Geography.{Ground}
 use Rattle.desk_model.specs.Desk.{Desk}
-use Rattle.store_rows.specs.Keys.{RowKey, key_of, Fits, begun, seal, block, pair}
+use Rattle.store_rows.specs.Keys.{RowKey, key_of, Fits, counters, retired, begun, holding, tally, named, part, seal, version, block, pair, chunk, in_eight}
+use Rattle.store_rows.specs.Holders.{released}
 use Rattle.store_rows.proofs.RowLaws.{keys_differ}
-use Rattle.store_rows.proofs.Frames.{remove_keeps}
-use Rattle.store_rows.specs.Rows.{KeyMap, row_in}
+use Rattle.store_rows.proofs.Frames.{remove_keeps, put_keeps_tag, remove_keeps_tag, tag_follows}
+use Rattle.store_rows.specs.Rows.{KeyMap, row_in, SameTag}
 use Rattle.store_rows.specs.GeographyRows.{IsStaged}
-use Rattle.store_rows.specs.SweepLaws.{IsLeftover, take_rows, AreLeftovers}
+use Rattle.store_rows.specs.TurnLaws.{Turn, goes, lets_go, IsUnneeded, CanTurn, turned, take_turns, AreTurns}
 use Rattle.geo_tables.specs.Loading.{HoldsLoad, number_of, ground_of, done_of}
 use Rattle.geo_tables.specs.declared.load.Load.{Load}
 use Rattle.desk_pages.specs.Desks.{IsDeskMap, InPages}
-use Rattle.store_sweep.specs.Leftovers.{IsOfLoad, AreNotSpared, IsSweptBy, IsSweptClean}
+use Rattle.store_sweep.specs.Leftovers.{IsOfLoad, IsApart, AreNotSpared, IsSweptBy, IsSweptClean}
 use Rattle.store_sweep.specs.Sweeping.{HoldsSwept, SweepErr}
 use Rattle.store_sweep.specs.declared.error.SweepError.{SweepError}
 use Rattle.store_sweep.specs.declared.error.SweepError.TheVariants.{Memory, DeviceFault, Halted}
@@ -26,21 +27,50 @@ use Rattle.desk_store.specs.Loads.{Stages, IsLast}
 use Rattle.desk_store.specs.Sweeps.{HasRows, HasSwept, is_sweep_fault}
 use Rattle.desk_store.specs.declared.clerk.Clerk.{Clerk}
 
--- ---- what is taken out leaves the rows of a load
-of_load_kept : (load : ℕ) (rows : List RowKey) (m : KeyMap) (row : RowKey) → Fits row → IsOfLoad load row → AreLeftovers m rows → AreNotSpared (Some load) rows → row_in (take_rows m rows) row ≡ row_in m row
-of_load_kept load [] m row fits of left apart = refl
-of_load_kept load (r ∷ rows) m row fits of left apart =
-    of_load_kept load rows (remove m (key_of r)) row fits of left.2 apart.1
-    ∙ remove_keeps m (key_of r) (key_of row) (λ same. apart.0 (subst (λ (k : RowKey). IsOfLoad load k) (keys_differ row r fits left.0 same) of))
+-- ---- turns leave the rows of a load
+-- a plan that lets a chunk go leaves the rows with other tags
+released_keeps : (m : KeyMap) (plan number count tag : ℕ) → (tag ≡ 72 → ⊥) → (tag ≡ 75 → ⊥) → SameTag tag m (released m plan number count)
+released_keeps m plan number zero tag holds counts =
+    let gone = remove m (key_of (holding plan number)) in
+    tag_follows tag m gone (released m plan number zero) (remove_keeps_tag m tag 72 (in_eight plan ++ in_eight number) holds) (remove_keeps_tag gone tag 75 (in_eight number) counts)
+released_keeps m plan number (suc more) tag holds counts =
+    let gone = remove m (key_of (holding plan number)) in
+    tag_follows tag m gone (released m plan number (suc more)) (remove_keeps_tag m tag 72 (in_eight plan ++ in_eight number) holds) (put_keeps_tag gone tag 75 (in_eight number) (in_eight (more + 1)) counts)
 
-seal_kept : (rows : List RowKey) (m : KeyMap) → AreLeftovers m rows → row_in (take_rows m rows) seal ≡ row_in m seal
+let_go_kept : (load plan number count : ℕ) (m : KeyMap) (row : RowKey) → IsOfLoad load row → row_in (released m plan number count) row ≡ row_in m row
+let_go_kept load plan number count m counters of = absurd of
+let_go_kept load plan number count m (retired other) of = absurd of
+let_go_kept load plan number count m (begun other) of = released_keeps m plan number count 76 (λ same. absurd (omega (arith, same))) (λ same. absurd (omega (arith, same))) (in_eight other)
+let_go_kept load plan number count m (holding other held) of = absurd of
+let_go_kept load plan number count m (tally held) of = absurd of
+let_go_kept load plan number count m (named name) of = absurd of
+let_go_kept load plan number count m (part other revision index) of = absurd of
+let_go_kept load plan number count m seal of = absurd of
+let_go_kept load plan number count m version of = absurd of
+let_go_kept load plan number count m (block other place) of = released_keeps m plan number count 103 (λ same. absurd (omega (arith, same))) (λ same. absurd (omega (arith, same))) _
+let_go_kept load plan number count m (pair other place) of = released_keeps m plan number count 103 (λ same. absurd (omega (arith, same))) (λ same. absurd (omega (arith, same))) _
+let_go_kept load plan number count m (chunk other piece) of = absurd of
+
+turn_kept : (load : ℕ) (turn : Turn) (m : KeyMap) (row : RowKey) → Fits row → IsOfLoad load row → CanTurn m turn → IsApart (Some load) turn → row_in (turned m turn) row ≡ row_in m row
+turn_kept load (goes r) m row fits of can apart =
+    remove_keeps m (key_of r) (key_of row) (λ same. apart (subst (λ (k : RowKey). IsOfLoad load k) (keys_differ row r fits can.0 same) of))
+turn_kept load (lets_go plan number count) m row fits of can apart = let_go_kept load plan number count m row of
+
+of_load_kept : (load : ℕ) (turns : List Turn) (m : KeyMap) (row : RowKey) → Fits row → IsOfLoad load row → AreTurns m turns → AreNotSpared (Some load) turns → row_in (take_turns m turns) row ≡ row_in m row
+of_load_kept load [] m row fits of left apart = refl
+of_load_kept load (turn ∷ turns) m row fits of left apart =
+    of_load_kept load turns (turned m turn) row fits of left.1 apart.1 ∙ turn_kept load turn m row fits of left.0 apart.0
+
+seal_turned : (turn : Turn) (m : KeyMap) → CanTurn m turn → row_in (turned m turn) seal ≡ row_in m seal
+seal_turned (goes r) m can = remove_keeps m (key_of r) (key_of seal) (λ same. subst (λ (k : RowKey). IsUnneeded m k) (sym (keys_differ seal r tt can.0 same)) can.1)
+seal_turned (lets_go plan number count) m can = released_keeps m plan number count 83 (λ same. absurd (omega (arith, same))) (λ same. absurd (omega (arith, same))) []
+
+seal_kept : (turns : List Turn) (m : KeyMap) → AreTurns m turns → row_in (take_turns m turns) seal ≡ row_in m seal
 seal_kept [] m left = refl
-seal_kept (r ∷ rows) m left =
-    seal_kept rows (remove m (key_of r)) left.2
-    ∙ remove_keeps m (key_of r) (key_of seal) (λ same. subst (λ (k : RowKey). IsLeftover m k) (sym (keys_differ seal r tt left.0 same)) left.1)
+seal_kept (turn ∷ turns) m left = seal_kept turns (turned m turn) left.1 ∙ seal_turned turn m left.0
 
 swept_row : (load count : ℕ) (m n : KeyMap) (row : RowKey) → IsSweptBy (Some load) count m n → Fits row → IsOfLoad load row → row_in n row ≡ row_in m row
-swept_row load count m n row by fits of = ap (λ (k : KeyMap). row_in k row) by.rest ∙ of_load_kept load by.rows m row fits of by.left by.apart
+swept_row load count m n row by fits of = ap (λ (k : KeyMap). row_in k row) by.rest ∙ of_load_kept load by.turns m row fits of by.left by.apart
 
 staged_kept : (load count : ℕ) (g : Ground) (done : ℕ) (m n : KeyMap) → load < 2 ^ 64 → IsSweptBy (Some load) count m n → IsStaged m load g done → IsStaged n load g done
 staged_kept load count g done m n few by staged = record {
@@ -67,7 +97,7 @@ module _ {D : Type 0} {g : Ghosts D} where
         is = then.swept.is;
         staged = staged_kept (number_of load) count (ground_of load) (done_of load) holds.m then.n few by holds.staged;
         mark = swept_row (number_of load) count holds.m then.n (begun (number_of load)) by few refl ∙ holds.mark;
-        unsealed = ap (λ (k : KeyMap). row_in k seal) by.rest ∙ seal_kept by.rows holds.m by.left ∙ holds.unsealed;
+        unsealed = ap (λ (k : KeyMap). row_in k seal) by.rest ∙ seal_kept by.turns holds.m by.left ∙ holds.unsealed;
       }
 
   load_still : (a b : Pages D g) (d : Desk) (load : Load) → IsQuiet a b → (disk_in b).is_honest → HoldsLoad a d load → HoldsLoad b d load

@@ -1,22 +1,41 @@
--- Why no desk is found in pages.
+-- Why no desk of the new version is found in pages.
 use Rattle.std.specs.Prelude.{◌≡◌, Bool, true, if◌then◌else◌}
 use Rattle.sector_device.specs.declared.SectorDevice.{Ghosts}
 use Rattle.desk_model.specs.Desk.{Desk}
-use Rattle.page_store.specs.Transactions.{disk_in, has_halted}
+use Rattle.page_store.specs.Transactions.{stored, disk_in, has_halted}
 use Rattle.page_store.specs.declared.pages.Pages.{Pages}
+use Rattle.page_store.specs.declared.txn.Txn.{Txn}
 use Rattle.page_store.specs.declared.error.PageError.{PageError}
 use Rattle.page_store.specs.declared.error.PageError.TheVariants as page
 use Rattle.page_btree.specs.declared.error.TreeError.{TreeError}
 use Rattle.page_btree.specs.declared.error.TreeError.TheVariants as tree
-use Rattle.desk_pages.specs.Desks.{InPages}
+use Rattle.page_btree.specs.Map.{InPages as HasRows, InTxn as TxnHas}
+use Rattle.store_rows.specs.Keys.{version}
+use Rattle.store_rows.specs.Rows.{KeyMap, Lacks}
+use Rattle.desk_opening.specs.Opening.{HasVersion}
+use Rattle.desk_pages.specs.Desks.{InPagesAs, InTxnAs}
 use Rattle.desk_store.specs.declared.opening.OpenError.{OpenError}
-use Rattle.desk_store.specs.declared.opening.OpenError.TheVariants.{NotAStore, DeviceFault, Memory}
+use Rattle.desk_store.specs.declared.opening.OpenError.TheVariants.{NotAStore, DeviceFault, Memory, OldVersion}
 
--- the pages hold no desk, the device failed, or a growth was refused
+-- the pages hold no desk, the device failed, a growth was refused, or the rows tell no version
 abbrev pub FindErr : {D : Type 0} {g : Ghosts D} → Pages D g → Pages D g → OpenError → Type 0
-FindErr old new NotAStore = (disk_in new).is_honest → (d : Desk) → InPages old d → ⊥
+FindErr old new NotAStore = (disk_in new).is_honest → (x : Bool × Desk) → InPagesAs old x → ⊥
 FindErr old new DeviceFault = has_halted new ≡ true
 FindErr old new Memory = Unit {0}
+FindErr old new OldVersion = (disk_in new).is_honest → (m : KeyMap) → HasRows old m → Lacks m version
+
+-- the same of a transaction over them, once its rows were looked at, or all of them read
+abbrev pub VersionErr : {D : Type 0} {g : Ghosts D} → Txn → Pages D g → Pages D g → OpenError → Type 0
+VersionErr t old new NotAStore = (disk_in new).is_honest → (m : KeyMap) → TxnHas t (stored old) m → HasVersion m → ⊥
+VersionErr t old new DeviceFault = has_halted new ≡ true
+VersionErr t old new Memory = ⊥
+VersionErr t old new OldVersion = (disk_in new).is_honest → (m : KeyMap) → TxnHas t (stored old) m → Lacks m version
+
+abbrev pub ReadNewErr : {D : Type 0} {g : Ghosts D} → Txn → Pages D g → Pages D g → OpenError → Type 0
+ReadNewErr t old new NotAStore = (disk_in new).is_honest → (x : Bool × Desk) → InTxnAs t (stored old) x → ⊥
+ReadNewErr t old new DeviceFault = has_halted new ≡ true
+ReadNewErr t old new Memory = Unit {0}
+ReadNewErr t old new OldVersion = (disk_in new).is_honest → (m : KeyMap) → TxnHas t (stored old) m → Lacks m version
 
 abbrev pub open_error_of : PageError → OpenError
 open_error_of page.NotAStore = NotAStore

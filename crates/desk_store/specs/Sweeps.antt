@@ -28,12 +28,12 @@ module _ {D : Type 0} {g : Ghosts D} where
   abbrev pub IsClean : Clerk D g → KeyMap → Type 0
   IsClean x m = IsSweptClean x.loading m
 
-  -- so many of these rows were taken out that were left over, and none of that load; fewer than 16 only where no other was left
+  -- so many of these rows that were left over were taken out or changed, and none of that load; fewer than 15 only where no other was left
   pub record HasSwept (x : Clerk D g) (m : KeyMap) (count : ℕ) (y : Clerk D g) : Type 0 where
     pub n : KeyMap
     pub has : HasRows y n
     pub by : IsSweptBy x.loading count m n
-    pub clean : count < 16 → IsClean y n
+    pub clean : count < 15 → IsClean y n
 
   -- why nothing is swept
   abbrev pub SweepRefused : Clerk D g → SweepError → Bool → Pages D g → Type 0

@@ -1,8 +1,8 @@
 //! The desk in a store: the door by which everything above opens, changes, loads and sweeps it. A `Clerk` keeps the desk in the
 //! pages of a device and shows it from a catalogue in memory. A clerk means its desk (`Rattle.desk_store.specs.Clerks.desk_of`)
 //! and what its device holds: each image that a stop may leave opens to the desk before a call or to the one after it. `format`
-//! makes a device a store; `Clerk::begin_load`, `load_batch` and `seal` load a geography, `prepare` and `Ready::commit` do a
-//! command, and `sweep_step` takes out what is left over.
+//! makes a device a store of the new version, which `Clerk::open` takes alone; `Clerk::begin_load`, `load_batch` and `seal` load a
+//! geography, `prepare` and `Ready::commit` do a command, and `sweep_step` takes out what is left over.
 //!
 //! ```text
 //! format(alloc, &mut device, 1024)?;

@@ -1,17 +1,19 @@
 //! Opens the desk of a store.
-ghost use Rattle.std.specs.Prelude.{◌≡◌, false, OnOk, IfOk, IfErr};
-ghost use Rattle.page_store.specs.Transactions.{stored, disk_in, has_halted, IsQuiet, Passed};
+ghost use Rattle.std.specs.Prelude.{◌≡◌, Bool, false, OnOk, IfOk, IfErr};
+ghost use Rattle.page_store.specs.Transactions.{stored, disk_in, count_of, txn_pages, has_halted, IsQuiet, Passed};
 ghost use Rattle.desk_model.specs.Desk.{Desk};
-ghost use Rattle.page_btree.specs.Map.{InPages as HasRows};
-ghost use Rattle.store_rows.specs.Rows.{KeyMap};
+ghost use Rattle.page_btree.specs.Map.{InPages as HasRows, InTxn as TxnHas};
+ghost use Rattle.store_rows.specs.Keys.{version, in_four};
+ghost use Rattle.store_rows.specs.Rows.{KeyMap, Has};
 ghost use Rattle.desk_opening.specs.Opening.{IsReadFrom};
-ghost use Rattle.desk_pages.specs.Desks.{InPages};
-ghost use Rattle.desk_store.specs.Finding.{FindErr, find_error_of, open_error_of};
+ghost use Rattle.desk_pages.specs.Desks.{InPagesAs, InTxnAs};
+ghost use Rattle.desk_store.specs.Finding.{FindErr, ReadNewErr, VersionErr, find_error_of, open_error_of};
 
 use crate::clerk::Clerk;
 use crate::shown::{Shown, to_show};
-use desk_opening::read_desk;
-use page_store::{PageError, Pages};
+use desk_catalogue::catalogue::Catalogue;
+use desk_opening::{is_new, read_desk};
+use page_store::{PageError, Pages, Txn};
 use plan_revisions::TreeError;
 use sector_device::SectorDevice;
 use std::alloc::Global;
@@ -25,6 +27,8 @@ pub enum OpenError {
     DeviceFault,
     /// A growth was refused.
     Memory,
+    /// The store is of the old version: it is to be migrated first.
+    OldVersion,
 }
 
 /// What is told of pages that aren't opened.
@@ -53,22 +57,61 @@ fn find_error(e: TreeError, halted: bool) -> OpenError
     }
 }
 
-/// Reads the desk that pages hold, to be shown.
+/// Refuses rows that aren't of the new version.
+fn refuse_old<D: SectorDevice>(txn: &Txn, pages: &mut Pages<D>) -> Result<(), OpenError>
+    requires working { has_halted pages.old ≡ false }
+    requires begun { txn_pages txn.now ≡ count_of pages.old }
+    ensures quiet { IsQuiet pages.old pages.new }
+    ensures passed { OnOk result (Passed pages.old pages.new) }
+    ensures version { (disk_in pages.new).is_honest → (m : KeyMap) → TxnHas txn.now (stored pages.old) m → OnOk result (Has m version (in_four 2)) }
+    ensures err { IfErr result (λ e. VersionErr txn.now pages.old pages.new e) }
+{
+    match is_new(txn, pages) {
+        Ok(true) => Ok(()),
+        Ok(false) => Err(OpenError::OldVersion),
+        Err(e) => Err(find_error(e, pages.is_halted())),
+    }
+}
+
+/// Reads the desk that a transaction reads, in the new version.
+fn read_new<D: SectorDevice>(
+    alloc: Global,
+    txn: &Txn,
+    pages: &mut Pages<D>,
+) -> Result<Catalogue, OpenError>
+    requires working { has_halted pages.old ≡ false }
+    requires begun { txn_pages txn.now ≡ count_of pages.old }
+    ensures quiet { IsQuiet pages.old pages.new }
+    ensures passed { OnOk result (Passed pages.old pages.new) }
+    ensures read { (disk_in pages.new).is_honest → (x : Bool × Desk) → InTxnAs txn.now (stored pages.old) x → IfOk result (λ catalogue. catalogue ≡ x.1) }
+    ensures found { (disk_in pages.new).is_honest → (m : KeyMap) → TxnHas txn.now (stored pages.old) m → IfOk result (λ catalogue. IsReadFrom m catalogue) }
+    ensures version { (disk_in pages.new).is_honest → (m : KeyMap) → TxnHas txn.now (stored pages.old) m → OnOk result (Has m version (in_four 2)) }
+    ensures err { IfErr result (λ e. ReadNewErr txn.now pages.old pages.new e) }
+{
+    refuse_old(txn, pages)?;
+    match read_desk(alloc, txn, pages) {
+        Ok(catalogue) => Ok(catalogue),
+        Err(e) => Err(find_error(e, pages.is_halted())),
+    }
+}
+
+/// Reads the desk that pages hold in the new version, to be shown.
 fn read_shown<D: SectorDevice>(alloc: Global, pages: &mut Pages<D>) -> Result<Shown, OpenError>
     requires { has_halted pages.old ≡ false }
     ensures quiet { IsQuiet pages.old pages.new }
     ensures passed { OnOk result (Passed pages.old pages.new) }
-    ensures read { (disk_in pages.new).is_honest → (d : Desk) → InPages pages.old d → IfOk result (λ s. s.catalogue.value ≡ d) }
+    ensures read { (disk_in pages.new).is_honest → (x : Bool × Desk) → InPagesAs pages.old x → IfOk result (λ s. s.catalogue.value ≡ x.1) }
     ensures found { (disk_in pages.new).is_honest → (m : KeyMap) → HasRows pages.old m → IfOk result (λ s. IsReadFrom m s.catalogue.value) }
+    ensures version { (disk_in pages.new).is_honest → (m : KeyMap) → HasRows pages.old m → OnOk result (Has m version (in_four 2)) }
     ensures err { IfErr result (λ e. FindErr pages.old pages.new e) }
 {
     let txn = pages.begin(alloc);
-    match read_desk(alloc, &txn, pages) {
+    match read_new(alloc, &txn, pages) {
         Ok(catalogue) => match to_show(alloc, catalogue) {
             Ok(shown) => Ok(shown),
             Err(_) => Err(OpenError::Memory),
         },
-        Err(e) => Err(find_error(e, pages.is_halted())),
+        Err(e) => Err(e),
     }
 }
 
@@ -76,16 +119,18 @@ impl<D: SectorDevice> Clerk<D> {
     ghost use Rattle.std.specs.Prelude.{◌≡◌, false, None, OnOk, IfOk, IfErr};
     ghost use Rattle.sector_device.specs.Moments.{LeavesOnly};
     ghost use Rattle.desk_store.specs.Clerks.{desk_of, disk_of, is_halted, sectors_of, Keeps};
-    ghost use Rattle.desk_store.specs.Openings.{AllDesks, IsOneOf, OpensOneOf, IsFound, IsSpared, Reopens, device_after, OpenRefused};
+    ghost use Rattle.desk_store.specs.Openings.{AllDesks, AllVersions, IsOneOf, OpensOneOf, OpensOneAs, IsFound, IsSpared, Reopens, device_after, OpenRefused};
 
     /// Opens the desk that a device holds: a commit that a stop cut short is finished or dropped, and the desk is read back. At any
-    /// moment of it a stop leaves a desk that was there at its start. With a refusal the device comes back, its pages as they were;
-    /// what is no store stays as it is. `Memory` comes of a store alone.
+    /// moment of it a stop leaves a desk that was there at its start, in the version in which it was there. With a refusal the device
+    /// comes back, its pages as they were; what is no store stays as it is. `Memory` comes of a store alone, and `OldVersion` of one
+    /// whose rows tell no version.
     pub fn open(alloc: Global, device: D) -> Result<Clerk<D>, (OpenError, D)>
         ensures sectors { (D.disk (device_after result)).sectors ≡ (D.disk device).sectors }
         ensures honest { (D.disk (device_after result)).is_honest → (D.disk device).is_honest }
         ensures any_moment { (D.disk (device_after result)).is_honest → AllDesks (D.disk device) → LeavesOnly (OpensOneOf (D.disk device)) (D.disk device) (D.disk (device_after result)) }
-        ensures opened { AllDesks (D.disk device) → IfOk result (λ x. Keeps x × ((disk_of x).is_honest → IsOneOf (D.disk device) (desk_of x))) }
+        ensures any_version { (D.disk (device_after result)).is_honest → AllVersions (D.disk device) → LeavesOnly (OpensOneAs (D.disk device)) (D.disk device) (D.disk (device_after result)) }
+        ensures opened { AllVersions (D.disk device) → IfOk result (λ x. Keeps x × ((disk_of x).is_honest → IsOneOf (D.disk device) (desk_of x))) }
         ensures found { IfOk result (λ x. (disk_of x).is_honest → IsFound (D.disk device) x) }
         ensures loading { IfOk result (λ x. x.loading ≡ None) }
         ensures working { IfOk result (λ x. (is_halted x ≡ false) × (sectors_of x ≡ (D.disk device).sectors)) }

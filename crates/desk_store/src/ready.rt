@@ -32,6 +32,10 @@ fn acceptance_of(command: &Command) -> Reply
             plan: *plan,
             revisions: 0,
         },
+        Command::Fork { plan, .. } => Reply::Created {
+            plan: *plan,
+            revisions: 1,
+        },
         Command::Whole { plan, after, .. } | Command::Counties { plan, after, .. } =>
             Reply::Created {
                 plan: *plan,

@@ -30,6 +30,7 @@ fn is_command(role: &[u8]) -> bool
         || role == b"explain".as_slice()
         || role == b"format".as_slice()
         || role == b"load".as_slice()
+        || role == b"migrate".as_slice()
         || role == b"serve".as_slice()
         || role == b"sweep".as_slice()
         || role == b"talk".as_slice()

@@ -149,7 +149,7 @@ pub(crate) static REQUESTS: [Row; 17] = [
         "Full",
         "507",
         "the store has no room for the change",
-        "delete plans, stop the desk and `sweep` the store; or make a larger one",
+        "delete plans, stop the desk and `sweep` the store; or make a larger one, with more journal pages where a change asks for more pages than the journal has",
     ),
     (
         "Memory",

@@ -2,7 +2,7 @@
 use crate::explanation::Row;
 
 /// The file of a desk. A device's fault has a case for each reason that is told apart.
-pub(crate) static STORE: [Row; 12] = [
+pub(crate) static STORE: [Row; 14] = [
     (
         "NotFound",
         "",
@@ -34,6 +34,18 @@ pub(crate) static STORE: [Row; 12] = [
         "look whether a copy was cut, or another file was given; where a `format` was stopped, remove the file and make it again",
     ),
     (
+        "OldVersion",
+        "",
+        "the store is of version 1, that of an earlier `plandesk`; its desk is as it was",
+        "run `plandesk migrate STORE` once; keep a copy of the file until then",
+    ),
+    (
+        "AlreadyNew",
+        "",
+        "`migrate`: the store is of version 2 already; its desk is as it was",
+        "nothing: every command takes it",
+    ),
+    (
         "AlreadySealed",
         "",
         "the store has a geography, which stays for good",
@@ -42,8 +54,8 @@ pub(crate) static STORE: [Row; 12] = [
     (
         "Full",
         "",
-        "too few sectors for the blocks and pairs; the store has no geography",
-        "make a larger store",
+        "`load`: too few sectors for the blocks and pairs, and the store has no geography; `migrate`: too few free sectors, and the store stays of version 1",
+        "`load`: make a larger store; `migrate`: take the copy that was made before, delete plans and `sweep` it by the `plandesk` that made it, and migrate that",
     ),
     (
         "DeviceFault",
@@ -82,7 +94,7 @@ pub(crate) static COMMAND: [Row; 5] = [
     (
         "WriteFault",
         "",
-        "standard output can't be written; of `format`, `load` and `sweep` the store is made, filled or swept all the same",
+        "standard output can't be written; of `format`, `load`, `sweep` and `migrate` the store is made, filled, swept or migrated all the same",
         "look where the output goes: to a full disk, or to a program that has ended",
     ),
     (

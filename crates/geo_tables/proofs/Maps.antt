@@ -57,7 +57,7 @@ begun_is m d next is is_next fits more =
     record {
       desk = begun_desk m next d is.desk;
       tidy = after.0;
-      old = after.1 ∙ is.old;
+      version = after.1 ∙ is.version;
       limits = is.limits;
     }
 
@@ -81,7 +81,7 @@ module _ (m : KeyMap) (d : Desk) (load : ℕ) (g : Ground) (done rows : ℕ) (is
       record {
         desk = unseen m (put_rows m (staged_rows load g done rows)) d is.desk unsealed (batch_unseen m load g done rows d.plans);
         tidy = after.0;
-        old = after.2 ∙ is.old;
+        version = after.2 ∙ is.version;
         limits = is.limits;
       }
 
@@ -99,6 +99,6 @@ seal_is m d load g is staged mark unsealed sound load_fits pairs_fit =
     record {
       desk = sealed_desk m load g d.plans staged sound load_fits pairs_fit (subst (λ (e : Desk). IsDesk m e) (without d (no_geography m d is.desk unsealed)) is.desk);
       tidy = after.0;
-      old = after.2 ∙ is.old;
+      version = after.2 ∙ is.version;
       limits = record { few = is.limits.few; sizes = is.limits.sizes };
     }

@@ -24,11 +24,11 @@ methods_of page.Audit = Look
 
 abbrev pub takes : Methods → List ℕ → Bool
 takes Look method = is_method (codes "GET") method || is_method (codes "HEAD") method
-takes Make method = is_method (codes "PUT") method || is_method (codes "DELETE") method
+takes Make method = is_method (codes "PUT") method || is_method (codes "POST") method || is_method (codes "DELETE") method
 takes Post method = is_method (codes "POST") method
 
 -- as an Allow line names them (RFC 9110, section 10.2.1)
 abbrev pub methods_text : Methods → List ℕ
 methods_text Look = codes "GET, HEAD"
-methods_text Make = codes "PUT, DELETE"
+methods_text Make = codes "PUT, POST, DELETE"
 methods_text Post = codes "POST"

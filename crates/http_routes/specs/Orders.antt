@@ -6,7 +6,7 @@ use Rattle.desk_model.specs.Name.{plan_name_of}
 use Rattle.desk_model.specs.declared.companions.Companions.{Companions}
 use Rattle.desk_model.specs.declared.kind.Kind.{Kind}
 use Rattle.desk_model.specs.declared.command.Query.{Query}
-use Rattle.desk_model.specs.declared.command.Command.TheVariants.{Create, Whole, Counties, Retire}
+use Rattle.desk_model.specs.declared.command.Command.TheVariants.{Create, Whole, Counties, Retire, Fork}
 use Rattle.desk_model.specs.declared.command.Query.TheVariants.{Plans, Blocks, Revision, Audit}
 use Rattle.http_routes.specs.declared.route.Page.{Page}
 use Rattle.http_routes.specs.declared.route.Page.TheVariants as page
@@ -17,7 +17,7 @@ use Rattle.http_routes.specs.declared.method.Methods.TheVariants.{Make}
 use Rattle.http_routes.specs.Methods.{is_method, is_known, methods_of, takes}
 use Rattle.http_routes.specs.Routes.{page_of, plan_part, revision_part}
 use Rattle.field_text.specs.Digits.{number_of}
-use Rattle.http_routes.specs.Queries.{create_query, after_query, companions_query, is_no_query}
+use Rattle.http_routes.specs.Queries.{create_query, after_query, from_query, companions_query, is_no_query}
 
 -- the path is what stands before the first question mark, and the query what stands behind it (RFC 9112, section 3.2.1)
 abbrev pub path_of : List ℕ → List ℕ
@@ -53,6 +53,11 @@ abbrev pub retire_order : Option (List ℕ) → List ℕ → Order
 retire_order None query = order.Refused BadName
 retire_order (Some name) query = if is_no_query query then order.Command (Retire name) else order.Refused BadQuery
 
+abbrev pub fork_order : Option (List ℕ) → Option (List ℕ × ℕ) → Order
+fork_order None from = order.Refused BadName
+fork_order (Some name) None = order.Refused BadQuery
+fork_order (Some name) (Some from) = order.Command (Fork name from)
+
 -- a query takes no name and no value
 abbrev pub plain_query : Query → List ℕ → Order
 plain_query asked query = if is_no_query query then order.Query asked else order.Refused BadQuery
@@ -68,10 +73,11 @@ audit_order (Some name) None told = order.Refused BadNumber
 audit_order (Some name) (Some k) None = order.Refused BadQuery
 audit_order (Some name) (Some k) (Some beside) = order.Query (Audit name k beside.senate beside.congress)
 
--- a plan is made or taken away
+-- a plan is made, forked from a revision of another one, or taken away
 abbrev pub plan_order : (method path query : List ℕ) → Order
 plan_order method path query =
     if is_method (codes "PUT") method then create_order (name_in path) (create_query query)
+    else if is_method (codes "POST") method then fork_order (name_in path) (from_query query)
     else if is_method (codes "DELETE") method then retire_order (name_in path) query
     else order.Refused (MethodNotAllowed Make)
 

@@ -63,6 +63,15 @@ addressed (Some name) (Some j) = Some (name, j)
 abbrev pub address_of : List ℕ → Option (List ℕ × ℕ)
 address_of text = addressed (plan_name_of (before_first (λ b. b == 58) text)) (number_of 5 (after_first (λ b. b == 58) text))
 
+-- the revision that is forked
+abbrev pub from_address : List (List ℕ × List ℕ) → Option (List ℕ × ℕ)
+from_address [] = None
+from_address (p ∷ []) = if bytes_eq p.0 (codes "from") then address_of p.1 else None
+from_address (p ∷ q ∷ more) = None
+
+abbrev pub from_query : List ℕ → Option (List ℕ × ℕ)
+from_query query = from_address (pairs_of query)
+
 -- the revision that a text tells, where none was told before
 abbrev pub address_once : Option (List ℕ × ℕ) → List ℕ → Option (List ℕ × ℕ)
 address_once None text = address_of text

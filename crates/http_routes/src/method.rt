@@ -10,7 +10,7 @@ use http::Method;
 pub enum Methods {
     /// GET and HEAD
     Look,
-    /// PUT and DELETE
+    /// PUT, POST and DELETE
     Make,
     /// POST
     Post,
@@ -24,7 +24,7 @@ impl Methods {
         let word = method.as_str();
         match self {
             Methods::Look => word == "GET" || word == "HEAD",
-            Methods::Make => word == "PUT" || word == "DELETE",
+            Methods::Make => word == "PUT" || word == "POST" || word == "DELETE",
             Methods::Post => word == "POST",
         }
     }
@@ -36,7 +36,7 @@ impl Methods {
     {
         match self {
             Methods::Look => "GET, HEAD",
-            Methods::Make => "PUT, DELETE",
+            Methods::Make => "PUT, POST, DELETE",
             Methods::Post => "POST",
         }
     }

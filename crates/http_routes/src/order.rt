@@ -2,11 +2,13 @@
 ghost use Rattle.std.specs.Prelude.{◌≡◌, true, ◌&&◌, Some, IfOk, OnErr};
 ghost use Rattle.std.specs.Str.{IsAscii};
 ghost use Rattle.http_routes.specs.Routes.{the_routes};
-ghost use Rattle.http_routes.specs.Orders.{order_of as order_of_request, order_at, order_on, name_in as name_in_path, create_order as create_order_of, whole_order as whole_order_of, counties_order as counties_order_of, retire_order as retire_order_of, plan_order as plan_order_of, plain_query as plain_query_of, revision_order as revision_order_of, audit_order as audit_order_of, number_in as number_in_path, is_decoded, may_decode, may_take_memory};
-ghost use Rattle.http_routes.specs.Queries.{create_query as create_query_of, after_query as after_query_of, companions_query as companions_query_of};
+ghost use Rattle.http_routes.specs.Orders.{order_of as order_of_request, order_at, order_on, name_in as name_in_path, create_order as create_order_of, whole_order as whole_order_of, counties_order as counties_order_of, retire_order as retire_order_of, fork_order as fork_order_of, plan_order as plan_order_of, plain_query as plain_query_of, revision_order as revision_order_of, audit_order as audit_order_of, number_in as number_in_path, is_decoded, may_decode, may_take_memory};
+ghost use Rattle.http_routes.specs.Queries.{create_query as create_query_of, after_query as after_query_of, from_query as from_query_of, companions_query as companions_query_of};
 
 use crate::method::{Methods, is_known, methods_of};
-use crate::query::{after_query, companions_query, create_query, is_no_query, short_number};
+use crate::query::{
+    after_query, companions_query, create_query, from_query, is_no_query, short_number,
+};
 use crate::route::{Page, around, page_of, plan_part, revision_part};
 use desk_model::command::{Command, Query};
 use desk_model::companions::Companions;
@@ -118,6 +120,19 @@ fn retire_order(alloc: Global, path: &[u8], query: &[u8]) -> Result<Order, Alloc
     Ok(Order::Command(Command::Retire { plan }))
 }
 
+/// A fork at `/plans/{p}`.
+fn fork_order(alloc: Global, path: &[u8], query: &[u8]) -> Result<Order, AllocError>
+    ensures { IfOk result (λ order. order ≡ fork_order_of (name_in_path path.now) (from_query_of query.now)) }
+{
+    let Some(plan) = name_in(alloc, path)? else {
+        return Ok(Order::Refused(Error::BadName));
+    };
+    let Some(from) = from_query(alloc, query)? else {
+        return Ok(Order::Refused(Error::BadQuery));
+    };
+    Ok(Order::Command(Command::Fork { plan, from }))
+}
+
 /// A query that takes no name and no value.
 fn plain_query(asked: Query, query: &[u8]) -> Order
     ensures { result ≡ plain_query_of asked query.now }
@@ -164,7 +179,7 @@ fn audit_order(alloc: Global, path: &[u8], query: &[u8]) -> Result<Order, AllocE
     }))
 }
 
-/// What is asked for at `/plans/{p}`, by PUT or by DELETE.
+/// What is asked for at `/plans/{p}`, by PUT, by POST or by DELETE.
 fn plan_order(
     alloc: Global,
     method: &Method,
@@ -175,6 +190,9 @@ fn plan_order(
 {
     if *method == Method::PUT {
         return create_order(alloc, path, query);
+    }
+    if *method == Method::POST {
+        return fork_order(alloc, path, query);
     }
     if *method == Method::DELETE {
         return retire_order(alloc, path, query);

@@ -3,7 +3,7 @@ ghost use Rattle.std.specs.Prelude.{◌≡◌, ℕ, List, [], ◌∷◌, length,
 ghost use Rattle.std.specs.Str.{bytes_eq};
 ghost use Rattle.std.specs.Cow.{cow_str_bytes};
 ghost use Rattle.form_urlencoded.specs.Form.{raw_pairs as raw_pairs_of, pair_text};
-ghost use Rattle.http_routes.specs.Queries.{form_text, size_of as size_of_texts, create_query as create_query_of, after_query as after_query_of, address_of as address_of_text, address_once as address_once_of, more_told, companions_query as companions_query_of, is_no_query as has_no_pair};
+ghost use Rattle.http_routes.specs.Queries.{form_text, size_of as size_of_texts, create_query as create_query_of, after_query as after_query_of, from_query as from_query_of, address_of as address_of_text, address_once as address_once_of, more_told, companions_query as companions_query_of, is_no_query as has_no_pair};
 ghost use Rattle.http_routes.specs.Pairs.{HasOne, HasTwo};
 ghost use Rattle.field_text.specs.Digits.{number_of};
 
@@ -106,6 +106,21 @@ fn address_of(text: &[u8]) -> Option<(PlanName, u32)>
     let plan = PlanName::read(name)?;
     let j = short_number(number)?;
     Some((plan, j))
+}
+
+/// What the query of a fork tells: `from`, once, a revision of a plan. `None` where it tells anything else.
+pub fn from_query(alloc: Global, query: &[u8]) -> Result<Option<(PlanName, u32)>, AllocError>
+    ensures { IfOk result (λ from. from ≡ from_query_of query.now) }
+{
+    let Some(pair) = one_pair(query) else {
+        return Ok(None);
+    };
+    let name = text(alloc, pair.0)?;
+    let value = text(alloc, pair.1)?;
+    if is_text(&name, b"from") {
+        return Ok(address_of(value.as_bytes()));
+    }
+    Ok(None)
 }
 
 /// The revision that a text tells, where none was told before.

@@ -86,11 +86,14 @@ no_rows : (es : List Entry) → length es ≡ 0 → es ≡ []
 no_rows [] none = refl
 no_rows (e ∷ es) none = absurd (omega arith)
 
+pub no_entries : entries (empty {X = List ℕ} {R = key_cmp}) ≡ []
+no_entries = no_rows (entries empty) (sym (len-entries {R = key_cmp} empty) ∙ len-empty key_cmp (List ℕ))
+
 -- a new store holds the map without rows
 pub new_holds : (n : ℕ) (P : Image) → root_in P ≡ 0 → IsPages n P → length (free_in P) + 1 ≡ n → Holds n P (root_in P) (free_in P) empty
 new_holds n P root sound whole = record {
   free_are = sound.free;
-  held = inl (record { root_is = root; none = no_rows (entries empty) (sym (len-entries {R = key_cmp} empty) ∙ len-empty key_cmp (List ℕ)); whole = whole });
+  held = inl (record { root_is = root; none = no_entries; whole = whole });
 }
 
 -- ---- one map

@@ -3,7 +3,7 @@ use Rattle.std.proofs.Common.{◌≡◌, ◌≢◌, ◌<◌, ◌≤◌, ◌+◌,
 use Rattle.std.specs.Prelude.{Option, Some, None, is_some}
 use Rattle.std.specs.Ordering.{is_gt}
 use Rattle.std.specs.Cmp.Lexicographic.{nat_list_cmp_total}
-use Rattle.std.specs.FinMap.{entries, entries-insert, get-entries, get, insert, contains_key, find, put}
+use Rattle.std.specs.FinMap.{empty, entries, entries-insert, get-entries, get, insert, contains_key, find, put}
 use Rattle.sector_device.specs.Disk.{Image}
 use Rattle.page_store.specs.Chain.{IsIn, AreFree}
 use Rattle.page_node.specs.Entries.{Entry, key_at, child_bytes}
@@ -11,9 +11,9 @@ use Rattle.page_node.specs.Node.{Node, IsNode}
 use Rattle.page_node.specs.Places.{key_cmp}
 use Rattle.page_btree.specs.Keys.{KeyMap, IsBetween}
 use Rattle.page_btree.specs.Tree.{Tree, Forest, leaf, inner, one, more, page_of, rows, forest_rows, links, owns, forest_owns, IsTree, AreTrees}
-use Rattle.page_btree.specs.Map.{Holds, IsBare, IsRooted}
+use Rattle.page_btree.specs.Map.{Holds, IsBare, IsRooted, IsOnlyRow}
 use Rattle.page_btree.specs.Putting.{IsPut, IsRaised, IsGrown, CanPut}
-use Rattle.page_btree.proofs.MapLaws.{trees_same}
+use Rattle.page_btree.proofs.MapLaws.{trees_same, no_entries}
 
 pub nil_from : (key : List ℕ) → is_gt (key_cmp [] key) ≡ false
 nil_from [] = refl
@@ -65,6 +65,14 @@ first_holds n P Q root free left page m key value none holds taken node =
           }
       | inr rooted ↦ absurd (let low = (rooted.sound.below (page_of rooted.tree) (owns_page rooted.tree)).0 in let is = rooted.root_is in omega arith)
     ]
+
+-- a map with one row
+pub only_holds : (bytes key value : List ℕ) → IsNode bytes (record { level = 0; entries = (key, value) ∷ [] }) → IsOnlyRow bytes key value
+only_holds bytes key value node n P free there some are off whole =
+    first_holds n P P 0 (1 ∷ free) free 1 empty key value refl (record {
+      free_are = (omega arith, some, off, are);
+      held = inl (record { root_is = refl; none = no_entries; whole = omega arith });
+    }) refl (subst (λ (b : List ℕ). IsNode b (record { level = 0; entries = (key, value) ∷ [] })) (sym there) node)
 
 module _ (n : ℕ) (P Q : Image) (root : ℕ) (free left : List ℕ) (m : KeyMap) (key value : List ℕ) (had : Bool) (free_are : AreFree n free) (r : IsRooted n P root free m) where
   module _ (g : Forest) (done : IsPut P Q r.level [] None free left key value had (one [] r.tree) g) where

@@ -1,6 +1,6 @@
 -- Pages that hold a map.
 use Rattle.std.specs.Prelude.{◌≡◌, ◌⊎◌, ◌<◌, ◌≤◌, ◌+◌, ℕ, List, [], length, None}
-use Rattle.std.specs.FinMap.{entries}
+use Rattle.std.specs.FinMap.{empty, entries, insert}
 use Rattle.sector_device.specs.Disk.{Image}
 use Rattle.sector_device.specs.declared.SectorDevice.{Ghosts}
 use Rattle.gate_journal.specs.Store.{home, Opens}
@@ -38,6 +38,12 @@ pub record IsRooted (n : ℕ) (P : Image) (root : ℕ) (free : List ℕ) (m : Ke
 pub record Holds (n : ℕ) (P : Image) (root : ℕ) (free : List ℕ) (m : KeyMap) : Type 0 where
   pub free_are : AreFree n free
   pub held : IsBare n root free m ⊎ IsRooted n P root free m
+
+-- pages whose root is page 1, with these bytes, hold the map with this one row
+abbrev pub IsOnlyRow : List ℕ → List ℕ → List ℕ → Type 0
+IsOnlyRow bytes key value =
+    (n : ℕ) (P : Image) (free : List ℕ) → P 1 ≡ bytes → 1 < n → AreFree n free → (IsIn 1 free → ⊥) → length free + 2 ≡ n
+    → Holds n P 1 free (insert empty key value)
 
 -- a transaction over stored pages reads the map
 abbrev pub InTxn : Txn → Image → KeyMap → Type 0

@@ -110,13 +110,13 @@ fn copy_value(
     }
 }
 
-/// The place at which a page of a node below the root is lent: leaves have the last one, and the nodes above them the fourteen
+/// The place at which a page of a node below the root is lent: leaves have the last one, and the nodes above them the six
 /// between the root's and it, by their page's number, so that a node is mostly still held when its next child is looked for.
 pub(crate) fn place_of(level: u8, p: u32) -> usize {
     if level == 0 {
-        return 15;
+        return 7;
     }
-    1 + (p % 14) as usize
+    1 + (p % 6) as usize
 }
 
 /// Lends the page of a node of this level at a place.

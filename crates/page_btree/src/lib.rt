@@ -2,6 +2,7 @@
 #![tactic(auto)]
 
 mod error;
+mod first;
 mod fitting;
 mod gets;
 mod kept;
@@ -14,6 +15,7 @@ mod tree;
 mod ways;
 
 pub use error::TreeError;
+pub use first::write_first_row;
 pub use fitting::put;
 pub use gets::get;
 pub use kept::laws;

@@ -137,20 +137,37 @@ linked_more n P Q from p link is next linked q ge lt below = elim (cases_eq q p)
   | inr off ↦ ap (λ (s : List ℕ). word s 0) (is q ∙ put_off (p, link) P q off) ∙ linked q ge (omega arith) below
 ]
 
--- pages that are all linked, under the meta page of a new store
-pub new_pages : (n : ℕ) (P Q : Image) (to : ℕ) → 1 < n → n ≤ to → AreLinked n P 1 to → ((q : ℕ) → q ≢ 0 → Q q ≡ P q) → IsMeta Q 0 1 (n - 1) → IsPages n Q × (length (free_in Q) + 1 ≡ n)
-new_pages n P Q to some all linked same meta =
-    let sound : AreFree n (chain P 1 (n - 1)) = linked_free n P 1 (n - 1) (omega arith) (omega arith) (λ q ge lt below. linked q ge (omega arith) below) in
-    let free : free_in Q ≡ chain P 1 (n - 1) =
-    ap (λ (f : ℕ). chain Q f (word (Q 0) 2)) meta.first_is ∙ ap (λ (k : ℕ). chain Q 1 k) meta.count_is ∙ chain_same P Q 0 1 (n - 1) same (not_meta n (chain P 1 (n - 1)) sound) in (
-      record {
+-- a chain stays where its pages do
+pub chain_kept : (P Q : Image) (first count : ℕ) → ((q : ℕ) → IsIn q (chain P first count) → Q q ≡ P q) → chain Q first count ≡ chain P first count
+chain_kept P Q first zero same = refl
+chain_kept P Q first (suc count) same =
+    let next : word (Q first) 0 ≡ word (P first) 0 = ap (λ (s : List ℕ). word s 0) (same first (inl refl)) in
+    let rest : chain Q (word (Q first) 0) count ≡ chain P (word (P first) 0) count = ap (λ (f : ℕ). chain Q f count) next ∙ chain_kept P Q (word (P first) 0) count (λ q there. same q (inr there)) in
+    λ i. first ∷ rest i
+
+-- pages that are all linked, under the meta page of a new store: those behind the root are free
+pub record AreNew (n root : ℕ) (Q : Image) : Type 0 where
+  pub sound : IsPages n Q
+  pub whole : length (free_in Q) + 1 + root ≡ n
+  pub behind : (q : ℕ) → IsIn q (free_in Q) → root < q
+
+pub new_pages : (n root : ℕ) (P Q : Image) → root + 1 < n → AreLinked n P 1 n → ((q : ℕ) → root < q → Q q ≡ P q) → IsMeta Q root (root + 1) (n - 1 - root) → AreNew n root Q
+new_pages n root P Q some linked same meta =
+    let count = n - 1 - root in
+    let behind : (q : ℕ) → IsIn q (chain P (root + 1) count) → root < q = λ q there. let from = linked_from n P (root + 1) count q (omega arith) (omega arith) linked there in omega arith in
+    let sound : AreFree n (chain P (root + 1) count) = linked_free n P (root + 1) count (omega arith) (omega arith) linked in
+    let free : free_in Q ≡ chain P (root + 1) count =
+    ap (λ (f : ℕ). chain Q f (word (Q 0) 2)) meta.first_is ∙ ap (λ (k : ℕ). chain Q (root + 1) k) meta.count_is ∙ chain_kept P Q (root + 1) count (λ q there. same q (behind q there)) in
+    record {
+      sound = record {
         root = omega (arith, meta.root_is);
         first = omega (arith, meta.first_is);
         count = omega (arith, meta.count_is);
         free = subst (λ (qs : List ℕ). AreFree n qs) (sym free) sound;
-      },
-      omega (arith, ap (λ (qs : List ℕ). length qs) free, length_chain P 1 (n - 1)),
-    )
+      };
+      whole = omega (arith, ap (λ (qs : List ℕ). length qs) free, length_chain P (root + 1) count);
+      behind = λ q there. behind q (subst (λ (qs : List ℕ). IsIn q qs) free there);
+    }
 
 -- a batch of links more
 pub batch_linked : (n from to : ℕ) (P Q : Image) → ((q : ℕ) → q < from + 256 → q < n → q < to) → ((q : ℕ) → q < from → Q q ≡ P q) → AreLinked n Q from to → AreLinked n P 1 from → AreLinked n Q 1 (from + 256)

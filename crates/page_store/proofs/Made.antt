@@ -1,31 +1,67 @@
 -- What formatting leaves.
 use Rattle.std.proofs.Common.{Result, Ok, Err, OnOk, ◌≡◌, ◌≢◌, ◌≤◌, ◌<◌, ◌+◌, ◌-◌, ℕ, List, length, sym, ap, subst, ◌∙◌, arith}
 use Rattle.sector_device.specs.Disk.{Disk, Image}
-use Rattle.gate_journal.specs.Store.{overlay, pages, IsSettled}
+use Rattle.gate_journal.specs.Store.{overlay, put, word, pages, IsSettled}
 use Rattle.gate_journal.specs.Steps.{Commits}
 use Rattle.gate_journal.specs.Recovery.{HasRoom}
 use Rattle.gate_journal.proofs.Commit.{settled_opens}
-use Rattle.page_store.specs.Chain.{AreLinked, IsMeta, IsPages, root_in, free_in}
-use Rattle.page_store.specs.Openings.{IsNew, Links}
+use Rattle.gate_journal.proofs.Images.{put_off}
+use Rattle.page_store.specs.Chain.{AreLinked, IsIn, IsMeta, IsPages, root_in, free_in}
+use Rattle.page_store.specs.Openings.{AllPageStores, IsNew, IsNewWith, IsLinked, Links}
 use Rattle.page_store.proofs.Chains.{new_pages, batch_linked}
 
-pub new_store : (J n : ℕ) (d e : Disk) (ws : List (ℕ × List ℕ)) (to : ℕ) → HasRoom e.sectors J n → IsSettled J n e → n ≤ to → AreLinked n (pages J d.reads) 1 to → pages J e.reads ≡ overlay ws (pages J d.reads)
-    → ((P : Image) → IsMeta (overlay ws P) 0 1 (n - 1)) → ((P : Image) (q : ℕ) → q ≢ 0 → overlay ws P q ≡ P q) → IsNew J e
-new_store J n d e ws to room settled all linked after meta others =
-    let some = room.least_pages in
-    let Q = overlay ws (pages J d.reads) in
-    let made : IsPages n Q × (length (free_in Q) + 1 ≡ n) = new_pages n (pages J d.reads) Q to (omega arith) all linked (others (pages J d.reads)) (meta (pages J d.reads)) in
-    let sound : IsPages n (pages J e.reads) = subst (λ (X : Image). IsPages n X) (sym after) made.0 in
+module _ (J n : ℕ) (e : Disk) (room : HasRoom e.sectors J n) (settled : IsSettled J n e) where
+  -- each image that a stop then leaves is one of a store
+  all_stores : IsPages n (pages J e.reads) → AllPageStores e
+  all_stores sound c leaves =
+      let opens = settled_opens J n e settled c leaves in
+      record { J = J; n = n; whole = room.whole; store = opens.store; pages = subst (λ (X : Image). IsPages n X) (λ i p. (sym (opens.each p)) i) sound }
+
+  module _ (d : Disk) (ws : List (ℕ × List ℕ)) (linked : IsLinked J n d) (after : pages J e.reads ≡ overlay ws (pages J d.reads)) where
+    pub new_store : ((P : Image) → IsMeta (overlay ws P) 0 1 (n - 1 - 0)) → ((P : Image) (q : ℕ) → q ≢ 0 → overlay ws P q ≡ P q) → IsNew J e
+    new_store meta others =
+        let P = pages J d.reads in
+        let some = room.least_pages in
+        let made = new_pages n 0 P (overlay ws P) (omega arith) linked.linked (λ q behind. others P q (λ is. omega arith)) (meta P) in
+        let sound : IsPages n (pages J e.reads) = subst (λ (X : Image). IsPages n X) (sym after) made.sound in
+        record {
+          n = n;
+          whole = room.whole;
+          settled = settled;
+          root = ap (λ (X : Image). root_in X) after ∙ (meta P).root_is;
+          sound = sound;
+          free = let whole = made.whole in ap (λ (X : Image). length (free_in X) + 1) after ∙ omega arith;
+          all = all_stores sound;
+        }
+
+    -- with bytes on page 1, which is the root
+    pub new_store_with : (bytes : List ℕ) → IsMeta (overlay ws (pages J d.reads)) 1 2 (n - 1 - 1) → overlay ws (pages J d.reads) 1 ≡ bytes
+        → ((q : ℕ) → 1 < q → overlay ws (pages J d.reads) q ≡ pages J d.reads q) → IsNewWith J bytes e
+    new_store_with bytes meta there others =
+        let Q = overlay ws (pages J d.reads) in
+        let some = room.least_pages in
+        let made = new_pages n 1 (pages J d.reads) Q (omega arith) linked.linked others meta in
+        let sound : IsPages n (pages J e.reads) = subst (λ (X : Image). IsPages n X) (sym after) made.sound in
+        record {
+          n = n;
+          whole = room.whole;
+          settled = settled;
+          root = ap (λ (X : Image). root_in X) after ∙ meta.root_is;
+          there = ap (λ (X : Image). X 1) after ∙ there;
+          sound = sound;
+          used = λ used. let late = made.behind 1 (subst (λ (X : Image). IsIn 1 (free_in X)) after used) in omega arith;
+          free = let whole = made.whole in ap (λ (X : Image). length (free_in X) + 2) after ∙ omega arith;
+          all = all_stores sound;
+        }
+
+-- the meta page, and then another one
+pub meta_under : (P Q : Image) (bytes : List ℕ) (root first count : ℕ) → ((q : ℕ) → Q q ≡ put (1, bytes) P q) → IsMeta P root first count → IsMeta Q root first count
+meta_under P Q bytes root first count is meta =
+    let at : Q 0 ≡ P 0 = is 0 ∙ put_off (1, bytes) P 0 (λ e. omega arith) in
     record {
-      n = n;
-      whole = room.whole;
-      settled = settled;
-      root = ap (λ (X : Image). root_in X) after ∙ (meta (pages J d.reads)).root_is;
-      sound = sound;
-      free = ap (λ (X : Image). length (free_in X) + 1) after ∙ made.1;
-      all = λ c leaves.
-          let opens = settled_opens J n e settled c leaves in
-          record { J = J; n = n; whole = room.whole; store = opens.store; pages = subst (λ (X : Image). IsPages n X) (λ i p. (sym (opens.each p)) i) sound };
+      root_is = ap (λ (s : List ℕ). word s 0) at ∙ meta.root_is;
+      first_is = ap (λ (s : List ℕ). word s 1) at ∙ meta.first_is;
+      count_is = ap (λ (s : List ℕ). word s 2) at ∙ meta.count_is;
     }
 
 -- a commit that links a batch

@@ -1,10 +1,11 @@
 //! How pages are made on a device.
-ghost use Rattle.std.specs.Prelude.{◌≡◌, ◌≢◌, ◌≤◌, ◌<◌, ◌+◌, ◌-◌, ℕ, length, OnOk, OnErr, IfErr};
+ghost use Rattle.std.specs.Prelude.{◌≡◌, ◌≢◌, ◌≤◌, ◌<◌, ◌+◌, ◌-◌, ℕ, length, OnOk, OnErr, IfOk, IfErr};
 ghost use Rattle.sector_device.specs.Disk.{Disk, Image};
 ghost use Rattle.gate_journal.specs.Store.{IsWithin, IsSettled, overlay, put, home};
+ghost use Rattle.gate_journal.specs.Recovery.{HasRoom};
 ghost use Rattle.gate_journal.specs.Writes.{writes_of, room_of};
 ghost use Rattle.page_store.specs.Chain.{IsMeta, AreLinked, next_of};
-ghost use Rattle.page_store.specs.Openings.{IsNew, Links};
+ghost use Rattle.page_store.specs.Openings.{IsNew, IsNewWith, IsLinked, Links};
 ghost use Rattle.page_store.specs.Transactions.{FormatErr};
 
 use crate::error::PageError;
@@ -92,20 +93,57 @@ fn link_batch<D: SectorDevice>(
     commit_on(device, layout, writes)
 }
 
-/// Writes the meta page of a new store, and nothing else. It takes no memory.
-fn put_meta(writes: &mut PageWrites, pages: u32)
-    requires some { 1 < pages }
+/// A new store whose pages are linked, and room for its last commit.
+#[derive(Drop)]
+struct Linked {
+    layout: Layout,
+    writes: PageWrites,
+}
+
+/// Makes a device a store whose pages are linked from page 1 on, with a meta page yet to be written. All memory is taken before the
+/// first write.
+fn link_all<D: SectorDevice>(
+    alloc: Global,
+    device: &mut D,
+    journal_pages: u32,
+) -> Result<Linked, PageError>
+    requires least { 256 ≤ journal_pages }
+    requires most { journal_pages ≤ 65536 }
+    ensures sectors { (D.disk device.new).sectors ≡ (D.disk device.old).sectors }
+    ensures honest { (D.disk device.new).is_honest → (D.disk device.old).is_honest }
+    ensures linked { (D.disk device.new).is_honest → IfOk result (λ made. IsLinked made.layout.journal_pages made.layout.pages (D.disk device.new)) }
+    ensures layout { IfOk result (λ made. (made.layout.journal_pages ≡ journal_pages) × HasRoom (D.disk device.old).sectors made.layout.journal_pages made.layout.pages) }
+    ensures room { IfOk result (λ made. 256 ≤ room_of made.writes) }
+    ensures passed { (D.disk device.new).is_honest → OnOk result ((D.disk device.new).faults ≡ (D.disk device.old).faults) }
+    ensures ok { OnOk result (home journal_pages + 64 ≤ (D.disk device.old).sectors) }
+    ensures err { IfErr result (λ e. FormatErr D.SectorDevice journal_pages device.old device.new e) }
+{
+    if !has_room(device.count(), journal_pages) {
+        return Err(PageError::TooSmall);
+    }
+    let mut writes = PageWrites::with_capacity(alloc, BATCH as usize)?;
+    let layout = gate_journal::format(device, journal_pages)?;
+    for batch in 0..(layout.pages + 254) / 256 {
+        link_batch(device, layout, &mut writes, 1 + 256 * batch)?;
+    }
+    Ok(Linked { layout, writes })
+}
+
+/// Writes the meta page of a new store, and nothing else: each page behind the root is free. It takes no memory.
+fn put_meta(writes: &mut PageWrites, pages: u32, root: u32)
+    requires some { root + 1 < pages }
     requires room { 256 ≤ room_of writes.old }
     ensures few { length (writes_of writes.new) ≤ 1 }
     ensures within { IsWithin (writes_of writes.new) pages }
-    ensures meta { (P : Image) → IsMeta (overlay (writes_of writes.new) P) 0 1 (pages - 1) }
+    ensures meta { (P : Image) → IsMeta (overlay (writes_of writes.new) P) root (root + 1) (pages - 1 - root) }
     ensures others { (P : Image) (q : ℕ) → q ≢ 0 → overlay (writes_of writes.new) P q ≡ P q }
+    ensures room { 256 ≤ room_of writes.new }
 {
     writes.clear();
     let mut meta = [0; 4096];
-    set_word(&mut meta, 0, 0);
-    set_word(&mut meta, 1, 1);
-    set_word(&mut meta, 2, pages - 1);
+    set_word(&mut meta, 0, root);
+    set_word(&mut meta, 1, root + 1);
+    set_word(&mut meta, 2, pages - 1 - root);
     put_in_room(writes, 0, &meta);
 }
 
@@ -125,15 +163,31 @@ pub fn format<D: SectorDevice>(
     ensures ok { OnOk result (home journal_pages + 64 ≤ (D.disk device.old).sectors) }
     ensures err { IfErr result (λ e. FormatErr D.SectorDevice journal_pages device.old device.new e) }
 {
-    if !has_room(device.count(), journal_pages) {
-        return Err(PageError::TooSmall);
-    }
-    let mut writes = PageWrites::with_capacity(alloc, BATCH as usize)?;
-    let layout = gate_journal::format(device, journal_pages)?;
-    for batch in 0..(layout.pages + 254) / 256 {
-        link_batch(device, layout, &mut writes, 1 + 256 * batch)?;
-    }
-    put_meta(&mut writes, layout.pages);
-    commit_on(device, layout, &writes)?;
+    let mut made = link_all(alloc, device, journal_pages)?;
+    put_meta(&mut made.writes, made.layout.pages, 0);
+    commit_on(device, made.layout, &made.writes)?;
+    Ok(())
+}
+
+/// The same with these bytes on page 1, which is the root.
+pub fn format_with<D: SectorDevice>(
+    alloc: Global,
+    device: &mut D,
+    journal_pages: u32,
+    root: &[u8; 4096],
+) -> Result<(), PageError>
+    requires least { 256 ≤ journal_pages }
+    requires most { journal_pages ≤ 65536 }
+    ensures sectors { (D.disk device.new).sectors ≡ (D.disk device.old).sectors }
+    ensures honest { (D.disk device.new).is_honest → (D.disk device.old).is_honest }
+    ensures new { (D.disk device.new).is_honest → OnOk result (IsNewWith journal_pages root.now (D.disk device.new)) }
+    ensures passed { (D.disk device.new).is_honest → OnOk result ((D.disk device.new).faults ≡ (D.disk device.old).faults) }
+    ensures ok { OnOk result (home journal_pages + 64 ≤ (D.disk device.old).sectors) }
+    ensures err { IfErr result (λ e. FormatErr D.SectorDevice journal_pages device.old device.new e) }
+{
+    let mut made = link_all(alloc, device, journal_pages)?;
+    put_meta(&mut made.writes, made.layout.pages, 1);
+    put_in_room(&mut made.writes, 1, root);
+    commit_on(device, made.layout, &made.writes)?;
     Ok(())
 }

@@ -7,6 +7,6 @@ mod pages;
 mod txn;
 
 pub use error::PageError;
-pub use formatting::format;
+pub use formatting::{format, format_with};
 pub use pages::Pages;
 pub use txn::{Prepared, Txn};

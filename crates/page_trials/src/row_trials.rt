@@ -1,8 +1,8 @@
 //! Rows in three orders, each removed again.
-use crate::long_trials::{made, store};
-use page_btree::{get, put, remove};
-use page_store::Pages;
-use sector_memory::Fused;
+use crate::long_trials::{made, passing, store};
+use page_btree::{get, put, remove, write_first_row};
+use page_store::{Pages, format_with};
+use sector_memory::{Fused, MemoryDevice};
 use std::alloc::{AllocError, Global};
 use std::collections::BTreeMap;
 use std::process::Abort;
@@ -100,4 +100,38 @@ fn rows_are_those_of_a_map(rt: HostRuntime) {
         remove_all(&rt, alloc, &mut pages, &mut model);
         assert!(rt; pages.free_pages() == before);
     }
+}
+
+/// A new store whose root has the row of a key of seven.
+fn made_with_seven<R: Abort>(rt: &R, alloc: Global, sectors: u32) -> Pages<Fused> {
+    let mut root = [0; 4096];
+    write_first_row(&mut root, &7u32.to_be_bytes(), &9u32.to_be_bytes());
+    let mut device = passing(MemoryDevice::new(alloc, sectors).expect(rt, "no memory"));
+    format_with(alloc, &mut device, 256, &root).expect(rt, "not formatted");
+    Pages::open(device).ok().expect(rt, "not opened")
+}
+
+/// The bytes of page 1, which is the root.
+fn root_of<R: Abort>(rt: &R, alloc: Global, pages: &mut Pages<Fused>) -> [u8; 4096] {
+    let txn = pages.begin(alloc);
+    let mut bytes = [0; 4096];
+    assert!(rt; txn.root() == 1);
+    assert!(rt; txn.page_count() == 64);
+    txn.read(pages, 1, &mut bytes).expect(rt, "not read");
+    txn.abandon();
+    bytes
+}
+
+#[test]
+fn a_store_is_formatted_with_the_page_of_a_first_put(rt: HostRuntime) {
+    let alloc = rt.alloc();
+    let mut with = made_with_seven(&rt, alloc, 323);
+    let mut pages = made(&rt, alloc, 323);
+    assert!(rt; !put_row(&rt, alloc, &mut pages, 7, 9));
+    assert!(rt; with.free_pages() == 62);
+    assert!(rt; pages.free_pages() == 62);
+    assert!(rt; root_of(&rt, alloc, &mut with) == root_of(&rt, alloc, &mut pages));
+    assert!(rt; value_of(&rt, alloc, &mut with, 7) == Some(9));
+    assert!(rt; !put_row(&rt, alloc, &mut with, 8, 1));
+    assert!(rt; remove_row(&rt, alloc, &mut with, 7));
 }

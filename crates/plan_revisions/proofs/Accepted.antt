@@ -5,26 +5,26 @@ use Rattle.std.specs.FinMap as map_of
 use Rattle.std.proofs.lemmas.Bool.{leb-false, eqb-true}
 use Rattle.std.proofs.lemmas.Bool.Decides.{nat_tests}
 use Rattle.desk_model.specs.declared.command.Command.{Command}
-use Rattle.desk_model.specs.declared.command.Command.TheVariants.{Create, Whole, Counties, Retire}
+use Rattle.desk_model.specs.declared.command.Command.TheVariants.{Create, Whole, Counties, Retire, Fork}
 use Rattle.desk_model.specs.declared.reply.Reply.TheVariants as reply
 use Rattle.desk_model.specs.declared.kind.Kind.{Kind}
 use Rattle.desk_model.specs.Baf.{Values, Fault, body_read}
 use Rattle.desk_model.specs.Geography.{Ground}
 use Rattle.desk_model.specs.Desk.{Plan, Desk}
-use Rattle.desk_model.specs.Step.{step, step_at, create, on_revisions, whole_read, patch_read, county_patched, partly_listed, whole, patched, refused, retired, plan_limit, revision_limit, Outcome}
+use Rattle.desk_model.specs.Step.{step, step_at, create, on_revisions, whole_read, patch_read, county_patched, partly_listed, whole, patched, refused, retired, fork, fork_from, fork_of, plan_limit, revision_limit, Outcome}
 use Rattle.desk_model.specs.Subject.{revision_at}
 use Rattle.desk_model.specs.declared.reply.Refusal.TheVariants.{Limit, Stale}
 use Rattle.std.specs.List.{slice_get}
 use Rattle.std.specs.Cmp.Lexicographic.{nat_list_cmp_total}
 use Rattle.std.specs.Prelude.{unwrap_or}
 use Rattle.desk_model.specs.Desk.{name_cmp}
-use Rattle.desk_model.specs.Room.{changed, revision_rows, added_rows, command_rows, last_revision}
+use Rattle.desk_model.specs.Room.{changed, revision_rows, added_rows, command_rows, fork_rows, forked_rows, last_revision}
 use Rattle.desk_catalogue.specs.Accepting.{IsAfter}
 use Rattle.desk_catalogue.specs.Kept.{revision_in}
 use Rattle.store_rows.proofs.Frames.{itself}
 use Rattle.store_rows.specs.Changes.{with_revision}
 use Rattle.plan_revisions.specs.Rows.{added_chunks, added_by}
-use Rattle.plan_revisions.specs.Plans.{TakesPlan, with_plan, HasPlanAt, without_plan}
+use Rattle.plan_revisions.specs.Plans.{TakesPlan, with_plan, HasPlanAt, without_plan, TakesFork, with_fork}
 use Rattle.plan_revisions.specs.Accepted.{IsRevised}
 
 -- ---- a plan is created
@@ -62,6 +62,51 @@ module _ (d : Desk) (name : List ℕ) where
 
   pub taken_away : TellsGone (step d (Retire name))
   taken_away = gone_geography d.geography
+
+-- ---- a plan is forked
+-- the desk takes the fork
+pub record IsForked (d : Desk) (name : List ℕ) (from : List ℕ × ℕ) (e : Desk) : Type 0 where
+  pub g : Ground
+  pub geography : d.geography ≡ Some g
+  pub takes : TakesFork g name from d
+  pub desk : e ≡ with_fork name from d
+
+module _ (d : Desk) (name : List ℕ) (from : List ℕ × ℕ) where
+  abbrev TellsFork : Outcome → Type 0
+  TellsFork o = o.0 ≡ reply.Created name 1 → IsForked d name from o.1
+
+  module _ (g : Ground) (geography : d.geography ≡ Some g) (missing : map_of.get d.plans name ≡ None) where
+    fork_revision : map_of.len d.plans < plan_limit → (q : Plan) → map_of.get d.plans from.0 ≡ Some q → (at : Option (List ℕ)) → revision_at q from.1 ≡ at → TellsFork (fork_of d name q at)
+    fork_revision room q there None is = λ told. absurd (cc)
+    fork_revision room q there (Some districts) is = λ told. record {
+      g = g;
+      geography = geography;
+      takes = record { missing = missing; room = room; districts = districts; source = record { geography = geography; plan = q; there = there; is = is } };
+      desk = ap (λ (at : Option (List ℕ)). (fork_of d name q at).1) (sym is) ∙ ap (λ (p : Option Plan). (fork_from d name p from.1).1) (sym there);
+    }
+
+    fork_there : map_of.len d.plans < plan_limit → (q : Option Plan) → map_of.get d.plans from.0 ≡ q → TellsFork (fork_from d name q from.1)
+    fork_there room None is = λ told. absurd (cc)
+    fork_there room (Some q) is = fork_revision room q is (revision_at q from.1) refl
+
+    fork_room : (full : Bool) → nat_le plan_limit (map_of.len d.plans) ≡ full → TellsFork (cond full (refused d Limit) (fork_from d name (map_of.get d.plans from.0) from.1))
+    fork_room true is = λ told. absurd (cc)
+    fork_room false is = fork_there (leb-false plan_limit (map_of.len d.plans) is) (map_of.get d.plans from.0) refl
+
+  fork_missing : (g : Ground) → d.geography ≡ Some g → (p : Option Plan) → map_of.get d.plans name ≡ p → TellsFork (fork d name from p)
+  fork_missing g geography (Some p) is = λ told. absurd (cc)
+  fork_missing g geography None is = fork_room g geography is (nat_le plan_limit (map_of.len d.plans)) refl
+
+  fork_geography : (geo : Option Ground) → d.geography ≡ geo → TellsFork (step_at geo d (Fork name from))
+  fork_geography None is = λ told. absurd (cc)
+  fork_geography (Some g) is = fork_missing g is (map_of.get d.plans name) refl
+
+  pub forked : TellsFork (step d (Fork name from))
+  forked = fork_geography d.geography refl
+
+  -- so many rows are written
+  pub rows_forked : (g : Ground) → d.geography ≡ Some g → command_rows d (Fork name from) ≡ fork_rows g
+  rows_forked g is = ap forked_rows is
 
 -- ---- a plan gets a revision more
 module _ (d : Desk) (name : List ℕ) (after : ℕ) where
@@ -169,6 +214,11 @@ pub ground_stays : (d : Desk) (c : Command) (e : Desk) → IsAfter d c e → e.g
 ground_stays d (Create name size) e is = geography_of d e (with_plan name size d) (is.desk ∙ (created d name size is.reply).1) refl
 ground_stays d (Whole name after body) e is = let r = whole_revised d name after body is.reply in geography_of d e (record d { plans = map_of.insert d.plans name (with_revision r.plan r.districts) }) (is.desk ∙ r.desk) refl
 ground_stays d (Counties name after body) e is = let r = counties_revised d name after body is.reply in geography_of d e (record d { plans = map_of.insert d.plans name (with_revision r.plan r.districts) }) (is.desk ∙ r.desk) refl
+ground_stays d (Fork name from) e is =
+    let told = forked d name from is.reply in
+    let took = told.takes.source in
+    geography_of d e (with_fork name from d) (is.desk ∙ told.desk)
+    (ap (λ (p : Option Plan). (fork_from d name p from.1).1.geography) took.there ∙ ap (λ (at : Option (List ℕ)). (fork_of d name took.plan at).1.geography) took.is)
 ground_stays d (Retire name) e is = geography_of d e (without_plan name d) (is.desk ∙ (taken_away d name is.reply).1) refl
 
 some_rows : (g : Ground) (last : Option (List ℕ)) (new : List ℕ) (n : ℕ) → n ≡ revision_rows g last new → 2 ≤ n
@@ -186,3 +236,7 @@ rows_some d (Counties name after body) e is =
     let r = counties_revised d name after body is.reply in
     some_rows r.g (revision_in (map_of.get d.plans name) after) r.districts (command_rows d (Counties name after body)) (rows_added d name after then r)
 rows_some d (Retire name) e is = omega arith
+rows_some d (Fork name from) e is =
+    let told = forked d name from is.reply in
+    let rows = rows_forked d name from told.g told.geography in
+    omega arith

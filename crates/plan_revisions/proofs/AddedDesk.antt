@@ -1,6 +1,5 @@
 -- The rows of one revision more make the next desk.
-use Rattle.std.proofs.Common.{◌≡◌, ◌<◌, ◌+◌, ◌-◌, ◌^◌, ℕ, Bool, true, false, cond, List, [], ◌∷◌, ◌++◌, length, get_or, Option, Some, None, refl, sym, ap, subst, ◌∙◌, inl, inr, arith, append_assoc, length-append}
-use Rattle.std.specs.Prelude.{MatchOption}
+use Rattle.std.proofs.Common.{◌≡◌, ◌<◌, ◌+◌, ◌-◌, ◌^◌, ℕ, Bool, true, false, cond, List, [], ◌++◌, length, get_or, Option, Some, None, refl, sym, ap, subst, ◌∙◌, inl, inr, arith, append_assoc}
 use Rattle.std.specs.FinMap.{get, insert}
 use Rattle.std.specs.List.{slice_get}
 use Rattle.std.proofs.lemmas.Option.{get_or_from_slice_get, slice_get_cases}
@@ -8,21 +7,16 @@ use Rattle.desk_model.specs.Cuts.{cut, cuts_of, CutsAreCounties, ListsAreCut, si
 use Rattle.desk_model.specs.Desk.{Plan, Desk}
 use Rattle.desk_model.specs.Geography.{Ground}
 use Rattle.desk_model.specs.Room.{changed, last_revision, revision_rows}
-use Rattle.store_rows.specs.Values.{counters_bytes}
 use Rattle.store_rows.specs.declared.value.Counters.{Counters}
 use Rattle.store_rows.specs.declared.value.PlanRow.{PlanRow}
-use Rattle.store_rows.specs.Rows.{KeyMap, SameTag}
+use Rattle.store_rows.specs.Rows.{KeyMap}
 use Rattle.store_rows.specs.Puts.{Row, put_rows}
-use Rattle.store_rows.proofs.Puts.{put_rows-append}
-use Rattle.store_rows.specs.ChunkRows.{chunk_rows}
 use Rattle.store_rows.specs.NameRows.{name_rows}
-use Rattle.store_rows.proofs.NameRows.{names_keep_tag, chunks_keep_tag}
 use Rattle.store_rows.specs.RevisionRows.{HasRevision}
 use Rattle.store_rows.specs.DeskRows.{HasPlan}
 use Rattle.store_rows.specs.Changes.{plan_row_of, with_revision}
 use Rattle.store_rows.specs.Draws.{ChangesAreDrawn, FirstsAreDrawn, RowsAreCounted}
-use Rattle.store_rows.specs.RevisionSteps.{AreKept, IsDrawn, new_chunk_rows, rows_of_revision}
-use Rattle.store_rows.specs.Tidy.{IsNext, CountersFit, no_numbers}
+use Rattle.store_rows.specs.RevisionSteps.{AreKept, IsDrawn, new_chunk_rows, new_holding_rows, rows_of_revision}
 use Rattle.store_rows.specs.TidyLaws.{ChunksAreKept, NextIsOne, RevisionsMakeDesks}
 use Rattle.plan_table.specs.PlanRows.{revised_rows}
 use Rattle.plan_table.specs.Laws.{PlansAreTold}
@@ -37,18 +31,6 @@ use Rattle.plan_revisions.proofs.Desks.{is_with, is_still, numbers_are}
 use Rattle.plan_revisions.proofs.LastRevision.{told_plan, last_there, last_named, as_many, cuts_long}
 use Rattle.plan_revisions.proofs.Drawn.{firsts_drawn, changes_drawn, drawn_long}
 use Rattle.plan_revisions.proofs.ChunkLists.{few_counties, are_chunk_lists}
-
--- ---- how many rows
-pub rows_few : RowsAreCounted → (g : Ground) (name : List ℕ) (last : Option (List ℕ)) (next : List ℕ) (row : PlanRow) (counters : Counters) (kept : List ℕ) → length (all_rows g name last next row counters kept) ≡ revision_rows g last next
-rows_few counted g name last next row counters kept =
-    let numbers = drawn counters.chunk 0 kept (changes_in last next (cuts_of g)) in
-    let long : length numbers ≡ length (sizes g) = drawn_long counters.chunk 0 kept last next (cuts_of g) ∙ cuts_long g in
-    let chunks = new_chunk_rows counters.chunk (changed g last next) in
-    let names = name_rows row.number (row.revisions + 1) numbers in
-    let two = revised_rows name row (length (changed g last next)) counters in
-    let all = counted false g last next counters name row numbers long in
-    let same : length (rows_of_revision false counters name row (changed g last next) numbers) ≡ revision_rows g last next = omega (arith, all) in
-    ap length (append_assoc chunks names two) ∙ same
 
 -- ---- the chunks of the revision
 clash : (o : Option (List ℕ)) (x : List ℕ) → o ≡ None → o ≡ Some x → ⊥
@@ -94,10 +76,21 @@ module _ (kept_law : ChunksAreKept) (firsts : FirstsAreDrawn) (changes : Changes
       (changes m counters row.number kept (cut g last) (cut g next) (subst (λ (numbers : List ℕ). AreKept m row.number numbers (cut g last)) (sym same) stay) (also ∙ sym many) (omega arith) (are_chunk_lists counties cut_law g next can.blocks can.long can.each))
 
 -- ---- the rows, in the order in which they are put
-in_order : (counters : Counters) (name : List ℕ) (row other : PlanRow) (lists : List (List ℕ)) (numbers : List ℕ) → row ≡ other → rows_put name row counters lists numbers (length lists) ≡ rows_of_revision false counters name other lists numbers
+in_order : (counters : Counters) (name : List ℕ) (row other : PlanRow) (lists : List (List ℕ)) (numbers : List ℕ) → row ≡ other → rows_put name row counters lists numbers (length lists) ≡ rows_of_revision true counters name other lists numbers
 in_order counters name row other lists numbers told =
-    append_assoc (new_chunk_rows counters.chunk lists) (name_rows row.number (row.revisions + 1) numbers) (revised_rows name row (length lists) counters)
-    ∙ ap (λ (r : PlanRow). rows_of_revision false counters name r lists numbers) told
+    let chunks = new_chunk_rows counters.chunk lists in
+    let held = new_holding_rows row.number counters.chunk (length lists) in
+    let names = name_rows row.number (row.revisions + 1) numbers in
+    let two = revised_rows name row (length lists) counters in
+    append_assoc (chunks ++ held) names two ∙ append_assoc chunks held (names ++ two)
+    ∙ ap (λ (r : PlanRow). rows_of_revision true counters name r lists numbers) told
+
+-- and how many they are
+pub rows_few : RowsAreCounted → (g : Ground) (name : List ℕ) (last : Option (List ℕ)) (next : List ℕ) (row : PlanRow) (counters : Counters) (kept : List ℕ) → length (all_rows g name last next row counters kept) ≡ revision_rows g last next
+rows_few counted g name last next row counters kept =
+    let numbers = drawn counters.chunk 0 kept (changes_in last next (cuts_of g)) in
+    let long : length numbers ≡ length (sizes g) = drawn_long counters.chunk 0 kept last next (cuts_of g) ∙ cuts_long g in
+    ap length (in_order counters name row row (changed g last next) numbers refl) ∙ counted g last next counters name row numbers long
 
 next_there : (d : Desk) (name : List ℕ) (next : List ℕ) (p : Plan) → get d.plans name ≡ Some p → record d { plans = insert d.plans name (with_revision p next) } ≡ with_next name next d
 next_there d name next p there = ap (λ (o : Option Plan). with_next_of d name next o) (sym there)
@@ -118,13 +111,13 @@ module _ (told : PlansAreTold) (one : NextIsOne) (makes : RevisionsMakeDesks) (k
       (subst (λ (n : Counters). IsDrawn m n row.number lists numbers (cut g next)) (sym are) draws)).put in
       let rows : all_rows g name last next row counters kept ≡ rows_of_revision is.tidy.new is.tidy.next name (plan_row_of row.number p) lists numbers =
       in_order counters name row (plan_row_of row.number p) lists numbers row_is.0
-      ∙ ap (λ (n : Counters). rows_of_revision false n name (plan_row_of row.number p) lists numbers) (sym are)
-      ∙ ap (λ (b : Bool). rows_of_revision b is.tidy.next name (plan_row_of row.number p) lists numbers) (sym is.old) in
+      ∙ ap (λ (n : Counters). rows_of_revision true n name (plan_row_of row.number p) lists numbers) (sym are)
+      ∙ ap (λ (b : Bool). rows_of_revision b is.tidy.next name (plan_row_of row.number p) lists numbers) (sym is.version) in
       let sized = is.limits.sizes name p says.there in
       subst (λ (e : Desk). IsDeskMap (put_rows m (all_rows g name last next row counters kept)) e) (next_there d name next p says.there)
       (subst (λ (rs : List Row). IsDeskMap (put_rows m rs) (record d { plans = insert d.plans name (with_revision p next) })) (sym rows) (record {
         desk = is_still _ d g _ says.geography made.desk;
         tidy = made.tidy.0;
-        old = made.tidy.2 ∙ is.old;
+        version = made.tidy.2 ∙ is.version;
         limits = with_another d name (with_revision p next) p says.there (record { some = sized.some; most = sized.most }) is.limits;
       }))

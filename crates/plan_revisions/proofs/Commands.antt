@@ -1,12 +1,13 @@
 -- What is put for each command.
-use Rattle.std.proofs.Common.{◌≡◌, ◌⊎◌, ℕ, List, Result, Ok, Err, refl, sym, ap, subst, ◌∙◌, inl, inr}
+use Rattle.std.proofs.Common.{◌≡◌, ◌⊎◌, ℕ, List, Some, Result, Ok, Err, refl, sym, ap, subst, ◌∙◌, inl, inr}
 use Rattle.std.specs.Prelude.{MatchResult}
 use Rattle.sector_device.specs.declared.SectorDevice.{Ghosts}
 use Rattle.desk_model.specs.declared.kind.Kind.{Kind}
 use Rattle.desk_model.specs.declared.command.Command.{Command}
-use Rattle.desk_model.specs.declared.command.Command.TheVariants.{Create, Whole, Counties, Retire}
+use Rattle.desk_model.specs.declared.command.Command.TheVariants.{Create, Whole, Counties, Retire, Fork}
 use Rattle.desk_model.specs.Desk.{Desk}
-use Rattle.desk_model.specs.Room.{command_rows}
+use Rattle.desk_model.specs.Geography.{Ground}
+use Rattle.desk_model.specs.Room.{command_rows, fork_rows}
 use Rattle.desk_catalogue.specs.Accepting.{IsAfter}
 use Rattle.page_store.specs.declared.pages.Pages.{Pages}
 use Rattle.page_store.specs.declared.txn.Txn.{Txn}
@@ -15,10 +16,11 @@ use Rattle.row_table.proofs.Outcomes.{map_both}
 use Rattle.plan_table.specs.PlanRows.{HasPlanNumber, HasChunkNumbers}
 use Rattle.plan_table.specs.declared.change.ChangeOutcome.{ChangeOutcome}
 use Rattle.plan_table.specs.declared.change.ChangeOutcome.TheVariants.{Made}
-use Rattle.plan_revisions.specs.Plans.{TakesPlan, with_plan, HasPlanAt, without_plan}
+use Rattle.plan_revisions.specs.Plans.{TakesPlan, with_plan, HasPlanAt, without_plan, TakesFork, with_fork}
 use Rattle.plan_revisions.specs.Steps.{HasStepped, IsStepped, StepErr}
 use Rattle.plan_revisions.specs.Rows.{HasNumbers, added_by, rows_added_by}
-use Rattle.plan_revisions.proofs.Accepted.{created, taken_away}
+use Rattle.plan_revisions.proofs.Accepted.{created, forked, rows_forked, taken_away}
+use Rattle.plan_revisions.proofs.Counted.{same_ground}
 use Rattle.plan_revisions.proofs.Stepped.{stepped_as, change_as, err_as}
 
 module _ {D : Type 0} {g : Ghosts D} where
@@ -56,6 +58,23 @@ module _ {D : Type 0} {g : Ghosts D} where
       let told = taken_away d name is_after.reply in
       subst (λ (y : Command). StepErr (λ z. z ≡ d) (command_rows d y) t a b x) (sym is)
       (err_as (HasPlanAt name) (λ y. y ≡ d) 2 t a b (λ y same. subst (λ (z : Desk). HasPlanAt name z) (sym same) told.0) x why)
+
+  pub fork_put : (d : Desk) (q : Command) (e : Desk) (ground : Ground) (name : List ℕ) (from : List ℕ × ℕ) (t u : Txn) (a b : Pages D g) (result : Result ChangeOutcome TreeError) → q ≡ Fork name from → IsAfter d q e → d.geography ≡ Some ground
+      → MatchResult result (λ change. IsStepped (TakesFork ground name from) (with_fork name from) (fork_rows ground) HasPlanNumber t u a b change) (λ x. StepErr (TakesFork ground name from) (fork_rows ground) t a b x)
+      → IsPut d q e t u a b result
+  fork_put d q e ground name from t u a b result is after geography put =
+      let is_after : IsAfter d (Fork name from) e = subst (λ (x : Command). IsAfter d x e) is after in
+      let told = forked d name from is_after.reply in
+      let takes = subst (λ (x : Ground). TakesFork x name from d) (same_ground d told.g ground told.geography geography) told.takes in
+      let gives = λ (x : Desk) (same : x ≡ d). subst (λ (y : Desk). TakesFork ground name from y) (sym same) takes in
+      let then_is = λ (x : Desk) (same : x ≡ d). ap (λ (y : Desk). with_fork name from y) same ∙ sym told.desk ∙ sym is_after.desk in
+      let rows = fork_rows ground in
+      as_command d q (Fork name from) e t u a b result is
+      (subst (λ (n : ℕ). MatchResult result (λ change. IsStepped (λ x. x ≡ d) (λ x. e) n HasPlanNumber t u a b change) (λ x. StepErr (λ y. y ≡ d) n t a b x)) (sym (rows_forked d name from ground geography))
+      (map_both result (λ change. IsStepped (TakesFork ground name from) (with_fork name from) rows HasPlanNumber t u a b change) (λ change. IsStepped (λ x. x ≡ d) (λ x. e) rows HasPlanNumber t u a b change)
+      (λ x. StepErr (TakesFork ground name from) rows t a b x) (λ x. StepErr (λ y. y ≡ d) rows t a b x)
+      (λ change. change_as (TakesFork ground name from) (λ x. x ≡ d) (with_fork name from) (λ x. e) rows HasPlanNumber t u a b gives then_is change)
+      (λ x. err_as (TakesFork ground name from) (λ y. y ≡ d) rows t a b gives x) put))
 
   -- a revision, by its whole or by counties
   pub revision_as : (d : Desk) (q : Command) (e : Desk) (name : List ℕ) (after : ℕ) (t u : Txn) (a b : Pages D g) (result : Result ChangeOutcome TreeError) → ((body : List ℕ) × (q ≡ Whole name after body)) ⊎ ((body : List ℕ) × (q ≡ Counties name after body)) → IsAfter d q e

@@ -10,18 +10,18 @@ use Rattle.store_rows.specs.declared.value.PlanRow.{PlanRow}
 use Rattle.store_rows.specs.Rows.{KeyMap}
 use Rattle.store_rows.specs.Puts.{Row}
 use Rattle.store_rows.specs.NameRows.{name_rows}
-use Rattle.store_rows.specs.RevisionSteps.{new_chunk_rows}
+use Rattle.store_rows.specs.RevisionSteps.{new_chunk_rows, new_holding_rows}
 use Rattle.store_rows.specs.Tidy.{IsNext}
 use Rattle.revision_table.specs.Reading.{AreNames}
 use Rattle.plan_table.specs.PlanRows.{IsFound, revised_rows}
 
--- the rows of a revision's chunks and of their names
-abbrev pub front_rows : ℕ → List (List ℕ) → PlanRow → List ℕ → List Row
-front_rows first lists row numbers = new_chunk_rows first lists ++ name_rows row.number (row.revisions + 1) numbers
+-- the rows of a revision's chunks, of which so many are new, those by which the plan holds these, and those of all names
+abbrev pub front_rows : ℕ → List (List ℕ) → PlanRow → List ℕ → ℕ → List Row
+front_rows first lists row numbers used = (new_chunk_rows first lists ++ new_holding_rows row.number first used) ++ name_rows row.number (row.revisions + 1) numbers
 
 -- and then the plan's and that of the numbers, of which so many are used
 abbrev pub rows_put : List ℕ → PlanRow → Counters → List (List ℕ) → List ℕ → ℕ → List Row
-rows_put name row counters lists numbers used = front_rows counters.chunk lists row numbers ++ revised_rows name row used counters
+rows_put name row counters lists numbers used = front_rows counters.chunk lists row numbers used ++ revised_rows name row used counters
 
 -- what a map says of a plan: its row, and where it has a revision, the names of the last one's chunks, which are so many
 pub record AreRead (name : List ℕ) (count : ℕ) (row : PlanRow) (next : Counters) (kept : List ℕ) (m : KeyMap) : Type 0 where

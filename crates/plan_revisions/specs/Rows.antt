@@ -2,7 +2,7 @@
 use Rattle.std.specs.Prelude.{◌≡◌, ℕ, List, [], length, Option, Some, None, unwrap_or}
 use Rattle.std.specs.FinMap as map_of
 use Rattle.desk_model.specs.declared.command.Command.{Command}
-use Rattle.desk_model.specs.declared.command.Command.TheVariants.{Create, Whole, Counties, Retire}
+use Rattle.desk_model.specs.declared.command.Command.TheVariants.{Create, Whole, Counties, Retire, Fork}
 use Rattle.desk_model.specs.declared.cuts.Cut.{Cut}
 use Rattle.desk_model.specs.Cuts.{cuts_of}
 use Rattle.desk_model.specs.Geography.{Ground}
@@ -33,6 +33,7 @@ HasNumbers d (Create name size) = HasPlanNumber
 HasNumbers d (Whole name after body) = HasChunkNumbers (added_by d name (step d (Whole name after body)).1)
 HasNumbers d (Counties name after body) = HasChunkNumbers (added_by d name (step d (Counties name after body)).1)
 HasNumbers d (Retire name) = λ next. Unit {0}
+HasNumbers d (Fork name from) = HasPlanNumber
 
 -- the rows of a revision that it got
 abbrev pub rows_added_by : Desk → List ℕ → Desk → ℕ

@@ -12,7 +12,7 @@ ghost use Rattle.plan_revisions.specs.Rows.{HasNumbers, added_by, cuts_in, rows_
 ghost use Rattle.plan_revisions.specs.Accepted.{IsRevised};
 
 use crate::rows::next_of;
-use crate::{ChangeOutcome, TreeError, add, create, retire};
+use crate::{ChangeOutcome, TreeError, add, create, fork, retire};
 use desk_catalogue::catalogue::Catalogue;
 use desk_model::command::Command;
 use desk_model::cuts::Cut;
@@ -86,5 +86,8 @@ pub fn put_command<D: SectorDevice>(
             Ok(()) => Ok(ChangeOutcome::Made),
             Err(e) => Err(e),
         },
+        Command::Fork { plan, from } => {
+            fork(alloc, txn, pages, geography, cuts, plan, &from.0, from.1)
+        }
     }
 }

@@ -8,6 +8,7 @@ ghost use Rattle.plan_revisions.specs.Counties.{count_new};
 ghost use Rattle.plan_revisions.specs.Outcomes.{AddsRows};
 
 use crate::chunks::put_changes;
+use chunk_table::put_holdings;
 use desk_model::cuts::Cut;
 use desk_model::name::PlanName;
 use page_store::{Pages, Txn};
@@ -20,7 +21,8 @@ use std::alloc::Global;
 use store_rows::{Counters, PlanRow};
 
 /// Puts the rows of one revision more of the plan with this row: the chunks of the counties that change, under the numbers that
-/// come next, which are so many, the names of all chunks, and the plan's row with that of the numbers.
+/// come next, which are so many, the rows by which the plan holds these, the names of all chunks, and the plan's row with that of the
+/// numbers.
 pub fn put_revision<D: SectorDevice>(
     alloc: Global,
     txn: &mut Txn,
@@ -47,6 +49,7 @@ pub fn put_revision<D: SectorDevice>(
     ensures put { AddsRows name.now row.now counters.now changes.now next.now cuts.now numbers.now used txn.old txn.new pages.old pages.new result }
 {
     put_changes(alloc, txn, pages, cuts, changes, next, counters.chunk)?;
+    put_holdings(txn, pages, row.number, counters.chunk, used)?;
     put_names(txn, pages, row.number, row.revisions + 1, numbers)?;
     revise_plan(txn, pages, name, row, counters, used)
 }

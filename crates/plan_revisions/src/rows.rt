@@ -13,7 +13,7 @@ use desk_model::command::Command;
 use desk_model::cuts::Cut;
 use desk_model::geography::Geography;
 use desk_model::name::PlanName;
-use desk_room::revision_rows;
+use desk_room::{fork_rows, revision_rows};
 use shared_districts::Districts;
 
 /// The districts of a revision that is there.
@@ -67,10 +67,12 @@ pub fn command_rows(
     let Some(geography) = shown.geography() else {
         return 2;
     };
+    let _blocks = geography.blocks();
     match command {
         Command::Create { .. } | Command::Retire { .. } => 2,
         Command::Whole { plan, after, .. } | Command::Counties { plan, after, .. } => rows_between(
             geography, cuts, shown, plan, *after, then, changes,
         ),
+        Command::Fork { .. } => fork_rows(cuts.len()),
     }
 }

@@ -35,7 +35,7 @@ plans_made m g plans name is = record {
 }
 
 -- ---- what stays where the two rows are put
-rows_keep : (tag : ℕ) (m : KeyMap) (name : List ℕ) (row : PlanRow) (next : Counters) → (tag ≡ 80 → ⊥) → (tag ≡ 65 → ⊥) → SameTag tag m (put_rows m (plan_rows name row next))
+pub rows_keep : (tag : ℕ) (m : KeyMap) (name : List ℕ) (row : PlanRow) (next : Counters) → (tag ≡ 80 → ⊥) → (tag ≡ 65 → ⊥) → SameTag tag m (put_rows m (plan_rows name row next))
 rows_keep tag m name row next no_plan no_counters =
     let one = insert m (key_of (named name)) (plan_bytes row) in
     tag_follows tag m one (insert one (key_of counters) (counters_bytes next)) (put_keeps_tag m tag 80 name (plan_bytes row) no_plan) (put_keeps_tag one tag 65 [] (counters_bytes next) no_counters)

@@ -17,8 +17,9 @@ use row_table::{TreeError, next_numbers, put_row};
 use sector_device::SectorDevice;
 use store_rows::{Counters, Key, PlanRow, counters_value, plan_value};
 
-/// Puts a plan's row and the row of the numbers.
-fn put_plan<D: SectorDevice>(
+/// Puts a plan's row and the row of the numbers that come next. Nothing is read: both are for the caller to know. After an error the
+/// transaction can only be abandoned; each comes as from `put_row`.
+pub fn put_plan<D: SectorDevice>(
     txn: &mut Txn,
     pages: &mut Pages<D>,
     name: &PlanName,

@@ -7,5 +7,5 @@ pub mod laws;
 mod reads;
 
 pub use change::ChangeOutcome;
-pub use changes::{create_plan, retire_plan, revise_plan};
+pub use changes::{create_plan, put_plan, retire_plan, revise_plan};
 pub use reads::find_plan;

@@ -6,6 +6,7 @@ mod checks;
 mod explaining;
 mod faults;
 mod files;
+mod migrating;
 mod run;
 mod serving;
 mod stores;

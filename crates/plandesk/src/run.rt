@@ -2,6 +2,7 @@
 use crate::checks::{check_counts, check_plan};
 use crate::explaining::explain_code;
 use crate::faults::explain_line;
+use crate::migrating::migrate_desk;
 use crate::serving::serve_desk;
 use crate::stores::{format_store, load_state};
 use crate::sweeping::sweep_desk;
@@ -62,6 +63,7 @@ pub fn run<T: Threads + Wait + Clock + Copy + Send + Sync + 'static>(
         Ok(Job::Load(name, paths, neighbours)) => load_state(rt, name, paths, neighbours),
         Ok(Job::Serve(name, serving, log)) => serve_desk(rt, threads, name, serving, log),
         Ok(Job::Sweep(name)) => sweep_desk(rt, name),
+        Ok(Job::Migrate(name)) => migrate_desk(rt, name),
         Ok(Job::Explain(code)) => explain_code(rt, code),
         Err(mistake) => end_mistake(rt, &mistake),
     }

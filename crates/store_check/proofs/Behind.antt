@@ -23,14 +23,14 @@ use Rattle.store_rows.specs.Keys.{RowKey, key_of, Fits, counters, retired, begun
 use Rattle.store_rows.specs.Values.{seal_bytes, block_bytes}
 use Rattle.store_rows.specs.declared.value.Counters.{Counters}
 use Rattle.store_rows.specs.declared.value.SealRow.{SealRow}
-use Rattle.store_rows.specs.Rows.{KeyMap, Has, Lacks, element_row}
+use Rattle.store_rows.specs.Rows.{KeyMap, Has, element_row}
 use Rattle.store_rows.specs.GeographyRows.{IsGeography, IsSealed, geography_rows, neighbours_bytes}
 use Rattle.store_rows.specs.DeskRows.{IsDesk}
 use Rattle.store_rows.specs.Tidy.{AreOwned, AreRows, IsLoad, Tidy}
 use Rattle.store_rows.proofs.Numbers.{numbers_decide}
 use Rattle.store_rows.proofs.OneGeography.{no_value, seal_load, value_is}
 use Rattle.row_table.specs.Reading.{StandsAs}
-use Rattle.store_check.specs.Rows.{AreOfLoadsTo, AreSealCounted, AreUnversioned, GoesOn, HasChunksBelow, IsFrom, IsNextLoad, IsOfLoad, IsPast, IsSealCounted, IsUnder, NoneFrom, behind_load}
+use Rattle.store_check.specs.Rows.{AreOfLoadsTo, AreSealCounted, GoesOn, HasChunksBelow, IsFrom, IsNextLoad, IsOfLoad, IsPast, IsSealCounted, IsUnder, NoneFrom, behind_load}
 use Rattle.store_rows.proofs.TidyFree.{one_next}
 use Rattle.store_check.specs.Numbers.{IsDue}
 use Rattle.store_check.proofs.FirstRows.{above_more, clash, first_is_from, first_least, first_there, from_trans, less_from, lower_tag}
@@ -75,14 +75,14 @@ from_tag tag other rest few = elim (cases_lt tag other) [
     nothing_above [] = refl
     nothing_above (x ∷ xs) = refl
 
-pub past_from : (key : List ℕ) → IsPast key → IsFrom (84 ∷ []) key
-past_from key past = subst (λ (k : List ℕ). IsFrom (84 ∷ []) k) (sym past.is) (let over = past.past in from_tag 84 past.tag past.rest (omega arith))
+pub past_from : (key : List ℕ) → IsPast key → IsFrom (87 ∷ []) key
+past_from key past = subst (λ (k : List ℕ). IsFrom (87 ∷ []) k) (sym past.is) (let over = past.past in from_tag 87 past.tag past.rest (omega arith))
 
 pub past_more : (key other : List ℕ) → IsPast key → IsFrom key other → IsPast other
 past_more key [] past from =
     let gone : IsFrom (past.tag ∷ past.rest) [] = subst (λ (k : List ℕ). IsFrom k []) past.is from in
     absurd (clash true refl gone)
-past_more key (tag ∷ rest) past from = elim (cases_lt 83 tag) [
+past_more key (tag ∷ rest) past from = elim (cases_lt 86 tag) [
   | inl above ↦ record { tag = tag; rest = rest; is = refl; past = above }
   | inr few ↦ absurd (let over = past.past in lower_tag tag past.tag past.rest rest (omega arith) (subst (λ (k : List ℕ). IsFrom k (tag ∷ rest)) past.is from))
 ]
@@ -227,7 +227,7 @@ kept_load m owned rows e load there under =
     load_of m owned load under.kind under.rest under.fits row e.1 fits (ap (get m) (sym is) ∙ there) (sym under.is ∙ is)
 
 -- fewer rows come from a later key on
-fewer : (a b : List ℕ) (es : List Entry) → IsFrom a b → entries_from b (entries_from a es) ≡ entries_from b es
+pub fewer : (a b : List ℕ) (es : List Entry) → IsFrom a b → entries_from b (entries_from a es) ≡ entries_from b es
 fewer a b [] later = refl
 fewer a b (e ∷ es) later = by (is_gt (key_cmp a e.0)) refl (fewer a b es later)
   where
@@ -284,36 +284,36 @@ ends_there m from after none before key value there past short = either_way (is_
     (λ above. before key value there past (λ from_key. clash (is_gt (key_cmp from key)) above from_key))
     (λ from_key. absurd (short (none key value there from_key)))
 
-pub begins : (m : KeyMap) → AreOfLoadsTo (84 ∷ []) m
+pub begins : (m : KeyMap) → AreOfLoadsTo (87 ∷ []) m
 begins m key value there past below = absurd (below (past_from key past))
 
--- ---- the first key behind the seal's
-low_past : (tag : ℕ) (rest : List ℕ) → tag ≤ 83 → IsPast (tag ∷ rest) → ⊥
+-- ---- the first key behind the version's
+low_past : (tag : ℕ) (rest : List ℕ) → tag ≤ 86 → IsPast (tag ∷ rest) → ⊥
 low_past tag rest few past =
     let same : tag ≡ past.tag = ap (λ (l : List ℕ). get_or l 0 0) past.is in
     let over = past.past in
     omega arith
 
-past_row : (m : KeyMap) (row : RowKey) (value : List ℕ) → Lacks m version → Has m row value → IsPast (key_of row) → (IsFrom chunks_prefix (key_of row) → ⊥) → ((load place : ℕ) → (key_of row ≡ key_of (block load place)) ⊎ (key_of row ≡ key_of (pair load place)) → ⊥) → ⊥
-past_row m counters value lacks has past other load = low_past 65 _ (omega arith) past
-past_row m (retired plan) value lacks has past other load = low_past 68 _ (omega arith) past
-past_row m (begun number) value lacks has past other load = low_past 76 _ (omega arith) past
-past_row m (holding plan number) value lacks has past other load = low_past 72 _ (omega arith) past
-past_row m (tally number) value lacks has past other load = low_past 75 _ (omega arith) past
-past_row m (named name) value lacks has past other load = low_past 80 _ (omega arith) past
-past_row m (part plan revision index) value lacks has past other load = low_past 82 _ (omega arith) past
-past_row m seal value lacks has past other load = low_past 83 _ (omega arith) past
-past_row m version value lacks has past other load = no_value value (sym has ∙ lacks)
-past_row m (block number place) value lacks has past other load = load number place (inl refl)
-past_row m (pair number place) value lacks has past other load = load number place (inr refl)
-past_row m (chunk number piece) value lacks has past other load = other (from_tag 107 107 (drop 1 (key_of (chunk number piece))) (omega arith))
+past_row : (row : RowKey) → IsPast (key_of row) → (IsFrom chunks_prefix (key_of row) → ⊥) → ((load place : ℕ) → (key_of row ≡ key_of (block load place)) ⊎ (key_of row ≡ key_of (pair load place)) → ⊥) → ⊥
+past_row counters past other load = low_past 65 _ (omega arith) past
+past_row (retired plan) past other load = low_past 68 _ (omega arith) past
+past_row (begun number) past other load = low_past 76 _ (omega arith) past
+past_row (holding plan number) past other load = low_past 72 _ (omega arith) past
+past_row (tally number) past other load = low_past 75 _ (omega arith) past
+past_row (named name) past other load = low_past 80 _ (omega arith) past
+past_row (part plan revision index) past other load = low_past 82 _ (omega arith) past
+past_row seal past other load = low_past 83 _ (omega arith) past
+past_row version past other load = low_past 86 [] (omega arith) past
+past_row (block number place) past other load = load number place (inl refl)
+past_row (pair number place) past other load = load number place (inr refl)
+past_row (chunk number piece) past other load = other (from_tag 107 107 (drop 1 (key_of (chunk number piece))) (omega arith))
 
-pub no_load : (m : KeyMap) (from : List ℕ) (e : Entry) (more : List Entry) → entries_from from (entries m) ≡ e ∷ more → IsPast from → AreUnversioned m → (IsFrom chunks_prefix e.0 → ⊥) → ((load place : ℕ) → (e.0 ≡ key_of (block load place)) ⊎ (e.0 ≡ key_of (pair load place)) → ⊥) → ⊥
+pub no_load : (m : KeyMap) (from : List ℕ) (e : Entry) (more : List Entry) → entries_from from (entries m) ≡ e ∷ more → IsPast from → AreRows m → (IsFrom chunks_prefix e.0 → ⊥) → ((load place : ℕ) → (e.0 ≡ key_of (block load place)) ⊎ (e.0 ≡ key_of (pair load place)) → ⊥) → ⊥
 no_load m from e more first past kept other load =
     let here = first_there m from e more first in
-    let (row, fits, is) = kept.rows e.0 e.1 here in
+    let (row, fits, is) = kept e.0 e.1 here in
     let there : IsPast (key_of row) = subst IsPast is (past_more from e.0 past (first_is_from m from e more first)) in
-    past_row m row e.1 kept.none (ap (get m) (sym is) ∙ here) there (λ at. other (subst (λ (k : List ℕ). IsFrom chunks_prefix k) (sym is) at))
+    past_row row there (λ at. other (subst (λ (k : List ℕ). IsFrom chunks_prefix k) (sym is) at))
     (λ number place of. load number place (subst (λ (k : List ℕ). (k ≡ key_of (block number place)) ⊎ (k ≡ key_of (pair number place))) (sym is) of))
 
 pub behind_past : (load : ℕ) → IsPast (behind_load load)
@@ -359,8 +359,8 @@ pub none_moved : (m : KeyMap) (k l p q : List ℕ) → k ≡ l → p ≡ q → N
 none_moved m k l p q keys prefixes none = subst (λ (x : List ℕ). NoneFrom l x m) prefixes (subst (λ (x : List ℕ). NoneFrom x p m) keys none)
 
 -- ---- where a check of loads begins
-pub begin_past : IsPast (84 ∷ [])
-begin_past = record { tag = 84; rest = []; is = refl; past = omega arith }
+pub begin_past : IsPast (87 ∷ [])
+begin_past = record { tag = 87; rest = []; is = refl; past = omega arith }
 
 pub all_left : (from : List ℕ) (es : List Entry) → length (entries_from from es) + 0 ≤ length es
 all_left from es = let few = few_from from es in omega arith

@@ -1,5 +1,5 @@
 -- Rows as commands keep them have numbers below those that come next, and where all rows have, no number in use comes next.
-use Rattle.std.proofs.Common.{◌≡◌, ◌<◌, ◌^◌, ℕ, zero, suc, false, List, [], All, Option, Some, None, Ok, Err, Result, OnOk, IfErr, inl, inr, refl, sym, ap, subst, ◌∙◌, w64, arith}
+use Rattle.std.proofs.Common.{◌≡◌, ◌<◌, ◌+◌, ◌^◌, ℕ, zero, suc, Bool, true, false, List, [], All, Option, Some, None, Ok, Err, Result, OnOk, IfErr, inl, inr, refl, sym, ap, subst, ◌∙◌, w64, arith}
 use Rattle.std.specs.Int.{from_be_bytes}
 use Rattle.std.specs.FinMap.{get}
 use Rattle.std.proofs.lemmas.Nat.{from_be_bytes-to_be_bytes_8}
@@ -16,7 +16,7 @@ use Rattle.page_btree.specs.declared.error.TreeError.TheVariants.{DeviceFault, H
 use Rattle.row_table.specs.Reading.{ReadErr, StandsAs}
 use Rattle.desk_model.specs.Geography.{Ground}
 use Rattle.desk_model.specs.Desk.{Desk, Plan}
-use Rattle.store_rows.specs.Keys.{RowKey, key_of, Fits, counters, retired, begun, holding, tally, named, part, seal, version, block, pair, chunk}
+use Rattle.store_rows.specs.Keys.{RowKey, key_of, Fits, counters, retired, begun, holding, tally, named, part, seal, version, block, pair, chunk, in_four, in_eight}
 use Rattle.store_rows.specs.Values.{plan_bytes, seal_bytes}
 use Rattle.store_rows.specs.Lists.{AreChunks, chunks_bytes}
 use Rattle.store_rows.proofs.ListLaws.{chunks_differ}
@@ -30,8 +30,8 @@ use Rattle.store_rows.specs.Changes.{plan_row_of}
 use Rattle.store_rows.specs.Tidy.{IsNext, CountersFit, IsNumbered, IsNamedBy, IsKnown, Tidy, version_row}
 use Rattle.store_rows.proofs.OneGeography.{value_is, no_value}
 use Rattle.store_rows.proofs.TidyFree.{one_next}
-use Rattle.store_check.specs.Numbers.{IsBelow, AllBelow, NumbersFit, IsKept, IsDue, HasNumbersBelow}
-use Rattle.store_check.specs.Rows.{AreBehindSeal, AreRowsToSeal}
+use Rattle.store_check.specs.Numbers.{IsBelow, IsCount, AllBelow, NumbersFit, IsKept, IsDue, HasNumbersBelow}
+use Rattle.store_check.specs.Rows.{AreBehindSeal, AreRowsToVersion}
 
 fit_numbers : (of : RowKey) → Fits of → NumbersFit of
 fit_numbers counters fits = tt
@@ -77,33 +77,48 @@ module _ (m : KeyMap) (tidy : Tidy m) where
   seal_below None value is has = absurd (no_value value (sym has ∙ is))
   seal_below (Some g) value (load, is) has = (_, value_is _ value (sym is.named ∙ has), tidy.below.sealed_load _ is.load_fits is.named)
 
-  no_tally : tidy.new ≡ false → (number : ℕ) (value : List ℕ) → number < 2 ^ 64 → Has m (tally number) value → ⊥
-  no_tally old number value fits has =
+  named_plan_below : (plan number : ℕ) → IsNamedBy m plan number → plan < tidy.next.plan
+  named_plan_below plan number is =
+      known_below plan is.part_fits.0 (tidy.owned.parts plan is.revision is.index (chunks_bytes is.numbers) is.part_fits is.row)
+
+  holding_below : (plan number : ℕ) (value : List ℕ) → Fits (holding plan number) → Has m (holding plan number) value → IsBelow tidy.next (holding plan number) value
+  holding_below plan number value fits has =
+      let (empty, is_named) = tidy.holdings.held plan number value fits has in
+      (named_plan_below plan number is_named, tidy.below.named_chunks plan number is_named, empty)
+
+  tally_below : (number : ℕ) (value : List ℕ) → number < 2 ^ 64 → Has m (tally number) value → IsBelow tidy.next (tally number) value
+  tally_below number value fits has =
       let is = tidy.holdings.tallied number fits in
-      by is.count is.row is.holders
+      by is.count is.fits is.row is.holders
     where
-      by : (count : ℕ) → row_in m (tally number) ≡ tally_row count → AreHolders m number count → ⊥
-      by zero row holders = no_value value (sym has ∙ row)
-      by (suc more) row holders =
+      by : (count : ℕ) → count < 2 ^ 64 → row_in m (tally number) ≡ tally_row count → AreHolders m number count → (number < tidy.next.chunk) × IsCount value
+      by zero few row holders = absurd (no_value value (sym has ∙ row))
+      by (suc more) few row holders =
           let (small, held) = holders.each 0 (omega arith) in
-          no_value [] (sym held ∙ (tidy.owners old).unheld (holders.plan_at 0) number (small, fits))
+          let (empty, is_named) = tidy.holdings.held (holders.plan_at 0) number [] (small, fits) held in
+          let same : value ≡ in_eight (more + 1) = value_is value (in_eight (more + 1)) (sym has ∙ row) in
+          (tidy.below.named_chunks (holders.plan_at 0) number is_named, (more + 1, omega arith, omega (arith, few), same))
 
-  pub no_version : tidy.new ≡ false → row_in m version ≡ None
-  no_version old = tidy.holdings.told ∙ ap version_row old
+  version_below : (value : List ℕ) → Has m version value → value ≡ in_four 2
+  version_below value has = by tidy.new tidy.holdings.told
+    where
+      by : (new : Bool) → row_in m version ≡ version_row new → value ≡ in_four 2
+      by true told = value_is value (in_four 2) (sym has ∙ told)
+      by false told = absurd (no_value value (sym has ∙ told))
 
-  pub kept_below : tidy.new ≡ false → (desk : Desk) → IsDesk m desk → (of : RowKey) (value : List ℕ) → Fits of → Has m of value → IsBelow tidy.next of value
-  kept_below old desk is counters value fits has = tt
-  kept_below old desk is (retired plan) value fits has = tidy.below.retired_plans plan value fits has
-  kept_below old desk is (begun load) value fits has = tidy.below.begun_loads load value fits has
-  kept_below old desk is (holding plan number) value fits has = no_value value (sym has ∙ (tidy.owners old).unheld plan number fits)
-  kept_below old desk is (tally number) value fits has = no_tally old number value fits has
-  kept_below old desk is (named name) value fits has = plan_below desk.geography name value (get desk.plans name) (is.plans name) has
-  kept_below old desk is (part plan revision index) value fits has = part_below plan revision index value fits has
-  kept_below old desk is seal value fits has = seal_below desk.geography value is.geography has
-  kept_below old desk is version value fits has = tt
-  kept_below old desk is (block load place) value fits has = tt
-  kept_below old desk is (pair load place) value fits has = tt
-  kept_below old desk is (chunk number piece) value fits has = tt
+  pub kept_below : (desk : Desk) → IsDesk m desk → (of : RowKey) (value : List ℕ) → Fits of → Has m of value → IsBelow tidy.next of value
+  kept_below desk is counters value fits has = tt
+  kept_below desk is (retired plan) value fits has = tidy.below.retired_plans plan value fits has
+  kept_below desk is (begun load) value fits has = tidy.below.begun_loads load value fits has
+  kept_below desk is (holding plan number) value fits has = holding_below plan number value fits has
+  kept_below desk is (tally number) value fits has = tally_below number value fits has
+  kept_below desk is (named name) value fits has = plan_below desk.geography name value (get desk.plans name) (is.plans name) has
+  kept_below desk is (part plan revision index) value fits has = part_below plan revision index value fits has
+  kept_below desk is seal value fits has = seal_below desk.geography value is.geography has
+  kept_below desk is version value fits has = version_below value has
+  kept_below desk is (block load place) value fits has = tt
+  kept_below desk is (pair load place) value fits has = tt
+  kept_below desk is (chunk number piece) value fits has = tt
 
 -- a row that isn't is no row of such a map
 pub no_due : (next : Counters) (m : KeyMap) (key value : List ℕ) → IsDue next m → get m key ≡ Some value → ((of : RowKey) → Fits of → NumbersFit of → key ≡ key_of of → IsBelow next of value → ⊥) → ⊥
@@ -112,7 +127,7 @@ no_due next m key value due there above =
     let (of, fits, is) = tidy.rows key value there in
     let same = one_next m tidy.next next tidy.fits due.fits tidy.is_next due.is_next in
     let has : Has m of value = ap (get m) (sym is) ∙ there in
-    above of fits (fit_numbers of fits) is (subst (λ (n : Counters). IsBelow n of value) same (kept_below m tidy due.kept.old due.kept.desk due.kept.is of value fits has))
+    above of fits (fit_numbers of fits) is (subst (λ (n : Counters). IsBelow n of value) same (kept_below m tidy due.kept.desk due.kept.is of value fits has))
 
 -- ---- what is below
 module _ (next : Counters) (m : KeyMap) (fits : CountersFit next) (all : AllBelow next m) where
@@ -137,7 +152,7 @@ module _ (next : Counters) (m : KeyMap) (fits : CountersFit next) (all : AllBelo
       let same = chunks_differ numbers is.numbers chunks is.chunks bytes in
       All-contains (λ n. n < next.chunk) is.numbers number (subst (λ (l : List ℕ). All (λ n. n < next.chunk) l) same each) is.among
 
-  pub are_below : IsNext m next → AreRowsToSeal m → AreBehindSeal next.chunk m → HasNumbersBelow m
+  pub are_below : IsNext m next → AreRowsToVersion m → AreBehindSeal next.chunk m → HasNumbersBelow m
   are_below is rows behind = record {
     next = next;
     is_next = is;
@@ -148,6 +163,11 @@ module _ (next : Counters) (m : KeyMap) (fits : CountersFit next) (all : AllBelo
       named_chunks = named_below;
       begun_loads = λ load value small has. all (begun load) value small has;
       sealed_load = sealed_below;
+    };
+    told = record {
+      holdings = λ plan number value small has. all (holding plan number) value small has;
+      tallies = λ number value small has. all (tally number) value small has;
+      version = λ value has. all version value tt has;
     };
     rows = rows;
     behind = behind;

@@ -1,6 +1,6 @@
 -- Keys of rows by their bytes.
 use Rattle.std.proofs.Common.{◌≡◌, ◌<◌, ◌≤◌, ◌^◌, ◌%◌, ℕ, List, [], ◌∷◌, ◌++◌, length, drop, get_or, sym, ap, ◌∙◌, arith}
-use Rattle.store_rows.specs.Keys.{Fits, counters, retired, begun, holding, tally, named, part, seal, in_four, in_eight}
+use Rattle.store_rows.specs.Keys.{Fits, counters, retired, begun, holding, tally, named, part, seal, version, in_four, in_eight}
 use Rattle.store_check.specs.Rows.{IsRow}
 
 pub counters_row : (key : List ℕ) → length key ≡ 1 → get_or key 0 0 ≡ 65 → IsRow key
@@ -12,6 +12,11 @@ pub seal_row : (key : List ℕ) → length key ≡ 1 → get_or key 0 0 ≡ 83 �
 seal_row [] long is = absurd (omega arith)
 seal_row (x ∷ []) long is = record { row = seal; fits = tt; is = ap (λ (y : ℕ). y ∷ []) is }
 seal_row (x ∷ y ∷ xs) long is = absurd (omega arith)
+
+pub version_row : (key : List ℕ) → length key ≡ 1 → get_or key 0 0 ≡ 86 → IsRow key
+version_row [] long is = absurd (omega arith)
+version_row (x ∷ []) long is = record { row = version; fits = tt; is = ap (λ (y : ℕ). y ∷ []) is }
+version_row (x ∷ y ∷ xs) long is = absurd (omega arith)
 
 pub named_row : (key : List ℕ) → length key ≤ 72 → get_or key 0 0 ≡ 80 → IsRow key
 named_row [] few is = absurd (omega (arith, is))

@@ -1,5 +1,5 @@
-mod Scanned
+pub mod Scanned
 pub mod Kept
-mod FirstRows
+pub mod FirstRows
 mod KeyBytes
-mod Behind
+pub mod Behind

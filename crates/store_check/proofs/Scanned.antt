@@ -107,7 +107,7 @@ all_below next m taken whole all of value fits has = below_found next of value t
 less_tag : (tag other : ℕ) (rest more : List ℕ) → tag < other → key_cmp (tag ∷ rest) (other ∷ more) ≡ Less
 less_tag tag other rest more less = ap (λ (r : _). ordering_then r (slice_cmp nat_cmp rest more)) (sym (nat_cmp_is tag other Less less))
 
-before_past : (key : List ℕ) (tag : ℕ) (rest : List ℕ) → tag ≤ 83 → IsPast key → key_cmp (tag ∷ rest) key ≡ Less
+before_past : (key : List ℕ) (tag : ℕ) (rest : List ℕ) → tag ≤ 86 → IsPast key → key_cmp (tag ∷ rest) key ≡ Less
 before_past key tag rest few past = subst (λ (k : List ℕ). key_cmp (tag ∷ rest) k ≡ Less) (sym past.is) (let over = past.past in less_tag tag past.tag rest past.rest (omega arith))
 
 module _ (next : Counters) (m : KeyMap) (taken : List Entry) (e : Entry) (more : List Entry) (whole : under [] (entries m) ≡ taken ++ e ∷ more) (all : AreEntriesBelow next taken) (past : IsPast e.0) where
@@ -124,7 +124,7 @@ module _ (next : Counters) (m : KeyMap) (taken : List Entry) (e : Entry) (more :
   past_below (named name) value fits has = found_so (named name) value fits (before_past e.0 80 (drop 1 (key_of (named name))) (omega arith) past) has
   past_below (part plan revision index) value fits has = found_so (part plan revision index) value fits (before_past e.0 82 (drop 1 (key_of (part plan revision index))) (omega arith) past) has
   past_below seal value fits has = found_so seal value fits (before_past e.0 83 (drop 1 (key_of seal)) (omega arith) past) has
-  past_below version value fits has = tt
+  past_below version value fits has = found_so version value fits (before_past e.0 86 (drop 1 (key_of version)) (omega arith) past) has
   past_below (block load place) value fits has = tt
   past_below (pair load place) value fits has = tt
   past_below (chunk number piece) value fits has = tt
@@ -152,7 +152,7 @@ all_sound next m taken whole below rows = record {
 
 before_key : (key other : List ℕ) → IsPast other → (IsPast key → ⊥) → key_cmp key other ≡ Less
 before_key [] other past before = subst (λ (k : List ℕ). key_cmp [] k ≡ Less) (sym past.is) refl
-before_key (tag ∷ rest) other past before = elim (cases_lt 83 tag) [
+before_key (tag ∷ rest) other past before = elim (cases_lt 86 tag) [
   | inl above ↦ absurd (before (record { tag = tag; rest = rest; is = refl; past = above }))
   | inr few ↦ before_past other tag rest few past
 ]

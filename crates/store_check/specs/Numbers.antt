@@ -1,7 +1,7 @@
 -- Numbers in use, and those that come next.
-use Rattle.std.specs.Prelude.{◌≡◌, ◌<◌, ◌^◌, ℕ, List, All, false}
+use Rattle.std.specs.Prelude.{◌≡◌, ◌<◌, ◌^◌, ℕ, List, [], All}
 use Rattle.desk_model.specs.Desk.{Desk}
-use Rattle.store_rows.specs.Keys.{RowKey, Fits, counters, retired, begun, holding, tally, named, part, seal, version, block, pair, chunk}
+use Rattle.store_rows.specs.Keys.{RowKey, Fits, counters, retired, begun, holding, tally, named, part, seal, version, block, pair, chunk, in_four, in_eight}
 use Rattle.store_rows.specs.Values.{plan_bytes, seal_bytes}
 use Rattle.store_rows.specs.Lists.{AreChunks, chunks_bytes}
 use Rattle.store_rows.specs.declared.value.Counters.{Counters}
@@ -10,19 +10,24 @@ use Rattle.store_rows.specs.declared.value.SealRow.{SealRow}
 use Rattle.store_rows.specs.Rows.{KeyMap, Has}
 use Rattle.store_rows.specs.DeskRows.{IsDesk}
 use Rattle.store_rows.specs.Tidy.{IsNext, CountersFit, AreBelow, Tidy}
-use Rattle.store_check.specs.Rows.{AreBehindSeal, AreRowsToSeal}
+use Rattle.store_check.specs.Rows.{AreBehindSeal, AreRowsToVersion}
 
--- The numbers of a plan, of chunks and of a load that a row has are below those that come next. No row tells which plans hold a chunk.
+-- how many plans hold a chunk, 1 or more
+abbrev pub IsCount : List ℕ → Type 0
+IsCount value = (count : ℕ) × (0 < count) × (count < 2 ^ 64) × (value ≡ in_eight count)
+
+-- The numbers of a plan, of chunks and of a load that a row has are below those that come next. A holding says nothing else, and a
+-- version is the second.
 abbrev pub IsBelow : Counters → RowKey → List ℕ → Type 0
 IsBelow next counters value = Unit {0}
 IsBelow next (retired plan) value = plan < next.plan
 IsBelow next (begun load) value = load < next.load
-IsBelow next (holding plan number) value = ⊥
-IsBelow next (tally number) value = ⊥
+IsBelow next (holding plan number) value = (plan < next.plan) × (number < next.chunk) × (value ≡ [])
+IsBelow next (tally number) value = (number < next.chunk) × IsCount value
 IsBelow next (named name) value = (p : PlanRow) × (plan_bytes p ≡ value) × (p.number < next.plan)
 IsBelow next (part plan revision index) value = (plan < next.plan) × ((numbers : List ℕ) × AreChunks numbers × (chunks_bytes numbers ≡ value) × All (λ n. n < next.chunk) numbers)
 IsBelow next seal value = (s : SealRow) × (seal_bytes s ≡ value) × (s.load < next.load)
-IsBelow next version value = Unit {0}
+IsBelow next version value = value ≡ in_four 2
 IsBelow next (block load place) value = Unit {0}
 IsBelow next (pair load place) value = Unit {0}
 IsBelow next (chunk number piece) value = Unit {0}
@@ -45,17 +50,16 @@ NumbersFit (chunk number piece) = Unit {0}
 abbrev pub AllBelow : Counters → KeyMap → Type 0
 AllBelow next m = (of : RowKey) (value : List ℕ) → NumbersFit of → Has m of value → IsBelow next of value
 
--- of the rows up to the seal each key is one of a row, and the numbers in them are below those that come next
+-- of the rows up to that of the version each key is one of a row, and the numbers in them are below those that come next
 pub record AreSoundRows (next : Counters) (m : KeyMap) : Type 0 where
   pub below : AllBelow next m
-  pub rows : AreRowsToSeal m
+  pub rows : AreRowsToVersion m
 
--- the rows are those of a desk, as commands keep them
+-- the rows are those of a desk, as commands keep them, in either version
 pub record IsKept (m : KeyMap) : Type 0 where
   pub desk : Desk
   pub is : IsDesk m desk
   pub tidy : Tidy m
-  pub old : tidy.new ≡ false
 
 -- and these numbers come next
 pub record IsDue (next : Counters) (m : KeyMap) : Type 0 where
@@ -63,12 +67,19 @@ pub record IsDue (next : Counters) (m : KeyMap) : Type 0 where
   pub is_next : IsNext m next
   pub fits : CountersFit next
 
--- The numbers that are in use are below those that come next. Up to the seal each key is one of a row, and behind it stand rows of
+-- the same of rows that tell which plans hold a chunk, and how many do; and the version is the second, if there is one
+pub record AreToldBelow (m : KeyMap) (next : Counters) : Type 0 where
+  pub holdings : (plan number : ℕ) (value : List ℕ) → Fits (holding plan number) → Has m (holding plan number) value → IsBelow next (holding plan number) value
+  pub tallies : (number : ℕ) (value : List ℕ) → Fits (tally number) → Has m (tally number) value → IsBelow next (tally number) value
+  pub version : (value : List ℕ) → Has m version value → IsBelow next version value
+
+-- The numbers that are in use are below those that come next. Up to the version each key is one of a row, and behind it stand rows of
 -- loads that are known, and of chunks with such numbers, alone.
 pub record HasNumbersBelow (m : KeyMap) : Type 0 where
   pub next : Counters
   pub is_next : IsNext m next
   pub fits : CountersFit next
   pub below : AreBelow m next
-  pub rows : AreRowsToSeal m
+  pub told : AreToldBelow m next
+  pub rows : AreRowsToVersion m
   pub behind : AreBehindSeal next.chunk m

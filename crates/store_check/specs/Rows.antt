@@ -6,19 +6,19 @@ use Rattle.std.specs.FinMap.{entries, get}
 use Rattle.page_node.specs.Entries.{Entry}
 use Rattle.page_node.specs.Places.{key_cmp, entries_from}
 use Rattle.btree_scan.specs.declared.rows.Row.{Row}
-use Rattle.store_rows.specs.Keys.{RowKey, key_of, Fits, seal, version, block, pair, load_prefix, blocks_prefix, pairs_prefix, chunks_prefix, chunk_prefix}
+use Rattle.store_rows.specs.Keys.{RowKey, key_of, Fits, seal, block, pair, load_prefix, blocks_prefix, pairs_prefix, chunks_prefix, chunk_prefix}
 use Rattle.store_rows.specs.Values.{seal_bytes}
 use Rattle.store_rows.specs.declared.value.SealRow.{SealRow}
-use Rattle.store_rows.specs.Rows.{KeyMap, Has, Lacks}
+use Rattle.store_rows.specs.Rows.{KeyMap, Has}
 use Rattle.store_rows.specs.Tidy.{AreOwned, AreRows, IsLoad}
 use Rattle.row_table.specs.Reading.{StandsAs}
 
--- a key behind that of the seal: the rows of geographies and of chunks' pieces alone stand there
+-- a key behind those of the seal and of the version: the rows of geographies and of chunks' pieces alone stand there
 pub record IsPast (key : List ℕ) : Type 0 where
   pub tag : ℕ
   pub rest : List ℕ
   pub is : key ≡ tag ∷ rest
-  pub past : 83 < tag
+  pub past : 86 < tag
 
 -- the key is that of a row
 pub record IsRow (key : List ℕ) : Type 0 where
@@ -26,14 +26,9 @@ pub record IsRow (key : List ℕ) : Type 0 where
   pub fits : Fits row
   pub is : key ≡ key_of row
 
--- each key up to that of the seal is that of a row
-abbrev pub AreRowsToSeal : KeyMap → Type 0
-AreRowsToSeal m = (key value : List ℕ) → get m key ≡ Some value → (IsPast key → ⊥) → IsRow key
-
--- each key is that of a row, and no row tells a version
-pub record AreUnversioned (m : KeyMap) : Type 0 where
-  pub rows : AreRows m
-  pub none : Lacks m version
+-- each key up to that of the version is that of a row
+abbrev pub AreRowsToVersion : KeyMap → Type 0
+AreRowsToVersion m = (key value : List ℕ) → get m key ≡ Some value → (IsPast key → ⊥) → IsRow key
 
 -- the row is the first one whose key isn't below this one, or there is none
 abbrev pub IsFirst : Bool → List ℕ → Row → KeyMap → Type 0
@@ -75,11 +70,11 @@ pub record IsUnder (load : ℕ) (key : List ℕ) : Type 0 where
   pub is : key ≡ load_prefix load ++ kind ∷ rest
   pub low : kind ≤ 112
 
--- each key between those of the seal and of chunks is one of such a load
+-- each key between those of the version and of chunks is one of such a load
 abbrev pub AreOfLoads : KeyMap → Type 0
 AreOfLoads m = (key value : List ℕ) → get m key ≡ Some value → IsPast key → (IsFrom chunks_prefix key → ⊥) → IsOfLoad m key
 
--- what stands behind the seal
+-- what stands behind the seal and the version
 pub record AreBehindSeal (next : ℕ) (m : KeyMap) : Type 0 where
   pub loads : AreOfLoads m
   pub counted : AreSealCounted m
@@ -95,7 +90,7 @@ IsNextLoad from m (Some load) = (e : Entry) × (more : List Entry) × (entries_f
 abbrev pub behind_load : ℕ → List ℕ
 behind_load load = load_prefix load ++ 113 ∷ []
 
--- each key behind the seal's and below this one is one of a load that is known
+-- each key behind the version's and below this one is one of a load that is known
 abbrev pub AreOfLoadsTo : List ℕ → KeyMap → Type 0
 AreOfLoadsTo from m = (key value : List ℕ) → get m key ≡ Some value → IsPast key → (IsFrom from key → ⊥) → IsOfLoad m key
 
@@ -112,7 +107,7 @@ pub record IsKnownLoad (sealed : Option SealRow) (load : ℕ) (m : KeyMap) : Typ
 
 pub record HasKnownLoads (sealed : Option SealRow) (m : KeyMap) : Type 0 where
   pub stands : StandsAs seal_bytes (key_of seal) m sealed
-  pub rows : AreUnversioned m
+  pub rows : AreRows m
   pub owned : AreOwned m
 
 pub record HasCountedSeal (sealed : Option SealRow) (m : KeyMap) : Type 0 where

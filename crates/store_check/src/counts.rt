@@ -68,7 +68,7 @@ fn check_sealed<D: SectorDevice>(
     }
 }
 
-/// Refuses rows behind the seal's that no desk has: of a load that is neither sealed nor begun, behind those that the seal counts, of a
+/// Refuses rows behind the version's that no desk has: of a load that is neither sealed nor begun, behind those that the seal counts, of a
 /// chunk with the next number or a later one, and behind these. `next` is what the row of counters says.
 pub(crate) fn check_behind<D: SectorDevice>(
     txn: &Txn,

@@ -14,7 +14,7 @@ use sector_device::SectorDevice;
 use store_rows::Key;
 
 /// Copies the first row whose key isn't below this one: whether there is one. It takes no memory. An error is `DeviceFault` or `Halted`.
-pub(crate) fn first_from<D: SectorDevice>(
+pub fn first_from<D: SectorDevice>(
     txn: &Txn,
     pages: &mut Pages<D>,
     key: &[u8],

@@ -59,8 +59,8 @@ fn is_kind(byte: u8) -> bool
     byte == b'b' || byte == b'p'
 }
 
-/// Whether a key that isn't behind the seal's is that of a row: its tag is known, and each of its numbers is whole. What tags there
-/// are stands here, and in `load_in` for the rows behind the seal.
+/// Whether a key that isn't behind the version's is that of a row: its tag is known, and each of its numbers is whole. What tags
+/// there are stands here, and in `load_in` for the rows behind the version.
 pub(crate) fn is_row(key: &[u8]) -> bool
     ensures row { result ≡ true → IsRow key.now }
     ensures none { result ≡ false → (IsPast key.now → ⊥) → IsRow key.now → ⊥ }
@@ -77,6 +77,7 @@ pub(crate) fn is_row(key: &[u8]) -> bool
         b'P' => key.len() <= 72,
         b'R' => is_part(key),
         b'S' => key.len() == 1,
+        b'V' => key.len() == 1,
         _ => false,
     }
 }

@@ -1,7 +1,7 @@
 //! Checks the numbers in the rows of a store: each plan, chunk and load in use has one below those that the row of counters gives
 //! next. A store is opened only where that holds, since a number that is given twice makes a row of one plan that of another.
-//! Beside them it checks that no row stands where a desk has none: up to the seal by a pass over the rows, and behind it by looking
-//! up the first row from a key on.
+//! Beside them it checks that no row stands where a desk has none: up to the version by a pass over the rows, and behind it by looking
+//! up the first row from a key on. The rows may be of either version.
 //!
 //! The model is `Tidy` of store_rows, of which a check finds `AreBelow` and parts of `AreRows` and `AreOwned`:
 //! `check_numbers(&txn, &mut pages)?`.
@@ -17,4 +17,5 @@ mod rows;
 mod scans;
 
 pub use checks::check_numbers;
-pub use firsts::refuse_from;
+pub use firsts::{first_from, refuse_from};
+pub use numbers::is_version;

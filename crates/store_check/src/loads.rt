@@ -6,8 +6,8 @@ ghost use Rattle.row_table.specs.Reading.{ReadErr, StandsAs};
 ghost use Rattle.store_rows.specs.Keys.{begun, key_of, seal, chunks_prefix};
 ghost use Rattle.store_rows.specs.Values.{seal_bytes};
 ghost use Rattle.store_rows.specs.Rows.{Has, KeyMap};
-ghost use Rattle.store_rows.specs.Tidy.{IsLoad};
-ghost use Rattle.store_check.specs.Rows.{AreOfLoads, AreOfLoadsTo, AreUnversioned, GoesOn, HasKnownLoads, IsFrom, IsKnownLoad, IsNextLoad, IsPast, behind_load};
+ghost use Rattle.store_rows.specs.Tidy.{AreRows, IsLoad};
+ghost use Rattle.store_check.specs.Rows.{AreOfLoads, AreOfLoadsTo, GoesOn, HasKnownLoads, IsFrom, IsKnownLoad, IsNextLoad, IsPast, behind_load};
 
 use crate::firsts::first_from;
 use crate::keys::load_in;
@@ -33,7 +33,7 @@ fn is_chunk(key: &[u8]) -> bool
     !key.is_empty() && key[0] >= b'k'
 }
 
-/// The load of the first row from a key on, which stands behind the seal's; None where only rows of chunks do, or none.
+/// The load of the first row from a key on, which stands behind the version's; None where only rows of chunks do, or none.
 fn load_from<D: SectorDevice>(
     txn: &Txn,
     pages: &mut Pages<D>,
@@ -45,7 +45,7 @@ fn load_from<D: SectorDevice>(
     ensures quiet { IsQuiet pages.old pages.new }
     ensures passed { OnOk result (Passed pages.old pages.new) }
     ensures load { (disk_in pages.new).is_honest → (m : KeyMap) → InTxn txn.now (stored pages.old) m → IfOk result (IsNextLoad key.now m) }
-    ensures err { IfErr result (λ e. ReadErr AreUnversioned txn.now pages.old pages.new e) }
+    ensures err { IfErr result (λ e. ReadErr AreRows txn.now pages.old pages.new e) }
 {
     let mut row = Row::empty();
     let found = first_from(txn, pages, key, &mut row)?;
@@ -138,7 +138,7 @@ fn pass_load<D: SectorDevice>(
     }
 }
 
-/// Refuses where a row stands behind the seal's and before those of chunks that is none of a load that is sealed, or was begun.
+/// Refuses where a row stands behind the version's and before those of chunks that is none of a load that is sealed, or was begun.
 /// `sealed` is the seal's row, if there is one.
 pub(crate) fn check_loads<D: SectorDevice>(
     txn: &Txn,
@@ -152,7 +152,7 @@ pub(crate) fn check_loads<D: SectorDevice>(
     ensures err { IfErr result (λ e. ReadErr (HasKnownLoads sealed) txn.now pages.old pages.new e) }
 {
     let mut from = SmallBytes::empty();
-    from.set(b"T");
+    from.set(b"W");
     for taken in 0..row_limit(txn) {
         let more = pass_load(txn, pages, sealed, &mut from)?;
         if !more {

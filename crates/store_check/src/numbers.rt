@@ -5,6 +5,7 @@ ghost use Rattle.store_rows.specs.declared.value.SealRow.{SealRow as SealValue};
 ghost use Rattle.store_rows.specs.Keys.{in_four, in_eight};
 ghost use Rattle.store_rows.specs.Values.{plan_bytes, seal_bytes};
 ghost use Rattle.store_rows.specs.Lists.{AreChunks, chunks_bytes};
+ghost use Rattle.store_check.specs.Numbers.{IsCount};
 
 use store_rows::{read_chunks, read_plan, read_seal};
 
@@ -37,6 +38,39 @@ pub(crate) fn is_key_below(key: &[u8], next: u64) -> bool
         return false;
     }
     eight(&key[1..9]) < next
+}
+
+/// Whether the number after a key's tag and another number is below the next one.
+pub(crate) fn is_second_below(key: &[u8], next: u64) -> bool
+    ensures below { result ≡ true → (tag first number : ℕ) → number < 2 ^ 64 → key.now ≡ tag ∷ (in_eight first ++ in_eight number) → number < next }
+    ensures above { result ≡ false → (tag first number : ℕ) → number < 2 ^ 64 → key.now ≡ tag ∷ (in_eight first ++ in_eight number) → number < next → ⊥ }
+{
+    if key.len() != 17 {
+        return false;
+    }
+    eight(&key[9..17]) < next
+}
+
+/// Whether the value of a row is a number of 8 bytes that isn't 0.
+pub(crate) fn is_count(value: &[u8]) -> bool
+    ensures some { result ≡ true → IsCount value.now }
+    ensures none { result ≡ false → IsCount value.now → ⊥ }
+{
+    if value.len() != 8 {
+        return false;
+    }
+    eight(value) > 0
+}
+
+/// Whether the value of the row of the version tells the second.
+pub fn is_version(value: &[u8]) -> bool
+    ensures second { result ≡ true → value.now ≡ in_four 2 }
+    ensures other { result ≡ false → value.now ≡ in_four 2 → ⊥ }
+{
+    if value.len() != 4 {
+        return false;
+    }
+    four(value) == 2
 }
 
 /// Whether the value of a plan's row has a number below the next one.

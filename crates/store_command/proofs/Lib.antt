@@ -1,2 +1,3 @@
+pub mod Migrated
 pub mod Swept
 pub mod Used

@@ -31,7 +31,7 @@ module _ {D : Type 0} {g : Ghosts D} where
   }
 
   pub none_taken : (x : Clerk D g) (m : KeyMap) → HasRows x m → HasTaken x m 0 x
-  none_taken x m has = record { n = m; has = has; by = record { rows = []; count_is = refl; left = tt; apart = tt; rest = refl } }
+  none_taken x m has = record { n = m; has = has; by = record { turns = []; count_is = refl; left = tt; apart = tt; rest = refl } }
 
   pub more_taken : (x y z : Clerk D g) (m : KeyMap) (rows count : ℕ) → y.loading ≡ x.loading → (one : HasTaken x m rows y) → HasSweptStep y one.n count z → HasTaken x m (rows + count) z
   more_taken x y z m rows count loading one next = record {

@@ -12,7 +12,8 @@ use Rattle.desk_store.specs.declared.clerk.Clerk.{Clerk}
 use Rattle.desk_store.specs.declared.loads.LoadError.{LoadError}
 use Rattle.desk_store.specs.Clerks.{desk_of, disk_of, sectors_of, Moves}
 use Rattle.desk_store.specs.Keeping.{IsLeft, OpensOneMore, sealed_desk}
-use Rattle.desk_store.specs.Openings.{AllDesks, OpensOneOf}
+use Rattle.desk_store.specs.Openings.{AllDesks, AllVersions, OpensOneOf}
+use Rattle.desk_store.proofs.Opened.{all_versions}
 use Rattle.desk_loading.specs.Loads.{IsLoaded, LoadRefused}
 use Rattle.desk_loading.specs.Openings.{IsOpened}
 use Rattle.desk_loading.proofs.Moves.{OneOf}
@@ -26,21 +27,21 @@ module _ {D : Type 0} {g : Ghosts D} (device : D) (x y : Clerk D g) (opened : Is
   old = g.disk device
 
   shown : AllDesks old → (disk_of x).is_honest → (c : Image) → OpensDesk (sectors_of x) (desk_of x) c → OpensOneOf old c
-  shown all honest c opens = record { desk = desk_of x; one = opened.one all honest; opens = subst (λ (n : ℕ). OpensDesk n (desk_of x) c) opened.sectors opens }
+  shown all honest c opens = record { desk = desk_of x; one = opened.one (all_versions old all) honest; opens = subst (λ (n : ℕ). OpensDesk n (desk_of x) c) opened.sectors opens }
 
   -- at any moment since the opening began
   pub used_left : (next : Desk) → Moves next x y → (disk_of y).is_honest → AllDesks old → LeavesOnly (OpensOneOr old next) old (disk_of y)
   used_left next moves honest all = leaves_more (OpensOneOr old next) old (disk_of x) (disk_of y)
       (leaves_wider (OpensOneOf old) (OpensOneOr old next) old (disk_of x) (λ c is. inl is) (opened.any_moment (moves.honest honest) all))
-      (leaves_wider (OneOf x next) (OpensOneOr old next) (disk_of x) (disk_of y) (λ c. ⊎_elim (λ was. inl (shown all (moves.honest honest) c was)) (λ now. inr (subst (λ (n : ℕ). OpensDesk n next c) opened.sectors now))) (moves.any_moment (opened.keeps all) opened.working honest))
+      (leaves_wider (OneOf x next) (OpensOneOr old next) (disk_of x) (disk_of y) (λ c. ⊎_elim (λ was. inl (shown all (moves.honest honest) c was)) (λ now. inr (subst (λ (n : ℕ). OpensDesk n next c) opened.sectors now))) (moves.any_moment (opened.keeps (all_versions old all)) opened.working honest))
 
   -- where the desk stays
   pub kept_left : Moves (desk_of x) x y → (disk_of y).is_honest → AllDesks old → LeavesOnly (OpensOneOf old) old (disk_of y)
   kept_left moves honest all = leaves_more (OpensOneOf old) old (disk_of x) (disk_of y) (opened.any_moment (moves.honest honest) all)
-      (leaves_wider (OneOf x (desk_of x)) (OpensOneOf old) (disk_of x) (disk_of y) (λ c. ⊎_elim (λ was. shown all (moves.honest honest) c was) (λ now. shown all (moves.honest honest) c now)) (moves.any_moment (opened.keeps all) opened.working honest))
+      (leaves_wider (OneOf x (desk_of x)) (OpensOneOf old) (disk_of x) (disk_of y) (λ c. ⊎_elim (λ was. shown all (moves.honest honest) c was) (λ now. shown all (moves.honest honest) c now)) (moves.any_moment (opened.keeps (all_versions old all)) opened.working honest))
 
   -- from then on, where no fault came
-  pub left_now : (next d : Desk) → Moves next x y → desk_of y ≡ d → y.halted ≡ false → (disk_of y).is_honest → AllDesks old → LeavesDesk old (disk_of y) d
+  pub left_now : (next d : Desk) → Moves next x y → desk_of y ≡ d → y.halted ≡ false → (disk_of y).is_honest → AllVersions old → LeavesDesk old (disk_of y) d
   left_now next d moves desk works honest all c leaves =
       subst (λ (e : Desk). OpensDesk old.sectors e c) desk
       (subst (λ (n : ℕ). OpensDesk n (desk_of y) c) (moves.sectors ∙ opened.sectors) (left_working y.halted (sectors_of y) (desk_of y) c works ((moves.keeps (opened.keeps all)).left honest c leaves)))

@@ -6,7 +6,7 @@ use Rattle.desk_store.specs.declared.opening.OpenError.TheVariants as opening
 use Rattle.desk_store.specs.declared.loads.LoadError.{LoadError}
 use Rattle.desk_store.specs.declared.loads.LoadError.TheVariants as load
 use Rattle.store_command.specs.declared.fault.StoreFault.{StoreFault}
-use Rattle.store_command.specs.declared.fault.StoreFault.TheVariants.{TooSmall, NotAStore, AlreadySealed, Full, DeviceFault, Memory}
+use Rattle.store_command.specs.declared.fault.StoreFault.TheVariants.{TooSmall, NotAStore, OldVersion, AlreadySealed, Full, DeviceFault, Memory}
 
 abbrev pub fault_of_format : FormatError → StoreFault
 fault_of_format format.TooSmall = TooSmall
@@ -17,6 +17,7 @@ abbrev pub fault_of_open : OpenError → StoreFault
 fault_of_open opening.NotAStore = NotAStore
 fault_of_open opening.DeviceFault = DeviceFault
 fault_of_open opening.Memory = Memory
+fault_of_open opening.OldVersion = OldVersion
 
 abbrev pub fault_of_load : LoadError → StoreFault
 fault_of_load load.AlreadySealed = AlreadySealed

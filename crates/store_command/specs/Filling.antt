@@ -12,7 +12,7 @@ use Rattle.desk_store.specs.declared.opening.OpenError.{OpenError}
 use Rattle.desk_store.specs.declared.loads.LoadError.{LoadError}
 use Rattle.desk_store.specs.Clerks.{desk_of, is_halted}
 use Rattle.desk_store.specs.Keeping.{sealed_desk}
-use Rattle.desk_store.specs.Openings.{AllDesks, OpensOneOf}
+use Rattle.desk_store.specs.Openings.{AllDesks, AllVersions, OpensOneOf}
 use Rattle.desk_loading.specs.Openings.{IsOpened, IsUnopened}
 use Rattle.desk_loading.specs.Loads.{IsLoaded, LoadRefused}
 use Rattle.store_command.specs.Faults.{fault_of_open, fault_of_load}
@@ -37,7 +37,7 @@ module _ {D : Type 0} (g : Ghosts D) where
     pub loaded : IsLoaded x area y
     pub back : left ≡ device_in y.pages
     pub any_moment : (g.disk left).is_honest → AllDesks (g.disk device) → LeavesOnly (OpensOneOr (g.disk device) (sealed_desk area)) (g.disk device) (g.disk left)
-    pub after : (g.disk left).is_honest → AllDesks (g.disk device) → LeavesDesk (g.disk device) (g.disk left) (sealed_desk area)
+    pub after : (g.disk left).is_honest → AllVersions (g.disk device) → LeavesDesk (g.disk device) (g.disk left) (sealed_desk area)
 
   -- The device was opened, and a load that was refused left the desk. Where no fault came, what a stop leaves from then on opens to it.
   pub record HasKept (device : D) (area : Ground) (e : LoadError) (left : D) : Type 0 where
@@ -48,7 +48,7 @@ module _ {D : Type 0} (g : Ghosts D) where
     pub desk : desk_of y ≡ desk_of x
     pub back : left ≡ device_in y.pages
     pub any_moment : (g.disk left).is_honest → AllDesks (g.disk device) → LeavesOnly (OpensOneOr (g.disk device) (sealed_desk area)) (g.disk device) (g.disk left)
-    pub after : (g.disk left).is_honest → AllDesks (g.disk device) → is_halted y ≡ false → LeavesDesk (g.disk device) (g.disk left) (desk_of x)
+    pub after : (g.disk left).is_honest → AllVersions (g.disk device) → is_halted y ≡ false → LeavesDesk (g.disk device) (g.disk left) (desk_of x)
 
   -- the device isn't opened, and is left so
   pub record IsNotOpened (device : D) (fault : StoreFault) (left : D) : Type 0 where

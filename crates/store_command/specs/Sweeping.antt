@@ -11,7 +11,7 @@ use Rattle.store_sweep.specs.declared.error.SweepError.{SweepError}
 use Rattle.store_sweep.specs.declared.error.SweepError.TheVariants as sweep
 use Rattle.desk_store.specs.declared.clerk.Clerk.{Clerk}
 use Rattle.desk_store.specs.Clerks.{desk_of, disk_of, is_halted, Moves}
-use Rattle.desk_store.specs.Openings.{AllDesks, OpensOneOf}
+use Rattle.desk_store.specs.Openings.{AllDesks, AllVersions, OpensOneOf}
 use Rattle.desk_store.specs.Sweeps.{HasRows, IsClean, SweepRefused}
 use Rattle.desk_loading.specs.Openings.{IsOpened}
 use Rattle.command_output.specs.Writing.{Written, write_fault_line}
@@ -20,7 +20,7 @@ use Rattle.store_command.specs.Telling.{EndsStore}
 use Rattle.store_command.specs.declared.fault.StoreFault.{StoreFault}
 use Rattle.store_command.specs.declared.fault.StoreFault.TheVariants.{DeviceFault, Memory}
 
--- what is printed of so many rows that were taken out
+-- what is printed of so many rows that were taken out or changed
 abbrev pub swept_text : ℕ → List ℕ
 swept_text rows = codes "swept " ++ decimal rows ++ codes " rows\n"
 
@@ -36,18 +36,18 @@ module _ {D : Type 0} {g : Ghosts D} where
     pub desk : desk_of y ≡ desk_of x
     pub loading : y.loading ≡ x.loading
 
-  -- so many of these rows were left over and were taken out, and the others are there
+  -- so many of these rows were taken out or changed, in turns that nothing needed, and the others are as they were
   pub record HasTaken (x : Clerk D g) (m : KeyMap) (rows : ℕ) (y : Clerk D g) : Type 0 where
     pub n : KeyMap
     pub has : HasRows y n
     pub by : IsSweptBy x.loading rows m n
 
-  -- and no other was left over
+  -- and nothing is left over
   pub record HasSweptAll (x : Clerk D g) (m : KeyMap) (rows : ℕ) (y : Clerk D g) : Type 0 where
     pub taken : HasTaken x m rows y
     pub clean : IsClean y taken.n
 
-  -- so many rows were taken out, and none is left
+  -- so many rows were taken out or changed, and nothing is left over
   pub record IsSweptOut (x : Clerk D g) (rows : ℕ) (y : Clerk D g) : Type 0 where
     pub works : is_halted y ≡ false
     pub swept : (disk_of y).is_honest → (m : KeyMap) → HasRows x m → HasSweptAll x m rows y
@@ -87,7 +87,7 @@ module _ {D : Type 0} (g : Ghosts D) where
     pub sweeps : SweepsAll x swept y
     pub back : left ≡ device_in y.pages
     pub any_moment : (g.disk left).is_honest → AllDesks (g.disk device) → LeavesOnly (OpensOneOf (g.disk device)) (g.disk device) (g.disk left)
-    pub after : (g.disk left).is_honest → AllDesks (g.disk device) → is_halted y ≡ false → LeavesDesk (g.disk device) (g.disk left) (desk_of x)
+    pub after : (g.disk left).is_honest → AllVersions (g.disk device) → is_halted y ≡ false → LeavesDesk (g.disk device) (g.disk left) (desk_of x)
 
   -- what became of the device: it isn't opened, or it was swept
   abbrev pub SweepsDevice : D → Result ℕ StoreFault → D → Type 0

@@ -5,7 +5,7 @@ use Rattle.command_output.specs.declared.status.Status.{Status}
 use Rattle.command_output.specs.declared.status.Status.TheVariants as status
 use Rattle.command_output.specs.Writing.{Written, Told, Prints}
 use Rattle.store_command.specs.declared.fault.StoreFault.{StoreFault}
-use Rattle.store_command.specs.declared.fault.StoreFault.TheVariants.{NotFound, WrongSize, Exists, TooSmall, NotAStore, AlreadySealed, Full, DeviceFault, Memory}
+use Rattle.store_command.specs.declared.fault.StoreFault.TheVariants.{NotFound, WrongSize, Exists, TooSmall, NotAStore, OldVersion, AlreadyNew, AlreadySealed, Full, DeviceFault, Memory}
 
 abbrev pub name_of : StoreFault → List ℕ
 name_of NotFound = codes "NotFound"
@@ -13,6 +13,8 @@ name_of WrongSize = codes "WrongSize"
 name_of Exists = codes "Exists"
 name_of TooSmall = codes "TooSmall"
 name_of NotAStore = codes "NotAStore"
+name_of OldVersion = codes "OldVersion"
+name_of AlreadyNew = codes "AlreadyNew"
 name_of AlreadySealed = codes "AlreadySealed"
 name_of Full = codes "Full"
 name_of DeviceFault = codes "DeviceFault"
@@ -28,6 +30,8 @@ status_of WrongSize = status.Store
 status_of Exists = status.Store
 status_of TooSmall = status.Store
 status_of NotAStore = status.Store
+status_of OldVersion = status.Store
+status_of AlreadyNew = status.Store
 status_of AlreadySealed = status.Store
 status_of Full = status.Store
 status_of DeviceFault = status.Store

@@ -7,7 +7,7 @@ use desk_store::loads::LoadError;
 use desk_store::opening::OpenError;
 use std::alloc::AllocError;
 
-/// Why a store isn't made or filled.
+/// Why a store isn't made, filled, swept or migrated.
 #[derive(Clone, Copy, Debug, Drop, PartialEq, Eq)]
 pub enum StoreFault {
     /// There is no such file, or no such folder.
@@ -20,9 +20,13 @@ pub enum StoreFault {
     TooSmall,
     /// The file holds no store.
     NotAStore,
+    /// The store is of version 1: it is to be migrated first.
+    OldVersion,
+    /// The store is of version 2: there is nothing to migrate.
+    AlreadyNew,
     /// The store has a geography.
     AlreadySealed,
-    /// The store has too little room for the geography.
+    /// The store has too little room for the geography, or for the rows of the new version.
     Full,
     /// The device failed.
     DeviceFault,
@@ -56,6 +60,7 @@ pub fn open_fault(e: OpenError) -> StoreFault
         OpenError::NotAStore => StoreFault::NotAStore,
         OpenError::DeviceFault => StoreFault::DeviceFault,
         OpenError::Memory => StoreFault::Memory,
+        OpenError::OldVersion => StoreFault::OldVersion,
     }
 }
 

@@ -18,6 +18,8 @@ pub fn store_line(fault: StoreFault) -> &'static [u8]
         StoreFault::Exists => b"plandesk: store: Exists\n",
         StoreFault::TooSmall => b"plandesk: store: TooSmall\n",
         StoreFault::NotAStore => b"plandesk: store: NotAStore\n",
+        StoreFault::OldVersion => b"plandesk: store: OldVersion\n",
+        StoreFault::AlreadyNew => b"plandesk: store: AlreadyNew\n",
         StoreFault::AlreadySealed => b"plandesk: store: AlreadySealed\n",
         StoreFault::Full => b"plandesk: store: Full\n",
         StoreFault::DeviceFault => b"plandesk: store: DeviceFault\n",

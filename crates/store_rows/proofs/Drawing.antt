@@ -1,5 +1,5 @@
 -- Chunks are drawn county by county.
-use Rattle.std.proofs.Common.{◌≡◌, ◌⊎◌, ◌<◌, ◌≤◌, ◌+◌, ◌*◌, ◌^◌, ℕ, zero, suc, cond, List, [], ◌∷◌, ◌++◌, map, length, get_or, All, Option, refl, sym, ap, subst, ◌∙◌, inl, inr, arith, length-append}
+use Rattle.std.proofs.Common.{true, ◌≡◌, ◌⊎◌, ◌<◌, ◌≤◌, ◌+◌, ◌*◌, ◌^◌, ℕ, zero, suc, cond, List, [], ◌∷◌, ◌++◌, map, length, get_or, All, Option, refl, sym, ap, subst, ◌∙◌, inl, inr, arith, length-append}
 use Rattle.std.specs.Prelude.{Bool, nat_eq, filter, sum_by}
 use Rattle.std.specs.List.{zip}
 use Rattle.std.specs.Cmp.Lexicographic.{pointwise, same_text}
@@ -19,7 +19,7 @@ use Rattle.store_rows.proofs.Puts.{length-rows_told}
 use Rattle.store_rows.specs.ChunkRows.{piece_row, chunk_rows}
 use Rattle.store_rows.specs.NameRows.{name_row, name_rows}
 use Rattle.store_rows.specs.Steps.{chunks_more, one_revision_more}
-use Rattle.store_rows.specs.RevisionSteps.{IsChunkList, IsKeptChunk, AreKept, IsDrawn, new_chunk_rows, new_holding, new_tally, told_held, rows_of_revision}
+use Rattle.store_rows.specs.RevisionSteps.{IsChunkList, IsKeptChunk, AreKept, IsDrawn, new_chunk_rows, new_holding, new_tally, rows_of_revision}
 use Rattle.store_rows.specs.Draws.{draw, redrawn, draw_all}
 
 -- a county keeps its chunk where it is as before, or gets one of the new ones
@@ -142,16 +142,16 @@ rows_of_chunks first (districts ∷ lists) =
     ∙ ap (λ n. rows_for 512 (length districts) + n) (rows_of_chunks (first + 1) lists)
     ∙ sym (sum_by-cons (λ part. rows_for 512 (length part)) districts lists)
 
-pub rows_counted : (held : Bool) (g : Ground) (last : Option (List ℕ)) (new : List ℕ) (next : Counters) (name : List ℕ) (p : PlanRow) (numbers : List ℕ) → length numbers ≡ length (sizes g)
-    → length (rows_of_revision held next name p (changed g last new) numbers) ≡ revision_rows g last new + 2 * told_held held (length (changed g last new))
-rows_counted held g last new next name p numbers long =
+pub rows_counted : (g : Ground) (last : Option (List ℕ)) (new : List ℕ) (next : Counters) (name : List ℕ) (p : PlanRow) (numbers : List ℕ) → length numbers ≡ length (sizes g)
+    → length (rows_of_revision true next name p (changed g last new) numbers) ≡ revision_rows g last new
+rows_counted g last new next name p numbers long =
     let lists = changed g last new in
-    let many = told_held held (length lists) in
+    let many = length lists in
     let names = name_rows p.number (p.revisions + 1) numbers in
     let rows = rows_told (new_holding p.number next.chunk) many in
     let counts = rows_told (new_tally next.chunk) many in
     let ends : List Row = (key_of (named name), plan_bytes (one_revision_more p)) ∷ (key_of counters, counters_bytes (chunks_more next (length lists))) ∷ [] in
-    let whole : length (rows_of_revision held next name p lists numbers) ≡ length (new_chunk_rows next.chunk lists) + length ((rows ++ counts) ++ (names ++ ends)) = length-append (new_chunk_rows next.chunk lists) ((rows ++ counts) ++ (names ++ ends)) in
+    let whole : length (rows_of_revision true next name p lists numbers) ≡ length (new_chunk_rows next.chunk lists) + length ((rows ++ counts) ++ (names ++ ends)) = length-append (new_chunk_rows next.chunk lists) ((rows ++ counts) ++ (names ++ ends)) in
     let mid : length ((rows ++ counts) ++ (names ++ ends)) ≡ length (rows ++ counts) + length (names ++ ends) = length-append (rows ++ counts) (names ++ ends) in
     let both : length (rows ++ counts) ≡ length rows + length counts = length-append rows counts in
     let one : length rows ≡ many = length-rows_told (new_holding p.number next.chunk) many in

@@ -1,5 +1,5 @@
 -- A revision with the chunks of another plan's makes the desk with it, and the rows stay tidy.
-use Rattle.std.proofs.Common.{Bool, true, false, ◌≡◌, ◌<◌, ◌≤◌, ◌+◌, ◌*◌, ◌^◌, ℕ, cond, List, [], ◌∷◌, length, take, drop, All, Some, None, refl, sym, ap, subst, ◌∙◌, inl, inr, arith}
+use Rattle.std.proofs.Common.{Bool, true, ◌≡◌, ◌<◌, ◌≤◌, ◌+◌, ◌*◌, ◌^◌, ℕ, cond, List, [], ◌∷◌, length, take, drop, All, Some, None, refl, sym, ap, subst, ◌∙◌, inl, inr, arith}
 use Rattle.std.specs.Prelude.{Contains}
 use Rattle.std.specs.FinMap.{FinMap, get, insert}
 use Rattle.std.proofs.lemmas.Bool.{cases_eq, cases_lt, le-ltb}
@@ -45,10 +45,7 @@ IsPartOf plan revision row = (index : ℕ) × (row ≡ part plan revision index)
 one_part : (plan revision i j : ℕ) → Fits (part plan revision i) → Fits (part plan revision j) → key_of (part plan revision i) ≡ key_of (part plan revision j) → i ≡ j
 one_part plan revision i j fits also same = (let rows : part plan revision i ≡ part plan revision j = keys_differ (part plan revision i) (part plan revision j) fits also same in cc)
 
-not_old : (new : Bool) {X : Type 0} → new ≡ true → new ≡ false → X
-not_old new is old = absurd (let clash : true ≡ false = sym is ∙ old in cc)
-
-module _ (m : KeyMap) (tidy : Tidy m) (is_new : tidy.new ≡ true) (name : List ℕ) (p : PlanRow) (numbers : List ℕ) (number_fits : p.number < 2 ^ 64) (few_revisions : p.revisions + 1 < 2 ^ 32) (named_fits : Fits (named name)) (has : Has m (named name) (plan_bytes p)) (few : length numbers ≤ 128 * 2 ^ 8) (holds : Holds m (hold_all m p.number numbers) tidy.next.plan p.number numbers) where
+module _ (m : KeyMap) (tidy : Tidy m) (name : List ℕ) (p : PlanRow) (numbers : List ℕ) (number_fits : p.number < 2 ^ 64) (few_revisions : p.revisions + 1 < 2 ^ 32) (named_fits : Fits (named name)) (has : Has m (named name) (plan_bytes p)) (few : length numbers ≤ 128 * 2 ^ 8) (holds : Holds m (hold_all m p.number numbers) tidy.next.plan p.number numbers) where
   abbrev held : KeyMap
   held = hold_all m p.number numbers
 
@@ -143,7 +140,6 @@ module _ (m : KeyMap) (tidy : Tidy m) (is_new : tidy.new ≡ true) (name : List 
     holdings = λ told number among. tag_stays 72 (λ e. absurd (omega arith)) (λ e. absurd (omega arith)) (λ e. absurd (omega arith)) _ ∙ holds.held number among;
     other_holdings = λ plan number fits apart. tag_stays 72 (λ e. absurd (omega arith)) (λ e. absurd (omega arith)) (λ e. absurd (omega arith)) _ ∙ holds.others plan number fits apart;
     tallied = tallies_stay held after (tag_stays 72 (λ e. absurd (omega arith)) (λ e. absurd (omega arith)) (λ e. absurd (omega arith))) (tag_stays 75 (λ e. absurd (omega arith)) (λ e. absurd (omega arith)) (λ e. absurd (omega arith))) holds.can.tallied;
-    unheld = λ old. not_old tidy.new is_new old;
   }
 
 -- a tidy map's plans can hold more
@@ -152,7 +148,7 @@ holder_below m tidy plan number plan_fits number_fits held =
     let naming = (tidy.holdings.held plan number [] (plan_fits, number_fits) held).1 in
     known_below m tidy plan plan_fits (tidy.owned.parts plan naming.revision naming.index (chunks_bytes naming.numbers) naming.part_fits naming.row)
 
-can_hold : (m : KeyMap) (tidy : Tidy m) (name : List ℕ) (p : PlanRow) → p.number < 2 ^ 64 → Has m (named name) (plan_bytes p) → CanHold m tidy.next.plan p.number
+pub can_hold : (m : KeyMap) (tidy : Tidy m) (name : List ℕ) (p : PlanRow) → p.number < 2 ^ 64 → Has m (named name) (plan_bytes p) → CanHold m tidy.next.plan p.number
 can_hold m tidy name p fits has = record {
   tallied = tidy.holdings.tallied;
   below = λ plan number plan_fits number_fits held. holder_below m tidy plan number plan_fits number_fits held;
@@ -186,10 +182,10 @@ shares_made m tidy is_new source g plans name number p districts numbers is ther
     ] in
     let holds : Holds m (hold_all m number numbers) tidy.next.plan number numbers = all_held m tidy.next.plan number numbers (can_hold m tidy name row has.number_fits has.row) small in
     let more : row.revisions + 1 < 2 ^ 32 = omega arith in
-    let steps : with_shared m tidy.next name row numbers ≡ after m tidy is_new name row numbers has.number_fits more (name_fits m name (plan_bytes row) tidy.rows has.row) has.row few holds =
+    let steps : with_shared m tidy.next name row numbers ≡ after m tidy name row numbers has.number_fits more (name_fits m name (plan_bytes row) tidy.rows has.row) has.row few holds =
     put_rows-append (hold_all m number numbers) (name_rows number (row.revisions + 1) numbers) ((key_of (named name), plan_bytes (one_revision_more row)) ∷ (key_of counters, counters_bytes (chunks_more tidy.next 0)) ∷ []) in
     subst (λ (new : Bool). MakesRevision g plans name p districts (chunks_more tidy.next 0) new (with_shared m tidy.next name row numbers)) is_new
     (subst (λ (n : KeyMap). MakesRevision g plans name p districts (chunks_more tidy.next 0) tidy.new n) (sym steps)
-    (revision_made m (after m tidy is_new name row numbers has.number_fits more (name_fits m name (plan_bytes row) tidy.rows has.row) has.row few holds) tidy g plans name number p districts [] numbers there has room (omega arith) source (λ old. not_old tidy.new is_new old) drawn
-    (shares_add m tidy is_new name row numbers has.number_fits more (name_fits m name (plan_bytes row) tidy.rows has.row) has.row few holds)
+    (revision_made m (after m tidy name row numbers has.number_fits more (name_fits m name (plan_bytes row) tidy.rows has.row) has.row few holds) tidy g plans name number p districts [] numbers there has room (omega arith) source drawn
+    (shares_add m tidy name row numbers has.number_fits more (name_fits m name (plan_bytes row) tidy.rows has.row) has.row few holds)
     (λ place within. absurd (omega arith)) is long))

@@ -26,8 +26,8 @@ pub mod NewChunks
 pub mod RevisionDesk
 pub mod Sharing
 pub mod Forked
+pub mod Migrating
 pub mod Clean
-pub mod SweepRows
 pub mod TurnPlans
 pub mod TurnHolds
 pub mod Turns

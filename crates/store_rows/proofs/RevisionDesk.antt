@@ -1,5 +1,5 @@
 -- The rows of one revision more make the desk with that revision.
-use Rattle.std.proofs.Common.{All, false, ◌≡◌, ◌<◌, ◌≤◌, ◌+◌, ◌-◌, ◌*◌, ◌^◌, ℕ, cond, List, [], ◌∷◌, length, get_or, take, drop, Option, Some, None, refl, sym, ap, subst, ◌∙◌, inl, inr, arith, length-append}
+use Rattle.std.proofs.Common.{All, ◌≡◌, ◌<◌, ◌≤◌, ◌+◌, ◌-◌, ◌*◌, ◌^◌, ℕ, cond, List, [], ◌∷◌, length, get_or, take, drop, Option, Some, None, refl, sym, ap, subst, ◌∙◌, inl, inr, arith, length-append}
 use Rattle.std.specs.FinMap.{FinMap, get}
 use Rattle.std.proofs.lemmas.Bool.{lt-ltb}
 use Rattle.std.proofs.lemmas.List.{get_or_default}
@@ -108,7 +108,7 @@ module _ (m n : KeyMap) (tidy : Tidy m) (given : ℕ) (name : List ℕ) (p : Pla
 some_is : (p q : Plan) → ◌≡◌ {A = Option Plan} (Some p) (Some q) → p ≡ q
 some_is p q same = cc
 
-module _ (m n : KeyMap) (tidy : Tidy m) (g : Ground) (plans : FinMap name_cmp Plan) (name : List ℕ) (number : ℕ) (p : Plan) (districts : List ℕ) (lists : List (List ℕ)) (numbers : List ℕ) (there : get plans name ≡ Some p) (has : HasPlan m g name number p) (few : length p.revisions < most_revisions) (room : tidy.next.chunk + length lists < 2 ^ 64) (source : ℕ) (own : tidy.new ≡ false → source ≡ number) (drawn : IsDrawn m tidy.next source lists numbers (cut g districts)) (adds : AddsRevision m n tidy.new tidy.next (length lists) name (plan_row_of number p) numbers) (made : (place : ℕ) → place < length lists → HasChunk n (tidy.next.chunk + place) (get_or lists place [])) where
+module _ (m n : KeyMap) (tidy : Tidy m) (g : Ground) (plans : FinMap name_cmp Plan) (name : List ℕ) (number : ℕ) (p : Plan) (districts : List ℕ) (lists : List (List ℕ)) (numbers : List ℕ) (there : get plans name ≡ Some p) (has : HasPlan m g name number p) (few : length p.revisions < most_revisions) (room : tidy.next.chunk + length lists < 2 ^ 64) (source : ℕ) (drawn : IsDrawn m tidy.next source lists numbers (cut g districts)) (adds : AddsRevision m n tidy.new tidy.next (length lists) name (plan_row_of number p) numbers) (made : (place : ℕ) → place < length lists → HasChunk n (tidy.next.chunk + place) (get_or lists place [])) where
   abbrev row : PlanRow
   row = plan_row_of number p
 
@@ -147,7 +147,7 @@ module _ (m n : KeyMap) (tidy : Tidy m) (g : Ground) (plans : FinMap name_cmp Pl
   pub revision_made : IsDesk m (desk_with g plans) → length districts ≡ length g.blocks → MakesRevision g plans name p districts (chunks_more tidy.next (length lists)) tidy.new n
   revision_made is long = record {
     desk = plan_revised m n g plans name number p districts is there has long few is_revised;
-    tidy = revised_tidy m n tidy (length lists) source name row numbers has.number_fits few_more room has.row (its_chunks m tidy.next source lists numbers (cut g districts) drawn) own adds;
+    tidy = revised_tidy m n tidy (length lists) source name row numbers has.number_fits few_more room has.row (its_chunks m tidy.next source lists numbers (cut g districts) drawn) adds;
   }
 
 -- ---- its rows, as they are listed

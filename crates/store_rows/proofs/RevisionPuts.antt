@@ -37,9 +37,6 @@ few_told false given = omega arith
 all_told : (new : Bool) (given : ℕ) → new ≡ true → told_held new given ≡ given
 all_told new given is = ap (λ (b : Bool). told_held b given) is
 
-none_told : (new : Bool) (given : ℕ) → new ≡ false → told_held new given ≡ 0
-none_told new given is = ap (λ (b : Bool). told_held b given) is
-
 -- the rows that are put
 abbrev IsPut : Counters → ℕ → ℕ → List ℕ → PlanRow → RowKey → Type 0
 IsPut next given many name p counters = Unit {0}
@@ -377,11 +374,6 @@ module _ (m : KeyMap) (tidy : Tidy m) (name : List ℕ) (p : PlanRow) (lists : L
     ];
     other_holdings = λ plan number fits apart. keeps_row Q m (rows_of_revision tidy.new tidy.next name p lists numbers) (holding plan number) all_are fits (λ both. apart (both.0, its.whole number (given_too number both.1)));
     tallied = tallied_now;
-    unheld = λ old plan number fits. other_holding plan number fits (λ both.
-        let none = none_told tidy.new (length lists) old in
-        let from = both.1.0 in
-        let below = both.1.1 in
-        absurd (omega arith));
   }
 
 -- rows as a revision puts them are rows that add it

@@ -12,7 +12,7 @@ use Rattle.store_rows.proofs.Frames.{remove_keeps_row, remove_keeps_tag, plan_at
 use Rattle.store_rows.specs.Tidy.{IsLoad, Tidy}
 use Rattle.store_rows.specs.SweepLaws.{IsSwept}
 use Rattle.store_rows.proofs.OneGeography.{no_value}
-use Rattle.store_rows.proofs.TidyParts.{load_moves, AllKept, kept_of, stays_tidy, plans_stay, chunks_stay, holders_stay, owners_stay, rows_removed}
+use Rattle.store_rows.proofs.TidyParts.{load_moves, AllKept, kept_of, stays_tidy, plans_stay, chunks_stay, holders_stay, rows_removed}
 use Rattle.store_rows.proofs.SweepPlans.{still_there, still_none}
 
 -- the sealed load is none that was begun
@@ -58,7 +58,6 @@ module _ (m : KeyMap) (tidy : Tidy m) (d : Desk) (is : IsDesk m d) (load : ℕ) 
           plans = plans_stay m fewer next.plan next.plan (omega arith) (fewer_same 80 (λ e. absurd (omega arith))) (fewer_same 68 (λ e. absurd (omega arith))) (fewer_same 82 (λ e. absurd (omega arith))) kept.plans;
           chunks = chunks_stay m fewer next.chunk next.chunk (omega arith) (fewer_same 82 (λ e. absurd (omega arith))) (fewer_same 107 (λ e. absurd (omega arith))) kept.chunks;
           holders = holders_stay m fewer tidy.new (fewer_same 80 (λ e. absurd (omega arith))) (fewer_same 72 (λ e. absurd (omega arith))) (fewer_same 75 (λ e. absurd (omega arith))) (fewer_same 82 (λ e. absurd (omega arith))) (fewer_same 86 (λ e. absurd (omega arith))) kept.holders;
-          owners = owners_stay m fewer tidy.new (fewer_same 72 (λ e. absurd (omega arith))) (fewer_same 82 (λ e. absurd (omega arith))) kept.owners;
           loads = record {
             below = λ other value few there. kept.loads.below other value few (sym (marks _) ∙ there);
             sealed_below = λ sealed few there. kept.loads.sealed_below sealed few (sym (seals _) ∙ there);
@@ -104,7 +103,6 @@ module _ (m : KeyMap) (tidy : Tidy m) (d : Desk) (is : IsDesk m d) (load : ℕ) 
           plans = plans_stay m unmarked next.plan next.plan (omega arith) (unmarked_same 80 (λ e. absurd (omega arith))) (unmarked_same 68 (λ e. absurd (omega arith))) (unmarked_same 82 (λ e. absurd (omega arith))) kept.plans;
           chunks = chunks_stay m unmarked next.chunk next.chunk (omega arith) (unmarked_same 82 (λ e. absurd (omega arith))) (unmarked_same 107 (λ e. absurd (omega arith))) kept.chunks;
           holders = holders_stay m unmarked tidy.new (unmarked_same 80 (λ e. absurd (omega arith))) (unmarked_same 72 (λ e. absurd (omega arith))) (unmarked_same 75 (λ e. absurd (omega arith))) (unmarked_same 82 (λ e. absurd (omega arith))) (unmarked_same 86 (λ e. absurd (omega arith))) kept.holders;
-          owners = owners_stay m unmarked tidy.new (unmarked_same 72 (λ e. absurd (omega arith))) (unmarked_same 82 (λ e. absurd (omega arith))) kept.owners;
           loads = record {
             below = λ other value few there. kept.loads.below other value few (still_there m (key_of (begun load)) (key_of (begun other)) value there).1;
             sealed_below = λ sealed few there. kept.loads.sealed_below sealed few (sym (seals _) ∙ there);

@@ -57,7 +57,6 @@ empty_tidy =
         tallied = nothing_tallied;
         hold = λ is_new name plan number is naming. absurd (never _ _ is.row);
       };
-      owners = λ old. record { owner = λ number. number; is = λ plan number is. absurd (never _ _ is.row); unheld = λ plan number fits. nothing_there (key_of (holding plan number)) };
     } in
     tidy_at m no_numbers false is (record { plan_fits = omega arith; chunk_fits = omega arith; load_fits = omega arith }) kept
 

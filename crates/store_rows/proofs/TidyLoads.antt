@@ -17,7 +17,7 @@ use Rattle.store_rows.proofs.Staging.{none_staged}
 use Rattle.store_rows.specs.Tidy.{IsLoad, Tidy, TidyWith}
 use Rattle.store_rows.proofs.OneGeography.{value_is, no_value, seal_load}
 use Rattle.store_rows.proofs.TidyFree.{free_block, free_pair}
-use Rattle.store_rows.proofs.TidyParts.{load_moves, LoadsKept, AllKept, kept_of, plans_stay, chunks_stay, holders_stay, owners_stay, rows_put, rows_removed, counters_put, stays_tidy}
+use Rattle.store_rows.proofs.TidyParts.{load_moves, LoadsKept, AllKept, kept_of, plans_stay, chunks_stay, holders_stay, rows_put, rows_removed, counters_put, stays_tidy}
 
 other_load : (load other : ℕ) → (load ≡ other → ⊥) → begun load ≡ begun other → ⊥
 other_load load other apart same = apart (cc)
@@ -70,7 +70,6 @@ begun_tidy m tidy room =
       chunks = chunks_stay m n next.chunk next.chunk (omega arith) (same 82 (λ e. absurd (omega arith))) (same 107 (λ e. absurd (omega arith))) kept.chunks;
       loads = loads_started m next.load kept.loads tidy.fits.load_fits;
       holders = holders_stay m n tidy.new (same 80 (λ e. absurd (omega arith))) (same 72 (λ e. absurd (omega arith))) (same 75 (λ e. absurd (omega arith))) (same 82 (λ e. absurd (omega arith))) (same 86 (λ e. absurd (omega arith))) kept.holders;
-      owners = owners_stay m n tidy.new (same 72 (λ e. absurd (omega arith))) (same 82 (λ e. absurd (omega arith))) kept.owners;
     })
 
 -- no row stands under its number
@@ -116,7 +115,6 @@ load_row_tidy m tidy load row rest value tagged fits is block_load pair_load =
       chunks = chunks_stay m n next.chunk next.chunk (omega arith) (same 82 (λ e. absurd (omega arith))) (same 107 (λ e. absurd (omega arith))) kept.chunks;
       loads = loads;
       holders = holders_stay m n tidy.new (same 80 (λ e. absurd (omega arith))) (same 72 (λ e. absurd (omega arith))) (same 75 (λ e. absurd (omega arith))) (same 82 (λ e. absurd (omega arith))) (same 86 (λ e. absurd (omega arith))) kept.holders;
-      owners = owners_stay m n tidy.new (same 72 (λ e. absurd (omega arith))) (same 82 (λ e. absurd (omega arith))) kept.owners;
     } in
     stays_tidy m n tidy (same 65 (λ e. absurd (omega arith)) []) here
 
@@ -204,6 +202,5 @@ sealed_tidy m tidy s fits lacks mark =
       chunks = chunks_stay m n next.chunk next.chunk (omega arith) (same 82 (λ e. absurd (omega arith)) (λ e. absurd (omega arith))) (same 107 (λ e. absurd (omega arith)) (λ e. absurd (omega arith))) kept.chunks;
       loads = loads_closed m next.load s kept.loads fits lacks mark;
       holders = holders_stay m n tidy.new (same 80 (λ e. absurd (omega arith)) (λ e. absurd (omega arith))) (same 72 (λ e. absurd (omega arith)) (λ e. absurd (omega arith))) (same 75 (λ e. absurd (omega arith)) (λ e. absurd (omega arith))) (same 82 (λ e. absurd (omega arith)) (λ e. absurd (omega arith))) (same 86 (λ e. absurd (omega arith)) (λ e. absurd (omega arith))) kept.holders;
-      owners = owners_stay m n tidy.new (same 72 (λ e. absurd (omega arith)) (λ e. absurd (omega arith))) (same 82 (λ e. absurd (omega arith)) (λ e. absurd (omega arith))) kept.owners;
     } in
     stays_tidy m n tidy (same 65 (λ e. absurd (omega arith)) (λ e. absurd (omega arith)) []) here

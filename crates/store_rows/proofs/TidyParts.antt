@@ -1,5 +1,5 @@
 -- What is kept of plans, of chunks and of loads, each by itself: a change of rows mostly reaches one of the three.
-use Rattle.std.proofs.Common.{Bool, false, ◌≡◌, ◌<◌, ◌≤◌, ◌^◌, ℕ, List, [], drop, Option, Some, None, sym, ap, subst, ◌∙◌, inl, inr, arith}
+use Rattle.std.proofs.Common.{Bool, ◌≡◌, ◌<◌, ◌≤◌, ◌^◌, ℕ, List, [], drop, Option, Some, None, sym, ap, subst, ◌∙◌, inl, inr, arith}
 use Rattle.std.specs.FinMap.{get, insert, remove}
 use Rattle.store_rows.specs.Keys.{RowKey, key_of, Fits, counters, retired, begun, holding, tally, named, part, seal, version, block, pair, chunk}
 use Rattle.store_rows.specs.Values.{counters_bytes, plan_bytes, seal_bytes}
@@ -9,7 +9,7 @@ use Rattle.store_rows.specs.declared.value.SealRow.{SealRow}
 use Rattle.store_rows.specs.Rows.{KeyMap, row_in, Has, SameTag}
 use Rattle.store_rows.proofs.Changes.{cases_key}
 use Rattle.store_rows.proofs.Frames.{put_is_there, put_keeps, put_keeps_tag, removed_is_gone, remove_keeps, other_tag}
-use Rattle.store_rows.specs.Tidy.{IsNext, CountersFit, IsNumbered, IsNamedBy, IsPart, IsPiece, AreRows, IsKnown, IsLoad, HasOwners, AreHoldings, Tidy, TidyWith}
+use Rattle.store_rows.specs.Tidy.{IsNext, CountersFit, IsNumbered, IsNamedBy, IsPart, IsPiece, AreRows, IsKnown, IsLoad, AreHoldings, Tidy, TidyWith}
 use Rattle.store_rows.proofs.OneGeography.{no_value}
 use Rattle.store_rows.proofs.Tallies.{tallies_stay}
 
@@ -42,7 +42,6 @@ pub record AllKept (m : KeyMap) (next : Counters) (new : Bool) : Type 0 where
   pub chunks : ChunksKept m next.chunk
   pub loads : LoadsKept m next.load
   pub holders : AreHoldings m new
-  pub owners : new ≡ false → HasOwners m
 
 -- ---- what is kept is tidiness
 pub kept_of : (m : KeyMap) (tidy : Tidy m) → AllKept m tidy.next tidy.new
@@ -66,7 +65,6 @@ kept_of m tidy = record {
     ended = tidy.owned.ended;
   };
   holders = tidy.holdings;
-  owners = tidy.owners;
 }
 
 abbrev tidy_of : (m : KeyMap) (next : Counters) (new : Bool) → IsNext m next → CountersFit next → AllKept m next new → Tidy m
@@ -93,7 +91,6 @@ tidy_of m next new is fits kept = record {
     ended = kept.loads.ended;
   };
   holdings = kept.holders;
-  owners = kept.owners;
   counted = record { parts = kept.plans.told; pieces = kept.chunks.pieces; counted = kept.plans.counted };
 }
 
@@ -152,15 +149,6 @@ holders_stay m n new names rows counts parts versions kept = record {
   tallied = tallies_stay m n rows counts kept.tallied;
   hold = λ is_new name plan number is naming. rows _ ∙ kept.hold is_new name plan number (numbered_moves n m name plan (sym (names _)) is) (naming_moves n m plan number (tag_back 82 m n parts) naming);
 }
-
-pub owners_stay : (m n : KeyMap) (new : Bool) → SameTag 72 m n → SameTag 82 m n → (new ≡ false → HasOwners m) → new ≡ false → HasOwners n
-owners_stay m n new rows parts kept old =
-    let before = kept old in
-    record {
-      owner = before.owner;
-      is = λ plan number is. before.is plan number (naming_moves n m plan number (tag_back 82 m n parts) is);
-      unheld = λ plan number fits. rows _ ∙ before.unheld plan number fits;
-    }
 
 pub loads_stay : (m n : KeyMap) (limit more : ℕ) → limit ≤ more → SameTag 76 m n → SameTag 83 m n → SameTag 103 m n → LoadsKept m limit → LoadsKept n more
 loads_stay m n limit more few marks seals rows kept = record {
@@ -231,6 +219,5 @@ counters_put m next new fits kept =
       chunks = chunks_stay m n next.chunk next.chunk (omega arith) (same 82 (λ e. absurd (omega arith))) (same 107 (λ e. absurd (omega arith))) kept.chunks;
       loads = loads_stay m n next.load next.load (omega arith) (same 76 (λ e. absurd (omega arith))) (same 83 (λ e. absurd (omega arith))) (same 103 (λ e. absurd (omega arith))) kept.loads;
       holders = holders_stay m n new (same 80 (λ e. absurd (omega arith))) (same 72 (λ e. absurd (omega arith))) (same 75 (λ e. absurd (omega arith))) (same 82 (λ e. absurd (omega arith))) (same 86 (λ e. absurd (omega arith))) kept.holders;
-      owners = owners_stay m n new (same 72 (λ e. absurd (omega arith))) (same 82 (λ e. absurd (omega arith))) kept.owners;
     } in
     tidy_at n next new is fits here

@@ -14,7 +14,7 @@ use Rattle.store_rows.specs.Tidy.{IsNumbered, IsNamedBy, IsKnown, AreHoldings, T
 use Rattle.store_rows.proofs.OneGeography.{value_is, no_value}
 use Rattle.store_rows.proofs.OneDesk.{row_number}
 use Rattle.store_rows.proofs.Tallies.{tallies_stay}
-use Rattle.store_rows.proofs.TidyParts.{PlansKept, AllKept, kept_of, some_or_none, numbered_moves, naming_moves, chunks_stay, owners_stay, loads_stay, rows_put, rows_removed, counters_put, stays_tidy}
+use Rattle.store_rows.proofs.TidyParts.{PlansKept, AllKept, kept_of, some_or_none, numbered_moves, naming_moves, chunks_stay, loads_stay, rows_put, rows_removed, counters_put, stays_tidy}
 
 -- ---- one row, one plan
 pub row_says : (m : KeyMap) (name : List ℕ) (p q : PlanRow) → Has m (named name) (plan_bytes p) → Has m (named name) (plan_bytes q) → plan_bytes p ≡ plan_bytes q
@@ -143,7 +143,6 @@ created_tidy m tidy name p fits lacks is none room =
       chunks = chunks_stay m n next.chunk next.chunk (omega arith) (same 82 (λ e. absurd (omega arith))) (same 107 (λ e. absurd (omega arith))) kept.chunks;
       loads = loads_stay m n next.load next.load (omega arith) (same 76 (λ e. absurd (omega arith))) (same 83 (λ e. absurd (omega arith))) (same 103 (λ e. absurd (omega arith))) kept.loads;
       holders = holders_made m next.plan name p kept.plans lacks is none (omega arith) tidy.new kept.holders;
-      owners = owners_stay m n tidy.new (same 72 (λ e. absurd (omega arith))) (same 82 (λ e. absurd (omega arith))) kept.owners;
     })
 
 -- ---- a plan is taken away
@@ -242,6 +241,5 @@ retired_tidy m tidy name number is =
       chunks = chunks_stay m n next.chunk next.chunk (omega arith) (same 82 (λ e. absurd (omega arith)) (λ e. absurd (omega arith))) (same 107 (λ e. absurd (omega arith)) (λ e. absurd (omega arith))) kept.chunks;
       loads = loads_stay m n next.load next.load (omega arith) (same 76 (λ e. absurd (omega arith)) (λ e. absurd (omega arith))) (same 83 (λ e. absurd (omega arith)) (λ e. absurd (omega arith))) (same 103 (λ e. absurd (omega arith)) (λ e. absurd (omega arith))) kept.loads;
       holders = holders_left m next.plan name number kept.plans is tidy.new kept.holders;
-      owners = owners_stay m n tidy.new (same 72 (λ e. absurd (omega arith)) (λ e. absurd (omega arith))) (same 82 (λ e. absurd (omega arith)) (λ e. absurd (omega arith))) kept.owners;
     } in
     stays_tidy m n tidy (same 65 (λ e. absurd (omega arith)) (λ e. absurd (omega arith)) []) here

@@ -1,8 +1,7 @@
 -- A plan gets one revision more, and the rows stay tidy.
-use Rattle.std.proofs.Common.{Bool, true, false, ◌≡◌, ◌⊎◌, ◌<◌, ◌≤◌, ◌+◌, ◌^◌, ℕ, zero, suc, cond, List, [], ◌∷◌, get_or, All, Some, refl, sym, ap, subst, ◌∙◌, inl, inr, arith}
+use Rattle.std.proofs.Common.{Bool, true, ◌≡◌, ◌⊎◌, ◌<◌, ◌≤◌, ◌+◌, ◌^◌, ℕ, zero, suc, List, [], ◌∷◌, get_or, All, Some, refl, sym, subst, ◌∙◌, inl, inr, arith}
 use Rattle.std.specs.Prelude.{Contains}
-use Rattle.std.proofs.Math.Dec.{ltb}
-use Rattle.std.proofs.lemmas.Bool.{cases_eq, cases_lt, lt-ltb, le-ltb}
+use Rattle.std.proofs.lemmas.Bool.{cases_eq, cases_lt}
 use Rattle.std.proofs.lemmas.List.{get_or_default}
 use Rattle.store_rows.specs.Keys.{Fits, counters, holding, named, part, chunk}
 use Rattle.store_rows.specs.Values.{plan_bytes, counters_bytes}
@@ -14,7 +13,7 @@ use Rattle.store_rows.specs.Rows.{KeyMap, row_in, Has, part_row}
 use Rattle.store_rows.proofs.Changes.{cases_key}
 use Rattle.store_rows.specs.Steps.{chunks_more, one_revision_more}
 use Rattle.store_rows.specs.RevisionSteps.{IsGiven, AreItsChunks, AddsRevision}
-use Rattle.store_rows.specs.Tidy.{IsNext, IsNumbered, IsNamedBy, IsPart, IsPiece, IsKnown, HasOwners, AreHoldings, Tidy, TidyWith}
+use Rattle.store_rows.specs.Tidy.{IsNext, IsNumbered, IsNamedBy, IsPart, IsPiece, IsKnown, AreHoldings, Tidy, TidyWith}
 use Rattle.store_rows.specs.Holders.{IsHeld}
 use Rattle.store_rows.proofs.OneDesk.{row_number, row_revisions}
 use Rattle.store_rows.proofs.PartNumbers.{part_at, part_there, part_within, part_says, part_chunks, part_among, among_part}
@@ -254,38 +253,9 @@ module _ (m n : KeyMap) (new : Bool) (next : Counters) (given source : ℕ) (nam
   holders_revised : AreHoldings m new → AreHoldings n new
   holders_revised holders = record { told = adds.told ∙ holders.told; held = held_now holders; tallied = adds.tallied; hold = hold_now holders }
 
-  -- ---- owners: a new chunk is this plan's
-  module _ (owners : HasOwners m) (own : source ≡ p.number) where
-    abbrev owner_now : ℕ → ℕ
-    owner_now number = cond (ltb number next.chunk) (owners.owner number) p.number
-
-    owner_before : (number : ℕ) → number < next.chunk → owner_now number ≡ owners.owner number
-    owner_before number less = ap (λ b. cond b (owners.owner number) p.number) (lt-ltb number next.chunk less)
-
-    owner_given : (number : ℕ) → next.chunk ≤ number → owner_now number ≡ p.number
-    owner_given number more = ap (λ b. cond b (owners.owner number) p.number) (le-ltb number next.chunk more)
-
-    owned_before : (plan number : ℕ) → IsNamedBy m plan number → owner_now number ≡ plan
-    owned_before plan number is = owner_before number (kept.below plan number is) ∙ owners.is plan number is
-
-    owned_now : (plan number : ℕ) → IsNamedBy n plan number → owner_now number ≡ plan
-    owned_now plan number is = elim (came plan number is) [
-      | inl mine ↦ elim (its.own number mine.1) [
-        | inl old ↦ owned_before source number old ∙ own ∙ sym mine.0
-        | inr made ↦ owner_given number made.0 ∙ sym mine.0
-      ]
-      | inr old ↦ owned_before plan number old
-    ]
-
-    owners_here : new ≡ false → HasOwners n
-    owners_here old = record { owner = owner_now; is = owned_now; unheld = λ plan number fits. adds.unheld old plan number fits ∙ owners.unheld plan number fits }
-
-  owners_revised : (new ≡ false → HasOwners m) → (new ≡ false → source ≡ p.number) → new ≡ false → HasOwners n
-  owners_revised owners own old = owners_here (owners old) (own old) old
-
 pub revised_tidy : (m n : KeyMap) (tidy : Tidy m) (given source : ℕ) (name : List ℕ) (p : PlanRow) (numbers : List ℕ) → p.number < 2 ^ 64 → p.revisions + 1 < 2 ^ 32 → tidy.next.chunk + given < 2 ^ 64
-    → Has m (named name) (plan_bytes p) → AreItsChunks m tidy.next given source numbers → (tidy.new ≡ false → source ≡ p.number) → AddsRevision m n tidy.new tidy.next given name p numbers → TidyWith n (chunks_more tidy.next given) tidy.new
-revised_tidy m n tidy given source name p numbers number_fits few room has its own adds =
+    → Has m (named name) (plan_bytes p) → AreItsChunks m tidy.next given source numbers → AddsRevision m n tidy.new tidy.next given name p numbers → TidyWith n (chunks_more tidy.next given) tidy.new
+revised_tidy m n tidy given source name p numbers number_fits few room has its adds =
     let next = tidy.next in
     let kept = kept_of m tidy in
     let more = chunks_more next given in
@@ -299,5 +269,4 @@ revised_tidy m n tidy given source name p numbers number_fits few room has its o
       chunks = chunks_revised m n tidy.new next given source name p numbers kept.plans kept.chunks number_fits few room has its adds;
       loads = loads_stay m n next.load next.load (omega arith) adds.starts adds.seals adds.loads kept.loads;
       holders = holders_revised m n tidy.new next given source name p numbers kept.plans kept.chunks number_fits few room has its adds kept.holders;
-      owners = owners_revised m n tidy.new next given source name p numbers kept.plans kept.chunks number_fits few room has its adds kept.owners own;
     })

@@ -13,7 +13,6 @@ use Rattle.store_rows.specs.TurnLaws.{IsUnneededHolding}
 use Rattle.store_rows.proofs.Tallies.{holders_leave}
 use Rattle.store_rows.proofs.TidyParts.{AllKept, kept_of, stays_tidy, numbered_moves, naming_moves, plans_stay, chunks_stay, loads_stay, rows_put, rows_removed}
 use Rattle.store_rows.proofs.SweepPlans.{still_there, apart_from_gone}
-use Rattle.store_rows.proofs.TurnPlans.{not_old}
 
 with_tally_rows : (m : KeyMap) (number count : ℕ) → number < 2 ^ 64 → AreRows m → AreRows (with_tally m number count)
 with_tally_rows m number zero fits rows = rows_removed m (key_of (tally number)) rows
@@ -73,7 +72,6 @@ module _ (m : KeyMap) (tidy : Tidy m) (is_new : tidy.new ≡ true) (d : Desk) (i
         chunks = chunks_stay m after next.chunk next.chunk (omega arith) parts_after (same 107 (λ e. absurd (omega arith)) (λ e. absurd (omega arith))) kept.chunks;
         loads = loads_stay m after next.load next.load (omega arith) (same 76 (λ e. absurd (omega arith)) (λ e. absurd (omega arith))) (same 83 (λ e. absurd (omega arith)) (λ e. absurd (omega arith))) (same 103 (λ e. absurd (omega arith)) (λ e. absurd (omega arith))) kept.loads;
         holders = holders_after;
-        owners = not_old tidy.new is_new;
       } in
       record {
         desk = desk_stays m after d names_after parts_after (same 83 (λ e. absurd (omega arith)) (λ e. absurd (omega arith))) (same 103 (λ e. absurd (omega arith)) (λ e. absurd (omega arith))) (same 107 (λ e. absurd (omega arith)) (λ e. absurd (omega arith))) is;

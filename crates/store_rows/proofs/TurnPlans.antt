@@ -1,5 +1,5 @@
 -- In the new version rows of plans that were taken away can go.
-use Rattle.std.proofs.Common.{Bool, true, false, ◌≡◌, ◌⊎◌, ◌<◌, ◌^◌, ℕ, List, [], ◌++◌, length, get_or, Some, sym, ap, subst, ◌∙◌, inl, inr, arith}
+use Rattle.std.proofs.Common.{true, ◌≡◌, ◌⊎◌, ◌<◌, ◌^◌, ℕ, List, [], ◌++◌, length, get_or, Some, sym, ap, subst, ◌∙◌, inl, inr, arith}
 use Rattle.std.specs.Prelude.{Contains}
 use Rattle.std.specs.FinMap.{get, remove}
 use Rattle.std.proofs.lemmas.List.{get_or_default}
@@ -24,10 +24,6 @@ use Rattle.store_rows.proofs.OneGeography.{value_is, no_value}
 use Rattle.store_rows.proofs.TidyParts.{AllKept, kept_of, stays_tidy, numbered_moves, naming_moves, plans_stay, loads_stay, holders_stay, rows_removed}
 use Rattle.store_rows.proofs.Tallies.{tallies_stay, none_holds, another_holds}
 use Rattle.store_rows.proofs.SweepPlans.{apart_from_gone, numbers_named, still_there, still_none, desk_moves, other_piece}
-
--- the version is not the old one
-pub not_old : (new : Bool) {X : Type 0} → new ≡ true → new ≡ false → X
-not_old new is old = absurd (let clash : true ≡ false = sym is ∙ old in cc)
 
 module _ (m : KeyMap) (tidy : Tidy m) (is_new : tidy.new ≡ true) (d : Desk) (is : IsDesk m d) (plan : ℕ) (mark : Has m (retired plan) []) where
   module _ (number piece : ℕ) (fits : Fits (chunk number piece)) (naming : IsNamedBy m plan number) (untallied : Lacks m (tally number)) where
@@ -78,7 +74,6 @@ module _ (m : KeyMap) (tidy : Tidy m) (is_new : tidy.new ≡ true) (d : Desk) (i
             pieces = λ other index value few there. kept.chunks.pieces other index value few (still_there m (key_of (chunk number piece)) (key_of (chunk other index)) value there).1;
           };
           holders = holders_stay m fewer tidy.new (fewer_same 80 (λ e. absurd (omega arith))) (fewer_same 72 (λ e. absurd (omega arith))) (fewer_same 75 (λ e. absurd (omega arith))) (fewer_same 82 (λ e. absurd (omega arith))) (fewer_same 86 (λ e. absurd (omega arith))) kept.holders;
-          owners = not_old tidy.new is_new;
           loads = loads_stay m fewer next.load next.load (omega arith) (fewer_same 76 (λ e. absurd (omega arith))) (fewer_same 83 (λ e. absurd (omega arith))) (fewer_same 103 (λ e. absurd (omega arith))) kept.loads;
         } in
         record {
@@ -205,7 +200,6 @@ module _ (m : KeyMap) (tidy : Tidy m) (is_new : tidy.new ≡ true) (d : Desk) (i
             pieces = λ number i value few there. kept.chunks.pieces number i value few (still_there m (key_of (part plan revision index)) (key_of (chunk number i)) value there).1;
           };
           holders = holders_after;
-          owners = not_old tidy.new is_new;
           loads = loads_stay m without next.load next.load (omega arith) (without_same 76 (λ e. absurd (omega arith))) (without_same 83 (λ e. absurd (omega arith))) (without_same 103 (λ e. absurd (omega arith))) kept.loads;
         } in
         record {

@@ -1,5 +1,5 @@
 -- Which chunks a new revision names: a county that is as before keeps its chunk, each other one gets the next number.
-use Rattle.std.specs.Prelude.{Bool, ◌≡◌, ◌≤◌, ◌+◌, ◌*◌, ◌^◌, ℕ, if◌then◌else◌, List, [], ◌∷◌, map, filter, length, Option, All}
+use Rattle.std.specs.Prelude.{true, ◌≡◌, ◌≤◌, ◌+◌, ◌*◌, ◌^◌, ℕ, if◌then◌else◌, List, [], ◌∷◌, map, filter, length, Option, All}
 use Rattle.std.specs.List.{zip}
 use Rattle.desk_model.specs.Geography.{Ground}
 use Rattle.desk_model.specs.Cuts.{sizes}
@@ -7,7 +7,7 @@ use Rattle.desk_model.specs.Room.{differs, changed, revision_rows}
 use Rattle.store_rows.specs.declared.value.Counters.{Counters}
 use Rattle.store_rows.specs.declared.value.PlanRow.{PlanRow}
 use Rattle.store_rows.specs.Rows.{KeyMap}
-use Rattle.store_rows.specs.RevisionSteps.{IsChunkList, AreKept, IsDrawn, told_held, rows_of_revision}
+use Rattle.store_rows.specs.RevisionSteps.{IsChunkList, AreKept, IsDrawn, rows_of_revision}
 
 -- the chunks of a later revision, from those of the one before
 abbrev pub draw : ℕ → List ℕ → List (List ℕ) → List (List ℕ) → List ℕ
@@ -32,7 +32,7 @@ abbrev pub ChangesAreDrawn : Type 0
 ChangesAreDrawn = (m : KeyMap) (next : Counters) (plan : ℕ) (numbers : List ℕ) (olds news : List (List ℕ)) → AreKept m plan numbers olds → length olds ≡ length news → length news ≤ 128 * 2 ^ 8 → All IsChunkList news
     → IsDrawn m next plan (redrawn olds news) (draw next.chunk numbers olds news) news
 
--- the rows are as many as a command is to have room for, and in the new version two more for each new chunk
+-- in the new version the rows are as many as a command is to have room for
 abbrev pub RowsAreCounted : Type 0
-RowsAreCounted = (held : Bool) (g : Ground) (last : Option (List ℕ)) (new : List ℕ) (next : Counters) (name : List ℕ) (p : PlanRow) (numbers : List ℕ) → length numbers ≡ length (sizes g)
-    → length (rows_of_revision held next name p (changed g last new) numbers) ≡ revision_rows g last new + 2 * told_held held (length (changed g last new))
+RowsAreCounted = (g : Ground) (last : Option (List ℕ)) (new : List ℕ) (next : Counters) (name : List ℕ) (p : PlanRow) (numbers : List ℕ) → length numbers ≡ length (sizes g)
+    → length (rows_of_revision true next name p (changed g last new) numbers) ≡ revision_rows g last new

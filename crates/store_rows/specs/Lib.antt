@@ -23,3 +23,4 @@ pub mod Holders
 pub mod HolderLaws
 pub mod Shares
 pub mod ForkLaws
+pub mod MigrationLaws

@@ -46,7 +46,6 @@ pub record AddsRevision (m n : KeyMap) (new : Bool) (next : Counters) (given : �
   pub empty : (plan number : ℕ) (value : List ℕ) → Fits (holding plan number) → Has n (holding plan number) value → value ≡ []
   pub other_holdings : (plan number : ℕ) → Fits (holding plan number) → ((plan ≡ p.number) × Contains numbers number → ⊥) → row_in n (holding plan number) ≡ row_in m (holding plan number)
   pub tallied : AreTallied n
-  pub unheld : new ≡ false → (plan number : ℕ) → Fits (holding plan number) → row_in n (holding plan number) ≡ row_in m (holding plan number)
 
 -- the rows of new chunks, under rising numbers from the first on
 abbrev pub new_chunk_rows : ℕ → List (List ℕ) → List Row

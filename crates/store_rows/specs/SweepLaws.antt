@@ -1,15 +1,12 @@
--- Rows that nothing needs any more: taken out one by one, they leave the desk as it is and the rows tidy.
-use Rattle.std.specs.Prelude.{Bool, false, ◌≡◌, ◌<◌, ◌^◌, ℕ, List, [], ◌∷◌, Contains}
-use Rattle.std.specs.FinMap.{remove}
+-- What a sweep keeps, and what is there once it is done.
+use Rattle.std.specs.Prelude.{Bool, ◌≡◌, ◌<◌, ◌^◌, ℕ, List, Contains}
 use Rattle.desk_model.specs.Desk.{Desk}
-use Rattle.store_rows.specs.Keys.{RowKey, key_of, Fits, counters, retired, begun, holding, tally, named, part, seal, version, block, pair, chunk}
+use Rattle.store_rows.specs.Keys.{Fits, retired, begun, part, seal, block, pair, chunk}
 use Rattle.store_rows.specs.Values.{seal_bytes}
-use Rattle.store_rows.specs.Lists.{chunks_bytes, AreChunks}
 use Rattle.store_rows.specs.declared.value.Counters.{Counters}
 use Rattle.store_rows.specs.declared.value.SealRow.{SealRow}
 use Rattle.store_rows.specs.Rows.{KeyMap, Has, Lacks}
 use Rattle.store_rows.specs.RevisionRows.{NamesChunks}
-use Rattle.store_rows.specs.ChunkRows.{IsFreeChunk}
 use Rattle.store_rows.specs.DeskRows.{IsDesk}
 use Rattle.store_rows.specs.Tidy.{IsNumbered, IsNamedBy, Tidy, TidyWith}
 
@@ -21,43 +18,6 @@ NumbersAreNamed = (m : KeyMap) (plan revision : ℕ) (numbers : List ℕ) → pl
 pub record IsSwept (d : Desk) (next : Counters) (new : Bool) (n : KeyMap) : Type 0 where
   pub desk : IsDesk n d
   pub tidy : TidyWith n next new
-
--- a part of a revision none of whose chunks has a piece left
-pub record IsEmptied (m : KeyMap) (plan revision index : ℕ) : Type 0 where
-  pub numbers : List ℕ
-  pub chunks : AreChunks numbers
-  pub row : Has m (part plan revision index) (chunks_bytes numbers)
-  pub gone : (number : ℕ) → Contains numbers number → IsFreeChunk m number
-
--- A row that is left over. Of a plan that was taken away: a piece of a chunk that it names; a part whose chunks have no piece left; its
--- mark, where no part is left. Of a load that was begun: a row of it; its mark, where no row is left.
-abbrev pub IsLeftover : KeyMap → RowKey → Type 0
-IsLeftover m counters = ⊥
-IsLeftover m (retired plan) = Has m (retired plan) [] × ((revision index : ℕ) → Fits (part plan revision index) → Lacks m (part plan revision index))
-IsLeftover m (begun load) = Has m (begun load) [] × ((place : ℕ) → place < 2 ^ 32 → Lacks m (block load place) × Lacks m (pair load place))
-IsLeftover m (holding plan number) = ⊥
-IsLeftover m (tally number) = ⊥
-IsLeftover m (named name) = ⊥
-IsLeftover m (part plan revision index) = Has m (retired plan) [] × IsEmptied m plan revision index
-IsLeftover m seal = ⊥
-IsLeftover m version = ⊥
-IsLeftover m (block load place) = Has m (begun load) []
-IsLeftover m (pair load place) = Has m (begun load) []
-IsLeftover m (chunk number piece) = (plan : ℕ) × Has m (retired plan) [] × IsNamedBy m plan number
-
--- rows that are taken out one after the other
-abbrev pub take_rows : KeyMap → List RowKey → KeyMap
-take_rows m [] = m
-take_rows m (row ∷ rows) = take_rows (remove m (key_of row)) rows
-
--- each is left over by the time that it is taken out
-abbrev pub AreLeftovers : KeyMap → List RowKey → Type 0
-AreLeftovers m [] = Unit {0}
-AreLeftovers m (row ∷ rows) = Fits row × IsLeftover m row × AreLeftovers (remove m (key_of row)) rows
-
--- in the old version
-abbrev pub LeftoversAreSwept : Type 0
-LeftoversAreSwept = (m : KeyMap) (tidy : Tidy m) → tidy.new ≡ false → (d : Desk) (rows : List RowKey) → IsDesk m d → AreLeftovers m rows → IsSwept d tidy.next tidy.new (take_rows m rows)
 
 -- Where no mark of a plan is left, each part and each piece is of a plan that is there; where no mark of a load is left, its rows are
 -- the geography's.

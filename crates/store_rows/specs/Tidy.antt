@@ -73,12 +73,6 @@ pub record AreOwned (m : KeyMap) : Type 0 where
   -- the sealed load is none of those that were begun
   pub ended : (sealed : SealRow) → sealed.load < 2 ^ 64 → Has m seal (seal_bytes sealed) → row_in m (begun sealed.load) ≡ None
 
--- In the old version each chunk belongs to one plan, and no row tells that a plan holds one.
-pub record HasOwners (m : KeyMap) : Type 0 where
-  pub owner : ℕ → ℕ
-  pub is : (plan number : ℕ) → IsNamedBy m plan number → owner number ≡ plan
-  pub unheld : (plan number : ℕ) → Fits (holding plan number) → row_in m (holding plan number) ≡ None
-
 -- a plan that is there holds each chunk that it names
 abbrev pub AllHold : KeyMap → Type 0
 AllHold m = (name : List ℕ) (plan number : ℕ) → IsNumbered m name plan → IsNamedBy m plan number → IsHeld m plan number
@@ -120,7 +114,6 @@ pub record Tidy (m : KeyMap) : Type 0 where
   pub below : AreBelow m next
   pub owned : AreOwned m
   pub holdings : AreHoldings m new
-  pub owners : new ≡ false → HasOwners m
   pub counted : AreCounted m
 
 -- and these are its counters, and its version

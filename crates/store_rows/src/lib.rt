@@ -16,6 +16,7 @@ mod key;
 pub mod key_laws;
 pub mod laws;
 mod list;
+pub mod migrations;
 pub mod upkeep;
 mod value;
 

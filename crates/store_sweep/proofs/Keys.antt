@@ -3,7 +3,7 @@ use Rattle.std.proofs.Common.{◌≡◌, ◌<◌, ◌≤◌, ◌^◌, ◌+◌, �
 use Rattle.std.specs.List.{starts_with}
 use Rattle.std.proofs.lemmas.Bool.{eqb-true}
 use Rattle.std.proofs.lemmas.Bool.Decides.{nat_tests}
-use Rattle.store_rows.specs.Keys.{RowKey, key_of, Fits, counters, retired, begun, holding, tally, named, part, seal, version, block, pair, chunk, in_one, in_two, in_four, in_eight, retired_prefix, begun_prefix, plan_parts_prefix, load_prefix, chunk_prefix}
+use Rattle.store_rows.specs.Keys.{RowKey, key_of, Fits, counters, retired, begun, holding, tally, named, part, seal, version, block, pair, chunk, in_one, in_two, in_four, in_eight, retired_prefix, begun_prefix, holdings_prefix, plan_parts_prefix, load_prefix, chunk_prefix}
 use Rattle.store_rows.proofs.RowLaws.{keys_differ}
 
 first_so : (b c : Bool) → (b && c) ≡ true → b ≡ true
@@ -91,6 +91,24 @@ starts_retired plan = starts_front retired_prefix (in_eight plan)
 
 pub starts_begun : (load : ℕ) → starts_with nat_eq (key_of (begun load)) begun_prefix ≡ true
 starts_begun load = starts_front begun_prefix (in_eight load)
+
+-- ---- holdings
+pub holding_is : (plan : ℕ) → plan < 2 ^ 64 → (row : RowKey) → Fits row → starts_with nat_eq (key_of row) (holdings_prefix plan) ≡ true → (number : ℕ) × (row ≡ holding plan number)
+holding_is plan few counters fits on = clash on
+holding_is plan few (retired other) fits on = clash on
+holding_is plan few (begun load) fits on = clash on
+holding_is plan few (holding other number) fits on = (number, ap (λ (p : ℕ). holding p number) (number_is other plan (in_eight number) fits.0 few on))
+holding_is plan few (tally held) fits on = clash on
+holding_is plan few (named name) fits on = clash on
+holding_is plan few (part other revision index) fits on = clash on
+holding_is plan few seal fits on = clash on
+holding_is plan few version fits on = clash on
+holding_is plan few (block load place) fits on = clash on
+holding_is plan few (pair load place) fits on = clash on
+holding_is plan few (chunk number piece) fits on = clash on
+
+pub starts_holding : (plan number : ℕ) → starts_with nat_eq (key_of (holding plan number)) (holdings_prefix plan) ≡ true
+starts_holding plan number = starts_front (holdings_prefix plan) (in_eight number)
 
 -- ---- parts
 pub part_is : (plan : ℕ) → plan < 2 ^ 64 → (row : RowKey) → Fits row → starts_with nat_eq (key_of row) (plan_parts_prefix plan) ≡ true → (revision : ℕ) × (index : ℕ) × (row ≡ part plan revision index)

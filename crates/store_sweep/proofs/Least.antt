@@ -25,7 +25,7 @@ use Rattle.btree_scan.specs.Prefixes.{AllFrom}
 use Rattle.btree_scan.proofs.Prefixes.{all_from_key, head_rises, rises_from_key, under_is_from}
 use Rattle.store_rows.specs.Keys.{RowKey, key_of, Fits, counters, retired, begun, holding, tally, named, part, seal, version, block, pair, chunk, in_two, in_eight, chunk_prefix}
 use Rattle.store_rows.proofs.Numbers.{numbers_decide}
-use Rattle.store_rows.specs.Rows.{KeyMap}
+use Rattle.store_rows.specs.Rows.{KeyMap, Lacks}
 use Rattle.store_rows.proofs.Frames.{is_equal, itself, same_key}
 use Rattle.store_rows.specs.Tidy.{AreRows}
 use Rattle.store_sweep.specs.Finding.{IsLeast, IsFirstFrom, IsPieceKey, IsNextChunk, IsPieceOf}
@@ -244,5 +244,5 @@ module _ (m : KeyMap) where
   pub next_none : (number : ℕ) (key : List ℕ) → number < 2 ^ 64 → IsFirstFrom false (chunk_prefix number) key m → IsNextChunk None number key m
   next_none number key fits none = λ other from below other_fits index small. gone_where (get m (key_of (chunk other index))) (λ value there. none (key_of (chunk other index)) value there (piece_from number other index fits other_fits from))
 
-  pub piece_of : (numbers : List ℕ) (number : ℕ) (key : List ℕ) → Contains numbers number → IsPieceKey number key → IsPieceOf numbers key m
-  piece_of numbers number key among is = record { number = number; piece = is.piece; among = among; fits = is.fits; key_is = is.key_is }
+  pub piece_of : (numbers : List ℕ) (number : ℕ) (key : List ℕ) → Contains numbers number → IsPieceKey number key → Lacks m (tally number) → IsPieceOf numbers key m
+  piece_of numbers number key among is unshared = record { number = number; piece = is.piece; among = among; fits = is.fits; key_is = is.key_is; unshared = unshared }

@@ -1,18 +1,17 @@
--- Rows that are found under a prefix are left over.
+-- What is found under a prefix is left over.
 use Rattle.std.proofs.Common.{◌≡◌, ◌<◌, ◌^◌, ℕ, List, [], length, drop, nat_eq, true, Some, None, refl, sym, ap, subst, ◌∙◌}
 use Rattle.std.specs.Prelude.{Contains, Option}
 use Rattle.std.specs.List.{starts_with}
 use Rattle.std.specs.FinMap.{get}
 use Rattle.btree_scan.specs.declared.rows.Row.{Row}
-use Rattle.store_rows.specs.Keys.{RowKey, key_of, Fits, counters, retired, begun, holding, tally, named, part, seal, version, block, pair, chunk, in_eight, retired_prefix, begun_prefix, plan_parts_prefix, load_prefix}
+use Rattle.store_rows.specs.Keys.{RowKey, key_of, Fits, counters, retired, begun, holding, tally, named, part, seal, version, block, pair, chunk, in_eight, retired_prefix, begun_prefix, holdings_prefix, plan_parts_prefix, load_prefix}
 use Rattle.store_rows.specs.Lists.{AreChunks, chunks_bytes}
 use Rattle.store_rows.proofs.RowLaws.{keys_differ}
 use Rattle.store_rows.specs.Rows.{KeyMap, Has}
-use Rattle.store_rows.specs.ChunkRows.{IsFreeChunk}
 use Rattle.store_rows.specs.Tidy.{AreRows, Tidy}
 use Rattle.store_sweep.specs.Leftovers.{IsOfLoad, IsSpared}
-use Rattle.store_sweep.specs.Finding.{IsUnder, IsMark, IsPieceOf, IsLeftKey, HasPlanMark, HasLoadMark, spared_key}
-use Rattle.store_sweep.proofs.Keys.{retired_is, begun_is, part_is, staged_is, IsStagedRow, of_block, of_pair, starts_retired, starts_begun, starts_part, starts_block, starts_pair, tag_number}
+use Rattle.store_sweep.specs.Finding.{IsUnder, IsMark, IsPieceOf, IsDone, IsLeftKey, IsLeftHolding, HasPlanMark, HasLoadMark, HoldsNone, spared_key}
+use Rattle.store_sweep.proofs.Keys.{eights_same, retired_is, begun_is, holding_is, part_is, staged_is, IsStagedRow, of_block, of_pair, starts_retired, starts_begun, starts_holding, starts_part, starts_block, starts_pair, tag_number}
 
 abbrev pub NoneUnder : List ℕ → KeyMap → Type 0
 NoneUnder prefix m = (key : List ℕ) → starts_with nat_eq key prefix ≡ true → get m key ≡ None
@@ -22,6 +21,34 @@ abbrev pub IsNoLoads : RowKey → Type 0
 IsNoLoads row = (load : ℕ) → IsOfLoad load row → ⊥
 
 module _ (m : KeyMap) where
+  -- ---- holdings
+  record IsHoldingRow (plan : ℕ) (row : Row) : Type 0 where
+    pub number : ℕ
+    pub fits : Fits (holding plan number)
+    pub key_is : row.key ≡ key_of (holding plan number)
+    pub there : Has m (holding plan number) row.value
+
+  holding_row : (plan : ℕ) → plan < 2 ^ 64 → AreRows m → (row : Row) → IsUnder (holdings_prefix plan) row m → IsHoldingRow plan row
+  holding_row plan few rows row is =
+      let (of, fits, same) = rows row.key row.value is.there in
+      let (number, kind) = holding_is plan few of fits (subst (λ (k : List ℕ). starts_with nat_eq k (holdings_prefix plan) ≡ true) same is.under) in
+      let key = same ∙ ap key_of kind in
+      record { number = number; fits = subst Fits kind fits; key_is = key; there = ap (λ (k : List ℕ). get m k) (sym key) ∙ is.there }
+
+  pub holding_long : (plan : ℕ) → plan < 2 ^ 64 → HasPlanMark plan m → (row : Row) → IsUnder (holdings_prefix plan) row m → length row.key ≡ 17
+  holding_long plan few has row is = ap (λ (k : List ℕ). length k) (holding_row plan few has.0.rows row is).key_is
+
+  pub holding_left : (plan : ℕ) → plan < 2 ^ 64 → HasPlanMark plan m → (row : Row) → IsUnder (holdings_prefix plan) row m → (number : ℕ) → number < 2 ^ 64 → drop 9 row.key ≡ in_eight number → IsLeftHolding m plan number
+  holding_left plan few has row is number small told =
+      let at = holding_row plan few has.0.rows row is in
+      let bytes : in_eight number ≡ in_eight at.number = sym told ∙ ap (λ (k : List ℕ). drop 9 k) at.key_is in
+      let same : number ≡ at.number = eights_same number at.number small at.fits.1 bytes in
+      let held = has.0.holdings.held plan at.number row.value at.fits at.there in
+      subst (λ (n : ℕ). IsLeftHolding m plan n) (sym same) (record { fits = at.fits; mark = has.1; held = at.there ∙ ap Some held.0 })
+
+  pub holds_none : (plan : ℕ) → NoneUnder (holdings_prefix plan) m → HoldsNone plan m
+  holds_none plan none number = none (key_of (holding plan number)) (starts_holding plan number)
+
   -- ---- parts
   pub record IsPartRow (plan : ℕ) (row : Row) : Type 0 where
     pub revision : ℕ
@@ -50,14 +77,14 @@ module _ (m : KeyMap) where
       let (numbers, chunks, value) = has.0.counted.parts plan at.revision at.index row.value at.fits at.there in
       none numbers chunks (sym value)
 
-  pub part_left : (plan : ℕ) → plan < 2 ^ 64 → HasPlanMark plan m → (row : Row) → IsUnder (plan_parts_prefix plan) row m → (numbers : List ℕ) → AreChunks numbers → chunks_bytes numbers ≡ row.value → ((number : ℕ) → Contains numbers number → IsFreeChunk m number) → IsLeftKey m row.key IsNoLoads
-  part_left plan few has row is numbers chunks value gone =
+  pub part_left : (plan : ℕ) → plan < 2 ^ 64 → HasPlanMark plan m → (row : Row) → IsUnder (plan_parts_prefix plan) row m → (numbers : List ℕ) → AreChunks numbers → chunks_bytes numbers ≡ row.value → HoldsNone plan m → ((number : ℕ) → Contains numbers number → IsDone m number) → IsLeftKey m row.key IsNoLoads
+  part_left plan few has row is numbers chunks value none gone =
       let at = part_row plan few has.0.rows row is in
       record {
         row = part plan at.revision at.index;
         fits = at.fits;
         key_is = at.key_is;
-        left = (has.1, record { numbers = numbers; chunks = chunks; row = at.there ∙ ap Some (sym value); gone = gone });
+        left = (has.1, record { numbers = numbers; chunks = chunks; row = at.there ∙ ap Some (sym value); let_go = λ number among. none number; gone = gone });
         is_apart = λ load of. of;
       }
 
@@ -68,7 +95,7 @@ module _ (m : KeyMap) where
         row = chunk piece.number piece.piece;
         fits = piece.fits;
         key_is = piece.key_is;
-        left = (plan, has.1, record { revision = at.revision; index = at.index; part_fits = at.fits; numbers = numbers; chunks = chunks; row = at.there ∙ ap Some (sym value); among = piece.among });
+        left = (plan, has.1, record { revision = at.revision; index = at.index; part_fits = at.fits; numbers = numbers; chunks = chunks; row = at.there ∙ ap Some (sym value); among = piece.among }, piece.unshared);
         is_apart = λ load of. of;
       }
 

@@ -1,5 +1,5 @@
--- What isn't read of a mark that was found, and what both finders tell.
-use Rattle.std.proofs.Common.{ℕ, List, Bool, true, false, Option, Some, None, Ok, Err, Result, IfOk, IfErr, OnOk, inl, inr, sym, subst, ◌∙◌}
+-- What isn't read of a mark that was found, and what is left over that isn't spared.
+use Rattle.std.proofs.Common.{ℕ, List, Option, Some, None, inl, inr, sym, subst, ◌∙◌}
 use Rattle.sector_device.specs.Disk.{Image}
 use Rattle.sector_device.specs.declared.SectorDevice.{Ghosts}
 use Rattle.page_store.specs.Transactions.{stored, disk_in, IsQuiet, Passed}
@@ -14,20 +14,10 @@ use Rattle.store_rows.specs.Rows.{KeyMap}
 use Rattle.store_rows.specs.Tidy.{Tidy}
 use Rattle.row_table.specs.Reading.{ReadErr}
 use Rattle.store_sweep.specs.Leftovers.{IsSpared}
-use Rattle.store_sweep.specs.Finding.{IsLeftKey, IsPlanLeft, IsLoadLeft, IsNextLeft}
+use Rattle.store_sweep.specs.declared.leftovers.Left.{Left}
+use Rattle.store_sweep.specs.declared.leftovers.Left.TheVariants as left
+use Rattle.store_sweep.specs.Finding.{IsLeft}
 use Rattle.store_sweep.proofs.Left.{IsNoLoads}
-
-pub ok_then : {T E : Type 0} (r : Result T E) (A B : Type 0) → (A → B) → OnOk r A → OnOk r B
-ok_then (Ok x) A B go is = go is
-ok_then (Err e) A B go is = tt
-
-pub if_ok_then : {T E : Type 0} (r : Result T E) (P Q : T → Type 0) → ((x : T) → P x → Q x) → IfOk r P → IfOk r Q
-if_ok_then (Ok x) P Q go is = go x is
-if_ok_then (Err e) P Q go is = tt
-
-pub err_then : {T E : Type 0} (r : Result T E) (P Q : E → Type 0) → ((e : E) → P e → Q e) → IfErr r P → IfErr r Q
-err_then (Ok x) P Q go is = tt
-err_then (Err e) P Q go is = go e is
 
 module _ {D : Type 0} {g : Ghosts D} where
   -- what a tidy map has, by calls that read
@@ -46,10 +36,6 @@ not_spared : (running : Option ℕ) (row : RowKey) → IsNoLoads row → IsSpare
 not_spared None row none is = is
 not_spared (Some load) row none is = none load is
 
-pub plan_next : (running : Option ℕ) (m : KeyMap) (key : List ℕ) → IsLeftKey m key IsNoLoads → IsLeftKey m key (λ row. IsSpared running row → ⊥)
-plan_next running m key left = record { row = left.row; fits = left.fits; key_is = left.key_is; left = left.left; is_apart = not_spared running left.row left.is_apart }
-
--- one of a load, or none at all
-pub load_next : (running : Option ℕ) (m : KeyMap) (key : List ℕ) → IsPlanLeft false key m → (found : Bool) → IsLoadLeft found running key m → IsNextLeft found running key m
-load_next running m key plans true left = left
-load_next running m key plans false loads = record { plans = plans; loads = loads }
+pub plan_next : (running : Option ℕ) (m : KeyMap) (key : List ℕ) (found : Left) → IsLeft m key IsNoLoads found → IsLeft m key (λ row. IsSpared running row → ⊥) found
+plan_next running m key left.Row found = record { row = found.row; fits = found.fits; key_is = found.key_is; left = found.left; is_apart = not_spared running found.row found.is_apart }
+plan_next running m key (left.Holding plan number) found = found

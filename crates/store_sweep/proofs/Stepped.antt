@@ -19,14 +19,14 @@ use Rattle.page_btree.specs.declared.error.TreeError.TheVariants as tree
 use Rattle.desk_model.specs.Desk.{Desk}
 use Rattle.store_rows.specs.Keys.{RowKey, Fits, counters, retired, begun, holding, tally, named, part, seal, version, block, pair, chunk}
 use Rattle.store_rows.specs.Rows.{KeyMap}
-use Rattle.store_rows.specs.SweepLaws.{IsLeftover, take_rows, AreLeftovers}
+use Rattle.store_rows.specs.TurnLaws.{IsUnneeded, CanTurn, Turn, goes, lets_go, rows_in, take_turns, AreTurns}
 use Rattle.store_rows.specs.Tidy.{Tidy}
 use Rattle.desk_pages.specs.Desks.{IsDeskMap, InTxn as DeskInTxn, InPages as DeskInPages, OpensDesk}
 use Rattle.desk_pages.proofs.Kept.{opens_now}
 use Rattle.store_sweep.specs.declared.error.SweepError.{SweepError}
 use Rattle.store_sweep.specs.declared.error.SweepError.TheVariants.{Memory, DeviceFault, Halted}
 use Rattle.store_sweep.specs.Errors.{tree_told}
-use Rattle.store_sweep.specs.Leftovers.{IsSpared, AreNotSpared, IsSweptClean}
+use Rattle.store_sweep.specs.Leftovers.{IsSpared, IsApart, AreNotSpared, rows_of, IsSweptClean}
 use Rattle.store_sweep.specs.Sweeping.{IsSweptMap, HasSwept, HasDesk, TakeErr, HoldsSwept, SweepErr, Leaves, FinishErr}
 
 pub both : {X : Type 0} (b : Bool) → b ≡ true → b ≡ false → X
@@ -41,8 +41,8 @@ pair_spared : (running : Option ℕ) (load place : ℕ) → IsSpared running (be
 pair_spared None load place is = is
 pair_spared (Some l) load place is = is
 
--- a row that is left over has a mark
-mark_there : (running : Option ℕ) (m : KeyMap) → IsSweptClean running m → (row : RowKey) → Fits row → IsLeftover m row → (IsSpared running row → ⊥) → ⊥
+-- a row that nothing needs has a mark
+mark_there : (running : Option ℕ) (m : KeyMap) → IsSweptClean running m → (row : RowKey) → Fits row → IsUnneeded m row → (IsSpared running row → ⊥) → ⊥
 mark_there running m clean counters fits left apart = left
 mark_there running m clean (retired plan) fits left apart = clean.plans plan fits left.0
 mark_there running m clean (begun load) fits left apart = clean.loads load fits apart left.0
@@ -56,16 +56,25 @@ mark_there running m clean (block load place) fits left apart = clean.loads load
 mark_there running m clean (pair load place) fits left apart = clean.loads load fits.0 (λ is. apart (pair_spared running load place is)) left
 mark_there running m clean (chunk number piece) fits left apart = clean.plans left.0 left.2.part_fits.0 left.1
 
-not_clean : (running : Option ℕ) (m : KeyMap) (rows : List RowKey) → (length rows ≡ 0 → ⊥) → AreLeftovers m rows → AreNotSpared running rows → IsSweptClean running m → ⊥
-not_clean running m [] some left apart clean = some refl
-not_clean running m (row ∷ rows) some left apart clean = mark_there running m clean row left.0 left.1 apart.0
+turn_there : (running : Option ℕ) (m : KeyMap) → IsSweptClean running m → (turn : Turn) → CanTurn m turn → IsApart running turn → ⊥
+turn_there running m clean (goes row) can apart = mark_there running m clean row can.0 can.1 apart
+turn_there running m clean (lets_go plan number count) can apart = clean.plans plan can.plan_fits can.mark
 
-rows_none : (rows : List RowKey) → length rows ≡ 0 → (m : KeyMap) → take_rows m rows ≡ m
-rows_none [] none m = refl
-rows_none (row ∷ rows) none m = absurd (omega arith)
+not_clean : (running : Option ℕ) (m : KeyMap) (turns : List Turn) → (rows_of turns ≡ 0 → ⊥) → AreTurns m turns → AreNotSpared running turns → IsSweptClean running m → ⊥
+not_clean running m [] some left apart clean = some refl
+not_clean running m (turn ∷ turns) some left apart clean = turn_there running m clean turn left.0 apart.0
+
+-- each turn changes a row at least
+turn_some : (turn : Turn) (more : ℕ) → rows_in turn + more ≡ 0 → ⊥
+turn_some (goes row) more none = omega arith
+turn_some (lets_go plan number count) more none = omega arith
+
+turns_none : (turns : List Turn) → rows_of turns ≡ 0 → (m : KeyMap) → take_turns m turns ≡ m
+turns_none [] none m = refl
+turns_none (turn ∷ turns) none m = absurd (turn_some turn (rows_of turns) none)
 
 same_map : (running : Option ℕ) (count : ℕ) (m n : KeyMap) (d : Desk) → count ≡ 0 → IsSweptMap running count m d n → n ≡ m
-same_map running count m n d zero swept = swept.by.rest ∙ rows_none swept.by.rows (swept.by.count_is ∙ zero) m
+same_map running count m n d zero swept = swept.by.rest ∙ turns_none swept.by.turns (swept.by.count_is ∙ zero) m
 
 -- ---- commits
 one_leaves : (sectors : ℕ) (d : Desk) (old new : Disk) → LeavesOnly (λ x. OpensDesk sectors d x ⊎ OpensDesk sectors d x) old new → LeavesOnly (OpensDesk sectors d) old new
@@ -142,7 +151,7 @@ module _ {D : Type 0} {g : Ghosts D} where
       record { n = n; first = reads; then = subst (λ (P : Image). InTxn u P n) (sym (quiet.same honest)) reads; swept = map }
 
   abbrev pub Cleans : Option ℕ → ℕ → Txn → Pages D g → Pages D g → Type 0
-  Cleans running count u a b = (disk_in b).is_honest → (n : KeyMap) → InTxn u (stored a) n → Tidy n → count < 16 → IsSweptClean running n
+  Cleans running count u a b = (disk_in b).is_honest → (n : KeyMap) → InTxn u (stored a) n → Tidy n → count < 15 → IsSweptClean running n
 
   pub taken_writes : (running : Option ℕ) (count : ℕ) (t u : Txn) (a b : Pages D g) → IsBegun a t → HasSwept running count t u a b → count ≤ 16 → txn_writes u ≤ 207
   taken_writes running count t u a b start swept few = let writes = swept.writes in let none = start.none in omega arith
@@ -189,14 +198,15 @@ module _ {D : Type 0} {g : Ghosts D} where
   some_exact running count t u a b start swept some honest m d holds is =
       let taken = taken_of running count t u a b start swept honest m d holds is in
       let by = taken.swept.by in
-      (λ zero. absurd (some zero), λ clean. absurd (not_clean running m by.rows (λ none. some (sym by.count_is ∙ none)) by.left by.apart clean))
+      (λ zero. absurd (some zero), λ clean. absurd (not_clean running m by.turns (λ none. some (sym by.count_is ∙ none)) by.left by.apart clean))
 
   pub some_free : (running : Option ℕ) (count : ℕ) (t u : Txn) (a b c : Pages D g) → IsBegun a t → HasSwept running count t u a b → Committed u b c → (disk_in b).is_honest → (d : Desk) → DeskInPages a d → length (free_in (stored a)) ≤ length (free_in (stored c))
   some_free running count t u a b c start swept committed honest d holds =
       let taken = taken_of running count t u a b start swept honest holds.m d holds.holds holds.is in
       let now = (committed taken.n taken.then).1 in
-      let given = swept.given in
-      let was = start.free (swept.passed.quiet.honest honest) in
+      let begun = swept.passed.quiet.honest honest in
+      let given = swept.given honest holds.m d (start.reads begun holds.m holds.holds) holds.is in
+      let was = start.free begun in
       omega arith
 
   pub some_leaves : (running : Option ℕ) (count : ℕ) (t u : Txn) (a b c : Pages D g) → IsBegun a t → HasSwept running count t u a b → Leaves u b c → (disk_in b).is_honest → (sectors : ℕ) (d : Desk) → home (journal_of a) + count_of a ≡ sectors → DeskInPages a d → LeavesOnly (OpensDesk sectors d) (disk_in a) (disk_in c)
@@ -205,14 +215,17 @@ module _ {D : Type 0} {g : Ghosts D} where
       one_leaves sectors d (disk_in a) (disk_in c) (step_leaves u a b c swept.passed.quiet honest start.working commit sectors d d whole holds (record { m = taken.n; holds = taken.then; is = taken.swept.is }))
 
   -- ---- refusals
+  no_desk : (t : Txn) (a b : Pages D g) → IsBegun a t → IsQuiet a b → ((disk_in b).is_honest → (m : KeyMap) → InTxn t (stored a) m → HasDesk m → ⊥) → (disk_in b).is_honest → (d : Desk) → DeskInPages a d → ⊥
+  no_desk t a b start quiet none honest d holds = none honest holds.m (start.reads (quiet.honest honest) holds.m holds.holds) (d, holds.is)
+
   pub not_taken : (t : Txn) (a b : Pages D g) → IsBegun a t → IsQuiet a b → (e : TreeError) → TakeErr HasDesk t a b e → SweepErr a b (tree_told e)
   not_taken t a b start quiet tree.DeviceFault why = elim why [
     | inl failed ↦ inl failed
-    | inr none ↦ inr (λ honest d holds. none honest holds.m (start.reads (quiet.honest honest) holds.m holds.holds) (d, holds.is))
+    | inr none ↦ inr (no_desk t a b start quiet none)
   ]
   not_taken t a b start quiet tree.Halted why = both (has_halted a) why start.working
-  not_taken t a b start quiet tree.NoPages why = absurd why
-  not_taken t a b start quiet tree.TooDeep why = absurd why
+  not_taken t a b start quiet tree.NoPages why = inr (no_desk t a b start quiet why)
+  not_taken t a b start quiet tree.TooDeep why = inr (no_desk t a b start quiet why)
   not_taken t a b start quiet tree.Memory why = quiet
 
   pub not_committed : (a b c : Pages D g) → Passed a b → ((disk_in c).is_honest → (disk_in b).is_honest) → (e : SweepError) → FinishErr b c e → SweepErr a c e

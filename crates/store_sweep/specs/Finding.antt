@@ -1,16 +1,19 @@
 -- Rows that are looked for.
-use Rattle.std.specs.Prelude.{◌≡◌, ◌<◌, ◌≤◌, ◌^◌, ℕ, Bool, true, false, nat_eq, List, [], Option, Some, None, Contains}
+use Rattle.std.specs.Prelude.{◌≡◌, ◌⊎◌, ◌<◌, ◌≤◌, ◌^◌, ℕ, Bool, true, false, nat_eq, List, [], Option, Some, None, Contains}
 use Rattle.std.specs.List.{starts_with}
 use Rattle.std.specs.FinMap.{get}
 use Rattle.std.specs.Ordering.{is_gt}
 use Rattle.page_node.specs.Places.{key_cmp}
 use Rattle.btree_scan.specs.declared.rows.Row.{Row}
-use Rattle.store_rows.specs.Keys.{RowKey, key_of, Fits, counters, retired, begun, chunk}
-use Rattle.store_rows.specs.Rows.{KeyMap, Has}
+use Rattle.store_rows.specs.Keys.{RowKey, key_of, Fits, counters, retired, begun, holding, tally, chunk}
+use Rattle.store_rows.specs.Rows.{KeyMap, Has, Lacks}
 use Rattle.store_rows.specs.ChunkRows.{IsFreeChunk}
-use Rattle.store_rows.specs.SweepLaws.{IsLeftover}
+use Rattle.store_rows.specs.Holders.{IsHeld}
+use Rattle.store_rows.specs.TurnLaws.{IsShared, IsUnneeded}
 use Rattle.store_rows.specs.Tidy.{Tidy}
 use Rattle.store_sweep.specs.Leftovers.{IsSpared, IsOfLoad, IsSweptClean}
+use Rattle.store_sweep.specs.declared.leftovers.Left.{Left}
+use Rattle.store_sweep.specs.declared.leftovers.Left.TheVariants as left
 use Rattle.store_sweep.specs.declared.pieces.Gap.{Gap}
 
 -- a row whose key begins with a prefix, where there is one
@@ -37,17 +40,27 @@ abbrev pub spared_key : Option ℕ → List ℕ
 spared_key None = key_of counters
 spared_key (Some load) = key_of (begun load)
 
--- a piece that is left of one of these chunks
+-- some plan holds the chunk, or none is told to
+abbrev pub IsToldShared : Bool → ℕ → KeyMap → Type 0
+IsToldShared true number m = IsShared m number
+IsToldShared false number m = Lacks m (tally number)
+
+-- a piece that is left of one of these chunks, which no plan holds
 pub record IsPieceOf (numbers : List ℕ) (key : List ℕ) (m : KeyMap) : Type 0 where
   pub number : ℕ
   pub piece : ℕ
   pub among : Contains numbers number
   pub fits : Fits (chunk number piece)
   pub key_is : key ≡ key_of (chunk number piece)
+  pub unshared : Lacks m (tally number)
+
+-- the chunk has no piece, or another plan holds it
+abbrev pub IsDone : KeyMap → ℕ → Type 0
+IsDone m number = IsFreeChunk m number ⊎ IsShared m number
 
 abbrev pub IsFirstPiece : Bool → List ℕ → List ℕ → KeyMap → Type 0
 IsFirstPiece true numbers key m = IsPieceOf numbers key m
-IsFirstPiece false numbers key m = (number : ℕ) → Contains numbers number → IsFreeChunk m number
+IsFirstPiece false numbers key m = (number : ℕ) → Contains numbers number → IsDone m number
 
 -- the first key of the map that isn't below a key, or none where there is none
 pub record IsLeast (key found : List ℕ) (m : KeyMap) : Type 0 where
@@ -84,28 +97,44 @@ abbrev pub IsGap : Gap → List ℕ → KeyMap → Type 0
 IsGap gap key m = AreFree gap.from gap.to m × EndsAt gap.ends gap.to key
 
 abbrev pub IsSought : Bool → ℕ → Gap → List ℕ → KeyMap → Type 0
-IsSought true number gap key m = IsPieceKey number key
+IsSought true number gap key m = IsPieceKey number key × IsGap gap key m
 IsSought false number gap key m = IsFreeChunk m number × IsGap gap key m
 
--- the key of a row that is left over
+-- a piece of it is left that no plan holds, or not
+abbrev pub IsSoughtLeft : Bool → ℕ → Gap → List ℕ → KeyMap → Type 0
+IsSoughtLeft true number gap key m = IsPieceKey number key × Lacks m (tally number)
+IsSoughtLeft false number gap key m = IsDone m number × IsGap gap key m
+
+-- the key of a row that nothing needs
 pub record IsLeftKey (m : KeyMap) (key : List ℕ) (apart : RowKey → Type 0) : Type 0 where
   pub row : RowKey
   pub fits : Fits row
   pub key_is : key ≡ key_of row
-  pub left : IsLeftover m row
+  pub left : IsUnneeded m row
   pub is_apart : apart row
 
-abbrev pub IsPlanLeft : Bool → List ℕ → KeyMap → Type 0
-IsPlanLeft true key m = IsLeftKey m key (λ row. (load : ℕ) → IsOfLoad load row → ⊥)
-IsPlanLeft false key m = (plan : ℕ) → plan < 2 ^ 64 → Has m (retired plan) [] → ⊥
+-- a chunk that a plan holds which was taken away
+pub record IsLeftHolding (m : KeyMap) (plan number : ℕ) : Type 0 where
+  pub fits : Fits (holding plan number)
+  pub mark : Has m (retired plan) []
+  pub held : IsHeld m plan number
+
+-- what was found is left over
+abbrev pub IsLeft : KeyMap → List ℕ → (RowKey → Type 0) → Left → Type 0
+IsLeft m key apart left.Row = IsLeftKey m key apart
+IsLeft m key apart (left.Holding plan number) = IsLeftHolding m plan number
+
+abbrev pub IsPlanLeft : Option Left → List ℕ → KeyMap → Type 0
+IsPlanLeft (Some found) key m = IsLeft m key (λ row. (load : ℕ) → IsOfLoad load row → ⊥) found
+IsPlanLeft None key m = (plan : ℕ) → plan < 2 ^ 64 → Has m (retired plan) [] → ⊥
 
 abbrev pub IsLoadLeft : Bool → Option ℕ → List ℕ → KeyMap → Type 0
 IsLoadLeft true running key m = IsLeftKey m key (λ row. IsSpared running row → ⊥)
 IsLoadLeft false running key m = (load : ℕ) → load < 2 ^ 64 → (IsSpared running (begun load) → ⊥) → Has m (begun load) [] → ⊥
 
-abbrev pub IsNextLeft : Bool → Option ℕ → List ℕ → KeyMap → Type 0
-IsNextLeft true running key m = IsLeftKey m key (λ row. IsSpared running row → ⊥)
-IsNextLeft false running key m = IsSweptClean running m
+abbrev pub IsNextLeft : Option Left → Option ℕ → List ℕ → KeyMap → Type 0
+IsNextLeft (Some found) running key m = IsLeft m key (λ row. IsSpared running row → ⊥) found
+IsNextLeft None running key m = IsSweptClean running m
 
 -- the mark of a plan or of a load is there
 abbrev pub HasPlanMark : ℕ → KeyMap → Type 0
@@ -113,3 +142,7 @@ HasPlanMark plan m = Tidy m × Has m (retired plan) []
 
 abbrev pub HasLoadMark : ℕ → KeyMap → Type 0
 HasLoadMark load m = Tidy m × Has m (begun load) []
+
+-- the plan holds no chunk
+abbrev pub HoldsNone : ℕ → KeyMap → Type 0
+HoldsNone plan m = (number : ℕ) → Lacks m (holding plan number)

@@ -1,8 +1,8 @@
--- Which rows of a store are swept, and what is left once they are.
-use Rattle.std.specs.Prelude.{◌≡◌, ◌<◌, ◌^◌, ℕ, List, [], ◌∷◌, length, Option, Some, None}
+-- Which turns a sweep takes, and what is left once they are taken.
+use Rattle.std.specs.Prelude.{◌≡◌, ◌<◌, ◌+◌, ◌^◌, ℕ, List, [], ◌∷◌, Option, Some, None}
 use Rattle.store_rows.specs.Keys.{RowKey, counters, retired, begun, holding, tally, named, part, seal, version, block, pair, chunk}
 use Rattle.store_rows.specs.Rows.{KeyMap, Has}
-use Rattle.store_rows.specs.SweepLaws.{take_rows, AreLeftovers}
+use Rattle.store_rows.specs.TurnLaws.{Turn, goes, lets_go, rows_in, take_turns, AreTurns}
 
 -- a row that a load staged, or its mark
 abbrev pub IsOfLoad : ℕ → RowKey → Type 0
@@ -24,9 +24,19 @@ abbrev pub IsSpared : Option ℕ → RowKey → Type 0
 IsSpared None row = ⊥
 IsSpared (Some load) row = IsOfLoad load row
 
-abbrev pub AreNotSpared : Option ℕ → List RowKey → Type 0
+-- none of a turn is
+abbrev pub IsApart : Option ℕ → Turn → Type 0
+IsApart running (goes row) = IsSpared running row → ⊥
+IsApart running (lets_go plan number count) = Unit {0}
+
+abbrev pub AreNotSpared : Option ℕ → List Turn → Type 0
 AreNotSpared running [] = Unit {0}
-AreNotSpared running (row ∷ rows) = (IsSpared running row → ⊥) × AreNotSpared running rows
+AreNotSpared running (turn ∷ turns) = IsApart running turn × AreNotSpared running turns
+
+-- how many rows turns change or take out
+abbrev pub rows_of : List Turn → ℕ
+rows_of [] = 0
+rows_of (turn ∷ turns) = rows_in turn + rows_of turns
 
 -- No mark is left of a plan that was taken away, nor of a load that was begun, but for the one that is under way. So each part of a
 -- revision and each piece of a chunk is of a plan that is there, and each row of another load is the geography's.
@@ -34,10 +44,10 @@ pub record IsSweptClean (running : Option ℕ) (m : KeyMap) : Type 0 where
   pub plans : (plan : ℕ) → plan < 2 ^ 64 → Has m (retired plan) [] → ⊥
   pub loads : (load : ℕ) → load < 2 ^ 64 → (IsSpared running (begun load) → ⊥) → Has m (begun load) [] → ⊥
 
--- so many leftovers were taken out, one after the other, and none of them was spared
+-- so many rows were changed or taken out by turns, one after the other, and none of them was spared
 pub record IsSweptBy (running : Option ℕ) (count : ℕ) (m n : KeyMap) : Type 0 where
-  pub rows : List RowKey
-  pub count_is : length rows ≡ count
-  pub left : AreLeftovers m rows
-  pub apart : AreNotSpared running rows
-  pub rest : n ≡ take_rows m rows
+  pub turns : List Turn
+  pub count_is : rows_of turns ≡ count
+  pub left : AreTurns m turns
+  pub apart : AreNotSpared running turns
+  pub rest : n ≡ take_turns m turns

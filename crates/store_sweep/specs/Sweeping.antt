@@ -1,5 +1,5 @@
 -- What a sweep did.
-use Rattle.std.specs.Prelude.{◌≡◌, ◌⊎◌, ◌<◌, ◌≤◌, ◌+◌, ◌*◌, ℕ, Bool, true, false, Option}
+use Rattle.std.specs.Prelude.{◌≡◌, ◌⊎◌, ◌<◌, ◌≤◌, ◌+◌, ◌*◌, ℕ, true, Option}
 use Rattle.sector_device.specs.Moments.{LeavesOnly}
 use Rattle.sector_device.specs.declared.SectorDevice.{Ghosts}
 use Rattle.gate_journal.specs.Store.{home}
@@ -17,7 +17,7 @@ use Rattle.store_sweep.specs.declared.error.SweepError.{SweepError}
 use Rattle.store_sweep.specs.declared.error.SweepError.TheVariants.{Memory, DeviceFault, Halted}
 use Rattle.store_sweep.specs.Leftovers.{IsSweptBy, IsSweptClean}
 
--- a map of the same desk, of which so many leftovers were taken out
+-- a map of the same desk, of which so many rows were changed or taken out
 pub record IsSweptMap (running : Option ℕ) (count : ℕ) (m : KeyMap) (d : Desk) (n : KeyMap) : Type 0 where
   pub is : IsDeskMap n d
   pub by : IsSweptBy running count m n
@@ -27,33 +27,34 @@ abbrev pub HasDesk : KeyMap → Type 0
 HasDesk m = (d : Desk) × IsDeskMap m d
 
 module _ {D : Type 0} {g : Ghosts D} where
-  -- A transaction took them out: a removal writes 6 pages at most, and takes none.
+  -- A transaction took them out: a removal writes 6 pages at most, and a plan lets a chunk go by two rows and 17 pages; none is taken.
   pub record HasSwept (running : Option ℕ) (count : ℕ) (t u : Txn) (old new : Pages D g) : Type 0 where
     pub passed : Passed old new
     pub pages : txn_pages u ≡ txn_pages t
     pub swept : (disk_in new).is_honest → (m : KeyMap) (d : Desk) → InTxn t (stored old) m → IsDeskMap m d → (n : KeyMap) × InTxn u (stored old) n × IsSweptMap running count m d n
-    pub writes : txn_writes u ≤ txn_writes t + 6 * count
-    pub given : txn_free t ≤ txn_free u
+    pub writes : txn_writes u ≤ txn_writes t + 9 * count
+    pub given : (disk_in new).is_honest → (m : KeyMap) (d : Desk) → InTxn t (stored old) m → IsDeskMap m d → txn_free t ≤ txn_free u
 
-  -- one more was taken out, or none is left and nothing was written
-  abbrev pub IsTurn : Bool → Option ℕ → Txn → Txn → Pages D g → Pages D g → Type 0
-  IsTurn true running t u old new = HasSwept running 1 t u old new
-  IsTurn false running t u old new = Passed old new × (u ≡ t) × ((disk_in new).is_honest → (m : KeyMap) → InTxn t (stored old) m → Tidy m → IsSweptClean running m)
+  -- a turn more was taken, or none is left
+  pub record IsTurn (running : Option ℕ) (count : ℕ) (t u : Txn) (old new : Pages D g) : Type 0 where
+    pub few : count ≤ 2
+    pub swept : HasSwept running count t u old new
+    pub clean : count ≡ 0 → (disk_in new).is_honest → (m : KeyMap) → InTxn u (stored old) m → Tidy m → IsSweptClean running m
 
   -- why they are not taken out of a map with this: the device failed, or the transaction reads no such map
   abbrev pub TakeErr : (KeyMap → Type 0) → Txn → Pages D g → Pages D g → TreeError → Type 0
   TakeErr has t old new tree.DeviceFault = HasFailed old new ⊎ ((disk_in new).is_honest → (m : KeyMap) → InTxn t (stored old) m → has m → ⊥)
   TakeErr has t old new tree.Halted = has_halted old ≡ true
-  TakeErr has t old new tree.NoPages = ⊥
-  TakeErr has t old new tree.TooDeep = ⊥
+  TakeErr has t old new tree.NoPages = (disk_in new).is_honest → (m : KeyMap) → InTxn t (stored old) m → has m → ⊥
+  TakeErr has t old new tree.TooDeep = (disk_in new).is_honest → (m : KeyMap) → InTxn t (stored old) m → has m → ⊥
   TakeErr has t old new tree.Memory = Unit {0}
 
-  -- the pages hold what is left then; fewer than 16 rows were taken only where no other was left
+  -- the pages hold what is left then; fewer than 15 rows were changed or taken out only where nothing else was left
   pub record HoldsSwept (running : Option ℕ) (count : ℕ) (m : KeyMap) (d : Desk) (ps : Pages D g) : Type 0 where
     pub n : KeyMap
     pub holds : InPages ps n
     pub swept : IsSweptMap running count m d n
-    pub clean : count < 16 → IsSweptClean running n
+    pub clean : count < 15 → IsSweptClean running n
 
   -- why nothing is swept
   abbrev pub SweepErr : Pages D g → Pages D g → SweepError → Type 0

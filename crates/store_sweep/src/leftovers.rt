@@ -1,4 +1,4 @@
-//! Finds a row that is left over.
+//! Finds what is left over.
 ghost use Rattle.std.specs.Prelude.{◌≡◌, ◌<◌, ◌^◌, ℕ, List, [], ◌∷◌, length, drop, Option, Some, MatchOption, OnOk, IfOk, IfErr};
 ghost use Rattle.page_store.specs.Transactions.{stored, disk_in, count_of, txn_pages, IsQuiet, Passed};
 ghost use Rattle.page_btree.specs.Map.{InTxn};
@@ -8,7 +8,7 @@ ghost use Rattle.store_rows.specs.Rows.{KeyMap};
 ghost use Rattle.store_rows.specs.Tidy.{Tidy};
 ghost use Rattle.store_sweep.specs.Leftovers.{IsOfLoad, IsSpared};
 ghost use Rattle.store_sweep.specs.Finding.{IsLeftKey, IsPlanLeft, IsLoadLeft, IsNextLeft, HasPlanMark, HasLoadMark, spared_key};
-ghost use Rattle.store_sweep.specs.Sought.{FindsLeftOfPlan};
+ghost use Rattle.store_sweep.specs.Sought.{FindsRowOfPlan, FindsLeftOfPlan};
 
 use crate::firsts::{first_mark, first_under};
 use crate::pieces::{eight, first_piece};
@@ -17,6 +17,15 @@ use page_store::{Pages, Txn};
 use row_table::TreeError;
 use sector_device::SectorDevice;
 use store_rows::{Key, read_chunks};
+
+/// What is left over.
+#[derive(Clone, Copy, Drop)]
+pub(crate) enum Left {
+    /// A row that nothing needs, whose key was found.
+    Row,
+    /// A chunk that a plan holds which was taken away.
+    Holding { plan: u64, number: u64 },
+}
 
 /// The number behind the tag of a key; None where it isn't 8 bytes.
 fn number_in(key: &[u8]) -> Option<u64>
@@ -28,9 +37,19 @@ fn number_in(key: &[u8]) -> Option<u64>
     Some(eight(&key[1..]))
 }
 
-/// Makes `row` one that is left over of a plan that was taken away, which has this mark: a piece of a chunk that its first part names;
-/// that part, where no piece is left; the mark, where no part is left.
-fn left_of_plan<D: SectorDevice>(
+/// The chunk of a holding's key; None where it is no such key.
+fn chunk_in(key: &[u8]) -> Option<u64>
+    ensures { MatchOption result (length key.now ≡ 17 → ⊥) (λ number. (drop 9 key.now ≡ in_eight number) × (number < 2 ^ 64)) }
+{
+    if key.len() != 17 {
+        return None;
+    }
+    Some(eight(&key[9..]))
+}
+
+/// What is left over of the parts of a plan that was taken away and holds no chunk, whose key is made that of `row`: a piece of a
+/// chunk that its first part names and that no plan holds; that part, where no such piece is left; the mark, where no part is left.
+fn left_of_parts<D: SectorDevice>(
     txn: &Txn,
     pages: &mut Pages<D>,
     plan: u64,
@@ -39,7 +58,7 @@ fn left_of_plan<D: SectorDevice>(
     requires begun { txn_pages txn.now ≡ count_of pages.old }
     ensures quiet { IsQuiet pages.old pages.new }
     ensures passed { OnOk result (Passed pages.old pages.new) }
-    ensures found { FindsLeftOfPlan plan txn.now pages.old pages.new row.new.key result }
+    ensures found { FindsRowOfPlan plan txn.now pages.old pages.new row.new.key result }
     ensures err { IfErr result (λ e. ReadErr (HasPlanMark plan) txn.now pages.old pages.new e) }
 {
     let prefix = Key::plan_parts(plan);
@@ -56,6 +75,30 @@ fn left_of_plan<D: SectorDevice>(
     }
     row.key.set(piece.key.as_slice());
     Ok(())
+}
+
+/// What is left over of a plan that was taken away, which has this mark: a chunk that it holds; a row, where it holds none.
+fn left_of_plan<D: SectorDevice>(
+    txn: &Txn,
+    pages: &mut Pages<D>,
+    plan: u64,
+    row: &mut Row,
+) -> Result<Left, TreeError>
+    requires begun { txn_pages txn.now ≡ count_of pages.old }
+    ensures quiet { IsQuiet pages.old pages.new }
+    ensures passed { OnOk result (Passed pages.old pages.new) }
+    ensures found { FindsLeftOfPlan plan txn.now pages.old pages.new row.new.key result }
+    ensures err { IfErr result (λ e. ReadErr (HasPlanMark plan) txn.now pages.old pages.new e) }
+{
+    let prefix = Key::holdings(plan);
+    if first_under(txn, pages, prefix.as_slice(), row)? {
+        let Some(number) = chunk_in(row.key.as_slice()) else {
+            return Err(TreeError::DeviceFault);
+        };
+        return Ok(Left::Holding { plan, number });
+    }
+    left_of_parts(txn, pages, plan, row)?;
+    Ok(Left::Row)
 }
 
 /// Makes `row` one that is left over of a load, which has this mark: a row of it, or the mark where no row is left.
@@ -114,12 +157,12 @@ fn left_of_loads<D: SectorDevice>(
     Ok(true)
 }
 
-/// Makes `row` one that is left over of a plan that was taken away, if there is one.
+/// What is left over of the first plan that was taken away, if there is one.
 fn left_of_plans<D: SectorDevice>(
     txn: &Txn,
     pages: &mut Pages<D>,
     row: &mut Row,
-) -> Result<bool, TreeError>
+) -> Result<Option<Left>, TreeError>
     requires begun { txn_pages txn.now ≡ count_of pages.old }
     ensures quiet { IsQuiet pages.old pages.new }
     ensures passed { OnOk result (Passed pages.old pages.new) }
@@ -129,30 +172,33 @@ fn left_of_plans<D: SectorDevice>(
     let prefix = Key::all_retired();
     let none = Key::counters();
     if !first_mark(txn, pages, prefix.as_slice(), none.as_slice(), row)? {
-        return Ok(false);
+        return Ok(None);
     }
     let Some(plan) = number_in(row.key.as_slice()) else {
         return Err(TreeError::DeviceFault);
     };
-    left_of_plan(txn, pages, plan, row)?;
-    Ok(true)
+    let left = left_of_plan(txn, pages, plan, row)?;
+    Ok(Some(left))
 }
 
-/// Makes `row` the next one that is left over, if there is one: those of plans come before those of loads.
+/// What is left over next, if anything is: that of plans comes before that of loads. The key of a row is made that of `row`.
 pub(crate) fn next_leftover<D: SectorDevice>(
     txn: &Txn,
     pages: &mut Pages<D>,
     running: Option<u64>,
     row: &mut Row,
-) -> Result<bool, TreeError>
+) -> Result<Option<Left>, TreeError>
     requires begun { txn_pages txn.now ≡ count_of pages.old }
     ensures quiet { IsQuiet pages.old pages.new }
     ensures passed { OnOk result (Passed pages.old pages.new) }
     ensures found { (disk_in pages.new).is_honest → (m : KeyMap) → InTxn txn.now (stored pages.old) m → Tidy m → IfOk result (λ found. IsNextLeft found running row.new.key m) }
     ensures err { IfErr result (λ e. ReadErr Tidy txn.now pages.old pages.new e) }
 {
-    if left_of_plans(txn, pages, row)? {
-        return Ok(true);
+    if let Some(left) = left_of_plans(txn, pages, row)? {
+        return Ok(Some(left));
     }
-    left_of_loads(txn, pages, running, row)
+    if left_of_loads(txn, pages, running, row)? {
+        return Ok(Some(Left::Row));
+    }
+    Ok(None)
 }

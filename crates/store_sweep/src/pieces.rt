@@ -10,11 +10,11 @@ ghost use Rattle.row_table.specs.Reading.{ReadErr};
 ghost use Rattle.store_rows.specs.Keys.{in_eight};
 ghost use Rattle.store_rows.specs.Rows.{KeyMap};
 ghost use Rattle.store_rows.specs.Tidy.{AreRows};
-ghost use Rattle.store_sweep.specs.Finding.{IsFirstFrom, IsNextChunk, IsFirstPiece};
-ghost use Rattle.store_sweep.specs.Sought.{SeeksPiece};
+ghost use Rattle.store_sweep.specs.Finding.{IsFirstFrom, IsNextChunk, IsToldShared, IsFirstPiece};
+ghost use Rattle.store_sweep.specs.Sought.{SeeksPiece, SeeksLeft};
 
 use btree_scan::{Row, SmallBytes};
-use page_btree::{Leaf, leaf_from};
+use page_btree::{Leaf, get, leaf_from};
 use page_node::{Lengths, bounds_in};
 use page_store::{Pages, Txn};
 use row_table::TreeError;
@@ -147,7 +147,51 @@ fn seek_piece<D: SectorDevice>(
     }
 }
 
-/// The first piece that is left of one of these chunks, if there is one. Numbers that follow one another cost one search of the tree.
+/// Whether some plan holds a chunk.
+fn is_shared<D: SectorDevice>(
+    txn: &Txn,
+    pages: &mut Pages<D>,
+    number: u64,
+) -> Result<bool, TreeError>
+    requires begun { txn_pages txn.now ≡ count_of pages.old }
+    ensures quiet { IsQuiet pages.old pages.new }
+    ensures passed { OnOk result (Passed pages.old pages.new) }
+    ensures told { (disk_in pages.new).is_honest → (m : KeyMap) → InTxn txn.now (stored pages.old) m → IfOk result (λ is. IsToldShared is number m) }
+    ensures err { IfErr result (λ e. GetErr txn.now pages.old pages.new e) }
+{
+    let key = Key::tally(number);
+    let mut bytes = [0; 1024];
+    match get(txn, pages, key.as_slice(), &mut bytes)? {
+        None => Ok(false),
+        Some(_) => Ok(true),
+    }
+}
+
+/// Copies the key of a piece of a chunk, if there is one and no plan holds the chunk.
+fn seek_left<D: SectorDevice>(
+    txn: &Txn,
+    pages: &mut Pages<D>,
+    number: u64,
+    gap: &mut Gap,
+    row: &mut Row,
+) -> Result<bool, TreeError>
+    requires begun { txn_pages txn.now ≡ count_of pages.old }
+    ensures quiet { IsQuiet pages.old pages.new }
+    ensures passed { OnOk result (Passed pages.old pages.new) }
+    ensures found { SeeksLeft number txn.now pages.old pages.new gap.old row.old.key gap.new row.new.key result }
+    ensures err { IfErr result (λ e. ReadErr AreRows txn.now pages.old pages.new e) }
+{
+    if !seek_piece(txn, pages, number, gap, row)? {
+        return Ok(false);
+    }
+    if is_shared(txn, pages, number)? {
+        return Ok(false);
+    }
+    Ok(true)
+}
+
+/// The first piece that is left of one of these chunks that no plan holds, if there is one. Numbers that follow one another cost one
+/// search of the tree.
 pub(crate) fn first_piece<D: SectorDevice>(
     txn: &Txn,
     pages: &mut Pages<D>,
@@ -166,7 +210,7 @@ pub(crate) fn first_piece<D: SectorDevice>(
         ends: false,
     };
     for number in numbers {
-        if seek_piece(txn, pages, *number, &mut gap, row)? {
+        if seek_left(txn, pages, *number, &mut gap, row)? {
             return Ok(true);
         }
     }

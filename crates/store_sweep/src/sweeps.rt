@@ -18,9 +18,10 @@ use page_store::Pages;
 use sector_device::SectorDevice;
 use std::alloc::Global;
 
-/// Takes out up to 16 rows that plans that were taken away and loads that were begun and never sealed left behind, in one commit
-/// of at most 208 pages: how many there were, 0 only where none is left. `running` is the load that is under way, whose rows are
-/// spared. The desk stays as it is, and no number is used again.
+/// Changes or takes out up to 16 rows that plans that were taken away and loads that were begun and never sealed left behind, in one
+/// commit of at most 208 pages: how many there were, 0 only where none is left. Such a plan lets the chunks go that it holds, each by two
+/// rows; a chunk's pieces are taken out once no plan holds it. `running` is the load that is under way, whose rows are spared. The desk
+/// stays as it is, and no number is used again.
 pub fn sweep_step<D: SectorDevice>(
     alloc: Global,
     pages: &mut Pages<D>,

@@ -5,6 +5,7 @@ returns-in-Ok-clause-ok g c = record {
   sectors = c.in-Ok.ensures.working.1;
   honest = c.in-Ok.ensures.honest;
   any_moment = c.in-Ok.ensures.any_moment;
+  any_version = c.in-Ok.ensures.any_version;
   keeps = λ all. (c.in-Ok.ensures.opened all).0;
   one = λ all. (c.in-Ok.ensures.opened all).1;
   found = c.in-Ok.ensures.found;
@@ -18,6 +19,7 @@ returns-in-Err-clause-err g c = record {
   sectors = c.in-Err.ensures.sectors;
   honest = c.in-Err.ensures.honest;
   any_moment = c.in-Err.ensures.any_moment;
+  any_version = c.in-Err.ensures.any_version;
   why = c.in-Err.ensures.err;
   spared = c.in-Err.ensures.untouched;
 }

@@ -11,4 +11,5 @@ returns c = record {
   patch = simp (get-insert {X = Plan} nat_list_cmp_total);
   unchanged = simp (get-insert {X = Plan} nat_list_cmp_total);
   retire = refl;
+  fork = refl;
 }

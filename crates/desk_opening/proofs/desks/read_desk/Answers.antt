@@ -27,8 +27,8 @@ returns-clause-passed g c =
     ok_then c.read_rows.result (Passed b d) (Passed a d) (λ next. passed_more a b d c.in_ok-check_rows.ensures.passed next) c.read_rows.ensures.passed
 
 pub returns-clause-read : goal.returns-clause-read
-returns-clause-read g c = λ honest d held.
-    c.read_rows.ensures.read honest d (still_reads c.args.txn.now c.args.pages.now c.check_rows.new.pages d c.in_ok-check_rows.ensures.passed (c.read_rows.ensures.quiet.honest honest) held)
+returns-clause-read g c = λ honest new d held.
+    c.read_rows.ensures.read honest new d (still_reads c.args.txn.now c.args.pages.now c.check_rows.new.pages d c.in_ok-check_rows.ensures.passed (c.read_rows.ensures.quiet.honest honest) held)
 
 pub returns-clause-found : goal.returns-clause-found
 returns-clause-found g c = λ honest m holds.

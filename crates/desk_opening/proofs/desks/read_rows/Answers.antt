@@ -8,8 +8,8 @@ use Rattle.desk_model.specs.Desk.{Desk}
 use Rattle.row_table.specs.Reading.{ReadErr}
 use Rattle.row_table.proofs.Outcomes.{err_of}
 use Rattle.row_table.proofs.Appending.{then_unappended}
-use Rattle.desk_pages.specs.Desks.{IsDeskMap, new_desk}
-use Rattle.desk_opening.specs.Opening.{ArePlans, HasNothing, IsShown, OpenErr}
+use Rattle.desk_pages.specs.Desks.{new_desk}
+use Rattle.desk_opening.specs.Opening.{ArePlans, HasNothing, IsMapAs, IsShown, OpenErr}
 use Rattle.desk_opening.proofs.WholeDesks.{is_new, are_plans, unopened, has_nothing, nothing_unread, some_ground, ok_then, if_ok_then, err_then}
 use Rattle.desk_opening.proofs.Shown.{nothing_shown}
 use Rattle.desk_opening.proofs.desks.read_rows.Goals as goal
@@ -21,7 +21,7 @@ returns-in_err-ground-clause-err g c =
     let b = c.geography.new.pages in
     let error = c.in_err-ground.field-0.0 in
     err_of c.from_residual.result error (λ e. OpenErr t a b e) c.from_residual.ensures.1
-    (unopened t a b error (then_unappended IsDeskMap IsGeography t a a b error (λ honest m d holds is. (d.geography, is.desk.geography)) (passed_none a) c.geography.ensures.quiet c.in_err-ground.ensures.err))
+    (unopened t a b error (then_unappended IsMapAs IsGeography t a a b error (λ honest m x holds is. (x.1.geography, is.desk.geography)) (passed_none a) c.geography.ensures.quiet c.in_err-ground.ensures.err))
 
 pub returns-in_default-clause-quiet : goal.returns-in_default-clause-quiet
 returns-in_default-clause-quiet g c = quiet_more c.args.pages.now c.geography.new.pages c.read_none.new.pages c.geography.ensures.quiet c.read_none.ensures.quiet
@@ -34,7 +34,7 @@ returns-in_default-clause-passed g c =
     ok_then c.read_none.result (Passed b d) (Passed a d) (λ next. passed_more a b d c.in_ok-ground.ensures.passed next) c.read_none.ensures.passed
 
 pub returns-in_default-clause-read : goal.returns-in_default-clause-read
-returns-in_default-clause-read g c = λ honest d held.
+returns-in_default-clause-read g c = λ honest new d held.
     let ground = c.in_ok-ground.ensures.read (c.read_none.ensures.quiet.honest honest) held.m d.geography held.holds held.is.desk.geography in
     if_ok_then c.read_none.result (λ catalogue. catalogue ≡ new_desk) (λ catalogue. catalogue ≡ d) (λ catalogue is. is ∙ is_new held.m d held.is (sym c.in_default.is ∙ ground)) c.read_none.ensures.new
 
@@ -52,7 +52,7 @@ returns-in_default-clause-err g c =
     let d = c.read_none.new.pages in
     err_then c.read_none.result (λ e. ReadErr HasNothing t b d e) (λ e. OpenErr t a d e)
     (nothing_unread t a b d c.in_ok-ground.ensures.passed c.read_none.ensures.quiet
-    (λ honest m desk holds is. has_nothing m desk is (sym c.in_default.is ∙ c.in_ok-ground.ensures.read honest m desk.geography holds is.desk.geography)))
+    (λ honest m x holds is. has_nothing m x.1 is (sym c.in_default.is ∙ c.in_ok-ground.ensures.read honest m x.1.geography holds is.desk.geography)))
     c.read_none.ensures.err
 
 pub returns-in_err-plans-clause-quiet : goal.returns-in_err-plans-clause-quiet
@@ -67,8 +67,8 @@ returns-in_err-plans-clause-err g c =
     let ground = c.in-Some.ground in
     let error = c.in_err-plans.field-0.0 in
     err_of c.from_residual-in_err-plans.result error (λ e. OpenErr t a d e) c.from_residual-in_err-plans.ensures.1
-    (unopened t a d error (then_unappended IsDeskMap (ArePlans ground) t a b d error
-    (λ honest m desk holds is. (desk.plans, are_plans m desk is ground (sym c.in-Some.is ∙ c.in_ok-ground.ensures.read honest m desk.geography holds is.desk.geography)))
+    (unopened t a d error (then_unappended IsMapAs (ArePlans ground) t a b d error
+    (λ honest m x holds is. (x.1.plans, are_plans m x.1 is ground (sym c.in-Some.is ∙ c.in_ok-ground.ensures.read honest m x.1.geography holds is.desk.geography)))
     c.in_ok-ground.ensures.passed c.read_plans.ensures.quiet c.in_err-plans.ensures.read))
 
 pub returns-in-Ok-clause-quiet : goal.returns-in-Ok-clause-quiet
@@ -78,7 +78,7 @@ pub returns-in-Ok-clause-passed : goal.returns-in-Ok-clause-passed
 returns-in-Ok-clause-passed g c = passed_more c.args.pages.now c.geography.new.pages c.read_plans.new.pages c.in_ok-ground.ensures.passed c.in_ok-plans.ensures.read.passed
 
 pub returns-in-Ok-clause-read : goal.returns-in-Ok-clause-read
-returns-in-Ok-clause-read g c honest d held =
+returns-in-Ok-clause-read g c honest new d held =
     let ground = c.in-Some.ground in
     let then = c.read_plans.ensures.quiet.honest honest in
     let same : Some ground ≡ d.geography = sym c.in-Some.is ∙ c.in_ok-ground.ensures.read then held.m d.geography held.holds held.is.desk.geography in

@@ -3,7 +3,7 @@ use Rattle.std.specs.Prelude.{◌⊎◌}
 use Rattle.page_store.proofs.Stops.{leaves_here}
 use Rattle.page_store.specs.Transactions.{stored, disk_in}
 use Rattle.desk_pages.proofs.Openings.{leaves_desk}
-use Rattle.desk_pages.specs.Desks.{OpensDesk}
+use Rattle.desk_pages.specs.Desks.{OpensDesk, OpensAs}
 use Rattle.desk_pages.proofs.Kept.{opens_now, rows_after}
 use Rattle.desk_pages.proofs.commits.commit_txn.Goals as goal
 
@@ -11,9 +11,18 @@ pub returns-in_err-prepared-clause-any_moment : goal.returns-in_err-prepared-cla
 returns-in_err-prepared-clause-any_moment g c = λ honest working sectors d next whole holds then.
     leaves_here (λ x. OpensDesk sectors d x ⊎ OpensDesk sectors next x) (disk_in c.args.pages.now) (λ x left. inl (opens_now c.args.pages.now working honest sectors d whole holds x left))
 
+pub returns-in_err-prepared-clause-any_version : goal.returns-in_err-prepared-clause-any_version
+returns-in_err-prepared-clause-any_version g c = λ honest working sectors x next whole holds then.
+    leaves_here (λ i. OpensAs sectors x i ⊎ OpensAs sectors next i) (disk_in c.args.pages.now) (λ i left. inl (opens_now c.args.pages.now working honest sectors x.1 whole holds i left))
+
 pub returns-clause-any_moment : goal.returns-clause-any_moment
 returns-clause-any_moment g c = λ honest working sectors d next whole holds then.
     leaves_desk sectors holds.m then.m d next (disk_in c.args.pages.now) (disk_in c.commit.new.pages) holds.is then.is
+    (c.commit.ensures.any_moment honest working sectors holds.m then.m whole holds.holds (c.in_ok-prepared.ensures.held (stored c.args.pages.now) then.m then.holds))
+
+pub returns-clause-any_version : goal.returns-clause-any_version
+returns-clause-any_version g c = λ honest working sectors x next whole holds then.
+    leaves_desk sectors holds.m then.m x.1 next.1 (disk_in c.args.pages.now) (disk_in c.commit.new.pages) holds.is then.is
     (c.commit.ensures.any_moment honest working sectors holds.m then.m whole holds.holds (c.in_ok-prepared.ensures.held (stored c.args.pages.now) then.m then.holds))
 
 pub returns-clause-held : goal.returns-clause-held

@@ -1,5 +1,6 @@
-use Rattle.plan_revisions.proofs.Commands.{create_put, retire_put, retire_not_put, revision_as}
-use Rattle.plan_revisions.proofs.Counted.{changes_by}
+use Rattle.std.proofs.Common.{◌≡◌, Some, rules}
+use Rattle.plan_revisions.proofs.Commands.{create_put, fork_put, retire_put, retire_not_put, revision_as}
+use Rattle.plan_revisions.proofs.Counted.{changes_by, cuts_are}
 use Rattle.plan_revisions.proofs.puts.put_command.Goals as goal
 
 pub returns-in-Create-clause-put : goal.returns-in-Create-clause-put
@@ -20,3 +21,13 @@ returns-in-Whole-clause-put g c =
 
 pub put_revision-requires-clause-changes : goal.put_revision-requires-clause-changes
 put_revision-requires-clause-changes g c = changes_by c.args.shown.now c.args.command.now c.in-Whole.plan c.in-Whole.after c.args.then.now c.args.cuts.now c.args.changes.now c.in-Whole.is c.requires.changes
+
+pub fork-requires-clause-cut : goal.fork-requires-clause-cut
+fork-requires-clause-cut g c =
+    let geography : c.args.shown.now.geography ≡ Some c.in-Some.geography.now = search rules in
+    cuts_are c.args.shown.now c.in-Some.geography.now c.args.cuts.now c.requires.cut geography
+
+pub returns-in-Fork-clause-put : goal.returns-in-Fork-clause-put
+returns-in-Fork-clause-put g c =
+    let geography : c.args.shown.now.geography ≡ Some c.in-Some.geography.now = search rules in
+    fork_put c.args.shown.now c.args.command.now c.args.then.now c.in-Some.geography.now c.in-Fork.plan c.in-Fork.from c.args.txn.now c.fork.new.txn c.args.pages.now c.fork.new.pages c.fork.result c.in-Fork.is c.requires.after geography c.fork.ensures.fork

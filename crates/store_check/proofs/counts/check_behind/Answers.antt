@@ -11,7 +11,7 @@ use Rattle.store_rows.specs.Keys.{chunk_prefix}
 use Rattle.store_rows.specs.Values.{seal_bytes}
 use Rattle.store_check.specs.Numbers.{IsDue}
 use Rattle.store_check.specs.Rows.{AreBehindSeal, HasCountedSeal, HasKnownLoads, NoneFrom}
-use Rattle.store_check.proofs.Kept.{ok_then, err_then, no_version, seal_of, then_unread}
+use Rattle.store_check.proofs.Kept.{ok_then, err_then, seal_of, then_unread}
 use Rattle.store_check.proofs.Behind.{due_chunks, kept_counted, none_moved}
 use Rattle.store_check.proofs.counts.check_behind.Goals as goal
 
@@ -39,7 +39,7 @@ returns-in_err-check_loads-clause-err g c =
     let e = c.in_err-check_loads.field-0.0 in
     err_of c.from_residual-in_err-check_loads.result e (λ e. ReadErr due t a d e) c.from_residual-in_err-check_loads.ensures.1
     (then_unread (HasKnownLoads sealed) due t a b d c.in_ok-sealed.ensures.passed c.check_loads.ensures.quiet
-    (λ honest m holds is. record { stands = subst (λ (k : List ℕ). StandsAs seal_bytes k m sealed) c.seal.ensures (c.in_ok-sealed.ensures.get honest m holds); rows = record { rows = is.kept.tidy.rows; none = no_version m is.kept.tidy is.kept.old }; owned = is.kept.tidy.owned })
+    (λ honest m holds is. record { stands = subst (λ (k : List ℕ). StandsAs seal_bytes k m sealed) c.seal.ensures (c.in_ok-sealed.ensures.get honest m holds); rows = is.kept.tidy.rows; owned = is.kept.tidy.owned })
     e c.in_err-check_loads.ensures.err)
 
 pub returns-in_err-check_sealed-clause-quiet : goal.returns-in_err-check_sealed-clause-quiet

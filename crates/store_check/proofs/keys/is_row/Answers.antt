@@ -1,7 +1,7 @@
 use Rattle.std.proofs.Common.{◌≤◌, length, arith}
 use Rattle.std.proofs.lemmas.Bool.{eqb-true}
 use Rattle.std.proofs.lemmas.Bool.Decides.{nat_tests}
-use Rattle.store_check.proofs.KeyBytes.{begun_row, counters_row, holding_row, named_row, part_row, retired_row, seal_row, tally_row}
+use Rattle.store_check.proofs.KeyBytes.{begun_row, counters_row, holding_row, named_row, part_row, retired_row, seal_row, tally_row, version_row}
 use Rattle.store_check.proofs.keys.is_row.Goals as goal
 
 pub returns-in-65-clause-row : goal.returns-in-65-clause-row
@@ -27,3 +27,6 @@ returns-in-82-clause-row c = λ is. let (plan, revision, index, fits, rest) = c.
 
 pub returns-in-83-clause-row : goal.returns-in-83-clause-row
 returns-in-83-clause-row c = λ long. seal_row c.args.key.now (eqb-true (length c.args.key.now) 1 long) c.in-83.is
+
+pub returns-in-86-clause-row : goal.returns-in-86-clause-row
+returns-in-86-clause-row c = λ long. version_row c.args.key.now (eqb-true (length c.args.key.now) 1 long) c.in-86.is

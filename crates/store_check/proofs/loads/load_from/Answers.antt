@@ -4,7 +4,8 @@ use Rattle.row_table.proofs.Outcomes.{err_of}
 use Rattle.row_table.specs.Reading.{ReadErr}
 use Rattle.row_table.proofs.Reading.{less_unread}
 use Rattle.store_rows.specs.Keys.{block, chunks_prefix, key_of, pair}
-use Rattle.store_check.specs.Rows.{AreUnversioned, IsFirst, IsFrom, IsUnder}
+use Rattle.store_rows.specs.Tidy.{AreRows}
+use Rattle.store_check.specs.Rows.{IsFirst, IsFrom, IsUnder}
 use Rattle.store_check.proofs.Behind.{no_load}
 use Rattle.store_check.proofs.FirstRows.{first_least, first_none, from_trans}
 use Rattle.store_check.proofs.loads.load_from.Goals as goal
@@ -15,8 +16,8 @@ returns-in_err-found-clause-err g c =
     let a = c.args.pages.now in
     let b = c.first_from.new.pages in
     let e = c.in_err-found.field-0.0 in
-    err_of c.from_residual.result e (λ e. ReadErr AreUnversioned t a b e) c.from_residual.ensures.1
-    (less_unread (λ m. Unit {0}) AreUnversioned t a b (λ m is. tt) e c.in_err-found.ensures.err)
+    err_of c.from_residual.result e (λ e. ReadErr AreRows t a b e) c.from_residual.ensures.1
+    (less_unread (λ m. Unit {0}) AreRows t a b (λ m is. tt) e c.in_err-found.ensures.err)
 
 pub returns-then-not-found-clause-load : goal.returns-then-not-found-clause-load
 returns-then-not-found-clause-load g c = λ honest m holds.

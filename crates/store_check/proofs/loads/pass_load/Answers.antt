@@ -6,8 +6,9 @@ use Rattle.page_btree.specs.Map.{InTxn}
 use Rattle.row_table.proofs.Outcomes.{err_of}
 use Rattle.row_table.specs.Reading.{ReadErr}
 use Rattle.row_table.proofs.Reading.{less_unread}
+use Rattle.store_rows.specs.Tidy.{AreRows}
 use Rattle.store_check.proofs.Kept.{then_unread}
-use Rattle.store_check.specs.Rows.{AreUnversioned, GoesOn, HasKnownLoads, IsKnownLoad, IsNextLoad}
+use Rattle.store_check.specs.Rows.{GoesOn, HasKnownLoads, IsKnownLoad, IsNextLoad}
 use Rattle.store_check.proofs.FirstRows.{first_there}
 use Rattle.store_check.proofs.Behind.{ends_there, goes_on, kept_load}
 use Rattle.store_check.proofs.loads.pass_load.Goals as goal
@@ -20,7 +21,7 @@ returns-in_err-found-clause-err g c =
     let has = HasKnownLoads c.args.sealed in
     let e = c.in_err-found.field-0.0 in
     err_of c.from_residual.result e (λ e. ReadErr has t a b e) c.from_residual.ensures.1
-    (less_unread AreUnversioned has t a b (λ m is. is.rows) e c.in_err-found.ensures.err)
+    (less_unread AreRows has t a b (λ m is. is.rows) e c.in_err-found.ensures.err)
 
 pub returns-in-None-clause-loads : goal.returns-in-None-clause-loads
 returns-in-None-clause-loads g c = λ honest m holds stands before.
@@ -42,7 +43,7 @@ returns-in_err-refuse_unknown-in-Some-clause-err g c =
     err_of c.from_residual-in_err-refuse_unknown-in-Some.result e (λ e. ReadErr (HasKnownLoads sealed) t a d e) c.from_residual-in_err-refuse_unknown-in-Some.ensures.1
     (then_unread (IsKnownLoad sealed load) (HasKnownLoads sealed) t a b d c.in_ok-found.ensures.passed c.refuse_unknown.ensures.quiet (λ honest m holds kept.
     let (first, more, is, under) = subst (λ (o : Option ℕ). IsNextLoad c.as_slice.result.now m o) c.in-Some.is (c.in_ok-found.ensures.load honest m holds) in
-    record { stands = kept.stands; fits = under.fits; is = kept_load m kept.owned kept.rows.rows first load (first_there m c.as_slice.result.now first more is) under }) e c.in_err-refuse_unknown-in-Some.ensures.err)
+    record { stands = kept.stands; fits = under.fits; is = kept_load m kept.owned kept.rows first load (first_there m c.as_slice.result.now first more is) under }) e c.in_err-refuse_unknown-in-Some.ensures.err)
 
 pub returns-in_ok-refuse_unknown-in-Some-clause-quiet : goal.returns-in_ok-refuse_unknown-in-Some-clause-quiet
 returns-in_ok-refuse_unknown-in-Some-clause-quiet g c = quiet_more c.args.pages.now c.load_from.new.pages c.refuse_unknown.new.pages c.in_ok-found.ensures.quiet c.refuse_unknown.ensures.quiet

@@ -36,38 +36,38 @@ returns-in_default-clause-err g c = inr (λ honest m holds tidy.
     let is : IsFirstMark true retired_prefix spared row m = subst (λ (p : List ℕ). IsFirstMark true p spared row m) prefix (subst (λ (b : Bool). IsFirstMark b c.as_slice.result.now spared row m) c.if-not-branch.false (c.in_ok-first_mark.ensures.found honest m holds)) in
     c.in_default.ensures (ap (λ (k : List ℕ). length k) c.as_slice-3.ensures.bytes ∙ retired_long m tidy.rows spared row is))
 
-pub returns-in_err-left_of_plan-clause-quiet : goal.returns-in_err-left_of_plan-clause-quiet
-returns-in_err-left_of_plan-clause-quiet g c = quiet_more c.args.pages.now c.first_mark.new.pages c.left_of_plan.new.pages c.in_ok-first_mark.ensures.quiet c.in_err-left_of_plan.ensures.quiet
+pub returns-in_err-left-clause-quiet : goal.returns-in_err-left-clause-quiet
+returns-in_err-left-clause-quiet g c = quiet_more c.args.pages.now c.first_mark.new.pages c.left_of_plan.new.pages c.in_ok-first_mark.ensures.quiet c.in_err-left.ensures.quiet
 
-pub returns-in_err-left_of_plan-clause-err : goal.returns-in_err-left_of_plan-clause-err
-returns-in_err-left_of_plan-clause-err g c =
+pub returns-in_err-left-clause-err : goal.returns-in_err-left-clause-err
+returns-in_err-left-clause-err g c =
     let t = c.args.txn.now in
     let a = c.args.pages.now in
     let b = c.first_mark.new.pages in
     let d = c.left_of_plan.new.pages in
     let row = c.first_mark.new.row in
     let spared = c.as_slice-2.result.now in
-    let e = c.in_err-left_of_plan.field-0.0 in
+    let e = c.in_err-left.field-0.0 in
     let prefix : c.as_slice.result.now ≡ retired_prefix = c.as_slice.ensures.bytes ∙ c.all_retired-prefix.ensures in
     let told : drop 1 row.key ≡ in_eight c.in-Some.plan = ap (λ (k : List ℕ). drop 1 k) (sym c.as_slice-3.ensures.bytes) ∙ c.in-Some.ensures in
-    err_of c.from_residual-in_err-left_of_plan.result e (ReadErr Tidy t a d) c.from_residual-in_err-left_of_plan.ensures.1
-    (mark_unread (HasPlanMark c.in-Some.plan) t a b d c.in_ok-first_mark.ensures.passed c.in_err-left_of_plan.ensures.quiet (λ honest m holds tidy.
+    err_of c.from_residual-in_err-left.result e (ReadErr Tidy t a d) c.from_residual-in_err-left.ensures.1
+    (mark_unread (HasPlanMark c.in-Some.plan) t a b d c.in_ok-first_mark.ensures.passed c.in_err-left.ensures.quiet (λ honest m holds tidy.
     let is : IsFirstMark true retired_prefix spared row m = subst (λ (p : List ℕ). IsFirstMark true p spared row m) prefix (subst (λ (b : Bool). IsFirstMark b c.as_slice.result.now spared row m) c.if-not-branch.false (c.in_ok-first_mark.ensures.found honest m holds)) in
-    retired_mark m tidy spared row c.in-Some.plan told is) e c.in_err-left_of_plan.ensures.err)
+    retired_mark m tidy spared row c.in-Some.plan told is) e c.in_err-left.ensures.err)
 
 pub returns-clause-quiet : goal.returns-clause-quiet
-returns-clause-quiet g c = quiet_more c.args.pages.now c.first_mark.new.pages c.left_of_plan.new.pages c.in_ok-first_mark.ensures.quiet c.in_ok-left_of_plan.ensures.quiet
+returns-clause-quiet g c = quiet_more c.args.pages.now c.first_mark.new.pages c.left_of_plan.new.pages c.in_ok-first_mark.ensures.quiet c.in_ok-left.ensures.quiet
 
 pub returns-clause-passed : goal.returns-clause-passed
-returns-clause-passed g c = passed_more c.args.pages.now c.first_mark.new.pages c.left_of_plan.new.pages c.in_ok-first_mark.ensures.passed c.in_ok-left_of_plan.ensures.passed
+returns-clause-passed g c = passed_more c.args.pages.now c.first_mark.new.pages c.left_of_plan.new.pages c.in_ok-first_mark.ensures.passed c.in_ok-left.ensures.passed
 
 pub returns-clause-found : goal.returns-clause-found
 returns-clause-found g c = λ honest m holds tidy.
     let row = c.first_mark.new.row in
     let spared = c.as_slice-2.result.now in
-    let then = c.in_ok-left_of_plan.ensures.quiet.honest honest in
+    let then = c.in_ok-left.ensures.quiet.honest honest in
     let there = subst (λ (P : Image). InTxn c.args.txn.now P m) (sym (c.in_ok-first_mark.ensures.quiet.same then)) holds in
     let prefix : c.as_slice.result.now ≡ retired_prefix = c.as_slice.ensures.bytes ∙ c.all_retired-prefix.ensures in
     let told : drop 1 row.key ≡ in_eight c.in-Some.plan = ap (λ (k : List ℕ). drop 1 k) (sym c.as_slice-3.ensures.bytes) ∙ c.in-Some.ensures in
     let is : IsFirstMark true retired_prefix spared row m = subst (λ (p : List ℕ). IsFirstMark true p spared row m) prefix (subst (λ (b : Bool). IsFirstMark b c.as_slice.result.now spared row m) c.if-not-branch.false (c.in_ok-first_mark.ensures.found then m holds)) in
-    c.in_ok-left_of_plan.ensures.found honest m there (retired_mark m tidy spared row c.in-Some.plan told is)
+    c.in_ok-left.ensures.found honest m there (retired_mark m tidy spared row c.in-Some.plan told is)

@@ -3,15 +3,14 @@ use Rattle.std.specs.Prelude.{All}
 use Rattle.page_store.specs.Transactions.{stored, disk_in, count_of, txn_pages, Passed}
 use Rattle.page_btree.specs.Map.{InTxn}
 use Rattle.store_rows.specs.Rows.{KeyMap}
-use Rattle.store_rows.specs.ChunkRows.{IsFreeChunk}
 use Rattle.store_rows.specs.Tidy.{AreRows}
-use Rattle.store_sweep.specs.Finding.{IsGap}
+use Rattle.store_sweep.specs.Finding.{IsDone, IsGap}
 use Rattle.store_sweep.proofs.pieces.first_piece.Given as goal
 
 abbrev pub invariant-loop-number : goal.invariant-loop-number
 invariant-loop-number g l = record {
   begun : txn_pages l.txn ≡ count_of l.pages;
   passed : Passed l.fn.pages l.pages;
-  free : (disk_in l.pages).is_honest → (m : KeyMap) → InTxn l.txn (stored l.fn.pages) m → AreRows m → All (IsFreeChunk m) (take l.number-index l.numbers);
+  done : (disk_in l.pages).is_honest → (m : KeyMap) → InTxn l.txn (stored l.fn.pages) m → AreRows m → All (IsDone m) (take l.number-index l.numbers);
   gap : (disk_in l.pages).is_honest → (m : KeyMap) → InTxn l.txn (stored l.fn.pages) m → AreRows m → IsGap l.gap l.row.key m;
 }

@@ -1,4 +1,4 @@
-use Rattle.std.proofs.Common.{◌≡◌}
+use Rattle.std.proofs.Common.{◌≡◌, ◌≤◌, ◌-◌}
 use Rattle.page_store.specs.Transactions.{count_of, txn_pages}
 use Rattle.store_sweep.specs.Sweeping.{HasSwept}
 use Rattle.store_sweep.proofs.rows.sweep_rows.Given as goal
@@ -6,5 +6,9 @@ use Rattle.store_sweep.proofs.rows.sweep_rows.Given as goal
 abbrev pub invariant-loop-swept : goal.invariant-loop-swept
 invariant-loop-swept g l = record {
   begun : txn_pages l.txn ≡ count_of l.pages;
+  few : l.swept ≤ 16;
   swept : HasSwept l.running l.swept l.fn.txn l.txn l.fn.pages l.pages;
 }
+
+abbrev pub decreases-loop-swept : goal.decreases-loop-swept
+decreases-loop-swept g l = 16 - l.swept

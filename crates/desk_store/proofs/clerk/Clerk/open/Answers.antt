@@ -2,15 +2,19 @@ use Rattle.std.proofs.Common.{◌≡◌, inr, refl, sym, subst}
 use Rattle.sector_device.specs.Moments.{LeavesOnly}
 use Rattle.page_store.proofs.Stops.{leaves_quiet}
 use Rattle.page_store.specs.Transactions.{disk_in}
-use Rattle.desk_store.specs.Openings.{AllDesks, OpensOneOf, IsSpared, OpenRefused}
+use Rattle.desk_store.specs.Openings.{AllDesks, AllVersions, OpensOneOf, OpensOneAs, IsSpared, OpenRefused}
 use Rattle.desk_store.specs.declared.opening.OpenError.{OpenError}
 use Rattle.desk_store.specs.declared.opening.OpenError.TheVariants.{NotAStore}
-use Rattle.desk_store.proofs.Opened.{stores_of, open_leaves, opened_keeps, page_refused, page_spared, not_other, find_refused, as_refused, is_found, pages_left}
+use Rattle.desk_store.proofs.Opened.{all_versions, stores_of, open_leaves, open_versions, opened_keeps, page_refused, page_spared, not_other, find_refused, as_refused, is_found, pages_left}
 use Rattle.desk_store.proofs.clerk.Clerk.open.Goals as goal
 
 pub returns-in-Err-clause-any_moment : goal.returns-in-Err-clause-any_moment
 returns-in-Err-clause-any_moment g c = λ honest all.
-    open_leaves (g.D.SectorDevice.disk c.args.device) (g.D.SectorDevice.disk c.in-Err.device) all (c.in-Err.ensures.any_moment honest (stores_of (g.D.SectorDevice.disk c.args.device) all))
+    open_leaves (g.D.SectorDevice.disk c.args.device) (g.D.SectorDevice.disk c.in-Err.device) all (c.in-Err.ensures.any_moment honest (stores_of (g.D.SectorDevice.disk c.args.device) (all_versions (g.D.SectorDevice.disk c.args.device) all)))
+
+pub returns-in-Err-clause-any_version : goal.returns-in-Err-clause-any_version
+returns-in-Err-clause-any_version g c = λ honest all.
+    open_versions (g.D.SectorDevice.disk c.args.device) (g.D.SectorDevice.disk c.in-Err.device) all (c.in-Err.ensures.any_moment honest (stores_of (g.D.SectorDevice.disk c.args.device) all))
 
 pub returns-in-Err-clause-err : goal.returns-in-Err-clause-err
 returns-in-Err-clause-err g c =
@@ -20,19 +24,33 @@ pub returns-in-Ok-read_shown-clause-any_moment : goal.returns-in-Ok-read_shown-c
 returns-in-Ok-read_shown-clause-any_moment g c = λ honest all.
     let old = g.D.SectorDevice.disk c.args.device in
     let before = c.read_shown.ensures.quiet.honest honest in
-    leaves_quiet c.in-Ok.pages c.read_shown.new.pages c.read_shown.ensures.quiet honest (OpensOneOf old) old (open_leaves old (disk_in c.in-Ok.pages) all (c.in-Ok.ensures.any_moment before (stores_of old all)))
+    leaves_quiet c.in-Ok.pages c.read_shown.new.pages c.read_shown.ensures.quiet honest (OpensOneOf old) old (open_leaves old (disk_in c.in-Ok.pages) all (c.in-Ok.ensures.any_moment before (stores_of old (all_versions old all))))
+
+pub returns-in-Ok-read_shown-clause-any_version : goal.returns-in-Ok-read_shown-clause-any_version
+returns-in-Ok-read_shown-clause-any_version g c = λ honest all.
+    let old = g.D.SectorDevice.disk c.args.device in
+    let before = c.read_shown.ensures.quiet.honest honest in
+    leaves_quiet c.in-Ok.pages c.read_shown.new.pages c.read_shown.ensures.quiet honest (OpensOneAs old) old (open_versions old (disk_in c.in-Ok.pages) all (c.in-Ok.ensures.any_moment before (stores_of old all)))
 
 pub returns-in-Ok-read_shown-clause-opened : goal.returns-in-Ok-read_shown-clause-opened
 returns-in-Ok-read_shown-clause-opened g c = λ all.
-    opened_keeps (g.D.SectorDevice.disk c.args.device) c.in-Ok.pages _ all c.in-Ok.ensures.room c.in-Ok.ensures.found c.in-Ok.ensures.kept c.read_shown.ensures.quiet c.in-Ok-read_shown.ensures.read refl
+    opened_keeps (g.D.SectorDevice.disk c.args.device) c.in-Ok.pages _ all c.in-Ok.ensures.room c.in-Ok.ensures.found c.in-Ok.ensures.kept c.read_shown.ensures.quiet c.in-Ok-read_shown.ensures.read c.in-Ok-read_shown.ensures.version refl
 
 pub returns-in-Err-read_shown-clause-any_moment : goal.returns-in-Err-read_shown-clause-any_moment
 returns-in-Err-read_shown-clause-any_moment g c =
     let old = g.D.SectorDevice.disk c.args.device in
     let told = λ (honest : (disk_in c.read_shown.new.pages).is_honest) (all : AllDesks old).
     let before = c.read_shown.ensures.quiet.honest honest in
-    leaves_quiet c.in-Ok.pages c.read_shown.new.pages c.read_shown.ensures.quiet honest (OpensOneOf old) old (open_leaves old (disk_in c.in-Ok.pages) all (c.in-Ok.ensures.any_moment before (stores_of old all))) in
+    leaves_quiet c.in-Ok.pages c.read_shown.new.pages c.read_shown.ensures.quiet honest (OpensOneOf old) old (open_leaves old (disk_in c.in-Ok.pages) all (c.in-Ok.ensures.any_moment before (stores_of old (all_versions old all)))) in
     subst (λ d. (g.D.SectorDevice.disk d).is_honest → AllDesks old → LeavesOnly (OpensOneOf old) old (g.D.SectorDevice.disk d)) (sym c.into_device.ensures) told
+
+pub returns-in-Err-read_shown-clause-any_version : goal.returns-in-Err-read_shown-clause-any_version
+returns-in-Err-read_shown-clause-any_version g c =
+    let old = g.D.SectorDevice.disk c.args.device in
+    let told = λ (honest : (disk_in c.read_shown.new.pages).is_honest) (all : AllVersions old).
+    let before = c.read_shown.ensures.quiet.honest honest in
+    leaves_quiet c.in-Ok.pages c.read_shown.new.pages c.read_shown.ensures.quiet honest (OpensOneAs old) old (open_versions old (disk_in c.in-Ok.pages) all (c.in-Ok.ensures.any_moment before (stores_of old all))) in
+    subst (λ d. (g.D.SectorDevice.disk d).is_honest → AllVersions old → LeavesOnly (OpensOneAs old) old (g.D.SectorDevice.disk d)) (sym c.into_device.ensures) told
 
 pub returns-in-Err-read_shown-clause-err : goal.returns-in-Err-read_shown-clause-err
 returns-in-Err-read_shown-clause-err g c =
@@ -49,7 +67,7 @@ returns-in-Err-clause-untouched g c =
 
 pub returns-in-Ok-read_shown-clause-found : goal.returns-in-Ok-read_shown-clause-found
 returns-in-Ok-read_shown-clause-found g c =
-    is_found (g.D.SectorDevice.disk c.args.device) c.in-Ok.pages _ c.in-Ok.ensures.found c.read_shown.ensures.quiet c.in-Ok-read_shown.ensures.read c.in-Ok-read_shown.ensures.found
+    is_found (g.D.SectorDevice.disk c.args.device) c.in-Ok.pages _ c.in-Ok.ensures.found c.read_shown.ensures.quiet c.in-Ok-read_shown.ensures.read c.in-Ok-read_shown.ensures.found c.in-Ok-read_shown.ensures.version
 
 pub returns-in-Err-read_shown-clause-untouched : goal.returns-in-Err-read_shown-clause-untouched
 returns-in-Err-read_shown-clause-untouched g c =

@@ -1,0 +1,10 @@
+use Rattle.std.proofs.Common.{◌≡◌, drop}
+use Rattle.page_store.specs.Transactions.{count_of, txn_pages}
+use Rattle.chunk_table.proofs.HeldAll.{HasHeldTo}
+use Rattle.chunk_table.proofs.holds.hold_all.Given as goal
+
+abbrev pub invariant-loop-number : goal.invariant-loop-number
+invariant-loop-number g l = record {
+  held : HasHeldTo l.plan l.numbers (drop l.number-index l.numbers) l.initial.txn l.txn l.initial.pages l.pages;
+  begun : txn_pages l.txn ≡ count_of l.pages;
+}

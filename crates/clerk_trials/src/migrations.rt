@@ -1,0 +1,227 @@
+//! A store of the old version that is led to the new one: what it shows then, and a stop or a fault at each call of that.
+ghost use Rattle.std.specs.Prelude.{◌<◌};
+
+use crate::devices::{Faulty, Image, Pick, device_with, image_of, picks_of};
+use crate::forks::{asks, swept};
+use crate::stores::{device_of, opened, passing, sealed};
+use crate::streams::{answers, found};
+use crate::texts::{ALL, COMMANDS, QUERIES, shows, told_made};
+use desk_migration::old::turn_back;
+use desk_migration::{Migration, MigrationError, MigrationOpenError};
+use desk_store::clerk::Clerk;
+use desk_store::opening::OpenError;
+use page_store::Pages;
+use sector_device::SectorDevice;
+use sector_memory::{FailOnce, Fused, MemoryDevice};
+use std::alloc::Global;
+use std::process::Abort;
+
+/// The sectors of a store with room for a step of 16 rows, of 13 free pages each: header, gate, list, 256 copies and 241 pages.
+const SECTORS: u32 = 500;
+
+/// The sectors of one without it, which has 141 pages.
+const FEWER: u32 = 400;
+
+/// Forks a plan twice, and takes each fork away.
+const GONE: &[u8] =
+    b"POST /plans/c?from=b:2 HTTP/1.1\r\nHost: d\r\n\r\nDELETE /plans/c HTTP/1.1\r\nHost: d\r\n\r\nPOST /plans/c?from=b:2 HTTP/1.1\r\nHost: d\r\n\r\nDELETE /plans/c HTTP/1.1\r\nHost: d\r\n\r\n";
+
+const WENT: &[u8] =
+    b"HTTP/1.1 201 Created\r\nContent-Type: application/json\r\nContent-Length: 26\r\n\r\n{\"plan\":\"c\",\"revisions\":1}HTTP/1.1 200 OK\r\nContent-Type: application/json\r\nContent-Length: 27\r\n\r\n{\"plan\":\"c\",\"retired\":true}HTTP/1.1 201 Created\r\nContent-Type: application/json\r\nContent-Length: 26\r\n\r\n{\"plan\":\"c\",\"revisions\":1}HTTP/1.1 200 OK\r\nContent-Type: application/json\r\nContent-Length: 27\r\n\r\n{\"plan\":\"c\",\"retired\":true}";
+
+/// Forks the second revision of the plan that is left, and reads it.
+const FORK: &[u8] =
+    b"POST /plans/d?from=b:2 HTTP/1.1\r\nHost: d\r\n\r\nGET /plans/d/revisions/1 HTTP/1.1\r\nHost: d\r\n\r\n";
+
+const FORKED: &[u8] =
+    b"HTTP/1.1 201 Created\r\nContent-Type: application/json\r\nContent-Length: 26\r\n\r\n{\"plan\":\"d\",\"revisions\":1}HTTP/1.1 200 OK\r\nContent-Type: text/plain\r\nContent-Length: 93\r\n\r\nBLOCKID|DISTRICT\n190010001001001|02\n190010001001002|02\n190030001001001|02\n190030001001002|02\n";
+
+/// A store of the old version: two plans with two revisions each, which name three chunks each, and two forks, which name two each. All
+/// but the second plan were taken away, and nothing was swept.
+fn old_store<R: Abort>(rt: &R, alloc: Global, sectors: u32) -> MemoryDevice {
+    let mut clerk = sealed(rt, alloc, sectors);
+    let text = answers(rt, alloc, &mut clerk, COMMANDS);
+    assert!(rt; told_made(rt, alloc, text.as_slice()) == ALL);
+    asks(rt, alloc, &mut clerk, GONE, WENT);
+    let Ok(mut pages) = Pages::open(passing(device_of(clerk))) else {
+        panic!(rt; "not opened");
+    };
+    turn_back(alloc, &mut pages).expect(rt, "not turned back");
+    pages.into_device().stop(&[])
+}
+
+/// Whether a clerk opens the device; else it tells that its store is of the old version.
+fn is_new<R: Abort>(rt: &R, alloc: Global, device: MemoryDevice) -> (bool, MemoryDevice) {
+    match Clerk::open(alloc, passing(device)) {
+        Ok(clerk) => (true, device_of(clerk)),
+        Err((error, device)) => {
+            assert!(rt; error == OpenError::OldVersion);
+            (false, device.stop(&[]))
+        }
+    }
+}
+
+/// Migrates to the end: how many rows were put but that of the version.
+fn migrates<R: Abort, D: SectorDevice>(
+    rt: &R,
+    alloc: Global,
+    migration: &mut Migration<D>,
+) -> Result<usize, MigrationError> {
+    let mut rows = 0usize;
+    for step in 0..100u32 {
+        let count = migration.step(alloc)?;
+        if count == 0 {
+            migration.finish(alloc)?;
+            return Ok(rows);
+        }
+        rows = rows.saturating_add(count);
+    }
+    panic!(rt; "never migrated")
+}
+
+/// Migrates a device to the end: how many rows were put but that of the version, or none where the store is of the new version.
+fn begun_anew<R: Abort>(
+    rt: &R,
+    alloc: Global,
+    device: MemoryDevice,
+) -> (Option<usize>, MemoryDevice) {
+    match Migration::open(alloc, passing(device)) {
+        Ok(mut migration) => {
+            let rows = migrates(rt, alloc, &mut migration).expect(rt, "not migrated");
+            (Some(rows), migration.into_device().stop(&[]))
+        }
+        Err((error, device)) => {
+            assert!(rt; error == MigrationOpenError::AlreadyNew);
+            (None, device.stop(&[]))
+        }
+    }
+}
+
+#[test]
+fn a_migrated_store_shows_what_it_showed(rt: HostRuntime) {
+    let alloc = rt.alloc();
+    let (new, device) = is_new(&rt, alloc, old_store(&rt, alloc, SECTORS));
+    assert!(rt; !new);
+    let Ok(mut migration) = Migration::open(alloc, passing(device)) else {
+        panic!(rt; "not opened");
+    };
+    assert!(rt; migration.step(alloc) == Ok(16));
+    assert!(rt; migration.step(alloc) == Ok(4));
+    assert!(rt; migrates(&rt, alloc, &mut migration) == Ok(0));
+    let (rows, device) = begun_anew(&rt, alloc, migration.into_device().stop(&[]));
+    assert!(rt; rows == None);
+    let mut clerk = opened(&rt, alloc, device);
+    let text = answers(&rt, alloc, &mut clerk, QUERIES);
+    assert!(rt; shows(text.as_slice(), ALL));
+    assert!(rt; swept(&rt, alloc, &mut clerk) == 22);
+    asks(&rt, alloc, &mut clerk, FORK, FORKED);
+}
+
+#[test]
+fn a_store_without_room_stays_of_the_old_version(rt: HostRuntime) {
+    let alloc = rt.alloc();
+    let old = image_of(&rt, alloc, old_store(&rt, alloc, FEWER));
+    let device = device_with(&rt, alloc, old.as_slice());
+    let Ok(mut migration) = Migration::open(alloc, passing(device)) else {
+        panic!(rt; "not opened");
+    };
+    assert!(rt; migration.step(alloc) == Err(MigrationError::Full));
+    assert!(rt; !migration.is_halted());
+    let left = image_of(&rt, alloc, migration.into_device().stop(&[]));
+    assert!(rt; left.as_slice() == old.as_slice());
+}
+
+/// Migrates until the device fails: whether to the end.
+fn migrates_on<R: Abort, D: SectorDevice>(
+    rt: &R,
+    alloc: Global,
+    migration: &mut Migration<D>,
+) -> bool {
+    match migrates(rt, alloc, migration) {
+        Ok(rows) => {
+            assert!(rt; rows == 20);
+            true
+        }
+        Err(error) => {
+            assert!(rt; error == MigrationError::DeviceFault && migration.is_halted());
+            assert!(rt; migration.step(alloc) == Err(MigrationError::Halted));
+            false
+        }
+    }
+}
+
+/// Migrates a device with a fault at call k: whether to the end, and the device stopped then.
+fn migrated_at<R: Abort, F: Faulty>(
+    rt: &R,
+    alloc: Global,
+    image: &[[u8; 4096]],
+    k: u64,
+    picks: &[Pick],
+) -> (bool, MemoryDevice) {
+    match Migration::open(alloc, F::at(device_with(rt, alloc, image), k)) {
+        Ok(mut migration) => {
+            let ended = migrates_on(rt, alloc, &mut migration);
+            (ended, migration.into_device().stopped(picks))
+        }
+        Err((error, device)) => {
+            assert!(rt; error == MigrationOpenError::DeviceFault);
+            (false, device.stopped(picks))
+        }
+    }
+}
+
+/// How far a migration was that was stopped: nothing of it is kept, its first step, both, or the version too. Begun anew, it ends with
+/// what the store showed.
+fn kept<R: Abort>(rt: &R, alloc: Global, device: MemoryDevice) -> usize
+    ensures { result < 4 }
+{
+    let (new, device) = is_new(rt, alloc, device);
+    let (rows, device) = begun_anew(rt, alloc, device);
+    assert!(rt; rows.is_none() == new);
+    assert!(rt; shows(found(rt, alloc, device).as_slice(), ALL));
+    match rows {
+        Some(20) => 0,
+        Some(4) => 1,
+        Some(0) => 2,
+        None => 3,
+        _ => panic!(rt; "other rows"),
+    }
+}
+
+/// Migrations with a fault at each call in turn: how many leave what.
+fn faults_kept<R: Abort, F: Faulty>(
+    rt: &R,
+    alloc: Global,
+    image: &[[u8; 4096]],
+    picks: &[Pick],
+) -> [u32; 4] {
+    let mut counts = [0u32; 4];
+    for k in 0..1_000u64 {
+        let (ended, device) = migrated_at::<R, F>(rt, alloc, image, k, picks);
+        let far = kept(rt, alloc, device);
+        if ended {
+            assert!(rt; far == 3);
+            return counts;
+        }
+        counts[far] = counts[far].saturating_add(1);
+    }
+    panic!(rt; "never migrated")
+}
+
+/// Asserts that faults left each of what a migration may leave.
+fn faults_leave_each<R: Abort, F: Faulty>(rt: &R, alloc: Global) {
+    let image: Image = image_of(rt, alloc, old_store(rt, alloc, SECTORS));
+    let picks = picks_of(rt, alloc, SECTORS, Some(0xa5));
+    let counts = faults_kept::<R, F>(rt, alloc, image.as_slice(), picks.as_slice());
+    assert!(rt; counts[0] > 10 && counts[1] > 10 && counts[2] > 10 && counts[3] > 1);
+}
+
+#[test]
+fn a_stop_in_a_migration_leaves_either_version(rt: HostRuntime) {
+    faults_leave_each::<_, Fused>(&rt, rt.alloc());
+}
+
+#[test]
+fn a_fault_in_a_migration_leaves_either_version(rt: HostRuntime) {
+    faults_leave_each::<_, FailOnce>(&rt, rt.alloc());
+}

@@ -1,0 +1,156 @@
+-- Rows that are taken out, tag after tag, until the rows are of the old version.
+use Rattle.std.proofs.Common.{◌≡◌, ◌+◌, inl, ℕ, zero, List, [], ◌∷◌, Bool, true, false, cond, nat_eq, Option, Some, None, Result, Ok, Err, OnOk, refl, sym, ap, subst, ◌∙◌, arith}
+use Rattle.std.specs.List.{starts_with}
+use Rattle.std.specs.Ordering.{eq_by_cmp}
+use Rattle.std.specs.FinMap.{get, get-remove, remove}
+use Rattle.std.specs.Cmp.Lexicographic.{nat_list_cmp_total}
+use Rattle.std.proofs.lemmas.Bool.{eqb-true}
+use Rattle.sector_device.specs.Disk.{Image}
+use Rattle.sector_device.specs.Moments.{LeavesOnly}
+use Rattle.sector_device.proofs.Moments.{leaves_wider}
+use Rattle.sector_device.specs.declared.SectorDevice.{Ghosts}
+use Rattle.gate_journal.specs.Store.{home}
+use Rattle.page_store.specs.Transactions.{stored, disk_in, count_of, journal_of, has_halted, IsQuiet, Passed}
+use Rattle.page_store.specs.declared.pages.Pages.{Pages}
+use Rattle.page_btree.specs.declared.error.TreeError.{TreeError}
+use Rattle.page_store.specs.declared.txn.Txn.{Txn}
+use Rattle.page_node.specs.Places.{key_cmp}
+use Rattle.page_btree.specs.Map.{InTxn}
+use Rattle.btree_scan.specs.declared.rows.Row.{Row}
+use Rattle.desk_model.specs.Desk.{Desk}
+use Rattle.store_rows.specs.Rows.{KeyMap, SameTag}
+use Rattle.store_rows.specs.Holders.{AreTallied}
+use Rattle.store_rows.proofs.Frames.{desk_stays, remove_keeps_tag}
+use Rattle.store_rows.proofs.OneGeography.{no_value}
+use Rattle.store_rows.proofs.TidyParts.{AllKept, chunks_stay, kept_of, loads_stay, next_moves, plans_stay, tidy_at}
+use Rattle.desk_pages.specs.Desks.{InPages, InTxnOf, IsMapOf, OpensDesk, OpensEither}
+use Rattle.store_check.specs.Rows.{IsFirst, NoneFrom}
+use Rattle.store_check.proofs.FirstRows.{none_at_all, none_behind}
+use Rattle.store_check.proofs.Scanned.{either_way, first_so}
+use Rattle.store_check.proofs.Behind.{from_tag, starts_itself}
+use Rattle.desk_migration.proofs.Stepped.{IsBegun, quiet_leaves}
+use Rattle.desk_migration.specs.TurningBack.{IsLess, IsWithout, NoneOf}
+
+-- ---- one row
+none_or : (o : Option (List ℕ)) → ((value : List ℕ) → o ≡ Some value → ⊥) → o ≡ None
+none_or None none = refl
+none_or (Some value) none = absurd (none value refl)
+
+starts_tag : (tag : ℕ) → starts_with nat_eq (tag ∷ []) (tag ∷ []) ≡ true
+starts_tag tag = starts_itself (tag ∷ []) []
+
+none_of : (tag : ℕ) (m : KeyMap) → NoneFrom (tag ∷ []) (tag ∷ []) m → NoneOf tag m
+none_of tag m none rest = none_or (get m (tag ∷ rest)) (λ value there. none (tag ∷ rest) value there (from_tag tag tag rest (omega arith)) (starts_itself (tag ∷ []) rest))
+
+pub none_found : (tag : ℕ) (m : KeyMap) (row : Row) → IsFirst false (tag ∷ []) row m → NoneOf tag m
+none_found tag m row first = none_of tag m (none_at_all m (tag ∷ []) (tag ∷ []) first)
+
+pub none_later : (tag : ℕ) (m : KeyMap) (row : Row) → IsFirst true (tag ∷ []) row m → starts_with nat_eq row.key (tag ∷ []) ≡ false → NoneOf tag m
+none_later tag m row first off = none_of tag m (none_behind m (tag ∷ []) (row.key, row.value) first.0 first.1 (tag ∷ []) (starts_tag tag) off)
+
+removed_less : (tag : ℕ) (m : KeyMap) (rest : List ℕ) → IsLess tag m (remove m (tag ∷ rest))
+removed_less tag m rest = record {
+  others = λ other apart. remove_keeps_tag m other tag rest apart;
+  rows = λ key value there. either_way (eq_by_cmp key_cmp key (tag ∷ rest)) (get m key ≡ Some value)
+      (λ same. absurd (no_value value (sym there ∙ get-remove nat_list_cmp_total m (tag ∷ rest) key ∙ ap (λ (b : Bool). cond b None (get m key)) same)))
+      (λ other. sym (ap (λ (b : Bool). cond b None (get m key)) other) ∙ sym (get-remove nat_list_cmp_total m (tag ∷ rest) key) ∙ there);
+}
+
+tagged : (tag : ℕ) (key : List ℕ) → starts_with nat_eq key (tag ∷ []) ≡ true → (rest : List ℕ) × (key ≡ tag ∷ rest)
+tagged tag [] on = cc
+tagged tag (b ∷ key) on = (key, λ i. (sym (eqb-true tag b (first_so (nat_eq tag b) (starts_with nat_eq key []) on))) i ∷ key)
+
+pub one_less : (tag : ℕ) (m : KeyMap) (key : List ℕ) → starts_with nat_eq key (tag ∷ []) ≡ true → IsLess tag m (remove m key)
+one_less tag m key on = let (rest, is) = tagged tag key on in subst (λ (k : List ℕ). IsLess tag m (remove m k)) (sym is) (removed_less tag m rest)
+
+pub none_less : (tag : ℕ) (m : KeyMap) → IsLess tag m m
+none_less tag m = record { others = λ other apart rest. refl; rows = λ key value there. there }
+
+pub more_less : (tag : ℕ) (m n k : KeyMap) → IsLess tag m n → IsLess tag n k → IsLess tag m k
+more_less tag m n k one next = record {
+  others = λ other apart rest. next.others other apart rest ∙ one.others other apart rest;
+  rows = λ key value there. one.rows key value (next.rows key value there);
+}
+
+-- ---- all three tags
+module _ (m n k l : KeyMap) (held : IsLess 72 m n) (none_held : NoneOf 72 n) (told : IsLess 75 n k) (none_told : NoneOf 75 k) (versions : IsLess 86 k l) (none_versions : NoneOf 86 l) where
+  same : (tag : ℕ) → (tag ≡ 72 → ⊥) → (tag ≡ 75 → ⊥) → (tag ≡ 86 → ⊥) → SameTag tag m l
+  same tag a b c rest = versions.others tag c rest ∙ told.others tag b rest ∙ held.others tag a rest
+
+  no_holding : NoneOf 72 l
+  no_holding rest = versions.others 72 (λ e. absurd (omega arith)) rest ∙ told.others 72 (λ e. absurd (omega arith)) rest ∙ none_held rest
+
+  no_tally : NoneOf 75 l
+  no_tally rest = versions.others 75 (λ e. absurd (omega arith)) rest ∙ none_told rest
+
+  none_tallied : AreTallied l
+  none_tallied number fits = record {
+    count = zero;
+    fits = omega arith;
+    row = no_tally _;
+    holders = record {
+      plan_at = λ place. zero;
+      each = λ place less. absurd (omega arith);
+      all = λ plan plan_fits holds. absurd (no_value [] (sym holds ∙ no_holding _));
+      apart = λ a b less more. absurd (omega arith);
+    };
+  }
+
+  pub turned : (new : Bool) (d : Desk) → IsMapOf new m d → IsMapOf false l d
+  turned new d is =
+      let next = is.tidy.next in
+      let kept = kept_of m is.tidy in
+      let names = same 80 (λ e. absurd (omega arith)) (λ e. absurd (omega arith)) (λ e. absurd (omega arith)) in
+      let parts = same 82 (λ e. absurd (omega arith)) (λ e. absurd (omega arith)) (λ e. absurd (omega arith)) in
+      let seals = same 83 (λ e. absurd (omega arith)) (λ e. absurd (omega arith)) (λ e. absurd (omega arith)) in
+      let loads = same 103 (λ e. absurd (omega arith)) (λ e. absurd (omega arith)) (λ e. absurd (omega arith)) in
+      let chunks = same 107 (λ e. absurd (omega arith)) (λ e. absurd (omega arith)) (λ e. absurd (omega arith)) in
+      let gone = same 68 (λ e. absurd (omega arith)) (λ e. absurd (omega arith)) (λ e. absurd (omega arith)) in
+      let begun = same 76 (λ e. absurd (omega arith)) (λ e. absurd (omega arith)) (λ e. absurd (omega arith)) in
+      let all : AllKept l next false = record {
+        rows = λ key value there. kept.rows key value (held.rows key value (told.rows key value (versions.rows key value there)));
+        plans = plans_stay m l next.plan next.plan (omega arith) names gone parts kept.plans;
+        chunks = chunks_stay m l next.chunk next.chunk (omega arith) parts chunks kept.chunks;
+        loads = loads_stay m l next.load next.load (omega arith) begun seals loads kept.loads;
+        holders = record {
+          told = none_versions [];
+          held = λ plan number value fits there. absurd (no_value value (sym there ∙ no_holding _));
+          tallied = none_tallied;
+          hold = λ never. absurd (let clash : false ≡ true = never in cc);
+        };
+      } in
+      let tidy = tidy_at l next false (next_moves m l next (same 65 (λ e. absurd (omega arith)) (λ e. absurd (omega arith)) (λ e. absurd (omega arith)) []) is.tidy.is_next) is.tidy.fits all in
+      record { desk = desk_stays m l d names parts seals loads chunks is.desk; tidy = tidy.0; version = tidy.2; limits = is.limits }
+
+-- what a transaction reads then
+pub turned_txn : (t u v : Txn) (P : Image) (d : Desk) (m : KeyMap) → IsMapOf true m d → (one : IsWithout 72 t P m) → (two : IsWithout 75 u P one.n) → IsWithout 86 v P two.n → InTxnOf false v P d
+turned_txn t u v P d m is one two three = record {
+  m = three.n;
+  holds = three.reads;
+  is = turned m one.n two.n three.n one.less one.none two.less two.none three.less three.none true d is;
+}
+
+module _ {D : Type 0} {g : Ghosts D} where
+  -- one tag after the other
+  pub turned_pages : (r : Result (Unit {0}) TreeError) (t u v w : Txn) (a b c e : Pages D g) → Passed a b → Passed b c → IsQuiet c e → ((disk_in b).is_honest → (m : KeyMap) → InTxn t (stored a) m → IsWithout 72 u (stored a) m) → ((disk_in c).is_honest → (m : KeyMap) → InTxn u (stored b) m → IsWithout 75 v (stored b) m)
+      → ((disk_in e).is_honest → (m : KeyMap) → InTxn v (stored c) m → OnOk r (IsWithout 86 w (stored c) m)) → (disk_in e).is_honest → (d : Desk) → InTxnOf true t (stored a) d → OnOk r (InTxnOf false w (stored a) d)
+  turned_pages (Ok x) t u v w a b c e ab bc ce held told versions honest d holds =
+      let hc = ce.honest honest in
+      let hb = bc.quiet.honest hc in
+      let same = ab.quiet.same hb in
+      let both = bc.quiet.same hc ∙ same in
+      let one : IsWithout 72 u (stored a) holds.m = held hb holds.m holds.holds in
+      let two : IsWithout 75 v (stored a) one.n = subst (λ (P : Image). IsWithout 75 v P one.n) same (told hc one.n (subst (λ (P : Image). InTxn u P one.n) (sym same) one.reads)) in
+      let three : IsWithout 86 w (stored a) two.n = subst (λ (P : Image). IsWithout 86 w P two.n) both (versions honest two.n (subst (λ (P : Image). InTxn v P two.n) (sym both) two.reads)) in
+      turned_txn u v w (stored a) d holds.m holds.is one two three
+  turned_pages (Err x) t u v w a b c e ab bc ce held told versions honest d holds = tt
+
+  -- ---- and it is committed
+  pub back_reads : (t u : Txn) (a b : Pages D g) → IsBegun a t → IsQuiet a b → ((disk_in b).is_honest → (d : Desk) → InTxnOf true t (stored a) d → InTxnOf false u (stored a) d) → (disk_in b).is_honest → (d : Desk) → InPages a d → InTxnOf false u (stored b) d
+  back_reads t u a b start quiet old honest d holds =
+      let reads : InTxnOf true t (stored a) d = record { m = holds.m; holds = start.reads (quiet.honest honest) holds.m holds.holds; is = holds.is } in
+      subst (λ (P : Image). InTxnOf false u P d) (sym (quiet.same honest)) (old honest d reads)
+
+  pub back_quiet : (a b : Pages D g) → IsQuiet a b → (disk_in b).is_honest → has_halted a ≡ false → (sectors : ℕ) (d : Desk) → home (journal_of a) + count_of a ≡ sectors → InPages a d → LeavesOnly (OpensEither sectors d) (disk_in a) (disk_in b)
+  back_quiet a b quiet honest working sectors d whole holds =
+      leaves_wider (OpensDesk sectors d) (OpensEither sectors d) (disk_in a) (disk_in b) (λ x opens. inl opens) (quiet_leaves true a b quiet honest working sectors d whole holds)

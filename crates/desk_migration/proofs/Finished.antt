@@ -1,0 +1,107 @@
+-- The end: the version's row is put, and it is committed.
+use Rattle.std.proofs.Common.{◌≡◌, ◌⊎◌, ◌<◌, ◌≤◌, ◌+◌, ℕ, List, [], ◌∷◌, true, false, Result, Ok, Err, OnOk, IfErr, sym, subst, ◌∙◌, inl, inr, ⊎_elim, arith}
+use Rattle.sector_device.specs.Disk.{Image}
+use Rattle.sector_device.specs.Moments.{LeavesOnly}
+use Rattle.sector_device.proofs.Moments.{leaves_wider}
+use Rattle.sector_device.specs.declared.SectorDevice.{Ghosts}
+use Rattle.gate_journal.specs.Store.{home}
+use Rattle.page_store.proofs.Stops.{quiet_none}
+use Rattle.page_store.specs.Transactions.{stored, disk_in, count_of, journal_of, has_halted, txn_writes, IsQuiet, Passed}
+use Rattle.page_store.specs.declared.pages.Pages.{Pages}
+use Rattle.page_store.specs.declared.txn.Txn.{Txn}
+use Rattle.page_btree.specs.Map.{InTxn, InPages}
+use Rattle.page_btree.specs.declared.error.TreeError.{TreeError}
+use Rattle.page_btree.specs.declared.error.TreeError.TheVariants as tree
+use Rattle.desk_model.specs.Desk.{Desk}
+use Rattle.store_rows.specs.Keys.{key_of, version, in_four}
+use Rattle.store_rows.specs.Rows.{KeyMap}
+use Rattle.store_rows.specs.Puts.{Row}
+use Rattle.store_rows.specs.MigrationLaws.{VersionIsTold, as_new}
+use Rattle.row_table.specs.Puts.{HasPut, PutsErr}
+use Rattle.desk_pages.specs.Desks.{IsMapOf, IsOldMap, InPagesAs, InTxnAs, OpensAs, OpensOld, OpensDesk, OpensEither, InPages as HoldsDesk}
+use Rattle.desk_pages.specs.Moments.{StopsLeaveEither}
+use Rattle.desk_migration.specs.Holding.{AllAreHeld}
+use Rattle.desk_migration.specs.Puts.{tree_told, version_rows, CommitErr, FinishErr, HoldsAll, TellsFaults, free_of}
+use Rattle.desk_migration.specs.declared.error.MigrationError.{MigrationError}
+use Rattle.desk_migration.specs.declared.error.MigrationError.TheVariants.{Full, Memory, DeviceFault, Halted}
+use Rattle.desk_migration.proofs.Stepped.{IsBegun, both, commit_leaves, commit_faults, failed_after, no_faults, quiet_leaves}
+
+told_map : VersionIsTold → (m : KeyMap) (d : Desk) → IsOldMap m d → AllAreHeld m → IsMapOf true (as_new m) d
+told_map law m d is all =
+    let made = law m is.tidy (λ name plan number there named. all plan number named) in
+    record { desk = made.desk d is.desk; tidy = made.tidy.0; version = made.tidy.2; limits = is.limits }
+
+pub one_row : (k v : List ℕ) → k ≡ key_of version → v ≡ in_four 2 → ◌≡◌ {A = List Row} ((k, v) ∷ []) version_rows
+one_row k v key value = λ i. (key i, value i) ∷ []
+
+pub ok_then : {T E : Type 0} (r : Result T E) (A B : Type 0) → (A → B) → OnOk r A → OnOk r B
+ok_then (Ok x) A B go is = go is
+ok_then (Err e) A B go is = tt
+
+pub ok_so : {T E : Type 0} (r : Result T E) (B : Type 0) → B → OnOk r B
+ok_so (Ok x) B is = is
+ok_so (Err e) B is = tt
+
+pub err_then : {T E : Type 0} (r : Result T E) (P Q : E → Type 0) → ((e : E) → P e → Q e) → IfErr r P → IfErr r Q
+err_then (Ok x) P Q go is = tt
+err_then (Err e) P Q go is = go e is
+
+module _ {D : Type 0} {g : Ghosts D} where
+  -- what a commit tells of faults
+  pub either_faults : {T : Type 0} (a b c : Pages D g) (r : Result T MigrationError) → Passed a b → ((disk_in c).is_honest → (disk_in b).is_honest) → OnOk r (has_halted c ≡ false) → ((disk_in c).is_honest → OnOk r ((disk_in c).faults ≡ (disk_in b).faults)) → IfErr r (CommitErr b c) → TellsFaults a c
+  either_faults a b c (Ok x) ab honest works passed why = no_faults a b c ab honest works passed
+  either_faults a b c (Err e) ab honest works passed why = commit_faults a b c ab honest e why
+
+  -- a stop in calls that read at most
+  pub all_quiet : (a b : Pages D g) → IsQuiet a b → (disk_in b).is_honest → has_halted a ≡ false → (sectors : ℕ) (d : Desk) → home (journal_of a) + count_of a ≡ sectors → HoldsAll a d → LeavesOnly (OpensEither sectors d) (disk_in a) (disk_in b)
+  all_quiet a b quiet honest working sectors d whole holds =
+      leaves_wider (OpensOld sectors d) (OpensEither sectors d) (disk_in a) (disk_in b) (λ x opens. inr opens)
+      (quiet_leaves false a b quiet honest working sectors d whole (record { m = holds.m; holds = holds.holds; is = holds.is }))
+
+  -- few pages are free
+  pub short_now : (a : Pages D g) (free : ℕ) → ((disk_in a).is_honest → free ≡ free_of a) → free < 13 → FinishErr a a Full
+  short_now a free is short = (quiet_none a, inl (λ honest. let same = is honest in omega arith))
+
+  pub room_now : (a : Pages D g) (free : ℕ) → ((disk_in a).is_honest → free ≡ free_of a) → 13 ≤ free → (disk_in a).is_honest → 13 ≤ free_of a
+  room_now a free is enough honest = let same = is honest in omega arith
+
+  -- ---- the row was put
+  module _ (law : VersionIsTold) (t u : Txn) (a b : Pages D g) (start : IsBegun a t) (put : HasPut version_rows t u a b) where
+    pub version_writes : txn_writes u ≤ 207
+    version_writes = let writes = put.writes in let none = start.none in omega arith
+
+    pub version_working : has_halted b ≡ false
+    version_working = put.passed.halted ∙ start.working
+
+    reads_new : (disk_in b).is_honest → (m : KeyMap) → InPages a m → InTxn u (stored b) (as_new m)
+    reads_new honest m holds = subst (λ (P : Image). InTxn u P (as_new m)) (sym (put.passed.quiet.same honest)) (put.put honest m (start.reads (put.passed.quiet.honest honest) m holds))
+
+    pub version_leaves : (c : Pages D g) → StopsLeaveEither (InPagesAs b) (InTxnAs u (stored b)) OpensAs b c → (disk_in b).is_honest → (disk_in c).is_honest → (sectors : ℕ) (d : Desk) → home (journal_of a) + count_of a ≡ sectors → HoldsAll a d → LeavesOnly (OpensEither sectors d) (disk_in a) (disk_in c)
+    version_leaves c commit honest after sectors d whole holds =
+        let P = λ (x : Image). OpensOld sectors d x ⊎ OpensDesk sectors d x in
+        leaves_wider P (OpensEither sectors d) (disk_in a) (disk_in c) (λ x. ⊎_elim (λ old. inr old) (λ new. inl new))
+        (commit_leaves false true u a b c put.passed.quiet start.working version_working honest after commit sectors d whole (record { m = holds.m; holds = holds.holds; is = holds.is })
+        (record { m = as_new holds.m; holds = reads_new honest holds.m holds.holds; is = told_map law holds.m d holds.is holds.all }))
+
+    pub version_holds : (c : Pages D g) → ((m : KeyMap) → InTxn u (stored b) m → InPages c m) → (disk_in b).is_honest → (d : Desk) → HoldsAll a d → HoldsDesk c d
+    version_holds c committed honest d holds = record { m = as_new holds.m; holds = committed (as_new holds.m) (reads_new honest holds.m holds.holds); is = told_map law holds.m d holds.is holds.all }
+
+    pub version_not_committed : (c : Pages D g) → ((disk_in a).is_honest → 13 ≤ free_of a) → ((disk_in c).is_honest → (disk_in b).is_honest) → (e : MigrationError) → CommitErr b c e → FinishErr a c e
+    version_not_committed c room honest Full why = absurd why
+    version_not_committed c room honest Memory why = (subst (λ (p : Pages D g). IsQuiet a p) (sym why) put.passed.quiet, λ is. room (put.passed.quiet.honest (honest is)))
+    version_not_committed c room honest DeviceFault why = (λ is. room (put.passed.quiet.honest (honest is)), inl (failed_after a b c put.passed honest why))
+    version_not_committed c room honest Halted why = absurd why
+
+  -- ---- it wasn't
+  pub version_not_put : (t : Txn) (a b : Pages D g) → IsBegun a t → IsQuiet a b → ((disk_in a).is_honest → 13 ≤ free_of a) → (e : TreeError) → PutsErr version_rows t a b e → FinishErr a b (tree_told e)
+  version_not_put t a b start quiet room tree.DeviceFault why = (
+    λ honest. room (quiet.honest honest),
+    elim why [
+      | inl failed ↦ inl failed
+      | inr none ↦ inr (λ honest d holds. none honest holds.m (start.reads (quiet.honest honest) holds.m holds.holds))
+    ],
+  )
+  version_not_put t a b start quiet room tree.Halted why = both (has_halted a) why start.working
+  version_not_put t a b start quiet room tree.NoPages why = (quiet, inl (λ honest. let free = start.free (quiet.honest honest) in omega arith))
+  version_not_put t a b start quiet room tree.TooDeep why = (quiet, inr (λ honest m holds. (t, why honest m (start.reads (quiet.honest honest) m holds))))
+  version_not_put t a b start quiet room tree.Memory why = (quiet, λ honest. room (quiet.honest honest))

@@ -1,0 +1,10 @@
+mod Order
+mod PartRows
+mod Pairs
+mod Unread
+mod Turns
+mod Stepped
+mod Finished
+mod Moved
+mod Opened
+mod Back

@@ -1,0 +1,210 @@
+-- Steps and the end at a migration.
+use Rattle.std.proofs.Common.{◌≡◌, ◌⊎◌, ◌+◌, ℕ, zero, suc, Bool, true, false, List, refl, sym, ap, subst, ◌∙◌, inl, inr, arith}
+use Rattle.std.specs.Prelude.{◌↔◌, Result, Ok, Err, OnOk, IfErr, IsErr}
+use Rattle.sector_device.specs.Disk.{Image}
+use Rattle.sector_device.specs.Moments.{LeavesOnly}
+use Rattle.sector_device.proofs.Moments.{leaves_now}
+use Rattle.sector_device.specs.declared.SectorDevice.{Ghosts}
+use Rattle.gate_journal.specs.Store.{home}
+use Rattle.gate_journal.specs.Contents.{is_halted as journal_halted}
+use Rattle.page_store.specs.Transactions.{HasShape, IsQuiet, IsSame}
+use Rattle.page_store.specs.declared.pages.Pages.{Pages}
+use Rattle.page_btree.specs.Map.{InPages}
+use Rattle.desk_model.specs.Desk.{Desk}
+use Rattle.store_rows.specs.Rows.{KeyMap}
+use Rattle.desk_pages.specs.Desks.{IsOldMap, InPages as HoldsDesk, OpensEither, OpensOld}
+use Rattle.desk_pages.specs.Moments.{StopsLeave}
+use Rattle.desk_pages.proofs.Kept.{opens_now}
+use Rattle.desk_migration.specs.Holding.{AllAreHeld, AreHeldTo}
+use Rattle.desk_migration.specs.Migrating.{disk_of, has_ended, is_halted, sectors_of, Ends, Goes, HasMore, HasRows, Keeps, KeepsNew, Moves}
+use Rattle.desk_migration.specs.Puts.{FinishErr, HoldsAll, HoldsMore, HoldsTo, StepErr, TellsFaults}
+use Rattle.desk_migration.specs.declared.error.MigrationError.{MigrationError}
+use Rattle.desk_migration.specs.declared.error.MigrationError.TheVariants.{Full, Memory, DeviceFault, Halted}
+use Rattle.desk_migration.specs.declared.migration.Migration.{Migration}
+use Rattle.desk_migration.proofs.Pairs.{not_all, same_map}
+use Rattle.desk_migration.proofs.Stepped.{both, quiet_rows}
+
+either : (b : Bool) → (b ≡ true) ⊎ (b ≡ false)
+either true = inl refl
+either false = inr refl
+
+zero_or : (n : ℕ) → (n ≡ 0) ⊎ (n ≡ 0 → ⊥)
+zero_or zero = inl refl
+zero_or (suc n) = inr (λ is. absurd (omega arith))
+
+module _ {D : Type 0} {g : Ghosts D} where
+  pub goes_on : (x y : Migration D g) → HasShape x.pages y.pages → ((disk_of y).is_honest → (disk_of x).is_honest) → (is_halted x ≡ true → IsSame x.pages y.pages) → TellsFaults x.pages y.pages → Goes x y
+  goes_on x y shape honest still faults = record {
+    sectors = λ i. home (shape.journal_pages i) + shape.pages i;
+    room = shape.journal_pages;
+    honest = honest;
+    still = still;
+    rose = faults.rose;
+    calm = faults.calm;
+  }
+
+  still_halted : (x y : Migration D g) → is_halted x ≡ true → IsSame x.pages y.pages → is_halted y ≡ true
+  still_halted x y halted same = ap (λ j. journal_halted j) same ∙ halted
+
+  -- the pages of one that keeps its desk hold it
+  pub holds_to : (x : Migration D g) (d : Desk) → Keeps x d → is_halted x ≡ false → (disk_of x).is_honest → HoldsTo x.from x.pages d
+  holds_to x d keeps working honest = let (m, has) = keeps.holds working honest in record { m = m; holds = has.holds; is = has.is; done = has.done }
+
+  pub holds_all : (x : Migration D g) (d : Desk) → has_ended x ≡ true → Keeps x d → is_halted x ≡ false → (disk_of x).is_honest → HoldsAll x.pages d
+  holds_all x d ended keeps working honest = let (m, has) = keeps.holds working honest in record { m = m; holds = has.holds; is = has.is; all = has.all ended }
+
+  -- ---- images
+  same_left : (x y : Migration D g) (d : Desk) → IsSame x.pages y.pages → ((disk_of y).is_honest → (disk_of x).is_honest) → Keeps x d → (disk_of y).is_honest → (c : Image) → (disk_of y).leaves c → OpensOld (sectors_of x) d c
+  same_left x y d same honest keeps is_honest c leaves = keeps.left (honest is_honest) c (subst (λ j. (g.disk j.device).leaves c) same leaves)
+
+  -- what a stop leaves behind a step
+  left_old : (x y : Migration D g) (d : Desk) → Goes x y → (is_halted x ≡ false → (disk_of y).is_honest → LeavesOnly (OpensOld (sectors_of x) d) (disk_of x) (disk_of y)) → Keeps x d → (disk_of y).is_honest → (c : Image) → (disk_of y).leaves c → OpensOld (sectors_of y) d c
+  left_old x y d goes moment keeps honest c leaves = subst (λ (s : ℕ). OpensOld s d c) (sym goes.sectors) (elim (either (is_halted x)) [
+    | inl halted ↦ same_left x y d (goes.still halted) goes.honest keeps honest c leaves
+    | inr working ↦ leaves_now (OpensOld (sectors_of x) d) (disk_of x) (disk_of y) (moment working honest) c leaves
+  ])
+
+  -- ---- steps
+  abbrev pub LeavesOld : Migration D g → Migration D g → Type 0
+  LeavesOld x y = StopsLeave (HoldsTo x.from x.pages) OpensOld x.pages y.pages
+
+  moment_old : (x y : Migration D g) → LeavesOld x y → ((disk_of y).is_honest → (disk_of x).is_honest) → (d : Desk) → Keeps x d → is_halted x ≡ false → (disk_of y).is_honest → LeavesOnly (OpensOld (sectors_of x) d) (disk_of x) (disk_of y)
+  moment_old x y leaves honest d keeps working is_honest = leaves is_honest working (sectors_of x) d refl (holds_to x d keeps working (honest is_honest))
+
+  abbrev pub PutsMore : ℕ → Migration D g → Migration D g → Type 0
+  PutsMore count x y = (disk_of y).is_honest → (m : KeyMap) (d : Desk) → InPages x.pages m → IsOldMap m d → AreHeldTo x.from m → HoldsMore count m d y.from y.pages
+
+  pub more_rows : (x y : Migration D g) (count : ℕ) → (has_ended y ≡ true → count ≡ 0) → PutsMore count x y → (disk_of y).is_honest → (d : Desk) (m : KeyMap) → HasRows x d m → HasMore x d m count y
+  more_rows x y count ended puts honest d m has =
+      let more = puts honest m d has.holds has.is has.done in
+      record {
+        n = more.n;
+        has = record { holds = more.holds; is = more.is; done = more.done; all = λ is. more.clean (let none = ended is in omega arith) };
+        pairs = more.pairs;
+        two_each = more.two_each;
+        by = more.by;
+        clean = more.clean;
+      }
+
+  pub exact_rows : (count : ℕ) (m : KeyMap) (d : Desk) (next : List ℕ) (ps : Pages D g) → HoldsMore count m d next ps → (count ≡ 0) ↔ AllAreHeld m
+  exact_rows count m d next ps more = (
+    λ none. subst AllAreHeld (same_map more.pairs m more.n (let two = more.two_each in omega arith) more.by) (more.clean (omega arith)),
+    λ all. elim (zero_or more.pairs) [
+      | inl none ↦ let two = more.two_each in omega arith
+      | inr some ↦ absurd (not_all more.pairs m more.n some more.by all)
+    ],
+  )
+
+  pub stepped : (x y : Migration D g) (count : ℕ) → Goes x y → is_halted y ≡ false → LeavesOld x y → (has_ended y ≡ true → count ≡ 0) → PutsMore count x y → is_halted x ≡ false → Moves x y
+  stepped x y count goes works leaves ended puts working = record {
+    goes = goes;
+    any_moment = λ d keeps off honest. moment_old x y leaves goes.honest d keeps off honest;
+    keeps = λ d keeps. record {
+      holds = λ off honest.
+          let (m, has) = keeps.holds working (goes.honest honest) in
+          let more = more_rows x y count ended puts honest d m has in
+          (more.n, more.has);
+      left = left_old x y d goes (λ off honest. moment_old x y leaves goes.honest d keeps off honest) keeps;
+    };
+  }
+
+  -- ---- a step that was refused
+  quiet_has : (x y : Migration D g) (d : Desk) → IsQuiet x.pages y.pages → y.from ≡ x.from → has_ended y ≡ has_ended x → ((disk_of y).is_honest → (disk_of x).is_honest) → Keeps x d → is_halted x ≡ false → (disk_of y).is_honest → (m : KeyMap) × HasRows y d m
+  quiet_has x y d quiet from ended honest keeps working is_honest =
+      let (m, has) = keeps.holds working (honest is_honest) in (
+        m,
+        record {
+          holds = quiet_rows x.pages y.pages quiet is_honest m has.holds;
+          is = has.is;
+          done = subst (λ (k : List ℕ). AreHeldTo k m) (sym from) has.done;
+          all = λ is. has.all (sym ended ∙ is);
+        },
+      )
+
+  not_stepped_rows : (x y : Migration D g) (e : MigrationError) (d : Desk) → StepErr x.from x.pages y.pages e → y.from ≡ x.from → has_ended y ≡ has_ended x → ((disk_of y).is_honest → (disk_of x).is_honest) → Keeps x d → is_halted x ≡ false → is_halted y ≡ false → (disk_of y).is_honest → (m : KeyMap) × HasRows y d m
+  not_stepped_rows x y Full d why from ended honest keeps working works is_honest = quiet_has x y d why.0 from ended honest keeps working is_honest
+  not_stepped_rows x y Memory d why from ended honest keeps working works is_honest = quiet_has x y d why from ended honest keeps working is_honest
+  not_stepped_rows x y DeviceFault d why from ended honest keeps working works is_honest = elim why [
+    | inl failed ↦ both (is_halted y) failed.halted works
+    | inr none ↦ absurd (none is_honest d (holds_to x d keeps working (honest is_honest)))
+  ]
+  not_stepped_rows x y Halted d why from ended honest keeps working works is_honest = both (is_halted x) why.0 working
+
+  working_before : (x y : Migration D g) → Goes x y → is_halted y ≡ false → is_halted x ≡ false
+  working_before x y goes works = elim (either (is_halted x)) [
+    | inl halted ↦ both (is_halted y) (still_halted x y halted (goes.still halted)) works
+    | inr working ↦ working
+  ]
+
+  pub not_stepped : (x y : Migration D g) (e : MigrationError) → Goes x y → LeavesOld x y → StepErr x.from x.pages y.pages e → y.from ≡ x.from → has_ended y ≡ has_ended x → Moves x y
+  not_stepped x y e goes leaves why from ended = record {
+    goes = goes;
+    any_moment = λ d keeps off honest. moment_old x y leaves goes.honest d keeps off honest;
+    keeps = λ d keeps. record {
+      holds = λ off honest. not_stepped_rows x y e d why from ended goes.honest keeps (working_before x y goes off) off honest;
+      left = left_old x y d goes (λ off honest. moment_old x y leaves goes.honest d keeps off honest) keeps;
+    };
+  }
+
+  -- ---- the end
+  abbrev pub LeavesEither : Migration D g → Migration D g → Type 0
+  LeavesEither x y = StopsLeave (HoldsAll x.pages) OpensEither x.pages y.pages
+
+  moment_either : (x y : Migration D g) → has_ended x ≡ true → LeavesEither x y → ((disk_of y).is_honest → (disk_of x).is_honest) → (d : Desk) → Keeps x d → is_halted x ≡ false → (disk_of y).is_honest → LeavesOnly (OpensEither (sectors_of x) d) (disk_of x) (disk_of y)
+  moment_either x y ended leaves honest d keeps working is_honest = leaves is_honest working (sectors_of x) d refl (holds_all x d ended keeps working (honest is_honest))
+
+  pub ended_so : (x y : Migration D g) → has_ended x ≡ true → Goes x y → LeavesEither x y → Ends x y
+  ended_so x y ended goes leaves = record {
+    goes = goes;
+    any_moment = λ d keeps off honest. moment_either x y ended leaves goes.honest d keeps off honest;
+    left = λ d keeps honest c left. elim (either (is_halted x)) [
+      | inl halted ↦ inr (same_left x y d (goes.still halted) goes.honest keeps honest c left)
+      | inr working ↦ leaves_now (OpensEither (sectors_of x) d) (disk_of x) (disk_of y) (moment_either x y ended leaves goes.honest d keeps working honest) c left
+    ];
+  }
+
+  -- all is of the new version then
+  pub kept_new : (x y : Migration D g) → has_ended x ≡ true → Goes x y → is_halted x ≡ false → is_halted y ≡ false → ((disk_of y).is_honest → (d : Desk) → HoldsAll x.pages d → HoldsDesk y.pages d) → (disk_of y).is_honest → (d : Desk) → Keeps x d → KeepsNew y d
+  kept_new x y ended goes working works told honest d keeps =
+      let holds = told honest d (holds_all x d ended keeps working (goes.honest honest)) in
+      record { holds = holds; left = λ c left. opens_now {new = true} y.pages works honest (sectors_of y) d refl holds c left }
+
+  not_ended_rows : (x y : Migration D g) (e : MigrationError) (d : Desk) → has_ended x ≡ true → FinishErr x.pages y.pages e → y.from ≡ x.from → has_ended y ≡ has_ended x → ((disk_of y).is_honest → (disk_of x).is_honest) → Keeps x d → is_halted x ≡ false → is_halted y ≡ false → (disk_of y).is_honest → (m : KeyMap) × HasRows y d m
+  not_ended_rows x y Full d on why from ended honest keeps working works is_honest = quiet_has x y d why.0 from ended honest keeps working is_honest
+  not_ended_rows x y Memory d on why from ended honest keeps working works is_honest = quiet_has x y d why.0 from ended honest keeps working is_honest
+  not_ended_rows x y DeviceFault d on why from ended honest keeps working works is_honest = elim why.1 [
+    | inl failed ↦ both (is_halted y) failed.halted works
+    | inr none ↦ absurd (none is_honest d (holds_all x d on keeps working (honest is_honest)))
+  ]
+  not_ended_rows x y Halted d on why from ended honest keeps working works is_honest = both (is_halted x) why.0 working
+
+  -- a refusal without a fault leaves all as it was
+  pub not_ended : (x y : Migration D g) (e : MigrationError) → has_ended x ≡ true → Goes x y → FinishErr x.pages y.pages e → y.from ≡ x.from → has_ended y ≡ has_ended x → is_halted y ≡ false → (d : Desk) → Keeps x d → Keeps y d
+  not_ended x y e on goes why from ended works d keeps = record {
+    holds = λ off honest. not_ended_rows x y e d on why from ended goes.honest keeps (working_before x y goes works) works honest;
+    left = λ honest c left.
+        let (m, has) = not_ended_rows x y e d on why from ended goes.honest keeps (working_before x y goes works) works honest in
+        opens_now {new = false} y.pages works honest (sectors_of y) d refl (record { m = m; holds = has.holds; is = has.is }) c left;
+  }
+
+  -- ---- calls
+  pub step_refused : (x y : Migration D g) (e : MigrationError) → HasShape x.pages y.pages → ((disk_of y).is_honest → (disk_of x).is_honest) → (is_halted x ≡ true → IsSame x.pages y.pages) → TellsFaults x.pages y.pages → LeavesOld x y → StepErr x.from x.pages y.pages e → y.from ≡ x.from → has_ended y ≡ has_ended x → Moves x y
+  step_refused x y e shape honest still faults leaves why from ended = not_stepped x y e (goes_on x y shape honest still faults) leaves why from ended
+
+  pub step_made : (x y : Migration D g) (count : ℕ) → HasShape x.pages y.pages → ((disk_of y).is_honest → (disk_of x).is_honest) → TellsFaults x.pages y.pages → (is_halted x ≡ false) × (is_halted y ≡ false) → LeavesOld x y → (has_ended y ≡ true → count ≡ 0) → PutsMore count x y → Moves x y
+  step_made x y count shape honest faults ok leaves ended puts = stepped x y count (goes_on x y shape honest (λ halted. both (is_halted x) halted ok.0) faults) ok.1 leaves ended puts ok.0
+
+  module _ (r : Result (Unit {0}) MigrationError) (x y : Migration D g) (ended : has_ended x ≡ true) (shape : HasShape x.pages y.pages) (honest : (disk_of y).is_honest → (disk_of x).is_honest) (still : is_halted x ≡ true → (r ≡ Err Halted) × IsSame x.pages y.pages) (faults : TellsFaults x.pages y.pages) where
+    pub finish_goes : Goes x y
+    finish_goes = goes_on x y shape honest (λ halted. (still halted).1) faults
+
+    pub finish_ends : LeavesEither x y → Ends x y
+    finish_ends leaves = ended_so x y ended finish_goes leaves
+
+  pub told_of : (r : Result (Unit {0}) MigrationError) (x y : Migration D g) → has_ended x ≡ true → Goes x y → OnOk r ((is_halted x ≡ false) × (is_halted y ≡ false)) → ((disk_of y).is_honest → (d : Desk) → HoldsAll x.pages d → OnOk r (HoldsDesk y.pages d)) → (disk_of y).is_honest → OnOk r ((d : Desk) → Keeps x d → KeepsNew y d)
+  told_of (Ok v) x y ended goes ok told honest = λ d keeps. kept_new x y ended goes ok.0 ok.1 told honest d keeps
+  told_of (Err e) x y ended goes ok told honest = tt
+
+  pub stays_of : (r : Result (Unit {0}) MigrationError) (x y : Migration D g) → has_ended x ≡ true → Goes x y → IfErr r (λ e. FinishErr x.pages y.pages e) → y.from ≡ x.from → has_ended y ≡ has_ended x → IsErr r → is_halted y ≡ false → (d : Desk) → Keeps x d → Keeps y d
+  stays_of (Ok v) x y ended goes why from same is works d keeps = absurd (let clash : false ≡ true = is in cc)
+  stays_of (Err e) x y ended goes why from same is works d keeps = not_ended x y e ended goes why from same works d keeps

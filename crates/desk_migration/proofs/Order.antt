@@ -1,0 +1,77 @@
+-- The key that comes next behind another one.
+use Rattle.std.proofs.Common.{◌≡◌, ◌⊎◌, inl, inr, ◌<◌, ℕ, List, [], ◌∷◌, ◌++◌, length, Bool, true, false, cond, ◌&&◌, nat_eq, refl, sym, ap, ◌∙◌, arith}
+use Rattle.std.specs.List.{starts_with}
+use Rattle.std.specs.Ordering.{is_gt, nat_cmp, ordering_then}
+use Rattle.std.specs.declared.cmp.Ordering.{Ordering}
+use Rattle.std.specs.declared.cmp.Ordering.TheVariants.{Less, Equal, Greater}
+use Rattle.std.specs.Cmp.{nat_cmp_is}
+use Rattle.std.specs.FinMap.{entries}
+use Rattle.page_node.specs.Entries.{Entry}
+use Rattle.page_node.specs.Places.{key_cmp, entries_from}
+use Rattle.page_node.proofs.Laws.{flip_less}
+use Rattle.store_rows.specs.Rows.{KeyMap}
+use Rattle.store_rows.proofs.Frames.{same_key}
+use Rattle.store_check.specs.Rows.{IsFrom}
+use Rattle.store_check.proofs.FirstRows.{clash, first_is_from, from_trans, less_from}
+use Rattle.store_check.proofs.Scanned.{first_so, second_so}
+use Rattle.store_check.proofs.Behind.{few_from, fewer, from_tag}
+
+-- ---- what a key begins with
+both_so : (b c : Bool) → b ≡ true → c ≡ true → (b && c) ≡ true
+both_so true c h g = g
+both_so false c h g = h
+
+pub starts_more : (key more prefix : List ℕ) → starts_with nat_eq key prefix ≡ true → starts_with nat_eq (key ++ more) prefix ≡ true
+starts_more [] [] [] on = refl
+starts_more [] (x ∷ more) [] on = refl
+starts_more (b ∷ key) more [] on = refl
+starts_more [] more (a ∷ prefix) on = cc
+starts_more (b ∷ key) more (a ∷ prefix) on =
+    both_so (nat_eq a b) (starts_with nat_eq (key ++ more) prefix) (first_so (nat_eq a b) (starts_with nat_eq key prefix) on) (starts_more key more prefix (second_so (nat_eq a b) (starts_with nat_eq key prefix) on))
+
+-- ---- the order of keys
+ordered : (a b : List ℕ) (r : Ordering) → key_cmp a b ≡ r → is_gt r ≡ false → (key_cmp a b ≡ Less) ⊎ (a ≡ b)
+ordered a b Less is not = inl is
+ordered a b Equal is not = inr (same_key a b is)
+ordered a b Greater is not = absurd (clash true refl not)
+
+pub from_or_same : (a b : List ℕ) → IsFrom a b → (key_cmp a b ≡ Less) ⊎ (a ≡ b)
+from_or_same a b from = ordered a b (key_cmp a b) refl from
+
+abbrev pub behind : List ℕ → List ℕ
+behind key = key ++ 0 ∷ []
+
+then_not_above : (r s t : Ordering) → ordering_then r s ≡ Less → (s ≡ Less → is_gt t ≡ false) → is_gt (ordering_then r t) ≡ false
+then_not_above Less s t is next = refl
+then_not_above Equal s t is next = next is
+then_not_above Greater s t is next = cc
+
+-- a key above another one isn't below the one that comes next behind that
+pub from_behind : (key other : List ℕ) → key_cmp key other ≡ Less → IsFrom (behind key) other
+from_behind [] [] less = cc
+from_behind [] (b ∷ other) less = from_tag 0 b other (omega arith)
+from_behind (a ∷ key) [] less = cc
+from_behind (a ∷ key) (b ∷ other) less = then_not_above (nat_cmp a b) (key_cmp key other) (key_cmp (behind key) other) less (λ is. from_behind key other is)
+
+pub below_behind : (key : List ℕ) → key_cmp key (behind key) ≡ Less
+below_behind [] = refl
+below_behind (a ∷ key) =
+    let tied : nat_cmp a a ≡ Equal = sym (nat_cmp_is a a Equal refl) in
+    ap (λ (r : Ordering). ordering_then r (key_cmp key (behind key))) tied ∙ below_behind key
+
+-- fewer rows come from it on
+module _ (m : KeyMap) (from : List ℕ) (e : Entry) (more : List Entry) (first : entries_from from (entries m) ≡ e ∷ more) where
+  abbrev next : List ℕ
+  next = behind e.0
+
+  from_next : IsFrom from next
+  from_next = from_trans from e.0 next (first_is_from m from e more first) (less_from e.0 next (below_behind e.0))
+
+  pub fewer_behind : length (entries_from next (entries m)) < length (entries_from from (entries m))
+  fewer_behind =
+      let same : entries_from next (entries m) ≡ entries_from next (e ∷ more) = sym (fewer from next (entries m) from_next) ∙ ap (entries_from next) first in
+      let gone : entries_from next (e ∷ more) ≡ entries_from next more = ap (λ (r : Ordering). cond (cond (is_gt r) false true) (e ∷ entries_from next more) (entries_from next more)) (flip_less e.0 next (below_behind e.0)) in
+      let few = few_from next more in
+      let one : length (entries_from next (entries m)) ≡ length (entries_from next more) = ap (λ (l : List Entry). length l) (same ∙ gone) in
+      let all : length (entries_from from (entries m)) ≡ length (e ∷ more) = ap (λ (l : List Entry). length l) first in
+      omega arith

@@ -1,0 +1,90 @@
+-- Plans that come to hold chunks, one pair after the other.
+use Rattle.std.proofs.Common.{◌≡◌, ◌+◌, ℕ, List, [], ◌∷◌, ◌++◌, length, Bool, refl, sym, ap, subst, ◌∙◌, arith, length-append}
+use Rattle.desk_model.specs.Desk.{Desk}
+use Rattle.store_rows.specs.Rows.{KeyMap}
+use Rattle.store_rows.specs.Tidy.{IsNamedBy, Tidy}
+use Rattle.store_rows.specs.Shares.{hold}
+use Rattle.store_rows.specs.MigrationLaws.{HoldsNamed, NamedIsHeld}
+use Rattle.store_rows.proofs.OneGeography.{no_value}
+use Rattle.desk_pages.specs.Desks.{IsMapOf}
+use Rattle.desk_migration.specs.Holding.{AllAreHeld, AreHeldTo, AreUnheld, IsHeldBy, IsUnheld, hold_pairs}
+use Rattle.desk_migration.proofs.PartRows.{named_fits}
+
+-- ---- one pair
+pub pair_held : NamedIsHeld → (m : KeyMap) (tidy : Tidy m) (plan number : ℕ) → IsUnheld m plan number → HoldsNamed m tidy.next tidy.new plan number (hold m plan number)
+pair_held law m tidy plan number is = law m tidy plan number is.fits.1 is.named
+
+-- what was passed stays so
+pub still_done : NamedIsHeld → (m : KeyMap) (tidy : Tidy m) (plan number : ℕ) → IsUnheld m plan number → (from : List ℕ) → AreHeldTo from m → AreHeldTo from (hold m plan number)
+still_done law m tidy plan number is from done = λ other x named short.
+    let held = pair_held law m tidy plan number is in
+    let before : IsNamedBy m other x = record {
+      revision = named.revision;
+      index = named.index;
+      part_fits = named.part_fits;
+      numbers = named.numbers;
+      chunks = named.chunks;
+      row = sym (held.rest 82 (λ e. absurd (omega arith)) (λ e. absurd (omega arith)) _) ∙ named.row;
+      among = named.among;
+    } in
+    held.still other x (named_fits m other x before) (done other x before short)
+
+tidy_held : NamedIsHeld → (m : KeyMap) (tidy : Tidy m) (plan number : ℕ) → IsUnheld m plan number → Tidy (hold m plan number)
+tidy_held law m tidy plan number is = (pair_held law m tidy plan number is).is.tidy.0
+
+map_held : NamedIsHeld → (m : KeyMap) (new : Bool) (d : Desk) (plan number : ℕ) → IsUnheld m plan number → IsMapOf new m d → IsMapOf new (hold m plan number) d
+map_held law m new d plan number is of =
+    let held = pair_held law m of.tidy plan number is in
+    record { desk = held.is.desk d of.desk; tidy = held.is.tidy.0; version = held.is.tidy.2 ∙ of.version; limits = of.limits }
+
+-- ---- several
+tidy_pairs : NamedIsHeld → (pairs : List (ℕ × ℕ)) (m : KeyMap) → Tidy m → AreUnheld m pairs → Tidy (hold_pairs m pairs)
+tidy_pairs law [] m tidy all = tidy
+tidy_pairs law (pair ∷ pairs) m tidy all = tidy_pairs law pairs (hold m pair.0 pair.1) (tidy_held law m tidy pair.0 pair.1 all.0) all.1
+
+map_pairs : NamedIsHeld → (pairs : List (ℕ × ℕ)) (m : KeyMap) (new : Bool) (d : Desk) → AreUnheld m pairs → IsMapOf new m d → IsMapOf new (hold_pairs m pairs) d
+map_pairs law [] m new d all is = is
+map_pairs law (pair ∷ pairs) m new d all is = map_pairs law pairs (hold m pair.0 pair.1) new d all.1 (map_held law m new d pair.0 pair.1 all.0 is)
+
+pub tidy_by : NamedIsHeld → (count : ℕ) (m n : KeyMap) → Tidy m → IsHeldBy count m n → Tidy n
+tidy_by law count m n tidy by = subst Tidy (sym by.rest) (tidy_pairs law by.pairs m tidy by.unheld)
+
+pub map_by : NamedIsHeld → (count : ℕ) (m n : KeyMap) (new : Bool) (d : Desk) → IsHeldBy count m n → IsMapOf new m d → IsMapOf new n d
+map_by law count m n new d by is = subst (λ (k : KeyMap). IsMapOf new k d) (sym by.rest) (map_pairs law by.pairs m new d by.unheld is)
+
+pub unheld_more : (pairs more : List (ℕ × ℕ)) (m : KeyMap) → AreUnheld m pairs → AreUnheld (hold_pairs m pairs) more → AreUnheld m (pairs ++ more)
+unheld_more [] more m all next = next
+unheld_more (pair ∷ pairs) more m all next = (all.0, unheld_more pairs more (hold m pair.0 pair.1) all.1 next)
+
+pub hold_more : (pairs more : List (ℕ × ℕ)) (m : KeyMap) → hold_pairs (hold_pairs m pairs) more ≡ hold_pairs m (pairs ++ more)
+hold_more [] more m = refl
+hold_more (pair ∷ pairs) more m = hold_more pairs more (hold m pair.0 pair.1)
+
+pub then_by : (count more : ℕ) (m n k : KeyMap) → IsHeldBy count m n → IsHeldBy more n k → IsHeldBy (count + more) m k
+then_by count more m n k one next = record {
+  pairs = one.pairs ++ next.pairs;
+  count_is = let both = length-append one.pairs next.pairs in let first = one.count_is in let last = next.count_is in omega arith;
+  unheld = unheld_more one.pairs next.pairs m one.unheld (subst (λ (x : KeyMap). AreUnheld x next.pairs) one.rest next.unheld);
+  rest = next.rest ∙ ap (λ (x : KeyMap). hold_pairs x next.pairs) one.rest ∙ hold_more one.pairs next.pairs m;
+}
+
+pub none_by : (m : KeyMap) → IsHeldBy 0 m m
+none_by m = record { pairs = []; count_is = refl; unheld = tt; rest = refl }
+
+pub one_by : (m : KeyMap) (plan number : ℕ) → IsUnheld m plan number → IsHeldBy 1 m (hold m plan number)
+one_by m plan number is = record { pairs = (plan, number) ∷ []; count_is = refl; unheld = (is, tt); rest = refl }
+
+-- ---- whether there were any
+some_unheld : (pairs : List (ℕ × ℕ)) (m : KeyMap) → (length pairs ≡ 0 → ⊥) → AreUnheld m pairs → AllAreHeld m → ⊥
+some_unheld [] m some all held = some refl
+some_unheld (pair ∷ pairs) m some all held = no_value [] (sym (held pair.0 pair.1 all.0.named) ∙ all.0.lacks)
+
+pub not_all : (count : ℕ) (m n : KeyMap) → (count ≡ 0 → ⊥) → IsHeldBy count m n → AllAreHeld m → ⊥
+not_all count m n some by held = some_unheld by.pairs m (λ none. some (sym by.count_is ∙ none)) by.unheld held
+
+no_pairs : (pairs : List (ℕ × ℕ)) (m : KeyMap) → length pairs ≡ 0 → hold_pairs m pairs ≡ m
+no_pairs [] m none = refl
+no_pairs (pair ∷ pairs) m none = absurd (omega arith)
+
+pub same_map : (count : ℕ) (m n : KeyMap) → count ≡ 0 → IsHeldBy count m n → n ≡ m
+same_map count m n zero by = by.rest ∙ no_pairs by.pairs m (by.count_is ∙ zero)

@@ -1,0 +1,130 @@
+-- Parts of revisions, and the chunks that they name.
+use Rattle.std.proofs.Common.{◌≡◌, inl, inr, ◌<◌, ◌^◌, ℕ, List, ◌++◌, length, take, drop, Bool, true, false, nat_eq, Option, Some, None, sym, ap, subst, ◌∙◌, w64, arith}
+use Rattle.std.specs.Prelude.{Contains}
+use Rattle.std.specs.Int.{from_be_bytes}
+use Rattle.std.specs.List.{starts_with}
+use Rattle.std.specs.Ordering.{is_gt}
+use Rattle.std.specs.FinMap.{get}
+use Rattle.std.proofs.lemmas.Nat.{from_be_bytes-to_be_bytes_8}
+use Rattle.std.proofs.lemmas.List.Elements.{All-contains}
+use Rattle.page_node.specs.Places.{key_cmp}
+use Rattle.btree_scan.specs.declared.rows.Row.{Row}
+use Rattle.store_rows.specs.Keys.{RowKey, key_of, Fits, counters, retired, begun, holding, tally, named, part, seal, version, block, pair, chunk, in_one, in_four, in_eight, parts_prefix}
+use Rattle.store_rows.specs.Lists.{AreChunks, chunks_bytes}
+use Rattle.store_rows.specs.Rows.{KeyMap, Has}
+use Rattle.store_rows.specs.Holders.{IsHeld}
+use Rattle.store_rows.specs.Tidy.{IsNamedBy, Tidy}
+use Rattle.store_rows.proofs.ListLaws.{chunks_differ}
+use Rattle.store_rows.proofs.OneGeography.{value_is}
+use Rattle.store_check.specs.Rows.{IsFirst, NoneFrom}
+use Rattle.store_check.proofs.FirstRows.{clash, first_least, first_there, none_behind}
+use Rattle.store_check.proofs.Scanned.{either_way}
+use Rattle.store_check.proofs.Behind.{from_tag, starts_itself}
+use Rattle.chunk_table.specs.Holding.{Stands}
+use Rattle.desk_migration.specs.Holding.{AllAreHeld, AreHeldTo, IsUnheld, part_key}
+use Rattle.desk_migration.specs.Parts.{HasPassed, IsFirstUnheld, IsPartFrom, IsPartRow, IsUnderParts}
+use Rattle.desk_migration.proofs.Order.{behind, fewer_behind, from_behind, from_or_same}
+
+-- the first row from a key on is that of a part, or there is no part
+pub part_found : (found : Bool) (m : KeyMap) (from : List ℕ) (row : Row) → IsFirst true from row m → IsUnderParts from → starts_with nat_eq row.key parts_prefix ≡ found → IsPartFrom found from row m
+part_found true m from row first under on = (first, on)
+part_found false m from row first under off = none_behind m from (row.key, row.value) first.0 first.1 parts_prefix under off
+
+pub starts_part : (plan revision index : ℕ) → IsUnderParts (key_of (part plan revision index))
+starts_part plan revision index = starts_itself parts_prefix ((in_eight plan ++ in_four revision) ++ in_one index)
+
+-- ---- rows of parts
+-- a row under the key of parts is that of one
+row_of_part : (m : KeyMap) (tidy : Tidy m) (row : Row) (of : RowKey) → Fits of → row.key ≡ key_of of → get m row.key ≡ Some row.value → IsUnderParts (key_of of) → IsPartRow row
+row_of_part m tidy row counters fits is there on = cc
+row_of_part m tidy row (retired plan) fits is there on = cc
+row_of_part m tidy row (begun load) fits is there on = cc
+row_of_part m tidy row (holding plan number) fits is there on = cc
+row_of_part m tidy row (tally number) fits is there on = cc
+row_of_part m tidy row (named name) fits is there on = cc
+row_of_part m tidy row (part plan revision index) fits is there on =
+    let (numbers, chunks, value) = tidy.counted.parts plan revision index row.value fits (ap (get m) (sym is) ∙ there) in
+    record { plan = plan; revision = revision; index = index; fits = fits; key_is = is; numbers = numbers; chunks = chunks; value_is = value }
+row_of_part m tidy row seal fits is there on = cc
+row_of_part m tidy row version fits is there on = cc
+row_of_part m tidy row (block load place) fits is there on = cc
+row_of_part m tidy row (pair load place) fits is there on = cc
+row_of_part m tidy row (chunk number piece) fits is there on = cc
+
+pub part_row : (m : KeyMap) (from : List ℕ) (row : Row) → Tidy m → IsPartFrom true from row m → IsPartRow row
+part_row m from row tidy found =
+    let there : get m row.key ≡ Some row.value = first_there m from (row.key, row.value) found.0.0 found.0.1 in
+    let (of, fits, is) = tidy.rows row.key row.value there in
+    row_of_part m tidy row of fits is there (subst IsUnderParts is found.1)
+
+-- what its bytes tell
+told_plan : (plan other revision index : ℕ) (key : List ℕ) → plan < 2 ^ 64 → other < 2 ^ 64 → key ≡ key_of (part other revision index) → in_eight plan ≡ take 8 (drop 1 key) → plan ≡ other
+told_plan plan other revision index key fits other_fits is told =
+    sym (from_be_bytes-to_be_bytes_8 plan fits) ∙ ap (from_be_bytes w64) (told ∙ ap (λ (k : List ℕ). take 8 (drop 1 k)) is) ∙ from_be_bytes-to_be_bytes_8 other other_fits
+
+pub plan_is : (row : Row) (of : IsPartRow row) (plan : ℕ) → plan < 2 ^ 64 → in_eight plan ≡ take 8 (drop 1 row.key) → plan ≡ of.plan
+plan_is row of plan fits told = told_plan plan of.plan of.revision of.index row.key fits of.fits.0 of.key_is told
+
+pub numbers_are : (row : Row) (of : IsPartRow row) (numbers : List ℕ) → AreChunks numbers → chunks_bytes numbers ≡ row.value → numbers ≡ of.numbers
+numbers_are row of numbers chunks told = chunks_differ numbers of.numbers chunks of.chunks (told ∙ of.value_is)
+
+pub part_long : (row : Row) → IsPartRow row → length row.key ≡ 14
+part_long row of = ap (λ (k : List ℕ). length k) of.key_is
+
+pub unheld_of : (m : KeyMap) (found : Option ℕ) (plan other : ℕ) (numbers others : List ℕ) → plan ≡ other → numbers ≡ others → IsFirstUnheld plan numbers m found → IsFirstUnheld other others m found
+unheld_of m found plan other numbers others plans lists is = subst (λ (l : List ℕ). IsFirstUnheld other l m found) lists (subst (λ (p : ℕ). IsFirstUnheld p numbers m found) plans is)
+
+-- ---- a holding that stands is one
+pub stands_held : (m : KeyMap) (tidy : Tidy m) (plan number : ℕ) → Fits (holding plan number) → Stands true plan number m → IsHeld m plan number
+stands_held m tidy plan number fits stands = subst (λ (v : List ℕ). Has m (holding plan number) v) (tidy.holdings.held plan number stands.0 fits stands.1).0 stands.1
+
+pub named_fits : (m : KeyMap) (plan number : ℕ) → IsNamedBy m plan number → Fits (holding plan number)
+named_fits m plan number is = (is.part_fits.0, All-contains (λ n. n < 2 ^ 64) is.numbers number is.chunks.each is.among)
+
+-- ---- where no part is left
+pub all_held : (m : KeyMap) (from : List ℕ) → NoneFrom from parts_prefix m → AreHeldTo from m → AllAreHeld m
+all_held m from none done plan number is = done plan number is (λ later. none (part_key m plan number is) (chunks_bytes is.numbers) is.row later (starts_part plan is.revision is.index))
+
+-- ---- a part whose plan holds each chunk is passed
+module _ (m : KeyMap) (tidy : Tidy m) (from : List ℕ) (row : Row) (found : IsPartFrom true from row m) (of : IsPartRow row) where
+  there : get m row.key ≡ Some row.value
+  there = first_there m from (row.key, row.value) found.0.0 found.0.1
+
+  -- a part with the same key is the same
+  same_part : IsFirstUnheld of.plan of.numbers m None → (plan number : ℕ) (is : IsNamedBy m plan number) → row.key ≡ part_key m plan number is → IsHeld m plan number
+  same_part held plan number is same =
+      let value : row.value ≡ chunks_bytes is.numbers = value_is row.value (chunks_bytes is.numbers) (sym there ∙ ap (get m) same ∙ is.row) in
+      let numbers : is.numbers ≡ of.numbers = numbers_are row of is.numbers is.chunks (sym value) in
+      let plans : plan ≡ of.plan = plan_is row of plan is.part_fits.0 (ap (λ (k : List ℕ). take 8 (drop 1 k)) (sym same)) in
+      stands_held m tidy plan number (named_fits m plan number is)
+      (subst (λ (p : ℕ). Stands true p number m) (sym plans) (held number (subst (λ (l : List ℕ). Contains l number) numbers is.among)))
+
+  pub part_passed : IsFirstUnheld of.plan of.numbers m None → AreHeldTo from m → HasPassed from (behind row.key) m
+  part_passed held done = record {
+    held = λ plan number is short. either_way (is_gt (key_cmp from (part_key m plan number is))) (IsHeld m plan number)
+        (λ above. done plan number is (λ later. clash (is_gt (key_cmp from (part_key m plan number is))) above later))
+        (λ later. elim (from_or_same row.key (part_key m plan number is) (first_least m from (row.key, row.value) found.0.0 found.0.1 (part_key m plan number is) (chunks_bytes is.numbers) is.row later)) [
+          | inl less ↦ absurd (short (from_behind row.key (part_key m plan number is) less))
+          | inr same ↦ same_part held plan number is same
+        ]);
+    fewer = fewer_behind m from (row.key, row.value) found.0.0 found.0.1;
+  }
+
+  -- one that it doesn't hold is named by the part
+  pub part_unheld : (plan number : ℕ) → plan ≡ of.plan → IsFirstUnheld of.plan of.numbers m (Some number) → IsUnheld m plan number
+  part_unheld plan number same first = subst (λ (p : ℕ). IsUnheld m p number) (sym same) (
+      let is : IsNamedBy m of.plan number = record {
+        revision = of.revision;
+        index = of.index;
+        part_fits = of.fits;
+        numbers = of.numbers;
+        chunks = of.chunks;
+        row = ap (get m) (sym of.key_is) ∙ there ∙ ap Some of.value_is;
+        among = first.0;
+      } in
+      record { named = is; fits = named_fits m of.plan number is; lacks = first.1 })
+
+-- ---- where a migration begins
+-- no part stands below the first key of parts
+pub begins_held : (m : KeyMap) → AreHeldTo parts_prefix m
+begins_held m plan number is short = absurd (short (from_tag 82 82 ((in_eight plan ++ in_four is.revision) ++ in_one is.index) (omega arith)))

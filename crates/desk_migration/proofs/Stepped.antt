@@ -1,0 +1,231 @@
+-- A step: a transaction that is begun, in which pairs come to be held, and that is committed then.
+use Rattle.std.proofs.Common.{◌≡◌, ◌⊎◌, ◌<◌, ◌≤◌, ◌+◌, ◌*◌, ℕ, Bool, true, false, List, length, refl, sym, ap, subst, ◌∙◌, inl, inr, ⊎_elim, arith}
+use Rattle.sector_device.specs.Disk.{Image}
+use Rattle.sector_device.specs.Moments.{LeavesOnly}
+use Rattle.sector_device.proofs.Moments.{leaves_more, leaves_wider}
+use Rattle.sector_device.specs.declared.SectorDevice.{Ghosts}
+use Rattle.gate_journal.specs.Store.{home}
+use Rattle.page_store.proofs.Chains.{length_chain}
+use Rattle.page_store.specs.Chain.{free_in, root_in}
+use Rattle.page_store.proofs.Stops.{leaves_here, leaves_quiet}
+use Rattle.page_store.specs.Transactions.{stored, disk_in, count_of, journal_of, has_halted, txn_pages, txn_root, txn_first, txn_free, txn_writes, over, free_over, HasFailed, HasShape, IsQuiet, Passed}
+use Rattle.page_store.specs.declared.error.PageError.{PageError}
+use Rattle.page_store.specs.declared.error.PageError.TheVariants as page
+use Rattle.page_store.specs.declared.pages.Pages.{Pages}
+use Rattle.page_store.specs.declared.txn.Txn.{Txn}
+use Rattle.page_btree.proofs.MapLaws.{begun_holds}
+use Rattle.page_btree.specs.Map.{Holds, InTxn, InPages}
+use Rattle.page_btree.specs.declared.error.TreeError.{TreeError}
+use Rattle.page_btree.specs.declared.error.TreeError.TheVariants as tree
+use Rattle.desk_model.specs.Desk.{Desk}
+use Rattle.store_rows.specs.Rows.{KeyMap}
+use Rattle.store_rows.specs.MigrationLaws.{NamedIsHeld}
+use Rattle.desk_pages.specs.Desks.{IsOldMap, InPagesOf, InPagesAs, InTxnOf, InTxnAs, OpensAs, OpensDeskOf, OpensOld}
+use Rattle.desk_pages.specs.Commits.{TxnErr}
+use Rattle.desk_pages.specs.Moments.{StopsLeaveEither}
+use Rattle.desk_pages.proofs.Kept.{opens_now}
+use Rattle.desk_migration.specs.Holding.{AllAreHeld, AreHeldTo, IsHeldBy}
+use Rattle.desk_migration.specs.Parts.{IsUnderWay}
+use Rattle.desk_migration.specs.Puts.{tree_told, IsHeldMap, HasHeld, HoldErr, HoldsMore, HoldsTo, StepErr, CommitErr, TellsFaults, free_of, page_told}
+use Rattle.desk_migration.specs.declared.error.MigrationError.{MigrationError}
+use Rattle.desk_migration.specs.declared.error.MigrationError.TheVariants.{Full, Memory, DeviceFault, Halted}
+use Rattle.desk_migration.proofs.Pairs.{map_by, none_by, same_map}
+
+pub both : {X : Type 0} (b : Bool) → b ≡ true → b ≡ false → X
+both b one other = let clash : true ≡ false = sym one ∙ other in absurd (cc)
+
+-- room enough
+pub no_room : (count free left : ℕ) → free ≡ left → 26 * count ≤ free → 13 * (2 * count) ≤ left
+no_room count free left same enough = omega arith
+
+module _ {D : Type 0} {g : Ghosts D} where
+  -- ---- pages that were read at most hold the same
+  pub quiet_rows : (a b : Pages D g) → IsQuiet a b → (disk_in b).is_honest → (m : KeyMap) → InPages a m → InPages b m
+  quiet_rows a b quiet honest m holds =
+      subst (λ (n : ℕ). Holds n (stored b) (root_in (stored b)) (free_in (stored b)) m) (sym quiet.count)
+      (subst (λ (P : Image). Holds (count_of a) P (root_in P) (free_in P) m) (sym (quiet.same honest)) holds)
+
+  pub quiet_shape : (a b : Pages D g) → IsQuiet a b → HasShape a b
+  quiet_shape a b quiet = record { journal_pages = quiet.journal; pages = quiet.count }
+
+  pub shape_after : (a b c : Pages D g) → IsQuiet a b → HasShape b c → HasShape a c
+  shape_after a b c quiet shape = record { journal_pages = shape.journal_pages ∙ quiet.journal; pages = shape.pages ∙ quiet.count }
+
+  -- a stop in calls that read at most leaves the desk, in its version
+  pub quiet_leaves : (new : Bool) (a b : Pages D g) → IsQuiet a b → (disk_in b).is_honest → has_halted a ≡ false → (sectors : ℕ) (d : Desk) → home (journal_of a) + count_of a ≡ sectors → InPagesOf new a d → LeavesOnly (OpensDeskOf new sectors d) (disk_in a) (disk_in b)
+  quiet_leaves new a b quiet honest working sectors d whole holds =
+      leaves_quiet a b quiet honest (OpensDeskOf new sectors d) (disk_in a)
+      (leaves_here (OpensDeskOf new sectors d) (disk_in a) (opens_now {new = new} a working (quiet.honest honest) sectors d whole holds))
+
+  whole_then : (a b : Pages D g) (sectors : ℕ) → IsQuiet a b → home (journal_of a) + count_of a ≡ sectors → home (journal_of b) + count_of b ≡ sectors
+  whole_then a b sectors quiet whole = (λ i. home (quiet.journal i) + quiet.count i) ∙ whole
+
+  quiet_desk : (new : Bool) (a b : Pages D g) → IsQuiet a b → (disk_in b).is_honest → (d : Desk) → InPagesOf new a d → InPagesOf new b d
+  quiet_desk new a b quiet honest d holds = record { m = holds.m; holds = quiet_rows a b quiet honest holds.m holds.holds; is = holds.is }
+
+  -- a stop in a commit after them
+  pub commit_leaves : (was now : Bool) (u : Txn) (a b c : Pages D g) → IsQuiet a b → has_halted a ≡ false → has_halted b ≡ false → (disk_in b).is_honest → (disk_in c).is_honest → StopsLeaveEither (InPagesAs b) (InTxnAs u (stored b)) OpensAs b c → (sectors : ℕ) (d : Desk) → home (journal_of a) + count_of a ≡ sectors
+      → InPagesOf was a d → InTxnOf now u (stored b) d → LeavesOnly (λ x. OpensDeskOf was sectors d x ⊎ OpensDeskOf now sectors d x) (disk_in a) (disk_in c)
+  commit_leaves was now u a b c quiet working works honest after commit sectors d whole holds reads =
+      let P = λ (x : Image). OpensDeskOf was sectors d x ⊎ OpensDeskOf now sectors d x in
+      leaves_more P (disk_in a) (disk_in b) (disk_in c)
+      (leaves_wider (OpensDeskOf was sectors d) P (disk_in a) (disk_in b) (λ x opens. inl opens) (quiet_leaves was a b quiet honest working sectors d whole holds))
+      (commit after works sectors (was, d) (now, d) (whole_then a b sectors quiet whole) (quiet_desk was a b quiet honest d holds) reads)
+
+  -- a fault after calls that passed
+  pub failed_after : (a b c : Pages D g) → Passed a b → ((disk_in c).is_honest → (disk_in b).is_honest) → HasFailed b c → HasFailed a c
+  failed_after a b c ab bc failed = record {
+    worked = sym ab.halted ∙ failed.worked;
+    halted = failed.halted;
+    rose = λ honest. let rose = failed.rose honest in let same = ab.faults (bc honest) in omega arith;
+  }
+
+  -- ---- faults
+  pub quiet_faults : (a b : Pages D g) → IsQuiet a b → TellsFaults a b
+  quiet_faults a b quiet = record { rose = quiet.rose; calm = quiet.calm }
+
+  pub commit_faults : (a b c : Pages D g) → Passed a b → ((disk_in c).is_honest → (disk_in b).is_honest) → (e : MigrationError) → CommitErr b c e → TellsFaults a c
+  commit_faults a b c ab bc Full why = absurd why
+  commit_faults a b c ab bc Memory why = subst (λ (p : Pages D g). TellsFaults a p) (sym why) (quiet_faults a b ab.quiet)
+  commit_faults a b c ab bc DeviceFault why =
+      let failed = failed_after a b c ab bc why in
+      record { rose = λ working halted honest. failed.rose honest; calm = λ works honest. both (has_halted c) failed.halted works }
+  commit_faults a b c ab bc Halted why = absurd why
+
+  pub no_faults : (a b c : Pages D g) → Passed a b → ((disk_in c).is_honest → (disk_in b).is_honest) → has_halted c ≡ false → ((disk_in c).is_honest → (disk_in c).faults ≡ (disk_in b).faults) → TellsFaults a c
+  no_faults a b c ab bc works passed = record {
+    rose = λ working halted honest. both (has_halted c) halted works;
+    calm = λ still honest. passed honest ∙ ab.faults (bc honest);
+  }
+
+  pub commit_refused : (t : Txn) (a b : Pages D g) (e : PageError) → has_halted a ≡ false → txn_writes t ≤ 207 → TxnErr t a b e → CommitErr a b (page_told e)
+  commit_refused t a b page.Memory working few why = why
+  commit_refused t a b page.DeviceFault working few why = why
+  commit_refused t a b page.Halted working few why = both (has_halted a) why.0 working
+  commit_refused t a b page.NotAStore working few why = absurd why
+  commit_refused t a b page.TooManyPages working few why = absurd (let less = why.1 in let least = a.journal.room.least_journal in omega arith)
+  commit_refused t a b page.TooSmall working few why = absurd why
+  commit_refused t a b page.NoPages working few why = absurd why
+
+  -- ---- the beginning
+  -- what a transaction that is begun reads, and how many pages are free in it
+  pub record IsBegun (ps : Pages D g) (t : Txn) : Type 0 where
+    pub working : has_halted ps ≡ false
+    pub none : txn_writes t ≡ 0
+    pub reads : (disk_in ps).is_honest → (m : KeyMap) → InPages ps m → InTxn t (stored ps) m
+    pub free : (disk_in ps).is_honest → free_of ps ≡ txn_free t
+
+  pub begun_now : (ps : Pages D g) (t : Txn) → has_halted ps ≡ false → txn_writes t ≡ 0 → txn_pages t ≡ count_of ps → ((q : ℕ) → over t (stored ps) q ≡ stored ps q) → (has_halted ps ≡ false → (disk_in ps).is_honest → txn_root t ≡ root_in (stored ps)) → (has_halted ps ≡ false → (disk_in ps).is_honest → free_over t (stored ps) ≡ free_in (stored ps)) → IsBegun ps t
+  begun_now ps t working none count same root free = record {
+    working = working;
+    none = none;
+    reads = λ honest m holds. begun_holds t (stored ps) m (subst (λ (n : ℕ). Holds n (stored ps) (root_in (stored ps)) (free_in (stored ps)) m) (sym count) holds) same (root working honest) (free working honest);
+    free = λ honest. ap (λ l. length l) (sym (free working honest)) ∙ length_chain (over t (stored ps)) (txn_first t) (txn_free t);
+  }
+
+  -- ---- pairs that came to be held
+  module _ (law : NamedIsHeld) (count : ℕ) (from next : List ℕ) (t u : Txn) (a b : Pages D g) (start : IsBegun a t) (held : HasHeld (count < 8) count from next t u a b) where
+    pub record IsTaken (m : KeyMap) (d : Desk) : Type 0 where
+      pub n : KeyMap
+      pub reads : InTxn u (stored b) n
+      pub is : IsOldMap n d
+      pub by : IsHeldBy count m n
+      pub done : AreHeldTo next n
+      pub all : count < 8 → AllAreHeld n
+
+    pub held_of : (disk_in b).is_honest → (m : KeyMap) → InPages a m → IsUnderWay from m → IsHeldMap (count < 8) count next u (stored a) m
+    held_of honest m holds way = held.held honest m (start.reads (held.passed.quiet.honest honest) m holds) way
+
+    pub taken_of : (disk_in b).is_honest → (m : KeyMap) (d : Desk) → InPages a m → IsOldMap m d → AreHeldTo from m → IsTaken m d
+    taken_of honest m d holds is done =
+        let was = held_of honest m holds (record { tidy = is.tidy; done = done }) in
+        record {
+          n = was.n;
+          reads = subst (λ (P : Image). InTxn u P was.n) (sym (held.passed.quiet.same honest)) was.reads;
+          is = map_by law count m was.n false d was.by is;
+          by = was.by;
+          done = was.done;
+          all = was.all;
+        }
+
+    pub taken_writes : count ≤ 8 → txn_writes u ≤ 207
+    taken_writes few = let writes = held.writes in let none = start.none in omega arith
+
+    pub still_working : has_halted b ≡ false
+    still_working = held.passed.halted ∙ start.working
+
+    -- none did
+    pub none_more : count ≡ 0 → (disk_in b).is_honest → (m : KeyMap) (d : Desk) → InPages a m → IsOldMap m d → AreHeldTo from m → HoldsMore 0 m d from b
+    none_more zero honest m d holds is done =
+        let taken = taken_of honest m d holds is done in
+        record {
+          n = m;
+          holds = quiet_rows a b held.passed.quiet honest m holds;
+          is = is;
+          done = done;
+          pairs = 0;
+          two_each = refl;
+          by = none_by m;
+          clean = λ few. subst AllAreHeld (same_map count m taken.n zero taken.by) (taken.all (omega arith));
+        }
+
+    -- some did, and it is committed
+    pub some_more : (c : Pages D g) → ((m : KeyMap) → InTxn u (stored b) m → InPages c m) → (disk_in b).is_honest → (m : KeyMap) (d : Desk) → InPages a m → IsOldMap m d → AreHeldTo from m → HoldsMore (2 * count) m d next c
+    some_more c committed honest m d holds is done =
+        let taken = taken_of honest m d holds is done in
+        record {
+          n = taken.n;
+          holds = committed taken.n taken.reads;
+          is = taken.is;
+          done = taken.done;
+          pairs = count;
+          two_each = refl;
+          by = taken.by;
+          clean = λ few. taken.all (omega arith);
+        }
+
+    pub some_leaves : (c : Pages D g) → StopsLeaveEither (InPagesAs b) (InTxnAs u (stored b)) OpensAs b c → (disk_in b).is_honest → (disk_in c).is_honest → (sectors : ℕ) (d : Desk) → home (journal_of a) + count_of a ≡ sectors → HoldsTo from a d → LeavesOnly (OpensOld sectors d) (disk_in a) (disk_in c)
+    some_leaves c commit honest after sectors d whole holds =
+        let taken = taken_of honest holds.m d holds.holds holds.is holds.done in
+        let P = λ (x : Image). OpensOld sectors d x ⊎ OpensOld sectors d x in
+        leaves_wider P (OpensOld sectors d) (disk_in a) (disk_in c) (λ x. ⊎_elim (λ opens. opens) (λ opens. opens))
+        (commit_leaves false false u a b c held.passed.quiet start.working still_working honest after commit sectors d whole (record { m = holds.m; holds = holds.holds; is = holds.is }) (record { m = taken.n; holds = taken.reads; is = taken.is }))
+
+    -- too few pages are free for the rows
+    pub short_of : (free : ℕ) → ((disk_in a).is_honest → free ≡ free_of a) → free < 26 * count → count ≤ 8 → StepErr from a b Full
+    short_of free is short few = (
+      held.passed.quiet,
+      λ honest m holds way.
+          let was = held_of honest m holds way in
+          let same = is (held.passed.quiet.honest honest) in
+          inl (record { pairs = count; few = few; n = was.n; by = was.by; short = omega arith }),
+    )
+
+    pub not_committed : (c : Pages D g) → ((disk_in c).is_honest → (disk_in b).is_honest) → (e : MigrationError) → CommitErr b c e → StepErr from a c e
+    not_committed c honest Full why = absurd why
+    not_committed c honest Memory why = subst (λ (p : Pages D g). IsQuiet a p) (sym why) held.passed.quiet
+    not_committed c honest DeviceFault why = inl (failed_after a b c held.passed honest why)
+    not_committed c honest Halted why = absurd why
+
+  -- a stop in calls that read at most
+  pub to_quiet : (from : List ℕ) (a b : Pages D g) → IsQuiet a b → (disk_in b).is_honest → has_halted a ≡ false → (sectors : ℕ) (d : Desk) → home (journal_of a) + count_of a ≡ sectors → HoldsTo from a d → LeavesOnly (OpensOld sectors d) (disk_in a) (disk_in b)
+  to_quiet from a b quiet honest working sectors d whole holds = quiet_leaves false a b quiet honest working sectors d whole (record { m = holds.m; holds = holds.holds; is = holds.is })
+
+  -- ---- refusals
+  pub not_taken : (from : List ℕ) (t : Txn) (a b : Pages D g) → IsBegun a t → IsQuiet a b → (e : TreeError) → HoldErr 8 from t a b e → StepErr from a b (tree_told e)
+  not_taken from t a b start quiet tree.DeviceFault why = elim why [
+    | inl failed ↦ inl failed
+    | inr none ↦ inr (λ honest d holds. none honest holds.m (start.reads (quiet.honest honest) holds.m holds.holds) (record { tidy = holds.is.tidy; done = holds.done }))
+  ]
+  not_taken from t a b start quiet tree.Halted why = both (has_halted a) why start.working
+  not_taken from t a b start quiet tree.NoPages why = (
+    quiet,
+    λ honest m holds way.
+        let before = quiet.honest honest in
+        let want = why honest m (start.reads before m holds) way in
+        let short = want.short in
+        let free = start.free before in
+        inl (record { pairs = want.count; few = want.few; n = want.n; by = want.by; short = omega arith }),
+  )
+  not_taken from t a b start quiet tree.TooDeep why = (quiet, λ honest m holds way. inr (why honest m (start.reads (quiet.honest honest) m holds) way))
+  not_taken from t a b start quiet tree.Memory why = quiet

@@ -1,0 +1,60 @@
+use Rattle.std.proofs.Common.{◌≡◌, inr, refl, sym, subst, ◌∙◌}
+use Rattle.sector_device.specs.Moments.{LeavesOnly}
+use Rattle.page_store.proofs.Stops.{leaves_quiet}
+use Rattle.page_store.specs.Transactions.{disk_in}
+use Rattle.desk_migration.specs.Openings.{AllDesks, OpensOneOf, IsSpared, IsRefused}
+use Rattle.desk_migration.specs.declared.error.MigrationOpenError.{MigrationOpenError}
+use Rattle.desk_migration.specs.declared.error.MigrationOpenError.TheVariants.{NotAStore}
+use Rattle.desk_migration.proofs.Opened.{stores_of, open_leaves, opened_keeps, page_refused, page_spared, judged, is_found, pages_left}
+use Rattle.desk_migration.proofs.migration.Migration.open.Goals as goal
+
+pub returns-in-Err-clause-any_moment : goal.returns-in-Err-clause-any_moment
+returns-in-Err-clause-any_moment g c = λ honest all.
+    open_leaves (g.D.SectorDevice.disk c.args.device) (g.D.SectorDevice.disk c.in-Err.device) all (c.in-Err.ensures.any_moment honest (stores_of (g.D.SectorDevice.disk c.args.device) all))
+
+pub returns-in-Err-clause-err : goal.returns-in-Err-clause-err
+returns-in-Err-clause-err g c =
+    let old = g.D.SectorDevice.disk c.args.device in
+    let new = g.D.SectorDevice.disk c.in-Err.device in
+    subst (λ (e : MigrationOpenError). IsRefused old new e) (sym c.page_error.ensures) (page_refused g.D.SectorDevice c.args.device c.in-Err.device c.in-Err.e c.in-Err.ensures.err)
+
+pub returns-in-Err-clause-untouched : goal.returns-in-Err-clause-untouched
+returns-in-Err-clause-untouched g c =
+    let old = g.D.SectorDevice.disk c.args.device in
+    let new = g.D.SectorDevice.disk c.in-Err.device in
+    subst (λ (e : MigrationOpenError). new.is_honest → e ≡ NotAStore → IsSpared old new) (sym c.page_error.ensures)
+    (page_spared g.D.SectorDevice c.args.device c.in-Err.device c.in-Err.e c.in-Err.ensures.err c.in-Err.ensures.untouched)
+
+pub returns-in-Ok-judge-clause-any_moment : goal.returns-in-Ok-judge-clause-any_moment
+returns-in-Ok-judge-clause-any_moment g c = λ honest all.
+    let old = g.D.SectorDevice.disk c.args.device in
+    let before = c.judge.ensures.quiet.honest honest in
+    leaves_quiet c.in-Ok.pages c.judge.new.pages c.judge.ensures.quiet honest (OpensOneOf old) old (open_leaves old (disk_in c.in-Ok.pages) all (c.in-Ok.ensures.any_moment before (stores_of old all)))
+
+pub returns-in-Ok-judge-clause-opened : goal.returns-in-Ok-judge-clause-opened
+returns-in-Ok-judge-clause-opened g c = λ all honest.
+    opened_keeps (g.D.SectorDevice.disk c.args.device) c.in-Ok.pages c.in-Ok.ensures.found c.in-Ok.ensures.room _ c.in-Ok.ensures.kept c.judge.ensures.quiet (c.in-Ok-judge.ensures.passed.halted ∙ c.in-Ok.ensures.working) c.set.ensures refl c.in-Ok-judge.ensures.version all honest
+
+pub returns-in-Ok-judge-clause-found : goal.returns-in-Ok-judge-clause-found
+returns-in-Ok-judge-clause-found g c =
+    is_found (g.D.SectorDevice.disk c.args.device) c.in-Ok.pages c.in-Ok.ensures.found _ c.judge.ensures.quiet c.in-Ok-judge.ensures.version c.in-Ok-judge.ensures.read
+
+pub returns-in-Err-judge-clause-any_moment : goal.returns-in-Err-judge-clause-any_moment
+returns-in-Err-judge-clause-any_moment g c =
+    let old = g.D.SectorDevice.disk c.args.device in
+    let told = λ (honest : (disk_in c.judge.new.pages).is_honest) (all : AllDesks old).
+    let before = c.judge.ensures.quiet.honest honest in
+    leaves_quiet c.in-Ok.pages c.judge.new.pages c.judge.ensures.quiet honest (OpensOneOf old) old (open_leaves old (disk_in c.in-Ok.pages) all (c.in-Ok.ensures.any_moment before (stores_of old all))) in
+    subst (λ d. (g.D.SectorDevice.disk d).is_honest → AllDesks old → LeavesOnly (OpensOneOf old) old (g.D.SectorDevice.disk d)) (sym c.into_device.ensures) told
+
+pub returns-in-Err-judge-clause-err : goal.returns-in-Err-judge-clause-err
+returns-in-Err-judge-clause-err g c =
+    let old = g.D.SectorDevice.disk c.args.device in
+    subst (λ d. IsRefused old (g.D.SectorDevice.disk d) c.in-Err-judge.e) (sym c.into_device.ensures)
+    (judged old c.in-Ok.pages c.in-Ok.ensures.found c.in-Ok.ensures.room c.judge.new.pages c.in-Err-judge.e c.in-Ok.ensures.working c.in-Ok.ensures.passed c.judge.ensures.quiet c.in-Err-judge.ensures.err)
+
+pub returns-in-Err-judge-clause-untouched : goal.returns-in-Err-judge-clause-untouched
+returns-in-Err-judge-clause-untouched g c =
+    let old = g.D.SectorDevice.disk c.args.device in
+    let told = λ (honest : (disk_in c.judge.new.pages).is_honest) (is : c.in-Err-judge.e ≡ NotAStore). inr (pages_left old c.in-Ok.pages c.judge.new.pages c.in-Ok.ensures.found c.judge.ensures.quiet honest) in
+    subst (λ d. (g.D.SectorDevice.disk d).is_honest → c.in-Err-judge.e ≡ NotAStore → IsSpared old (g.D.SectorDevice.disk d)) (sym c.into_device.ensures) told

@@ -1,0 +1,13 @@
+use Rattle.std.proofs.Common.{◌≡◌}
+use Rattle.page_store.specs.Transactions.{stored, disk_in, count_of, txn_pages, Passed}
+use Rattle.page_btree.specs.Map.{InTxn}
+use Rattle.store_rows.specs.Rows.{KeyMap}
+use Rattle.desk_migration.specs.TurningBack.{IsLess}
+use Rattle.desk_migration.proofs.old.take_all.Given as goal
+
+abbrev pub invariant-loop-taken : goal.invariant-loop-taken
+invariant-loop-taken g l = record {
+  begun : txn_pages l.txn ≡ count_of l.pages;
+  passed : Passed l.fn.pages l.pages;
+  less : (disk_in l.pages).is_honest → (m : KeyMap) → InTxn l.fn.txn (stored l.fn.pages) m → (n : KeyMap) × InTxn l.txn (stored l.fn.pages) n × IsLess l.tag m n;
+}

@@ -1,0 +1,115 @@
+use Rattle.std.proofs.Common.{List, refl, sym, subst, ◌∙◌}
+use Rattle.page_store.proofs.Stops.{quiet_none}
+use Rattle.page_store.specs.Transactions.{has_halted}
+use Rattle.store_rows.specs.Puts.{Row}
+use Rattle.row_table.proofs.Outcomes.{err_of}
+use Rattle.row_table.specs.Puts.{HasPut, PutsErr}
+use Rattle.desk_migration.specs.Puts.{tree_told, FinishErr}
+use Rattle.desk_migration.proofs.Stepped.{both, begun_now, quiet_shape, shape_after, quiet_faults}
+use Rattle.desk_migration.proofs.Finished.{either_faults, err_then, ok_so, ok_then, one_row, all_quiet, short_now, room_now, version_writes, version_working, version_leaves, version_holds, version_not_committed, version_not_put}
+use Rattle.desk_migration.proofs.steps.put_version.Goals as goal
+
+-- ---- halted
+pub returns-then-is_halted-clause-any_moment : goal.returns-then-is_halted-clause-any_moment
+returns-then-is_halted-clause-any_moment g c = λ honest working sectors d whole holds. both (has_halted c.args.pages.now) (sym c.is_halted.ensures ∙ c.if-is_halted.true) working
+
+pub returns-then-is_halted-clause-faults : goal.returns-then-is_halted-clause-faults
+returns-then-is_halted-clause-faults g c = quiet_faults c.args.pages.now c.args.pages.now (quiet_none c.args.pages.now)
+
+pub returns-then-is_halted-clause-err : goal.returns-then-is_halted-clause-err
+returns-then-is_halted-clause-err g c = (sym c.is_halted.ensures ∙ c.if-is_halted.true, refl)
+
+-- ---- too few pages are free
+pub returns-then-free_pages-lt13-clause-any_moment : goal.returns-then-free_pages-lt13-clause-any_moment
+returns-then-free_pages-lt13-clause-any_moment g c = all_quiet c.args.pages.now c.args.pages.now (quiet_none c.args.pages.now)
+
+pub returns-then-free_pages-lt13-clause-faults : goal.returns-then-free_pages-lt13-clause-faults
+returns-then-free_pages-lt13-clause-faults g c = quiet_faults c.args.pages.now c.args.pages.now (quiet_none c.args.pages.now)
+
+pub returns-then-free_pages-lt13-clause-still : goal.returns-then-free_pages-lt13-clause-still
+returns-then-free_pages-lt13-clause-still g c = λ halted. both (has_halted c.args.pages.now) halted (sym c.is_halted.ensures ∙ c.if-is_halted.false)
+
+pub returns-then-free_pages-lt13-clause-err : goal.returns-then-free_pages-lt13-clause-err
+returns-then-free_pages-lt13-clause-err g c = short_now c.args.pages.now c.free_pages.result (c.free_pages.ensures (sym c.is_halted.ensures ∙ c.if-is_halted.false)) c.if-free_pages-lt13.true
+
+-- ---- the row isn't put
+pub returns-in_err-put_row-clause-shape : goal.returns-in_err-put_row-clause-shape
+returns-in_err-put_row-clause-shape g c = quiet_shape c.args.pages.now c.put_row.new.pages c.in_err-put_row.ensures.quiet
+
+pub returns-in_err-put_row-clause-honest : goal.returns-in_err-put_row-clause-honest
+returns-in_err-put_row-clause-honest g c = c.in_err-put_row.ensures.quiet.honest
+
+pub returns-in_err-put_row-clause-any_moment : goal.returns-in_err-put_row-clause-any_moment
+returns-in_err-put_row-clause-any_moment g c = all_quiet c.args.pages.now c.put_row.new.pages c.in_err-put_row.ensures.quiet
+
+pub returns-in_err-put_row-clause-faults : goal.returns-in_err-put_row-clause-faults
+returns-in_err-put_row-clause-faults g c = quiet_faults c.args.pages.now c.put_row.new.pages c.in_err-put_row.ensures.quiet
+
+pub returns-in_err-put_row-clause-still : goal.returns-in_err-put_row-clause-still
+returns-in_err-put_row-clause-still g c = λ halted. both (has_halted c.args.pages.now) halted (sym c.is_halted.ensures ∙ c.if-is_halted.false)
+
+pub returns-in_err-put_row-clause-err : goal.returns-in_err-put_row-clause-err
+returns-in_err-put_row-clause-err g c =
+    let ps = c.args.pages.now in
+    let t = c.begin-txn.result in
+    let begun = begun_now ps t (sym c.is_halted.ensures ∙ c.if-is_halted.false) c.begin-txn.ensures.none c.begin-txn.ensures.pages c.begin-txn.ensures.over c.begin-txn.ensures.root c.begin-txn.ensures.free in
+    let e = c.in_err-put_row.field-0.0 in
+    err_of c.from_residual.result (tree_told e) (FinishErr ps c.put_row.new.pages) c.from_residual.ensures.1
+    (version_not_put t ps c.put_row.new.pages begun c.in_err-put_row.ensures.quiet (room_now c.args.pages.now c.free_pages.result (c.free_pages.ensures (sym c.is_halted.ensures ∙ c.if-is_halted.false)) c.if-free_pages-lt13.false) e (subst (λ (rows : List Row). PutsErr rows t ps c.put_row.new.pages e) (one_row c.version.result c.to_be_bytes.result c.version.ensures c.to_be_bytes.ensures) c.in_err-put_row.ensures.put))
+
+-- ---- the commit
+pub commit-requires-clause-working : goal.commit-requires-clause-working
+commit-requires-clause-working g c =
+    let ps = c.args.pages.now in
+    let t = c.begin-txn.result in
+    let begun = begun_now ps t (sym c.is_halted.ensures ∙ c.if-is_halted.false) c.begin-txn.ensures.none c.begin-txn.ensures.pages c.begin-txn.ensures.over c.begin-txn.ensures.root c.begin-txn.ensures.free in
+    version_working c.version_is_told.ensures t c.put_row.new.txn ps c.put_row.new.pages begun (subst (λ (rows : List Row). HasPut rows t c.put_row.new.txn ps c.put_row.new.pages) (one_row c.version.result c.to_be_bytes.result c.version.ensures c.to_be_bytes.ensures) c.in_ok-put_row.ensures.put)
+
+pub commit-requires-clause-few : goal.commit-requires-clause-few
+commit-requires-clause-few g c =
+    let ps = c.args.pages.now in
+    let t = c.begin-txn.result in
+    let begun = begun_now ps t (sym c.is_halted.ensures ∙ c.if-is_halted.false) c.begin-txn.ensures.none c.begin-txn.ensures.pages c.begin-txn.ensures.over c.begin-txn.ensures.root c.begin-txn.ensures.free in
+    version_writes c.version_is_told.ensures t c.put_row.new.txn ps c.put_row.new.pages begun (subst (λ (rows : List Row). HasPut rows t c.put_row.new.txn ps c.put_row.new.pages) (one_row c.version.result c.to_be_bytes.result c.version.ensures c.to_be_bytes.ensures) c.in_ok-put_row.ensures.put)
+
+pub returns-clause-shape : goal.returns-clause-shape
+returns-clause-shape g c = shape_after c.args.pages.now c.put_row.new.pages c.commit.new.pages c.in_ok-put_row.ensures.quiet c.commit.ensures.shape
+
+pub returns-clause-honest : goal.returns-clause-honest
+returns-clause-honest g c = λ honest. c.in_ok-put_row.ensures.quiet.honest (c.commit.ensures.honest honest)
+
+pub returns-clause-any_moment : goal.returns-clause-any_moment
+returns-clause-any_moment g c = λ honest working sectors d whole holds.
+    let ps = c.args.pages.now in
+    let t = c.begin-txn.result in
+    let begun = begun_now ps t working c.begin-txn.ensures.none c.begin-txn.ensures.pages c.begin-txn.ensures.over c.begin-txn.ensures.root c.begin-txn.ensures.free in
+    version_leaves c.version_is_told.ensures t c.put_row.new.txn ps c.put_row.new.pages begun (subst (λ (rows : List Row). HasPut rows t c.put_row.new.txn ps c.put_row.new.pages) (one_row c.version.result c.to_be_bytes.result c.version.ensures c.to_be_bytes.ensures) c.in_ok-put_row.ensures.put) c.commit.new.pages c.commit.ensures.any_version (c.commit.ensures.honest honest) honest sectors d whole holds
+
+pub returns-clause-told : goal.returns-clause-told
+returns-clause-told g c = λ honest d holds.
+    let ps = c.args.pages.now in
+    let t = c.begin-txn.result in
+    let begun = begun_now ps t (sym c.is_halted.ensures ∙ c.if-is_halted.false) c.begin-txn.ensures.none c.begin-txn.ensures.pages c.begin-txn.ensures.over c.begin-txn.ensures.root c.begin-txn.ensures.free in
+    ok_then c.commit.result _ _ (λ committed. version_holds c.version_is_told.ensures t c.put_row.new.txn ps c.put_row.new.pages begun (subst (λ (rows : List Row). HasPut rows t c.put_row.new.txn ps c.put_row.new.pages) (one_row c.version.result c.to_be_bytes.result c.version.ensures c.to_be_bytes.ensures) c.in_ok-put_row.ensures.put) c.commit.new.pages committed (c.commit.ensures.honest honest) d holds) (c.commit.ensures.held honest)
+
+pub returns-clause-room : goal.returns-clause-room
+returns-clause-room g c = λ honest. ok_so c.commit.result _ ((room_now c.args.pages.now c.free_pages.result (c.free_pages.ensures (sym c.is_halted.ensures ∙ c.if-is_halted.false)) c.if-free_pages-lt13.false) (c.in_ok-put_row.ensures.quiet.honest (c.commit.ensures.honest honest)))
+
+pub returns-clause-kept : goal.returns-clause-kept
+returns-clause-kept g c = c.commit.ensures.kept
+
+pub returns-clause-faults : goal.returns-clause-faults
+returns-clause-faults g c = either_faults c.args.pages.now c.put_row.new.pages c.commit.new.pages c.commit.result c.in_ok-put_row.ensures.put.passed c.commit.ensures.honest c.commit.ensures.ok c.commit.ensures.passed c.commit.ensures.err
+
+pub returns-clause-ok : goal.returns-clause-ok
+returns-clause-ok g c = ok_then c.commit.result _ _ (λ works. (sym c.is_halted.ensures ∙ c.if-is_halted.false, works)) c.commit.ensures.ok
+
+pub returns-clause-still : goal.returns-clause-still
+returns-clause-still g c = λ halted. both (has_halted c.args.pages.now) halted (sym c.is_halted.ensures ∙ c.if-is_halted.false)
+
+pub returns-clause-err : goal.returns-clause-err
+returns-clause-err g c =
+    let ps = c.args.pages.now in
+    let t = c.begin-txn.result in
+    let begun = begun_now ps t (sym c.is_halted.ensures ∙ c.if-is_halted.false) c.begin-txn.ensures.none c.begin-txn.ensures.pages c.begin-txn.ensures.over c.begin-txn.ensures.root c.begin-txn.ensures.free in
+    err_then c.commit.result _ _ (λ e why. version_not_committed c.version_is_told.ensures t c.put_row.new.txn ps c.put_row.new.pages begun (subst (λ (rows : List Row). HasPut rows t c.put_row.new.txn ps c.put_row.new.pages) (one_row c.version.result c.to_be_bytes.result c.version.ensures c.to_be_bytes.ensures) c.in_ok-put_row.ensures.put) c.commit.new.pages (room_now c.args.pages.now c.free_pages.result (c.free_pages.ensures (sym c.is_halted.ensures ∙ c.if-is_halted.false)) c.if-free_pages-lt13.false) c.commit.ensures.honest e why) c.commit.ensures.err

@@ -1,0 +1,173 @@
+-- Chunks that plans come to hold within a transaction, and in pages.
+use Rattle.std.specs.Prelude.{◌≡◌, ◌⊎◌, ◌≤◌, ◌<◌, ◌+◌, ◌*◌, ℕ, Bool, true, false, List, [], ◌∷◌, length}
+use Rattle.sector_device.specs.Disk.{Image}
+use Rattle.sector_device.specs.declared.SectorDevice.{Ghosts}
+use Rattle.page_store.specs.Chain.{free_in}
+use Rattle.page_store.specs.Transactions.{stored, disk_in, has_halted, txn_pages, txn_free, txn_writes, HasFailed, IsQuiet, IsSame, Passed}
+use Rattle.page_store.specs.declared.error.PageError.{PageError}
+use Rattle.page_store.specs.declared.error.PageError.TheVariants as page
+use Rattle.page_store.specs.declared.pages.Pages.{Pages}
+use Rattle.page_store.specs.declared.txn.Txn.{Txn}
+use Rattle.page_btree.specs.Map.{InTxn, InPages}
+use Rattle.page_btree.specs.declared.error.TreeError.{TreeError}
+use Rattle.page_btree.specs.declared.error.TreeError.TheVariants as tree
+use Rattle.desk_model.specs.Desk.{Desk}
+use Rattle.store_rows.specs.Keys.{key_of, version, in_four}
+use Rattle.store_rows.specs.Rows.{KeyMap}
+use Rattle.store_rows.specs.Puts.{Row}
+use Rattle.store_rows.specs.Holders.{holding_rows}
+use Rattle.row_table.specs.Puts.{HasDeepened}
+use Rattle.desk_pages.specs.Desks.{IsOldMap}
+use Rattle.desk_migration.specs.Holding.{AllAreHeld, AreHeldTo, AreUnheld, IsHeldBy, hold_pairs}
+use Rattle.desk_migration.specs.Parts.{IsUnderWay}
+use Rattle.desk_migration.specs.declared.error.MigrationError.{MigrationError}
+use Rattle.desk_migration.specs.declared.error.MigrationError.TheVariants.{Full, Memory, DeviceFault, Halted}
+
+abbrev pub tree_told : TreeError → MigrationError
+tree_told tree.DeviceFault = DeviceFault
+tree_told tree.Halted = Halted
+tree_told tree.NoPages = Full
+tree_told tree.TooDeep = Full
+tree_told tree.Memory = Memory
+
+-- each store's journal has room for a step
+abbrev pub page_told : PageError → MigrationError
+page_told page.Memory = Memory
+page_told page.DeviceFault = DeviceFault
+page_told page.Halted = DeviceFault
+page_told page.NotAStore = DeviceFault
+page_told page.TooManyPages = DeviceFault
+page_told page.TooSmall = DeviceFault
+page_told page.NoPages = DeviceFault
+
+-- the row that tells the new version
+abbrev pub version_rows : List Row
+version_rows = (key_of version, in_four 2) ∷ []
+
+-- What the transaction reads then: so many pairs came to be held, and each part below a key names held chunks alone; so does each part
+-- at all where `ended`.
+pub record IsHeldMap (ended : Type 0) (count : ℕ) (next : List ℕ) (u : Txn) (P : Image) (m : KeyMap) : Type 0 where
+  pub n : KeyMap
+  pub reads : InTxn u P n
+  pub by : IsHeldBy count m n
+  pub done : AreHeldTo next n
+  pub all : ended → AllAreHeld n
+
+-- so many pairs, and no more than these, ask for more pages than are free
+pub record WantsPages (most : ℕ) (free : ℕ) (m : KeyMap) : Type 0 where
+  pub count : ℕ
+  pub few : count ≤ most
+  pub n : KeyMap
+  pub by : IsHeldBy count m n
+  pub short : free < 12 * count
+
+module _ {D : Type 0} {g : Ghosts D} where
+  -- ---- within a transaction
+  -- a pair writes 22 pages at most, and takes 12
+  pub record HasHeld (ended : Type 0) (count : ℕ) (from next : List ℕ) (t u : Txn) (old new : Pages D g) : Type 0 where
+    pub passed : Passed old new
+    pub pages : txn_pages u ≡ txn_pages t
+    pub held : (disk_in new).is_honest → (m : KeyMap) → InTxn t (stored old) m → IsUnderWay from m → IsHeldMap ended count next u (stored old) m
+    pub writes : txn_writes u ≤ txn_writes t + 22 * count
+    pub taken : txn_free t ≤ txn_free u + 12 * count
+
+  -- each chunk is held
+  abbrev pub AllAreHeldIn : List ℕ → Txn → Pages D g → Pages D g → Type 0
+  AllAreHeldIn from t old new = (disk_in new).is_honest → (m : KeyMap) → InTxn t (stored old) m → IsUnderWay from m → AllAreHeld m
+
+  -- one pair more is held, or none is left and nothing was written
+  abbrev pub IsTurn : Bool → List ℕ → List ℕ → Txn → Txn → Pages D g → Pages D g → Type 0
+  IsTurn true from next t u old new = HasHeld ⊥ 1 from next t u old new
+  IsTurn false from next t u old new = Passed old new × (u ≡ t) × AllAreHeldIn from t old new
+
+  -- the tree had six levels when the rows of a pair were put behind those of others
+  pub record IsDeep (old : Pages D g) (m : KeyMap) : Type 0 where
+    pub pairs : List (ℕ × ℕ)
+    pub unheld : AreUnheld m pairs
+    pub plan : ℕ
+    pub number : ℕ
+    pub count : ℕ
+    pub txn : Txn
+    pub deep : HasDeepened (holding_rows plan number count) txn old (hold_pairs m pairs)
+
+  -- why so many pairs aren't held: the device failed, or the transaction reads no such map; too few pages were free; the tree was too deep
+  abbrev pub HoldErr : ℕ → List ℕ → Txn → Pages D g → Pages D g → TreeError → Type 0
+  HoldErr most from t old new tree.DeviceFault = HasFailed old new ⊎ ((disk_in new).is_honest → (m : KeyMap) → InTxn t (stored old) m → IsUnderWay from m → ⊥)
+  HoldErr most from t old new tree.Halted = has_halted old ≡ true
+  HoldErr most from t old new tree.NoPages = (disk_in new).is_honest → (m : KeyMap) → InTxn t (stored old) m → IsUnderWay from m → WantsPages most (txn_free t) m
+  HoldErr most from t old new tree.TooDeep = (disk_in new).is_honest → (m : KeyMap) → InTxn t (stored old) m → IsUnderWay from m → IsDeep old m
+  HoldErr most from t old new tree.Memory = Unit {0}
+
+  -- ---- in pages
+  -- only a fault halts, and each one does
+  pub record TellsFaults (old new : Pages D g) : Type 0 where
+    pub rose : has_halted old ≡ false → has_halted new ≡ true → (disk_in new).is_honest → (disk_in old).faults < (disk_in new).faults
+    pub calm : has_halted new ≡ false → (disk_in new).is_honest → (disk_in new).faults ≡ (disk_in old).faults
+
+  abbrev pub free_of : Pages D g → ℕ
+  free_of ps = length (free_in (stored ps))
+
+  -- The pages hold the desk in the old version, and each part below the key names held chunks alone.
+  pub record HoldsTo (from : List ℕ) (ps : Pages D g) (d : Desk) : Type 0 where
+    pub m : KeyMap
+    pub holds : InPages ps m
+    pub is : IsOldMap m d
+    pub done : AreHeldTo from m
+
+  -- and so does each part
+  pub record HoldsAll (ps : Pages D g) (d : Desk) : Type 0 where
+    pub m : KeyMap
+    pub holds : InPages ps m
+    pub is : IsOldMap m d
+    pub all : AllAreHeld m
+
+  -- So many rows were put into a map: two for each pair that came to be held. Fewer than 16 were only where each chunk is held then.
+  pub record HoldsMore (count : ℕ) (m : KeyMap) (d : Desk) (next : List ℕ) (ps : Pages D g) : Type 0 where
+    pub n : KeyMap
+    pub holds : InPages ps n
+    pub is : IsOldMap n d
+    pub done : AreHeldTo next n
+    pub pairs : ℕ
+    pub two_each : 2 * pairs ≡ count
+    pub by : IsHeldBy pairs m n
+    pub clean : count < 16 → AllAreHeld n
+
+  -- fewer than 13 pages are free for each row that would be put, 16 at most
+  pub record IsShort (ps : Pages D g) (m : KeyMap) : Type 0 where
+    pub pairs : ℕ
+    pub few : pairs ≤ 8
+    pub n : KeyMap
+    pub by : IsHeldBy pairs m n
+    pub short : free_of ps < 13 * (2 * pairs)
+
+  -- why no row was put
+  abbrev pub StepErr : List ℕ → Pages D g → Pages D g → MigrationError → Type 0
+  StepErr from old new Full = IsQuiet old new × ((disk_in new).is_honest → (m : KeyMap) → InPages old m → IsUnderWay from m → IsShort old m ⊎ IsDeep old m)
+  StepErr from old new Memory = IsQuiet old new
+  StepErr from old new DeviceFault = HasFailed old new ⊎ ((disk_in new).is_honest → (d : Desk) → HoldsTo from old d → ⊥)
+  StepErr from old new Halted = (has_halted old ≡ true) × IsSame old new
+
+  -- the tree had six levels when the version's row was put
+  abbrev pub IsDeepForVersion : Pages D g → Pages D g → Type 0
+  IsDeepForVersion old new = (disk_in new).is_honest → (m : KeyMap) → InPages old m → (t : Txn) × HasDeepened version_rows t old m
+
+  -- 13 pages are free for that row, or fewer
+  abbrev pub HasRoomForVersion : Pages D g → Pages D g → Type 0
+  HasRoomForVersion old new = (disk_in new).is_honest → 13 ≤ free_of old
+
+  abbrev pub IsShortForVersion : Pages D g → Pages D g → Type 0
+  IsShortForVersion old new = (disk_in new).is_honest → free_of old < 13
+
+  -- why the version isn't told
+  abbrev pub FinishErr : Pages D g → Pages D g → MigrationError → Type 0
+  FinishErr old new Full = IsQuiet old new × (IsShortForVersion old new ⊎ IsDeepForVersion old new)
+  FinishErr old new Memory = IsQuiet old new × HasRoomForVersion old new
+  FinishErr old new DeviceFault = HasRoomForVersion old new × (HasFailed old new ⊎ ((disk_in new).is_honest → (d : Desk) → HoldsAll old d → ⊥))
+  FinishErr old new Halted = (has_halted old ≡ true) × IsSame old new
+
+  -- why a transaction isn't committed
+  abbrev pub CommitErr : Pages D g → Pages D g → MigrationError → Type 0
+  CommitErr old new Full = ⊥
+  CommitErr old new Memory = new ≡ old
+  CommitErr old new DeviceFault = HasFailed old new
+  CommitErr old new Halted = ⊥

@@ -1,0 +1,104 @@
+//! The old version of the rows: its reading, which is the one of both versions, and its writing for trials, which leads a store of the
+//! new version back. Its desk stays; no row tells then who holds a chunk.
+ghost use Rattle.std.specs.Prelude.{◌≡◌, true, false, OnOk, IfOk};
+ghost use Rattle.page_store.specs.Transactions.{stored, disk_in, count_of, has_halted, txn_pages, HasShape, IsQuiet, Passed};
+ghost use Rattle.page_btree.specs.Map.{InTxn};
+ghost use Rattle.desk_model.specs.Desk.{Desk};
+ghost use Rattle.store_rows.specs.Rows.{KeyMap};
+ghost use Rattle.desk_pages.specs.Desks.{InPages, InPagesOf, InTxnOf, OpensEither};
+ghost use Rattle.desk_pages.specs.Moments.{StopsLeave};
+ghost use Rattle.desk_migration.specs.TurningBack.{IsTakenFirst, IsWithout};
+
+use crate::error::MigrationError;
+use btree_scan::{Row, row_limit};
+pub use desk_opening::read_desk;
+use desk_pages::commit_txn;
+use page_btree::remove;
+use page_store::{PageError, Pages, Txn};
+use row_table::TreeError;
+use sector_device::SectorDevice;
+use std::alloc::Global;
+use store_check::first_from;
+
+/// Takes out the first row whose key begins with a tag, if there is one. `row` is room for it.
+fn take_first<D: SectorDevice>(
+    txn: &mut Txn,
+    pages: &mut Pages<D>,
+    tag: u8,
+    row: &mut Row,
+) -> Result<bool, TreeError>
+    requires begun { txn_pages txn.old ≡ count_of pages.old }
+    ensures quiet { IsQuiet pages.old pages.new }
+    ensures passed { OnOk result (Passed pages.old pages.new) }
+    ensures begun { txn_pages txn.new ≡ count_of pages.new }
+    ensures taken { (disk_in pages.new).is_honest → (m : KeyMap) → InTxn txn.old (stored pages.old) m → IfOk result (λ found. IsTakenFirst found tag txn.new (stored pages.old) m) }
+{
+    if !first_from(txn, pages, &[tag], row)? {
+        return Ok(false);
+    }
+    let key = row.key.as_slice();
+    if key.is_empty() || key.len() > 72 {
+        return Err(TreeError::DeviceFault);
+    }
+    if !key.starts_with(&[tag]) {
+        return Ok(false);
+    }
+    remove(txn, pages, key)?;
+    Ok(true)
+}
+
+/// Takes out each row whose key begins with a tag.
+fn take_all<D: SectorDevice>(txn: &mut Txn, pages: &mut Pages<D>, tag: u8) -> Result<(), TreeError>
+    requires begun { txn_pages txn.old ≡ count_of pages.old }
+    ensures quiet { IsQuiet pages.old pages.new }
+    ensures passed { OnOk result (Passed pages.old pages.new) }
+    ensures begun { txn_pages txn.new ≡ count_of pages.new }
+    ensures without { (disk_in pages.new).is_honest → (m : KeyMap) → InTxn txn.old (stored pages.old) m → OnOk result (IsWithout tag txn.new (stored pages.old) m) }
+{
+    let mut row = Row::empty();
+    for taken in 0..row_limit(txn) {
+        if !take_first(txn, pages, tag, &mut row)? {
+            return Ok(());
+        }
+    }
+    Err(TreeError::DeviceFault)
+}
+
+/// Takes out each row that tells who holds a chunk, how many do, and the version.
+fn take_new<D: SectorDevice>(txn: &mut Txn, pages: &mut Pages<D>) -> Result<(), TreeError>
+    requires begun { txn_pages txn.old ≡ count_of pages.old }
+    ensures quiet { IsQuiet pages.old pages.new }
+    ensures passed { OnOk result (Passed pages.old pages.new) }
+    ensures begun { txn_pages txn.new ≡ count_of pages.new }
+    ensures old { (disk_in pages.new).is_honest → (d : Desk) → InTxnOf true txn.old (stored pages.old) d → OnOk result (InTxnOf false txn.new (stored pages.old) d) }
+{
+    take_all(txn, pages, b'H')?;
+    take_all(txn, pages, b'K')?;
+    take_all(txn, pages, b'V')
+}
+
+/// Leads a store of the new version back to the old one, in one commit. At any moment of it a stop leaves the desk in either version.
+/// Any error is told as `DeviceFault` but want of memory, or of journal pages for that commit, which is `Full`.
+pub fn turn_back<D: SectorDevice>(alloc: Global, pages: &mut Pages<D>) -> Result<(), MigrationError>
+    requires working { has_halted pages.old ≡ false }
+    ensures shape { HasShape pages.old pages.new }
+    ensures honest { (disk_in pages.new).is_honest → (disk_in pages.old).is_honest }
+    ensures any_moment { StopsLeave (InPages pages.old) OpensEither pages.old pages.new }
+    ensures old { (disk_in pages.new).is_honest → (d : Desk) → InPages pages.old d → OnOk result (InPagesOf false pages.new d) }
+{
+    let mut txn = pages.begin(alloc);
+    take_new(&mut txn, pages)?;
+    match commit_txn(txn, pages) {
+        Ok(()) => Ok(()),
+        Err(error) => Err(refusal_of(error)),
+    }
+}
+
+/// Why nothing is committed.
+fn refusal_of(error: PageError) -> MigrationError {
+    match error {
+        PageError::Memory => MigrationError::Memory,
+        PageError::TooManyPages => MigrationError::Full,
+        _ => MigrationError::DeviceFault,
+    }
+}

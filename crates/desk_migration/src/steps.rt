@@ -1,0 +1,92 @@
+//! Writes the rows of the new version.
+ghost use Rattle.std.specs.Prelude.{◌≡◌, ◌≤◌, ◌*◌, Err, true, false, OnOk, OnErr, IfOk, IfErr};
+ghost use Rattle.page_store.specs.Transactions.{disk_in, has_halted, HasShape, IsKept, IsSame};
+ghost use Rattle.page_btree.specs.Map.{InPages};
+ghost use Rattle.desk_model.specs.Desk.{Desk};
+ghost use Rattle.store_rows.specs.Rows.{KeyMap};
+ghost use Rattle.desk_pages.specs.Desks.{IsOldMap, InPages as HoldsDesk, OpensEither, OpensOld};
+ghost use Rattle.desk_pages.specs.Moments.{StopsLeave};
+ghost use Rattle.desk_migration.specs.Holding.{AreHeldTo};
+ghost use Rattle.desk_migration.specs.Parts.{IsUnderParts};
+ghost use Rattle.desk_migration.specs.Puts.{FinishErr, HoldsAll, HoldsMore, HoldsTo, StepErr, TellsFaults, free_of};
+
+use crate::commits::commit;
+use crate::error::MigrationError;
+use crate::holds::hold_pairs;
+use btree_scan::SmallBytes;
+use page_store::Pages;
+use row_table::put_row;
+use sector_device::SectorDevice;
+use std::alloc::Global;
+use store_rows::Key;
+use store_rows::migrations::{named_is_held, version_is_told};
+
+/// Puts up to 16 rows by which plans hold chunks that they name, in one commit: how many there were. `from` is the key up to which
+/// each part names held chunks alone, and goes on.
+pub(crate) fn put_holdings<D: SectorDevice>(
+    alloc: Global,
+    pages: &mut Pages<D>,
+    from: &mut SmallBytes,
+) -> Result<usize, MigrationError>
+    requires under { IsUnderParts from.old }
+    ensures under { IsUnderParts from.new }
+    ensures shape { HasShape pages.old pages.new }
+    ensures honest { (disk_in pages.new).is_honest → (disk_in pages.old).is_honest }
+    ensures any_moment { StopsLeave (HoldsTo from.old pages.old) OpensOld pages.old pages.new }
+    ensures few { IfOk result (λ count. count ≤ 16) }
+    ensures held { (disk_in pages.new).is_honest → (m : KeyMap) (d : Desk) → InPages pages.old m → IsOldMap m d → AreHeldTo from.old m → IfOk result (λ count. HoldsMore count m d from.new pages.new) }
+    ensures room { (disk_in pages.new).is_honest → IfOk result (λ count. 13 * count ≤ free_of pages.old) }
+    ensures kept { (disk_in pages.new).is_honest → OnOk result (IsKept pages.new) }
+    ensures faults { TellsFaults pages.old pages.new }
+    ensures ok { OnOk result ((has_halted pages.old ≡ false) × (has_halted pages.new ≡ false)) }
+    ensures still { has_halted pages.old ≡ true → (result ≡ Err MigrationError.Halted) × IsSame pages.old pages.new }
+    ensures err { IfErr result (λ e. StepErr from.old pages.old pages.new e) }
+    ensures stays { OnErr result (from.new ≡ from.old) }
+{
+    named_is_held();
+    if pages.is_halted() {
+        return Err(MigrationError::Halted);
+    }
+    let free = pages.free_pages() as usize;
+    let mut next = SmallBytes::empty();
+    next.set(from.as_slice());
+    let mut txn = pages.begin(alloc);
+    let pairs = hold_pairs(&mut txn, pages, &mut next)?;
+    if pairs == 0 {
+        return Ok(0);
+    }
+    if free < 26 * pairs {
+        return Err(MigrationError::Full);
+    }
+    commit(txn, pages)?;
+    *from = next;
+    Ok(2 * pairs)
+}
+
+/// Puts the row that tells the new version.
+pub(crate) fn put_version<D: SectorDevice>(
+    alloc: Global,
+    pages: &mut Pages<D>,
+) -> Result<(), MigrationError>
+    ensures shape { HasShape pages.old pages.new }
+    ensures honest { (disk_in pages.new).is_honest → (disk_in pages.old).is_honest }
+    ensures any_moment { StopsLeave (HoldsAll pages.old) OpensEither pages.old pages.new }
+    ensures told { (disk_in pages.new).is_honest → (d : Desk) → HoldsAll pages.old d → OnOk result (HoldsDesk pages.new d) }
+    ensures room { (disk_in pages.new).is_honest → OnOk result (13 ≤ free_of pages.old) }
+    ensures kept { (disk_in pages.new).is_honest → OnOk result (IsKept pages.new) }
+    ensures faults { TellsFaults pages.old pages.new }
+    ensures ok { OnOk result ((has_halted pages.old ≡ false) × (has_halted pages.new ≡ false)) }
+    ensures still { has_halted pages.old ≡ true → (result ≡ Err MigrationError.Halted) × IsSame pages.old pages.new }
+    ensures err { IfErr result (λ e. FinishErr pages.old pages.new e) }
+{
+    version_is_told();
+    if pages.is_halted() {
+        return Err(MigrationError::Halted);
+    }
+    if pages.free_pages() < 13 {
+        return Err(MigrationError::Full);
+    }
+    let mut txn = pages.begin(alloc);
+    put_row(&mut txn, pages, &Key::version(), &2_u32.to_be_bytes())?;
+    commit(txn, pages)
+}

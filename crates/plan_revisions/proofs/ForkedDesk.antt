@@ -1,0 +1,187 @@
+-- The rows of a fork make the desk with it.
+use Rattle.std.proofs.Common.{◌≡◌, ◌<◌, ◌≤◌, ◌-◌, ◌*◌, ◌^◌, ℕ, true, List, [], ◌∷◌, length, get_or, Option, Some, refl, sym, ap, subst, ◌∙◌, arith}
+use Rattle.std.specs.Prelude.{Contains}
+use Rattle.std.specs.FinMap.{FinMap, insert}
+use Rattle.std.proofs.lemmas.List.Elements.{All-contains}
+use Rattle.desk_model.proofs.Maps.{insert_again}
+use Rattle.desk_model.specs.Cuts.{cut, cuts_of, CutsAreCounties, ListsAreCut}
+use Rattle.desk_model.specs.Desk.{Plan, Desk, name_cmp}
+use Rattle.desk_model.specs.Geography.{Ground}
+use Rattle.desk_model.specs.Step.{fork_from, fork_of}
+use Rattle.desk_model.specs.declared.kind.Kind.{Kind}
+use Rattle.desk_model.specs.Kind.{most_districts}
+use Rattle.store_rows.specs.Keys.{key_of, counters, named}
+use Rattle.store_rows.specs.Values.{counters_bytes, plan_bytes}
+use Rattle.store_rows.specs.declared.value.Counters.{Counters}
+use Rattle.store_rows.specs.declared.value.PlanRow.{PlanRow}
+use Rattle.store_rows.specs.Rows.{KeyMap, SameTag}
+use Rattle.store_rows.proofs.Frames.{chunk_stays, other_tag, put_is_there, put_keeps}
+use Rattle.store_rows.specs.RevisionRows.{HasRevision}
+use Rattle.store_rows.specs.DeskRows.{HasPlan, IsDesk}
+use Rattle.store_rows.specs.Changes.{desk_with, plan_row_of}
+use Rattle.store_rows.specs.RevisionSteps.{AreKept}
+use Rattle.store_rows.specs.Shares.{with_shared}
+use Rattle.store_rows.specs.Steps.{chunks_more, one_plan_more}
+use Rattle.store_rows.specs.Tidy.{CountersFit, IsNamedBy}
+use Rattle.store_rows.specs.TidyLaws.{ChunksAreKept, MakesRevision, NextIsOne, PlansComeAndGoTidily}
+use Rattle.store_rows.specs.ForkLaws.{SharesMakeDesks}
+use Rattle.store_rows.proofs.Forked.{can_hold}
+use Rattle.plan_table.specs.PlanRows.{IsFound}
+use Rattle.plan_table.specs.Laws.{PlansAreMade, PlansAreTold, RowFits}
+use Rattle.plan_table.proofs.Made.{numbers_moved, rows_keep}
+use Rattle.desk_pages.specs.Desks.{IsDeskMap}
+use Rattle.plan_revisions.specs.Plans.{HasRevisionAt, TakesFork, TakesPlan, with_fork, with_plan}
+use Rattle.plan_revisions.specs.Forking.{CanMake, IsSource, MakesFork, forked_map, row_like, with_made}
+use Rattle.plan_revisions.proofs.Creating.{IsSize, created_desk}
+use Rattle.plan_revisions.proofs.ChunkLists.{few_counties}
+use Rattle.plan_revisions.proofs.Desks.{is_with, is_still, numbers_are}
+use Rattle.plan_revisions.proofs.LastRevision.{as_many, told_plan, last_named}
+use Rattle.plan_revisions.proofs.Limits.{put_there, with_one_more}
+use Rattle.plan_revisions.proofs.Looking.{stands_at}
+
+-- ---- chunks that can be kept stay so where the parts and the pieces do
+named_stays : (m n : KeyMap) (plan number : ℕ) → SameTag 82 m n → IsNamedBy m plan number → IsNamedBy n plan number
+named_stays m n plan number same is = record {
+  revision = is.revision;
+  index = is.index;
+  part_fits = is.part_fits;
+  numbers = is.numbers;
+  chunks = is.chunks;
+  row = same _ ∙ is.row;
+  among = is.among;
+}
+
+kept_stay : (m n : KeyMap) (plan : ℕ) (numbers : List ℕ) (counties : List (List ℕ)) → SameTag 82 m n → SameTag 107 m n → AreKept m plan numbers counties → AreKept n plan numbers counties
+kept_stay m n plan numbers counties parts pieces kept = record {
+  count = kept.count;
+  each = λ county within.
+      let is = kept.each county within in
+      record {
+        own = named_stays m n plan (get_or numbers county 0) parts is.own;
+        there = chunk_stays m n (get_or numbers county 0) (get_or counties county []) pieces is.there;
+      };
+}
+
+module _ (told : PlansAreTold) (made : PlansAreMade) (tidily : PlansComeAndGoTidily) (one : NextIsOne) (kept_law : ChunksAreKept) (shares : SharesMakeDesks) (counties : CutsAreCounties) (cut_law : ListsAreCut) where
+  module _ (g : Ground) (name : List ℕ) (from : List ℕ × ℕ) (source : PlanRow) (next : Counters) (numbers : List ℕ) (can : CanMake g name source next) (m : KeyMap) (d : Desk) (is : IsDeskMap m d) (says : TakesFork g name from d) (read : IsSource from (length (cuts_of g)) source next numbers m) where
+    abbrev origin : HasRevisionAt g from.0 from.1 d says.districts
+    origin = says.source
+
+    abbrev size : Kind × ℕ
+    size = (source.kind, source.districts)
+
+    abbrev row : PlanRow
+    row = row_like source next.plan
+
+    abbrev then : KeyMap
+    then = with_made name source next m
+
+    abbrev first : Plan
+    first = record { kind = source.kind; n = source.districts; revisions = [] }
+
+    -- ---- what was read
+    source_is : (source ≡ plan_row_of source.number origin.plan) × HasPlan m g from.0 source.number origin.plan
+    source_is = told_plan told m d g from.0 source origin.plan is.desk origin.geography origin.there read.found can.row_fits
+
+    there : HasRevision m source.number from.1 (cut g says.districts)
+    there = (stands_at told cut_law g (cuts_of g) from.0 source from.1 says.districts m d refl can.row_fits read.found is origin).is.has
+
+    same : numbers ≡ there.numbers
+    same = read.names there.numbers (last_named m g source.number from.1 says.districts (length (cuts_of g)) refl there)
+
+    small : (number : ℕ) → Contains numbers number → number < 2 ^ 64
+    small number among = All-contains (λ (n : ℕ). n < 2 ^ 64) there.numbers number there.names.each (subst (λ (l : List ℕ). Contains l number) same among)
+
+    kept : AreKept m source.number numbers (cut g says.districts)
+    kept =
+        let few = (stands_at told cut_law g (cuts_of g) from.0 source from.1 says.districts m d refl can.row_fits read.found is origin).few in
+        let most = can.row_fits.revisions_fit in
+        subst (λ (l : List ℕ). AreKept m source.number l (cut g says.districts)) (sym same)
+        (kept_law m source.number from.1 there.numbers (cut g says.districts) can.row_fits.number_fits (omega arith) there.names there)
+
+    long : length says.districts ≡ length g.blocks
+    long = (stands_at told cut_law g (cuts_of g) from.0 source from.1 says.districts m d refl can.row_fits read.found is origin).long
+
+    -- ---- the plan is made
+    sized : IsSize size
+    sized =
+        let limits = is.limits.sizes from.0 origin.plan origin.there in
+        let some = limits.some in
+        let most = limits.most in
+        let kind : source.kind ≡ origin.plan.kind = ap (λ (r : PlanRow). r.kind) source_is.0 in
+        let n : source.districts ≡ origin.plan.n = ap (λ (r : PlanRow). r.districts) source_is.0 in
+        record {
+          some = subst (λ (k : ℕ). 1 ≤ k) (sym n) some;
+          few = subst (λ (k : ℕ). k ≤ most_districts source.kind) (sym n) (subst (λ (k : Kind). origin.plan.n ≤ most_districts k) (sym kind) most);
+          fits = can.row_fits.districts_fit;
+        }
+
+    takes : TakesPlan name d
+    takes = record { g = g; geography = origin.geography; missing = says.missing; room = says.room }
+
+    created : IsDeskMap then (with_plan name size d)
+    created = created_desk made tidily one name size can.is_name sized m d next is takes can.fit read.is_next can.room
+
+    next_fits : CountersFit (one_plan_more next)
+    next_fits = record { plan_fits = can.room; chunk_fits = can.fit.chunk_fits; load_fits = can.fit.load_fits }
+
+    next_is : created.tidy.next ≡ one_plan_more next
+    next_is = numbers_are one then created.tidy (one_plan_more next) next_fits (numbers_moved m name row (one_plan_more next))
+
+    found : IsFound then name (Some row)
+    found =
+        sym (put_keeps (insert m (key_of (named name)) (plan_bytes row)) (key_of counters) (counters_bytes (one_plan_more next)) (key_of (named name)) (other_tag 80 65 name [] (λ e. absurd (omega arith)))
+        ∙ put_is_there m (key_of (named name)) (plan_bytes row))
+
+    fits : RowFits row
+    fits = record { number_fits = can.fit.plan_fits; districts_fit = can.row_fits.districts_fit; revisions_fit = omega arith }
+
+    has : HasPlan then g name next.plan first
+    has = (told_plan told then (with_plan name size d) g name row first created.desk origin.geography (put_there d.plans name first) found fits).1
+
+    -- ---- it can hold the chunks, and gets the revision
+    few : length numbers ≤ 128 * 2 ^ 8
+    few =
+        let most = few_counties counties g can.blocks in
+        let many = kept.count in
+        let as_many = as_many g says.districts in
+        omega arith
+
+    parts_stay : SameTag 82 m then
+    parts_stay = rows_keep 82 m name row (one_plan_more next) (λ e. absurd (omega arith)) (λ e. absurd (omega arith))
+
+    pieces_stay : SameTag 107 m then
+    pieces_stay = rows_keep 107 m name row (one_plan_more next) (λ e. absurd (omega arith)) (λ e. absurd (omega arith))
+
+    kept_then : AreKept then source.number numbers (cut g says.districts)
+    kept_then = kept_stay m then source.number numbers (cut g says.districts) parts_stay pieces_stay kept
+
+    made_then : MakesRevision g (insert d.plans name first) name first says.districts (chunks_more created.tidy.next 0) true (with_shared then created.tidy.next name row numbers)
+    made_then =
+        shares then created.tidy created.version source.number g (insert d.plans name first) name next.plan first says.districts numbers
+        (is_with then (with_plan name size d) g origin.geography created.desk) (put_there d.plans name first) has long (omega arith) few kept_then
+
+    forked : MakesRevision g (insert d.plans name first) name first says.districts (chunks_more (one_plan_more next) 0) true (forked_map name source next numbers m)
+    forked = subst (λ (n : Counters). MakesRevision g (insert d.plans name first) name first says.districts (chunks_more n 0) true (with_shared then n name row numbers)) next_is made_then
+
+    -- ---- the desk
+    abbrev new_plan : Plan
+    new_plan = record { kind = source.kind; n = source.districts; revisions = says.districts ∷ [] }
+
+    with_new : record d { plans = insert d.plans name new_plan } ≡ with_fork name from d
+    with_new =
+        let kind : source.kind ≡ origin.plan.kind = ap (λ (r : PlanRow). r.kind) source_is.0 in
+        let n : source.districts ≡ origin.plan.n = ap (λ (r : PlanRow). r.districts) source_is.0 in
+        (λ i. record d { plans = insert d.plans name (record { kind = kind i; n = n i; revisions = says.districts ∷ [] }) })
+        ∙ sym (ap (λ (o : Option Plan). (fork_from d name o from.1).1) origin.there ∙ ap (λ (o : Option (List ℕ)). (fork_of d name origin.plan o).1) origin.is)
+
+    pub fork_made : MakesFork name from source next numbers m d
+    fork_made = record {
+      can = (created.tidy.next.plan, can_hold then created.tidy name row can.fit.plan_fits has.row, small);
+      is = subst (λ (e : Desk). IsDeskMap (forked_map name source next numbers m) e) with_new (record {
+        desk = is_still (forked_map name source next numbers m) d g (insert d.plans name new_plan) origin.geography (subst (λ (plans : FinMap name_cmp Plan). IsDesk (forked_map name source next numbers m) (desk_with g plans)) (insert_again d.plans name first new_plan) forked.desk);
+        tidy = forked.tidy.0;
+        version = forked.tidy.2;
+        limits = with_one_more d name new_plan (record { some = sized.some; most = sized.few }) says.room is.limits;
+      });
+    }

@@ -1,0 +1,97 @@
+-- The rows of a fork: a plan is made, holds the chunks of another plan's revision, and gets a revision that names them.
+use Rattle.std.specs.Prelude.{◌≡◌, ◌+◌, ◌*◌, ℕ, List, length, Some, Result, IfOk, IfErr}
+use Rattle.sector_device.specs.declared.SectorDevice.{Ghosts}
+use Rattle.page_store.specs.Transactions.{stored, disk_in}
+use Rattle.page_store.specs.declared.pages.Pages.{Pages}
+use Rattle.page_store.specs.declared.txn.Txn.{Txn}
+use Rattle.page_btree.specs.Map.{InTxn as HasMap}
+use Rattle.page_btree.specs.declared.error.TreeError.{TreeError}
+use Rattle.desk_model.specs.Cuts.{cuts_of}
+use Rattle.desk_model.specs.Desk.{Desk}
+use Rattle.desk_model.specs.Geography.{AreBlocks, Ground}
+use Rattle.desk_model.specs.Name.{IsPlanName}
+use Rattle.desk_model.specs.Room.{rows_for, fork_rows}
+use Rattle.store_rows.specs.declared.value.Counters.{Counters}
+use Rattle.store_rows.specs.declared.value.PlanRow.{PlanRow}
+use Rattle.store_rows.specs.Rows.{KeyMap}
+use Rattle.store_rows.specs.Puts.{put_rows}
+use Rattle.store_rows.specs.Shares.{with_shared}
+use Rattle.store_rows.specs.Steps.{one_plan_more}
+use Rattle.store_rows.specs.Tidy.{IsNext, CountersFit}
+use Rattle.chunk_table.specs.Changing.{ChangesMap}
+use Rattle.chunk_table.specs.Holding.{CanHoldAll}
+use Rattle.revision_table.specs.Reading.{AreNames}
+use Rattle.plan_table.specs.PlanRows.{IsFound, HasPlanNumber, created_rows}
+use Rattle.plan_table.specs.Laws.{RowFits}
+use Rattle.plan_table.specs.declared.change.ChangeOutcome.{ChangeOutcome}
+use Rattle.desk_pages.specs.Desks.{IsDeskMap}
+use Rattle.plan_revisions.specs.declared.reads.Reading.{Reading}
+use Rattle.plan_revisions.specs.Plans.{TakesFork, with_fork}
+use Rattle.plan_revisions.specs.Lookups.{HasSomeRevision}
+use Rattle.plan_revisions.specs.Outcomes.{StepsWhereLeft}
+use Rattle.plan_revisions.specs.Steps.{StepErr}
+
+-- what a map says of a plan of which a revision is forked: its row, and the names of that revision's chunks, which are so many
+pub record IsSource (from : List ℕ × ℕ) (count : ℕ) (row : PlanRow) (next : Counters) (kept : List ℕ) (m : KeyMap) : Type 0 where
+  pub found : IsFound m from.0 (Some row)
+  pub is_next : IsNext m next
+  pub names : (numbers : List ℕ) → AreNames row.number from.1 count m numbers → kept ≡ numbers
+
+-- the row of a plan like that of another, without revisions
+abbrev pub row_like : PlanRow → ℕ → PlanRow
+row_like source number = record { number = number; kind = source.kind; districts = source.districts; revisions = 0 }
+
+-- the plan was made
+abbrev pub with_made : List ℕ → PlanRow → Counters → KeyMap → KeyMap
+with_made name source next m = put_rows m (created_rows name source.kind source.districts next)
+
+-- and has a revision with these chunks
+abbrev pub forked_map : List ℕ → PlanRow → Counters → List ℕ → KeyMap → KeyMap
+forked_map name source next numbers m = with_shared (with_made name source next m) (one_plan_more next) name (row_like source next.plan) numbers
+
+-- once it was made it can hold them
+abbrev pub CanFork : List ℕ → PlanRow → Counters → List ℕ → KeyMap → Type 0
+CanFork name source next numbers m = CanHoldAll next.plan numbers (with_made name source next m)
+
+-- by so many rows at most
+abbrev pub rows_of_fork : ℕ → ℕ
+rows_of_fork counties = 4 + rows_for 128 counties + 2 * counties
+
+module _ {D : Type 0} {g : Ghosts D} where
+  -- what was read is what each map of the transaction says
+  abbrev pub TellsSource : List ℕ × ℕ → ℕ → Txn → Pages D g → Pages D g → Result Reading TreeError → Type 0
+  TellsSource from count t old new result =
+      (disk_in new).is_honest → (m : KeyMap) → HasMap t (stored old) m → IfOk result (λ r. IsSource from count r.row r.next r.kept.items m)
+
+  -- why it was not read, of a geography with so many counties
+  abbrev pub SourceErr : List ℕ × ℕ → ℕ → Txn → Pages D g → Pages D g → Result Reading TreeError → Type 0
+  SourceErr from count t old new result =
+      (ground : Ground) → count ≡ length (cuts_of ground) → IfErr result (λ e. StepErr (HasSomeRevision ground from.0 from.1) 0 t old new e)
+
+  -- the rows of a fork were put
+  abbrev pub PutsFork : {T : Type 0} → List ℕ → PlanRow → Counters → List ℕ → Txn → Txn → Pages D g → Pages D g → Result T TreeError → Type 0
+  PutsFork name source next numbers t u old new result =
+      ChangesMap (CanFork name source next numbers) (forked_map name source next numbers) (rows_of_fork (length numbers)) t u old new result
+
+  -- the desk has the plan, where a number was left for it
+  abbrev pub Forks : Ground → List ℕ → List ℕ × ℕ → Txn → Txn → Pages D g → Pages D g → Result ChangeOutcome TreeError → Type 0
+  Forks geography name from t u old new result =
+      StepsWhereLeft (TakesFork geography name from) (with_fork name from) (fork_rows geography) HasPlanNumber t u old new result
+
+-- ---- the rows make the next desk
+-- a plan's row and numbers that fit in theirs, of which one is left for a plan, and a name that a plan may have
+pub record CanMake (g : Ground) (name : List ℕ) (source : PlanRow) (next : Counters) : Type 0 where
+  pub blocks : AreBlocks g.blocks
+  pub is_name : IsPlanName name
+  pub row_fits : RowFits source
+  pub fit : CountersFit next
+  pub room : HasPlanNumber next
+
+pub record MakesFork (name : List ℕ) (from : List ℕ × ℕ) (source : PlanRow) (next : Counters) (numbers : List ℕ) (m : KeyMap) (d : Desk) : Type 0 where
+  pub can : CanFork name source next numbers m
+  pub is : IsDeskMap (forked_map name source next numbers m) (with_fork name from d)
+
+abbrev pub ForksAreMade : Type 0
+ForksAreMade = (g : Ground) (name : List ℕ) (from : List ℕ × ℕ) (source : PlanRow) (next : Counters) (numbers : List ℕ) → CanMake g name source next
+    → (m : KeyMap) (d : Desk) → IsDeskMap m d → TakesFork g name from d → IsSource from (length (cuts_of g)) source next numbers m
+    → MakesFork name from source next numbers m d

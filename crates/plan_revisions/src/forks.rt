@@ -1,0 +1,153 @@
+//! Plans that begin with a revision of another plan.
+ghost use Rattle.std.specs.Prelude.{◌≡◌, ◌≤◌, ◌<◌, ◌*◌, ◌^◌, length, OnOk, IfOk};
+ghost use Rattle.desk_model.specs.Cuts.{cuts_of};
+ghost use Rattle.page_store.specs.Transactions.{count_of, txn_pages, IsQuiet, Passed};
+ghost use Rattle.store_rows.specs.DeskRows.{most_revisions};
+ghost use Rattle.store_rows.specs.Shares.{shared_rows};
+ghost use Rattle.store_rows.specs.Tidy.{CountersFit};
+ghost use Rattle.row_table.specs.Outcomes.{PutsRows};
+ghost use Rattle.plan_table.specs.PlanRows.{HasChunkNumbers, HasPlanNumber};
+ghost use Rattle.plan_table.specs.Laws.{RowFits};
+ghost use Rattle.plan_revisions.specs.Forking.{Forks, PutsFork, SourceErr, TellsSource};
+
+use crate::laws::{counties_are_chunks, forks_are_made};
+use crate::reads::Reading;
+use chunk_table::hold_all;
+use desk_model::cuts::Cut;
+use desk_model::geography::Geography;
+use desk_model::laws::lists_are_cut;
+use desk_model::name::PlanName;
+use page_store::{Pages, Txn};
+use plan_table::laws::plans_are_told;
+use plan_table::{ChangeOutcome, find_plan, put_plan, revise_plan};
+use revision_table::{append_names, put_names};
+use row_table::{TreeError, next_numbers};
+use sector_device::SectorDevice;
+use std::alloc::Global;
+use store_rows::upkeep::next_is_one;
+use store_rows::{Counters, PlanRow};
+
+/// Reads the row of a plan, the numbers that come next, and those of the chunks of a revision, which are so many.
+fn read_source<D: SectorDevice>(
+    alloc: Global,
+    txn: &Txn,
+    pages: &mut Pages<D>,
+    from: &PlanName,
+    revision: u32,
+    count: usize,
+) -> Result<Reading, TreeError>
+    requires begun { txn_pages txn.now ≡ count_of pages.old }
+    ensures quiet { IsQuiet pages.old pages.new }
+    ensures passed { OnOk result (Passed pages.old pages.new) }
+    ensures read { TellsSource (from.now, revision) count txn.now pages.old pages.new result }
+    ensures many { IfOk result (λ r. length r.kept.items ≡ count) }
+    ensures fits { IfOk result (λ r. RowFits r.row × CountersFit r.next) }
+    ensures err { SourceErr (from.now, revision) count txn.now pages.old pages.new result }
+{
+    plans_are_told();
+    lists_are_cut();
+    let Some(row) = find_plan(txn, pages, from)? else {
+        return Err(TreeError::DeviceFault);
+    };
+    let next = next_numbers(txn, pages)?;
+    let mut kept = Vec::new(alloc);
+    append_names(txn, pages, row.number, revision, count, &mut kept)?;
+    if kept.len() != count {
+        return Err(TreeError::DeviceFault);
+    }
+    Ok(Reading { row, next, kept })
+}
+
+/// Puts the names of the chunks of a plan's next revision, and the plan's row with that of the numbers, of which none is used.
+fn put_shared<D: SectorDevice>(
+    txn: &mut Txn,
+    pages: &mut Pages<D>,
+    name: &PlanName,
+    row: &PlanRow,
+    next: &Counters,
+    numbers: &[u64],
+) -> Result<(), TreeError>
+    requires begun { txn_pages txn.old ≡ count_of pages.old }
+    requires few { length numbers.now ≤ 128 * 2 ^ 8 }
+    requires room { row.now.revisions < most_revisions }
+    requires left { HasChunkNumbers 0 next.now }
+    ensures quiet { IsQuiet pages.old pages.new }
+    ensures begun { txn_pages txn.new ≡ count_of pages.new }
+    ensures put { PutsRows (shared_rows next.now name.now row.now numbers.now) txn.old txn.new pages.old pages.new result }
+{
+    put_names(txn, pages, row.number, row.revisions + 1, numbers)?;
+    revise_plan(txn, pages, name, row, next, 0)
+}
+
+/// Puts the rows of a plan like that of a row, under the number that comes next, with one revision that has these chunks.
+fn put_fork<D: SectorDevice>(
+    txn: &mut Txn,
+    pages: &mut Pages<D>,
+    name: &PlanName,
+    source: &PlanRow,
+    next: &Counters,
+    numbers: &[u64],
+) -> Result<(), TreeError>
+    requires begun { txn_pages txn.old ≡ count_of pages.old }
+    requires few { length numbers.now ≤ 128 * 2 ^ 8 }
+    requires fits { CountersFit next.now }
+    requires left { HasPlanNumber next.now }
+    ensures quiet { IsQuiet pages.old pages.new }
+    ensures begun { txn_pages txn.new ≡ count_of pages.new }
+    ensures put { PutsFork name.now source.now next.now numbers.now txn.old txn.new pages.old pages.new result }
+{
+    let row = PlanRow {
+        number: next.plan,
+        kind: source.kind,
+        districts: source.districts,
+        revisions: 0,
+    };
+    let then = Counters {
+        plan: next.plan + 1,
+        chunk: next.chunk,
+        load: next.load,
+    };
+    put_plan(txn, pages, name, &row, &then)?;
+    hold_all(txn, pages, next.plan, numbers)?;
+    put_shared(txn, pages, name, &row, &then, numbers)
+}
+
+/// Makes a plan of the kind and the size of another, whose only revision is a revision of that one, from 1: the new plan holds that
+/// revision's chunks. `cuts` are the geography's counties. It is for the caller to see that the desk has no plan under the name, and
+/// room for one more. `Spent` comes where the store has no number left for a plan. After an error the transaction can only be
+/// abandoned; `DeviceFault` comes also where the store holds no such desk, or no such revision.
+pub fn fork<D: SectorDevice>(
+    alloc: Global,
+    txn: &mut Txn,
+    pages: &mut Pages<D>,
+    geography: &Geography,
+    cuts: &[Cut],
+    name: &PlanName,
+    from: &PlanName,
+    revision: u32,
+) -> Result<ChangeOutcome, TreeError>
+    requires begun { txn_pages txn.old ≡ count_of pages.old }
+    requires cut { cuts.now ≡ cuts_of geography.now }
+    ensures quiet { IsQuiet pages.old pages.new }
+    ensures begun { txn_pages txn.new ≡ count_of pages.new }
+    ensures fork { Forks geography.now name.now (from.now, revision) txn.old txn.new pages.old pages.new result }
+{
+    forks_are_made();
+    counties_are_chunks();
+    next_is_one();
+    let _blocks = geography.blocks();
+    let _named = name.as_slice();
+    let read = read_source(alloc, txn, pages, from, revision, cuts.len())?;
+    if read.next.plan == u64::MAX {
+        return Ok(ChangeOutcome::Spent);
+    }
+    put_fork(
+        txn,
+        pages,
+        name,
+        &read.row,
+        &read.next,
+        read.kept.as_slice(),
+    )?;
+    Ok(ChangeOutcome::Made)
+}

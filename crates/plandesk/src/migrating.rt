@@ -1,0 +1,31 @@
+//! `migrate` over the file system and the standard streams.
+use crate::faults::{explain_last, standard_error};
+use crate::stores::StoreFiles;
+use byte_stream::sink::WriteSink;
+use command_output::status::Status;
+use command_progress::Telling;
+use sector_file::{FileDevice, Unknown};
+use std::io::IsTerminal;
+use store_command::migrate::migrate;
+
+/// Leads a store from the old version to the new one.
+pub fn migrate_desk(rt: &HostRuntime, name: &str) -> Status {
+    let mut stores = StoreFiles::new(rt);
+    let mut writer = WriteSink::new(rt.stdout());
+    let mut errors = standard_error(rt);
+    let terminal = rt.stderr();
+    let is_terminal = terminal.is_terminal();
+    let mut progress = Telling::new(terminal, is_terminal, b"plandesk: migrate: ", 16_384);
+    let status = migrate::<FileDevice<Unknown>, _, _, _, _>(
+        rt.alloc(),
+        &mut stores,
+        name,
+        &mut progress,
+        &mut writer,
+        &mut errors,
+    );
+    let _ = progress.into_inner();
+    let _ = writer.into_inner();
+    explain_last(rt, errors, stores.reason());
+    status
+}

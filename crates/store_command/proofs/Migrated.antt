@@ -1,0 +1,180 @@
+-- Steps of a migration, one after the other, and the end behind them.
+use Rattle.std.proofs.Common.{◌≡◌, ◌⊎◌, ◌≤◌, ◌<◌, ◌+◌, ℕ, List, [], ◌∷◌, ◌++◌, length, true, false, inl, inr, ⊎_elim, refl, sym, subst, ◌∙◌, arith}
+use Rattle.std.specs.Prelude.{Result, Ok, Err}
+use Rattle.std.proofs.lemmas.List.{length-append}
+use Rattle.sector_device.specs.Disk.{Disk, Image}
+use Rattle.sector_device.specs.Moments.{LeavesOnly}
+use Rattle.sector_device.proofs.Moments.{leaves_more, leaves_wider}
+use Rattle.sector_device.specs.declared.SectorDevice.{Ghosts}
+use Rattle.desk_model.specs.Desk.{Desk}
+use Rattle.store_rows.specs.Rows.{KeyMap}
+use Rattle.store_rows.specs.Shares.{hold}
+use Rattle.desk_pages.specs.Desks.{OpensDesk, OpensOld, OpensEither}
+use Rattle.desk_migration.specs.Holding.{AreUnheld, IsHeldBy, hold_pairs}
+use Rattle.desk_migration.specs.Migrating.{device_of, disk_of, has_ended, is_halted, sectors_of, Ends, HasMore, HasRows, Keeps, KeepsNew, Moves}
+use Rattle.desk_migration.specs.Openings.{AllDesks, IsOneOf, OpensOneOf}
+use Rattle.desk_migration.specs.Puts.{StepErr}
+use Rattle.desk_migration.specs.declared.migration.Migration.{Migration}
+use Rattle.desk_migration.specs.declared.error.MigrationError.{MigrationError}
+use Rattle.store_command.specs.declared.fault.StoreFault.{StoreFault}
+use Rattle.store_command.specs.declared.fault.StoreFault.TheVariants.{DeviceFault}
+use Rattle.store_command.specs.Migrating.{fault_of_migration, HasMigrated, HasPut, HasStopped, IsBegun, IsMigrated, IsPut, IsStopped, LeavesNew, LeavesOld, MigratesAll, MigratesDevice, OpensSince}
+
+-- ---- pairs that come to be held
+held_more : (m : KeyMap) (ps qs : List (ℕ × ℕ)) → hold_pairs m (ps ++ qs) ≡ hold_pairs (hold_pairs m ps) qs
+held_more m [] qs = refl
+held_more m (p ∷ ps) qs = held_more (hold m p.0 p.1) ps qs
+
+unheld_more : (m : KeyMap) (ps qs : List (ℕ × ℕ)) → AreUnheld m ps → AreUnheld (hold_pairs m ps) qs → AreUnheld m (ps ++ qs)
+unheld_more m [] qs first then = then
+unheld_more m (p ∷ ps) qs first then = (first.0, unheld_more (hold m p.0 p.1) ps qs first.1 then)
+
+then_held : (a b : ℕ) (m n o : KeyMap) → IsHeldBy a m n → IsHeldBy b n o → IsHeldBy (a + b) m o
+then_held a b m n o one two = record {
+  pairs = one.pairs ++ two.pairs;
+  count_is = length-append one.pairs two.pairs ∙ (λ i. one.count_is i + two.count_is i);
+  unheld = unheld_more m one.pairs two.pairs one.unheld (subst (λ (k : KeyMap). AreUnheld k two.pairs) one.rest two.unheld);
+  rest = two.rest ∙ (λ i. hold_pairs (one.rest i) two.pairs) ∙ sym (held_more m one.pairs two.pairs);
+}
+
+module _ {D : Type 0} {g : Ghosts D} where
+  -- ---- steps
+  pub unmoved : (x : Migration D g) → is_halted x ≡ false → Moves x x
+  unmoved x working = record {
+    goes = record {
+      sectors = refl;
+      room = refl;
+      honest = λ honest. honest;
+      still = λ on. refl;
+      rose = λ off on. absurd (let clash : true ≡ false = sym on ∙ off in cc);
+      calm = λ off honest. refl;
+    };
+    any_moment = λ d keeps off honest. record {
+      later = omega arith;
+      each = λ c left. keeps.left honest c ((disk_of x).only_now c left);
+      before = λ t c le left. inl left;
+    };
+    keeps = λ d keeps. keeps;
+  }
+
+  pub then_moved : (x y z : Migration D g) → is_halted x ≡ false → is_halted y ≡ false → Moves x y → Moves y z → Moves x z
+  then_moved x y z off working one two = record {
+    goes = record {
+      sectors = two.goes.sectors ∙ one.goes.sectors;
+      room = two.goes.room ∙ one.goes.room;
+      honest = λ honest. one.goes.honest (two.goes.honest honest);
+      still = λ on. absurd (let clash : true ≡ false = sym on ∙ off in cc);
+      rose = λ was on honest. (let rises = two.goes.rose working on honest in let same = one.goes.calm working (two.goes.honest honest) in omega (arith, rises, same));
+      calm = λ works honest. two.goes.calm works honest ∙ one.goes.calm working (two.goes.honest honest);
+    };
+    any_moment = λ d keeps was honest. leaves_more (OpensOld (sectors_of x) d) (disk_of x) (disk_of y) (disk_of z)
+        (one.any_moment d keeps was (two.goes.honest honest))
+        (subst (λ (n : ℕ). LeavesOnly (OpensOld n d) (disk_of y) (disk_of z)) one.goes.sectors (two.any_moment d (one.keeps d keeps) working honest));
+    keeps = λ d keeps. two.keeps d (one.keeps d keeps);
+  }
+
+  pub none_put : (x : Migration D g) (d : Desk) (m : KeyMap) → HasRows x d m → HasPut x d m 0 x
+  none_put x d m has = record { n = m; has = has; pairs = 0; two_each = refl; by = record { pairs = []; count_is = refl; unheld = tt; rest = refl } }
+
+  pub more_put : (x y z : Migration D g) (d : Desk) (m : KeyMap) (rows count : ℕ) → (one : HasPut x d m rows y) → HasMore y d one.n count z → HasPut x d m (rows + count) z
+  more_put x y z d m rows count one next = record {
+    n = next.n;
+    has = next.has;
+    pairs = one.pairs + next.pairs;
+    two_each = (let first = one.two_each in let second = next.two_each in omega (arith, first, second));
+    by = then_held one.pairs next.pairs m one.n next.n one.by next.by;
+  }
+
+  -- a step that puts nothing
+  pub all_put : (x y z : Migration D g) (d : Desk) (m : KeyMap) (rows count : ℕ) → count ≡ 0 → (one : HasPut x d m rows y) → HasMore y d one.n count z → HasPut x d m rows z
+  all_put x y z d m rows count none one next =
+      let sum : rows + count ≡ rows = omega (arith, none) in
+      subst (λ (k : ℕ). HasPut x d m k z) sum (more_put x y z d m rows count one next)
+
+  -- so many steps were made that more rows were put than a store has
+  pub endless : (x y : Migration D g) (rows : ℕ) → 281474976710656 ≤ rows → ((disk_of y).is_honest → (d : Desk) (m : KeyMap) → HasRows x d m → HasPut x d m rows y) → IsStopped x DeviceFault y
+  endless x y rows many put = inr (refl, λ honest d m has. record { rows = rows; many = many; put = put honest d m has })
+
+  -- ---- the device
+  module _ (device : D) (x : Migration D g) (begun : IsBegun device x) where
+    abbrev old : Disk
+    old = g.disk device
+
+    was_old : (d : Desk) → IsOneOf false old d → (c : Image) → OpensOld (sectors_of x) d c → OpensSince old c
+    was_old d one c opens = inl (record { new = false; desk = d; one = one; opens = subst (λ (n : ℕ). OpensOld n d c) begun.sectors opens })
+
+    is_new : (d : Desk) → IsOneOf false old d → (c : Image) → OpensDesk (sectors_of x) d c → OpensSince old c
+    is_new d one c opens = inr (record { desk = d; one = one; opens = subst (λ (n : ℕ). OpensDesk n d c) begun.sectors opens })
+
+    -- at any moment since the opening began
+    stepped : (y : Migration D g) → Moves x y → (disk_of y).is_honest → AllDesks old → LeavesOnly (OpensSince old) old (disk_of y)
+    stepped y moves honest all =
+        let kept = begun.keeps all (moves.goes.honest honest) in
+        leaves_more (OpensSince old) old (disk_of x) (disk_of y)
+        (leaves_wider (OpensOneOf old) (OpensSince old) old (disk_of x) (λ c is. inl is) (begun.any_moment (moves.goes.honest honest) all))
+        (leaves_wider (OpensOld (sectors_of x) kept.0) (OpensSince old) (disk_of x) (disk_of y) (was_old kept.0 kept.1.1) (moves.any_moment kept.0 kept.1.0 begun.working honest))
+
+    ended : (y z : Migration D g) → Moves x y → is_halted y ≡ false → Ends y z → (disk_of z).is_honest → AllDesks old → LeavesOnly (OpensSince old) old (disk_of z)
+    ended y z moves works ends honest all =
+        let was = ends.goes.honest honest in
+        let kept = begun.keeps all (moves.goes.honest was) in
+        let last : LeavesOnly (OpensEither (sectors_of x) kept.0) (disk_of y) (disk_of z) = subst (λ (n : ℕ). LeavesOnly (OpensEither n kept.0) (disk_of y) (disk_of z)) moves.goes.sectors (ends.any_moment kept.0 (moves.keeps kept.0 kept.1.0) works honest) in
+        leaves_more (OpensSince old) old (disk_of y) (disk_of z) (stepped y moves was all)
+        (leaves_wider (OpensEither (sectors_of x) kept.0) (OpensSince old) (disk_of y) (disk_of z) (λ c. ⊎_elim (λ new. is_new kept.0 kept.1.1 c new) (λ before. was_old kept.0 kept.1.1 c before)) last)
+
+    new_left : (y z : Migration D g) → Moves x y → Ends y z → ((disk_of z).is_honest → (d : Desk) → Keeps y d → KeepsNew z d) → (disk_of z).is_honest → AllDesks old → LeavesNew old (disk_of z)
+    new_left y z moves ends told honest all =
+        let kept = begun.keeps all (moves.goes.honest (ends.goes.honest honest)) in
+        let sectors : sectors_of z ≡ old.sectors = ends.goes.sectors ∙ moves.goes.sectors ∙ begun.sectors in
+        record {
+          desk = kept.0;
+          one = kept.1.1;
+          each = λ c leaves. subst (λ (n : ℕ). OpensDesk n kept.0 c) sectors ((told honest kept.0 (moves.keeps kept.0 kept.1.0)).left c leaves);
+        }
+
+    old_left : (z : Migration D g) → sectors_of z ≡ sectors_of x → ((disk_of z).is_honest → (disk_of x).is_honest) → ((d : Desk) → Keeps x d → Keeps z d) → (disk_of z).is_honest → AllDesks old → LeavesOld old (disk_of z)
+    old_left z same before keeps honest all =
+        let kept = begun.keeps all (before honest) in
+        let sectors : sectors_of z ≡ old.sectors = same ∙ begun.sectors in
+        record {
+          desk = kept.0;
+          one = kept.1.1;
+          each = λ c leaves. subst (λ (n : ℕ). OpensOld n kept.0 c) sectors ((keeps kept.0 kept.1.0).left honest c leaves);
+        }
+
+    -- what was opened, migrated and given back
+    pub has_migrated : (z : Migration D g) (rows : ℕ) → IsMigrated x rows z → (left : D) → left ≡ device_of z → HasMigrated g device rows left
+    has_migrated z rows did left back = subst (λ (d : D). HasMigrated g device rows d) (sym back) (record {
+      x = x;
+      begun = begun;
+      z = z;
+      migrated = did;
+      back = refl;
+      any_moment = λ honest all. ended did.y z did.moves did.put.works did.ends honest all;
+      after = λ honest all. new_left did.y z did.moves did.ends did.told honest all;
+    })
+
+    any_left : (z : Migration D g) (fault : StoreFault) → MigratesAll x (Err fault) z → (disk_of z).is_honest → AllDesks old → LeavesOnly (OpensSince old) old (disk_of z)
+    any_left z fault (inl did) honest all = stepped z did.0 honest all
+    any_left z fault (inr did) honest all = ended did.2.y z did.2.moves did.2.put.works did.2.ends honest all
+
+    old_after : (z : Migration D g) (fault : StoreFault) → MigratesAll x (Err fault) z → (disk_of z).is_honest → AllDesks old → is_halted z ≡ false → LeavesOld old (disk_of z)
+    old_after z fault (inl did) honest all works = old_left z did.0.goes.sectors did.0.goes.honest did.0.keeps honest all
+    old_after z fault (inr did) honest all works =
+        let it = did.2 in
+        old_left z (it.ends.goes.sectors ∙ it.moves.goes.sectors) (λ is. it.moves.goes.honest (it.ends.goes.honest is)) (λ d keeps. it.stays works d (it.moves.keeps d keeps)) honest all
+
+    pub has_stopped : (z : Migration D g) (fault : StoreFault) → MigratesAll x (Err fault) z → (left : D) → left ≡ device_of z → HasStopped g device fault left
+    has_stopped z fault why left back = subst (λ (d : D). HasStopped g device fault d) (sym back) (record {
+      x = x;
+      begun = begun;
+      z = z;
+      why = why;
+      back = refl;
+      any_moment = λ honest all. any_left z fault why honest all;
+      after = λ honest all works. old_after z fault why honest all works;
+    })
+
+    pub device_migrated : (z : Migration D g) (did : Result ℕ StoreFault) → MigratesAll x did z → (left : D) → left ≡ device_of z → MigratesDevice g device did left
+    device_migrated z (Ok rows) is left back = has_migrated z rows is left back
+    device_migrated z (Err fault) is left back = inr (has_stopped z fault is left back)

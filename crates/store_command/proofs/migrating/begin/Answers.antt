@@ -1,0 +1,23 @@
+use Rattle.store_command.proofs.migrating.begin.Goals as goal
+
+pub returns-in-Ok-clause-ok : goal.returns-in-Ok-clause-ok
+returns-in-Ok-clause-ok g c = record {
+  sectors = c.in-Ok.ensures.working.1;
+  honest = c.in-Ok.ensures.honest;
+  any_moment = c.in-Ok.ensures.any_moment;
+  keeps = c.in-Ok.ensures.opened;
+  found = c.in-Ok.ensures.found;
+  working = c.in-Ok.ensures.working.0;
+  calm = c.in-Ok.ensures.passed;
+}
+
+pub returns-in-Err-clause-err : goal.returns-in-Err-clause-err
+returns-in-Err-clause-err g c = record {
+  error = c.in-Err.e;
+  told = c.begin_fault.ensures;
+  sectors = c.in-Err.ensures.sectors;
+  honest = c.in-Err.ensures.honest;
+  any_moment = c.in-Err.ensures.any_moment;
+  why = c.in-Err.ensures.err;
+  spared = c.in-Err.ensures.untouched;
+}

@@ -1,0 +1,38 @@
+use Rattle.std.proofs.Common.{inl, inr, refl}
+use Rattle.store_command.proofs.migrating.migrate_all.Goals as goal
+
+pub returns-in-Err : goal.returns-in-Err
+returns-in-Err g c = inl (c.put_all.ensures.moves, c.in-Err.ensures.puts)
+
+pub returns-in-Ok-finish : goal.returns-in-Ok-finish
+returns-in-Ok-finish g c =
+    let steps = c.put_all.ensures in
+    let did = c.in-Ok-finish.ensures in
+    record {
+      y = c.put_all.new.migration;
+      moves = steps.moves;
+      before = c.in-Ok.rows;
+      rows_are = refl;
+      put = c.in-Ok.ensures.puts;
+      ends = did.ends;
+      told = did.told;
+      works = did.working.1;
+    }
+
+pub returns-in-Err-finish : goal.returns-in-Err-finish
+returns-in-Err-finish g c =
+    let steps = c.put_all.ensures in
+    let did = c.in-Err-finish.ensures in
+    inr (
+      c.in-Err-finish.e,
+      c.migration_fault.ensures,
+      record {
+        y = c.put_all.new.migration;
+        moves = steps.moves;
+        rows = c.in-Ok.rows;
+        put = c.in-Ok.ensures.puts;
+        ends = did.ends;
+        stays = did.stays refl;
+        why = did.err;
+      },
+    )

@@ -1,0 +1,201 @@
+-- A store of the old version that is led to the new one.
+use Rattle.std.specs.Prelude.{◌≡◌, ◌⊎◌, ◌≤◌, ◌+◌, ◌*◌, ◌^◌, ℕ, List, ◌++◌, codes, decimal, true, false, Result, Ok, Err, Vec}
+use Rattle.std.specs.declared.alloc.Global.{Global}
+use Rattle.sector_device.specs.Disk.{Disk, Image}
+use Rattle.sector_device.specs.Moments.{LeavesOnly}
+use Rattle.sector_device.specs.declared.SectorDevice.{Ghosts}
+use Rattle.desk_model.specs.Desk.{Desk}
+use Rattle.store_rows.specs.Rows.{KeyMap}
+use Rattle.desk_pages.specs.Desks.{OpensDesk, OpensOld}
+use Rattle.desk_migration.specs.Holding.{IsHeldBy}
+use Rattle.desk_migration.specs.Migrating.{device_of, disk_of, has_ended, is_halted, sectors_of, Ends, HasRows, Keeps, KeepsNew, Moves}
+use Rattle.desk_migration.specs.Openings.{AllDesks, IsFound, IsOneOf, IsRefused, IsSpared, OpensOneOf}
+use Rattle.desk_migration.specs.Puts.{FinishErr, StepErr}
+use Rattle.desk_migration.specs.declared.migration.Migration.{Migration}
+use Rattle.desk_migration.specs.declared.error.MigrationError.{MigrationError}
+use Rattle.desk_migration.specs.declared.error.MigrationError.TheVariants as migration
+use Rattle.desk_migration.specs.declared.error.MigrationOpenError.{MigrationOpenError}
+use Rattle.desk_migration.specs.declared.error.MigrationOpenError.TheVariants as opening
+use Rattle.command_output.specs.declared.status.Status.{Status}
+use Rattle.command_output.specs.Writing.{Written, write_fault_line}
+use Rattle.store_command.specs.Telling.{EndsStore}
+use Rattle.store_command.specs.declared.fault.StoreFault.{StoreFault}
+use Rattle.store_command.specs.declared.fault.StoreFault.TheVariants.{NotAStore, AlreadyNew, Full, DeviceFault, Memory}
+
+-- what is printed of so many rows that were put
+abbrev pub migrated_text : ℕ → List ℕ
+migrated_text rows = codes "migrated to version 2, " ++ decimal rows ++ codes " rows\n"
+
+abbrev pub fault_of_begin : MigrationOpenError → StoreFault
+fault_of_begin opening.NotAStore = NotAStore
+fault_of_begin opening.DeviceFault = DeviceFault
+fault_of_begin opening.Memory = Memory
+fault_of_begin opening.AlreadyNew = AlreadyNew
+
+abbrev pub fault_of_migration : MigrationError → StoreFault
+fault_of_migration migration.Full = Full
+fault_of_migration migration.Memory = Memory
+fault_of_migration migration.DeviceFault = DeviceFault
+fault_of_migration migration.Halted = DeviceFault
+
+-- the image opens in the new version to a desk to which one opened before in the old version
+pub record OpensNewly (disk : Disk) (c : Image) : Type 0 where
+  pub desk : Desk
+  pub one : IsOneOf false disk desk
+  pub opens : OpensDesk disk.sectors desk c
+
+-- the image opens to a desk to which one opened before, in the version in which it was there, or in the new one
+abbrev pub OpensSince : Disk → Image → Type 0
+OpensSince disk c = OpensOneOf disk c ⊎ OpensNewly disk c
+
+-- each image that a stop may leave now opens in the new version to a desk that was there in the old one
+pub record LeavesNew (old new : Disk) : Type 0 where
+  pub desk : Desk
+  pub one : IsOneOf false old desk
+  pub each : (c : Image) → new.leaves c → OpensDesk old.sectors desk c
+
+-- each does in the old version
+pub record LeavesOld (old new : Disk) : Type 0 where
+  pub desk : Desk
+  pub one : IsOneOf false old desk
+  pub each : (c : Image) → new.leaves c → OpensOld old.sectors desk c
+
+module _ {D : Type 0} {g : Ghosts D} where
+  -- A migration for which the device was opened: at each moment of that a stop left what opens to a desk to which one opened before, in
+  -- its version. The store keeps one of these that was there in the old version.
+  pub record IsBegun (device : D) (x : Migration D g) : Type 0 where
+    pub sectors : sectors_of x ≡ (g.disk device).sectors
+    pub honest : (disk_of x).is_honest → (g.disk device).is_honest
+    pub any_moment : (disk_of x).is_honest → AllDesks (g.disk device) → LeavesOnly (OpensOneOf (g.disk device)) (g.disk device) (disk_of x)
+    pub keeps : AllDesks (g.disk device) → (disk_of x).is_honest → (d : Desk) × (Keeps x d × IsOneOf false (g.disk device) d)
+    pub found : (disk_of x).is_honest → IsFound (g.disk device) x
+    pub working : is_halted x ≡ false
+    pub calm : (disk_of x).is_honest → (disk_of x).faults ≡ (g.disk device).faults
+
+  -- so many rows were put: two for each pair of a plan and a chunk that came to be held
+  pub record HasPut (x : Migration D g) (d : Desk) (m : KeyMap) (rows : ℕ) (y : Migration D g) : Type 0 where
+    pub n : KeyMap
+    pub has : HasRows y d n
+    pub pairs : ℕ
+    pub two_each : 2 * pairs ≡ rows
+    pub by : IsHeldBy pairs m n
+
+  -- so many were, and no chunk is left to be held
+  pub record IsPut (x : Migration D g) (rows : ℕ) (y : Migration D g) : Type 0 where
+    pub works : is_halted y ≡ false
+    pub ended : has_ended y ≡ true
+    pub put : (disk_of y).is_honest → (d : Desk) (m : KeyMap) → HasRows x d m → HasPut x d m rows y
+
+  -- ---- refusals
+  -- a step was refused behind those that put rows
+  pub record StepStopped (x : Migration D g) (e : MigrationError) (y : Migration D g) : Type 0 where
+    pub w : Migration D g
+    pub before : Moves x w
+    pub worked : is_halted w ≡ false
+    pub why : StepErr w.from w.pages y.pages e
+
+  -- more rows were put than a store has
+  pub record HasEndless (x : Migration D g) (d : Desk) (m : KeyMap) (y : Migration D g) : Type 0 where
+    pub rows : ℕ
+    pub many : 2 ^ 48 ≤ rows
+    pub put : HasPut x d m rows y
+
+  -- a step was refused for this reason; or the device holds what no store has
+  abbrev pub IsStopped : Migration D g → StoreFault → Migration D g → Type 0
+  IsStopped x fault y = ((e : MigrationError) × (fault ≡ fault_of_migration e) × StepStopped x e y)
+      ⊎ ((fault ≡ DeviceFault) × ((disk_of y).is_honest → (d : Desk) (m : KeyMap) → HasRows x d m → HasEndless x d m y))
+
+  -- what the steps came to
+  abbrev pub PutsAll : Migration D g → Result ℕ StoreFault → Migration D g → Type 0
+  PutsAll x (Ok rows) y = IsPut x rows y
+  PutsAll x (Err fault) y = IsStopped x fault y
+
+  -- ---- the end
+  -- all rows were put, and that of the version behind them: so many with it
+  pub record IsMigrated (x : Migration D g) (rows : ℕ) (z : Migration D g) : Type 0 where
+    pub y : Migration D g
+    pub moves : Moves x y
+    pub before : ℕ
+    pub rows_are : rows ≡ before + 1
+    pub put : IsPut x before y
+    pub ends : Ends y z
+    pub told : (disk_of z).is_honest → (d : Desk) → Keeps y d → KeepsNew z d
+    pub works : is_halted z ≡ false
+
+  -- all rows were put, and that of the version was refused
+  pub record EndStopped (x : Migration D g) (e : MigrationError) (z : Migration D g) : Type 0 where
+    pub y : Migration D g
+    pub moves : Moves x y
+    pub rows : ℕ
+    pub put : IsPut x rows y
+    pub ends : Ends y z
+    pub stays : is_halted z ≡ false → (d : Desk) → Keeps y d → Keeps z d
+    pub why : FinishErr y.pages z.pages e
+
+  abbrev pub EndsStopped : Migration D g → StoreFault → Migration D g → Type 0
+  EndsStopped x fault z = (e : MigrationError) × (fault ≡ fault_of_migration e) × EndStopped x e z
+
+  -- what a migration came to
+  abbrev pub MigratesAll : Migration D g → Result ℕ StoreFault → Migration D g → Type 0
+  MigratesAll x (Ok rows) z = IsMigrated x rows z
+  MigratesAll x (Err fault) z = (Moves x z × IsStopped x fault z) ⊎ EndsStopped x fault z
+
+module _ {D : Type 0} (g : Ghosts D) where
+  -- The device is not opened for a migration, and is left so: at each moment of that a stop left what opens to a desk to which one
+  -- opened before, in its version. What is no store stays as it is.
+  pub record IsNotBegun (device : D) (fault : StoreFault) (left : D) : Type 0 where
+    pub error : MigrationOpenError
+    pub told : fault ≡ fault_of_begin error
+    pub sectors : (g.disk left).sectors ≡ (g.disk device).sectors
+    pub honest : (g.disk left).is_honest → (g.disk device).is_honest
+    pub any_moment : (g.disk left).is_honest → AllDesks (g.disk device) → LeavesOnly (OpensOneOf (g.disk device)) (g.disk device) (g.disk left)
+    pub why : IsRefused (g.disk device) (g.disk left) error
+    pub spared : (g.disk left).is_honest → error ≡ opening.NotAStore → IsSpared (g.disk device) (g.disk left)
+
+  -- The device was opened and migrated, and given back so. A stop at any moment of both left what opens to a desk to which one opened
+  -- before, in its version or in the new one; and what it leaves from then on opens in the new one to one that was there in the old one.
+  pub record HasMigrated (device : D) (rows : ℕ) (left : D) : Type 0 where
+    pub x : Migration D g
+    pub begun : IsBegun device x
+    pub z : Migration D g
+    pub migrated : IsMigrated x rows z
+    pub back : left ≡ device_of z
+    pub any_moment : (g.disk left).is_honest → AllDesks (g.disk device) → LeavesOnly (OpensSince (g.disk device)) (g.disk device) (g.disk left)
+    pub after : (g.disk left).is_honest → AllDesks (g.disk device) → LeavesNew (g.disk device) (g.disk left)
+
+  -- The device was opened, and its migration was stopped. Where no fault came, what a stop leaves from then on opens in the old version.
+  pub record HasStopped (device : D) (fault : StoreFault) (left : D) : Type 0 where
+    pub x : Migration D g
+    pub begun : IsBegun device x
+    pub z : Migration D g
+    pub why : MigratesAll x (Err fault) z
+    pub back : left ≡ device_of z
+    pub any_moment : (g.disk left).is_honest → AllDesks (g.disk device) → LeavesOnly (OpensSince (g.disk device)) (g.disk device) (g.disk left)
+    pub after : (g.disk left).is_honest → AllDesks (g.disk device) → is_halted z ≡ false → LeavesOld (g.disk device) (g.disk left)
+
+  -- what became of the device: it isn't opened, or its migration went so far
+  abbrev pub MigratesDevice : D → Result ℕ StoreFault → D → Type 0
+  MigratesDevice device (Ok rows) left = HasMigrated device rows left
+  MigratesDevice device (Err fault) left = IsNotBegun device fault left ⊎ HasStopped device fault left
+
+module _ {D O : Type 0} (g : Ghosts D) (opens : O → List ℕ → Result D StoreFault → O → Type 0) (closes : O → D → O → Type 0) where
+  -- the device of the name was opened, and closed as the migration left it
+  pub record IsLed (before : O) (name : List ℕ) (migrated : Result ℕ StoreFault) (after : O) : Type 0 where
+    pub device : D
+    pub middle : O
+    pub opened : opens before name (Ok device) middle
+    pub left : D
+    pub migrates : MigratesDevice g device migrated left
+    pub closed : closes middle left after
+
+  -- What comes of a store, with the text that is printed: its device is refused; or it was opened, migrated and closed, and memory for
+  -- the text may be refused behind that.
+  abbrev pub Migrates : (before : O) → List ℕ → Result (Vec ℕ Global) StoreFault → (after : O) → Type 0
+  Migrates before name (Ok text) after = (rows : ℕ) × (text.items ≡ migrated_text rows) × IsLed before name (Ok rows) after
+  Migrates before name (Err fault) after =
+      opens before name (Err fault) after ⊎ (IsLed before name (Err fault) after ⊎ ((fault ≡ Memory) × (rows : ℕ) × IsLed before name (Ok rows) after))
+
+  -- the store of the name, which becomes one of the new version
+  abbrev pub MigratesStore : (stores stores_after : O) → List ℕ → Status → (before after told_before told_after : Written) → Type 0
+  MigratesStore stores stores_after name status before after told_before told_after = (given : Result (Vec ℕ Global) StoreFault)
+      × Migrates stores name given stores_after × EndsStore (write_fault_line (codes "migrate")) given status before after told_before told_after

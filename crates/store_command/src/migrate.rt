@@ -1,0 +1,74 @@
+//! `migrate`: a store of the old version becomes one of the new version.
+ghost use Rattle.std.specs.Prelude.{◌≡◌};
+ghost use Rattle.command_output.specs.Writing.{OfWriters};
+ghost use Rattle.store_command.specs.Migrating.{MigratesDevice, Migrates, MigratesStore};
+
+use crate::fault::StoreFault;
+use crate::migrate_texts::migrated_text;
+use crate::migrating::{begin, migrate_all};
+use crate::stores::Stores;
+use crate::telling::end_store;
+use byte_stream::sink::Sink;
+use command_output::status::Status;
+use command_progress::Progress;
+use sector_device::SectorDevice;
+use std::alloc::Global;
+
+/// Migrates the store that a device holds, and gives the device back: how many rows were put.
+fn migrate_device<D: SectorDevice + Drop, P: Progress>(
+    alloc: Global,
+    device: D,
+    progress: &mut P,
+) -> (Result<u64, StoreFault>, D)
+    ensures { MigratesDevice D.SectorDevice device result.0 result.1 }
+{
+    let mut migration = match begin(alloc, device) {
+        Ok(migration) => migration,
+        Err((fault, left)) => return (Err(fault), left),
+    };
+    let migrated = migrate_all(alloc, &mut migration, progress);
+    (migrated, migration.into_device())
+}
+
+/// Migrates the store of a name, and closes it: what is printed of it.
+fn migrate_store<D: SectorDevice + Drop, O: Stores<D>, P: Progress>(
+    alloc: Global,
+    stores: &mut O,
+    name: &str,
+    progress: &mut P,
+) -> Result<Vec<u8>, StoreFault>
+    ensures { Migrates D.SectorDevice O.opens O.closes stores.old name.now result stores.new }
+{
+    let device = match stores.open(name) {
+        Ok(device) => device,
+        Err(fault) => return Err(fault),
+    };
+    let (migrated, left) = migrate_device(alloc, device, progress);
+    stores.close(left);
+    let rows = match migrated {
+        Ok(rows) => rows,
+        Err(fault) => return Err(fault),
+    };
+    match migrated_text(alloc, rows) {
+        Ok(text) => Ok(text),
+        Err(_) => Err(StoreFault::Memory),
+    }
+}
+
+/// Leads the store of a name from the old version to the new one, and prints how many rows were put, that of the version with them: 0.
+/// 4 where the store is refused, is of the new version, has too few free pages, or its device fails, and 5 where memory is refused,
+/// with the fault told and nothing printed; 6 where the writing fails. The device is closed whatever came of it. `progress` hears
+/// after each step how many rows there were so far.
+pub fn migrate<D: SectorDevice + Drop, O: Stores<D>, P: Progress, W: Sink, E: Sink>(
+    alloc: Global,
+    stores: &mut O,
+    name: &str,
+    progress: &mut P,
+    writer: &mut W,
+    errors: &mut E,
+) -> Status
+    ensures { OfWriters (MigratesStore D.SectorDevice O.opens O.closes stores.old stores.new name.now result) W.Sink writer.old writer.new E.Sink errors.old errors.new }
+{
+    let given = migrate_store(alloc, stores, name, progress);
+    end_store(b"plandesk: migrate: WriteFault\n", given, writer, errors)
+}
