@@ -63,7 +63,7 @@ module _ {D : Type 0} {g : Ghosts D} where
     stage_refused Full why = stopped Full why
     stage_refused Memory why = stopped Memory why
     stage_refused Halted why = stopped Halted why
-    stage_refused Ended why = absurd (why last)
+    stage_refused Ended why = absurd (why.1 last)
 
   -- ---- a whole load
   -- calls behind a load's beginning
@@ -119,4 +119,4 @@ module _ {D : Type 0} {g : Ghosts D} where
       seal_refused Full why = inr (inr (seal_stopped Full why))
       seal_refused Memory why = inr (inr (seal_stopped Memory why))
       seal_refused Halted why = inr (inr (seal_stopped Halted why))
-      seal_refused Ended why = absurd (why last)
+      seal_refused Ended why = absurd (why.1 last)

@@ -1,5 +1,5 @@
 -- What is read back of a desk.
-use Rattle.std.specs.Prelude.{◌≡◌, ◌≤◌, ◌<◌, ℕ, List, length, take, drop, get_or, All, IfSome, Result, MatchResult}
+use Rattle.std.specs.Prelude.{◌≡◌, ◌⊎◌, ◌≤◌, ◌<◌, ℕ, List, length, take, drop, get_or, All, IfSome, Result, MatchResult}
 use Rattle.sector_device.specs.declared.SectorDevice.{Ghosts}
 use Rattle.desk_model.specs.Geography.{Ground}
 use Rattle.desk_model.specs.Cuts.{cut, cuts_of}
@@ -17,7 +17,8 @@ use Rattle.store_rows.specs.Rows.{KeyMap}
 use Rattle.store_rows.specs.RevisionRows.{HasChunk, HasRevision}
 use Rattle.store_rows.specs.DeskRows.{HasPlan}
 use Rattle.row_table.specs.Appending.{AppendErr}
-use Rattle.chunk_table.specs.Reading.{IsChunk}
+use Rattle.revision_table.specs.Reading.{HasParts}
+use Rattle.chunk_table.specs.Reading.{HasPieces, IsChunk}
 
 -- `says` is what a map is to say of a value, and `told` what is read where it says that
 pub record HasRead {D : Type 0} {g : Ghosts D} {X V : Type 0} (says : KeyMap → X → Type 0) (told : X → V) (t : Txn) (old new : Pages D g) (value : V) : Type 0 where
@@ -67,6 +68,26 @@ pub record IsCounty (number : ℕ) (c : Cut) (last : List ℕ) (county : ℕ) (b
     : Type 0 where
   pub is : IsChunk number c.count m districts
   pub known : county < length last → HasChunk m (get_or last county 0) (take c.count (drop c.first before))
+
+-- ---- the rows that were read, whether or not they are a desk's
+abbrev pub no_cut : Cut
+no_cut = record { first = 0; count = 0 }
+
+-- the revision before names the chunk for a county too, or each piece of it is there
+abbrev pub IsCountyThere : ℕ → ℕ → List ℕ → ℕ → KeyMap → Type 0
+IsCountyThere number count last county m = ((county < length last) × (get_or last county 0 ≡ number)) ⊎ HasPieces number count m
+
+-- so it is in each of the counties, whose chunks have these numbers
+abbrev pub AreCountiesThere : List Cut → List ℕ → List ℕ → KeyMap → Type 0
+AreCountiesThere cuts names last m = (county : ℕ) → county < length cuts → IsCountyThere (get_or names county 0) (get_or cuts county no_cut).count last county m
+
+-- and the list of these numbers is there
+abbrev pub IsRevisionThere : ℕ → ℕ → List Cut → List ℕ → List ℕ → KeyMap → Type 0
+IsRevisionThere plan revision cuts names last m = HasParts plan revision (length cuts) m × AreCountiesThere cuts names last m
+
+-- the list of each revision of a plan is there
+abbrev pub HasLists : ℕ → ℕ → ℕ → KeyMap → Type 0
+HasLists plan count counties m = (revision : ℕ) → 0 < revision → revision ≤ count → HasParts plan revision counties m
 
 -- ---- a plan's last revision
 -- these are its districts; any are, where the plan has no revision

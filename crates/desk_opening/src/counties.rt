@@ -1,9 +1,11 @@
 //! Lays the counties of a revision over the districts of the one before.
-ghost use Rattle.std.specs.Prelude.{◌≡◌, ◌<◌, ◌≤◌, ◌+◌, true, length, get_or, IfOk};
+ghost use Rattle.std.specs.Prelude.{◌≡◌, ◌<◌, ◌≤◌, ◌+◌, true, length, get_or, IfOk, OnOk};
 ghost use Rattle.shared_districts.specs.Laid.{with_at};
-ghost use Rattle.page_store.specs.Transactions.{count_of, txn_pages, IsQuiet};
-ghost use Rattle.chunk_table.specs.Reading.{IsChunk};
-ghost use Rattle.desk_opening.specs.Reading.{AreCountiesOf, AreNamed, Reads, IsCounty};
+ghost use Rattle.page_store.specs.Transactions.{stored, disk_in, count_of, txn_pages, IsQuiet};
+ghost use Rattle.page_btree.specs.Map.{InTxn};
+ghost use Rattle.store_rows.specs.Rows.{KeyMap};
+ghost use Rattle.chunk_table.specs.Reading.{HasPieces, IsChunk};
+ghost use Rattle.desk_opening.specs.Reading.{AreCountiesOf, AreCountiesThere, AreNamed, Reads, IsCounty, IsCountyThere};
 
 use chunk_table::append_chunk;
 use desk_model::cuts::Cut;
@@ -28,6 +30,7 @@ fn lay_county<D: SectorDevice>(
     requires within { cut.first + cut.count ≤ length districts }
     ensures quiet { IsQuiet pages.old pages.new }
     ensures long { IfOk result (λ all. length all ≡ length districts) }
+    ensures there { (disk_in pages.new).is_honest → (m : KeyMap) → InTxn txn.now (stored pages.old) m → OnOk result (HasPieces number cut.count m) }
     ensures read { Reads (IsChunk number cut.count) (λ chunk. with_at cut.first chunk districts) txn.now pages.old pages.new result }
 {
     part.clear();
@@ -65,6 +68,7 @@ fn lay_changed<D: SectorDevice>(
     requires within { cut.first + cut.count ≤ length districts }
     ensures quiet { IsQuiet pages.old pages.new }
     ensures long { IfOk result (λ all. length all ≡ length districts) }
+    ensures there { (disk_in pages.new).is_honest → (m : KeyMap) → InTxn txn.now (stored pages.old) m → OnOk result (IsCountyThere number cut.count last.now county m) }
     ensures read { Reads (IsCounty number cut last.now county districts) (λ chunk. with_at cut.first chunk districts) txn.now pages.old pages.new result }
 {
     if is_known(last, county, number) {
@@ -89,6 +93,7 @@ pub(crate) fn lay_counties<D: SectorDevice>(
     requires each { length names.now ≡ length cuts.now }
     ensures quiet { IsQuiet pages.old pages.new }
     ensures long { IfOk result (λ all. length all ≡ length before) }
+    ensures there { (disk_in pages.new).is_honest → (m : KeyMap) → InTxn txn.now (stored pages.old) m → OnOk result (AreCountiesThere cuts.now names.now last.now m) }
     ensures read { Reads (AreNamed cuts.now names.now last.now before) (λ districts. districts) txn.now pages.old pages.new result }
 {
     lists_are_cut();

@@ -1,11 +1,13 @@
 //! Reads plans.
-ghost use Rattle.std.specs.Prelude.{◌≡◌, ◌≤◌, ◌<◌, ◌+◌, ◌*◌, ◌^◌, length, replicate, IfOk, IfErr};
+ghost use Rattle.std.specs.Prelude.{◌≡◌, ◌≤◌, ◌<◌, ◌+◌, ◌*◌, ◌^◌, length, replicate, IfOk, OnOk, IfErr};
 ghost use Rattle.desk_model.specs.Cuts.{cuts_of};
 ghost use Rattle.desk_model.specs.Step.{revision_limit};
-ghost use Rattle.page_store.specs.Transactions.{count_of, txn_pages, IsQuiet};
+ghost use Rattle.page_store.specs.Transactions.{stored, disk_in, count_of, txn_pages, IsQuiet};
+ghost use Rattle.page_btree.specs.Map.{InTxn};
+ghost use Rattle.store_rows.specs.Rows.{KeyMap};
 ghost use Rattle.store_rows.specs.Changes.{plan_row_of, with_revision};
 ghost use Rattle.page_btree.specs.declared.error.TreeError.TheVariants.{Memory};
-ghost use Rattle.desk_opening.specs.Reading.{BecomesKnown, BecomesLast, Reads, IsAfter, IsLast, IsNext, IsPlanRow, IsWhole};
+ghost use Rattle.desk_opening.specs.Reading.{BecomesKnown, BecomesLast, HasLists, Reads, IsAfter, IsLast, IsNext, IsPlanRow, IsRevisionThere, IsWhole};
 
 use crate::counties::lay_counties;
 use desk_model::cuts::Cut;
@@ -39,6 +41,7 @@ fn read_next<D: SectorDevice>(
     requires whole { length before ≡ length geography.now.blocks }
     ensures quiet { IsQuiet pages.old pages.new }
     ensures whole { IfOk result (λ next. length next ≡ length geography.now.blocks) }
+    ensures there { (disk_in pages.new).is_honest → (m : KeyMap) → InTxn txn.now (stored pages.old) m → OnOk result (IsRevisionThere plan revision cuts.now last.new.items last.old.items m) }
     ensures read { Reads (IsNext geography.now plan revision last.old.items before) (λ districts. districts) txn.now pages.old pages.new result }
     ensures known { IfOk result
         (λ next. BecomesKnown geography.now plan revision last.old.items before txn.now pages.old pages.new last.new.items next) }
@@ -119,6 +122,7 @@ fn with_next<D: SectorDevice>(
     ensures sized { IfOk result (λ next. (next.1.kind ≡ entry.now.1.kind) × (next.1.n ≡ entry.now.1.n)) }
     ensures longer { IfOk result (λ next. length next.1.revisions ≡ length entry.now.1.revisions + 1) }
     ensures whole { IfOk result (λ next. IsWhole geography.now next.1) }
+    ensures there { (disk_in pages.new).is_honest → (m : KeyMap) → InTxn txn.now (stored pages.old) m → OnOk result (IsRevisionThere plan revision cuts.now last.new.items last.old.items m) }
     ensures read { Reads (IsAfter geography.now plan revision last.old.items entry.now.1) (λ districts. (entry.now.0, with_revision entry.now.1 districts)) txn.now pages.old pages.new result }
     ensures known { IfOk result
         (λ next. BecomesLast geography.now plan revision last.old.items entry.now.1
@@ -152,6 +156,7 @@ pub fn read_entry<D: SectorDevice>(
     ensures named { IfOk result (λ entry. entry.0 ≡ name) }
     ensures whole { IfOk result (λ entry. IsWhole geography.now entry.1) }
     ensures row { IfOk result (λ entry. row.now ≡ plan_row_of row.now.number entry.1) }
+    ensures lists { (disk_in pages.new).is_honest → (m : KeyMap) → InTxn txn.now (stored pages.old) m → OnOk result (HasLists row.now.number row.now.revisions (length cuts.now) m) }
     ensures read { Reads (IsPlanRow geography.now name row.now) (λ plan. (name, plan)) txn.now pages.old pages.new result }
 {
     if row.revisions > REVISION_LIMIT {

@@ -1,5 +1,5 @@
 //! Reads plans out of the rows that a scan takes.
-ghost use Rattle.std.specs.Prelude.{◌≡◌, ◌<◌, ◌^◌, ℕ, List, Some, IfOk, OnOk, MatchOption};
+ghost use Rattle.std.specs.Prelude.{◌≡◌, ◌<◌, ◌^◌, ℕ, List, Some, length, IfOk, OnOk, MatchOption};
 ghost use Rattle.std.specs.FinMap as map_of;
 ghost use Rattle.desk_model.specs.Cuts.{cuts_of};
 ghost use Rattle.desk_model.specs.Name.{IsPlanName};
@@ -10,7 +10,7 @@ ghost use Rattle.store_rows.specs.Keys.{key_of, named};
 ghost use Rattle.desk_catalogue.specs.Kept.{AreWhole};
 ghost use Rattle.plan_table.specs.Laws.{RowFits};
 ghost use Rattle.desk_opening.specs.Reading.{Reads};
-ghost use Rattle.desk_opening.specs.Opening.{ArePlans, ArePlansApart, ArePlansShown, IsAdded, IsFreshPlan, IsNoted, IsNewPlan, IsNotGone};
+ghost use Rattle.desk_opening.specs.Opening.{ArePlans, ArePlansApart, ArePlansShown, IsAdded, IsFreshPlan, IsListed, IsNoted, IsNewPlan, IsNotGone};
 
 use crate::marks::refuse_gone;
 use crate::numbers::note_number;
@@ -82,6 +82,7 @@ fn add_named<D: SectorDevice>(
     ensures quiet { IsQuiet pages.old pages.new }
     ensures whole { IfOk result (λ all. AreWhole (Some geography.now) plans.now → AreWhole (Some geography.now) all) }
     ensures added { IfOk result (λ all. IsAdded plans.now row.now all) }
+    ensures listed { (disk_in pages.new).is_honest → (m : KeyMap) → InTxn txn.now (stored pages.old) m → IfOk result (λ all. IsListed plans.now row.now (length (cuts_of geography.now)) m all) }
     ensures read { Reads (IsNewPlan geography.now plans.now row.now) (λ plan. map_of.insert plans.now plan.0 plan.1) txn.now pages.old pages.new result }
 {
     plans_are_told();
@@ -119,6 +120,7 @@ fn add_row<D: SectorDevice>(
     ensures noted { OnOk result (IsNoted row.now numbers.old numbers.new) }
     ensures kept { (disk_in pages.new).is_honest → (m : KeyMap) → InTxn txn.now (stored pages.old) m → OnOk result (IsNotGone row.now m) }
     ensures added { IfOk result (λ all. IsAdded plans.now row.now all) }
+    ensures listed { (disk_in pages.new).is_honest → (m : KeyMap) → InTxn txn.now (stored pages.old) m → IfOk result (λ all. IsListed plans.now row.now (length (cuts_of geography.now)) m all) }
     ensures read { Reads (IsFreshPlan geography.now plans.now numbers.old row.now) (λ plan. map_of.insert plans.now plan.0 plan.1) txn.now pages.old pages.new result }
 {
     note_number(row, numbers)?;
@@ -137,7 +139,7 @@ pub(crate) fn read_plans<D: SectorDevice>(
     ensures quiet { IsQuiet pages.old pages.new }
     ensures whole { IfOk result (AreWhole (Some geography.now)) }
     ensures apart { (disk_in pages.new).is_honest → (m : KeyMap) → InTxn txn.now (stored pages.old) m → OnOk result (ArePlansApart m) }
-    ensures shown { (disk_in pages.new).is_honest → (m : KeyMap) → InTxn txn.now (stored pages.old) m → IfOk result (λ plans. ArePlansShown m plans) }
+    ensures shown { (disk_in pages.new).is_honest → (m : KeyMap) → InTxn txn.now (stored pages.old) m → IfOk result (ArePlansShown m (length (cuts_of geography.now))) }
     ensures read { Reads (ArePlans geography.now) (λ all. all) txn.now pages.old pages.new result }
 {
     let Ok(cuts) = cuts(alloc, geography) else {

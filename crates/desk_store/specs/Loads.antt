@@ -1,5 +1,5 @@
 -- Loads at a clerk.
-use Rattle.std.specs.Prelude.{◌≡◌, ℕ, Bool, true, false, Some}
+use Rattle.std.specs.Prelude.{◌≡◌, ℕ, Bool, true, false, Some, None}
 use Rattle.sector_device.specs.declared.SectorDevice.{Ghosts}
 use Rattle.page_store.specs.Transactions.{disk_in, IsQuiet}
 use Rattle.page_store.specs.declared.pages.Pages.{Pages}
@@ -27,6 +27,10 @@ module _ {D : Type 0} {g : Ghosts D} where
   abbrev pub IsLast : Clerk D g → Load → Type 0
   IsLast x load = x.loading ≡ Some (number_of load)
 
+  -- no geography is sealed, which would be told first, and the load isn't the last one
+  abbrev pub HasEnded : Clerk D g → Load → Type 0
+  HasEnded x load = ((desk_of x).geography ≡ None) × (IsLast x load → ⊥)
+
   -- why no load is begun
   abbrev pub BeginRefused : Ground → Clerk D g → LoadError → Bool → Pages D g → Type 0
   BeginRefused area x AlreadySealed halted b = (halted ≡ x.halted) × (Keeps x → (disk_in b).is_honest → HasGeography x)
@@ -38,7 +42,7 @@ module _ {D : Type 0} {g : Ghosts D} where
   -- why a load does not go on, whatever its next step is
   abbrev pub EndRefused : Load → Clerk D g → LoadError → Type 0
   EndRefused load x AlreadySealed = HasGeography x
-  EndRefused load x Ended = IsLast x load → ⊥
+  EndRefused load x Ended = HasEnded x load
   EndRefused load x Halted = x.halted ≡ true
   EndRefused load x Full = ⊥
   EndRefused load x Memory = ⊥
@@ -49,7 +53,7 @@ module _ {D : Type 0} {g : Ghosts D} where
   BatchRefused load rows x Full halted b = (halted ≡ false) × BatchErr load rows x.pages b below.Full
   BatchRefused load rows x Memory halted b = (halted ≡ false) × IsQuiet x.pages b
   BatchRefused load rows x Halted halted b = halted ≡ true
-  BatchRefused load rows x Ended halted b = IsLast x load → ⊥
+  BatchRefused load rows x Ended halted b = HasEnded x load
 
   -- why it is not sealed
   abbrev pub SealRefused : Load → Clerk D g → LoadError → Bool → Pages D g → Type 0
@@ -57,4 +61,4 @@ module _ {D : Type 0} {g : Ghosts D} where
   SealRefused load x Full halted b = (halted ≡ false) × SealErr load x.pages b below.Full
   SealRefused load x Memory halted b = (halted ≡ false) × IsQuiet x.pages b
   SealRefused load x Halted halted b = halted ≡ true
-  SealRefused load x Ended halted b = IsLast x load → ⊥
+  SealRefused load x Ended halted b = HasEnded x load

@@ -1,13 +1,19 @@
 -- What is read of a revision.
 use Rattle.std.specs.Prelude.{◌≡◌, ◌<◌, ◌*◌, ℕ, List, [], length, get_or, map, take, drop}
 use Rattle.desk_model.specs.declared.cuts.Cut.{Cut}
+use Rattle.store_rows.specs.Keys.{key_of, part}
 use Rattle.store_rows.specs.Rows.{KeyMap}
 use Rattle.store_rows.specs.RevisionRows.{HasChunk, NamesChunks, HasRevision}
+use Rattle.row_table.specs.Reading.{HasRow}
 
 -- the revision names these chunks, and they are so many
 pub record AreNames (plan revision count : ℕ) (m : KeyMap) (numbers : List ℕ) : Type 0 where
   pub names : NamesChunks m plan revision numbers
   pub long : length numbers ≡ count
+
+-- a row is there for each part of a revision that names so many chunks
+abbrev pub HasParts : ℕ → ℕ → ℕ → KeyMap → Type 0
+HasParts plan revision count m = (index : ℕ) → 128 * index < count → HasRow (key_of (part plan revision index)) m
 
 -- those of them in one part
 abbrev pub names_in : ℕ → List ℕ → List ℕ

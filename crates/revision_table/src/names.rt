@@ -1,8 +1,12 @@
 //! Reads which chunks a revision names.
-ghost use Rattle.std.specs.Prelude.{◌≡◌, ◌≤◌, ◌*◌, ◌<◌, ◌^◌};
-ghost use Rattle.page_store.specs.Transactions.{count_of, txn_pages, IsQuiet};
+ghost use Rattle.std.specs.Prelude.{◌≡◌, ◌≤◌, ◌*◌, ◌<◌, ◌^◌, OnOk};
+ghost use Rattle.page_store.specs.Transactions.{stored, disk_in, count_of, txn_pages, IsQuiet};
+ghost use Rattle.page_btree.specs.Map.{InTxn};
+ghost use Rattle.store_rows.specs.Keys.{key_of, part};
+ghost use Rattle.store_rows.specs.Rows.{KeyMap};
+ghost use Rattle.row_table.specs.Reading.{HasRow};
 ghost use Rattle.row_table.specs.Appending.{Appends};
-ghost use Rattle.revision_table.specs.Reading.{AreNames, names_in};
+ghost use Rattle.revision_table.specs.Reading.{AreNames, HasParts, names_in};
 
 use page_store::{Pages, Txn};
 use row_table::{TreeError, read_row};
@@ -23,6 +27,7 @@ fn append_part<D: SectorDevice>(
     requires index { index < 2 ^ 8 }
     requires within { 128 * index < count }
     ensures quiet { IsQuiet pages.old pages.new }
+    ensures there { (disk_in pages.new).is_honest → (m : KeyMap) → InTxn txn.now (stored pages.old) m → OnOk result (HasRow (key_of (part plan revision index)) m) }
     ensures append { Appends (AreNames plan revision count) (names_in index) txn.now pages.old pages.new into.old.items into.new.items result }
 {
     let mut bytes = [0; 1024];
@@ -53,6 +58,7 @@ pub fn append_names<D: SectorDevice>(
 ) -> Result<(), TreeError>
     requires begun { txn_pages txn.now ≡ count_of pages.old }
     ensures quiet { IsQuiet pages.old pages.new }
+    ensures there { (disk_in pages.new).is_honest → (m : KeyMap) → InTxn txn.now (stored pages.old) m → OnOk result (HasParts plan revision count m) }
     ensures append { Appends (AreNames plan revision count) (λ numbers. numbers) txn.now pages.old pages.new into.old.items into.new.items result }
 {
     if count > PART_CHUNKS * 256 {

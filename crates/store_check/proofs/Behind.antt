@@ -30,7 +30,7 @@ use Rattle.store_rows.specs.Tidy.{AreOwned, AreRows, IsLoad, Tidy}
 use Rattle.store_rows.proofs.Numbers.{numbers_decide}
 use Rattle.store_rows.proofs.OneGeography.{no_value, seal_load, value_is}
 use Rattle.row_table.specs.Reading.{StandsAs}
-use Rattle.store_check.specs.Rows.{AreOfLoadsTo, AreSealCounted, GoesOn, HasChunksBelow, IsFrom, IsNextLoad, IsOfLoad, IsPast, IsSealCounted, IsUnder, NoneFrom, behind_load}
+use Rattle.store_check.specs.Rows.{AreOfLoadsTo, AreSealCounted, GoesOn, HasChunksBelow, IsFrom, IsKind, IsNextLoad, IsOfLoad, IsPast, IsSealCounted, IsUnder, NoneFrom, behind_load}
 use Rattle.store_rows.proofs.TidyFree.{one_next}
 use Rattle.store_check.specs.Numbers.{IsDue}
 use Rattle.store_check.proofs.FirstRows.{above_more, clash, first_is_from, first_least, first_there, from_trans, less_from, lower_tag}
@@ -243,6 +243,10 @@ few_from b (e ∷ es) =
     let rest = few_from b es in
     elim (is_gt (key_cmp b e.0)) as (λ r. length (cond (cond r false true) (e ∷ entries_from b es) (entries_from b es)) ≤ length (e ∷ es)) [ true ↦ omega arith | false ↦ omega arith ]
 
+kind_low : (kind : ℕ) → IsKind kind → kind < 113
+kind_low kind (inl is) = omega (arith, is)
+kind_low kind (inr is) = omega (arith, is)
+
 module _ (m : KeyMap) (from : List ℕ) (e : Entry) (more : List Entry) (first : entries_from from (entries m) ≡ e ∷ more) (load : ℕ) (under : IsUnder load e.0) where
   abbrev next : List ℕ
   next = behind_load load
@@ -250,7 +254,7 @@ module _ (m : KeyMap) (from : List ℕ) (e : Entry) (more : List Entry) (first :
   below_next : key_cmp e.0 next ≡ Less
   below_next = subst (λ (k : List ℕ). key_cmp k next ≡ Less) (sym under.is)
       (front_same (load_prefix load) (under.kind ∷ under.rest) (113 ∷ [])
-      ∙ ap (λ (r : Ordering). ordering_then r (key_cmp under.rest [])) (sym (nat_cmp_is under.kind 113 Less (let low = under.low in omega arith))))
+      ∙ ap (λ (r : Ordering). ordering_then r (key_cmp under.rest [])) (sym (nat_cmp_is under.kind 113 Less (kind_low under.kind under.known))))
 
   from_next : IsFrom from next
   from_next = from_trans from e.0 next (first_is_from m from e more first) (less_from e.0 next below_next)

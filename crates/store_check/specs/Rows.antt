@@ -1,5 +1,5 @@
 -- Rows that stand where a store has none.
-use Rattle.std.specs.Prelude.{◌≡◌, ◌<◌, ◌≤◌, ◌^◌, ℕ, List, [], ◌∷◌, ◌++◌, length, Option, None, Bool, true, false, Some, nat_eq}
+use Rattle.std.specs.Prelude.{◌≡◌, ◌⊎◌, ◌<◌, ◌^◌, ℕ, List, [], ◌∷◌, ◌++◌, length, Option, None, Bool, true, false, Some, nat_eq}
 use Rattle.std.specs.List.{starts_with}
 use Rattle.std.specs.Ordering.{is_gt}
 use Rattle.std.specs.FinMap.{entries, get}
@@ -62,13 +62,17 @@ pub record IsOfLoad (m : KeyMap) (key : List ℕ) : Type 0 where
   pub is : IsLoad m load
   pub under : starts_with nat_eq key (load_prefix load) ≡ true
 
+-- the byte of a kind of rows of loads: blocks, or pairs of neighbours
+abbrev pub IsKind : ℕ → Type 0
+IsKind kind = (kind ≡ 98) ⊎ (kind ≡ 112)
+
 -- the key begins as that of a row of the load
 pub record IsUnder (load : ℕ) (key : List ℕ) : Type 0 where
   pub fits : load < 2 ^ 64
   pub kind : ℕ
   pub rest : List ℕ
   pub is : key ≡ load_prefix load ++ kind ∷ rest
-  pub low : kind ≤ 112
+  pub known : IsKind kind
 
 -- each key between those of the version and of chunks is one of such a load
 abbrev pub AreOfLoads : KeyMap → Type 0

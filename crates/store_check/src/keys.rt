@@ -1,7 +1,7 @@
 //! Keys of rows.
-ghost use Rattle.std.specs.Prelude.{◌≡◌, ◌⊎◌, ◌<◌, ◌≤◌, ◌^◌, ℕ, [], ◌∷◌, ◌++◌, true, false, length, drop, MatchOption};
+ghost use Rattle.std.specs.Prelude.{◌≡◌, ◌⊎◌, ◌<◌, ◌^◌, ℕ, [], ◌∷◌, ◌++◌, true, false, length, drop, MatchOption};
 ghost use Rattle.store_rows.specs.Keys.{key_of, Fits, holding, part, block, pair, in_four, in_eight};
-ghost use Rattle.store_check.specs.Rows.{IsPast, IsRow, IsUnder};
+ghost use Rattle.store_check.specs.Rows.{IsKind, IsPast, IsRow, IsUnder};
 
 use crate::numbers::{eight, four};
 
@@ -53,8 +53,8 @@ fn is_part(key: &[u8]) -> bool
 
 /// Whether a byte tells the blocks of a load, or its pairs of neighbours.
 fn is_kind(byte: u8) -> bool
-    ensures low { result ≡ true → byte ≤ 112 }
-    ensures other { result ≡ false → (byte ≡ 98) ⊎ (byte ≡ 112) → ⊥ }
+    ensures kind { result ≡ true → IsKind byte }
+    ensures other { result ≡ false → IsKind byte → ⊥ }
 {
     byte == b'b' || byte == b'p'
 }

@@ -1,12 +1,13 @@
-use Rattle.std.proofs.Common.{List, ℕ}
+use Rattle.std.proofs.Common.{List, ℕ, inl, inr}
 use Rattle.page_store.proofs.Stops.{passed_none}
 use Rattle.row_table.proofs.Outcomes.{map_both}
 use Rattle.row_table.specs.Appending.{AppendErr}
 use Rattle.row_table.proofs.Appending.{then_unappended}
-use Rattle.chunk_table.specs.Reading.{IsChunk}
+use Rattle.chunk_table.specs.Reading.{HasPieces, IsChunk}
 use Rattle.shared_districts.specs.Laid.{with_at}
-use Rattle.desk_opening.specs.Reading.{HasRead, IsCounty}
+use Rattle.desk_opening.specs.Reading.{HasRead, IsCounty, IsCountyThere}
 use Rattle.desk_opening.proofs.Laying.{known_stays}
+use Rattle.desk_opening.proofs.WholeDesks.{ok_then}
 use Rattle.desk_opening.proofs.counties.lay_changed.Goals as goal
 
 pub returns-then-is_known-clause-read : goal.returns-then-is_known-clause-read
@@ -32,3 +33,11 @@ returns-clause-read g c =
     (λ all had. record { passed = had.passed; read = λ honest m part holds said. had.read honest m part holds said.is })
     (λ e why. then_unappended says chunk t a a b e (λ honest m part holds said. (part, said.is)) (passed_none a) c.lay_county.ensures.quiet why)
     c.lay_county.ensures.read
+
+pub returns-then-is_known-clause-there : goal.returns-then-is_known-clause-there
+returns-then-is_known-clause-there g c = λ honest m holds. inl (c.is_known.ensures c.if-is_known.true)
+
+pub returns-clause-there : goal.returns-clause-there
+returns-clause-there g c = λ honest m holds.
+    let pieces = HasPieces c.args.number c.args.cut.count m in
+    ok_then c.lay_county.result pieces (IsCountyThere c.args.number c.args.cut.count c.args.last.now c.args.county m) (λ has. inr has) (c.lay_county.ensures.there honest m holds)

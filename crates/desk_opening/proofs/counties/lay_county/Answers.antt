@@ -38,3 +38,6 @@ returns-in-Ok-clause-read g c = record {
       c.in-Ok.ensures ∙ ap (λ (l : List ℕ). with_at c.args.cut.first l c.args.districts)
       (c.as_slice.ensures.value ∙ c.in_ok-append_chunk.ensures.append.appended honest m x holds said ∙ ap (λ (l : List ℕ). l ++ x) c.clear.ensures.items);
 }
+
+pub returns-in-Ok-clause-there : goal.returns-in-Ok-clause-there
+returns-in-Ok-clause-there g c = c.in_ok-append_chunk.ensures.there

@@ -1,10 +1,12 @@
-use Rattle.std.proofs.Common.{◌<◌, ◌≤◌, ◌+◌, List, ℕ, [], length, get_or, sym, ap, subst, ◌∙◌, take_all, arith}
+use Rattle.std.proofs.Common.{◌≡◌, ◌<◌, ◌≤◌, ◌+◌, List, ℕ, [], length, get_or, inl, inr, sym, ap, subst, ◌∙◌, take_all, arith}
+use Rattle.std.proofs.lemmas.Bool.{cases_lt}
 use Rattle.desk_model.specs.Desk.{Plan}
 use Rattle.page_store.proofs.Stops.{quiet_more, passed_more}
 use Rattle.page_btree.specs.Map.{InTxn}
 use Rattle.row_table.proofs.Outcomes.{match_of}
 use Rattle.row_table.specs.Appending.{AppendErr}
 use Rattle.row_table.proofs.Appending.{then_unappended}
+use Rattle.revision_table.specs.Reading.{HasParts}
 use Rattle.desk_opening.specs.Reading.{HasRead, IsAfter, IsPlanRow}
 use Rattle.desk_opening.proofs.Shown.{row_is}
 use Rattle.desk_opening.proofs.Revisions.{of_blocks, one_revision_more}
@@ -44,6 +46,13 @@ loop-before-preserved g c =
           let then = now.quiet.honest honest in
           let still = subst (λ P. InTxn c.args.txn.now P m) (sym (before.read.passed.quiet.same then)) holds in
           now.known honest m (get_or p.revisions i []) still (record { is = of_blocks c.args.geography.now c.args.name c.args.row.now m p i said less; known = before.known then m p holds said });
+      lists = λ honest m holds revision some few. elim (cases_lt i revision) [
+        | inl later ↦
+            let same : i + 1 ≡ revision = omega arith in
+            let still = subst (λ P. InTxn c.args.txn.now P m) (sym (before.read.passed.quiet.same (now.quiet.honest honest))) holds in
+            subst (λ (n : ℕ). HasParts c.args.row.now.number n (length c.args.cuts.now) m) same ((now.there honest m still).0)
+        | inr not ↦ before.lists (now.quiet.honest honest) m holds revision some not
+      ];
       whole = now.whole;
       named = now.named ∙ before.named;
       kind = now.sized.0 ∙ before.kind;
@@ -70,3 +79,9 @@ returns-clause-row g c =
     let last = c.loop-before-test.false in
     let row = c.args.row.now in
     row_is row c.loop-before.entry.1 before.kind before.districts (let many = before.many in let end = c.loop-before.auto.before-end in omega arith)
+
+pub returns-clause-lists : goal.returns-clause-lists
+returns-clause-lists g c = λ honest m holds revision some few.
+    let last = c.loop-before-test.false in
+    let within : revision ≤ c.loop-before.before = omega arith in
+    c.loop-before.invariant.lists honest m holds revision some within

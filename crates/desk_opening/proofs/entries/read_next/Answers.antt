@@ -1,11 +1,13 @@
-use Rattle.std.proofs.Common.{List, ℕ, length, inr, ◌∙◌, arith}
+use Rattle.std.proofs.Common.{List, ℕ, length, inr, sym, subst, ◌∙◌, arith}
 use Rattle.page_store.proofs.Stops.{quiet_more, passed_none}
 use Rattle.row_table.proofs.Outcomes.{match_of}
 use Rattle.row_table.specs.Appending.{AppendErr}
 use Rattle.row_table.proofs.Appending.{then_unappended}
 use Rattle.revision_table.specs.Reading.{AreNames}
-use Rattle.desk_opening.specs.Reading.{AreNamed, HasRead, IsNext}
+use Rattle.desk_opening.specs.Reading.{AreCountiesThere, AreNamed, HasRead, IsNext}
 use Rattle.desk_opening.proofs.Revisions.{names_of, so_many, are_named, next_read, next_known}
+use Rattle.sector_device.specs.Disk.{Image}
+use Rattle.page_btree.specs.Map.{InTxn}
 use Rattle.desk_opening.proofs.entries.read_next.Goals as goal
 
 pub returns-in_err-append_names-clause-read : goal.returns-in_err-append_names-clause-read
@@ -65,3 +67,14 @@ returns-clause-read g c = next_read c.args.geography.now c.args.cuts.now c.args.
 pub returns-clause-known : goal.returns-clause-known
 returns-clause-known g c = next_known c.args.geography.now c.args.cuts.now c.args.plan c.args.revision c.args.last.now.items c.args.before c.in-Ok.names.items c.append_names.new.into.items c.args.txn.now c.args.pages.now c.append_names.new.pages c.requires.cut
     c.in-Ok.ensures.items c.in_ok-append_names.ensures.append c.requires.whole c.as_slice.result.now c.as_slice-2.result.now c.as_slice.ensures.value c.as_slice-2.ensures.value c.lay_counties.new.pages c.in_ok-next.next c.in_ok-next.ensures.read
+
+pub returns-clause-there : goal.returns-clause-there
+returns-clause-there g c = λ honest m holds.
+    let cuts = c.args.cuts.now in
+    let then = c.in_ok-next.ensures.quiet.honest honest in
+    let still = subst (λ (P : Image). InTxn c.args.txn.now P m) (sym (c.in_ok-append_names.ensures.append.passed.quiet.same then)) holds in
+    let there = c.in_ok-next.ensures.there honest m still in (
+      c.in_ok-append_names.ensures.there then m holds,
+      subst (λ (l : List ℕ). AreCountiesThere cuts c.append_names.new.into.items l m) c.as_slice-2.ensures.value
+          (subst (λ (l : List ℕ). AreCountiesThere cuts l c.as_slice-2.result.now m) c.as_slice.ensures.value there),
+    )

@@ -42,3 +42,6 @@ returns-in-Ok-clause-known g c =
     let names = c.read_next.new.last.items in
     subst (λ (e : List ℕ × _). BecomesLast ground c.args.plan c.args.revision last p c.args.txn.now c.args.pages.now c.read_next.new.pages names e.1) (sym {b = (c.args.entry.now.0, with_revision p c.in_ok-next.next)} c.in-Ok.ensures)
     (becomes_last ground c.args.plan c.args.revision last c.in_ok-before.before p c.args.txn.now c.args.pages.now c.read_next.new.pages names c.in_ok-next.next c.in_ok-before.ensures.last c.in_ok-next.ensures.known)
+
+pub returns-in-Ok-clause-there : goal.returns-in-Ok-clause-there
+returns-in-Ok-clause-there g c = c.in_ok-next.ensures.there

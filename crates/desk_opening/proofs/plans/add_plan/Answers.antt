@@ -9,3 +9,6 @@ pub returns-in-Ok-clause-whole : goal.returns-in-Ok-clause-whole
 returns-in-Ok-clause-whole g c before =
     let entry = c.in_ok-entry.entry in
     subst (λ (all : FinMap name_cmp Plan). AreWhole (Some c.args.geography.now) all) (sym c.in-Ok.ensures) (more_whole c.args.geography.now c.args.plans.now entry.0 entry.1 c.in_ok-entry.ensures.whole before)
+
+pub returns-in-Ok-clause-lists : goal.returns-in-Ok-clause-lists
+returns-in-Ok-clause-lists g c = c.in_ok-entry.ensures.lists

@@ -66,3 +66,8 @@ returns-clause-read g c =
     })
     (λ e why. then_unappended says rest t a b d e (λ honest m plan holds is. (plan, is.new)) passed c.add_named.ensures.quiet why)
     c.add_named.ensures.read
+
+pub returns-clause-listed : goal.returns-clause-listed
+returns-clause-listed g c = λ honest m holds.
+    let passed = c.in_ok-refuse_gone.ensures.passed in
+    c.add_named.ensures.listed honest m (subst (λ (P : Image). InTxn c.args.txn.now P m) (sym (passed.quiet.same (c.add_named.ensures.quiet.honest honest))) holds)

@@ -1,5 +1,9 @@
-use Rattle.std.proofs.Common.{◌≤◌, ◌*◌, ◌++◌, ◌+◌, List, ℕ, length, take, drop, sym, ap, ◌∙◌, take_all, arith}
+use Rattle.std.proofs.Common.{◌≡◌, ◌<◌, ◌≤◌, ◌*◌, ◌++◌, ◌+◌, List, ℕ, length, take, drop, inl, inr, sym, ap, subst, ◌∙◌, take_all, arith}
+use Rattle.std.proofs.lemmas.Bool.{cases_lt}
 use Rattle.page_store.proofs.Stops.{quiet_more}
+use Rattle.page_btree.specs.Map.{InTxn}
+use Rattle.store_rows.specs.Keys.{key_of, part}
+use Rattle.row_table.specs.Reading.{HasRow}
 use Rattle.row_table.proofs.Outcomes.{match_of}
 use Rattle.row_table.specs.Appending.{HasAppended, AppendErr}
 use Rattle.row_table.proofs.Appending.{more_appended, then_unappended, parts_more}
@@ -24,6 +28,13 @@ loop-index-preserved g c =
     record {
       appended = more_appended says (λ l. take (128 * i) l) (λ l. take 128 (drop (128 * i) l)) (λ l. take (128 * (i + 1)) l) c.args.txn.now c.args.pages.now c.loop-index.pages c.append_part.new.pages c.args.into.now.items c.loop-index.into.items c.append_part.new.into.items
           (λ m l said. parts_more 128 i l) before.appended c.in_ok-append_part.ensures.append;
+      there = λ honest m holds index less. elim (cases_lt index i) [
+        | inl earlier ↦ before.there (c.in_ok-append_part.ensures.quiet.honest honest) m holds index earlier
+        | inr not ↦
+            let same : i ≡ index = omega arith in
+            let still = subst (λ P. InTxn c.args.txn.now P m) (sym (before.appended.passed.quiet.same (c.in_ok-append_part.ensures.quiet.honest honest))) holds in
+            subst (λ (n : ℕ). HasRow (key_of (part c.args.plan c.args.revision n)) m) same (c.in_ok-append_part.ensures.there honest m still)
+      ];
       begun = before.begun ∙ sym c.in_ok-append_part.ensures.quiet.count;
     }
 
@@ -38,3 +49,9 @@ returns-clause-append g c =
           let end : length l ≤ 128 * i = omega arith in
           all.appended honest m l holds said ∙ ap (λ (l : List ℕ). c.args.into.now.items ++ l) (take_all (128 * i) l end);
     }
+
+pub returns-clause-there : goal.returns-clause-there
+returns-clause-there g c = λ honest m holds index within.
+    let i = c.loop-index.index in
+    let less : index < i = omega arith in
+    c.loop-index.invariant.there honest m holds index less

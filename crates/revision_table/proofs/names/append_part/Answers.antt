@@ -1,4 +1,4 @@
-use Rattle.std.proofs.Common.{◌≡◌, ◌*◌, ◌++◌, List, ℕ, take, drop, inr, ap, sym, ◌∙◌}
+use Rattle.std.proofs.Common.{◌≡◌, ◌*◌, ◌++◌, List, ℕ, take, drop, inr, ap, sym, subst, ◌∙◌}
 use Rattle.store_rows.specs.Lists.{chunks_bytes}
 use Rattle.store_rows.proofs.ListLaws.{chunks_differ}
 use Rattle.row_table.proofs.Outcomes.{match_of}
@@ -37,3 +37,6 @@ returns-in-Ok-clause-append g c = record {
       let same : c.in-Some.part.items ≡ some = chunks_differ c.in-Some.part.items some told.0 (part_is m c.args.plan c.args.revision c.args.count c.args.index numbers said c.requires.within) (told.1 ∙ read) in
       c.in-Ok.ensures.items ∙ ap (λ (l : List ℕ). c.args.into.now.items ++ l) (c.as_slice.ensures.value ∙ same);
 }
+
+pub returns-in-Ok-clause-there : goal.returns-in-Ok-clause-there
+returns-in-Ok-clause-there g c = λ honest m holds. subst (λ (k : List ℕ). HasRow k m) c.part.ensures (_, c.in_ok-length.ensures.read honest m holds)
