@@ -2,8 +2,10 @@
 ghost use Rattle.std.specs.Prelude.{◌≡◌};
 ghost use Rattle.page_store.specs.Transactions.{count_of, txn_pages};
 
+use btree_puts::put;
+use btree_removes::remove;
 use btree_scan::Scan;
-use page_btree::{TreeError, get, put, remove};
+use page_btree::{TreeError, get};
 use page_store::{Pages, Txn, format};
 use sector_memory::MemoryDevice;
 use std::alloc::Global;

@@ -1,12 +1,12 @@
 -- Changes of a map that come one after the other.
 use Rattle.std.proofs.Common.{◌≡◌, ◌≤◌, ◌+◌, ◌*◌, ℕ, List, [], ◌++◌, length, refl, sym, ap, subst, ◌∙◌, inl, inr, arith, append_assoc, length-append}
 use Rattle.sector_device.specs.declared.SectorDevice.{Ghosts}
-use Rattle.page_store.proofs.Stops.{passed_none, passed_more, failed_more}
-use Rattle.page_store.specs.Transactions.{stored, disk_in, txn_root, over, IsQuiet}
+use Rattle.page_store.proofs.Stops.{passed_more, failed_more}
+use Rattle.page_store.specs.Transactions.{stored, disk_in, txn_root, over, IsQuiet, Passed}
 use Rattle.page_store.specs.declared.pages.Pages.{Pages}
 use Rattle.page_store.specs.declared.txn.Txn.{Txn}
 use Rattle.page_btree.specs.Map.{InTxn}
-use Rattle.page_btree.specs.Errors.{level_in}
+use Rattle.page_btree.specs.Errors.{level_in, GetErr}
 use Rattle.page_btree.specs.declared.error.TreeError.{TreeError}
 use Rattle.page_btree.specs.declared.error.TreeError.TheVariants.{DeviceFault, Halted, NoPages, TooDeep, Memory}
 use Rattle.store_rows.specs.Rows.{KeyMap}
@@ -16,15 +16,6 @@ use Rattle.row_table.specs.Puts.{HasPut, HasDeepened, PutsErr}
 use Rattle.chunk_table.specs.Changing.{IsByRows, HasChanged, IsDeepAfter, MapErr}
 
 module _ {D : Type 0} {g : Ghosts D} where
-  pub none_changed : (t : Txn) (a : Pages D g) → HasChanged (λ m. m) 0 t t a a
-  none_changed t a = record {
-    passed = passed_none a;
-    pages = refl;
-    changed = λ honest m holds. holds;
-    writes = omega arith;
-    taken = omega arith;
-  }
-
   pub more_changed : (f h : KeyMap → KeyMap) (x y : ℕ) (t u v : Txn) (a b c : Pages D g) → HasChanged f x t u a b → HasChanged h y u v b c → HasChanged (λ m. h (f m)) (x + y) t v a c
   more_changed f h x y t u v a b c first then = record {
     passed = passed_more a b c first.passed then.passed;
@@ -62,7 +53,7 @@ module _ {D : Type 0} {g : Ghosts D} where
   rows_unchanged can rows t a b Memory why = tt
 
   -- rows that were put before go before
-  deep_behind : (front rows : List Row) (t u : Txn) (a b : Pages D g) (m n : KeyMap) → stored b ≡ stored a → n ≡ put_rows m front → HasDeepened rows u b n → HasDeepened (front ++ rows) t a m
+  pub deep_behind : (front rows : List Row) (t u : Txn) (a b : Pages D g) (m n : KeyMap) → stored b ≡ stored a → n ≡ put_rows m front → HasDeepened rows u b n → HasDeepened (front ++ rows) t a m
   deep_behind front rows t u a b m n same is deep = record {
     front = front ++ deep.front;
     rest = deep.rest;
@@ -112,6 +103,31 @@ module _ {D : Type 0} {g : Ghosts D} where
       let few = deep.few in
       record { put = deep.put; few = omega arith; deep = deep.deep }
   front_unchanged x y can more t a b Memory less gives why = tt
+
+  -- what is known of each map of the transaction needn't be asked
+  pub known_unchanged : (x : ℕ) (can more : KeyMap → Type 0) (t : Txn) (a b : Pages D g) (e : TreeError) → ((disk_in b).is_honest → (m : KeyMap) → InTxn t (stored a) m → can m → more m) → MapErr more x t a b e → MapErr can x t a b e
+  known_unchanged x can more t a b DeviceFault gives why = elim why [
+    | inl failed ↦ inl failed
+    | inr none ↦ inr (λ honest m holds is. none honest m holds (gives honest m holds is))
+  ]
+  known_unchanged x can more t a b Halted gives why = why
+  known_unchanged x can more t a b NoPages gives why = why
+  known_unchanged x can more t a b TooDeep gives why = why
+  known_unchanged x can more t a b Memory gives why = why
+
+  -- a look before them changes nothing
+  pub read_changed : (t : Txn) (a b : Pages D g) → Passed a b → HasChanged (λ m. m) 0 t t a b
+  read_changed t a b passed = record { passed = passed; pages = refl; changed = λ honest m holds. holds; writes = omega arith; taken = omega arith }
+
+  pub unread_unchanged : (x : ℕ) (can : KeyMap → Type 0) (t : Txn) (a b : Pages D g) (e : TreeError) → GetErr t a b e → MapErr can x t a b e
+  unread_unchanged x can t a b DeviceFault why = elim why [
+    | inl failed ↦ inl failed
+    | inr none ↦ inr (λ honest m holds is. none honest m holds)
+  ]
+  unread_unchanged x can t a b Halted why = why
+  unread_unchanged x can t a b NoPages why = absurd why
+  unread_unchanged x can t a b TooDeep why = absurd why
+  unread_unchanged x can t a b Memory why = absurd why
 
 -- ---- changes by rows
 pub rows_by_rows : (rows : List Row) → IsByRows (λ m. put_rows m rows) (length rows)

@@ -1,10 +1,13 @@
 -- A plan comes to hold chunks, one after the other.
 use Rattle.std.proofs.Common.{Bool, true, false, ◌≡◌, ◌<◌, ◌≤◌, ◌+◌, ◌*◌, ◌^◌, ℕ, zero, suc, List, [], ◌∷◌, ◌++◌, length, drop, Option, Some, None, refl, sym, ap, subst, ◌∙◌, inl, inr, arith, append_assoc, length-append}
 use Rattle.std.specs.Prelude.{Contains}
+use Rattle.sector_device.specs.Disk.{Image}
 use Rattle.sector_device.specs.declared.SectorDevice.{Ghosts}
-use Rattle.page_store.specs.Transactions.{stored, disk_in, IsQuiet}
+use Rattle.page_store.proofs.Stops.{passed_more}
+use Rattle.page_store.specs.Transactions.{stored, disk_in, IsQuiet, Passed}
 use Rattle.page_store.specs.declared.pages.Pages.{Pages}
 use Rattle.page_store.specs.declared.txn.Txn.{Txn}
+use Rattle.page_btree.specs.Map.{InTxn}
 use Rattle.page_btree.specs.declared.error.TreeError.{TreeError}
 use Rattle.page_btree.specs.declared.error.TreeError.TheVariants.{DeviceFault, Halted, NoPages, TooDeep, Memory}
 use Rattle.store_rows.specs.Keys.{holding, tally}
@@ -14,8 +17,8 @@ use Rattle.store_rows.specs.Holders.{holding_rows}
 use Rattle.store_rows.specs.Shares.{CanHold, count_of, hold_by, hold, hold_all}
 use Rattle.store_rows.specs.ForkLaws.{ChunksAreHeld}
 use Rattle.chunk_table.specs.Changing.{IsByRows, HasChanged, MapErr}
-use Rattle.chunk_table.specs.Holding.{HasHeld, HoldErr, IsHolding, CanHoldAll}
-use Rattle.chunk_table.proofs.Changed.{none_changed, more_changed, changed_as, then_unchanged, front_unchanged, more_by_rows}
+use Rattle.chunk_table.specs.Holding.{HasHeld, HasHeldWhere, HoldWhereErr, IsFreeFrom, IsHolding, CanHoldAll}
+use Rattle.chunk_table.proofs.Changed.{read_changed, known_unchanged, changed_as, then_unchanged, front_unchanged, more_by_rows}
 
 -- ---- lists
 in_front : (xs ys : List ℕ) (x : ℕ) → Contains xs x → Contains (xs ++ ys) x
@@ -55,52 +58,57 @@ held-append m plan (x ∷ xs) ys = held-append (hold m plan x) plan xs ys
 
 -- ---- one after the other
 module _ {D : Type 0} {g : Ghosts D} where
-  one_held : (plan number : ℕ) (t u : Txn) (a b : Pages D g) → HasHeld plan number t u a b → HasChanged (λ m. hold m plan number) 2 t u a b
-  one_held plan number t u a b did = record {
-    passed = did.passed;
-    pages = did.pages;
-    changed = did.held;
-    writes = let most = did.writes in omega arith;
-    taken = let most = did.taken in omega arith;
-  }
-
   pub either_held : (put : Bool) (plan number : ℕ) (t u : Txn) (a b : Pages D g) → IsHolding put plan number t u a b → HasHeld plan number t u a b
   either_held true plan number t u a b did = did.0
   either_held false plan number t u a b did = did.0
 
-  one_not_held : (plan number : ℕ) (t : Txn) (a b : Pages D g) (e : TreeError) → HoldErr plan number t a b e → MapErr (CanHoldAll plan (number ∷ [])) 2 t a b e
-  one_not_held plan number t a b DeviceFault why = elim why [
+  one_not_held : (says : KeyMap → Type 0) (plan number : ℕ) (t : Txn) (a b : Pages D g) (e : TreeError) → HoldWhereErr says plan number t a b e → MapErr (λ m. CanHoldAll plan (number ∷ []) m × says m) 2 t a b e
+  one_not_held says plan number t a b DeviceFault why = elim why [
     | inl failed ↦ inl failed
-    | inr none ↦ inr (λ honest m holds can. none honest m can.0 holds can.1 (can.2 number (first_one number [])))
+    | inr none ↦ inr (λ honest m holds can. none honest m can.0.0 holds can.1 can.0.1 (can.0.2 number (first_one number [])))
   ]
-  one_not_held plan number t a b Halted why = why
-  one_not_held plan number t a b NoPages why = why
-  one_not_held plan number t a b TooDeep why = λ honest m holds. let deep = why honest m holds in record { put = holding_rows plan number deep.0; few = omega arith; deep = deep.1 }
-  one_not_held plan number t a b Memory why = tt
+  one_not_held says plan number t a b Halted why = why
+  one_not_held says plan number t a b NoPages why = why
+  one_not_held says plan number t a b TooDeep why = λ honest m holds. let deep = why honest m holds in record { put = holding_rows plan number deep.0; few = omega arith; deep = deep.1 }
+  one_not_held says plan number t a b Memory why = tt
 
-  -- of all chunks only the rest is not held yet
-  pub record HasHeldTo (plan : ℕ) (all rest : List ℕ) (t u : Txn) (old new : Pages D g) : Type 0 where
+  -- of all chunks only the rest is not held yet, and the plan holds none from a number on
+  pub record HasHeldTo (plan : ℕ) (all rest : List ℕ) (free : Option ℕ) (t u : Txn) (old new : Pages D g) : Type 0 where
     pub front : List ℕ
     pub are : front ++ rest ≡ all
     pub held : HasChanged (λ m. hold_all m plan front) (2 * length front) t u old new
+    pub none : (disk_in new).is_honest → (m : KeyMap) → InTxn t (stored old) m → IsFreeFrom free plan (hold_all m plan front)
 
-  pub begun_held : (plan : ℕ) (all : List ℕ) (t : Txn) (a : Pages D g) → HasHeldTo plan all all t t a a
-  begun_held plan all t a = record { front = []; are = refl; held = none_changed t a }
+  pub begun_held : (plan : ℕ) (all : List ℕ) (free : Option ℕ) (t : Txn) (a b : Pages D g) → Passed a b → ((disk_in b).is_honest → (m : KeyMap) → InTxn t (stored a) m → IsFreeFrom free plan m) → HasHeldTo plan all all free t t a b
+  begun_held plan all free t a b passed none = record { front = []; are = refl; held = read_changed t a b passed; none = none }
 
-  pub next_held : (plan number : ℕ) (all rest now : List ℕ) (t u v : Txn) (a b c : Pages D g) → now ≡ number ∷ rest → HasHeldTo plan all now t u a b → HasHeld plan number u v b c → HasHeldTo plan all rest t v a c
-  next_held plan number all rest now t u v a b c is before did =
+  pub next_held : (plan number : ℕ) (all rest now : List ℕ) (free then : Option ℕ) (t u v : Txn) (a b c : Pages D g) → now ≡ number ∷ rest → ((m : KeyMap) → IsFreeFrom free plan m → IsFreeFrom then plan (hold m plan number))
+      → HasHeldTo plan all now free t u a b → HasHeldWhere (IsFreeFrom free plan) plan number u v b c → HasHeldTo plan all rest then t v a c
+  next_held plan number all rest now free then t u v a b c is moves before did =
       let front = before.front in
       let long = length-append front (number ∷ []) in
+      let one : HasChanged (λ m. hold (hold_all m plan front) plan number) (2 * length front + 2) t v a c = record {
+        passed = passed_more a b c before.held.passed did.passed;
+        pages = did.pages ∙ before.held.pages;
+        changed = λ honest m holds.
+            let earlier = did.passed.quiet.honest honest in
+            let same = before.held.passed.quiet.same earlier in
+            let m_then = hold_all m plan front in
+            subst (λ (P : Image). InTxn v P (hold m_then plan number)) same (did.held honest m_then (subst (λ (P : Image). InTxn u P m_then) (sym same) (before.held.changed earlier m holds)) (before.none earlier m holds));
+        writes = let first = before.held.writes in let more = did.writes in omega arith;
+        taken = let first = before.held.taken in let more = did.taken in omega arith;
+      } in
       record {
         front = front ++ number ∷ [];
         are = append_assoc front (number ∷ []) rest ∙ ap (λ (l : List ℕ). front ++ l) (sym is) ∙ before.are;
         held = changed_as (λ m. hold (hold_all m plan front) plan number) (λ m. hold_all m plan (front ++ number ∷ [])) (2 * length front + 2) (2 * length (front ++ number ∷ [])) t v a c
-            (λ m. sym (held-append m plan front (number ∷ []))) (omega arith)
-            (more_changed (λ m. hold_all m plan front) (λ m. hold m plan number) (2 * length front) 2 t u v a b c before.held (one_held plan number u v b c did));
+            (λ m. sym (held-append m plan front (number ∷ []))) (omega arith) one;
+        none = λ honest m holds.
+            subst (λ (n : KeyMap). IsFreeFrom then plan n) (sym (held-append m plan front (number ∷ []))) (moves (hold_all m plan front) (before.none (did.passed.quiet.honest honest) m holds));
       }
 
-  pub all_held : (plan : ℕ) (all rest : List ℕ) (t u : Txn) (a b : Pages D g) → rest ≡ [] → HasHeldTo plan all rest t u a b → HasChanged (λ m. hold_all m plan all) (2 * length all) t u a b
-  all_held plan all rest t u a b none before =
+  pub all_held : (plan : ℕ) (all rest : List ℕ) (free : Option ℕ) (t u : Txn) (a b : Pages D g) → rest ≡ [] → HasHeldTo plan all rest free t u a b → HasChanged (λ m. hold_all m plan all) (2 * length all) t u a b
+  all_held plan all rest free t u a b none before =
       let front = before.front in
       let same : front ≡ all = sym (append-nil front) ∙ ap (λ (l : List ℕ). front ++ l) (sym none) ∙ before.are in
       subst (λ (l : List ℕ). HasChanged (λ m. hold_all m plan l) (2 * length l) t u a b) same before.held
@@ -109,18 +117,23 @@ module _ {D : Type 0} {g : Ghosts D} where
       append-nil [] = refl
       append-nil (x ∷ l) = ap (λ (m : List ℕ). x ∷ m) (append-nil l)
 
-  pub next_not_held : ChunksAreHeld → (plan number : ℕ) (all rest now : List ℕ) (t u : Txn) (a b c : Pages D g) (e : TreeError) → now ≡ number ∷ rest → HasHeldTo plan all now t u a b → IsQuiet b c → HoldErr plan number u b c e
+  pub next_not_held : ChunksAreHeld → (plan number : ℕ) (all rest now : List ℕ) (free : Option ℕ) (t u : Txn) (a b c : Pages D g) (e : TreeError) → now ≡ number ∷ rest → HasHeldTo plan all now free t u a b → IsQuiet b c → HoldWhereErr (IsFreeFrom free plan) plan number u b c e
       → MapErr (CanHoldAll plan all) (2 * length all) t a c e
-  next_not_held law plan number all rest now t u a b c e is before quiet why =
+  next_not_held law plan number all rest now free t u a b c e is before quiet why =
       let front = before.front in
       let are : front ++ number ∷ rest ≡ all = ap (λ (l : List ℕ). front ++ l) (sym is) ∙ before.are in
       let long : length all ≡ length front + suc (length rest) = ap length (sym are) ∙ length-append front (number ∷ rest) in
       let among = λ (x : ℕ) (there : Contains (front ++ number ∷ rest) x). subst (λ (l : List ℕ). Contains l x) are there in
-      front_unchanged (2 * length front + 2) (2 * length all) (CanHoldAll plan all) (CanHoldAll plan all) t a c e (omega arith) (λ m can. can)
-      (then_unchanged (λ m. hold_all m plan front) (2 * length front) 2 (CanHoldAll plan all) (CanHoldAll plan (number ∷ [])) t u a b c e (held_by_rows plan front)
-      (λ m can. (
-        can.0,
-        (law m can.0 plan front can.1 (λ x there. can.2 x (among x (in_front front (number ∷ rest) x there)))).can,
-        λ x there. can.2 x (among x (in_rest front (number ∷ rest) x (in_front (number ∷ []) rest x there))),
+      let can : KeyMap → Type 0 = λ m. CanHoldAll plan all m × IsFreeFrom free plan (hold_all m plan front) in
+      known_unchanged (2 * length all) (CanHoldAll plan all) can t a c e (λ honest m holds is. (is, before.none (quiet.honest honest) m holds))
+      (front_unchanged (2 * length front + 2) (2 * length all) can can t a c e (omega arith) (λ m is. is)
+      (then_unchanged (λ m. hold_all m plan front) (2 * length front) 2 can (λ m. CanHoldAll plan (number ∷ []) m × IsFreeFrom free plan m) t u a b c e (held_by_rows plan front)
+      (λ m is. (
+        (
+          is.0.0,
+          (law m is.0.0 plan front is.0.1 (λ x there. is.0.2 x (among x (in_front front (number ∷ rest) x there)))).can,
+          λ x there. is.0.2 x (among x (in_rest front (number ∷ rest) x (in_front (number ∷ []) rest x there))),
+        ),
+        is.1,
       ))
-      before.held quiet (one_not_held plan number u b c e why))
+      before.held quiet (one_not_held (IsFreeFrom free plan) plan number u b c e why)))

@@ -1,8 +1,9 @@
 -- A plan comes to hold a chunk by two rows, or holds it already.
 use Rattle.std.proofs.Common.{◌≡◌, ◌<◌, ◌+◌, ◌-◌, ◌^◌, ℕ, zero, suc, true, false, List, [], ◌∷◌, Option, Some, None, refl, sym, ap, subst, ◌∙◌, inl, inr, arith}
 use Rattle.std.specs.Prelude.{option_map}
+use Rattle.sector_device.specs.Disk.{Image}
 use Rattle.sector_device.specs.declared.SectorDevice.{Ghosts}
-use Rattle.page_store.proofs.Stops.{passed_more}
+use Rattle.page_store.proofs.Stops.{passed_more, failed_more}
 use Rattle.page_store.specs.Transactions.{stored, disk_in, IsQuiet, Passed}
 use Rattle.page_store.specs.declared.pages.Pages.{Pages}
 use Rattle.page_store.specs.declared.txn.Txn.{Txn}
@@ -11,7 +12,7 @@ use Rattle.page_btree.specs.Errors.{GetErr}
 use Rattle.page_btree.specs.declared.error.TreeError.{TreeError}
 use Rattle.page_btree.specs.declared.error.TreeError.TheVariants.{DeviceFault, Halted, NoPages, TooDeep, Memory}
 use Rattle.store_rows.specs.Keys.{key_of, holding, tally, in_eight}
-use Rattle.store_rows.specs.Rows.{KeyMap, row_in}
+use Rattle.store_rows.specs.Rows.{KeyMap, row_in, Lacks}
 use Rattle.store_rows.specs.Puts.{Row, put_rows}
 use Rattle.store_rows.specs.Holders.{tally_row, holding_rows}
 use Rattle.store_rows.specs.Shares.{CanHold, count_of, hold_by, hold}
@@ -22,8 +23,9 @@ use Rattle.row_table.proofs.RowsPut.{more_put, then_not_put, front_not_put}
 use Rattle.store_rows.specs.Values.{tally_bytes}
 use Rattle.store_rows.specs.declared.value.Tally.{Tally}
 use Rattle.row_table.specs.Reading.{ReadErr, StandsAs}
-use Rattle.row_table.proofs.Reading.{put_after, not_put_after, not_read_after, read_after}
-use Rattle.chunk_table.specs.Holding.{Stands, HasTally, HasHeld, WasHeld, HoldErr}
+use Rattle.row_table.proofs.Reading.{put_after, not_put_after}
+use Rattle.chunk_table.specs.Holding.{Stands, HasTally, HasHeld, HasHeldWhere, WasHeld, HoldErr, HoldWhereErr, IsUnheld}
+use Rattle.chunk_table.proofs.Changed.{deep_behind}
 
 one_row : (k v key value : List ℕ) → k ≡ key → v ≡ value → ◌≡◌ {A = List Row} ((k, v) ∷ []) ((key, value) ∷ [])
 one_row k v key value a b = λ i. (a i, b i) ∷ []
@@ -46,6 +48,10 @@ made m plan number count fits lacks told = ap (λ (o : Option (List ℕ)). hold_
 -- a count of a map in which the plan can hold the chunk goes up
 goes_up : (m : KeyMap) (limit plan number count : ℕ) → CanHold m limit plan → number < 2 ^ 64 → count < 2 ^ 64 → Stands false plan number m → row_in m (tally number) ≡ tally_row count → count + 1 < 2 ^ 64
 goes_up m limit plan number count can fits count_fits lacks told = (joins_holders m limit plan number count can.tallied can.below can.limit_fits can.plan_below fits count_fits lacks told).fits
+
+-- no row tells that the plan holds it
+abbrev Lacking : ℕ → ℕ → KeyMap → Type 0
+Lacking plan number m = Lacks m (holding plan number)
 
 module _ {D : Type 0} {g : Ghosts D} (plan number count : ℕ) where
   pub both_put : (k v l w : List ℕ) → k ≡ key_of (holding plan number) → v ≡ [] → l ≡ key_of (tally number) → w ≡ in_eight (count + 1)
@@ -77,43 +83,108 @@ module _ {D : Type 0} {g : Ghosts D} (plan number count : ℕ) where
     taken = omega arith;
   }
 
-  module _ (t : Txn) (a b c : Pages D g) (first : Passed a b) (then_read : Passed b c) (lacks : (disk_in b).is_honest → (m : KeyMap) → InTxn t (stored a) m → Stands false plan number m) (told : (disk_in c).is_honest → (m : KeyMap) → InTxn t (stored b) m → row_in m (tally number) ≡ tally_row count) (count_fits : count < 2 ^ 64) where
-    both_passed : Passed a c
-    both_passed = passed_more a b c first then_read
+  -- behind a look that tells that the plan doesn't hold it
+  pub unheld_there : (t : Txn) (a b : Pages D g) → Passed a b → WasHeld false plan number t a b → IsUnheld plan number t b
+  unheld_there t a b passed lacks honest m holds = lacks honest m (subst (λ (P : Image). InTxn t P m) (passed.quiet.same honest) holds)
 
-    told_first : (disk_in c).is_honest → (m : KeyMap) → InTxn t (stored a) m → row_in m (tally number) ≡ tally_row count
-    told_first = read_after t a b first (λ m. row_in m (tally number) ≡ tally_row count) c then_read.quiet told
+  pub held_after : (t u : Txn) (a b c : Pages D g) → Passed a b → HasHeld plan number t u b c → HasHeld plan number t u a c
+  held_after t u a b c first did = record {
+    passed = passed_more a b c first did.passed;
+    pages = did.pages;
+    held = λ honest m holds.
+        let same = first.quiet.same (did.passed.quiet.honest honest) in
+        subst (λ (P : Image). InTxn u P (hold m plan number)) same (did.held honest m (subst (λ (P : Image). InTxn t P m) (sym same) holds));
+    writes = did.writes;
+    taken = did.taken;
+  }
 
-    pub held_then : (u : Txn) (d : Pages D g) → HasPut (holding_rows plan number count) t u c d → HasHeld plan number t u a d
-    held_then u d put =
-        let whole : HasPut (holding_rows plan number count) t u a d = put_after t a c both_passed (holding_rows plan number count) u d put in
+  -- ---- where the plan doesn't hold it
+  module _ (t : Txn) (a b : Pages D g) (read : Passed a b) (told : (disk_in b).is_honest → (m : KeyMap) → InTxn t (stored a) m → row_in m (tally number) ≡ tally_row count) (count_fits : count < 2 ^ 64) where
+    pub held_then : (u : Txn) (c : Pages D g) → HasPut (holding_rows plan number count) t u b c → HasHeldWhere (Lacking plan number) plan number t u a c
+    held_then u c put =
+        let whole : HasPut (holding_rows plan number count) t u a c = put_after t a b read (holding_rows plan number count) u c put in
         record {
           passed = whole.passed;
           pages = whole.pages;
-          held = λ honest m holds.
-              let before = put.passed.quiet.honest honest in
-              subst (λ (n : KeyMap). InTxn u (stored a) n) (sym (made m plan number count count_fits (lacks (then_read.quiet.honest before) m holds) (told_first before m holds))) (whole.put honest m holds);
+          held = λ honest m holds lacks.
+              subst (λ (n : KeyMap). InTxn u (stored a) n) (sym (made m plan number count count_fits lacks (told (put.passed.quiet.honest honest) m holds))) (whole.put honest m holds);
           writes = let most = whole.writes in omega arith;
           taken = let most = whole.taken in omega arith;
         }
 
-    pub not_held_then : (u : Txn) (d : Pages D g) → HasPut (holding_rows plan number count) t u c d → WasHeld false plan number t a d
-    not_held_then u d put honest m holds = lacks (then_read.quiet.honest (put.passed.quiet.honest honest)) m holds
-
-    pub too_many : (count ≡ 2 ^ 64 - 1) → HoldErr plan number t a c DeviceFault
-    too_many is = inr (λ honest m limit holds can fits.
-        let less = goes_up m limit plan number count can fits count_fits (lacks (then_read.quiet.honest honest) m holds) (told_first honest m holds) in
+    pub too_many : (count ≡ 2 ^ 64 - 1) → HoldWhereErr (Lacking plan number) plan number t a b DeviceFault
+    too_many is = inr (λ honest m limit holds lacks can fits.
+        let less = goes_up m limit plan number count can fits count_fits lacks (told honest m holds) in
         absurd (omega arith))
 
-    pub holding_not_put : (d : Pages D g) (e : TreeError) → IsQuiet c d → PutsErr (holding_rows plan number count) t c d e → HoldErr plan number t a d e
-    holding_not_put d e quiet why = told_of e (not_put_after t a c both_passed (holding_rows plan number count) d e quiet why)
+    pub holding_not_put : (c : Pages D g) (e : TreeError) → IsQuiet b c → PutsErr (holding_rows plan number count) t b c e → HoldWhereErr (Lacking plan number) plan number t a c e
+    holding_not_put c e quiet why = told_of e (not_put_after t a b read (holding_rows plan number count) c e quiet why)
       where
-        told_of : (e : TreeError) → PutsErr (holding_rows plan number count) t a d e → HoldErr plan number t a d e
-        told_of DeviceFault why = elim why [ inl failed ↦ inl failed | inr none ↦ inr (λ honest m limit holds can fits. none honest m holds) ]
+        told_of : (e : TreeError) → PutsErr (holding_rows plan number count) t a c e → HoldWhereErr (Lacking plan number) plan number t a c e
+        told_of DeviceFault why = elim why [ inl failed ↦ inl failed | inr none ↦ inr (λ honest m limit holds lacks can fits. none honest m holds) ]
         told_of Halted why = why
         told_of NoPages why = omega arith
         told_of TooDeep why = λ honest m holds. (count, why honest m holds)
         told_of Memory why = tt
+
+  -- of fewer maps, or of all
+  pub held_of_fewer : (says more : KeyMap → Type 0) → ((m : KeyMap) → more m → says m) → (t u : Txn) (a b : Pages D g) → HasHeldWhere says plan number t u a b → HasHeldWhere more plan number t u a b
+  held_of_fewer says more gives t u a b did = record { passed = did.passed; pages = did.pages; held = λ honest m holds is. did.held honest m holds (gives m is); writes = did.writes; taken = did.taken }
+
+  pub not_held_of_fewer : (says more : KeyMap → Type 0) → ((m : KeyMap) → more m → says m) → (t : Txn) (a b : Pages D g) (e : TreeError) → HoldWhereErr says plan number t a b e → HoldWhereErr more plan number t a b e
+  not_held_of_fewer says more gives t a b DeviceFault why = elim why [
+    | inl failed ↦ inl failed
+    | inr none ↦ inr (λ honest m limit holds is can fits. none honest m limit holds (gives m is) can fits)
+  ]
+  not_held_of_fewer says more gives t a b Halted why = why
+  not_held_of_fewer says more gives t a b NoPages why = why
+  not_held_of_fewer says more gives t a b TooDeep why = why
+  not_held_of_fewer says more gives t a b Memory why = why
+
+  pub held_of_all : (says : KeyMap → Type 0) (t u : Txn) (a b : Pages D g) → HasHeld plan number t u a b → HasHeldWhere says plan number t u a b
+  held_of_all says t u a b did = record { passed = did.passed; pages = did.pages; held = λ honest m holds is. did.held honest m holds; writes = did.writes; taken = did.taken }
+
+  pub not_held_of_all : (says : KeyMap → Type 0) (t : Txn) (a b : Pages D g) (e : TreeError) → HoldErr plan number t a b e → HoldWhereErr says plan number t a b e
+  not_held_of_all says t a b DeviceFault why = elim why [
+    | inl failed ↦ inl failed
+    | inr none ↦ inr (λ honest m limit holds is can fits. none honest m limit holds can fits)
+  ]
+  not_held_of_all says t a b Halted why = why
+  not_held_of_all says t a b NoPages why = why
+  not_held_of_all says t a b TooDeep why = why
+  not_held_of_all says t a b Memory why = why
+
+  pub held_unheld : (t u : Txn) (a b : Pages D g) → IsUnheld plan number t a → HasHeldWhere (Lacking plan number) plan number t u a b → HasHeld plan number t u a b
+  held_unheld t u a b unheld did = record {
+    passed = did.passed;
+    pages = did.pages;
+    held = λ honest m holds. did.held honest m holds (unheld (did.passed.quiet.honest honest) m holds);
+    writes = did.writes;
+    taken = did.taken;
+  }
+
+  pub not_held_unheld : (t : Txn) (a b : Pages D g) (e : TreeError) → IsUnheld plan number t a → IsQuiet a b → HoldWhereErr (Lacking plan number) plan number t a b e → HoldErr plan number t a b e
+  not_held_unheld t a b DeviceFault unheld quiet why = elim why [
+    | inl failed ↦ inl failed
+    | inr none ↦ inr (λ honest m limit holds can fits. none honest m limit holds (unheld (quiet.honest honest) m holds) can fits)
+  ]
+  not_held_unheld t a b Halted unheld quiet why = why
+  not_held_unheld t a b NoPages unheld quiet why = why
+  not_held_unheld t a b TooDeep unheld quiet why = why
+  not_held_unheld t a b Memory unheld quiet why = why
+
+  pub unheld_not_held : (t : Txn) (a b c : Pages D g) (e : TreeError) → Passed a b → IsQuiet b c → HoldErr plan number t b c e → HoldErr plan number t a c e
+  unheld_not_held t a b c DeviceFault first quiet why = elim why [
+    | inl failed ↦ inl (failed_more a b c first quiet failed)
+    | inr none ↦ inr (λ honest m limit holds can fits. none honest m limit (subst (λ (P : Image). InTxn t P m) (sym (first.quiet.same (quiet.honest honest))) holds) can fits)
+  ]
+  unheld_not_held t a b c Halted first quiet why = sym first.halted ∙ why
+  unheld_not_held t a b c NoPages first quiet why = why
+  unheld_not_held t a b c TooDeep first quiet why = λ honest m holds.
+      let same = first.quiet.same (quiet.honest honest) in
+      let deep = why honest m (subst (λ (P : Image). InTxn t P m) (sym same) holds) in
+      (deep.0, deep_behind [] (holding_rows plan number deep.0) t t a b m m same refl deep.1)
+  unheld_not_held t a b c Memory first quiet why = why
 
   -- ---- why not
   pub not_looked : (t : Txn) (a b : Pages D g) (e : TreeError) → GetErr t a b e → HoldErr plan number t a b e
@@ -123,15 +194,12 @@ module _ {D : Type 0} {g : Ghosts D} (plan number count : ℕ) where
   not_looked t a b TooDeep why = absurd why
   not_looked t a b Memory why = absurd why
 
-  not_told_here : (t : Txn) (a b : Pages D g) (e : TreeError) → ReadErr (HasTally number) t a b e → HoldErr plan number t a b e
-  not_told_here t a b DeviceFault why = elim why [
+  pub not_told : (t : Txn) (a b : Pages D g) (e : TreeError) → ReadErr (HasTally number) t a b e → HoldErr plan number t a b e
+  not_told t a b DeviceFault why = elim why [
     | inl failed ↦ inl failed
     | inr none ↦ inr (λ honest m limit holds can fits. let is = can.tallied number fits in none honest m holds (is.count, is.fits, is.row))
   ]
-  not_told_here t a b Halted why = why
-  not_told_here t a b NoPages why = absurd why
-  not_told_here t a b TooDeep why = absurd why
-  not_told_here t a b Memory why = absurd why
-
-  pub not_told : (t : Txn) (a b c : Pages D g) (e : TreeError) → Passed a b → IsQuiet b c → ReadErr (HasTally number) t b c e → HoldErr plan number t a c e
-  not_told t a b c e first quiet why = not_told_here t a c e (not_read_after t a b first (HasTally number) c e quiet why)
+  not_told t a b Halted why = why
+  not_told t a b NoPages why = absurd why
+  not_told t a b TooDeep why = absurd why
+  not_told t a b Memory why = absurd why

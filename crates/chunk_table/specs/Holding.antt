@@ -1,5 +1,5 @@
 -- What it is for a plan to come to hold a chunk, and why it doesn't.
-use Rattle.std.specs.Prelude.{◌≡◌, ◌⊎◌, ◌<◌, ◌≤◌, ◌+◌, ◌*◌, ◌^◌, ℕ, Bool, true, false, List, length, Contains, Result, IfOk, MatchResult}
+use Rattle.std.specs.Prelude.{◌≡◌, ◌⊎◌, ◌<◌, ◌≤◌, ◌+◌, ◌*◌, ◌^◌, ℕ, Bool, true, false, List, length, Option, Some, None, Contains, Result, IfOk, MatchResult}
 use Rattle.sector_device.specs.declared.SectorDevice.{Ghosts}
 use Rattle.page_store.specs.Transactions.{stored, disk_in, has_halted, txn_pages, txn_free, txn_writes, HasFailed, Passed}
 use Rattle.page_store.specs.declared.pages.Pages.{Pages}
@@ -23,6 +23,11 @@ Stands false plan number m = Lacks m (holding plan number)
 abbrev pub HasTally : ℕ → KeyMap → Type 0
 HasTally number m = (count : ℕ) × (count < 2 ^ 64) × (row_in m (tally number) ≡ tally_row count)
 
+-- the plan holds no chunk from a number on, if there is one
+abbrev pub IsFreeFrom : Option ℕ → ℕ → KeyMap → Type 0
+IsFreeFrom None plan m = Unit {0}
+IsFreeFrom (Some from) plan m = (number : ℕ) → from ≤ number → number < 2 ^ 64 → Lacks m (holding plan number)
+
 -- in a map the plan can come to hold chunks of these numbers
 abbrev pub CanHoldAll : ℕ → List ℕ → KeyMap → Type 0
 CanHoldAll plan numbers m = (limit : ℕ) × CanHold m limit plan × ((number : ℕ) → Contains numbers number → number < 2 ^ 64)
@@ -33,6 +38,18 @@ module _ {D : Type 0} {g : Ghosts D} where
     pub passed : Passed old new
     pub pages : txn_pages u ≡ txn_pages t
     pub held : (disk_in new).is_honest → (m : KeyMap) → InTxn t (stored old) m → InTxn u (stored old) (hold m plan number)
+    pub writes : txn_writes u ≤ txn_writes t + 22
+    pub taken : txn_free t ≤ txn_free u + 12
+
+  -- no map that the transaction reads has the row by which the plan holds the chunk
+  abbrev pub IsUnheld : ℕ → ℕ → Txn → Pages D g → Type 0
+  IsUnheld plan number t p = (disk_in p).is_honest → (m : KeyMap) → InTxn t (stored p) m → Lacks m (holding plan number)
+
+  -- The same of the maps of which `says` holds alone.
+  pub record HasHeldWhere (says : KeyMap → Type 0) (plan number : ℕ) (t u : Txn) (old new : Pages D g) : Type 0 where
+    pub passed : Passed old new
+    pub pages : txn_pages u ≡ txn_pages t
+    pub held : (disk_in new).is_honest → (m : KeyMap) → InTxn t (stored old) m → says m → InTxn u (stored old) (hold m plan number)
     pub writes : txn_writes u ≤ txn_writes t + 22
     pub taken : txn_free t ≤ txn_free u + 12
 
@@ -54,9 +71,32 @@ module _ {D : Type 0} {g : Ghosts D} where
   HoldErr plan number t old new TooDeep = (disk_in new).is_honest → (m : KeyMap) → InTxn t (stored old) m → (count : ℕ) × HasDeepened (holding_rows plan number count) t old m
   HoldErr plan number t old new Memory = Unit {0}
 
+  -- the same where the transaction reads a map of which `says` holds, if it reads any
+  abbrev pub HoldWhereErr : (KeyMap → Type 0) → ℕ → ℕ → Txn → Pages D g → Pages D g → TreeError → Type 0
+  HoldWhereErr says plan number t old new DeviceFault = HasFailed old new
+      ⊎ ((disk_in new).is_honest → (m : KeyMap) (limit : ℕ) → InTxn t (stored old) m → says m → CanHold m limit plan → number < 2 ^ 64 → ⊥)
+  HoldWhereErr says plan number t old new Halted = has_halted old ≡ true
+  HoldWhereErr says plan number t old new NoPages = txn_free t < 12
+  HoldWhereErr says plan number t old new TooDeep =
+      (disk_in new).is_honest → (m : KeyMap) → InTxn t (stored old) m → (count : ℕ) × HasDeepened (holding_rows plan number count) t old m
+  HoldWhereErr says plan number t old new Memory = Unit {0}
+
   -- ---- what calls tell of it
   abbrev pub HoldsChunk : ℕ → ℕ → Txn → Txn → Pages D g → Pages D g → Result Bool TreeError → Type 0
   HoldsChunk plan number t u old new result = MatchResult result (λ put. IsHolding put plan number t u old new) (λ e. HoldErr plan number t old new e)
+
+  -- the same of a plan that doesn't hold the chunk
+  abbrev pub HoldsUnheld : {T : Type 0} → ℕ → ℕ → Txn → Txn → Pages D g → Pages D g → Result T TreeError → Type 0
+  HoldsUnheld plan number t u old new result =
+      MatchResult result (λ _. HasHeld plan number t u old new) (λ e. HoldErr plan number t old new e)
+
+  abbrev pub HoldsWhere : {T : Type 0} → (KeyMap → Type 0) → ℕ → ℕ → Txn → Txn → Pages D g → Pages D g → Result T TreeError → Type 0
+  HoldsWhere says plan number t u old new result =
+      MatchResult result (λ _. HasHeldWhere says plan number t u old new) (λ e. HoldWhereErr says plan number t old new e)
+
+  -- from which number on the plan holds no chunk, if that is known
+  abbrev pub TellsFree : ℕ → Txn → Pages D g → Pages D g → Result (Option ℕ) TreeError → Type 0
+  TellsFree plan t old new result = (disk_in new).is_honest → (m : KeyMap) → InTxn t (stored old) m → IfOk result (λ free. IsFreeFrom free plan m)
 
   -- whether the plan holds the chunk
   abbrev pub TellsHeld : ℕ → ℕ → Txn → Pages D g → Pages D g → Result Bool TreeError → Type 0

@@ -10,7 +10,7 @@ mod releases;
 mod tallies;
 
 pub use holdings::put_holdings;
-pub use holds::{hold, hold_all, is_held};
+pub use holds::{hold, hold_all, hold_unheld, is_held};
 pub use puts::put_chunk;
 pub use reads::append_chunk;
 pub use releases::release;

@@ -4,7 +4,7 @@ ghost use Rattle.page_store.specs.Transactions.{count_of, txn_pages, IsQuiet};
 ghost use Rattle.chunk_table.specs.Releasing.{Releases};
 
 use crate::tallies::{lower, tally_of};
-use page_btree::remove;
+use btree_removes::remove;
 use page_store::{Pages, Txn};
 use row_table::TreeError;
 use sector_device::SectorDevice;

@@ -5,7 +5,8 @@ ghost use Rattle.row_table.specs.Reading.{ReadErr};
 ghost use Rattle.chunk_table.specs.Holding.{HasTally, TellsTally};
 ghost use Rattle.chunk_table.specs.Releasing.{Lowers};
 
-use page_btree::{put, remove};
+use btree_puts::put;
+use btree_removes::remove;
 use page_store::{Pages, Txn};
 use row_table::{TreeError, get_row};
 use sector_device::SectorDevice;

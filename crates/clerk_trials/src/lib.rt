@@ -1,6 +1,5 @@
-//! What only the clerk's own calls show, tried on stores in memory; a fork beside its origin; the gate of a served stream; a gallery;
-//! two streams at the seats of one office; and served commands, loads, sweeps, openings and migrations at a device that stops or fails at one of
-//! its calls, and the desk that is found then.
+//! What only the clerk's own calls show, tried on stores in memory; a fork beside its origin; and served commands, loads, sweeps,
+//! openings and migrations at a device that stops or fails at one of its calls, and the desk that is found then.
 #![tactic(auto)]
 
 #[cfg(test)]
@@ -10,17 +9,11 @@ mod devices;
 #[cfg(test)]
 mod forks;
 #[cfg(test)]
-mod gates;
-#[cfg(test)]
 mod loads;
 #[cfg(test)]
 mod migrations;
 #[cfg(test)]
 mod openings;
-#[cfg(test)]
-mod seated;
-#[cfg(test)]
-mod shown;
 #[cfg(test)]
 mod stopped_loads;
 #[cfg(test)]
@@ -29,7 +22,3 @@ mod stores;
 mod streams;
 #[cfg(test)]
 mod texts;
-#[cfg(test)]
-mod visitors;
-#[cfg(test)]
-mod visits;

@@ -36,8 +36,8 @@ const FORK: &[u8] =
 const FORKED: &[u8] =
     b"HTTP/1.1 201 Created\r\nContent-Type: application/json\r\nContent-Length: 26\r\n\r\n{\"plan\":\"d\",\"revisions\":1}HTTP/1.1 200 OK\r\nContent-Type: text/plain\r\nContent-Length: 93\r\n\r\nBLOCKID|DISTRICT\n190010001001001|02\n190010001001002|02\n190030001001001|02\n190030001001002|02\n";
 
-/// A store of the old version: two plans with two revisions each, which name three chunks each, and two forks, which name two each. All
-/// but the second plan were taken away, and nothing was swept.
+/// A store of the old version: two plans with two revisions each, which name three chunks each, and two forks, which name two
+/// each. All but the second plan were taken away, and nothing was swept.
 fn old_store<R: Abort>(rt: &R, alloc: Global, sectors: u32) -> MemoryDevice {
     let mut clerk = sealed(rt, alloc, sectors);
     let text = answers(rt, alloc, &mut clerk, COMMANDS);
@@ -170,8 +170,8 @@ fn migrated_at<R: Abort, F: Faulty>(
     }
 }
 
-/// How far a migration was that was stopped: nothing of it is kept, its first step, both, or the version too. Begun anew, it ends with
-/// what the store showed.
+/// How far a migration was that was stopped: nothing of it is kept, its first step, both, or the version too. Begun anew, it ends
+/// with what the store showed.
 fn kept<R: Abort>(rt: &R, alloc: Global, device: MemoryDevice) -> usize
     ensures { result < 4 }
 {

@@ -76,8 +76,8 @@ fn a_fault_in_recovery_loses_nothing(rt: HostRuntime) {
     }
 }
 
-/// Stops in an opening at each call in turn, and in the next one: the third command is found after both. How many of the first left
-/// the gate open.
+/// Stops in an opening at each call in turn, and in the next one: the third command is found after both. How many of the first
+/// left the gate open.
 fn stops_kept<R: Abort>(rt: &R, alloc: Global, image: &[[u8; 4096]], picks: &[Pick]) -> u32 {
     let mut count = 0u32;
     for k in 0..1_000u64 {

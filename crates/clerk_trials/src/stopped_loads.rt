@@ -128,7 +128,8 @@ fn finds_sealed<R: Abort>(rt: &R, alloc: Global, device: MemoryDevice) -> bool {
     sealed
 }
 
-/// A fault at each call in turn: how many leave the desk without a geography, and how many of a seal that wasn't told leave it with.
+/// A fault at each call in turn: how many leave the desk without a geography, and how many of a seal that wasn't told leave it
+/// with.
 fn outcomes<R: Abort, F: Faulty>(rt: &R, alloc: Global, fill: Option<u8>) -> (u32, u32) {
     let image = new_store(rt, alloc);
     let picks = picks(rt, alloc, fill);

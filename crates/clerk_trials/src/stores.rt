@@ -12,8 +12,8 @@ use std::alloc::Global;
 use std::process::Abort;
 use std::sync::Arc;
 
-/// A device whose calls all pass. It is one of which a call could fail, so that a clerk is compiled for two types of devices, this
-/// one and one that stops.
+/// A device whose calls all pass. It is one of which a call could fail, so that a clerk is compiled for two types of devices,
+/// this one and one that stops.
 pub fn passing(device: MemoryDevice) -> FailOnce {
     FailOnce::new(device, u64::MAX)
 }

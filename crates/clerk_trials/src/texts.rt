@@ -2,8 +2,8 @@
 use std::alloc::Global;
 use std::process::Abort;
 
-/// Makes the plan, keeps a revision of it, changes a county of that, forks the first revision, changes the other county of the fork, and
-/// takes the plan away.
+/// Makes the plan, keeps a revision of it, changes a county of that, forks the first revision, changes the other county of the
+/// fork, and takes the plan away.
 pub const COMMANDS: &[u8] =
     b"PUT /plans/a?kind=congress&districts=2 HTTP/1.1\r\nHost: d\r\n\r\nPOST /plans/a/revisions?after=0 HTTP/1.1\r\nHost: d\r\nContent-Length: 93\r\n\r\nBLOCKID|DISTRICT\n190010001001001|01\n190010001001002|01\n190030001001001|02\n190030001001002|02\nPOST /plans/a/counties?after=1 HTTP/1.1\r\nHost: d\r\nContent-Length: 53\r\n\r\nBLOCKID|DISTRICT\n190030001001001|1\n190030001001002|1\nPOST /plans/b?from=a:1 HTTP/1.1\r\nHost: d\r\n\r\nPOST /plans/b/counties?after=1 HTTP/1.1\r\nHost: d\r\nContent-Length: 53\r\n\r\nBLOCKID|DISTRICT\n190010001001001|2\n190010001001002|2\nDELETE /plans/a HTTP/1.1\r\nHost: d\r\n\r\n";
 

@@ -3,7 +3,7 @@ use Rattle.std.specs.Prelude.{◌≡◌, ℕ, ◌==◌, if◌then◌else◌, Lis
 use Rattle.byte_stream.specs.Counts.{counted}
 use Rattle.byte_stream.specs.Sends.{Sends}
 use Rattle.byte_stream.specs.declared.sink.WriteFault.{WriteFault}
-use Rattle.http_seats.specs.declared.ran.Ran.{Ran}
+use Rattle.http_arrivals.specs.declared.ran.Ran.{Ran}
 use Rattle.connection_log.specs.declared.connection.Connection.{Connection}
 use Rattle.connection_log.specs.declared.line.Entry.{Entry}
 use Rattle.connection_log.specs.declared.line.Entry.TheVariants as entry

@@ -3,7 +3,7 @@ ghost use Rattle.std.specs.Prelude.{◌≡◌, ◌+◌, ◌≤◌, ◌++◌, [],
 ghost use Rattle.connection_log.specs.Lines.{connection_line, dropped_line, end_line, entry_line};
 
 use crate::connection::Connection;
-use http_seats::ran::Ran;
+use http_arrivals::ran::Ran;
 use itoa::Buffer;
 use std::alloc::{AllocError, Global};
 use std::marker::Model;

@@ -5,7 +5,7 @@ use crate::line::LineText;
 use crate::telling::tell_batch;
 use crate::waiting::{Taken, Waiting};
 use byte_stream::sink::Sink;
-use http_seats::ran::Ran;
+use http_arrivals::ran::Ran;
 use std::alloc::{AllocError, Global};
 use std::sync::{Arc, Condvar, CondvarTimeouts, Mutex, MutexGuard, Wait};
 use std::thread;

@@ -5,7 +5,7 @@ use crate::connection::Connection;
 use crate::line::{Entry, LineText};
 use crate::waiting::Taken;
 use byte_stream::sink::Sink;
-use http_seats::ran::Ran;
+use http_arrivals::ran::Ran;
 
 /// Writes an entry's line, behind the number of those that were dropped before: the number of those that are to be told so now.
 fn tell_entry<W: Sink>(writer: &mut W, text: &mut LineText, entry: &Entry, dropped: u64) -> u64

@@ -4,7 +4,7 @@ ghost use Rattle.connection_log.specs.Waits.{HasPut, HasTaken};
 
 use crate::batch::{Batch, MOST_WAITING};
 use crate::connection::Connection;
-use http_seats::ran::Ran;
+use http_arrivals::ran::Ran;
 use std::alloc::{AllocError, Global};
 use std::mem;
 

@@ -2,10 +2,10 @@
 use crate::connection::connection_of;
 use crate::counting::{CountedSink, CountedSource};
 use crate::log::Log;
+use http_arrivals::arrivals::Arrivals;
+use http_arrivals::listening::Listens;
+use http_arrivals::ran::Ran;
 use http_desk::serve::{Served, StreamFault};
-use http_seats::listening::Listens;
-use http_seats::many::Arrivals;
-use http_seats::ran::Ran;
 use std::sync::Wait;
 use std::sync::atomic::{AtomicU64, Ordering};
 use std::time::Clock;
@@ -13,7 +13,7 @@ use std::time::Clock;
 /// Where streams come from, and who hears what all of them came to.
 pub trait Watched: Listens {
     // What was heard of a run.
-    ghost use Rattle.http_seats.specs.declared.ran.Ran.{Ran};
+    ghost use Rattle.http_arrivals.specs.declared.ran.Ran.{Ran};
 
     ghost heard: { Self → Ran → Type 0 };
 
@@ -85,7 +85,12 @@ impl<'r, 'a, 'l, A: Listens, R: Wait + Clock> Arrivals for Watching<'r, 'a, 'l, 
 }
 
 impl<'r, 'a, 'l, A: Listens, R: Wait + Clock> Listens for Watching<'r, 'a, 'l, A, R> {
-    fn has_failed(&self) -> bool {
+    // What is known of the connections below.
+    ghost fails = { λ w failed. A.fails w.arrivals.now failed };
+
+    fn has_failed(&self) -> bool
+        ensures { A.fails self.now.arrivals.now result }
+    {
         self.arrivals.has_failed()
     }
 }

@@ -1,7 +1,7 @@
 //! What answers commands and queries: the counter at which a served stream asks, whoever stands behind it. A clerk alone with its store
 //! is one, and a seat at an office another.
 //!
-//! Its model is its own: which replies a command or a query may have, and what they leave.
+//! Its model is its own: which commands it takes, which replies a command or a query may have, and what they leave.
 #![tactic(auto)]
 
 ghost use Rattle.std.specs.Prelude.{◌≡◌};
@@ -15,6 +15,9 @@ use std::alloc::Global;
 
 /// A place at which commands and queries are answered.
 pub trait Counter {
+    // The command may be handed in.
+    ghost takes: { Self → Command → Type 0 } = { λ _ _. Unit {0} };
+
     // A command may have this reply, and leave this counter.
     ghost commands: { Self → Command → Reply → Self → Type 0 };
 
@@ -25,6 +28,7 @@ pub trait Counter {
     const ALONE: bool;
 
     fn command(&mut self, alloc: Global, command: Command) -> Reply
+        requires { takes self.old command }
         ensures { commands self.old command result self.new };
 
     fn ask(&mut self, alloc: Global, query: Query) -> Reply

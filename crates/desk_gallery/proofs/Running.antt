@@ -1,6 +1,7 @@
 -- A run with one command more.
 use Rattle.std.proofs.Common.{◌≡◌, List, [], ◌∷◌, ◌++◌, refl, sym, ap, ◌∙◌, append_assoc}
 use Rattle.std.proofs.lemmas.List.{append-nil}
+use Rattle.std.proofs.lemmas.List.Elements.{All-nil, All-push, All-weaker}
 use Rattle.sector_device.specs.declared.SectorDevice.{Ghosts}
 use Rattle.desk_model.specs.declared.command.Command.{Command}
 use Rattle.desk_model.specs.declared.reply.Reply.{Reply}
@@ -30,15 +31,28 @@ module _ {D : Type 0} {g : Ghosts D} where
   run_more x _ z _ c r (Run.over _) does = Run.went x c r z [] z does (Run.over z)
   run_more x y z _ c r (Run.went _ d q w calls _ does run) last = Run.went x d q w (calls ++ (c, r) ∷ []) z does (run_more w y z calls c r run last)
 
-  pub has_run_more : (begins : Beginning) (x y : Clerk D g) (shown new : List Command) (c : Command) (r : Reply) → HasRun begins x shown → Does x c r y
-      → (IsAcceptance r → new ≡ shown ++ c ∷ []) → ((IsAcceptance r → ⊥) → new ≡ shown) → HasRun begins y new
-  has_run_more begins x y shown new c r so_far does joined same = record {
+  pub has_run_more : (begins : Beginning) (asked : Command → Type 0) (x y : Clerk D g) (shown new : List Command) (c : Command) (r : Reply) → asked c → HasRun begins asked x shown → Does x c r y
+      → (IsAcceptance r → new ≡ shown ++ c ∷ []) → ((IsAcceptance r → ⊥) → new ≡ shown) → HasRun begins asked y new
+  has_run_more begins asked x y shown new c r one so_far does joined same = record {
     first = so_far.first;
     began = so_far.began;
     calls = so_far.calls ++ (c, r) ∷ [];
     run = run_more so_far.first x y so_far.calls c r so_far.run does;
+    each = All-push (λ (call : Call). asked call.0) so_far.calls (c, r) so_far.each one;
     are_shown = acknowledged_more so_far.calls c r ∙ (ap (λ (l : List Command). l ++ if_accepted c r) so_far.are_shown ∙ sym (grown_by shown new c r joined same));
   }
 
-  pub has_run_none : (begins : Beginning) (x : Clerk D g) (shown : List Command) → BeginsWith begins x → shown ≡ [] → HasRun begins x shown
-  has_run_none begins x shown began none = record { first = x; began = began; calls = []; run = Run.over x; are_shown = sym none }
+  -- of whose commands something else is known, too
+  pub has_run_as : (begins : Beginning) (asked other : Command → Type 0) (x : Clerk D g) (shown : List Command) → ((c : Command) → asked c → other c) → HasRun begins asked x shown → HasRun begins other x shown
+  has_run_as begins asked other x shown also ran = record {
+    first = ran.first;
+    began = ran.began;
+    calls = ran.calls;
+    run = ran.run;
+    each = All-weaker (λ (call : Call). asked call.0) (λ (call : Call). other call.0) (λ call is. also call.0 is) ran.calls ran.each;
+    are_shown = ran.are_shown;
+  }
+
+  pub has_run_none : (begins : Beginning) (asked : Command → Type 0) (x : Clerk D g) (shown : List Command) → BeginsWith begins x → shown ≡ [] → HasRun begins asked x shown
+  has_run_none begins asked x shown began none =
+      record { first = x; began = began; calls = []; run = Run.over x; each = All-nil (λ (call : Call). asked call.0); are_shown = sym none }

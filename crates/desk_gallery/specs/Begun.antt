@@ -1,5 +1,5 @@
 -- A clerk behind a front, by the clerk with whom its gallery began.
-use Rattle.std.specs.Prelude.{◌≡◌, List}
+use Rattle.std.specs.Prelude.{◌≡◌, All, List}
 use Rattle.sector_device.specs.declared.SectorDevice.{Ghosts}
 use Rattle.desk_model.specs.declared.command.Command.{Command}
 use Rattle.desk_model.specs.Desk.{Desk}
@@ -20,17 +20,18 @@ module _ {D : Type 0} {g : Ghosts D} where
   abbrev pub BeginsWith : Beginning → Clerk D g → Type 0
   BeginsWith begins x = begins D g x
 
-  -- Commands were done one after the other, from a clerk on of whom this is known to this one; those that were acknowledged are what
-  -- is shown.
-  pub record HasRun (begins : Beginning) (last : Clerk D g) (shown : List Command) : Type 0 where
+  -- Commands were done one after the other, each of which was asked for, from a clerk on of whom this is known to this one; those
+  -- that were acknowledged are what is shown.
+  pub record HasRun (begins : Beginning) (asked : Command → Type 0) (last : Clerk D g) (shown : List Command) : Type 0 where
     pub first : Clerk D g
     pub began : BeginsWith begins first
     pub calls : List Call
     pub run : Run first calls last
+    pub each : All (λ call. asked call.0) calls
     pub are_shown : acknowledged calls ≡ shown
 
   -- so they were, and each of the acknowledged ones is accepted after those before it
-  pub record IsLeftBy (start : Desk) (begins : Beginning) (last : Clerk D g) : Type 0 where
+  pub record IsLeftBy (start : Desk) (begins : Beginning) (asked : Command → Type 0) (last : Clerk D g) : Type 0 where
     pub commands : List Command
     pub accepted : AreAccepted start commands
-    pub ran : HasRun begins last commands
+    pub ran : HasRun begins asked last commands

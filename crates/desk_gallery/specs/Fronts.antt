@@ -8,7 +8,7 @@ use Rattle.desk_model.specs.declared.reply.Reply.{Reply}
 use Rattle.desk_model.specs.Desk.{Desk}
 use Rattle.desk_store.specs.declared.clerk.Clerk.{Clerk}
 use Rattle.desk_store.specs.Keeping.{IsLeft}
-use Rattle.desk_store.specs.Clerks.{desk_of, is_halted, sectors_of, room_of, free_of}
+use Rattle.desk_store.specs.Clerks.{desk_of, is_halted, sectors_of, room_of, free_of, pages_of}
 use Rattle.desk_store.specs.Commands.{Does}
 use Rattle.desk_gallery.specs.After.{after}
 
@@ -24,11 +24,11 @@ pub record Kept (D : Type 0) : Type 0 where
 
 module _ {D : Type 0} {g : Ghosts D} where
   abbrev pub kept_of : Clerk D g → List Command × List Command → Kept D
-  kept_of x lists = record { device = device_in x.pages; halted = is_halted x; sectors = sectors_of x; room = room_of x; free = free_of x; shown = lists.0; all = lists.1 }
+  kept_of x lists = record { device = device_in (pages_of x); halted = is_halted x; sectors = sectors_of x; room = room_of x; free = free_of x; shown = lists.0; all = lists.1 }
 
   -- such a clerk lies there, and shows the desk after the changes that are shown
   pub record IsClerk (first : Desk) (f : Kept D) (x : Clerk D g) : Type 0 where
-    pub device : device_in x.pages ≡ f.device
+    pub device : device_in (pages_of x) ≡ f.device
     pub halted : is_halted x ≡ f.halted
     pub sectors : sectors_of x ≡ f.sectors
     pub room : room_of x ≡ f.room

@@ -118,11 +118,12 @@ impl<'a> Plain<Showing<'a>, LogEntry, u64> for Add {
     ghost state = { λ a. None };
 }
 
-/// Names one gallery: its list of changes with the first key, the desk before them, and what is known of the store and of the clerk
-/// from the start. Each call of a program picks it.
+/// Names one gallery: its list of changes with the first key, the desk before them, what is known of the store and of the clerk from
+/// the start, and which commands may be carried out. Each call of a program picks it.
 pub trait Room {
     ghost use Rattle.std.specs.Prelude.{ℕ};
     ghost use Rattle.logbook.specs.Pages.{Book};
+    ghost use Rattle.desk_model.specs.declared.command.Command.{Command};
     ghost use Rattle.desk_model.specs.Desk.{Desk};
     ghost use Rattle.desk_gallery.specs.Begun.{Beginning};
 
@@ -137,6 +138,9 @@ pub trait Room {
 
     // what is known of the clerk with whom it begins
     ghost begins: { Beginning };
+
+    // what is known of each command that is carried out
+    ghost asked: { Command → Type 0 };
 }
 
 impl Room for Brand {
@@ -152,6 +156,8 @@ impl Room for Brand {
     ghost sound = { ⊥ };
 
     ghost begins = { nobody };
+
+    ghost asked = { λ _. ⊥ };
 }
 
 /// A new key.

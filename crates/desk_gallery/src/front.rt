@@ -85,7 +85,7 @@ impl<J: Room, D: SectorDevice> Model for Front<J, D> {
 
     ghost view = { λ f. kept_of f.clerk f.shower };
 
-    ghost invariant = { λ f. Agree J.first f.clerk f.shower × (J.sound → Keeps f.clerk) × HasRun J.begins f.clerk f.shower.0 };
+    ghost invariant = { λ f. Agree J.first f.clerk f.shower × (J.sound → Keeps f.clerk) × HasRun J.begins J.asked f.clerk f.shower.0 };
 }
 
 impl<J: Room, D: SectorDevice> Front<J, D> {
@@ -161,6 +161,7 @@ impl<J: Room, D: SectorDevice> Front<J, D> {
 
     /// The outcome of a command, and what is shown then. A change is shown once its commit is done.
     pub fn command<R: Wait>(&mut self, rt: &R, alloc: Global, command: Command) -> (Reply, Told<J>)
+        requires { J.asked command }
         ensures works { Works D.SectorDevice J.first self.old command result.0 self.new }
         ensures outcome { OutcomeMay (after J.first self.old.shown) command result.0 (after J.first self.new.shown) }
         ensures joined { IsAcceptance result.0 → self.new.shown ≡ self.old.shown ++ command ∷ [] }
@@ -176,7 +177,7 @@ impl<J: Room, D: SectorDevice> Front<J, D> {
         ensures clerk { IsClerk J.first self result }
         ensures kept { J.sound → Keeps result }
         ensures accepted { AreAccepted J.first self.shown }
-        ensures ran { HasRun J.begins result self.shown }
+        ensures ran { HasRun J.begins J.asked result self.shown }
     {
         let Front { clerk, shower } = self;
         shower.close(rt);

@@ -46,7 +46,7 @@ impl<J: Room, D: SectorDevice> Office<J, D> {
     pub fn close<R: Wait>(self, rt: &R) -> Clerk<D>
         ensures kept { J.sound → Keeps result }
         ensures ran { IsRunFrom J.first (desk_of result) }
-        ensures left { IsLeftBy J.first J.begins result }
+        ensures left { IsLeftBy J.first J.begins J.asked result }
     {
         let Office { front } = self;
         front.into_inner().close(rt)

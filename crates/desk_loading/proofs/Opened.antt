@@ -3,9 +3,9 @@ use Rattle.std.proofs.Common.{true}
 use Rattle.sector_device.specs.declared.SectorDevice.{Ghosts}
 use Rattle.desk_pages.specs.Desks.{new_desk}
 use Rattle.desk_pages.specs.Formats.{OpensNew}
+use Rattle.desk_pages.specs.Openings.{AllVersions}
 use Rattle.desk_store.specs.declared.clerk.Clerk.{Clerk}
 use Rattle.desk_store.specs.Clerks.{disk_of, Keeps}
-use Rattle.desk_store.specs.Openings.{AllVersions}
 use Rattle.desk_loading.specs.Openings.{IsOpened}
 
 module _ {D : Type 0} {g : Ghosts D} where

@@ -11,7 +11,7 @@ use Rattle.geo_tables.specs.Loading.{IsFurther, ground_of, done_of}
 use Rattle.desk_store.specs.declared.clerk.Clerk.{Clerk}
 use Rattle.desk_store.specs.declared.loads.LoadError.{LoadError}
 use Rattle.desk_store.specs.declared.loads.LoadError.TheVariants.{AlreadySealed, Full, Memory, Halted, Ended}
-use Rattle.desk_store.specs.Clerks.{desk_of, room_of, Keeps, Moves, MovesIf}
+use Rattle.desk_store.specs.Clerks.{desk_of, pages_of, room_of, Keeps, Moves, MovesIf}
 use Rattle.desk_store.specs.Keeping.{sealed_desk}
 use Rattle.desk_store.specs.Loads.{Stages, IsLast, HasGeography, BatchRefused, SealRefused}
 use Rattle.desk_store.proofs.Moved.{unmoved}
@@ -54,11 +54,11 @@ module _ {D : Type 0} {g : Ghosts D} where
   -- a batch that was refused
   module _ (x w y : Clerk D g) (load so_far : Load) (rows : ℕ) (before : HasStaged x load w so_far) (last : IsLast w so_far) (unsealed : (desk_of w).geography ≡ None)
       (rows_are : rows ≡ min (geography_rows (ground_of load) - done_of so_far) (batch_rows (room_of x))) (moves : MovesIf (Stages w so_far) (desk_of w) w y) (desk : desk_of y ≡ desk_of w) (loading : y.loading ≡ w.loading)
-      (quiet : y.halted ≡ false → IsQuiet w.pages y.pages) where
-    stopped : (e : LoadError) → BatchRefused so_far rows w e y.halted y.pages → BatchStopped x load e y
+      (quiet : y.halted ≡ false → IsQuiet (pages_of w) (pages_of y)) where
+    stopped : (e : LoadError) → BatchRefused so_far rows w e y.halted (pages_of y) → BatchStopped x load e y
     stopped e why = record { w = w; so_far = so_far; before = before; rows = rows; rows_are = rows_are; moves = moves; desk = desk; loading = loading; quiet = quiet; why = why }
 
-    pub stage_refused : (e : LoadError) → BatchRefused so_far rows w e y.halted y.pages → StageRefused x load e y
+    pub stage_refused : (e : LoadError) → BatchRefused so_far rows w e y.halted (pages_of y) → StageRefused x load e y
     stage_refused AlreadySealed why = absurd (let clash : Some why.0 ≡ None = sym why.1 ∙ unsealed in cc)
     stage_refused Full why = stopped Full why
     stage_refused Memory why = stopped Memory why
@@ -107,14 +107,14 @@ module _ {D : Type 0} {g : Ghosts D} where
     pub load_sealed : desk_of y ≡ sealed_desk (ground_of all) → y.halted ≡ false → IsLoaded x area y
     load_sealed desk works = record { w = v; load = all; whole = whole; moves = moves; desk = desk ∙ ap sealed_desk ground; last = loading ∙ last; works = works }
 
-    module _ (desk : desk_of y ≡ desk_of v) (quiet : y.halted ≡ false → IsQuiet v.pages y.pages) where
-      seal_stopped : (e : LoadError) → SealRefused all v e y.halted y.pages → SealStopped x area e y
+    module _ (desk : desk_of y ≡ desk_of v) (quiet : y.halted ≡ false → IsQuiet (pages_of v) (pages_of y)) where
+      seal_stopped : (e : LoadError) → SealRefused all v e y.halted (pages_of y) → SealStopped x area e y
       seal_stopped e why = record { w = v; load = all; whole = whole; moves = moves; desk = desk; loading = loading; quiet = quiet; why = why }
 
       sealed_before : HasGeography v → ⊥
       sealed_before why = let clash : Some why.0 ≡ None = sym why.1 ∙ ap (λ (d : Desk). d.geography) (staged.desk ∙ begun.desk) ∙ begun.unsealed in cc
 
-      pub seal_refused : (e : LoadError) → SealRefused all v e y.halted y.pages → LoadRefused x area e y
+      pub seal_refused : (e : LoadError) → SealRefused all v e y.halted (pages_of y) → LoadRefused x area e y
       seal_refused AlreadySealed why = absurd (sealed_before why)
       seal_refused Full why = inr (inr (seal_stopped Full why))
       seal_refused Memory why = inr (inr (seal_stopped Memory why))

@@ -9,7 +9,7 @@ use Rattle.geo_tables.specs.Loading.{number_of, ground_of, done_of}
 use Rattle.desk_store.specs.declared.clerk.Clerk.{Clerk}
 use Rattle.desk_store.specs.declared.loads.LoadError.{LoadError}
 use Rattle.desk_store.specs.declared.loads.LoadError.TheVariants.{AlreadySealed, Full, Memory, Halted, Ended}
-use Rattle.desk_store.specs.Clerks.{desk_of, is_halted, room_of, Keeps, Moves, MovesIf}
+use Rattle.desk_store.specs.Clerks.{desk_of, is_halted, pages_of, room_of, Keeps, Moves, MovesIf}
 use Rattle.desk_store.specs.Keeping.{sealed_desk}
 use Rattle.desk_store.specs.Loads.{Stages, IsLast, BeginRefused, BatchRefused, SealRefused}
 
@@ -64,8 +64,8 @@ module _ {D : Type 0} {g : Ghosts D} where
     pub moves : Moves (desk_of x) x y
     pub desk : desk_of y ≡ desk_of x
     pub loading : y.loading ≡ x.loading
-    pub quiet : is_halted y ≡ false → IsQuiet x.pages y.pages
-    pub why : BeginRefused area x e (is_halted y) y.pages
+    pub quiet : is_halted y ≡ false → IsQuiet (pages_of x) (pages_of y)
+    pub why : BeginRefused area x e (is_halted y) (pages_of y)
 
   -- a batch was refused behind those that were staged: of as many rows as were left, but no more than it may have
   pub record BatchStopped (x : Clerk D g) (load : Load) (e : LoadError) (y : Clerk D g) : Type 0 where
@@ -77,8 +77,8 @@ module _ {D : Type 0} {g : Ghosts D} where
     pub moves : MovesIf (Stages w so_far) (desk_of w) w y
     pub desk : desk_of y ≡ desk_of w
     pub loading : y.loading ≡ w.loading
-    pub quiet : is_halted y ≡ false → IsQuiet w.pages y.pages
-    pub why : BatchRefused so_far rows w e (is_halted y) y.pages
+    pub quiet : is_halted y ≡ false → IsQuiet (pages_of w) (pages_of y)
+    pub why : BatchRefused so_far rows w e (is_halted y) (pages_of y)
 
   -- so that its rows are not all staged: the load is the last one, and no geography is sealed
   abbrev pub StageRefused : Clerk D g → Load → LoadError → Clerk D g → Type 0
@@ -103,8 +103,8 @@ module _ {D : Type 0} {g : Ghosts D} where
     pub moves : MovesIf (Stages w load) (sealed_desk area) w y
     pub desk : desk_of y ≡ desk_of w
     pub loading : y.loading ≡ w.loading
-    pub quiet : is_halted y ≡ false → IsQuiet w.pages y.pages
-    pub why : SealRefused load w e (is_halted y) y.pages
+    pub quiet : is_halted y ≡ false → IsQuiet (pages_of w) (pages_of y)
+    pub why : SealRefused load w e (is_halted y) (pages_of y)
 
   abbrev pub Stopped : Clerk D g → Ground → LoadError → Clerk D g → Type 0
   Stopped x area e y = BeginStopped x area e y ⊎ (StageStopped x area e y ⊎ SealStopped x area e y)

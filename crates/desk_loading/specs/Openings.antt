@@ -1,12 +1,12 @@
 -- What an opening of a device comes to.
 use Rattle.std.specs.Prelude.{◌≡◌, false, None}
-use Rattle.sector_device.specs.Moments.{LeavesOnly}
 use Rattle.sector_device.specs.declared.SectorDevice.{Ghosts}
+use Rattle.desk_pages.specs.Openings.{AllVersions, IsOneOf, IsSpared, LeavesOneAs, LeavesOneOf}
 use Rattle.desk_store.specs.declared.clerk.Clerk.{Clerk}
 use Rattle.desk_store.specs.declared.opening.OpenError.{OpenError}
 use Rattle.desk_store.specs.declared.opening.OpenError.TheVariants.{NotAStore}
 use Rattle.desk_store.specs.Clerks.{desk_of, disk_of, is_halted, sectors_of, Keeps}
-use Rattle.desk_store.specs.Openings.{AllDesks, AllVersions, IsOneOf, OpensOneOf, OpensOneAs, IsFound, IsSpared, OpenRefused}
+use Rattle.desk_store.specs.Openings.{IsFound, OpenRefused}
 
 module _ {D : Type 0} {g : Ghosts D} where
   -- A clerk who opened the device: at each moment of it a stop left what opens to a desk to which one opened before. One of these is
@@ -14,8 +14,8 @@ module _ {D : Type 0} {g : Ghosts D} where
   pub record IsOpened (device : D) (x : Clerk D g) : Type 0 where
     pub sectors : sectors_of x ≡ (g.disk device).sectors
     pub honest : (disk_of x).is_honest → (g.disk device).is_honest
-    pub any_moment : (disk_of x).is_honest → AllDesks (g.disk device) → LeavesOnly (OpensOneOf (g.disk device)) (g.disk device) (disk_of x)
-    pub any_version : (disk_of x).is_honest → AllVersions (g.disk device) → LeavesOnly (OpensOneAs (g.disk device)) (g.disk device) (disk_of x)
+    pub any_moment : LeavesOneOf (g.disk device) (disk_of x)
+    pub any_version : LeavesOneAs (g.disk device) (disk_of x)
     pub keeps : AllVersions (g.disk device) → Keeps x
     pub one : AllVersions (g.disk device) → (disk_of x).is_honest → IsOneOf (g.disk device) (desk_of x)
     pub found : (disk_of x).is_honest → IsFound (g.disk device) x
@@ -29,7 +29,7 @@ module _ {D : Type 0} (g : Ghosts D) where
   pub record IsUnopened (device : D) (e : OpenError) (left : D) : Type 0 where
     pub sectors : (g.disk left).sectors ≡ (g.disk device).sectors
     pub honest : (g.disk left).is_honest → (g.disk device).is_honest
-    pub any_moment : (g.disk left).is_honest → AllDesks (g.disk device) → LeavesOnly (OpensOneOf (g.disk device)) (g.disk device) (g.disk left)
-    pub any_version : (g.disk left).is_honest → AllVersions (g.disk device) → LeavesOnly (OpensOneAs (g.disk device)) (g.disk device) (g.disk left)
+    pub any_moment : LeavesOneOf (g.disk device) (g.disk left)
+    pub any_version : LeavesOneAs (g.disk device) (g.disk left)
     pub why : OpenRefused g device left e
     pub spared : (g.disk left).is_honest → e ≡ NotAStore → IsSpared (g.disk device) (g.disk left)

@@ -1,6 +1,7 @@
 mod Order
 mod PartRows
 mod Pairs
+mod Walking
 mod Unread
 mod Turns
 mod Stepped

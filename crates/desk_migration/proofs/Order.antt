@@ -1,20 +1,24 @@
 -- The key that comes next behind another one.
-use Rattle.std.proofs.Common.{◌≡◌, ◌⊎◌, inl, inr, ◌<◌, ℕ, List, [], ◌∷◌, ◌++◌, length, Bool, true, false, cond, ◌&&◌, nat_eq, refl, sym, ap, ◌∙◌, arith}
+use Rattle.std.proofs.Common.{Some, ◌≡◌, ◌⊎◌, inl, inr, ◌<◌, ℕ, List, [], ◌∷◌, ◌++◌, length, Bool, true, false, cond, ◌&&◌, nat_eq, refl, sym, ap, ◌∙◌, arith}
 use Rattle.std.specs.List.{starts_with}
 use Rattle.std.specs.Ordering.{is_gt, nat_cmp, ordering_then}
 use Rattle.std.specs.declared.cmp.Ordering.{Ordering}
 use Rattle.std.specs.declared.cmp.Ordering.TheVariants.{Less, Equal, Greater}
 use Rattle.std.specs.Cmp.{nat_cmp_is}
-use Rattle.std.specs.FinMap.{entries}
+use Rattle.std.specs.Cmp.Lexicographic.{nat_list_cmp_total}
+use Rattle.std.proofs.lemmas.Cmp.{tied_itself}
+use Rattle.std.specs.FinMap.{entries, get}
 use Rattle.page_node.specs.Entries.{Entry}
 use Rattle.page_node.specs.Places.{key_cmp, entries_from}
 use Rattle.page_node.proofs.Laws.{flip_less}
 use Rattle.store_rows.specs.Rows.{KeyMap}
 use Rattle.store_rows.proofs.Frames.{same_key}
+use Rattle.store_rows.proofs.OneGeography.{value_is}
 use Rattle.store_check.specs.Rows.{IsFrom}
-use Rattle.store_check.proofs.FirstRows.{clash, first_is_from, from_trans, less_from}
+use Rattle.store_check.proofs.FirstRows.{clash, first_is_from, first_least, first_none, first_there, from_trans, less_from}
 use Rattle.store_check.proofs.Scanned.{first_so, second_so}
 use Rattle.store_check.proofs.Behind.{few_from, fewer, from_tag}
+use Rattle.desk_migration.specs.Walks.{behind}
 
 -- ---- what a key begins with
 both_so : (b c : Bool) → b ≡ true → c ≡ true → (b && c) ≡ true
@@ -37,9 +41,6 @@ ordered a b Greater is not = absurd (clash true refl not)
 
 pub from_or_same : (a b : List ℕ) → IsFrom a b → (key_cmp a b ≡ Less) ⊎ (a ≡ b)
 from_or_same a b from = ordered a b (key_cmp a b) refl from
-
-abbrev pub behind : List ℕ → List ℕ
-behind key = key ++ 0 ∷ []
 
 then_not_above : (r s t : Ordering) → ordering_then r s ≡ Less → (s ≡ Less → is_gt t ≡ false) → is_gt (ordering_then r t) ≡ false
 then_not_above Less s t is next = refl
@@ -75,3 +76,23 @@ module _ (m : KeyMap) (from : List ℕ) (e : Entry) (more : List Entry) (first :
       let one : length (entries_from next (entries m)) ≡ length (entries_from next more) = ap (λ (l : List Entry). length l) (same ∙ gone) in
       let all : length (entries_from from (entries m)) ≡ length (e ∷ more) = ap (λ (l : List Entry). length l) first in
       omega arith
+
+-- ---- a row is the first one from its own key on
+from_itself : (key : List ℕ) → IsFrom key key
+from_itself key = ap is_gt (tied_itself nat_list_cmp_total key)
+
+not_apart : (a b : List ℕ) → IsFrom a b → IsFrom b a → a ≡ b
+not_apart a b one other = elim (from_or_same a b one) [
+  | inl less ↦ absurd (clash (is_gt (key_cmp b a)) (ap is_gt (flip_less a b less)) other)
+  | inr same ↦ same
+]
+
+pub first_itself : (m : KeyMap) (key value : List ℕ) → get m key ≡ Some value → (more : List Entry) × (entries_from key (entries m) ≡ (key, value) ∷ more)
+first_itself m key value there = by (entries_from key (entries m)) refl
+  where
+    by : (es : List Entry) → entries_from key (entries m) ≡ es → (more : List Entry) × (es ≡ (key, value) ∷ more)
+    by [] none = absurd (first_none m key none key value there (from_itself key))
+    by (e ∷ more) first =
+        let same : key ≡ e.0 = not_apart key e.0 (first_is_from m key e more first) (first_least m key e more first key value there (from_itself key)) in
+        let values : e.1 ≡ value = value_is e.1 value (sym (first_there m key e more first) ∙ ap (get m) (sym same) ∙ there) in
+        (more, λ i. (sym same i, values i) ∷ more)

@@ -1,5 +1,7 @@
 -- Plans that come to hold chunks, one pair after the other.
-use Rattle.std.proofs.Common.{◌≡◌, ◌+◌, ℕ, List, [], ◌∷◌, ◌++◌, length, Bool, refl, sym, ap, subst, ◌∙◌, arith, length-append}
+use Rattle.std.specs.FinMap.{get}
+use Rattle.std.proofs.lemmas.List.Elements.{All-weaker}
+use Rattle.std.proofs.Common.{take, ◌≡◌, ◌+◌, ℕ, List, [], ◌∷◌, ◌++◌, length, Bool, refl, sym, ap, subst, ◌∙◌, arith, length-append}
 use Rattle.desk_model.specs.Desk.{Desk}
 use Rattle.store_rows.specs.Rows.{KeyMap}
 use Rattle.store_rows.specs.Tidy.{IsNamedBy, Tidy}
@@ -8,6 +10,8 @@ use Rattle.store_rows.specs.MigrationLaws.{HoldsNamed, NamedIsHeld}
 use Rattle.store_rows.proofs.OneGeography.{no_value}
 use Rattle.desk_pages.specs.Desks.{IsMapOf}
 use Rattle.desk_migration.specs.Holding.{AllAreHeld, AreHeldTo, AreUnheld, IsHeldBy, IsUnheld, hold_pairs}
+use Rattle.desk_migration.specs.Walks.{HoldsEach, HoldsIt, IsWalking, IsWithin}
+use Rattle.desk_migration.specs.declared.walks.Walk.{Walk}
 use Rattle.desk_migration.proofs.PartRows.{named_fits}
 
 -- ---- one pair
@@ -15,7 +19,7 @@ pub pair_held : NamedIsHeld → (m : KeyMap) (tidy : Tidy m) (plan number : ℕ)
 pair_held law m tidy plan number is = law m tidy plan number is.fits.1 is.named
 
 -- what was passed stays so
-pub still_done : NamedIsHeld → (m : KeyMap) (tidy : Tidy m) (plan number : ℕ) → IsUnheld m plan number → (from : List ℕ) → AreHeldTo from m → AreHeldTo from (hold m plan number)
+still_done : NamedIsHeld → (m : KeyMap) (tidy : Tidy m) (plan number : ℕ) → IsUnheld m plan number → (from : List ℕ) → AreHeldTo from m → AreHeldTo from (hold m plan number)
 still_done law m tidy plan number is from done = λ other x named short.
     let held = pair_held law m tidy plan number is in
     let before : IsNamedBy m other x = record {
@@ -31,6 +35,32 @@ still_done law m tidy plan number is from done = λ other x named short.
 
 tidy_held : NamedIsHeld → (m : KeyMap) (tidy : Tidy m) (plan number : ℕ) → IsUnheld m plan number → Tidy (hold m plan number)
 tidy_held law m tidy plan number is = (pair_held law m tidy plan number is).is.tidy.0
+
+-- what a walk knows stays so
+still_each : NamedIsHeld → (m : KeyMap) (tidy : Tidy m) (plan number : ℕ) → IsUnheld m plan number → (other : ℕ) (numbers : List ℕ) → HoldsEach other numbers m → HoldsEach other numbers (hold m plan number)
+still_each law m tidy plan number is other numbers held =
+    All-weaker (HoldsIt other m) (HoldsIt other (hold m plan number)) (λ x one. (one.0, (pair_held law m tidy plan number is).still other x one.0 one.1)) numbers held
+
+still_within : NamedIsHeld → (m : KeyMap) (tidy : Tidy m) (plan number : ℕ) → IsUnheld m plan number → (walk : Walk) → IsWithin walk m → IsWithin walk (hold m plan number)
+still_within law m tidy plan number is walk within =
+    let held = pair_held law m tidy plan number is in
+    record {
+      revision = within.revision;
+      index = within.index;
+      fits = within.fits;
+      key_is = within.key_is;
+      chunks = within.chunks;
+      row = ap (get (hold m plan number)) within.key_is ∙ held.rest 82 (λ e. absurd (omega arith)) (λ e. absurd (omega arith)) _ ∙ ap (get m) (sym within.key_is) ∙ within.row;
+      held = still_each law m tidy plan number is walk.part.plan (take walk.place walk.part.numbers.items) within.held;
+    }
+
+pub still_walking : NamedIsHeld → (m : KeyMap) (plan number : ℕ) → IsUnheld m plan number → (walk : Walk) → IsWalking walk m → IsWalking walk (hold m plan number)
+still_walking law m plan number is walk was = record {
+  tidy = tidy_held law m was.tidy plan number is;
+  done = still_done law m was.tidy plan number is walk.from was.done;
+  within = λ on. still_within law m was.tidy plan number is walk (was.within on);
+  seen = still_each law m was.tidy plan number is walk.seen.plan walk.seen.numbers.items was.seen;
+}
 
 map_held : NamedIsHeld → (m : KeyMap) (new : Bool) (d : Desk) (plan number : ℕ) → IsUnheld m plan number → IsMapOf new m d → IsMapOf new (hold m plan number) d
 map_held law m new d plan number is of =

@@ -21,9 +21,12 @@ use Rattle.store_check.proofs.FirstRows.{clash, first_least, first_there, none_b
 use Rattle.store_check.proofs.Scanned.{either_way}
 use Rattle.store_check.proofs.Behind.{from_tag, starts_itself}
 use Rattle.chunk_table.specs.Holding.{Stands}
-use Rattle.desk_migration.specs.Holding.{AllAreHeld, AreHeldTo, IsUnheld, part_key}
-use Rattle.desk_migration.specs.Parts.{HasPassed, IsFirstUnheld, IsPartFrom, IsPartRow, IsUnderParts}
-use Rattle.desk_migration.proofs.Order.{behind, fewer_behind, from_behind, from_or_same}
+use Rattle.desk_migration.specs.Holding.{AllAreHeld, AreHeldTo, part_key}
+use Rattle.desk_migration.specs.Outcomes.{IsReadAs}
+use Rattle.desk_migration.specs.Parts.{IsPartFrom, IsPartRow, IsUnderParts}
+use Rattle.desk_migration.specs.Walks.{behind, HoldsEach, HoldsIt}
+use Rattle.desk_migration.specs.declared.parts.Part.{Part}
+use Rattle.desk_migration.proofs.Order.{from_behind, from_or_same}
 
 -- the first row from a key on is that of a part, or there is no part
 pub part_found : (found : Bool) (m : KeyMap) (from : List ℕ) (row : Row) → IsFirst true from row m → IsUnderParts from → starts_with nat_eq row.key parts_prefix ≡ found → IsPartFrom found from row m
@@ -71,8 +74,9 @@ numbers_are row of numbers chunks told = chunks_differ numbers of.numbers chunks
 pub part_long : (row : Row) → IsPartRow row → length row.key ≡ 14
 part_long row of = ap (λ (k : List ℕ). length k) of.key_is
 
-pub unheld_of : (m : KeyMap) (found : Option ℕ) (plan other : ℕ) (numbers others : List ℕ) → plan ≡ other → numbers ≡ others → IsFirstUnheld plan numbers m found → IsFirstUnheld other others m found
-unheld_of m found plan other numbers others plans lists is = subst (λ (l : List ℕ). IsFirstUnheld other l m found) lists (subst (λ (p : ℕ). IsFirstUnheld p numbers m found) plans is)
+-- a row that is read as a part is that of one
+pub read_as : (row : Row) (of : IsPartRow row) (read : Part) → IsReadAs row read → (read.plan ≡ of.plan) × (read.numbers.items ≡ of.numbers)
+read_as row of read is = (plan_is row of read.plan is.fits is.plan, numbers_are row of read.numbers.items is.chunks is.value)
 
 -- ---- a holding that stands is one
 pub stands_held : (m : KeyMap) (tidy : Tidy m) (plan number : ℕ) → Fits (holding plan number) → Stands true plan number m → IsHeld m plan number
@@ -85,44 +89,34 @@ named_fits m plan number is = (is.part_fits.0, All-contains (λ n. n < 2 ^ 64) i
 pub all_held : (m : KeyMap) (from : List ℕ) → NoneFrom from parts_prefix m → AreHeldTo from m → AllAreHeld m
 all_held m from none done plan number is = done plan number is (λ later. none (part_key m plan number is) (chunks_bytes is.numbers) is.row later (starts_part plan is.revision is.index))
 
--- ---- a part whose plan holds each chunk is passed
-module _ (m : KeyMap) (tidy : Tidy m) (from : List ℕ) (row : Row) (found : IsPartFrom true from row m) (of : IsPartRow row) where
+-- ---- the part that comes first from a key on
+module _ (m : KeyMap) (tidy : Tidy m) (from : List ℕ) (row : Row) (first : IsFirst true from row m) (done : AreHeldTo from m) where
   there : get m row.key ≡ Some row.value
-  there = first_there m from (row.key, row.value) found.0.0 found.0.1
+  there = first_there m from (row.key, row.value) first.0 first.1
 
-  -- a part with the same key is the same
-  same_part : IsFirstUnheld of.plan of.numbers m None → (plan number : ℕ) (is : IsNamedBy m plan number) → row.key ≡ part_key m plan number is → IsHeld m plan number
-  same_part held plan number is same =
-      let value : row.value ≡ chunks_bytes is.numbers = value_is row.value (chunks_bytes is.numbers) (sym there ∙ ap (get m) same ∙ is.row) in
-      let numbers : is.numbers ≡ of.numbers = numbers_are row of is.numbers is.chunks (sym value) in
-      let plans : plan ≡ of.plan = plan_is row of plan is.part_fits.0 (ap (λ (k : List ℕ). take 8 (drop 1 k)) (sym same)) in
-      stands_held m tidy plan number (named_fits m plan number is)
-      (subst (λ (p : ℕ). Stands true p number m) (sym plans) (held number (subst (λ (l : List ℕ). Contains l number) numbers is.among)))
+  -- no part stands between them
+  pub part_reached : AreHeldTo row.key m
+  part_reached plan number is short = either_way (is_gt (key_cmp from (part_key m plan number is))) (IsHeld m plan number)
+      (λ above. done plan number is (λ later. clash (is_gt (key_cmp from (part_key m plan number is))) above later))
+      (λ later. absurd (short (first_least m from (row.key, row.value) first.0 first.1 (part_key m plan number is) (chunks_bytes is.numbers) is.row later)))
 
-  pub part_passed : IsFirstUnheld of.plan of.numbers m None → AreHeldTo from m → HasPassed from (behind row.key) m
-  part_passed held done = record {
-    held = λ plan number is short. either_way (is_gt (key_cmp from (part_key m plan number is))) (IsHeld m plan number)
-        (λ above. done plan number is (λ later. clash (is_gt (key_cmp from (part_key m plan number is))) above later))
-        (λ later. elim (from_or_same row.key (part_key m plan number is) (first_least m from (row.key, row.value) found.0.0 found.0.1 (part_key m plan number is) (chunks_bytes is.numbers) is.row later)) [
+  module _ (of : IsPartRow row) where
+    -- a part with the same key is the same
+    same_part : HoldsEach of.plan of.numbers m → (plan number : ℕ) (is : IsNamedBy m plan number) → row.key ≡ part_key m plan number is → IsHeld m plan number
+    same_part held plan number is same =
+        let value : row.value ≡ chunks_bytes is.numbers = value_is row.value (chunks_bytes is.numbers) (sym there ∙ ap (get m) same ∙ is.row) in
+        let numbers : is.numbers ≡ of.numbers = numbers_are row of is.numbers is.chunks (sym value) in
+        let plans : plan ≡ of.plan = plan_is row of plan is.part_fits.0 (ap (λ (k : List ℕ). take 8 (drop 1 k)) (sym same)) in
+        subst (λ (p : ℕ). IsHeld m p number) (sym plans) (All-contains (HoldsIt of.plan m) of.numbers number held (subst (λ (l : List ℕ). Contains l number) numbers is.among)).1
+
+    -- one whose plan holds each chunk is passed
+    pub part_passed : HoldsEach of.plan of.numbers m → AreHeldTo (behind row.key) m
+    part_passed held plan number is short = either_way (is_gt (key_cmp row.key (part_key m plan number is))) (IsHeld m plan number)
+        (λ above. part_reached plan number is (λ later. clash (is_gt (key_cmp row.key (part_key m plan number is))) above later))
+        (λ later. elim (from_or_same row.key (part_key m plan number is) later) [
           | inl less ↦ absurd (short (from_behind row.key (part_key m plan number is) less))
           | inr same ↦ same_part held plan number is same
-        ]);
-    fewer = fewer_behind m from (row.key, row.value) found.0.0 found.0.1;
-  }
-
-  -- one that it doesn't hold is named by the part
-  pub part_unheld : (plan number : ℕ) → plan ≡ of.plan → IsFirstUnheld of.plan of.numbers m (Some number) → IsUnheld m plan number
-  part_unheld plan number same first = subst (λ (p : ℕ). IsUnheld m p number) (sym same) (
-      let is : IsNamedBy m of.plan number = record {
-        revision = of.revision;
-        index = of.index;
-        part_fits = of.fits;
-        numbers = of.numbers;
-        chunks = of.chunks;
-        row = ap (get m) (sym of.key_is) ∙ there ∙ ap Some of.value_is;
-        among = first.0;
-      } in
-      record { named = is; fits = named_fits m of.plan number is; lacks = first.1 })
+        ])
 
 -- ---- where a migration begins
 -- no part stands below the first key of parts

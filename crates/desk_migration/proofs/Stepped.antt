@@ -133,7 +133,7 @@ module _ {D : Type 0} {g : Ghosts D} where
       pub done : AreHeldTo next n
       pub all : count < 8 → AllAreHeld n
 
-    pub held_of : (disk_in b).is_honest → (m : KeyMap) → InPages a m → IsUnderWay from m → IsHeldMap (count < 8) count next u (stored a) m
+    pub held_of : (disk_in b).is_honest → (m : KeyMap) → InPages a m → IsUnderWay from m → IsHeldMap (count < 8) count (AreHeldTo next) u (stored a) m
     held_of honest m holds way = held.held honest m (start.reads (held.passed.quiet.honest honest) m holds) way
 
     pub taken_of : (disk_in b).is_honest → (m : KeyMap) (d : Desk) → InPages a m → IsOldMap m d → AreHeldTo from m → IsTaken m d

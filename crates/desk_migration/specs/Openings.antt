@@ -1,73 +1,54 @@
 -- What an opening for a migration finds, and what it leaves.
-use Rattle.std.specs.Prelude.{◌≡◌, ◌⊎◌, ◌<◌, ℕ, Bool, true, false, Result, Ok, Err}
+use Rattle.std.specs.Prelude.{◌≡◌, ◌<◌, ℕ, Bool, true, false, Result, Ok, Err}
 use Rattle.sector_device.specs.Disk.{Disk, Image}
 use Rattle.sector_device.specs.declared.SectorDevice.{Ghosts}
 use Rattle.desk_model.specs.Desk.{Desk}
 use Rattle.gate_journal.specs.Store.{pages}
 use Rattle.gate_journal.specs.Recovery.{Found}
 use Rattle.page_store.specs.Chain.{root_in, free_in}
-use Rattle.page_store.specs.Transactions.{stored, disk_in, count_of, journal_of, has_halted, IsUntouched}
+use Rattle.page_store.specs.Transactions.{stored, disk_in, count_of, journal_of, has_halted}
 use Rattle.page_store.specs.declared.pages.Pages.{Pages}
 use Rattle.page_store.specs.declared.error.PageError.{PageError}
 use Rattle.page_store.specs.declared.error.PageError.TheVariants as page
-use Rattle.page_btree.specs.Map.{Holds, InPages as HoldsRows}
+use Rattle.page_btree.specs.Map.{Holds}
 use Rattle.page_btree.specs.declared.error.TreeError.{TreeError}
 use Rattle.page_btree.specs.declared.error.TreeError.TheVariants as tree
 use Rattle.store_rows.specs.Keys.{version}
 use Rattle.store_rows.specs.Rows.{KeyMap, row_in}
 use Rattle.store_rows.specs.Tidy.{version_row}
 use Rattle.desk_opening.specs.Opening.{IsReadFrom}
-use Rattle.desk_pages.specs.Desks.{InPagesOf, OpensDeskOf, OpensOld}
-use Rattle.desk_migration.specs.Migrating.{disk_of}
+use Rattle.desk_pages.specs.Desks.{InPagesOf}
+use Rattle.desk_pages.specs.Openings.{AllOld, AllVersions, HasPages, IsOneOld}
+use Rattle.desk_migration.specs.Migrating.{disk_of, Keeps}
 use Rattle.desk_migration.specs.declared.error.MigrationOpenError.{MigrationOpenError}
 use Rattle.desk_migration.specs.declared.error.MigrationOpenError.TheVariants.{NotAStore, DeviceFault, Memory, AlreadyNew}
 use Rattle.desk_migration.specs.declared.migration.Migration.{Migration}
-
--- each image that a stop may leave opens to a desk in one of the versions
-abbrev pub AllDesks : Disk → Type 0
-AllDesks disk = (c : Image) → disk.leaves c → (new : Bool) × ((d : Desk) × OpensDeskOf new disk.sectors d c)
-
--- each does in the old version
-abbrev pub AllOld : Disk → Type 0
-AllOld disk = (c : Image) → disk.leaves c → (d : Desk) × OpensOld disk.sectors d c
-
--- the desk is that to which one of them opens, in this version
-pub record IsOneOf (new : Bool) (disk : Disk) (d : Desk) : Type 0 where
-  pub was : Image
-  pub left : disk.leaves was
-  pub opens : OpensDeskOf new disk.sectors d was
-
--- the image opens to one of these desks, in the version in which it was there
-pub record OpensOneOf (disk : Disk) (c : Image) : Type 0 where
-  pub new : Bool
-  pub desk : Desk
-  pub one : IsOneOf new disk desk
-  pub opens : OpensDeskOf new disk.sectors desk c
-
--- the pages of a store that was there, as they were
-abbrev pub HasPages : Disk → Disk → Type 0
-HasPages old new = (J : ℕ) × ((n : ℕ) × Found J n old new)
-
--- what is no store stays as it is, and so do the pages of one that holds no desk
-abbrev pub IsSpared : Disk → Disk → Type 0
-IsSpared old new = IsUntouched old new ⊎ HasPages old new
 
 -- n pages hold rows of this version alone
 abbrev pub AreOfVersion : Bool → ℕ → Image → Type 0
 AreOfVersion new n P = (m : KeyMap) → Holds n P (root_in P) (free_in P) m → row_in m version ≡ version_row new
 
+-- a desk is read from the rows that n pages hold
+abbrev pub AreRead : ℕ → Image → Type 0
+AreRead n P = (m : KeyMap) → Holds n P (root_in P) (free_in P) m → (d : Desk) × IsReadFrom m d
+
 -- The pages are those of a store that was there. Its rows are of the old version, and a desk is read from them.
 pub record IsFound {D : Type 0} {g : Ghosts D} (old : Disk) (x : Migration D g) : Type 0 where
   pub pages : Found (journal_of x.pages) (count_of x.pages) old (disk_of x)
   pub version : AreOfVersion false (count_of x.pages) (stored x.pages)
-  pub read : (m : KeyMap) → HoldsRows x.pages m → (d : Desk) × IsReadFrom m d
+  pub read : AreRead (count_of x.pages) (stored x.pages)
 
--- the pages are those of a store that was there, and its rows are of the new version
+-- The pages are those of a store that was there. Its rows are of the new version, and a desk is read from them.
 pub record IsFoundNew (old new : Disk) : Type 0 where
   pub J : ℕ
   pub n : ℕ
   pub found : Found J n old new
   pub version : AreOfVersion true n (pages J new.reads)
+  pub read : AreRead n (pages J new.reads)
+
+-- what is opened keeps one that was there in the old version
+abbrev pub KeepsOne : {D : Type 0} {g : Ghosts D} → Disk → Migration D g → Type 0
+KeepsOne old x = (d : Desk) × (Keeps x d × IsOneOld old d)
 
 abbrev pub device_after : {D : Type 0} {g : Ghosts D} → Result (Migration D g) (MigrationOpenError × D) → D
 device_after (Ok x) = x.pages.journal.device
@@ -75,7 +56,7 @@ device_after (Err e) = e.1
 
 -- why a device is not opened, by what it is like afterwards
 abbrev pub IsRefused : Disk → Disk → MigrationOpenError → Type 0
-IsRefused old new NotAStore = new.is_honest → AllDesks old → ⊥
+IsRefused old new NotAStore = new.is_honest → AllVersions old → ⊥
 IsRefused old new DeviceFault = new.is_honest → old.faults < new.faults
 IsRefused old new Memory = new.is_honest → HasPages old new
 IsRefused old new AlreadyNew = new.is_honest → IsFoundNew old new × (AllOld old → ⊥)
@@ -104,9 +85,9 @@ tree_told tree.NoPages halted = missing halted
 tree_told tree.TooDeep halted = missing halted
 
 module _ {D : Type 0} {g : Ghosts D} where
-  -- the pages hold a desk in no version; the device failed; a growth was refused; or they hold one in the new version
+  -- the pages hold a desk in no version; the device failed; a growth was refused; or they hold one in the new version, and it was read
   abbrev pub JudgeErr : Pages D g → Pages D g → MigrationOpenError → Type 0
   JudgeErr old new NotAStore = (disk_in new).is_honest → (is : Bool) (d : Desk) → InPagesOf is old d → ⊥
   JudgeErr old new DeviceFault = has_halted new ≡ true
   JudgeErr old new Memory = Unit {0}
-  JudgeErr old new AlreadyNew = (disk_in new).is_honest → AreOfVersion true (count_of old) (stored old)
+  JudgeErr old new AlreadyNew = (disk_in new).is_honest → AreOfVersion true (count_of old) (stored old) × AreRead (count_of old) (stored old)

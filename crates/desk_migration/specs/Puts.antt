@@ -44,13 +44,13 @@ page_told page.NoPages = DeviceFault
 abbrev pub version_rows : List Row
 version_rows = (key_of version, in_four 2) ∷ []
 
--- What the transaction reads then: so many pairs came to be held, and each part below a key names held chunks alone; so does each part
--- at all where `ended`.
-pub record IsHeldMap (ended : Type 0) (count : ℕ) (next : List ℕ) (u : Txn) (P : Image) (m : KeyMap) : Type 0 where
+-- What the transaction reads then: so many pairs came to be held, and this is known of it; each part at all names held chunks alone
+-- where `ended`.
+pub record IsHeldMap (ended : Type 0) (count : ℕ) (then : KeyMap → Type 0) (u : Txn) (P : Image) (m : KeyMap) : Type 0 where
   pub n : KeyMap
   pub reads : InTxn u P n
   pub by : IsHeldBy count m n
-  pub done : AreHeldTo next n
+  pub done : then n
   pub all : ended → AllAreHeld n
 
 -- so many pairs, and no more than these, ask for more pages than are free
@@ -63,22 +63,25 @@ pub record WantsPages (most : ℕ) (free : ℕ) (m : KeyMap) : Type 0 where
 
 module _ {D : Type 0} {g : Ghosts D} where
   -- ---- within a transaction
-  -- a pair writes 22 pages at most, and takes 12
-  pub record HasHeld (ended : Type 0) (count : ℕ) (from next : List ℕ) (t u : Txn) (old new : Pages D g) : Type 0 where
+  -- Of what was read, this was known, and of what is read then, that. A pair writes 22 pages at most, and takes 12.
+  pub record HasHeldAs (ended : Type 0) (count : ℕ) (has then : KeyMap → Type 0) (t u : Txn) (old new : Pages D g) : Type 0 where
     pub passed : Passed old new
     pub pages : txn_pages u ≡ txn_pages t
-    pub held : (disk_in new).is_honest → (m : KeyMap) → InTxn t (stored old) m → IsUnderWay from m → IsHeldMap ended count next u (stored old) m
+    pub held : (disk_in new).is_honest → (m : KeyMap) → InTxn t (stored old) m → has m → IsHeldMap ended count then u (stored old) m
     pub writes : txn_writes u ≤ txn_writes t + 22 * count
     pub taken : txn_free t ≤ txn_free u + 12 * count
 
+  abbrev pub HasHeld : Type 0 → ℕ → List ℕ → List ℕ → Txn → Txn → Pages D g → Pages D g → Type 0
+  HasHeld ended count from next t u old new = HasHeldAs ended count (IsUnderWay from) (AreHeldTo next) t u old new
+
   -- each chunk is held
-  abbrev pub AllAreHeldIn : List ℕ → Txn → Pages D g → Pages D g → Type 0
-  AllAreHeldIn from t old new = (disk_in new).is_honest → (m : KeyMap) → InTxn t (stored old) m → IsUnderWay from m → AllAreHeld m
+  abbrev pub AllAreHeldIn : (KeyMap → Type 0) → (KeyMap → Type 0) → Txn → Pages D g → Pages D g → Type 0
+  AllAreHeldIn has then t old new = (disk_in new).is_honest → (m : KeyMap) → InTxn t (stored old) m → has m → then m × AllAreHeld m
 
   -- one pair more is held, or none is left and nothing was written
-  abbrev pub IsTurn : Bool → List ℕ → List ℕ → Txn → Txn → Pages D g → Pages D g → Type 0
-  IsTurn true from next t u old new = HasHeld ⊥ 1 from next t u old new
-  IsTurn false from next t u old new = Passed old new × (u ≡ t) × AllAreHeldIn from t old new
+  abbrev pub IsTurn : Bool → (KeyMap → Type 0) → (KeyMap → Type 0) → Txn → Txn → Pages D g → Pages D g → Type 0
+  IsTurn true has then t u old new = HasHeldAs ⊥ 1 has then t u old new
+  IsTurn false has then t u old new = Passed old new × (u ≡ t) × AllAreHeldIn has then t old new
 
   -- the tree had six levels when the rows of a pair were put behind those of others
   pub record IsDeep (old : Pages D g) (m : KeyMap) : Type 0 where
@@ -91,12 +94,15 @@ module _ {D : Type 0} {g : Ghosts D} where
     pub deep : HasDeepened (holding_rows plan number count) txn old (hold_pairs m pairs)
 
   -- why so many pairs aren't held: the device failed, or the transaction reads no such map; too few pages were free; the tree was too deep
+  abbrev pub HoldErrOf : ℕ → (KeyMap → Type 0) → Txn → Pages D g → Pages D g → TreeError → Type 0
+  HoldErrOf most has t old new tree.DeviceFault = HasFailed old new ⊎ ((disk_in new).is_honest → (m : KeyMap) → InTxn t (stored old) m → has m → ⊥)
+  HoldErrOf most has t old new tree.Halted = has_halted old ≡ true
+  HoldErrOf most has t old new tree.NoPages = (disk_in new).is_honest → (m : KeyMap) → InTxn t (stored old) m → has m → WantsPages most (txn_free t) m
+  HoldErrOf most has t old new tree.TooDeep = (disk_in new).is_honest → (m : KeyMap) → InTxn t (stored old) m → has m → IsDeep old m
+  HoldErrOf most has t old new tree.Memory = Unit {0}
+
   abbrev pub HoldErr : ℕ → List ℕ → Txn → Pages D g → Pages D g → TreeError → Type 0
-  HoldErr most from t old new tree.DeviceFault = HasFailed old new ⊎ ((disk_in new).is_honest → (m : KeyMap) → InTxn t (stored old) m → IsUnderWay from m → ⊥)
-  HoldErr most from t old new tree.Halted = has_halted old ≡ true
-  HoldErr most from t old new tree.NoPages = (disk_in new).is_honest → (m : KeyMap) → InTxn t (stored old) m → IsUnderWay from m → WantsPages most (txn_free t) m
-  HoldErr most from t old new tree.TooDeep = (disk_in new).is_honest → (m : KeyMap) → InTxn t (stored old) m → IsUnderWay from m → IsDeep old m
-  HoldErr most from t old new tree.Memory = Unit {0}
+  HoldErr most from t old new e = HoldErrOf most (IsUnderWay from) t old new e
 
   -- ---- in pages
   -- only a fault halts, and each one does

@@ -2,11 +2,12 @@
 ghost use Rattle.std.specs.Prelude.{◌≡◌, ◌≤◌, ◌<◌, IfOk, MatchResult};
 ghost use Rattle.page_store.specs.Transactions.{count_of, txn_pages, IsQuiet};
 ghost use Rattle.desk_migration.specs.Parts.{IsUnderParts};
-ghost use Rattle.desk_migration.specs.Puts.{HasHeld, HoldErr, IsTurn};
+ghost use Rattle.desk_migration.specs.Walks.{StandsUnder};
+ghost use Rattle.desk_migration.specs.Outcomes.{HoldsAlong, HoldsNext, HoldsPairs};
 
-use crate::walks::next_pair;
+use crate::walks::{Walk, next_pair};
 use btree_scan::SmallBytes;
-use chunk_table::hold;
+use chunk_table::hold_unheld;
 use page_store::{Pages, Txn};
 use row_table::TreeError;
 use sector_device::SectorDevice;
@@ -19,26 +20,48 @@ pub(crate) const PAIRS: usize = 8;
 fn hold_next<D: SectorDevice>(
     txn: &mut Txn,
     pages: &mut Pages<D>,
-    from: &mut SmallBytes,
+    walk: &mut Walk,
 ) -> Result<bool, TreeError>
     requires begun { txn_pages txn.old ≡ count_of pages.old }
-    requires under { IsUnderParts from.old }
-    ensures under { IsUnderParts from.new }
+    requires under { StandsUnder walk.old }
+    ensures under { StandsUnder walk.new }
     ensures quiet { IsQuiet pages.old pages.new }
     ensures begun { txn_pages txn.new ≡ count_of pages.new }
-    ensures held { MatchResult result (λ found. IsTurn found from.old from.new txn.old txn.new pages.old pages.new) (λ e. HoldErr 1 from.old txn.old pages.old pages.new e) }
+    ensures held { HoldsNext walk.old walk.new txn.old txn.new pages.old pages.new result }
 {
     named_is_held();
-    match next_pair(txn, pages, from)? {
+    match next_pair(txn, pages, walk)? {
         None => Ok(false),
         Some(pair) => {
-            hold(txn, pages, pair.plan, pair.number)?;
+            hold_unheld(txn, pages, pair.plan, pair.number)?;
             Ok(true)
         }
     }
 }
 
 /// Has plans hold chunks that they name, 8 pairs at most: how many there were. Fewer come only where none is left.
+fn hold_along<D: SectorDevice>(
+    txn: &mut Txn,
+    pages: &mut Pages<D>,
+    walk: &mut Walk,
+) -> Result<usize, TreeError>
+    requires begun { txn_pages txn.old ≡ count_of pages.old }
+    requires under { StandsUnder walk.old }
+    ensures under { StandsUnder walk.new }
+    ensures quiet { IsQuiet pages.old pages.new }
+    ensures begun { txn_pages txn.new ≡ count_of pages.new }
+    ensures few { IfOk result (λ count. count ≤ 8) }
+    ensures held { HoldsAlong walk.old walk.new txn.old txn.new pages.old pages.new result }
+{
+    for held in 0..PAIRS {
+        if !hold_next(txn, pages, walk)? {
+            return Ok(held);
+        }
+    }
+    Ok(PAIRS)
+}
+
+/// The same from a key on, which goes on to that of the part that comes next.
 pub(crate) fn hold_pairs<D: SectorDevice>(
     txn: &mut Txn,
     pages: &mut Pages<D>,
@@ -50,13 +73,10 @@ pub(crate) fn hold_pairs<D: SectorDevice>(
     ensures quiet { IsQuiet pages.old pages.new }
     ensures begun { txn_pages txn.new ≡ count_of pages.new }
     ensures few { IfOk result (λ count. count ≤ 8) }
-    ensures held { MatchResult result (λ count. HasHeld (count < 8) count from.old from.new txn.old txn.new pages.old pages.new) (λ e. HoldErr 8 from.old txn.old pages.old pages.new e) }
+    ensures held { HoldsPairs from.old from.new txn.old txn.new pages.old pages.new result }
 {
-    named_is_held();
-    for held in 0..PAIRS {
-        if !hold_next(txn, pages, from)? {
-            return Ok(held);
-        }
-    }
-    Ok(PAIRS)
+    let mut walk = Walk::from_key(from.as_slice());
+    let count = hold_along(txn, pages, &mut walk)?;
+    from.set(walk.from.as_slice());
+    Ok(count)
 }

@@ -24,14 +24,14 @@ pub struct Migration<D: SectorDevice> {
 }
 
 impl<D: SectorDevice> Migration<D> {
-    ghost use Rattle.std.specs.Prelude.{◌≡◌, ◌≤◌, ◌*◌, ◌↔◌, true, false, Err, OnOk, IfOk, IfErr, IsErr};
+    ghost use Rattle.std.specs.Prelude.{◌≡◌, ◌≤◌, ◌*◌, true, false, Err, OnOk, IfOk, IfErr, IsErr};
     ghost use Rattle.desk_model.specs.Desk.{Desk};
-    ghost use Rattle.store_rows.specs.Rows.{KeyMap};
-    ghost use Rattle.desk_migration.specs.Holding.{AllAreHeld};
-    ghost use Rattle.desk_migration.specs.Migrating.{device_of, disk_of, free_of, has_ended, is_halted, room_of, sectors_of, Ends, HasMore, HasRows, Keeps, KeepsNew, Moves};
+    ghost use Rattle.desk_pages.specs.Openings.{AllVersions, IsSpared, LeavesOneAs};
+    ghost use Rattle.desk_migration.specs.Migrating.{device_of, disk_of, free_of, has_ended, is_halted, room_of, sectors_of};
+    ghost use Rattle.desk_migration.specs.Migrating.{Ends, Keeps, KeepsNew, Moves};
+    ghost use Rattle.desk_migration.specs.Outcomes.{PutsMore, TellsEnd};
     ghost use Rattle.desk_migration.specs.Puts.{FinishErr, StepErr};
-    ghost use Rattle.sector_device.specs.Moments.{LeavesOnly};
-    ghost use Rattle.desk_migration.specs.Openings.{AllDesks, IsOneOf, OpensOneOf, IsFound, IsSpared, device_after, IsRefused};
+    ghost use Rattle.desk_migration.specs.Openings.{device_after, IsFound, IsRefused, KeepsOne};
 
     /// Opens the store that a device holds, whose rows are to be of the old version: a commit that a stop cut short is finished or
     /// dropped. At any moment of it a stop leaves a desk that was there at its start, in its version. With a refusal the device comes
@@ -39,8 +39,8 @@ impl<D: SectorDevice> Migration<D> {
     pub fn open(alloc: Global, device: D) -> Result<Migration<D>, (MigrationOpenError, D)>
         ensures sectors { (D.disk (device_after result)).sectors ≡ (D.disk device).sectors }
         ensures honest { (D.disk (device_after result)).is_honest → (D.disk device).is_honest }
-        ensures any_moment { (D.disk (device_after result)).is_honest → AllDesks (D.disk device) → LeavesOnly (OpensOneOf (D.disk device)) (D.disk device) (D.disk (device_after result)) }
-        ensures opened { AllDesks (D.disk device) → IfOk result (λ x. (disk_of x).is_honest → (d : Desk) × (Keeps x d × IsOneOf false (D.disk device) d)) }
+        ensures any_moment { LeavesOneAs (D.disk device) (D.disk (device_after result)) }
+        ensures opened { AllVersions (D.disk device) → IfOk result (λ x. (disk_of x).is_honest → KeepsOne (D.disk device) x) }
         ensures found { IfOk result (λ x. (disk_of x).is_honest → IsFound (D.disk device) x) }
         ensures begins { IfOk result (λ x. has_ended x ≡ false) }
         ensures working { IfOk result (λ x. (is_halted x ≡ false) × (sectors_of x ≡ (D.disk device).sectors)) }
@@ -106,8 +106,8 @@ impl<D: SectorDevice> Migration<D> {
     pub fn step(&mut self, alloc: Global) -> Result<usize, MigrationError>
         ensures moves { Moves self.old self.new }
         ensures few { IfOk result (λ count. count ≤ 16) }
-        ensures put { (disk_of self.new).is_honest → (d : Desk) (m : KeyMap) → HasRows self.old d m → IfOk result (λ count. HasMore self.old d m count self.new) }
-        ensures exact { (disk_of self.new).is_honest → (d : Desk) (m : KeyMap) → HasRows self.old d m → IfOk result (λ count. (count ≡ 0) ↔ AllAreHeld m) }
+        ensures put { PutsMore self.old self.new result }
+        ensures exact { TellsEnd self.old self.new result }
         ensures ended { IfOk result (λ count. count ≡ 0 → has_ended self.new ≡ true) }
         ensures room { (disk_of self.new).is_honest → IfOk result (λ count. 13 * count ≤ free_of self.old) }
         ensures working { OnOk result ((is_halted self.old ≡ false) × (is_halted self.new ≡ false)) }

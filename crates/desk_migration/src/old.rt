@@ -1,19 +1,17 @@
 //! The old version of the rows: its reading, which is the one of both versions, and its writing for trials, which leads a store of the
 //! new version back. Its desk stays; no row tells then who holds a chunk.
-ghost use Rattle.std.specs.Prelude.{◌≡◌, true, false, OnOk, IfOk};
-ghost use Rattle.page_store.specs.Transactions.{stored, disk_in, count_of, has_halted, txn_pages, HasShape, IsQuiet, Passed};
-ghost use Rattle.page_btree.specs.Map.{InTxn};
+ghost use Rattle.std.specs.Prelude.{◌≡◌, false, OnOk};
+ghost use Rattle.page_store.specs.Transactions.{disk_in, count_of, has_halted, txn_pages, HasShape, IsQuiet, Passed};
 ghost use Rattle.desk_model.specs.Desk.{Desk};
-ghost use Rattle.store_rows.specs.Rows.{KeyMap};
-ghost use Rattle.desk_pages.specs.Desks.{InPages, InPagesOf, InTxnOf, OpensEither};
+ghost use Rattle.desk_pages.specs.Desks.{InPages, InPagesOf, OpensEither};
 ghost use Rattle.desk_pages.specs.Moments.{StopsLeave};
-ghost use Rattle.desk_migration.specs.TurningBack.{IsTakenFirst, IsWithout};
+ghost use Rattle.desk_migration.specs.Outcomes.{TakesAll, TakesFirst, TakesVersion};
 
 use crate::error::MigrationError;
+use btree_removes::remove;
 use btree_scan::{Row, row_limit};
 pub use desk_opening::read_desk;
 use desk_pages::commit_txn;
-use page_btree::remove;
 use page_store::{PageError, Pages, Txn};
 use row_table::TreeError;
 use sector_device::SectorDevice;
@@ -31,7 +29,7 @@ fn take_first<D: SectorDevice>(
     ensures quiet { IsQuiet pages.old pages.new }
     ensures passed { OnOk result (Passed pages.old pages.new) }
     ensures begun { txn_pages txn.new ≡ count_of pages.new }
-    ensures taken { (disk_in pages.new).is_honest → (m : KeyMap) → InTxn txn.old (stored pages.old) m → IfOk result (λ found. IsTakenFirst found tag txn.new (stored pages.old) m) }
+    ensures taken { TakesFirst tag txn.old txn.new pages.old pages.new result }
 {
     if !first_from(txn, pages, &[tag], row)? {
         return Ok(false);
@@ -53,7 +51,7 @@ fn take_all<D: SectorDevice>(txn: &mut Txn, pages: &mut Pages<D>, tag: u8) -> Re
     ensures quiet { IsQuiet pages.old pages.new }
     ensures passed { OnOk result (Passed pages.old pages.new) }
     ensures begun { txn_pages txn.new ≡ count_of pages.new }
-    ensures without { (disk_in pages.new).is_honest → (m : KeyMap) → InTxn txn.old (stored pages.old) m → OnOk result (IsWithout tag txn.new (stored pages.old) m) }
+    ensures without { TakesAll tag txn.old txn.new pages.old pages.new result }
 {
     let mut row = Row::empty();
     for taken in 0..row_limit(txn) {
@@ -70,7 +68,7 @@ fn take_new<D: SectorDevice>(txn: &mut Txn, pages: &mut Pages<D>) -> Result<(), 
     ensures quiet { IsQuiet pages.old pages.new }
     ensures passed { OnOk result (Passed pages.old pages.new) }
     ensures begun { txn_pages txn.new ≡ count_of pages.new }
-    ensures old { (disk_in pages.new).is_honest → (d : Desk) → InTxnOf true txn.old (stored pages.old) d → OnOk result (InTxnOf false txn.new (stored pages.old) d) }
+    ensures old { TakesVersion txn.old txn.new pages.old pages.new result }
 {
     take_all(txn, pages, b'H')?;
     take_all(txn, pages, b'K')?;

@@ -1,11 +1,7 @@
 //! Opens a store for its migration.
 ghost use Rattle.std.specs.Prelude.{◌≡◌, false, OnOk, IfErr};
 ghost use Rattle.page_store.specs.Transactions.{stored, disk_in, count_of, has_halted, IsQuiet, Passed};
-ghost use Rattle.page_btree.specs.Map.{InPages};
-ghost use Rattle.desk_model.specs.Desk.{Desk};
-ghost use Rattle.store_rows.specs.Rows.{KeyMap};
-ghost use Rattle.desk_opening.specs.Opening.{IsReadFrom};
-ghost use Rattle.desk_migration.specs.Openings.{AreOfVersion, JudgeErr, page_told, tree_told};
+ghost use Rattle.desk_migration.specs.Openings.{AreOfVersion, AreRead, JudgeErr, page_told, tree_told};
 
 use crate::error::MigrationOpenError;
 use desk_opening::{is_new, read_desk};
@@ -49,7 +45,7 @@ pub(crate) fn judge<D: SectorDevice>(
     ensures quiet { IsQuiet pages.old pages.new }
     ensures passed { OnOk result (Passed pages.old pages.new) }
     ensures version { (disk_in pages.new).is_honest → OnOk result (AreOfVersion false (count_of pages.old) (stored pages.old)) }
-    ensures read { (disk_in pages.new).is_honest → OnOk result ((m : KeyMap) → InPages pages.old m → (d : Desk) × IsReadFrom m d) }
+    ensures read { (disk_in pages.new).is_honest → OnOk result (AreRead (count_of pages.old) (stored pages.old)) }
     ensures err { IfErr result (λ e. JudgeErr pages.old pages.new e) }
 {
     let txn = pages.begin(alloc);

@@ -1,20 +1,37 @@
 //! Parts of revisions, and the chunks that they name.
 ghost use Rattle.std.specs.Prelude.{◌≡◌, ◌<◌, ◌≤◌, ◌^◌, ◌++◌, [], ◌∷◌, length, take, drop, true, OnOk, IfOk, IfErr};
-ghost use Rattle.page_store.specs.Transactions.{stored, disk_in, count_of, txn_pages, IsQuiet, Passed};
-ghost use Rattle.page_btree.specs.Map.{InTxn};
-ghost use Rattle.page_btree.specs.Errors.{GetErr};
+ghost use Rattle.page_store.specs.Transactions.{count_of, txn_pages, IsQuiet, Passed};
 ghost use Rattle.row_table.specs.Reading.{ReadErr};
 ghost use Rattle.store_rows.specs.Keys.{in_eight};
-ghost use Rattle.store_rows.specs.Rows.{KeyMap};
-ghost use Rattle.desk_migration.specs.Parts.{IsFirstUnheld, IsPairIn, IsPartFrom, IsPartRow, IsUnderParts};
+ghost use Rattle.desk_migration.specs.Parts.{IsUnderParts};
+ghost use Rattle.desk_migration.specs.Outcomes.{FindsPart, IsNamedAt, ReadsPart};
 
+use arrayvec::ArrayVec;
 use btree_scan::Row;
-use chunk_table::is_held;
 use page_store::{Pages, Txn};
 use row_table::TreeError;
 use sector_device::SectorDevice;
 use store_check::first_from;
-use store_rows::{Key, read_chunks};
+use store_rows::{Key, PART_CHUNKS, read_chunks};
+
+/// A part of a revision: its plan, and the chunks that it names.
+#[derive(Drop)]
+pub(crate) struct Part {
+    pub(crate) plan: u64,
+    pub(crate) numbers: ArrayVec<u64, PART_CHUNKS>,
+}
+
+impl Part {
+    /// A part that names no chunk.
+    pub(crate) fn empty() -> Part
+        ensures { result.numbers.items ≡ [] }
+    {
+        Part {
+            plan: 0,
+            numbers: ArrayVec::new(),
+        }
+    }
+}
 
 /// A plan, and a chunk that it is to hold.
 #[derive(Clone, Copy, Drop)]
@@ -67,7 +84,7 @@ pub(crate) fn part_from<D: SectorDevice>(
     requires under { IsUnderParts from.now }
     ensures quiet { IsQuiet pages.old pages.new }
     ensures passed { OnOk result (Passed pages.old pages.new) }
-    ensures found { (disk_in pages.new).is_honest → (m : KeyMap) → InTxn txn.now (stored pages.old) m → IfOk result (λ found. IsPartFrom found from.now row.new m) }
+    ensures found { FindsPart from.now row.new txn.now pages.old pages.new result }
     ensures under { IfOk result (λ found. found ≡ true → IsUnderParts row.new.key) }
     ensures err { IfErr result (λ e. ReadErr (λ m. Unit {0}) txn.now pages.old pages.new e) }
 {
@@ -77,51 +94,31 @@ pub(crate) fn part_from<D: SectorDevice>(
     Ok(row.key.as_slice().starts_with(Key::parts().as_slice()))
 }
 
-/// The first of these chunks that a plan doesn't hold, if there is one.
-fn first_unheld<D: SectorDevice>(
-    txn: &Txn,
-    pages: &mut Pages<D>,
-    plan: u64,
-    numbers: &[u64],
-) -> Result<Option<u64>, TreeError>
-    requires begun { txn_pages txn.now ≡ count_of pages.old }
-    ensures quiet { IsQuiet pages.old pages.new }
-    ensures passed { OnOk result (Passed pages.old pages.new) }
-    ensures first { (disk_in pages.new).is_honest → (m : KeyMap) → InTxn txn.now (stored pages.old) m → IfOk result (IsFirstUnheld plan numbers.now m) }
-    ensures err { IfErr result (λ e. GetErr txn.now pages.old pages.new e) }
-{
-    for number in numbers {
-        if !is_held(txn, pages, plan, *number)? {
-            return Ok(Some(*number));
-        }
-    }
-    Ok(None)
-}
-
-/// The plan of a part and the first chunk named by it that the plan doesn't hold, if there is one. `DeviceFault` comes also where the row
-/// isn't that of a part.
-pub(crate) fn pair_in<D: SectorDevice>(
-    txn: &Txn,
-    pages: &mut Pages<D>,
-    row: &Row,
-) -> Result<Option<Pair>, TreeError>
-    requires begun { txn_pages txn.now ≡ count_of pages.old }
-    ensures quiet { IsQuiet pages.old pages.new }
-    ensures passed { OnOk result (Passed pages.old pages.new) }
-    ensures long { OnOk result (length row.now.key ≡ 14) }
-    ensures pair { (disk_in pages.new).is_honest → (m : KeyMap) → InTxn txn.now (stored pages.old) m → IfOk result (IsPairIn row.now m) }
-    ensures err { IfErr result (λ e. ReadErr (λ m. IsPartRow row.now) txn.now pages.old pages.new e) }
+/// The part that a row tells; None where it isn't that of a part.
+pub(crate) fn read_part(row: &Row) -> Option<Part>
+    ensures { ReadsPart row.now result }
 {
     let key = row.key.as_slice();
     if key.len() != 14 {
-        return Err(TreeError::DeviceFault);
+        return None;
     }
     let plan = plan_in(key);
-    let Some(numbers) = read_chunks(row.value.as_slice()) else {
-        return Err(TreeError::DeviceFault);
-    };
-    match first_unheld(txn, pages, plan, numbers.as_slice())? {
-        None => Ok(None),
-        Some(number) => Ok(Some(Pair { plan, number })),
+    match read_chunks(row.value.as_slice()) {
+        None => None,
+        Some(numbers) => Some(Part { plan, numbers }),
     }
+}
+
+/// Whether a part of this plan names this chunk at this place too.
+pub(crate) fn names_too(part: &Part, plan: u64, place: usize, number: u64) -> bool
+    ensures { result ≡ true → IsNamedAt part.now plan place number }
+{
+    let numbers = part.numbers.as_slice();
+    if part.plan != plan {
+        return false;
+    }
+    if place >= numbers.len() {
+        return false;
+    }
+    numbers[place] == number
 }

@@ -1,14 +1,12 @@
 //! Writes the rows of the new version.
 ghost use Rattle.std.specs.Prelude.{◌≡◌, ◌≤◌, ◌*◌, Err, true, false, OnOk, OnErr, IfOk, IfErr};
 ghost use Rattle.page_store.specs.Transactions.{disk_in, has_halted, HasShape, IsKept, IsSame};
-ghost use Rattle.page_btree.specs.Map.{InPages};
 ghost use Rattle.desk_model.specs.Desk.{Desk};
-ghost use Rattle.store_rows.specs.Rows.{KeyMap};
-ghost use Rattle.desk_pages.specs.Desks.{IsOldMap, InPages as HoldsDesk, OpensEither, OpensOld};
+ghost use Rattle.desk_pages.specs.Desks.{InPages as HoldsDesk, OpensEither, OpensOld};
 ghost use Rattle.desk_pages.specs.Moments.{StopsLeave};
-ghost use Rattle.desk_migration.specs.Holding.{AreHeldTo};
 ghost use Rattle.desk_migration.specs.Parts.{IsUnderParts};
-ghost use Rattle.desk_migration.specs.Puts.{FinishErr, HoldsAll, HoldsMore, HoldsTo, StepErr, TellsFaults, free_of};
+ghost use Rattle.desk_migration.specs.Outcomes.{PutsHoldings};
+ghost use Rattle.desk_migration.specs.Puts.{FinishErr, HoldsAll, HoldsTo, StepErr, TellsFaults, free_of};
 
 use crate::commits::commit;
 use crate::error::MigrationError;
@@ -34,7 +32,7 @@ pub(crate) fn put_holdings<D: SectorDevice>(
     ensures honest { (disk_in pages.new).is_honest → (disk_in pages.old).is_honest }
     ensures any_moment { StopsLeave (HoldsTo from.old pages.old) OpensOld pages.old pages.new }
     ensures few { IfOk result (λ count. count ≤ 16) }
-    ensures held { (disk_in pages.new).is_honest → (m : KeyMap) (d : Desk) → InPages pages.old m → IsOldMap m d → AreHeldTo from.old m → IfOk result (λ count. HoldsMore count m d from.new pages.new) }
+    ensures held { PutsHoldings from.old from.new pages.old pages.new result }
     ensures room { (disk_in pages.new).is_honest → IfOk result (λ count. 13 * count ≤ free_of pages.old) }
     ensures kept { (disk_in pages.new).is_honest → OnOk result (IsKept pages.new) }
     ensures faults { TellsFaults pages.old pages.new }

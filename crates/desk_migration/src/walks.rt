@@ -1,62 +1,218 @@
 //! Goes over the parts of revisions, to the next chunk that isn't held.
-ghost use Rattle.std.specs.Prelude.{◌≡◌, OnOk, IfOk, IfErr};
-ghost use Rattle.page_store.specs.Transactions.{stored, disk_in, count_of, txn_pages, IsQuiet, Passed};
-ghost use Rattle.page_btree.specs.Map.{InTxn};
+ghost use Rattle.std.specs.Prelude.{◌≡◌, ◌≤◌, [], length, true, false, OnOk, IfOk, IfErr, IfSome};
+ghost use Rattle.page_store.specs.Transactions.{count_of, txn_pages, IsQuiet, Passed};
+ghost use Rattle.page_btree.specs.Errors.{GetErr};
 ghost use Rattle.row_table.specs.Reading.{ReadErr};
-ghost use Rattle.store_rows.specs.Rows.{KeyMap};
 ghost use Rattle.store_rows.specs.Tidy.{Tidy};
-ghost use Rattle.desk_migration.specs.Parts.{IsNextPair, IsUnderParts, IsUnderWay, Looks};
+ghost use Rattle.chunk_table.specs.Holding.{IsUnheld};
+ghost use Rattle.desk_migration.specs.Walks.{behind, IsUnheldAt, IsUnheldIn, IsWalking, StandsUnder};
+ghost use Rattle.desk_migration.specs.Outcomes.{EntersPart, FindsNext, FindsUnheld, LooksAt, TellsAt};
 
-use crate::parts::{Look, Pair, key_behind, pair_in, part_from};
+use crate::parts::{Look, Pair, Part, key_behind, names_too, part_from, read_part};
 use btree_scan::{Row, SmallBytes, row_limit};
+use chunk_table::is_held;
 use page_store::{Pages, Txn};
 use row_table::TreeError;
 use sector_device::SectorDevice;
+use std::mem;
 
-/// Looks at the next part behind a key, and goes on behind it where its plan holds each chunk that it names. `row` is room for it.
+/// A walk over parts of revisions, to the chunks that they name and their plans don't hold.
+#[derive(Drop)]
+pub(crate) struct Walk {
+    /// Each part whose key is below this one names chunks alone that its plan holds.
+    pub(crate) from: SmallBytes,
+    /// The part under that key is being gone over.
+    pub(crate) is_within: bool,
+    /// That part.
+    pub(crate) part: Part,
+    /// So many of its chunks, the first ones, are held by its plan.
+    pub(crate) place: usize,
+    /// The part passed last, whose plan holds each chunk that it names.
+    pub(crate) seen: Part,
+}
+
+impl Walk {
+    /// A walk that begins at a key.
+    pub(crate) fn from_key(key: &[u8]) -> Walk
+        requires { length key.now ≤ 1024 }
+        ensures from { result.from ≡ key.now }
+        ensures outside { result.is_within ≡ false }
+        ensures none_seen { result.seen.numbers.items ≡ [] }
+    {
+        let mut from = SmallBytes::empty();
+        from.set(key);
+        Walk {
+            from,
+            is_within: false,
+            part: Part::empty(),
+            place: 0,
+            seen: Part::empty(),
+        }
+    }
+}
+
+/// Whether a plan holds a chunk that a part names at a place. One that the part passed last names there too isn't looked up.
+fn is_held_at<D: SectorDevice>(
+    txn: &Txn,
+    pages: &mut Pages<D>,
+    seen: &Part,
+    plan: u64,
+    place: usize,
+    number: u64,
+) -> Result<bool, TreeError>
+    requires begun { txn_pages txn.now ≡ count_of pages.old }
+    ensures quiet { IsQuiet pages.old pages.new }
+    ensures passed { OnOk result (Passed pages.old pages.new) }
+    ensures held { TellsAt seen.now plan number txn.now pages.old pages.new result }
+    ensures unheld { IfOk result (λ is. is ≡ false → IsUnheld plan number txn.now pages.new) }
+    ensures err { IfErr result (λ e. GetErr txn.now pages.old pages.new e) }
+{
+    if names_too(seen, plan, place, number) {
+        return Ok(true);
+    }
+    is_held(txn, pages, plan, number)
+}
+
+/// The place of the first chunk of a part, from one on, that its plan doesn't hold, if there is one.
+fn first_unheld<D: SectorDevice>(
+    txn: &Txn,
+    pages: &mut Pages<D>,
+    part: &Part,
+    seen: &Part,
+    from: usize,
+) -> Result<Option<usize>, TreeError>
+    requires begun { txn_pages txn.now ≡ count_of pages.old }
+    ensures quiet { IsQuiet pages.old pages.new }
+    ensures passed { OnOk result (Passed pages.old pages.new) }
+    ensures first { FindsUnheld part.now seen.now from txn.now pages.old pages.new result }
+    ensures unheld { IfOk result (λ found. IfSome found (λ place. IsUnheldAt part.now place txn.now pages.new)) }
+    ensures err { IfErr result (λ e. GetErr txn.now pages.old pages.new e) }
+{
+    let plan = part.plan;
+    let numbers = part.numbers.as_slice();
+    for place in from..numbers.len() {
+        if !is_held_at(txn, pages, seen, plan, place, numbers[place])? {
+            return Ok(Some(place));
+        }
+    }
+    Ok(None)
+}
+
+/// Reads the next part behind the walk's key: whether there is one.
+fn read_next<D: SectorDevice>(
+    txn: &Txn,
+    pages: &mut Pages<D>,
+    walk: &mut Walk,
+) -> Result<bool, TreeError>
+    requires begun { txn_pages txn.now ≡ count_of pages.old }
+    requires under { StandsUnder walk.old }
+    ensures under { StandsUnder walk.new }
+    ensures quiet { IsQuiet pages.old pages.new }
+    ensures passed { OnOk result (Passed pages.old pages.new) }
+    ensures within { IfOk result (λ found. found ≡ true → walk.new.is_within ≡ true) }
+    ensures entered { EntersPart walk.old walk.new txn.now pages.old pages.new result }
+    ensures err { IfErr result (λ e. ReadErr Tidy txn.now pages.old pages.new e) }
+{
+    let mut row = Row::empty();
+    if !part_from(txn, pages, walk.from.as_slice(), &mut row)? {
+        return Ok(false);
+    }
+    let Some(part) = read_part(&row) else {
+        return Err(TreeError::DeviceFault);
+    };
+    walk.from.set(row.key.as_slice());
+    walk.part = part;
+    walk.place = 0;
+    walk.is_within = true;
+    Ok(true)
+}
+
+/// Goes into the next part behind the walk's key, where the walk isn't within one: whether it is within one then.
+fn enter<D: SectorDevice>(
+    txn: &Txn,
+    pages: &mut Pages<D>,
+    walk: &mut Walk,
+) -> Result<bool, TreeError>
+    requires begun { txn_pages txn.now ≡ count_of pages.old }
+    requires under { StandsUnder walk.old }
+    ensures under { StandsUnder walk.new }
+    ensures quiet { IsQuiet pages.old pages.new }
+    ensures passed { OnOk result (Passed pages.old pages.new) }
+    ensures within { IfOk result (λ found. found ≡ true → walk.new.is_within ≡ true) }
+    ensures entered { EntersPart walk.old walk.new txn.now pages.old pages.new result }
+    ensures err { IfErr result (λ e. ReadErr Tidy txn.now pages.old pages.new e) }
+{
+    if walk.is_within {
+        return Ok(true);
+    }
+    read_next(txn, pages, walk)
+}
+
+/// Goes on behind the part, whose plan holds each chunk that it names.
+fn pass(walk: &mut Walk)
+    requires under { StandsUnder walk.old }
+    requires within { walk.old.is_within ≡ true }
+    ensures under { StandsUnder walk.new }
+    ensures from { walk.new.from ≡ behind walk.old.from }
+    ensures outside { walk.new.is_within ≡ false }
+    ensures seen { walk.new.seen ≡ walk.old.part }
+{
+    let behind = key_behind(walk.from.as_slice());
+    walk.from.set(&behind);
+    walk.is_within = false;
+    mem::swap(&mut walk.seen, &mut walk.part);
+}
+
+/// Looks at the part that the walk is within or comes to next, and goes on behind it where its plan holds each chunk that it names.
 fn look<D: SectorDevice>(
     txn: &Txn,
     pages: &mut Pages<D>,
-    from: &mut SmallBytes,
-    row: &mut Row,
+    walk: &mut Walk,
 ) -> Result<Look, TreeError>
     requires begun { txn_pages txn.now ≡ count_of pages.old }
-    requires under { IsUnderParts from.old }
-    ensures under { IsUnderParts from.new }
+    requires under { StandsUnder walk.old }
+    ensures under { StandsUnder walk.new }
     ensures quiet { IsQuiet pages.old pages.new }
     ensures passed { OnOk result (Passed pages.old pages.new) }
-    ensures looks { (disk_in pages.new).is_honest → (m : KeyMap) → InTxn txn.now (stored pages.old) m → IsUnderWay from.old m → IfOk result (λ look. Looks look from.old from.new m) }
+    ensures looks { LooksAt walk.old walk.new txn.now pages.old pages.new result }
+    ensures unheld { IfOk result (λ look. IsUnheldIn look txn.now pages.new) }
     ensures err { IfErr result (λ e. ReadErr Tidy txn.now pages.old pages.new e) }
 {
-    if !part_from(txn, pages, from.as_slice(), row)? {
+    if !enter(txn, pages, walk)? {
         return Ok(Look::Ended);
     }
-    match pair_in(txn, pages, row)? {
-        Some(pair) => Ok(Look::Found(pair)),
+    let found = first_unheld(txn, pages, &walk.part, &walk.seen, walk.place)?;
+    match found {
+        Some(place) => {
+            let number = walk.part.numbers.as_slice()[place];
+            walk.place = place;
+            let plan = walk.part.plan;
+            Ok(Look::Found(Pair { plan, number }))
+        }
         None => {
-            from.set(&key_behind(row.key.as_slice()));
+            pass(walk);
             Ok(Look::Passed)
         }
     }
 }
 
-/// The next pair of a plan and a chunk that it names and doesn't hold, if there is one. `from` goes on to the part that names it.
+/// The next pair of a plan and a chunk that it names and doesn't hold, if there is one. The walk goes on to it.
 pub(crate) fn next_pair<D: SectorDevice>(
     txn: &Txn,
     pages: &mut Pages<D>,
-    from: &mut SmallBytes,
+    walk: &mut Walk,
 ) -> Result<Option<Pair>, TreeError>
     requires begun { txn_pages txn.now ≡ count_of pages.old }
-    requires under { IsUnderParts from.old }
-    ensures under { IsUnderParts from.new }
+    requires under { StandsUnder walk.old }
+    ensures under { StandsUnder walk.new }
     ensures quiet { IsQuiet pages.old pages.new }
     ensures passed { OnOk result (Passed pages.old pages.new) }
-    ensures next { (disk_in pages.new).is_honest → (m : KeyMap) → InTxn txn.now (stored pages.old) m → IsUnderWay from.old m → IfOk result (IsNextPair from.new m) }
-    ensures err { IfErr result (λ e. ReadErr (IsUnderWay from.old) txn.now pages.old pages.new e) }
+    ensures next { FindsNext walk.old walk.new txn.now pages.old pages.new result }
+    ensures unheld { IfOk result (λ found. IfSome found (λ pair. IsUnheld pair.plan pair.number txn.now pages.new)) }
+    ensures err { IfErr result (λ e. ReadErr (IsWalking walk.old) txn.now pages.old pages.new e) }
 {
-    let mut row = Row::empty();
     for taken in 0..row_limit(txn) {
-        match look(txn, pages, from, &mut row)? {
+        match look(txn, pages, walk)? {
             Look::Ended => return Ok(None),
             Look::Found(pair) => return Ok(Some(pair)),
             Look::Passed => {}

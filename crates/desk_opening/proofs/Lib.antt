@@ -10,3 +10,4 @@ pub mod WholeDesks
 mod Shown
 mod Seals
 mod PlanNumbers
+pub mod Owned

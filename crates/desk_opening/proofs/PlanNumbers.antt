@@ -1,10 +1,9 @@
--- Numbers of plans, each once.
+-- Numbers of plans, each once, with the counts of their revisions.
 use Rattle.std.proofs.Common.{◌≡◌, ◌⊎◌, ◌<◌, ◌^◌, ℕ, zero, suc, cond, List, [], ◌∷◌, ◌++◌, Bool, true, false, Option, Some, None, inl, inr, w64, refl, sym, ap, subst, ◌∙◌, arith, append_assoc}
 use Rattle.std.specs.Prelude.{Contains}
-use Rattle.std.specs.BTreeMap.{is_at}
-use Rattle.std.specs.BTreeSet.{BTreeSet, IsEmpty, contains}
+use Rattle.std.specs.BTreeMap.{BTreeMap, IsEmpty, is_at, get as count_at}
+use Rattle.std.specs.Map.{lookup}
 use Rattle.std.specs.Cmp.{eq_by_cmp_equiv, nat_cmp_total}
-use Rattle.std.specs.List.{list_any}
 use Rattle.std.specs.Int.{from_be_bytes}
 use Rattle.std.specs.Ordering.{eq_by_cmp, nat_cmp}
 use Rattle.std.proofs.lemmas.Map.Lookups.{exact_unsigned}
@@ -35,7 +34,7 @@ use Rattle.store_rows.proofs.Frames.{is_equal, itself, same_key}
 use Rattle.store_rows.specs.Tidy.{IsNumbered}
 use Rattle.store_rows.proofs.OneGeography.{no_value, value_is}
 use Rattle.row_table.specs.Appending.{AppendErr}
-use Rattle.desk_opening.specs.Opening.{ArePlans, ArePlansApart, IsFreshPlan, IsNoted, IsUnused, NoteErr}
+use Rattle.desk_opening.specs.Opening.{AreCounts, ArePlans, ArePlansApart, HasNoPlans, IsFreshPlan, IsNoted, IsUnused, NoteErr}
 use Rattle.desk_opening.proofs.NewPlans.{is_kept_plan}
 use Rattle.desk_opening.proofs.Parts.{Plans}
 use Rattle.desk_opening.proofs.Scanned.{found_among, next_plan}
@@ -100,65 +99,100 @@ apart_more (x ∷ xs) y apart new = (
   apart_more xs y apart.1 (λ there. new (later_in x y xs there)),
 )
 
--- these are the numbers of the rows, each of which has one of its own
-pub record AreNoted (rows : List Entry) (numbers : BTreeSet ℕ) : Type 0 where
-  pub among : (x : ℕ) → contains nat_cmp numbers x ≡ true → Contains (numbers_of rows) x
-  pub all : (x : ℕ) → Contains (numbers_of rows) x → contains nat_cmp numbers x ≡ true
+-- a number is that of a row, which counts so many revisions
+pub record IsAmong (rows : List Entry) (number count : ℕ) : Type 0 where
+  pub before : List Entry
+  pub row : Entry
+  pub after : List Entry
+  pub whole : rows ≡ before ++ row ∷ after
+  pub plan : PlanRow
+  pub value : row.1 ≡ plan_bytes plan
+  pub is : plan.number ≡ number
+  pub fits : number < 2 ^ 64
+  pub counts : plan.revisions ≡ count
+  pub count_fits : count < 2 ^ 32
+
+-- these are the numbers of the rows, each of which has one of its own, with the counts of revisions
+pub record AreNoted (rows : List Entry) (counts : BTreeMap ℕ ℕ) : Type 0 where
+  pub among : (x count : ℕ) → count_at nat_cmp counts x ≡ Some count → IsAmong rows x count
+  pub all : (x : ℕ) → Contains (numbers_of rows) x → (count : ℕ) × (count_at nat_cmp counts x ≡ Some count)
   pub apart : AreApart (numbers_of rows)
 
-not_both : (b : Bool) → b ≡ true → b ≡ false → ⊥
-not_both b on off = let clash : true ≡ false = sym on ∙ off in cc
+pub some_or_none : (count : ℕ) → ◌≡◌ {A = Option ℕ} (Some count) None → ⊥
+some_or_none count same = cc
 
-pub none_noted : (numbers : BTreeSet ℕ) → IsEmpty numbers → AreNoted [] numbers
-none_noted numbers empty = record {
-  among = λ x there. absurd (not_both (contains nat_cmp numbers x) there (ap (λ (keys : List ℕ). list_any (is_at (nat_cmp x)) keys) empty));
+count_is : (x y : ℕ) → ◌≡◌ {A = Option ℕ} (Some x) (Some y) → x ≡ y
+count_is x y same = cc
+
+none_at : (counts : BTreeMap ℕ ℕ) → IsEmpty counts → (x : ℕ) → count_at nat_cmp counts x ≡ None
+none_at counts empty x = ap (λ (es : List (ℕ × ℕ)). lookup (is_at (nat_cmp x)) es) empty
+
+pub none_noted : (counts : BTreeMap ℕ ℕ) → IsEmpty counts → AreNoted [] counts
+none_noted counts empty = record {
+  among = λ x count there. absurd (some_or_none count (sym there ∙ none_at counts empty x));
   all = λ x there. absurd (none_in x there);
   apart = tt;
 }
 
--- ---- a set with one number more
+-- ---- a map with one number more
 is_same : (x y : ℕ) → is_at (nat_cmp x) y ≡ true → x ≡ y
 is_same x y same = tells_apart exact_unsigned x y same
 
 at_itself : (x y : ℕ) → x ≡ y → is_at (nat_cmp x) y ≡ true
 at_itself x y same = subst (λ (n : ℕ). is_at (nat_cmp x) n ≡ true) same ((eq_by_cmp_equiv nat_cmp_total).refl x)
 
-pub noted_more : (rows : List Entry) (row : Row) (old new : BTreeSet ℕ) → AreNoted rows old → IsNoted row old new → AreNoted (rows ++ (row.key, row.value) ∷ []) new
+among_more : (rows : List Entry) (e : Entry) (x count : ℕ) → IsAmong rows x count → IsAmong (rows ++ e ∷ []) x count
+among_more rows e x count at = record {
+  before = at.before;
+  row = at.row;
+  after = at.after ++ e ∷ [];
+  whole = ap (λ (l : List Entry). l ++ e ∷ []) at.whole ∙ append_assoc at.before (at.row ∷ at.after) (e ∷ []);
+  plan = at.plan;
+  value = at.value;
+  is = at.is;
+  fits = at.fits;
+  counts = at.counts;
+  count_fits = at.count_fits;
+}
+
+pub noted_more : (rows : List Entry) (row : Row) (old new : BTreeMap ℕ ℕ) → AreNoted rows old → IsNoted row old new → AreNoted (rows ++ (row.key, row.value) ∷ []) new
 noted_more rows row old new noted now = record {
-  among = λ x there. subst (λ (l : List ℕ). Contains l x) (sym listed) (either_way (is_at (nat_cmp n) x) (Contains (numbers_of rows ++ n ∷ []) x)
-      (λ here. last_in n x (numbers_of rows) (is_same n x here))
-      (λ other. before_in (numbers_of rows) n x (noted.among x (sym (now.is.2 x other) ∙ there))));
+  among = λ x count there. either_way (is_at (nat_cmp n) x) (IsAmong (rows ++ e ∷ []) x count)
+      (λ here.
+      let same : n ≡ x = is_same n x here in
+      let counted : now.plan.revisions ≡ count = count_is now.plan.revisions count (sym (now.is.0 x ∙ ap (λ (b : Bool). cond b (Some now.plan.revisions) (count_at nat_cmp old x)) here) ∙ there) in
+      record {
+        before = rows;
+        row = e;
+        after = [];
+        whole = refl;
+        plan = now.plan;
+        value = now.value;
+        is = same;
+        fits = subst (λ (k : ℕ). k < 2 ^ 64) same now.fits;
+        counts = counted;
+        count_fits = subst (λ (k : ℕ). k < 2 ^ 32) counted now.count_fits;
+      })
+      (λ other. among_more rows e x count (noted.among x count (sym (now.is.2 x other) ∙ there)));
   all = λ x there. elim (of_more (numbers_of rows) n x (subst (λ (l : List ℕ). Contains l x) listed there)) [
-    | inl before ↦ either_way (is_at (nat_cmp n) x) (contains nat_cmp new x ≡ true)
-        (λ here. now.is.0 x ∙ ap (λ (b : Bool). cond b true (contains nat_cmp old x)) here)
-        (λ other. now.is.2 x other ∙ noted.all x before)
-    | inr same ↦ now.is.0 x ∙ ap (λ (b : Bool). cond b true (contains nat_cmp old x)) (at_itself n x same)
+    | inl before ↦ either_way (is_at (nat_cmp n) x) ((count : ℕ) × (count_at nat_cmp new x ≡ Some count))
+        (λ here. (now.plan.revisions, now.is.0 x ∙ ap (λ (b : Bool). cond b (Some now.plan.revisions) (count_at nat_cmp old x)) here))
+        (λ other. let was = noted.all x before in (was.0, now.is.2 x other ∙ was.1))
+    | inr same ↦ (now.plan.revisions, now.is.0 x ∙ ap (λ (b : Bool). cond b (Some now.plan.revisions) (count_at nat_cmp old x)) (at_itself n x same))
   ];
-  apart = subst AreApart (sym listed) (apart_more (numbers_of rows) n noted.apart (λ there. not_both (contains nat_cmp old n) (noted.all n there) now.unused));
+  apart = subst AreApart (sym listed) (apart_more (numbers_of rows) n noted.apart (λ there. let was = noted.all n there in some_or_none was.0 (sym was.1 ∙ now.unused)));
 }
   where
+    e : Entry
+    e = (row.key, row.value)
+
     n : ℕ
     n = now.plan.number
 
-    listed : numbers_of (rows ++ (row.key, row.value) ∷ []) ≡ numbers_of rows ++ n ∷ []
-    listed = numbers_more rows (row.key, row.value) ∙ ap (λ (k : ℕ). numbers_of rows ++ k ∷ []) (ap number_in now.value ∙ number_is now.plan now.fits)
+    listed : numbers_of (rows ++ e ∷ []) ≡ numbers_of rows ++ n ∷ []
+    listed = numbers_more rows e ∙ ap (λ (k : ℕ). numbers_of rows ++ k ∷ []) (ap number_in now.value ∙ number_is now.plan now.fits)
 
 -- ---- rows by their numbers
--- a number that was noted is that of a row
-pub record IsAmong (rows : List Entry) (number : ℕ) : Type 0 where
-  pub before : List Entry
-  pub row : Entry
-  pub after : List Entry
-  pub whole : rows ≡ before ++ row ∷ after
-  pub is : number_in row.1 ≡ number
-
-row_of : (rows : List Entry) (number : ℕ) → Contains (numbers_of rows) number → IsAmong rows number
-row_of [] number there = absurd (none_in number there)
-row_of (e ∷ es) number there = elim (of_two (number_in e.1) number (numbers_of es) there) [
-  | inl same ↦ record { before = []; row = e; after = es; whole = refl; is = same }
-  | inr later ↦ (let at = row_of es number later in record { before = e ∷ at.before; row = at.row; after = at.after; whole = ap (λ (l : List Entry). e ∷ l) at.whole; is = at.is })
-]
-
 some_found : (key : List ℕ) (before : List Entry) (e : Entry) (after : List Entry) → find key_cmp key (before ++ e ∷ after) ≡ None → key ≡ e.0 → ⊥
 some_found key [] e after none same = no_value e.1 (sym (ap (λ (b : Bool). cond b (Some e.1) (find key_cmp key after)) (ap (eq_by_cmp key_cmp key) (sym same) ∙ itself key)) ∙ none)
 some_found key (f ∷ before) e after none same = either_way (eq_by_cmp key_cmp key f.0) ⊥
@@ -186,8 +220,8 @@ one_key a b va vb (e ∷ es) apart there also same = either_way (eq_by_cmp key_c
     (λ other. one_key a b va vb es apart.1 (sym (ap (λ (x : Bool). cond x (Some e.1) (find key_cmp a es)) apart_a) ∙ there) (sym (ap (λ (x : Bool). cond x (Some e.1) (find key_cmp b es)) other) ∙ also) same))
 
 -- where these are all rows of plans, each number is that of one
-pub all_apart : (m : KeyMap) (rows : List Entry) (numbers : BTreeSet ℕ) → under plans_prefix (entries m) ≡ rows → AreNoted rows numbers → ArePlansApart m
-all_apart m rows numbers all noted name other number is also =
+pub all_apart : (m : KeyMap) (rows : List Entry) (counts : BTreeMap ℕ ℕ) → under plans_prefix (entries m) ≡ rows → AreNoted rows counts → ArePlansApart m
+all_apart m rows counts all noted name other number is also =
     let one : number_in (plan_bytes is.plan) ≡ number = number_is is.plan (let same = is.is in let few = is.fits in omega arith) ∙ is.is in
     let two : number_in (plan_bytes also.plan) ≡ number = number_is also.plan (let same = also.is in let few = also.fits in omega arith) ∙ also.is in
     let keys = one_key (key_of (named name)) (key_of (named other)) (plan_bytes is.plan) (plan_bytes also.plan) rows noted.apart (found_among m rows name all ∙ is.row) (found_among m rows other all ∙ also.row) (one ∙ sym two) in
@@ -201,27 +235,58 @@ numbered_at m g name value (Some p) (number, plan) has =
     let is : number_in value ≡ number = ap number_in (sym bytes) ∙ number_is (plan_row_of number p) plan.number_fits in
     record { plan = plan_row_of number p; row = plan.row; is = sym is; fits = subst (λ (n : ℕ). n < 2 ^ 64) (sym is) plan.number_fits }
 
-pub unused : (g : Ground) (m : KeyMap) (rows : List Entry) (old new : Scan) (row : Row) (all : Plans) (taken : HasTaken plans_prefix rows old (entries m)) → IsNextRow true new row (entries m) taken.rest → ArePlans g m all → (numbers : BTreeSet ℕ) → AreNoted rows numbers → IsUnused numbers row
-unused g m rows old new row all taken next are numbers noted p fits value there =
+no_count : (o : Option ℕ) → ((count : ℕ) → o ≡ Some count → ⊥) → o ≡ None
+no_count None none = refl
+no_count (Some count) none = absurd (none count refl)
+
+pub unused : (g : Ground) (m : KeyMap) (rows : List Entry) (old new : Scan) (row : Row) (all : Plans) (taken : HasTaken plans_prefix rows old (entries m)) → IsNextRow true new row (entries m) taken.rest → ArePlans g m all → (counts : BTreeMap ℕ ℕ) → AreNoted rows counts → IsUnused counts row
+unused g m rows old new row all taken next are counts noted p fits value = no_count (count_at nat_cmp counts p.number) (λ count there.
     let e : Entry = (row.key, row.value) in
     let whole : under plans_prefix (entries m) ≡ rows ++ e ∷ next.0 = taken.whole ∙ ap (λ (l : List Entry). rows ++ l) next.1 in
     let at = next_plan m rows e next.0 whole in
-    let among = row_of rows p.number (noted.among p.number there) in
+    let among = noted.among p.number count there in
     let f = among.row in
     let whole_f : under plans_prefix (entries m) ≡ among.before ++ f ∷ (among.after ++ e ∷ next.0) = whole ∙ ap (λ (l : List Entry). l ++ e ∷ next.0) among.whole ∙ append_assoc among.before (f ∷ among.after) (e ∷ next.0) in
     let at_f = next_plan m among.before f (among.after ++ e ∷ next.0) whole_f in
     let one = numbered_at m g at.name row.value (get all at.name) (are.desk.plans at.name) (ap (get m) (sym at.key) ∙ at.there) in
     let two = numbered_at m g at_f.name f.1 (get all at_f.name) (are.desk.plans at_f.name) (ap (get m) (sym at_f.key) ∙ at_f.there) in
-    let same : number_in f.1 ≡ number_in row.value = among.is ∙ sym (ap number_in value ∙ number_is p fits) in
+    let number_f : number_in f.1 ≡ p.number = ap number_in among.value ∙ number_is among.plan (subst (λ (n : ℕ). n < 2 ^ 64) (sym among.is) among.fits) ∙ among.is in
+    let same : number_in f.1 ≡ number_in row.value = number_f ∙ sym (ap number_in value ∙ number_is p fits) in
     let names : at.name ≡ at_f.name = are.tidy.owned.one at.name at_f.name (number_in row.value) one (subst (IsNumbered m at_f.name) same two) in
-    some_found row.key among.before f among.after (subst (λ (l : List Entry). find key_cmp row.key l ≡ None) among.whole at.new) (at.key ∙ ap (λ (n : List ℕ). key_of (named n)) names ∙ sym at_f.key)
+    some_found row.key among.before f among.after (subst (λ (l : List Entry). find key_cmp row.key l ≡ None) among.whole at.new) (at.key ∙ ap (λ (n : List ℕ). key_of (named n)) names ∙ sym at_f.key))
+
+-- where these are all rows of plans, their counts are those that were noted
+pub are_counts : (m : KeyMap) (rows : List Entry) (counts : BTreeMap ℕ ℕ) → under plans_prefix (entries m) ≡ rows → AreNoted rows counts → AreCounts m counts
+are_counts m rows counts all noted = record {
+  are = λ number count there.
+      let among = noted.among number count there in
+      let at = next_plan m among.before among.row among.after (all ∙ among.whole) in
+      record {
+        name = at.name;
+        plan = among.plan;
+        row = ap (get m) (sym at.key) ∙ at.there ∙ ap Some among.value;
+        is = among.is;
+        counts = among.counts;
+        fits = among.fits;
+        count_fits = among.count_fits;
+      };
+  all = λ name number is.
+      let told : number_in (plan_bytes is.plan) ≡ number = number_is is.plan (let same = is.is in let few = is.fits in omega arith) ∙ is.is in
+      noted.all number (subst (Contains (numbers_of rows)) told (number_found (key_of (named name)) (plan_bytes is.plan) rows (found_among m rows name all ∙ is.row)));
+}
+
+pub none_counted : (m : KeyMap) (counts : BTreeMap ℕ ℕ) → IsEmpty counts → HasNoPlans m → AreCounts m counts
+none_counted m counts empty none = record {
+  are = λ number count there. absurd (some_or_none count (sym there ∙ none_at counts empty number));
+  all = λ name number is. absurd (no_value (plan_bytes is.plan) (sym is.row ∙ none name));
+}
 
 -- what isn't noted isn't read
-pub unnoted : {D : Type 0} {g : Ghosts D} (ground : Ground) (plans : Plans) (row : Row) (numbers : BTreeSet ℕ) (t : Txn) (a : Pages D g) (e : TreeError) → NoteErr row numbers e → AppendErr (IsFreshPlan ground plans numbers row) t a a e
-unnoted ground plans row numbers t a DeviceFault why = inr (λ honest m plan holds is.
+pub unnoted : {D : Type 0} {g : Ghosts D} (ground : Ground) (plans : Plans) (row : Row) (counts : BTreeMap ℕ ℕ) (t : Txn) (a : Pages D g) (e : TreeError) → NoteErr row counts e → AppendErr (IsFreshPlan ground plans counts row) t a a e
+unnoted ground plans row counts t a DeviceFault why = inr (λ honest m plan holds is.
     let kept = is_kept_plan ground plans row m plan is.new in
-    either_way (contains nat_cmp numbers kept.plan.number) ⊥ (λ there. is.unused kept.plan kept.fits kept.value there) (λ none. why kept.plan kept.fits kept.value none))
-unnoted ground plans row numbers t a Halted why = absurd why
-unnoted ground plans row numbers t a NoPages why = absurd why
-unnoted ground plans row numbers t a TooDeep why = absurd why
-unnoted ground plans row numbers t a Memory why = tt
+    why kept.plan kept.fits kept.value (is.unused kept.plan kept.fits kept.value))
+unnoted ground plans row counts t a Halted why = absurd why
+unnoted ground plans row counts t a NoPages why = absurd why
+unnoted ground plans row counts t a TooDeep why = absurd why
+unnoted ground plans row counts t a Memory why = tt

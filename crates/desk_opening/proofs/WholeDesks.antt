@@ -97,17 +97,18 @@ module _ {D : Type 0} {g : Ghosts D} where
   then_unopened t a b c passed quiet TooDeep why = why
   then_unopened t a b c passed quiet Memory why = tt
 
-  pub nothing_unread : (t : Txn) (a b c : Pages D g) → Passed a b → IsQuiet b c → ((disk_in b).is_honest → (m : KeyMap) (x : Bool × Desk) → InTree t (stored a) m → IsMapAs m x → HasNothing m) → (e : TreeError) → ReadErr HasNothing t b c e → OpenErr t a c e
-  nothing_unread t a b c passed quiet gives DeviceFault why = elim why [
+  -- what isn't read of what each desk has
+  pub unread_unopened : (has : KeyMap → Type 0) (t : Txn) (a b c : Pages D g) → Passed a b → IsQuiet b c → ((disk_in b).is_honest → (m : KeyMap) (x : Bool × Desk) → InTree t (stored a) m → IsMapAs m x → has m) → (e : TreeError) → ReadErr has t b c e → OpenErr t a c e
+  unread_unopened has t a b c passed quiet gives DeviceFault why = elim why [
     | inl failed ↦ inl (failed_more a b c passed quiet failed)
     | inr none ↦ inr (λ honest new d held.
         let then = quiet.honest honest in
         none honest held.m (subst (λ (P : Image). InTree t P held.m) (sym (passed.quiet.same then)) held.holds) (gives then held.m (new, d) held.holds held.is))
   ]
-  nothing_unread t a b c passed quiet gives Halted why = sym passed.halted ∙ why
-  nothing_unread t a b c passed quiet gives NoPages why = why
-  nothing_unread t a b c passed quiet gives TooDeep why = why
-  nothing_unread t a b c passed quiet gives Memory why = tt
+  unread_unopened has t a b c passed quiet gives Halted why = sym passed.halted ∙ why
+  unread_unopened has t a b c passed quiet gives NoPages why = why
+  unread_unopened has t a b c passed quiet gives TooDeep why = why
+  unread_unopened has t a b c passed quiet gives Memory why = tt
 
 pub ok_then : {T E : Type 0} (r : Result T E) (A B : Type 0) → (A → B) → OnOk r A → OnOk r B
 ok_then (Ok x) A B go is = go is

@@ -1,7 +1,7 @@
 -- What is read back of a desk row by row, and why it is not.
-use Rattle.std.specs.Prelude.{◌≡◌, ◌⊎◌, ◌<◌, ◌^◌, ℕ, List, length, Bool, true, false, Option, Some, None}
+use Rattle.std.specs.Prelude.{◌≡◌, ◌⊎◌, ◌<◌, ◌≤◌, ◌^◌, ℕ, List, [], length, Bool, true, Option, Some, None}
 use Rattle.std.specs.FinMap.{FinMap, get, insert, len, get as row_at}
-use Rattle.std.specs.BTreeSet.{BTreeSet, contains, Updates}
+use Rattle.std.specs.BTreeMap.{BTreeMap, Updates, get as count_at}
 use Rattle.std.specs.Ordering.{nat_cmp}
 use Rattle.sector_device.specs.declared.SectorDevice.{Ghosts}
 use Rattle.desk_model.specs.Geography.{Ground}
@@ -14,7 +14,7 @@ use Rattle.page_store.specs.declared.txn.Txn.{Txn}
 use Rattle.page_btree.specs.declared.error.TreeError.{TreeError}
 use Rattle.page_btree.specs.declared.error.TreeError.TheVariants.{DeviceFault, Halted, NoPages, TooDeep, Memory}
 use Rattle.btree_scan.specs.declared.rows.Row.{Row}
-use Rattle.store_rows.specs.Keys.{key_of, begun, named, retired, seal, version}
+use Rattle.store_rows.specs.Keys.{key_of, Fits, begun, named, part, retired, seal, version}
 use Rattle.store_rows.specs.Values.{plan_bytes, seal_bytes}
 use Rattle.store_rows.specs.declared.value.PlanRow.{PlanRow}
 use Rattle.store_rows.specs.declared.value.SealRow.{SealRow}
@@ -73,32 +73,61 @@ pub record IsKeptPlan (row : Row) (m : KeyMap) : Type 0 where
   pub kept : Lacks m (retired plan.number)
 
 -- no plan was read that has the number of the one whose row this is
-abbrev pub IsUnused : BTreeSet ℕ → Row → Type 0
-IsUnused numbers row = (p : PlanRow) → p.number < 2 ^ 64 → row.value ≡ plan_bytes p → contains nat_cmp numbers p.number ≡ true → ⊥
+abbrev pub IsUnused : BTreeMap ℕ ℕ → Row → Type 0
+IsUnused counts row = (p : PlanRow) → p.number < 2 ^ 64 → row.value ≡ plan_bytes p → count_at nat_cmp counts p.number ≡ None
 
--- that number was noted beside those of the plans before it
-pub record IsNoted (row : Row) (old new : BTreeSet ℕ) : Type 0 where
+-- that number was noted beside those of the plans before it, with the count of its revisions
+pub record IsNoted (row : Row) (old new : BTreeMap ℕ ℕ) : Type 0 where
   pub plan : PlanRow
   pub fits : plan.number < 2 ^ 64
+  pub count_fits : plan.revisions < 2 ^ 32
   pub value : row.value ≡ plan_bytes plan
-  pub unused : contains nat_cmp old plan.number ≡ false
-  pub is : Updates nat_cmp old new plan.number true
+  pub unused : count_at nat_cmp old plan.number ≡ None
+  pub is : Updates nat_cmp old new plan.number (Some plan.revisions)
 
-abbrev pub NoteErr : Row → BTreeSet ℕ → TreeError → Type 0
-NoteErr row numbers DeviceFault = (p : PlanRow) → p.number < 2 ^ 64 → row.value ≡ plan_bytes p → contains nat_cmp numbers p.number ≡ false → ⊥
-NoteErr row numbers Halted = ⊥
-NoteErr row numbers NoPages = ⊥
-NoteErr row numbers TooDeep = ⊥
-NoteErr row numbers Memory = Unit {0}
+abbrev pub NoteErr : Row → BTreeMap ℕ ℕ → TreeError → Type 0
+NoteErr row counts DeviceFault = (p : PlanRow) → p.number < 2 ^ 64 → row.value ≡ plan_bytes p → count_at nat_cmp counts p.number ≡ None → ⊥
+NoteErr row counts Halted = ⊥
+NoteErr row counts NoPages = ⊥
+NoteErr row counts TooDeep = ⊥
+NoteErr row counts Memory = Unit {0}
 
 -- the row is that of a plan of the desk that isn't among these, nor its number among theirs
-pub record IsFreshPlan (g : Ground) (plans : FinMap name_cmp Plan) (numbers : BTreeSet ℕ) (row : Row) (m : KeyMap) (plan : List ℕ × Plan) : Type 0 where
+pub record IsFreshPlan (g : Ground) (plans : FinMap name_cmp Plan) (counts : BTreeMap ℕ ℕ) (row : Row) (m : KeyMap) (plan : List ℕ × Plan)
+    : Type 0 where
   pub new : IsNewPlan g plans row m plan
-  pub unused : IsUnused numbers row
+  pub unused : IsUnused counts row
 
 -- each number is that of one plan
 abbrev pub ArePlansApart : KeyMap → Type 0
 ArePlansApart m = (name other : List ℕ) (number : ℕ) → IsNumbered m name number → IsNumbered m other number → name ≡ other
+
+-- the row of the plan with this number counts so many revisions
+pub record HasCount (m : KeyMap) (number count : ℕ) : Type 0 where
+  pub name : List ℕ
+  pub plan : PlanRow
+  pub row : Has m (named name) (plan_bytes plan)
+  pub is : plan.number ≡ number
+  pub counts : plan.revisions ≡ count
+  pub fits : number < 2 ^ 64
+  pub count_fits : count < 2 ^ 32
+
+-- so it is of each number, and there is one for each plan
+pub record AreCounts (m : KeyMap) (counts : BTreeMap ℕ ℕ) : Type 0 where
+  pub are : (number count : ℕ) → count_at nat_cmp counts number ≡ Some count → HasCount m number count
+  pub all : (name : List ℕ) (number : ℕ) → IsNumbered m name number → (count : ℕ) × (count_at nat_cmp counts number ≡ Some count)
+
+-- the row of a plan counts this revision
+pub record IsRevisionCounted (m : KeyMap) (number revision : ℕ) : Type 0 where
+  pub count : ℕ
+  pub has : HasCount m number count
+  pub some : 0 < revision
+  pub few : revision ≤ count
+
+-- so it is of each part of a revision that stands, or its plan was taken away
+abbrev pub ArePartsOwned : KeyMap → Type 0
+ArePartsOwned m = (plan revision index : ℕ) (value : List ℕ) → Fits (part plan revision index) → Has m (part plan revision index) value
+    → IsRevisionCounted m plan revision ⊎ Has m (retired plan) []
 
 -- the sealed load is none of those that were begun
 abbrev pub IsSealEnded : KeyMap → Type 0
@@ -144,8 +173,8 @@ abbrev pub counties_of : Option Ground → ℕ
 counties_of None = 0
 counties_of (Some g) = length (cuts_of g)
 
--- The size of a plan and the count of its revisions stand under its name, its number wasn't taken away, and the list of each revision
--- is there.
+-- The size of a plan and the count of its revisions stand under its name, its number wasn't taken away, and the list of each
+-- revision is there.
 pub record IsPlanShown (m : KeyMap) (counties : ℕ) (name : List ℕ) (p : Plan) : Type 0 where
   pub number : ℕ
   pub fits : number < 2 ^ 64
@@ -172,8 +201,10 @@ pub record IsShown (m : KeyMap) (d : Desk) : Type 0 where
   pub plans : ArePlansShown m (counties_of d.geography) d.plans
   pub apart : ArePlansApart m
 
--- No number in use is one that comes next, no row stands where a desk has none, the sealed load is none that was begun, and what the
--- rows of plans and the seal say is shown.
+-- No number in use is one that comes next, no row stands where a desk has none, the sealed load is none that was begun, what the
+-- rows of plans and the seal say is shown, and each part of a revision is of one that is counted, or of a plan that was taken
+-- away.
 pub record IsReadFrom (m : KeyMap) (d : Desk) : Type 0 where
   pub numbers : HasSoundNumbers m
   pub shown : IsShown m d
+  pub owned : ArePartsOwned m

@@ -21,7 +21,8 @@ use Rattle.revision_table.specs.Reading.{HasParts}
 use Rattle.chunk_table.specs.Reading.{HasPieces, IsChunk}
 
 -- `says` is what a map is to say of a value, and `told` what is read where it says that
-pub record HasRead {D : Type 0} {g : Ghosts D} {X V : Type 0} (says : KeyMap → X → Type 0) (told : X → V) (t : Txn) (old new : Pages D g) (value : V) : Type 0 where
+pub record HasRead {D : Type 0} {g : Ghosts D} {X V : Type 0} (says : KeyMap → X → Type 0) (told : X → V) (t : Txn) (old new : Pages D g) (value : V)
+    : Type 0 where
   pub passed : Passed old new
   pub read : (disk_in new).is_honest → (m : KeyMap) (x : X) → InTxn t (stored old) m → says m x → value ≡ told x
 
@@ -79,7 +80,8 @@ IsCountyThere number count last county m = ((county < length last) × (get_or la
 
 -- so it is in each of the counties, whose chunks have these numbers
 abbrev pub AreCountiesThere : List Cut → List ℕ → List ℕ → KeyMap → Type 0
-AreCountiesThere cuts names last m = (county : ℕ) → county < length cuts → IsCountyThere (get_or names county 0) (get_or cuts county no_cut).count last county m
+AreCountiesThere cuts names last m = (county : ℕ) → county < length cuts
+    → IsCountyThere (get_or names county 0) (get_or cuts county no_cut).count last county m
 
 -- and the list of these numbers is there
 abbrev pub IsRevisionThere : ℕ → ℕ → List Cut → List ℕ → List ℕ → KeyMap → Type 0

@@ -68,8 +68,10 @@ fn lay_changed<D: SectorDevice>(
     requires within { cut.first + cut.count ≤ length districts }
     ensures quiet { IsQuiet pages.old pages.new }
     ensures long { IfOk result (λ all. length all ≡ length districts) }
-    ensures there { (disk_in pages.new).is_honest → (m : KeyMap) → InTxn txn.now (stored pages.old) m → OnOk result (IsCountyThere number cut.count last.now county m) }
-    ensures read { Reads (IsCounty number cut last.now county districts) (λ chunk. with_at cut.first chunk districts) txn.now pages.old pages.new result }
+    ensures there { (disk_in pages.new).is_honest → (m : KeyMap) → InTxn txn.now (stored pages.old) m
+        → OnOk result (IsCountyThere number cut.count last.now county m) }
+    ensures read { Reads (IsCounty number cut last.now county districts)
+        (λ chunk. with_at cut.first chunk districts) txn.now pages.old pages.new result }
 {
     if is_known(last, county, number) {
         return Ok(districts);
@@ -93,7 +95,8 @@ pub(crate) fn lay_counties<D: SectorDevice>(
     requires each { length names.now ≡ length cuts.now }
     ensures quiet { IsQuiet pages.old pages.new }
     ensures long { IfOk result (λ all. length all ≡ length before) }
-    ensures there { (disk_in pages.new).is_honest → (m : KeyMap) → InTxn txn.now (stored pages.old) m → OnOk result (AreCountiesThere cuts.now names.now last.now m) }
+    ensures there { (disk_in pages.new).is_honest → (m : KeyMap) → InTxn txn.now (stored pages.old) m
+        → OnOk result (AreCountiesThere cuts.now names.now last.now m) }
     ensures read { Reads (AreNamed cuts.now names.now last.now before) (λ districts. districts) txn.now pages.old pages.new result }
 {
     lists_are_cut();

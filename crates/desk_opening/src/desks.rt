@@ -1,50 +1,61 @@
 //! Reads the desk of a store.
 ghost use Rattle.std.specs.Prelude.{◌≡◌, Bool, OnOk, IfOk, IfErr};
+ghost use Rattle.std.specs.BTreeMap.{IsEmpty};
 ghost use Rattle.desk_model.specs.Desk.{Desk};
 ghost use Rattle.page_store.specs.Transactions.{stored, disk_in, count_of, txn_pages, IsQuiet, Passed};
 ghost use Rattle.page_btree.specs.Map.{InTxn as InTree};
 ghost use Rattle.store_rows.specs.Rows.{KeyMap};
 ghost use Rattle.desk_pages.specs.Desks.{InTxnOf};
-ghost use Rattle.desk_opening.specs.Opening.{IsReadFrom, IsShown, OpenErr};
+ghost use Rattle.desk_opening.specs.Opening.{AreCounts, IsReadFrom, IsShown, OpenErr};
 
 use crate::marks::check_rows;
 use crate::none::read_none;
 use crate::rows::read_plans;
 use desk_catalogue::catalogue::Catalogue;
-use geo_tables::geography;
 use page_store::{Pages, Txn};
 use row_table::TreeError;
+use sealed_geography::geography;
 use sector_device::SectorDevice;
 use std::alloc::Global;
+use std::collections::BTreeMap;
 use std::sync::Arc;
+use store_check::check_owners;
 
-/// What the rows of a transaction's desk say: its geography, and each plan with all its revisions. The pages are only read.
+/// What the rows of a transaction's desk say: its geography, and each plan with all its revisions. The pages are only read. The
+/// plans' numbers are noted, each with the count of its revisions.
 fn read_rows<D: SectorDevice>(
     alloc: Global,
     txn: &Txn,
     pages: &mut Pages<D>,
+    counts: &mut BTreeMap<u64, u32>,
 ) -> Result<Catalogue, TreeError>
     requires begun { txn_pages txn.now ≡ count_of pages.old }
+    requires none { IsEmpty counts.old }
     ensures quiet { IsQuiet pages.old pages.new }
     ensures passed { OnOk result (Passed pages.old pages.new) }
-    ensures read { (disk_in pages.new).is_honest → (new : Bool) (d : Desk) → InTxnOf new txn.now (stored pages.old) d → IfOk result (λ catalogue. catalogue ≡ d) }
-    ensures shown { (disk_in pages.new).is_honest → (m : KeyMap) → InTree txn.now (stored pages.old) m → IfOk result (λ catalogue. IsShown m catalogue) }
+    ensures read { (disk_in pages.new).is_honest → (new : Bool) (d : Desk) → InTxnOf new txn.now (stored pages.old) d
+        → IfOk result (λ catalogue. catalogue ≡ d) }
+    ensures shown { (disk_in pages.new).is_honest → (m : KeyMap) → InTree txn.now (stored pages.old) m
+        → IfOk result (λ catalogue. IsShown m catalogue) }
+    ensures counted { (disk_in pages.new).is_honest → (m : KeyMap) → InTree txn.now (stored pages.old) m → OnOk result (AreCounts m counts.new) }
     ensures err { IfErr result (λ e. OpenErr txn.now pages.old pages.new e) }
 {
     let Some(ground) = geography(alloc, txn, pages)? else {
         return read_none(txn, pages);
     };
-    let plans = read_plans(alloc, txn, pages, &ground)?;
+    let plans = read_plans(alloc, txn, pages, &ground, counts)?;
     match Arc::new(alloc, ground) {
         Ok(shared) => Ok(Catalogue::restored(Some(shared), plans)),
         Err(_) => Err(TreeError::Memory),
     }
 }
 
-/// The desk that a transaction reads in either version: its geography, and each plan with all its revisions. The pages are only read.
-/// An error is `Memory`, where a growth was refused, `DeviceFault`, where the device failed or holds no desk, or `Halted`. A store in which a number
-/// that comes next is in use holds none: what is put there later would be read as another's. Nor does one whose sealed load was begun:
-/// a sweep would take its rows out; nor one that has a row which no desk has, as far as `HasNumbersBelow` of store_check tells.
+/// The desk that a transaction reads in either version: its geography, and each plan with all its revisions. The pages are only
+/// read. An error is `Memory`, where a growth was refused, `DeviceFault`, where the device failed or holds no desk, or `Halted`.
+/// A store in which a number that comes next is in use holds none: what is put there later would be read as another's. Nor does
+/// one whose sealed load was begun: a sweep would take its rows out; nor one that has a row which no desk has, as far as
+/// `HasNumbersBelow` of store_check tells; nor one with a part of a revision that no plan has, but for plans that were taken
+/// away.
 pub fn read_desk<D: SectorDevice>(
     alloc: Global,
     txn: &Txn,
@@ -53,10 +64,15 @@ pub fn read_desk<D: SectorDevice>(
     requires begun { txn_pages txn.now ≡ count_of pages.old }
     ensures quiet { IsQuiet pages.old pages.new }
     ensures passed { OnOk result (Passed pages.old pages.new) }
-    ensures read { (disk_in pages.new).is_honest → (new : Bool) (d : Desk) → InTxnOf new txn.now (stored pages.old) d → IfOk result (λ catalogue. catalogue ≡ d) }
-    ensures found { (disk_in pages.new).is_honest → (m : KeyMap) → InTree txn.now (stored pages.old) m → IfOk result (λ catalogue. IsReadFrom m catalogue) }
+    ensures read { (disk_in pages.new).is_honest → (new : Bool) (d : Desk) → InTxnOf new txn.now (stored pages.old) d
+        → IfOk result (λ catalogue. catalogue ≡ d) }
+    ensures found { (disk_in pages.new).is_honest → (m : KeyMap) → InTree txn.now (stored pages.old) m
+        → IfOk result (λ catalogue. IsReadFrom m catalogue) }
     ensures err { IfErr result (λ e. OpenErr txn.now pages.old pages.new e) }
 {
     check_rows(txn, pages)?;
-    read_rows(alloc, txn, pages)
+    let mut counts = BTreeMap::new(alloc);
+    let catalogue = read_rows(alloc, txn, pages, &mut counts)?;
+    check_owners(txn, pages, &counts)?;
+    Ok(catalogue)
 }

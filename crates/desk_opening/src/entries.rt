@@ -41,7 +41,8 @@ fn read_next<D: SectorDevice>(
     requires whole { length before ≡ length geography.now.blocks }
     ensures quiet { IsQuiet pages.old pages.new }
     ensures whole { IfOk result (λ next. length next ≡ length geography.now.blocks) }
-    ensures there { (disk_in pages.new).is_honest → (m : KeyMap) → InTxn txn.now (stored pages.old) m → OnOk result (IsRevisionThere plan revision cuts.now last.new.items last.old.items m) }
+    ensures there { (disk_in pages.new).is_honest → (m : KeyMap) → InTxn txn.now (stored pages.old) m
+        → OnOk result (IsRevisionThere plan revision cuts.now last.new.items last.old.items m) }
     ensures read { Reads (IsNext geography.now plan revision last.old.items before) (λ districts. districts) txn.now pages.old pages.new result }
     ensures known { IfOk result
         (λ next. BecomesKnown geography.now plan revision last.old.items before txn.now pages.old pages.new last.new.items next) }
@@ -122,8 +123,10 @@ fn with_next<D: SectorDevice>(
     ensures sized { IfOk result (λ next. (next.1.kind ≡ entry.now.1.kind) × (next.1.n ≡ entry.now.1.n)) }
     ensures longer { IfOk result (λ next. length next.1.revisions ≡ length entry.now.1.revisions + 1) }
     ensures whole { IfOk result (λ next. IsWhole geography.now next.1) }
-    ensures there { (disk_in pages.new).is_honest → (m : KeyMap) → InTxn txn.now (stored pages.old) m → OnOk result (IsRevisionThere plan revision cuts.now last.new.items last.old.items m) }
-    ensures read { Reads (IsAfter geography.now plan revision last.old.items entry.now.1) (λ districts. (entry.now.0, with_revision entry.now.1 districts)) txn.now pages.old pages.new result }
+    ensures there { (disk_in pages.new).is_honest → (m : KeyMap) → InTxn txn.now (stored pages.old) m
+        → OnOk result (IsRevisionThere plan revision cuts.now last.new.items last.old.items m) }
+    ensures read { Reads (IsAfter geography.now plan revision last.old.items entry.now.1)
+        (λ districts. (entry.now.0, with_revision entry.now.1 districts)) txn.now pages.old pages.new result }
     ensures known { IfOk result
         (λ next. BecomesLast geography.now plan revision last.old.items entry.now.1
         txn.now pages.old pages.new last.new.items next.1) }
@@ -138,8 +141,8 @@ fn with_next<D: SectorDevice>(
     }
 }
 
-/// The plan that stands under a name with this row, with all its revisions. `cuts` are the geography's counties. `DeviceFault` comes
-/// also where the store has no such plan, `Memory` where a growth was refused.
+/// The plan that stands under a name with this row, with all its revisions. `cuts` are the geography's counties. `DeviceFault`
+/// comes also where the store has no such plan, `Memory` where a growth was refused.
 #[tactic(auto, using(crate::proofs::Revisions::none_last))]
 pub fn read_entry<D: SectorDevice>(
     alloc: Global,
@@ -156,7 +159,8 @@ pub fn read_entry<D: SectorDevice>(
     ensures named { IfOk result (λ entry. entry.0 ≡ name) }
     ensures whole { IfOk result (λ entry. IsWhole geography.now entry.1) }
     ensures row { IfOk result (λ entry. row.now ≡ plan_row_of row.now.number entry.1) }
-    ensures lists { (disk_in pages.new).is_honest → (m : KeyMap) → InTxn txn.now (stored pages.old) m → OnOk result (HasLists row.now.number row.now.revisions (length cuts.now) m) }
+    ensures lists { (disk_in pages.new).is_honest → (m : KeyMap) → InTxn txn.now (stored pages.old) m
+        → OnOk result (HasLists row.now.number row.now.revisions (length cuts.now) m) }
     ensures read { Reads (IsPlanRow geography.now name row.now) (λ plan. (name, plan)) txn.now pages.old pages.new result }
 {
     if row.revisions > REVISION_LIMIT {

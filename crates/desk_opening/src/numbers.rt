@@ -1,25 +1,25 @@
-//! Numbers of the plans that were read.
+//! Numbers of the plans that were read, and the counts of their revisions.
 ghost use Rattle.std.specs.Prelude.{OnOk, IfErr};
 ghost use Rattle.desk_opening.specs.Opening.{IsNoted, NoteErr};
 
 use crate::rows::row_fits;
 use btree_scan::Row;
 use row_table::TreeError;
-use std::collections::BTreeSet;
+use std::collections::BTreeMap;
 use store_rows::read_plan;
 
-/// Notes the number of the plan whose row this is. Refuses one that was noted before.
-pub(crate) fn note_number(row: &Row, numbers: &mut BTreeSet<u64>) -> Result<(), TreeError>
-    ensures noted { OnOk result (IsNoted row.now numbers.old numbers.new) }
-    ensures err { IfErr result (λ e. NoteErr row.now numbers.old e) }
+/// Notes the number of the plan whose row this is, with the count of its revisions. Refuses one that was noted before.
+pub(crate) fn note_number(row: &Row, counts: &mut BTreeMap<u64, u32>) -> Result<(), TreeError>
+    ensures noted { OnOk result (IsNoted row.now counts.old counts.new) }
+    ensures err { IfErr result (λ e. NoteErr row.now counts.old e) }
 {
     let Some(plan) = read_plan(row.value.as_slice()) else {
         return Err(TreeError::DeviceFault);
     };
     row_fits(plan);
-    match numbers.insert(plan.number) {
-        Ok(true) => Ok(()),
-        Ok(false) => Err(TreeError::DeviceFault),
+    match counts.insert(plan.number, plan.revisions) {
+        Ok(None) => Ok(()),
+        Ok(Some(_)) => Err(TreeError::DeviceFault),
         Err(_) => Err(TreeError::Memory),
     }
 }

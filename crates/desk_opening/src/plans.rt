@@ -40,7 +40,8 @@ pub fn add_plan<D: SectorDevice>(
     ensures quiet { IsQuiet pages.old pages.new }
     ensures whole { IfOk result (λ all. AreWhole (Some geography.now) plans.now → AreWhole (Some geography.now) all) }
     ensures added { IfOk result (λ all. (p : Plan) × (row.now ≡ plan_row_of row.now.number p) × (all ≡ map_of.insert plans.now name p)) }
-    ensures lists { (disk_in pages.new).is_honest → (m : KeyMap) → InTxn txn.now (stored pages.old) m → OnOk result (HasLists row.now.number row.now.revisions (length cuts.now) m) }
+    ensures lists { (disk_in pages.new).is_honest → (m : KeyMap) → InTxn txn.now (stored pages.old) m
+        → OnOk result (HasLists row.now.number row.now.revisions (length cuts.now) m) }
     ensures read { Reads (IsPlanRow geography.now name row.now) (λ plan. map_of.insert plans.now name plan) txn.now pages.old pages.new result }
 {
     let entry = read_entry(alloc, txn, pages, geography, cuts, name, row)?;

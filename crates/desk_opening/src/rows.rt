@@ -1,5 +1,6 @@
 //! Reads plans out of the rows that a scan takes.
 ghost use Rattle.std.specs.Prelude.{◌≡◌, ◌<◌, ◌^◌, ℕ, List, Some, length, IfOk, OnOk, MatchOption};
+ghost use Rattle.std.specs.BTreeMap.{IsEmpty};
 ghost use Rattle.std.specs.FinMap as map_of;
 ghost use Rattle.desk_model.specs.Cuts.{cuts_of};
 ghost use Rattle.desk_model.specs.Name.{IsPlanName};
@@ -10,7 +11,7 @@ ghost use Rattle.store_rows.specs.Keys.{key_of, named};
 ghost use Rattle.desk_catalogue.specs.Kept.{AreWhole};
 ghost use Rattle.plan_table.specs.Laws.{RowFits};
 ghost use Rattle.desk_opening.specs.Reading.{Reads};
-ghost use Rattle.desk_opening.specs.Opening.{ArePlans, ArePlansApart, ArePlansShown, IsAdded, IsFreshPlan, IsListed, IsNoted, IsNewPlan, IsNotGone};
+ghost use Rattle.desk_opening.specs.Opening.{AreCounts, ArePlans, ArePlansApart, ArePlansShown, IsAdded, IsFreshPlan, IsListed, IsNoted, IsNewPlan, IsNotGone};
 
 use crate::marks::refuse_gone;
 use crate::numbers::note_number;
@@ -26,7 +27,7 @@ use plan_table::laws::plans_are_told;
 use row_table::TreeError;
 use sector_device::SectorDevice;
 use std::alloc::Global;
-use std::collections::BTreeSet;
+use std::collections::BTreeMap;
 use store_rows::{Key, PlanRow, read_plan};
 
 /// A number of 64 bits is in its range.
@@ -82,8 +83,10 @@ fn add_named<D: SectorDevice>(
     ensures quiet { IsQuiet pages.old pages.new }
     ensures whole { IfOk result (λ all. AreWhole (Some geography.now) plans.now → AreWhole (Some geography.now) all) }
     ensures added { IfOk result (λ all. IsAdded plans.now row.now all) }
-    ensures listed { (disk_in pages.new).is_honest → (m : KeyMap) → InTxn txn.now (stored pages.old) m → IfOk result (λ all. IsListed plans.now row.now (length (cuts_of geography.now)) m all) }
-    ensures read { Reads (IsNewPlan geography.now plans.now row.now) (λ plan. map_of.insert plans.now plan.0 plan.1) txn.now pages.old pages.new result }
+    ensures listed { (disk_in pages.new).is_honest → (m : KeyMap) → InTxn txn.now (stored pages.old) m
+        → IfOk result (λ all. IsListed plans.now row.now (length (cuts_of geography.now)) m all) }
+    ensures read { Reads (IsNewPlan geography.now plans.now row.now)
+        (λ plan. map_of.insert plans.now plan.0 plan.1) txn.now pages.old pages.new result }
 {
     plans_are_told();
     let Some(name) = name_in(row.key.as_slice()) else {
@@ -102,7 +105,7 @@ fn add_named<D: SectorDevice>(
     add_plan(alloc, txn, pages, geography, cuts, plans, name, &plan)
 }
 
-/// These plans with the one whose row was taken. Its number is noted.
+/// These plans with the one whose row was taken. Its number is noted, with the count of its revisions.
 fn add_row<D: SectorDevice>(
     alloc: Global,
     txn: &Txn,
@@ -111,42 +114,47 @@ fn add_row<D: SectorDevice>(
     cuts: &[Cut],
     plans: &Plans,
     row: &Row,
-    numbers: &mut BTreeSet<u64>,
+    counts: &mut BTreeMap<u64, u32>,
 ) -> Result<Plans, TreeError>
     requires begun { txn_pages txn.now ≡ count_of pages.old }
     requires cut { cuts.now ≡ cuts_of geography.now }
     ensures quiet { IsQuiet pages.old pages.new }
     ensures whole { IfOk result (λ all. AreWhole (Some geography.now) plans.now → AreWhole (Some geography.now) all) }
-    ensures noted { OnOk result (IsNoted row.now numbers.old numbers.new) }
+    ensures noted { OnOk result (IsNoted row.now counts.old counts.new) }
     ensures kept { (disk_in pages.new).is_honest → (m : KeyMap) → InTxn txn.now (stored pages.old) m → OnOk result (IsNotGone row.now m) }
     ensures added { IfOk result (λ all. IsAdded plans.now row.now all) }
-    ensures listed { (disk_in pages.new).is_honest → (m : KeyMap) → InTxn txn.now (stored pages.old) m → IfOk result (λ all. IsListed plans.now row.now (length (cuts_of geography.now)) m all) }
-    ensures read { Reads (IsFreshPlan geography.now plans.now numbers.old row.now) (λ plan. map_of.insert plans.now plan.0 plan.1) txn.now pages.old pages.new result }
+    ensures listed { (disk_in pages.new).is_honest → (m : KeyMap) → InTxn txn.now (stored pages.old) m
+        → IfOk result (λ all. IsListed plans.now row.now (length (cuts_of geography.now)) m all) }
+    ensures read { Reads (IsFreshPlan geography.now plans.now counts.old row.now)
+        (λ plan. map_of.insert plans.now plan.0 plan.1) txn.now pages.old pages.new result }
 {
-    note_number(row, numbers)?;
+    note_number(row, counts)?;
     refuse_gone(txn, pages, row)?;
     add_named(alloc, txn, pages, geography, cuts, plans, row)
 }
 
-/// All plans of a transaction's desk, which has this geography.
+/// All plans of a transaction's desk, which has this geography. Their numbers are noted, each with the count of its revisions.
 pub(crate) fn read_plans<D: SectorDevice>(
     alloc: Global,
     txn: &Txn,
     pages: &mut Pages<D>,
     geography: &Geography,
+    counts: &mut BTreeMap<u64, u32>,
 ) -> Result<Plans, TreeError>
     requires begun { txn_pages txn.now ≡ count_of pages.old }
+    requires none { IsEmpty counts.old }
     ensures quiet { IsQuiet pages.old pages.new }
     ensures whole { IfOk result (AreWhole (Some geography.now)) }
     ensures apart { (disk_in pages.new).is_honest → (m : KeyMap) → InTxn txn.now (stored pages.old) m → OnOk result (ArePlansApart m) }
-    ensures shown { (disk_in pages.new).is_honest → (m : KeyMap) → InTxn txn.now (stored pages.old) m → IfOk result (ArePlansShown m (length (cuts_of geography.now))) }
+    ensures counted { (disk_in pages.new).is_honest → (m : KeyMap) → InTxn txn.now (stored pages.old) m → OnOk result (AreCounts m counts.new) }
+    ensures shown { (disk_in pages.new).is_honest → (m : KeyMap) → InTxn txn.now (stored pages.old) m
+        → IfOk result (ArePlansShown m (length (cuts_of geography.now))) }
     ensures read { Reads (ArePlans geography.now) (λ all. all) txn.now pages.old pages.new result }
 {
     let Ok(cuts) = cuts(alloc, geography) else {
         return Err(TreeError::Memory);
     };
     let mut plans = Plans::new();
-    let mut numbers = BTreeSet::new(alloc);
     let prefix = Key::plans();
     let mut scan = Scan::new(prefix.as_slice());
     let mut row = Row::empty();
@@ -165,7 +173,7 @@ pub(crate) fn read_plans<D: SectorDevice>(
             cuts.as_slice(),
             &plans,
             &row,
-            &mut numbers,
+            counts,
         )?;
     }
     Err(TreeError::DeviceFault)

@@ -21,7 +21,8 @@ pub fn is_new<D: SectorDevice>(txn: &Txn, pages: &mut Pages<D>) -> Result<bool, 
     requires begun { txn_pages txn.now ≡ count_of pages.old }
     ensures quiet { IsQuiet pages.old pages.new }
     ensures passed { OnOk result (Passed pages.old pages.new) }
-    ensures told { (disk_in pages.new).is_honest → (m : KeyMap) → InTxn txn.now (stored pages.old) m → IfOk result (λ new. row_in m version ≡ version_row new) }
+    ensures told { (disk_in pages.new).is_honest → (m : KeyMap) → InTxn txn.now (stored pages.old) m
+        → IfOk result (λ new. row_in m version ≡ version_row new) }
     ensures err { IfErr result (λ e. ReadErr HasVersion txn.now pages.old pages.new e) }
 {
     let key = Key::version();

@@ -3,3 +3,4 @@ pub mod DeskLaws
 pub mod Formatted
 pub mod Committed
 pub mod Kept
+pub mod Found

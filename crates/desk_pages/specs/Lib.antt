@@ -2,4 +2,5 @@ pub mod Desks
 pub mod Formats
 pub mod Commits
 pub mod Moments
+pub mod Openings
 pub mod Laws

@@ -5,7 +5,7 @@ ghost use Rattle.page_btree.specs.Map.{IsOnlyRow};
 ghost use Rattle.store_rows.specs.Keys.{key_of, version, in_four};
 ghost use Rattle.desk_pages.specs.Formats.{FormatErr, OpensNew, HasJournal};
 
-use page_btree::write_first_row;
+use btree_puts::write_first_row;
 use page_store::PageError;
 use sector_device::SectorDevice;
 use std::alloc::Global;

@@ -7,15 +7,15 @@ use Rattle.desk_model.specs.declared.command.Command.{Command}
 use Rattle.desk_model.specs.Desk.{Desk}
 use Rattle.desk_model.specs.Step.{step}
 use Rattle.desk_pages.specs.Desks.{OpensDeskOf, OpensDesk, OpensEither}
+use Rattle.desk_pages.specs.Openings.{AllVersions}
 use Rattle.desk_store.specs.declared.clerk.Clerk.{Clerk}
 use Rattle.desk_store.specs.Clerks.{desk_of, disk_of, sectors_of}
-use Rattle.desk_store.specs.Openings.{AllVersions}
 use Rattle.desk_runs.specs.Runs.{Call, Run, after, acknowledged, acknowledged_at, in_flight, OpensAfterSome, OpenSince, SurvivesEachRun}
 use Rattle.desk_runs.specs.Recovery.{ImagesAreOne, HoldsEither}
 use Rattle.desk_migration.specs.declared.error.MigrationOpenError.{MigrationOpenError}
 use Rattle.desk_migration.specs.declared.migration.Migration.{Migration}
 use Rattle.desk_migration.specs.Migrating.{disk_of as migrated_disk}
-use Rattle.desk_migration.specs.Openings.{AllDesks as AllStores, device_after as device_left}
+use Rattle.desk_migration.specs.Openings.{device_after as device_left}
 use Rattle.desk_runs.specs.Migrations.{IsEntry, Migrates}
 use Rattle.desk_runs.proofs.Migrated.{honest_migration, migration_leaves}
 use Rattle.desk_runs.proofs.One.{in_either, either_as, one_opens}
@@ -53,12 +53,6 @@ all_desks g n P left has device finds c leaves =
     let there = either_as (g.disk device).sectors is.desk c (subst (λ (s : ℕ). OpensEither s is.desk c) (sym finds.0) is.opens) in
     ((there.0, is.desk), there.1)
 
--- the same, as a migration's opening has it
-all_stores : {D : Type 0} (g : Ghosts D) (n : ℕ) (P : Desk → Type 0) (left : Image → Type 0) → ((c : Image) → left c → OpensTo n P c) → (device : D) → Finds g n left device → AllStores (g.disk device)
-all_stores g n P left has device finds c leaves =
-    let is = all_desks g n P left has device finds c leaves in
-    (is.0.0, (is.0.1, is.1))
-
 one_of_these : {D : Type 0} (g : Ghosts D) → ImagesAreOne → (n : ℕ) (P : Desk → Type 0) (left : Image → Type 0) → ((c : Image) → left c → OpensTo n P c) → (device : D) → Finds g n left device → (new : Bool) (e : Desk) (was : Image) → (g.disk device).leaves was → OpensDeskOf new (g.disk device).sectors e was → P e
 one_of_these g one n P left has device finds new e was leaves opens =
     let there = has was (finds.1 was leaves) in
@@ -91,18 +85,18 @@ module _ {D : Type 0} {g : Ghosts D} where
   entry_leaves : ImagesAreOne → (n : ℕ) (P : Desk → Type 0) (left : Image → Type 0) → ((c : Image) → left c → OpensTo n P c) → (device : D) (result : Result (Migration D g) (MigrationOpenError × D)) → IsEntry g device result → Finds g n left device
       → (g.disk (device_left result)).is_honest → (c : Image) → (g.disk (device_left result)).left (g.disk device).moment c → OpensTo n P c
   entry_leaves one n P left has device result is finds honest c stopped =
-      let opens = (is.any_moment honest (all_stores g n P left has device finds)).each c stopped in
+      let opens = (is.any_moment honest (all_desks g n P left has device finds)).each c stopped in
       record {
-        desk = opens.desk;
-        has = one_of_these g one n P left has device finds opens.new opens.desk opens.one.was opens.one.left opens.one.opens;
-        opens = subst (λ (s : ℕ). OpensEither s opens.desk c) finds.0 (in_either opens.new (g.disk device).sectors opens.desk c opens.opens);
+        desk = opens.x.1;
+        has = one_of_these g one n P left has device finds opens.x.0 opens.x.1 opens.one.was opens.one.left opens.one.opens;
+        opens = subst (λ (s : ℕ). OpensEither s opens.x.1 c) finds.0 (in_either opens.x.0 (g.disk device).sectors opens.x.1 c opens.opens);
       }
 
   -- an image that a migration leaves
   steps_leave : ImagesAreOne → (n : ℕ) (P : Desk → Type 0) (left : Image → Type 0) → ((c : Image) → left c → OpensTo n P c) → (device : D) (x : Migration D g) → IsEntry g device (Ok x) → (z : Migration D g) → Migrates x z → Finds g n left device
       → (migrated_disk z).is_honest → (c : Image) → (migrated_disk z).left (g.disk device).moment c → OpensTo n P c
   steps_leave one n P left has device x is z steps finds honest c stopped =
-      let all = all_stores g n P left has device finds in
+      let all = all_desks g n P left has device finds in
       let was_honest = honest_migration x z steps honest in
       let kept = is.opened all was_honest in
       let leaves = migration_leaves x z steps kept.0 kept.1.0 honest in

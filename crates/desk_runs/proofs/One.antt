@@ -14,7 +14,8 @@ use Rattle.desk_store.specs.declared.clerk.Clerk.{Clerk}
 use Rattle.desk_store.specs.declared.opening.OpenError.{OpenError}
 use Rattle.desk_store.specs.declared.opening.OpenError.TheVariants.{NotAStore, OldVersion}
 use Rattle.desk_store.specs.Clerks.{desk_of, disk_of, is_halted, sectors_of, Keeps}
-use Rattle.desk_store.specs.Openings.{AllDesks, AllVersions, IsOneOf, OpensOneOf, OpensOneAs, OpenRefused, device_after}
+use Rattle.desk_pages.specs.Openings.{AllDesks, AllVersions, IsOneOf, OpensOneOf, OpensOneAs}
+use Rattle.desk_store.specs.Openings.{OpenRefused, device_after}
 use Rattle.desk_runs.specs.Recovery.{ImagesAreOne, HoldsOne, HoldsEither, Shows, Recovers}
 
 -- what pages say of their desk

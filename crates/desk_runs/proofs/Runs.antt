@@ -13,7 +13,7 @@ use Rattle.desk_model.specs.Outcome.{IsAcceptance, CommandMay}
 use Rattle.desk_model.specs.Step.{step}
 use Rattle.desk_pages.specs.Desks.{OpensDesk}
 use Rattle.desk_store.specs.declared.clerk.Clerk.{Clerk}
-use Rattle.desk_store.specs.Clerks.{desk_of, disk_of, sectors_of, Keeps}
+use Rattle.desk_store.specs.Clerks.{desk_of, disk_of, pages_of, sectors_of, Keeps}
 use Rattle.desk_store.specs.Commands.{Does, MustBeFull, MayBeFull}
 use Rattle.desk_store.specs.Keeping.{IsLeft, OpensOneMore}
 use Rattle.desk_runs.specs.Runs.{Call, after, if_accepted, acknowledged, acknowledged_at, in_flight, OpensAfterSome, OpenSince, Run, SurvivesEachRun}
@@ -141,13 +141,13 @@ module _ {D : Type 0} {g : Ghosts D} where
   record IsStill (x : Clerk D g) (calls : List Call) (z : Clerk D g) (run : Run x calls z) : Type 0 where
     none : acknowledged calls ≡ []
     never : acknowledged_at x calls z run ≡ []
-    same : IsSame x.pages z.pages
+    same : IsSame (pages_of x) (pages_of z)
     desk : desk_of z ≡ desk_of x
     on : z.halted ≡ true
 
   -- a command of a clerk that has halted by its end was not accepted
   not_accepted : (x : Clerk D g) (c : Command) (r : Reply) (y : Clerk D g) → Does x c r y → y.halted ≡ true → IsAcceptance r → ⊥
-  not_accepted x c r y does on accepted = (accepted_is (MustBeFull x c) (MayBeFull x y.pages c) (y.halted ≡ true) (desk_of x) c r (desk_of y) does.outcome accepted).1 on
+  not_accepted x c r y does on accepted = (accepted_is (MustBeFull x c) (MayBeFull x (pages_of y) c) (y.halted ≡ true) (desk_of x) c r (desk_of y) does.outcome accepted).1 on
 
   halted_told : (x : Clerk D g) (c : Command) (r : Reply) (y : Clerk D g) → Does x c r y → y.halted ≡ true → (if_accepted c r ≡ []) × (if_accepted (disk_of y).moment r ≡ [])
   halted_told x c r y does on = elim (accepts r) [
@@ -197,7 +197,7 @@ module _ {D : Type 0} {g : Ghosts D} where
             subst (λ b. Goes (disk_of x) (sectors_of x) (desk_of x) (acknowledged ((c, r) ∷ calls)) (if_accepted (disk_of y).moment r ++ moments) (if b then flies else later) (disk_of z) z.halted (desk_of z)) (sym works)
             (elim (accepts r) [
               | inl told ↦ (
-                  let is = (accepted_is (MustBeFull x c) (MayBeFull x y.pages c) (y.halted ≡ true) (desk_of x) c r (desk_of y) does.outcome told.0).0 in
+                  let is = (accepted_is (MustBeFull x c) (MayBeFull x (pages_of y) c) (y.halted ≡ true) (desk_of x) c r (desk_of y) does.outcome told.0).0 in
                   subst (λ cs. Goes (disk_of x) (sectors_of x) (desk_of x) (cs ++ acknowledged calls) (if_accepted (disk_of y).moment r ++ moments) later (disk_of z) z.halted (desk_of z)) (sym (told.1 c))
                   (subst (λ ms. Goes (disk_of x) (sectors_of x) (desk_of x) (c ∷ acknowledged calls) (ms ++ moments) later (disk_of z) z.halted (desk_of z)) (sym (told.2 (disk_of y).moment))
                   (goes_accepted (disk_of x) (disk_of y) (disk_of z) (sectors_of x) (desk_of x) c (acknowledged calls) moments later z.halted (desk_of z) leaves
@@ -205,7 +205,7 @@ module _ {D : Type 0} {g : Ghosts D} where
                   )
               | inr told ↦ (
                   let here = leaves_here (OpensDesk (sectors_of x) (desk_of x)) (disk_of x) (λ i left. left_working x.halted (sectors_of x) (desk_of x) i off (keeps.left (does.moves.honest honest_y) i left)) in
-                  let only : LeavesOnly (OpensDesk (sectors_of x) (desk_of x)) (disk_of x) (disk_of y) = leaves_quiet x.pages y.pages (does.quiet works told.0) honest_y (OpensDesk (sectors_of x) (desk_of x)) (disk_of x) here in
+                  let only : LeavesOnly (OpensDesk (sectors_of x) (desk_of x)) (disk_of x) (disk_of y) = leaves_quiet (pages_of x) (pages_of y) (does.quiet works told.0) honest_y (OpensDesk (sectors_of x) (desk_of x)) (disk_of x) here in
                   subst (λ cs. Goes (disk_of x) (sectors_of x) (desk_of x) (cs ++ acknowledged calls) (if_accepted (disk_of y).moment r ++ moments) later (disk_of z) z.halted (desk_of z)) (sym (told.1 c))
                   (subst (λ ms. Goes (disk_of x) (sectors_of x) (desk_of x) (acknowledged calls) (ms ++ moments) later (disk_of z) z.halted (desk_of z)) (sym (told.2 (disk_of y).moment))
                   (goes_refused (disk_of x) (disk_of y) (disk_of z) (sectors_of x) (desk_of x) (acknowledged calls) moments later z.halted (desk_of z) only

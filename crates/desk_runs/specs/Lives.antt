@@ -1,15 +1,15 @@
 -- Lives of a store. In each it is opened, given commands or migrated, and stopped; the next one finds what that stop may have left.
 use Rattle.std.specs.Prelude.{◌≡◌, ◌≤◌, ℕ, false, List, [], ◌∷◌, ◌++◌, length, take, get_or, Result, Ok, IfOk}
 use Rattle.sector_device.specs.Disk.{Image}
-use Rattle.sector_device.specs.Moments.{LeavesOnly}
 use Rattle.sector_device.specs.declared.SectorDevice.{Ghosts}
 use Rattle.desk_model.specs.declared.command.Command.{Command}
 use Rattle.desk_model.specs.Desk.{Desk}
 use Rattle.desk_pages.specs.Desks.{OpensEither}
+use Rattle.desk_pages.specs.Openings.{AllVersions, IsOneOf, LeavesOneAs}
 use Rattle.desk_store.specs.declared.clerk.Clerk.{Clerk}
 use Rattle.desk_store.specs.declared.opening.OpenError.{OpenError}
 use Rattle.desk_store.specs.Clerks.{desk_of, disk_of, is_halted, sectors_of, Keeps}
-use Rattle.desk_store.specs.Openings.{AllVersions, IsOneOf, OpensOneAs, device_after}
+use Rattle.desk_store.specs.Openings.{device_after}
 use Rattle.desk_migration.specs.declared.error.MigrationOpenError.{MigrationOpenError}
 use Rattle.desk_migration.specs.declared.migration.Migration.{Migration}
 use Rattle.desk_migration.specs.Migrating.{disk_of as migrated_disk}
@@ -21,7 +21,7 @@ use Rattle.desk_runs.specs.Recovery.{HoldsEither}
 -- What an opening comes to. At each moment of it a stop leaves an image that opens to a desk to which one opened before, in the same
 -- version; a clerk who comes of it shows one of these desks, keeps it, and has not halted.
 pub record IsOpening {D : Type 0} (g : Ghosts D) (device : D) (result : Result (Clerk D g) (OpenError × D)) : Type 0 where
-  pub any_moment : (g.disk (device_after result)).is_honest → AllVersions (g.disk device) → LeavesOnly (OpensOneAs (g.disk device)) (g.disk device) (g.disk (device_after result))
+  pub any_moment : LeavesOneAs (g.disk device) (g.disk (device_after result))
   pub opened : AllVersions (g.disk device) → IfOk result (λ x. Keeps x × ((disk_of x).is_honest → IsOneOf (g.disk device) (desk_of x)))
   pub working : IfOk result (λ x. (is_halted x ≡ false) × (sectors_of x ≡ (g.disk device).sectors))
 
@@ -87,7 +87,8 @@ module _ {D : Type 0} {g : Ghosts D} where
   -- them.
   pub data Lasted : List (Life g) → List Command → Type 0 where
     none : Lasted [] []
-    more : (life : Life g) (lives : List (Life g)) (count : ℕ) (commands : List Command) → told life ≤ count → count ≤ length (accepted life) → Lasted lives commands → Lasted (life ∷ lives) (take count (accepted life) ++ commands)
+    more : (life : Life g) (lives : List (Life g)) (count : ℕ) (commands : List Command) → told life ≤ count → count ≤ length (accepted life)
+        → Lasted lives commands → Lasted (life ∷ lives) (take count (accepted life) ++ commands)
 
   -- an image opens to the desk after commands that lasted, in either version
   pub record OpensAfterLives (n : ℕ) (d : Desk) (lives : List (Life g)) (c : Image) : Type 0 where
@@ -109,4 +110,7 @@ module _ {D : Type 0} {g : Ghosts D} where
 module _ {D : Type 0} (g : Ghosts D) where
   -- whatever lives follow on a device that holds one desk, in either version
   abbrev pub LivesSurvive : Type 0
-  LivesSurvive = (first : D) (d : Desk) (lives : List (Life g)) → HoldsEither (g.disk first) d → Follow (g.disk first).sectors (g.disk first).leaves lives → Survive (g.disk first).sectors d lives (last_left (g.disk first).leaves lives)
+  LivesSurvive =
+      (first : D) (d : Desk) (lives : List (Life g)) → HoldsEither (g.disk first) d
+      → Follow (g.disk first).sectors (g.disk first).leaves lives
+      → Survive (g.disk first).sectors d lives (last_left (g.disk first).leaves lives)

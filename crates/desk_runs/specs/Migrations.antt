@@ -1,18 +1,18 @@
 -- Migrations of a store: what an opening for one comes to, and the steps of one.
 use Rattle.std.specs.Prelude.{◌≡◌, false, Result, IfOk}
-use Rattle.sector_device.specs.Moments.{LeavesOnly}
 use Rattle.sector_device.specs.declared.SectorDevice.{Ghosts}
 use Rattle.desk_model.specs.Desk.{Desk}
+use Rattle.desk_pages.specs.Openings.{AllVersions, IsOneOld, LeavesOneAs}
 use Rattle.desk_migration.specs.declared.error.MigrationOpenError.{MigrationOpenError}
 use Rattle.desk_migration.specs.declared.migration.Migration.{Migration}
 use Rattle.desk_migration.specs.Migrating.{disk_of, is_halted, sectors_of, Keeps, Moves, Ends}
-use Rattle.desk_migration.specs.Openings.{AllDesks, IsOneOf, OpensOneOf, device_after}
+use Rattle.desk_migration.specs.Openings.{device_after}
 
 -- What an opening for a migration comes to. At each moment of it a stop leaves an image that opens to a desk to which one opened before,
 -- in the same version; a migration that comes of it keeps one of these desks, in the old version, and has not halted.
 pub record IsEntry {D : Type 0} (g : Ghosts D) (device : D) (result : Result (Migration D g) (MigrationOpenError × D)) : Type 0 where
-  pub any_moment : (g.disk (device_after result)).is_honest → AllDesks (g.disk device) → LeavesOnly (OpensOneOf (g.disk device)) (g.disk device) (g.disk (device_after result))
-  pub opened : AllDesks (g.disk device) → IfOk result (λ x. (disk_of x).is_honest → (d : Desk) × (Keeps x d × IsOneOf false (g.disk device) d))
+  pub any_moment : LeavesOneAs (g.disk device) (g.disk (device_after result))
+  pub opened : AllVersions (g.disk device) → IfOk result (λ x. (disk_of x).is_honest → (d : Desk) × (Keeps x d × IsOneOld (g.disk device) d))
   pub working : IfOk result (λ x. (is_halted x ≡ false) × (sectors_of x ≡ (g.disk device).sectors))
 
 module _ {D : Type 0} {g : Ghosts D} where

@@ -21,7 +21,7 @@ use Rattle.desk_pages.specs.Commits.{HoldsAfter, OpensRows}
 use Rattle.desk_pages.proofs.Openings.{leaves_desk}
 use Rattle.desk_pages.specs.Desks.{InPages, OpensDesk}
 use Rattle.desk_store.specs.Keeping.{IsLeft}
-use Rattle.desk_store.specs.Clerks.{desk_of, disk_of, sectors_of, free_of, Keeps}
+use Rattle.desk_store.specs.Clerks.{desk_of, disk_of, pages_of, sectors_of, free_of, Keeps}
 use Rattle.desk_store.specs.Commands.{command_of, after_of, written_of, IsReady, Commits}
 use Rattle.desk_store.specs.declared.clerk.Clerk.{Clerk}
 use Rattle.desk_store.specs.declared.ready.Ready.{Ready}
@@ -40,37 +40,37 @@ module _ {D : Type 0} {g : Ghosts D} where
 
   -- the stop clause of a commit, over maps
   abbrev MapsLeft : Clerk D g → Ready → Pages D g → Type 0
-  MapsLeft x r b = (disk_in b).is_honest → has_halted x.pages ≡ false → (sectors : ℕ) (m next : KeyMap) → home (journal_of x.pages) + count_of x.pages ≡ sectors → HoldsRows x.pages m → HoldsAfter (written_of r) (stored x.pages) next
-      → LeavesOnly (λ c. OpensRows sectors m c ⊎ OpensRows sectors next c) (disk_in x.pages) (disk_in b)
+  MapsLeft x r b = (disk_in b).is_honest → has_halted (pages_of x) ≡ false → (sectors : ℕ) (m next : KeyMap) → home (journal_of (pages_of x)) + count_of (pages_of x) ≡ sectors → HoldsRows (pages_of x) m → HoldsAfter (written_of r) (stored (pages_of x)) next
+      → LeavesOnly (λ c. OpensRows sectors m c ⊎ OpensRows sectors next c) (disk_in (pages_of x)) (disk_in b)
 
   -- over desks
-  desks_left : (x : Clerk D g) (r : Ready) (b : Pages D g) → IsReady x r → ((disk_in b).is_honest → (disk_in x.pages).is_honest) → MapsLeft x r b → Keeps x → x.halted ≡ false → (disk_in b).is_honest
+  desks_left : (x : Clerk D g) (r : Ready) (b : Pages D g) → IsReady x r → ((disk_in b).is_honest → (disk_in (pages_of x)).is_honest) → MapsLeft x r b → Keeps x → x.halted ≡ false → (disk_in b).is_honest
       → LeavesOnly (λ c. OpensDesk (sectors_of x) (desk_of x) c ⊎ OpensDesk (sectors_of x) (after_of r) c) (disk_of x) (disk_in b)
   desks_left x r b ready was_honest left keeps working honest =
       let was = keeps.holds working (was_honest honest) in
       let then = ready.rows keeps working (was_honest honest) in
       leaves_desk (sectors_of x) was.m then.m (desk_of x) (after_of r) (disk_of x) (disk_in b) was.is then.is (left honest (x.working working) (sectors_of x) was.m then.m refl was.holds then.holds)
 
-  sectors_same : (x y : Clerk D g) → HasShape x.pages y.pages → sectors_of y ≡ sectors_of x
+  sectors_same : (x y : Clerk D g) → HasShape (pages_of x) (pages_of y) → sectors_of y ≡ sectors_of x
   sectors_same x y shape = λ i. home (shape.journal_pages i) + shape.pages i
 
-  pub change_made : (x y : Clerk D g) (r : Ready) (reply : Reply) → IsReady x r → x.halted ≡ false → reply ≡ acceptance (command_of r) → desk_of y ≡ after_of r → y.halted ≡ false → HasShape x.pages y.pages
-      → ((disk_of y).is_honest → (disk_of x).is_honest) → MapsLeft x r y.pages → ((disk_of y).is_honest → (next : KeyMap) → HoldsAfter (written_of r) (stored x.pages) next → HoldsRows y.pages next)
-      → ((disk_of y).is_honest → stored y.pages ≡ after (written_of r) (stored x.pages)) → ((disk_of y).is_honest → IsKept y.pages) → ((disk_of y).is_honest → (disk_of y).faults ≡ (disk_of x).faults) → y.loading ≡ x.loading → Commits x r reply y
+  pub change_made : (x y : Clerk D g) (r : Ready) (reply : Reply) → IsReady x r → x.halted ≡ false → reply ≡ acceptance (command_of r) → desk_of y ≡ after_of r → y.halted ≡ false → HasShape (pages_of x) (pages_of y)
+      → ((disk_of y).is_honest → (disk_of x).is_honest) → MapsLeft x r (pages_of y) → ((disk_of y).is_honest → (next : KeyMap) → HoldsAfter (written_of r) (stored (pages_of x)) next → HoldsRows (pages_of y) next)
+      → ((disk_of y).is_honest → stored (pages_of y) ≡ after (written_of r) (stored (pages_of x))) → ((disk_of y).is_honest → IsKept (pages_of y)) → ((disk_of y).is_honest → (disk_of y).faults ≡ (disk_of x).faults) → y.loading ≡ x.loading → Commits x r reply y
   change_made x y r reply ready working told desk works shape honest left held stored_is kept passed loading =
       let holds = λ (keeps : Keeps x) (is_honest : (disk_of y).is_honest).
       let then = ready.rows keeps working (honest is_honest) in
-      let there : InPages y.pages (after_of r) = record { m = then.m; holds = held is_honest then.m then.holds; is = then.is } in
-      subst (λ (d : Desk). InPages y.pages d) (sym desk) there in
+      let there : InPages (pages_of y) (after_of r) = record { m = then.m; holds = held is_honest then.m then.holds; is = then.is } in
+      subst (λ (d : Desk). InPages (pages_of y) d) (sym desk) there in
       record {
         moves = record {
           sectors = sectors_same x y shape;
           room = shape.journal_pages;
           honest = honest;
-          any_moment = desks_left x r y.pages ready honest left;
+          any_moment = desks_left x r (pages_of y) ready honest left;
           keeps = λ keeps. record {
             holds = λ off is_honest. holds keeps is_honest;
-            left = λ is_honest c leaves. inl (kept_opens y.pages (desk_of y) (y.working works) is_honest (kept is_honest) (holds keeps is_honest) c leaves);
+            left = λ is_honest c leaves. inl (kept_opens (pages_of y) (desk_of y) (y.working works) is_honest (kept is_honest) (holds keeps is_honest) c leaves);
           };
           still = λ on. absurd (let clash : true ≡ false = sym on ∙ working in cc);
           rose = λ keeps off on is_honest. absurd (let clash : true ≡ false = sym on ∙ works in cc);
@@ -86,25 +86,25 @@ module _ {D : Type 0} {g : Ghosts D} where
         });
       }
 
-  pub change_not_made : (x y : Clerk D g) (r : Ready) (e : PageError) → IsReady x r → x.halted ≡ false → desk_of y ≡ desk_of x → y.halted ≡ true → HasShape x.pages y.pages → ((disk_of y).is_honest → (disk_of x).is_honest) → MapsLeft x r y.pages
-      → CommitErr (length (prepared_writes (written_of r))) x.pages y.pages e → y.loading ≡ x.loading → Commits x r (Refused refusal.Halted) y
+  pub change_not_made : (x y : Clerk D g) (r : Ready) (e : PageError) → IsReady x r → x.halted ≡ false → desk_of y ≡ desk_of x → y.halted ≡ true → HasShape (pages_of x) (pages_of y) → ((disk_of y).is_honest → (disk_of x).is_honest) → MapsLeft x r (pages_of y)
+      → CommitErr (length (prepared_writes (written_of r))) (pages_of x) (pages_of y) e → y.loading ≡ x.loading → Commits x r (Refused refusal.Halted) y
   change_not_made x y r e ready working desk halts shape honest left why loading =
       let sectors = sectors_same x y shape in
       let images = λ (keeps : Keeps x) (is_honest : (disk_of y).is_honest) (c : Image) (leaves : (disk_of y).leaves c).
       left_halted (sectors_of x) (desk_of x) (after_of r) (disk_of x) (disk_of y) (inl (record { command = command_of r; accepted = accepted_is (desk_of x) (command_of r) (after_of r) ready.accepted; desk = ready.accepted.desk }))
-      (desks_left x r y.pages ready honest left keeps working is_honest) c leaves in
+      (desks_left x r (pages_of y) ready honest left keeps working is_honest) c leaves in
       record {
         moves = record {
           sectors = sectors;
           room = shape.journal_pages;
           honest = honest;
-          any_moment = desks_left x r y.pages ready honest left;
+          any_moment = desks_left x r (pages_of y) ready honest left;
           keeps = λ keeps. record {
             holds = λ off is_honest. absurd (let clash : true ≡ false = sym halts ∙ off in cc);
             left = λ is_honest c leaves. subst (λ (h : Bool). IsLeft h (sectors_of y) (desk_of y) c) (sym halts) (subst (λ (s : ℕ). IsLeft true s (desk_of y) c) (sym sectors) (subst (λ (d : Desk). IsLeft true (sectors_of x) d c) (sym desk) (images keeps is_honest c leaves)));
           };
           still = λ on. absurd (let clash : true ≡ false = sym on ∙ working in cc);
-          rose = λ keeps off on is_honest. fault_rose (length (prepared_writes (written_of r))) x.pages y.pages e why (x.working off) ready.writes is_honest;
+          rose = λ keeps off on is_honest. fault_rose (length (prepared_writes (written_of r))) (pages_of x) (pages_of y) e why (x.working off) ready.writes is_honest;
           calm = λ off is_honest. absurd (let clash : true ≡ false = sym halts ∙ off in cc);
         };
         loading = loading;

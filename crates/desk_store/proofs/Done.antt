@@ -22,7 +22,7 @@ use Rattle.desk_catalogue.specs.Accepting.{IsAfter, acceptance}
 use Rattle.desk_pages.specs.Desks.{HoldsDesk, InPages, OpensDesk}
 use Rattle.plan_revisions.specs.Rows.{HasNumbers}
 use Rattle.desk_store.specs.Keeping.{IsLeft, OpensOneMore}
-use Rattle.desk_store.specs.Clerks.{desk_of, disk_of, sectors_of, free_of, Keeps, Reads, Moves}
+use Rattle.desk_store.specs.Clerks.{desk_of, disk_of, pages_of, sectors_of, free_of, Keeps, Reads, Moves}
 use Rattle.desk_store.specs.Commands.{command_of, after_of, IsSpent, MustBeFull, MayBeFull, PrepareErr, IsReady, Commits, Does}
 use Rattle.desk_store.specs.declared.clerk.Clerk.{Clerk}
 use Rattle.desk_store.specs.declared.ready.Ready.{Ready}
@@ -60,7 +60,7 @@ module _ {D : Type 0} {g : Ghosts D} where
 
   reads_left : (next : Desk) (x y : Clerk D g) → Reads x y → Keeps x → x.halted ≡ false → (disk_of y).is_honest → LeavesOnly (Either x next) (disk_of x) (disk_of y)
   reads_left next x y reads keeps working honest =
-      leaves_quiet x.pages y.pages reads.quiet honest (Either x next) (disk_of x)
+      leaves_quiet (pages_of x) (pages_of y) reads.quiet honest (Either x next) (disk_of x)
       (leaves_here (Either x next) (disk_of x) (λ c leaves. inl (left_working x.halted (sectors_of x) (desk_of x) c working (keeps.left (reads.quiet.honest honest) c leaves))))
 
   was_working : (x y : Clerk D g) → Reads x y → y.halted ≡ false → x.halted ≡ false
@@ -69,18 +69,18 @@ module _ {D : Type 0} {g : Ghosts D} where
     | inr off ↦ off
   ]
 
-  still_holds : (x y : Clerk D g) → Reads x y → (disk_of y).is_honest → InPages x.pages (desk_of x) → InPages y.pages (desk_of y)
+  still_holds : (x y : Clerk D g) → Reads x y → (disk_of y).is_honest → InPages (pages_of x) (desk_of x) → InPages (pages_of y) (desk_of y)
   still_holds x y reads honest holds =
-      subst (λ (d : Desk). InPages y.pages d) (sym reads.desk)
-      (subst (λ (P : Image). HoldsDesk (count_of y.pages) P (root_in P) (free_in P) (desk_of x)) (sym (reads.quiet.same honest))
-      (subst (λ (n : ℕ). HoldsDesk n (stored x.pages) (root_in (stored x.pages)) (free_in (stored x.pages)) (desk_of x)) (sym reads.quiet.count) holds))
+      subst (λ (d : Desk). InPages (pages_of y) d) (sym reads.desk)
+      (subst (λ (P : Image). HoldsDesk (count_of (pages_of y)) P (root_in P) (free_in P) (desk_of x)) (sym (reads.quiet.same honest))
+      (subst (λ (n : ℕ). HoldsDesk n (stored (pages_of x)) (root_in (stored (pages_of x))) (free_in (stored (pages_of x))) (desk_of x)) (sym reads.quiet.count) holds))
 
   -- the numbers of its rows are what they were
   still_spent : (x y : Clerk D g) (c q : Command) → Reads x y → q ≡ c → (disk_of y).is_honest → IsSpent x c → IsSpent y q
   still_spent x y c q reads is honest spent = record {
     m = spent.m;
-    holds = subst (λ (P : Image). Holds (count_of y.pages) P (root_in P) (free_in P) spent.m) (sym (reads.quiet.same honest))
-        (subst (λ (n : ℕ). Holds n (stored x.pages) (root_in (stored x.pages)) (free_in (stored x.pages)) spent.m) (sym reads.quiet.count) spent.holds);
+    holds = subst (λ (P : Image). Holds (count_of (pages_of y)) P (root_in P) (free_in P) spent.m) (sym (reads.quiet.same honest))
+        (subst (λ (n : ℕ). Holds n (stored (pages_of x)) (root_in (stored (pages_of x))) (free_in (stored (pages_of x))) spent.m) (sym reads.quiet.count) spent.holds);
     next = spent.next;
     fit = spent.fit;
     is_next = spent.is_next;
@@ -92,7 +92,7 @@ module _ {D : Type 0} {g : Ghosts D} where
     holds = λ works honest. still_holds x y reads honest (keeps.holds (was_working x y reads works) (reads.quiet.honest honest));
     left = λ honest c leaves.
         let was : IsLeft x.halted (sectors_of x) (desk_of x) c = leaves_now (IsLeft x.halted (sectors_of x) (desk_of x)) (disk_of x) (disk_of y)
-        (leaves_quiet x.pages y.pages reads.quiet honest (IsLeft x.halted (sectors_of x) (desk_of x)) (disk_of x) (leaves_here (IsLeft x.halted (sectors_of x) (desk_of x)) (disk_of x) (keeps.left (reads.quiet.honest honest)))) c leaves in
+        (leaves_quiet (pages_of x) (pages_of y) reads.quiet honest (IsLeft x.halted (sectors_of x) (desk_of x)) (disk_of x) (leaves_here (IsLeft x.halted (sectors_of x) (desk_of x)) (disk_of x) (keeps.left (reads.quiet.honest honest)))) c leaves in
         subst (λ (d : Desk). IsLeft y.halted (sectors_of y) d c) (sym reads.desk) (subst (λ (s : ℕ). IsLeft y.halted s (desk_of x) c) (sym (sectors_same x y reads)) (left_later x.halted y.halted (sectors_of x) (desk_of x) c reads.halts was));
   }
 
@@ -149,10 +149,10 @@ module _ {D : Type 0} {g : Ghosts D} where
         loading = commits.loading ∙ loading;
         moves = subst (λ (e : Desk). Moves e x z) after.desk (moves_more (after_of r) x y z reads works commits.moves);
         outcome = elim commits.outcome [
-          | inl made ↦ subst (λ (a : Reply). CommandMay (MustBeFull x c) (MayBeFull x z.pages c) (z.halted ≡ true) (desk_of x) c a (desk_of z)) (ap (λ (q : Command). acceptance q) (sym is) ∙ sym made.reply_is)
-              (subst (λ (e : Desk). CommandMay (MustBeFull x c) (MayBeFull x z.pages c) (z.halted ≡ true) (desk_of x) c (acceptance c) e) (sym made.desk)
-              (made_may (MustBeFull x c) (MayBeFull x z.pages c) (z.halted ≡ true) (desk_of x) c (after_of r) (λ on. let clash : true ≡ false = sym on ∙ made.works in cc) after room))
-          | inr fault ↦ subst (λ (a : Reply). CommandMay (MustBeFull x c) (MayBeFull x z.pages c) (z.halted ≡ true) (desk_of x) c a (desk_of z)) (sym fault.reply_is) (fault.halted, fault.desk ∙ reads.desk)
+          | inl made ↦ subst (λ (a : Reply). CommandMay (MustBeFull x c) (MayBeFull x (pages_of z) c) (z.halted ≡ true) (desk_of x) c a (desk_of z)) (ap (λ (q : Command). acceptance q) (sym is) ∙ sym made.reply_is)
+              (subst (λ (e : Desk). CommandMay (MustBeFull x c) (MayBeFull x (pages_of z) c) (z.halted ≡ true) (desk_of x) c (acceptance c) e) (sym made.desk)
+              (made_may (MustBeFull x c) (MayBeFull x (pages_of z) c) (z.halted ≡ true) (desk_of x) c (after_of r) (λ on. let clash : true ≡ false = sym on ∙ made.works in cc) after room))
+          | inr fault ↦ subst (λ (a : Reply). CommandMay (MustBeFull x c) (MayBeFull x (pages_of z) c) (z.halted ≡ true) (desk_of x) c a (desk_of z)) (sym fault.reply_is) (fault.halted, fault.desk ∙ reads.desk)
         ];
         free = λ keeps honest accepted. elim commits.outcome [
           | inl made ↦ (

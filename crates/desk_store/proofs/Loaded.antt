@@ -22,7 +22,7 @@ use Rattle.geo_tables.specs.declared.error.LoadFault.{LoadFault}
 use Rattle.geo_tables.specs.declared.error.LoadFault.TheVariants.{AlreadySealed, Full, Memory, DeviceFault, Halted}
 use Rattle.desk_pages.specs.Desks.{InPages, OpensDesk}
 use Rattle.desk_store.specs.Keeping.{IsOneMore, sealed_desk}
-use Rattle.desk_store.specs.Clerks.{desk_of, disk_of, sectors_of, Keeps}
+use Rattle.desk_store.specs.Clerks.{desk_of, disk_of, pages_of, sectors_of, Keeps}
 use Rattle.desk_store.specs.Loads.{Stages, BeginRefused}
 use Rattle.desk_store.specs.LoadFaults.{is_load_fault, load_error_of}
 use Rattle.desk_store.specs.declared.clerk.Clerk.{Clerk}
@@ -42,12 +42,12 @@ one_left sectors d next old new left = leaves_wider (λ c. OpensDesk sectors d c
 module _ {D : Type 0} {g : Ghosts D} where
   -- ---- begin
   abbrev BeginLeft : Clerk D g → Pages D g → Type 0
-  BeginLeft x b = (disk_in b).is_honest → has_halted x.pages ≡ false → (sectors : ℕ) (d : Desk) → home (journal_of x.pages) + count_of x.pages ≡ sectors → InPages x.pages d → LeavesOnly (OpensDesk sectors d) (disk_in x.pages) (disk_in b)
+  BeginLeft x b = (disk_in b).is_honest → has_halted (pages_of x) ≡ false → (sectors : ℕ) (d : Desk) → home (journal_of (pages_of x)) + count_of (pages_of x) ≡ sectors → InPages (pages_of x) d → LeavesOnly (OpensDesk sectors d) (disk_in (pages_of x)) (disk_in b)
 
   pub begin_left : (x : Clerk D g) (b : Pages D g) → x.halted ≡ false → ((disk_in b).is_honest → (disk_of x).is_honest) → BeginLeft x b → Left (Keeps x) (desk_of x) x b
   begin_left x b working honest left keeps is_honest = one_left (sectors_of x) (desk_of x) (desk_of x) (disk_of x) (disk_in b) (left is_honest (x.working working) (sectors_of x) (desk_of x) refl (keeps.holds working (honest is_honest)))
 
-  pub begin_rose : (area : Ground) (x : Clerk D g) (b : Pages D g) (e : LoadFault) → x.halted ≡ false → ((disk_in b).is_honest → (disk_of x).is_honest) → BeginErr area x.pages b e → (is_load_fault e ≡ true) ⊎ (has_halted b ≡ true) → Keeps x → (disk_in b).is_honest → (disk_of x).faults < (disk_in b).faults
+  pub begin_rose : (area : Ground) (x : Clerk D g) (b : Pages D g) (e : LoadFault) → x.halted ≡ false → ((disk_in b).is_honest → (disk_of x).is_honest) → BeginErr area (pages_of x) b e → (is_load_fault e ≡ true) ⊎ (has_halted b ≡ true) → Keeps x → (disk_in b).is_honest → (disk_of x).faults < (disk_in b).faults
   begin_rose area x b AlreadySealed working met why on keeps honest = ⊎_elim (λ clash. absurd (cc)) (λ halted. why.0.quiet.rose (x.working working) halted honest) on
   begin_rose area x b Full working met why on keeps honest = ⊎_elim (λ clash. absurd (cc)) (λ halted. why.0.rose (x.working working) halted honest) on
   begin_rose area x b Memory working met why on keeps honest = ⊎_elim (λ clash. absurd (cc)) (λ halted. why.0.rose (x.working working) halted honest) on
@@ -60,36 +60,36 @@ module _ {D : Type 0} {g : Ghosts D} where
   load_desk : (b : Pages D g) (d : Desk) (load : Load) → HoldsLoad b d load → InPages b d
   load_desk b d load holds = record { m = holds.m; holds = holds.holds; is = holds.is }
 
-  pub begin_holds : (x : Clerk D g) (b : Pages D g) (load : Load) → x.halted ≡ false → ((disk_in b).is_honest → (disk_of x).is_honest) → ((disk_in b).is_honest → (d : Desk) → InPages x.pages d → HoldsLoad b d load)
+  pub begin_holds : (x : Clerk D g) (b : Pages D g) (load : Load) → x.halted ≡ false → ((disk_in b).is_honest → (disk_of x).is_honest) → ((disk_in b).is_honest → (d : Desk) → InPages (pages_of x) d → HoldsLoad b d load)
       → Keeps x → (disk_in b).is_honest → InPages b (desk_of x)
   begin_holds x b load working honest begun keeps is_honest = load_desk b (desk_of x) load (begun is_honest (desk_of x) (keeps.holds working (honest is_honest)))
 
-  pub begin_stages : (x y : Clerk D g) (load : Load) → x.halted ≡ false → y.halted ≡ false → desk_of y ≡ desk_of x → ((disk_of y).is_honest → (disk_of x).is_honest) → ((disk_of y).is_honest → (d : Desk) → InPages x.pages d → HoldsLoad y.pages d load)
+  pub begin_stages : (x y : Clerk D g) (load : Load) → x.halted ≡ false → y.halted ≡ false → desk_of y ≡ desk_of x → ((disk_of y).is_honest → (disk_of x).is_honest) → ((disk_of y).is_honest → (d : Desk) → InPages (pages_of x) d → HoldsLoad (pages_of y) d load)
       → Keeps y → Keeps x → Stages y load
   begin_stages x y load working works desk honest begun later keeps = record {
     keeps = later;
-    holds = λ off is_honest. subst (λ (d : Desk). HoldsLoad y.pages d load) (sym desk) (begun is_honest (desk_of x) (keeps.holds working (honest is_honest)));
+    holds = λ off is_honest. subst (λ (d : Desk). HoldsLoad (pages_of y) d load) (sym desk) (begun is_honest (desk_of x) (keeps.holds working (honest is_honest)));
   }
 
-  pub batch_holds : (x : Clerk D g) (b : Pages D g) (load next : Load) → x.halted ≡ false → ((disk_in b).is_honest → (disk_of x).is_honest) → ((disk_in b).is_honest → (d : Desk) → HoldsLoad x.pages d load → HoldsLoad b d next)
+  pub batch_holds : (x : Clerk D g) (b : Pages D g) (load next : Load) → x.halted ≡ false → ((disk_in b).is_honest → (disk_of x).is_honest) → ((disk_in b).is_honest → (d : Desk) → HoldsLoad (pages_of x) d load → HoldsLoad b d next)
       → Stages x load → (disk_in b).is_honest → InPages b (desk_of x)
   batch_holds x b load next working honest staged stages is_honest = load_desk b (desk_of x) next (staged is_honest (desk_of x) (stages.holds working (honest is_honest)))
 
-  pub batch_stages : (x y : Clerk D g) (load next : Load) → x.halted ≡ false → desk_of y ≡ desk_of x → ((disk_of y).is_honest → (disk_of x).is_honest) → ((disk_of y).is_honest → (d : Desk) → HoldsLoad x.pages d load → HoldsLoad y.pages d next)
+  pub batch_stages : (x y : Clerk D g) (load next : Load) → x.halted ≡ false → desk_of y ≡ desk_of x → ((disk_of y).is_honest → (disk_of x).is_honest) → ((disk_of y).is_honest → (d : Desk) → HoldsLoad (pages_of x) d load → HoldsLoad (pages_of y) d next)
       → Keeps y → Stages x load → Stages y next
   batch_stages x y load next working desk honest staged later stages = record {
     keeps = later;
-    holds = λ off is_honest. subst (λ (d : Desk). HoldsLoad y.pages d next) (sym desk) (staged is_honest (desk_of x) (stages.holds working (honest is_honest)));
+    holds = λ off is_honest. subst (λ (d : Desk). HoldsLoad (pages_of y) d next) (sym desk) (staged is_honest (desk_of x) (stages.holds working (honest is_honest)));
   }
 
-  pub begin_quiet : (area : Ground) (x : Clerk D g) (b : Pages D g) (e : LoadFault) → is_load_fault e ≡ false → BeginErr area x.pages b e → IsQuiet x.pages b
+  pub begin_quiet : (area : Ground) (x : Clerk D g) (b : Pages D g) (e : LoadFault) → is_load_fault e ≡ false → BeginErr area (pages_of x) b e → IsQuiet (pages_of x) b
   begin_quiet area x b AlreadySealed off why = why.0.quiet
   begin_quiet area x b Full off why = why.0
   begin_quiet area x b Memory off why = why.0
   begin_quiet area x b DeviceFault off why = absurd (cc)
   begin_quiet area x b Halted off why = absurd (cc)
 
-  pub begin_refused : (area : Ground) (x : Clerk D g) (b : Pages D g) (e : LoadFault) → x.halted ≡ false → ((disk_in b).is_honest → (disk_of x).is_honest) → is_load_fault e ≡ false → BeginErr area x.pages b e → BeginRefused area x (load_error_of e) x.halted b
+  pub begin_refused : (area : Ground) (x : Clerk D g) (b : Pages D g) (e : LoadFault) → x.halted ≡ false → ((disk_in b).is_honest → (disk_of x).is_honest) → is_load_fault e ≡ false → BeginErr area (pages_of x) b e → BeginRefused area x (load_error_of e) x.halted b
   begin_refused area x b AlreadySealed working honest off why = (refl, λ keeps is_honest. why.1 is_honest (desk_of x) (keeps.holds working (honest is_honest)))
   begin_refused area x b Full working honest off why = (working, why)
   begin_refused area x b Memory working honest off why = (working, why.0)
@@ -98,12 +98,12 @@ module _ {D : Type 0} {g : Ghosts D} where
 
   -- ---- a batch
   abbrev BatchLeft : Clerk D g → Load → Pages D g → Type 0
-  BatchLeft x load b = (disk_in b).is_honest → has_halted x.pages ≡ false → (sectors : ℕ) (d : Desk) → home (journal_of x.pages) + count_of x.pages ≡ sectors → HoldsLoad x.pages d load → LeavesOnly (OpensDesk sectors d) (disk_in x.pages) (disk_in b)
+  BatchLeft x load b = (disk_in b).is_honest → has_halted (pages_of x) ≡ false → (sectors : ℕ) (d : Desk) → home (journal_of (pages_of x)) + count_of (pages_of x) ≡ sectors → HoldsLoad (pages_of x) d load → LeavesOnly (OpensDesk sectors d) (disk_in (pages_of x)) (disk_in b)
 
   pub batch_left : (x : Clerk D g) (b : Pages D g) (load : Load) → x.halted ≡ false → ((disk_in b).is_honest → (disk_of x).is_honest) → BatchLeft x load b → Left (Stages x load) (desk_of x) x b
   batch_left x b load working honest left stages is_honest = one_left (sectors_of x) (desk_of x) (desk_of x) (disk_of x) (disk_in b) (left is_honest (x.working working) (sectors_of x) (desk_of x) refl (stages.holds working (honest is_honest)))
 
-  pub batch_rose : (load : Load) (rows : ℕ) (x : Clerk D g) (b : Pages D g) (e : LoadFault) → x.halted ≡ false → ((disk_in b).is_honest → (disk_of x).is_honest) → BatchErr load rows x.pages b e → (is_load_fault e ≡ true) ⊎ (has_halted b ≡ true) → Stages x load → (disk_in b).is_honest → (disk_of x).faults < (disk_in b).faults
+  pub batch_rose : (load : Load) (rows : ℕ) (x : Clerk D g) (b : Pages D g) (e : LoadFault) → x.halted ≡ false → ((disk_in b).is_honest → (disk_of x).is_honest) → BatchErr load rows (pages_of x) b e → (is_load_fault e ≡ true) ⊎ (has_halted b ≡ true) → Stages x load → (disk_in b).is_honest → (disk_of x).faults < (disk_in b).faults
   batch_rose load rows x b AlreadySealed working met why on stages honest = absurd why
   batch_rose load rows x b Full working met why on stages honest = ⊎_elim (λ clash. absurd (cc)) (λ halted. why.0.rose (x.working working) halted honest) on
   batch_rose load rows x b Memory working met why on stages honest = ⊎_elim (λ clash. absurd (cc)) (λ halted. why.0.rose (x.working working) halted honest) on
@@ -113,7 +113,7 @@ module _ {D : Type 0} {g : Ghosts D} where
   ]
   batch_rose load rows x b Halted working met why on stages honest = absurd (let clash : true ≡ false = sym why.0 ∙ x.working working in cc)
 
-  pub batch_quiet : (load : Load) (rows : ℕ) (x : Clerk D g) (b : Pages D g) (e : LoadFault) → is_load_fault e ≡ false → BatchErr load rows x.pages b e → IsQuiet x.pages b
+  pub batch_quiet : (load : Load) (rows : ℕ) (x : Clerk D g) (b : Pages D g) (e : LoadFault) → is_load_fault e ≡ false → BatchErr load rows (pages_of x) b e → IsQuiet (pages_of x) b
   batch_quiet load rows x b AlreadySealed off why = absurd why
   batch_quiet load rows x b Full off why = why.0
   batch_quiet load rows x b Memory off why = why.0
@@ -122,10 +122,10 @@ module _ {D : Type 0} {g : Ghosts D} where
 
   -- ---- the seal
   abbrev SealLeft : Clerk D g → Load → Pages D g → Type 0
-  SealLeft x load b = (disk_in b).is_honest → has_halted x.pages ≡ false → (sectors : ℕ) (d : Desk) → home (journal_of x.pages) + count_of x.pages ≡ sectors → HoldsLoad x.pages d load
-      → LeavesOnly (λ c. OpensDesk sectors d c ⊎ OpensDesk sectors (desk_with (ground_of load) d.plans) c) (disk_in x.pages) (disk_in b)
+  SealLeft x load b = (disk_in b).is_honest → has_halted (pages_of x) ≡ false → (sectors : ℕ) (d : Desk) → home (journal_of (pages_of x)) + count_of (pages_of x) ≡ sectors → HoldsLoad (pages_of x) d load
+      → LeavesOnly (λ c. OpensDesk sectors d c ⊎ OpensDesk sectors (desk_with (ground_of load) d.plans) c) (disk_in (pages_of x)) (disk_in b)
 
-  plans_are : (x : Clerk D g) (load : Load) → (desk_of x).geography ≡ None → HoldsLoad x.pages (desk_of x) load → desk_with (ground_of load) (desk_of x).plans ≡ sealed_desk (ground_of load)
+  plans_are : (x : Clerk D g) (load : Load) → (desk_of x).geography ≡ None → HoldsLoad (pages_of x) (desk_of x) load → desk_with (ground_of load) (desk_of x).plans ≡ sealed_desk (ground_of load)
   plans_are x load none holds = ap (λ (p : map_of.FinMap name_cmp Plan). desk_with (ground_of load) p) (no_plans holds.m (desk_of x) holds.is.desk none)
 
   pub seal_left : (x : Clerk D g) (b : Pages D g) (load : Load) → x.halted ≡ false → (desk_of x).geography ≡ None → ((disk_in b).is_honest → (disk_of x).is_honest) → SealLeft x load b → Left (Stages x load) (sealed_desk (ground_of load)) x b
@@ -136,13 +136,13 @@ module _ {D : Type 0} {g : Ghosts D} where
   pub seal_more : (x : Clerk D g) (b : Pages D g) (load : Load) → x.halted ≡ false → (desk_of x).geography ≡ None → ((disk_in b).is_honest → (disk_of x).is_honest) → Stages x load → (disk_in b).is_honest → (sealed_desk (ground_of load) ≡ desk_of x) ⊎ IsOneMore (desk_of x) (sealed_desk (ground_of load))
   seal_more x b load working none honest stages is_honest = inr (inr (record { geography = ground_of load; none = none; desk = sym (plans_are x load none (stages.holds working (honest is_honest))) }))
 
-  pub seal_holds : (x : Clerk D g) (b : Pages D g) (e : Desk) (load : Load) → x.halted ≡ false → (desk_of x).geography ≡ None → ((disk_in b).is_honest → (disk_of x).is_honest) → e ≡ sealed_desk (ground_of load) → ((disk_in b).is_honest → (d : Desk) → HoldsLoad x.pages d load → InPages b (desk_with (ground_of load) d.plans))
+  pub seal_holds : (x : Clerk D g) (b : Pages D g) (e : Desk) (load : Load) → x.halted ≡ false → (desk_of x).geography ≡ None → ((disk_in b).is_honest → (disk_of x).is_honest) → e ≡ sealed_desk (ground_of load) → ((disk_in b).is_honest → (d : Desk) → HoldsLoad (pages_of x) d load → InPages b (desk_with (ground_of load) d.plans))
       → Stages x load → (disk_in b).is_honest → InPages b e
   seal_holds x b e load working none honest desk sealed stages is_honest =
       let holds = stages.holds working (honest is_honest) in
       subst (λ (f : Desk). InPages b f) (plans_are x load none holds ∙ sym desk) (sealed is_honest (desk_of x) holds)
 
-  pub seal_rose : (load : Load) (x : Clerk D g) (b : Pages D g) (e : LoadFault) → x.halted ≡ false → ((disk_in b).is_honest → (disk_of x).is_honest) → SealErr load x.pages b e → (is_load_fault e ≡ true) ⊎ (has_halted b ≡ true) → Stages x load → (disk_in b).is_honest → (disk_of x).faults < (disk_in b).faults
+  pub seal_rose : (load : Load) (x : Clerk D g) (b : Pages D g) (e : LoadFault) → x.halted ≡ false → ((disk_in b).is_honest → (disk_of x).is_honest) → SealErr load (pages_of x) b e → (is_load_fault e ≡ true) ⊎ (has_halted b ≡ true) → Stages x load → (disk_in b).is_honest → (disk_of x).faults < (disk_in b).faults
   seal_rose load x b AlreadySealed working met why on stages honest = absurd why
   seal_rose load x b Full working met why on stages honest = ⊎_elim (λ clash. absurd (cc)) (λ halted. why.0.rose (x.working working) halted honest) on
   seal_rose load x b Memory working met why on stages honest = ⊎_elim (λ clash. absurd (cc)) (λ halted. why.0.rose (x.working working) halted honest) on
@@ -152,7 +152,7 @@ module _ {D : Type 0} {g : Ghosts D} where
   ]
   seal_rose load x b Halted working met why on stages honest = absurd (let clash : true ≡ false = sym why.0 ∙ x.working working in cc)
 
-  pub seal_quiet : (load : Load) (x : Clerk D g) (b : Pages D g) (e : LoadFault) → is_load_fault e ≡ false → SealErr load x.pages b e → IsQuiet x.pages b
+  pub seal_quiet : (load : Load) (x : Clerk D g) (b : Pages D g) (e : LoadFault) → is_load_fault e ≡ false → SealErr load (pages_of x) b e → IsQuiet (pages_of x) b
   seal_quiet load x b AlreadySealed off why = absurd why
   seal_quiet load x b Full off why = why.0
   seal_quiet load x b Memory off why = why.0

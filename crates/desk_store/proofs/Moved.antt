@@ -11,7 +11,7 @@ use Rattle.page_store.specs.declared.pages.Pages.{Pages}
 use Rattle.desk_model.specs.Desk.{Desk}
 use Rattle.desk_pages.specs.Desks.{InPages, OpensDesk}
 use Rattle.desk_store.specs.Keeping.{IsLeft, IsOneMore}
-use Rattle.desk_store.specs.Clerks.{desk_of, disk_of, sectors_of, Keeps, Reads, Moves, MovesIf}
+use Rattle.desk_store.specs.Clerks.{desk_of, disk_of, pages_of, sectors_of, Keeps, Reads, Moves, MovesIf}
 use Rattle.desk_store.specs.declared.clerk.Clerk.{Clerk}
 use Rattle.desk_store.proofs.Kept.{kept_opens}
 use Rattle.desk_store.proofs.Done.{reads_move}
@@ -23,12 +23,12 @@ module _ {D : Type 0} {g : Ghosts D} where
   abbrev pub Left : Type 0 → Desk → Clerk D g → Pages D g → Type 0
   Left sound next x b = sound → (disk_in b).is_honest → LeavesOnly (OneOf x next) (disk_of x) (disk_in b)
 
-  shape_sectors : (x y : Clerk D g) → HasShape x.pages y.pages → sectors_of y ≡ sectors_of x
+  shape_sectors : (x y : Clerk D g) → HasShape (pages_of x) (pages_of y) → sectors_of y ≡ sectors_of x
   shape_sectors x y shape = λ i. home (shape.journal_pages i) + shape.pages i
 
   -- a commit that was made
-  pub worked : (sound : Type 0) (next : Desk) (x y : Clerk D g) → x.halted ≡ false → y.halted ≡ false → HasShape x.pages y.pages → ((disk_of y).is_honest → (disk_of x).is_honest) → Left sound next x y.pages
-      → (sound → (disk_of y).is_honest → InPages y.pages (desk_of y)) → ((disk_of y).is_honest → IsKept y.pages) → ((disk_of y).is_honest → (disk_of y).faults ≡ (disk_of x).faults) → MovesIf sound next x y
+  pub worked : (sound : Type 0) (next : Desk) (x y : Clerk D g) → x.halted ≡ false → y.halted ≡ false → HasShape (pages_of x) (pages_of y) → ((disk_of y).is_honest → (disk_of x).is_honest) → Left sound next x (pages_of y)
+      → (sound → (disk_of y).is_honest → InPages (pages_of y) (desk_of y)) → ((disk_of y).is_honest → IsKept (pages_of y)) → ((disk_of y).is_honest → (disk_of y).faults ≡ (disk_of x).faults) → MovesIf sound next x y
   worked sound next x y working works shape honest left holds kept passed = record {
     sectors = shape_sectors x y shape;
     room = shape.journal_pages;
@@ -36,7 +36,7 @@ module _ {D : Type 0} {g : Ghosts D} where
     any_moment = λ is off. left is;
     keeps = λ is. record {
       holds = λ off is_honest. holds is is_honest;
-      left = λ is_honest c leaves. inl (kept_opens y.pages (desk_of y) (y.working works) is_honest (kept is_honest) (holds is is_honest) c leaves);
+      left = λ is_honest c leaves. inl (kept_opens (pages_of y) (desk_of y) (y.working works) is_honest (kept is_honest) (holds is is_honest) c leaves);
     };
     still = λ on. absurd (let clash : true ≡ false = sym on ∙ working in cc);
     rose = λ is off on. absurd (let clash : true ≡ false = sym on ∙ works in cc);
@@ -44,7 +44,7 @@ module _ {D : Type 0} {g : Ghosts D} where
   }
 
   -- one that met a fault
-  pub faulted : (sound : Type 0) (next : Desk) (x y : Clerk D g) → x.halted ≡ false → y.halted ≡ true → desk_of y ≡ desk_of x → HasShape x.pages y.pages → ((disk_of y).is_honest → (disk_of x).is_honest) → Left sound next x y.pages
+  pub faulted : (sound : Type 0) (next : Desk) (x y : Clerk D g) → x.halted ≡ false → y.halted ≡ true → desk_of y ≡ desk_of x → HasShape (pages_of x) (pages_of y) → ((disk_of y).is_honest → (disk_of x).is_honest) → Left sound next x (pages_of y)
       → (sound → (disk_of y).is_honest → (next ≡ desk_of x) ⊎ IsOneMore (desk_of x) next) → (sound → (disk_of y).is_honest → (disk_of x).faults < (disk_of y).faults) → MovesIf sound next x y
   faulted sound next x y working halts desk shape honest left more rose =
       let sectors = shape_sectors x y shape in
@@ -67,7 +67,7 @@ module _ {D : Type 0} {g : Ghosts D} where
       }
 
   -- nothing was committed, and no fault came
-  pub quieted : (sound : Type 0) (next : Desk) (x y : Clerk D g) → (sound → Keeps x) → x.halted ≡ false → y.halted ≡ false → desk_of y ≡ desk_of x → IsQuiet x.pages y.pages → MovesIf sound next x y
+  pub quieted : (sound : Type 0) (next : Desk) (x y : Clerk D g) → (sound → Keeps x) → x.halted ≡ false → y.halted ≡ false → desk_of y ≡ desk_of x → IsQuiet (pages_of x) (pages_of y) → MovesIf sound next x y
   quieted sound next x y gives working works desk quiet =
       let reads : Reads x y = record {
         quiet = quiet;
@@ -94,7 +94,7 @@ module _ {D : Type 0} {g : Ghosts D} where
   pub unmoved : (sound : Type 0) (next : Desk) (x : Clerk D g) → (sound → Keeps x) → MovesIf sound next x x
   unmoved sound next x gives =
       let reads : Reads x x = record {
-        quiet = quiet_none x.pages;
+        quiet = quiet_none (pages_of x);
         desk = refl;
         halts = λ on. on;
         still = λ on. refl;

@@ -27,7 +27,7 @@ use Rattle.desk_pages.specs.Desks.{HoldsDesk, HoldsDeskOf, InPages, InPagesOf, I
 use Rattle.desk_pages.proofs.DeskLaws.{begun_desk}
 use Rattle.plan_revisions.specs.Rows.{HasNumbers}
 use Rattle.plan_revisions.proofs.Accepted.{rows_some, ground_stays}
-use Rattle.desk_store.specs.Clerks.{desk_of, disk_of, free_of, room_of, Keeps, Reads}
+use Rattle.desk_store.specs.Clerks.{desk_of, disk_of, free_of, pages_of, room_of, Keeps, Reads}
 use Rattle.desk_store.specs.declared.ready.Ready.{Ready}
 use Rattle.desk_store.specs.Commands.{command_of, after_of, written_of, IsReady, HoldsNext, IsPut, HasRoom, IsSpent, MustBeFull, MayBeFull}
 use Rattle.desk_store.specs.Faults.{is_fault, refusal_of}
@@ -77,46 +77,46 @@ module _ {D : Type 0} {g : Ghosts D} where
       (subst (λ (P : Image). Holds (count_of b) P (root_in P) (free_in P) m) (quiet.same honest) holds)
 
   -- the desk that it holds
-  next_held : (x y : Clerk D g) (c : Command) (e : Desk) (t u : Txn) (made : Prepared) → desk_of y ≡ desk_of x → IsBegun x.pages t → IsQuiet x.pages y.pages → HasStepped (λ d. d ≡ desk_of x) (λ d. e) (command_rows (desk_of x) c) t u x.pages y.pages
-      → IsReadied u made → Keeps y → y.halted ≡ false → (disk_of y).is_honest → InTxn u (stored x.pages) e
+  next_held : (x y : Clerk D g) (c : Command) (e : Desk) (t u : Txn) (made : Prepared) → desk_of y ≡ desk_of x → IsBegun (pages_of x) t → IsQuiet (pages_of x) (pages_of y) → HasStepped (λ d. d ≡ desk_of x) (λ d. e) (command_rows (desk_of x) c) t u (pages_of x) (pages_of y)
+      → IsReadied u made → Keeps y → y.halted ≡ false → (disk_of y).is_honest → InTxn u (stored (pages_of x)) e
   next_held x y c e t u made same begun quiet stepped readied keeps working honest =
-      let before = still_held x.pages y.pages (desk_of x) quiet honest (subst (λ (d : Desk). InPages y.pages d) same (keeps.holds working honest)) in
-      stepped.desk honest (desk_of x) (begun_reads x.pages t (desk_of x) begun (quiet.honest honest) before) refl
+      let before = still_held (pages_of x) (pages_of y) (desk_of x) quiet honest (subst (λ (d : Desk). InPages (pages_of y) d) same (keeps.holds working honest)) in
+      stepped.desk honest (desk_of x) (begun_reads (pages_of x) t (desk_of x) begun (quiet.honest honest) before) refl
 
-  pub put_made : (x y : Clerk D g) (c : Command) (e : Desk) (t u : Txn) (made : Prepared) → desk_of y ≡ desk_of x → IsAfter (desk_of x) c e → HasRoom x (command_rows (desk_of x) c) → IsBegun x.pages t → IsQuiet x.pages y.pages → txn_pages u ≡ count_of y.pages
-      → HasStepped (λ d. d ≡ desk_of x) (λ d. e) (command_rows (desk_of x) c) t u x.pages y.pages × LeavesNumbers (HasNumbers (desk_of x) c) t x.pages y.pages → IsReadied u made → IsPut x c e made y
+  pub put_made : (x y : Clerk D g) (c : Command) (e : Desk) (t u : Txn) (made : Prepared) → desk_of y ≡ desk_of x → IsAfter (desk_of x) c e → HasRoom x (command_rows (desk_of x) c) → IsBegun (pages_of x) t → IsQuiet (pages_of x) (pages_of y) → txn_pages u ≡ count_of (pages_of y)
+      → HasStepped (λ d. d ≡ desk_of x) (λ d. e) (command_rows (desk_of x) c) t u (pages_of x) (pages_of y) × LeavesNumbers (HasNumbers (desk_of x) c) t (pages_of x) (pages_of y) → IsReadied u made → IsPut x c e made y
   put_made x y c e t u made same is room begun quiet pages did readied = let stepped = did.0 in record {
     pages = readied.pages ∙ pages;
     writes = (let more = readied.more in let writes = stepped.writes in let none = begun.none in let some = rows_some (desk_of x) c e is in let fits = room.journal in let same_journal : room_of y ≡ room_of x = quiet.journal in omega arith);
     rows = λ keeps working honest.
         let next = next_held x y c e t u made same begun quiet stepped readied keeps working honest in
-        record { m = next.m; holds = subst (λ (P : Image). HoldsAfter made P next.m) (sym (quiet.same honest)) (readied.held (stored x.pages) next.m next.holds); is = next.is };
+        record { m = next.m; holds = subst (λ (P : Image). HoldsAfter made P next.m) (sym (quiet.same honest)) (readied.held (stored (pages_of x)) next.m next.holds); is = next.is };
     free = λ keeps working honest.
         let next = next_held x y c e t u made same begun quiet stepped readied keeps working honest in
-        let counted = readied.free (stored x.pages) next.m next.holds in
+        let counted = readied.free (stored (pages_of x)) next.m next.holds in
         let taken = stepped.taken in
-        let start = begun_free x.pages t begun (quiet.honest honest) in
-        let few : length (free_in (stored x.pages)) ≤ length (free_in (after made (stored x.pages))) + need (desk_of x) c = omega arith in
+        let start = begun_free (pages_of x) t begun (quiet.honest honest) in
+        let few : length (free_in (stored (pages_of x))) ≤ length (free_in (after made (stored (pages_of x)))) + need (desk_of x) c = omega arith in
         subst (λ (P : Image). length (free_in P) ≤ length (free_in (after made P)) + need (desk_of x) c) (sym (quiet.same honest)) few;
     numbers = λ honest spent.
-        let holds = begun_rows x.pages t spent.m begun (quiet.honest honest) (still_rows x.pages y.pages spent.m quiet honest spent.holds) in
+        let holds = begun_rows (pages_of x) t spent.m begun (quiet.honest honest) (still_rows (pages_of x) (pages_of y) spent.m quiet honest spent.holds) in
         spent.none (subst (λ (d : Desk). HasNumbers d c spent.next) (sym same) (did.1 honest spent.m spent.next holds spent.fit spent.is_next));
   }
 
   -- ---- nothing was put
-  pub spent_full : (x : Clerk D g) (b : Pages D g) (c : Command) (e : Desk) (t u : Txn) → IsAfter (desk_of x) c e → x.halted ≡ false → IsBegun x.pages t → IsQuiet x.pages b → HasSpent (HasNumbers (desk_of x) c) t u x.pages b
+  pub spent_full : (x : Clerk D g) (b : Pages D g) (c : Command) (e : Desk) (t u : Txn) → IsAfter (desk_of x) c e → x.halted ≡ false → IsBegun (pages_of x) t → IsQuiet (pages_of x) b → HasSpent (HasNumbers (desk_of x) c) t u (pages_of x) b
       → IsFull (MayBeFull x b c) (desk_of x) c (desk_of x)
   spent_full x b c e t u is working begun quiet spent = record {
     accepted = accepted_is (desk_of x) c e is;
     no_room = λ keeps honest.
         let holds = keeps.holds working (quiet.honest honest) in
-        let reads = begun_reads x.pages t (desk_of x) begun (quiet.honest honest) holds in
-        inr (inl (record { m = holds.m; holds = holds.holds; next = spent.next; fit = spent.are_next.fit; is_next = spent.are_next.told honest holds.m (begun_rows x.pages t holds.m begun (quiet.honest honest) holds.holds); none = spent.none }));
+        let reads = begun_reads (pages_of x) t (desk_of x) begun (quiet.honest honest) holds in
+        inr (inl (record { m = holds.m; holds = holds.holds; next = spent.next; fit = spent.are_next.fit; is_next = spent.are_next.told honest holds.m (begun_rows (pages_of x) t holds.m begun (quiet.honest honest) holds.holds); none = spent.none }));
     desk = refl;
   }
 
-  pub not_put : (x : Clerk D g) (b : Pages D g) (c : Command) (e : Desk) (t : Txn) (error : TreeError) → IsAfter (desk_of x) c e → HasRoom x (command_rows (desk_of x) c) → x.halted ≡ false → IsBegun x.pages t → IsQuiet x.pages b
-      → StepErr (λ d. d ≡ desk_of x) (command_rows (desk_of x) c) t x.pages b error → is_fault error ≡ false → RefusalMay (MustBeFull x c) (MayBeFull x b c) (x.halted ≡ true) (desk_of x) c (refusal_of error) (desk_of x)
+  pub not_put : (x : Clerk D g) (b : Pages D g) (c : Command) (e : Desk) (t : Txn) (error : TreeError) → IsAfter (desk_of x) c e → HasRoom x (command_rows (desk_of x) c) → x.halted ≡ false → IsBegun (pages_of x) t → IsQuiet (pages_of x) b
+      → StepErr (λ d. d ≡ desk_of x) (command_rows (desk_of x) c) t (pages_of x) b error → is_fault error ≡ false → RefusalMay (MustBeFull x c) (MayBeFull x b c) (x.halted ≡ true) (desk_of x) c (refusal_of error) (desk_of x)
   not_put x b c e t DeviceFault is room working begun quiet why off = absurd (cc)
   not_put x b c e t Halted is room working begun quiet why off = absurd (cc)
   not_put x b c e t Memory is room working begun quiet why off = (λ on. let clash : true ≡ false = sym on ∙ working in cc, refl)
@@ -124,7 +124,7 @@ module _ {D : Type 0} {g : Ghosts D} where
     λ on. let clash : true ≡ false = sym on ∙ working in cc,
     record {
       accepted = accepted_is (desk_of x) c e is;
-      no_room = λ keeps honest. absurd (let start = begun_free x.pages t begun (quiet.honest honest) in let enough = room.free working (quiet.honest honest) in omega arith);
+      no_room = λ keeps honest. absurd (let start = begun_free (pages_of x) t begun (quiet.honest honest) in let enough = room.free working (quiet.honest honest) in omega arith);
       desk = refl;
     },
   )
@@ -132,7 +132,7 @@ module _ {D : Type 0} {g : Ghosts D} where
     λ on. let clash : true ≡ false = sym on ∙ working in cc,
     record {
       accepted = accepted_is (desk_of x) c e is;
-      no_room = λ keeps honest. inr (inr (record { txn = t; deep = why honest (desk_of x) (begun_reads x.pages t (desk_of x) begun (quiet.honest honest) (keeps.holds working (quiet.honest honest))) }));
+      no_room = λ keeps honest. inr (inr (record { txn = t; deep = why honest (desk_of x) (begun_reads (pages_of x) t (desk_of x) begun (quiet.honest honest) (keeps.holds working (quiet.honest honest))) }));
       desk = refl;
     },
   )
@@ -159,7 +159,7 @@ module _ {D : Type 0} {g : Ghosts D} where
         accepted = accepted;
         ground = ground_stays (desk_of y) (command_of r) (after_of r) accepted;
         rows = λ keeps working honest. subst (λ (w : Prepared). HoldsNext w y (after_of r)) (sym made_is) (subst (λ (f : Desk). HoldsNext made y f) (sym e_is) (put.rows keeps working honest));
-        free = λ keeps working honest. subst (λ (w : Prepared). free_of y ≤ length (free_in (after w (stored y.pages))) + need (desk_of y) (command_of r)) (sym made_is)
-            (subst (λ (d : Desk). free_of y ≤ length (free_in (after made (stored y.pages))) + need d (command_of r)) (sym reads.desk) (subst (λ (q : Command). free_of y ≤ length (free_in (after made (stored y.pages))) + need (desk_of x) q) (sym c_is) (put.free keeps working honest)));
+        free = λ keeps working honest. subst (λ (w : Prepared). free_of y ≤ length (free_in (after w (stored (pages_of y)))) + need (desk_of y) (command_of r)) (sym made_is)
+            (subst (λ (d : Desk). free_of y ≤ length (free_in (after made (stored (pages_of y)))) + need d (command_of r)) (sym reads.desk) (subst (λ (q : Command). free_of y ≤ length (free_in (after made (stored (pages_of y)))) + need (desk_of x) q) (sym c_is) (put.free keeps working honest)));
         numbers = λ honest spent. put.numbers honest (subst (λ (q : Command). IsSpent y q) c_is spent);
       }

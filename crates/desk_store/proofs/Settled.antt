@@ -10,6 +10,7 @@ use Rattle.desk_model.specs.declared.cuts.Cut.{Cut}
 use Rattle.desk_model.specs.declared.command.Command.{Command}
 use Rattle.desk_model.specs.declared.reply.Refusal.{Refusal}
 use Rattle.plan_revisions.specs.Rows.{cuts_in}
+use Rattle.desk_store.specs.Clerks.{pages_of}
 use Rattle.desk_store.specs.Commands.{PrepareErr}
 use Rattle.desk_store.specs.declared.clerk.Clerk.{Clerk}
 
@@ -23,15 +24,15 @@ module _ {D : Type 0} {g : Ghosts D} where
   working_prop h a = hlevel props
 
   -- a clerk with the same fields is the same
-  pub same_clerk : (x : Clerk D g) (w : x.halted ≡ false → has_halted x.pages ≡ false) (k : x.cuts.items ≡ cuts_in x.catalogue.value.geography)
+  pub same_clerk : (x : Clerk D g) (w : x.halted ≡ false → has_halted (pages_of x) ≡ false) (k : x.cuts.items ≡ cuts_in x.catalogue.value.geography)
       → record { pages = x.pages; catalogue = x.catalogue; cuts = x.cuts; loading = x.loading; halted = x.halted; working = w; cut = k } ≡ x
   same_clerk x w k =
       let first : record { pages = x.pages; catalogue = x.catalogue; cuts = x.cuts; loading = x.loading; halted = x.halted; working = w; cut = k } ≡ record { pages = x.pages; catalogue = x.catalogue; cuts = x.cuts; loading = x.loading; halted = x.halted; working = x.working; cut = k } =
-      ap (λ (p : x.halted ≡ false → has_halted x.pages ≡ false). record { pages = x.pages; catalogue = x.catalogue; cuts = x.cuts; loading = x.loading; halted = x.halted; working = p; cut = k }) (working_prop x.halted x.pages w x.working) in
+      ap (λ (p : x.halted ≡ false → has_halted (pages_of x) ≡ false). record { pages = x.pages; catalogue = x.catalogue; cuts = x.cuts; loading = x.loading; halted = x.halted; working = p; cut = k }) (working_prop x.halted (pages_of x) w x.working) in
       first ∙ ap (λ (p : x.cuts.items ≡ cuts_in x.catalogue.value.geography). record { pages = x.pages; catalogue = x.catalogue; cuts = x.cuts; loading = x.loading; halted = x.halted; working = x.working; cut = p }) (cuts_prop x.cuts.items (cuts_in x.catalogue.value.geography) k x.cut)
 
   -- one whose catalogue was written over with an equal one is the same
-  pub settled_clerk : (x : Clerk D g) (d : Desk) → d ≡ x.catalogue.value → (w : x.halted ≡ false → has_halted x.pages ≡ false) (k : x.cuts.items ≡ cuts_in d.geography)
+  pub settled_clerk : (x : Clerk D g) (d : Desk) → d ≡ x.catalogue.value → (w : x.halted ≡ false → has_halted (pages_of x) ≡ false) (k : x.cuts.items ≡ cuts_in d.geography)
       → record { pages = x.pages; catalogue = arc_with_value x.catalogue d; cuts = x.cuts; loading = x.loading; halted = x.halted; working = w; cut = k } ≡ x
   settled_clerk x d same w k = subst (λ (e : Desk). (j : x.cuts.items ≡ cuts_in e.geography) → record { pages = x.pages; catalogue = arc_with_value x.catalogue e; cuts = x.cuts; loading = x.loading; halted = x.halted; working = w; cut = j } ≡ x) (sym same) (λ j. same_clerk x w j) k
 

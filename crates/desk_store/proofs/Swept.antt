@@ -22,7 +22,7 @@ use Rattle.store_sweep.specs.Sweeping.{HoldsSwept, SweepErr}
 use Rattle.store_sweep.specs.declared.error.SweepError.{SweepError}
 use Rattle.store_sweep.specs.declared.error.SweepError.TheVariants.{Memory, DeviceFault, Halted}
 use Rattle.store_sweep.proofs.Stepped.{quiet_rows}
-use Rattle.desk_store.specs.Clerks.{desk_of, disk_of, Keeps}
+use Rattle.desk_store.specs.Clerks.{desk_of, disk_of, pages_of, Keeps}
 use Rattle.desk_store.specs.Loads.{Stages, IsLast}
 use Rattle.desk_store.specs.Sweeps.{HasRows, HasSwept, is_sweep_fault}
 use Rattle.desk_store.specs.declared.clerk.Clerk.{Clerk}
@@ -84,8 +84,8 @@ module _ {D : Type 0} {g : Ghosts D} where
   abbrev pub Swept : Option ℕ → ℕ → Pages D g → Pages D g → Type 0
   Swept running count a b = (m : KeyMap) (d : Desk) → HoldsRows a m → IsDeskMap m d → HoldsSwept running count m d b
 
-  pub as_loading : (x : Clerk D g) (b : Pages D g) (running : Option ℕ) (count : ℕ) → running ≡ x.loading → ((disk_in b).is_honest → Swept running count x.pages b) → (disk_in b).is_honest → Swept x.loading count x.pages b
-  as_loading x b running count same swept honest = subst (λ (r : Option ℕ). Swept r count x.pages b) same (swept honest)
+  pub as_loading : (x : Clerk D g) (b : Pages D g) (running : Option ℕ) (count : ℕ) → running ≡ x.loading → ((disk_in b).is_honest → Swept running count (pages_of x) b) → (disk_in b).is_honest → Swept x.loading count (pages_of x) b
+  as_loading x b running count same swept honest = subst (λ (r : Option ℕ). Swept r count (pages_of x) b) same (swept honest)
 
   load_kept : (a b : Pages D g) (d : Desk) (load : Load) (running : Option ℕ) (count : ℕ) → running ≡ Some (number_of load) → number_of load < 2 ^ 64 → Swept running count a b → HoldsLoad a d load → HoldsLoad b d load
   load_kept a b d load running count last few swept holds =
@@ -111,20 +111,20 @@ module _ {D : Type 0} {g : Ghosts D} where
   }
 
   -- ---- a step that was made
-  pub swept_holds : (x : Clerk D g) (b : Pages D g) (running : Option ℕ) (count : ℕ) → x.halted ≡ false → ((disk_in b).is_honest → (disk_of x).is_honest) → ((disk_in b).is_honest → Swept running count x.pages b) → Keeps x → (disk_in b).is_honest → InPages b (desk_of x)
+  pub swept_holds : (x : Clerk D g) (b : Pages D g) (running : Option ℕ) (count : ℕ) → x.halted ≡ false → ((disk_in b).is_honest → (disk_of x).is_honest) → ((disk_in b).is_honest → Swept running count (pages_of x) b) → Keeps x → (disk_in b).is_honest → InPages b (desk_of x)
   swept_holds x b running count working honest swept keeps is_honest =
       let was = keeps.holds working (honest is_honest) in
       let then = swept is_honest was.m (desk_of x) was.holds was.is in
       record { m = then.n; holds = then.holds; is = then.swept.is }
 
-  pub swept_stages : (x y : Clerk D g) (count : ℕ) (load : Load) → number_of load < 2 ^ 64 → x.halted ≡ false → desk_of y ≡ desk_of x → ((disk_of y).is_honest → (disk_of x).is_honest) → ((disk_of y).is_honest → Swept x.loading count x.pages y.pages)
+  pub swept_stages : (x y : Clerk D g) (count : ℕ) (load : Load) → number_of load < 2 ^ 64 → x.halted ≡ false → desk_of y ≡ desk_of x → ((disk_of y).is_honest → (disk_of x).is_honest) → ((disk_of y).is_honest → Swept x.loading count (pages_of x) (pages_of y))
       → Keeps y → IsLast x load → Stages x load → Stages y load
   swept_stages x y count load few working desk honest swept later last stages = record {
     keeps = later;
-    holds = λ off is_honest. subst (λ (d : Desk). HoldsLoad y.pages d load) (sym desk) (load_kept x.pages y.pages (desk_of x) load x.loading count last few (swept is_honest) (stages.holds working (honest is_honest)));
+    holds = λ off is_honest. subst (λ (d : Desk). HoldsLoad (pages_of y) d load) (sym desk) (load_kept (pages_of x) (pages_of y) (desk_of x) load x.loading count last few (swept is_honest) (stages.holds working (honest is_honest)));
   }
 
-  pub swept_told : (x y : Clerk D g) (m : KeyMap) (count : ℕ) → desk_of y ≡ desk_of x → y.loading ≡ x.loading → Swept x.loading count x.pages y.pages → HasRows x m → HasSwept x m count y
+  pub swept_told : (x y : Clerk D g) (m : KeyMap) (count : ℕ) → desk_of y ≡ desk_of x → y.loading ≡ x.loading → Swept x.loading count (pages_of x) (pages_of y) → HasRows x m → HasSwept x m count y
   swept_told x y m count desk loading swept has =
       let then = swept m (desk_of x) has.holds has.is in
       record {
@@ -135,7 +135,7 @@ module _ {D : Type 0} {g : Ghosts D} where
       }
 
   -- ---- one that was refused
-  pub sweep_rose : (x : Clerk D g) (b : Pages D g) (e : SweepError) → x.halted ≡ false → ((disk_in b).is_honest → (disk_of x).is_honest) → SweepErr x.pages b e → (is_sweep_fault e ≡ true) ⊎ (has_halted b ≡ true) → Keeps x → (disk_in b).is_honest → (disk_of x).faults < (disk_in b).faults
+  pub sweep_rose : (x : Clerk D g) (b : Pages D g) (e : SweepError) → x.halted ≡ false → ((disk_in b).is_honest → (disk_of x).is_honest) → SweepErr (pages_of x) b e → (is_sweep_fault e ≡ true) ⊎ (has_halted b ≡ true) → Keeps x → (disk_in b).is_honest → (disk_of x).faults < (disk_in b).faults
   sweep_rose x b Memory working met why on keeps honest = ⊎_elim (λ clash. absurd (cc)) (λ halted. why.rose (x.working working) halted honest) on
   sweep_rose x b DeviceFault working met why on keeps honest = elim why [
     | inl failed ↦ failed.rose honest
@@ -149,10 +149,10 @@ module _ {D : Type 0} {g : Ghosts D} where
   sweep_quiet a b Halted off why = absurd (cc)
 
   -- a load that is under way stays so where nothing was committed, and where the clerk halts
-  pub still_stages : (x y : Clerk D g) (load : Load) → x.halted ≡ false → desk_of y ≡ desk_of x → IsQuiet x.pages y.pages → Keeps y → Stages x load → Stages y load
+  pub still_stages : (x y : Clerk D g) (load : Load) → x.halted ≡ false → desk_of y ≡ desk_of x → IsQuiet (pages_of x) (pages_of y) → Keeps y → Stages x load → Stages y load
   still_stages x y load working desk quiet later stages = record {
     keeps = later;
-    holds = λ off is_honest. subst (λ (d : Desk). HoldsLoad y.pages d load) (sym desk) (load_still x.pages y.pages (desk_of x) load quiet is_honest (stages.holds working (quiet.honest is_honest)));
+    holds = λ off is_honest. subst (λ (d : Desk). HoldsLoad (pages_of y) d load) (sym desk) (load_still (pages_of x) (pages_of y) (desk_of x) load quiet is_honest (stages.holds working (quiet.honest is_honest)));
   }
 
   pub halted_stages : (y : Clerk D g) (load : Load) → y.halted ≡ true → Keeps y → Stages y load

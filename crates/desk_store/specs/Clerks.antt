@@ -5,6 +5,7 @@ use Rattle.sector_device.specs.Moments.{LeavesOnly}
 use Rattle.sector_device.specs.declared.SectorDevice.{Ghosts}
 use Rattle.gate_journal.specs.Store.{home}
 use Rattle.page_store.specs.Chain.{free_in}
+use Rattle.page_store.specs.declared.pages.Pages.{Pages}
 use Rattle.page_store.specs.Transactions.{stored, disk_in, count_of, journal_of, IsSame, IsQuiet}
 use Rattle.desk_model.specs.Desk.{Desk}
 use Rattle.desk_pages.specs.Desks.{InPages, OpensDesk}
@@ -16,8 +17,12 @@ module _ {D : Type 0} {g : Ghosts D} where
   abbrev pub desk_of : Clerk D g → Desk
   desk_of x = x.catalogue.value
 
+  -- the pages of its store
+  abbrev pub pages_of : Clerk D g → Pages D g
+  pages_of x = x.pages
+
   abbrev pub disk_of : Clerk D g → Disk
-  disk_of x = disk_in x.pages
+  disk_of x = disk_in (pages_of x)
 
   -- a fault came, and from then on commands are refused
   abbrev pub is_halted : Clerk D g → Bool
@@ -25,26 +30,26 @@ module _ {D : Type 0} {g : Ghosts D} where
 
   -- how many sectors the store has, how many pages a commit may write, and how many pages are free
   abbrev pub sectors_of : Clerk D g → ℕ
-  sectors_of x = home (journal_of x.pages) + count_of x.pages
+  sectors_of x = home (journal_of (pages_of x)) + count_of (pages_of x)
 
   abbrev pub room_of : Clerk D g → ℕ
-  room_of x = journal_of x.pages
+  room_of x = journal_of (pages_of x)
 
   abbrev pub free_of : Clerk D g → ℕ
-  free_of x = length (free_in (stored x.pages))
+  free_of x = length (free_in (stored (pages_of x)))
 
   -- The store keeps the desk that is shown: its pages hold it until a fault comes, and each image that a stop may leave opens to it,
   -- or after a fault to it or to the desk after one change more.
   pub record Keeps (x : Clerk D g) : Type 0 where
-    pub holds : x.halted ≡ false → (disk_of x).is_honest → InPages x.pages (desk_of x)
+    pub holds : x.halted ≡ false → (disk_of x).is_honest → InPages (pages_of x) (desk_of x)
     pub left : (disk_of x).is_honest → (c : Image) → (disk_of x).leaves c → IsLeft x.halted (sectors_of x) (desk_of x) c
 
   -- a call that read at most, and shows what was shown
   pub record Reads (x y : Clerk D g) : Type 0 where
-    pub quiet : IsQuiet x.pages y.pages
+    pub quiet : IsQuiet (pages_of x) (pages_of y)
     pub desk : desk_of y ≡ desk_of x
     pub halts : x.halted ≡ true → y.halted ≡ true
-    pub still : x.halted ≡ true → IsSame x.pages y.pages
+    pub still : x.halted ≡ true → IsSame (pages_of x) (pages_of y)
     pub rose : Keeps x → x.halted ≡ false → y.halted ≡ true → (disk_of y).is_honest → (disk_of x).faults < (disk_of y).faults
 
   -- A call by which the desk may have become the next one. What it says of the store rests on `sound`, which tells that the store kept
@@ -57,7 +62,7 @@ module _ {D : Type 0} {g : Ghosts D} where
     pub any_moment : sound → x.halted ≡ false → (disk_of y).is_honest → LeavesOnly (λ c. OpensDesk (sectors_of x) (desk_of x) c ⊎ OpensDesk (sectors_of x) next c) (disk_of x) (disk_of y)
     pub keeps : sound → Keeps y
     -- from a fault on nothing changes
-    pub still : x.halted ≡ true → IsSame x.pages y.pages × (desk_of y ≡ desk_of x) × (y.halted ≡ true)
+    pub still : x.halted ≡ true → IsSame (pages_of x) (pages_of y) × (desk_of y ≡ desk_of x) × (y.halted ≡ true)
     -- only a fault halts, and each one does
     pub rose : sound → x.halted ≡ false → y.halted ≡ true → (disk_of y).is_honest → (disk_of x).faults < (disk_of y).faults
     pub calm : y.halted ≡ false → (disk_of y).is_honest → (disk_of y).faults ≡ (disk_of x).faults

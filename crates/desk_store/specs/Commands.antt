@@ -26,7 +26,7 @@ use Rattle.desk_pages.specs.Desks.{IsDeskMap}
 use Rattle.plan_revisions.specs.Rows.{HasNumbers}
 use Rattle.desk_store.specs.declared.clerk.Clerk.{Clerk}
 use Rattle.desk_store.specs.declared.ready.Ready.{Ready}
-use Rattle.desk_store.specs.Clerks.{desk_of, disk_of, free_of, room_of, Keeps, Moves}
+use Rattle.desk_store.specs.Clerks.{desk_of, disk_of, free_of, pages_of, room_of, Keeps, Moves}
 
 abbrev pub command_of : Ready → Command
 command_of r = r.command.value
@@ -41,13 +41,13 @@ module _ {D : Type 0} {g : Ghosts D} where
   -- the pages after a commit hold the desk
   pub record HoldsNext (made : Written) (x : Clerk D g) (d : Desk) : Type 0 where
     pub m : KeyMap
-    pub holds : HoldsAfter made (stored x.pages) m
+    pub holds : HoldsAfter made (stored (pages_of x)) m
     pub is : IsDeskMap m d
 
   -- so few numbers are left that the command's aren't
   pub record IsSpent (x : Clerk D g) (c : Command) : Type 0 where
     pub m : KeyMap
-    pub holds : HoldsRows x.pages m
+    pub holds : HoldsRows (pages_of x) m
     pub next : Counters
     pub fit : CountersFit next
     pub is_next : IsNext m next
@@ -56,7 +56,7 @@ module _ {D : Type 0} {g : Ghosts D} where
   -- the tree had six levels in the command's transaction
   pub record HasDeepened (x : Clerk D g) (c : Command) : Type 0 where
     pub txn : Txn
-    pub deep : IsDeep (command_rows (desk_of x) c) txn x.pages
+    pub deep : IsDeep (command_rows (desk_of x) c) txn (pages_of x)
 
   -- too few pages are free, or a commit may write too few
   abbrev pub IsShort : Clerk D g → Command → Type 0
@@ -72,20 +72,20 @@ module _ {D : Type 0} {g : Ghosts D} where
 
   -- a command was accepted, and its pages were made ready: all but the commit is done
   pub record IsReady (x : Clerk D g) (r : Ready) : Type 0 where
-    pub pages : prepared_pages (written_of r) ≡ count_of x.pages
+    pub pages : prepared_pages (written_of r) ≡ count_of (pages_of x)
     pub writes : length (prepared_writes (written_of r)) ≤ room_of x
     pub accepted : IsAfter (desk_of x) (command_of r) (after_of r)
     pub ground : (after_of r).geography ≡ (desk_of x).geography
     pub rows : Keeps x → x.halted ≡ false → (disk_of x).is_honest → HoldsNext (written_of r) x (after_of r)
-    pub free : Keeps x → x.halted ≡ false → (disk_of x).is_honest → free_of x ≤ length (free_in (after (written_of r) (stored x.pages))) + need (desk_of x) (command_of r)
+    pub free : Keeps x → x.halted ≡ false → (disk_of x).is_honest → free_of x ≤ length (free_in (after (written_of r) (stored (pages_of x)))) + need (desk_of x) (command_of r)
     pub numbers : (disk_of x).is_honest → IsSpent x (command_of r) → ⊥
 
   -- its pages were made ready by a call that read at most
   pub record IsPut (x : Clerk D g) (c : Command) (e : Desk) (made : Written) (y : Clerk D g) : Type 0 where
-    pub pages : prepared_pages made ≡ count_of y.pages
+    pub pages : prepared_pages made ≡ count_of (pages_of y)
     pub writes : length (prepared_writes made) ≤ room_of y
     pub rows : Keeps y → y.halted ≡ false → (disk_of y).is_honest → HoldsNext made y e
-    pub free : Keeps y → y.halted ≡ false → (disk_of y).is_honest → free_of y ≤ length (free_in (after made (stored y.pages))) + need (desk_of x) c
+    pub free : Keeps y → y.halted ≡ false → (disk_of y).is_honest → free_of y ≤ length (free_in (after made (stored (pages_of y)))) + need (desk_of x) c
     pub numbers : (disk_of y).is_honest → IsSpent y c → ⊥
 
   -- there is room for so many rows: a row writes 13 pages at most
@@ -118,12 +118,12 @@ module _ {D : Type 0} {g : Ghosts D} where
 
   -- why nothing was made ready
   abbrev pub PrepareErr : Clerk D g → Command → Refusal → Clerk D g → Type 0
-  PrepareErr x c refusal y = RefusalMay (MustBeFull x c) (MayBeFull x y.pages c) (y.halted ≡ true) (desk_of x) c refusal (desk_of y)
+  PrepareErr x c refusal y = RefusalMay (MustBeFull x c) (MayBeFull x (pages_of y) c) (y.halted ≡ true) (desk_of x) c refusal (desk_of y)
 
   -- what became of a command
   pub record Does (x : Clerk D g) (c : Command) (reply : Reply) (y : Clerk D g) : Type 0 where
     pub moves : Moves (step (desk_of x) c).1 x y
-    pub outcome : CommandMay (MustBeFull x c) (MayBeFull x y.pages c) (y.halted ≡ true) (desk_of x) c reply (desk_of y)
+    pub outcome : CommandMay (MustBeFull x c) (MayBeFull x (pages_of y) c) (y.halted ≡ true) (desk_of x) c reply (desk_of y)
     -- an accepted command takes no more pages than it needs, and no other takes any
     pub free : Keeps x → (disk_of y).is_honest → IsAcceptance reply → free_of x ≤ free_of y + need (desk_of x) c
     -- and the numbers that it asks for were left
@@ -131,6 +131,6 @@ module _ {D : Type 0} {g : Ghosts D} where
     pub spared : (disk_of y).is_honest → y.halted ≡ false → (IsAcceptance reply → ⊥) → free_of y ≡ free_of x
     -- a command that isn't accepted leaves the desk, and without a fault it only reads: a stop at any moment of it leaves the desk before
     pub shown : (IsAcceptance reply → ⊥) → desk_of y ≡ desk_of x
-    pub quiet : y.halted ≡ false → (IsAcceptance reply → ⊥) → IsQuiet x.pages y.pages
+    pub quiet : y.halted ≡ false → (IsAcceptance reply → ⊥) → IsQuiet (pages_of x) (pages_of y)
     -- a load that is under way stays so
     pub loading : y.loading ≡ x.loading

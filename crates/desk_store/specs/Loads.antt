@@ -11,13 +11,13 @@ use Rattle.geo_tables.specs.Refusals.{BeginErr, BatchErr, SealErr}
 use Rattle.desk_store.specs.declared.clerk.Clerk.{Clerk}
 use Rattle.desk_store.specs.declared.loads.LoadError.{LoadError}
 use Rattle.desk_store.specs.declared.loads.LoadError.TheVariants.{AlreadySealed, Full, Memory, Halted, Ended}
-use Rattle.desk_store.specs.Clerks.{desk_of, disk_of, Keeps}
+use Rattle.desk_store.specs.Clerks.{desk_of, disk_of, pages_of, Keeps}
 
 module _ {D : Type 0} {g : Ghosts D} where
   -- the store holds what is staged of the load, beside the desk that is shown
   pub record Stages (x : Clerk D g) (load : Load) : Type 0 where
     pub keeps : Keeps x
-    pub holds : x.halted ≡ false → (disk_of x).is_honest → HoldsLoad x.pages (desk_of x) load
+    pub holds : x.halted ≡ false → (disk_of x).is_honest → HoldsLoad (pages_of x) (desk_of x) load
 
   -- a geography is sealed
   abbrev pub HasGeography : Clerk D g → Type 0
@@ -34,8 +34,8 @@ module _ {D : Type 0} {g : Ghosts D} where
   -- why no load is begun
   abbrev pub BeginRefused : Ground → Clerk D g → LoadError → Bool → Pages D g → Type 0
   BeginRefused area x AlreadySealed halted b = (halted ≡ x.halted) × (Keeps x → (disk_in b).is_honest → HasGeography x)
-  BeginRefused area x Full halted b = (halted ≡ false) × BeginErr area x.pages b below.Full
-  BeginRefused area x Memory halted b = (halted ≡ false) × IsQuiet x.pages b
+  BeginRefused area x Full halted b = (halted ≡ false) × BeginErr area (pages_of x) b below.Full
+  BeginRefused area x Memory halted b = (halted ≡ false) × IsQuiet (pages_of x) b
   BeginRefused area x Halted halted b = halted ≡ true
   BeginRefused area x Ended halted b = ⊥
 
@@ -50,15 +50,15 @@ module _ {D : Type 0} {g : Ghosts D} where
   -- why no rows of it are staged
   abbrev pub BatchRefused : Load → ℕ → Clerk D g → LoadError → Bool → Pages D g → Type 0
   BatchRefused load rows x AlreadySealed halted b = HasGeography x
-  BatchRefused load rows x Full halted b = (halted ≡ false) × BatchErr load rows x.pages b below.Full
-  BatchRefused load rows x Memory halted b = (halted ≡ false) × IsQuiet x.pages b
+  BatchRefused load rows x Full halted b = (halted ≡ false) × BatchErr load rows (pages_of x) b below.Full
+  BatchRefused load rows x Memory halted b = (halted ≡ false) × IsQuiet (pages_of x) b
   BatchRefused load rows x Halted halted b = halted ≡ true
   BatchRefused load rows x Ended halted b = HasEnded x load
 
   -- why it is not sealed
   abbrev pub SealRefused : Load → Clerk D g → LoadError → Bool → Pages D g → Type 0
   SealRefused load x AlreadySealed halted b = HasGeography x
-  SealRefused load x Full halted b = (halted ≡ false) × SealErr load x.pages b below.Full
-  SealRefused load x Memory halted b = (halted ≡ false) × IsQuiet x.pages b
+  SealRefused load x Full halted b = (halted ≡ false) × SealErr load (pages_of x) b below.Full
+  SealRefused load x Memory halted b = (halted ≡ false) × IsQuiet (pages_of x) b
   SealRefused load x Halted halted b = halted ≡ true
   SealRefused load x Ended halted b = HasEnded x load

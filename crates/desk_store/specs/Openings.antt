@@ -1,59 +1,24 @@
 -- What an opening finds, and what it leaves.
-use Rattle.std.specs.Prelude.{◌≡◌, ◌⊎◌, ◌<◌, ℕ, Bool, Result, Ok, Err}
-use Rattle.sector_device.specs.Disk.{Disk, Image}
+use Rattle.std.specs.Prelude.{◌≡◌, ◌<◌, ℕ, Result, Ok, Err}
+use Rattle.sector_device.specs.Disk.{Disk}
 use Rattle.sector_device.specs.declared.SectorDevice.{Ghosts}
 use Rattle.desk_model.specs.Desk.{Desk}
 use Rattle.gate_journal.specs.Recovery.{Found}
 use Rattle.gate_journal.specs.Store.{pages}
 use Rattle.page_store.specs.Chain.{root_in, free_in}
-use Rattle.page_store.specs.Transactions.{count_of, journal_of, IsUntouched}
+use Rattle.page_store.specs.Transactions.{count_of, device_in, journal_of}
 use Rattle.page_btree.specs.Map.{Holds, InPages as HasRows}
 use Rattle.store_rows.specs.Keys.{version, in_four}
 use Rattle.store_rows.specs.Rows.{KeyMap, Has, Lacks}
 use Rattle.desk_opening.specs.Opening.{IsReadFrom}
-use Rattle.desk_pages.specs.Desks.{InPages, OpensDesk, OpensAs}
-use Rattle.desk_store.specs.Clerks.{desk_of, disk_of}
+use Rattle.desk_pages.specs.Desks.{InPages}
+use Rattle.desk_pages.specs.Openings.{AllDesks, AllVersions, HasPages}
+use Rattle.desk_store.specs.Clerks.{desk_of, disk_of, pages_of}
 use Rattle.desk_store.specs.declared.clerk.Clerk.{Clerk}
 use Rattle.desk_store.specs.declared.opening.OpenError.{OpenError}
 use Rattle.desk_store.specs.declared.opening.OpenError.TheVariants.{NotAStore, DeviceFault, Memory, OldVersion}
 
--- each image that a stop may leave opens to a desk
-abbrev pub AllDesks : Disk → Type 0
-AllDesks disk = (c : Image) → disk.leaves c → (d : Desk) × OpensDesk disk.sectors d c
-
--- or does so in either version
-abbrev pub AllVersions : Disk → Type 0
-AllVersions disk = (c : Image) → disk.leaves c → (x : Bool × Desk) × OpensAs disk.sectors x c
-
--- the desk is that to which one of them opens
-pub record IsOneOf (disk : Disk) (d : Desk) : Type 0 where
-  pub was : Image
-  pub left : disk.leaves was
-  pub opens : OpensDesk disk.sectors d was
-
--- the image opens to one of these desks
-pub record OpensOneOf (disk : Disk) (c : Image) : Type 0 where
-  pub desk : Desk
-  pub one : IsOneOf disk desk
-  pub opens : OpensDesk disk.sectors desk c
-
--- one of them opens to the desk in this version
-pub record IsOneAs (disk : Disk) (x : Bool × Desk) : Type 0 where
-  pub was : Image
-  pub left : disk.leaves was
-  pub opens : OpensAs disk.sectors x was
-
--- the image opens to one of these desks, in the version in which it was there
-pub record OpensOneAs (disk : Disk) (c : Image) : Type 0 where
-  pub x : Bool × Desk
-  pub one : IsOneAs disk x
-  pub opens : OpensAs disk.sectors x c
-
--- the pages of a store that was there, as they were
-abbrev pub HasPages : Disk → Disk → Type 0
-HasPages old new = (J : ℕ) × (n : ℕ) × Found J n old new
-
--- these pages, whose rows tell no version
+-- the pages of a store that was there, as they were, whose rows tell no version
 pub record IsOldStore (old new : Disk) : Type 0 where
   pub J : ℕ
   pub n : ℕ
@@ -63,17 +28,13 @@ pub record IsOldStore (old new : Disk) : Type 0 where
 -- The clerk's pages are those of a store that was there, their rows tell the new version, and the desk that they hold is the one that is
 -- shown. Of rows that are no desk's, what is shown is read from them.
 pub record IsFound {D : Type 0} {g : Ghosts D} (old : Disk) (x : Clerk D g) : Type 0 where
-  pub pages : Found (journal_of x.pages) (count_of x.pages) old (disk_of x)
-  pub shown : (d : Desk) → InPages x.pages d → desk_of x ≡ d
-  pub read : (m : KeyMap) → HasRows x.pages m → IsReadFrom m (desk_of x)
-  pub version : (m : KeyMap) → HasRows x.pages m → Has m version (in_four 2)
-
--- what is no store stays as it is, and so do the pages of one that holds no desk
-abbrev pub IsSpared : Disk → Disk → Type 0
-IsSpared old new = IsUntouched old new ⊎ HasPages old new
+  pub pages : Found (journal_of (pages_of x)) (count_of (pages_of x)) old (disk_of x)
+  pub shown : (d : Desk) → InPages (pages_of x) d → desk_of x ≡ d
+  pub read : (m : KeyMap) → HasRows (pages_of x) m → IsReadFrom m (desk_of x)
+  pub version : (m : KeyMap) → HasRows (pages_of x) m → Has m version (in_four 2)
 
 abbrev pub device_after : {D : Type 0} {g : Ghosts D} → Result (Clerk D g) (OpenError × D) → D
-device_after (Ok x) = x.pages.journal.device
+device_after (Ok x) = device_in (pages_of x)
 device_after (Err e) = e.1
 
 -- why a device is not opened

@@ -10,7 +10,7 @@ use Rattle.store_sweep.specs.Leftovers.{IsSweptBy, IsSweptClean}
 use Rattle.store_sweep.specs.declared.error.SweepError.{SweepError}
 use Rattle.store_sweep.specs.declared.error.SweepError.TheVariants.{Memory, DeviceFault, Halted}
 use Rattle.desk_store.specs.declared.clerk.Clerk.{Clerk}
-use Rattle.desk_store.specs.Clerks.{desk_of}
+use Rattle.desk_store.specs.Clerks.{desk_of, pages_of}
 
 -- the device failed, or holds what no store has
 abbrev pub is_sweep_fault : SweepError → Bool
@@ -21,7 +21,7 @@ is_sweep_fault Halted = true
 module _ {D : Type 0} {g : Ghosts D} where
   -- the store holds these rows, which are those of the desk that is shown
   pub record HasRows (x : Clerk D g) (m : KeyMap) : Type 0 where
-    pub holds : HoldsRows x.pages m
+    pub holds : HoldsRows (pages_of x) m
     pub is : IsDeskMap m (desk_of x)
 
   -- No row is left of a plan that was taken away, nor of a load but the one that was begun last since the opening.
@@ -37,6 +37,6 @@ module _ {D : Type 0} {g : Ghosts D} where
 
   -- why nothing is swept
   abbrev pub SweepRefused : Clerk D g → SweepError → Bool → Pages D g → Type 0
-  SweepRefused x Memory halted b = (halted ≡ false) × IsQuiet x.pages b
+  SweepRefused x Memory halted b = (halted ≡ false) × IsQuiet (pages_of x) b
   SweepRefused x DeviceFault halted b = (x.halted ≡ false) × (halted ≡ true)
   SweepRefused x Halted halted b = x.halted ≡ true

@@ -30,7 +30,7 @@ pub struct Clerk<D: SectorDevice> {
 impl<D: SectorDevice> Clerk<D> {
     ghost use Rattle.std.specs.Prelude.{◌≡◌, false, IfOk};
     ghost use Rattle.desk_catalogue.specs.Audits.{AskMay};
-    ghost use Rattle.desk_store.specs.Clerks.{desk_of, disk_of, free_of, is_halted, room_of};
+    ghost use Rattle.desk_store.specs.Clerks.{desk_of, disk_of, free_of, is_halted, pages_of, room_of};
     ghost use Rattle.page_store.specs.Transactions.{device_in};
 
     /// The answer to a query, from the catalogue in memory; Memory only where memory for it was refused.
@@ -63,7 +63,7 @@ impl<D: SectorDevice> Clerk<D> {
 
     /// Gives the device back.
     pub fn into_device(self) -> D
-        ensures { result ≡ device_in self.pages }
+        ensures { result ≡ device_in (pages_of self) }
     {
         let Clerk {
             pages,

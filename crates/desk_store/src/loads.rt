@@ -58,7 +58,7 @@ impl<D: SectorDevice> Clerk<D> {
     ghost use Rattle.std.specs.Prelude.{◌≡◌, ◌≤◌, ◌+◌, false, None, OnOk, OnErr, IfOk, IfErr};
     ghost use Rattle.store_rows.specs.GeographyRows.{geography_rows};
     ghost use Rattle.geo_tables.specs.Loading.{IsFurther, ground_of, done_of};
-    ghost use Rattle.desk_store.specs.Clerks.{desk_of, disk_of, Keeps, Moves, MovesIf};
+    ghost use Rattle.desk_store.specs.Clerks.{desk_of, disk_of, pages_of, Keeps, Moves, MovesIf};
     ghost use Rattle.desk_store.specs.Keeping.{sealed_desk};
     ghost use Rattle.page_store.specs.Transactions.{IsQuiet};
     ghost use Rattle.desk_store.specs.Loads.{Stages, IsLast, EndRefused, BeginRefused, BatchRefused, SealRefused};
@@ -77,8 +77,8 @@ impl<D: SectorDevice> Clerk<D> {
         ensures unsealed { OnOk result ((desk_of self.old).geography ≡ None) }
         ensures loading { OnErr result (self.new.loading ≡ self.old.loading) }
         ensures working { OnOk result ((self.old.halted ≡ false) × (self.new.halted ≡ false)) }
-        ensures quiet { self.new.halted ≡ false → OnErr result (IsQuiet self.old.pages self.new.pages) }
-        ensures err { IfErr result (λ e. BeginRefused geography.value self.old e self.new.halted self.new.pages) }
+        ensures quiet { self.new.halted ≡ false → OnErr result (IsQuiet (pages_of self.old) (pages_of self.new)) }
+        ensures err { IfErr result (λ e. BeginRefused geography.value self.old e self.new.halted (pages_of self.new)) }
     {
         if self.catalogue.geography().is_some() {
             return Err(LoadError::AlreadySealed);
@@ -138,8 +138,8 @@ impl<D: SectorDevice> Clerk<D> {
         ensures same { OnErr result (load.new ≡ load.old) }
         ensures loading { self.new.loading ≡ self.old.loading }
         ensures working { OnOk result ((self.old.halted ≡ false) × (self.new.halted ≡ false)) }
-        ensures quiet { self.new.halted ≡ false → OnErr result (IsQuiet self.old.pages self.new.pages) }
-        ensures err { IfErr result (λ e. BatchRefused load.old rows self.old e self.new.halted self.new.pages) }
+        ensures quiet { self.new.halted ≡ false → OnErr result (IsQuiet (pages_of self.old) (pages_of self.new)) }
+        ensures err { IfErr result (λ e. BatchRefused load.old rows self.old e self.new.halted (pages_of self.new)) }
     {
         if let Err(e) = self.may_go_on(load) {
             return Err(e);
@@ -165,8 +165,8 @@ impl<D: SectorDevice> Clerk<D> {
         ensures back { IfErr result (λ e. e.1 ≡ load) }
         ensures loading { self.new.loading ≡ self.old.loading }
         ensures working { OnOk result ((self.old.halted ≡ false) × (self.new.halted ≡ false)) }
-        ensures quiet { self.new.halted ≡ false → OnErr result (IsQuiet self.old.pages self.new.pages) }
-        ensures err { IfErr result (λ e. SealRefused load self.old e.0 self.new.halted self.new.pages) }
+        ensures quiet { self.new.halted ≡ false → OnErr result (IsQuiet (pages_of self.old) (pages_of self.new)) }
+        ensures err { IfErr result (λ e. SealRefused load self.old e.0 self.new.halted (pages_of self.new)) }
     {
         if let Err(e) = self.may_go_on(&load) {
             return Err((e, load));

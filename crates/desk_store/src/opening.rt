@@ -117,9 +117,9 @@ fn read_shown<D: SectorDevice>(alloc: Global, pages: &mut Pages<D>) -> Result<Sh
 
 impl<D: SectorDevice> Clerk<D> {
     ghost use Rattle.std.specs.Prelude.{◌≡◌, false, None, OnOk, IfOk, IfErr};
-    ghost use Rattle.sector_device.specs.Moments.{LeavesOnly};
     ghost use Rattle.desk_store.specs.Clerks.{desk_of, disk_of, is_halted, sectors_of, Keeps};
-    ghost use Rattle.desk_store.specs.Openings.{AllDesks, AllVersions, IsOneOf, OpensOneOf, OpensOneAs, IsFound, IsSpared, Reopens, device_after, OpenRefused};
+    ghost use Rattle.desk_pages.specs.Openings.{AllVersions, IsOneOf, IsSpared, LeavesOneAs, LeavesOneOf};
+    ghost use Rattle.desk_store.specs.Openings.{IsFound, Reopens, device_after, OpenRefused};
 
     /// Opens the desk that a device holds: a commit that a stop cut short is finished or dropped, and the desk is read back. At any
     /// moment of it a stop leaves a desk that was there at its start, in the version in which it was there. With a refusal the device
@@ -128,8 +128,8 @@ impl<D: SectorDevice> Clerk<D> {
     pub fn open(alloc: Global, device: D) -> Result<Clerk<D>, (OpenError, D)>
         ensures sectors { (D.disk (device_after result)).sectors ≡ (D.disk device).sectors }
         ensures honest { (D.disk (device_after result)).is_honest → (D.disk device).is_honest }
-        ensures any_moment { (D.disk (device_after result)).is_honest → AllDesks (D.disk device) → LeavesOnly (OpensOneOf (D.disk device)) (D.disk device) (D.disk (device_after result)) }
-        ensures any_version { (D.disk (device_after result)).is_honest → AllVersions (D.disk device) → LeavesOnly (OpensOneAs (D.disk device)) (D.disk device) (D.disk (device_after result)) }
+        ensures any_moment { LeavesOneOf (D.disk device) (D.disk (device_after result)) }
+        ensures any_version { LeavesOneAs (D.disk device) (D.disk (device_after result)) }
         ensures opened { AllVersions (D.disk device) → IfOk result (λ x. Keeps x × ((disk_of x).is_honest → IsOneOf (D.disk device) (desk_of x))) }
         ensures found { IfOk result (λ x. (disk_of x).is_honest → IsFound (D.disk device) x) }
         ensures loading { IfOk result (λ x. x.loading ≡ None) }

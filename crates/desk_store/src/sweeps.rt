@@ -35,7 +35,7 @@ impl<D: SectorDevice> Clerk<D> {
     ghost use Rattle.std.specs.Prelude.{◌≡◌, ◌≤◌, ◌↔◌, false, OnOk, IfOk, IfErr};
     ghost use Rattle.store_rows.specs.Rows.{KeyMap};
     ghost use Rattle.geo_tables.specs.declared.load.Load.{Load};
-    ghost use Rattle.desk_store.specs.Clerks.{desk_of, disk_of, free_of, Keeps, Moves};
+    ghost use Rattle.desk_store.specs.Clerks.{desk_of, disk_of, free_of, pages_of, Keeps, Moves};
     ghost use Rattle.desk_store.specs.Loads.{Stages, IsLast};
     ghost use Rattle.desk_store.specs.Sweeps.{HasRows, IsClean, HasSwept, SweepRefused};
 
@@ -52,7 +52,7 @@ impl<D: SectorDevice> Clerk<D> {
         ensures exact { (disk_of self.new).is_honest → (m : KeyMap) → HasRows self.old m → IfOk result (λ count. (count ≡ 0) ↔ IsClean self.old m) }
         ensures free { Keeps self.old → (disk_of self.new).is_honest → self.new.halted ≡ false → free_of self.old ≤ free_of self.new }
         ensures working { OnOk result ((self.old.halted ≡ false) × (self.new.halted ≡ false)) }
-        ensures err { IfErr result (λ e. SweepRefused self.old e self.new.halted self.new.pages) }
+        ensures err { IfErr result (λ e. SweepRefused self.old e self.new.halted (pages_of self.new)) }
     {
         if self.halted {
             return Err(SweepError::Halted);

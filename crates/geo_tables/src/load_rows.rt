@@ -9,8 +9,8 @@ ghost use Rattle.row_table.specs.Outcomes.{PutsRows};
 ghost use Rattle.geo_tables.specs.Rows.{begun_rows, seal_row};
 ghost use Rattle.geo_tables.specs.Loads.{AreSpent, HasBegun, BeginErr, HasSealed};
 
+use btree_removes::remove;
 use desk_model::geography::Geography;
-use page_btree::remove;
 use page_store::{Pages, Txn};
 use row_table::{TreeError, next_numbers, put_row};
 use sector_device::SectorDevice;

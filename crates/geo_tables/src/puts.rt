@@ -1,5 +1,5 @@
 //! Puts the rows of a geography.
-ghost use Rattle.std.specs.Prelude.{◌≡◌, ◌≤◌, ◌<◌, ◌+◌, ◌^◌, ◌↔◌, [], ◌∷◌, length, IfSome, IsTrue, OnOk};
+ghost use Rattle.std.specs.Prelude.{◌≡◌, ◌≤◌, ◌<◌, ◌+◌, ◌^◌, ◌↔◌, [], ◌∷◌, length, IsTrue, OnOk};
 ghost use Rattle.page_store.specs.Transactions.{count_of, txn_pages, IsQuiet};
 ghost use Rattle.store_rows.specs.Keys.{key_of, block, pair};
 ghost use Rattle.store_rows.specs.Values.{block_bytes};
@@ -10,41 +10,13 @@ ghost use Rattle.row_table.specs.Outcomes.{PutsRows};
 ghost use Rattle.geo_tables.specs.Rows.{staged_row, staged_rows};
 ghost use Rattle.geo_tables.specs.Staging.{Stages};
 
-use desk_model::block::{BlockId, BlockRow};
+use desk_model::block::BlockRow;
 use desk_model::geography::{Geography, Pair};
 use page_store::{Pages, Txn};
 use row_table::{TreeError, put_row};
+use sealed_geography::block_fits;
 use sector_device::SectorDevice;
 use store_rows::{Key, block_value, pair_value};
-
-/// The number of a block is in its range.
-fn number_fits(id: BlockId)
-    ensures { id < 10 ^ 15 }
-{}
-
-/// A number of 32 bits is in its range.
-pub(crate) fn code_fits(code: u32)
-    ensures { code < 2 ^ 32 }
-{}
-
-/// The city of a block is in its range.
-fn city_fits(city: Option<u32>)
-    ensures { IfSome city (λ code. code < 2 ^ 32) }
-{
-    match city {
-        Some(code) => code_fits(code),
-        None => {}
-    }
-}
-
-/// The numbers of a block fit in its row.
-pub(crate) fn block_fits(row: &BlockRow)
-    ensures { IsBlockRow row.now }
-{
-    number_fits(row.id);
-    city_fits(row.city);
-    code_fits(row.population);
-}
 
 /// Puts the row of a block.
 fn put_block<D: SectorDevice>(

@@ -15,7 +15,9 @@ use Rattle.http_desk.specs.declared.serve.Next.{Next}
 use Rattle.http_desk.specs.declared.serve.Next.TheVariants as next
 use Rattle.http_desk.specs.declared.serve.StreamFault.{StreamFault}
 use Rattle.http_desk.specs.declared.serve.StreamFault.TheVariants as fault
+use Rattle.http_routes.specs.declared.order.Order.TheVariants as order
 use Rattle.http_routes.specs.Orders.{order_of}
+use Rattle.http_desk.specs.Asking.{Asks, IsAskedBehind, IsAskedIn}
 use Rattle.http_desk.specs.Serving.{Closes, CutsNext, Exchanges, IsCutTalk, IsFrontTalk, IsShortTalk, GoesOn, Leaves, ServesTo}
 use Rattle.http_desk.specs.Talk.{Talk, Handles, over, ended, starved, closed, went}
 
@@ -61,6 +63,11 @@ flushed_cut u v w before pending text q s = (s.1, (q.0 ++ s.0, Appends-then u v 
 pub HasRequest-alone : (front : List ℕ) (h : RequestHead) (target body : List ℕ) → ((more : List ℕ) → HasRequest (front ++ more) h target body more) → HasRequest front h target body []
 HasRequest-alone front h target body alone = subst (λ (xs : List ℕ). HasRequest xs h target body []) (append-nil front) (alone [])
 
+-- a request that was taken asks for its command
+pub asked_here : (u v : Option (List ℕ)) (inbox more rest : List ℕ) (r : Request) (c : Command) → Consumes u v more → IsRequestOf (inbox ++ more) r rest → order_of r.method r.target.items r.body.items ≡ order.Command c → IsAskedBehind inbox u c
+asked_here u v inbox more rest r c came is asks =
+    (v, more, came, Asks.here (inbox ++ more) is.head r.target.items r.body.items rest c is.request (ap (λ (m : List ℕ). order_of m r.target.items r.body.items) (sym is.method) ∙ asks))
+
 -- memory is wanting for a request that has come
 pub IsStarved-whole : (input : List ℕ) (h : RequestHead) (target body rest : List ℕ) → HasRequest input h target body rest → IsStarved input (is_head h.method)
 IsStarved-whole input h target body rest r = record { head = h; rest = r.message.text; framing = r.message.framing; stands = r.message.head; judges = r.message.judges; shown = refl }
@@ -92,6 +99,7 @@ module _ {X : Type 0} (commands : X → Command → Reply → X → Type 0) (ask
   on x y left input rest text h target body start read alone (inl may) = record {
     front = start;
     read = read;
+    asked = λ later c a. Asks.later (start ++ later) h target body later c (alone later) a;
     on = λ later more n shut z talk. went x (start ++ later) h target body later text y more n shut z (alone later) may talk;
   }
   on x y left input rest text h target body start read alone (inr (same, shut, kept)) = absurd (cc)
@@ -158,6 +166,7 @@ module _ {X : Type 0} (commands : X → Command → Reply → X → Type 0) (ask
     pub output : List ℕ
     pub read : Consumes unread0 unread (taken ++ inbox)
     pub written : Queued before0 before [] pending output
+    pub asked : (later : List ℕ) (c : Command) → Asks later c → Asks (taken ++ later) c
     pub on : (later more : List ℕ) (n : ℕ) (shut : Bool) (z : X) → Talk commands asks x later more n shut z → Talk commands asks x0 (taken ++ later) (output ++ more) (requests + n) shut z
 
   pub starts : (x : X) (unread before : Option (List ℕ)) (inbox pending : List ℕ) → inbox ≡ [] → pending ≡ [] → Consumes unread unread [] → Stands x unread unread before before x inbox pending 0
@@ -166,12 +175,17 @@ module _ {X : Type 0} (commands : X → Command → Reply → X → Type 0) (ask
     output = [];
     read = rw e none;
     written = ([], Appends-none before, sym f);
+    asked = λ later c a. a;
     on = λ later more n shut z talk. moved x z shut later later more more n (0 + n) refl refl (omega arith) talk;
   }
 
   -- all that was read by the end of an exchange
   pub all_read : (u v w : Option (List ℕ)) (taken inbox came : List ℕ) → Consumes u v (taken ++ inbox) → Consumes v w came → Consumes u w (taken ++ (inbox ++ came))
   all_read u v w taken inbox came a b = rw (← append_assoc taken inbox came) (Consumes-then u v w (taken ++ inbox) came a b)
+
+  -- what the inbox and the reader ask for, the stream's reader asked for
+  pub asked_of : (x0 x : X) (u v b0 b1 : Option (List ℕ)) (inbox pending : List ℕ) (requests : ℕ) (c : Command) → Stands x0 u v b0 b1 x inbox pending requests → IsAskedBehind inbox v c → IsAskedIn u c
+  asked_of x0 x u v b0 b1 inbox pending requests c s a = (a.0, s.taken ++ (inbox ++ a.1), all_read u v a.0 s.taken inbox a.1 s.read a.2, s.asked (inbox ++ a.1) c a.3)
 
   pub goes : (x0 x y : X) (u v w b0 b1 b2 : Option (List ℕ)) (inbox rest pending after came sent unsent : List ℕ) (requests : ℕ) → Stands x0 u v b0 b1 x inbox pending requests → Consumes v w came
       → Queued b1 b2 pending unsent sent → GoesOn commands asks x (inbox ++ came) rest sent y → unsent ≡ after → Stands x0 u w b0 b2 y rest after (requests + 1)
@@ -180,6 +194,7 @@ module _ {X : Type 0} (commands : X → Command → Reply → X → Type 0) (ask
     output = s.output ++ sent;
     read = rw (append_assoc s.taken g.front rest, ← g.read) (all_read u v w s.taken inbox came s.read read);
     written = queued_as b0 b2 [] unsent after (s.output ++ sent) e (queued_then b0 b1 b2 [] pending unsent s.output sent s.written write);
+    asked = λ later c a. subst (λ (t : List ℕ). Asks t c) (sym (append_assoc s.taken g.front later)) (s.asked (g.front ++ later) c (g.asked later c a));
     on = λ later more n shut z talk. moved x0 z shut _ _ _ _ (requests + suc n) ((requests + 1) + n) (sym (append_assoc s.taken g.front later)) (sym (append_assoc s.output sent more)) (omega arith)
         (s.on (g.front ++ later) (sent ++ more) (suc n) shut z (g.on later more n shut z talk));
   }

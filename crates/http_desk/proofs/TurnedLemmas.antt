@@ -9,6 +9,7 @@ use Rattle.http_desk.specs.declared.serve.Next.{Next}
 use Rattle.http_desk.specs.declared.serve.Next.TheVariants as next
 use Rattle.http_desk.specs.declared.serve.StreamFault.{StreamFault}
 use Rattle.http_desk.specs.declared.serve.StreamFault.TheVariants as fault
+use Rattle.http_desk.specs.Asking.{Asks, IsAskedBehind}
 use Rattle.http_desk.specs.Talk.{Talk, over}
 use Rattle.http_desk.specs.Serving.{Exchanges, Turned, TakesSome}
 use Rattle.http_desk.proofs.TalkLemmas.{Consumes-then, queued_then, cut_next}
@@ -20,6 +21,11 @@ takes_from old mid new (Ok next.Again) less t = omega (arith, less, t)
 takes_from old mid new (Ok next.Last) less t = omega (arith, less, t)
 takes_from old mid new (Ok next.End) less t = omega (arith, less, t)
 takes_from old mid new (Err e) less t = omega (arith, less, t)
+
+-- what is asked for behind what a turn brought was asked for before it
+pub asked_before : (u v a b : Option (List ℕ)) (start inbox waiting pending : List ℕ) (c : Command) → start ≡ [] → Turned u v a b waiting (Ok false) inbox pending → IsAskedBehind inbox v c → IsAskedBehind start u c
+asked_before u v a b start inbox waiting pending c none t asked =
+    (asked.0, inbox ++ asked.1, Consumes-then u v asked.0 inbox asked.1 t.0 asked.2, subst (λ (xs : List ℕ). Asks (xs ++ (inbox ++ asked.1)) c) (sym none) asked.3)
 
 module _ {X : Type 0} (commands : X → Command → Reply → X → Type 0) (asks : X → Query → Reply → X → Type 0) where
   -- the exchange over what it brought

@@ -1,4 +1,5 @@
 pub mod Answers
+pub mod Asking
 pub mod Bodies
 pub mod Serving
 pub mod Talk

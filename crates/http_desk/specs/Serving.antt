@@ -18,6 +18,7 @@ use Rattle.http_wire.specs.declared.fault.RequestFault.{RequestFault}
 use Rattle.http_wire.specs.declared.fault.RequestFault.TheVariants as request
 use Rattle.http_wire.specs.declared.request.Incoming.{Incoming}
 use Rattle.http_wire.specs.declared.request.Incoming.TheVariants as came
+use Rattle.http_desk.specs.Asking.{Asks}
 use Rattle.http_desk.specs.Talk.{Talk}
 
 -- a read fault is one failure of the reader more, and all else none
@@ -135,10 +136,11 @@ module _ {X : Type 0} (commands : X → Command → Reply → X → Type 0) (ask
   ServesTo x (Err fault.Write) left input output y = IsCutTalk x input output y
   ServesTo x (Err fault.Memory) left input output y = (input ≡ []) × (output ≡ []) × (y ≡ x)
 
-  -- a request was taken and answered: whatever talk goes on behind it is one from before
+  -- a request was taken and answered: whatever talk goes on behind it is one from before, and so is what is asked for behind it
   pub record GoesOn (x : X) (input rest output : List ℕ) (y : X) : Type 0 where
     pub front : List ℕ
     pub read : input ≡ front ++ rest
+    pub asked : (later : List ℕ) (c : Command) → Asks later c → Asks (front ++ later) c
     pub on : (later more : List ℕ) (n : ℕ) (shut : Bool) (z : X) → Talk commands asks y later more n shut z → Talk commands asks x (front ++ later) (output ++ more) (suc n) shut z
 
   abbrev pub Exchanges : X → Result Next StreamFault → Option (List ℕ) → List ℕ → List ℕ → List ℕ → X → Type 0

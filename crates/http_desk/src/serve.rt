@@ -6,9 +6,12 @@ ghost use Rattle.http_intake.specs.Budget.{reading_left};
 ghost use Rattle.http_wire.specs.Budget.{read_failures_of, write_failures_of};
 ghost use Rattle.http_wire.specs.Front.{is_head};
 ghost use Rattle.byte_stream.specs.Counts.{counted};
+ghost use Rattle.desk_model.specs.declared.command.Command.{Command};
+ghost use Rattle.http_routes.specs.declared.order.Order.TheVariants.{Command as AsCommand};
 ghost use Rattle.http_intake.specs.Budget.{Spends};
 ghost use Rattle.http_routes.specs.Orders.{order_of as order_of_request};
 ghost use Rattle.http_routes.specs.Routes.{the_routes};
+ghost use Rattle.http_desk.specs.Asking.{IsAskedIn, TakesAll};
 ghost use Rattle.http_desk.specs.Serving.{Serves, Exchanges, Closes, Leaves, Waits, NextCame, Turned, read_failures, write_failures, TakesSome};
 ghost use Rattle.http_wire.specs.Incoming.{EndsAt, TakesSome as RequestTakes};
 ghost use Rattle.http_answer.specs.Queue.{Queued};
@@ -86,6 +89,7 @@ fn handle<C: Counter>(
 ) -> bool
     requires routes { router.now ≡ the_routes }
     requires ascii { IsAscii request.target.items }
+    requires takes { (c : Command) → order_of_request request.method request.target.items request.body.items ≡ AsCommand c → C.takes counter.old c }
     ensures { Handles C.commands C.asks counter.old (order_of_request request.method request.target.items request.body.items) request.closes (is_head request.method) answer.new result counter.new }
 {
     let Request {
@@ -167,6 +171,7 @@ fn exchange_any<R: Source, W: GatherSink, C: Counter, G: Gate>(
     stream: &mut Stream,
     piece: u32,
 ) -> Result<Next, StreamFault>
+    requires { TakesAll C.takes stream.old.inbox (R.remaining reader.old) }
     ensures talks { (more : List ℕ) × (output : List ℕ) × (unsent : List ℕ) × Consumes (R.remaining reader.old) (R.remaining reader.new) more
         × Queued (W.contents writer.old) (W.contents writer.new) stream.old.outbox unsent output
         × Exchanges C.commands C.asks counter.old result (R.remaining reader.new) (stream.old.inbox ++ more) stream.new.inbox output counter.new
@@ -236,6 +241,7 @@ fn exchange_held<R: Source, W: GatherSink, C: Counter, G: Gate>(
     stream: &mut Stream,
     piece: u32,
 ) -> Result<Next, StreamFault>
+    requires { TakesAll C.takes stream.old.inbox (R.remaining reader.old) }
     ensures talks { (more : List ℕ) × (output : List ℕ) × (unsent : List ℕ) × Consumes (R.remaining reader.old) (R.remaining reader.new) more
         × Queued (W.contents writer.old) (W.contents writer.new) stream.old.outbox unsent output
         × Exchanges C.commands C.asks counter.old result (R.remaining reader.new) (stream.old.inbox ++ more) stream.new.inbox output counter.new
@@ -297,6 +303,7 @@ fn exchange<R: Source, W: GatherSink, C: Counter, G: Gate>(
     stream: &mut Stream,
     piece: u32,
 ) -> Result<Next, StreamFault>
+    requires { TakesAll C.takes stream.old.inbox (R.remaining reader.old) }
     ensures talks { (more : List ℕ) × (output : List ℕ) × (unsent : List ℕ) × Consumes (R.remaining reader.old) (R.remaining reader.new) more
         × Queued (W.contents writer.old) (W.contents writer.new) stream.old.outbox unsent output
         × Exchanges C.commands C.asks counter.old result (R.remaining reader.new) (stream.old.inbox ++ more) stream.new.inbox output counter.new
@@ -346,7 +353,8 @@ fn start(alloc: Global) -> Option<Stream>
 /// Serves a stream of requests: reads each, lets the gate pass, and answers it before the next is taken. Answers wait in a
 /// buffer, and are sent before a turn of reading, before one that has no room behind them, and at the end.
 ///
-/// The gate is passed as worker 0, with the number of requests that this call read before (4,294,967,295 at most).
+/// The counter is handed those commands alone that the bytes of the reader ask for. The gate is passed as worker 0, with the number
+/// of requests that this call read before (4,294,967,295 at most).
 pub fn serve<R: Source, W: GatherSink, C: Counter, G: Gate>(
     alloc: Global,
     reader: &mut R,
@@ -354,6 +362,7 @@ pub fn serve<R: Source, W: GatherSink, C: Counter, G: Gate>(
     counter: &mut C,
     gate: &G,
 ) -> Result<Served, StreamFault>
+    requires { (x : C) (c : Command) → IsAskedIn (R.remaining reader.old) c → C.takes x c }
     ensures talks { Serves C.commands C.asks counter.old result counter.new (R.remaining reader.old) (R.remaining reader.new) (W.contents writer.old) (W.contents writer.new) }
     ensures read_failures { R.failures reader.new ≡ read_failures (R.failures reader.old) result }
     ensures write_failures { W.failures writer.new ≡ write_failures (W.failures writer.old) result }

@@ -7,8 +7,8 @@ use Rattle.desk_model.specs.declared.command.Command.{Command}
 use Rattle.desk_model.specs.Desk.{Desk}
 use Rattle.http_desk.specs.declared.serve.Served.{Served}
 use Rattle.http_desk.specs.declared.serve.StreamFault.{StreamFault}
-use Rattle.http_seats.specs.declared.ran.Ran.{Ran}
-use Rattle.http_seats.specs.Running.{no_streams, one_more, requests_of}
+use Rattle.http_arrivals.specs.declared.ran.Ran.{Ran}
+use Rattle.http_arrivals.specs.Running.{no_streams, one_more, requests_of}
 use Rattle.http_seats.specs.Streams.{Traffic, Worker, IsTalkedTo, AreServed, LeavesPlace, LeavesPlaces, EachHasWorked}
 
 -- a place as its visitor and what its streams came to

@@ -11,10 +11,11 @@ use Rattle.desk_gallery.specs.Begun.{Beginning, HasRun}
 use Rattle.desk_gallery.specs.Working.{AreAccepted}
 use Rattle.http_desk.specs.declared.serve.Served.{Served}
 use Rattle.http_desk.specs.declared.serve.StreamFault.{StreamFault}
+use Rattle.http_desk.specs.Asking.{IsAskedIn}
 use Rattle.http_desk.specs.Serving.{Serves, read_failures, write_failures}
-use Rattle.http_seats.specs.declared.ran.Ran.{Ran}
+use Rattle.http_arrivals.specs.declared.ran.Ran.{Ran}
 use Rattle.http_seats.specs.Explained.{ExplainsCommand, ExplainsQuery}
-use Rattle.http_seats.specs.Running.{joined, no_streams, one_more, requests_of}
+use Rattle.http_arrivals.specs.Running.{joined, no_streams, one_more, requests_of}
 
 -- the streams of one worker, the last first
 abbrev pub counts_of : List (Result Served StreamFault) → Ran
@@ -40,6 +41,13 @@ abbrev pub traffic : {A R W : Type 0} → (A → Option (R × W) → Type 0) →
     → source.Ghosts R → sink.Ghosts W → A → Traffic R W
 traffic gives takes_back r w from =
     record { gives = gives from; takes_back = takes_back from; unread = r.remaining; failed_reads = r.failures; written = w.contents; failed_writes = w.failures }
+
+-- a stream was given, and in the bytes that its reader gives the command is asked for
+pub record IsAskedOf {R W : Type 0} (s : Traffic R W) (c : Command) : Type 0 where
+  pub reader : R
+  pub writer : W
+  pub given : s.gives (Some (reader, writer))
+  pub asked : IsAskedIn (s.unread reader) c
 
 -- what a worker's visitor has heard of in the end, and what its streams came to
 pub record Worker : Type 0 where
@@ -105,12 +113,13 @@ module _ {R W : Type 0} (s : Traffic R W) (first : Desk) where
     pub total : ran ≡ total_of (map (λ w. w.ran) workers)
 
   module _ {D : Type 0} {g : device.Ghosts D} where
-    -- Streams were served at the seats of these visitors, and came to this. The changes along which they were answered are the commands
-    -- that were done one after the other, each accepted after those before it, from the clerk with whom the office began to this one.
+    -- Streams were served at the seats of these visitors, and came to this. Commands were done one after the other, each of which
+    -- one of the streams asked for, from the clerk with whom the office began to this one. The changes along which the streams were
+    -- answered are those of them that were acknowledged, each accepted after those before it.
     pub record HasServed (begins : Beginning) (visitors : List (List Command)) (last : Clerk D g) (ran : Ran) : Type 0 where
       pub changes : List Command
       pub accepted : AreAccepted first changes
-      pub left : HasRun begins last changes
+      pub left : HasRun begins (IsAskedOf s) last changes
       pub counted : AreCounted changes visitors ran
 
 -- the last visitor's place is the first

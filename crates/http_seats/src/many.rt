@@ -1,51 +1,28 @@
 //! Many streams, served at seats of one office.
-ghost use Rattle.std.specs.Prelude.{◌≡◌, ◌≤◌, All, IfOk, IfSome, Option, Result, map};
+ghost use Rattle.std.specs.Prelude.{◌≡◌, ◌≤◌, All, IfOk, IfSome, map};
 ghost use mathlib.Core.List.{IsPrefix};
-ghost use Rattle.http_desk.specs.declared.serve.Served.{Served as Answered};
-ghost use Rattle.http_desk.specs.declared.serve.StreamFault.{StreamFault as Fault};
+ghost use Rattle.desk_model.specs.declared.command.Command.{Command};
 ghost use Rattle.desk_store.specs.Clerks.{desk_of, Keeps};
 ghost use Rattle.desk_gallery.specs.Begun.{IsLeftBy};
 ghost use Rattle.desk_gallery.specs.Working.{IsRunFrom};
-ghost use Rattle.http_seats.specs.Running.{no_streams};
-ghost use Rattle.http_seats.specs.Streams.{HasServed, HasWorked, LeavesPlace, LeavesPlaces, WereVisitors, total_of, traffic};
+ghost use Rattle.http_arrivals.specs.Running.{no_streams};
+ghost use Rattle.http_seats.specs.Streams.{HasServed, HasWorked, IsAskedOf, LeavesPlace, LeavesPlaces, WereVisitors, total_of, traffic};
 
-use crate::acceptor::Acceptor;
-use crate::ran::{Ran, Tally};
 use crate::seat::Seat;
-use byte_stream::source::Source;
 use desk_gallery::book::Room;
 use desk_gallery::front::Front;
 use desk_gallery::office::Office;
 use desk_gallery::visitor::Visitor;
 use desk_model::gate::Gate;
 use desk_store::clerk::Clerk;
-use http_answer::gather::GatherSink;
-use http_desk::serve::{Served, StreamFault, serve};
+use http_arrivals::acceptor::Acceptor;
+use http_arrivals::arrivals::Arrivals;
+use http_arrivals::ran::{Ran, Tally};
+use http_desk::serve::serve;
 use sector_device::SectorDevice;
 use std::alloc::{AllocError, Global};
 use std::sync::Wait;
 use std::thread::{Threads, for_each_mut};
-
-/// Where streams come from, and where each goes back to. Nothing else can let go of one.
-pub trait Arrivals {
-    type Reader: Source + Send + Sync;
-
-    type Writer: GatherSink + Send + Sync;
-
-    // The next stream was asked for, and this was given.
-    ghost gives: { Self → Option (Self.Reader × Self.Writer) → Type 0 } = { λ _ _. Unit {0} };
-
-    // A stream was taken back so, with what it came to.
-    ghost takes_back: { Self → Self.Reader → Self.Writer → Result Answered Fault → Type 0 } = { λ _ _ _ _. Unit {0} };
-
-    /// The next stream, or None where no further one comes. It may wait.
-    fn next(&self) -> Option<(Self::Reader, Self::Writer)>
-        ensures { gives self.now result };
-
-    /// Takes a stream back once it is served, with what it came to.
-    fn ended(&self, reader: Self::Reader, writer: Self::Writer, served: Result<Served, StreamFault>)
-        ensures { takes_back self.now reader writer served };
-}
 
 /// A gate as one worker passes it.
 #[derive(Drop)]
@@ -76,7 +53,8 @@ fn work<J: Room, D: SectorDevice, A: Arrivals, G: Gate, R: Wait>(
     acceptor: Acceptor<'_, A>,
     gate: &AtWorker<'_, G>,
 ) -> Tally
-    requires { acceptor.tally.ran ≡ no_streams }
+    requires none { acceptor.tally.ran ≡ no_streams }
+    requires asked { (c : Command) → IsAskedOf (traffic A.gives A.takes_back A.Reader.Source A.Writer.Sink acceptor.arrivals.now) c → J.asked c }
     ensures { HasWorked (traffic A.gives A.takes_back A.Reader.Source A.Writer.Sink acceptor.entry.arrivals.now) J.first seat.old seat.new result.ran }
 {
     let mut acceptor = acceptor;
@@ -99,6 +77,7 @@ fn work_at<J: Room, D: SectorDevice, A: Arrivals, G: Gate, R: Wait>(
     arrivals: &A,
     gate: &G,
 )
+    requires { (c : Command) → IsAskedOf (traffic A.gives A.takes_back A.Reader.Source A.Writer.Sink arrivals.now) c → J.asked c }
     ensures { LeavesPlace (traffic A.gives A.takes_back A.Reader.Source A.Writer.Sink arrivals.now) J.first place.old.visitor place.new.visitor place.new.tally.ran }
 {
     let Some(visitor) = place.visitor.take() else {
@@ -153,6 +132,7 @@ fn serve_places<
     G: Gate + Sync,
     R: Threads + Wait + Sync,
 >(rt: &R, alloc: Global, office: &Office<J, D>, places: &mut [Place<J>], arrivals: &A, gate: &G)
+    requires { (c : Command) → IsAskedOf (traffic A.gives A.takes_back A.Reader.Source A.Writer.Sink arrivals.now) c → J.asked c }
     ensures { LeavesPlaces (traffic A.gives A.takes_back A.Reader.Source A.Writer.Sink arrivals.now) J.first (map (λ p. p.visitor) places.old) (map (λ p. (p.visitor, p.tally.ran)) places.new) }
 {
     let threads = places.len().max(1);
@@ -161,6 +141,7 @@ fn serve_places<
         places,
         threads,
         &|_, place: &mut Place<J>|
+            requires { (c : Command) → IsAskedOf (traffic A.gives A.takes_back A.Reader.Source A.Writer.Sink arrivals.now) c → J.asked c }
             ensures { LeavesPlace (traffic A.gives A.takes_back A.Reader.Source A.Writer.Sink arrivals.entry.now) J.first place.old.visitor place.new.visitor place.new.tally.ran }
         { work_at(rt, alloc, office, place, arrivals, gate) },
     );
@@ -193,6 +174,8 @@ fn know_all<J: Room, D: SectorDevice>(front: &mut Front<J, D>, places: &[Place<J
 /// What they came to is that of the streams of each worker, each of which was given by `Arrivals::next`, served, and taken back by
 /// `Arrivals::ended` as it was left: what was written to it is a talk over what was read from it, explained along one list of changes
 /// that grows, from what the visitor had heard of on, and that the commands begin with which the clerk has carried out in the end.
+/// Each command that the clerk was handed was asked for in the bytes of a stream that was given: this is what `asked` of the
+/// gallery's name has to say.
 /// Err where memory for the workers is refused, and then no stream was taken.
 pub fn serve_many<
     J: Room + Send + Sync,
@@ -208,9 +191,11 @@ pub fn serve_many<
     arrivals: &A,
     gate: &G,
 ) -> (Clerk<D>, Result<Ran, AllocError>)
+    requires asked { (c : Command) → IsAskedOf (traffic A.gives A.takes_back A.Reader.Source A.Writer.Sink arrivals.now) c → J.asked c }
+    requires only { (c : Command) → J.asked c → IsAskedOf (traffic A.gives A.takes_back A.Reader.Source A.Writer.Sink arrivals.now) c }
     ensures kept { J.sound → Keeps result.0 }
     ensures ran { IsRunFrom J.first (desk_of result.0) }
-    ensures left { IsLeftBy J.first J.begins result.0 }
+    ensures left { IsLeftBy J.first J.begins J.asked result.0 }
     ensures fewer { IfOk result.1 (λ ran. ran.faults ≤ ran.streams) }
     ensures served { IfOk result.1 (HasServed (traffic A.gives A.takes_back A.Reader.Source A.Writer.Sink arrivals.now) J.first J.begins visitors.items result.0) }
 {

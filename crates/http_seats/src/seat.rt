@@ -80,6 +80,8 @@ impl<'a, J: Room, D: SectorDevice, R: Wait> Seat<'a, J, D, R> {
 }
 
 impl<'a, J: Room, D: SectorDevice, R: Wait> Counter for Seat<'a, J, D, R> {
+    ghost takes = { λ _ command. J.asked command };
+
     ghost commands = { λ before command reply heard. ExplainsCommand J.first before command reply heard };
 
     ghost asks = { λ before query reply heard. ExplainsQuery J.first before query reply heard };

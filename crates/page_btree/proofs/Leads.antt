@@ -1,40 +1,20 @@
 -- The leaf that a key belongs to, told above.
-use Rattle.std.proofs.Common.{◌≡◌, ◌≢◌, ◌<◌, ◌≤◌, ◌-◌, ◌^◌, ℕ, zero, suc, List, [], Bool, inl, inr, ⊎_elim, refl, sym, ap, subst, ◌∙◌, arith}
-use Rattle.std.specs.Prelude.{Option, Some, None}
+use Rattle.std.proofs.Common.{◌≡◌, ◌≢◌, ◌<◌, ◌≤◌, ◌-◌, ◌^◌, ℕ, zero, suc, List, refl, sym, subst, arith}
+use Rattle.std.specs.Prelude.{Some}
 use Rattle.std.specs.Option.{option_map}
-use Rattle.std.specs.FinMap.{insert, contains_key}
 use Rattle.sector_device.specs.Disk.{Image}
-use Rattle.sector_device.specs.declared.SectorDevice.{Ghosts}
-use Rattle.page_store.specs.Transactions.{stored, disk_in, over, free_over}
-use Rattle.page_store.specs.declared.pages.Pages.{Pages}
-use Rattle.page_store.specs.declared.txn.Txn.{Txn}
 use Rattle.page_node.specs.Entries.{Entry, child_in}
 use Rattle.page_node.specs.Node.{Node, IsNode}
-use Rattle.page_node.proofs.Laws.{node_unique}
 use Rattle.page_node.specs.Places.{Rises, floor}
 use Rattle.page_node.specs.Searching.{RisesBehind}
 use Rattle.page_btree.specs.Keys.{KeyMap}
-use Rattle.page_btree.specs.Tree.{Tree, rows}
-use Rattle.page_btree.specs.Map.{Holds, IsRooted, InTxn}
-use Rattle.page_btree.specs.Errors.{PutErr, RemoveErr, IsNoWant}
-use Rattle.page_btree.specs.Getting.{CanGet, CanGetAt, ReadsErr}
+use Rattle.page_btree.specs.Tree.{rows}
+use Rattle.page_btree.specs.Map.{Holds}
+use Rattle.page_btree.specs.Getting.{CanGet}
 use Rattle.page_btree.specs.Leading.{LeadsTo, CanLead}
-use Rattle.page_btree.specs.Putting.{IsRaised, CanPut}
-use Rattle.page_btree.specs.Fitting.{IsLeafPut}
-use Rattle.page_btree.proofs.EmptyLeaf.{nothing}
-use Rattle.page_btree.specs.Removing.{CanRemove, Removes}
-use Rattle.page_btree.specs.Sparing.{IsLeafTaken}
-use Rattle.page_btree.proofs.Sparing.{did_take}
-use Rattle.page_btree.specs.declared.error.TreeError.{TreeError}
-use Rattle.page_btree.specs.declared.error.TreeError.TheVariants.{DeviceFault, Halted, NoPages, TooDeep, Memory}
 use Rattle.page_btree.proofs.Tops.{rooted, can_get, at_root}
 use Rattle.page_btree.proofs.Descent.{leaf_page, goes_on}
-use Rattle.page_btree.proofs.Down.{through_none}
-use Rattle.page_btree.proofs.Leaves.{leaf_rows, leaf_node, leaf_rises, leaf_off, leaf_raised}
-use Rattle.page_btree.proofs.Roots.{rooted as has_root, root_can, after_whole}
-use Rattle.page_btree.proofs.Steps.{step_down}
-use Rattle.page_btree.proofs.Spares.{leaf_takes, steps_up}
-use Rattle.page_btree.proofs.Rising.{node_rises, put_rises, tree_rises}
+use Rattle.page_btree.proofs.Rising.{node_rises}
 
 pub leads_none : (P : Image) (d page : ℕ) (key : List ℕ) → d ≡ 0 → LeadsTo P d page key page
 leads_none P d page key none = subst (λ d. LeadsTo P d page key page) (sym none) refl
@@ -60,68 +40,3 @@ pub can_lead : (n : ℕ) (P : Image) (root : ℕ) (free : List ℕ) (m : KeyMap)
 can_lead n P root free m key holds some =
     let r = rooted n P root free m holds some in
     (r.level, r.few, (can_get n P root free m r key (P root) r.level refl refl, at_root n P root free m r r.level refl))
-
--- ---- a put into the leaf
-module _ (n : ℕ) (S : Image) (t0 t1 : Txn) (key value : List ℕ) (had : Bool) (few : n ≤ 2 ^ 32) (leaf : ℕ) (did : IsLeafPut t0 t1 S leaf key value had) where
-  raised_there : (d : ℕ) (low : List ℕ) (high : Option (List ℕ)) (page : ℕ) (t : Tree) → LeadsTo (over t0 S) d page key leaf → CanPut n (over t0 S) d low high (free_over t0 S) page (over t0 S page) key t → (k : List ℕ)
-      → IsRaised (over t0 S) (over t1 S) d low high (free_over t0 S) (free_over t1 S) key value had k page t None nothing
-  raised_there zero low high page t is can k =
-      let P = over t0 S in
-      let free = free_over t0 S in
-      let w : IsLeafPut t0 t1 S page key value had = subst (λ (q : ℕ). IsLeafPut t0 t1 S q key value had) is did in
-      leaf_raised n P low high free page (P page) key 0 t refl can (over t1 S) (free_over t1 S) value had None nothing
-      (w (leaf_rows n P low high free page (P page) key 0 t refl can) (leaf_node n P low high free page (P page) key 0 t refl can) (leaf_rises n P low high free page (P page) key 0 t refl can) (leaf_off n P low high free page (P page) key 0 t refl can)) k
-  raised_there (suc d) low high page t (child, told, rest) can k =
-      let P = over t0 S in
-      let free = free_over t0 S in
-      let some : 0 < suc d = omega arith in
-      let deep : suc d ≢ 0 = omega arith in
-      let e : d ≡ suc d - 1 = omega arith in
-      through_none n P (suc d) low high free page (P page) key value t few can deep child (λ node at. told node at (put_rises n P (suc d) low high free page (P page) key t can some node at)) (P child) refl (over t1 S) (free_over t1 S) had None nothing
-      (subst (λ (x : ℕ). (l : List ℕ) (h : Option (List ℕ)) (u : Tree) → CanPut n P x l h free child (P child) key u → (k : List ℕ) → IsRaised P (over t1 S) x l h free (free_over t1 S) key value had k child u None nothing) e
-      (λ l h u below k. raised_there d l h child u rest below k)) refl nothing k
-
-  -- at the root
-  module _ (root : ℕ) (m : KeyMap) (holds : Holds n (over t0 S) root (free_over t0 S) m) (some : root ≢ 0) where
-    r : IsRooted n (over t0 S) root (free_over t0 S) m
-    r = rooted n (over t0 S) root (free_over t0 S) m holds some
-
-    level_is : (node : Node) → IsNode (over t0 S root) node → r.level ≡ node.level
-    level_is node at =
-        let there = at_root n (over t0 S) root (free_over t0 S) m r r.level refl in
-        sym there.level_is ∙ ap (λ (x : Node). x.level) (node_unique (over t0 S root) there.node node there.node_is at)
-
-    pub put_whole : ((d : ℕ) → CanGetAt n (over t0 S) d key root → LeadsTo (over t0 S) d root key leaf) → Holds n (over t1 S) root (free_over t1 S) (insert m key value) × (had ≡ contains_key m key)
-    put_whole leads =
-        let P = over t0 S in
-        let free = free_over t0 S in
-        let is : CanGetAt n P r.level key root = (can_get n P root free m r key (P root) r.level refl refl, at_root n P root free m r r.level refl) in
-        after_whole n P root free m key (P root) r.level holds some refl level_is (over t1 S) (free_over t1 S) value had None nothing
-        (raised_there r.level [] None root (has_root n P root free m key (P root) r.level holds some refl level_is).tree (leads r.level is) (root_can n P root free m key (P root) r.level holds some refl level_is) []) refl
-
--- ---- a row taken out of the leaf
-pub removes_there : (n : ℕ) (S : Image) (t0 t1 : Txn) (key : List ℕ) (had : Bool) → n ≤ 2 ^ 32 → (leaf : ℕ) → IsLeafTaken t0 t1 S leaf key had → (d page : ℕ) → LeadsTo (over t0 S) d page key leaf
-    → (can : CanRemove n (over t0 S) (free_over t0 S) d key page) → Removes (over t1 S) (free_over t1 S) can (did_take had)
-removes_there n S t0 t1 key had few leaf did zero page is can = leaf_takes n S t0 t1 0 key page can refl had (subst (λ (q : ℕ). IsLeafTaken t0 t1 S q key had) is did)
-removes_there n S t0 t1 key had few leaf did (suc d) page (child, told, rest) can =
-    let some : 0 < suc d = omega arith in
-    let e : d ≡ suc d - 1 = omega arith in
-    let step = step_down n S t0 (suc d) key page child can some few (λ node at. told node at (tree_rises (over t0 S) (suc d) can.low can.high can.tree (over t0 S page) can.tree_is (ap (over t0 S) (sym can.page_is)) some node at)) in
-    steps_up n S t0 (suc d) can.low can.high key page child can.tree step t1 had
-    (subst (λ (x : ℕ). (is : CanRemove n (over t0 S) (free_over t0 S) x key child) → Removes (over t1 S) (free_over t1 S) is (did_take had)) e (λ is. removes_there n S t0 t1 key had few leaf did d child rest is) step.can)
-
--- ---- refusals
-module _ {D : Type 0} {g : Ghosts D} where
-  pub reads_put : (can : Image → Type 0) (t : Txn) (old new : Pages D g) → ((disk_in new).is_honest → (m : KeyMap) → InTxn t (stored old) m → can (stored old)) → (e : TreeError) → ReadsErr can old new e → PutErr t old new e × IsNoWant e
-  reads_put can t old new has DeviceFault why = (⊎_elim (λ failed. inl failed) (λ no. inr (λ honest m is. no honest (has honest m is))) why, tt)
-  reads_put can t old new has Halted why = (why, tt)
-  reads_put can t old new has NoPages why = absurd why
-  reads_put can t old new has TooDeep why = absurd why
-  reads_put can t old new has Memory why = absurd why
-
-  pub reads_remove : (can : Image → Type 0) (t : Txn) (old new : Pages D g) → ((disk_in new).is_honest → (m : KeyMap) → InTxn t (stored old) m → can (stored old)) → (e : TreeError) → ReadsErr can old new e → RemoveErr t old new e
-  reads_remove can t old new has DeviceFault why = ⊎_elim (λ failed. inl failed) (λ no. inr (λ honest m is. no honest (has honest m is))) why
-  reads_remove can t old new has Halted why = why
-  reads_remove can t old new has NoPages why = absurd why
-  reads_remove can t old new has TooDeep why = absurd why
-  reads_remove can t old new has Memory why = absurd why

@@ -1,5 +1,5 @@
 -- The keys of a node above the leaves rise behind the first.
-use Rattle.std.proofs.Common.{◌≡◌, ◌<◌, ◌-◌, ℕ, List, drop, Bool, true, false, ◌&&◌, refl, sym, ap, subst, ◌∙◌, arith}
+use Rattle.std.proofs.Common.{◌≡◌, ◌<◌, ◌-◌, ℕ, List, drop, Bool, true, false, ◌&&◌, refl, sym, ap, subst, arith}
 use Rattle.std.specs.Prelude.{Option}
 use Rattle.std.specs.Ordering.{is_gt, is_lt}
 use Rattle.std.specs.declared.cmp.Ordering.TheVariants.{Less}
@@ -14,7 +14,6 @@ use Rattle.page_node.specs.Searching.{RisesBehind}
 use Rattle.page_node.proofs.Laws.{node_unique}
 use Rattle.page_btree.specs.Tree.{Tree, Forest, leaf, inner, one, more, page_of, first_key, links, IsTree, AreTrees}
 use Rattle.page_btree.specs.Getting.{CanGet}
-use Rattle.page_btree.specs.Putting.{CanPut}
 use Rattle.page_btree.proofs.Rows.{from_then, less_is_from}
 
 both_so : (b c : Bool) → b ≡ true → c ≡ true → (b && c) ≡ true
@@ -48,6 +47,3 @@ tree_rises P d low high (inner p f) page there page_is some node is =
 
 pub node_rises : (n : ℕ) (P : Image) (d : ℕ) (key page : List ℕ) → CanGet n P d key page → 0 < d → (node : Node) → IsNode page node → RisesBehind node.entries
 node_rises n P d key page can some node is = tree_rises P d can.low can.high can.tree page can.tree_is can.page_is some node is
-
-pub put_rises : (n : ℕ) (P : Image) (d : ℕ) (low : List ℕ) (high : Option (List ℕ)) (free : List ℕ) (page : ℕ) (bytes key : List ℕ) (t : Tree) → CanPut n P d low high free page bytes key t → 0 < d → (node : Node) → IsNode bytes node → RisesBehind node.entries
-put_rises n P d low high free page bytes key t can some node is = tree_rises P d low high t bytes can.stands.tree_is (can.reads ∙ sym (ap P can.stands.page_is)) some node is

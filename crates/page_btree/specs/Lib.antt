@@ -2,11 +2,8 @@ pub mod Keys
 pub mod Tree
 pub mod Map
 pub mod Errors
-pub mod Putting
 pub mod Getting
 pub mod Leading
-pub mod Removing
 pub mod Seeking
-pub mod Fitting
-pub mod Sparing
+pub mod Editing
 pub mod Outcomes

@@ -110,13 +110,13 @@ fn copy_value(
     }
 }
 
-/// The place at which a page of a node below the root is lent: leaves have the last one, and the nodes above them the six
+/// The place at which a page of a node below the root is lent: leaves have the last one, and the nodes above them the fourteen
 /// between the root's and it, by their page's number, so that a node is mostly still held when its next child is looked for.
 pub(crate) fn place_of(level: u8, p: u32) -> usize {
     if level == 0 {
-        return 7;
+        return 15;
     }
-    1 + (p % 6) as usize
+    1 + (p % 14) as usize
 }
 
 /// Lends the page of a node of this level at a place.
@@ -146,8 +146,9 @@ pub(crate) fn lend_level<'t, D: SectorDevice>(
     Ok(own)
 }
 
-/// Reads the page of a node of this level.
-pub(crate) fn read_level<D: SectorDevice>(
+/// Reads the page of a node of this level. An error is `DeviceFault` where the page is no such node's, or the device failed, or
+/// `Halted`.
+pub fn read_level<D: SectorDevice>(
     txn: &Txn,
     pages: &mut Pages<D>,
     p: u32,
@@ -157,6 +158,7 @@ pub(crate) fn read_level<D: SectorDevice>(
     requires begun { txn_pages txn.now ≡ count_of pages.old }
     ensures quiet { IsQuiet pages.old pages.new }
     ensures reads { (disk_in pages.new).is_honest → OnOk result (page.new ≡ over txn.now (stored pages.old) p) }
+    ensures level { (node : Node) → IsNode page.new node → OnOk result (node.level ≡ level) }
     ensures below { OnOk result (p < txn_pages txn.now) }
     ensures few { txn_pages txn.now ≤ 2 ^ 32 }
     ensures passed { OnOk result (Passed pages.old pages.new) }

@@ -62,9 +62,9 @@ impl Leaf {
 }
 
 /// Reads the leaf with the first row that isn't below a key into the first of some pages, and stands before that row; and the
-/// leaves that follow it under the same node into the others, as far as these go and the keys that bound their rows begin with the
-/// prefix. Where there is no such row, no row is left and no other leaf is read. It takes no memory. An error is `DeviceFault`,
-/// where the device failed or holds what no store has, or `Halted`, where it had failed before.
+/// leaves that follow it under the same node into the others, as far as these go and the keys that bound their rows begin with
+/// the prefix. Where there is no such row, no row is left and no other leaf is read. It takes no memory. An error is
+/// `DeviceFault`, where the device failed or holds what no store has, or `Halted`, where it had failed before.
 pub fn leaf_from<D: SectorDevice>(
     txn: &Txn,
     pages: &mut Pages<D>,
@@ -266,8 +266,8 @@ fn go_down(leaf: &mut Leaf, page: &[u8; 4096], key: &[u8]) -> Result<u32, TreeEr
     }
 }
 
-/// Finds the child of a node above the leaves that a key belongs to, with the children that follow it as far as they are to be read
-/// with it, and keeps the first key behind the last of these, as the bound.
+/// Finds the child of a node above the leaves that a key belongs to, with the children that follow it as far as they are to be
+/// read with it, and keeps the first key behind the last of these, as the bound.
 fn ways_in(
     leaf: &mut Leaf,
     page: &[u8; 4096],

@@ -12,8 +12,9 @@ use page_node::level_of;
 use page_store::{Pages, Txn};
 use sector_device::SectorDevice;
 
-/// Finds the page of the leaf that a key belongs to, in the tree at a root.
-pub(crate) fn find_leaf<D: SectorDevice>(
+/// Finds the page of the leaf that a key belongs to, in the tree at a root. An error is `DeviceFault`, where the device failed or
+/// no tree stands there, or `Halted`.
+pub fn find_leaf<D: SectorDevice>(
     txn: &Txn,
     pages: &mut Pages<D>,
     root: u32,

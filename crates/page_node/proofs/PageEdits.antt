@@ -3,9 +3,10 @@ use Rattle.std.specs.Prelude.{insert, remove, Bool, true, false, cond, Option, S
 use Rattle.std.specs.FinMap.{find, put}
 use Rattle.std.proofs.Common.{◌≡◌, ℕ, ◌+◌, ◌-◌, ◌*◌, ◌/◌, ◌%◌, ◌<◌, ◌≤◌, List, [], ◌∷◌, ◌++◌, length, take, drop, get_or, set, refl, sym, ap, subst, ◌∙◌, arith, suc, length-append, append_assoc, take-append-drop}
 use Rattle.std.specs.List.{All, copy_within}
-use Rattle.std.proofs.lemmas.List.{length-take-le, length-drop, append-nil, set_split, take-take}
+use Rattle.std.proofs.lemmas.List.{length-take-le, length-drop, append-nil, drop-drop, set_split, take-take}
 use Rattle.std.proofs.lemmas.List.Elements.{All-nil}
 use Rattle.std.proofs.Math.Seq.{take-add}
+use Rattle.page_node.specs.Bytes.{with_entry}
 use Rattle.page_node.specs.Entries.{Entry, IsEntry, entry_bytes, entry_size, body_of, size_of}
 use Rattle.page_node.proofs.EntryLists.{size-parts}
 use Rattle.page_node.specs.Node.{Node, IsNode, count_in}
@@ -158,6 +159,17 @@ module _ (page : List ℕ) (node : Node) (is : IsNode page node) (long : length 
         (entry_bytes e) (drop (at + entry_size e + (used - end)) page) (sym (append-nil (entry_bytes e))) made
         (is_made ∙ (λ x. take (at_is x) page ++ (entry_bytes e ++ (take (rest x) (drop (there x) page) ++ drop (at + entry_size e + (used - end)) page))))
         (omega arith))
+
+    -- one of the same size lies where the old one did
+    pub replaced_here : (e : Entry) (made : List ℕ) → IsEntry e → (0 < node.level → length e.1 ≡ 4) → at + entry_size e ≡ end → made ≡ with_entry page at e → IsNode made (record node { entries = set node.entries i e })
+    replaced_here e made entry child same is_made =
+        let there = next in
+        let parts = size-parts (suc i) node.entries in
+        let fits = is.fits in
+        let more = used - end in
+        let rest : drop (at + entry_size e) page ≡ take more (drop end page) ++ drop (at + entry_size e + more) page =
+        ap (λ k. drop k page) same ∙ sym (take-append-drop more (drop end page)) ∙ ap (λ l. take more (drop end page) ++ l) (drop-drop more end page ∙ ap (λ k. drop (k + more) page) (sym same)) in
+        replaced_node e made entry child (omega arith) (is_made ∙ ap (λ l. take at page ++ (entry_bytes e ++ l)) rest)
 
     -- the bytes behind it are moved, also more of them than its entries have
     pub removed_node : (till : ℕ) (made : List ℕ) (count : ℕ) → used ≤ till → made ≡ copy_within page end till at → count + 1 ≡ length node.entries

@@ -89,7 +89,8 @@ fn insert_in(
     Ok(true)
 }
 
-/// Replaces the value of the entry that begins and ends at two places, and tells whether it had room.
+/// Replaces the value of the entry that begins and ends at two places, and tells whether it had room. A value of the same length
+/// is written where the old one lies.
 fn replace_in(
     page: &mut [u8; 4096],
     index: usize,
@@ -107,6 +108,10 @@ fn replace_in(
     ensures kept { IfOk result (λ fits. fits ≡ false → page.new ≡ page.old) }
     ensures err { OnErr result ((node : Node) → IsNode page.old node → index < length node.entries → end ≡ 4 + size_of (take (index + 1) node.entries) → ⊥) }
 {
+    if at + 3 + key.len() + value.len() == end {
+        put_entry_in(page, at, key, value);
+        return Ok(true);
+    }
     let used = end_from(page, index + 1, end)?;
     if at + 3 + key.len() + value.len() + (used - end) > 4096 {
         return Ok(false);

@@ -17,4 +17,4 @@ module _ {D : Type 0} {g : Ghosts D} where
 
   -- the bytes of a page that is lent at a place
   abbrev pub lent_bytes : Pages D g → Option (Bor (List ℕ)) → ℕ → List ℕ
-  lent_bytes ps own place = own_or own (held_at ps (place % 8))
+  lent_bytes ps own place = own_or own (held_at ps (place % 16))

@@ -21,8 +21,8 @@ pub struct Pages<D: SectorDevice> {
     pub(crate) first: u32,
     pub(crate) free: u32,
     /// The numbers of the pages that are held, 0 for none, and the bytes of each, as they are stored.
-    pub(crate) numbers: [u32; 8],
-    held: [[u8; 4096]; 8],
+    pub(crate) numbers: [u32; 16],
+    held: [[u8; 4096]; 16],
     ghost root_below: { root < page_count journal },
     ghost first_below: { first < page_count journal },
     ghost free_below: { free < page_count journal },
@@ -99,8 +99,8 @@ impl<D: SectorDevice> Pages<D> {
                 root: meta.root,
                 first: meta.first,
                 free: meta.free,
-                numbers: [0; 8],
-                held: [[0; 4096]; 8],
+                numbers: [0; 16],
+                held: [[0; 4096]; 16],
             }),
             Err(e) => Err((e, journal.into_device())),
         }
@@ -175,7 +175,7 @@ impl<D: SectorDevice> Pages<D> {
     /// Makes sure that a page is held at a place, as it is stored.
     pub(crate) fn hold(&mut self, p: u32, place: usize) -> Result<(), PageError>
         requires page { p < count_of self.old }
-        requires place { place < 8 }
+        requires place { place < 16 }
         ensures quiet { IsQuiet self.old self.new }
         ensures holds { (disk_in self.new).is_honest → OnOk result (held_at self.new place ≡ stored self.old p) }
         ensures passed { (disk_in self.new).is_honest → OnOk result ((disk_in self.new).faults ≡ (disk_in self.old).faults) }
@@ -200,7 +200,7 @@ impl<D: SectorDevice> Pages<D> {
     {
         match own {
             Some(bytes) => bytes,
-            None => &self.held[place % 8],
+            None => &self.held[place % 16],
         }
     }
 }

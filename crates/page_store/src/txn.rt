@@ -72,7 +72,7 @@ impl Txn {
         pages.read_stored(p, page)
     }
 
-    /// Lends a page as `read` would read it, at one of eight places. `Pages::lent` shows the bytes where they lie, until another page
+    /// Lends a page as `read` would read it, at one of 16 places. `Pages::lent` shows the bytes where they lie, until another page
     /// is lent at that place.
     #[inline(always)]
     pub fn lend<'t, D: SectorDevice>(
@@ -92,7 +92,7 @@ impl Txn {
         if let Some(bytes) = self.writes.get(p) {
             return Ok(Some(bytes));
         }
-        pages.hold(p, place % 8)?;
+        pages.hold(p, place % 16)?;
         Ok(None)
     }
 
@@ -299,7 +299,7 @@ impl Prepared {
         ensures still { has_halted pages.old ≡ true → (result ≡ Err Halted) × IsSame pages.old pages.new }
         ensures err { IfErr result (λ e. CommitErr (length (prepared_writes self)) pages.old pages.new e) }
     {
-        pages.numbers = [0; 8];
+        pages.numbers = [0; 16];
         pages.journal.commit(&self.writes)?;
         pages.root = self.root;
         pages.first = self.first;

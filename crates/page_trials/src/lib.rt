@@ -1,9 +1,7 @@
-//! Journal, pages and rows over devices in memory: stops and failures at each call of a device, and rows put, got and removed
-//! beside an ordered map.
+//! Pages and rows over devices in memory: stops and failures at each call of a device, and rows put, got and removed beside an
+//! ordered map.
 #![tactic(auto)]
 
-#[cfg(test)]
-mod journal_trials;
 #[cfg(test)]
 mod long_trials;
 #[cfg(test)]

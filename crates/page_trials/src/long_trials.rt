@@ -2,7 +2,9 @@
 ghost use Rattle.std.specs.Prelude.{◌≡◌, ◌≤◌};
 ghost use Rattle.page_store.specs.Transactions.{count_of, txn_pages};
 
-use page_btree::{TreeError, get, put, remove};
+use btree_puts::put;
+use btree_removes::remove;
+use page_btree::{TreeError, get};
 use page_store::{Pages, Txn, format};
 use sector_device::SectorDevice;
 use sector_memory::{Fused, MemoryDevice};

@@ -1,4 +1,4 @@
-//! A device that notes what it is asked for.
+//! A device that counts how often each of its sectors is read.
 ghost use Rattle.std.specs.Prelude.{◌≡◌};
 
 use sector_device::{DeviceFault, SectorDevice};
@@ -7,14 +7,9 @@ use sector_memory::MemoryDevice;
 /// How many sectors there are of which reads are counted.
 pub const SECTORS: u32 = 700;
 
-/// A sync among the noted calls.
-pub const SYNC: u32 = u32::MAX;
-
 #[derive(Drop)]
 pub struct Recorder {
     device: MemoryDevice,
-    calls: [u32; 16],
-    count: usize,
     reads: [u8; 700],
 }
 
@@ -22,20 +17,8 @@ impl Recorder {
     pub fn new(device: MemoryDevice) -> Recorder {
         Recorder {
             device,
-            calls: [0; 16],
-            count: 0,
             reads: [0; 700],
         }
-    }
-
-    /// The calls so far: the sectors that were written, and the syncs.
-    pub fn calls(&self) -> [u32; 16] {
-        self.calls
-    }
-
-    /// How many calls there were.
-    pub fn count(&self) -> usize {
-        self.count
     }
 
     /// How often each sector was read.
@@ -45,22 +28,8 @@ impl Recorder {
 
     /// Gives the device back.
     pub fn into_device(self) -> MemoryDevice {
-        let Recorder {
-            device,
-            calls: _,
-            count: _,
-            reads: _,
-        } = self;
+        let Recorder { device, reads: _ } = self;
         device
-    }
-
-    fn note(&mut self, call: u32)
-        ensures { self.new.device ≡ self.old.device }
-    {
-        if self.count < 16 {
-            self.calls[self.count] = call;
-            self.count += 1;
-        }
     }
 
     fn note_read(&mut self, i: u32)
@@ -87,12 +56,10 @@ impl SectorDevice for Recorder {
     }
 
     fn write(&mut self, i: u32, sector: &[u8; 4096]) -> Result<(), DeviceFault> {
-        self.note(i);
         self.device.write(i, sector)
     }
 
     fn sync(&mut self) -> Result<(), DeviceFault> {
-        self.note(SYNC);
         self.device.sync()
     }
 }

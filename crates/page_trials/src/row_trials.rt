@@ -1,6 +1,8 @@
 //! Rows in three orders, each removed again.
 use crate::long_trials::{made, passing, store};
-use page_btree::{get, put, remove, write_first_row};
+use btree_puts::{put, write_first_row};
+use btree_removes::remove;
+use page_btree::get;
 use page_store::{Pages, format_with};
 use sector_memory::{Fused, MemoryDevice};
 use std::alloc::{AllocError, Global};

@@ -3,8 +3,9 @@ ghost use Rattle.std.specs.Prelude.{◌≤◌, length};
 
 use crate::long_trials::{made, store};
 use crate::row_trials::insert;
+use btree_puts::put;
 use btree_scan::{Row, Scan};
-use page_btree::{TreeError, put};
+use page_btree::TreeError;
 use page_store::Pages;
 use sector_device::SectorDevice;
 use sector_memory::{FailOnce, Fused, MemoryDevice};
@@ -59,7 +60,8 @@ pub fn stored<R: Abort>(rt: &R, alloc: Global, model: &mut BTreeMap<u32, u32>) -
     pages
 }
 
-/// How many rows come under a prefix that are those between two numbers in the map, whether another call gives none, and the fault.
+/// How many rows come under a prefix that are those between two numbers in the map, whether another call gives none, and the
+/// fault.
 pub fn scanned<D: SectorDevice>(
     alloc: Global,
     pages: &mut Pages<D>,

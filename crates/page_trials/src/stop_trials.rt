@@ -1,6 +1,7 @@
 //! The commits of a put and of a remove, stopped at each call of the device.
 use crate::long_trials::{has_long, long_key, made, passing, put_long, store};
-use page_btree::{TreeError, remove};
+use btree_removes::remove;
+use page_btree::TreeError;
 use page_store::Pages;
 use sector_memory::{Fused, MemoryDevice};
 use std::alloc::Global;
@@ -103,7 +104,8 @@ fn stop_after<R: Abort>(
     (told, reopened(alloc, device.stop(&picks(rt, alloc, fill))))
 }
 
-/// What stands: the first rows, so many, and these free pages, first this one, if it isn't 0, and then those from the other one on.
+/// What stands: the first rows, so many, and these free pages, first this one, if it isn't 0, and then those from the other one
+/// on.
 fn standing(rows: usize, first: u64, from: u64) -> Option<([bool; 5], u64)> {
     let mut there = [false; 5];
     for n in 0..5 {

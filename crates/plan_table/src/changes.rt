@@ -9,9 +9,9 @@ ghost use Rattle.plan_table.specs.Outcomes.{HasRetired, RetireErr};
 ghost use Rattle.plan_table.specs.Changing.{Changes};
 
 use crate::change::ChangeOutcome;
+use btree_removes::remove;
 use desk_model::kind::Kind;
 use desk_model::name::PlanName;
-use page_btree::remove;
 use page_store::{Pages, Txn};
 use row_table::{TreeError, next_numbers, put_row};
 use sector_device::SectorDevice;

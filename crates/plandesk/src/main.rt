@@ -2,15 +2,8 @@
 //! command, a function over its readers and writers that answers the exit status.
 #![tactic(auto)]
 
-mod checks;
-mod explaining;
-mod faults;
-mod files;
-mod migrating;
 mod run;
 mod serving;
-mod stores;
-mod sweeping;
 
 use crate::run::run;
 use command_output::status::Status;

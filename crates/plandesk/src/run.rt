@@ -1,36 +1,23 @@
 //! What the words ask for, done.
-use crate::checks::{check_counts, check_plan};
-use crate::explaining::explain_code;
-use crate::faults::explain_line;
-use crate::migrating::migrate_desk;
 use crate::serving::serve_desk;
-use crate::stores::{format_store, load_state};
-use crate::sweeping::sweep_desk;
-use byte_stream::sink::WriteSink;
-use byte_stream::source::ReadSource;
 use command_line::words::{Job, Mistake, job_of};
 use command_output::status::Status;
 use fault_words::noting::Noting;
+use file_commands::checks::{check_counts, check_plan};
+use file_commands::explaining::explain_code;
+use file_commands::faults::explain_line;
+use file_commands::filling::{format_store, load_state};
+use file_commands::migrating::migrate_desk;
+use file_commands::sweeping::sweep_desk;
+use file_commands::talking::serve_talk;
 use std::io::Write;
 use std::sync::Wait;
 use std::thread::Threads;
 use std::time::Clock;
-use talk_command::talk::talk;
 
 /// Tells a text on standard error, as far as that can be written.
 fn tell<E: Write>(errors: &mut E, text: &str) {
     let _ = errors.write_all(text.as_bytes());
-}
-
-fn serve_talk(rt: &HostRuntime) -> Status {
-    let mut reader = ReadSource::new(rt.stdin());
-    let mut writer = WriteSink::new(rt.stdout());
-    let mut errors = Noting::new(rt.stderr());
-    let status = talk(rt.alloc(), &mut reader, &mut writer, &mut errors);
-    let _ = reader.into_inner();
-    let _ = writer.into_inner();
-    explain_line(rt, &errors, None);
-    status
 }
 
 /// Tells why nothing is done: help and the version on standard output, and what is wrong on standard error.

@@ -1,44 +1,25 @@
 //! `serve` over the file system, the network and the standard streams.
 ghost use Rattle.std.specs.Prelude.{◌≤◌};
 
-use crate::faults::{explain_last, standard_error};
-use crate::stores::StoreFiles;
 use byte_stream::sink::WriteSink;
 use command_line::options::Serving;
 use command_output::status::Status;
 use connection_log::log::{Log, start};
 use connection_log::watching::{Watched, Watching};
-use http_seats::listening::Listening;
+use file_commands::faults::{explain_last, standard_error};
+use file_commands::logs::open_log;
+use file_commands::stores::StoreFiles;
+use http_arrivals::listening::Listening;
 use sector_file::{FileDevice, Unknown};
 use serve_command::log::refuse_log;
 use serve_command::serve::serve;
 use state_files::fault::OpenFault;
 use std::alloc::Global;
-use std::fs::File;
-use std::io::{ErrorKind, IsTerminal};
+use std::io::IsTerminal;
 use std::net::{Ipv4Addr, TcpListener};
 use std::sync::{Arc, Wait};
 use std::thread::Threads;
 use std::time::Clock;
-
-/// Opens the file of a log, to which lines are added; it is made where there is none. It is opened for reading too, which nobody does,
-/// so that a named pipe without a reader doesn't hold the opening.
-fn open_log(rt: &HostRuntime, name: &str) -> Result<File, OpenFault> {
-    match File::options()
-        .read(true)
-        .append(true)
-        .create(true)
-        .open(rt, name)
-    {
-        Ok(file) => Ok(file),
-        Err(e) => {
-            if e.kind() == ErrorKind::OutOfMemory {
-                return Err(OpenFault::Memory);
-            }
-            Err(OpenFault::Unreadable)
-        }
-    }
-}
 
 /// The log of a served store: in the file that is named, or else on standard error where that is a terminal, or else none.
 fn log_of<T: Threads + Wait + Copy + Send + 'static>(

@@ -2,7 +2,7 @@
 use Rattle.std.proofs.Common.{ℕ, List, Bool, true, false, Option, Result, inr, refl}
 use Rattle.sector_device.specs.declared.SectorDevice.{Ghosts}
 use Rattle.command_output.specs.Writing.{Written}
-use Rattle.http_seats.specs.declared.ran.Ran.{Ran}
+use Rattle.http_arrivals.specs.declared.ran.Ran.{Ran}
 use Rattle.store_command.specs.declared.fault.StoreFault.{StoreFault}
 use Rattle.http_seats.specs.Streams.{Traffic}
 use Rattle.serve_command.specs.Serving.{end_of, HasAnnounced, IsServed, Announces}

@@ -7,7 +7,7 @@ use Rattle.desk_store.specs.declared.clerk.Clerk.{Clerk}
 use Rattle.desk_store.specs.Clerks.{desk_of}
 use Rattle.desk_runs.specs.Runs.{SurvivesEachRun}
 use Rattle.desk_gallery.specs.Working.{AreAccepted}
-use Rattle.http_seats.specs.declared.ran.Ran.{Ran}
+use Rattle.http_arrivals.specs.declared.ran.Ran.{Ran}
 use Rattle.http_seats.specs.Streams.{Traffic, AreCounted}
 use Rattle.serve_command.specs.Lasting.{IsLike, HasTalked, ServesStreams}
 
@@ -25,6 +25,7 @@ module _ {D : Type 0} {g : Ghosts D} {R W : Type 0} (s : Traffic R W) where
           accepted = subst (λ (l : List Command). AreAccepted (desk_of first) l) (sym ran.are_shown) (subst (λ (d : Desk). AreAccepted d talked.served.changes) same talked.served.accepted);
           survives = λ keeps working honest. survive ran.first ran.calls last ran.run (ran.began.keeps keeps) (ran.began.halted ∙ working) honest;
         };
+        asked = ran.each;
         visitors = talked.visitors;
         fresh = talked.fresh;
         counted = subst (λ (l : List Command). AreCounted s (desk_of first) l talked.visitors came_to) (sym ran.are_shown) (subst (λ (d : Desk). AreCounted s d talked.served.changes talked.visitors came_to) same talked.served.counted);

@@ -9,8 +9,8 @@ use Rattle.desk_store.specs.Clerks.{desk_of, disk_of, is_halted, sectors_of, Kee
 use Rattle.desk_runs.specs.Runs.{Call, Run, Survives, acknowledged}
 use Rattle.desk_gallery.specs.Begun.{Beginning}
 use Rattle.desk_gallery.specs.Working.{AreAccepted}
-use Rattle.http_seats.specs.declared.ran.Ran.{Ran}
-use Rattle.http_seats.specs.Streams.{Traffic, AreCounted, HasServed}
+use Rattle.http_arrivals.specs.declared.ran.Ran.{Ran}
+use Rattle.http_seats.specs.Streams.{Traffic, IsAskedOf, AreCounted, HasServed}
 
 -- the same desk, in a store of as many sectors, at the same moment of its device, which keeps it where the other does
 pub record IsLike {D : Type 0} {g : Ghosts D} {E : Type 0} {h : Ghosts E} (x : Clerk D g) (y : Clerk E h) : Type 0 where
@@ -40,10 +40,12 @@ module _ {D : Type 0} {g : Ghosts D} where
       pub fresh : All (λ (v : List Command). v ≡ []) visitors
       pub served : HasServed s first begins visitors last ran
 
-    -- Commands were done one after the other from the first clerk to the last, and outlive each stop. Along those that were
-    -- acknowledged, streams were served at the seats of visitors who had heard of nothing, and came to this.
+    -- Commands were done one after the other from the first clerk to the last, and outlive each stop; each was asked for by one of the
+    -- streams. Along those that were acknowledged, streams were served at the seats of visitors who had heard of nothing, and came to
+    -- this.
     pub record ServesStreams (first last : Clerk D g) (ran : Ran) : Type 0 where
       pub lasts : Outlasts first last
+      pub asked : All (λ (call : Call). IsAskedOf s call.0) lasts.calls
       pub visitors : List (List Command)
       pub fresh : All (λ (v : List Command). v ≡ []) visitors
       pub counted : AreCounted s (desk_of first) (acknowledged lasts.calls) visitors ran

@@ -11,9 +11,9 @@ use Rattle.command_output.specs.Faults.{status_of_open}
 use Rattle.state_files.specs.declared.fault.OpenFault.{OpenFault}
 use Rattle.state_files.specs.declared.fault.OpenFault.TheVariants.{Unreadable, Memory as NoMemory}
 use Rattle.desk_store.specs.declared.clerk.Clerk.{Clerk}
-use Rattle.desk_store.specs.Clerks.{desk_of, is_halted, Keeps}
+use Rattle.desk_store.specs.Clerks.{desk_of, is_halted, pages_of, Keeps}
 use Rattle.desk_gallery.specs.Working.{IsRunFrom}
-use Rattle.http_seats.specs.declared.ran.Ran.{Ran}
+use Rattle.http_arrivals.specs.declared.ran.Ran.{Ran}
 use Rattle.http_seats.specs.Streams.{Traffic}
 use Rattle.desk_loading.specs.Openings.{IsOpened}
 use Rattle.store_command.specs.Filling.{IsNotOpened}
@@ -75,7 +75,7 @@ module _ {D O : Type 0} (g : Ghosts D) (opens : O → List ℕ → Result D Stor
 
   -- a clerk's device was closed as the clerk left it
   abbrev pub ClosesClerk : (before : O) → Clerk D g → (after : O) → Type 0
-  ClosesClerk before clerk after = closes before (device_in clerk.pages) after
+  ClosesClerk before clerk after = closes before (device_in (pages_of clerk)) after
 
   -- this clerk opened the store of the name, and its device was closed as it was then
   pub record IsUnused (before : O) (name : List ℕ) (after : O) : Type 0 where

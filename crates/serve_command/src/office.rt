@@ -1,9 +1,10 @@
 //! A clerk's desk, served at the seats of an office.
 ghost use Rattle.std.specs.Prelude.{◌≡◌, ◌≤◌, IfOk};
+ghost use Rattle.desk_model.specs.declared.command.Command.{Command};
 ghost use Rattle.desk_store.specs.Clerks.{desk_of, Keeps};
 ghost use Rattle.desk_gallery.specs.Begun.{BeginsWith, IsLeftBy};
 ghost use Rattle.desk_gallery.specs.Working.{IsRunFrom};
-ghost use Rattle.http_seats.specs.Streams.{traffic};
+ghost use Rattle.http_seats.specs.Streams.{IsAskedOf, traffic};
 ghost use Rattle.serve_command.specs.Lasting.{HasTalked, ServesStreams, clerk_in};
 
 use desk_catalogue::catalogue::Catalogue;
@@ -13,8 +14,9 @@ use desk_gallery::office::Office;
 use desk_model::gate::NoGate;
 use desk_runs::law::each_run_survives;
 use desk_store::clerk::Clerk;
-use http_seats::many::{Arrivals, serve_many};
-use http_seats::ran::Ran;
+use http_arrivals::arrivals::Arrivals;
+use http_arrivals::ran::Ran;
+use http_seats::many::serve_many;
 use sector_device::SectorDevice;
 use std::alloc::{AllocError, Global};
 use std::marker::Brand;
@@ -43,10 +45,12 @@ fn serve_named<
     requires same { desk_of clerk ≡ J.first }
     requires kept { J.sound → Keeps clerk }
     requires begins { BeginsWith J.begins clerk }
+    requires asked { (c : Command) → IsAskedOf (traffic A.gives A.takes_back A.Reader.Source A.Writer.Sink arrivals.now) c → J.asked c }
+    requires only { (c : Command) → J.asked c → IsAskedOf (traffic A.gives A.takes_back A.Reader.Source A.Writer.Sink arrivals.now) c }
     requires workers { 1 ≤ workers }
     ensures kept { J.sound → Keeps (clerk_in result) }
     ensures ran { IsRunFrom J.first (desk_of (clerk_in result)) }
-    ensures left { IfOk result (λ end. IsLeftBy J.first J.begins end.0) }
+    ensures left { IfOk result (λ end. IsLeftBy J.first J.begins J.asked end.0) }
     ensures talked { IfOk result (λ end. HasTalked (traffic A.gives A.takes_back A.Reader.Source A.Writer.Sink arrivals.now) J.first J.begins end.0 end.1) }
 {
     let (shower, visitors) = match Gallery::new::<J>(alloc, opened, catalogue, workers as usize) {
@@ -68,7 +72,7 @@ fn serve_named<
 /// Serves what a clerk keeps by so many workers, until no further stream comes: the clerk as it then is, whose desk is what commands
 /// led to that were accepted one after the other, and what the streams came to. At whatever moment a stop comes: since a command was
 /// acknowledged, each image that the stop may leave opens to the desk after that command and all before it. Each stream was answered
-/// along these very commands. Err where memory is refused, with the clerk, and then nothing was served.
+/// along these very commands, and each command was asked for in the bytes of one. Err where memory is refused, with the clerk, and then nothing was served.
 pub fn serve_clerk<
     D: SectorDevice + Drop + Send + Sync,
     A: Arrivals + Sync,

@@ -30,30 +30,36 @@ module _ {D : Type 0} {g : Ghosts D} where
   AsksAtCounter x q r y = AskMay (desk_of x) q r × (y ≡ x)
 
   -- the command that was answered, if the order is one, and the calls behind it
-  abbrev pub calls_with : (x : Clerk D g) (o : Order) (closing bare : Bool) (text : List ℕ) (shut : Bool) (y : Clerk D g) → MayAnswer DoesAtCounter AsksAtCounter x o closing bare text shut y → List Call → List Call
+  abbrev pub calls_with : (x : Clerk D g) (o : Order) (closing bare : Bool) (text : List ℕ) (shut : Bool) (y : Clerk D g)
+      → MayAnswer DoesAtCounter AsksAtCounter x o closing bare text shut y → List Call → List Call
   calls_with x (order.Command c) closing bare text shut y may calls = (c, may.0) ∷ calls
   calls_with x (order.Query q) closing bare text shut y may calls = calls
   calls_with x (order.Refused e) closing bare text shut y may calls = calls
 
   -- the commands of a talk, each with the reply that is told in it
-  abbrev pub calls_in : (x : Clerk D g) (input output : List ℕ) (n : ℕ) (shut : Bool) (y : Clerk D g) → Talk DoesAtCounter AsksAtCounter x input output n shut y → List Call
+  abbrev pub calls_in : (x : Clerk D g) (input output : List ℕ) (n : ℕ) (shut : Bool) (y : Clerk D g)
+      → Talk DoesAtCounter AsksAtCounter x input output n shut y → List Call
   calls_in x _ _ _ _ _ (Talk.over _) = []
   calls_in x _ _ _ _ _ (Talk.ended _ input interim cut line) = []
   calls_in x _ _ _ _ _ (Talk.starved _ input interim bare starved line) = []
   calls_in x _ _ _ _ _ (Talk.refused _ input interim f bare has line) = []
-  calls_in x _ _ _ _ _ (Talk.closed _ input h target body rest text y has may) = calls_with x (order_of h.method target body) (closes_after h) (is_head h.method) text true y may []
-  calls_in x _ _ _ _ _ (Talk.went _ input h target body rest text y output n shut z has may talk) = calls_with x (order_of h.method target body) (closes_after h) (is_head h.method) text false y may (calls_in y rest output n shut z talk)
+  calls_in x _ _ _ _ _ (Talk.closed _ input h target body rest text y has may) =
+      calls_with x (order_of h.method target body) (closes_after h) (is_head h.method) text true y may []
+  calls_in x _ _ _ _ _ (Talk.went _ input h target body rest text y output n shut z has may talk) =
+      calls_with x (order_of h.method target body) (closes_after h) (is_head h.method) text false y may (calls_in y rest output n shut z talk)
 
   abbrev pub short_calls : (x : Clerk D g) (input answers : List ℕ) (y : Clerk D g) → IsShortTalk DoesAtCounter AsksAtCounter x input answers y → List Call
   short_calls x input answers y (inl talk) = calls_in x input answers talk.0 false y talk.1
   short_calls x input answers y (inr cut) = calls_in x (cut.taken ++ []) (answers ++ []) (cut.count + 0) false y (cut.on [] [] 0 false y (Talk.over y))
 
   -- the commands of a served stream; where the writer failed, of all that was answered
-  abbrev pub calls_served : (x : Clerk D g) (result : Result Served StreamFault) (left : Option (List ℕ)) (input output : List ℕ) (y : Clerk D g) → ServesTo DoesAtCounter AsksAtCounter x result left input output y → List Call
+  abbrev pub calls_served : (x : Clerk D g) (result : Result Served StreamFault) (left : Option (List ℕ)) (input output : List ℕ) (y : Clerk D g)
+      → ServesTo DoesAtCounter AsksAtCounter x result left input output y → List Call
   calls_served x (Ok s) left input output y serves = calls_in x input output s.requests serves.0 y serves.1
   calls_served x (Err fault.Read) left input output y serves = short_calls x input output y serves
   calls_served x (Err fault.TurnLimit) left input output y serves = short_calls x input output y serves
-  calls_served x (Err fault.Write) left input output y serves = calls_in x serves.over_front.front serves.answers serves.over_front.count serves.over_front.shut y serves.over_front.talk
+  calls_served x (Err fault.Write) left input output y serves =
+      calls_in x serves.over_front.front serves.answers serves.over_front.count serves.over_front.shut y serves.over_front.talk
   calls_served x (Err fault.Memory) left input output y serves = []
 
   -- these commands were a run that survives each stop

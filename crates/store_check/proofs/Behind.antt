@@ -49,7 +49,7 @@ starts_itself [] [] = refl
 starts_itself [] (x ∷ rest) = refl
 starts_itself (a ∷ p) rest = both_so (nat_eq a a) (starts_with nat_eq (p ++ rest) p) (equal_so a) (starts_itself p rest)
 
-starts_same : (p q rest : List ℕ) → length p ≡ length q → starts_with nat_eq (q ++ rest) p ≡ true → p ≡ q
+pub starts_same : (p q rest : List ℕ) → length p ≡ length q → starts_with nat_eq (q ++ rest) p ≡ true → p ≡ q
 starts_same [] [] rest long on = refl
 starts_same [] (b ∷ q) rest long on = absurd (omega arith)
 starts_same (a ∷ p) [] rest long on = absurd (omega arith)
@@ -58,7 +58,7 @@ starts_same (a ∷ p) (b ∷ q) rest long on =
     let more : p ≡ q = starts_same p q rest (omega arith) (second_so (nat_eq a b) (starts_with nat_eq (q ++ rest) p) on) in
     λ i. first i ∷ more i
 
-front_same : (front a b : List ℕ) → key_cmp (front ++ a) (front ++ b) ≡ key_cmp a b
+pub front_same : (front a b : List ℕ) → key_cmp (front ++ a) (front ++ b) ≡ key_cmp a b
 front_same [] a b = refl
 front_same (x ∷ front) a b =
     let tied : nat_cmp x x ≡ Equal = sym (nat_cmp_is x x Equal refl) in
@@ -243,6 +243,17 @@ few_from b (e ∷ es) =
     let rest = few_from b es in
     elim (is_gt (key_cmp b e.0)) as (λ r. length (cond (cond r false true) (e ∷ entries_from b es) (entries_from b es)) ≤ length (e ∷ es)) [ true ↦ omega arith | false ↦ omega arith ]
 
+-- fewer rows come from a key above the first one on
+pub fewer_rows : (m : KeyMap) (from next : List ℕ) (e : Entry) (more : List Entry) → entries_from from (entries m) ≡ e ∷ more → key_cmp e.0 next ≡ Less → length (entries_from next (entries m)) < length (entries_from from (entries m))
+fewer_rows m from next e more first below =
+    let later : IsFrom from next = from_trans from e.0 next (first_is_from m from e more first) (less_from e.0 next below) in
+    let same : entries_from next (entries m) ≡ entries_from next (e ∷ more) = sym (fewer from next (entries m) later) ∙ ap (entries_from next) first in
+    let gone : entries_from next (e ∷ more) ≡ entries_from next more = ap (λ (r : Ordering). cond (cond (is_gt r) false true) (e ∷ entries_from next more) (entries_from next more)) (flip_less e.0 next below) in
+    let few = few_from next more in
+    let one : length (entries_from next (entries m)) ≡ length (entries_from next more) = ap (λ (l : List Entry). length l) (same ∙ gone) in
+    let all : length (entries_from from (entries m)) ≡ length (e ∷ more) = ap (λ (l : List Entry). length l) first in
+    omega arith
+
 kind_low : (kind : ℕ) → IsKind kind → kind < 113
 kind_low kind (inl is) = omega (arith, is)
 kind_low kind (inr is) = omega (arith, is)
@@ -255,18 +266,6 @@ module _ (m : KeyMap) (from : List ℕ) (e : Entry) (more : List Entry) (first :
   below_next = subst (λ (k : List ℕ). key_cmp k next ≡ Less) (sym under.is)
       (front_same (load_prefix load) (under.kind ∷ under.rest) (113 ∷ [])
       ∙ ap (λ (r : Ordering). ordering_then r (key_cmp under.rest [])) (sym (nat_cmp_is under.kind 113 Less (kind_low under.kind under.known))))
-
-  from_next : IsFrom from next
-  from_next = from_trans from e.0 next (first_is_from m from e more first) (less_from e.0 next below_next)
-
-  fewer_rows : length (entries_from next (entries m)) < length (entries_from from (entries m))
-  fewer_rows =
-      let same : entries_from next (entries m) ≡ entries_from next (e ∷ more) = sym (fewer from next (entries m) from_next) ∙ ap (entries_from next) first in
-      let gone : entries_from next (e ∷ more) ≡ entries_from next more = ap (λ (r : Ordering). cond (cond (is_gt r) false true) (e ∷ entries_from next more) (entries_from next more)) (flip_less e.0 next below_next) in
-      let few = few_from next more in
-      let one : length (entries_from next (entries m)) ≡ length (entries_from next more) = ap (λ (l : List Entry). length l) (same ∙ gone) in
-      let all : length (entries_from from (entries m)) ≡ length (e ∷ more) = ap (λ (l : List Entry). length l) first in
-      omega arith
 
   on : starts_with nat_eq e.0 (load_prefix load) ≡ true
   on = subst (λ (k : List ℕ). starts_with nat_eq k (load_prefix load) ≡ true) (sym under.is) (starts_itself (load_prefix load) (under.kind ∷ under.rest))
@@ -281,7 +280,7 @@ module _ (m : KeyMap) (from : List ℕ) (e : Entry) (more : List Entry) (first :
       record { load = load; fits = under.fits; is = known; under = between_under (load_prefix load) key next behind short (starts_itself (load_prefix load) (113 ∷ [])) })
 
   pub goes_on : IsLoad m load → AreOfLoadsTo from m → GoesOn true from next m
-  goes_on known before = (of_load known before, fewer_rows)
+  goes_on known before = (of_load known before, fewer_rows m from next e more first below_next)
 
 pub ends_there : (m : KeyMap) (from after : List ℕ) → IsNextLoad from m None → AreOfLoadsTo from m → GoesOn false from after m
 ends_there m from after none before key value there past short = either_way (is_gt (key_cmp from key)) (IsOfLoad m key)

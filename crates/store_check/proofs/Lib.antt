@@ -3,3 +3,4 @@ pub mod Kept
 pub mod FirstRows
 mod KeyBytes
 pub mod Behind
+pub mod PartOrder

@@ -16,8 +16,8 @@ use Rattle.store_check.specs.Rows.{AreBehindSeal, AreRowsToVersion}
 abbrev pub IsCount : List ℕ → Type 0
 IsCount value = (count : ℕ) × (0 < count) × (count < 2 ^ 64) × (value ≡ in_eight count)
 
--- The numbers of a plan, of chunks and of a load that a row has are below those that come next. A holding says nothing else, and a
--- version is the second.
+-- The numbers of a plan, of chunks and of a load that a row has are below those that come next. A holding says nothing else, and
+-- a version is the second.
 abbrev pub IsBelow : Counters → RowKey → List ℕ → Type 0
 IsBelow next counters value = Unit {0}
 IsBelow next (retired plan) value = plan < next.plan
@@ -25,7 +25,8 @@ IsBelow next (begun load) value = load < next.load
 IsBelow next (holding plan number) value = (plan < next.plan) × (number < next.chunk) × (value ≡ [])
 IsBelow next (tally number) value = (number < next.chunk) × IsCount value
 IsBelow next (named name) value = (p : PlanRow) × (plan_bytes p ≡ value) × (p.number < next.plan)
-IsBelow next (part plan revision index) value = (plan < next.plan) × ((numbers : List ℕ) × AreChunks numbers × (chunks_bytes numbers ≡ value) × All (λ n. n < next.chunk) numbers)
+IsBelow next (part plan revision index) value = (plan < next.plan)
+    × ((numbers : List ℕ) × AreChunks numbers × (chunks_bytes numbers ≡ value) × All (λ n. n < next.chunk) numbers)
 IsBelow next seal value = (s : SealRow) × (seal_bytes s ≡ value) × (s.load < next.load)
 IsBelow next version value = value ≡ in_four 2
 IsBelow next (block load place) value = Unit {0}
@@ -69,12 +70,13 @@ pub record IsDue (next : Counters) (m : KeyMap) : Type 0 where
 
 -- the same of rows that tell which plans hold a chunk, and how many do; and the version is the second, if there is one
 pub record AreToldBelow (m : KeyMap) (next : Counters) : Type 0 where
-  pub holdings : (plan number : ℕ) (value : List ℕ) → Fits (holding plan number) → Has m (holding plan number) value → IsBelow next (holding plan number) value
+  pub holdings : (plan number : ℕ) (value : List ℕ) → Fits (holding plan number) → Has m (holding plan number) value
+      → IsBelow next (holding plan number) value
   pub tallies : (number : ℕ) (value : List ℕ) → Fits (tally number) → Has m (tally number) value → IsBelow next (tally number) value
   pub version : (value : List ℕ) → Has m version value → IsBelow next version value
 
--- The numbers that are in use are below those that come next. Up to the version each key is one of a row, and behind it stand rows of
--- loads that are known, and of chunks with such numbers, alone.
+-- The numbers that are in use are below those that come next. Up to the version each key is one of a row, and behind it stand
+-- rows of loads that are known, and of chunks with such numbers, alone.
 pub record HasNumbersBelow (m : KeyMap) : Type 0 where
   pub next : Counters
   pub is_next : IsNext m next

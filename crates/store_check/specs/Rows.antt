@@ -53,7 +53,8 @@ pub record IsSealCounted (m : KeyMap) (sealed : SealRow) : Type 0 where
   pub pairs : NoneFrom (key_of (pair sealed.load sealed.pairs)) (pairs_prefix sealed.load) m
 
 abbrev pub AreSealCounted : KeyMap → Type 0
-AreSealCounted m = (sealed : SealRow) → sealed.load < 2 ^ 64 → sealed.blocks < 2 ^ 32 → sealed.pairs < 2 ^ 32 → Has m seal (seal_bytes sealed) → IsSealCounted m sealed
+AreSealCounted m = (sealed : SealRow) → sealed.load < 2 ^ 64 → sealed.blocks < 2 ^ 32 → sealed.pairs < 2 ^ 32
+    → Has m seal (seal_bytes sealed) → IsSealCounted m sealed
 
 -- a key is one of a load that is sealed, or was begun
 pub record IsOfLoad (m : KeyMap) (key : List ℕ) : Type 0 where

@@ -56,7 +56,8 @@ fn check_sealed<D: SectorDevice>(
     requires begun { txn_pages txn.now ≡ count_of pages.old }
     ensures quiet { IsQuiet pages.old pages.new }
     ensures passed { OnOk result (Passed pages.old pages.new) }
-    ensures counted { (disk_in pages.new).is_honest → (m : KeyMap) → InTxn txn.now (stored pages.old) m → StandsAs seal_bytes (key_of seal) m sealed → OnOk result (AreSealCounted m) }
+    ensures counted { (disk_in pages.new).is_honest → (m : KeyMap) → InTxn txn.now (stored pages.old) m → StandsAs seal_bytes (key_of seal) m sealed
+        → OnOk result (AreSealCounted m) }
     ensures err { IfErr result (λ e. ReadErr (HasCountedSeal sealed) txn.now pages.old pages.new e) }
 {
     match sealed {
@@ -68,8 +69,8 @@ fn check_sealed<D: SectorDevice>(
     }
 }
 
-/// Refuses rows behind the version's that no desk has: of a load that is neither sealed nor begun, behind those that the seal counts, of a
-/// chunk with the next number or a later one, and behind these. `next` is what the row of counters says.
+/// Refuses rows behind the version's that no desk has: of a load that is neither sealed nor begun, behind those that the seal
+/// counts, of a chunk with the next number or a later one, and behind these. `next` is what the row of counters says.
 pub(crate) fn check_behind<D: SectorDevice>(
     txn: &Txn,
     pages: &mut Pages<D>,

@@ -13,7 +13,8 @@ use row_table::TreeError;
 use sector_device::SectorDevice;
 use store_rows::Key;
 
-/// Copies the first row whose key isn't below this one: whether there is one. It takes no memory. An error is `DeviceFault` or `Halted`.
+/// Copies the first row whose key isn't below this one: whether there is one. It takes no memory. An error is `DeviceFault` or
+/// `Halted`.
 pub fn first_from<D: SectorDevice>(
     txn: &Txn,
     pages: &mut Pages<D>,
@@ -24,7 +25,8 @@ pub fn first_from<D: SectorDevice>(
     requires short { length key.now ≤ 1024 }
     ensures quiet { IsQuiet pages.old pages.new }
     ensures passed { OnOk result (Passed pages.old pages.new) }
-    ensures first { (disk_in pages.new).is_honest → (m : KeyMap) → InTxn txn.now (stored pages.old) m → IfOk result (λ found. IsFirst found key.now row.new m) }
+    ensures first { (disk_in pages.new).is_honest → (m : KeyMap) → InTxn txn.now (stored pages.old) m
+        → IfOk result (λ found. IsFirst found key.now row.new m) }
     ensures err { IfErr result (λ e. ReadErr (λ m. Unit {0}) txn.now pages.old pages.new e) }
 {
     let mut scan = Scan::from_key(key);
@@ -35,8 +37,8 @@ pub fn first_from<D: SectorDevice>(
     }
 }
 
-/// Refuses where a row from a key on has a key that begins with a prefix. It takes no memory. An error is `DeviceFault`, which comes
-/// where there is such a row, or where the device failed, or `Halted`.
+/// Refuses where a row from a key on has a key that begins with a prefix. It takes no memory. An error is `DeviceFault`, which
+/// comes where there is such a row, or where the device failed, or `Halted`.
 pub fn refuse_from<D: SectorDevice>(
     txn: &Txn,
     pages: &mut Pages<D>,

@@ -1,6 +1,7 @@
 //! Keys of rows.
 ghost use Rattle.std.specs.Prelude.{◌≡◌, ◌⊎◌, ◌<◌, ◌^◌, ℕ, [], ◌∷◌, ◌++◌, true, false, length, drop, MatchOption};
 ghost use Rattle.store_rows.specs.Keys.{key_of, Fits, holding, part, block, pair, in_four, in_eight};
+ghost use Rattle.store_check.specs.Owners.{IsPartKey};
 ghost use Rattle.store_check.specs.Rows.{IsKind, IsPast, IsRow, IsUnder};
 
 use crate::numbers::{eight, four};
@@ -39,7 +40,8 @@ fn one(byte: u8) -> u8
 
 /// Whether a key is a tag and the numbers of a plan, of a revision and of a part.
 fn is_part(key: &[u8]) -> bool
-    ensures numbers { result ≡ true → (plan : ℕ) × (revision : ℕ) × (index : ℕ) × Fits (part plan revision index) × (drop 1 key.now ≡ in_eight plan ++ (in_four revision ++ index ∷ [])) }
+    ensures numbers { result ≡ true → (plan : ℕ) × (revision : ℕ) × (index : ℕ) × Fits (part plan revision index)
+        × (drop 1 key.now ≡ in_eight plan ++ (in_four revision ++ index ∷ [])) }
     ensures long { result ≡ false → length key.now ≡ 14 → ⊥ }
 {
     if key.len() != 14 {
@@ -84,7 +86,8 @@ pub(crate) fn is_row(key: &[u8]) -> bool
 
 /// The load whose block or pair of neighbours has this key.
 pub(crate) fn load_in(key: &[u8]) -> Option<u64>
-    ensures { MatchOption result ((load place : ℕ) → (key.now ≡ key_of (block load place)) ⊎ (key.now ≡ key_of (pair load place)) → ⊥) (λ load. IsUnder load key.now) }
+    ensures { MatchOption result ((load place : ℕ) → (key.now ≡ key_of (block load place)) ⊎ (key.now ≡ key_of (pair load place)) → ⊥)
+        (λ load. IsUnder load key.now) }
 {
     if key.len() != 14 {
         return None;
@@ -96,4 +99,18 @@ pub(crate) fn load_in(key: &[u8]) -> Option<u64>
         return None;
     }
     Some(eight(&key[1..9]))
+}
+
+/// The plan and the revision of the part with this key; None where it is no part's.
+pub fn part_in(key: &[u8]) -> Option<(u64, u32)>
+    ensures { MatchOption result ((plan revision index : ℕ) → key.now ≡ key_of (part plan revision index) → ⊥) (λ of. IsPartKey of.0 of.1 key.now) }
+{
+    if key.len() != 14 {
+        return None;
+    }
+    if key[0] != b'R' {
+        return None;
+    }
+    let _index = one(key[13]);
+    Some((eight(&key[1..9]), four(&key[9..13])))
 }

@@ -1,19 +1,20 @@
 //! Checks that the rows of geographies are those of loads that are known.
-ghost use Rattle.std.specs.Prelude.{◌≡◌, ◌≤◌, ◌<◌, ◌^◌, true, false, length, [], None, OnOk, IfOk, IfErr, IfSome};
+ghost use Rattle.std.specs.Prelude.{◌≡◌, ◌≤◌, ◌<◌, ◌^◌, true, false, length, None, OnOk, IfOk, IfErr, IfSome};
 ghost use Rattle.page_store.specs.Transactions.{stored, disk_in, count_of, txn_pages, IsQuiet, Passed};
 ghost use Rattle.page_btree.specs.Map.{InTxn};
 ghost use Rattle.row_table.specs.Reading.{ReadErr, StandsAs};
-ghost use Rattle.store_rows.specs.Keys.{begun, key_of, seal, chunks_prefix};
+ghost use Rattle.store_rows.specs.Keys.{key_of, seal, chunks_prefix};
 ghost use Rattle.store_rows.specs.Values.{seal_bytes};
-ghost use Rattle.store_rows.specs.Rows.{Has, KeyMap};
+ghost use Rattle.store_rows.specs.Rows.{KeyMap};
 ghost use Rattle.store_rows.specs.Tidy.{AreRows, IsLoad};
 ghost use Rattle.store_check.specs.Rows.{AreOfLoads, AreOfLoadsTo, GoesOn, HasKnownLoads, IsFrom, IsKnownLoad, IsNextLoad, IsPast, behind_load};
 
 use crate::firsts::first_from;
 use crate::keys::load_in;
+use crate::marks::refuse_unmarked;
 use btree_scan::{Row, SmallBytes, row_limit};
 use page_store::{Pages, Txn};
-use row_table::{TreeError, read_row};
+use row_table::TreeError;
 use sector_device::SectorDevice;
 use store_rows::{Key, SealRow};
 
@@ -61,26 +62,6 @@ fn load_from<D: SectorDevice>(
     }
 }
 
-/// Refuses where a load wasn't begun.
-fn refuse_unbegun<D: SectorDevice>(
-    txn: &Txn,
-    pages: &mut Pages<D>,
-    load: u64,
-) -> Result<(), TreeError>
-    requires begun { txn_pages txn.now ≡ count_of pages.old }
-    ensures quiet { IsQuiet pages.old pages.new }
-    ensures passed { OnOk result (Passed pages.old pages.new) }
-    ensures known { (disk_in pages.new).is_honest → (m : KeyMap) → InTxn txn.now (stored pages.old) m → OnOk result (Has m (begun load) []) }
-    ensures err { IfErr result (λ e. ReadErr (λ m. Has m (begun load) []) txn.now pages.old pages.new e) }
-{
-    let mut bytes = [0; 1024];
-    let length = read_row(txn, pages, &Key::begun(load), &mut bytes)?;
-    if length > 0 {
-        return Err(TreeError::DeviceFault);
-    }
-    Ok(())
-}
-
 /// Whether a load is the sealed one, whose row this is, if there is one.
 fn is_sealed(sealed: Option<SealRow>, load: u64) -> bool
     ensures sealed { result ≡ true → IfSome sealed (λ row. row.load ≡ load) × (sealed ≡ None → ⊥) }
@@ -102,17 +83,18 @@ fn refuse_unknown<D: SectorDevice>(
     requires begun { txn_pages txn.now ≡ count_of pages.old }
     ensures quiet { IsQuiet pages.old pages.new }
     ensures passed { OnOk result (Passed pages.old pages.new) }
-    ensures known { (disk_in pages.new).is_honest → (m : KeyMap) → InTxn txn.now (stored pages.old) m → StandsAs seal_bytes (key_of seal) m sealed → OnOk result (IsLoad m load) }
+    ensures known { (disk_in pages.new).is_honest → (m : KeyMap) → InTxn txn.now (stored pages.old) m → StandsAs seal_bytes (key_of seal) m sealed
+        → OnOk result (IsLoad m load) }
     ensures err { IfErr result (λ e. ReadErr (IsKnownLoad sealed load) txn.now pages.old pages.new e) }
 {
     if is_sealed(sealed, load) {
         return Ok(());
     }
-    refuse_unbegun(txn, pages, load)
+    refuse_unmarked(txn, pages, &Key::begun(load))
 }
 
-/// Goes on from a key to one behind the rows of the load that has the next one: whether there is one. Refuses where that load is none
-/// that is known.
+/// Goes on from a key to one behind the rows of the load that has the next one: whether there is one. Refuses where that load is
+/// none that is known.
 fn pass_load<D: SectorDevice>(
     txn: &Txn,
     pages: &mut Pages<D>,
@@ -124,7 +106,8 @@ fn pass_load<D: SectorDevice>(
     ensures quiet { IsQuiet pages.old pages.new }
     ensures passed { OnOk result (Passed pages.old pages.new) }
     ensures past { OnOk result (IsPast from.new) }
-    ensures loads { (disk_in pages.new).is_honest → (m : KeyMap) → InTxn txn.now (stored pages.old) m → StandsAs seal_bytes (key_of seal) m sealed → AreOfLoadsTo from.old m → IfOk result (λ more. GoesOn more from.old from.new m) }
+    ensures loads { (disk_in pages.new).is_honest → (m : KeyMap) → InTxn txn.now (stored pages.old) m → StandsAs seal_bytes (key_of seal) m sealed
+        → AreOfLoadsTo from.old m → IfOk result (λ more. GoesOn more from.old from.new m) }
     ensures err { IfErr result (λ e. ReadErr (HasKnownLoads sealed) txn.now pages.old pages.new e) }
 {
     let found = load_from(txn, pages, from.as_slice())?;
@@ -138,8 +121,8 @@ fn pass_load<D: SectorDevice>(
     }
 }
 
-/// Refuses where a row stands behind the version's and before those of chunks that is none of a load that is sealed, or was begun.
-/// `sealed` is the seal's row, if there is one.
+/// Refuses where a row stands behind the version's and before those of chunks that is none of a load that is sealed, or was
+/// begun. `sealed` is the seal's row, if there is one.
 pub(crate) fn check_loads<D: SectorDevice>(
     txn: &Txn,
     pages: &mut Pages<D>,
@@ -148,7 +131,8 @@ pub(crate) fn check_loads<D: SectorDevice>(
     requires begun { txn_pages txn.now ≡ count_of pages.old }
     ensures quiet { IsQuiet pages.old pages.new }
     ensures passed { OnOk result (Passed pages.old pages.new) }
-    ensures loads { (disk_in pages.new).is_honest → (m : KeyMap) → InTxn txn.now (stored pages.old) m → StandsAs seal_bytes (key_of seal) m sealed → OnOk result (AreOfLoads m) }
+    ensures loads { (disk_in pages.new).is_honest → (m : KeyMap) → InTxn txn.now (stored pages.old) m → StandsAs seal_bytes (key_of seal) m sealed
+        → OnOk result (AreOfLoads m) }
     ensures err { IfErr result (λ e. ReadErr (HasKnownLoads sealed) txn.now pages.old pages.new e) }
 {
     let mut from = SmallBytes::empty();

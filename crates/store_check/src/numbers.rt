@@ -32,7 +32,8 @@ pub(crate) fn eight(bytes: &[u8]) -> u64
 /// Whether the number after a key's tag is below the next one.
 pub(crate) fn is_key_below(key: &[u8], next: u64) -> bool
     ensures below { result ≡ true → (tag number : ℕ) (rest : List ℕ) → number < 2 ^ 64 → key.now ≡ tag ∷ (in_eight number ++ rest) → number < next }
-    ensures above { result ≡ false → (tag number : ℕ) (rest : List ℕ) → number < 2 ^ 64 → key.now ≡ tag ∷ (in_eight number ++ rest) → number < next → ⊥ }
+    ensures above { result ≡ false → (tag number : ℕ) (rest : List ℕ) → number < 2 ^ 64 → key.now ≡ tag ∷ (in_eight number ++ rest)
+        → number < next → ⊥ }
 {
     if key.len() < 9 {
         return false;
@@ -43,7 +44,8 @@ pub(crate) fn is_key_below(key: &[u8], next: u64) -> bool
 /// Whether the number after a key's tag and another number is below the next one.
 pub(crate) fn is_second_below(key: &[u8], next: u64) -> bool
     ensures below { result ≡ true → (tag first number : ℕ) → number < 2 ^ 64 → key.now ≡ tag ∷ (in_eight first ++ in_eight number) → number < next }
-    ensures above { result ≡ false → (tag first number : ℕ) → number < 2 ^ 64 → key.now ≡ tag ∷ (in_eight first ++ in_eight number) → number < next → ⊥ }
+    ensures above { result ≡ false → (tag first number : ℕ) → number < 2 ^ 64 → key.now ≡ tag ∷ (in_eight first ++ in_eight number)
+        → number < next → ⊥ }
 {
     if key.len() != 17 {
         return false;

@@ -14,8 +14,10 @@ use store_rows::Counters;
 
 /// Whether the numbers of a plan and of a chunk in a holding's key are below those that come next, and its value says nothing.
 fn is_holding_below(key: &[u8], value: &[u8], next: Counters) -> bool
-    ensures below { result ≡ true → (plan number : ℕ) → Fits (holding plan number) → key.now ≡ key_of (holding plan number) → IsBelow next (holding plan number) value.now }
-    ensures above { result ≡ false → (plan number : ℕ) → Fits (holding plan number) → key.now ≡ key_of (holding plan number) → IsBelow next (holding plan number) value.now → ⊥ }
+    ensures below { result ≡ true → (plan number : ℕ) → Fits (holding plan number) → key.now ≡ key_of (holding plan number)
+        → IsBelow next (holding plan number) value.now }
+    ensures above { result ≡ false → (plan number : ℕ) → Fits (holding plan number) → key.now ≡ key_of (holding plan number)
+        → IsBelow next (holding plan number) value.now → ⊥ }
 {
     if !value.is_empty() {
         return false;
@@ -23,8 +25,9 @@ fn is_holding_below(key: &[u8], value: &[u8], next: Counters) -> bool
     is_key_below(key, next.plan) && is_second_below(key, next.chunk)
 }
 
-/// Whether each number that a row has is below the one of its kind that comes next, a row that tells who holds a chunk, or how many
-/// do, says no more than that, and a version is the second. The rows of blocks, of neighbours and of chunks' pieces are not looked at.
+/// Whether each number that a row has is below the one of its kind that comes next, a row that tells who holds a chunk, or how
+/// many do, says no more than that, and a version is the second. The rows of blocks, of neighbours and of chunks' pieces are not
+/// looked at.
 fn is_below(row: &Row, next: Counters) -> bool
     ensures below { result ≡ true → (of : RowKey) → NumbersFit of → row.now.key ≡ key_of of → IsBelow next of row.now.value }
     ensures above { result ≡ false → (of : RowKey) → NumbersFit of → row.now.key ≡ key_of of → IsBelow next of row.now.value → ⊥ }
@@ -47,12 +50,13 @@ fn is_below(row: &Row, next: Counters) -> bool
     }
 }
 
-/// Whether a row that isn't behind the version's is that of a key, and each number that it has is below the one of its kind that comes
-/// next.
+/// Whether a row that isn't behind the version's is that of a key, and each number that it has is below the one of its kind that
+/// comes next.
 pub(crate) fn is_sound(row: &Row, next: Counters) -> bool
     ensures row { result ≡ true → IsRow row.now.key }
     ensures below { result ≡ true → (of : RowKey) → NumbersFit of → row.now.key ≡ key_of of → IsBelow next of row.now.value }
-    ensures none { result ≡ false → (IsPast row.now.key → ⊥) → (of : RowKey) → Fits of → NumbersFit of → row.now.key ≡ key_of of → IsBelow next of row.now.value → ⊥ }
+    ensures none { result ≡ false → (IsPast row.now.key → ⊥) → (of : RowKey) → Fits of → NumbersFit of → row.now.key ≡ key_of of
+        → IsBelow next of row.now.value → ⊥ }
 {
     if !is_row(row.key.as_slice()) {
         return false;

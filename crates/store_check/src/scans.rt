@@ -13,8 +13,8 @@ use row_table::TreeError;
 use sector_device::SectorDevice;
 use store_rows::Counters;
 
-/// Goes over the rows up to those of geographies and of chunks' pieces. An error is `DeviceFault`, where a key is that of no row, a row
-/// has a number that comes next or later or the device failed, or `Halted`.
+/// Goes over the rows up to those of geographies and of chunks' pieces. An error is `DeviceFault`, where a key is that of no row,
+/// a row has a number that comes next or later or the device failed, or `Halted`.
 pub(crate) fn check_rows<D: SectorDevice>(
     txn: &Txn,
     pages: &mut Pages<D>,

@@ -10,9 +10,9 @@ use Rattle.desk_model.specs.Desk.{Desk}
 use Rattle.store_rows.specs.Rows.{KeyMap}
 use Rattle.store_rows.specs.Shares.{hold}
 use Rattle.desk_pages.specs.Desks.{OpensDesk, OpensOld, OpensEither}
+use Rattle.desk_pages.specs.Openings.{AllVersions, IsOneOld, OpensOneAs}
 use Rattle.desk_migration.specs.Holding.{AreUnheld, IsHeldBy, hold_pairs}
 use Rattle.desk_migration.specs.Migrating.{device_of, disk_of, has_ended, is_halted, sectors_of, Ends, HasMore, HasRows, Keeps, KeepsNew, Moves}
-use Rattle.desk_migration.specs.Openings.{AllDesks, IsOneOf, OpensOneOf}
 use Rattle.desk_migration.specs.Puts.{StepErr}
 use Rattle.desk_migration.specs.declared.migration.Migration.{Migration}
 use Rattle.desk_migration.specs.declared.error.MigrationError.{MigrationError}
@@ -100,21 +100,21 @@ module _ {D : Type 0} {g : Ghosts D} where
     abbrev old : Disk
     old = g.disk device
 
-    was_old : (d : Desk) → IsOneOf false old d → (c : Image) → OpensOld (sectors_of x) d c → OpensSince old c
-    was_old d one c opens = inl (record { new = false; desk = d; one = one; opens = subst (λ (n : ℕ). OpensOld n d c) begun.sectors opens })
+    was_old : (d : Desk) → IsOneOld old d → (c : Image) → OpensOld (sectors_of x) d c → OpensSince old c
+    was_old d one c opens = inl (record { x = (false, d); one = one; opens = subst (λ (n : ℕ). OpensOld n d c) begun.sectors opens })
 
-    is_new : (d : Desk) → IsOneOf false old d → (c : Image) → OpensDesk (sectors_of x) d c → OpensSince old c
+    is_new : (d : Desk) → IsOneOld old d → (c : Image) → OpensDesk (sectors_of x) d c → OpensSince old c
     is_new d one c opens = inr (record { desk = d; one = one; opens = subst (λ (n : ℕ). OpensDesk n d c) begun.sectors opens })
 
     -- at any moment since the opening began
-    stepped : (y : Migration D g) → Moves x y → (disk_of y).is_honest → AllDesks old → LeavesOnly (OpensSince old) old (disk_of y)
+    stepped : (y : Migration D g) → Moves x y → (disk_of y).is_honest → AllVersions old → LeavesOnly (OpensSince old) old (disk_of y)
     stepped y moves honest all =
         let kept = begun.keeps all (moves.goes.honest honest) in
         leaves_more (OpensSince old) old (disk_of x) (disk_of y)
-        (leaves_wider (OpensOneOf old) (OpensSince old) old (disk_of x) (λ c is. inl is) (begun.any_moment (moves.goes.honest honest) all))
+        (leaves_wider (OpensOneAs old) (OpensSince old) old (disk_of x) (λ c is. inl is) (begun.any_moment (moves.goes.honest honest) all))
         (leaves_wider (OpensOld (sectors_of x) kept.0) (OpensSince old) (disk_of x) (disk_of y) (was_old kept.0 kept.1.1) (moves.any_moment kept.0 kept.1.0 begun.working honest))
 
-    ended : (y z : Migration D g) → Moves x y → is_halted y ≡ false → Ends y z → (disk_of z).is_honest → AllDesks old → LeavesOnly (OpensSince old) old (disk_of z)
+    ended : (y z : Migration D g) → Moves x y → is_halted y ≡ false → Ends y z → (disk_of z).is_honest → AllVersions old → LeavesOnly (OpensSince old) old (disk_of z)
     ended y z moves works ends honest all =
         let was = ends.goes.honest honest in
         let kept = begun.keeps all (moves.goes.honest was) in
@@ -122,7 +122,7 @@ module _ {D : Type 0} {g : Ghosts D} where
         leaves_more (OpensSince old) old (disk_of y) (disk_of z) (stepped y moves was all)
         (leaves_wider (OpensEither (sectors_of x) kept.0) (OpensSince old) (disk_of y) (disk_of z) (λ c. ⊎_elim (λ new. is_new kept.0 kept.1.1 c new) (λ before. was_old kept.0 kept.1.1 c before)) last)
 
-    new_left : (y z : Migration D g) → Moves x y → Ends y z → ((disk_of z).is_honest → (d : Desk) → Keeps y d → KeepsNew z d) → (disk_of z).is_honest → AllDesks old → LeavesNew old (disk_of z)
+    new_left : (y z : Migration D g) → Moves x y → Ends y z → ((disk_of z).is_honest → (d : Desk) → Keeps y d → KeepsNew z d) → (disk_of z).is_honest → AllVersions old → LeavesNew old (disk_of z)
     new_left y z moves ends told honest all =
         let kept = begun.keeps all (moves.goes.honest (ends.goes.honest honest)) in
         let sectors : sectors_of z ≡ old.sectors = ends.goes.sectors ∙ moves.goes.sectors ∙ begun.sectors in
@@ -132,7 +132,7 @@ module _ {D : Type 0} {g : Ghosts D} where
           each = λ c leaves. subst (λ (n : ℕ). OpensDesk n kept.0 c) sectors ((told honest kept.0 (moves.keeps kept.0 kept.1.0)).left c leaves);
         }
 
-    old_left : (z : Migration D g) → sectors_of z ≡ sectors_of x → ((disk_of z).is_honest → (disk_of x).is_honest) → ((d : Desk) → Keeps x d → Keeps z d) → (disk_of z).is_honest → AllDesks old → LeavesOld old (disk_of z)
+    old_left : (z : Migration D g) → sectors_of z ≡ sectors_of x → ((disk_of z).is_honest → (disk_of x).is_honest) → ((d : Desk) → Keeps x d → Keeps z d) → (disk_of z).is_honest → AllVersions old → LeavesOld old (disk_of z)
     old_left z same before keeps honest all =
         let kept = begun.keeps all (before honest) in
         let sectors : sectors_of z ≡ old.sectors = same ∙ begun.sectors in
@@ -154,11 +154,11 @@ module _ {D : Type 0} {g : Ghosts D} where
       after = λ honest all. new_left did.y z did.moves did.ends did.told honest all;
     })
 
-    any_left : (z : Migration D g) (fault : StoreFault) → MigratesAll x (Err fault) z → (disk_of z).is_honest → AllDesks old → LeavesOnly (OpensSince old) old (disk_of z)
+    any_left : (z : Migration D g) (fault : StoreFault) → MigratesAll x (Err fault) z → (disk_of z).is_honest → AllVersions old → LeavesOnly (OpensSince old) old (disk_of z)
     any_left z fault (inl did) honest all = stepped z did.0 honest all
     any_left z fault (inr did) honest all = ended did.2.y z did.2.moves did.2.put.works did.2.ends honest all
 
-    old_after : (z : Migration D g) (fault : StoreFault) → MigratesAll x (Err fault) z → (disk_of z).is_honest → AllDesks old → is_halted z ≡ false → LeavesOld old (disk_of z)
+    old_after : (z : Migration D g) (fault : StoreFault) → MigratesAll x (Err fault) z → (disk_of z).is_honest → AllVersions old → is_halted z ≡ false → LeavesOld old (disk_of z)
     old_after z fault (inl did) honest all works = old_left z did.0.goes.sectors did.0.goes.honest did.0.keeps honest all
     old_after z fault (inr did) honest all works =
         let it = did.2 in

@@ -8,7 +8,7 @@ use Rattle.store_rows.specs.Rows.{KeyMap}
 use Rattle.store_sweep.specs.Leftovers.{IsSweptBy}
 use Rattle.store_sweep.proofs.Taken.{then_by}
 use Rattle.desk_store.specs.declared.clerk.Clerk.{Clerk}
-use Rattle.desk_store.specs.Clerks.{desk_of, disk_of, Keeps, Moves}
+use Rattle.desk_store.specs.Clerks.{desk_of, disk_of, pages_of, Keeps, Moves}
 use Rattle.desk_store.specs.Sweeps.{HasRows, HasSwept as HasSweptStep, SweepRefused}
 use Rattle.desk_store.proofs.Moved.{unmoved}
 use Rattle.desk_loading.specs.Openings.{IsOpened}
@@ -52,7 +52,7 @@ module _ {D : Type 0} {g : Ghosts D} where
       }
 
   -- a step that was refused
-  pub step_stopped : (x y z : Clerk D g) (e : SweepError) (fault : StoreFault) → fault ≡ fault_of_sweep e → KeepsDesk x y → y.halted ≡ false → SweepRefused y e z.halted z.pages → IsStopped x fault z
+  pub step_stopped : (x y z : Clerk D g) (e : SweepError) (fault : StoreFault) → fault ≡ fault_of_sweep e → KeepsDesk x y → y.halted ≡ false → SweepRefused y e z.halted (pages_of z) → IsStopped x fault z
   step_stopped x y z e fault told kept working why = inl (e, told, record { w = y; before = kept; worked = working; why = why })
 
   -- so many steps were made that more rows were taken out than a store has
@@ -61,7 +61,7 @@ module _ {D : Type 0} {g : Ghosts D} where
 
   -- ---- the device
   -- what was opened, swept and given back
-  pub has_swept : (device : D) (x y : Clerk D g) → IsOpened device x → (swept : Result ℕ StoreFault) → KeepsDesk x y → SweepsAll x swept y → (left : D) → left ≡ device_in y.pages → HasSwept g device swept left
+  pub has_swept : (device : D) (x y : Clerk D g) → IsOpened device x → (swept : Result ℕ StoreFault) → KeepsDesk x y → SweepsAll x swept y → (left : D) → left ≡ device_in (pages_of y) → HasSwept g device swept left
   has_swept device x y opened swept keeps sweeps left back = subst (λ (d : D). HasSwept g device swept d) (sym back) (record {
     x = x;
     opened = opened;

@@ -10,10 +10,10 @@ use Rattle.desk_model.specs.Geography.{Ground}
 use Rattle.desk_pages.specs.Desks.{OpensDesk}
 use Rattle.desk_store.specs.declared.clerk.Clerk.{Clerk}
 use Rattle.desk_store.specs.declared.loads.LoadError.{LoadError}
-use Rattle.desk_store.specs.Clerks.{desk_of, disk_of, sectors_of, Moves}
+use Rattle.desk_store.specs.Clerks.{desk_of, disk_of, pages_of, sectors_of, Moves}
 use Rattle.desk_store.specs.Keeping.{IsLeft, OpensOneMore, sealed_desk}
-use Rattle.desk_store.specs.Openings.{AllDesks, AllVersions, OpensOneOf}
-use Rattle.desk_store.proofs.Opened.{all_versions}
+use Rattle.desk_pages.specs.Openings.{AllDesks, AllVersions, OpensOneOf}
+use Rattle.desk_pages.proofs.Found.{all_versions}
 use Rattle.desk_loading.specs.Loads.{IsLoaded, LoadRefused}
 use Rattle.desk_loading.specs.Openings.{IsOpened}
 use Rattle.desk_loading.proofs.Moves.{OneOf}
@@ -47,7 +47,7 @@ module _ {D : Type 0} {g : Ghosts D} (device : D) (x y : Clerk D g) (opened : Is
       (subst (λ (n : ℕ). OpensDesk n (desk_of y) c) (moves.sectors ∙ opened.sectors) (left_working y.halted (sectors_of y) (desk_of y) c works ((moves.keeps (opened.keeps all)).left honest c leaves)))
 
   -- a load
-  module _ (area : Ground) (moves : Moves (sealed_desk area) x y) (left : D) (back : left ≡ device_in y.pages) where
+  module _ (area : Ground) (moves : Moves (sealed_desk area) x y) (left : D) (back : left ≡ device_in (pages_of y)) where
     pub has_loaded : IsLoaded x area y → HasLoaded g device area left
     has_loaded loaded = subst (λ (d : D). HasLoaded g device area d) (sym back) (record {
       x = x;

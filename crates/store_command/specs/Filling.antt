@@ -10,9 +10,9 @@ use Rattle.desk_pages.specs.Desks.{OpensDesk}
 use Rattle.desk_store.specs.declared.clerk.Clerk.{Clerk}
 use Rattle.desk_store.specs.declared.opening.OpenError.{OpenError}
 use Rattle.desk_store.specs.declared.loads.LoadError.{LoadError}
-use Rattle.desk_store.specs.Clerks.{desk_of, is_halted}
+use Rattle.desk_store.specs.Clerks.{desk_of, is_halted, pages_of}
 use Rattle.desk_store.specs.Keeping.{sealed_desk}
-use Rattle.desk_store.specs.Openings.{AllDesks, AllVersions, OpensOneOf}
+use Rattle.desk_pages.specs.Openings.{AllDesks, AllVersions, OpensOneOf}
 use Rattle.desk_loading.specs.Openings.{IsOpened, IsUnopened}
 use Rattle.desk_loading.specs.Loads.{IsLoaded, LoadRefused}
 use Rattle.store_command.specs.Faults.{fault_of_open, fault_of_load}
@@ -27,26 +27,27 @@ abbrev pub LeavesDesk : (old new : Disk) → Desk → Type 0
 LeavesDesk old new d = (c : Image) → new.leaves c → OpensDesk old.sectors d c
 
 module _ {D : Type 0} (g : Ghosts D) where
-  -- The device was opened, and the clerk loaded the geography where none was sealed and gave it back so. A stop at any moment of both
-  -- left what opens to a desk to which one opened before, or to that with this geography and no plan; and what it leaves from then on
-  -- opens to that.
+  -- The device was opened, and the clerk loaded the geography where none was sealed and gave it back so. A stop at any moment of
+  -- both left what opens to a desk to which one opened before, or to that with this geography and no plan; and what it leaves
+  -- from then on opens to that.
   pub record HasLoaded (device : D) (area : Ground) (left : D) : Type 0 where
     pub x : Clerk D g
     pub opened : IsOpened device x
     pub y : Clerk D g
     pub loaded : IsLoaded x area y
-    pub back : left ≡ device_in y.pages
+    pub back : left ≡ device_in (pages_of y)
     pub any_moment : (g.disk left).is_honest → AllDesks (g.disk device) → LeavesOnly (OpensOneOr (g.disk device) (sealed_desk area)) (g.disk device) (g.disk left)
     pub after : (g.disk left).is_honest → AllVersions (g.disk device) → LeavesDesk (g.disk device) (g.disk left) (sealed_desk area)
 
-  -- The device was opened, and a load that was refused left the desk. Where no fault came, what a stop leaves from then on opens to it.
+  -- The device was opened, and a load that was refused left the desk. Where no fault came, what a stop leaves from then on opens
+  -- to it.
   pub record HasKept (device : D) (area : Ground) (e : LoadError) (left : D) : Type 0 where
     pub x : Clerk D g
     pub opened : IsOpened device x
     pub y : Clerk D g
     pub why : LoadRefused x area e y
     pub desk : desk_of y ≡ desk_of x
-    pub back : left ≡ device_in y.pages
+    pub back : left ≡ device_in (pages_of y)
     pub any_moment : (g.disk left).is_honest → AllDesks (g.disk device) → LeavesOnly (OpensOneOr (g.disk device) (sealed_desk area)) (g.disk device) (g.disk left)
     pub after : (g.disk left).is_honest → AllVersions (g.disk device) → is_halted y ≡ false → LeavesDesk (g.disk device) (g.disk left) (desk_of x)
 

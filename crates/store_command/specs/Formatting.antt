@@ -14,8 +14,8 @@ use Rattle.store_command.specs.declared.fault.StoreFault.{StoreFault}
 use Rattle.store_command.specs.declared.fault.StoreFault.TheVariants.{TooSmall, Memory}
 
 module _ {D O : Type 0} (g : Ghosts D) (makes : O → List ℕ → ℕ → Result D StoreFault → O → Type 0) (closes : O → D → O → Type 0) where
-  -- A device of so many sectors was made under the name, and was closed as a store with J journal pages whose desk has no geography and
-  -- no plan.
+  -- A device of so many sectors was made under the name, and was closed as a store with J journal pages whose desk has no
+  -- geography and no plan.
   pub record IsStore (before : O) (name : List ℕ) (sectors J : ℕ) (after : O) : Type 0 where
     pub device : D
     pub middle : O

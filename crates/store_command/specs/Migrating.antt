@@ -7,9 +7,10 @@ use Rattle.sector_device.specs.declared.SectorDevice.{Ghosts}
 use Rattle.desk_model.specs.Desk.{Desk}
 use Rattle.store_rows.specs.Rows.{KeyMap}
 use Rattle.desk_pages.specs.Desks.{OpensDesk, OpensOld}
+use Rattle.desk_pages.specs.Openings.{AllVersions, IsOneOld, IsSpared, OpensOneAs}
 use Rattle.desk_migration.specs.Holding.{IsHeldBy}
 use Rattle.desk_migration.specs.Migrating.{device_of, disk_of, has_ended, is_halted, sectors_of, Ends, HasRows, Keeps, KeepsNew, Moves}
-use Rattle.desk_migration.specs.Openings.{AllDesks, IsFound, IsOneOf, IsRefused, IsSpared, OpensOneOf}
+use Rattle.desk_migration.specs.Openings.{IsFound, IsRefused}
 use Rattle.desk_migration.specs.Puts.{FinishErr, StepErr}
 use Rattle.desk_migration.specs.declared.migration.Migration.{Migration}
 use Rattle.desk_migration.specs.declared.error.MigrationError.{MigrationError}
@@ -41,33 +42,33 @@ fault_of_migration migration.Halted = DeviceFault
 -- the image opens in the new version to a desk to which one opened before in the old version
 pub record OpensNewly (disk : Disk) (c : Image) : Type 0 where
   pub desk : Desk
-  pub one : IsOneOf false disk desk
+  pub one : IsOneOld disk desk
   pub opens : OpensDesk disk.sectors desk c
 
 -- the image opens to a desk to which one opened before, in the version in which it was there, or in the new one
 abbrev pub OpensSince : Disk → Image → Type 0
-OpensSince disk c = OpensOneOf disk c ⊎ OpensNewly disk c
+OpensSince disk c = OpensOneAs disk c ⊎ OpensNewly disk c
 
 -- each image that a stop may leave now opens in the new version to a desk that was there in the old one
 pub record LeavesNew (old new : Disk) : Type 0 where
   pub desk : Desk
-  pub one : IsOneOf false old desk
+  pub one : IsOneOld old desk
   pub each : (c : Image) → new.leaves c → OpensDesk old.sectors desk c
 
 -- each does in the old version
 pub record LeavesOld (old new : Disk) : Type 0 where
   pub desk : Desk
-  pub one : IsOneOf false old desk
+  pub one : IsOneOld old desk
   pub each : (c : Image) → new.leaves c → OpensOld old.sectors desk c
 
 module _ {D : Type 0} {g : Ghosts D} where
-  -- A migration for which the device was opened: at each moment of that a stop left what opens to a desk to which one opened before, in
-  -- its version. The store keeps one of these that was there in the old version.
+  -- A migration for which the device was opened: at each moment of that a stop left what opens to a desk to which one opened
+  -- before, in its version. The store keeps one of these that was there in the old version.
   pub record IsBegun (device : D) (x : Migration D g) : Type 0 where
     pub sectors : sectors_of x ≡ (g.disk device).sectors
     pub honest : (disk_of x).is_honest → (g.disk device).is_honest
-    pub any_moment : (disk_of x).is_honest → AllDesks (g.disk device) → LeavesOnly (OpensOneOf (g.disk device)) (g.disk device) (disk_of x)
-    pub keeps : AllDesks (g.disk device) → (disk_of x).is_honest → (d : Desk) × (Keeps x d × IsOneOf false (g.disk device) d)
+    pub any_moment : (disk_of x).is_honest → AllVersions (g.disk device) → LeavesOnly (OpensOneAs (g.disk device)) (g.disk device) (disk_of x)
+    pub keeps : AllVersions (g.disk device) → (disk_of x).is_honest → (d : Desk) × (Keeps x d × IsOneOld (g.disk device) d)
     pub found : (disk_of x).is_honest → IsFound (g.disk device) x
     pub working : is_halted x ≡ false
     pub calm : (disk_of x).is_honest → (disk_of x).faults ≡ (g.disk device).faults
@@ -141,37 +142,39 @@ module _ {D : Type 0} {g : Ghosts D} where
   MigratesAll x (Err fault) z = (Moves x z × IsStopped x fault z) ⊎ EndsStopped x fault z
 
 module _ {D : Type 0} (g : Ghosts D) where
-  -- The device is not opened for a migration, and is left so: at each moment of that a stop left what opens to a desk to which one
-  -- opened before, in its version. What is no store stays as it is.
+  -- The device is not opened for a migration, and is left so: at each moment of that a stop left what opens to a desk to which
+  -- one opened before, in its version. What is no store stays as it is.
   pub record IsNotBegun (device : D) (fault : StoreFault) (left : D) : Type 0 where
     pub error : MigrationOpenError
     pub told : fault ≡ fault_of_begin error
     pub sectors : (g.disk left).sectors ≡ (g.disk device).sectors
     pub honest : (g.disk left).is_honest → (g.disk device).is_honest
-    pub any_moment : (g.disk left).is_honest → AllDesks (g.disk device) → LeavesOnly (OpensOneOf (g.disk device)) (g.disk device) (g.disk left)
+    pub any_moment : (g.disk left).is_honest → AllVersions (g.disk device) → LeavesOnly (OpensOneAs (g.disk device)) (g.disk device) (g.disk left)
     pub why : IsRefused (g.disk device) (g.disk left) error
     pub spared : (g.disk left).is_honest → error ≡ opening.NotAStore → IsSpared (g.disk device) (g.disk left)
 
-  -- The device was opened and migrated, and given back so. A stop at any moment of both left what opens to a desk to which one opened
-  -- before, in its version or in the new one; and what it leaves from then on opens in the new one to one that was there in the old one.
+  -- The device was opened and migrated, and given back so. A stop at any moment of both left what opens to a desk to which one
+  -- opened before, in its version or in the new one; and what it leaves from then on opens in the new one to one that was there
+  -- in the old one.
   pub record HasMigrated (device : D) (rows : ℕ) (left : D) : Type 0 where
     pub x : Migration D g
     pub begun : IsBegun device x
     pub z : Migration D g
     pub migrated : IsMigrated x rows z
     pub back : left ≡ device_of z
-    pub any_moment : (g.disk left).is_honest → AllDesks (g.disk device) → LeavesOnly (OpensSince (g.disk device)) (g.disk device) (g.disk left)
-    pub after : (g.disk left).is_honest → AllDesks (g.disk device) → LeavesNew (g.disk device) (g.disk left)
+    pub any_moment : (g.disk left).is_honest → AllVersions (g.disk device) → LeavesOnly (OpensSince (g.disk device)) (g.disk device) (g.disk left)
+    pub after : (g.disk left).is_honest → AllVersions (g.disk device) → LeavesNew (g.disk device) (g.disk left)
 
-  -- The device was opened, and its migration was stopped. Where no fault came, what a stop leaves from then on opens in the old version.
+  -- The device was opened, and its migration was stopped. Where no fault came, what a stop leaves from then on opens in the old
+  -- version.
   pub record HasStopped (device : D) (fault : StoreFault) (left : D) : Type 0 where
     pub x : Migration D g
     pub begun : IsBegun device x
     pub z : Migration D g
     pub why : MigratesAll x (Err fault) z
     pub back : left ≡ device_of z
-    pub any_moment : (g.disk left).is_honest → AllDesks (g.disk device) → LeavesOnly (OpensSince (g.disk device)) (g.disk device) (g.disk left)
-    pub after : (g.disk left).is_honest → AllDesks (g.disk device) → is_halted z ≡ false → LeavesOld (g.disk device) (g.disk left)
+    pub any_moment : (g.disk left).is_honest → AllVersions (g.disk device) → LeavesOnly (OpensSince (g.disk device)) (g.disk device) (g.disk left)
+    pub after : (g.disk left).is_honest → AllVersions (g.disk device) → is_halted z ≡ false → LeavesOld (g.disk device) (g.disk left)
 
   -- what became of the device: it isn't opened, or its migration went so far
   abbrev pub MigratesDevice : D → Result ℕ StoreFault → D → Type 0
@@ -188,8 +191,8 @@ module _ {D O : Type 0} (g : Ghosts D) (opens : O → List ℕ → Result D Stor
     pub migrates : MigratesDevice g device migrated left
     pub closed : closes middle left after
 
-  -- What comes of a store, with the text that is printed: its device is refused; or it was opened, migrated and closed, and memory for
-  -- the text may be refused behind that.
+  -- What comes of a store, with the text that is printed: its device is refused; or it was opened, migrated and closed, and
+  -- memory for the text may be refused behind that.
   abbrev pub Migrates : (before : O) → List ℕ → Result (Vec ℕ Global) StoreFault → (after : O) → Type 0
   Migrates before name (Ok text) after = (rows : ℕ) × (text.items ≡ migrated_text rows) × IsLed before name (Ok rows) after
   Migrates before name (Err fault) after =

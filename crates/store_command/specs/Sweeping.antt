@@ -10,8 +10,8 @@ use Rattle.store_sweep.specs.Leftovers.{IsSweptBy}
 use Rattle.store_sweep.specs.declared.error.SweepError.{SweepError}
 use Rattle.store_sweep.specs.declared.error.SweepError.TheVariants as sweep
 use Rattle.desk_store.specs.declared.clerk.Clerk.{Clerk}
-use Rattle.desk_store.specs.Clerks.{desk_of, disk_of, is_halted, Moves}
-use Rattle.desk_store.specs.Openings.{AllDesks, AllVersions, OpensOneOf}
+use Rattle.desk_store.specs.Clerks.{desk_of, disk_of, is_halted, pages_of, Moves}
+use Rattle.desk_pages.specs.Openings.{AllDesks, AllVersions, OpensOneOf}
 use Rattle.desk_store.specs.Sweeps.{HasRows, IsClean, SweepRefused}
 use Rattle.desk_loading.specs.Openings.{IsOpened}
 use Rattle.command_output.specs.Writing.{Written, write_fault_line}
@@ -58,7 +58,7 @@ module _ {D : Type 0} {g : Ghosts D} where
     pub w : Clerk D g
     pub before : KeepsDesk x w
     pub worked : is_halted w ≡ false
-    pub why : SweepRefused w e (is_halted y) y.pages
+    pub why : SweepRefused w e (is_halted y) (pages_of y)
 
   -- more rows were taken out than a store has
   pub record HasEndless (x : Clerk D g) (m : KeyMap) (y : Clerk D g) : Type 0 where
@@ -77,15 +77,15 @@ module _ {D : Type 0} {g : Ghosts D} where
   SweepsAll x (Err fault) y = IsStopped x fault y
 
 module _ {D : Type 0} (g : Ghosts D) where
-  -- The device was opened, and the clerk swept it and gave it back so. A stop at any moment of both left what opens to a desk to which
-  -- one opened before. Where no fault came, what it leaves from then on opens to the one that was shown.
+  -- The device was opened, and the clerk swept it and gave it back so. A stop at any moment of both left what opens to a desk to
+  -- which one opened before. Where no fault came, what it leaves from then on opens to the one that was shown.
   pub record HasSwept (device : D) (swept : Result ℕ StoreFault) (left : D) : Type 0 where
     pub x : Clerk D g
     pub opened : IsOpened device x
     pub y : Clerk D g
     pub keeps : KeepsDesk x y
     pub sweeps : SweepsAll x swept y
-    pub back : left ≡ device_in y.pages
+    pub back : left ≡ device_in (pages_of y)
     pub any_moment : (g.disk left).is_honest → AllDesks (g.disk device) → LeavesOnly (OpensOneOf (g.disk device)) (g.disk device) (g.disk left)
     pub after : (g.disk left).is_honest → AllVersions (g.disk device) → is_halted y ≡ false → LeavesDesk (g.disk device) (g.disk left) (desk_of x)
 
@@ -104,8 +104,8 @@ module _ {D O : Type 0} (g : Ghosts D) (opens : O → List ℕ → Result D Stor
     pub sweeps : SweepsDevice g device swept left
     pub closed : closes middle left after
 
-  -- What comes of a store, with the text that is printed: its device is refused; or it was opened, swept and closed, and memory for the
-  -- text may be refused behind that.
+  -- What comes of a store, with the text that is printed: its device is refused; or it was opened, swept and closed, and memory
+  -- for the text may be refused behind that.
   abbrev pub Sweeps : (before : O) → List ℕ → Result (Vec ℕ Global) StoreFault → (after : O) → Type 0
   Sweeps before name (Ok text) after = (rows : ℕ) × (text.items ≡ swept_text rows) × IsSwept before name (Ok rows) after
   Sweeps before name (Err fault) after =

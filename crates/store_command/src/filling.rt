@@ -26,8 +26,8 @@ pub fn open_clerk<D: SectorDevice + Drop>(
     }
 }
 
-/// Fills the store that a device holds with a geography, and gives the device back. `progress` hears how many rows were written so
-/// far.
+/// Fills the store that a device holds with a geography, and gives the device back. `progress` hears how many rows were written
+/// so far.
 pub fn fill<D: SectorDevice + Drop, P: Progress>(
     alloc: Global,
     device: D,

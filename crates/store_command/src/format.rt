@@ -38,9 +38,9 @@ fn make_store<D: SectorDevice + Drop, O: Stores<D>>(
     }
 }
 
-/// Makes a store of so many sectors and journal pages in a new file, and prints both: 0. 4 where the store is refused, and 5 where
-/// memory is, with the fault told and nothing printed; 6 where the writing fails. Of too few sectors no file is made; one that
-/// is made is closed as the formatting left it.
+/// Makes a store of so many sectors and journal pages in a new file, and prints both: 0. 4 where the store is refused, and 5
+/// where memory is, with the fault told and nothing printed; 6 where the writing fails. Of too few sectors no file is made; one
+/// that is made is closed as the formatting left it.
 pub fn format<D: SectorDevice + Drop, O: Stores<D>, W: Sink, E: Sink>(
     alloc: Global,
     stores: &mut O,

@@ -83,10 +83,10 @@ fn end_load<D: SectorDevice + Drop, O: Stores<D>, P: Progress, W: Sink, E: Sink>
     }
 }
 
-/// Fills a store with the geography that the files say, and prints its blocks, counties and people: 0. 3 where a file is refused, 4
-/// where the store is and 5 where memory is, with the fault told and nothing printed; 6 where the writing fails. The files are
-/// judged before the store is opened, and its device is closed whatever came of it. `progress` hears how many rows were written so
-/// far.
+/// Fills a store with the geography that the files say, and prints its blocks, counties and people: 0. 3 where a file is refused,
+/// 4 where the store is and 5 where memory is, with the fault told and nothing printed; 6 where the writing fails. The files are
+/// judged before the store is opened, and its device is closed whatever came of it. `progress` hears how many rows were written
+/// so far.
 pub fn load<R: Source, D: SectorDevice + Drop, O: Stores<D>, P: Progress, W: Sink, E: Sink>(
     alloc: Global,
     files: &mut StateFiles<R>,

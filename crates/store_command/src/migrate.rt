@@ -55,10 +55,10 @@ fn migrate_store<D: SectorDevice + Drop, O: Stores<D>, P: Progress>(
     }
 }
 
-/// Leads the store of a name from the old version to the new one, and prints how many rows were put, that of the version with them: 0.
-/// 4 where the store is refused, is of the new version, has too few free pages, or its device fails, and 5 where memory is refused,
-/// with the fault told and nothing printed; 6 where the writing fails. The device is closed whatever came of it. `progress` hears
-/// after each step how many rows there were so far.
+/// Leads the store of a name from the old version to the new one, and prints how many rows were put, that of the version with
+/// them: 0. 4 where the store is refused, is of the new version, has too few free pages, or its device fails, and 5 where memory
+/// is refused, with the fault told and nothing printed; 6 where the writing fails. The device is closed whatever came of it.
+/// `progress` hears after each step how many rows there were so far.
 pub fn migrate<D: SectorDevice + Drop, O: Stores<D>, P: Progress, W: Sink, E: Sink>(
     alloc: Global,
     stores: &mut O,

@@ -56,9 +56,9 @@ fn sweep_store<D: SectorDevice + Drop, O: Stores<D>, P: Progress>(
     }
 }
 
-/// Sweeps the store of a name until nothing is left to be taken out, and prints how many rows were: 0. 4 where the store is refused
-/// or its device fails, and 5 where memory is refused, with the fault told and nothing printed; 6 where the writing fails. The device
-/// is closed whatever came of it. `progress` hears after each step how many rows there were so far.
+/// Sweeps the store of a name until nothing is left to be taken out, and prints how many rows were: 0. 4 where the store is
+/// refused or its device fails, and 5 where memory is refused, with the fault told and nothing printed; 6 where the writing
+/// fails. The device is closed whatever came of it. `progress` hears after each step how many rows there were so far.
 pub fn sweep<D: SectorDevice + Drop, O: Stores<D>, P: Progress, W: Sink, E: Sink>(
     alloc: Global,
     stores: &mut O,

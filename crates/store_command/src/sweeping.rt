@@ -23,7 +23,8 @@ fn sweep_fault(e: SweepError) -> StoreFault
     }
 }
 
-/// Takes out of a clerk's store what deleted plans and ended loads left in it: how many rows there were. `progress` hears of each step.
+/// Takes out of a clerk's store what deleted plans and ended loads left in it: how many rows there were. `progress` hears of each
+/// step.
 pub fn sweep_all<D: SectorDevice, P: Progress>(
     alloc: Global,
     clerk: &mut Clerk<D>,

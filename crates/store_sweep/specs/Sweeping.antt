@@ -64,7 +64,9 @@ module _ {D : Type 0} {g : Ghosts D} where
 
   -- what a stop in a commit leaves
   abbrev pub Leaves : Txn → Pages D g → Pages D g → Type 0
-  Leaves t old new = (sectors : ℕ) (d next : Desk) → home (journal_of old) + count_of old ≡ sectors → DeskInPages old d → DeskInTxn t (stored old) next → LeavesOnly (λ c. OpensDesk sectors d c ⊎ OpensDesk sectors next c) (disk_in old) (disk_in new)
+  Leaves t old new =
+      (sectors : ℕ) (d next : Desk) → home (journal_of old) + count_of old ≡ sectors → DeskInPages old d → DeskInTxn t (stored old) next
+      → LeavesOnly (λ c. OpensDesk sectors d c ⊎ OpensDesk sectors next c) (disk_in old) (disk_in new)
 
   -- why a sweep is not committed
   abbrev pub FinishErr : Pages D g → Pages D g → SweepError → Type 0

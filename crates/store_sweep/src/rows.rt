@@ -9,9 +9,9 @@ ghost use Rattle.store_sweep.specs.Leftovers.{IsSweptClean};
 ghost use Rattle.store_sweep.specs.Sweeping.{HasSwept, HasDesk, TakeErr, IsTurn};
 
 use crate::leftovers::{Left, next_leftover};
+use btree_removes::remove;
 use btree_scan::Row;
 use chunk_table::release;
-use page_btree::remove;
 use page_store::{Pages, Txn};
 use row_table::TreeError;
 use sector_device::SectorDevice;

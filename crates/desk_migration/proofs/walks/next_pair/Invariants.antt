@@ -4,15 +4,14 @@ use Rattle.page_store.specs.Transactions.{stored, disk_in, count_of, txn_pages, 
 use Rattle.page_node.specs.Places.{entries_from}
 use Rattle.page_btree.specs.Map.{InTxn}
 use Rattle.store_rows.specs.Rows.{KeyMap}
-use Rattle.desk_migration.specs.Holding.{AreHeldTo}
-use Rattle.desk_migration.specs.Parts.{IsUnderParts, IsUnderWay}
+use Rattle.desk_migration.specs.Walks.{IsWalking, StandsUnder}
 use Rattle.desk_migration.proofs.walks.next_pair.Given as goal
 
 abbrev pub invariant-loop-taken : goal.invariant-loop-taken
 invariant-loop-taken g l = record {
   begun : txn_pages l.txn ≡ count_of l.pages;
   passed : Passed l.fn.pages l.pages;
-  under : IsUnderParts l.from;
-  done : (disk_in l.pages).is_honest → (m : KeyMap) → InTxn l.txn (stored l.fn.pages) m → IsUnderWay l.fn.from m →
-      AreHeldTo l.from m × (length (entries_from l.from (entries m)) + l.taken ≤ length (entries m));
+  under : StandsUnder l.walk;
+  done : (disk_in l.pages).is_honest → (m : KeyMap) → InTxn l.txn (stored l.fn.pages) m → IsWalking l.fn.walk m →
+      IsWalking l.walk m × (length (entries_from l.walk.from (entries m)) + l.taken ≤ length (entries m));
 }

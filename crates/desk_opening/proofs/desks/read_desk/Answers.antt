@@ -1,11 +1,12 @@
 use Rattle.std.proofs.Common.{sym, subst}
 use Rattle.sector_device.specs.Disk.{Image}
 use Rattle.page_store.proofs.Stops.{quiet_more, passed_more}
-use Rattle.page_store.specs.Transactions.{Passed}
 use Rattle.page_btree.specs.Map.{InTxn as InTree}
 use Rattle.row_table.proofs.Outcomes.{err_of}
-use Rattle.desk_opening.specs.Opening.{IsReadFrom, IsShown, OpenErr}
-use Rattle.desk_opening.proofs.WholeDesks.{unkept, then_unopened, ok_then, err_then, if_ok_then, still_reads}
+use Rattle.store_check.specs.Owners.{HasOwners}
+use Rattle.desk_opening.specs.Opening.{OpenErr}
+use Rattle.desk_opening.proofs.Owned.{has_owners, parts_owned}
+use Rattle.desk_opening.proofs.WholeDesks.{unkept, unread_unopened, then_unopened, still_reads}
 use Rattle.desk_opening.proofs.desks.read_desk.Goals as goal
 
 pub returns-in_err-check_rows-clause-err : goal.returns-in_err-check_rows-clause-err
@@ -16,32 +17,64 @@ returns-in_err-check_rows-clause-err g c =
     let error = c.in_err-check_rows.field-0.0 in
     err_of c.from_residual.result error (λ e. OpenErr t a b e) c.from_residual.ensures.1 (unkept t a b error c.in_err-check_rows.ensures.err)
 
-pub returns-clause-quiet : goal.returns-clause-quiet
-returns-clause-quiet g c = quiet_more c.args.pages.now c.check_rows.new.pages c.read_rows.new.pages c.check_rows.ensures.quiet c.read_rows.ensures.quiet
+pub returns-in_err-catalogue-clause-quiet : goal.returns-in_err-catalogue-clause-quiet
+returns-in_err-catalogue-clause-quiet g c = quiet_more c.args.pages.now c.check_rows.new.pages c.read_rows.new.pages c.check_rows.ensures.quiet c.read_rows.ensures.quiet
 
-pub returns-clause-passed : goal.returns-clause-passed
-returns-clause-passed g c =
-    let a = c.args.pages.now in
-    let b = c.check_rows.new.pages in
-    let d = c.read_rows.new.pages in
-    ok_then c.read_rows.result (Passed b d) (Passed a d) (λ next. passed_more a b d c.in_ok-check_rows.ensures.passed next) c.read_rows.ensures.passed
-
-pub returns-clause-read : goal.returns-clause-read
-returns-clause-read g c = λ honest new d held.
-    c.read_rows.ensures.read honest new d (still_reads c.args.txn.now c.args.pages.now c.check_rows.new.pages d c.in_ok-check_rows.ensures.passed (c.read_rows.ensures.quiet.honest honest) held)
-
-pub returns-clause-found : goal.returns-clause-found
-returns-clause-found g c = λ honest m holds.
-    let passed = c.in_ok-check_rows.ensures.passed in
-    let then = c.read_rows.ensures.quiet.honest honest in
-    let there = subst (λ (P : Image). InTree c.args.txn.now P m) (sym (passed.quiet.same then)) holds in
-    if_ok_then c.read_rows.result (λ catalogue. IsShown m catalogue) (λ catalogue. IsReadFrom m catalogue)
-    (λ catalogue shown. record { numbers = c.in_ok-check_rows.ensures.sound then m holds; shown = shown }) (c.read_rows.ensures.shown honest m there)
-
-pub returns-clause-err : goal.returns-clause-err
-returns-clause-err g c =
+pub returns-in_err-catalogue-clause-err : goal.returns-in_err-catalogue-clause-err
+returns-in_err-catalogue-clause-err g c =
     let t = c.args.txn.now in
     let a = c.args.pages.now in
     let b = c.check_rows.new.pages in
     let d = c.read_rows.new.pages in
-    err_then c.read_rows.result (λ e. OpenErr t b d e) (λ e. OpenErr t a d e) (then_unopened t a b d c.in_ok-check_rows.ensures.passed c.read_rows.ensures.quiet) c.read_rows.ensures.err
+    let error = c.in_err-catalogue.field-0.0 in
+    err_of c.from_residual-in_err-catalogue.result error (λ e. OpenErr t a d e) c.from_residual-in_err-catalogue.ensures.1
+    (then_unopened t a b d c.in_ok-check_rows.ensures.passed c.read_rows.ensures.quiet error c.in_err-catalogue.ensures.err)
+
+pub returns-in_err-check_owners-clause-quiet : goal.returns-in_err-check_owners-clause-quiet
+returns-in_err-check_owners-clause-quiet g c =
+    quiet_more c.args.pages.now c.read_rows.new.pages c.check_owners.new.pages
+    (quiet_more c.args.pages.now c.check_rows.new.pages c.read_rows.new.pages c.check_rows.ensures.quiet c.read_rows.ensures.quiet) c.check_owners.ensures.quiet
+
+pub returns-in_err-check_owners-clause-err : goal.returns-in_err-check_owners-clause-err
+returns-in_err-check_owners-clause-err g c =
+    let t = c.args.txn.now in
+    let a = c.args.pages.now in
+    let b = c.check_rows.new.pages in
+    let d = c.read_rows.new.pages in
+    let f = c.check_owners.new.pages in
+    let counts = c.read_rows.new.counts in
+    let first = c.in_ok-check_rows.ensures.passed in
+    let error = c.in_err-check_owners.field-0.0 in
+    err_of c.from_residual-in_err-check_owners.result error (λ e. OpenErr t a f e) c.from_residual-in_err-check_owners.ensures.1
+    (unread_unopened (HasOwners counts) t a d f (passed_more a b d first c.in_ok-catalogue.ensures.passed) c.check_owners.ensures.quiet
+    (λ honest m x holds is.
+    let there = subst (λ (P : Image). InTree t P m) (sym (first.quiet.same (c.read_rows.ensures.quiet.honest honest))) holds in
+    has_owners m counts (c.in_ok-catalogue.ensures.counted honest m there) x.1 is)
+    error c.in_err-check_owners.ensures.err)
+
+pub returns-clause-quiet : goal.returns-clause-quiet
+returns-clause-quiet g c =
+    quiet_more c.args.pages.now c.read_rows.new.pages c.check_owners.new.pages
+    (quiet_more c.args.pages.now c.check_rows.new.pages c.read_rows.new.pages c.check_rows.ensures.quiet c.read_rows.ensures.quiet) c.check_owners.ensures.quiet
+
+pub returns-clause-passed : goal.returns-clause-passed
+returns-clause-passed g c =
+    passed_more c.args.pages.now c.read_rows.new.pages c.check_owners.new.pages
+    (passed_more c.args.pages.now c.check_rows.new.pages c.read_rows.new.pages c.in_ok-check_rows.ensures.passed c.in_ok-catalogue.ensures.passed) c.in_ok-check_owners.ensures.passed
+
+pub returns-clause-read : goal.returns-clause-read
+returns-clause-read g c = λ honest new d held.
+    let then = c.check_owners.ensures.quiet.honest honest in
+    c.in_ok-catalogue.ensures.read then new d (still_reads c.args.txn.now c.args.pages.now c.check_rows.new.pages d c.in_ok-check_rows.ensures.passed (c.read_rows.ensures.quiet.honest then) held)
+
+pub returns-clause-found : goal.returns-clause-found
+returns-clause-found g c = λ honest m holds.
+    let then = c.check_owners.ensures.quiet.honest honest in
+    let before = c.read_rows.ensures.quiet.honest then in
+    let there = subst (λ (P : Image). InTree c.args.txn.now P m) (sym (c.in_ok-check_rows.ensures.passed.quiet.same before)) holds in
+    let still = subst (λ (P : Image). InTree c.args.txn.now P m) (sym (c.in_ok-catalogue.ensures.passed.quiet.same then)) there in
+    record {
+      numbers = c.in_ok-check_rows.ensures.sound before m holds;
+      shown = c.in_ok-catalogue.ensures.shown then m there;
+      owned = parts_owned m c.read_rows.new.counts (c.in_ok-catalogue.ensures.counted then m there) (c.in_ok-check_owners.ensures.owned honest m still);
+    }

@@ -11,8 +11,9 @@ use Rattle.row_table.specs.Reading.{ReadErr}
 use Rattle.row_table.proofs.Outcomes.{err_of}
 use Rattle.row_table.proofs.Appending.{then_unappended}
 use Rattle.desk_pages.specs.Desks.{new_desk}
-use Rattle.desk_opening.specs.Opening.{ArePlans, ArePlansShown, HasNothing, IsMapAs, IsShown, OpenErr}
-use Rattle.desk_opening.proofs.WholeDesks.{is_new, are_plans, unopened, has_nothing, nothing_unread, some_ground, ok_then, if_ok_then, err_then}
+use Rattle.desk_opening.specs.Opening.{AreCounts, ArePlans, ArePlansShown, HasNothing, IsMapAs, IsShown, OpenErr}
+use Rattle.desk_opening.proofs.WholeDesks.{is_new, are_plans, unopened, has_nothing, unread_unopened, some_ground, ok_then, if_ok_then, err_then}
+use Rattle.desk_opening.proofs.PlanNumbers.{none_counted}
 use Rattle.desk_opening.proofs.Shown.{nothing_shown}
 use Rattle.desk_opening.proofs.desks.read_rows.Goals as goal
 
@@ -46,6 +47,12 @@ returns-in_default-clause-shown g c = λ honest m holds.
     let still = subst (λ (P : Image). InTxn c.args.txn.now P m) (sym (c.in_ok-ground.ensures.passed.quiet.same then)) holds in
     nothing_shown m c.read_none.result c.read_none.ensures.new (c.read_none.ensures.none honest m still)
 
+pub returns-in_default-clause-counted : goal.returns-in_default-clause-counted
+returns-in_default-clause-counted g c = λ honest m holds.
+    let then = c.read_none.ensures.quiet.honest honest in
+    let still = subst (λ (P : Image). InTxn c.args.txn.now P m) (sym (c.in_ok-ground.ensures.passed.quiet.same then)) holds in
+    ok_then c.read_none.result (HasNothing m) (AreCounts m c.args.counts.now) (λ none. none_counted m c.args.counts.now c.requires.none none.plans) (c.read_none.ensures.none honest m still)
+
 pub returns-in_default-clause-err : goal.returns-in_default-clause-err
 returns-in_default-clause-err g c =
     let t = c.args.txn.now in
@@ -53,7 +60,7 @@ returns-in_default-clause-err g c =
     let b = c.geography.new.pages in
     let d = c.read_none.new.pages in
     err_then c.read_none.result (λ e. ReadErr HasNothing t b d e) (λ e. OpenErr t a d e)
-    (nothing_unread t a b d c.in_ok-ground.ensures.passed c.read_none.ensures.quiet
+    (unread_unopened HasNothing t a b d c.in_ok-ground.ensures.passed c.read_none.ensures.quiet
     (λ honest m x holds is. has_nothing m x.1 is (sym c.in_default.is ∙ c.in_ok-ground.ensures.read honest m x.1.geography holds is.desk.geography)))
     c.read_none.ensures.err
 
@@ -100,3 +107,9 @@ returns-in-Ok-clause-shown g c honest m holds =
       plans = subst (λ (g : Ground). ArePlansShown m (length (cuts_of g)) c.in_ok-plans.plans) (sym c.in-Ok.ensures.ok) (c.in_ok-plans.ensures.shown honest m still);
       apart = c.in_ok-plans.ensures.apart honest m still;
     })
+
+pub returns-in-Ok-clause-counted : goal.returns-in-Ok-clause-counted
+returns-in-Ok-clause-counted g c = λ honest m holds.
+    let then = c.read_plans.ensures.quiet.honest honest in
+    let still = subst (λ (P : Image). InTxn c.args.txn.now P m) (sym (c.in_ok-ground.ensures.passed.quiet.same then)) holds in
+    c.in_ok-plans.ensures.counted honest m still

@@ -20,10 +20,10 @@ returns-in_err-note_number-clause-read g c =
     let a = c.args.pages.now in
     let plans = c.args.plans.now in
     let row = c.args.row.now in
-    let says = IsFreshPlan c.args.geography.now plans c.args.numbers.now row in
+    let says = IsFreshPlan c.args.geography.now plans c.args.counts.now row in
     let error = c.in_err-note_number.field-0.0 in
     match_of c.from_residual.result (λ (all : FinMap name_cmp Plan). HasRead says (λ (plan : List ℕ × Plan). insert plans plan.0 plan.1) t a a all) error (λ e. AppendErr says t a a e) c.from_residual.ensures.1
-    (unnoted c.args.geography.now plans row c.args.numbers.now t a error c.in_err-note_number.ensures.err)
+    (unnoted c.args.geography.now plans row c.args.counts.now t a error c.in_err-note_number.ensures.err)
 
 pub returns-in_err-refuse_gone-clause-read : goal.returns-in_err-refuse_gone-clause-read
 returns-in_err-refuse_gone-clause-read g c =
@@ -33,7 +33,7 @@ returns-in_err-refuse_gone-clause-read g c =
     let ground = c.args.geography.now in
     let plans = c.args.plans.now in
     let row = c.args.row.now in
-    let says = IsFreshPlan ground plans c.args.numbers.now row in
+    let says = IsFreshPlan ground plans c.args.counts.now row in
     let error = c.in_err-refuse_gone.field-0.0 in
     match_of c.from_residual-in_err-refuse_gone.result (λ (all : FinMap name_cmp Plan). HasRead says (λ (plan : List ℕ × Plan). insert plans plan.0 plan.1) t a b all) error (λ e. AppendErr says t a b e) c.from_residual-in_err-refuse_gone.ensures.1
     (unread_unappended (IsKeptPlan row) says t a b error (λ m plan is. is_kept_plan ground plans row m plan is.new) c.in_err-refuse_gone.ensures.err)
@@ -51,7 +51,7 @@ returns-clause-read g c =
     let b = c.refuse_gone.new.pages in
     let d = c.add_named.new.pages in
     let plans = c.args.plans.now in
-    let says = IsFreshPlan c.args.geography.now plans c.args.numbers.now c.args.row.now in
+    let says = IsFreshPlan c.args.geography.now plans c.args.counts.now c.args.row.now in
     let rest = IsNewPlan c.args.geography.now plans c.args.row.now in
     let passed = c.in_ok-refuse_gone.ensures.passed in
     map_both c.add_named.result

@@ -20,7 +20,7 @@ use Rattle.row_table.specs.Appending.{AppendErr}
 use Rattle.row_table.proofs.Appending.{then_unappended, unread_unappended}
 use Rattle.desk_opening.specs.Reading.{HasRead}
 use Rattle.desk_opening.specs.Opening.{ArePlans, IsFreshPlan}
-use Rattle.desk_opening.proofs.PlanNumbers.{none_noted, unused, noted_more, all_apart}
+use Rattle.desk_opening.proofs.PlanNumbers.{all_apart, are_counts, none_noted, noted_more, unused}
 use Rattle.desk_opening.proofs.Parts.{Plans, AreRead, none_read, all_read}
 use Rattle.desk_opening.proofs.Shown.{AreShown, none_shown, more_shown, all_shown}
 use Rattle.desk_opening.proofs.Turns.{new_plan}
@@ -35,7 +35,7 @@ loop-taken-init g c = record {
   whole = subst (λ (plans : Plans). AreWhole (Some c.args.geography.now) plans) (sym c.new-plans.ensures) (none_whole c.args.geography.now);
   taken = λ honest m holds.
       let rest = subst (λ (prefix : List ℕ). Rest c.new-scan.result (entries m) (under prefix (entries m))) (c.as_slice.ensures.bytes ∙ c.plans-prefix.ensures) (c.new-scan.ensures.rows m) in
-      ([], refl, taken_none plans_prefix c.new-scan.result (entries m) rest, λ all are. subst (λ (plans : Plans). AreRead [] plans all) (sym c.new-plans.ensures) (none_read all), subst (λ (plans : Plans). AreShown m (length (cuts_of c.args.geography.now)) [] plans) (sym c.new-plans.ensures) (none_shown m (length (cuts_of c.args.geography.now))), none_noted c.new-numbers.result c.new-numbers.ensures.empty);
+      ([], refl, taken_none plans_prefix c.new-scan.result (entries m) rest, λ all are. subst (λ (plans : Plans). AreRead [] plans all) (sym c.new-plans.ensures) (none_read all), subst (λ (plans : Plans). AreShown m (length (cuts_of c.args.geography.now)) [] plans) (sym c.new-plans.ensures) (none_shown m (length (cuts_of c.args.geography.now))), none_noted c.args.counts.now c.requires.none);
 }
 
 pub returns-in-None-clause-quiet : goal.returns-in-None-clause-quiet
@@ -88,14 +88,14 @@ returns-in_err-plans-clause-read g c =
     let going = c.next.ensures.going c.if-not-next.false in
     let passed = passed_more a c.loop-taken.pages b before.passed (c.next.ensures.passed (going.1 ∙ before.fault)) in
     match_of c.from_residual.result (λ (plans : Plans). HasRead (ArePlans ground) (λ (all : Plans). all) t a d plans) error (λ e. AppendErr (ArePlans ground) t a d e) c.from_residual.ensures.1
-    (then_unappended (ArePlans ground) (IsFreshPlan ground c.loop-taken.plans c.loop-taken.numbers c.next.new.row) t a b d error
+    (then_unappended (ArePlans ground) (IsFreshPlan ground c.loop-taken.plans c.loop-taken.counts c.next.new.row) t a b d error
     (λ honest m all holds are.
     let then = c.next.ensures.quiet.honest honest in
     let rows = before.taken then m holds in
     let there = subst (λ (P : Image). InTxn t P m) (sym (before.passed.quiet.same then)) holds in
     let next = subst (λ e. IsNextRow e c.next.new.self c.next.new.row (entries m) rows.2.rest) c.if-not-next.false (c.next.ensures.rows honest m rows.2.rest there rows.2.rest_are) in
     let plan = new_plan ground m rows.0 c.loop-taken.scan c.next.new.self c.next.new.row c.loop-taken.plans all rows.2 next are (rows.3 all are) in
-    (plan.0, record { new = plan.1; unused = unused ground m rows.0 c.loop-taken.scan c.next.new.self c.next.new.row all rows.2 next are c.loop-taken.numbers rows.5 }))
+    (plan.0, record { new = plan.1; unused = unused ground m rows.0 c.loop-taken.scan c.next.new.self c.next.new.row all rows.2 next are c.loop-taken.counts rows.5 }))
     passed c.add_row.ensures.quiet c.in_err-plans.ensures.read)
 
 pub loop-taken-preserved : goal.loop-taken-preserved
@@ -127,9 +127,9 @@ loop-taken-preserved g c =
             taken_more plans_prefix rows.0 c.loop-taken.scan c.next.new.self c.next.new.row (entries m) rows.2 next,
             λ all are.
                 let plan = new_plan ground m rows.0 c.loop-taken.scan c.next.new.self c.next.new.row c.loop-taken.plans all rows.2 next are (rows.3 all are) in
-                subst (λ (plans : Plans). AreRead (rows.0 ++ e ∷ []) plans all) (sym (now.read.read honest m plan.0 still (record { new = plan.1; unused = unused ground m rows.0 c.loop-taken.scan c.next.new.self c.next.new.row all rows.2 next are c.loop-taken.numbers rows.5 }))) plan.2,
+                subst (λ (plans : Plans). AreRead (rows.0 ++ e ∷ []) plans all) (sym (now.read.read honest m plan.0 still (record { new = plan.1; unused = unused ground m rows.0 c.loop-taken.scan c.next.new.self c.next.new.row all rows.2 next are c.loop-taken.counts rows.5 }))) plan.2,
             more_shown m (length (cuts_of ground)) rows.0 c.loop-taken.scan c.next.new.self c.next.new.row c.loop-taken.plans c.in_ok-plans.plans rows.2 next rows.4 (now.kept honest m still) (now.listed honest m still),
-            noted_more rows.0 c.next.new.row c.loop-taken.numbers c.add_row.new.numbers rows.5 now.noted,
+            noted_more rows.0 c.next.new.row c.loop-taken.counts c.add_row.new.counts rows.5 now.noted,
           );
     }
 
@@ -160,4 +160,14 @@ returns-in-None-clause-apart g c = λ honest m holds.
     let t = before.taken then m holds in
     let there = subst (λ (P : Image). InTxn c.args.txn.now P m) (sym (before.passed.quiet.same then)) holds in
     let next = subst (λ b. IsNextRow b c.next.new.self c.next.new.row (entries m) t.2.rest) c.if-not-next.true (c.next.ensures.rows honest m t.2.rest there t.2.rest_are) in
-    all_apart m t.0 c.loop-taken.numbers (taken_all plans_prefix t.0 c.loop-taken.scan c.next.new.self c.next.new.row (entries m) t.2 next none) t.5
+    all_apart m t.0 c.loop-taken.counts (taken_all plans_prefix t.0 c.loop-taken.scan c.next.new.self c.next.new.row (entries m) t.2 next none) t.5
+
+pub returns-in-None-clause-counted : goal.returns-in-None-clause-counted
+returns-in-None-clause-counted g c = λ honest m holds.
+    let none : fault_in c.next.new.self ≡ None = sym c.fault.ensures ∙ c.in-None.is in
+    let before = c.loop-taken.invariant in
+    let then = c.next.ensures.quiet.honest honest in
+    let t = before.taken then m holds in
+    let there = subst (λ (P : Image). InTxn c.args.txn.now P m) (sym (before.passed.quiet.same then)) holds in
+    let next = subst (λ b. IsNextRow b c.next.new.self c.next.new.row (entries m) t.2.rest) c.if-not-next.true (c.next.ensures.rows honest m t.2.rest there t.2.rest_are) in
+    are_counts m t.0 c.loop-taken.counts (taken_all plans_prefix t.0 c.loop-taken.scan c.next.new.self c.next.new.row (entries m) t.2 next none) t.5

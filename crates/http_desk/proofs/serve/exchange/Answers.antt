@@ -1,5 +1,10 @@
-use Rattle.http_desk.proofs.TurnedLemmas.{turn_then, turn_over, turn_fails}
+use Rattle.http_desk.proofs.TurnedLemmas.{asked_before, turn_then, turn_over, turn_fails}
 use Rattle.http_desk.proofs.serve.exchange.Goals as goal
+
+pub exchange_held-requires-in-Ok-false : goal.exchange_held-requires-in-Ok-false
+exchange_held-requires-in-Ok-false g c x command asked =
+    c.requires x command (asked_before (g.R.Source.remaining c.args.reader.now) (g.R.Source.remaining c.take_turn.new.reader) (g.W.Sink.contents c.args.writer.now) (g.W.Sink.contents c.take_turn.new.writer) c.args.stream.now.inbox c.take_turn.new.stream.inbox
+    c.args.stream.now.outbox c.take_turn.new.stream.outbox command c.take_turn.ensures.none (rw c.in-Ok-false.field-0-test at c.in-Ok-false.ensures.turned) asked)
 
 pub returns-in-Ok-true-clause-talks : goal.returns-in-Ok-true-clause-talks
 returns-in-Ok-true-clause-talks g c =

@@ -3,8 +3,13 @@ use Rattle.http_desk.specs.Talk.{Talk, ended, starved, refused}
 use Rattle.http_desk.specs.Serving.{Exchanges, IsFrontTalk}
 use Rattle.http_desk.specs.declared.serve.Next.TheVariants as next
 use Rattle.std.proofs.Common.{Ok}
-use Rattle.http_desk.proofs.TalkLemmas.{of_head, last, on, cut, cut_next, cut_short, closing, queued_then, queued_as}
+use Rattle.http_desk.proofs.TalkLemmas.{asked_here, of_head, last, on, cut, cut_next, cut_short, closing, queued_then, queued_as}
 use Rattle.http_desk.proofs.serve.exchange_any.Goals as goal
+
+pub handle-requires-clause-takes : goal.handle-requires-clause-takes
+handle-requires-clause-takes g c command asked =
+    let read = rw c.in-Ok-Request.field-0-is at c.in-Ok-Request.ensures.read in
+    c.requires c.args.counter.now command (asked_here (g.R.Source.remaining c.args.reader.now) (g.R.Source.remaining c.next_request.new.reader) c.args.stream.now.inbox read.0 c.next_request.new.stream.inbox c.in-Ok-Request.request command read.3 read.5.0 asked)
 
 pub returns-in-Err-Read-clause-talks : goal.returns-in-Err-Read-clause-talks
 returns-in-Err-Read-clause-talks g c =

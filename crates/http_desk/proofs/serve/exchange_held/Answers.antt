@@ -1,6 +1,12 @@
+use Rattle.std.proofs.Common.{List, ℕ, subst}
 use Rattle.std.proofs.KnownBytes.{Consumes-nil}
+use Rattle.http_desk.specs.Asking.{IsAskedBehind}
 use Rattle.http_desk.proofs.ListLemmas.{list_cut, list_ends, list_goes, told_from}
 use Rattle.http_desk.proofs.serve.exchange_held.Goals as goal
+
+pub exchange_any-requires : goal.exchange_any-requires
+exchange_any-requires g c x command asked =
+    c.requires x command (subst (λ (xs : List ℕ). IsAskedBehind xs (g.R.Source.remaining c.args.reader.now) command) (c.take_list.ensures.none c.in_default.is) asked)
 
 pub returns-in_default-clause-talks : goal.returns-in_default-clause-talks
 returns-in_default-clause-talks g c =

@@ -1,8 +1,12 @@
 use Rattle.std.proofs.Common.{◌+◌, true, false, ◌∙◌, arith}
 use Rattle.std.proofs.lemmas.Result.{err_from_is_err_and}
 use Rattle.http_desk.proofs.TurnLemmas.{spends_more}
-use Rattle.http_desk.proofs.TalkLemmas.{goes, ends, fails, counted_as}
+use Rattle.http_desk.proofs.TalkLemmas.{asked_of, goes, ends, fails, counted_as}
 use Rattle.http_desk.proofs.serve.serve.Goals as goal
+
+pub exchange-requires : goal.exchange-requires
+exchange-requires g c x command asked =
+    c.requires x command (asked_of g.C.Counter.commands g.C.Counter.asks c.args.counter.now c.loop-stream.counter _ _ _ _ c.loop-stream.stream.inbox c.loop-stream.stream.outbox c.loop-stream.requests command c.loop-stream.invariant.stands asked)
 
 pub returns-in_err-exchange-clause-talks : goal.returns-in_err-exchange-clause-talks
 returns-in_err-exchange-clause-talks g c =

@@ -1,5 +1,6 @@
 use Rattle.std.proofs.Common.{rules, ◌≡◌, ◌∙◌, map, reverse, Some, ap}
-use Rattle.http_seats.specs.Streams.{traffic, total_of}
+use Rattle.desk_gallery.proofs.Running.{has_run_as}
+use Rattle.http_seats.specs.Streams.{IsAskedOf, traffic, total_of}
 use Rattle.http_seats.proofs.Counts.{workers_of, rans_of, heard_of}
 use Rattle.http_seats.proofs.many.serve_many.Goals as goal
 
@@ -14,7 +15,7 @@ returns-clause-served g c =
     record {
       changes = c.know_all.new.front.shown;
       accepted = c.close-last.ensures.accepted;
-      left = c.close-last.ensures.ran;
+      left = has_run_as g.J.Room.begins g.J.Room.asked (IsAskedOf s) c.close-last.result c.know_all.new.front.shown c.requires.only c.close-last.ensures.ran;
       counted = record {
         workers = workers.0;
         each = workers.1;

@@ -3,6 +3,14 @@ use Rattle.http_seats.specs.Streams.{traffic}
 use Rattle.http_seats.proofs.Counts.{served_more}
 use Rattle.http_seats.proofs.many.work.Goals as goal
 
+pub serve-served-requires : goal.serve-served-requires
+serve-served-requires g c x command asked = c.requires.asked command (record {
+  reader = c.in-Some-accept.reader;
+  writer = c.in-Some-accept.writer;
+  given = subst (λ (a : g.row.A.Denot). g.A.Arrivals.gives a (Some (c.in-Some-accept.reader, c.in-Some-accept.writer))) c.loop.invariant.3 c.in-Some-accept.ensures;
+  asked = asked;
+})
+
 pub loop-preserved : goal.loop-preserved
 loop-preserved g c =
     let s = traffic g.A.Arrivals.gives g.A.Arrivals.takes_back g.A.Reader.Source g.A.Writer.Sink c.args.acceptor.arrivals.now in

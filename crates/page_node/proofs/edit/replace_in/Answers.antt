@@ -1,6 +1,12 @@
-use Rattle.std.proofs.Common.{refl, arith}
-use Rattle.page_node.proofs.PageEdits.{replaced_node, replaced_size}
+use Rattle.std.proofs.Common.{◌+◌, refl, arith}
+use Rattle.page_node.proofs.PageEdits.{replaced_here, replaced_node, replaced_size}
+use Rattle.page_node.specs.Entries.{size_of}
 use Rattle.page_node.proofs.edit.replace_in.Goals as goal
+
+pub returns-then-at-key-clause-replaced : goal.returns-then-at-key-clause-replaced
+returns-then-at-key-clause-replaced c = λ node is child within at_is end_is.
+    let same = c.if-at-key.true in
+    replaced_here c.args.page.now node is c.told-page c.args.index c.args.at (4 + size_of node.entries) at_is refl c.args.end end_is within (c.args.key.now, c.args.value.now) c.put_entry_in.new.page (c.requires.key, c.requires.value) child (omega arith) c.put_entry_in.ensures
 
 pub returns-then-at-key-gt4096-clause-replaced : goal.returns-then-at-key-gt4096-clause-replaced
 returns-then-at-key-gt4096-clause-replaced c = λ node is child within at_is end_is. (

@@ -1,7 +1,8 @@
 use Rattle.desk_store.specs.Clerks.{Keeps}
+use Rattle.http_seats.specs.Streams.{IsAskedOf, traffic}
 use Rattle.serve_command.specs.Lasting.{IsLike}
 use Rattle.serve_command.proofs.office.serve_clerk.Given as goal
 
 -- the gallery that is opened
 abbrev pub ghosts-serve_named : goal.ghosts-serve_named
-ghosts-serve_named g a = record { book = a.opened.seen.book; root = a.opened.pen.nib.key; first = a.catalogue.value; sound = Keeps a.clerk; begins = λ E h x. IsLike a.clerk x }
+ghosts-serve_named g a = record { book = a.opened.seen.book; root = a.opened.pen.nib.key; first = a.catalogue.value; sound = Keeps a.clerk; begins = λ E h x. IsLike a.clerk x; asked = IsAskedOf (traffic g.A.Arrivals.gives g.A.Arrivals.takes_back g.A.Reader.Source g.A.Writer.Sink a.arrivals.now) }

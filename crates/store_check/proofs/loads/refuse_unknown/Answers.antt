@@ -1,6 +1,5 @@
-use Rattle.std.proofs.Common.{[], inr, refl}
-use Rattle.store_rows.specs.Keys.{begun}
-use Rattle.store_rows.specs.Rows.{Has}
+use Rattle.std.proofs.Common.{◌≡◌, [], Some, inr, refl, sym, ap, ◌∙◌}
+use Rattle.std.specs.FinMap.{get as row_at}
 use Rattle.store_rows.specs.Tidy.{IsLoad}
 use Rattle.row_table.specs.Reading.{ReadErr}
 use Rattle.row_table.proofs.Reading.{less_unread}
@@ -16,13 +15,13 @@ returns-then-is_sealed-clause-known g c = λ honest m holds stands.
 
 pub returns-clause-known : goal.returns-clause-known
 returns-clause-known g c = λ honest m holds stands.
-    ok_then c.refuse_unbegun.result (Has m (begun c.args.load) []) (IsLoad m c.args.load) (λ mark. inr mark) (c.refuse_unbegun.ensures.known honest m holds)
+    ok_then c.refuse_unmarked.result (row_at m c.begun.result ≡ Some []) (IsLoad m c.args.load) (λ mark. inr (ap (row_at m) (sym c.begun.ensures) ∙ mark)) (c.refuse_unmarked.ensures.known honest m holds)
 
 pub returns-clause-err : goal.returns-clause-err
 returns-clause-err g c =
     let t = c.args.txn.now in
     let a = c.args.pages.now in
-    let b = c.refuse_unbegun.new.pages in
+    let b = c.refuse_unmarked.new.pages in
     let load = c.args.load in
-    err_then c.refuse_unbegun.result (λ e. ReadErr (λ m. Has m (begun load) []) t a b e) (λ e. ReadErr (IsKnownLoad c.args.sealed load) t a b e)
-    (less_unread (λ m. Has m (begun load) []) (IsKnownLoad c.args.sealed load) t a b (λ m known. mark_known m c.args.sealed load known.stands (c.if-is_sealed.ensures.other refl) known.fits known.is)) c.refuse_unbegun.ensures.err
+    err_then c.refuse_unmarked.result (λ e. ReadErr (λ m. row_at m c.begun.result ≡ Some []) t a b e) (λ e. ReadErr (IsKnownLoad c.args.sealed load) t a b e)
+    (less_unread (λ m. row_at m c.begun.result ≡ Some []) (IsKnownLoad c.args.sealed load) t a b (λ m known. ap (row_at m) c.begun.ensures ∙ mark_known m c.args.sealed load known.stands (c.if-is_sealed.ensures.other refl) known.fits known.is)) c.refuse_unmarked.ensures.err

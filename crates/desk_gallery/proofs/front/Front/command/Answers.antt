@@ -12,7 +12,7 @@ invariant_of-self g c =
     let worked = c.work.ensures.worked in (
       worked.agree,
       λ sound. worked.does.moves.keeps (c.self.invariant.1 sound),
-      has_run_more g.J.Room.begins c.self.inside.clerk c.work.new.clerk c.self.inside.shower.0 c.work.new.shower.0 c.args.command c.work.result.0 c.self.invariant.2 worked.does worked.joined worked.same,
+      has_run_more g.J.Room.begins g.J.Room.asked c.self.inside.clerk c.work.new.clerk c.self.inside.shower.0 c.work.new.shower.0 c.args.command c.work.result.0 c.requires c.self.invariant.2 worked.does worked.joined worked.same,
     )
 
 pub returns-clause-works : goal.returns-clause-works

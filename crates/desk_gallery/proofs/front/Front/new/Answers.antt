@@ -18,5 +18,5 @@ invariant_of-result g c =
         accepted = subst (λ (s : List Command × List Command). AreAccepted g.J.Room.first s.1) (sym none) tt;
       },
       c.requires.kept,
-      has_run_none g.J.Room.begins c.args.clerk c.args.shower.0 c.requires.begins (ap (λ (s : List Command × List Command). s.0) none),
+      has_run_none g.J.Room.begins g.J.Room.asked c.args.clerk c.args.shower.0 c.requires.begins (ap (λ (s : List Command × List Command). s.0) none),
     )

@@ -2,15 +2,17 @@ use Rattle.std.proofs.Common.{◌≡◌, inr, refl, sym, subst, ◌∙◌}
 use Rattle.sector_device.specs.Moments.{LeavesOnly}
 use Rattle.page_store.proofs.Stops.{leaves_quiet}
 use Rattle.page_store.specs.Transactions.{disk_in}
-use Rattle.desk_migration.specs.Openings.{AllDesks, OpensOneOf, IsSpared, IsRefused}
+use Rattle.desk_pages.specs.Openings.{AllVersions, OpensOneAs, IsSpared}
+use Rattle.desk_pages.proofs.Found.{open_versions, pages_left, stores_of}
+use Rattle.desk_migration.specs.Openings.{IsRefused}
 use Rattle.desk_migration.specs.declared.error.MigrationOpenError.{MigrationOpenError}
 use Rattle.desk_migration.specs.declared.error.MigrationOpenError.TheVariants.{NotAStore}
-use Rattle.desk_migration.proofs.Opened.{stores_of, open_leaves, opened_keeps, page_refused, page_spared, judged, is_found, pages_left}
+use Rattle.desk_migration.proofs.Opened.{opened_keeps, page_refused, page_spared, judged, is_found}
 use Rattle.desk_migration.proofs.migration.Migration.open.Goals as goal
 
 pub returns-in-Err-clause-any_moment : goal.returns-in-Err-clause-any_moment
 returns-in-Err-clause-any_moment g c = λ honest all.
-    open_leaves (g.D.SectorDevice.disk c.args.device) (g.D.SectorDevice.disk c.in-Err.device) all (c.in-Err.ensures.any_moment honest (stores_of (g.D.SectorDevice.disk c.args.device) all))
+    open_versions (g.D.SectorDevice.disk c.args.device) (g.D.SectorDevice.disk c.in-Err.device) all (c.in-Err.ensures.any_moment honest (stores_of (g.D.SectorDevice.disk c.args.device) all))
 
 pub returns-in-Err-clause-err : goal.returns-in-Err-clause-err
 returns-in-Err-clause-err g c =
@@ -29,7 +31,7 @@ pub returns-in-Ok-judge-clause-any_moment : goal.returns-in-Ok-judge-clause-any_
 returns-in-Ok-judge-clause-any_moment g c = λ honest all.
     let old = g.D.SectorDevice.disk c.args.device in
     let before = c.judge.ensures.quiet.honest honest in
-    leaves_quiet c.in-Ok.pages c.judge.new.pages c.judge.ensures.quiet honest (OpensOneOf old) old (open_leaves old (disk_in c.in-Ok.pages) all (c.in-Ok.ensures.any_moment before (stores_of old all)))
+    leaves_quiet c.in-Ok.pages c.judge.new.pages c.judge.ensures.quiet honest (OpensOneAs old) old (open_versions old (disk_in c.in-Ok.pages) all (c.in-Ok.ensures.any_moment before (stores_of old all)))
 
 pub returns-in-Ok-judge-clause-opened : goal.returns-in-Ok-judge-clause-opened
 returns-in-Ok-judge-clause-opened g c = λ all honest.
@@ -42,10 +44,10 @@ returns-in-Ok-judge-clause-found g c =
 pub returns-in-Err-judge-clause-any_moment : goal.returns-in-Err-judge-clause-any_moment
 returns-in-Err-judge-clause-any_moment g c =
     let old = g.D.SectorDevice.disk c.args.device in
-    let told = λ (honest : (disk_in c.judge.new.pages).is_honest) (all : AllDesks old).
+    let told = λ (honest : (disk_in c.judge.new.pages).is_honest) (all : AllVersions old).
     let before = c.judge.ensures.quiet.honest honest in
-    leaves_quiet c.in-Ok.pages c.judge.new.pages c.judge.ensures.quiet honest (OpensOneOf old) old (open_leaves old (disk_in c.in-Ok.pages) all (c.in-Ok.ensures.any_moment before (stores_of old all))) in
-    subst (λ d. (g.D.SectorDevice.disk d).is_honest → AllDesks old → LeavesOnly (OpensOneOf old) old (g.D.SectorDevice.disk d)) (sym c.into_device.ensures) told
+    leaves_quiet c.in-Ok.pages c.judge.new.pages c.judge.ensures.quiet honest (OpensOneAs old) old (open_versions old (disk_in c.in-Ok.pages) all (c.in-Ok.ensures.any_moment before (stores_of old all))) in
+    subst (λ d. (g.D.SectorDevice.disk d).is_honest → AllVersions old → LeavesOnly (OpensOneAs old) old (g.D.SectorDevice.disk d)) (sym c.into_device.ensures) told
 
 pub returns-in-Err-judge-clause-err : goal.returns-in-Err-judge-clause-err
 returns-in-Err-judge-clause-err g c =

@@ -1,6 +1,6 @@
 use Rattle.std.proofs.Common.{refl, inl}
 use Rattle.page_store.proofs.Stops.{quiet_none}
-use Rattle.desk_store.specs.Clerks.{desk_of, Keeps}
+use Rattle.desk_store.specs.Clerks.{desk_of, pages_of, Keeps}
 use Rattle.desk_store.specs.Loads.{BeginRefused}
 use Rattle.desk_store.proofs.Moved.{worked, faulted, quieted, unmoved}
 use Rattle.desk_store.proofs.Loaded.{begin_left, begin_rose, begin_quiet, begin_refused, begin_holds, begin_stages}
@@ -47,7 +47,7 @@ pub returns-then-is_some-clause-moves : goal.returns-then-is_some-clause-moves
 returns-then-is_some-clause-moves g c = unmoved (Keeps c.args.self.now) (desk_of c.args.self.now) c.args.self.now (λ keeps. keeps)
 
 pub returns-then-is_some-clause-quiet : goal.returns-then-is_some-clause-quiet
-returns-then-is_some-clause-quiet g c = λ off. quiet_none c.args.self.now.pages
+returns-then-is_some-clause-quiet g c = λ off. quiet_none (pages_of c.args.self.now)
 
 pub returns-else-has_failed-clause-quiet : goal.returns-else-has_failed-clause-quiet
 returns-else-has_failed-clause-quiet g c = λ off. begin_quiet c.args.geography.value c.args.self.now c.begin_load.new.pages c.in-Err.e (c.if-has_failed.ensures.passed refl).0 c.in-Err.ensures.err

@@ -1,6 +1,6 @@
 use Rattle.std.proofs.Common.{refl, inl}
 use Rattle.page_store.proofs.Stops.{quiet_none}
-use Rattle.desk_store.specs.Clerks.{desk_of}
+use Rattle.desk_store.specs.Clerks.{desk_of, pages_of}
 use Rattle.desk_store.specs.Loads.{Stages}
 use Rattle.desk_store.proofs.Moved.{worked, faulted, quieted, unmoved}
 use Rattle.desk_store.proofs.Loaded.{batch_left, batch_rose, batch_quiet, batch_holds, batch_stages}
@@ -44,7 +44,7 @@ returns-else-has_failed-clause-moves g c =
     quieted (Stages x c.args.load.now) (desk_of x) x _ (λ stages. stages.keeps) working working refl (batch_quiet c.args.load.now c.args.rows x c.load_batch.new.pages c.in-Err-load_batch.e (c.if-has_failed.ensures.passed refl).0 c.in-Err-load_batch.ensures.err)
 
 pub returns-in-Err-clause-quiet : goal.returns-in-Err-clause-quiet
-returns-in-Err-clause-quiet g c = λ off. quiet_none c.args.self.now.pages
+returns-in-Err-clause-quiet g c = λ off. quiet_none (pages_of c.args.self.now)
 
 pub returns-else-has_failed-clause-quiet : goal.returns-else-has_failed-clause-quiet
 returns-else-has_failed-clause-quiet g c = λ off. batch_quiet c.args.load.now c.args.rows c.args.self.now c.load_batch.new.pages c.in-Err-load_batch.e (c.if-has_failed.ensures.passed refl).0 c.in-Err-load_batch.ensures.err

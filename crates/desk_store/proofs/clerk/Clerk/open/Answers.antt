@@ -2,10 +2,12 @@ use Rattle.std.proofs.Common.{◌≡◌, inr, refl, sym, subst}
 use Rattle.sector_device.specs.Moments.{LeavesOnly}
 use Rattle.page_store.proofs.Stops.{leaves_quiet}
 use Rattle.page_store.specs.Transactions.{disk_in}
-use Rattle.desk_store.specs.Openings.{AllDesks, AllVersions, OpensOneOf, OpensOneAs, IsSpared, OpenRefused}
+use Rattle.desk_pages.specs.Openings.{AllDesks, AllVersions, OpensOneOf, OpensOneAs, IsSpared}
+use Rattle.desk_pages.proofs.Found.{all_versions, stores_of, open_leaves, open_versions, pages_left}
+use Rattle.desk_store.specs.Openings.{OpenRefused}
 use Rattle.desk_store.specs.declared.opening.OpenError.{OpenError}
 use Rattle.desk_store.specs.declared.opening.OpenError.TheVariants.{NotAStore}
-use Rattle.desk_store.proofs.Opened.{all_versions, stores_of, open_leaves, open_versions, opened_keeps, page_refused, page_spared, not_other, find_refused, as_refused, is_found, pages_left}
+use Rattle.desk_store.proofs.Opened.{opened_keeps, page_refused, page_spared, not_other, find_refused, as_refused, is_found}
 use Rattle.desk_store.proofs.clerk.Clerk.open.Goals as goal
 
 pub returns-in-Err-clause-any_moment : goal.returns-in-Err-clause-any_moment

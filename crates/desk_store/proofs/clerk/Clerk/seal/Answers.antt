@@ -1,5 +1,6 @@
 use Rattle.std.proofs.Common.{refl, ◌∙◌}
 use Rattle.page_store.proofs.Stops.{quiet_none}
+use Rattle.desk_store.specs.Clerks.{pages_of}
 use Rattle.desk_store.specs.Keeping.{sealed_desk}
 use Rattle.desk_store.specs.Loads.{Stages}
 use Rattle.geo_tables.specs.Loading.{ground_of}
@@ -41,10 +42,10 @@ returns-else-has_failed-clause-moves g c =
     quieted (Stages x load) (sealed_desk (ground_of load)) x _ (λ stages. stages.keeps) working working refl (seal_quiet load x c.seal.new.pages c.in-Err-seal.e (c.if-has_failed.ensures.passed refl).0 c.in-Err-seal.ensures.err)
 
 pub returns-in-Err-clause-quiet : goal.returns-in-Err-clause-quiet
-returns-in-Err-clause-quiet g c = λ off. quiet_none c.args.self.now.pages
+returns-in-Err-clause-quiet g c = λ off. quiet_none (pages_of c.args.self.now)
 
 pub returns-in_default-sealed-clause-quiet : goal.returns-in_default-sealed-clause-quiet
-returns-in_default-sealed-clause-quiet g c = λ off. quiet_none c.args.self.now.pages
+returns-in_default-sealed-clause-quiet g c = λ off. quiet_none (pages_of c.args.self.now)
 
 pub returns-else-has_failed-clause-quiet : goal.returns-else-has_failed-clause-quiet
 returns-else-has_failed-clause-quiet g c = λ off. seal_quiet c.args.load c.args.self.now c.seal.new.pages c.in-Err-seal.e (c.if-has_failed.ensures.passed refl).0 c.in-Err-seal.ensures.err

@@ -2,7 +2,7 @@ use Rattle.std.proofs.Common.{◌≡◌, ℕ, Option, refl, inl, subst}
 use Rattle.std.specs.Prelude.{◌↔◌}
 use Rattle.store_sweep.specs.Leftovers.{IsSweptClean}
 use Rattle.geo_tables.specs.Loading.{number_of}
-use Rattle.desk_store.specs.Clerks.{desk_of, Keeps}
+use Rattle.desk_store.specs.Clerks.{desk_of, pages_of, Keeps}
 use Rattle.desk_store.proofs.Moved.{worked, faulted, quieted}
 use Rattle.desk_store.proofs.Loaded.{begin_left}
 use Rattle.desk_store.proofs.Swept.{as_loading, swept_holds, swept_stages, swept_told, sweep_rose, sweep_quiet, still_stages, halted_stages}
@@ -45,9 +45,9 @@ returns-in-Ok-clause-exact g c = λ honest m has.
 pub returns-else-has_failed-clause-moves : goal.returns-else-has_failed-clause-moves
 returns-else-has_failed-clause-moves g c =
     let x = c.args.self.now in
-    quieted (Keeps x) (desk_of x) x _ (λ keeps. keeps) c.if-self.false c.if-self.false refl (sweep_quiet x.pages c.sweep_step.new.pages c.in-Err.e (c.if-has_failed.ensures.passed refl).0 c.in-Err.ensures.err)
+    quieted (Keeps x) (desk_of x) x _ (λ keeps. keeps) c.if-self.false c.if-self.false refl (sweep_quiet (pages_of x) c.sweep_step.new.pages c.in-Err.e (c.if-has_failed.ensures.passed refl).0 c.in-Err.ensures.err)
 
 pub returns-else-has_failed-clause-staged : goal.returns-else-has_failed-clause-staged
 returns-else-has_failed-clause-staged g c = λ load last stages.
     let x = c.args.self.now in
-    still_stages x _ load c.if-self.false refl (sweep_quiet x.pages c.sweep_step.new.pages c.in-Err.e (c.if-has_failed.ensures.passed refl).0 c.in-Err.ensures.err) ((returns-else-has_failed-clause-moves g c).keeps stages.keeps) stages
+    still_stages x _ load c.if-self.false refl (sweep_quiet (pages_of x) c.sweep_step.new.pages c.in-Err.e (c.if-has_failed.ensures.passed refl).0 c.in-Err.ensures.err) ((returns-else-has_failed-clause-moves g c).keeps stages.keeps) stages

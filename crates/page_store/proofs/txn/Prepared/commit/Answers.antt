@@ -7,11 +7,11 @@ use Rattle.page_store.specs.Chain.{IsMeta}
 use Rattle.page_store.proofs.txn.Prepared.commit.Goals as goal
 
 -- no place has a number
-none_held : (k : ℕ) → 0 < get_or {A = ℕ} (replicate {A = ℕ} 8 0) k 0 → ⊥
+none_held : (k : ℕ) → 0 < get_or {A = ℕ} (replicate {A = ℕ} 16 0) k 0 → ⊥
 none_held k some =
-    let none : ◌≡◌ {A = ℕ} (get_or {A = ℕ} (replicate {A = ℕ} 8 0) k 0) 0 = elim (cases_lt k 8) [
-      | inl within ↦ get_or-replicate {A = ℕ} 8 k 0 0 within
-      | inr past ↦ get_or_past {X = ℕ} (replicate {A = ℕ} 8 0) k 0 (omega (arith, length-replicate {A = ℕ} 8 0))
+    let none : ◌≡◌ {A = ℕ} (get_or {A = ℕ} (replicate {A = ℕ} 16 0) k 0) 0 = elim (cases_lt k 16) [
+      | inl within ↦ get_or-replicate {A = ℕ} 16 k 0 0 within
+      | inr past ↦ get_or_past {X = ℕ} (replicate {A = ℕ} 16 0) k 0 (omega (arith, length-replicate {A = ℕ} 16 0))
     ] in
     omega arith
 

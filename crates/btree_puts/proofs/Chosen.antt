@@ -1,0 +1,176 @@
+-- The child that a key belongs to, and what a put into it does to all children.
+use Rattle.std.proofs.Common.{◌≡◌, ◌⊎◌, ◌<◌, ◌++◌, inl, inr, ⊎_elim, ℕ, List, [], ◌∷◌, length, Bool, true, false, cond, refl, sym, ap, subst, ◌∙◌, arith}
+use Rattle.std.specs.Prelude.{Option, Some, is_some}
+use Rattle.std.specs.Ordering.{is_gt}
+use Rattle.std.specs.FinMap.{find}
+use Rattle.sector_device.specs.Disk.{Image}
+use Rattle.page_store.specs.Chain.{IsIn}
+use Rattle.page_node.specs.Entries.{Entry, key_at, child_bytes}
+use Rattle.page_node.specs.Places.{key_cmp, floor}
+use Rattle.page_btree.specs.Keys.{IsBetween, Parts}
+use Rattle.page_btree.specs.Tree.{Tree, Forest, one, more, page_of, first_key, links, rows, forest_rows, owns, forest_owns, IsTree, AreTrees, IsApart, AreApart}
+use Rattle.btree_puts.specs.Putting.{IsPut, linked, behind_child}
+use Rattle.page_btree.proofs.Rows.{put_left, put_right, find_left, find_right, key_before}
+use Rattle.page_btree.proofs.MapLaws.{tree_same, trees_same}
+use Rattle.page_btree.proofs.Within.{rows_behind, rows_before}
+use Rattle.btree_puts.proofs.Joined.{join, join_links, join_rows, join_size, owns_join, join_apart, join_trees}
+
+-- the first child, and the links behind its own
+abbrev pub first_tree : Forest → Tree
+first_tree (one k t) = t
+first_tree (more k t f) = t
+
+abbrev pub other_links : Forest → List Entry
+other_links (one k t) = []
+other_links (more k t f) = links f
+
+pub links_are : (f : Forest) → links f ≡ (first_key f, child_bytes (page_of (first_tree f))) ∷ other_links f
+links_are (one k t) = refl
+links_are (more k t f) = refl
+
+pub some_links : (f : Forest) → 0 < length (links f)
+some_links (one k t) = omega arith
+some_links (more k t f) = omega arith
+
+key_of_links : (f : Forest) → key_at (links f) 0 ≡ first_key f
+key_of_links (one k t) = refl
+key_of_links (more k t f) = refl
+
+linked_key : (key : List ℕ) (new es : List Entry) → key_at (linked key new es) 0 ≡ key_at es 0
+linked_key key new [] = refl
+linked_key key new (e ∷ es) = refl
+
+floor_links : (k key : List ℕ) (t : Tree) (f : Forest) → floor key (links (more k t f)) ≡ cond (is_gt (key_cmp (first_key f) key)) (Some (child_bytes (page_of t))) (floor key (links f))
+floor_links k key t (one q u) = refl
+floor_links k key t (more q u f) = refl
+
+-- a link more, before those that are above the key
+linked_true : (k key : List ℕ) (new : List Entry) (t : Tree) (f : Forest) → is_gt (key_cmp (first_key f) key) ≡ true → linked key new (links (more k t f)) ≡ (k, child_bytes (page_of t)) ∷ (new ++ links f)
+linked_true k key new t (one q u) above = ap (λ (b : Bool). (k, child_bytes (page_of t)) ∷ cond b (new ++ links (one q u)) ((q, child_bytes (page_of u)) ∷ new)) above
+linked_true k key new t (more q u f) above = ap (λ (b : Bool). (k, child_bytes (page_of t)) ∷ cond b (new ++ links (more q u f)) ((q, child_bytes (page_of u)) ∷ behind_child key new (links f))) above
+
+linked_false : (k key : List ℕ) (new : List Entry) (t : Tree) (f : Forest) → is_gt (key_cmp (first_key f) key) ≡ false → linked key new (links (more k t f)) ≡ (k, child_bytes (page_of t)) ∷ linked key new (links f)
+linked_false k key new t (one q u) above = ap (λ (b : Bool). (k, child_bytes (page_of t)) ∷ cond b (new ++ links (one q u)) ((q, child_bytes (page_of u)) ∷ new)) above
+linked_false k key new t (more q u f) above = ap (λ (b : Bool). (k, child_bytes (page_of t)) ∷ cond b (new ++ links (more q u f)) ((q, child_bytes (page_of u)) ∷ behind_child key new (links f))) above
+
+-- none of a tree's pages is free
+abbrev pub AreUsed : Forest → List ℕ → Type 0
+AreUsed f free = (q : ℕ) → forest_owns f q → IsIn q free → ⊥
+
+module _ (P Q : Image) (d : ℕ) (low : List ℕ) (high : Option (List ℕ)) (free left : List ℕ) (key value : List ℕ) (had : Bool) where
+  -- the first child became others
+  put_first : (k : List ℕ) (t : Tree) (f g : Forest) → AreTrees P d low high (more k t f) → AreApart (more k t f) → AreUsed (more k t f) free → is_gt (key_cmp (first_key f) key) ≡ true
+      → IsPut P Q d low (Some (first_key f)) free left key value had (one k t) g → IsPut P Q d low high free left key value had (more k t f) (join g f)
+  put_first k t f g trees apart used above done =
+      let before = rows_before P d (first_key f) high key f trees.2 (key_before (first_key f) key above) in
+      let stays : (q : ℕ) → forest_owns f q → Q q ≡ P q = λ q own. done.frame q (λ o. apart.1 q o own) (λ taken. used q (inr own) taken.0) in
+      let off : (q : ℕ) → forest_owns g q → forest_owns f q → ⊥ = λ q there own. ⊎_elim (λ o. apart.1 q o own) (λ taken. used q (inr own) taken.0) (done.owned q there) in
+      let n = join_size g f in
+      let m = done.whole in
+      record {
+        trees = join_trees Q d low high g f done.trees trees.1 (trees_same P Q d (first_key f) high f stays trees.2);
+        apart = join_apart g f done.apart apart.2 off;
+        rows_are = join_rows g f ∙ ap (λ l. l ++ forest_rows f) done.rows_are ∙ sym (put_left key value (rows t) (forest_rows f) before);
+        had_is = done.had_is ∙ ap is_some (sym (find_left key (rows t) (forest_rows f) before));
+        owned = λ q own. ⊎_elim (λ o. ⊎_elim (λ was. inl (inl was)) (λ taken. inr taken) (done.owned q o)) (λ o. inl (inr o)) (owns_join g f q own);
+        frame = λ q out none. done.frame q (λ o. out (inl o)) none;
+        fewer = done.fewer;
+        rest = done.rest;
+        whole = omega arith;
+      }
+
+  -- a later one did
+  put_later : (k : List ℕ) (t : Tree) (f g : Forest) → AreTrees P d low high (more k t f) → AreApart (more k t f) → AreUsed (more k t f) free → is_gt (key_cmp (first_key f) key) ≡ false → first_key g ≡ first_key f
+      → IsPut P Q d (first_key f) high free left key value had f g → IsPut P Q d low high free left key value had (more k t f) (more k t g)
+  put_later k t f g trees apart used from same done =
+      let behind = rows_behind P d low (first_key f) key t trees.0 from in
+      let stays : (q : ℕ) → owns t q → Q q ≡ P q = λ q own. done.frame q (λ o. apart.1 q own o) (λ taken. used q (inl own) taken.0) in
+      let m = done.whole in
+      record {
+        trees = (
+          subst (λ (b : List ℕ). IsTree Q d low (Some b) t) (sym same) (tree_same P Q d low (Some (first_key f)) t stays trees.0),
+          subst (λ (b : List ℕ). Parts low high b) (sym same) trees.1,
+          subst (λ (b : List ℕ). AreTrees Q d b high g) (sym same) done.trees,
+        );
+        apart = (apart.0, (λ q own there. ⊎_elim (λ o. apart.1 q own o) (λ taken. used q (inl own) taken.0) (done.owned q there)), done.apart);
+        rows_are = ap (λ l. rows t ++ l) done.rows_are ∙ sym (put_right key value (rows t) (forest_rows f) behind);
+        had_is = done.had_is ∙ ap is_some (sym (find_right key (rows t) (forest_rows f) behind));
+        owned = λ q own. ⊎_elim (λ o. inl (inl o)) (λ o. ⊎_elim (λ was. inl (inr was)) (λ taken. inr taken) (done.owned q o)) own;
+        frame = λ q out none. done.frame q (λ o. out (inr o)) none;
+        fewer = done.fewer;
+        rest = done.rest;
+        whole = omega arith;
+      }
+
+-- The child for a key: where it stands, and how a put into it is one into all.
+pub record HasChild (P : Image) (d : ℕ) (low : List ℕ) (high : Option (List ℕ)) (free : List ℕ) (key value : List ℕ) (f : Forest) : Type 0 where
+  pub child : Tree
+  pub its_key : List ℕ
+  pub its_low : List ℕ
+  pub its_high : Option (List ℕ)
+  pub stands : IsTree P d its_low its_high child
+  pub apart : IsApart child
+  pub between : IsBetween its_low its_high key
+  pub floor_is : floor key (links f) ≡ Some (child_bytes (page_of child))
+  pub owned : (q : ℕ) → owns child q → forest_owns f q
+  pub found : find key_cmp key (rows child) ≡ find key_cmp key (forest_rows f)
+  pub back : (Q : Image) (left : List ℕ) (had : Bool) (g : Forest) (new : List Entry) → IsPut P Q d its_low its_high free left key value had (one its_key child) g → links g ≡ (its_key, child_bytes (page_of child)) ∷ new
+      → (h : Forest) × IsPut P Q d low high free left key value had f h × (links h ≡ linked key new (links f))
+
+either : (b : Bool) → (b ≡ true) ⊎ (b ≡ false)
+either true = inl refl
+either false = inr refl
+
+pub chosen : (P : Image) (d : ℕ) (low : List ℕ) (high : Option (List ℕ)) (free : List ℕ) (key value : List ℕ) (f : Forest) → AreTrees P d low high f → AreApart f → AreUsed f free → IsBetween low high key → HasChild P d low high free key value f
+chosen P d low high free key value (one k t) trees apart used between = record {
+  child = t;
+  its_key = k;
+  its_low = low;
+  its_high = high;
+  stands = trees;
+  apart = apart;
+  between = between;
+  floor_is = refl;
+  owned = λ q own. own;
+  found = refl;
+  back = λ Q left had g new done same. (g, done, same);
+}
+chosen P d low high free key value (more k t f) trees apart used between = elim (either (is_gt (key_cmp (first_key f) key))) [
+  | inl above ↦ record {
+    child = t;
+    its_key = k;
+    its_low = low;
+    its_high = Some (first_key f);
+    stands = trees.0;
+    apart = apart.0;
+    between = record { from = between.from; under = key_before (first_key f) key above };
+    floor_is = floor_links k key t f ∙ ap (λ (b : Bool). cond b (Some (child_bytes (page_of t))) (floor key (links f))) above;
+    owned = λ q own. inl own;
+    found = sym (find_left key (rows t) (forest_rows f) (rows_before P d (first_key f) high key f trees.2 (key_before (first_key f) key above)));
+    back = λ Q left had g new done same. (
+      join g f,
+      put_first P Q d low high free left key value had k t f g trees apart used above done,
+      join_links g f ∙ ap (λ l. l ++ links f) same ∙ sym (linked_true k key new t f above),
+    );
+  }
+  | inr from ↦
+      let rest = chosen P d (first_key f) high free key value f trees.2 apart.2 (λ q own. used q (inr own)) (record { from = from; under = between.under }) in record {
+        child = rest.child;
+        its_key = rest.its_key;
+        its_low = rest.its_low;
+        its_high = rest.its_high;
+        stands = rest.stands;
+        apart = rest.apart;
+        between = rest.between;
+        floor_is = floor_links k key t f ∙ ap (λ (b : Bool). cond b (Some (child_bytes (page_of t))) (floor key (links f))) from ∙ rest.floor_is;
+        owned = λ q own. inr (rest.owned q own);
+        found = rest.found ∙ sym (find_right key (rows t) (forest_rows f) (rows_behind P d low (first_key f) key t trees.0 from));
+        back = λ Q left had g new done same.
+            let up = rest.back Q left had g new done same in
+            let key_same : first_key up.0 ≡ first_key f = sym (key_of_links up.0) ∙ ap (λ l. key_at l 0) up.2 ∙ linked_key key new (links f) ∙ key_of_links f in (
+              more k t up.0,
+              put_later P Q d low high free left key value had k t f up.0 trees apart used from key_same up.1,
+              ap (λ l. (k, child_bytes (page_of t)) ∷ l) up.2 ∙ sym (linked_false k key new t f from),
+            );
+      }
+]

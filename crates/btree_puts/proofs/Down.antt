@@ -1,0 +1,172 @@
+-- A step down to the child of a key, and up again.
+use Rattle.std.proofs.Common.{◌≡◌, ◌≢◌, ◌<◌, ◌≤◌, ◌-◌, ◌^◌, inl, inr, ℕ, List, [], ◌∷◌, Bool, true, false, cond, refl, sym, ap, subst, ◌∙◌, arith}
+use Rattle.std.specs.Prelude.{Option, Some, None, option_map}
+use Rattle.std.specs.Ordering.{is_gt}
+use Rattle.std.specs.FinMap.{find}
+use Rattle.sector_device.specs.Disk.{Image}
+use Rattle.page_store.specs.Chain.{IsIn, AreFree}
+use Rattle.page_node.specs.Entries.{Entry, key_at, child_bytes, child_in}
+use Rattle.page_node.specs.Node.{Node, IsNode}
+use Rattle.page_node.specs.Places.{key_cmp, floor}
+use Rattle.page_node.proofs.Laws.{child_written}
+use Rattle.page_btree.specs.Keys.{IsBetween}
+use Rattle.page_btree.specs.Tree.{Tree, Forest, leaf, inner, one, page_of, rows, links, forest_owns}
+use Rattle.page_btree.specs.Map.{IsSound}
+use Rattle.btree_puts.specs.Putting.{IsPut, IsWritten, IsRaised, StandsAt, CanPut, linked, behind_child}
+use Rattle.btree_puts.proofs.Chosen.{HasChild, chosen}
+use Rattle.btree_puts.proofs.Raised.{raise}
+use Rattle.btree_puts.proofs.Roots.{owns_page, level_there}
+
+behind_none : (key : List ℕ) (es : List Entry) → behind_child key [] es ≡ es
+behind_none key [] = refl
+behind_none key (e ∷ es) = ap (λ (l : List Entry). cond (is_gt (key_cmp e.0 key)) (e ∷ es) (e ∷ l)) (behind_none key es) ∙ elim (is_gt (key_cmp e.0 key)) as (λ b. cond b (e ∷ es) (e ∷ es) ≡ e ∷ es) [ true ↦ refl | false ↦ refl ]
+
+linked_none : (key : List ℕ) (es : List Entry) → linked key [] es ≡ es
+linked_none key [] = refl
+linked_none key (e ∷ es) = ap (λ (l : List Entry). e ∷ l) (behind_none key es)
+
+some_same : (x y : ℕ) → Some x ≡ Some y → x ≡ y
+some_same x y e = ap (λ (o : Option ℕ). or_zero o) e
+  where
+    or_zero : Option ℕ → ℕ
+    or_zero None = 0
+    or_zero (Some z) = z
+
+-- the node at a page has children, and a key belongs to one of them
+pub record HasBelow (n : ℕ) (P : Image) (d : ℕ) (low : List ℕ) (high : Option (List ℕ)) (free : List ℕ) (page : ℕ) (key value : List ℕ) (t : Tree) : Type 0 where
+  pub forest : Forest
+  pub is : t ≡ inner page forest
+  pub positive : 0 < d
+  pub node : IsNode (P page) (record { level = d; entries = links forest })
+  pub sound : IsSound n free (inner page forest)
+  pub has : HasChild P (d - 1) low high free key value forest
+  pub stands : StandsAt n P (d - 1) has.its_low has.its_high free (page_of has.child) has.child
+
+pub go_down : (n : ℕ) (P : Image) (d : ℕ) (low : List ℕ) (high : Option (List ℕ)) (free : List ℕ) (page : ℕ) (key value : List ℕ) (t : Tree) → d ≢ 0 → StandsAt n P d low high free page t → IsBetween low high key → HasBelow n P d low high free page key value t
+go_down n P d low high free page key value (leaf p es) deep stands between = absurd (deep stands.tree_is.0)
+go_down n P d low high free page key value (inner p f) deep stands between =
+    let same = stands.page_is in
+    let has = chosen P (d - 1) low high free key value f stands.tree_is.2 stands.sound.apart.1 (λ q own. stands.sound.used q (inr own)) between in record {
+      forest = f;
+      is = ap (λ (x : ℕ). inner x f) same;
+      positive = stands.tree_is.0;
+      node = subst (λ (x : ℕ). IsNode (P x) (record { level = d; entries = links f })) same stands.tree_is.1;
+      sound = subst (λ (x : ℕ). IsSound n free (inner x f)) same stands.sound;
+      has = has;
+      stands = record {
+        tree_is = has.stands;
+        page_is = refl;
+        sound = record {
+          apart = has.apart;
+          below = λ q own. stands.sound.below q (inr (has.owned q own));
+          used = λ q own. stands.sound.used q (inr (has.owned q own));
+        };
+      };
+    }
+
+module _ (n : ℕ) (P : Image) (d : ℕ) (low : List ℕ) (high : Option (List ℕ)) (free : List ℕ) (page : ℕ) (key value : List ℕ) (t : Tree) (few : n ≤ 2 ^ 32) (b : HasBelow n P d low high free page key value t) where
+  -- its page, as the entry tells it
+  pub child_there : (child : ℕ) → option_map child_in (floor key (links b.forest)) ≡ Some child → page_of b.has.child ≡ child
+  child_there child told =
+      let less = (b.stands.sound.below (page_of b.has.child) (owns_page b.has.child)).1 in
+      sym (child_written (page_of b.has.child) (omega arith)) ∙ some_same _ _ (sym (ap (option_map child_in) b.has.floor_is) ∙ told)
+
+  pub not_missing : floor key (links b.forest) ≡ None → ⊥
+  not_missing none = cc (b.has.floor_is, none)
+
+  pub find_below : find key_cmp key (rows b.has.child) ≡ find key_cmp key (rows t)
+  find_below = b.has.found ∙ ap (λ u. find key_cmp key (rows u)) (sym b.is)
+
+  module _ (Q : Image) (left : List ℕ) (had : Bool) (free_are : AreFree n free) where
+    -- what a put below leaves of the node's page
+    page_stays : (low' : List ℕ) (high' : Option (List ℕ)) (f g : Forest) → ((q : ℕ) → forest_owns f q → forest_owns b.forest q) → IsPut P Q (d - 1) low' high' free left key value had f g → Q page ≡ P page
+    page_stays low' high' f g within done = done.frame page (λ own. b.sound.apart.0 (within page own)) (λ taken. b.sound.used page (inl refl) taken.0)
+
+    pub node_stays : (right : Option ℕ) (upper : Node) → IsRaised P Q (d - 1) b.has.its_low b.has.its_high free left key value had b.has.its_key (page_of b.has.child) b.has.child right upper → IsNode (Q page) (record { level = d; entries = links b.forest })
+    node_stays right upper up = subst (λ bytes. IsNode bytes (record { level = d; entries = links b.forest })) (sym (page_stays b.has.its_low b.has.its_high (one b.has.its_key b.has.child) up.trees (λ q own. b.has.owned q own) up.is_put)) b.node
+
+    pub left_free : (right : Option ℕ) (upper : Node) → IsRaised P Q (d - 1) b.has.its_low b.has.its_high free left key value had b.has.its_key (page_of b.has.child) b.has.child right upper → AreFree n left × (IsIn page left → ⊥)
+    left_free right upper up = (up.is_put.rest n free_are, λ there. b.sound.used page (inl refl) (up.is_put.fewer page there))
+
+    finish : (R : Image) (last : List ℕ) (k : List ℕ) (new : List Entry) (right : Option ℕ) (upper : Node) (h : Forest) → IsPut P Q (d - 1) low high free left key value had b.forest h → links h ≡ linked key new (links b.forest)
+        → IsWritten Q R left last page right (record { level = d; entries = linked key new (links b.forest) }) upper → IsRaised P R d low high free last key value had k page t right upper
+    finish R last k new right upper h done same w =
+        subst (λ u. IsRaised P R d low high free last key value had k page u right upper) (sym b.is)
+        (raise P Q R n d low high free left last key value had k page b.forest h b.positive b.sound free_are done right upper
+        (subst (λ es. IsWritten Q R left last page right (record { level = d; entries = es }) upper) (sym same) w))
+
+    -- the child is one as before: nothing is written above
+    pub finish_none : (k : List ℕ) (upper above : Node) → IsRaised P Q (d - 1) b.has.its_low b.has.its_high free left key value had b.has.its_key (page_of b.has.child) b.has.child None upper → IsRaised P Q d low high free left key value had k page t None above
+    finish_none k upper above up =
+        let same : links up.trees ≡ (b.has.its_key, child_bytes (page_of b.has.child)) ∷ [] = ap links up.shape.1 ∙ ap (λ (x : ℕ). (b.has.its_key, child_bytes x) ∷ []) up.shape.2 in
+        let back = b.has.back Q left had up.trees [] up.is_put same in
+        finish Q left k [] None above back.0 back.1 back.2 (record {
+          holds = subst (λ es. IsNode (Q page) (record { level = d; entries = es })) (sym (linked_none key (links b.forest))) (node_stays None upper up);
+          elsewhere = λ q off. refl;
+          none = refl;
+        })
+
+    -- the child became two: its node has a link more
+    pub finish_some : (R : Image) (last : List ℕ) (k : List ℕ) (q : ℕ) (upper : Node) (right : Option ℕ) (above : Node) → IsRaised P Q (d - 1) b.has.its_low b.has.its_high free left key value had b.has.its_key (page_of b.has.child) b.has.child (Some q) upper
+        → IsWritten Q R left last page right (record { level = d; entries = linked key ((key_at upper.entries 0, child_bytes q) ∷ []) (links b.forest) }) above → IsRaised P R d low high free last key value had k page t right above
+    finish_some R last k q upper right above up w =
+        let new : List Entry = (key_at upper.entries 0, child_bytes q) ∷ [] in
+        let same : links up.trees ≡ (b.has.its_key, child_bytes (page_of b.has.child)) ∷ new =
+        ap links up.shape.2 ∙ ap (λ (x : ℕ). (b.has.its_key, child_bytes x) ∷ (key_at upper.entries 0, child_bytes (page_of up.shape.1)) ∷ []) up.shape.3
+        ∙ ap (λ (x : ℕ). (b.has.its_key, child_bytes (page_of b.has.child)) ∷ (key_at upper.entries 0, child_bytes x) ∷ []) up.shape.4 in
+        let back = b.has.back Q left had up.trees new up.is_put same in
+        finish R last k new right above back.0 back.1 back.2 w
+
+-- ---- what a call for a tree at a page knows
+module _ (n : ℕ) (P : Image) (d : ℕ) (low : List ℕ) (high : Option (List ℕ)) (free : List ℕ) (page : ℕ) (bytes key value : List ℕ) (t : Tree) (few : n ≤ 2 ^ 32) (can : CanPut n P d low high free page bytes key t) (deep : d ≢ 0) where
+  pub here : HasBelow n P d low high free page key value t
+  here = go_down n P d low high free page key value t deep can.stands can.between
+
+  pub here_node : IsNode bytes (record { level = d; entries = links here.forest })
+  here_node = subst (λ b. IsNode b (record { level = d; entries = links here.forest })) (sym can.reads) here.node
+
+  -- where no child is told, none is there
+  pub none_told : ((node : Node) → IsNode bytes node → 0 < node.level → floor key node.entries ≡ None) → ⊥
+  none_told none = not_missing n P d low high free page key value t few here (none (record { level = d; entries = links here.forest }) here_node here.positive)
+
+  module _ (child : ℕ) (told : (node : Node) → IsNode bytes node → option_map child_in (floor key node.entries) ≡ Some child) where
+    pub child_is : page_of here.has.child ≡ child
+    child_is = child_there n P d low high free page key value t few here child (told (record { level = d; entries = links here.forest }) here_node)
+
+    pub child_below : child < n
+    child_below = subst (λ (x : ℕ). x < n) child_is (here.stands.sound.below (page_of here.has.child) (owns_page here.has.child)).1
+
+    module _ (bytes_below : List ℕ) (reads : bytes_below ≡ P child) where
+      pub level_below : (es : List Entry) × IsNode bytes_below (record { level = d - 1; entries = es })
+      level_below =
+          let there = level_there P (d - 1) here.has.its_low here.has.its_high here.has.child here.has.stands in
+          (there.0, subst (λ b. IsNode b (record { level = d - 1; entries = there.0 })) (ap P child_is ∙ sym reads) there.1)
+
+      pub can_below : CanPut n P (d - 1) here.has.its_low here.has.its_high free child bytes_below key here.has.child
+      can_below = record {
+        reads = reads;
+        stands = record { tree_is = here.stands.tree_is; page_is = child_is; sound = here.stands.sound };
+        free_are = can.free_are;
+        between = here.has.between;
+      }
+
+      module _ (Q : Image) (left : List ℕ) (had : Bool) (right : Option ℕ) (upper : Node) (done : (l : List ℕ) (h : Option (List ℕ)) (u : Tree) → CanPut n P (d - 1) l h free child bytes_below key u → (k : List ℕ) → IsRaised P Q (d - 1) l h free left key value had k child u right upper) where
+        raised : (r : Option ℕ) → right ≡ r → IsRaised P Q (d - 1) here.has.its_low here.has.its_high free left key value had here.has.its_key (page_of here.has.child) here.has.child r upper
+        raised r is = subst (λ r. IsRaised P Q (d - 1) here.has.its_low here.has.its_high free left key value had here.has.its_key (page_of here.has.child) here.has.child r upper) is
+            (subst (λ (p : ℕ). IsRaised P Q (d - 1) here.has.its_low here.has.its_high free left key value had here.has.its_key p here.has.child right upper) (sym child_is)
+            (done here.has.its_low here.has.its_high here.has.child can_below here.has.its_key))
+
+        pub through_none : right ≡ None → (above : Node) (k : List ℕ) → IsRaised P Q d low high free left key value had k page t right above
+        through_none is above k = subst (λ r. IsRaised P Q d low high free left key value had k page t r above) (sym is)
+            (finish_none n P d low high free page key value t few here Q left had can.free_are k upper above (raised None is))
+
+        pub free_then : AreFree n left × (IsIn page left → ⊥)
+        free_then = left_free n P d low high free page key value t few here Q left had can.free_are right upper (raised right refl)
+
+        pub node_then : IsNode (Q page) (record { level = d; entries = links here.forest })
+        node_then = node_stays n P d low high free page key value t few here Q left had can.free_are right upper (raised right refl)
+
+        pub through_some : (q : ℕ) → right ≡ Some q → (R : Image) (last : List ℕ) (cut : Option ℕ) (above : Node)
+            → IsWritten Q R left last page cut (record { level = d; entries = linked key ((key_at upper.entries 0, child_bytes q) ∷ []) (links here.forest) }) above
+            → (k : List ℕ) → IsRaised P R d low high free last key value had k page t cut above
+        through_some q is R last cut above w k = finish_some n P d low high free page key value t few here Q left had can.free_are R last k q upper cut above (raised (Some q) is) w

@@ -1,0 +1,103 @@
+-- A refusal below, told above.
+use Rattle.std.proofs.Common.{◌≡◌, ◌≤◌, ◌<◌, ◌+◌, ℕ, List, inl, inr, ⊎_elim, sym, ◌∙◌, arith, length}
+use Rattle.sector_device.specs.Disk.{Image}
+use Rattle.sector_device.specs.declared.SectorDevice.{Ghosts}
+use Rattle.page_store.specs.Chain.{AreFree}
+use Rattle.page_store.specs.Transactions.{stored, disk_in, txn_pages, txn_root, txn_free, over, free_over, IsQuiet, Passed, ReadErr}
+use Rattle.page_store.proofs.Stops.{failed_more}
+use Rattle.page_store.specs.declared.error.PageError.{PageError}
+use Rattle.page_store.specs.declared.error.PageError.TheVariants as page
+use Rattle.page_store.specs.declared.pages.Pages.{Pages}
+use Rattle.page_store.specs.declared.txn.Txn.{Txn}
+use Rattle.page_node.specs.Entries.{Entry}
+use Rattle.page_node.specs.Node.{Node, IsNode}
+use Rattle.page_btree.specs.Errors.{tree_error, PutErr, IsNoWant, level_in}
+use Rattle.btree_puts.specs.Errors.{StepErr, PlaceErr, RowErr, LinkErr, WriteErr, GrowErr}
+use Rattle.page_btree.specs.Keys.{KeyMap}
+use Rattle.page_btree.specs.Map.{InTxn}
+use Rattle.page_btree.specs.declared.error.TreeError.{TreeError}
+use Rattle.page_btree.specs.declared.error.TreeError.TheVariants.{DeviceFault, Halted, NoPages, TooDeep, Memory}
+
+module _ {D : Type 0} {g : Ghosts D} where
+  pub read_failed : (can : Image → Type 0) (old new : Pages D g) (e : PageError) → ReadErr old new e → StepErr can old new (tree_error e)
+  read_failed can old new page.DeviceFault why = inl why
+  read_failed can old new page.Halted why = why
+  read_failed can old new page.NotAStore why = absurd why
+  read_failed can old new page.TooManyPages why = absurd why
+  read_failed can old new page.TooSmall why = absurd why
+  read_failed can old new page.NoPages why = absurd why
+  read_failed can old new page.Memory why = absurd why
+
+  pub step_failed : (level : ℕ) (can : Image → Type 0) (t : Txn) (old new : Pages D g) (e : TreeError) → StepErr can old new e → PlaceErr level can t old new e
+  step_failed level can t old new DeviceFault why = why
+  step_failed level can t old new Halted why = why
+  step_failed level can t old new NoPages why = absurd why
+  step_failed level can t old new TooDeep why = why
+  step_failed level can t old new Memory why = tt
+
+  pub step_no_want : (can : Image → Type 0) (old new : Pages D g) (e : TreeError) → StepErr can old new e → IsNoWant e
+  step_no_want can old new DeviceFault why = tt
+  step_no_want can old new Halted why = tt
+  step_no_want can old new NoPages why = why
+  step_no_want can old new TooDeep why = why
+  step_no_want can old new Memory why = tt
+
+  pub below_failed : (level below : ℕ) (can can_below : Image → Type 0) (t : Txn) (old mid new : Pages D g) → Passed old mid → IsQuiet mid new → below ≤ level → ((disk_in new).is_honest → can (stored old) → can_below (stored mid))
+      → (e : TreeError) → PlaceErr below can_below t mid new e → PlaceErr level can t old new e
+  below_failed level below can can_below t old mid new passed quiet le also DeviceFault why = ⊎_elim (λ failed. inl (failed_more old mid new passed quiet failed)) (λ no. inr (λ honest is. no honest (also honest is))) why
+  below_failed level below can can_below t old mid new passed quiet le also Halted why = sym passed.halted ∙ why
+  below_failed level below can can_below t old mid new passed quiet le also NoPages why = omega arith
+  below_failed level below can can_below t old mid new passed quiet le also TooDeep why = why
+  below_failed level below can can_below t old mid new passed quiet le also Memory why = tt
+
+  pub row_failed : (level : ℕ) (can : Image → Type 0) (bytes : List ℕ) (t : Txn) (old new : Pages D g)
+      → ((disk_in new).is_honest → can (stored old) → AreFree (txn_pages t) (free_over t (stored old)) × ((es : List Entry) × IsNode bytes (record { level = 0; entries = es })))
+      → (e : TreeError) → RowErr bytes t old new e → PlaceErr level can t old new e
+  row_failed level can bytes t old new has DeviceFault why = ⊎_elim (λ failed. inl failed) (λ no. inr (λ honest is. let h = has honest is in no honest h.0 h.1.0 h.1.1)) why
+  row_failed level can bytes t old new has Halted why = why
+  row_failed level can bytes t old new has NoPages why = omega arith
+  row_failed level can bytes t old new has TooDeep why = why
+  row_failed level can bytes t old new has Memory why = tt
+
+  pub link_failed : (level : ℕ) (can : Image → Type 0) (p : ℕ) (t u : Txn) (old mid new : Pages D g) → Passed old mid → IsQuiet mid new → txn_free t ≤ txn_free u + level
+      → ((disk_in new).is_honest → can (stored old) → AreFree (txn_pages u) (free_over u (stored mid)) × ((node : Node) × IsNode (over u (stored mid) p) node × (0 < length node.entries)))
+      → (e : TreeError) → LinkErr p u mid new e → PlaceErr level can t old new e
+  link_failed level can p t u old mid new passed quiet le has DeviceFault why = ⊎_elim (λ failed. inl (failed_more old mid new passed quiet failed)) (λ no. inr (λ honest is. let h = has honest is in no honest h.0 h.1.0 h.1.1 h.1.2)) why
+  link_failed level can p t u old mid new passed quiet le has Halted why = sym passed.halted ∙ why
+  link_failed level can p t u old mid new passed quiet le has NoPages why = omega arith
+  link_failed level can p t u old mid new passed quiet le has TooDeep why = why
+  link_failed level can p t u old mid new passed quiet le has Memory why = tt
+
+  -- ---- of a put at the root
+  pub first_failed : (t : Txn) (old new : Pages D g) (e : TreeError) → WriteErr t old new e → PutErr t old new e
+  first_failed t old new DeviceFault why = ⊎_elim (λ failed. inl failed) (λ no. inr (λ honest m holds. no honest holds.free_are)) why
+  first_failed t old new Halted why = why
+  first_failed t old new NoPages why = omega arith
+  first_failed t old new TooDeep why = absurd why
+  first_failed t old new Memory why = tt
+
+  pub root_read_failed : (t : Txn) (old new : Pages D g) (e : PageError) → ReadErr old new e → PutErr t old new (tree_error e) × IsNoWant (tree_error e)
+  root_read_failed t old new page.DeviceFault why = (inl why, tt)
+  root_read_failed t old new page.Halted why = (why, tt)
+  root_read_failed t old new page.NotAStore why = absurd why
+  root_read_failed t old new page.TooManyPages why = absurd why
+  root_read_failed t old new page.TooSmall why = absurd why
+  root_read_failed t old new page.NoPages why = absurd why
+  root_read_failed t old new page.Memory why = absurd why
+
+  pub place_failed : (level : ℕ) (can : Image → Type 0) (t : Txn) (old mid new : Pages D g) → Passed old mid → IsQuiet mid new → level ≤ 5 → ((disk_in new).is_honest → (m : KeyMap) → InTxn t (stored old) m → can (stored mid))
+      → (e : TreeError) → PlaceErr level can t mid new e → PutErr t old new e
+  place_failed level can t old mid new passed quiet few has DeviceFault why = ⊎_elim (λ failed. inl (failed_more old mid new passed quiet failed)) (λ no. inr (λ honest m is. no honest (has honest m is))) why
+  place_failed level can t old mid new passed quiet few has Halted why = sym passed.halted ∙ why
+  place_failed level can t old mid new passed quiet few has NoPages why = omega arith
+  place_failed level can t old mid new passed quiet few has TooDeep why = absurd why
+  place_failed level can t old mid new passed quiet few has Memory why = tt
+
+  pub grow_failed : (level : ℕ) (t u : Txn) (old mid new : Pages D g) → Passed old mid → IsQuiet mid new → txn_free t ≤ txn_free u + (level + 1)
+      → ((disk_in new).is_honest → level ≡ level_in (over t (stored old)) (txn_root t)) → ((disk_in new).is_honest → (m : KeyMap) → InTxn t (stored old) m → AreFree (txn_pages u) (free_over u (stored mid)))
+      → (e : TreeError) → GrowErr level u mid new e → PutErr t old new e
+  grow_failed level t u old mid new passed quiet free same has DeviceFault why = ⊎_elim (λ failed. inl (failed_more old mid new passed quiet failed)) (λ no. inr (λ honest m is. no honest (has honest m is))) why
+  grow_failed level t u old mid new passed quiet free same has Halted why = sym passed.halted ∙ why
+  grow_failed level t u old mid new passed quiet free same has NoPages why = let none = why.0 in let small = why.1 in omega arith
+  grow_failed level t u old mid new passed quiet free same has TooDeep why = λ honest. sym (same honest) ∙ why
+  grow_failed level t u old mid new passed quiet free same has Memory why = tt

@@ -1,0 +1,144 @@
+-- A leaf was written, whole or cut, with a row put.
+use Rattle.std.proofs.Common.{◌≡◌, ◌<◌, ◌+◌, ◌++◌, inl, inr, ⊎_elim, ℕ, List, [], ◌∷◌, length, Bool, false, refl, sym, ap, subst, ◌∙◌, arith}
+use Rattle.std.specs.Prelude.{Option, Some, None, is_some}
+use Rattle.std.specs.List.{AllByRecursion}
+use Rattle.std.specs.FinMap.{find, put}
+use Rattle.std.specs.Ordering.{is_gt}
+use Rattle.std.specs.declared.cmp.Ordering.TheVariants.{Less}
+use Rattle.sector_device.specs.Disk.{Image}
+use Rattle.page_store.specs.Chain.{IsIn, AreFree}
+use Rattle.page_node.specs.Entries.{Entry, key_at}
+use Rattle.page_node.specs.Node.{Node, IsNode}
+use Rattle.page_node.specs.Places.{key_cmp, Rises}
+use Rattle.page_btree.specs.Keys.{IsBetween, Parts}
+use Rattle.page_btree.specs.Tree.{Tree, leaf, inner, one, more, rows, IsLeaf}
+use Rattle.page_btree.specs.Map.{IsSound}
+use Rattle.btree_puts.specs.Putting.{IsTaken, IsWhole, IsCut, IsWritten, IsRaised, CanPut}
+use Rattle.page_btree.proofs.Rows.{all_front, all_rest, from_then, rises_put, rises_front, rises_rest, rises_under, rises_from, all_put, some_put}
+use Rattle.page_btree.proofs.Within.{AreBetween}
+
+-- rows between bounds, parted at the first of the upper ones
+pub record ArePartsOf (low : List ℕ) (high : Option (List ℕ)) (lower : List Entry) (y : Entry) (ys : List Entry) : Type 0 where
+  pub below : AreBetween low (Some y.0) lower
+  pub parts : Parts low high y.0
+  pub above : AreBetween y.0 high (y ∷ ys)
+
+both_all : (low q : List ℕ) (high : Option (List ℕ)) (es : List Entry) → AreBetween low high es → AllByRecursion (λ e. key_cmp e.0 q ≡ Less) es → AreBetween low (Some q) es
+both_all low q high [] a b = tt
+both_all low q high (e ∷ es) a b = (record { from = a.0.from; under = b.0 }, both_all low q high es a.1 b.1)
+
+from_all : (low q : List ℕ) (high : Option (List ℕ)) (es : List Entry) → AreBetween low high es → AllByRecursion (λ e. is_gt (key_cmp q e.0) ≡ false) es → AreBetween q high es
+from_all low q high [] a b = tt
+from_all low q high (e ∷ es) a b = (record { from = b.0; under = a.0.under }, from_all low q high es a.1 b.1)
+
+part_rows : (low : List ℕ) (high : Option (List ℕ)) (lower : List Entry) (y : Entry) (ys : List Entry) → 0 < length lower → Rises (lower ++ y ∷ ys) → AreBetween low high (lower ++ y ∷ ys) → ArePartsOf low high lower y ys
+part_rows low high [] y ys some rises within = absurd (omega arith)
+part_rows low high (x ∷ xs) y ys some rises within =
+    let under = rises_under (x ∷ xs) y ys rises in
+    let behind = all_rest (λ e. IsBetween low high e.0) (x ∷ xs) (y ∷ ys) within in
+    record {
+      below = both_all low y.0 high (x ∷ xs) (all_front (λ e. IsBetween low high e.0) (x ∷ xs) (y ∷ ys) within) under;
+      parts = record { above = from_then low x.0 y.0 _ refl within.0.from under.0; under = behind.0.under };
+      above = from_all low y.0 high (y ∷ ys) behind (rises_from y ys (rises_rest (x ∷ xs) (y ∷ ys) rises));
+    }
+
+module _ (P Q : Image) (n : ℕ) (low : List ℕ) (high : Option (List ℕ)) (free left : List ℕ) (key value : List ℕ) (k : List ℕ) (p : ℕ) (es : List Entry) (is : IsLeaf P low high p es) (sound : IsSound n free (leaf p es)) (free_are : AreFree n free) (between : IsBetween low high key) where
+  put_rows : List Entry
+  put_rows = put key_cmp key value es
+
+  leaf_whole : (had : Bool) (upper : Node) → had ≡ is_some (find key_cmp key es) → IsWhole P Q free left p (record { level = 0; entries = put key_cmp key value es }) → IsRaised P Q 0 low high free left key value had k p (leaf p es) None upper
+  leaf_whole had upper had_is w =
+      let e : length left ≡ length free = ap length w.none in
+      record {
+        trees = one k (leaf p (put key_cmp key value es));
+        is_put = record {
+          trees = (
+            refl,
+            record {
+              node = w.holds;
+              rises = rises_put key value es is.rises;
+              within = all_put (IsBetween low high) key value es between is.within;
+              some = some_put key value es;
+            },
+          );
+          apart = tt;
+          rows_are = refl;
+          had_is = had_is;
+          owned = λ q own. inl own;
+          frame = λ q out none. w.elsewhere q out;
+          fewer = λ q there. subst (IsIn q) w.none there;
+          rest = λ m are. subst (AreFree m) (sym w.none) are;
+          whole = omega arith;
+        };
+        shape = (leaf p (put key_cmp key value es), refl, refl);
+      }
+
+  leaf_parts : (had : Bool) (q : ℕ) (upper : Node) (y : Entry) (ys : List Entry) → upper.entries ≡ y ∷ ys → had ≡ is_some (find key_cmp key es) → IsCut P Q free left p q (record { level = 0; entries = put key_cmp key value es }) upper → IsRaised P Q 0 low high free left key value had k p (leaf p es) (Some q) upper
+  leaf_parts had q upper y ys entries had_is w =
+      let both : w.lower ++ (y ∷ ys) ≡ put key_cmp key value es = ap (λ l. w.lower ++ l) (sym entries) ∙ w.both in
+      let rises : Rises (w.lower ++ (y ∷ ys)) = subst Rises (sym both) (rises_put key value es is.rises) in
+      let parts = part_rows low high w.lower y ys w.some.0 rises (subst (AreBetween low high) (sym both) (all_put (IsBetween low high) key value es between is.within)) in
+      let node : upper ≡ record { level = 0; entries = y ∷ ys } = λ i. record { level = w.level i; entries = entries i } in
+      let taken : IsTaken free left q = (subst (IsIn q) (sym w.taken) (inl refl), (subst (AreFree n) w.taken free_are).2) in
+      let not_same : q ≡ p → ⊥ = λ same. sound.used q same taken.0 in
+      let e : length free ≡ length left + 1 = ap length w.taken ∙ omega arith in
+      record {
+        trees = more k (leaf p w.lower) (one y.0 (leaf q (y ∷ ys)));
+        is_put = record {
+          trees = (
+            (refl, record { node = w.holds; rises = rises_front w.lower (y ∷ ys) rises; within = parts.below; some = w.some.0 }),
+            parts.parts,
+            (refl, record { node = subst (IsNode (Q q)) node w.beside; rises = rises_rest w.lower (y ∷ ys) rises; within = parts.above; some = omega arith }),
+          );
+          apart = (tt, (λ x own there. not_same (sym there ∙ own)), tt);
+          rows_are = both;
+          had_is = had_is;
+          owned = λ x own. ⊎_elim (λ same. inl same) (λ same. inr (subst (IsTaken free left) (sym same) taken)) own;
+          frame = λ x out none. w.elsewhere x out (λ same. none (subst (IsTaken free left) (sym same) taken));
+          fewer = λ x there. subst (IsIn x) (sym w.taken) (inr there);
+          rest = λ m are. (subst (AreFree m) w.taken are).3;
+          whole = omega arith;
+        };
+        shape = (leaf p w.lower, leaf q (y ∷ ys), ap (λ b. more k (leaf p w.lower) (one b (leaf q (y ∷ ys)))) (ap (λ l. key_at l 0) (sym entries)), refl, refl);
+      }
+
+  leaf_cut : (had : Bool) (q : ℕ) (upper : Node) (entries : List Entry) → upper.entries ≡ entries → had ≡ is_some (find key_cmp key es) → IsCut P Q free left p q (record { level = 0; entries = put key_cmp key value es }) upper → IsRaised P Q 0 low high free left key value had k p (leaf p es) (Some q) upper
+  leaf_cut had q upper [] entries had_is w = absurd (let n : length upper.entries ≡ 0 = ap length entries in let some = w.some.1 in omega arith)
+  leaf_cut had q upper (y ∷ ys) entries had_is w = leaf_parts had q upper y ys entries had_is w
+
+  pub raise_leaf : (had : Bool) (right : Option ℕ) (upper : Node) → had ≡ is_some (find key_cmp key es) → IsWritten P Q free left p right (record { level = 0; entries = put key_cmp key value es }) upper → IsRaised P Q 0 low high free left key value had k p (leaf p es) right upper
+  raise_leaf had None upper had_is w = leaf_whole had upper had_is w
+  raise_leaf had (Some q) upper had_is w = leaf_cut had q upper upper.entries refl had_is w
+
+-- what a call for a leaf at a page knows
+module _ (n : ℕ) (P : Image) (low : List ℕ) (high : Option (List ℕ)) (free : List ℕ) (page : ℕ) (bytes key : List ℕ) where
+  -- its rows
+  pub leaf_here : (d : ℕ) (t : Tree) → d ≡ 0 → CanPut n P d low high free page bytes key t → (es : List Entry) × (t ≡ leaf page es) × IsLeaf P low high page es × IsNode bytes (record { level = 0; entries = es }) × IsSound n free (leaf page es)
+  leaf_here d (leaf p es) zero_is can =
+      let same = can.stands.page_is in
+      let is : IsLeaf P low high page es = subst (λ (x : ℕ). IsLeaf P low high x es) same can.stands.tree_is.1 in
+      (es, ap (λ (x : ℕ). leaf x es) same, is, subst (λ b. IsNode b (record { level = 0; entries = es })) (sym can.reads) is.node, subst (λ (x : ℕ). IsSound n free (leaf x es)) same can.stands.sound)
+  leaf_here d (inner p f) zero_is can = absurd (let some = can.stands.tree_is.0 in omega arith)
+
+  module _ (d : ℕ) (t : Tree) (zero_is : d ≡ 0) (can : CanPut n P d low high free page bytes key t) where
+    abbrev pub leaf_rows : List Entry
+    leaf_rows = (leaf_here d t zero_is can).0
+
+    pub leaf_node : IsNode bytes (record { level = 0; entries = leaf_rows })
+    leaf_node = (leaf_here d t zero_is can).3
+
+    pub leaf_rises : Rises leaf_rows
+    leaf_rises = (leaf_here d t zero_is can).2.rises
+
+    pub leaf_off : IsIn page free → ⊥
+    leaf_off = (leaf_here d t zero_is can).4.used page refl
+
+    pub leaf_find : find key_cmp key (rows t) ≡ find key_cmp key leaf_rows
+    leaf_find = ap (λ u. find key_cmp key (rows u)) (leaf_here d t zero_is can).1
+
+    pub leaf_raised : (Q : Image) (left value : List ℕ) (had : Bool) (right : Option ℕ) (upper : Node) → (had ≡ is_some (find key_cmp key leaf_rows)) × IsWritten P Q free left page right (record { level = 0; entries = put key_cmp key value leaf_rows }) upper → (k : List ℕ) → IsRaised P Q d low high free left key value had k page t right upper
+    leaf_raised Q left value had right upper w k =
+        let h = leaf_here d t zero_is can in
+        subst (λ u. IsRaised P Q d low high free left key value had k page u right upper) (sym h.1)
+        (subst (λ (x : ℕ). IsRaised P Q x low high free left key value had k page (leaf page h.0) right upper) (sym zero_is)
+        (raise_leaf P Q n low high free left key value k page h.0 h.2 h.4 can.free_are can.between had right upper w.0 w.1))

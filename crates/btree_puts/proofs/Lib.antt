@@ -1,0 +1,15 @@
+pub mod EmptyLeaf
+pub mod Images
+pub mod Linking
+pub mod Placing
+pub mod Failing
+pub mod Counting
+pub mod Joined
+pub mod Chosen
+pub mod Raised
+pub mod Leaves
+pub mod Roots
+pub mod Down
+pub mod Fits
+pub mod Rising
+pub mod Leads

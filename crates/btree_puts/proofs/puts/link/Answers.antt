@@ -1,0 +1,34 @@
+use Rattle.std.proofs.Common.{◌≡◌, sym, subst}
+use Rattle.std.specs.Prelude.{IfOk}
+use Rattle.page_store.specs.Chain.{IsIn, AreFree}
+use Rattle.page_store.specs.Transactions.{stored, txn_pages, over, free_over, Passed}
+use Rattle.page_store.proofs.Stops.{quiet_more, passed_more}
+use Rattle.page_node.specs.Entries.{Entry, key_at, child_bytes}
+use Rattle.page_node.specs.Node.{IsNode}
+use Rattle.page_node.proofs.Laws.{node_unique}
+use Rattle.btree_puts.specs.Putting.{IsWritten}
+use Rattle.page_btree.proofs.Outcomes.{map_ok}
+use Rattle.btree_puts.proofs.Placing.{linked_node}
+use Rattle.btree_puts.proofs.puts.link.Goals as goal
+
+pub returns-clause-quiet : goal.returns-clause-quiet
+returns-clause-quiet g c = quiet_more _ _ _ c.read.ensures.quiet c.settle.ensures.quiet
+
+pub returns-clause-passed : goal.returns-clause-passed
+returns-clause-passed g c =
+    let first : Passed c.args.pages.now c.read.new.pages = record { quiet = c.read.ensures.quiet; halted = c.in_ok-read.ensures.ok; faults = c.in_ok-read.ensures.passed } in
+    map_ok c.settle.result (λ _. Passed c.read.new.pages c.settle.new.pages) (λ _. Passed c.args.pages.now c.settle.new.pages) (λ _ p. passed_more _ _ _ first p) c.settle.ensures.passed
+
+pub returns-clause-linked : goal.returns-clause-linked
+returns-clause-linked g c = λ honest node is some are off.
+    let before = c.settle.ensures.quiet.honest honest in
+    let same : stored c.read.new.pages ≡ stored c.args.pages.now = c.read.ensures.quiet.same before in
+    let t0 = c.args.txn.now in
+    let t1 = c.settle.new.txn in
+    let there : IsNode c.read.new.page node = subst (λ bytes. IsNode bytes node) (sym (c.in_ok-read.ensures.reads before)) is in
+    let read_is = node_unique c.read.new.page c.read-2.new.self node c.in_ok-read-2.ensures.read there in
+    let entry : ◌≡◌ {A = Entry} (c.key.result.now, c.to_be_bytes.result) (key_at c.args.room.now.upper.entries 0, child_bytes c.args.right) = λ i. (c.key.ensures.key i, c.to_be_bytes.ensures i) in
+    let made = linked_node c.args.key.now (c.key.result.now, c.to_be_bytes.result) (key_at c.args.room.now.upper.entries 0, child_bytes c.args.right) node c.read-2.new.self c.insert.new.self c.place_behind-place.result read_is entry c.insert.ensures c.place_behind-place.ensures.place in
+    let done = c.settle.ensures.written honest (subst (λ S. AreFree (txn_pages t0) (free_over t0 S)) (sym same) are) (subst (λ S. IsIn c.args.page (free_over t0 S) → ⊥) (sym same) off) in
+    subst (λ n. IfOk c.settle.result (λ cut. IsWritten (over t0 (stored c.args.pages.now)) (over t1 (stored c.args.pages.now)) (free_over t0 (stored c.args.pages.now)) (free_over t1 (stored c.args.pages.now)) c.args.page cut n c.settle.new.room.upper)) made
+    (subst (λ S. IfOk c.settle.result (λ cut. IsWritten (over t0 S) (over t1 S) (free_over t0 S) (free_over t1 S) c.args.page cut c.insert.new.self c.settle.new.room.upper)) same done)

@@ -1,0 +1,46 @@
+use Rattle.std.proofs.Common.{◌≡◌, sym, subst, inr}
+use Rattle.page_store.specs.Transactions.{stored, over, free_over}
+use Rattle.btree_puts.specs.Putting.{IsWritten}
+use Rattle.btree_puts.specs.Errors.{RowErr}
+use Rattle.page_btree.specs.Errors.{IsNoWant}
+use Rattle.std.specs.Prelude.{None}
+use Rattle.page_btree.specs.declared.error.TreeError.TheVariants.{DeviceFault}
+use Rattle.page_btree.proofs.Outcomes.{err_of, match_of}
+use Rattle.btree_puts.proofs.Placing.{found_had, found_node, found_fits, gap_had, gap_missing, gap_node}
+use Rattle.btree_puts.proofs.puts.put_row.Goals as goal
+
+pub returns-in_err-read-clause-err : goal.returns-in_err-read-clause-err
+returns-in_err-read-clause-err g c =
+    err_of c.from_residual.result DeviceFault (λ e. RowErr c.args.room.now.page c.args.txn.now c.args.pages.now c.args.pages.now e) c.from_residual.ensures.1
+    (inr (λ honest are es node. c.in_err-read.ensures.refused _ node))
+
+pub returns-in_err-right-in-Ok-clause-fixed : goal.returns-in_err-right-in-Ok-clause-fixed
+returns-in_err-right-in-Ok-clause-fixed g c = λ es held is rises there same.
+    let fits = found_fits _ _ c.replace.new.self es c.in-Ok.i c.args.key.now c.args.value.now c.in_ok-read.ensures.read is rises c.in-Ok.ensures.place c.replace.ensures held there same in
+    match_of c.from_residual-in_err-right-in-Ok.result (λ placed. placed.right ≡ None) c.in_err-right-in-Ok.field-0.0 IsNoWant c.from_residual-in_err-right-in-Ok.ensures.1 (subst IsNoWant (sym (c.in_err-right-in-Ok.ensures.fits fits)) tt)
+
+pub returns-in_err-right-in-Err-clause-fixed : goal.returns-in_err-right-in-Err-clause-fixed
+returns-in_err-right-in-Err-clause-fixed g c = λ es held is rises there same. absurd (gap_missing _ _ c.insert.new.self es c.in-Err.i c.args.key.now c.args.value.now c.in_ok-read.ensures.read is rises c.in-Err.ensures.place held there)
+
+pub returns-in_ok-right-in-Ok-clause-put : goal.returns-in_ok-right-in-Ok-clause-put
+returns-in_ok-right-in-Ok-clause-put g c = λ honest es is rises are off.
+    let S = stored c.args.pages.now in
+    let e = found_node _ _ _ es c.in-Ok.i c.args.key.now c.args.value.now c.in_ok-read.ensures.read is rises c.in-Ok.ensures.place c.replace.ensures in (
+      found_had _ _ _ es c.in-Ok.i c.args.key.now c.args.value.now c.in_ok-read.ensures.read is rises c.in-Ok.ensures.place c.replace.ensures,
+      subst (λ node. IsWritten (over c.args.txn.now S) (over c.settle.new.txn S) (free_over c.args.txn.now S) (free_over c.settle.new.txn S) c.args.page c.in_ok-right-in-Ok.right node c.settle.new.room.upper) e (c.in_ok-right-in-Ok.ensures.written honest are off),
+    )
+
+pub returns-in_ok-right-in-Ok-clause-fixed : goal.returns-in_ok-right-in-Ok-clause-fixed
+returns-in_ok-right-in-Ok-clause-fixed g c = λ es held is rises there same.
+    c.in_ok-right-in-Ok.ensures.fits (found_fits _ _ _ es c.in-Ok.i c.args.key.now c.args.value.now c.in_ok-read.ensures.read is rises c.in-Ok.ensures.place c.replace.ensures held there same)
+
+pub returns-in_ok-right-in-Err-clause-put : goal.returns-in_ok-right-in-Err-clause-put
+returns-in_ok-right-in-Err-clause-put g c = λ honest es is rises are off.
+    let S = stored c.args.pages.now in
+    let e = gap_node _ _ c.insert.new.self es c.in-Err.i c.args.key.now c.args.value.now c.in_ok-read.ensures.read is rises c.in-Err.ensures.place c.insert.ensures in (
+      gap_had _ _ c.insert.new.self es c.in-Err.i c.args.key.now c.args.value.now c.in_ok-read.ensures.read is rises c.in-Err.ensures.place,
+      subst (λ node. IsWritten (over c.args.txn.now S) (over c.settle-in-Err.new.txn S) (free_over c.args.txn.now S) (free_over c.settle-in-Err.new.txn S) c.args.page c.in_ok-right-in-Err.right node c.settle-in-Err.new.room.upper) e (c.in_ok-right-in-Err.ensures.written honest are off),
+    )
+
+pub returns-in_ok-right-in-Err-clause-fixed : goal.returns-in_ok-right-in-Err-clause-fixed
+returns-in_ok-right-in-Err-clause-fixed g c = λ es held is rises there same. absurd (gap_missing _ _ c.insert.new.self es c.in-Err.i c.args.key.now c.args.value.now c.in_ok-read.ensures.read is rises c.in-Err.ensures.place held there)

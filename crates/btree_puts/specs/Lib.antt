@@ -1,0 +1,4 @@
+pub mod Errors
+pub mod Putting
+pub mod Fitting
+pub mod Outcomes

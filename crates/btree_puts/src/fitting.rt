@@ -1,0 +1,166 @@
+//! Puts a row, where its leaf has room by an edit of the leaf alone.
+ghost use Rattle.std.specs.Prelude.{◌≡◌, ◌≤◌, ◌<◌, ◌+◌, ◌-◌, ◌^◌, List, length, Option, None, OnOk, OnErr, IfOk, IfErr, IfSome, IfNone};
+ghost use Rattle.std.specs.Option.{option_map};
+ghost use Rattle.sector_device.specs.Disk.{Image};
+ghost use Rattle.page_store.specs.Transactions.{stored, disk_in, count_of, txn_pages, txn_root, txn_free, txn_writes, over, free_over, IsQuiet, Passed};
+ghost use Rattle.page_node.specs.Entries.{Entry, child_in};
+ghost use Rattle.page_node.specs.Node.{Node, IsNode};
+ghost use Rattle.page_node.specs.Places.{Rises, floor};
+ghost use Rattle.page_node.specs.Searching.{RisesBehind};
+ghost use Rattle.page_btree.specs.Keys.{IsKey};
+ghost use Rattle.page_btree.specs.Tree.{Tree};
+ghost use Rattle.page_btree.specs.Errors.{PutErr, IsNoWant};
+ghost use Rattle.btree_puts.specs.Errors.{PlaceErr, StepErr};
+ghost use Rattle.btree_puts.specs.Putting.{CanPut, IsRaised};
+ghost use Rattle.page_btree.specs.Editing.{IsAlike, LeafErr};
+ghost use Rattle.btree_puts.specs.Fitting.{IsLeafPut};
+ghost use Rattle.btree_puts.specs.Outcomes.{PutsRow, PutsFittingRow, TakesNoPage};
+ghost use Rattle.page_btree.specs.declared.error.TreeError.TheVariants.{NoPages, TooDeep};
+
+use crate::puts::put_cutting;
+use page_btree::{TreeError, find_leaf, read_level};
+use page_node::{NotANode, put_row};
+use page_store::{Pages, Txn};
+use sector_device::SectorDevice;
+
+/// Puts a row, and tells whether its key was there. A key has 1 to 72 bytes, a value at most 1,024. At most 11 pages are written
+/// and 6 taken, and none is given back; none is taken where a value of the same length is replaced. After an error the
+/// transaction can only be abandoned: `NoPages` comes where fewer than six pages were free and none is left, `TooDeep` where the
+/// tree has six levels and a node of each was cut, `Memory` from a growth of the transaction, `DeviceFault` and `Halted` from the
+/// device.
+pub fn put<D: SectorDevice>(
+    txn: &mut Txn,
+    pages: &mut Pages<D>,
+    key: &[u8],
+    value: &[u8],
+) -> Result<bool, TreeError>
+    requires begun { txn_pages txn.old ≡ count_of pages.old }
+    requires key { IsKey key.now }
+    requires value { length value.now ≤ 1024 }
+    ensures quiet { IsQuiet pages.old pages.new }
+    ensures pages { txn_pages txn.new ≡ txn_pages txn.old }
+    ensures put { PutsRow txn.old txn.new pages.old pages.new (key.now, value.now) result }
+    ensures writes { OnOk result (txn_writes txn.new ≤ txn_writes txn.old + 11) }
+    ensures taken { OnOk result (txn_free txn.old ≤ txn_free txn.new + 6) }
+    ensures none_back { OnOk result (txn_free txn.new ≤ txn_free txn.old) }
+    ensures fixed { TakesNoPage txn.old txn.new pages.old pages.new (key.now, value.now) result }
+    ensures passed { OnOk result (Passed pages.old pages.new) }
+    ensures spent { IfErr result (λ e. e ≡ NoPages → txn_free txn.new ≡ 0) }
+    ensures deep { IfErr result (λ e. e ≡ TooDeep → txn_free txn.old ≡ txn_free txn.new + 6) }
+    ensures err { IfErr result (λ e. PutErr txn.old pages.old pages.new e) }
+{
+    match put_fitting(txn, pages, key, value)? {
+        Some(had) => Ok(had),
+        None => put_cutting(txn, pages, key, value),
+    }
+}
+
+/// Puts a row where its leaf has room, and tells whether its key was there. Else the transaction stays as it is.
+fn put_fitting<D: SectorDevice>(
+    txn: &mut Txn,
+    pages: &mut Pages<D>,
+    key: &[u8],
+    value: &[u8],
+) -> Result<Option<bool>, TreeError>
+    requires begun { txn_pages txn.old ≡ count_of pages.old }
+    requires key { length key.now ≤ 72 }
+    requires value { length value.now ≤ 1024 }
+    ensures quiet { IsQuiet pages.old pages.new }
+    ensures pages { txn_pages txn.new ≡ txn_pages txn.old }
+    ensures put { PutsFittingRow txn.old txn.new pages.old pages.new (key.now, value.now) result }
+    ensures kept { IfOk result (λ did. did ≡ None → IsAlike txn.old txn.new) }
+    ensures writes { OnOk result (txn_writes txn.new ≤ txn_writes txn.old + 1) }
+    ensures free { txn_free txn.new ≡ txn_free txn.old }
+    ensures passed { OnOk result (Passed pages.old pages.new) }
+    ensures err { IfErr result (λ e. PutErr txn.old pages.old pages.new e × IsNoWant e) }
+{
+    let root = txn.root();
+    if root == 0 {
+        return Ok(None);
+    }
+    let leaf = find_leaf(txn, pages, root, key)?;
+    put_leaf(txn, pages, leaf, key, value)
+}
+
+/// Puts a row into the leaf at a page where it has room: in its place where the transaction writes the page.
+fn put_leaf<D: SectorDevice>(
+    txn: &mut Txn,
+    pages: &mut Pages<D>,
+    page: u32,
+    key: &[u8],
+    value: &[u8],
+) -> Result<Option<bool>, TreeError>
+    requires begun { txn_pages txn.old ≡ count_of pages.old }
+    requires page { page < txn_pages txn.old }
+    requires key { length key.now ≤ 72 }
+    requires value { length value.now ≤ 1024 }
+    ensures quiet { IsQuiet pages.old pages.new }
+    ensures pages { txn_pages txn.new ≡ txn_pages txn.old }
+    ensures root { txn_root txn.new ≡ txn_root txn.old }
+    ensures put { (disk_in pages.new).is_honest → IfOk result (λ did. IfSome did (λ had. IsLeafPut txn.old txn.new (stored pages.old) page key.now value.now had)) }
+    ensures kept { IfOk result (λ did. did ≡ None → IsAlike txn.old txn.new) }
+    ensures writes { OnOk result (txn_writes txn.new ≤ txn_writes txn.old + 1) }
+    ensures free { txn_free txn.new ≡ txn_free txn.old }
+    ensures passed { OnOk result (Passed pages.old pages.new) }
+    ensures err { IfErr result (λ e. LeafErr page txn.old pages.old pages.new e) }
+{
+    match edit_leaf(txn, page, key, value) {
+        Some(Ok(did)) => Ok(did),
+        Some(Err(_)) => Err(TreeError::DeviceFault),
+        None => put_unwritten(txn, pages, page, key, value),
+    }
+}
+
+/// Puts a row into the leaf at a page in its place, if the transaction writes the page.
+fn edit_leaf(
+    txn: &mut Txn,
+    page: u32,
+    key: &[u8],
+    value: &[u8],
+) -> Option<Result<Option<bool>, NotANode>>
+    requires key { length key.now ≤ 72 }
+    requires value { length value.now ≤ 1024 }
+    ensures pages { txn_pages txn.new ≡ txn_pages txn.old }
+    ensures root { txn_root txn.new ≡ txn_root txn.old }
+    ensures free { txn_free txn.new ≡ txn_free txn.old }
+    ensures writes { txn_writes txn.new ≡ txn_writes txn.old }
+    ensures none { IfNone result (txn.new ≡ txn.old) }
+    ensures put { IfSome result (λ told. IfOk told (λ did. IfSome did (λ had. (S : Image) → IsLeafPut txn.old txn.new S page key.now value.now had))) }
+    ensures kept { IfSome result (λ told. IfOk told (λ did. did ≡ None → IsAlike txn.old txn.new)) }
+    ensures err { IfSome result (λ told. OnErr told ((S : Image) (es : List Entry) → IsNode (over txn.old S page) (record { level = 0; entries = es }) → Rises es → ⊥)) }
+{
+    txn.edit(page, |held| put_row(held, key, value))
+}
+
+/// Puts a row into the leaf at a page that the transaction doesn't write, where it has room.
+fn put_unwritten<D: SectorDevice>(
+    txn: &mut Txn,
+    pages: &mut Pages<D>,
+    page: u32,
+    key: &[u8],
+    value: &[u8],
+) -> Result<Option<bool>, TreeError>
+    requires begun { txn_pages txn.old ≡ count_of pages.old }
+    requires page { page < txn_pages txn.old }
+    requires key { length key.now ≤ 72 }
+    requires value { length value.now ≤ 1024 }
+    ensures quiet { IsQuiet pages.old pages.new }
+    ensures pages { txn_pages txn.new ≡ txn_pages txn.old }
+    ensures root { txn_root txn.new ≡ txn_root txn.old }
+    ensures put { (disk_in pages.new).is_honest → IfOk result (λ did. IfSome did (λ had. IsLeafPut txn.old txn.new (stored pages.old) page key.now value.now had)) }
+    ensures kept { IfOk result (λ did. did ≡ None → IsAlike txn.old txn.new) }
+    ensures writes { OnOk result (txn_writes txn.new ≤ txn_writes txn.old + 1) }
+    ensures free { txn_free txn.new ≡ txn_free txn.old }
+    ensures passed { OnOk result (Passed pages.old pages.new) }
+    ensures err { IfErr result (λ e. LeafErr page txn.old pages.old pages.new e) }
+{
+    let mut bytes = [0; 4096];
+    read_level(txn, pages, page, 0, &mut bytes)?;
+    match put_row(&mut bytes, key, value)? {
+        None => Ok(None),
+        Some(had) => {
+            txn.write(page, &bytes)?;
+            Ok(Some(had))
+        }
+    }
+}

@@ -1,0 +1,26 @@
+use Rattle.std.proofs.Common.{◌≡◌, ◌+◌, ◌-◌, ◌<◌, ◌≤◌, true, length, sym, ap, ◌∙◌, arith}
+use Rattle.std.specs.Ordering.{is_gt}
+use Rattle.page_node.specs.Entries.{key_at}
+use Rattle.page_node.specs.Places.{key_cmp}
+use Rattle.btree_removes.proofs.Edits.{unlinked_at}
+use Rattle.btree_removes.proofs.removes.link_of.Goals as goal
+
+pub returns-then-is_gt-clause-place : goal.returns-then-is_gt-clause-place
+returns-then-is_gt-clause-place c =
+    let es = c.args.node.now.entries in
+    let key = c.args.key.now in
+    let some : 1 ≤ c.loop-i.i = c.loop-i.auto.i in
+    let long : c.len-i-end.result ≡ length c.args.node.now.entries = c.len-i-end.ensures.len in
+    let less : c.loop-i.i < c.len-i-end.result = c.loop-i-test.true in
+    let next : c.loop-i.i - 1 + 1 ≡ c.loop-i.i = omega arith in
+    let above : is_gt (key_cmp (key_at es c.loop-i.i) key) ≡ true = ap (λ l. is_gt (key_cmp l key)) (sym c.key.ensures.key) ∙ ap is_gt (sym c.cmp.ensures) ∙ sym c.is_gt.ensures ∙ c.if-is_gt.true in
+    unlinked_at key es (c.loop-i.i - 1) (omega arith) (λ j more before. c.loop-i.invariant.1 j more (omega arith)) (λ there. ap (λ k. is_gt (key_cmp (key_at es k) key)) next ∙ above)
+
+pub returns-clause-place : goal.returns-clause-place
+returns-clause-place c =
+    let es = c.args.node.now.entries in
+    let some : 0 < length c.args.node.now.entries = c.requires in
+    let long : c.len.result ≡ length c.args.node.now.entries = c.len.ensures.len in
+    let before_long : c.len-i-end.result ≡ length c.args.node.now.entries = c.len-i-end.ensures.len in
+    let past : c.len-i-end.result ≤ c.loop-i.i = c.loop-i-test.false in
+    unlinked_at c.args.key.now es (c.len.result - 1) (omega arith) (λ j more before. c.loop-i.invariant.1 j more (omega arith)) (λ there. absurd (omega arith))

@@ -1,0 +1,147 @@
+-- Steps of a walk over parts of revisions.
+use Rattle.std.proofs.Common.{◌≡◌, ◌<◌, ◌^◌, ℕ, List, [], ◌∷◌, length, take, get_or, Bool, true, false, Option, Some, None, Ok, Err, refl, sym, ap, subst, ◌∙◌, arith}
+use Rattle.std.specs.Prelude.{Result, IfOk, IfSome, OnOk}
+use Rattle.std.specs.FinMap.{entries, get}
+use Rattle.std.proofs.lemmas.List.Elements.{All-nil, Contains-get_or}
+use Rattle.sector_device.specs.Disk.{Image}
+use Rattle.sector_device.specs.declared.SectorDevice.{Ghosts}
+use Rattle.page_store.specs.Transactions.{stored, disk_in, Passed}
+use Rattle.page_store.specs.declared.pages.Pages.{Pages}
+use Rattle.page_store.specs.declared.txn.Txn.{Txn}
+use Rattle.page_node.specs.Places.{entries_from}
+use Rattle.page_btree.specs.Map.{InTxn}
+use Rattle.page_btree.specs.declared.error.TreeError.{TreeError}
+use Rattle.btree_scan.specs.declared.rows.Row.{Row}
+use Rattle.store_rows.specs.Keys.{key_of, Fits, holding, part}
+use Rattle.store_rows.specs.Lists.{chunks_bytes}
+use Rattle.store_rows.specs.Rows.{KeyMap, Lacks}
+use Rattle.store_rows.specs.Tidy.{IsNamedBy, Tidy}
+use Rattle.store_check.proofs.FirstRows.{first_there}
+use Rattle.chunk_table.specs.Holding as chunk
+use Rattle.chunk_table.proofs.HeldChunks.{unheld_there}
+use Rattle.desk_migration.specs.Holding.{AreHeldTo, IsUnheld}
+use Rattle.desk_migration.specs.Outcomes.{IsReadAs}
+use Rattle.desk_migration.specs.Parts.{IsPartFrom, IsPartRow, IsUnderWay}
+use Rattle.desk_migration.specs.Walks.{behind, HoldsEach, HoldsIt, IsNextPart, IsWalking, IsWithin}
+use Rattle.desk_migration.specs.declared.parts.Part.{Part}
+use Rattle.desk_migration.specs.declared.walks.Walk.{Walk}
+use Rattle.desk_migration.proofs.Order.{fewer_behind, first_itself}
+use Rattle.desk_migration.proofs.PartRows.{named_fits, part_passed, part_reached, part_row, read_as, stands_held}
+
+never_both : {X : Type 0} (b : Bool) → b ≡ true → b ≡ false → X
+never_both b one other = let clash : true ≡ false = sym one ∙ other in absurd (cc)
+
+-- ---- the beginning
+pub begins_walking : (m : KeyMap) (from : List ℕ) (walk : Walk) → walk.from ≡ from → walk.is_within ≡ false → walk.seen.numbers.items ≡ [] → IsUnderWay from m → IsWalking walk m
+begins_walking m from walk same outside none way = record {
+  tidy = way.tidy;
+  done = subst (λ (k : List ℕ). AreHeldTo k m) (sym same) way.done;
+  within = λ on. never_both walk.is_within on outside;
+  seen = subst (λ (l : List ℕ). HoldsEach walk.seen.plan l m) (sym none) (All-nil (HoldsIt walk.seen.plan m));
+}
+
+-- ---- going into a part
+pub enters_part : (m : KeyMap) (old new : Walk) (row : Row) → IsWalking old m → IsPartFrom true old.from row m → IsReadAs row new.part → new.from ≡ row.key → new.is_within ≡ true → new.place ≡ 0 → new.seen ≡ old.seen → IsWalking new m × IsNextPart old new m
+enters_part m old new row walking found read from within place seen =
+    let of = part_row m old.from row walking.tidy found in
+    let plans : new.part.plan ≡ of.plan = (read_as row of new.part read).0 in
+    let there : get m row.key ≡ Some row.value = first_there m old.from (row.key, row.value) found.0.0 found.0.1 in (
+      record {
+        tidy = walking.tidy;
+        done = subst (λ (k : List ℕ). AreHeldTo k m) (sym from) (part_reached m walking.tidy old.from row found.0 walking.done);
+        within = λ on. record {
+          revision = of.revision;
+          index = of.index;
+          fits = subst (λ (p : ℕ). Fits (part p of.revision of.index)) (sym plans) of.fits;
+          key_is = from ∙ of.key_is ∙ ap (λ (p : ℕ). key_of (part p of.revision of.index)) (sym plans);
+          chunks = read.chunks;
+          row = ap (get m) from ∙ there ∙ ap Some (sym read.value);
+          held = subst (λ (k : ℕ). HoldsEach new.part.plan (take k new.part.numbers.items) m) (sym place) (All-nil (HoldsIt new.part.plan m));
+        };
+        seen = subst (λ (p : Part). HoldsEach p.plan p.numbers.items m) (sym seen) walking.seen;
+      },
+      record { within = within; more = found.0.0; first = found.0.1 ∙ (λ i. (sym from i, sym read.value i) ∷ found.0.0) },
+    )
+
+pub stays_within : (m : KeyMap) (walk : Walk) → walk.is_within ≡ true → IsWalking walk m → IsWalking walk m × IsNextPart walk walk m
+stays_within m walk on walking =
+    let first = first_itself m walk.from (chunks_bytes walk.part.numbers.items) (walking.within on).row in
+    (walking, record { within = on; more = first.0; first = first.1 })
+
+-- ---- within a part
+abbrev pub at_place : Walk → ℕ → Walk
+at_place walk place = record { from = walk.from; is_within = walk.is_within; part = walk.part; place = place; seen = walk.seen }
+
+module _ (m : KeyMap) (walk : Walk) (walking : IsWalking walk m) (on : walk.is_within ≡ true) where
+  -- a chunk at a place isn't held, and those in front of it are
+  pub reaches : (place : ℕ) → HoldsEach walk.part.plan (take place walk.part.numbers.items) m → place < length walk.part.numbers.items → Lacks m (holding walk.part.plan (get_or walk.part.numbers.items place 0))
+      → IsWalking (at_place walk place) m × IsUnheld m walk.part.plan (get_or walk.part.numbers.items place 0)
+  reaches place held less lacks =
+      let within = walking.within on in
+      let named : IsNamedBy m walk.part.plan (get_or walk.part.numbers.items place 0) = record {
+        revision = within.revision;
+        index = within.index;
+        part_fits = within.fits;
+        numbers = walk.part.numbers.items;
+        chunks = within.chunks;
+        row = ap (get m) (sym within.key_is) ∙ within.row;
+        among = Contains-get_or walk.part.numbers.items place 0 less;
+      } in (
+        record {
+          tidy = walking.tidy;
+          done = walking.done;
+          within = λ again. record {
+            revision = within.revision;
+            index = within.index;
+            fits = within.fits;
+            key_is = within.key_is;
+            chunks = within.chunks;
+            row = within.row;
+            held = held;
+          };
+          seen = walking.seen;
+        },
+        record { named = named; fits = named_fits m walk.part.plan (get_or walk.part.numbers.items place 0) named; lacks = lacks },
+      )
+
+  -- each chunk is held
+  pub passes : (old new : Walk) → IsNextPart old walk m → HoldsEach walk.part.plan walk.part.numbers.items m → new.from ≡ behind walk.from → new.is_within ≡ false → new.seen ≡ walk.part
+      → IsWalking new m × (length (entries_from new.from (entries m)) < length (entries_from old.from (entries m)))
+  passes old new next held from outside seen =
+      let within = walking.within on in
+      let row : Row = record { key = walk.from; value = chunks_bytes walk.part.numbers.items } in
+      let of : IsPartRow row = record {
+        plan = walk.part.plan;
+        revision = within.revision;
+        index = within.index;
+        fits = within.fits;
+        key_is = within.key_is;
+        numbers = walk.part.numbers.items;
+        chunks = within.chunks;
+        value_is = refl;
+      } in
+      let first = first_itself m walk.from row.value within.row in (
+        record {
+          tidy = walking.tidy;
+          done = subst (λ (k : List ℕ). AreHeldTo k m) (sym from) (part_passed m walking.tidy walk.from row first walking.done of held);
+          within = λ again. never_both new.is_within again outside;
+          seen = subst (λ (p : Part). HoldsEach p.plan p.numbers.items m) (sym seen) held;
+        },
+        subst (λ (k : List ℕ). length (entries_from k (entries m)) < length (entries_from old.from (entries m))) (sym from)
+            (fewer_behind m old.from (walk.from, chunks_bytes walk.part.numbers.items) next.more next.first),
+      )
+
+-- ---- what a look tells
+pub told_at : (plan number : ℕ) (m : KeyMap) (tidy : Tidy m) (r : Result Bool TreeError) → Fits (holding plan number) → IfOk r (λ is. chunk.Stands is plan number m) → IfOk r (λ is. is ≡ true → HoldsIt plan m number)
+told_at plan number m tidy (Ok true) fits stands = λ on. (fits, stands_held m tidy plan number fits stands)
+told_at plan number m tidy (Ok false) fits stands = λ on. cc
+told_at plan number m tidy (Err e) fits stands = stands
+
+module _ {D : Type 0} {g : Ghosts D} where
+  pub unheld_at : (plan number : ℕ) (t : Txn) (a b : Pages D g) (r : Result Bool TreeError) → OnOk r (Passed a b) → chunk.TellsHeld plan number t a b r → IfOk r (λ is. is ≡ false → chunk.IsUnheld plan number t b)
+  unheld_at plan number t a b (Ok true) passed told = λ off. cc
+  unheld_at plan number t a b (Ok false) passed told = λ off. unheld_there plan number 0 t a b passed told
+  unheld_at plan number t a b (Err e) passed told = passed
+
+pub some_of : (found : Option ℕ) (place : ℕ) (P : ℕ → Type 0) → IfSome found P → found ≡ Some place → P place
+some_of found place P holds is = subst (λ (o : Option ℕ). IfSome o P) is holds

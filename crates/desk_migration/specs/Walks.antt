@@ -1,0 +1,91 @@
+-- A walk over parts of revisions, to the chunks that they name and their plans don't hold.
+use Rattle.std.specs.Prelude.{◌≡◌, ◌<◌, ◌++◌, ℕ, Bool, true, false, List, [], ◌∷◌, length, take, get_or, Option, Some, None, All}
+use Rattle.std.specs.FinMap.{entries, get}
+use Rattle.sector_device.specs.declared.SectorDevice.{Ghosts}
+use Rattle.page_store.specs.declared.pages.Pages.{Pages}
+use Rattle.page_store.specs.declared.txn.Txn.{Txn}
+use Rattle.page_node.specs.Entries.{Entry}
+use Rattle.page_node.specs.Places.{entries_from}
+use Rattle.store_rows.specs.Keys.{key_of, Fits, holding, part}
+use Rattle.store_rows.specs.Lists.{AreChunks, chunks_bytes}
+use Rattle.store_rows.specs.Rows.{KeyMap}
+use Rattle.store_rows.specs.Holders.{IsHeld}
+use Rattle.store_rows.specs.Tidy.{Tidy}
+use Rattle.chunk_table.specs.Holding as chunk
+use Rattle.desk_migration.specs.Holding.{AllAreHeld, AreHeldTo, IsUnheld}
+use Rattle.desk_migration.specs.Parts.{IsUnderParts}
+use Rattle.desk_migration.specs.declared.parts.Part.{Part}
+use Rattle.desk_migration.specs.declared.parts.Look.{Look}
+use Rattle.desk_migration.specs.declared.parts.Look.TheVariants.{Ended, Passed, Found}
+use Rattle.desk_migration.specs.declared.parts.Pair.{Pair}
+use Rattle.desk_migration.specs.declared.walks.Walk.{Walk}
+
+-- the key that comes next behind another one
+abbrev pub behind : List ℕ → List ℕ
+behind key = key ++ 0 ∷ []
+
+-- a plan holds a chunk, and both have numbers
+abbrev pub HoldsIt : ℕ → KeyMap → ℕ → Type 0
+HoldsIt plan m number = Fits (holding plan number) × IsHeld m plan number
+
+abbrev pub HoldsEach : ℕ → List ℕ → KeyMap → Type 0
+HoldsEach plan numbers m = All (HoldsIt plan m) numbers
+
+-- parts stand under the walk's key, which is that of one where the walk is within it
+abbrev pub StandsUnder : Walk → Type 0
+StandsUnder walk = IsUnderParts walk.from × (walk.is_within ≡ true → length walk.from ≡ 14)
+
+-- the walk's part stands under its key, and its plan holds its first chunks
+pub record IsWithin (walk : Walk) (m : KeyMap) : Type 0 where
+  pub revision : ℕ
+  pub index : ℕ
+  pub fits : Fits (part walk.part.plan revision index)
+  pub key_is : walk.from ≡ key_of (part walk.part.plan revision index)
+  pub chunks : AreChunks walk.part.numbers.items
+  pub row : get m walk.from ≡ Some (chunks_bytes walk.part.numbers.items)
+  pub held : HoldsEach walk.part.plan (take walk.place walk.part.numbers.items) m
+
+-- Each part below the walk's key names held chunks alone, as does the one that it passed last.
+pub record IsWalking (walk : Walk) (m : KeyMap) : Type 0 where
+  pub tidy : Tidy m
+  pub done : AreHeldTo walk.from m
+  pub within : walk.is_within ≡ true → IsWithin walk m
+  pub seen : HoldsEach walk.seen.plan walk.seen.numbers.items m
+
+-- ---- steps of a walk
+-- the part that the walk is within is the first one whose key isn't below the former key
+pub record IsNextPart (old new : Walk) (m : KeyMap) : Type 0 where
+  pub within : new.is_within ≡ true
+  pub more : List Entry
+  pub first : entries_from old.from (entries m) ≡ (new.from, chunks_bytes new.part.numbers.items) ∷ more
+
+-- the walk went into it, or there is none
+abbrev pub Enters : Bool → Walk → Walk → KeyMap → Type 0
+Enters true old new m = IsNextPart old new m
+Enters false old new m = AllAreHeld m
+
+-- the plan of a part holds each chunk in front of this place, or each
+abbrev pub IsHeldTo : Part → KeyMap → Option ℕ → Type 0
+IsHeldTo of m None = HoldsEach of.plan of.numbers.items m
+IsHeldTo of m (Some place) = HoldsEach of.plan (take place of.numbers.items) m
+
+-- what a look at a part came to: fewer rows come behind the walk's key where it was passed
+abbrev pub Looks : Look → Walk → Walk → KeyMap → Type 0
+Looks Ended old new m = AllAreHeld m
+Looks Passed old new m = length (entries_from new.from (entries m)) < length (entries_from old.from (entries m))
+Looks (Found pair) old new m = IsUnheld m pair.plan pair.number
+
+-- none is left, or this pair comes next
+abbrev pub IsNextPair : KeyMap → Option Pair → Type 0
+IsNextPair m None = AllAreHeld m
+IsNextPair m (Some pair) = IsUnheld m pair.plan pair.number
+
+module _ {D : Type 0} {g : Ghosts D} where
+  -- the plan of a part doesn't hold the chunk at this place
+  abbrev pub IsUnheldAt : Part → ℕ → Txn → Pages D g → Type 0
+  IsUnheldAt of place t p = (place < length of.numbers.items) × chunk.IsUnheld of.plan (get_or of.numbers.items place 0) t p
+
+  abbrev pub IsUnheldIn : Look → Txn → Pages D g → Type 0
+  IsUnheldIn Ended t p = Unit {0}
+  IsUnheldIn Passed t p = Unit {0}
+  IsUnheldIn (Found pair) t p = chunk.IsUnheld pair.plan pair.number t p

@@ -1,0 +1,71 @@
+//! `format` and `load` over the file system and the standard streams.
+ghost use Rattle.std.specs.Prelude.{◌≤◌};
+
+use crate::faults::{explain_last, standard_error};
+use crate::files::Files;
+use crate::stores::StoreFiles;
+use byte_stream::sink::WriteSink;
+use byte_stream::source::ReadSource;
+use command_line::options::Size;
+use command_output::status::Status;
+use command_progress::Telling;
+use sector_file::{FileDevice, Unknown};
+use state_files::open::{CensusPaths, Opener, open_census};
+use std::fs::File;
+use std::io::IsTerminal;
+use store_command::format::format;
+use store_command::load::{StateFiles, load};
+
+/// Makes a store in a new file.
+pub fn format_store(rt: &HostRuntime, name: &str, size: Size) -> Status
+    requires least { 256 ≤ size.journal_pages }
+    requires most { size.journal_pages ≤ 65536 }
+{
+    let mut stores = StoreFiles::new(rt);
+    let mut writer = WriteSink::new(rt.stdout());
+    let mut errors = standard_error(rt);
+    let status = format::<FileDevice<Unknown>, _, _, _>(
+        rt.alloc(),
+        &mut stores,
+        name,
+        size.sectors,
+        size.journal_pages,
+        &mut writer,
+        &mut errors,
+    );
+    let _ = writer.into_inner();
+    explain_last(rt, errors, stores.reason());
+    status
+}
+
+/// Fills a store with what the files at these paths say.
+pub fn load_state(
+    rt: &HostRuntime,
+    name: &str,
+    paths: CensusPaths<'_>,
+    neighbours: &str,
+) -> Status {
+    let mut opener = Files::new(rt);
+    let census = open_census(&mut opener, paths);
+    let gal = opener.open(neighbours);
+    let mut files: StateFiles<ReadSource<File>> = StateFiles { census, gal };
+    let mut stores = StoreFiles::new(rt);
+    let mut writer = WriteSink::new(rt.stdout());
+    let mut errors = standard_error(rt);
+    let terminal = rt.stderr();
+    let is_terminal = terminal.is_terminal();
+    let mut progress = Telling::new(terminal, is_terminal, b"plandesk: load: ", 65_536);
+    let status = load::<_, FileDevice<Unknown>, _, _, _, _>(
+        rt.alloc(),
+        &mut files,
+        &mut stores,
+        name,
+        &mut progress,
+        &mut writer,
+        &mut errors,
+    );
+    let _ = progress.into_inner();
+    let _ = writer.into_inner();
+    explain_last(rt, errors, stores.reason());
+    status
+}

@@ -1,0 +1,56 @@
+//! Where one worker takes its streams, and hands each back.
+ghost use Rattle.std.specs.Prelude.{◌≡◌};
+ghost use Rattle.http_arrivals.specs.Running.{no_streams, one_more, requests_of};
+
+use crate::arrivals::Arrivals;
+use crate::ran::Tally;
+use http_desk::serve::{Served, StreamFault};
+
+/// The streams of one worker: each comes by `accept` and goes back by `finish`, which counts it. Its worker has no other way to them.
+#[derive(Drop)]
+pub struct Acceptor<'a, A: Arrivals> {
+    arrivals: &'a A,
+    tally: Tally,
+}
+
+impl<'a, A: Arrivals> Acceptor<'a, A> {
+    /// No stream was taken yet.
+    pub fn new(arrivals: &'a A) -> Acceptor<'a, A>
+        ensures from { result.arrivals.now ≡ arrivals.now }
+        ensures none { result.tally.ran ≡ no_streams }
+    {
+        Acceptor {
+            arrivals,
+            tally: Tally::new(),
+        }
+    }
+
+    /// The next stream, or None where no further one comes. It may wait.
+    pub fn accept(&self) -> Option<(A::Reader, A::Writer)>
+        ensures { A.gives self.now.arrivals.now result }
+    {
+        self.arrivals.next()
+    }
+
+    /// Hands a stream back with what it came to, and counts it.
+    pub fn finish(
+        &mut self,
+        reader: A::Reader,
+        writer: A::Writer,
+        served: Result<Served, StreamFault>,
+    )
+        ensures from { self.new.arrivals.now ≡ self.old.arrivals.now }
+        ensures back { A.takes_back self.old.arrivals.now reader writer served }
+        ensures counted { self.new.tally.ran ≡ one_more self.old.tally.ran (requests_of served) }
+    {
+        self.tally = self.tally.with_stream(&served);
+        self.arrivals.ended(reader, writer, served);
+    }
+
+    /// What its streams came to.
+    pub fn into_tally(self) -> Tally
+        ensures { result.ran ≡ self.entry.tally.ran }
+    {
+        self.tally
+    }
+}

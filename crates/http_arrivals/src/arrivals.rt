@@ -1,0 +1,29 @@
+//! Where streams come from.
+ghost use Rattle.std.specs.Prelude.{Option, Result};
+ghost use Rattle.http_desk.specs.declared.serve.Served.{Served as Answered};
+ghost use Rattle.http_desk.specs.declared.serve.StreamFault.{StreamFault as Fault};
+
+use byte_stream::source::Source;
+use http_answer::gather::GatherSink;
+use http_desk::serve::{Served, StreamFault};
+
+/// Where streams come from, and where each goes back to. Nothing else can let go of one.
+pub trait Arrivals {
+    type Reader: Source + Send + Sync;
+
+    type Writer: GatherSink + Send + Sync;
+
+    // The next stream was asked for, and this was given.
+    ghost gives: { Self → Option (Self.Reader × Self.Writer) → Type 0 } = { λ _ _. Unit {0} };
+
+    // A stream was taken back so, with what it came to.
+    ghost takes_back: { Self → Self.Reader → Self.Writer → Result Answered Fault → Type 0 } = { λ _ _ _ _. Unit {0} };
+
+    /// The next stream, or None where no further one comes. It may wait.
+    fn next(&self) -> Option<(Self::Reader, Self::Writer)>
+        ensures { gives self.now result };
+
+    /// Takes a stream back once it is served, with what it came to.
+    fn ended(&self, reader: Self::Reader, writer: Self::Writer, served: Result<Served, StreamFault>)
+        ensures { takes_back self.now reader writer served };
+}

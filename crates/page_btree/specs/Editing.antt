@@ -1,0 +1,30 @@
+-- What an edit of a leaf alone leaves as it was, and why there is none.
+use Rattle.std.specs.Prelude.{◌≡◌, ◌⊎◌, ℕ, List, true}
+use Rattle.sector_device.specs.Disk.{Image}
+use Rattle.sector_device.specs.declared.SectorDevice.{Ghosts}
+use Rattle.page_store.specs.Transactions.{stored, disk_in, has_halted, HasFailed, txn_pages, txn_root, txn_free, txn_writes, over, free_over}
+use Rattle.page_store.specs.declared.pages.Pages.{Pages}
+use Rattle.page_store.specs.declared.txn.Txn.{Txn}
+use Rattle.page_node.specs.Entries.{Entry}
+use Rattle.page_node.specs.Node.{IsNode}
+use Rattle.page_node.specs.Places.{Rises}
+use Rattle.page_btree.specs.declared.error.TreeError.{TreeError}
+use Rattle.page_btree.specs.declared.error.TreeError.TheVariants.{DeviceFault, Halted, NoPages, TooDeep, Memory}
+
+-- what a transaction reads, takes and writes is the same
+pub record IsAlike (old new : Txn) : Type 0 where
+  pub pages : txn_pages new ≡ txn_pages old
+  pub root : txn_root new ≡ txn_root old
+  pub free : txn_free new ≡ txn_free old
+  pub writes : txn_writes new ≡ txn_writes old
+  pub over_is : (P : Image) → over new P ≡ over old P
+  pub free_is : (P : Image) → free_over new P ≡ free_over old P
+
+module _ {D : Type 0} {g : Ghosts D} where
+  -- why the leaf at a page isn't edited
+  abbrev pub LeafErr : ℕ → Txn → Pages D g → Pages D g → TreeError → Type 0
+  LeafErr page t old new DeviceFault = HasFailed old new ⊎ ((disk_in new).is_honest → (es : List Entry) → IsNode (over t (stored old) page) (record { level = 0; entries = es }) → Rises es → ⊥)
+  LeafErr page t old new Halted = has_halted old ≡ true
+  LeafErr page t old new NoPages = ⊥
+  LeafErr page t old new TooDeep = ⊥
+  LeafErr page t old new Memory = Unit {0}

@@ -1,0 +1,37 @@
+-- What was read of a geography, where it is none.
+use Rattle.std.proofs.Common.{◌≡◌, Ok, Err, List, sym, subst, inr}
+use Rattle.std.specs.Prelude.{Result, OnOk, IfErr}
+use Rattle.sector_device.specs.Disk.{Image}
+use Rattle.sector_device.specs.declared.SectorDevice.{Ghosts}
+use Rattle.page_store.specs.Transactions.{stored, disk_in, Passed}
+use Rattle.page_store.specs.declared.pages.Pages.{Pages}
+use Rattle.page_store.specs.declared.txn.Txn.{Txn}
+use Rattle.page_btree.specs.Map.{InTxn}
+use Rattle.page_btree.specs.declared.error.TreeError.{TreeError}
+use Rattle.page_btree.specs.declared.error.TreeError.TheVariants.{DeviceFault}
+use Rattle.desk_model.specs.declared.block.BlockRow.{BlockRow}
+use Rattle.desk_model.specs.declared.geography.Pair.{Pair}
+use Rattle.desk_model.specs.Geography.{Ground, IsGround}
+use Rattle.store_rows.specs.declared.value.SealRow.{SealRow}
+use Rattle.store_rows.specs.Rows.{KeyMap}
+use Rattle.row_table.specs.Appending.{AppendErr}
+use Rattle.sealed_geography.specs.Elements.{IsSealedAs}
+
+pub on_ok : {T E : Type 0} (r : Result T E) (P : Type 0) → P → OnOk r P
+on_ok (Ok x) P h = h
+on_ok (Err e) P h = tt
+
+module _ {D : Type 0} {g : Ghosts D} (sealed : SealRow) (t : Txn) (a b d : Pages D g) (first : Passed a b) (second : Passed b d) (blocks : List BlockRow) (pairs : List Pair)
+    (blocks_are : (disk_in b).is_honest → (m : KeyMap) (x : Ground) → InTxn t (stored a) m → IsSealedAs sealed m x → blocks ≡ x.blocks)
+    (pairs_are : (disk_in d).is_honest → (m : KeyMap) (x : Ground) → InTxn t (stored b) m → IsSealedAs sealed m x → pairs ≡ x.pairs) where
+  pub ground_is : (disk_in d).is_honest → (m : KeyMap) (x : Ground) → InTxn t (stored a) m → IsSealedAs sealed m x → ◌≡◌ {A = Ground} (record { blocks = blocks; pairs = pairs }) x
+  ground_is honest m x holds is =
+      let before = second.quiet.honest honest in
+      let one = blocks_are before m x holds is in
+      let other = pairs_are honest m x (subst (λ (P : Image). InTxn t P m) (sym (first.quiet.same before)) holds) is in
+      λ i. record { blocks = one i; pairs = other i }
+
+  pub no_ground : {T : Type 0} (r : Result T TreeError) → IfErr r (λ e. e ≡ DeviceFault) → IfErr r (λ _. ¬ IsGround (record { blocks = blocks; pairs = pairs })) → IfErr r (λ e. AppendErr (IsSealedAs sealed) t a d e)
+  no_ground (Ok x) fault refused = tt
+  no_ground (Err e) fault refused = subst (λ (e : TreeError). AppendErr (IsSealedAs sealed) t a d e) (sym fault)
+      (inr (λ honest m x holds is. refused (subst IsGround (sym (ground_is honest m x holds is)) is.sound)))

@@ -1,0 +1,5 @@
+mod Along
+mod Grounds
+mod Ids
+mod OneMore
+mod SealedRows

@@ -1,0 +1,49 @@
+use Rattle.std.proofs.Common.{List}
+use Rattle.page_store.proofs.Stops.{quiet_more, passed_more, passed_none}
+use Rattle.page_store.specs.Transactions.{Passed}
+use Rattle.desk_model.specs.declared.block.BlockRow.{BlockRow}
+use Rattle.desk_model.specs.declared.geography.Pair.{Pair}
+use Rattle.desk_model.specs.Geography.{Ground}
+use Rattle.store_rows.specs.Keys.{key_of, block, pair}
+use Rattle.store_rows.specs.Values.{block_bytes}
+use Rattle.store_rows.specs.Rows.{KeyMap}
+use Rattle.store_rows.specs.GeographyRows.{IsBlockRow, neighbours_bytes}
+use Rattle.row_table.proofs.Outcomes.{err_of}
+use Rattle.row_table.specs.Appending.{AppendErr}
+use Rattle.row_table.proofs.Appending.{then_unappended}
+use Rattle.sealed_geography.specs.Elements.{HoldsElements, IsPairRow, IsSealedAs}
+use Rattle.sealed_geography.proofs.Grounds.{on_ok, no_ground}
+use Rattle.sealed_geography.proofs.sealed.read_sealed.Goals as goal
+
+pub returns-in_err-blocks-clause-err : goal.returns-in_err-blocks-clause-err
+returns-in_err-blocks-clause-err g c =
+    let a = c.args.pages.now in
+    let load = c.args.sealed.now.load in
+    let all : KeyMap → Ground → Type 0 = IsSealedAs c.args.sealed.now in
+    let rest : KeyMap → List BlockRow → Type 0 = HoldsElements block_bytes IsBlockRow (λ place. key_of (block load place)) c.args.sealed.now.blocks in
+    err_of c.from_residual.result c.in_err-blocks.field-0.0 (AppendErr all c.args.txn.now a c.read_elements.new.pages) c.from_residual.ensures.1
+    (then_unappended all rest c.args.txn.now a a c.read_elements.new.pages c.in_err-blocks.field-0.0 (λ honest m x holds is. (x.blocks, is.blocks)) (passed_none a) c.read_elements.ensures.quiet c.in_err-blocks.ensures.err)
+
+pub returns-in_err-pairs-clause-quiet : goal.returns-in_err-pairs-clause-quiet
+returns-in_err-pairs-clause-quiet g c = quiet_more c.args.pages.now c.read_elements.new.pages c.read_elements-2.new.pages c.read_elements.ensures.quiet c.read_elements-2.ensures.quiet
+
+pub returns-in_err-pairs-clause-err : goal.returns-in_err-pairs-clause-err
+returns-in_err-pairs-clause-err g c =
+    let load = c.args.sealed.now.load in
+    let all : KeyMap → Ground → Type 0 = IsSealedAs c.args.sealed.now in
+    let rest : KeyMap → List Pair → Type 0 = HoldsElements neighbours_bytes IsPairRow (λ place. key_of (pair load place)) c.args.sealed.now.pairs in
+    err_of c.from_residual-in_err-pairs.result c.in_err-pairs.field-0.0 (AppendErr all c.args.txn.now c.args.pages.now c.read_elements-2.new.pages) c.from_residual-in_err-pairs.ensures.1
+    (then_unappended all rest c.args.txn.now c.args.pages.now c.read_elements.new.pages c.read_elements-2.new.pages c.in_err-pairs.field-0.0 (λ honest m x holds is. (x.pairs, is.pairs)) c.in_ok-blocks.ensures.passed c.read_elements-2.ensures.quiet c.in_err-pairs.ensures.err)
+
+pub returns-clause-quiet : goal.returns-clause-quiet
+returns-clause-quiet g c = quiet_more c.args.pages.now c.read_elements.new.pages c.read_elements-2.new.pages c.read_elements.ensures.quiet c.read_elements-2.ensures.quiet
+
+pub returns-clause-passed : goal.returns-clause-passed
+returns-clause-passed g c = on_ok c.geography_of.result (Passed c.args.pages.now c.read_elements-2.new.pages) (passed_more c.args.pages.now c.read_elements.new.pages c.read_elements-2.new.pages c.in_ok-blocks.ensures.passed c.in_ok-pairs.ensures.passed)
+
+pub returns-clause-err : goal.returns-clause-err
+returns-clause-err g c =
+    no_ground c.args.sealed.now c.args.txn.now c.args.pages.now c.read_elements.new.pages c.read_elements-2.new.pages c.in_ok-blocks.ensures.passed c.in_ok-pairs.ensures.passed c.in_ok-blocks.blocks.items c.in_ok-pairs.pairs.items
+    (λ honest m x holds is. c.in_ok-blocks.ensures.read honest m x.blocks holds is.blocks)
+    (λ honest m x holds is. c.in_ok-pairs.ensures.read honest m x.pairs holds is.pairs)
+    c.geography_of.result c.geography_of.ensures.fault c.geography_of.ensures.refused

@@ -1,0 +1,214 @@
+//! Two streams at the seats of one office, served by two workers at once.
+ghost use Rattle.std.specs.Prelude.{◌≡◌};
+ghost use Rattle.desk_model.specs.declared.command.Command.{Command};
+ghost use Rattle.desk_store.specs.Clerks.{desk_of, Keeps};
+ghost use Rattle.desk_gallery.specs.Begun.{BeginsWith};
+ghost use Rattle.http_seats.specs.Streams.{IsAskedOf, traffic};
+
+use crate::stores::sealed_device;
+use byte_stream::sink::WriteSink;
+use byte_stream::source::ReadSource;
+use desk_catalogue::catalogue::Catalogue;
+use desk_gallery::book::{Opened, Room};
+use desk_gallery::gallery::{Gallery, GalleryFault};
+use desk_gallery::office::Office;
+use desk_gallery::visitor::Visitor;
+use desk_model::gate::Gate;
+use desk_store::clerk::Clerk;
+use http_arrivals::arrivals::Arrivals;
+use http_arrivals::ran::Ran;
+use http_desk::serve::{Served, StreamFault};
+use http_seats::many::serve_many;
+use sector_memory::MemoryDevice;
+use std::alloc::Global;
+use std::io;
+use std::io::Write;
+use std::marker::Brand;
+use std::process::Abort;
+use std::sync::atomic::{AtomicBool, AtomicU64, Ordering};
+use std::sync::{Arc, Wait};
+use std::thread::Threads;
+
+const ASKED: &[u8] = b"GET /plans HTTP/1.1\r\nHost: d\r\n\r\n";
+
+/// The number of turns after which a thread that waits goes on.
+const TURNS: u64 = 100_000_000;
+
+/// Waits until the flag is set, or for so many turns: whether it was.
+fn is_set_in_time(flag: &AtomicBool) -> bool {
+    for _ in 0..TURNS {
+        if flag.load(Ordering::SeqCst) {
+            return true;
+        }
+    }
+    false
+}
+
+/// Notes that something was written.
+#[derive(Drop)]
+struct Noted<'a> {
+    is_written: &'a AtomicBool,
+}
+
+impl Write for Noted<'_> {
+    fn write(&mut self, buf: &[u8]) -> io::Result<usize> {
+        self.is_written.store(true, Ordering::SeqCst);
+        Ok(buf.len())
+    }
+
+    fn flush(&mut self) -> io::Result<()> {
+        Ok(())
+    }
+}
+
+/// So many streams, each of which asks for the plans; it counts those that come back as served.
+#[derive(Drop)]
+struct Streams<'a> {
+    count: u64,
+    taken: AtomicU64,
+    ended: AtomicU64,
+    is_written: &'a AtomicBool,
+}
+
+impl<'a> Arrivals for Streams<'a> {
+    type Reader = ReadSource<&'static [u8]>;
+
+    type Writer = WriteSink<Noted<'a>>;
+
+    fn next(&self) -> Option<(ReadSource<&'static [u8]>, WriteSink<Noted<'a>>)> {
+        if self.taken.fetch_add(1, Ordering::SeqCst) >= self.count {
+            return None;
+        }
+        let noted = Noted {
+            is_written: self.is_written,
+        };
+        Some((ReadSource::new(ASKED), WriteSink::new(noted)))
+    }
+
+    fn ended(
+        &self,
+        _reader: ReadSource<&'static [u8]>,
+        _writer: WriteSink<Noted<'a>>,
+        served: Result<Served, StreamFault>,
+    ) {
+        if served.is_ok() {
+            self.ended.fetch_add(1, Ordering::SeqCst);
+        }
+    }
+}
+
+/// Holds the first that passes until something was written, which only the other worker can have done by then. It adds up which
+/// workers passed: 1 for the first, 2 for the second.
+#[derive(Drop)]
+struct HoldsFirst<'a> {
+    has_passed: AtomicBool,
+    is_written: &'a AtomicBool,
+    is_late: AtomicBool,
+    workers: AtomicU64,
+}
+
+impl Gate for HoldsFirst<'_> {
+    fn pass(&self, worker: u32, _piece: u32) {
+        self.workers
+            .fetch_add(u64::from(worker) + 1, Ordering::SeqCst);
+        if self.has_passed.swap(true, Ordering::SeqCst) {
+            return;
+        }
+        if !is_set_in_time(self.is_written) {
+            self.is_late.store(true, Ordering::SeqCst);
+        }
+    }
+}
+
+/// Serves streams at the visitors' seats: what it came to.
+fn serve_at<
+    J: Room + Send + Sync,
+    A: Arrivals + Sync,
+    G: Gate + Sync,
+    R: Threads + Wait + Abort + Sync,
+>(
+    rt: &R,
+    alloc: Global,
+    office: Office<J, MemoryDevice>,
+    visitors: Vec<Visitor<J>>,
+    streams: &A,
+    gate: &G,
+) -> Ran
+    requires asked { (c : Command) → IsAskedOf (traffic A.gives A.takes_back A.Reader.Source A.Writer.Sink streams.now) c → J.asked c }
+    requires only { (c : Command) → J.asked c → IsAskedOf (traffic A.gives A.takes_back A.Reader.Source A.Writer.Sink streams.now) c }
+{
+    let (_, ran) = serve_many(rt, alloc, office, visitors, streams, gate);
+    ran.expect(rt, "no memory")
+}
+
+/// Serves streams at two seats: what it came to.
+fn served_in<
+    J: Room + Send + Sync,
+    A: Arrivals + Sync,
+    G: Gate + Sync,
+    R: Threads + Wait + Abort + Sync,
+>(
+    rt: &R,
+    alloc: Global,
+    opened: Opened,
+    clerk: Clerk<MemoryDevice>,
+    catalogue: Arc<Catalogue>,
+    streams: &A,
+    gate: &G,
+) -> Ran
+    requires book { opened.seen.book ≡ J.book }
+    requires root { opened.pen.nib.key ≡ J.root }
+    requires first { catalogue.value ≡ J.first }
+    requires same { desk_of clerk ≡ J.first }
+    requires kept { J.sound → Keeps clerk }
+    requires begins { BeginsWith J.begins clerk }
+    requires asked { (c : Command) → IsAskedOf (traffic A.gives A.takes_back A.Reader.Source A.Writer.Sink streams.now) c → J.asked c }
+    requires only { (c : Command) → J.asked c → IsAskedOf (traffic A.gives A.takes_back A.Reader.Source A.Writer.Sink streams.now) c }
+{
+    let (shower, visitors) = match Gallery::new::<J>(alloc, opened, catalogue, 2) {
+        Ok(gallery) => gallery,
+        Err(GalleryFault::Memory) => panic!(rt; "no memory"),
+        Err(GalleryFault::Refused(shower)) => {
+            shower.close(rt);
+            panic!(rt; "no place")
+        }
+    };
+    let office = Office::new(clerk, shower);
+    serve_at(rt, alloc, office, visitors, streams, gate)
+}
+
+/// The same, of the sample geography.
+fn served<A: Arrivals + Sync, G: Gate + Sync, R: Threads + Wait + Abort + Sync>(
+    rt: &R,
+    alloc: Global,
+    streams: &A,
+    gate: &G,
+) -> Ran {
+    let clerk = Clerk::open(alloc, sealed_device(rt, alloc))
+        .ok()
+        .expect(rt, "no clerk");
+    let catalogue = clerk.published().expect(rt, "no memory");
+    served_in::<Brand, A, G, R>(rt, alloc, Opened::new(), clerk, catalogue, streams, gate)
+}
+
+#[test]
+fn two_streams_are_served_at_once(rt: HostRuntime) {
+    let is_written = AtomicBool::new(false);
+    let streams = Streams {
+        count: 2,
+        taken: AtomicU64::new(0),
+        ended: AtomicU64::new(0),
+        is_written: &is_written,
+    };
+    let gate = HoldsFirst {
+        has_passed: AtomicBool::new(false),
+        is_written: &is_written,
+        is_late: AtomicBool::new(false),
+        workers: AtomicU64::new(0),
+    };
+    let ran = served(&rt, rt.alloc(), &streams, &gate);
+    assert!(rt; ran.streams == 2 && ran.requests == 2 && ran.faults == 0);
+    assert!(rt; streams.ended.load(Ordering::SeqCst) == 2);
+    assert!(rt; !gate.is_late.load(Ordering::SeqCst));
+    assert!(rt; gate.workers.load(Ordering::SeqCst) == 3);
+}

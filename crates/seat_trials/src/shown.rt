@@ -1,0 +1,83 @@
+//! What is shown once a device has failed.
+ghost use Rattle.std.specs.Prelude.{◌≡◌};
+ghost use Rattle.desk_model.specs.declared.command.Command.{Command};
+ghost use Rattle.desk_store.specs.Clerks.{desk_of, Keeps};
+ghost use Rattle.desk_gallery.specs.Begun.{BeginsWith};
+
+use crate::visitors::{clerk_failing_at, create, is_created, is_halted, plans_seen};
+use desk_catalogue::catalogue::Catalogue;
+use desk_gallery::book::{Opened, Room};
+use desk_gallery::front::Front;
+use desk_gallery::gallery::{Gallery, GalleryFault};
+use desk_store::clerk::Clerk;
+use sector_memory::FailOnce;
+use std::alloc::Global;
+use std::marker::Brand;
+use std::process::Abort;
+use std::sync::{Arc, Wait};
+
+/// Whether a command was accepted; where a fault cut it short, nothing is shown.
+fn is_shown<J: Room, R: Wait + Abort>(
+    rt: &R,
+    alloc: Global,
+    opened: Opened,
+    clerk: Clerk<FailOnce>,
+    catalogue: Arc<Catalogue>,
+) -> bool
+    requires book { opened.seen.book ≡ J.book }
+    requires root { opened.pen.nib.key ≡ J.root }
+    requires first { catalogue.value ≡ J.first }
+    requires same { desk_of clerk ≡ J.first }
+    requires kept { J.sound → Keeps clerk }
+    requires begins { BeginsWith J.begins clerk }
+    requires asked { (c : Command) → J.asked c }
+{
+    let (shower, visitors) = match Gallery::new::<J>(alloc, opened, catalogue, 1) {
+        Ok(gallery) => gallery,
+        Err(GalleryFault::Memory) => panic!(rt; "no memory"),
+        Err(GalleryFault::Refused(shower)) => {
+            shower.close(rt);
+            panic!(rt; "refused")
+        }
+    };
+    let mut front = Front::new(clerk, shower);
+    let mut visitors = visitors;
+    let mut visitor = visitors.pop().expect(rt, "no visitor");
+    let (reply, told) = front.command(rt, alloc, create(rt, b"a"));
+    visitor.learn(told);
+    let accepted = is_created(&reply);
+    assert!(rt; plans_seen(rt, alloc, &mut visitor) == accepted as usize);
+    assert!(rt; visitor.heard() == accepted as u128 && front.shown() == accepted as u128);
+    if !accepted {
+        assert!(rt; is_halted(&reply) && front.halted());
+        let (next, _) = front.command(rt, alloc, create(rt, b"b"));
+        assert!(rt; is_halted(&next) && front.shown() == 0);
+        assert!(rt; plans_seen(rt, alloc, &mut visitor) == 0);
+    }
+    front.close(rt);
+    accepted
+}
+
+/// A command on a device whose call k fails, where the opening passes.
+fn at_call<R: Wait + Abort>(rt: &R, alloc: Global, k: u64) -> Option<bool> {
+    let clerk = clerk_failing_at(rt, alloc, k)?;
+    let catalogue = clerk.published().expect(rt, "no memory");
+    Some(is_shown::<Brand, _>(rt, alloc, Opened::new(), clerk, catalogue))
+}
+
+#[test]
+fn a_change_that_a_fault_cut_short_is_never_shown(rt: HostRuntime) {
+    let alloc = rt.alloc();
+    let mut faults = 0u32;
+    for k in 0..400u64 {
+        match at_call(&rt, alloc, k) {
+            None => {}
+            Some(false) => faults = faults.saturating_add(1),
+            Some(true) => {
+                assert!(rt; faults > 2);
+                return;
+            }
+        }
+    }
+    panic!(rt; "never accepted")
+}

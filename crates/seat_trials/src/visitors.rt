@@ -1,0 +1,44 @@
+//! A clerk over a device that fails, and what a visitor finds.
+use crate::stores::sealed_device;
+use desk_gallery::book::Room;
+use desk_gallery::visitor::Visitor;
+use desk_model::command::{Command, Query};
+use desk_model::kind::Kind;
+use desk_model::name::PlanName;
+use desk_model::reply::{Refusal, Reply};
+use desk_model::size::PlanSize;
+use desk_store::clerk::Clerk;
+use sector_memory::FailOnce;
+use std::alloc::Global;
+use std::process::Abort;
+
+/// A clerk with the sample geography, whose device fails at its call k from the opening on; none where that is in the opening.
+pub fn clerk_failing_at<R: Abort>(rt: &R, alloc: Global, k: u64) -> Option<Clerk<FailOnce>> {
+    let device = sealed_device(rt, alloc);
+    Clerk::open(alloc, FailOnce::new(device, k)).ok()
+}
+
+/// The command that makes a plan under a name.
+pub fn create<R: Abort>(rt: &R, name: &[u8]) -> Command {
+    Command::Create {
+        plan: PlanName::read(name).expect(rt, "no name"),
+        size: PlanSize::new(Kind::Congress, 2),
+    }
+}
+
+pub fn is_created(reply: &Reply) -> bool {
+    matches!(reply, Reply::Created { .. })
+}
+
+pub fn is_halted(reply: &Reply) -> bool {
+    matches!(reply, Reply::Refused(Refusal::Halted))
+}
+
+/// How many plans a visitor finds.
+pub fn plans_seen<J: Room, R: Abort>(rt: &R, alloc: Global, visitor: &mut Visitor<J>) -> usize {
+    let shown = visitor.visit().expect(rt, "no visit");
+    match shown.ask(alloc, Query::Plans) {
+        Reply::Plans(rows) => rows.as_slice().len(),
+        _ => panic!(rt; "no plans"),
+    }
+}

@@ -1,0 +1,145 @@
+-- Parts of revisions stand in the order of their plans and revisions.
+use Rattle.std.proofs.Common.{◌≡◌, inl, inr, ◌<◌, ◌≤◌, ◌%◌, ◌^◌, ℕ, List, [], ◌∷◌, ◌++◌, length, drop, true, refl, sym, ap, subst, ◌∙◌, w64, arith}
+use Rattle.std.specs.Int.{from_be_bytes}
+use Rattle.std.specs.Ordering.{is_gt, nat_cmp, ordering_then}
+use Rattle.std.specs.BTreeMap.{BTreeMap}
+use Rattle.std.specs.declared.cmp.Ordering.{Ordering}
+use Rattle.std.specs.declared.cmp.Ordering.TheVariants.{Less, Equal, Greater}
+use Rattle.std.specs.Cmp.{nat_cmp_is}
+use Rattle.std.specs.FinMap.{entries, get}
+use Rattle.std.proofs.lemmas.Bool.{cases_lt}
+use Rattle.std.proofs.lemmas.Nat.{from_be_bytes-to_be_bytes_8}
+use Rattle.page_node.specs.Entries.{Entry}
+use Rattle.page_node.specs.Places.{key_cmp, entries_from}
+use Rattle.page_node.proofs.Laws.{flip_less}
+use Rattle.btree_scan.proofs.Prefixes.{between_under, under_is_from}
+use Rattle.store_rows.specs.Keys.{RowKey, key_of, Fits, counters, retired, begun, holding, tally, named, part, seal, version, block, pair, chunk, in_one, in_four, in_eight, parts_prefix, plan_parts_prefix, revision_prefix}
+use Rattle.store_rows.specs.Rows.{KeyMap, Has}
+use Rattle.store_rows.specs.Tidy.{AreRows}
+use Rattle.store_rows.proofs.Numbers.{numbers_decide}
+use Rattle.store_check.specs.Rows.{IsFrom, NoneFrom}
+use Rattle.store_check.specs.Owners.{AreOwnedBelow, AreOwnedBy, IsOwned, IsOwnedTo, IsPartKey, IsUnderParts, Passes, behind_revision}
+use Rattle.store_check.proofs.Behind.{fewer_rows, from_tag, front_same, starts_itself, starts_same}
+use Rattle.store_check.proofs.FirstRows.{clash, first_least, first_there, from_trans}
+use Rattle.store_check.proofs.Scanned.{either_way}
+
+-- what stands behind numbers of as many bytes doesn't count
+below_more : (x y w z : List ℕ) → length x ≡ length y → key_cmp x y ≡ Less → key_cmp (x ++ w) (y ++ z) ≡ Less
+below_more [] [] w z long below = cc
+below_more [] (b ∷ y) w z long below = absurd (omega arith)
+below_more (a ∷ x) [] w z long below = absurd (omega arith)
+below_more (a ∷ x) (b ∷ y) w z long below = elim (nat_cmp a b) as (λ r. ordering_then r (key_cmp x y) ≡ Less → ordering_then r (key_cmp (x ++ w) (y ++ z)) ≡ Less) [
+  | Less ↦ λ h. h
+  | Equal ↦ λ h. below_more x y w z (omega arith) h
+  | Greater ↦ λ h. h
+] below
+
+-- a part of an earlier revision of a plan stands before one of a later
+earlier : (plan revision other : ℕ) (w z : List ℕ) → revision < 2 ^ 32 → other < 2 ^ 32 → revision < other → key_cmp (revision_prefix plan revision ++ w) (revision_prefix plan other ++ z) ≡ Less
+earlier plan revision other w z fits other_fits less =
+    below_more (revision_prefix plan revision) (revision_prefix plan other) w z refl
+    ((numbers_decide (plan_parts_prefix plan) revision other).1 fits other_fits ∙ sym (nat_cmp_is revision other Less less))
+
+-- and each part of a revision before the key behind these
+last_below : (index : ℕ) → key_cmp (in_one index) (255 ∷ 0 ∷ []) ≡ Less
+last_below index = elim (cases_lt (index % 256) 255) [
+  | inl less ↦ ap (λ (r : Ordering). ordering_then r (key_cmp [] (0 ∷ []))) (sym (nat_cmp_is (index % 256) 255 Less less))
+  | inr most ↦ ap (λ (r : Ordering). ordering_then r (key_cmp [] (0 ∷ []))) (sym (nat_cmp_is (index % 256) 255 Equal (omega arith)))
+]
+
+below_behind : (plan revision last index : ℕ) → revision < 2 ^ 32 → last < 2 ^ 32 → revision ≤ last → key_cmp (key_of (part plan revision index)) (behind_revision plan last) ≡ Less
+below_behind plan revision last index fits last_fits within = elim (cases_lt revision last) [
+  | inl less ↦ earlier plan revision last (in_one index) (255 ∷ 0 ∷ []) fits last_fits less
+  | inr not ↦
+      let same : last ≡ revision = omega arith in
+      subst (λ (n : ℕ). key_cmp (key_of (part plan revision index)) (behind_revision plan n) ≡ Less) (sym same)
+      (front_same (revision_prefix plan revision) (in_one index) (255 ∷ 0 ∷ []) ∙ last_below index)
+]
+
+-- parts between a part of a plan and the key behind a revision of that plan are of revisions between these
+module _ (plan revision index last : ℕ) (fits : Fits (part plan revision index)) (last_fits : last < 2 ^ 32) (other number place : ℕ) (other_fits : Fits (part other number place))
+    (from : IsFrom (key_of (part plan revision index)) (key_of (part other number place))) (short : is_gt (key_cmp (behind_revision plan last) (key_of (part other number place))) ≡ true) where
+  same_plan : plan ≡ other
+  same_plan =
+      let behind = from_trans (plan_parts_prefix plan) (key_of (part plan revision index)) (key_of (part other number place)) (under_is_from (plan_parts_prefix plan) (key_of (part plan revision index)) (starts_itself (plan_parts_prefix plan) (in_four revision ++ in_one index))) from in
+      let on = between_under (plan_parts_prefix plan) (key_of (part other number place)) (behind_revision plan last) behind short (starts_itself (plan_parts_prefix plan) (in_four last ++ 255 ∷ 0 ∷ [])) in
+      let same : plan_parts_prefix plan ≡ plan_parts_prefix other = starts_same (plan_parts_prefix plan) (plan_parts_prefix other) (in_four number ++ in_one place) refl on in
+      sym (from_be_bytes-to_be_bytes_8 plan fits.0) ∙ ap (λ (l : List ℕ). from_be_bytes w64 (drop 1 l)) same ∙ from_be_bytes-to_be_bytes_8 other other_fits.0
+
+  not_before : revision ≤ number
+  not_before = elim (cases_lt number revision) [
+    | inl less ↦
+        let below : key_cmp (key_of (part plan number place)) (key_of (part plan revision index)) ≡ Less = earlier plan number revision (in_one place) (in_one index) other_fits.1 fits.1 less in
+        let here : IsFrom (key_of (part plan revision index)) (key_of (part plan number place)) = subst (λ (n : ℕ). IsFrom (key_of (part plan revision index)) (key_of (part n number place))) (sym same_plan) from in
+        absurd (clash (is_gt (key_cmp (key_of (part plan revision index)) (key_of (part plan number place)))) (ap is_gt (flip_less (key_of (part plan number place)) (key_of (part plan revision index)) below)) here)
+    | inr not ↦ omega arith
+  ]
+
+  not_behind : number ≤ last
+  not_behind = elim (cases_lt last number) [
+    | inl less ↦
+        let below : key_cmp (behind_revision plan last) (key_of (part plan number place)) ≡ Less = earlier plan last number (255 ∷ 0 ∷ []) (in_one place) last_fits other_fits.1 less in
+        let here : is_gt (key_cmp (behind_revision plan last) (key_of (part plan number place))) ≡ true = subst (λ (n : ℕ). is_gt (key_cmp (behind_revision plan last) (key_of (part n number place))) ≡ true) (sym same_plan) short in
+        absurd (clash (is_gt (key_cmp (behind_revision plan last) (key_of (part plan number place)))) here (ap is_gt below))
+    | inr not ↦ omega arith
+  ]
+
+  between : (counts : BTreeMap ℕ ℕ) (m : KeyMap) → IsOwnedTo counts m plan revision last → IsOwned counts m other number
+  between counts m to = subst (λ (n : ℕ). IsOwned counts m n number) same_plan (to.owned number not_before not_behind)
+
+pub starts_part : (plan revision index : ℕ) → IsUnderParts (key_of (part plan revision index))
+starts_part plan revision index = starts_itself parts_prefix ((in_eight plan ++ in_four revision) ++ in_one index)
+
+pub starts_behind : (plan revision : ℕ) → IsUnderParts (behind_revision plan revision)
+starts_behind plan revision = starts_itself parts_prefix ((in_eight plan ++ in_four revision) ++ 255 ∷ 0 ∷ [])
+
+pub parts_begin : IsUnderParts parts_prefix
+parts_begin = refl
+
+-- ---- one goes on behind the parts of a plan
+module _ (counts : BTreeMap ℕ ℕ) (m : KeyMap) (from : List ℕ) (e : Entry) (more : List Entry) (first : entries_from from (entries m) ≡ e ∷ more) (plan revision : ℕ) (of : IsPartKey plan revision e.0) where
+  first_stands : Has m (part plan revision of.index) e.1
+  first_stands = ap (get m) (sym of.is) ∙ first_there m from e more first
+
+  -- the first part is owned where all are
+  pub first_owned : AreOwnedBy counts m → IsOwned counts m plan revision
+  first_owned owned = owned plan revision of.index e.1 of.fits first_stands
+
+  pub passes_on : (last : ℕ) → last < 2 ^ 32 → IsOwnedTo counts m plan revision last → AreOwnedBelow counts from m → Passes true counts from (behind_revision plan last) m
+  passes_on last last_fits to before = (
+    λ other number place value fits has short. either_way (is_gt (key_cmp from (key_of (part other number place)))) (IsOwned counts m other number)
+        (λ above. before other number place value fits has (λ later. clash (is_gt (key_cmp from (key_of (part other number place)))) above later))
+        (λ later.
+        let least : IsFrom (key_of (part plan revision of.index)) (key_of (part other number place)) = subst (λ (k : List ℕ). IsFrom k (key_of (part other number place))) of.is (first_least m from e more first (key_of (part other number place)) value has later) in
+        let below : is_gt (key_cmp (behind_revision plan last) (key_of (part other number place))) ≡ true = either_way (is_gt (key_cmp (behind_revision plan last) (key_of (part other number place)))) (is_gt (key_cmp (behind_revision plan last) (key_of (part other number place))) ≡ true) (λ is. is) (λ is. absurd (short is)) in
+        between plan revision of.index last of.fits last_fits other number place fits least below counts m to),
+    fewer_rows m from (behind_revision plan last) e more first (subst (λ (k : List ℕ). key_cmp k (behind_revision plan last) ≡ Less) (sym of.is) (below_behind plan revision last of.index of.fits.1 last_fits to.within)),
+  )
+
+pub ends_owned : (counts : BTreeMap ℕ ℕ) (m : KeyMap) (from : List ℕ) → NoneFrom from parts_prefix m → AreOwnedBelow counts from m → AreOwnedBy counts m
+ends_owned counts m from none before plan revision index value fits has = either_way (is_gt (key_cmp from (key_of (part plan revision index)))) (IsOwned counts m plan revision)
+    (λ above. before plan revision index value fits has (λ later. clash (is_gt (key_cmp from (key_of (part plan revision index)))) above later))
+    (λ later. absurd (none (key_of (part plan revision index)) value has later (starts_part plan revision index)))
+
+pub begins_owned : (counts : BTreeMap ℕ ℕ) (m : KeyMap) → AreOwnedBelow counts parts_prefix m
+begins_owned counts m plan revision index value fits has short = absurd (short (from_tag 82 82 ((in_eight plan ++ in_four revision) ++ in_one index) (omega arith)))
+
+-- ---- the first key under parts
+part_of : (row : RowKey) → IsUnderParts (key_of row) → ((plan revision index : ℕ) → key_of row ≡ key_of (part plan revision index) → ⊥) → ⊥
+part_of counters on other = cc
+part_of (retired plan) on other = cc
+part_of (begun load) on other = cc
+part_of (holding plan number) on other = cc
+part_of (tally number) on other = cc
+part_of (named name) on other = cc
+part_of (part plan revision index) on other = other plan revision index refl
+part_of seal on other = cc
+part_of version on other = cc
+part_of (block load place) on other = cc
+part_of (pair load place) on other = cc
+part_of (chunk number piece) on other = cc
+
+pub no_part : (m : KeyMap) (from : List ℕ) (e : Entry) (more : List Entry) → entries_from from (entries m) ≡ e ∷ more → AreRows m → IsUnderParts e.0 → ((plan revision index : ℕ) → e.0 ≡ key_of (part plan revision index) → ⊥) → ⊥
+no_part m from e more first rows on other =
+    let (row, fits, is) = rows e.0 e.1 (first_there m from e more first) in
+    part_of row (subst IsUnderParts is on) (λ plan revision index same. other plan revision index (is ∙ same))

@@ -1,0 +1,17 @@
+use Rattle.std.proofs.Common.{◌≡◌, ◌+◌, ◌≤◌, length}
+use Rattle.std.specs.FinMap.{entries}
+use Rattle.page_store.specs.Transactions.{stored, disk_in, count_of, txn_pages, Passed}
+use Rattle.page_node.specs.Places.{entries_from}
+use Rattle.page_btree.specs.Map.{InTxn}
+use Rattle.store_rows.specs.Rows.{KeyMap}
+use Rattle.store_check.specs.Owners.{AreOwnedBelow, IsUnderParts}
+use Rattle.store_check.proofs.owners.check_owners.Given as goal
+
+abbrev pub invariant-loop-taken : goal.invariant-loop-taken
+invariant-loop-taken g l = record {
+  begun : txn_pages l.txn ≡ count_of l.pages;
+  passed : Passed l.fn.pages l.pages;
+  under : IsUnderParts l.from;
+  owned : (disk_in l.pages).is_honest → (m : KeyMap) → InTxn l.txn (stored l.fn.pages) m →
+      AreOwnedBelow l.counts l.from m × (length (entries_from l.from (entries m)) + l.taken ≤ length (entries m));
+}

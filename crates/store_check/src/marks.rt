@@ -1,0 +1,33 @@
+//! Rows that say nothing but that they are there.
+ghost use Rattle.std.specs.Prelude.{◌≡◌, [], Some, OnOk, IfErr};
+ghost use Rattle.std.specs.FinMap.{get as row_at};
+ghost use Rattle.page_store.specs.Transactions.{stored, disk_in, count_of, txn_pages, IsQuiet, Passed};
+ghost use Rattle.page_btree.specs.Map.{InTxn};
+ghost use Rattle.row_table.specs.Reading.{ReadErr};
+ghost use Rattle.store_rows.specs.Rows.{KeyMap};
+
+use page_store::{Pages, Txn};
+use row_table::{TreeError, read_row};
+use sector_device::SectorDevice;
+use store_rows::Key;
+
+/// Refuses where no mark stands under a key: no row, or one that has a value. It takes no memory. An error is `DeviceFault`,
+/// which comes where there is none, or where the device failed, or `Halted`.
+pub fn refuse_unmarked<D: SectorDevice>(
+    txn: &Txn,
+    pages: &mut Pages<D>,
+    key: &Key,
+) -> Result<(), TreeError>
+    requires begun { txn_pages txn.now ≡ count_of pages.old }
+    ensures quiet { IsQuiet pages.old pages.new }
+    ensures passed { OnOk result (Passed pages.old pages.new) }
+    ensures known { (disk_in pages.new).is_honest → (m : KeyMap) → InTxn txn.now (stored pages.old) m → OnOk result (row_at m key.now ≡ Some []) }
+    ensures err { IfErr result (λ e. ReadErr (λ m. row_at m key.now ≡ Some []) txn.now pages.old pages.new e) }
+{
+    let mut bytes = [0; 1024];
+    let length = read_row(txn, pages, key, &mut bytes)?;
+    if length > 0 {
+        return Err(TreeError::DeviceFault);
+    }
+    Ok(())
+}

@@ -1,0 +1,141 @@
+//! Checks that the parts of revisions are those of plans that are there, or of some that were taken away.
+ghost use Rattle.std.specs.Prelude.{◌≡◌, ◌≤◌, ◌<◌, ◌^◌, length, OnOk, IfOk, IfErr};
+ghost use Rattle.page_store.specs.Transactions.{stored, disk_in, count_of, txn_pages, IsQuiet, Passed};
+ghost use Rattle.page_btree.specs.Map.{InTxn};
+ghost use Rattle.row_table.specs.Reading.{ReadErr};
+ghost use Rattle.store_rows.specs.Rows.{KeyMap};
+ghost use Rattle.store_rows.specs.Tidy.{AreRows};
+ghost use Rattle.store_check.specs.Owners.{AreOwnedBelow, AreOwnedBy, HasOwners, IsNextPart, IsOwned, IsOwnedTo, IsUnderParts, Passes, behind_revision};
+
+use crate::firsts::first_from;
+use crate::keys::part_in;
+use crate::marks::refuse_unmarked;
+use btree_scan::{Row, SmallBytes, row_limit};
+use page_store::{Pages, Txn};
+use row_table::TreeError;
+use sector_device::SectorDevice;
+use std::collections::BTreeMap;
+use store_rows::Key;
+
+/// A key behind the parts of a revision, and below each other one behind these.
+fn key_behind(plan: u64, revision: u32) -> [u8; 15]
+    ensures is { result ≡ behind_revision plan revision }
+    ensures fits { revision < 2 ^ 32 }
+{
+    let p = plan.to_be_bytes();
+    let r = revision.to_be_bytes();
+    [
+        b'R', p[0], p[1], p[2], p[3], p[4], p[5], p[6], p[7], r[0], r[1], r[2], r[3], 255, 0,
+    ]
+}
+
+/// The plan and the revision of the first part from a key on; None where there is none.
+fn part_from<D: SectorDevice>(
+    txn: &Txn,
+    pages: &mut Pages<D>,
+    from: &[u8],
+) -> Result<Option<(u64, u32)>, TreeError>
+    requires begun { txn_pages txn.now ≡ count_of pages.old }
+    requires short { length from.now ≤ 1024 }
+    requires under { IsUnderParts from.now }
+    ensures quiet { IsQuiet pages.old pages.new }
+    ensures passed { OnOk result (Passed pages.old pages.new) }
+    ensures next { (disk_in pages.new).is_honest → (m : KeyMap) → InTxn txn.now (stored pages.old) m → IfOk result (IsNextPart from.now m) }
+    ensures err { IfErr result (λ e. ReadErr AreRows txn.now pages.old pages.new e) }
+{
+    let mut row = Row::empty();
+    let found = first_from(txn, pages, from, &mut row)?;
+    if !found {
+        return Ok(None);
+    }
+    if !row.key.as_slice().starts_with(Key::parts().as_slice()) {
+        return Ok(None);
+    }
+    match part_in(row.key.as_slice()) {
+        None => Err(TreeError::DeviceFault),
+        Some(of) => Ok(Some(of)),
+    }
+}
+
+/// The last revision of which a plan may have parts: as is counted, or any, where the plan was taken away. Refuses where it may
+/// have none of this one.
+fn last_of<D: SectorDevice>(
+    txn: &Txn,
+    pages: &mut Pages<D>,
+    counts: &BTreeMap<u64, u32>,
+    plan: u64,
+    revision: u32,
+) -> Result<u32, TreeError>
+    requires begun { txn_pages txn.now ≡ count_of pages.old }
+    ensures quiet { IsQuiet pages.old pages.new }
+    ensures passed { OnOk result (Passed pages.old pages.new) }
+    ensures owned { (disk_in pages.new).is_honest → (m : KeyMap) → InTxn txn.now (stored pages.old) m
+        → IfOk result (IsOwnedTo counts.now m plan revision) }
+    ensures err { IfErr result (λ e. ReadErr (λ m. IsOwned counts.now m plan revision) txn.now pages.old pages.new e) }
+{
+    match counts.get(&plan) {
+        None => {
+            refuse_unmarked(txn, pages, &Key::retired(plan))?;
+            Ok(u32::MAX)
+        }
+        Some(count) => {
+            if revision == 0 || revision > *count {
+                return Err(TreeError::DeviceFault);
+            }
+            Ok(*count)
+        }
+    }
+}
+
+/// Goes on from a key to one behind the revisions of the plan that has the next part: whether there is one. Refuses where that
+/// plan may have no such part.
+fn pass_plan<D: SectorDevice>(
+    txn: &Txn,
+    pages: &mut Pages<D>,
+    counts: &BTreeMap<u64, u32>,
+    from: &mut SmallBytes,
+) -> Result<bool, TreeError>
+    requires begun { txn_pages txn.now ≡ count_of pages.old }
+    requires under { IsUnderParts from.old }
+    ensures quiet { IsQuiet pages.old pages.new }
+    ensures passed { OnOk result (Passed pages.old pages.new) }
+    ensures under { OnOk result (IsUnderParts from.new) }
+    ensures passes { (disk_in pages.new).is_honest → (m : KeyMap) → InTxn txn.now (stored pages.old) m → AreOwnedBelow counts.now from.old m
+        → IfOk result (λ more. Passes more counts.now from.old from.new m) }
+    ensures err { IfErr result (λ e. ReadErr (HasOwners counts.now) txn.now pages.old pages.new e) }
+{
+    let found = part_from(txn, pages, from.as_slice())?;
+    match found {
+        None => Ok(false),
+        Some((plan, revision)) => {
+            let last = last_of(txn, pages, counts, plan, revision)?;
+            from.set(&key_behind(plan, last));
+            Ok(true)
+        }
+    }
+}
+
+/// Refuses a part of a revision whose plan has no such revision and wasn't taken away either. `counts` has for the number of each
+/// plan that is there the count of its revisions. It takes no memory. An error is `DeviceFault`, which comes where there is such
+/// a part, or where the device failed, or `Halted`.
+pub fn check_owners<D: SectorDevice>(
+    txn: &Txn,
+    pages: &mut Pages<D>,
+    counts: &BTreeMap<u64, u32>,
+) -> Result<(), TreeError>
+    requires begun { txn_pages txn.now ≡ count_of pages.old }
+    ensures quiet { IsQuiet pages.old pages.new }
+    ensures passed { OnOk result (Passed pages.old pages.new) }
+    ensures owned { (disk_in pages.new).is_honest → (m : KeyMap) → InTxn txn.now (stored pages.old) m → OnOk result (AreOwnedBy counts.now m) }
+    ensures err { IfErr result (λ e. ReadErr (HasOwners counts.now) txn.now pages.old pages.new e) }
+{
+    let mut from = SmallBytes::empty();
+    from.set(b"R");
+    for taken in 0..row_limit(txn) {
+        let more = pass_plan(txn, pages, counts, &mut from)?;
+        if !more {
+            return Ok(());
+        }
+    }
+    Err(TreeError::DeviceFault)
+}
