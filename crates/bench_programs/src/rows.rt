@@ -6,7 +6,8 @@ use btree_puts::put;
 use btree_removes::remove;
 use btree_scan::Scan;
 use page_btree::{TreeError, get};
-use page_store::{Pages, Txn, format};
+use page_format::format;
+use page_store::{Pages, Txn};
 use sector_memory::MemoryDevice;
 use std::alloc::Global;
 use std::io;
@@ -162,7 +163,7 @@ fn scan_all(alloc: Global, pages: &mut Pages<MemoryDevice>, rows: u32) -> Result
 fn made(alloc: Global) -> Option<Pages<MemoryDevice>> {
     let mut device = MemoryDevice::new(alloc, SECTORS).ok()?;
     format(alloc, &mut device, JOURNAL).ok()?;
-    Pages::open(device).ok()
+    Pages::open(alloc, device).ok()
 }
 
 fn refused(_: TreeError) -> io::Error {

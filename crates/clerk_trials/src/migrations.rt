@@ -43,7 +43,7 @@ fn old_store<R: Abort>(rt: &R, alloc: Global, sectors: u32) -> MemoryDevice {
     let text = answers(rt, alloc, &mut clerk, COMMANDS);
     assert!(rt; told_made(rt, alloc, text.as_slice()) == ALL);
     asks(rt, alloc, &mut clerk, GONE, WENT);
-    let Ok(mut pages) = Pages::open(passing(device_of(clerk))) else {
+    let Ok(mut pages) = Pages::open(alloc, passing(device_of(clerk))) else {
         panic!(rt; "not opened");
     };
     turn_back(alloc, &mut pages).expect(rt, "not turned back");

@@ -34,7 +34,7 @@ use Rattle.desk_migration.proofs.Stepped.{IsBegun, both, quiet_rows}
 pub page_refused : {D : Type 0} (h : Ghosts D) (old new : D) (e : PageError) → OpenErr h old new e → IsRefused (h.disk old) (h.disk new) (page_told e)
 page_refused h old new page.NotAStore why = λ honest all. why honest (page_stores_of (h.disk old) all)
 page_refused h old new page.DeviceFault why = why
-page_refused h old new page.Memory why = absurd why
+page_refused h old new page.Memory why = λ honest. let it = why honest in (it.0, it.1.0, it.1.1)
 page_refused h old new page.Halted why = absurd why
 page_refused h old new page.TooManyPages why = absurd why
 page_refused h old new page.TooSmall why = absurd why

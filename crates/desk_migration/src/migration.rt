@@ -48,7 +48,7 @@ impl<D: SectorDevice> Migration<D> {
         ensures err { IfErr result (λ e. IsRefused (D.disk device) (D.disk e.1) e.0) }
         ensures untouched { IfErr result (λ e. (D.disk e.1).is_honest → e.0 ≡ MigrationOpenError.NotAStore → IsSpared (D.disk device) (D.disk e.1)) }
     {
-        let mut pages = match Pages::open(device) {
+        let mut pages = match Pages::open(alloc, device) {
             Ok(pages) => pages,
             Err((e, device)) => return Err((page_error(e), device)),
         };

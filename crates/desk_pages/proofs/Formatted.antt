@@ -5,7 +5,7 @@ use Rattle.sector_device.specs.Disk.{Disk}
 use Rattle.gate_journal.specs.Store.{pages}
 use Rattle.gate_journal.proofs.Commit.{settled_opens}
 use Rattle.page_store.specs.Chain.{free_in}
-use Rattle.page_store.specs.Openings.{IsNewWith}
+use Rattle.page_format.specs.New.{IsNewWith}
 use Rattle.page_btree.specs.Map.{Holds, IsOnlyRow}
 use Rattle.desk_model.specs.Desk.{Plan, name_cmp}
 use Rattle.store_rows.specs.Keys.{key_of, seal, named, version, in_four}

@@ -44,7 +44,7 @@ FindTold old new OldVersion = new.is_honest → IsOldStore old new × (AllDesks 
 pub page_refused : {D : Type 0} (h : Ghosts D) (old new : D) (e : PageError) → OpenErr h old new e → OpenRefused h old new (open_error_of e)
 page_refused h old new page.NotAStore why = λ honest all. why honest (page_stores_of (h.disk old) all)
 page_refused h old new page.DeviceFault why = why
-page_refused h old new page.Memory why = absurd why
+page_refused h old new page.Memory why = λ honest. let it = why honest in (it.0, it.1.0, it.1.1)
 page_refused h old new page.Halted why = absurd why
 page_refused h old new page.TooManyPages why = absurd why
 page_refused h old new page.TooSmall why = absurd why
@@ -69,7 +69,7 @@ page_spared old new page.NoPages untouched other = λ honest is. absurd (other (
 pub not_other : {D : Type 0} (h : Ghosts D) (old new : D) (e : PageError) → OpenErr h old new e → (e ≡ page.NotAStore → ⊥) → open_error_of e ≡ NotAStore → ⊥
 not_other h old new page.NotAStore why other is = other refl
 not_other h old new page.DeviceFault why other is = cc
-not_other h old new page.Memory why other is = absurd why
+not_other h old new page.Memory why other is = cc
 not_other h old new page.Halted why other is = absurd why
 not_other h old new page.TooManyPages why other is = absurd why
 not_other h old new page.TooSmall why other is = absurd why

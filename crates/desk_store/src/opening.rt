@@ -138,7 +138,7 @@ impl<D: SectorDevice> Clerk<D> {
         ensures err { IfErr result (λ e. OpenRefused D.SectorDevice device e.1 e.0) }
         ensures untouched { IfErr result (λ e. (D.disk e.1).is_honest → e.0 ≡ OpenError.NotAStore → IsSpared (D.disk device) (D.disk e.1)) }
     {
-        let mut pages = match Pages::open(device) {
+        let mut pages = match Pages::open(alloc, device) {
             Ok(pages) => pages,
             Err((e, device)) => return Err((open_error(e), device)),
         };

@@ -3,25 +3,25 @@ ghost use Rattle.std.specs.Prelude.{◌≡◌};
 ghost use Rattle.http_arrivals.specs.Running.{no_streams, one_more, requests_of};
 
 use crate::arrivals::Arrivals;
-use crate::ran::Tally;
+use crate::ran::Totals;
 use http_desk::serve::{Served, StreamFault};
 
 /// The streams of one worker: each comes by `accept` and goes back by `finish`, which counts it. Its worker has no other way to them.
 #[derive(Drop)]
 pub struct Acceptor<'a, A: Arrivals> {
     arrivals: &'a A,
-    tally: Tally,
+    totals: Totals,
 }
 
 impl<'a, A: Arrivals> Acceptor<'a, A> {
     /// No stream was taken yet.
     pub fn new(arrivals: &'a A) -> Acceptor<'a, A>
         ensures from { result.arrivals.now ≡ arrivals.now }
-        ensures none { result.tally.ran ≡ no_streams }
+        ensures none { result.totals.ran ≡ no_streams }
     {
         Acceptor {
             arrivals,
-            tally: Tally::new(),
+            totals: Totals::new(),
         }
     }
 
@@ -41,16 +41,16 @@ impl<'a, A: Arrivals> Acceptor<'a, A> {
     )
         ensures from { self.new.arrivals.now ≡ self.old.arrivals.now }
         ensures back { A.takes_back self.old.arrivals.now reader writer served }
-        ensures counted { self.new.tally.ran ≡ one_more self.old.tally.ran (requests_of served) }
+        ensures counted { self.new.totals.ran ≡ one_more self.old.totals.ran (requests_of served) }
     {
-        self.tally = self.tally.with_stream(&served);
+        self.totals = self.totals.with_stream(&served);
         self.arrivals.ended(reader, writer, served);
     }
 
     /// What its streams came to.
-    pub fn into_tally(self) -> Tally
-        ensures { result.ran ≡ self.entry.tally.ran }
+    pub fn into_totals(self) -> Totals
+        ensures { result.ran ≡ self.entry.totals.ran }
     {
-        self.tally
+        self.totals
     }
 }

@@ -17,17 +17,17 @@ pub struct Ran {
 
 /// What a run has come to so far.
 #[derive(Drop)]
-pub struct Tally {
+pub struct Totals {
     pub ran: Ran,
     ghost within: { ran.faults ≤ ran.streams },
 }
 
-impl Tally {
+impl Totals {
     /// No stream yet.
-    pub fn new() -> Tally
+    pub fn new() -> Totals
         ensures { result.ran ≡ no_streams }
     {
-        Tally {
+        Totals {
             ran: Ran {
                 streams: 0,
                 requests: 0,
@@ -37,7 +37,7 @@ impl Tally {
     }
 
     /// The same with one stream more.
-    pub fn with_stream(&self, served: &Result<Served, StreamFault>) -> Tally
+    pub fn with_stream(&self, served: &Result<Served, StreamFault>) -> Totals
         ensures { result.ran ≡ one_more self.now.ran (requests_of served.now) }
     {
         let Ran {
@@ -46,14 +46,14 @@ impl Tally {
             faults,
         } = self.ran;
         match served {
-            Ok(served) => Tally {
+            Ok(served) => Totals {
                 ran: Ran {
                     streams: streams.saturating_add(1),
                     requests: requests.saturating_add(served.requests),
                     faults,
                 },
             },
-            Err(_) => Tally {
+            Err(_) => Totals {
                 ran: Ran {
                     streams: streams.saturating_add(1),
                     requests,
@@ -64,10 +64,10 @@ impl Tally {
     }
 
     /// The same with what another worker's streams came to.
-    pub fn with_worker(&self, other: &Tally) -> Tally
+    pub fn with_worker(&self, other: &Totals) -> Totals
         ensures { result.ran ≡ joined self.now.ran other.now.ran }
     {
-        Tally {
+        Totals {
             ran: Ran {
                 streams: self.ran.streams.saturating_add(other.ran.streams),
                 requests: self.ran.requests.saturating_add(other.ran.requests),

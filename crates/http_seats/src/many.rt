@@ -17,7 +17,7 @@ use desk_model::gate::Gate;
 use desk_store::clerk::Clerk;
 use http_arrivals::acceptor::Acceptor;
 use http_arrivals::arrivals::Arrivals;
-use http_arrivals::ran::{Ran, Tally};
+use http_arrivals::ran::{Ran, Totals};
 use http_desk::serve::serve;
 use sector_device::SectorDevice;
 use std::alloc::{AllocError, Global};
@@ -42,7 +42,7 @@ impl<'a, G: Gate> Gate for AtWorker<'a, G> {
 struct Place<J: Room> {
     worker: u32,
     visitor: Option<Visitor<J>>,
-    tally: Tally,
+    totals: Totals,
 }
 
 /// Serves streams at one seat until no further one comes: what they came to.
@@ -52,15 +52,15 @@ fn work<J: Room, D: SectorDevice, A: Arrivals, G: Gate, R: Wait>(
     seat: &mut Seat<'_, J, D, R>,
     acceptor: Acceptor<'_, A>,
     gate: &AtWorker<'_, G>,
-) -> Tally
-    requires none { acceptor.tally.ran ≡ no_streams }
+) -> Totals
+    requires none { acceptor.totals.ran ≡ no_streams }
     requires asked { (c : Command) → IsAskedOf (traffic A.gives A.takes_back A.Reader.Source A.Writer.Sink acceptor.arrivals.now) c → J.asked c }
     ensures { HasWorked (traffic A.gives A.takes_back A.Reader.Source A.Writer.Sink acceptor.entry.arrivals.now) J.first seat.old seat.new result.ran }
 {
     let mut acceptor = acceptor;
     for _ in rt.forever() {
         let Some((mut reader, mut writer)) = acceptor.accept() else {
-            return acceptor.into_tally();
+            return acceptor.into_totals();
         };
         let served = serve(alloc, &mut reader, &mut writer, seat, gate);
         acceptor.finish(reader, writer, served);
@@ -78,7 +78,7 @@ fn work_at<J: Room, D: SectorDevice, A: Arrivals, G: Gate, R: Wait>(
     gate: &G,
 )
     requires { (c : Command) → IsAskedOf (traffic A.gives A.takes_back A.Reader.Source A.Writer.Sink arrivals.now) c → J.asked c }
-    ensures { LeavesPlace (traffic A.gives A.takes_back A.Reader.Source A.Writer.Sink arrivals.now) J.first place.old.visitor place.new.visitor place.new.tally.ran }
+    ensures { LeavesPlace (traffic A.gives A.takes_back A.Reader.Source A.Writer.Sink arrivals.now) J.first place.old.visitor place.new.visitor place.new.totals.ran }
 {
     let Some(visitor) = place.visitor.take() else {
         return;
@@ -88,7 +88,7 @@ fn work_at<J: Room, D: SectorDevice, A: Arrivals, G: Gate, R: Wait>(
         gate,
         worker: place.worker,
     };
-    place.tally = work(rt, alloc, &mut seat, Acceptor::new(arrivals), &gate);
+    place.totals = work(rt, alloc, &mut seat, Acceptor::new(arrivals), &gate);
     place.visitor = Some(seat.into_visitor());
 }
 
@@ -105,7 +105,7 @@ fn places_for<J: Room>(
         places.push(Place {
             worker,
             visitor: Some(visitor),
-            tally: Tally::new(),
+            totals: Totals::new(),
         })?;
         worker = worker.saturating_add(1);
     }
@@ -114,14 +114,14 @@ fn places_for<J: Room>(
 }
 
 /// What all workers came to together.
-fn together<J: Room>(places: &[Place<J>]) -> Tally
-    ensures { result.ran ≡ total_of (map (λ p. p.tally.ran) places.now) }
+fn together<J: Room>(places: &[Place<J>]) -> Totals
+    ensures { result.ran ≡ total_of (map (λ p. p.totals.ran) places.now) }
 {
-    let mut tally = Tally::new();
+    let mut totals = Totals::new();
     for place in places {
-        tally = tally.with_worker(&place.tally);
+        totals = totals.with_worker(&place.totals);
     }
-    tally
+    totals
 }
 
 /// Serves streams at each place, by one worker a place.
@@ -133,7 +133,7 @@ fn serve_places<
     R: Threads + Wait + Sync,
 >(rt: &R, alloc: Global, office: &Office<J, D>, places: &mut [Place<J>], arrivals: &A, gate: &G)
     requires { (c : Command) → IsAskedOf (traffic A.gives A.takes_back A.Reader.Source A.Writer.Sink arrivals.now) c → J.asked c }
-    ensures { LeavesPlaces (traffic A.gives A.takes_back A.Reader.Source A.Writer.Sink arrivals.now) J.first (map (λ p. p.visitor) places.old) (map (λ p. (p.visitor, p.tally.ran)) places.new) }
+    ensures { LeavesPlaces (traffic A.gives A.takes_back A.Reader.Source A.Writer.Sink arrivals.now) J.first (map (λ p. p.visitor) places.old) (map (λ p. (p.visitor, p.totals.ran)) places.new) }
 {
     let threads = places.len().max(1);
     for_each_mut(
@@ -142,7 +142,7 @@ fn serve_places<
         threads,
         &|_, place: &mut Place<J>|
             requires { (c : Command) → IsAskedOf (traffic A.gives A.takes_back A.Reader.Source A.Writer.Sink arrivals.now) c → J.asked c }
-            ensures { LeavesPlace (traffic A.gives A.takes_back A.Reader.Source A.Writer.Sink arrivals.entry.now) J.first place.old.visitor place.new.visitor place.new.tally.ran }
+            ensures { LeavesPlace (traffic A.gives A.takes_back A.Reader.Source A.Writer.Sink arrivals.entry.now) J.first place.old.visitor place.new.visitor place.new.totals.ran }
         { work_at(rt, alloc, office, place, arrivals, gate) },
     );
 }
@@ -206,7 +206,7 @@ pub fn serve_many<
     serve_places(rt, alloc, &office, stands, arrivals, gate);
     let mut front = office.into_front();
     know_all(&mut front, stands);
-    let tally = together(stands);
+    let totals = together(stands);
     let last = front.close(rt);
-    (last, Ok(tally.ran))
+    (last, Ok(totals.ran))
 }

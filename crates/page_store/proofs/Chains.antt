@@ -1,6 +1,6 @@
 -- Chains of pages.
 use Rattle.std.proofs.Common.{⊎_elim, Bool, true, false, ◌||◌, ◌-◌, ◌≡◌, ◌≢◌, ◌<◌, ◌≤◌, ◌+◌, ℕ, zero, suc, List, [], ◌∷◌, length, inl, inr, refl, sym, ap, subst, ◌∙◌, arith, add-one}
-use Rattle.std.proofs.lemmas.Bool.{cases_eq, cases_lt}
+use Rattle.std.proofs.lemmas.Bool.{cases_eq}
 use Rattle.std.proofs.lemmas.Bool.Decides.{nat_tests}
 use Rattle.std.proofs.lemmas.Map.Steps.{length-le_from_distinct_below}
 use Rattle.std.specs.List.{AllByRecursion, IsDistinct, list_any}
@@ -8,7 +8,7 @@ use lib.Dec.{eqb}
 use Rattle.sector_device.specs.Disk.{Image}
 use Rattle.gate_journal.specs.Store.{word, put, overlay}
 use Rattle.gate_journal.proofs.Images.{put_on, put_off}
-use Rattle.page_store.specs.Chain.{chain, free_in, IsIn, AreFree, IsPages, IsMeta, next_of, AreLinked}
+use Rattle.page_store.specs.Chain.{chain, free_in, IsIn, AreFree, IsPages}
 use Rattle.std.specs.Prelude.{Option, Some, None, MatchOption}
 use Rattle.gate_journal.specs.Writes.{writes_of, IsEdited}
 use Rattle.gate_journal.specs.declared.writes.PageWrites.{PageWrites}
@@ -106,75 +106,6 @@ pub second_below : (n : ℕ) (P : Image) (first count : ℕ) → 1 < count → A
 second_below n P first zero more free = absurd (omega arith)
 second_below n P first (suc zero) more free = absurd (omega arith)
 second_below n P first (suc (suc count)) more free = free.3.1
-
--- ---- the free pages of a new store
-pub next_is : (n k : ℕ) → k + 1 < n → next_of n k ≡ k + 1
-next_is n k lt = grind (arith, nat_tests)
-
-linked_from : (n : ℕ) (P : Image) (k m q : ℕ) → k + m ≡ n → 0 < k → AreLinked n P 1 n → IsIn q (chain P k m) → k ≤ q
-linked_from n P k zero q whole some linked there = absurd there
-linked_from n P k (suc zero) q whole some linked (inl is) = omega arith
-linked_from n P k (suc zero) q whole some linked (inr none) = absurd none
-linked_from n P k (suc (suc m)) q whole some linked (inl is) = omega arith
-linked_from n P k (suc (suc m)) q whole some linked (inr there) =
-    let next : word (P k) 0 ≡ k + 1 = linked k (omega arith) (omega arith) (omega arith) ∙ next_is n k (omega arith) in
-    let later = linked_from n P (k + 1) (suc m) q (omega arith) (omega arith) linked (subst (λ (f : ℕ). IsIn q (chain P f (suc m))) next there) in
-    omega arith
-
-pub linked_free : (n : ℕ) (P : Image) (k m : ℕ) → k + m ≡ n → 0 < k → AreLinked n P 1 n → AreFree n (chain P k m)
-linked_free n P k zero whole some linked = tt
-linked_free n P k (suc zero) whole some linked = (some, omega arith, λ none. none, tt)
-linked_free n P k (suc (suc m)) whole some linked =
-    let next : word (P k) 0 ≡ k + 1 = linked k (omega arith) (omega arith) (omega arith) ∙ next_is n k (omega arith) in
-    let rest = linked_free n P (k + 1) (suc m) (omega arith) (omega arith) linked in
-    let apart : IsIn k (chain P (k + 1) (suc m)) → ⊥ = λ there. let later = linked_from n P (k + 1) (suc m) k (omega arith) (omega arith) linked there in omega arith in
-    (some, omega arith, subst (λ (f : ℕ). IsIn k (chain P f (suc m)) → ⊥) (sym next) apart, subst (λ (f : ℕ). AreFree n (chain P f (suc m))) (sym next) rest)
-
--- one link more
-pub linked_more : (n : ℕ) (P Q : Image) (from p : ℕ) (link : List ℕ) → ((q : ℕ) → Q q ≡ put (p, link) P q) → word link 0 ≡ next_of n p → AreLinked n P from p → AreLinked n Q from (p + 1)
-linked_more n P Q from p link is next linked q ge lt below = elim (cases_eq q p) [
-  | inl here ↦ ap (λ (s : List ℕ). word s 0) (is q ∙ put_on (p, link) P q here) ∙ next ∙ ap (λ (k : ℕ). next_of n k) (sym here)
-  | inr off ↦ ap (λ (s : List ℕ). word s 0) (is q ∙ put_off (p, link) P q off) ∙ linked q ge (omega arith) below
-]
-
--- a chain stays where its pages do
-pub chain_kept : (P Q : Image) (first count : ℕ) → ((q : ℕ) → IsIn q (chain P first count) → Q q ≡ P q) → chain Q first count ≡ chain P first count
-chain_kept P Q first zero same = refl
-chain_kept P Q first (suc count) same =
-    let next : word (Q first) 0 ≡ word (P first) 0 = ap (λ (s : List ℕ). word s 0) (same first (inl refl)) in
-    let rest : chain Q (word (Q first) 0) count ≡ chain P (word (P first) 0) count = ap (λ (f : ℕ). chain Q f count) next ∙ chain_kept P Q (word (P first) 0) count (λ q there. same q (inr there)) in
-    λ i. first ∷ rest i
-
--- pages that are all linked, under the meta page of a new store: those behind the root are free
-pub record AreNew (n root : ℕ) (Q : Image) : Type 0 where
-  pub sound : IsPages n Q
-  pub whole : length (free_in Q) + 1 + root ≡ n
-  pub behind : (q : ℕ) → IsIn q (free_in Q) → root < q
-
-pub new_pages : (n root : ℕ) (P Q : Image) → root + 1 < n → AreLinked n P 1 n → ((q : ℕ) → root < q → Q q ≡ P q) → IsMeta Q root (root + 1) (n - 1 - root) → AreNew n root Q
-new_pages n root P Q some linked same meta =
-    let count = n - 1 - root in
-    let behind : (q : ℕ) → IsIn q (chain P (root + 1) count) → root < q = λ q there. let from = linked_from n P (root + 1) count q (omega arith) (omega arith) linked there in omega arith in
-    let sound : AreFree n (chain P (root + 1) count) = linked_free n P (root + 1) count (omega arith) (omega arith) linked in
-    let free : free_in Q ≡ chain P (root + 1) count =
-    ap (λ (f : ℕ). chain Q f (word (Q 0) 2)) meta.first_is ∙ ap (λ (k : ℕ). chain Q (root + 1) k) meta.count_is ∙ chain_kept P Q (root + 1) count (λ q there. same q (behind q there)) in
-    record {
-      sound = record {
-        root = omega (arith, meta.root_is);
-        first = omega (arith, meta.first_is);
-        count = omega (arith, meta.count_is);
-        free = subst (λ (qs : List ℕ). AreFree n qs) (sym free) sound;
-      };
-      whole = omega (arith, ap (λ (qs : List ℕ). length qs) free, length_chain P (root + 1) count);
-      behind = λ q there. behind q (subst (λ (qs : List ℕ). IsIn q qs) free there);
-    }
-
--- a batch of links more
-pub batch_linked : (n from to : ℕ) (P Q : Image) → ((q : ℕ) → q < from + 256 → q < n → q < to) → ((q : ℕ) → q < from → Q q ≡ P q) → AreLinked n Q from to → AreLinked n P 1 from → AreLinked n Q 1 (from + 256)
-batch_linked n from to P Q all same linked before q ge lt below = ⊎_elim
-    (λ (early : q < from). ap (λ (s : List ℕ). word s 0) (same q early) ∙ before q ge early below)
-    (λ (late : from ≤ q). linked q late (all q lt below) below)
-    (cases_lt q from)
 
 -- a page that isn't free was changed, or none
 pub edited_free : {R : Type 0} (told : Option R) (A : Type 0) (B : Type 0) (step : List ℕ → R → List ℕ → Type 0) (old new : PageWrites) (p first count : ℕ) → MatchOption told (A × (new ≡ old)) (λ r. B × IsEdited step r (writes_of old) (writes_of new) p)

@@ -1,4 +1,3 @@
 pub mod Stops
 pub mod Chains
 pub mod Opened
-pub mod Made

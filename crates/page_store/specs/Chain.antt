@@ -1,7 +1,7 @@
 -- The meta page and the free pages. Page 0 begins with three words: the root, the first free page, and how many pages are
 -- free. Each free page begins with the number of the next one.
-use Rattle.std.specs.Prelude.{◌≡◌, ◌⊎◌, ◌<◌, ◌+◌, ◌≤◌, ℕ, List, [], ◌∷◌, cond}
-use Rattle.std.proofs.Common.{zero, suc, nat_lt}
+use Rattle.std.specs.Prelude.{◌≡◌, ◌⊎◌, ◌<◌, ℕ, List, [], ◌∷◌}
+use Rattle.std.proofs.Common.{zero, suc}
 use Rattle.sector_device.specs.Disk.{Image}
 use Rattle.gate_journal.specs.Store.{word}
 
@@ -38,11 +38,3 @@ pub record IsMeta (P : Image) (root first count : ℕ) : Type 0 where
   pub root_is : word (P 0) 0 ≡ root
   pub first_is : word (P 0) 1 ≡ first
   pub count_is : word (P 0) 2 ≡ count
-
--- each page of n is linked to the next one, the last to none
-abbrev pub next_of : ℕ → ℕ → ℕ
-next_of n q = cond (nat_lt (q + 1) n) (q + 1) 0
-
--- the pages from one on, up to another, are linked so
-abbrev pub AreLinked : ℕ → Image → ℕ → ℕ → Type 0
-AreLinked n P from to = (q : ℕ) → from ≤ q → q < to → q < n → word (P q) 0 ≡ next_of n q

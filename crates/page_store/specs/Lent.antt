@@ -13,7 +13,7 @@ own_or None held = held
 module _ {D : Type 0} {g : Ghosts D} where
   -- the bytes that are held at a place
   abbrev pub held_at : Pages D g → ℕ → List ℕ
-  held_at ps place = get_or ps.held place []
+  held_at ps place = get_or ps.held.items place []
 
   -- the bytes of a page that is lent at a place
   abbrev pub lent_bytes : Pages D g → Option (Bor (List ℕ)) → ℕ → List ℕ

@@ -1,8 +1,8 @@
 -- Pages and transactions over them, as the layers above see them.
-use Rattle.std.specs.Prelude.{◌≡◌, ◌≤◌, ◌<◌, ◌+◌, ◌⊎◌, ℕ, Bool, true, false, List, Result, Ok, Err, length}
+use Rattle.std.specs.Prelude.{◌≡◌, ◌≤◌, ◌<◌, ◌⊎◌, ℕ, Bool, true, false, List, Result, Ok, Err, length}
 use Rattle.sector_device.specs.Disk.{Disk, Image, Touches, Nowhere}
 use Rattle.sector_device.specs.declared.SectorDevice.{Ghosts}
-use Rattle.gate_journal.specs.Store.{overlay, home, Writes, pages}
+use Rattle.gate_journal.specs.Store.{overlay, Writes, pages}
 use Rattle.gate_journal.specs.Writes.{writes_of}
 use Rattle.gate_journal.specs.Recovery.{Found}
 use Rattle.gate_journal.specs.Contents.{content, disk_of, device_of, page_count, journal_size, is_halted, HasShapeOf, HasHalted, IsKept as kept}
@@ -173,14 +173,5 @@ OpenErr g old new Halted = ⊥
 OpenErr g old new TooManyPages = ⊥
 OpenErr g old new TooSmall = ⊥
 OpenErr g old new NoPages = ⊥
-OpenErr g old new Memory = ⊥
-
--- why a device is not formatted with J journal pages
-abbrev pub FormatErr : {D : Type 0} (g : Ghosts D) → ℕ → D → D → PageError → Type 0
-FormatErr g J old new DeviceFault = (home J + 64 ≤ (g.disk old).sectors) × ((g.disk new).is_honest → (g.disk old).faults < (g.disk new).faults)
-FormatErr g J old new TooSmall = ((g.disk old).sectors < home J + 64) × (new ≡ old)
-FormatErr g J old new Memory = (home J + 64 ≤ (g.disk old).sectors) × (new ≡ old)
-FormatErr g J old new NotAStore = ⊥
-FormatErr g J old new Halted = ⊥
-FormatErr g J old new TooManyPages = ⊥
-FormatErr g J old new NoPages = ⊥
+-- the pages of a store that was there, as they were
+OpenErr g old new Memory = (g.disk new).is_honest → (J : ℕ) × ((n : ℕ) × Found J n (g.disk old) (g.disk new))

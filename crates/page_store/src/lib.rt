@@ -2,11 +2,9 @@
 #![tactic(auto)]
 
 mod error;
-mod formatting;
 mod pages;
 mod txn;
 
 pub use error::PageError;
-pub use formatting::{format, format_with};
 pub use pages::Pages;
 pub use txn::{Prepared, Txn};

@@ -1,5 +1,5 @@
 //! Pages on a device.
-ghost use Rattle.std.specs.Prelude.{◌≡◌, ◌<◌, false, OnOk, IfOk, IfErr};
+ghost use Rattle.std.specs.Prelude.{◌≡◌, ◌<◌, false, length, OnOk, IfOk, IfErr};
 ghost use Rattle.sector_device.specs.Disk.{Touches, Nowhere};
 ghost use Rattle.gate_journal.specs.Contents.{content, disk_of, page_count, is_halted, HasShapeOf};
 ghost use Rattle.page_store.specs.Chain.{IsMeta};
@@ -22,12 +22,13 @@ pub struct Pages<D: SectorDevice> {
     pub(crate) free: u32,
     /// The numbers of the pages that are held, 0 for none, and the bytes of each, as they are stored.
     pub(crate) numbers: [u32; 16],
-    held: [[u8; 4096]; 16],
+    held: Vec<[u8; 4096]>,
+    ghost places: { length held.items ≡ 16 },
     ghost root_below: { root < page_count journal },
     ghost first_below: { first < page_count journal },
     ghost free_below: { free < page_count journal },
     ghost meta: { is_halted journal ≡ false → (disk_of journal).is_honest → IsMeta (content journal) root first free },
-    ghost held_are: { is_halted journal ≡ false → (disk_of journal).is_honest → AreHeld numbers held (content journal) },
+    ghost held_are: { is_halted journal ≡ false → (disk_of journal).is_honest → AreHeld numbers held.items (content journal) },
 }
 
 /// What the meta page says.
@@ -75,8 +76,9 @@ impl<D: SectorDevice> Pages<D> {
     ghost use Rattle.page_store.specs.Lent.{held_at, lent_bytes};
     ghost use Rattle.page_store.specs.Transactions.{stored, disk_in, device_in, count_of, journal_of, has_halted, txn_pages, txn_writes, txn_root, over, free_over, IsQuiet, IsKept, IsUntouched, ReadErr, OpenErr, device_after};
 
-    /// Opens the pages that a device holds, as `Journal::open`. With a refusal the device comes back.
-    pub fn open(device: D) -> Result<Pages<D>, (PageError, D)>
+    /// Opens the pages that a device holds, as `Journal::open`. With a refusal the device comes back. `Memory`: no room for the
+    /// pages that are to be held; it comes of a store alone.
+    pub fn open(alloc: Global, device: D) -> Result<Pages<D>, (PageError, D)>
         ensures sectors { (D.disk (device_after result)).sectors ≡ (D.disk device).sectors }
         ensures honest { (D.disk (device_after result)).is_honest → (D.disk device).is_honest }
         ensures any_moment { (D.disk (device_after result)).is_honest → AllStores (D.disk device) → LeavesOnly (ReadsAs (D.disk device)) (D.disk device) (D.disk (device_after result)) }
@@ -93,6 +95,10 @@ impl<D: SectorDevice> Pages<D> {
             Ok(journal) => journal,
             Err((e, device)) => return Err((PageError::from(e), device)),
         };
+        let held = match vec![in alloc; [0; 4096]; 16] {
+            Ok(held) => held,
+            Err(_) => return Err((PageError::Memory, journal.into_device())),
+        };
         match read_meta(&mut journal) {
             Ok(meta) => Ok(Pages {
                 journal,
@@ -100,7 +106,7 @@ impl<D: SectorDevice> Pages<D> {
                 first: meta.first,
                 free: meta.free,
                 numbers: [0; 16],
-                held: [[0; 4096]; 16],
+                held,
             }),
             Err(e) => Err((e, journal.into_device())),
         }

@@ -5,7 +5,8 @@ ghost use Rattle.page_store.specs.Transactions.{count_of, txn_pages};
 use btree_puts::put;
 use btree_removes::remove;
 use page_btree::{TreeError, get};
-use page_store::{Pages, Txn, format};
+use page_format::format;
+use page_store::{Pages, Txn};
 use sector_device::SectorDevice;
 use sector_memory::{Fused, MemoryDevice};
 use std::alloc::Global;
@@ -19,7 +20,7 @@ pub fn passing(device: MemoryDevice) -> Fused {
 pub fn made<R: Abort>(rt: &R, alloc: Global, sectors: u32) -> Pages<Fused> {
     let mut device = passing(MemoryDevice::new(alloc, sectors).expect(rt, "no memory"));
     format(alloc, &mut device, 256).expect(rt, "not formatted");
-    Pages::open(device).ok().expect(rt, "not opened")
+    Pages::open(alloc, device).ok().expect(rt, "not opened")
 }
 
 pub fn store<D: SectorDevice>(txn: Txn, pages: &mut Pages<D>) -> Result<(), TreeError>

@@ -8,8 +8,8 @@ use sector_memory::Fused;
 use std::alloc::Global;
 use std::process::Abort;
 
-fn opened<R: Abort>(rt: &R, device: Fused) -> Pages<Fused> {
-    Pages::open(device).ok().expect(rt, "not opened")
+fn opened<R: Abort>(rt: &R, alloc: Global, device: Fused) -> Pages<Fused> {
+    Pages::open(alloc, device).ok().expect(rt, "not opened")
 }
 
 /// The least store, new.
@@ -61,7 +61,7 @@ fn a_transaction_changes_pages_at_its_commit_alone(rt: HostRuntime) {
     assert!(rt; pages.journal_pages() == 256);
     let page = commit_root(&rt, alloc, &mut pages);
     assert!(rt; pages.free_pages() == 62);
-    let mut pages = opened(&rt, pages.into_device());
+    let mut pages = opened(&rt, alloc, pages.into_device());
     assert!(rt; pages.free_pages() == 62);
     assert!(rt; give_and_take(&rt, alloc, &mut pages, page) == page);
     assert!(rt; pages.free_pages() == 62);

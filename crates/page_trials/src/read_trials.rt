@@ -39,7 +39,7 @@ fn a_scan_of_all_rows_reads_each_leaf_once(rt: HostRuntime) {
     let alloc = rt.alloc();
     let mut model = BTreeMap::new(alloc);
     let device = stored(&rt, alloc, &mut model).into_device().stop(&[]);
-    let mut pages = Pages::open(Recorder::new(device))
+    let mut pages = Pages::open(alloc, Recorder::new(device))
         .ok()
         .expect(&rt, "not opened");
     let told = scanned(alloc, &mut pages, &model, &[], 0, 0x100_0000);

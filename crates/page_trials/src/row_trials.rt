@@ -3,7 +3,8 @@ use crate::long_trials::{made, passing, store};
 use btree_puts::{put, write_first_row};
 use btree_removes::remove;
 use page_btree::get;
-use page_store::{Pages, format_with};
+use page_format::format_with;
+use page_store::Pages;
 use sector_memory::{Fused, MemoryDevice};
 use std::alloc::{AllocError, Global};
 use std::collections::BTreeMap;
@@ -110,7 +111,7 @@ fn made_with_seven<R: Abort>(rt: &R, alloc: Global, sectors: u32) -> Pages<Fused
     write_first_row(&mut root, &7u32.to_be_bytes(), &9u32.to_be_bytes());
     let mut device = passing(MemoryDevice::new(alloc, sectors).expect(rt, "no memory"));
     format_with(alloc, &mut device, 256, &root).expect(rt, "not formatted");
-    Pages::open(device).ok().expect(rt, "not opened")
+    Pages::open(alloc, device).ok().expect(rt, "not opened")
 }
 
 /// The bytes of page 1, which is the root.

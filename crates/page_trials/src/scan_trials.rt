@@ -121,7 +121,7 @@ fn fail_at(
     model: &BTreeMap<u32, u32>,
     k: u64,
 ) -> ((u32, bool, Option<TreeError>), MemoryDevice) {
-    match Pages::open(FailOnce::new(device, k)) {
+    match Pages::open(alloc, FailOnce::new(device, k)) {
         Ok(mut pages) => {
             let told = scanned(alloc, &mut pages, model, &[], 0, 0x100_0000);
             (told, pages.into_device().stop(&[]))

@@ -74,7 +74,7 @@ fn free_of(alloc: Global, pages: &mut Pages<Fused>) -> Option<u64> {
 
 /// The rows and the free pages of a device that is opened.
 fn reopened(alloc: Global, device: MemoryDevice) -> Option<([bool; 5], u64)> {
-    let mut pages = Pages::open(passing(device)).ok()?;
+    let mut pages = Pages::open(alloc, passing(device)).ok()?;
     let rows = rows_of(alloc, &mut pages).ok()?;
     let free = free_of(alloc, &mut pages)?;
     Some((rows, free))
@@ -82,7 +82,7 @@ fn reopened(alloc: Global, device: MemoryDevice) -> Option<([bool; 5], u64)> {
 
 /// A turn where the device opens: whether it was acknowledged.
 fn turned(alloc: Global, device: Fused, rows: u32) -> (bool, Fused) {
-    match Pages::open(device) {
+    match Pages::open(alloc, device) {
         Ok(mut pages) => {
             let told = turn(alloc, &mut pages, rows);
             (told, pages.into_device())

@@ -112,12 +112,12 @@ module _ {D O : Type 0} (g : Ghosts D) (opens : O → List ℕ → Result D Stor
   abbrev pub NotOpened : (before : O) → List ℕ → StoreFault → (after : O) → Type 0
   NotOpened before name fault after = ((fault ≡ Memory) × (after ≡ before)) ⊎ OpensStore before name (Err fault) after
 
-  -- what streams come from, where that is anything, and what it heard of a run
-  module _ {A R W : Type 0} (streams : A → Traffic R W) (heard : A → Ran → Type 0) (listening : Option A) where
+  -- what streams come from, where that is anything; what it heard of a run, and whether it said that it failed
+  module _ {A R W : Type 0} (streams : A → Traffic R W) (heard : A → Ran → Type 0) (fails : A → Bool → Type 0) (listening : Option A) where
     -- The store of the name was opened and served; who has it last keeps it if who opened it did, and has the desk after commands that
     -- were accepted one after the other, which outlive a stop at any moment. Along these the connections were answered that came from
-    -- what listens, and came to this, which was heard there. Its device was closed.
-    pub record IsServed (before : O) (name : List ℕ) (has_halted : Bool) (after : O) : Type 0 where
+    -- what listens, and came to this, which was heard there, and it said whether it failed. Its device was closed.
+    pub record IsServed (before : O) (name : List ℕ) (has_halted has_failed : Bool) (after : O) : Type 0 where
       pub first : Clerk D g
       pub middle : O
       pub found : IsOpen before name first middle
@@ -129,22 +129,24 @@ module _ {D O : Type 0} (g : Ghosts D) (opens : O → List ℕ → Result D Stor
       pub came_to : Ran
       pub served : ServesStreams (streams listener) first last came_to
       pub told : heard listener came_to
+      pub failed : fails listener has_failed
       pub halted : is_halted last ≡ has_halted
       pub closed : ClosesClerk middle last after
 
-    -- memory for the seats was refused, or the device failed while the store was served
+    -- memory for the seats was refused, or the device failed while the store was served, whether the socket did or not
     abbrev pub HasStopped : (before : O) → List ℕ → StoreFault → (after : O) → Type 0
     HasStopped before name fault after =
-        ((fault ≡ Memory) × IsGivenUp before name after) ⊎ ((fault ≡ DeviceFault) × IsServed before name true after)
+        ((fault ≡ Memory) × IsGivenUp before name after) ⊎ ((fault ≡ DeviceFault) × (has_failed : Bool) × IsServed before name true has_failed after)
 
     -- What comes of a store and is printed: the line once it is open, nothing where it isn't, and a front of the line where standard
-    -- output fails, after which nothing is served. Where no socket listens, no store is opened.
+    -- output fails, after which nothing is served. Where no socket listens, no store is opened; where one does, its fault is told where it
+    -- says that it failed, and none where it says that it didn't.
     abbrev pub Announces : (port : ℕ) → (stores : O) → List ℕ → Result (Unit {0}) ServeFault → (stores_after : O) → (before after : Written) → Type 0
-    Announces port stores name (Ok u) stores_after before after = HasAnnounced port before after × IsServed stores name false stores_after
+    Announces port stores name (Ok u) stores_after before after = HasAnnounced port before after × IsServed stores name false false stores_after
     Announces port stores name (Err (Store fault)) stores_after before after =
         ((after ≡ before) × NotOpened stores name fault stores_after) ⊎ (HasAnnounced port before after × HasStopped stores name fault stores_after)
     Announces port stores name (Err Socket) stores_after before after =
-        ((listening ≡ None) × (after ≡ before) × (stores_after ≡ stores)) ⊎ (HasAnnounced port before after × IsServed stores name false stores_after)
+        ((listening ≡ None) × (after ≡ before) × (stores_after ≡ stores)) ⊎ (HasAnnounced port before after × IsServed stores name false true stores_after)
     Announces port stores name (Err Output) stores_after before after =
         ((fault : WriteFault) × Writes before after (listening_text port) (Err fault)) × IsUnused stores name stores_after
 

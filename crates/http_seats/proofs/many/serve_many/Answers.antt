@@ -11,7 +11,7 @@ returns-clause-served g c =
     let places = c.serve_places.new.places in
     let was : c.as_mut_slice-stands.result.now ≡ c.in-Ok.places.items = search rules in
     let stood : map (λ p. p.visitor) c.as_mut_slice-stands.result.now ≡ map Some (reverse c.args.visitors.items) = ap (map (λ p. p.visitor)) was ∙ c.in-Ok.ensures in
-    let workers = workers_of s first (reverse c.args.visitors.items) (map (λ p. p.visitor) c.as_mut_slice-stands.result.now) (map (λ p. (p.visitor, p.tally.ran)) places) stood c.serve_places.ensures in
+    let workers = workers_of s first (reverse c.args.visitors.items) (map (λ p. p.visitor) c.as_mut_slice-stands.result.now) (map (λ p. (p.visitor, p.totals.ran)) places) stood c.serve_places.ensures in
     record {
       changes = c.know_all.new.front.shown;
       accepted = c.close-last.ensures.accepted;
@@ -19,7 +19,7 @@ returns-clause-served g c =
       counted = record {
         workers = workers.0;
         each = workers.1;
-        shown = heard_of (λ p. p.visitor) (λ p. p.tally.ran) c.know_all.new.front.shown places workers.0 workers.2 c.know_all.ensures.all;
-        total = c.together-tally.ensures ∙ ap total_of (rans_of (λ p. p.visitor) (λ p. p.tally.ran) places workers.0 workers.2);
+        shown = heard_of (λ p. p.visitor) (λ p. p.totals.ran) c.know_all.new.front.shown places workers.0 workers.2 c.know_all.ensures.all;
+        total = c.together-totals.ensures ∙ ap total_of (rans_of (λ p. p.visitor) (λ p. p.totals.ran) places workers.0 workers.2);
       };
     }

@@ -4,4 +4,4 @@ use Rattle.http_seats.specs.Streams.{total_of}
 use Rattle.http_seats.proofs.many.together.Given as goal
 
 abbrev pub invariant-loop-place : goal.invariant-loop-place
-invariant-loop-place g l = fold joined l.tally.ran (map (λ p. p.tally.ran) (drop l.place-index l.places)) ≡ total_of (map (λ p. p.tally.ran) l.places)
+invariant-loop-place g l = fold joined l.totals.ran (map (λ p. p.totals.ran) (drop l.place-index l.places)) ≡ total_of (map (λ p. p.totals.ran) l.places)

@@ -35,13 +35,13 @@ pub returns-in-Err-read_meta-clause-any_moment : goal.returns-in-Err-read_meta-c
 returns-in-Err-read_meta-clause-any_moment g c =
     let a = g.D.SectorDevice.disk c.args.device in
     let read = c.in-Err-read_meta.ensures in
-    subst (λ d. (g.D.SectorDevice.disk d).is_honest → AllStores a → LeavesOnly (ReadsAs a) a (g.D.SectorDevice.disk d)) (sym c.into_device.ensures)
+    subst (λ d. (g.D.SectorDevice.disk d).is_honest → AllStores a → LeavesOnly (ReadsAs a) a (g.D.SectorDevice.disk d)) (sym c.into_device-in-Err-read_meta.ensures)
     (λ honest all. leaves_still (ReadsAs a) a (disk_of c.in-Ok.journal) (disk_of c.read_meta.new.journal) (c.in-Ok.ensures.any_moment (read.honest honest) all) (read.quiet honest c.in-Ok.ensures.working))
 
 pub returns-in-Err-read_meta-clause-err : goal.returns-in-Err-read_meta-clause-err
 returns-in-Err-read_meta-clause-err g c =
     let read = c.in-Err-read_meta.ensures in
-    opened_err g.D.SectorDevice c.args.device c.into_device.result c.in-Ok.journal c.read_meta.new.journal c.in-Err-read_meta.e c.into_device.ensures c.in-Ok.ensures.working
+    opened_err g.D.SectorDevice c.args.device c.into_device-in-Err-read_meta.result c.in-Ok.journal c.read_meta.new.journal c.in-Err-read_meta.e c.into_device-in-Err-read_meta.ensures c.in-Ok.ensures.working
     (λ honest. c.in-Ok.ensures.passed (read.honest honest)) (λ honest all. found_pages (g.D.SectorDevice.disk c.args.device) (disk_of c.in-Ok.journal) _ _ (c.in-Ok.ensures.found (read.honest honest)) c.in-Ok.ensures.room all) read.err
 
 pub returns-in-Err-read_meta-clause-untouched : goal.returns-in-Err-read_meta-clause-untouched
@@ -49,6 +49,6 @@ returns-in-Err-read_meta-clause-untouched g c =
     let a = g.D.SectorDevice.disk c.args.device in
     let read = c.in-Err-read_meta.ensures in
     let e = c.in-Err-read_meta.e in
-    subst (λ d. (g.D.SectorDevice.disk d).is_honest → e ≡ NotAStore → IsUntouched a (g.D.SectorDevice.disk d)) (sym c.into_device.ensures)
+    subst (λ d. (g.D.SectorDevice.disk d).is_honest → e ≡ NotAStore → IsUntouched a (g.D.SectorDevice.disk d)) (sym c.into_device-in-Err-read_meta.ensures)
     (λ honest is. inr (bad_pages a (disk_of c.in-Ok.journal) (disk_of c.read_meta.new.journal) _ _ _ (c.in-Ok.ensures.found (read.honest honest)) read.shape.journal_pages (read.same honest)
     (subst (λ (x : PageError). MetaErr c.in-Ok.journal c.read_meta.new.journal x) is read.err honest)))

@@ -20,6 +20,7 @@ invariant_of-pages-2 g c =
     let p = c.args.self in
     let shape = c.in_ok-commit.ensures.shape in
     record {
+      places = c.args.pages.now.places;
       root_below = let lt = p.root_below in omega (arith, lt, c.requires, shape.pages);
       first_below = let lt = p.first_below in omega (arith, lt, c.requires, shape.pages);
       free_below = let lt = p.free_below in omega (arith, lt, c.requires, shape.pages);

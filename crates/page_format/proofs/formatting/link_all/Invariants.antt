@@ -1,8 +1,8 @@
 use Rattle.std.proofs.Common.{◌≡◌, ◌≤◌, ◌*◌, ◌+◌}
 use Rattle.gate_journal.specs.Store.{IsSettled, pages}
 use Rattle.gate_journal.specs.Writes.{room_of}
-use Rattle.page_store.specs.Chain.{AreLinked}
-use Rattle.page_store.proofs.formatting.link_all.Given as goal
+use Rattle.page_format.specs.New.{AreLinked}
+use Rattle.page_format.proofs.formatting.link_all.Given as goal
 
 abbrev pub invariant-loop-batch : goal.invariant-loop-batch
 invariant-loop-batch g l =

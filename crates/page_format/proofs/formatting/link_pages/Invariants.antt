@@ -2,8 +2,8 @@ use Rattle.std.proofs.Common.{◌≡◌, ◌≤◌, ◌<◌, ◌+◌, ℕ, lengt
 use Rattle.sector_device.specs.Disk.{Image}
 use Rattle.gate_journal.specs.Store.{IsWithin, overlay}
 use Rattle.gate_journal.specs.Writes.{writes_of, room_of}
-use Rattle.page_store.specs.Chain.{AreLinked}
-use Rattle.page_store.proofs.formatting.link_pages.Given as goal
+use Rattle.page_format.specs.New.{AreLinked}
+use Rattle.page_format.proofs.formatting.link_pages.Given as goal
 
 abbrev pub invariant-loop-p : goal.invariant-loop-p
 invariant-loop-p l = record {

@@ -6,9 +6,10 @@ use Rattle.gate_journal.specs.Steps.{Commits}
 use Rattle.gate_journal.specs.Recovery.{HasRoom}
 use Rattle.gate_journal.proofs.Commit.{settled_opens}
 use Rattle.gate_journal.proofs.Images.{put_off}
-use Rattle.page_store.specs.Chain.{AreLinked, IsIn, IsMeta, IsPages, root_in, free_in}
-use Rattle.page_store.specs.Openings.{AllPageStores, IsNew, IsNewWith, IsLinked, Links}
-use Rattle.page_store.proofs.Chains.{new_pages, batch_linked}
+use Rattle.page_store.specs.Chain.{IsIn, IsMeta, IsPages, root_in, free_in}
+use Rattle.page_store.specs.Openings.{AllPageStores}
+use Rattle.page_format.specs.New.{AreLinked, IsNew, IsNewWith, IsLinked, Links}
+use Rattle.page_format.proofs.Linked.{new_pages, batch_linked}
 
 module _ (J n : ℕ) (e : Disk) (room : HasRoom e.sectors J n) (settled : IsSettled J n e) where
   -- each image that a stop then leaves is one of a store

@@ -1,5 +1,5 @@
 use Rattle.std.proofs.Common.{◌≤◌, ◌+◌, ◌*◌, arith}
-use Rattle.page_store.proofs.formatting.link_all.Goals as goal
+use Rattle.page_format.proofs.formatting.link_all.Goals as goal
 
 pub returns-clause-linked : goal.returns-clause-linked
 returns-clause-linked g c = λ honest.

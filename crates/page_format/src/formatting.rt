@@ -4,12 +4,11 @@ ghost use Rattle.sector_device.specs.Disk.{Disk, Image};
 ghost use Rattle.gate_journal.specs.Store.{IsWithin, IsSettled, overlay, put, home};
 ghost use Rattle.gate_journal.specs.Recovery.{HasRoom};
 ghost use Rattle.gate_journal.specs.Writes.{writes_of, room_of};
-ghost use Rattle.page_store.specs.Chain.{IsMeta, AreLinked, next_of};
-ghost use Rattle.page_store.specs.Openings.{IsNew, IsNewWith, IsLinked, Links};
-ghost use Rattle.page_store.specs.Transactions.{FormatErr};
+ghost use Rattle.page_store.specs.Chain.{IsMeta};
+ghost use Rattle.page_format.specs.New.{AreLinked, next_of, IsNew, IsNewWith, IsLinked, Links, FormatErr};
 
-use crate::error::PageError;
 use gate_journal::{Layout, PageWrites, commit_on, has_room, set_word};
+use page_store::PageError;
 use sector_device::{DeviceFault, SectorDevice};
 use std::alloc::Global;
 

@@ -2,7 +2,7 @@ use Rattle.std.proofs.Common.{◌≡◌, ◌∙◌, List, ℕ, refl, ap, arith}
 use Rattle.gate_journal.specs.Store.{overlay, word}
 use Rattle.gate_journal.specs.Writes.{writes_of}
 use Rattle.gate_journal.proofs.Images.{put_on}
-use Rattle.page_store.proofs.formatting.put_meta.Goals as goal
+use Rattle.page_format.proofs.formatting.put_meta.Goals as goal
 
 pub returns-clause-meta : goal.returns-clause-meta
 returns-clause-meta c = λ P.

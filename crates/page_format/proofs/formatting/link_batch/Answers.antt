@@ -1,7 +1,7 @@
 use Rattle.gate_journal.specs.Store.{pages}
 use Rattle.gate_journal.specs.Writes.{writes_of}
-use Rattle.page_store.proofs.Made.{linked_batch}
-use Rattle.page_store.proofs.formatting.link_batch.Goals as goal
+use Rattle.page_format.proofs.Made.{linked_batch}
+use Rattle.page_format.proofs.formatting.link_batch.Goals as goal
 
 pub returns-clause-model : goal.returns-clause-model
 returns-clause-model g c = λ honest.

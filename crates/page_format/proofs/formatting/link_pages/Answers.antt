@@ -2,8 +2,8 @@ use Rattle.std.proofs.Common.{◌∙◌, ◌≤◌, ℕ, arith}
 use Rattle.gate_journal.specs.Store.{overlay}
 use Rattle.gate_journal.specs.Writes.{writes_of, room_of}
 use Rattle.gate_journal.proofs.Images.{put_off}
-use Rattle.page_store.proofs.Chains.{linked_more}
-use Rattle.page_store.proofs.formatting.link_pages.Goals as goal
+use Rattle.page_format.proofs.Linked.{linked_more}
+use Rattle.page_format.proofs.formatting.link_pages.Goals as goal
 
 no_less : (a b d : ℕ) → a ≤ b → b ≤ d → a ≤ d
 no_less a b d ab bd = omega arith

@@ -3,9 +3,9 @@ use Rattle.gate_journal.specs.Recovery.{HasRoom}
 use Rattle.gate_journal.specs.Store.{overlay, pages}
 use Rattle.gate_journal.specs.Writes.{writes_of}
 use Rattle.gate_journal.proofs.Images.{put_on, put_off}
-use Rattle.page_store.specs.Openings.{IsNewWith}
-use Rattle.page_store.proofs.Made.{new_store_with, meta_under}
-use Rattle.page_store.proofs.formatting.format_with.Goals as goal
+use Rattle.page_format.specs.New.{IsNewWith}
+use Rattle.page_format.proofs.Made.{new_store_with, meta_under}
+use Rattle.page_format.proofs.formatting.format_with.Goals as goal
 
 pub returns-clause-new : goal.returns-clause-new
 returns-clause-new g c = λ honest.

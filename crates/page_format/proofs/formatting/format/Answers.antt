@@ -1,9 +1,9 @@
 use Rattle.std.proofs.Common.{◌∙◌, ℕ, sym, subst}
 use Rattle.gate_journal.specs.Recovery.{HasRoom}
 use Rattle.gate_journal.specs.Writes.{writes_of}
-use Rattle.page_store.specs.Openings.{IsNew}
-use Rattle.page_store.proofs.Made.{new_store}
-use Rattle.page_store.proofs.formatting.format.Goals as goal
+use Rattle.page_format.specs.New.{IsNew}
+use Rattle.page_format.proofs.Made.{new_store}
+use Rattle.page_format.proofs.formatting.format.Goals as goal
 
 pub returns-clause-new : goal.returns-clause-new
 returns-clause-new g c = λ honest.

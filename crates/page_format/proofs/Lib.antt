@@ -1,0 +1,2 @@
+mod Linked
+mod Made
