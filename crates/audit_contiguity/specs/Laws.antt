@@ -7,12 +7,14 @@ use Rattle.audit_contiguity.specs.Breaks.{AreBreaks}
 
 -- a plan's breaks are one list
 abbrev pub BreaksAreOneList : Type 0
-BreaksAreOneList = (g : Ground) (plan : List ℕ) (first last : ℕ) (one other : List Break) → AreBreaks g plan first last one → AreBreaks g plan first last other → one ≡ other
+BreaksAreOneList = (g : Ground) (plan : List ℕ) (first last : ℕ) (one other : List Break)
+    → AreBreaks g plan first last one → AreBreaks g plan first last other → one ≡ other
 
 -- the breaks of districts that follow one another are put together
 abbrev pub BreaksFollow : Type 0
 BreaksFollow =
-    (g : Ground) (plan : List ℕ) (first middle last : ℕ) (one other : List Break) → first ≤ middle + 1 → middle ≤ last → AreBreaks g plan first middle one
+    (g : Ground) (plan : List ℕ) (first middle last : ℕ) (one other : List Break)
+    → first ≤ middle + 1 → middle ≤ last → AreBreaks g plan first middle one
     → AreBreaks g plan (middle + 1) last other → AreBreaks g plan first last (one ++ other)
 
 -- lists that rise and have the same members are one list

@@ -15,4 +15,5 @@ is_listed xs = nat_lt 0 (length xs)
 abbrev pub found_clauses : Pieces → List Clause
 found_clauses p =
     [] ++ noted (nat_lt 0 p.people.unassigned) Complete ++ noted p.people.mean_breaks Mean ++ noted (is_some p.people.range) Range
-    ++ noted (is_listed p.people.congress.items) Congress ++ noted (is_listed p.contiguity.items) Contiguous ++ noted (is_listed p.unnested.nesting.items) Nested
+    ++ noted (is_listed p.people.congress.items) Congress ++ noted (is_listed p.contiguity.items) Contiguous
+    ++ noted (is_listed p.unnested.nesting.items) Nested

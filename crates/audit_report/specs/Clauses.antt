@@ -1,5 +1,6 @@
 -- The clauses of a report: their names, which of them apply to a kind of plan, and where each is broken (Iowa Code 42.4).
-use Rattle.std.specs.Prelude.{◌*◌, ◌<◌, ◌≤◌, ℕ, Bool, true, false, ◌&&◌, IsTrue, List, map, length, Option, is_some, MatchOption, All, Contains, codes}
+use Rattle.std.specs.Prelude.{◌*◌, ◌<◌, ◌≤◌, ℕ, Bool, true, false, ◌&&◌, IsTrue, List, map}
+use Rattle.std.specs.Prelude.{length, Option, is_some, MatchOption, All, Contains, codes}
 use Rattle.std.specs.List.Sorted.{IsStrictlyIncreasing}
 use Rattle.desk_model.specs.declared.kind.Kind.{Kind}
 use Rattle.desk_model.specs.declared.kind.Kind.TheVariants as kind

@@ -49,5 +49,6 @@ pub record ArePieces (g : Ground) (kind : Kind) (n : ℕ) (plan : List ℕ) (bes
 -- the report of each plan of which these are the pieces
 abbrev pub ReportsPieces : Kind → ℕ → Bool → Pieces → Figures → Type 0
 ReportsPieces kind n with_senate p report =
-    (g : Ground) (plan : List ℕ) (beside : Companions (List ℕ)) → with_senate ≡ is_some beside.senate → AreTaken kind beside → ArePieces g kind n plan beside p
+    (g : Ground) (plan : List ℕ) (beside : Companions (List ℕ))
+    → with_senate ≡ is_some beside.senate → AreTaken kind beside → ArePieces g kind n plan beside p
     → IsReport g kind n plan beside report

@@ -1,5 +1,6 @@
 -- The report of a plan of n districts. A plan has the district of each block beside it, where 0 is none; so has each of its companions, a senate plan and one for the congress, if there is one.
-use Rattle.std.specs.Prelude.{◌≡◌, ℕ, ◌==◌, ◌&&◌, not, if◌then◌else◌, Bool, List, [], ◌∷◌, count_by, Option, Some, None, is_some, MatchOption, MatchBool}
+use Rattle.std.specs.Prelude.{◌≡◌, ℕ, ◌==◌, ◌&&◌, not, if◌then◌else◌, Bool, List, [], ◌∷◌}
+use Rattle.std.specs.Prelude.{count_by, Option, Some, None, is_some, MatchOption, MatchBool}
 use Rattle.desk_model.specs.declared.companions.Companions.{Companions}
 use Rattle.desk_model.specs.declared.kind.Kind.{Kind}
 use Rattle.desk_model.specs.Geography.{Ground}

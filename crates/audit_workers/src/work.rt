@@ -75,7 +75,13 @@ impl<'a> Work<'a> {
         requires few { count ≤ 999 }
         requires beside { length plan.now ≡ length geography.now.blocks }
         requires companions_beside { AreLong (length geography.now.blocks) (companions_copied beside) }
-        ensures { result ≡ record { geography = geography.now; kind = kind; count = count; plan = plan.now; beside = companions_copied beside.entry } }
+        ensures { result ≡ record {
+          geography = geography.now;
+          kind = kind;
+          count = count;
+          plan = plan.now;
+          beside = companions_copied beside.entry;
+        } }
     {
         Work {
             geography,

@@ -1,5 +1,6 @@
 -- What a block assignment file lists, without an order of reading.
-use Rattle.std.specs.Prelude.{◌≡◌, ◌≢◌, ◌↔◌, ◌⊎◌, ℕ, ◌+◌, not, ◌==◌, List, ◌∷◌, ◌++◌, map, filter, drop, length, Option, Some, None, Ok, Err, All, AllPairs, Contains}
+use Rattle.std.specs.Prelude.{◌≡◌, ◌≢◌, ◌↔◌, ◌⊎◌, ℕ, ◌+◌, not, ◌==◌, List, ◌∷◌, ◌++◌, map, filter, drop}
+use Rattle.std.specs.Prelude.{length, Option, Some, None, Ok, Err, All, AllPairs, Contains}
 use Rattle.std.specs.List.{slice_get}
 use Rattle.std.specs.Str.Lines.{lines}
 use Rattle.desk_model.specs.declared.reply.BodyFault.{BodyFault}

@@ -20,5 +20,6 @@ pub record IsReadAgain (g : Ground) (kind : Kind) (n : ℕ) (f : List ℕ) : Typ
 
 -- for the blocks of a state, whose numbers have at most 15 digits
 abbrev pub PrintedIsRead : Type 0
-PrintedIsRead = (g : Ground) (kind : Kind) (n : ℕ) (f : List ℕ) → AreBlocks g.blocks → All (λ id. id < 10 ^ 15) (ids g) → n ≤ most_districts kind → IsAssignment g n f
+PrintedIsRead = (g : Ground) (kind : Kind) (n : ℕ) (f : List ℕ) → AreBlocks g.blocks
+    → All (λ id. id < 10 ^ 15) (ids g) → n ≤ most_districts kind → IsAssignment g n f
     → IsReadAgain g kind n f

@@ -1,5 +1,6 @@
 -- The blocks that a text lists, and a text's fault.
-use Rattle.std.specs.Prelude.{◌≡◌, ◌≢◌, ◌≤◌, ◌+◌, ◌-◌, ℕ, zero, suc, nat_lt, List, [], ◌∷◌, map, length, get_or, slice_set, Option, Some, None, Result, Ok, Err, IsOkAnd, if◌then◌else◌, ◌==◌}
+use Rattle.std.specs.Prelude.{◌≡◌, ◌≢◌, ◌≤◌, ◌+◌, ◌-◌, ℕ, zero, suc, nat_lt, List, [], ◌∷◌, map, length, get_or}
+use Rattle.std.specs.Prelude.{slice_set, Option, Some, None, Result, Ok, Err, IsOkAnd, if◌then◌else◌, ◌==◌}
 use Rattle.baf_text.specs.declared.reading.BafFault.{BafFault}
 use Rattle.baf_text.specs.declared.reading.BafFault.TheVariants.{Body, Memory}
 use Rattle.desk_model.specs.declared.reply.BodyFault.{BodyFault}

@@ -77,12 +77,12 @@ const HEAD_DIGITS: usize = 11;
 
 /// The first digits of a block's number, which the next block's number mostly has too.
 #[derive(Drop)]
-struct Head {
+struct RowHead {
     high: u64,
     cells: [u8; 11],
 }
 
-impl Model for Head {
+impl Model for RowHead {
     ghost use Rattle.std.specs.Prelude.{◌≡◌, ℕ};
     ghost use Rattle.desk_model.specs.Baf.{padded_decimal};
 
@@ -93,15 +93,15 @@ impl Model for Head {
     ghost invariant = { λ a. a.cells ≡ padded_decimal 11 a.high };
 }
 
-impl Head {
-    fn new(high: u64) -> Head
+impl RowHead {
+    fn new(high: u64) -> RowHead
         requires { high < 100_000_000_000 }
         ensures { result ≡ high }
     {
         let digits = Padded::new(high, HEAD_DIGITS);
         let mut cells = [b'0'; 11];
         cells.copy_from_slice(digits.as_slice());
-        Head { high, cells }
+        RowHead { high, cells }
     }
 
     fn as_slice(&self) -> &[u8]
@@ -115,7 +115,7 @@ impl Head {
         ensures { self.new ≡ high }
     {
         if self.high != high {
-            *self = Head::new(high);
+            *self = RowHead::new(high);
         }
     }
 }
@@ -177,7 +177,7 @@ fn end_of_three(number: u64, district: u16) -> [u8; 9]
 }
 
 /// Appends the first digits of a block's number.
-fn push_head(text: &mut Vec<u8>, head: &mut Head, id: BlockId) -> Result<(), AllocError>
+fn push_head(text: &mut Vec<u8>, head: &mut RowHead, id: BlockId) -> Result<(), AllocError>
     ensures { OnOk result (text.new.items ≡ text.old.items ++ padded_decimal 11 (id / 10000)) }
 {
     head.turn_to(id.number() / 10_000);
@@ -188,7 +188,7 @@ fn push_head(text: &mut Vec<u8>, head: &mut Head, id: BlockId) -> Result<(), All
 /// Appends the line of a block where codes have two digits.
 fn push_two(
     text: &mut Vec<u8>,
-    head: &mut Head,
+    head: &mut RowHead,
     id: BlockId,
     district: u16,
 ) -> Result<(), AllocError>
@@ -206,7 +206,7 @@ fn push_two(
 /// Appends the line of a block where codes have three digits.
 fn push_three(
     text: &mut Vec<u8>,
-    head: &mut Head,
+    head: &mut RowHead,
     id: BlockId,
     district: u16,
 ) -> Result<(), AllocError>
@@ -224,7 +224,7 @@ fn push_three(
 /// Appends the line of a block.
 fn push_row(
     text: &mut Vec<u8>,
-    head: &mut Head,
+    head: &mut RowHead,
     id: BlockId,
     district: u16,
     kind: Kind,
@@ -254,7 +254,7 @@ pub fn write(
     let mut text = Vec::with_capacity(alloc, HEADER.len() + 1 + blocks.len() * row_length)?;
     text.extend_from_slice(HEADER)?;
     text.push(b'\n')?;
-    let mut head = Head::new(0);
+    let mut head = RowHead::new(0);
     for (place, block) in blocks.iter().enumerate() {
         push_row(&mut text, &mut head, block.id, assignment[place], kind)?;
     }

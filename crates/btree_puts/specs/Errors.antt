@@ -30,7 +30,8 @@ module _ {D : Type 0} {g : Ghosts D} where
 
   -- nor a leaf in whose bytes a row was to be put
   abbrev pub RowErr : List ℕ → Txn → Pages D g → Pages D g → TreeError → Type 0
-  RowErr bytes t old new DeviceFault = HasFailed old new ⊎ ((disk_in new).is_honest → AreFree (txn_pages t) (free_over t (stored old)) → (es : List Entry) → IsNode bytes (record { level = 0; entries = es }) → ⊥)
+  RowErr bytes t old new DeviceFault = HasFailed old new ⊎ ((disk_in new).is_honest
+      → AreFree (txn_pages t) (free_over t (stored old)) → (es : List Entry) → IsNode bytes (record { level = 0; entries = es }) → ⊥)
   RowErr bytes t old new Halted = has_halted old ≡ true
   RowErr bytes t old new NoPages = txn_free t ≡ 0
   RowErr bytes t old new TooDeep = ⊥
@@ -38,7 +39,8 @@ module _ {D : Type 0} {g : Ghosts D} where
 
   -- nor the node at a page, with one link more
   abbrev pub LinkErr : ℕ → Txn → Pages D g → Pages D g → TreeError → Type 0
-  LinkErr page t old new DeviceFault = HasFailed old new ⊎ ((disk_in new).is_honest → AreFree (txn_pages t) (free_over t (stored old)) → (node : Node) → IsNode (over t (stored old) page) node → 0 < length node.entries → ⊥)
+  LinkErr page t old new DeviceFault = HasFailed old new ⊎ ((disk_in new).is_honest → AreFree (txn_pages t) (free_over t (stored old))
+      → (node : Node) → IsNode (over t (stored old) page) node → 0 < length node.entries → ⊥)
   LinkErr page t old new Halted = has_halted old ≡ true
   LinkErr page t old new NoPages = txn_free t ≡ 0
   LinkErr page t old new TooDeep = ⊥

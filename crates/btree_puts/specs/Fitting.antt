@@ -14,4 +14,7 @@ use Rattle.btree_puts.specs.Putting.{IsWhole}
 abbrev pub IsLeafPut : Txn → Txn → Image → ℕ → List ℕ → List ℕ → Bool → Type 0
 IsLeafPut old new S page key value had =
     (es : List Entry) → IsNode (over old S page) (record { level = 0; entries = es }) → Rises es → (IsIn page (free_over old S) → ⊥)
-    → (had ≡ is_some (find key_cmp key es)) × IsWhole (over old S) (over new S) (free_over old S) (free_over new S) page (record { level = 0; entries = put key_cmp key value es })
+    → (had ≡ is_some (find key_cmp key es)) × IsWhole (over old S) (over new S) (free_over old S) (free_over new S) page (record {
+      level = 0;
+      entries = put key_cmp key value es;
+    })

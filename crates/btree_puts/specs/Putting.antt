@@ -19,7 +19,8 @@ IsTaken free left q = IsIn q free × (IsIn q left → ⊥)
 
 -- Children became others as the pages went from P to Q and free pages were taken: the rows are those with the row put, and
 -- nothing else was written than pages of theirs and pages that were taken.
-pub record IsPut (P Q : Image) (d : ℕ) (low : List ℕ) (high : Option (List ℕ)) (free left : List ℕ) (key value : List ℕ) (had : Bool) (f g : Forest) : Type 0 where
+pub record IsPut (P Q : Image) (d : ℕ) (low : List ℕ) (high : Option (List ℕ))
+    (free left : List ℕ) (key value : List ℕ) (had : Bool) (f g : Forest) : Type 0 where
   pub trees : AreTrees Q d low high g
   pub apart : AreApart g
   pub rows_are : forest_rows g ≡ put key_cmp key value (forest_rows f)
@@ -63,10 +64,12 @@ linked key new (e ∷ es) = e ∷ behind_child key new es
 -- it is one tree at the page, or two, of which the other one stands at a page of its own behind the upper half's first key
 abbrev pub IsOneOrTwo : List ℕ → ℕ → Option ℕ → Node → Forest → Type 0
 IsOneOrTwo k page None upper g = (t : Tree) × (g ≡ one k t) × (page_of t ≡ page)
-IsOneOrTwo k page (Some right) upper g = (t : Tree) × (u : Tree) × (g ≡ more k t (one (key_at upper.entries 0) u)) × (page_of t ≡ page) × (page_of u ≡ right)
+IsOneOrTwo k page (Some right) upper g = (t : Tree) × (u : Tree)
+    × (g ≡ more k t (one (key_at upper.entries 0) u)) × (page_of t ≡ page) × (page_of u ≡ right)
 
 -- a tree at a page became one or two as a row was put
-pub record IsRaised (P Q : Image) (d : ℕ) (low : List ℕ) (high : Option (List ℕ)) (free left : List ℕ) (key value : List ℕ) (had : Bool) (k : List ℕ) (page : ℕ) (t : Tree) (right : Option ℕ) (upper : Node) : Type 0 where
+pub record IsRaised (P Q : Image) (d : ℕ) (low : List ℕ) (high : Option (List ℕ)) (free left : List ℕ)
+    (key value : List ℕ) (had : Bool) (k : List ℕ) (page : ℕ) (t : Tree) (right : Option ℕ) (upper : Node) : Type 0 where
   pub trees : Forest
   pub is_put : IsPut P Q d low high free left key value had (one k t) trees
   pub shape : IsOneOrTwo k page right upper trees
@@ -78,7 +81,8 @@ pub record StandsAt (n : ℕ) (P : Image) (d : ℕ) (low : List ℕ) (high : Opt
   pub sound : IsSound n free t
 
 -- it reads as these bytes, and has a place for the key
-pub record CanPut (n : ℕ) (P : Image) (d : ℕ) (low : List ℕ) (high : Option (List ℕ)) (free : List ℕ) (page : ℕ) (bytes key : List ℕ) (t : Tree) : Type 0 where
+pub record CanPut (n : ℕ) (P : Image) (d : ℕ) (low : List ℕ) (high : Option (List ℕ))
+    (free : List ℕ) (page : ℕ) (bytes key : List ℕ) (t : Tree) : Type 0 where
   pub reads : bytes ≡ P page
   pub stands : StandsAt n P d low high free page t
   pub free_are : AreFree n free
@@ -86,12 +90,14 @@ pub record CanPut (n : ℕ) (P : Image) (d : ℕ) (low : List ℕ) (high : Optio
 
 -- in some bounds
 abbrev pub CanPutSome : ℕ → (Image → Image) → ℕ → (Image → List ℕ) → ℕ → List ℕ → List ℕ → Image → Type 0
-CanPutSome n over_it d free_in_it page bytes key P = (low : List ℕ) × (high : Option (List ℕ)) × (t : Tree) × CanPut n (over_it P) d low high (free_in_it P) page bytes key t
+CanPutSome n over_it d free_in_it page bytes key P = (low : List ℕ) × (high : Option (List ℕ))
+    × (t : Tree) × CanPut n (over_it P) d low high (free_in_it P) page bytes key t
 
 -- how many pages were written and taken; none was given back. A node that was cut took one at each level
 abbrev pub AreFew : ℕ → Txn → Txn → Option ℕ → Type 0
 AreFew d old new None = (txn_writes new ≤ txn_writes old + (2 * d + 1)) × (txn_free old ≤ txn_free new + d) × (txn_free new ≤ txn_free old)
-AreFew d old new (Some right) = (txn_writes new ≤ txn_writes old + (2 * d + 2)) × (txn_free old ≡ txn_free new + (d + 1)) × (txn_free new ≤ txn_free old)
+AreFew d old new (Some right) = (txn_writes new ≤ txn_writes old + (2 * d + 2))
+    × (txn_free old ≡ txn_free new + (d + 1)) × (txn_free new ≤ txn_free old)
 
 -- a new root stands on a page that was free, above two nodes
 pub record IsGrown (P Q : Image) (free left : List ℕ) (root right d : ℕ) (bound : List ℕ) (top : ℕ) : Type 0 where

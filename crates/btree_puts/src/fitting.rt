@@ -2,7 +2,8 @@
 ghost use Rattle.std.specs.Prelude.{◌≡◌, ◌≤◌, ◌<◌, ◌+◌, ◌-◌, ◌^◌, List, length, Option, None, OnOk, OnErr, IfOk, IfErr, IfSome, IfNone};
 ghost use Rattle.std.specs.Option.{option_map};
 ghost use Rattle.sector_device.specs.Disk.{Image};
-ghost use Rattle.page_store.specs.Transactions.{stored, disk_in, count_of, txn_pages, txn_root, txn_free, txn_writes, over, free_over, IsQuiet, Passed};
+ghost use Rattle.page_store.specs.Transactions.{stored, disk_in, count_of, txn_pages, txn_root, txn_free};
+ghost use Rattle.page_store.specs.Transactions.{txn_writes, over, free_over, IsQuiet, Passed};
 ghost use Rattle.page_node.specs.Entries.{Entry, child_in};
 ghost use Rattle.page_node.specs.Node.{Node, IsNode};
 ghost use Rattle.page_node.specs.Places.{Rises, floor};
@@ -97,7 +98,8 @@ fn put_leaf<D: SectorDevice>(
     ensures quiet { IsQuiet pages.old pages.new }
     ensures pages { txn_pages txn.new ≡ txn_pages txn.old }
     ensures root { txn_root txn.new ≡ txn_root txn.old }
-    ensures put { (disk_in pages.new).is_honest → IfOk result (λ did. IfSome did (λ had. IsLeafPut txn.old txn.new (stored pages.old) page key.now value.now had)) }
+    ensures put { (disk_in pages.new).is_honest → IfOk result
+        (λ did. IfSome did (λ had. IsLeafPut txn.old txn.new (stored pages.old) page key.now value.now had)) }
     ensures kept { IfOk result (λ did. did ≡ None → IsAlike txn.old txn.new) }
     ensures writes { OnOk result (txn_writes txn.new ≤ txn_writes txn.old + 1) }
     ensures free { txn_free txn.new ≡ txn_free txn.old }
@@ -125,9 +127,11 @@ fn edit_leaf(
     ensures free { txn_free txn.new ≡ txn_free txn.old }
     ensures writes { txn_writes txn.new ≡ txn_writes txn.old }
     ensures none { IfNone result (txn.new ≡ txn.old) }
-    ensures put { IfSome result (λ told. IfOk told (λ did. IfSome did (λ had. (S : Image) → IsLeafPut txn.old txn.new S page key.now value.now had))) }
+    ensures put { IfSome result (λ told. IfOk told
+        (λ did. IfSome did (λ had. (S : Image) → IsLeafPut txn.old txn.new S page key.now value.now had))) }
     ensures kept { IfSome result (λ told. IfOk told (λ did. did ≡ None → IsAlike txn.old txn.new)) }
-    ensures err { IfSome result (λ told. OnErr told ((S : Image) (es : List Entry) → IsNode (over txn.old S page) (record { level = 0; entries = es }) → Rises es → ⊥)) }
+    ensures err { IfSome result (λ told. OnErr told ((S : Image) (es : List Entry)
+        → IsNode (over txn.old S page) (record { level = 0; entries = es }) → Rises es → ⊥)) }
 {
     txn.edit(page, |held| put_row(held, key, value))
 }
@@ -147,7 +151,8 @@ fn put_unwritten<D: SectorDevice>(
     ensures quiet { IsQuiet pages.old pages.new }
     ensures pages { txn_pages txn.new ≡ txn_pages txn.old }
     ensures root { txn_root txn.new ≡ txn_root txn.old }
-    ensures put { (disk_in pages.new).is_honest → IfOk result (λ did. IfSome did (λ had. IsLeafPut txn.old txn.new (stored pages.old) page key.now value.now had)) }
+    ensures put { (disk_in pages.new).is_honest → IfOk result
+        (λ did. IfSome did (λ had. IsLeafPut txn.old txn.new (stored pages.old) page key.now value.now had)) }
     ensures kept { IfOk result (λ did. did ≡ None → IsAlike txn.old txn.new) }
     ensures writes { OnOk result (txn_writes txn.new ≤ txn_writes txn.old + 1) }
     ensures free { txn_free txn.new ≡ txn_free txn.old }

@@ -5,7 +5,8 @@ ghost use Rattle.page_btree.specs.Keys.{IsKey};
 ghost use Rattle.page_btree.specs.Errors.{PutErr};
 ghost use Rattle.btree_puts.specs.Errors.{PlaceErr, WriteErr, RowErr, LinkErr, GrowErr};
 ghost use Rattle.btree_puts.specs.Putting.{CanPutSome, linked, AreFew};
-ghost use Rattle.btree_puts.specs.Outcomes.{PutsRow, PutsFirstRow, PutsRowAt, PutsRowInLeaf, PutsLink, MakesRoot, TakesNoPage, TakesNoPageAt, IsNotCut};
+ghost use Rattle.btree_puts.specs.Outcomes.{PutsRow, PutsFirstRow, PutsRowAt, PutsRowInLeaf, PutsLink};
+ghost use Rattle.btree_puts.specs.Outcomes.{MakesRoot, TakesNoPage, TakesNoPageAt, IsNotCut};
 ghost use Rattle.page_btree.specs.declared.error.TreeError.TheVariants.{NoPages, TooDeep};
 
 use crate::tree::{Workspace, place_behind, settle, step_down, write_node};
@@ -155,7 +156,9 @@ fn put_at<D: SectorDevice>(
     ensures few { IfOk result (λ placed. AreFew level txn.old txn.new placed.right) }
     ensures some { IfOk result (λ placed. IfSome placed.right (λ right. (right < txn_pages txn.old) × (0 < length room.new.upper.entries))) }
     ensures spent { IfErr result (λ e. e ≡ NoPages → txn_free txn.new ≡ 0) }
-    ensures err { IfErr result (λ e. PlaceErr level (CanPutSome (txn_pages txn.old) (over txn.old) level (free_over txn.old) page room.old.page key.now) txn.old pages.old pages.new e) }
+    ensures err { IfErr result (λ e. PlaceErr level
+        (CanPutSome (txn_pages txn.old) (over txn.old) level (free_over txn.old) page room.old.page key.now)
+        txn.old pages.old pages.new e) }
 {
     if level == 0 {
         return put_row(txn, pages, room, page, key, value);

@@ -1,9 +1,11 @@
 //! Nodes of a tree, written and cut.
-ghost use Rattle.std.specs.Prelude.{◌≡◌, ◌≤◌, ◌<◌, ◌+◌, ◌^◌, ℕ, [], ◌∷◌, length, insert, option_map, Option, Some, None, OnOk, IfOk, IfErr, IfSome, MatchResult};
+ghost use Rattle.std.specs.Prelude.{◌≡◌, ◌≤◌, ◌<◌, ◌+◌, ◌^◌, ℕ, [], ◌∷◌, length, insert, option_map};
+ghost use Rattle.std.specs.Prelude.{Option, Some, None, OnOk, IfOk, IfErr, IfSome, MatchResult};
 ghost use Rattle.sector_device.specs.Disk.{Image};
 ghost use Rattle.gate_journal.specs.Store.{put as put_page};
 ghost use Rattle.page_store.specs.Chain.{IsIn};
-ghost use Rattle.page_store.specs.Transactions.{stored, disk_in, count_of, txn_pages, txn_root, txn_free, txn_writes, over, free_over, IsQuiet, Passed};
+ghost use Rattle.page_store.specs.Transactions.{stored, disk_in, count_of, txn_pages, txn_root, txn_free};
+ghost use Rattle.page_store.specs.Transactions.{txn_writes, over, free_over, IsQuiet, Passed};
 ghost use Rattle.page_node.specs.Entries.{Entry, size_of, child_in};
 ghost use Rattle.page_node.specs.Places.{floor};
 ghost use Rattle.page_node.specs.Node.{Node, IsNode, Fits, bytes_of};
@@ -139,7 +141,8 @@ pub(crate) fn step_down<D: SectorDevice>(
     ensures few { IfOk result (λ child. txn_pages txn.now ≤ 2 ^ 32) }
     ensures told { IfOk result (λ child. (node : Node) → IsNode bytes.old node → option_map child_in (floor key.now node.entries) ≡ Some child) }
     ensures reads { (disk_in pages.new).is_honest → IfOk result (λ child. bytes.new ≡ over txn.now (stored pages.old) child) }
-    ensures err { IfErr result (λ e. StepErr (CanPutSome (txn_pages txn.now) (over txn.now) level (free_over txn.now) page bytes.old key.now) pages.old pages.new e) }
+    ensures err { IfErr result (λ e. StepErr (CanPutSome (txn_pages txn.now)
+        (over txn.now) level (free_over txn.now) page bytes.old key.now) pages.old pages.new e) }
 {
     let count = txn.page_count();
     let child = child_for(bytes, key)?;

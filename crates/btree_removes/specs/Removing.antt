@@ -12,7 +12,8 @@ use Rattle.page_node.specs.Entries.{Entry}
 use Rattle.page_node.specs.Node.{Node, IsNode}
 use Rattle.page_node.specs.Places.{key_cmp, IsFound, Rises}
 use Rattle.page_btree.specs.Keys.{IsBetween, Parts}
-use Rattle.page_btree.specs.Tree.{Tree, Forest, IsTree, AreTrees, IsApart, AreApart, page_of, first_key, rows, owns, size, forest_rows, forest_owns, forest_size}
+use Rattle.page_btree.specs.Tree.{Tree, Forest, IsTree, AreTrees, IsApart, AreApart, page_of, first_key}
+use Rattle.page_btree.specs.Tree.{rows, owns, size, forest_rows, forest_owns, forest_size}
 use Rattle.page_btree.specs.Map.{IsSound}
 use Rattle.page_btree.specs.declared.error.TreeError.{TreeError}
 use Rattle.page_btree.specs.declared.error.TreeError.TheVariants.{DeviceFault, Halted, NoPages, TooDeep, Memory}
@@ -51,11 +52,13 @@ forest_size_left (Some f) = forest_size f
 -- the first child is the same, or gone and then the others stand from the next one's key on
 abbrev pub ForestLeft : Image → ℕ → List ℕ → Option (List ℕ) → List ℕ → Option Forest → Type 0
 ForestLeft Q d low high first None = Unit {0}
-ForestLeft Q d low high first (Some f) = AreTrees Q d low high f × AreApart f × ((first_key f ≡ first) ⊎ (Parts low high (first_key f) × AreTrees Q d (first_key f) high f))
+ForestLeft Q d low high first (Some f) = AreTrees Q d low high f × AreApart f
+    × ((first_key f ≡ first) ⊎ (Parts low high (first_key f) × AreTrees Q d (first_key f) high f))
 
 -- A tree became a smaller one, or nothing, as the pages went from P to Q and pages of its own were given back: its rows are
 -- those that are left, with the row that was removed.
-pub record IsRemoved (n : ℕ) (P Q : Image) (d : ℕ) (low : List ℕ) (high : Option (List ℕ)) (free left : List ℕ) (key : List ℕ) (t : Tree) (u : Option Tree) : Type 0 where
+pub record IsRemoved (n : ℕ) (P Q : Image) (d : ℕ) (low : List ℕ) (high : Option (List ℕ))
+    (free left : List ℕ) (key : List ℕ) (t : Tree) (u : Option Tree) : Type 0 where
   pub stands : StandsLeft Q d low high (page_of t) u
   pub value : List ℕ
   pub rows_are : put key_cmp key value (rows_left u) ≡ rows t
@@ -67,7 +70,8 @@ pub record IsRemoved (n : ℕ) (P Q : Image) (d : ℕ) (low : List ℕ) (high : 
   pub whole : size_left u + length left ≡ size t + length free
 
 -- the same of children
-pub record AreRemoved (n : ℕ) (P Q : Image) (d : ℕ) (low : List ℕ) (high : Option (List ℕ)) (free left : List ℕ) (key : List ℕ) (f : Forest) (g : Option Forest) : Type 0 where
+pub record AreRemoved (n : ℕ) (P Q : Image) (d : ℕ) (low : List ℕ) (high : Option (List ℕ))
+    (free left : List ℕ) (key : List ℕ) (f : Forest) (g : Option Forest) : Type 0 where
   pub stands : ForestLeft Q d low high (first_key f) g
   pub value : List ℕ
   pub rows_are : put key_cmp key value (forest_rows_left g) ≡ forest_rows f
@@ -105,7 +109,8 @@ RemovesAt n P Q d low high free left key t Absent = find key_cmp key (rows t) �
 RemovesAt n P Q d low high free left key t Kept = (u : Tree) × IsRemoved n P Q d low high free left key t (Some u)
 RemovesAt n P Q d low high free left key t Emptied = IsRemoved n P Q d low high free left key t None
 
-abbrev pub Removes : {n : ℕ} {P : Image} {free : List ℕ} {d : ℕ} {key : List ℕ} {page : ℕ} → Image → List ℕ → CanRemove n P free d key page → Removed → Type 0
+abbrev pub Removes : {n : ℕ} {P : Image} {free : List ℕ} {d : ℕ} {key : List ℕ} {page : ℕ}
+    → Image → List ℕ → CanRemove n P free d key page → Removed → Type 0
 Removes {n = n} {P = P} {free = free} {d = d} {key = key} Q left can did = RemovesAt n P Q d can.low can.high free left key can.tree did
 
 -- where the key isn't there the transaction stays as it is
@@ -123,8 +128,10 @@ IsDone Emptied = Unit {0}
 -- a node that has an entry less was written, or was empty and its page given back
 abbrev pub IsPutBack : Txn → Txn → ℕ → Node → Removed → Type 0
 IsPutBack old new page node Absent = ⊥
-IsPutBack old new page node Kept = (0 < length node.entries) × ((P : Image) → IsNode (over new P page) node) × ((P : Image) → (IsIn page (free_over old P) → ⊥) → free_over new P ≡ free_over old P)
-IsPutBack old new page node Emptied = (node.entries ≡ []) × ((P : Image) → (IsIn page (free_over old P) → ⊥) → free_over new P ≡ page ∷ free_over old P)
+IsPutBack old new page node Kept = (0 < length node.entries) × ((P : Image) → IsNode (over new P page) node)
+    × ((P : Image) → (IsIn page (free_over old P) → ⊥) → free_over new P ≡ free_over old P)
+IsPutBack old new page node Emptied = (node.entries ≡ [])
+    × ((P : Image) → (IsIn page (free_over old P) → ⊥) → free_over new P ≡ page ∷ free_over old P)
 
 -- a leaf's row was taken out, or its key isn't there
 abbrev pub RowRemoves : Txn → Txn → ℕ → List ℕ → List Entry → Removed → Type 0
@@ -142,7 +149,8 @@ BackErr t p Memory = Unit {0}
 
 -- or the page is that of no leaf whose keys rise
 abbrev pub TakenErr : Txn → ℕ → List ℕ → TreeError → Type 0
-TakenErr t p page DeviceFault = (P : Image) (es : List Entry) → IsNode page (record { level = 0; entries = es }) → Rises es → 0 < p → AreFree (txn_pages t) (free_over t P) → (IsIn p (free_over t P) → ⊥) → ⊥
+TakenErr t p page DeviceFault = (P : Image) (es : List Entry) → IsNode page (record { level = 0; entries = es })
+    → Rises es → 0 < p → AreFree (txn_pages t) (free_over t P) → (IsIn p (free_over t P) → ⊥) → ⊥
 TakenErr t p page Halted = ⊥
 TakenErr t p page NoPages = ⊥
 TakenErr t p page TooDeep = ⊥
@@ -150,7 +158,8 @@ TakenErr t p page Memory = Unit {0}
 
 -- or the page is that of no node with entries
 abbrev pub LinkErr : Txn → ℕ → List ℕ → TreeError → Type 0
-LinkErr t p page DeviceFault = (P : Image) (node : Node) → IsNode page node → 0 < length node.entries → 0 < p → AreFree (txn_pages t) (free_over t P) → (IsIn p (free_over t P) → ⊥) → ⊥
+LinkErr t p page DeviceFault = (P : Image) (node : Node) → IsNode page node → 0 < length node.entries
+    → 0 < p → AreFree (txn_pages t) (free_over t P) → (IsIn p (free_over t P) → ⊥) → ⊥
 LinkErr t p page Halted = ⊥
 LinkErr t p page NoPages = ⊥
 LinkErr t p page TooDeep = ⊥

@@ -83,7 +83,8 @@ fn remove_below<D: SectorDevice>(
     ensures given { OnOk result (txn_free txn.old ≤ txn_free txn.new) }
     ensures most { OnOk result (txn_free txn.new ≤ txn_free txn.old + level + 1) }
     ensures passed { OnOk result (Passed pages.old pages.new) }
-    ensures err { IfErr result (λ e. BelowErr (λ P. (page.old ≡ over txn.old P p) × CanRemove (txn_pages txn.old) (over txn.old P) (free_over txn.old P) level key.now p) pages.old pages.new e) }
+    ensures err { IfErr result (λ e. BelowErr (λ P. (page.old ≡ over txn.old P p)
+        × CanRemove (txn_pages txn.old) (over txn.old P) (free_over txn.old P) level key.now p) pages.old pages.new e) }
 {
     if level == 0 {
         return remove_row(txn, p, page, key);
@@ -108,7 +109,8 @@ fn remove_row(
     requires below { p < txn_pages txn.old }
     ensures pages { txn_pages txn.new ≡ txn_pages txn.old }
     ensures root { txn_root txn.new ≡ txn_root txn.old }
-    ensures row { (es : List Entry) → IsNode page.old (record { level = 0; entries = es }) → Rises es → IfOk result (λ did. RowRemoves txn.old txn.new p key.now es did) }
+    ensures row { (es : List Entry) → IsNode page.old (record { level = 0; entries = es })
+        → Rises es → IfOk result (λ did. RowRemoves txn.old txn.new p key.now es did) }
     ensures elsewhere { OnOk result ((P : Image) (q : ℕ) → q ≢ p → over txn.new P q ≡ over txn.old P q) }
     ensures stays { IfOk result (λ did. StaysAt txn.old txn.new did) }
     ensures writes { OnOk result (txn_writes txn.new ≤ txn_writes txn.old + 1) }
@@ -132,7 +134,8 @@ fn remove_link(
     requires below { p < txn_pages txn.old }
     ensures pages { txn_pages txn.new ≡ txn_pages txn.old }
     ensures root { txn_root txn.new ≡ txn_root txn.old }
-    ensures link { (node : Node) → IsNode page.old node → IfOk result (λ did. IsPutBack txn.old txn.new p (record node { entries = unlinked key.now node.entries }) did) }
+    ensures link { (node : Node) → IsNode page.old node
+        → IfOk result (λ did. IsPutBack txn.old txn.new p (record node { entries = unlinked key.now node.entries }) did) }
     ensures done { IfOk result (λ did. IsDone did) }
     ensures elsewhere { OnOk result ((P : Image) (q : ℕ) → q ≢ p → over txn.new P q ≡ over txn.old P q) }
     ensures writes { OnOk result (txn_writes txn.new ≤ txn_writes txn.old + 1) }

@@ -1,7 +1,8 @@
 //! Takes a key out, where its leaf keeps other rows by an edit of the leaf alone.
 ghost use Rattle.std.specs.Prelude.{◌≡◌, ◌≤◌, ◌<◌, ◌+◌, ℕ, List, Option, Some, None, true, OnOk, OnErr, IfOk, IfErr, IfSome, IfNone};
 ghost use Rattle.sector_device.specs.Disk.{Image};
-ghost use Rattle.page_store.specs.Transactions.{stored, disk_in, count_of, txn_pages, txn_root, txn_free, txn_writes, over, free_over, IsQuiet, Passed};
+ghost use Rattle.page_store.specs.Transactions.{stored, disk_in, count_of, txn_pages, txn_root, txn_free};
+ghost use Rattle.page_store.specs.Transactions.{txn_writes, over, free_over, IsQuiet, Passed};
 ghost use Rattle.page_node.specs.Entries.{Entry};
 ghost use Rattle.page_node.specs.Node.{Node, IsNode};
 ghost use Rattle.page_node.specs.Places.{Rises};
@@ -78,7 +79,8 @@ fn take_leaf<D: SectorDevice>(
     ensures quiet { IsQuiet pages.old pages.new }
     ensures pages { txn_pages txn.new ≡ txn_pages txn.old }
     ensures root { txn_root txn.new ≡ txn_root txn.old }
-    ensures taken { (disk_in pages.new).is_honest → IfOk result (λ did. IfSome did (λ had. IsLeafTaken txn.old txn.new (stored pages.old) page key.now had)) }
+    ensures taken { (disk_in pages.new).is_honest → IfOk result
+        (λ did. IfSome did (λ had. IsLeafTaken txn.old txn.new (stored pages.old) page key.now had)) }
     ensures kept { IfOk result (λ did. (did ≡ Some true → ⊥) → IsAlike txn.old txn.new) }
     ensures writes { OnOk result (txn_writes txn.new ≤ txn_writes txn.old + 1) }
     ensures free { txn_free txn.new ≡ txn_free txn.old }
@@ -101,7 +103,8 @@ fn take_in_place(txn: &mut Txn, page: u32, key: &[u8]) -> Option<Result<Option<b
     ensures none { IfNone result (txn.new ≡ txn.old) }
     ensures taken { IfSome result (λ told. IfOk told (λ did. IfSome did (λ had. (S : Image) → IsLeafTaken txn.old txn.new S page key.now had))) }
     ensures kept { IfSome result (λ told. IfOk told (λ did. (did ≡ Some true → ⊥) → IsAlike txn.old txn.new)) }
-    ensures err { IfSome result (λ told. OnErr told ((S : Image) (es : List Entry) → IsNode (over txn.old S page) (record { level = 0; entries = es }) → Rises es → ⊥)) }
+    ensures err { IfSome result (λ told. OnErr told ((S : Image) (es : List Entry)
+        → IsNode (over txn.old S page) (record { level = 0; entries = es }) → Rises es → ⊥)) }
 {
     txn.edit(page, |held| take_spare_row(held, key))
 }
@@ -118,7 +121,8 @@ fn take_unwritten<D: SectorDevice>(
     ensures quiet { IsQuiet pages.old pages.new }
     ensures pages { txn_pages txn.new ≡ txn_pages txn.old }
     ensures root { txn_root txn.new ≡ txn_root txn.old }
-    ensures taken { (disk_in pages.new).is_honest → IfOk result (λ did. IfSome did (λ had. IsLeafTaken txn.old txn.new (stored pages.old) page key.now had)) }
+    ensures taken { (disk_in pages.new).is_honest → IfOk result
+        (λ did. IfSome did (λ had. IsLeafTaken txn.old txn.new (stored pages.old) page key.now had)) }
     ensures kept { IfOk result (λ did. (did ≡ Some true → ⊥) → IsAlike txn.old txn.new) }
     ensures writes { OnOk result (txn_writes txn.new ≤ txn_writes txn.old + 1) }
     ensures free { txn_free txn.new ≡ txn_free txn.old }

@@ -1,5 +1,6 @@
 -- Which rows of a scan are still to come.
-use Rattle.std.specs.Prelude.{◌≡◌, ◌⊎◌, ℕ, Bool, true, false, List, [], ◌∷◌, ◌++◌, ◌+◌, length, drop, Option, Some, None, cond, nat_eq, Result, OnOk, IfOk, IfSome}
+use Rattle.std.specs.Prelude.{◌≡◌, ◌⊎◌, ℕ, Bool, true, false, List, [], ◌∷◌, ◌++◌, ◌+◌, length, drop}
+use Rattle.std.specs.Prelude.{Option, Some, None, cond, nat_eq, Result, OnOk, IfOk, IfSome}
 use Rattle.std.specs.List.{starts_with}
 use Rattle.std.specs.FinMap.{entries}
 use Rattle.sector_device.specs.declared.SectorDevice.{Ghosts}
@@ -68,7 +69,16 @@ leaf_at leaf place = record { at = place.at; left = place.left; more = leaf.more
 
 -- a scan whose leaf does
 abbrev pub moved_to : Scan → ScanPlace → Scan
-moved_to scan place = record { prefix = scan.prefix; leaf = leaf_at scan.leaf place; held = scan.held; covered = scan.covered; last = scan.last; parts = scan.parts; ended = scan.ended; fault = scan.fault }
+moved_to scan place = record {
+  prefix = scan.prefix;
+  leaf = leaf_at scan.leaf place;
+  held = scan.held;
+  covered = scan.covered;
+  last = scan.last;
+  parts = scan.parts;
+  ended = scan.ended;
+  fault = scan.fault;
+}
 
 abbrev pub stood_at : Scan → ScanPlace → Scan
 stood_at scan place = cond (is_open scan) (moved_to scan place) scan
@@ -101,7 +111,8 @@ abbrev pub IsWithin : List ℕ → Leaf → Type 0
 IsWithin prefix leaf = (bound : List ℕ) × (bound_in leaf ≡ Some bound) × (starts_with nat_eq bound prefix ≡ true)
 
 abbrev pub IsStep : Bool → Bool → List ℕ → Leaf → HeldLeaves → Row → List Entry → List Entry → Type 0
-IsStep true covered prefix leaf held row all rest = (more : List Entry) × (rest ≡ (row.key, row.value) ∷ more) × IsReady covered prefix leaf held all more
+IsStep true covered prefix leaf held row all rest = (more : List Entry)
+    × (rest ≡ (row.key, row.value) ∷ more) × IsReady covered prefix leaf held all more
 IsStep false covered prefix leaf held row all rest = rest ≡ []
 
 -- a row was taken, and these are ahead behind it

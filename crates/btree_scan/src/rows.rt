@@ -40,7 +40,8 @@ pub(crate) fn take_row(
     last: &mut Lengths,
 ) -> Result<Parts, TreeError>
     requires { 0 < leaf.old.left }
-    ensures taken { (e : Entry) (es : List Entry) → IsAhead page.now leaf.old.at (e ∷ es) → IfOk result (λ parts. IsTakenRow e es (row_at page.now parts) page.now leaf.new.at) }
+    ensures taken { (e : Entry) (es : List Entry) → IsAhead page.now leaf.old.at (e ∷ es)
+        → IfOk result (λ parts. IsTakenRow e es (row_at page.now parts) page.now leaf.new.at) }
     ensures left { OnOk result (leaf.new.left + 1 ≡ leaf.old.left) }
     ensures more { leaf.new.more ≡ leaf.old.more }
     ensures bound { bound_in leaf.new ≡ bound_in leaf.old }
@@ -61,7 +62,8 @@ pub(crate) fn parts_at(
     last: &mut Lengths,
 ) -> Option<Parts>
     requires { 0 < left.old }
-    ensures taken { (e : Entry) (es : List Entry) → IsAhead page.now at.old (e ∷ es) → IfSome result (λ parts. IsTakenRow e es (row_at page.now parts) page.now at.new) }
+    ensures taken { (e : Entry) (es : List Entry) → IsAhead page.now at.old (e ∷ es)
+        → IfSome result (λ parts. IsTakenRow e es (row_at page.now parts) page.now at.new) }
     ensures left { IfSome result (λ parts. left.new + 1 ≡ left.old) }
     ensures same_at { IfNone result (at.new ≡ at.old) }
     ensures same_left { IfNone result (left.new ≡ left.old) }

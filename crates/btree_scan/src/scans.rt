@@ -9,7 +9,8 @@ ghost use Rattle.page_btree.specs.Errors.{GetErr};
 ghost use Rattle.page_btree.specs.Seeking.{bound_in};
 ghost use Rattle.btree_scan.specs.Prefixes.{under};
 ghost use Rattle.btree_scan.specs.Parts.{row_in, row_of};
-ghost use Rattle.btree_scan.specs.Scanning.{Rest, IsWithin, has_ended, fault_in, is_open, FitsIn, stood_at, CanScan, CanStep, ScanErr, TakesNextRow, TakesRowAt, Steps, Refills, ReadsOn};
+ghost use Rattle.btree_scan.specs.Scanning.{Rest, IsWithin, has_ended, fault_in, is_open, FitsIn, stood_at, CanScan};
+ghost use Rattle.btree_scan.specs.Scanning.{CanStep, ScanErr, TakesNextRow, TakesRowAt, Steps, Refills, ReadsOn};
 
 use crate::held::HeldLeaves;
 use crate::parts::{Parts, ScanPlace};
@@ -187,7 +188,8 @@ impl Scan {
         ensures fits { FitsIn self.now place.old → FitsIn self.now place.new }
         ensures left { IfSome result (λ parts. place.new.left + 1 ≡ place.old.left) }
         ensures stays { IfNone result (stood_at self.now place.new ≡ stood_at self.now place.old) }
-        ensures refused { 0 < place.old.left → IfNone result ((all rest : List Entry) → FitsIn self.now place.old → Rest (stood_at self.now place.old) all rest → ⊥) }
+        ensures refused { 0 < place.old.left → IfNone result ((all rest : List Entry)
+            → FitsIn self.now place.old → Rest (stood_at self.now place.old) all rest → ⊥) }
     {
         if place.left == 0 {
             return None;

@@ -12,7 +12,8 @@ use page_node::place_from;
 /// Stands before the first row of the next leaf that is held.
 pub(crate) fn turn(leaf: &mut Leaf, held: &mut HeldLeaves) -> Result<(), TreeError>
     requires { 0 < leaf.old.more }
-    ensures turned { (rows : List Entry) → AreLeaves leaf.old.more (drop (held.old.which + 1) held.old.pages) rows → OnOk result (IsTurned rows leaf.new held.new) }
+    ensures turned { (rows : List Entry) → AreLeaves leaf.old.more (drop (held.old.which + 1) held.old.pages) rows
+        → OnOk result (IsTurned rows leaf.new held.new) }
     ensures bound { bound_in leaf.new ≡ bound_in leaf.old }
     ensures err { IfErr result (λ e. e ≡ DeviceFault) }
     ensures refused { OnErr result ((rows : List Entry) → AreLeaves leaf.old.more (drop (held.old.which + 1) held.old.pages) rows → ⊥) }

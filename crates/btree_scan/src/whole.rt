@@ -27,7 +27,9 @@ pub fn laws()
     ensures none { (prefix : List ℕ) (scan : Scan) (all : List Entry) → Rest scan all (under prefix all) → HasTaken prefix [] scan all }
     ensures more { TakenRowsGrow }
     ensures all { TakenRowsAreAll }
-    ensures few { (prefix : List ℕ) (taken : List Entry) (scan : Scan) (all : List Entry) → HasTaken prefix taken scan all → length taken ≤ length all }
+    ensures few { (prefix : List ℕ) (taken : List Entry) (scan : Scan) (all : List Entry)
+        → HasTaken prefix taken scan all → length taken ≤ length all }
     ensures rises { (prefix : List ℕ) (es : List Entry) → Rises es → Rises (under prefix es) }
-    ensures found { (prefix key : List ℕ) (es : List Entry) → starts_with nat_eq key prefix ≡ true → find key_cmp key (under prefix es) ≡ find key_cmp key es }
+    ensures found { (prefix key : List ℕ) (es : List Entry) → starts_with nat_eq key prefix ≡ true
+        → find key_cmp key (under prefix es) ≡ find key_cmp key es }
 {}

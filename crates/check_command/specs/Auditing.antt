@@ -38,12 +38,17 @@ Reports g kind n districts beside (Err fault) = fault ≡ Plan file.Plan plan.Me
 -- the congressional plan behind the senate plan, and the report of all
 abbrev pub ReportsBeside : Ground → Kind → ℕ → List ℕ → Option (List ℕ) → (before after : Option (Opening × ℕ)) → Result Audited FileFault → Type 0
 ReportsBeside g kind n districts senate before after =
-    Then (ReadsCompanion file.Congress g before after) NoFile (λ congress. Reports g kind n districts (record { senate = senate; congress = beside congress }))
+    Then (ReadsCompanion file.Congress g before after) NoFile (λ congress. Reports g kind n districts (record {
+      senate = senate;
+      congress = beside congress;
+    }))
 
 -- the same, by the file of the congressional plan
-abbrev pub ReportsBesideFile : {R : Type 0} → Ghosts R → Ground → Kind → ℕ → List ℕ → Option (List ℕ) → (before after : Option (Companion R)) → Result Audited FileFault → Type 0
+abbrev pub ReportsBesideFile : {R : Type 0} → Ghosts R → Ground → Kind → ℕ → List ℕ
+    → Option (List ℕ) → (before after : Option (Companion R)) → Result Audited FileFault → Type 0
 ReportsBesideFile r g kind n districts senate before after outcome =
-    ReportsBeside g kind n districts senate (companion_of r.remaining r.turns r.failures before) (companion_of r.remaining r.turns r.failures after) outcome
+    ReportsBeside g kind n districts senate (companion_of r.remaining r.turns r.failures before)
+    (companion_of r.remaining r.turns r.failures after) outcome
 
 -- the openings of the files, in the order in which they are judged
 pub record Openings : Type 0 where
@@ -66,7 +71,8 @@ openings_of unread turns failures files = record {
 -- the files one after the other, and the report of what they say
 abbrev pub AuditsState : (before after : Openings) → Kind → ℕ → Result Audited FileFault → Type 0
 AuditsState before after kind n =
-    Then (ReadsState before.census after.census) ((after.neighbours ≡ before.neighbours) × (after.plan ≡ before.plan) × (after.beside ≡ before.beside)) (λ rows.
+    Then (ReadsState before.census after.census) ((after.neighbours ≡ before.neighbours)
+    × (after.plan ≡ before.plan) × (after.beside ≡ before.beside)) (λ rows.
     Then (ReadsGround rows.items before.neighbours after.neighbours) ((after.plan ≡ before.plan) × (after.beside ≡ before.beside)) (λ g.
     Then (ReadsPlan file.Plan g n before.plan after.plan) (after.beside ≡ before.beside) (λ districts.
     Then (ReadsCompanion file.Senate g before.beside.senate after.beside.senate) (after.beside.congress ≡ before.beside.congress) (λ senate.
@@ -84,7 +90,8 @@ EndsAudit (Ok audited) status before after told_before told_after =
 EndsAudit (Err fault) status before after told_before told_after = (after ≡ before) × Tells fault status told_before told_after
 
 -- the audit of the plan that the files say
-abbrev pub Audits : {R : Type 0} → Ghosts R → (files left : AuditFiles R) → Kind → ℕ → Status → (before after told_before told_after : Written) → Type 0
+abbrev pub Audits : {R : Type 0} → Ghosts R → (files left : AuditFiles R) → Kind
+    → ℕ → Status → (before after told_before told_after : Written) → Type 0
 Audits r files left kind n status before after told_before told_after =
     (outcome : Result Audited FileFault)
     × AuditsState (openings_of r.remaining r.turns r.failures files) (openings_of r.remaining r.turns r.failures left) kind n outcome

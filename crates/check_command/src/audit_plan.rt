@@ -66,7 +66,8 @@ fn audit_of<T: Threads + Sync, R: Source>(
     requires few { districts ≤ 999 }
     requires senate { IsSome files.old.senate → IsTrue (takes Kind.Senate kind) }
     requires congress { IsSome files.old.congress → IsTrue (takes Kind.Congress kind) }
-    ensures { AuditsState (openings_of R.remaining R.turns R.failures files.old) (openings_of R.remaining R.turns R.failures files.new) kind districts result }
+    ensures { AuditsState (openings_of R.remaining R.turns R.failures files.old)
+        (openings_of R.remaining R.turns R.failures files.new) kind districts result }
 {
     let rows = read_state(alloc, &mut files.census)?;
     let geography = read_ground(alloc, rows, &mut files.gal)?;

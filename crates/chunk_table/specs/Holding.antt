@@ -1,5 +1,6 @@
 -- What it is for a plan to come to hold a chunk, and why it doesn't.
-use Rattle.std.specs.Prelude.{◌≡◌, ◌⊎◌, ◌<◌, ◌≤◌, ◌+◌, ◌*◌, ◌^◌, ℕ, Bool, true, false, List, length, Option, Some, None, Contains, Result, IfOk, MatchResult}
+use Rattle.std.specs.Prelude.{◌≡◌, ◌⊎◌, ◌<◌, ◌≤◌, ◌+◌, ◌*◌, ◌^◌, ℕ, Bool, true, false, List, length}
+use Rattle.std.specs.Prelude.{Option, Some, None, Contains, Result, IfOk, MatchResult}
 use Rattle.sector_device.specs.declared.SectorDevice.{Ghosts}
 use Rattle.page_store.specs.Transactions.{stored, disk_in, has_halted, txn_pages, txn_free, txn_writes, HasFailed, Passed}
 use Rattle.page_store.specs.declared.pages.Pages.{Pages}
@@ -65,10 +66,12 @@ module _ {D : Type 0} {g : Ghosts D} where
   -- why it doesn't: the device failed, or the transaction reads no map in which the plan can hold chunks; too few pages were free; the
   -- tree was too deep
   abbrev pub HoldErr : ℕ → ℕ → Txn → Pages D g → Pages D g → TreeError → Type 0
-  HoldErr plan number t old new DeviceFault = HasFailed old new ⊎ ((disk_in new).is_honest → (m : KeyMap) (limit : ℕ) → InTxn t (stored old) m → CanHold m limit plan → number < 2 ^ 64 → ⊥)
+  HoldErr plan number t old new DeviceFault = HasFailed old new
+      ⊎ ((disk_in new).is_honest → (m : KeyMap) (limit : ℕ) → InTxn t (stored old) m → CanHold m limit plan → number < 2 ^ 64 → ⊥)
   HoldErr plan number t old new Halted = has_halted old ≡ true
   HoldErr plan number t old new NoPages = txn_free t < 12
-  HoldErr plan number t old new TooDeep = (disk_in new).is_honest → (m : KeyMap) → InTxn t (stored old) m → (count : ℕ) × HasDeepened (holding_rows plan number count) t old m
+  HoldErr plan number t old new TooDeep = (disk_in new).is_honest → (m : KeyMap)
+      → InTxn t (stored old) m → (count : ℕ) × HasDeepened (holding_rows plan number count) t old m
   HoldErr plan number t old new Memory = Unit {0}
 
   -- the same where the transaction reads a map of which `says` holds, if it reads any
@@ -100,12 +103,15 @@ module _ {D : Type 0} {g : Ghosts D} where
 
   -- whether the plan holds the chunk
   abbrev pub TellsHeld : ℕ → ℕ → Txn → Pages D g → Pages D g → Result Bool TreeError → Type 0
-  TellsHeld plan number t old new result = (disk_in new).is_honest → (m : KeyMap) → InTxn t (stored old) m → IfOk result (λ is. Stands is plan number m)
+  TellsHeld plan number t old new result = (disk_in new).is_honest → (m : KeyMap)
+      → InTxn t (stored old) m → IfOk result (λ is. Stands is plan number m)
 
   -- how many plans do
   abbrev pub TellsTally : ℕ → Txn → Pages D g → Pages D g → Result ℕ TreeError → Type 0
-  TellsTally number t old new result = (disk_in new).is_honest → (m : KeyMap) → InTxn t (stored old) m → IfOk result (λ count. row_in m (tally number) ≡ tally_row count)
+  TellsTally number t old new result = (disk_in new).is_honest → (m : KeyMap)
+      → InTxn t (stored old) m → IfOk result (λ count. row_in m (tally number) ≡ tally_row count)
 
   -- the plan holds each chunk of a list then, by two rows a chunk at most
   abbrev pub HoldsChunks : {T : Type 0} → ℕ → List ℕ → Txn → Txn → Pages D g → Pages D g → Result T TreeError → Type 0
-  HoldsChunks plan numbers t u old new result = ChangesMap (CanHoldAll plan numbers) (λ m. hold_all m plan numbers) (2 * length numbers) t u old new result
+  HoldsChunks plan numbers t u old new result = ChangesMap (CanHoldAll plan numbers)
+      (λ m. hold_all m plan numbers) (2 * length numbers) t u old new result

@@ -58,7 +58,8 @@ module _ {D : Type 0} {g : Ghosts D} where
 
   -- why it does still: the device failed, or the transaction reads no map that counts a plan that holds the chunk; never for want of pages
   abbrev pub ReleaseErr : ℕ → Txn → Pages D g → Pages D g → TreeError → Type 0
-  ReleaseErr number t old new DeviceFault = HasFailed old new ⊎ ((disk_in new).is_honest → (m : KeyMap) → InTxn t (stored old) m → HasCount number m → ⊥)
+  ReleaseErr number t old new DeviceFault = HasFailed old new
+      ⊎ ((disk_in new).is_honest → (m : KeyMap) → InTxn t (stored old) m → HasCount number m → ⊥)
   ReleaseErr number t old new Halted = has_halted old ≡ true
   ReleaseErr number t old new NoPages = (disk_in new).is_honest → (m : KeyMap) → InTxn t (stored old) m → ⊥
   ReleaseErr number t old new TooDeep = (disk_in new).is_honest → (m : KeyMap) → InTxn t (stored old) m → ⊥

@@ -1,5 +1,6 @@
 -- Which options of `check` go together, and the values of those that aren't paths.
-use Rattle.std.specs.Prelude.{◌≡◌, false, ℕ, ◌≤◌, Bool, ◌&&◌, ◌||◌, nat_le, if◌then◌else◌, List, Option, Some, None, is_some, IsSome, IsTrue, option_map}
+use Rattle.std.specs.Prelude.{◌≡◌, false, ℕ, ◌≤◌, Bool, ◌&&◌, ◌||◌, nat_le, if◌then◌else◌, List}
+use Rattle.std.specs.Prelude.{Option, Some, None, is_some, IsSome, IsTrue, option_map}
 use Rattle.std.specs.Char.{is_ascii_digit}
 use Rattle.std.specs.List.{list_all}
 use Rattle.std.specs.Str.Parse.{digits_value}
@@ -53,7 +54,8 @@ serving_with None workers connections idle = None
 serving_with (Some port) None connections idle = None
 serving_with (Some port) (Some workers) None idle = None
 serving_with (Some port) (Some workers) (Some connections) None = None
-serving_with (Some port) (Some workers) (Some connections) (Some idle) = Some (record { port = port; workers = workers; connections = connections; idle = idle })
+serving_with (Some port) (Some workers) (Some connections) (Some idle) = Some
+    (record { port = port; workers = workers; connections = connections; idle = idle })
 
 -- the port, the numbers of workers and connections, and the seconds of an idle one, where all are there and in range
 abbrev pub serving_read : (port workers connections idle : Option (List ℕ)) → Option Serving
@@ -112,7 +114,8 @@ abbrev pub is_any : {X : Type 0} → Companions X → Bool
 is_any beside = is_some beside.senate || is_some beside.congress
 
 -- The form of the command: with the neighbour file, the plan, its kind and its number of districts the audit; with no option but the census files the counts.
-abbrev pub form_read : {X : Type 0} → (gal plan : Bool) (word districts : Option (List ℕ)) → (files : Companions X) → (words : Companions (List ℕ)) → Option Form
+abbrev pub form_read : {X : Type 0} → (gal plan : Bool) (word districts : Option (List ℕ))
+    → (files : Companions X) → (words : Companions (List ℕ)) → Option Form
 form_read gal plan None None files words = if gal || plan || is_any files || is_any words then None else Some Counts
 form_read gal plan None (Some districts) files words = None
 form_read gal plan (Some word) None files words = None

@@ -3,7 +3,8 @@ ghost use Rattle.std.specs.Prelude.{◌≡◌, ◌≤◌, IfSome, IsSome, IsTrue
 ghost use Rattle.std.specs.Option.{option_copied};
 ghost use Rattle.desk_model.specs.Companions.{takes, companions_copied};
 ghost use Rattle.state_files.specs.Opens.{AreAlike};
-ghost use Rattle.command_line.specs.Options.{number_to as number_in, beside_read, companions_read, terms_read, is_any, form_read, AreTerms, IsForm, HasCompanions, workers_read, at_least, size_read, IsSize, idle_read, serving_read, IsServing};
+ghost use Rattle.command_line.specs.Options.{number_to as number_in, beside_read, companions_read, terms_read, is_any, form_read, AreTerms, IsForm};
+ghost use Rattle.command_line.specs.Options.{HasCompanions, workers_read, at_least, size_read, IsSize, idle_read, serving_read, IsServing};
 
 use desk_model::companions::Companions;
 use desk_model::kind::Kind;
@@ -119,7 +120,8 @@ pub fn read_serving(
     connections: Option<&[u8]>,
     idle: Option<&[u8]>,
 ) -> Option<Serving>
-    ensures value { result ≡ serving_read (option_copied port.entry) (option_copied workers.entry) (option_copied connections.entry) (option_copied idle.entry) }
+    ensures value { result ≡ serving_read (option_copied port.entry) (option_copied workers.entry)
+        (option_copied connections.entry) (option_copied idle.entry) }
     ensures valid { IfSome result IsServing }
 {
     let port = port?;
@@ -235,7 +237,8 @@ pub fn read_form(
     files: Companions<&str>,
     words: Companions<&[u8]>,
 ) -> Option<Form>
-    ensures value { result ≡ form_read gal plan (option_copied word.entry) (option_copied districts.entry) files.entry (companions_copied words.entry) }
+    ensures value { result ≡ form_read gal plan (option_copied word.entry)
+        (option_copied districts.entry) files.entry (companions_copied words.entry) }
     ensures valid { IfSome result IsForm }
     ensures beside { IfSome result (HasCompanions files.entry) }
 {

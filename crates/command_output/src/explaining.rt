@@ -19,7 +19,8 @@ fn tell_known<E: Sink>(
     reason: Option<Reason>,
     errors: &mut E,
 ) -> Result<(), AllocError>
-    ensures { TellsKnown result (line_words line.now reason) (written_of E.contents E.failures errors.old) (written_of E.contents E.failures errors.new) }
+    ensures { TellsKnown result (line_words line.now reason)
+        (written_of E.contents E.failures errors.old) (written_of E.contents E.failures errors.new) }
 {
     let Some(words) = explained(line, reason) else {
         return Ok(());
@@ -42,7 +43,8 @@ pub fn tell_words<E: Sink>(
     reason: Option<Reason>,
     errors: &mut E,
 ) -> Result<(), AllocError>
-    ensures { TellsWords is_terminal result (line_words line.now reason) (written_of E.contents E.failures errors.old) (written_of E.contents E.failures errors.new) }
+    ensures { TellsWords is_terminal result (line_words line.now reason)
+        (written_of E.contents E.failures errors.old) (written_of E.contents E.failures errors.new) }
 {
     if !is_terminal {
         return Ok(());

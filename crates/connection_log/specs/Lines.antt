@@ -48,7 +48,8 @@ TellsEnd dropped None left old new = (left ≡ dropped) × (new ≡ old)
 TellsEnd dropped (Some ran) left old new = TellsEntry dropped (entry.End ran) left old new
 
 -- the connections that waited, then the end, where it came; so many lines were dropped behind them for want of room
-pub record TellsBatch (dropped : ℕ) (connections : List Connection) (refused : ℕ) (end : Option Ran) (left : ℕ) (old new : Option (List ℕ)) : Type 0 where
+pub record TellsBatch (dropped : ℕ) (connections : List Connection) (refused : ℕ)
+    (end : Option Ran) (left : ℕ) (old new : Option (List ℕ)) : Type 0 where
   pub more : ℕ
   pub middle : Option (List ℕ)
   pub each : TellsEach dropped connections more old middle

@@ -21,7 +21,9 @@ changes_between last (Some new) cuts = changes_in last new cuts
 -- whether each changes by a command that leaves the desk `e`: none where the command gives no plan that is there a revision
 abbrev pub changes_of : Desk → Command → Desk → List Cut → List Bool
 changes_of d (Create name size) e cuts = []
-changes_of d (Whole name after body) e cuts = changes_between (revision_in (map_of.get d.plans name) after) (revision_in (map_of.get e.plans name) (after + 1)) cuts
-changes_of d (Counties name after body) e cuts = changes_between (revision_in (map_of.get d.plans name) after) (revision_in (map_of.get e.plans name) (after + 1)) cuts
+changes_of d (Whole name after body) e cuts = changes_between
+    (revision_in (map_of.get d.plans name) after) (revision_in (map_of.get e.plans name) (after + 1)) cuts
+changes_of d (Counties name after body) e cuts = changes_between
+    (revision_in (map_of.get d.plans name) after) (revision_in (map_of.get e.plans name) (after + 1)) cuts
 changes_of d (Retire name) e cuts = []
 changes_of d (Fork name from) e cuts = []

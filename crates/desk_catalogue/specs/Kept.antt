@@ -6,11 +6,13 @@ use Rattle.desk_model.specs.Subject.{revision_at}
 use Rattle.desk_model.specs.Baf.{Values, Fault}
 use Rattle.desk_model.specs.Geography.{Ground}
 use Rattle.desk_model.specs.declared.reply.Refusal.{Refusal}
-use Rattle.desk_model.specs.declared.reply.Refusal.TheVariants.{NoPlan, NoRevision, PlanExists, Stale, BadBody, NotWholeCounty, BadCompanion, Limit, Full, Memory, Halted, NotSealed}
+use Rattle.desk_model.specs.declared.reply.Refusal.TheVariants.{NoPlan, NoRevision, PlanExists, Stale, BadBody, NotWholeCounty}
+use Rattle.desk_model.specs.declared.reply.Refusal.TheVariants.{BadCompanion, Limit, Full, Memory, Halted, NotSealed}
 
 -- every revision of a plan has a district for each block
 abbrev pub AreWhole : Option Ground → map_of.FinMap name_cmp Plan → Type 0
-AreWhole geography plans = (g : Ground) (name : List ℕ) (p : Plan) → geography ≡ Some g → map_of.get plans name ≡ Some p → All (λ d. length d ≡ length g.blocks) p.revisions
+AreWhole geography plans = (g : Ground) (name : List ℕ) (p : Plan) → geography ≡ Some g
+    → map_of.get plans name ≡ Some p → All (λ d. length d ≡ length g.blocks) p.revisions
 
 -- and each revision of this plan has
 abbrev pub HasWhole : Option Ground → Plan → Type 0

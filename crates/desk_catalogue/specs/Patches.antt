@@ -7,7 +7,8 @@ use Rattle.desk_model.specs.Geography.{Ground}
 use Rattle.desk_model.specs.Step.{partly_listed, patched}
 use Rattle.desk_model.specs.Desk.{Desk}
 use Rattle.desk_model.specs.declared.reply.Refusal.{Refusal}
-use Rattle.desk_model.specs.declared.reply.Refusal.TheVariants.{NoPlan, NoRevision, PlanExists, Stale, BadBody, NotWholeCounty, BadCompanion, Limit, Full, Memory, Halted, NotSealed}
+use Rattle.desk_model.specs.declared.reply.Refusal.TheVariants.{NoPlan, NoRevision, PlanExists, Stale, BadBody, NotWholeCounty}
+use Rattle.desk_model.specs.declared.reply.Refusal.TheVariants.{BadCompanion, Limit, Full, Memory, Halted, NotSealed}
 use Rattle.desk_plans.specs.Rows.{Row}
 
 -- the listed districts, and the last ones where none is listed, 0 before there are any

@@ -390,7 +390,8 @@ impl Catalogue {
     ) -> Result<Draft, Refusal>
         requires { AreCounties self.now.geography cuts.now }
         ensures ok { IfOk result (λ draft. IsAfter self.now (Command.Whole name.now after body.now) draft.catalogue) }
-        ensures changes { IfOk result (λ draft. draft.changes.items ≡ changes_of self.now (Command.Whole name.now after body.now) draft.catalogue cuts.now) }
+        ensures changes { IfOk result (λ draft. draft.changes.items
+            ≡ changes_of self.now (Command.Whole name.now after body.now) draft.catalogue cuts.now) }
         ensures err { IfErr result (λ refusal. StepRefuses self.now (Command.Whole name.now after body.now) refusal) }
     {
         let Some(geography) = self.geography() else {
@@ -417,7 +418,8 @@ impl Catalogue {
     ) -> Result<Draft, Refusal>
         requires { AreCounties self.now.geography cuts.now }
         ensures ok { IfOk result (λ draft. IsAfter self.now (Command.Counties name.now after body.now) draft.catalogue) }
-        ensures changes { IfOk result (λ draft. draft.changes.items ≡ changes_of self.now (Command.Counties name.now after body.now) draft.catalogue cuts.now) }
+        ensures changes { IfOk result (λ draft. draft.changes.items
+            ≡ changes_of self.now (Command.Counties name.now after body.now) draft.catalogue cuts.now) }
         ensures err { IfErr result (λ refusal. StepRefuses self.now (Command.Counties name.now after body.now) refusal) }
     {
         let Some(geography) = self.geography() else {

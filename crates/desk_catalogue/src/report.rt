@@ -46,7 +46,8 @@ pub fn report(
     requires beside { length districts.now ≡ length geography.now.blocks }
     requires companions_beside { AreLong (length geography.now.blocks) (companions_copied beside) }
     requires companions_taken { AreTaken kind (companions_copied beside) }
-    ensures { IfOk result (IsReportText geography.now (record { kind = kind; n = n; districts = districts.now; beside = companions_copied beside.entry })) }
+    ensures { IfOk result (IsReportText geography.now
+        (record { kind = kind; n = n; districts = districts.now; beside = companions_copied beside.entry })) }
 {
     let districts = districts.to_vec(alloc)?;
     let senate = flat(alloc, beside.senate)?;

@@ -24,7 +24,15 @@ pub record Kept (D : Type 0) : Type 0 where
 
 module _ {D : Type 0} {g : Ghosts D} where
   abbrev pub kept_of : Clerk D g → List Command × List Command → Kept D
-  kept_of x lists = record { device = device_in (pages_of x); halted = is_halted x; sectors = sectors_of x; room = room_of x; free = free_of x; shown = lists.0; all = lists.1 }
+  kept_of x lists = record {
+    device = device_in (pages_of x);
+    halted = is_halted x;
+    sectors = sectors_of x;
+    room = room_of x;
+    free = free_of x;
+    shown = lists.0;
+    all = lists.1;
+  }
 
   -- such a clerk lies there, and shows the desk after the changes that are shown
   pub record IsClerk (first : Desk) (f : Kept D) (x : Clerk D g) : Type 0 where

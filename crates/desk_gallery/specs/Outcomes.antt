@@ -4,7 +4,8 @@ use Rattle.desk_model.specs.declared.command.Command.{Command}
 use Rattle.desk_model.specs.declared.reply.Reply.{Reply}
 use Rattle.desk_model.specs.declared.reply.Reply.TheVariants as reply
 use Rattle.desk_model.specs.declared.reply.Refusal.{Refusal}
-use Rattle.desk_model.specs.declared.reply.Refusal.TheVariants.{NoPlan, NoRevision, PlanExists, Stale, BadBody, NotWholeCounty, BadCompanion, Limit, Full, Memory, Halted, NotSealed}
+use Rattle.desk_model.specs.declared.reply.Refusal.TheVariants.{NoPlan, NoRevision, PlanExists, Stale, BadBody, NotWholeCounty}
+use Rattle.desk_model.specs.declared.reply.Refusal.TheVariants.{BadCompanion, Limit, Full, Memory, Halted, NotSealed}
 use Rattle.desk_model.specs.Desk.{Desk}
 use Rattle.desk_model.specs.Outcome.{IsAcceptance, IsStep}
 use Rattle.desk_model.specs.Step.{step}

@@ -27,7 +27,8 @@ IsRunFrom first d = (commands : List Command) × AreAccepted first commands × (
 -- nothing was pending. One that the desk accepts, but whose commit met a fault, is pending then. No other does anything.
 pub record Joins (first : Desk) (old : List Command × List Command) (c : Command) (reply : Reply) (new : List Command × List Command) : Type 0 where
   pub accepted : IsAcceptance reply → (old.1 ≡ old.0) × IsAcceptance (step (after first old.0) c).0 × (new ≡ (old.0 ++ c ∷ [], old.0 ++ c ∷ []))
-  pub other : (IsAcceptance reply → ⊥) → (new ≡ old) ⊎ ((reply ≡ Refused Halted) × (old.1 ≡ old.0) × IsAcceptance (step (after first old.0) c).0 × (new ≡ (old.0, old.0 ++ c ∷ [])))
+  pub other : (IsAcceptance reply → ⊥) → (new ≡ old)
+      ⊎ ((reply ≡ Refused Halted) × (old.1 ≡ old.0) × IsAcceptance (step (after first old.0) c).0 × (new ≡ (old.0, old.0 ++ c ∷ [])))
 
 module _ {D : Type 0} {g : Ghosts D} where
   -- the desk that is kept is the one that is shown, and only after a halt a change is pending, one at most
@@ -39,7 +40,8 @@ module _ {D : Type 0} {g : Ghosts D} where
     pub accepted : AreAccepted first lists.1
 
   -- what a command came to
-  pub record Worked (first : Desk) (x : Clerk D g) (old : List Command × List Command) (c : Command) (reply : Reply) (y : Clerk D g) (new : List Command × List Command) : Type 0 where
+  pub record Worked (first : Desk) (x : Clerk D g) (old : List Command × List Command) (c : Command)
+      (reply : Reply) (y : Clerk D g) (new : List Command × List Command) : Type 0 where
     pub does : Does x c reply y
     pub agree : Agree first y new
     pub joined : IsAcceptance reply → new.0 ≡ old.0 ++ c ∷ []

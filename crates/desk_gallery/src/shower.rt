@@ -38,7 +38,8 @@ fn push<J: Room, R: Wait>(rt: &R, copies: &mut Copies<J>, shelf: Shelf)
 fn publish_once<J: Room, R: Wait>(copies: Copies<J>, rt: &R) -> (Copies<J>, Result<(), AllocError>)
     requires { (changes : List Command) × WaitsFor J.book J.root J.first (drop copies.behind copies.log.items) changes }
     ensures ok { (changes : List Command) → WaitsFor J.book J.root J.first (drop copies.behind copies.log.items) changes
-        → IfOk result.1 (λ _. (shown_of J.root result.0.desk.shown.value.past.seen.log ≡ changes) × Stands J.book J.root J.first result.0.desk.shown.value × (drop result.0.behind result.0.log.items ≡ [])) }
+        → IfOk result.1 (λ _. (shown_of J.root result.0.desk.shown.value.past.seen.log ≡ changes)
+        × Stands J.book J.root J.first result.0.desk.shown.value × (drop result.0.behind result.0.log.items ≡ [])) }
     ensures err { IfErr result.1 (λ _. drop result.0.behind result.0.log.items ≡ drop copies.behind copies.log.items) }
 {
     copies.publish_as::<Tied<J>, R>(rt)
@@ -48,7 +49,8 @@ fn publish_once<J: Room, R: Wait>(copies: Copies<J>, rt: &R) -> (Copies<J>, Resu
 fn publish<J: Room, R: Wait>(rt: &R, copies: &mut Copies<J>)
     requires { (changes : List Command) × WaitsFor J.book J.root J.first (drop copies.old.behind copies.old.log.items) changes }
     ensures { (changes : List Command) → WaitsFor J.book J.root J.first (drop copies.old.behind copies.old.log.items) changes
-        → (shown_of J.root copies.new.desk.shown.value.past.seen.log ≡ changes) × Stands J.book J.root J.first copies.new.desk.shown.value × (drop copies.new.behind copies.new.log.items ≡ []) }
+        → (shown_of J.root copies.new.desk.shown.value.past.seen.log ≡ changes)
+        × Stands J.book J.root J.first copies.new.desk.shown.value × (drop copies.new.behind copies.new.log.items ≡ []) }
 {
     for _ in rt.forever() {
         if replace_with(copies, rt, publish_once).is_ok() {

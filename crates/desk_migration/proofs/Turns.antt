@@ -22,7 +22,7 @@ use Rattle.row_table.specs.Reading.{ReadErr}
 use Rattle.chunk_table.specs.Holding as chunk
 use Rattle.desk_migration.specs.Holding.{AreUnheld, IsHeldBy, IsUnheld, hold_pairs}
 use Rattle.desk_migration.specs.Walks.{IsNextPair}
-use Rattle.desk_migration.specs.declared.parts.Pair.{Pair}
+use Rattle.desk_migration.specs.declared.parts.HeldPair.{HeldPair}
 use Rattle.desk_migration.specs.Puts.{HasHeldAs, IsTurn, HoldErrOf}
 use Rattle.desk_migration.proofs.Pairs.{then_by, none_by, one_by, unheld_more, hold_more}
 
@@ -43,10 +43,10 @@ module _ {D : Type 0} {g : Ghosts D} where
   }
 
   -- ---- one pair
-  abbrev Finds : Option Pair → (KeyMap → Type 0) → (KeyMap → Type 0) → Txn → Pages D g → Pages D g → Type 0
+  abbrev Finds : Option HeldPair → (KeyMap → Type 0) → (KeyMap → Type 0) → Txn → Pages D g → Pages D g → Type 0
   Finds found has then t a b = (disk_in b).is_honest → (m : KeyMap) → InTxn t (stored a) m → has m → then m × IsNextPair m found
 
-  pub pair_taken : (pair : Pair) (has then : KeyMap → Type 0) (t u : Txn) (a b c : Pages D g) → Stays then → Passed a b → Finds (Some pair) has then t a b → chunk.HasHeld pair.plan pair.number t u b c → HasHeldAs ⊥ 1 has then t u a c
+  pub pair_taken : (pair : HeldPair) (has then : KeyMap → Type 0) (t u : Txn) (a b c : Pages D g) → Stays then → Passed a b → Finds (Some pair) has then t a b → chunk.HasHeld pair.plan pair.number t u b c → HasHeldAs ⊥ 1 has then t u a c
   pair_taken pair has then t u a b c stays ab finds one = record {
     passed = passed_more a b c ab one.passed;
     pages = one.pages;
@@ -65,7 +65,7 @@ module _ {D : Type 0} {g : Ghosts D} where
     taken = let taken = one.taken in omega arith;
   }
 
-  pub pair_not_taken : (pair : Pair) (has then : KeyMap → Type 0) (t : Txn) (a b c : Pages D g) (e : TreeError) → ((m : KeyMap) → then m → Tidy m) → Passed a b → Finds (Some pair) has then t a b → IsQuiet b c → chunk.HoldErr pair.plan pair.number t b c e → HoldErrOf 1 has t a c e
+  pub pair_not_taken : (pair : HeldPair) (has then : KeyMap → Type 0) (t : Txn) (a b c : Pages D g) (e : TreeError) → ((m : KeyMap) → then m → Tidy m) → Passed a b → Finds (Some pair) has then t a b → IsQuiet b c → chunk.HoldErr pair.plan pair.number t b c e → HoldErrOf 1 has t a c e
   pair_not_taken pair has then t a b c DeviceFault tidy ab finds quiet why = elim why [
     | inl failed ↦ inl (failed_more a b c ab quiet failed)
     | inr none ↦ inr (λ honest m reads known.

@@ -68,7 +68,8 @@ module _ {D : Type 0} {g : Ghosts D} where
   -- A step: the desk stays, in the old version, and a stop at any moment of it leaves that.
   pub record Moves (x y : Migration D g) : Type 0 where
     pub goes : Goes x y
-    pub any_moment : (d : Desk) → Keeps x d → is_halted x ≡ false → (disk_of y).is_honest → LeavesOnly (OpensOld (sectors_of x) d) (disk_of x) (disk_of y)
+    pub any_moment : (d : Desk) → Keeps x d → is_halted x ≡ false → (disk_of y).is_honest
+        → LeavesOnly (OpensOld (sectors_of x) d) (disk_of x) (disk_of y)
     pub keeps : (d : Desk) → Keeps x d → Keeps y d
 
   -- So many rows were put: two for each pair of a plan and a chunk that came to be held. Fewer than 16 were only where each chunk that
@@ -84,5 +85,6 @@ module _ {D : Type 0} {g : Ghosts D} where
   -- The end: a stop at any moment of it leaves the desk in either version.
   pub record Ends (x y : Migration D g) : Type 0 where
     pub goes : Goes x y
-    pub any_moment : (d : Desk) → Keeps x d → is_halted x ≡ false → (disk_of y).is_honest → LeavesOnly (OpensEither (sectors_of x) d) (disk_of x) (disk_of y)
+    pub any_moment : (d : Desk) → Keeps x d → is_halted x ≡ false → (disk_of y).is_honest
+        → LeavesOnly (OpensEither (sectors_of x) d) (disk_of x) (disk_of y)
     pub left : (d : Desk) → Keeps x d → (disk_of y).is_honest → (c : Image) → (disk_of y).leaves c → OpensEither (sectors_of x) d c

@@ -1,5 +1,6 @@
 -- What calls tell: relations over values before and after a call, and its result.
-use Rattle.std.specs.Prelude.{◌≡◌, ◌<◌, ◌^◌, ◌↔◌, ℕ, Bool, true, false, List, length, take, drop, get_or, Option, Some, None, Result, IfOk, OnOk, MatchResult}
+use Rattle.std.specs.Prelude.{◌≡◌, ◌<◌, ◌^◌, ◌↔◌, ℕ, Bool, true, false, List, length, take, drop}
+use Rattle.std.specs.Prelude.{get_or, Option, Some, None, Result, IfOk, OnOk, MatchResult}
 use Rattle.sector_device.specs.declared.SectorDevice.{Ghosts}
 use Rattle.page_store.specs.Transactions.{stored, disk_in}
 use Rattle.page_store.specs.declared.pages.Pages.{Pages}
@@ -22,8 +23,8 @@ use Rattle.desk_migration.specs.Walks.{Enters, HoldsEach, HoldsIt, IsHeldTo, IsN
 use Rattle.desk_migration.specs.declared.error.MigrationError.{MigrationError}
 use Rattle.desk_migration.specs.declared.migration.Migration.{Migration}
 use Rattle.desk_migration.specs.declared.parts.Part.{Part}
-use Rattle.desk_migration.specs.declared.parts.Look.{Look}
-use Rattle.desk_migration.specs.declared.parts.Pair.{Pair}
+use Rattle.desk_migration.specs.declared.parts.PartLook.{PartLook}
+use Rattle.desk_migration.specs.declared.parts.HeldPair.{HeldPair}
 use Rattle.desk_migration.specs.declared.walks.Walk.{Walk}
 
 -- the bytes of a row are those of a part
@@ -49,7 +50,8 @@ module _ {D : Type 0} {g : Ghosts D} where
   TellsOf has told t old new result = (disk_in new).is_honest → (m : KeyMap) → InTxn t (stored old) m → has m → IfOk result (λ x. told x m)
 
   abbrev pub FindsPart : List ℕ → Row → Txn → Pages D g → Pages D g → Result Bool TreeError → Type 0
-  FindsPart from row t old new result = (disk_in new).is_honest → (m : KeyMap) → InTxn t (stored old) m → IfOk result (λ found. IsPartFrom found from row m)
+  FindsPart from row t old new result = (disk_in new).is_honest → (m : KeyMap)
+      → InTxn t (stored old) m → IfOk result (λ found. IsPartFrom found from row m)
 
   -- the plan holds the chunk, where it holds those of the part seen before
   abbrev pub TellsAt : Part → ℕ → ℕ → Txn → Pages D g → Pages D g → Result Bool TreeError → Type 0
@@ -58,15 +60,16 @@ module _ {D : Type 0} {g : Ghosts D} where
 
   abbrev pub FindsUnheld : Part → Part → ℕ → Txn → Pages D g → Pages D g → Result (Option ℕ) TreeError → Type 0
   FindsUnheld of seen from t old new result =
-      TellsOf (λ m. Tidy m × HoldsEach seen.plan seen.numbers.items m × HoldsEach of.plan (take from of.numbers.items) m) (λ found m. IsHeldTo of m found) t old new result
+      TellsOf (λ m. Tidy m × HoldsEach seen.plan seen.numbers.items m
+      × HoldsEach of.plan (take from of.numbers.items) m) (λ found m. IsHeldTo of m found) t old new result
 
   abbrev pub EntersPart : Walk → Walk → Txn → Pages D g → Pages D g → Result Bool TreeError → Type 0
   EntersPart walk next t old new result = TellsOf (IsWalking walk) (λ found m. IsWalking next m × Enters found walk next m) t old new result
 
-  abbrev pub LooksAt : Walk → Walk → Txn → Pages D g → Pages D g → Result Look TreeError → Type 0
+  abbrev pub LooksAt : Walk → Walk → Txn → Pages D g → Pages D g → Result PartLook TreeError → Type 0
   LooksAt walk next t old new result = TellsOf (IsWalking walk) (λ look m. IsWalking next m × Looks look walk next m) t old new result
 
-  abbrev pub FindsNext : Walk → Walk → Txn → Pages D g → Pages D g → Result (Option Pair) TreeError → Type 0
+  abbrev pub FindsNext : Walk → Walk → Txn → Pages D g → Pages D g → Result (Option HeldPair) TreeError → Type 0
   FindsNext walk next t old new result = TellsOf (IsWalking walk) (λ found m. IsWalking next m × IsNextPair m found) t old new result
 
   -- ---- pairs that come to be held
@@ -76,7 +79,8 @@ module _ {D : Type 0} {g : Ghosts D} where
 
   abbrev pub HoldsAlong : Walk → Walk → Txn → Txn → Pages D g → Pages D g → Result ℕ TreeError → Type 0
   HoldsAlong walk next t u old new result =
-      MatchResult result (λ count. HasHeldAs (count < 8) count (IsWalking walk) (IsWalking next) t u old new) (λ e. HoldErrOf 8 (IsWalking walk) t old new e)
+      MatchResult result (λ count. HasHeldAs (count < 8) count (IsWalking walk) (IsWalking next) t u old new)
+      (λ e. HoldErrOf 8 (IsWalking walk) t old new e)
 
   abbrev pub HoldsPairs : List ℕ → List ℕ → Txn → Txn → Pages D g → Pages D g → Result ℕ TreeError → Type 0
   HoldsPairs from next t u old new result =
@@ -85,7 +89,8 @@ module _ {D : Type 0} {g : Ghosts D} where
   -- ---- rows of a commit, and of a step
   abbrev pub PutsHoldings : List ℕ → List ℕ → Pages D g → Pages D g → Result ℕ MigrationError → Type 0
   PutsHoldings from next old new result =
-      (disk_in new).is_honest → (m : KeyMap) (d : Desk) → InPages old m → IsOldMap m d → AreHeldTo from m → IfOk result (λ count. HoldsMore count m d next new)
+      (disk_in new).is_honest → (m : KeyMap) (d : Desk) → InPages old m → IsOldMap m d
+      → AreHeldTo from m → IfOk result (λ count. HoldsMore count m d next new)
 
   abbrev pub PutsMore : Migration D g → Migration D g → Result ℕ MigrationError → Type 0
   PutsMore x y result = (disk_of y).is_honest → (d : Desk) (m : KeyMap) → HasRows x d m → IfOk result (λ count. HasMore x d m count y)
@@ -103,4 +108,5 @@ module _ {D : Type 0} {g : Ghosts D} where
   TakesAll tag t u old new result = (disk_in new).is_honest → (m : KeyMap) → InTxn t (stored old) m → OnOk result (IsWithout tag u (stored old) m)
 
   abbrev pub TakesVersion : {T : Type 0} → Txn → Txn → Pages D g → Pages D g → Result T TreeError → Type 0
-  TakesVersion t u old new result = (disk_in new).is_honest → (d : Desk) → InTxnOf true t (stored old) d → OnOk result (InTxnOf false u (stored old) d)
+  TakesVersion t u old new result = (disk_in new).is_honest → (d : Desk)
+      → InTxnOf true t (stored old) d → OnOk result (InTxnOf false u (stored old) d)

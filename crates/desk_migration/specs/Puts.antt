@@ -148,7 +148,8 @@ module _ {D : Type 0} {g : Ghosts D} where
 
   -- why no row was put
   abbrev pub StepErr : List ℕ → Pages D g → Pages D g → MigrationError → Type 0
-  StepErr from old new Full = IsQuiet old new × ((disk_in new).is_honest → (m : KeyMap) → InPages old m → IsUnderWay from m → IsShort old m ⊎ IsDeep old m)
+  StepErr from old new Full = IsQuiet old new × ((disk_in new).is_honest → (m : KeyMap)
+      → InPages old m → IsUnderWay from m → IsShort old m ⊎ IsDeep old m)
   StepErr from old new Memory = IsQuiet old new
   StepErr from old new DeviceFault = HasFailed old new ⊎ ((disk_in new).is_honest → (d : Desk) → HoldsTo from old d → ⊥)
   StepErr from old new Halted = (has_halted old ≡ true) × IsSame old new

@@ -15,9 +15,9 @@ use Rattle.chunk_table.specs.Holding as chunk
 use Rattle.desk_migration.specs.Holding.{AllAreHeld, AreHeldTo, IsUnheld}
 use Rattle.desk_migration.specs.Parts.{IsUnderParts}
 use Rattle.desk_migration.specs.declared.parts.Part.{Part}
-use Rattle.desk_migration.specs.declared.parts.Look.{Look}
-use Rattle.desk_migration.specs.declared.parts.Look.TheVariants.{Ended, Passed, Found}
-use Rattle.desk_migration.specs.declared.parts.Pair.{Pair}
+use Rattle.desk_migration.specs.declared.parts.PartLook.{PartLook}
+use Rattle.desk_migration.specs.declared.parts.PartLook.TheVariants.{Ended, Passed, Found}
+use Rattle.desk_migration.specs.declared.parts.HeldPair.{HeldPair}
 use Rattle.desk_migration.specs.declared.walks.Walk.{Walk}
 
 -- the key that comes next behind another one
@@ -70,13 +70,13 @@ IsHeldTo of m None = HoldsEach of.plan of.numbers.items m
 IsHeldTo of m (Some place) = HoldsEach of.plan (take place of.numbers.items) m
 
 -- what a look at a part came to: fewer rows come behind the walk's key where it was passed
-abbrev pub Looks : Look → Walk → Walk → KeyMap → Type 0
+abbrev pub Looks : PartLook → Walk → Walk → KeyMap → Type 0
 Looks Ended old new m = AllAreHeld m
 Looks Passed old new m = length (entries_from new.from (entries m)) < length (entries_from old.from (entries m))
 Looks (Found pair) old new m = IsUnheld m pair.plan pair.number
 
 -- none is left, or this pair comes next
-abbrev pub IsNextPair : KeyMap → Option Pair → Type 0
+abbrev pub IsNextPair : KeyMap → Option HeldPair → Type 0
 IsNextPair m None = AllAreHeld m
 IsNextPair m (Some pair) = IsUnheld m pair.plan pair.number
 
@@ -85,7 +85,7 @@ module _ {D : Type 0} {g : Ghosts D} where
   abbrev pub IsUnheldAt : Part → ℕ → Txn → Pages D g → Type 0
   IsUnheldAt of place t p = (place < length of.numbers.items) × chunk.IsUnheld of.plan (get_or of.numbers.items place 0) t p
 
-  abbrev pub IsUnheldIn : Look → Txn → Pages D g → Type 0
+  abbrev pub IsUnheldIn : PartLook → Txn → Pages D g → Type 0
   IsUnheldIn Ended t p = Unit {0}
   IsUnheldIn Passed t p = Unit {0}
   IsUnheldIn (Found pair) t p = chunk.IsUnheld pair.plan pair.number t p

@@ -35,20 +35,20 @@ impl Part {
 
 /// A plan, and a chunk that it is to hold.
 #[derive(Clone, Copy, Drop)]
-pub(crate) struct Pair {
+pub(crate) struct HeldPair {
     pub(crate) plan: u64,
     pub(crate) number: u64,
 }
 
 /// What a look at the next part came to.
 #[derive(Clone, Copy, Drop)]
-pub(crate) enum Look {
+pub(crate) enum PartLook {
     /// There is none.
     Ended,
     /// Its plan holds each chunk that it names.
     Passed,
     /// Its plan doesn't hold this one.
-    Found(Pair),
+    Found(HeldPair),
 }
 
 /// The number of the 8 bytes behind a tag, the highest first.

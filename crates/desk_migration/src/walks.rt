@@ -8,7 +8,7 @@ ghost use Rattle.chunk_table.specs.Holding.{IsUnheld};
 ghost use Rattle.desk_migration.specs.Walks.{behind, IsUnheldAt, IsUnheldIn, IsWalking, StandsUnder};
 ghost use Rattle.desk_migration.specs.Outcomes.{EntersPart, FindsNext, FindsUnheld, LooksAt, TellsAt};
 
-use crate::parts::{Look, Pair, Part, key_behind, names_too, part_from, read_part};
+use crate::parts::{HeldPair, Part, PartLook, key_behind, names_too, part_from, read_part};
 use btree_scan::{Row, SmallBytes, row_limit};
 use chunk_table::is_held;
 use page_store::{Pages, Txn};
@@ -168,7 +168,7 @@ fn look<D: SectorDevice>(
     txn: &Txn,
     pages: &mut Pages<D>,
     walk: &mut Walk,
-) -> Result<Look, TreeError>
+) -> Result<PartLook, TreeError>
     requires begun { txn_pages txn.now ≡ count_of pages.old }
     requires under { StandsUnder walk.old }
     ensures under { StandsUnder walk.new }
@@ -179,7 +179,7 @@ fn look<D: SectorDevice>(
     ensures err { IfErr result (λ e. ReadErr Tidy txn.now pages.old pages.new e) }
 {
     if !enter(txn, pages, walk)? {
-        return Ok(Look::Ended);
+        return Ok(PartLook::Ended);
     }
     let found = first_unheld(txn, pages, &walk.part, &walk.seen, walk.place)?;
     match found {
@@ -187,11 +187,11 @@ fn look<D: SectorDevice>(
             let number = walk.part.numbers.as_slice()[place];
             walk.place = place;
             let plan = walk.part.plan;
-            Ok(Look::Found(Pair { plan, number }))
+            Ok(PartLook::Found(HeldPair { plan, number }))
         }
         None => {
             pass(walk);
-            Ok(Look::Passed)
+            Ok(PartLook::Passed)
         }
     }
 }
@@ -201,7 +201,7 @@ pub(crate) fn next_pair<D: SectorDevice>(
     txn: &Txn,
     pages: &mut Pages<D>,
     walk: &mut Walk,
-) -> Result<Option<Pair>, TreeError>
+) -> Result<Option<HeldPair>, TreeError>
     requires begun { txn_pages txn.now ≡ count_of pages.old }
     requires under { StandsUnder walk.old }
     ensures under { StandsUnder walk.new }
@@ -213,9 +213,9 @@ pub(crate) fn next_pair<D: SectorDevice>(
 {
     for taken in 0..row_limit(txn) {
         match look(txn, pages, walk)? {
-            Look::Ended => return Ok(None),
-            Look::Found(pair) => return Ok(Some(pair)),
-            Look::Passed => {}
+            PartLook::Ended => return Ok(None),
+            PartLook::Found(pair) => return Ok(Some(pair)),
+            PartLook::Passed => {}
         }
     }
     Err(TreeError::DeviceFault)

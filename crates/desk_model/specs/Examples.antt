@@ -116,7 +116,10 @@ kept kind districts = record { kind = kind; n = 2; revisions = districts ∷ [] 
 
 -- the house plan a county by county, and the plan b of the two diagonals
 abbrev pub with_diagonals : Kind → Desk
-with_diagonals kind = record { geography = Some sample; plans = map_of.insert (map_of.insert map_of.empty name_a (kept House (1 ∷ 1 ∷ 2 ∷ 2 ∷ []))) name_b (kept kind (1 ∷ 2 ∷ 2 ∷ 1 ∷ [])) }
+with_diagonals kind = record {
+  geography = Some sample;
+  plans = map_of.insert (map_of.insert map_of.empty name_a (kept House (1 ∷ 1 ∷ 2 ∷ 2 ∷ []))) name_b (kept kind (1 ∷ 2 ∷ 2 ∷ 1 ∷ []));
+}
 
 abbrev pub beside_b : Option (List ℕ × ℕ)
 beside_b = Some (name_b, 1)

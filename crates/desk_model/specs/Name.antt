@@ -1,5 +1,6 @@
 -- Names of plans.
-use Rattle.std.specs.Prelude.{◌≡◌, ℕ, ◌≤◌, ◌-◌, Bool, ◌||◌, ◌&&◌, List, ◌++◌, length, take, drop, replicate, ◌==◌, nat_le, if◌then◌else◌, Option, Some, None, IsTrue}
+use Rattle.std.specs.Prelude.{◌≡◌, ℕ, ◌≤◌, ◌-◌, Bool, ◌||◌, ◌&&◌, List, ◌++◌, length, take, drop}
+use Rattle.std.specs.Prelude.{replicate, ◌==◌, nat_le, if◌then◌else◌, Option, Some, None, IsTrue}
 use Rattle.std.specs.List.{list_all}
 use Rattle.std.specs.Char.{is_ascii_alphanumeric}
 use Rattle.std.proofs.Common.{arith, take-append-drop, length-take-le}

@@ -52,7 +52,8 @@ forked_rows None = 0
 abbrev pub command_rows : Desk → Command → ℕ
 command_rows d (Create name size) = 2
 command_rows d (Whole name after body) = added_rows d.geography (map_of.get d.plans name) (map_of.get (step d (Whole name after body)).1.plans name)
-command_rows d (Counties name after body) = added_rows d.geography (map_of.get d.plans name) (map_of.get (step d (Counties name after body)).1.plans name)
+command_rows d (Counties name after body) = added_rows d.geography
+    (map_of.get d.plans name) (map_of.get (step d (Counties name after body)).1.plans name)
 command_rows d (Retire name) = 2
 command_rows d (Fork name from) = forked_rows d.geography
 

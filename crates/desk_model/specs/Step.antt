@@ -1,5 +1,6 @@
 -- What a desk answers, and the desk that follows.
-use Rattle.std.specs.Prelude.{ℕ, ◌+◌, ◌-◌, ◌==◌, Bool, not, ◌&&◌, if◌then◌else◌, nat_le, List, [], ◌∷◌, ◌++◌, map, length, Option, Some, None, option_map, is_some, Result, Ok, Err, unwrap_or, codes, decimal}
+use Rattle.std.specs.Prelude.{ℕ, ◌+◌, ◌-◌, ◌==◌, Bool, not, ◌&&◌, if◌then◌else◌, nat_le, List, [], ◌∷◌, ◌++◌, map, length}
+use Rattle.std.specs.Prelude.{Option, Some, None, option_map, is_some, Result, Ok, Err, unwrap_or, codes, decimal}
 use Rattle.std.specs.List.{slice_get, flat_map, find, list_any, zip}
 use Rattle.std.specs.FinMap as map_of
 use Rattle.desk_model.specs.declared.kind.Kind.{Kind}
@@ -171,7 +172,8 @@ answer_at (Some g) d Blocks = says (reply.Blocks (blocks_text g))
 answer_at None d (Revision name k) = says (reply.Refused NotSealed)
 answer_at (Some g) d (Revision name k) = says (revision_of g (map_of.get d.plans name) k)
 answer_at None d (Audit name k senate congress) = says (reply.Refused NotSealed)
-answer_at (Some g) d (Audit name k senate congress) = audit_of g (subject_of d (map_of.get d.plans name) k (record { senate = senate; congress = congress }))
+answer_at (Some g) d (Audit name k senate congress) = audit_of g
+    (subject_of d (map_of.get d.plans name) k (record { senate = senate; congress = congress }))
 
 -- what a query is answered, where there is memory
 abbrev pub answer : Desk → Query → Answer

@@ -1,7 +1,8 @@
 //! A state's blocks and which of them are neighbours.
 ghost use Rattle.std.specs.Prelude.{◌≡◌, ◌≢◌, ◌⊎◌, ◌↔◌, ◌<◌, ◌≤◌, nat_lt, if◌then◌else◌, length, All, Contains, IsTrue, IfOk, IfSome, IfNone};
 ghost use Rattle.std.specs.List.Sorted.{IsStrictlyIncreasing};
-ghost use Rattle.desk_model.specs.Geography.{AreBlocks, AreDifferentBlocks, AreRising, AreTold, IsBetween, IsGround, IsPair, id_at, ids_of, is_before as is_before_of, pair_ids, turned};
+ghost use Rattle.desk_model.specs.Geography.{AreBlocks, AreDifferentBlocks, AreRising, AreTold, IsBetween, IsGround};
+ghost use Rattle.desk_model.specs.Geography.{IsPair, id_at, ids_of, is_before as is_before_of, pair_ids, turned};
 ghost use Rattle.desk_model.specs.declared.geography.Pair.{Pair as Pair_};
 ghost use Rattle.desk_model.specs.Sample.{sample as sample_ground};
 

@@ -7,7 +7,8 @@ ghost use Rattle.page_btree.specs.Map.{InTxn};
 ghost use Rattle.store_rows.specs.Rows.{KeyMap};
 ghost use Rattle.store_rows.specs.Changes.{plan_row_of, with_revision};
 ghost use Rattle.page_btree.specs.declared.error.TreeError.TheVariants.{Memory};
-ghost use Rattle.desk_opening.specs.Reading.{BecomesKnown, BecomesLast, HasLists, Reads, IsAfter, IsLast, IsNext, IsPlanRow, IsRevisionThere, IsWhole};
+ghost use Rattle.desk_opening.specs.Reading.{BecomesKnown, BecomesLast, HasLists, Reads, IsAfter};
+ghost use Rattle.desk_opening.specs.Reading.{IsLast, IsNext, IsPlanRow, IsRevisionThere, IsWhole};
 
 use crate::counties::lay_counties;
 use desk_model::cuts::Cut;

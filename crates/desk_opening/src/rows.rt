@@ -11,7 +11,8 @@ ghost use Rattle.store_rows.specs.Keys.{key_of, named};
 ghost use Rattle.desk_catalogue.specs.Kept.{AreWhole};
 ghost use Rattle.plan_table.specs.Laws.{RowFits};
 ghost use Rattle.desk_opening.specs.Reading.{Reads};
-ghost use Rattle.desk_opening.specs.Opening.{AreCounts, ArePlans, ArePlansApart, ArePlansShown, IsAdded, IsFreshPlan, IsListed, IsNoted, IsNewPlan, IsNotGone};
+ghost use Rattle.desk_opening.specs.Opening.{AreCounts, ArePlans, ArePlansApart, ArePlansShown, IsAdded};
+ghost use Rattle.desk_opening.specs.Opening.{IsFreshPlan, IsListed, IsNoted, IsNewPlan, IsNotGone};
 
 use crate::marks::refuse_gone;
 use crate::numbers::note_number;

@@ -2,7 +2,8 @@
 ghost use Rattle.std.specs.Prelude.{◌≡◌, ◌≤◌, ◌+◌, length, true, false, Err, OnOk, IfOk, IfErr, IsErr};
 ghost use Rattle.sector_device.specs.Disk.{Image};
 ghost use Rattle.page_store.specs.Chain.{free_in};
-ghost use Rattle.page_store.specs.Transactions.{stored, disk_in, count_of, has_halted, txn_pages, txn_writes, txn_free, prepared_pages, prepared_writes, after, HasShape, IsSame, IsKept, CommitErr};
+ghost use Rattle.page_store.specs.Transactions.{stored, disk_in, count_of, has_halted, txn_pages, txn_writes, txn_free};
+ghost use Rattle.page_store.specs.Transactions.{prepared_pages, prepared_writes, after, HasShape, IsSame, IsKept, CommitErr};
 ghost use Rattle.page_store.specs.declared.error.PageError.TheVariants.{Memory};
 ghost use Rattle.page_btree.specs.Map.{InTxn, InPages};
 ghost use Rattle.store_rows.specs.Rows.{KeyMap};
@@ -31,7 +32,8 @@ pub fn commit<D: SectorDevice>(prepared: Prepared, pages: &mut Pages<D>) -> Resu
     ensures shape { HasShape pages.old pages.new }
     ensures honest { (disk_in pages.new).is_honest → (disk_in pages.old).is_honest }
     ensures any_moment { StopsLeaveEither (InPages pages.old) (HoldsAfter prepared (stored pages.old)) OpensRows pages.old pages.new }
-    ensures held { (disk_in pages.new).is_honest → OnOk result ((next : KeyMap) → HoldsAfter prepared (stored pages.old) next → InPages pages.new next) }
+    ensures held { (disk_in pages.new).is_honest → OnOk result ((next : KeyMap)
+        → HoldsAfter prepared (stored pages.old) next → InPages pages.new next) }
     ensures after { (disk_in pages.new).is_honest → OnOk result (stored pages.new ≡ after prepared (stored pages.old)) }
     ensures kept { (disk_in pages.new).is_honest → OnOk result (IsKept pages.new) }
     ensures passed { (disk_in pages.new).is_honest → OnOk result ((disk_in pages.new).faults ≡ (disk_in pages.old).faults) }

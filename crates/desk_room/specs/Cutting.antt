@@ -1,5 +1,6 @@
 -- The counties of lists beside the blocks, by their places.
-use Rattle.std.specs.Prelude.{◌≡◌, ◌⊎◌, ◌<◌, ◌≤◌, ◌+◌, ℕ, Bool, true, if◌then◌else◌, List, map, get_or, take, drop, All, Option, Some, None, length, IfSome}
+use Rattle.std.specs.Prelude.{◌≡◌, ◌⊎◌, ◌<◌, ◌≤◌, ◌+◌, ℕ, Bool, true, if◌then◌else◌, List, map}
+use Rattle.std.specs.Prelude.{get_or, take, drop, All, Option, Some, None, length, IfSome}
 use Rattle.desk_model.specs.Room.{rows_for, differs, revision_rows, fork_rows}
 use Rattle.desk_model.specs.declared.cuts.Cut.{Cut}
 use Rattle.desk_model.specs.Cuts.{cuts_of, sizes}

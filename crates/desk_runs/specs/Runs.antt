@@ -45,13 +45,15 @@ pub record OpensAfterSome (sectors : ℕ) (d : Desk) (commands : List Command) (
 abbrev pub OpenSince : Disk → ℕ → Desk → ℕ → List ℕ → List Command → Type 0
 OpenSince disk sectors d t [] commands = (t ≤ disk.moment) × ((c : Image) → disk.left t c → OpensAfterSome sectors d commands c)
 OpenSince disk sectors d t (m ∷ ms) [] = ⊥
-OpenSince disk sectors d t (m ∷ ms) (a ∷ commands) = (t ≤ m) × ((c : Image) → disk.left t c → OpensAfterSome sectors d (a ∷ commands) c) × OpenSince disk sectors (step d a).1 m ms commands
+OpenSince disk sectors d t (m ∷ ms) (a ∷ commands) = (t ≤ m)
+    × ((c : Image) → disk.left t c → OpensAfterSome sectors d (a ∷ commands) c) × OpenSince disk sectors (step d a).1 m ms commands
 
 module _ {D : Type 0} {g : Ghosts D} where
   -- commands, one after the other
   pub data Run : Clerk D g → List Call → Clerk D g → Type 0 where
     over : (x : Clerk D g) → Run x [] x
-    went : (x : Clerk D g) (c : Command) (r : Reply) (y : Clerk D g) (calls : List Call) (z : Clerk D g) → Does x c r y → Run y calls z → Run x ((c, r) ∷ calls) z
+    went : (x : Clerk D g) (c : Command) (r : Reply) (y : Clerk D g) (calls : List Call) (z : Clerk D g)
+        → Does x c r y → Run y calls z → Run x ((c, r) ∷ calls) z
 
   -- the device's moment right behind each acknowledged command, at which its call returned
   abbrev pub acknowledged_at : (x : Clerk D g) (calls : List Call) (z : Clerk D g) → Run x calls z → List ℕ
@@ -68,8 +70,10 @@ module _ {D : Type 0} {g : Ghosts D} where
   pub record Survives (x : Clerk D g) (calls : List Call) (z : Clerk D g) (run : Run x calls z) : Type 0 where
     pub desk : desk_of z ≡ after (desk_of x) (acknowledged calls)
     pub halted : z.halted ≡ false → in_flight x calls z run ≡ []
-    pub since : OpenSince (disk_of z) (sectors_of x) (desk_of x) (disk_of x).moment (acknowledged_at x calls z run) (acknowledged calls ++ in_flight x calls z run)
+    pub since : OpenSince (disk_of z) (sectors_of x) (desk_of x) (disk_of x).moment
+        (acknowledged_at x calls z run) (acknowledged calls ++ in_flight x calls z run)
 
   -- where the store keeps the desk, the clerk hasn't halted and the device is honest to the end
   abbrev pub SurvivesEachRun : Clerk D g → Type 0
-  SurvivesEachRun x = (calls : List Call) (z : Clerk D g) (run : Run x calls z) → Keeps x → x.halted ≡ false → (disk_of z).is_honest → Survives x calls z run
+  SurvivesEachRun x = (calls : List Call) (z : Clerk D g) (run : Run x calls z)
+      → Keeps x → x.halted ≡ false → (disk_of z).is_honest → Survives x calls z run

@@ -59,7 +59,8 @@ module _ {D : Type 0} {g : Ghosts D} where
     pub room : room_of y ≡ room_of x
     pub honest : (disk_of y).is_honest → (disk_of x).is_honest
     -- a stop at any moment of it leaves the desk before or the desk after
-    pub any_moment : sound → x.halted ≡ false → (disk_of y).is_honest → LeavesOnly (λ c. OpensDesk (sectors_of x) (desk_of x) c ⊎ OpensDesk (sectors_of x) next c) (disk_of x) (disk_of y)
+    pub any_moment : sound → x.halted ≡ false → (disk_of y).is_honest
+        → LeavesOnly (λ c. OpensDesk (sectors_of x) (desk_of x) c ⊎ OpensDesk (sectors_of x) next c) (disk_of x) (disk_of y)
     pub keeps : sound → Keeps y
     -- from a fault on nothing changes
     pub still : x.halted ≡ true → IsSame (pages_of x) (pages_of y) × (desk_of y ≡ desk_of x) × (y.halted ≡ true)

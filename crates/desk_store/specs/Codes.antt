@@ -8,4 +8,5 @@ use Rattle.desk_catalogue.specs.Codes.{coded_desk}
 use Rattle.desk_store.specs.Changes.{Made}
 
 abbrev pub coded_made : Coded Made
-coded_made = code_by (Command × Desk) (coded× command.the_row.coded coded_desk) (λ m. (m.command, m.after)) (λ c. record { command = c.0; after = c.1 }) (λ _. refl)
+coded_made = code_by (Command × Desk) (coded× command.the_row.coded coded_desk)
+    (λ m. (m.command, m.after)) (λ c. record { command = c.0; after = c.1 }) (λ _. refl)

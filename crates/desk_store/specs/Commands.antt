@@ -77,7 +77,8 @@ module _ {D : Type 0} {g : Ghosts D} where
     pub accepted : IsAfter (desk_of x) (command_of r) (after_of r)
     pub ground : (after_of r).geography ≡ (desk_of x).geography
     pub rows : Keeps x → x.halted ≡ false → (disk_of x).is_honest → HoldsNext (written_of r) x (after_of r)
-    pub free : Keeps x → x.halted ≡ false → (disk_of x).is_honest → free_of x ≤ length (free_in (after (written_of r) (stored (pages_of x)))) + need (desk_of x) (command_of r)
+    pub free : Keeps x → x.halted ≡ false → (disk_of x).is_honest
+        → free_of x ≤ length (free_in (after (written_of r) (stored (pages_of x)))) + need (desk_of x) (command_of r)
     pub numbers : (disk_of x).is_honest → IsSpent x (command_of r) → ⊥
 
   -- its pages were made ready by a call that read at most
@@ -85,7 +86,8 @@ module _ {D : Type 0} {g : Ghosts D} where
     pub pages : prepared_pages made ≡ count_of (pages_of y)
     pub writes : length (prepared_writes made) ≤ room_of y
     pub rows : Keeps y → y.halted ≡ false → (disk_of y).is_honest → HoldsNext made y e
-    pub free : Keeps y → y.halted ≡ false → (disk_of y).is_honest → free_of y ≤ length (free_in (after made (stored (pages_of y)))) + need (desk_of x) c
+    pub free : Keeps y → y.halted ≡ false → (disk_of y).is_honest
+        → free_of y ≤ length (free_in (after made (stored (pages_of y)))) + need (desk_of x) c
     pub numbers : (disk_of y).is_honest → IsSpent y c → ⊥
 
   -- there is room for so many rows: a row writes 13 pages at most

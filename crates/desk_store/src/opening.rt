@@ -83,8 +83,10 @@ fn read_new<D: SectorDevice>(
     requires begun { txn_pages txn.now ≡ count_of pages.old }
     ensures quiet { IsQuiet pages.old pages.new }
     ensures passed { OnOk result (Passed pages.old pages.new) }
-    ensures read { (disk_in pages.new).is_honest → (x : Bool × Desk) → InTxnAs txn.now (stored pages.old) x → IfOk result (λ catalogue. catalogue ≡ x.1) }
-    ensures found { (disk_in pages.new).is_honest → (m : KeyMap) → TxnHas txn.now (stored pages.old) m → IfOk result (λ catalogue. IsReadFrom m catalogue) }
+    ensures read { (disk_in pages.new).is_honest → (x : Bool × Desk)
+        → InTxnAs txn.now (stored pages.old) x → IfOk result (λ catalogue. catalogue ≡ x.1) }
+    ensures found { (disk_in pages.new).is_honest → (m : KeyMap)
+        → TxnHas txn.now (stored pages.old) m → IfOk result (λ catalogue. IsReadFrom m catalogue) }
     ensures version { (disk_in pages.new).is_honest → (m : KeyMap) → TxnHas txn.now (stored pages.old) m → OnOk result (Has m version (in_four 2)) }
     ensures err { IfErr result (λ e. ReadNewErr txn.now pages.old pages.new e) }
 {

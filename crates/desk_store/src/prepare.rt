@@ -63,7 +63,8 @@ impl<D: SectorDevice> Clerk<D> {
     fn accept(&self, alloc: Global, command: &Command) -> Result<Draft, Refusal>
         requires { self.now.halted ≡ false }
         ensures after { IfOk result (λ draft. IsAfter (desk_of self.now) command.now draft.catalogue) }
-        ensures changes { IfOk result (λ draft. draft.changes.items ≡ changes_of (desk_of self.now) command.now draft.catalogue (cuts_in (desk_of self.now).geography)) }
+        ensures changes { IfOk result (λ draft. draft.changes.items
+            ≡ changes_of (desk_of self.now) command.now draft.catalogue (cuts_in (desk_of self.now).geography)) }
         ensures room { IfOk result (λ _. HasRoom self.now (rows_of_command (desk_of self.now) command.now)) }
         ensures err { IfErr result (λ refusal. PrepareErr self.now command.now refusal self.now) }
     {

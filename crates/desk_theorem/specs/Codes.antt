@@ -8,5 +8,11 @@ use Rattle.desk_catalogue.specs.Codes.{coded_desk}
 use Rattle.desk_theorem.specs.World.{World}
 
 abbrev pub coded_world : Coded (Desk × World)
-coded_world = coded× coded_desk (code_by (List Command × (ℕ × (ℕ × List ℕ))) (coded× (coded_list command.the_row.coded) (coded× coded_ℕ (coded× coded_ℕ (coded_list coded_ℕ))))
-    (λ w. (w.changes, (w.acknowledged, (w.shown, w.views)))) (λ c. record { changes = c.0; acknowledged = c.1.0; shown = c.1.1.0; views = c.1.1.1 }) (λ _. refl))
+coded_world = coded× coded_desk (code_by (List Command × (ℕ × (ℕ × List ℕ)))
+    (coded× (coded_list command.the_row.coded) (coded× coded_ℕ (coded× coded_ℕ (coded_list coded_ℕ))))
+    (λ w. (w.changes, (w.acknowledged, (w.shown, w.views)))) (λ c. record {
+      changes = c.0;
+      acknowledged = c.1.0;
+      shown = c.1.1.0;
+      views = c.1.1.1;
+    }) (λ _. refl))

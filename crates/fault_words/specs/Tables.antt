@@ -27,10 +27,10 @@ abbrev pub told : Explanation → Words
 told e = record { code = e.code.now; case = e.case.now; means = e.means.now; remedy = e.remedy.now }
 
 -- what a row of a table says
-abbrev pub Row : Type 0
-Row = Bor (List ℕ) × Bor (List ℕ) × Bor (List ℕ) × Bor (List ℕ)
+abbrev pub FaultRow : Type 0
+FaultRow = Bor (List ℕ) × Bor (List ℕ) × Bor (List ℕ) × Bor (List ℕ)
 
-abbrev pub row_words : Row → Words
+abbrev pub row_words : FaultRow → Words
 row_words row = record { code = row.0.now; case = row.1.now; means = row.2.now; remedy = row.3.now }
 
 -- the same of a row as it is written

@@ -1,8 +1,8 @@
 //! Faults of the census files. The words are those of docs/FAULTS.md, which `tests/explained` holds against these.
-use crate::explanation::Row;
+use crate::explanation::FaultRow;
 
 /// The geographic header.
-pub(crate) static GEO: [Row; 10] = [
+pub(crate) static GEO: [FaultRow; 10] = [
     (
         "G1",
         "",
@@ -66,7 +66,7 @@ pub(crate) static GEO: [Row; 10] = [
 ];
 
 /// The segments.
-pub(crate) static SEGMENT: [Row; 6] = [
+pub(crate) static SEGMENT: [FaultRow; 6] = [
     (
         "S1",
         "",
@@ -106,7 +106,7 @@ pub(crate) static SEGMENT: [Row; 6] = [
 ];
 
 /// The four census files together.
-pub(crate) static JOIN: [Row; 3] = [
+pub(crate) static JOIN: [FaultRow; 3] = [
     (
         "S7",
         "",

@@ -20,10 +20,10 @@ pub struct Explanation {
 }
 
 /// A row of a table: a code, its case, what it means, and what to do.
-pub(crate) type Row = (&'static str, &'static str, &'static str, &'static str);
+pub(crate) type FaultRow = (&'static str, &'static str, &'static str, &'static str);
 
 /// What a row says.
-pub(crate) fn explanation_of(row: &Row) -> Explanation
+pub(crate) fn explanation_of(row: &FaultRow) -> Explanation
     ensures { told result ≡ row_words row.now }
 {
     let (code, case, means, remedy) = *row;
@@ -92,7 +92,7 @@ pub(crate) static PLACES: [FaultPlace; 10] = [
 ];
 
 /// The codes of a place.
-pub(crate) fn table_of(place: FaultPlace) -> &'static [Row]
+pub(crate) fn table_of(place: FaultPlace) -> &'static [FaultRow]
     ensures { map row_words result.now ≡ words_at place }
 {
     match place {

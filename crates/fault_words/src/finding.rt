@@ -6,7 +6,7 @@ ghost use Rattle.fault_words.specs.Lines.{rest_behind, word_to, row_for, place_w
 ghost use Rattle.fault_words.specs.Entries.{entries_among, entries_in, entries_for, stands_among, stands_in, is_known};
 
 use crate::explanation::{
-    Explanation, FaultPlace, PLACES, Reason, Row, case_of, explanation_of, name_of, put_entry,
+    Explanation, FaultPlace, FaultRow, PLACES, Reason, case_of, explanation_of, name_of, put_entry,
     table_of,
 };
 use std::alloc::{AllocError, Global};
@@ -88,7 +88,7 @@ fn before(text: &[u8], first: u8, second: u8) -> &[u8]
 }
 
 /// What the first of these rows says that is of this code in this case.
-fn among(table: &[Row], code: &[u8], case: &str) -> Option<Explanation>
+fn among(table: &[FaultRow], code: &[u8], case: &str) -> Option<Explanation>
     ensures { option_map told result ≡ row_for code.now case.now (map row_words table.now) }
 {
     for row in table {
@@ -136,7 +136,7 @@ pub fn explained(line: &[u8], reason: Option<Reason>) -> Option<Explanation>
 }
 
 /// Whether a table has this code.
-fn stands_in(table: &[Row], code: &str) -> bool
+fn stands_in(table: &[FaultRow], code: &str) -> bool
     ensures { result ≡ stands_among code.now (map row_words table.now) }
 {
     for row in table {
@@ -168,7 +168,12 @@ pub fn is_code(code: &str) -> bool
 }
 
 /// Puts what a table has of a code behind a text.
-fn put_among(text: &mut Vec<u8>, table: &[Row], place: &str, code: &str) -> Result<(), AllocError>
+fn put_among(
+    text: &mut Vec<u8>,
+    table: &[FaultRow],
+    place: &str,
+    code: &str,
+) -> Result<(), AllocError>
     ensures { OnOk result (text.new.items ≡ text.old.items ++ entries_among code.now place.now (map row_words table.now)) }
 {
     for row in table {

@@ -1,8 +1,8 @@
 //! What is answered over HTTP in the place of what was asked. The words are those of docs/FAULTS.md, which `tests/explained` holds against these.
-use crate::explanation::Row;
+use crate::explanation::FaultRow;
 
 /// Of a request's bytes, with the answer's status as the case.
-pub(crate) static BYTES: [Row; 9] = [
+pub(crate) static BYTES: [FaultRow; 9] = [
     (
         "BadHead",
         "400",
@@ -60,7 +60,7 @@ pub(crate) static BYTES: [Row; 9] = [
 ];
 
 /// Of what a request asks, with the answer's status as the case.
-pub(crate) static REQUESTS: [Row; 17] = [
+pub(crate) static REQUESTS: [FaultRow; 17] = [
     (
         "NoRoute",
         "404",

@@ -1,8 +1,8 @@
 //! Faults of every file, of the neighbour file and of plans. The words are those of docs/FAULTS.md, which `tests/explained` holds against these.
-use crate::explanation::Row;
+use crate::explanation::FaultRow;
 
 /// Any file of a state or plan.
-pub(crate) static EVERY_FILE: [Row; 2] = [
+pub(crate) static EVERY_FILE: [FaultRow; 2] = [
     (
         "Unreadable",
         "",
@@ -18,7 +18,7 @@ pub(crate) static EVERY_FILE: [Row; 2] = [
 ];
 
 /// The neighbour file.
-pub(crate) static GAL: [Row; 13] = [
+pub(crate) static GAL: [FaultRow; 13] = [
     (
         "A1",
         "",
@@ -95,7 +95,7 @@ pub(crate) static GAL: [Row; 13] = [
 ];
 
 /// Block assignment files.
-pub(crate) static PLAN: [Row; 6] = [
+pub(crate) static PLAN: [FaultRow; 6] = [
     (
         "TooLarge",
         "",

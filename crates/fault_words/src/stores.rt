@@ -1,8 +1,8 @@
 //! Faults of a store's file, and of a command's streams. The words are those of docs/FAULTS.md, which `tests/explained` holds against these.
-use crate::explanation::Row;
+use crate::explanation::FaultRow;
 
 /// The file of a desk. A device's fault has a case for each reason that is told apart.
-pub(crate) static STORE: [Row; 14] = [
+pub(crate) static STORE: [FaultRow; 14] = [
     (
         "NotFound",
         "",
@@ -90,7 +90,7 @@ pub(crate) static STORE: [Row; 14] = [
 ];
 
 /// Standard streams and sockets.
-pub(crate) static COMMAND: [Row; 5] = [
+pub(crate) static COMMAND: [FaultRow; 5] = [
     (
         "WriteFault",
         "",

@@ -87,6 +87,7 @@ CountsFrom first turns source = source ≡ counted first turns
 
 -- what a turn added to the bytes that were held
 abbrev pub Fills : Option (List ℕ) → Option (List ℕ) → List ℕ → Turn → List ℕ → Type 0
-Fills before after old (turn.Read n) new = (piece : List ℕ) × Consumes before after piece × (new ≡ old ++ piece) × (n ≡ 0 → IsAtEnd after × (piece ≡ []))
+Fills before after old (turn.Read n) new = (piece : List ℕ) × Consumes before after piece
+    × (new ≡ old ++ piece) × (n ≡ 0 → IsAtEnd after × (piece ≡ []))
 Fills before after old turn.Interrupted new = Consumes before after [] × (new ≡ old)
 Fills before after old turn.Failed new = Consumes before after [] × (new ≡ old)

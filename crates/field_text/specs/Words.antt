@@ -51,7 +51,8 @@ pub record IsOneWord (text word : List ℕ) : Type 0 where
 
 -- whatever follows the text, its first word is too long
 abbrev pub BeginsWithLongWord : List ℕ → Type 0
-BeginsWithLongWord text = (more : List ℕ) → (word : List ℕ) × (others : List (List ℕ)) × (words (text ++ more) ≡ word ∷ others) × (word_limit < length word)
+BeginsWithLongWord text = (more : List ℕ) → (word : List ℕ) × (others : List (List ℕ))
+    × (words (text ++ more) ≡ word ∷ others) × (word_limit < length word)
 
 -- the text has separators and then a part that no separator ends, which may be empty and isn't too long for a word
 pub record IsBrokenWord (text : List ℕ) : Type 0 where

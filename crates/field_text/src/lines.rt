@@ -95,7 +95,8 @@ impl<'t> Lines<'t> {
     /// The next line. `None` at the end.
     pub fn next_line(&mut self) -> Option<Line<'t>>
         ensures line { MatchOption result ((self.old.left ≡ []) × (self.new.left ≡ [])) (λ line. self.old.left ≡ line.bytes.now ∷ self.new.left) }
-        ensures number { MatchOption result (self.new.number ≡ self.old.number) (λ line. (line.number ≡ self.old.number + 1) × (self.new.number ≡ line.number)) }
+        ensures number { MatchOption result (self.new.number ≡ self.old.number)
+            (λ line. (line.number ≡ self.old.number + 1) × (self.new.number ≡ line.number)) }
     {
         let Some((bytes, rest)) = first_line(self.rest) else {
             return None;

@@ -1,5 +1,6 @@
 //! The lines of a reader, one at a time, however its bytes are cut; or the words behind them.
-ghost use Rattle.std.specs.Prelude.{◌≡◌, ◌+◌, ◌-◌, ◌<◌, ◌≤◌, ◌^◌, ◌++◌, ℕ, List, [], true, false, Ok, Err, IfOk, MatchBool, length, take, drop, vec_len, min, nat_lt};
+ghost use Rattle.std.specs.Prelude.{◌≡◌, ◌+◌, ◌-◌, ◌<◌, ◌≤◌, ◌^◌, ◌++◌, ℕ, List, [], true, false, Ok, Err};
+ghost use Rattle.std.specs.Prelude.{IfOk, MatchBool, length, take, drop, vec_len, min, nat_lt};
 ghost use Rattle.byte_stream.specs.Counts.{counted};
 ghost use Rattle.std.specs.List.{slice_range};
 ghost use Rattle.std.specs.Str.Lines.{strip_carriage_return};
@@ -169,7 +170,8 @@ impl LineReader {
     /// Takes a whole line out of the bytes at hand.
     fn take_line(&mut self) -> bool
         ensures within { self.new.turns ≤ turn_limit }
-        ensures line { MatchBool result (BeginsWithLine self.old.held self.new.line self.new.held) (NoLineFeed self.old.held × (self.new ≡ self.old)) }
+        ensures line { MatchBool result (BeginsWithLine self.old.held self.new.line self.new.held)
+            (NoLineFeed self.old.held × (self.new ≡ self.old)) }
         ensures number { MatchBool result (self.new.number ≡ self.old.number + 1) (self.new.number ≡ self.old.number) }
         ensures turns { self.new.turns ≡ self.old.turns }
         ensures few { self.new.number < 2 ^ 53 }

@@ -130,7 +130,8 @@ Finishes ids p (Err fault.Memory) = ⊤
 Finishes ids p (Err e) = ⊥
 
 -- the bytes that came are these whole words, which the state holds, and the held bytes
-pub record Stands (blocks : List BlockRow) (count : ℕ) (start : List ℕ) (old left : Option (List ℕ)) (held : List ℕ) (number : ℕ) (g : Graph) : Type 0 where
+pub record Stands (blocks : List BlockRow) (count : ℕ) (start : List ℕ)
+    (old left : Option (List ℕ)) (held : List ℕ) (number : ℕ) (g : Graph) : Type 0 where
   pub came : List ℕ
   pub consumed : Consumes old left came
   pub whole : List (List ℕ)

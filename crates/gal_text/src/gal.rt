@@ -166,7 +166,8 @@ pub fn read<R: Source>(
     blocks: &[BlockRow],
 ) -> Result<Vec<(BlockId, BlockId)>, GalFault>
     requires { AreBlocks blocks.now }
-    ensures read { (text : List ℕ) × Consumes (R.remaining reader.old) (R.remaining reader.new) text × IsRead (ids_of blocks.now) text (R.remaining reader.new) result }
+    ensures read { (text : List ℕ) × Consumes (R.remaining reader.old) (R.remaining reader.new) text
+        × IsRead (ids_of blocks.now) text (R.remaining reader.new) result }
     ensures valid { IfOk result (λ pairs. All (AreDifferentBlocks blocks.now) pairs.items) }
     ensures failures { R.failures reader.new ≡ failures_after_file (R.failures reader.old) result }
     ensures turns { result ≡ Err GalFault.TurnLimit → R.turns reader.new ≡ counted (R.turns reader.old) turn_limit }

@@ -150,7 +150,8 @@ impl Graph {
     ) -> Result<(), UnitRefusal>
         requires rising { IsStrictlyIncreasing (ids_of blocks.now) }
         requires held { IsHeld blocks.now self.old }
-        ensures { (p : Progress) → Holds blocks.now self.old p → Meets blocks.now (word_awaited (ids_of blocks.now) p number word.now Awaited.Block) result self.new }
+        ensures { (p : Progress) → Holds blocks.now self.old p
+            → Meets blocks.now (word_awaited (ids_of blocks.now) p number word.now Awaited.Block) result self.new }
     {
         if self.left == 0 {
             return Err(UnitRefusal::Fault(TextFault::TrailingWord(number)));

@@ -16,9 +16,11 @@ use Rattle.gallery_law.specs.Runs.{standing}
 
 -- A command at a front: one that is accepted is written, acknowledged and shown; one whose commit met a fault may be written; no
 -- other moves anything.
-pub record IsMoved (d : Desk) (old : List Command × List Command) (c : Command) (reply : Reply) (new : List Command × List Command) (heard : List (List Command)) : Type 0 where
+pub record IsMoved (d : Desk) (old : List Command × List Command) (c : Command) (reply : Reply)
+    (new : List Command × List Command) (heard : List (List Command)) : Type 0 where
   pub accepted : IsAcceptance reply → standing new.0 new.1 heard ≡ run d (standing old.0 old.1 heard) (Commit c ∷ Acknowledge ∷ Show ∷ [])
-  pub other : (IsAcceptance reply → ⊥) → (standing new.0 new.1 heard ≡ standing old.0 old.1 heard) ⊎ (standing new.0 new.1 heard ≡ move d (standing old.0 old.1 heard) (Commit c))
+  pub other : (IsAcceptance reply → ⊥) → (standing new.0 new.1 heard ≡ standing old.0 old.1 heard)
+      ⊎ (standing new.0 new.1 heard ≡ move d (standing old.0 old.1 heard) (Commit c))
 
 -- Each call by what its contract says of the lists. Some visitors have heard of these lists, this much is shown, and nothing is
 -- pending where nothing else is said.
@@ -29,10 +31,14 @@ pub record CallsLaw : Type 0 where
   -- its commit returns, and it is shown
   pub show : (d : Desk) (shown : List Command) (heard : List (List Command)) (c : Command)
       → standing (shown ++ c ∷ []) (shown ++ c ∷ []) heard ≡ run d (standing shown (shown ++ c ∷ []) heard) (Acknowledge ∷ Show ∷ [])
-  pub command : (d : Desk) (old : List Command × List Command) (c : Command) (reply : Reply) (new : List Command × List Command) (heard : List (List Command)) → Joins d old c reply new → IsMoved d old c reply new heard
+  pub command : (d : Desk) (old : List Command × List Command) (c : Command) (reply : Reply)
+      (new : List Command × List Command) (heard : List (List Command)) → Joins d old c reply new → IsMoved d old c reply new heard
   -- a visitor is let in where this much is shown, and sees the desk after it
   pub visit : (d : Desk) (shown all : List Command) (heard : List (List Command)) (i : ℕ) (q : Query) → IsPrefix shown all
-      → (standing shown all (slice_set heard i shown) ≡ move d (standing shown all heard) (Visit i q)) × (shown_list (standing shown all heard) ≡ shown)
+      → (standing shown all (slice_set heard i shown) ≡ move d (standing shown all heard) (Visit i q))
+      × (shown_list (standing shown all heard) ≡ shown)
   -- a visitor who has heard of this is told of that, and has heard of the longer one then
-  pub learn : (d : Desk) (shown all : List Command) (heard : List (List Command)) (i : ℕ) (v told new : List Command) → slice_get heard i ≡ Some v → IsPrefix told shown
-      → (new ≡ v) ⊎ (new ≡ told) → IsPrefix v new → IsPrefix told new → standing shown all (slice_set heard i new) ≡ move d (standing shown all heard) (Learn i (length told))
+  pub learn : (d : Desk) (shown all : List Command) (heard : List (List Command)) (i : ℕ) (v told new : List Command)
+      → slice_get heard i ≡ Some v → IsPrefix told shown
+      → (new ≡ v) ⊎ (new ≡ told) → IsPrefix v new → IsPrefix told new
+      → standing shown all (slice_set heard i new) ≡ move d (standing shown all heard) (Learn i (length told))

@@ -64,7 +64,8 @@ answers_in i d w (e ∷ es) = answer_at i w e ++ answers_in i d (move d w e) es
 pub record IsRun (d : Desk) (shown all : List Command) (visitors : List (List Heard)) (events : List Event) : Type 0 where
   pub goes : All GoesOn events
   pub leads : run d (beginning (length visitors)) events ≡ standing shown all (map (heard_of []) visitors)
-  pub answered : (i : ℕ) (calls : List Heard) → slice_get visitors i ≡ Some calls → answers_in i d (beginning (length visitors)) events ≡ answers calls
+  pub answered : (i : ℕ) (calls : List Heard) → slice_get visitors i ≡ Some calls
+      → answers_in i d (beginning (length visitors)) events ≡ answers calls
 
 -- no visitor has heard of more than is shown, each by itself
 abbrev pub AreWithin : List Command → List (List Heard) → Type 0
@@ -93,6 +94,7 @@ IsReached d shown all heard = (events : List Event) × All GoesOn events × (run
 
 pub record OfficeLaw : Type 0 where
   -- changes that were accepted one after the other, of which at most the last isn't shown
-  pub runs : (d : Desk) (shown all : List Command) → AreAccepted d all → IsPrefix shown all → length all ≤ length shown + 1 → HasRunsWithin d shown all
+  pub runs : (d : Desk) (shown all : List Command) → AreAccepted d all
+      → IsPrefix shown all → length all ≤ length shown + 1 → HasRunsWithin d shown all
   -- the lists after which a visitor is answered
   pub seen : (i : ℕ) (d : Desk) (w : World) (events : List Event) → map (λ a. a.1) (answers_in i d w events) ≡ seen i d w events

@@ -31,7 +31,8 @@ module _ {D : Type 0} {g : Ghosts D} where
 
   -- each image that a stop now may leave stands for the pages
   abbrev pub IsKept : Journal D g → Type 0
-  IsKept j = (c : Image) → (g.disk j.device).leaves c → Opens j.layout.journal_pages j.layout.pages (pages j.layout.journal_pages (g.disk j.device).reads) c
+  IsKept j = (c : Image) → (g.disk j.device).leaves c
+      → Opens j.layout.journal_pages j.layout.pages (pages j.layout.journal_pages (g.disk j.device).reads) c
 
   -- the sizes stay
   pub record HasShapeOf (old new : Journal D g) : Type 0 where

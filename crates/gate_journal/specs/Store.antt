@@ -11,11 +11,13 @@ use Rattle.sector_device.specs.Disk.{Disk, Image, IsSynced}
 
 -- the number in the k-th four bytes of a sector
 abbrev pub word : List ℕ → ℕ → ℕ
-word sector k = from_be_bytes w32 (get_or sector (4 * k) 0 ∷ get_or sector (4 * k + 1) 0 ∷ get_or sector (4 * k + 2) 0 ∷ get_or sector (4 * k + 3) 0 ∷ [])
+word sector k = from_be_bytes w32 (get_or sector (4 * k) 0 ∷ get_or sector (4 * k + 1) 0
+    ∷ get_or sector (4 * k + 2) 0 ∷ get_or sector (4 * k + 3) 0 ∷ [])
 
 -- the sector with a number in its k-th four bytes
 abbrev pub put_word : List ℕ → ℕ → ℕ → List ℕ
-put_word sector k n = set (set (set (set sector (4 * k) (get_or (to_be_bytes w32 n) 0 0)) (4 * k + 1) (get_or (to_be_bytes w32 n) 1 0)) (4 * k + 2) (get_or (to_be_bytes w32 n) 2 0)) (4 * k + 3) (get_or (to_be_bytes w32 n) 3 0)
+put_word sector k n = set (set (set (set sector (4 * k) (get_or (to_be_bytes w32 n) 0 0)) (4 * k + 1) (get_or (to_be_bytes w32 n) 1 0))
+    (4 * k + 2) (get_or (to_be_bytes w32 n) 2 0)) (4 * k + 3) (get_or (to_be_bytes w32 n) 3 0)
 
 -- the header of a store of so many pages with J journal pages: PLANDESK, version 1, J, the number of pages, and zeros
 unfoldable pub header_of : ℕ → ℕ → List ℕ

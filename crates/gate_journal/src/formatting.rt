@@ -34,7 +34,8 @@ pub fn format<D: SectorDevice>(device: &mut D, journal_pages: u32) -> Result<Lay
     ensures honest { (D.disk device.new).is_honest → (D.disk device.old).is_honest }
     ensures touches { (D.disk device.new).is_honest → Touches Front (D.disk device.old) (D.disk device.new) }
     ensures formatted { (D.disk device.new).is_honest → IfOk result (λ layout. IsFormatted layout (D.disk device.new)) }
-    ensures layout { IfOk result (λ layout. (layout.journal_pages ≡ journal_pages) × HasRoom (D.disk device.old).sectors layout.journal_pages layout.pages) }
+    ensures layout { IfOk result (λ layout. (layout.journal_pages ≡ journal_pages)
+        × HasRoom (D.disk device.old).sectors layout.journal_pages layout.pages) }
     ensures passed { (D.disk device.new).is_honest → OnOk result ((D.disk device.new).faults ≡ (D.disk device.old).faults) }
     ensures ok { OnOk result (home journal_pages + 64 ≤ (D.disk device.old).sectors) }
     ensures err { IfErr result (λ e. FormatErr D.SectorDevice journal_pages device.old device.new e) }
@@ -66,7 +67,8 @@ pub fn commit_on<D: SectorDevice>(
     requires within { IsWithin (writes_of writes.now) layout.pages }
     requires settled { (D.disk device.old).is_honest → IsSettled layout.journal_pages layout.pages (D.disk device.old) }
     ensures sectors { (D.disk device.new).sectors ≡ (D.disk device.old).sectors }
-    ensures model { (D.disk device.new).is_honest → Commits layout.journal_pages layout.pages (writes_of writes.now) (D.disk device.old) (D.disk device.new) result }
+    ensures model { (D.disk device.new).is_honest → Commits layout.journal_pages layout.pages
+        (writes_of writes.now) (D.disk device.old) (D.disk device.new) result }
 {
     write_through(device, layout, &writes.list)
 }

@@ -29,7 +29,8 @@ impl<D: SectorDevice> Journal<D> {
     ghost use Rattle.gate_journal.specs.Store.{IsWithin, overlay};
     ghost use Rattle.gate_journal.specs.Recovery.{HasRoom, AllStores, ReadsAs, Found};
     ghost use Rattle.gate_journal.specs.Writes.{writes_of};
-    ghost use Rattle.gate_journal.specs.Contents.{content, disk_of, device_of, device_after, page_count, journal_size, is_halted, IsKept, HasShapeOf, ReadErr, CommitErr};
+    ghost use Rattle.gate_journal.specs.Contents.{content, disk_of, device_of, device_after, page_count};
+    ghost use Rattle.gate_journal.specs.Contents.{journal_size, is_halted, IsKept, HasShapeOf, ReadErr, CommitErr};
     ghost use Rattle.gate_journal.specs.Outcomes.{LeavesAllOrNone, IsCommittedWithoutFault};
 
     /// Opens the store that a device holds. What a commit left behind an open gate is brought home first. With a refusal
@@ -37,7 +38,8 @@ impl<D: SectorDevice> Journal<D> {
     pub fn open(device: D) -> Result<Journal<D>, (JournalError, D)>
         ensures sectors { (D.disk (device_after result)).sectors ≡ (D.disk device).sectors }
         ensures honest { (D.disk (device_after result)).is_honest → (D.disk device).is_honest }
-        ensures any_moment { (D.disk (device_after result)).is_honest → AllStores (D.disk device) → LeavesOnly (ReadsAs (D.disk device)) (D.disk device) (D.disk (device_after result)) }
+        ensures any_moment { (D.disk (device_after result)).is_honest → AllStores (D.disk device)
+            → LeavesOnly (ReadsAs (D.disk device)) (D.disk device) (D.disk (device_after result)) }
         ensures working { IfOk result (λ j. is_halted j ≡ false) }
         ensures room { IfOk result (λ j. HasRoom (D.disk device).sectors (journal_size j) (page_count j)) }
         ensures found { IfOk result (λ j. (disk_of j).is_honest → Found (journal_size j) (page_count j) (D.disk device) (disk_of j)) }
@@ -122,7 +124,8 @@ impl<D: SectorDevice> Journal<D> {
         ensures any_moment { LeavesAllOrNone (writes_of writes.now) self.old self.new }
         ensures after { (disk_of self.new).is_honest → OnOk result (content self.new ≡ overlay (writes_of writes.now) (content self.old)) }
         ensures kept { (disk_of self.new).is_honest → OnOk result (IsKept self.new) }
-        ensures ok { OnOk result ((is_halted self.old ≡ false) × (length (writes_of writes.now) ≤ journal_size self.old) × (is_halted self.new ≡ false)) }
+        ensures ok { OnOk result ((is_halted self.old ≡ false)
+            × (length (writes_of writes.now) ≤ journal_size self.old) × (is_halted self.new ≡ false)) }
         ensures succeeds { IsCommittedWithoutFault (writes_of writes.now) self.old self.new result }
         ensures passed { (disk_of self.new).is_honest → OnOk result ((disk_of self.new).faults ≡ (disk_of self.old).faults) }
         ensures err { IfErr result (λ e. CommitErr (length (writes_of writes.now)) self.old self.new e) }

@@ -22,7 +22,8 @@ pub const LEAST_PAGES: u32 = 64;
 /// The layout that the header names, if it is that of a store with this number of sectors.
 fn find_layout<D: SectorDevice>(device: &mut D) -> Result<Option<Layout>, DeviceFault>
     ensures sectors { (D.disk device.new).sectors ≡ (D.disk device.old).sectors }
-    ensures model { (D.disk device.new).is_honest → Touches Nowhere (D.disk device.old) (D.disk device.new) × HasCause (D.disk device.old) (D.disk device.new) result }
+    ensures model { (D.disk device.new).is_honest → Touches Nowhere (D.disk device.old) (D.disk device.new)
+        × HasCause (D.disk device.old) (D.disk device.new) result }
     ensures room { IfOk result (λ found. IfSome found (λ layout. HasRoom (D.disk device.old).sectors layout.journal_pages layout.pages)) }
     ensures layout { FindsLayout (D.disk device.old) (D.disk device.new) result }
 {

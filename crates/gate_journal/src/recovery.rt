@@ -15,7 +15,8 @@ use sector_device::{DeviceFault, SectorDevice};
 pub fn list_entry<D: SectorDevice>(device: &mut D, k: u32) -> Result<u32, DeviceFault>
     requires { 2 + k / 1024 < (D.disk device.old).sectors }
     ensures sectors { (D.disk device.new).sectors ≡ (D.disk device.old).sectors }
-    ensures model { (D.disk device.new).is_honest → Touches Nowhere (D.disk device.old) (D.disk device.new) × HasCause (D.disk device.old) (D.disk device.new) result }
+    ensures model { (D.disk device.new).is_honest → Touches Nowhere (D.disk device.old) (D.disk device.new)
+        × HasCause (D.disk device.old) (D.disk device.new) result }
     ensures entry { (D.disk device.new).is_honest → IfOk result (λ n. n ≡ list_word (D.disk device.old).reads k) }
 {
     let mut sector = [0; 4096];
@@ -49,7 +50,8 @@ pub fn list_fits<D: SectorDevice>(
     requires limit { layout.journal_pages ≤ 65536 }
     requires room { home layout.journal_pages ≤ (D.disk device.old).sectors }
     ensures sectors { (D.disk device.new).sectors ≡ (D.disk device.old).sectors }
-    ensures model { (D.disk device.new).is_honest → Touches Nowhere (D.disk device.old) (D.disk device.new) × HasCause (D.disk device.old) (D.disk device.new) result }
+    ensures model { (D.disk device.new).is_honest → Touches Nowhere (D.disk device.old) (D.disk device.new)
+        × HasCause (D.disk device.old) (D.disk device.new) result }
     ensures fits { TellsWhetherNamed count layout.pages (D.disk device.old) (D.disk device.new) result }
 {
     let mut sector = [0; 4096];
@@ -67,7 +69,8 @@ fn copy_sector<D: SectorDevice>(device: &mut D, from: u32, to: u32) -> Result<()
     requires from { from < (D.disk device.old).sectors }
     requires to { to < (D.disk device.old).sectors }
     ensures sectors { (D.disk device.new).sectors ≡ (D.disk device.old).sectors }
-    ensures model { (D.disk device.new).is_honest → Step (Only to) (Copied from to (D.disk device.old)) (D.disk device.old) (D.disk device.new) result }
+    ensures model { (D.disk device.new).is_honest → Step (Only to)
+        (Copied from to (D.disk device.old)) (D.disk device.old) (D.disk device.new) result }
 {
     let mut sector = [0; 4096];
     device.read(from, &mut sector)?;

@@ -17,7 +17,8 @@ pub fn write_copies<D: SectorDevice>(
 ) -> Result<(), DeviceFault>
     requires { first + length writes.now ≤ (D.disk device.old).sectors }
     ensures sectors { (D.disk device.new).sectors ≡ (D.disk device.old).sectors }
-    ensures model { (D.disk device.new).is_honest → Step (Span first (length writes.now)) (HasCopies first writes.now (length writes.now)) (D.disk device.old) (D.disk device.new) result }
+    ensures model { (D.disk device.new).is_honest → Step (Span first (length writes.now))
+        (HasCopies first writes.now (length writes.now)) (D.disk device.old) (D.disk device.new) result }
 {
     for (k, write) in writes.iter().enumerate() {
         device.write(first + k as u32, &write.1)?;
@@ -33,7 +34,8 @@ pub fn write_homes<D: SectorDevice>(
 ) -> Result<(), DeviceFault>
     requires { (k : ℕ) → k < length writes.now → home + (slice_index_or writes.now k (0, [])).0 < (D.disk device.old).sectors }
     ensures sectors { (D.disk device.new).sectors ≡ (D.disk device.old).sectors }
-    ensures model { (D.disk device.new).is_honest → Step (Homes home writes.now) (HasHomes home writes.now (D.disk device.old)) (D.disk device.old) (D.disk device.new) result }
+    ensures model { (D.disk device.new).is_honest → Step (Homes home writes.now)
+        (HasHomes home writes.now (D.disk device.old)) (D.disk device.old) (D.disk device.new) result }
 {
     for (k, write) in writes.iter().enumerate() {
         device.write(home + write.0, &write.1)?;
@@ -49,7 +51,8 @@ pub fn bring_home<D: SectorDevice>(
 ) -> Result<(), DeviceFault>
     requires { (k : ℕ) → k < length writes.now → home + (slice_index_or writes.now k (0, [])).0 < (D.disk device.old).sectors }
     ensures sectors { (D.disk device.new).sectors ≡ (D.disk device.old).sectors }
-    ensures model { (D.disk device.new).is_honest → Step (Homes home writes.now) (IsHome home writes.now (D.disk device.old)) (D.disk device.old) (D.disk device.new) result }
+    ensures model { (D.disk device.new).is_honest → Step (Homes home writes.now)
+        (IsHome home writes.now (D.disk device.old)) (D.disk device.old) (D.disk device.new) result }
 {
     write_homes(device, home, writes)?;
     device.sync()
@@ -75,7 +78,8 @@ pub fn write_list<D: SectorDevice>(
     requires few { length writes.now < 2 ^ 32 }
     requires room { 2 + length writes.now / 1024 < (D.disk device.old).sectors }
     ensures sectors { (D.disk device.new).sectors ≡ (D.disk device.old).sectors }
-    ensures model { (D.disk device.new).is_honest → Step (Span 2 (length writes.now / 1024 + 1)) (HasList writes.now (length writes.now + 1)) (D.disk device.old) (D.disk device.new) result }
+    ensures model { (D.disk device.new).is_honest → Step (Span 2 (length writes.now / 1024 + 1))
+        (HasList writes.now (length writes.now + 1)) (D.disk device.old) (D.disk device.new) result }
 {
     for s in 0..writes.len() / 1024 + 1 {
         let mut sector = [0; 4096];
@@ -94,7 +98,8 @@ pub fn stage<D: SectorDevice>(
     requires few { length writes.now ≤ journal_pages }
     requires room { home journal_pages ≤ (D.disk device.old).sectors }
     ensures sectors { (D.disk device.new).sectors ≡ (D.disk device.old).sectors }
-    ensures model { (D.disk device.new).is_honest → Step (Staging journal_pages) (IsStaged journal_pages writes.now) (D.disk device.old) (D.disk device.new) result }
+    ensures model { (D.disk device.new).is_honest → Step (Staging journal_pages)
+        (IsStaged journal_pages writes.now) (D.disk device.old) (D.disk device.new) result }
 {
     device.sync()?;
     write_list(device, writes)?;
@@ -113,7 +118,8 @@ pub fn write_through<D: SectorDevice>(
     requires within { IsWithin writes.now layout.pages }
     requires settled { (D.disk device.old).is_honest → IsSettled layout.journal_pages layout.pages (D.disk device.old) }
     ensures sectors { (D.disk device.new).sectors ≡ (D.disk device.old).sectors }
-    ensures model { (D.disk device.new).is_honest → Commits layout.journal_pages layout.pages writes.now (D.disk device.old) (D.disk device.new) result }
+    ensures model { (D.disk device.new).is_honest → Commits layout.journal_pages layout.pages writes.now
+        (D.disk device.old) (D.disk device.new) result }
 {
     stage(device, layout.journal_pages, writes)?;
     set_gate(device, OPEN)?;

@@ -27,7 +27,8 @@ fn is_among(numbers: &[u32], page: u32) -> bool
 
 /// The place of a page's number.
 fn find(numbers: &[u32], page: u32) -> Option<usize>
-    ensures { MatchOption result ((j : ℕ) → j < length numbers.now → slice_index_or numbers.now j 0 ≢ page) (λ k. (k < length numbers.now) × (slice_index_or numbers.now k 0 ≡ page)) }
+    ensures { MatchOption result ((j : ℕ) → j < length numbers.now
+        → slice_index_or numbers.now j 0 ≢ page) (λ k. (k < length numbers.now) × (slice_index_or numbers.now k 0 ≡ page)) }
 {
     if !is_among(numbers, page) {
         return None;
@@ -129,7 +130,8 @@ impl PageWrites {
 
     /// Gives a page its bytes: in place where it is written, and else as a further write.
     pub fn put(&mut self, page: u32, bytes: &[u8; 4096]) -> Result<(), AllocError>
-        ensures written { OnOk result ((P : Image) (p : ℕ) → overlay (writes_of self.new) P p ≡ put (page, bytes.now) (overlay (writes_of self.old) P) p) }
+        ensures written { OnOk result ((P : Image) (p : ℕ)
+            → overlay (writes_of self.new) P p ≡ put (page, bytes.now) (overlay (writes_of self.old) P) p) }
         ensures within { OnOk result ((n : ℕ) → page < n → IsWithin (writes_of self.old) n → IsWithin (writes_of self.new) n) }
         ensures more { OnOk result (length (writes_of self.new) ≤ length (writes_of self.old) + 1) }
         ensures again { OnOk result (Writes (writes_of self.old) page → length (writes_of self.new) ≡ length (writes_of self.old)) }

@@ -22,7 +22,8 @@ pub record LoadBegins (m : KeyMap) (next : Counters) : Type 0 where
   pub mark : Has (put_rows m (begun_rows next)) (begun next.load) []
   pub next_is : IsNext (put_rows m (begun_rows next)) (load_taken next)
   pub unsealed : Lacks m seal → Lacks (put_rows m (begun_rows next)) seal
-  pub staged : (g : Ground) → ((place : ℕ) → place < 2 ^ 32 → Lacks m (block next.load place)) → ((place : ℕ) → place < 2 ^ 32 → Lacks m (pair next.load place)) → IsStaged (put_rows m (begun_rows next)) next.load g 0
+  pub staged : (g : Ground) → ((place : ℕ) → place < 2 ^ 32 → Lacks m (block next.load place))
+      → ((place : ℕ) → place < 2 ^ 32 → Lacks m (pair next.load place)) → IsStaged (put_rows m (begun_rows next)) next.load g 0
 
 abbrev pub LoadsBegin : Type 0
 LoadsBegin = (m : KeyMap) (next : Counters) → LoadBegins m next
@@ -45,4 +46,5 @@ pub record LoadIsSealed (m : KeyMap) (load : ℕ) (g : Ground) : Type 0 where
   pub next_is : (next : Counters) → IsNext m next → IsNext (sealed_rows load g m) next
 
 abbrev pub LoadsAreSealed : Type 0
-LoadsAreSealed = (m : KeyMap) (load : ℕ) (g : Ground) → IsStaged m load g (geography_rows g) → IsGround g → load < 2 ^ 64 → length g.pairs < 2 ^ 32 → LoadIsSealed m load g
+LoadsAreSealed = (m : KeyMap) (load : ℕ) (g : Ground) → IsStaged m load g (geography_rows g)
+    → IsGround g → load < 2 ^ 64 → length g.pairs < 2 ^ 32 → LoadIsSealed m load g

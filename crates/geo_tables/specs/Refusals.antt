@@ -40,7 +40,8 @@ module _ {D : Type 0} {g : Ghosts D} where
 
   -- the tree had six levels after some of the rows
   abbrev pub IsDeep : (KeyMap → List Row → Type 0) → Pages D g → Pages D g → Type 0
-  IsDeep are old new = (disk_in new).is_honest → (m : KeyMap) → HoldsRows old m → (rows : List Row) × are m rows × ((t : Txn) × HasDeepened rows t old m)
+  IsDeep are old new = (disk_in new).is_honest → (m : KeyMap) → HoldsRows old m
+      → (rows : List Row) × are m rows × ((t : Txn) × HasDeepened rows t old m)
 
   -- no geography is sealed
   abbrev pub IsUnsealed : Pages D g → Pages D g → Type 0
@@ -56,7 +57,8 @@ module _ {D : Type 0} {g : Ghosts D} where
 
   -- why it isn't seen that no geography is sealed
   abbrev pub SealedErr : Pages D g → Pages D g → LoadFault → Type 0
-  SealedErr old new AlreadySealed = Passed old new × ((disk_in new).is_honest → (d : Desk) → InPages old d → (sealed : Ground) × (d.geography ≡ Some sealed))
+  SealedErr old new AlreadySealed = Passed old new
+      × ((disk_in new).is_honest → (d : Desk) → InPages old d → (sealed : Ground) × (d.geography ≡ Some sealed))
   SealedErr old new Full = ⊥
   SealedErr old new Memory = ⊥
   SealedErr old new DeviceFault = HasFailed old new ⊎ ((disk_in new).is_honest → (d : Desk) → InPages old d → ⊥)
@@ -64,8 +66,10 @@ module _ {D : Type 0} {g : Ghosts D} where
 
   -- why no load is begun
   abbrev pub BeginErr : Ground → Pages D g → Pages D g → LoadFault → Type 0
-  BeginErr area old new AlreadySealed = Passed old new × ((disk_in new).is_honest → (d : Desk) → InPages old d → (sealed : Ground) × (d.geography ≡ Some sealed))
-  BeginErr area old new Full = IsQuiet old new × IsUnsealed old new × (IsShort 2 old new ⊎ (IsSpent old new ⊎ (IsDeep AreBegun old new ⊎ (2 ^ 32 ≤ length area.pairs))))
+  BeginErr area old new AlreadySealed = Passed old new
+      × ((disk_in new).is_honest → (d : Desk) → InPages old d → (sealed : Ground) × (d.geography ≡ Some sealed))
+  BeginErr area old new Full = IsQuiet old new × IsUnsealed old new
+      × (IsShort 2 old new ⊎ (IsSpent old new ⊎ (IsDeep AreBegun old new ⊎ (2 ^ 32 ≤ length area.pairs))))
   BeginErr area old new Memory = IsQuiet old new × IsUnsealed old new × HasRoom 2 old new
   BeginErr area old new DeviceFault = HasFailed old new ⊎ ((disk_in new).is_honest → (d : Desk) → InPages old d → ⊥)
   BeginErr area old new Halted = (has_halted old ≡ true) × IsSame old new
@@ -73,9 +77,11 @@ module _ {D : Type 0} {g : Ghosts D} where
   -- why so many rows of a load are not staged
   abbrev pub BatchErr : Load → ℕ → Pages D g → Pages D g → LoadFault → Type 0
   BatchErr load rows old new AlreadySealed = ⊥
-  BatchErr load rows old new Full = IsQuiet old new × (IsShort (rows + 1) old new ⊎ IsDeep (λ m all. all ≡ staged_rows (number_of load) (ground_of load) (done_of load) rows) old new)
+  BatchErr load rows old new Full = IsQuiet old new
+      × (IsShort (rows + 1) old new ⊎ IsDeep (λ m all. all ≡ staged_rows (number_of load) (ground_of load) (done_of load) rows) old new)
   BatchErr load rows old new Memory = IsQuiet old new × HasRoom (rows + 1) old new
-  BatchErr load rows old new DeviceFault = HasRoom (rows + 1) old new × (HasFailed old new ⊎ ((disk_in new).is_honest → (d : Desk) → HoldsLoad old d load → ⊥))
+  BatchErr load rows old new DeviceFault = HasRoom (rows + 1) old new
+      × (HasFailed old new ⊎ ((disk_in new).is_honest → (d : Desk) → HoldsLoad old d load → ⊥))
   BatchErr load rows old new Halted = (has_halted old ≡ true) × IsSame old new
 
   -- why a load is not sealed

@@ -31,7 +31,8 @@ fn stage<D: SectorDevice>(
     ensures shape { HasShape pages.old pages.new }
     ensures honest { (disk_in pages.new).is_honest → (disk_in pages.old).is_honest }
     ensures any_moment { StopsLeave (λ d. HoldsLoad pages.old d load.now) OpensDesk pages.old pages.new }
-    ensures staged { (disk_in pages.new).is_honest → (d : Desk) → HoldsLoad pages.old d load.now → OnOk result (HoldsFurther pages.new d load.now rows) }
+    ensures staged { (disk_in pages.new).is_honest → (d : Desk) → HoldsLoad pages.old d load.now
+        → OnOk result (HoldsFurther pages.new d load.now rows) }
     ensures kept { (disk_in pages.new).is_honest → OnOk result (IsKept pages.new) }
     ensures passed { (disk_in pages.new).is_honest → OnOk result ((disk_in pages.new).faults ≡ (disk_in pages.old).faults) }
     ensures ok { OnOk result ((has_halted pages.old ≡ false) × (has_halted pages.new ≡ false)) }

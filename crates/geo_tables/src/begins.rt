@@ -59,7 +59,8 @@ fn begin_next<D: SectorDevice>(mut txn: Txn, pages: &mut Pages<D>) -> Result<u64
     ensures honest { (disk_in pages.new).is_honest → (disk_in pages.old).is_honest }
     ensures any_moment { StopsLeaveAtWork (InPages pages.old) OpensDesk pages.old pages.new }
     ensures begun { (disk_in pages.new).is_honest → (d : Desk) → InPages pages.old d → IfOk result (λ number. HoldsNew pages.new d number) }
-    ensures number { (disk_in pages.new).is_honest → (m : KeyMap) → HoldsRows pages.old m → IfOk result (λ number. (next : Counters) × IsNext m next × (number ≡ next.load)) }
+    ensures number { (disk_in pages.new).is_honest → (m : KeyMap) → HoldsRows pages.old m
+        → IfOk result (λ number. (next : Counters) × IsNext m next × (number ≡ next.load)) }
     ensures kept { (disk_in pages.new).is_honest → OnOk result (IsKept pages.new) }
     ensures passed { (disk_in pages.new).is_honest → OnOk result ((disk_in pages.new).faults ≡ (disk_in pages.old).faults) }
     ensures ok { OnOk result (has_halted pages.new ≡ false) }
@@ -87,7 +88,8 @@ pub fn begin_load<D: SectorDevice>(
     ensures begun { (disk_in pages.new).is_honest → (d : Desk) → InPages pages.old d → IfOk result (λ load. HoldsLoad pages.new d load) }
     ensures unsealed { (disk_in pages.new).is_honest → (d : Desk) → InPages pages.old d → OnOk result (d.geography ≡ None) }
     ensures load { IfOk result (λ load. (load.geography ≡ geography) × (done_of load ≡ 0)) }
-    ensures number { (disk_in pages.new).is_honest → (m : KeyMap) → HoldsRows pages.old m → IfOk result (λ load. (next : Counters) × IsNext m next × (number_of load ≡ next.load)) }
+    ensures number { (disk_in pages.new).is_honest → (m : KeyMap) → HoldsRows pages.old m
+        → IfOk result (λ load. (next : Counters) × IsNext m next × (number_of load ≡ next.load)) }
     ensures kept { (disk_in pages.new).is_honest → OnOk result (IsKept pages.new) }
     ensures passed { (disk_in pages.new).is_honest → OnOk result ((disk_in pages.new).faults ≡ (disk_in pages.old).faults) }
     ensures ok { OnOk result ((has_halted pages.old ≡ false) × (has_halted pages.new ≡ false)) }

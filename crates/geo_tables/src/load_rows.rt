@@ -48,7 +48,8 @@ pub(crate) fn begin_rows<D: SectorDevice>(
     requires begun { txn_pages txn.old ≡ count_of pages.old }
     ensures quiet { IsQuiet pages.old pages.new }
     ensures begun { txn_pages txn.new ≡ count_of pages.new }
-    ensures begin { IfOk result (λ taken. MatchOption taken (AreSpent txn.old pages.old pages.new) (λ load. HasBegun load txn.old txn.new pages.old pages.new)) }
+    ensures begin { IfOk result (λ taken. MatchOption taken (AreSpent txn.old pages.old pages.new)
+        (λ load. HasBegun load txn.old txn.new pages.old pages.new)) }
     ensures err { IfErr result (λ e. BeginErr txn.old pages.old pages.new e) }
 {
     let next = next_numbers(txn, pages)?;

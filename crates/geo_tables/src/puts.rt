@@ -67,7 +67,8 @@ fn put_place<D: SectorDevice>(
     ensures quiet { IsQuiet pages.old pages.new }
     ensures begun { txn_pages txn.new ≡ count_of pages.new }
     ensures put { PutsRows (staged_row load geography.now place ∷ []) txn.old txn.new pages.old pages.new result }
-    ensures staged { (m : KeyMap) → IsStaged m load geography.now place → IsStaged (put_rows m (staged_row load geography.now place ∷ [])) load geography.now (place + 1) }
+    ensures staged { (m : KeyMap) → IsStaged m load geography.now place
+        → IsStaged (put_rows m (staged_row load geography.now place ∷ [])) load geography.now (place + 1) }
 {
     let blocks = geography.blocks();
     if place < blocks.len() {

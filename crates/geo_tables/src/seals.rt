@@ -27,7 +27,8 @@ fn put_seal<D: SectorDevice>(
     ensures shape { HasShape pages.old pages.new }
     ensures honest { (disk_in pages.new).is_honest → (disk_in pages.old).is_honest }
     ensures any_moment { StopsLeave (λ d. HoldsLoad pages.old d load.now) (OpensOrIsSealed load.now) pages.old pages.new }
-    ensures sealed { (disk_in pages.new).is_honest → (d : Desk) → HoldsLoad pages.old d load.now → OnOk result (InPages pages.new (desk_with (ground_of load.now) d.plans)) }
+    ensures sealed { (disk_in pages.new).is_honest → (d : Desk) → HoldsLoad pages.old d load.now
+        → OnOk result (InPages pages.new (desk_with (ground_of load.now) d.plans)) }
     ensures kept { (disk_in pages.new).is_honest → OnOk result (IsKept pages.new) }
     ensures passed { (disk_in pages.new).is_honest → OnOk result ((disk_in pages.new).faults ≡ (disk_in pages.old).faults) }
     ensures ok { OnOk result ((has_halted pages.old ≡ false) × (has_halted pages.new ≡ false)) }
@@ -51,7 +52,8 @@ pub fn seal<D: SectorDevice>(
     ensures shape { HasShape pages.old pages.new }
     ensures honest { (disk_in pages.new).is_honest → (disk_in pages.old).is_honest }
     ensures any_moment { StopsLeave (λ d. HoldsLoad pages.old d load) (OpensOrIsSealed load) pages.old pages.new }
-    ensures sealed { (disk_in pages.new).is_honest → (d : Desk) → HoldsLoad pages.old d load → OnOk result (InPages pages.new (desk_with (ground_of load) d.plans)) }
+    ensures sealed { (disk_in pages.new).is_honest → (d : Desk) → HoldsLoad pages.old d load
+        → OnOk result (InPages pages.new (desk_with (ground_of load) d.plans)) }
     ensures back { IfErr result (λ e. e.1 ≡ load) }
     ensures kept { (disk_in pages.new).is_honest → OnOk result (IsKept pages.new) }
     ensures passed { (disk_in pages.new).is_honest → OnOk result ((disk_in pages.new).faults ≡ (disk_in pages.old).faults) }

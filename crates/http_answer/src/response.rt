@@ -1,9 +1,11 @@
 //! Answers to bytes (RFC 9112, section 4).
-ghost use Rattle.std.specs.Prelude.{◌≡◌, ℕ, ◌+◌, ◌<◌, ◌≤◌, List, [], ◌++◌, length, true, Option, option_map, vec_len, vec_capacity, decimal, IfOk, codes};
+ghost use Rattle.std.specs.Prelude.{◌≡◌, ℕ, ◌+◌, ◌<◌, ◌≤◌, List, [], ◌++◌, length, true, Option};
+ghost use Rattle.std.specs.Prelude.{option_map, vec_len, vec_capacity, decimal, IfOk, codes};
 ghost use Rattle.byte_stream.specs.Sends.{Sends, failures_with};
 ghost use Rattle.http_answer.specs.Queue.{Queues};
 ghost use Rattle.http_answer.specs.Phrases.{phrase_of};
-ghost use Rattle.http_answer.specs.Answer.{status_line, type_line, start_text, behind_line, close_line, line_end, head_text, response_text, sent_body, allowed, allowed_len};
+ghost use Rattle.http_answer.specs.Answer.{status_line, type_line, start_text, behind_line, close_line, line_end};
+ghost use Rattle.http_answer.specs.Answer.{head_text, response_text, sent_body, allowed, allowed_len};
 
 use crate::gather::GatherSink;
 use byte_stream::sink::{Sink, WriteFault};
@@ -92,7 +94,8 @@ impl Outbox {
     fn put_answer(&mut self, response: &Response<'_>, body: &[u8])
         requires room { length self.old + 500 + length body.now ≤ 16384 }
         requires short { allowed_len (allowed response.now) ≤ 64 }
-        ensures { self.new ≡ self.old ++ (head_text response.now.status response.now.kind (allowed response.now) response.now.closes (length response.now.body.now) ++ body.now) }
+        ensures { self.new ≡ self.old ++ (head_text response.now.status response.now.kind
+            (allowed response.now) response.now.closes (length response.now.body.now) ++ body.now) }
     {
         put_head(&mut self.bytes, response);
         put(&mut self.bytes, body);
@@ -249,7 +252,8 @@ fn put_end(bytes: &mut Vec<u8>, closes: bool)
 fn put_head(bytes: &mut Vec<u8>, response: &Response<'_>)
     requires room { vec_len bytes.old + 500 ≤ vec_capacity bytes.old }
     requires short { allowed_len (allowed response.now) ≤ 64 }
-    ensures items { bytes.new.items ≡ bytes.old.items ++ head_text response.now.status response.now.kind (allowed response.now) response.now.closes (length response.now.body.now) }
+    ensures items { bytes.new.items ≡ bytes.old.items
+        ++ head_text response.now.status response.now.kind (allowed response.now) response.now.closes (length response.now.body.now) }
     ensures len { vec_len bytes.new ≤ vec_len bytes.old + 500 }
     ensures room { vec_capacity bytes.old ≤ vec_capacity bytes.new }
 {

@@ -5,7 +5,8 @@ use Rattle.serde_json.specs.View.{items_of}
 use Rattle.serde_json.specs.Written.{compact_text}
 use Rattle.desk_model.specs.declared.reply.PlanLine.{PlanLine}
 use Rattle.desk_model.specs.declared.reply.Refusal.{Refusal}
-use Rattle.desk_model.specs.declared.reply.Refusal.TheVariants.{NoPlan, NoRevision, PlanExists, Stale, BadBody, NotWholeCounty, BadCompanion, Limit, Full, Memory, Halted, NotSealed}
+use Rattle.desk_model.specs.declared.reply.Refusal.TheVariants.{NoPlan, NoRevision, PlanExists, Stale, BadBody, NotWholeCounty}
+use Rattle.desk_model.specs.declared.reply.Refusal.TheVariants.{BadCompanion, Limit, Full, Memory, Halted, NotSealed}
 use Rattle.desk_model.specs.Baf.{fault_code, padded_decimal}
 use Rattle.desk_model.specs.Kind.{kind_name}
 

@@ -90,11 +90,15 @@ NextCame input (Err request.Write) rest interim = CutsNext input interim
 
 -- What waited is sent, and then a turn is taken, where nothing had come: at the end it brings nothing
 abbrev pub Turned : (unread left before after : Option (List ℕ)) → (waiting : List ℕ) → Result Bool StreamFault → (inbox pending : List ℕ) → Type 0
-Turned unread left before after waiting (Ok true) inbox pending = Consumes unread left [] × IsAtEnd left × Appends before after waiting × (inbox ≡ []) × (pending ≡ [])
+Turned unread left before after waiting (Ok true) inbox pending = Consumes unread left []
+    × IsAtEnd left × Appends before after waiting × (inbox ≡ []) × (pending ≡ [])
 Turned unread left before after waiting (Ok false) inbox pending = Consumes unread left inbox × Appends before after waiting × (pending ≡ [])
-Turned unread left before after waiting (Err fault.Read) inbox pending = Consumes unread left [] × Appends before after waiting × (inbox ≡ []) × (pending ≡ [])
-Turned unread left before after waiting (Err fault.TurnLimit) inbox pending = Consumes unread left [] × Appends before after waiting × (inbox ≡ []) × (pending ≡ [])
-Turned unread left before after waiting (Err fault.Write) inbox pending = Consumes unread left [] × (front : List ℕ) × (rest : List ℕ) × (waiting ≡ front ++ rest) × Appends before after front
+Turned unread left before after waiting (Err fault.Read) inbox pending = Consumes unread left []
+    × Appends before after waiting × (inbox ≡ []) × (pending ≡ [])
+Turned unread left before after waiting (Err fault.TurnLimit) inbox pending = Consumes unread left []
+    × Appends before after waiting × (inbox ≡ []) × (pending ≡ [])
+Turned unread left before after waiting (Err fault.Write) inbox pending = Consumes unread left []
+    × (front : List ℕ) × (rest : List ℕ) × (waiting ≡ front ++ rest) × Appends before after front
 Turned unread left before after waiting (Err fault.Memory) inbox pending = ⊥
 
 module _ {X : Type 0} (commands : X → Command → Reply → X → Type 0) (asks : X → Query → Reply → X → Type 0) where
@@ -122,7 +126,8 @@ module _ {X : Type 0} (commands : X → Command → Reply → X → Type 0) (ask
     pub read : input ≡ taken ++ rest
     pub cut : IsCutHead rest
     pub count : ℕ
-    pub on : (later more : List ℕ) (n : ℕ) (shut : Bool) (z : X) → Talk commands asks y later more n shut z → Talk commands asks x (taken ++ later) (answers ++ more) (count + n) shut z
+    pub on : (later more : List ℕ) (n : ℕ) (shut : Bool) (z : X) → Talk commands asks y later more n shut z
+        → Talk commands asks x (taken ++ later) (answers ++ more) (count + n) shut z
 
   -- reading was cut short: a talk over what was read, or over all of it but the beginning of a head
   abbrev pub IsShortTalk : X → (input answers : List ℕ) → X → Type 0
@@ -130,7 +135,8 @@ module _ {X : Type 0} (commands : X → Command → Reply → X → Type 0) (ask
 
   -- Ok comes only at the end of the input or after an answer that closes
   abbrev pub ServesTo : X → Result Served StreamFault → Option (List ℕ) → List ℕ → List ℕ → X → Type 0
-  ServesTo x (Ok served) left input output y = (shut : Bool) × Talk commands asks x input output served.requests shut y × (shut ≡ false → IsAtEnd left)
+  ServesTo x (Ok served) left input output y = (shut : Bool)
+      × Talk commands asks x input output served.requests shut y × (shut ≡ false → IsAtEnd left)
   ServesTo x (Err fault.Read) left input output y = IsShortTalk x input output y
   ServesTo x (Err fault.TurnLimit) left input output y = IsShortTalk x input output y
   ServesTo x (Err fault.Write) left input output y = IsCutTalk x input output y
@@ -141,7 +147,8 @@ module _ {X : Type 0} (commands : X → Command → Reply → X → Type 0) (ask
     pub front : List ℕ
     pub read : input ≡ front ++ rest
     pub asked : (later : List ℕ) (c : Command) → Asks later c → Asks (front ++ later) c
-    pub on : (later more : List ℕ) (n : ℕ) (shut : Bool) (z : X) → Talk commands asks y later more n shut z → Talk commands asks x (front ++ later) (output ++ more) (suc n) shut z
+    pub on : (later more : List ℕ) (n : ℕ) (shut : Bool) (z : X) → Talk commands asks y later more n shut z
+        → Talk commands asks x (front ++ later) (output ++ more) (suc n) shut z
 
   abbrev pub Exchanges : X → Result Next StreamFault → Option (List ℕ) → List ℕ → List ℕ → List ℕ → X → Type 0
   Exchanges x (Ok next.Again) left input rest output y = GoesOn x input rest output y

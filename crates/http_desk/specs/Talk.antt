@@ -33,12 +33,16 @@ module _ {X : Type 0} (commands : X → Command → Reply → X → Type 0) (ask
     -- the input ends within a request
     ended : (x : X) (input interim : List ℕ) → IsIncomplete input → Interim input interim → Talk x input interim 0 false x
     -- memory for the request was refused, before it came to the counter
-    starved : (x : X) (input interim : List ℕ) (bare : Bool) → IsStarved input bare → Interim input interim → Talk x input (interim ++ memory_text bare) 1 true x
-    refused : (x : X) (input interim : List ℕ) (f : Fault) (bare : Bool) → HasFault input f bare → Interim input interim → Talk x input (interim ++ bytes_of true bare (fault_message f)) 1 true x
+    starved : (x : X) (input interim : List ℕ) (bare : Bool) → IsStarved input bare
+        → Interim input interim → Talk x input (interim ++ memory_text bare) 1 true x
+    refused : (x : X) (input interim : List ℕ) (f : Fault) (bare : Bool) → HasFault input f bare
+        → Interim input interim → Talk x input (interim ++ bytes_of true bare (fault_message f)) 1 true x
     closed : (x : X) (input : List ℕ) (h : RequestHead) (target body rest text : List ℕ) (y : X) → HasRequest input h target body rest
         → AnswersHead x h target body text true y → Talk x input (continue_text (asks_to_continue h) ++ text) 1 true y
-    went : (x : X) (input : List ℕ) (h : RequestHead) (target body rest text : List ℕ) (y : X) (output : List ℕ) (n : ℕ) (shut : Bool) (z : X) → HasRequest input h target body rest
-        → AnswersHead x h target body text false y → Talk y rest output n shut z → Talk x input ((continue_text (asks_to_continue h) ++ text) ++ output) (suc n) shut z
+    went : (x : X) (input : List ℕ) (h : RequestHead) (target body rest text : List ℕ) (y : X)
+        (output : List ℕ) (n : ℕ) (shut : Bool) (z : X) → HasRequest input h target body rest
+        → AnswersHead x h target body text false y → Talk y rest output n shut z
+        → Talk x input ((continue_text (asks_to_continue h) ++ text) ++ output) (suc n) shut z
 
   -- the order is answered, or memory was wanting before
   abbrev pub Handles : X → Order → (closing bare : Bool) → (text : List ℕ) → (shut : Bool) → X → Type 0

@@ -5,7 +5,10 @@ ghost use Rattle.http_answer.specs.Queue.{Queues};
 ghost use Rattle.http_answer.specs.Answer.{allowed_len};
 ghost use Rattle.http_desk.specs.Bodies.{error_body};
 ghost use Rattle.http_routes.specs.Methods.{methods_text};
-ghost use Rattle.http_desk.specs.Answers.{bytes_of, saying, message_of, closes_after, error_message, error_name as error_name_of, error_status as error_status_of, error_allow as error_allow_of, fault_message, fault_name as fault_name_of, fault_status as fault_status_of, memory_text, refusal_status as refusal_status_of, refusal_closes, MayStarve, Tells};
+ghost use Rattle.http_desk.specs.Answers.{bytes_of, saying, message_of, closes_after, error_message, error_name as error_name_of};
+ghost use Rattle.http_desk.specs.Answers.{error_status as error_status_of, error_allow as error_allow_of, fault_message};
+ghost use Rattle.http_desk.specs.Answers.{fault_name as fault_name_of, fault_status as fault_status_of, memory_text};
+ghost use Rattle.http_desk.specs.Answers.{refusal_status as refusal_status_of, refusal_closes, MayStarve, Tells};
 
 use crate::body::put_plans;
 use crate::short::{SHORT, put_created, put_error, put_refusal, put_retired};
@@ -22,7 +25,7 @@ use std::marker::Model;
 
 /// What an answer tells beside its body.
 #[derive(Clone, Copy, Debug)]
-struct Head {
+struct AnswerHead {
     status: StatusCode,
     kind: ContentType,
     allow: Option<Methods>,
@@ -33,7 +36,7 @@ struct Head {
 /// The answer that is written next, with room for each short body. A long one keeps the memory that it came in.
 #[derive(Drop)]
 pub struct Answer {
-    head: Head,
+    head: AnswerHead,
     is_long: bool,
     short: Vec<u8>,
     long: Vec<u8>,
@@ -157,10 +160,10 @@ fn is_memory(refusal: Refusal) -> bool
 }
 
 /// The head of a JSON answer that allows nothing in particular.
-fn json(status: StatusCode, closes: bool, bare: bool) -> Head
+fn json(status: StatusCode, closes: bool, bare: bool) -> AnswerHead
     ensures { result ≡ record { status = status; kind = ContentType.Json; allow = None; closes = closes; bare = bare } }
 {
-    Head {
+    AnswerHead {
         status,
         kind: ContentType::Json,
         allow: None,
@@ -219,7 +222,7 @@ impl Answer {
         ensures { self.new ≡ bytes_of closes bare (error_message error) }
     {
         put_error(&mut self.short, error_name(error));
-        self.head = Head {
+        self.head = AnswerHead {
             status: error_status(error),
             kind: ContentType::Json,
             allow: error_allow(error),
@@ -241,7 +244,7 @@ impl Answer {
         ensures { self.new ≡ bytes_of closes bare (saying 200 kind body.items) }
     {
         self.long = body;
-        self.head = Head {
+        self.head = AnswerHead {
             status: StatusCode::OK,
             kind,
             allow: None,

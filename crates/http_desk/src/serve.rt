@@ -90,7 +90,8 @@ fn handle<C: Counter>(
     requires routes { router.now ≡ the_routes }
     requires ascii { IsAscii request.target.items }
     requires takes { (c : Command) → order_of_request request.method request.target.items request.body.items ≡ AsCommand c → C.takes counter.old c }
-    ensures { Handles C.commands C.asks counter.old (order_of_request request.method request.target.items request.body.items) request.closes (is_head request.method) answer.new result counter.new }
+    ensures { Handles C.commands C.asks counter.old (order_of_request request.method request.target.items request.body.items)
+        request.closes (is_head request.method) answer.new result counter.new }
 {
     let Request {
         method,
@@ -272,7 +273,8 @@ fn take_turn<R: Source, W: Sink>(
     stream: &mut Stream,
 ) -> Result<bool, StreamFault>
     requires { stream.old.inbox ≡ [] }
-    ensures turned { Turned (R.remaining reader.old) (R.remaining reader.new) (W.contents writer.old) (W.contents writer.new) stream.old.outbox result stream.new.inbox stream.new.outbox }
+    ensures turned { Turned (R.remaining reader.old) (R.remaining reader.new) (W.contents writer.old)
+        (W.contents writer.new) stream.old.outbox result stream.new.inbox stream.new.outbox }
     ensures read_failures { R.failures reader.new ≡ read_failures (R.failures reader.old) result }
     ensures write_failures { W.failures writer.new ≡ write_failures (W.failures writer.old) result }
     ensures turns { Spends stream.old.turns stream.new.turns (R.turns reader.old) (R.turns reader.new) }
@@ -363,7 +365,8 @@ pub fn serve<R: Source, W: GatherSink, C: Counter, G: Gate>(
     gate: &G,
 ) -> Result<Served, StreamFault>
     requires { (x : C) (c : Command) → IsAskedIn (R.remaining reader.old) c → C.takes x c }
-    ensures talks { Serves C.commands C.asks counter.old result counter.new (R.remaining reader.old) (R.remaining reader.new) (W.contents writer.old) (W.contents writer.new) }
+    ensures talks { Serves C.commands C.asks counter.old result counter.new (R.remaining reader.old)
+        (R.remaining reader.new) (W.contents writer.old) (W.contents writer.new) }
     ensures read_failures { R.failures reader.new ≡ read_failures (R.failures reader.old) result }
     ensures write_failures { W.failures writer.new ≡ write_failures (W.failures writer.old) result }
     ensures turn_limit { result ≡ Err StreamFault.TurnLimit → R.turns reader.new ≡ counted (R.turns reader.old) 4294967296 }

@@ -12,7 +12,8 @@ Fills before after old new (Err e) = Consumes before after [] × (new ≡ old)
 
 -- the first filled bytes stay, and k bytes come after them; none is the end
 abbrev pub PieceCame : Option (List ℕ) → Option (List ℕ) → List ℕ → List ℕ → ℕ → Result (Option ℕ) WireFault → Type 0
-PieceCame before after old new filled (Ok (Some k)) = (filled + k ≤ length new) × (take filled new ≡ take filled old) × Consumes before after (take k (drop filled new))
+PieceCame before after old new filled (Ok (Some k)) = (filled + k ≤ length new)
+    × (take filled new ≡ take filled old) × Consumes before after (take k (drop filled new))
 PieceCame before after old new filled (Ok None) = Consumes before after [] × IsAtEnd after
 PieceCame before after old new filled (Err e) = Consumes before after []
 

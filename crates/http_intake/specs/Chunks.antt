@@ -1,11 +1,13 @@
 -- A body in chunks (RFC 9112, section 7.1), over all the bytes behind a head.
 use Rattle.std.specs.Prelude.{◌≡◌, ◌≢◌, ◌⊎◌, ℕ, ◌+◌, ◌<◌, ◌≤◌, List, [], ◌∷◌, ◌++◌, length, take}
-use Rattle.httparse.specs.Grammar.{LineEnd, Field, ReadsSection, HasNoSection, NeverHasSection, MayBecomeSection, print_section, ChunkLine, ReadsChunkLine, HasNoChunkLine, NeverHasChunkLine, MayBecomeChunkLine, print_chunk_line, chunk_size}
+use Rattle.httparse.specs.Grammar.{LineEnd, Field, ReadsSection, HasNoSection, NeverHasSection, MayBecomeSection, print_section, ChunkLine}
+use Rattle.httparse.specs.Grammar.{ReadsChunkLine, HasNoChunkLine, NeverHasChunkLine, MayBecomeChunkLine, print_chunk_line, chunk_size}
 use Rattle.httparse.specs.Spans.{SectionOverflows}
 use Rattle.http_intake.specs.Lines.{section_lines}
 use Rattle.http_intake.specs.Limits.{head_limit, field_limit, body_limit, window}
 use Rattle.http_intake.specs.declared.chunk_fault.Fault.{Fault}
-use Rattle.http_intake.specs.declared.chunk_fault.Fault.TheVariants.{BadHead, HeadTooLarge, BadHost, BadLength, BadCoding, BodyTooLarge, BadTarget, BadChunk}
+use Rattle.http_intake.specs.declared.chunk_fault.Fault.TheVariants.{BadHead, HeadTooLarge, BadHost, BadLength}
+use Rattle.http_intake.specs.declared.chunk_fault.Fault.TheVariants.{BadCoding, BodyTooLarge, BadTarget, BadChunk}
 
 -- a chunk's line has this many bytes at most, its CR LF among them
 abbrev pub line_limit : ℕ
@@ -42,8 +44,10 @@ pub record HasLastLine (input : List ℕ) (l : ChunkLine) (rest : List ℕ) : Ty
 
 -- Behind n bytes of the body, chunks with the rest of it, the last chunk and the trailers stand at the front
 pub data HasChunks : ℕ → List ℕ → List ℕ → List ℕ → Type 0 where
-  last : (n : ℕ) (input : List ℕ) (l : ChunkLine) (behind rest : List ℕ) → HasLastLine input l behind → HasTrailers behind rest → HasChunks n input [] rest
-  chunk : (n : ℕ) (input : List ℕ) (l : ChunkLine) (bytes behind body rest : List ℕ) → HasChunk n input l bytes behind → HasChunks (n + chunk_size l) behind body rest
+  last : (n : ℕ) (input : List ℕ) (l : ChunkLine) (behind rest : List ℕ)
+      → HasLastLine input l behind → HasTrailers behind rest → HasChunks n input [] rest
+  chunk : (n : ℕ) (input : List ℕ) (l : ChunkLine) (bytes behind body rest : List ℕ)
+      → HasChunk n input l bytes behind → HasChunks (n + chunk_size l) behind body rest
       → HasChunks n input (bytes ++ body) rest
 
 -- no line of a chunk can stand at the front: whatever follows, or within its limit
@@ -87,10 +91,14 @@ pub record HasDataLine (n : ℕ) (input : List ℕ) (l : ChunkLine) (rest : List
 -- behind n bytes of the body, the bytes have this fault, whatever follows
 pub data HasChunkFault : ℕ → List ℕ → Fault → Type 0 where
   bad_line : (n : ℕ) (input : List ℕ) → RefusesLine input → HasChunkFault n input BadChunk
-  too_large : (n : ℕ) (input : List ℕ) (l : ChunkLine) (rest : List ℕ) → HasLine input l rest → body_limit < n + chunk_size l → HasChunkFault n input BodyTooLarge
-  bad_end : (n : ℕ) (input : List ℕ) (l : ChunkLine) (bytes behind : List ℕ) → HasDataLine n input l (bytes ++ behind) → length bytes ≡ chunk_size l → IsNoEnd behind → HasChunkFault n input BadChunk
-  bad_trailers : (n : ℕ) (input : List ℕ) (l : ChunkLine) (behind : List ℕ) (f : Fault) → HasLastLine input l behind → RefusesTrailers behind f → HasChunkFault n input f
-  later : (n : ℕ) (input : List ℕ) (l : ChunkLine) (bytes behind : List ℕ) (f : Fault) → HasChunk n input l bytes behind → HasChunkFault (n + chunk_size l) behind f → HasChunkFault n input f
+  too_large : (n : ℕ) (input : List ℕ) (l : ChunkLine) (rest : List ℕ) → HasLine input l rest
+      → body_limit < n + chunk_size l → HasChunkFault n input BodyTooLarge
+  bad_end : (n : ℕ) (input : List ℕ) (l : ChunkLine) (bytes behind : List ℕ) → HasDataLine n input l (bytes ++ behind)
+      → length bytes ≡ chunk_size l → IsNoEnd behind → HasChunkFault n input BadChunk
+  bad_trailers : (n : ℕ) (input : List ℕ) (l : ChunkLine) (behind : List ℕ) (f : Fault)
+      → HasLastLine input l behind → RefusesTrailers behind f → HasChunkFault n input f
+  later : (n : ℕ) (input : List ℕ) (l : ChunkLine) (bytes behind : List ℕ) (f : Fault)
+      → HasChunk n input l bytes behind → HasChunkFault (n + chunk_size l) behind f → HasChunkFault n input f
 
 -- no line yet, and one may still come
 pub record IsOpenLine (input : List ℕ) : Type 0 where
@@ -113,14 +121,17 @@ pub record AreOpenTrailers (input : List ℕ) : Type 0 where
 pub data LacksChunks : ℕ → List ℕ → Type 0 where
   no_line : (n : ℕ) (input : List ℕ) → IsOpenLine input → LacksChunks n input
   no_data : (n : ℕ) (input : List ℕ) (l : ChunkLine) (rest : List ℕ) → HasDataLine n input l rest → length rest < chunk_size l → LacksChunks n input
-  no_end : (n : ℕ) (input : List ℕ) (l : ChunkLine) (bytes behind : List ℕ) → HasDataLine n input l (bytes ++ behind) → length bytes ≡ chunk_size l → IsOpenEnd behind → LacksChunks n input
+  no_end : (n : ℕ) (input : List ℕ) (l : ChunkLine) (bytes behind : List ℕ) → HasDataLine n input l (bytes ++ behind)
+      → length bytes ≡ chunk_size l → IsOpenEnd behind → LacksChunks n input
   no_trailers : (n : ℕ) (input : List ℕ) (l : ChunkLine) (behind : List ℕ) → HasLastLine input l behind → AreOpenTrailers behind → LacksChunks n input
-  later : (n : ℕ) (input : List ℕ) (l : ChunkLine) (bytes behind : List ℕ) → HasChunk n input l bytes behind → LacksChunks (n + chunk_size l) behind → LacksChunks n input
+  later : (n : ℕ) (input : List ℕ) (l : ChunkLine) (bytes behind : List ℕ)
+      → HasChunk n input l bytes behind → LacksChunks (n + chunk_size l) behind → LacksChunks n input
 
 -- behind n bytes of the body, chunks and the last one stand before these bytes, where trailers are looked for
 pub data ReachesTrailers : ℕ → List ℕ → List ℕ → Type 0 where
   last : (n : ℕ) (input : List ℕ) (l : ChunkLine) (behind : List ℕ) → HasLastLine input l behind → ReachesTrailers n input behind
-  later : (n : ℕ) (input : List ℕ) (l : ChunkLine) (bytes behind trailers : List ℕ) → HasChunk n input l bytes behind → ReachesTrailers (n + chunk_size l) behind trailers → ReachesTrailers n input trailers
+  later : (n : ℕ) (input : List ℕ) (l : ChunkLine) (bytes behind trailers : List ℕ) → HasChunk n input l bytes behind
+      → ReachesTrailers (n + chunk_size l) behind trailers → ReachesTrailers n input trailers
 
 -- more than 64 lines of trailers have come, and no trailers can stand, whatever follows
 pub record HasTwoFaults (n : ℕ) (input : List ℕ) : Type 0 where
@@ -140,7 +151,8 @@ pub record AreNoChunks (n : ℕ) (input : List ℕ) : Type 0 where
 -- faults may be told
 pub record ChunkLaw : Type 0 where
   pub one_body : (n : ℕ) (input b c r q : List ℕ) → HasChunks n input b r → HasChunks n input c q → (b ≡ c) × (r ≡ q)
-  pub one_fault : (n : ℕ) (input : List ℕ) (f g : Fault) → n ≤ body_limit → HasChunkFault n input f → HasChunkFault n input g → (f ≡ g) ⊎ HasTwoFaults n input
+  pub one_fault : (n : ℕ) (input : List ℕ) (f g : Fault) → n ≤ body_limit
+      → HasChunkFault n input f → HasChunkFault n input g → (f ≡ g) ⊎ HasTwoFaults n input
   pub body_or_fault : (n : ℕ) (input b r : List ℕ) (f : Fault) → n ≤ body_limit → HasChunks n input b r → HasChunkFault n input f → ⊥
   pub body_or_lack : (n : ℕ) (input b r : List ℕ) → HasChunks n input b r → LacksChunks n input → ⊥
   pub fault_or_lack : (n : ℕ) (input : List ℕ) (f : Fault) → n ≤ body_limit → HasChunkFault n input f → LacksChunks n input → ⊥
@@ -149,4 +161,5 @@ pub record ChunkLaw : Type 0 where
   pub body_stays : (n : ℕ) (input b r more : List ℕ) → HasChunks n input b r → HasChunks n (input ++ more) b (r ++ more)
   pub fault_stays : (n : ℕ) (input : List ℕ) (f : Fault) (more : List ℕ) → HasChunkFault n input f → HasChunkFault n (input ++ more) f
   -- the front of the input that the chunks are
-  pub body_front : (n : ℕ) (input b r : List ℕ) → HasChunks n input b r → (front : List ℕ) × (input ≡ front ++ r) × ((more : List ℕ) → HasChunks n (front ++ more) b more)
+  pub body_front : (n : ℕ) (input b r : List ℕ) → HasChunks n input b r
+      → (front : List ℕ) × (input ≡ front ++ r) × ((more : List ℕ) → HasChunks n (front ++ more) b more)

@@ -29,7 +29,8 @@ pub record Draws {R A : Type 0} (turned failed : R → ℕ) (old new : Intake R)
 
 -- the bytes that it held and those that came since are this input, of which the rest is held
 abbrev pub Reads : {R : Type 0} → (R → Option (List ℕ)) → (old new : Intake R) → ((input rest : List ℕ) → Type 0) → Type 0
-Reads remaining old new Says = (more : List ℕ) × Consumes (remaining old.reader.now) (remaining new.reader.now) more × Says (old.inbox.now ++ more) new.inbox.now
+Reads remaining old new Says = (more : List ℕ) × Consumes (remaining old.reader.now) (remaining new.reader.now) more
+    × Says (old.inbox.now ++ more) new.inbox.now
 
 -- this is said of a front of the bytes, and those behind it may come without a look
 pub record IsPutOff (Says : List ℕ → Type 0) (waits : ℕ → Type 0) (bytes : List ℕ) : Type 0 where

@@ -1,7 +1,8 @@
 //! A body in chunks, and its trailers.
 ghost use Rattle.std.specs.Prelude.{◌≡◌, ◌≢◌, ℕ, ◌≤◌, List, [], vec_len, Err};
 ghost use Rattle.http_intake.specs.Draws.{Draws, Reads, left_of};
-ghost use Rattle.http_intake.specs.ChunkParts.{IsLineAt, EndCame, TrailersCame, DataCame, StepCame, StepLacksAtEnd, TakesChunk, after_trailers as after_trailers_by, after_data as after_data_by};
+ghost use Rattle.http_intake.specs.ChunkParts.{IsLineAt, EndCame, TrailersCame, DataCame, StepCame, StepLacksAtEnd, TakesChunk};
+ghost use Rattle.http_intake.specs.ChunkParts.{after_trailers as after_trailers_by, after_data as after_data_by};
 ghost use Rattle.http_intake.specs.Chunked.{ChunksCame, LacksChunksAtEnd};
 
 use crate::body::read_body;

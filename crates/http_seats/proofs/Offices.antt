@@ -45,7 +45,7 @@ use Rattle.desk_gallery.specs.contracts.tied.Tied as Tied
 use Rattle.desk_gallery.specs.contracts.tied.TiedProtocolShelfUnit.TheImpl as tie
 use Rattle.desk_gallery.specs.contracts.visitor.Told as Told
 use Rattle.desk_gallery.specs.contracts.visitor.Visitor as Visitor
-use Rattle.http_seats.specs.contracts.many.Place as Place
+use Rattle.http_seats.specs.contracts.many.WorkerPlace as WorkerPlace
 use Rattle.http_seats.proofs.Crosses.{catalogue_send, catalogue_sync, shelf_send, shelf_sync}
 
 slot_send : IsSend (Option.the_row (Part.the_row Shelf.the_row))
@@ -74,7 +74,7 @@ module _ (J : RattleType) (g : room.Ghosts J.Denot) where
   visitor_send s = view_send (VisitorInside.the_row J g) _ _ _ _ (declared_send (VisitorInside.the_type J g) (reader_send, (told_send s, tt)))
 
   -- a worker's place
-  pub worker_send : IsSend J → IsSend (Place.the_row J g)
+  pub worker_send : IsSend J → IsSend (WorkerPlace.the_row J g)
   worker_send s = search (sendable, crosses, visitor_send) depth 40 fits 20000
 
   writer_send : IsSend (Writer.the_row Shelf.the_row Shelf.the_row unit (Tied.the_row J) Global.the_row (Tuple (Catalogue.the_row ∷ Mark.the_row ∷ [])) absorb.ghosts (tie.ghosts J g tie.no_dict) heap.ghosts)

@@ -40,7 +40,14 @@ pub record Traffic (R W : Type 0) : Type 1 where
 abbrev pub traffic : {A R W : Type 0} → (A → Option (R × W) → Type 0) → (A → R → W → Result Served StreamFault → Type 0)
     → source.Ghosts R → sink.Ghosts W → A → Traffic R W
 traffic gives takes_back r w from =
-    record { gives = gives from; takes_back = takes_back from; unread = r.remaining; failed_reads = r.failures; written = w.contents; failed_writes = w.failures }
+    record {
+      gives = gives from;
+      takes_back = takes_back from;
+      unread = r.remaining;
+      failed_reads = r.failures;
+      written = w.contents;
+      failed_writes = w.failures;
+    }
 
 -- a stream was given, and in the bytes that its reader gives the command is asked for
 pub record IsAskedOf {R W : Type 0} (s : Traffic R W) (c : Command) : Type 0 where

@@ -39,7 +39,7 @@ impl<'a, G: Gate> Gate for AtWorker<'a, G> {
 
 /// A worker's number, its visitor until it begins, and what its streams came to.
 #[derive(Drop)]
-struct Place<J: Room> {
+struct WorkerPlace<J: Room> {
     worker: u32,
     visitor: Option<Visitor<J>>,
     totals: Totals,
@@ -55,7 +55,8 @@ fn work<J: Room, D: SectorDevice, A: Arrivals, G: Gate, R: Wait>(
 ) -> Totals
     requires none { acceptor.totals.ran ≡ no_streams }
     requires asked { (c : Command) → IsAskedOf (traffic A.gives A.takes_back A.Reader.Source A.Writer.Sink acceptor.arrivals.now) c → J.asked c }
-    ensures { HasWorked (traffic A.gives A.takes_back A.Reader.Source A.Writer.Sink acceptor.entry.arrivals.now) J.first seat.old seat.new result.ran }
+    ensures { HasWorked (traffic A.gives A.takes_back A.Reader.Source A.Writer.Sink acceptor.entry.arrivals.now)
+        J.first seat.old seat.new result.ran }
 {
     let mut acceptor = acceptor;
     for _ in rt.forever() {
@@ -73,12 +74,13 @@ fn work_at<J: Room, D: SectorDevice, A: Arrivals, G: Gate, R: Wait>(
     rt: &R,
     alloc: Global,
     office: &Office<J, D>,
-    place: &mut Place<J>,
+    place: &mut WorkerPlace<J>,
     arrivals: &A,
     gate: &G,
 )
     requires { (c : Command) → IsAskedOf (traffic A.gives A.takes_back A.Reader.Source A.Writer.Sink arrivals.now) c → J.asked c }
-    ensures { LeavesPlace (traffic A.gives A.takes_back A.Reader.Source A.Writer.Sink arrivals.now) J.first place.old.visitor place.new.visitor place.new.totals.ran }
+    ensures { LeavesPlace (traffic A.gives A.takes_back A.Reader.Source A.Writer.Sink arrivals.now)
+        J.first place.old.visitor place.new.visitor place.new.totals.ran }
 {
     let Some(visitor) = place.visitor.take() else {
         return;
@@ -96,13 +98,13 @@ fn work_at<J: Room, D: SectorDevice, A: Arrivals, G: Gate, R: Wait>(
 fn places_for<J: Room>(
     alloc: Global,
     visitors: Vec<Visitor<J>>,
-) -> Result<Vec<Place<J>>, AllocError>
+) -> Result<Vec<WorkerPlace<J>>, AllocError>
     ensures { IfOk result (λ places. WereVisitors visitors.items (map (λ p. p.visitor) places.items)) }
 {
     let mut places = Vec::with_capacity(alloc, visitors.len())?;
     let mut worker = 0u32;
     for visitor in visitors {
-        places.push(Place {
+        places.push(WorkerPlace {
             worker,
             visitor: Some(visitor),
             totals: Totals::new(),
@@ -114,7 +116,7 @@ fn places_for<J: Room>(
 }
 
 /// What all workers came to together.
-fn together<J: Room>(places: &[Place<J>]) -> Totals
+fn together<J: Room>(places: &[WorkerPlace<J>]) -> Totals
     ensures { result.ran ≡ total_of (map (λ p. p.totals.ran) places.now) }
 {
     let mut totals = Totals::new();
@@ -131,24 +133,33 @@ fn serve_places<
     A: Arrivals + Sync,
     G: Gate + Sync,
     R: Threads + Wait + Sync,
->(rt: &R, alloc: Global, office: &Office<J, D>, places: &mut [Place<J>], arrivals: &A, gate: &G)
+>(
+    rt: &R,
+    alloc: Global,
+    office: &Office<J, D>,
+    places: &mut [WorkerPlace<J>],
+    arrivals: &A,
+    gate: &G,
+)
     requires { (c : Command) → IsAskedOf (traffic A.gives A.takes_back A.Reader.Source A.Writer.Sink arrivals.now) c → J.asked c }
-    ensures { LeavesPlaces (traffic A.gives A.takes_back A.Reader.Source A.Writer.Sink arrivals.now) J.first (map (λ p. p.visitor) places.old) (map (λ p. (p.visitor, p.totals.ran)) places.new) }
+    ensures { LeavesPlaces (traffic A.gives A.takes_back A.Reader.Source A.Writer.Sink arrivals.now) J.first
+        (map (λ p. p.visitor) places.old) (map (λ p. (p.visitor, p.totals.ran)) places.new) }
 {
     let threads = places.len().max(1);
     for_each_mut(
         rt,
         places,
         threads,
-        &|_, place: &mut Place<J>|
+        &|_, place: &mut WorkerPlace<J>|
             requires { (c : Command) → IsAskedOf (traffic A.gives A.takes_back A.Reader.Source A.Writer.Sink arrivals.now) c → J.asked c }
-            ensures { LeavesPlace (traffic A.gives A.takes_back A.Reader.Source A.Writer.Sink arrivals.entry.now) J.first place.old.visitor place.new.visitor place.new.totals.ran }
+            ensures { LeavesPlace (traffic A.gives A.takes_back A.Reader.Source A.Writer.Sink arrivals.entry.now)
+                J.first place.old.visitor place.new.visitor place.new.totals.ran }
         { work_at(rt, alloc, office, place, arrivals, gate) },
     );
 }
 
 /// The visitor of a place has heard of no more than the front shows.
-fn know_at<J: Room, D: SectorDevice>(front: &mut Front<J, D>, place: &Place<J>)
+fn know_at<J: Room, D: SectorDevice>(front: &mut Front<J, D>, place: &WorkerPlace<J>)
     ensures begins { IfSome place.now.visitor (λ v. IsPrefix v front.new.shown) }
     ensures same { front.new ≡ front.old }
 {
@@ -158,7 +169,7 @@ fn know_at<J: Room, D: SectorDevice>(front: &mut Front<J, D>, place: &Place<J>)
 }
 
 /// None of the places' visitors has heard of more than the front shows.
-fn know_all<J: Room, D: SectorDevice>(front: &mut Front<J, D>, places: &[Place<J>])
+fn know_all<J: Room, D: SectorDevice>(front: &mut Front<J, D>, places: &[WorkerPlace<J>])
     ensures all { All (λ p. IfSome p.visitor (λ v. IsPrefix v front.new.shown)) places.now }
     ensures same { front.new ≡ front.old }
 {
@@ -197,7 +208,8 @@ pub fn serve_many<
     ensures ran { IsRunFrom J.first (desk_of result.0) }
     ensures left { IsLeftBy J.first J.begins J.asked result.0 }
     ensures fewer { IfOk result.1 (λ ran. ran.faults ≤ ran.streams) }
-    ensures served { IfOk result.1 (HasServed (traffic A.gives A.takes_back A.Reader.Source A.Writer.Sink arrivals.now) J.first J.begins visitors.items result.0) }
+    ensures served { IfOk result.1 (HasServed (traffic A.gives A.takes_back A.Reader.Source A.Writer.Sink arrivals.now)
+        J.first J.begins visitors.items result.0) }
 {
     let Ok(mut places) = places_for(alloc, visitors) else {
         return (office.close(rt), Err(AllocError));

@@ -30,16 +30,20 @@ pub record IsNoFront (input : List ℕ) : Type 0 where
 -- Every front is exactly one of these: a request, one fault, or incomplete; reading tells which. Where more than 64 lines of a head
 -- or of trailers have come before an empty one, and no head or trailers can stand whatever follows, either of these faults may be told.
 pub record FrontLaw : Type 0 where
-  pub one_request : (input : List ℕ) (h k : RequestHead) (t u b c r q : List ℕ) → HasRequest input h t b r → HasRequest input k u c q → (h ≡ k) × (t ≡ u) × (b ≡ c) × (r ≡ q)
+  pub one_request : (input : List ℕ) (h k : RequestHead) (t u b c r q : List ℕ)
+      → HasRequest input h t b r → HasRequest input k u c q → (h ≡ k) × (t ≡ u) × (b ≡ c) × (r ≡ q)
   pub one_fault : (input : List ℕ) (f g : Fault) (a b : Bool) → HasFault input f a → HasFault input g b → ((f ≡ g) × (a ≡ b)) ⊎ HasTwoFaults input
-  pub request_or_fault : (input : List ℕ) (h : RequestHead) (t b r : List ℕ) (f : Fault) (bare : Bool) → HasRequest input h t b r → HasFault input f bare → ⊥
+  pub request_or_fault : (input : List ℕ) (h : RequestHead) (t b r : List ℕ) (f : Fault) (bare : Bool)
+      → HasRequest input h t b r → HasFault input f bare → ⊥
   pub request_or_incomplete : (input : List ℕ) (h : RequestHead) (t b r : List ℕ) → HasRequest input h t b r → IsIncomplete input → ⊥
   pub fault_or_incomplete : (input : List ℕ) (f : Fault) (bare : Bool) → HasFault input f bare → IsIncomplete input → ⊥
   pub some_case : (input : List ℕ) → IsNoFront input → ⊥
   -- and what is told of the bytes so far stays, whatever follows
-  pub request_stays : (input : List ℕ) (h : RequestHead) (t b r more : List ℕ) → HasRequest input h t b r → HasRequest (input ++ more) h t b (r ++ more)
+  pub request_stays : (input : List ℕ) (h : RequestHead) (t b r more : List ℕ)
+      → HasRequest input h t b r → HasRequest (input ++ more) h t b (r ++ more)
   -- the front of the input that the request is
-  pub request_front : (input : List ℕ) (h : RequestHead) (t b r : List ℕ) → HasRequest input h t b r → (front : List ℕ) × (input ≡ front ++ r) × ((more : List ℕ) → HasRequest (front ++ more) h t b more)
+  pub request_front : (input : List ℕ) (h : RequestHead) (t b r : List ℕ) → HasRequest input h t b r
+      → (front : List ℕ) × (input ≡ front ++ r) × ((more : List ℕ) → HasRequest (front ++ more) h t b more)
   pub fault_stays : (input : List ℕ) (f : Fault) (bare : Bool) (more : List ℕ) → HasFault input f bare → HasFault (input ++ more) f bare
 
 -- worked fronts

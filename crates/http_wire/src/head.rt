@@ -3,7 +3,8 @@ ghost use Rattle.std.specs.Prelude.{◌≡◌, ◌==◌, ℕ, true, ◌<◌, ◌
 ghost use Rattle.std.specs.Char.{is_ascii_digit};
 ghost use Rattle.std.specs.List.{list_all, flat_map};
 ghost use Rattle.httparse.specs.Spans.{header_bytes, IsHeaderWithin};
-ghost use Rattle.http_wire.specs.Front.{is_length as is_length_text, number_of, values, length_of as length_by, lengths_of, sized as sized_by, framing_of as framing_by, is_host_count as is_host_count_of, judged};
+ghost use Rattle.http_wire.specs.Front.{is_length as is_length_text, number_of, values, length_of as length_by, lengths_of};
+ghost use Rattle.http_wire.specs.Front.{sized as sized_by, framing_of as framing_by, is_host_count as is_host_count_of, judged};
 ghost use Rattle.http_wire.specs.Connection.{parts, ends_in};
 
 use crate::lists::{ends_in_chunked, is_one};
@@ -127,7 +128,8 @@ fn is_single(lines: usize, first: &[u8]) -> bool
 /// The framing by the lines that say it.
 fn framing_of(minor: u8, buf: &[u8], headers: &[HeaderSpan]) -> Result<Framing, Fault>
     requires { All (IsHeaderWithin (length buf.now)) headers.now }
-    ensures { result ≡ framing_by minor (values (codes "transfer-encoding") (map (header_bytes buf.now) headers.now)) (values (codes "content-length") (map (header_bytes buf.now) headers.now)) }
+    ensures { result ≡ framing_by minor (values (codes "transfer-encoding") (map (header_bytes buf.now) headers.now))
+        (values (codes "content-length") (map (header_bytes buf.now) headers.now)) }
 {
     let (codings, coding) = find_value(buf, headers, b"transfer-encoding");
     let (lengths, value) = find_value(buf, headers, b"content-length");

@@ -23,7 +23,9 @@ pub record IsAlike (old new : Txn) : Type 0 where
 module _ {D : Type 0} {g : Ghosts D} where
   -- why the leaf at a page isn't edited
   abbrev pub LeafErr : ℕ → Txn → Pages D g → Pages D g → TreeError → Type 0
-  LeafErr page t old new DeviceFault = HasFailed old new ⊎ ((disk_in new).is_honest → (es : List Entry) → IsNode (over t (stored old) page) (record { level = 0; entries = es }) → Rises es → ⊥)
+  LeafErr page t old new DeviceFault = HasFailed old new
+      ⊎ ((disk_in new).is_honest → (es : List Entry)
+      → IsNode (over t (stored old) page) (record { level = 0; entries = es }) → Rises es → ⊥)
   LeafErr page t old new Halted = has_halted old ≡ true
   LeafErr page t old new NoPages = ⊥
   LeafErr page t old new TooDeep = ⊥

@@ -12,7 +12,8 @@ use Rattle.page_btree.specs.Getting.{CanGetAt}
 -- from each node to the child that the key belongs to
 abbrev pub LeadsTo : Image → ℕ → ℕ → List ℕ → ℕ → Type 0
 LeadsTo P zero page key leaf = leaf ≡ page
-LeadsTo P (suc d) page key leaf = (child : ℕ) × ((node : Node) → IsNode (P page) node → RisesBehind node.entries → option_map child_in (floor key node.entries) ≡ Some child) × LeadsTo P d child key leaf
+LeadsTo P (suc d) page key leaf = (child : ℕ) × ((node : Node) → IsNode (P page) node → RisesBehind node.entries
+    → option_map child_in (floor key node.entries) ≡ Some child) × LeadsTo P d child key leaf
 
 -- a tree of at most six levels stands at the page, whose range has the key
 abbrev pub CanLead : ℕ → Image → List ℕ → ℕ → Type 0

@@ -24,7 +24,8 @@ IsNext (Some bound) all behind = behind ≡ entries_from bound all
 abbrev pub AreLeaves : ℕ → List (List ℕ) → List Entry → Type 0
 AreLeaves zero pages rows = rows ≡ []
 AreLeaves (suc k) [] rows = ⊥
-AreLeaves (suc k) (page ∷ pages) rows = (es : List Entry) × (rest : List Entry) × (rows ≡ es ++ rest) × IsNode page (record { level = 0; entries = es }) × Rises es × (0 < length es) × AreLeaves k pages rest
+AreLeaves (suc k) (page ∷ pages) rows = (es : List Entry) × (rest : List Entry) × (rows ≡ es ++ rest)
+    × IsNode page (record { level = 0; entries = es }) × Rises es × (0 < length es) × AreLeaves k pages rest
 
 -- A leaf stands before the rows from a key on: some of them are ahead in its page, others in the leaves that were read with it, and
 -- the others are behind these. Where none is ahead, and no leaf was read with it, there is none.
@@ -70,7 +71,9 @@ abbrev mutual
 abbrev pub Follows : Tree → Option (List ℕ) → Option (List ℕ) → List ℕ → ℕ → List (List ℕ) → Option (List ℕ) → Type 0
 Follows t high up key zero pages bound = bound ≡ bound_of t up key
 Follows t high up key (suc k) [] bound = ⊥
-Follows t high up key (suc k) (page ∷ pages) bound = (b : List ℕ) × (bound_of t up key ≡ Some b) × IsBetween key high b × IsNode page (record { level = 0; entries = leaf_of t b }) × Rises (leaf_of t b) × (0 < length (leaf_of t b)) × Follows t high up b k pages bound
+Follows t high up key (suc k) (page ∷ pages) bound = (b : List ℕ) × (bound_of t up key ≡ Some b) × IsBetween key high b
+    × IsNode page (record { level = 0; entries = leaf_of t b }) × Rises (leaf_of t b)
+    × (0 < length (leaf_of t b)) × Follows t high up b k pages bound
 
 -- that leaf was read, as far as its rows aren't below the key, with leaves that follow it
 pub record IsRead (t : Tree) (high up : Option (List ℕ)) (key : List ℕ) (held : Leaf) (pages : List (List ℕ)) : Type 0 where
@@ -82,7 +85,8 @@ pub record IsRead (t : Tree) (high up : Option (List ℕ)) (key : List ℕ) (hel
 abbrev pub AreWays : ℕ → List ℕ → List Entry → List ℕ → Option (List ℕ) → Type 0
 AreWays k key es [] bound = ⊥
 AreWays zero key es (child ∷ children) bound = (option_map child_in (floor key es) ≡ Some child) × (ceiling key es ≡ bound)
-AreWays (suc k) key es (child ∷ children) bound = (option_map child_in (floor key es) ≡ Some child) × (b : List ℕ) × (ceiling key es ≡ Some b) × AreWays k b es children bound
+AreWays (suc k) key es (child ∷ children) bound = (option_map child_in (floor key es) ≡ Some child)
+    × (b : List ℕ) × (ceiling key es ≡ Some b) × AreWays k b es children bound
 
 pub record HasWays (key : List ℕ) (es : List Entry) (up : Option (List ℕ)) (held : Leaf) (children : List ℕ) : Type 0 where
   pub bound : Option (List ℕ)

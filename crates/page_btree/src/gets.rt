@@ -31,7 +31,8 @@ pub fn get<D: SectorDevice>(
 ) -> Result<Option<usize>, TreeError>
     requires begun { txn_pages txn.now ≡ count_of pages.old }
     ensures quiet { IsQuiet pages.old pages.new }
-    ensures get { (disk_in pages.new).is_honest → (m : KeyMap) → InTxn txn.now (stored pages.old) m → IfOk result (λ found. IsCopied found into.new (row_at m key.now)) }
+    ensures get { (disk_in pages.new).is_honest → (m : KeyMap) → InTxn txn.now (stored pages.old) m
+        → IfOk result (λ found. IsCopied found into.new (row_at m key.now)) }
     ensures short { IfOk result (λ found. IfSome found (λ length_is. length_is ≤ 1024)) }
     ensures passed { OnOk result (Passed pages.old pages.new) }
     ensures err { IfErr result (λ e. GetErr txn.now pages.old pages.new e) }
@@ -78,8 +79,10 @@ fn get_below<D: SectorDevice>(
 
 /// The child that a key belongs to, in a page whose keys rise behind the first.
 pub(crate) fn child_of_key(bytes: &[u8; 4096], key: &[u8]) -> Result<u32, NotANode>
-    ensures child { (node : Node) → IsNode bytes.now node → RisesBehind node.entries → IfOk result (λ child. option_map child_in (floor key.now node.entries) ≡ Some child) }
-    ensures err { OnErr result ((node : Node) → IsNode bytes.now node → RisesBehind node.entries → 0 < node.level → floor key.now node.entries ≡ None) }
+    ensures child { (node : Node) → IsNode bytes.now node → RisesBehind node.entries
+        → IfOk result (λ child. option_map child_in (floor key.now node.entries) ≡ Some child) }
+    ensures err { OnErr result ((node : Node) → IsNode bytes.now node
+        → RisesBehind node.entries → 0 < node.level → floor key.now node.entries ≡ None) }
 {
     match way_for(bytes, key) {
         Ok(way) => Ok(way.child),
@@ -93,7 +96,8 @@ fn copy_value(
     key: &[u8],
     into: &mut [u8; 1024],
 ) -> Result<Option<usize>, TreeError>
-    ensures value { (node : Node) → IsNode page.now node → Rises node.entries → IfOk result (λ found. IsCopied found into.new (find key_cmp key.now node.entries)) }
+    ensures value { (node : Node) → IsNode page.now node → Rises node.entries
+        → IfOk result (λ found. IsCopied found into.new (find key_cmp key.now node.entries)) }
     ensures short { IfOk result (λ found. IfSome found (λ length_is. length_is ≤ 1024)) }
     ensures err { IfErr result (λ e. e ≡ TreeError.DeviceFault) }
     ensures refused { OnErr result ((node : Node) → IsNode page.now node → Rises node.entries → ⊥) }

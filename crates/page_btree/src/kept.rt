@@ -12,7 +12,8 @@ ghost use Rattle.page_btree.specs.Outcomes.{ReadsWhatPagesHold, HoldsWhatWasPrep
 /// leaves images that open to the map before or to the map after
 /// (`leaves_maps` in proofs/ says it of a device's moments). A page has 1,364 rows at most.
 pub fn laws()
-    ensures one { (n : ℕ) (P : Image) (root : ℕ) (free : List ℕ) (m m' : KeyMap) → n ≤ 2 ^ 32 → Holds n P root free m → Holds n P root free m' → m ≡ m' }
+    ensures one { (n : ℕ) (P : Image) (root : ℕ) (free : List ℕ) (m m' : KeyMap)
+        → n ≤ 2 ^ 32 → Holds n P root free m → Holds n P root free m' → m ≡ m' }
     ensures made { (n : ℕ) (P : Image) → root_in P ≡ 0 → IsPages n P → length (free_in P) + 1 ≡ n → Holds n P (root_in P) (free_in P) empty }
     ensures begun { ReadsWhatPagesHold }
     ensures prepared { HoldsWhatWasPrepared }

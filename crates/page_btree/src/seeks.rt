@@ -76,7 +76,8 @@ pub fn leaf_from<D: SectorDevice>(
     requires begun { txn_pages txn.now ≡ count_of pages.old }
     ensures quiet { IsQuiet pages.old pages.new }
     ensures few { OnOk result (leaf.new.more ≤ 3) }
-    ensures rows { (disk_in pages.new).is_honest → (m : KeyMap) → InTxn txn.now (stored pages.old) m → OnOk result (IsFrom key.now (entries m) leaf.new held.new) }
+    ensures rows { (disk_in pages.new).is_honest → (m : KeyMap) → InTxn txn.now (stored pages.old) m
+        → OnOk result (IsFrom key.now (entries m) leaf.new held.new) }
     ensures passed { OnOk result (Passed pages.old pages.new) }
     ensures err { IfErr result (λ e. GetErr txn.now pages.old pages.new e) }
 {
@@ -222,9 +223,11 @@ fn read_leaves<D: SectorDevice>(
     requires begun { txn_pages txn.now ≡ count_of pages.old }
     requires few { more ≤ 3 }
     ensures quiet { IsQuiet pages.old pages.new }
-    ensures reads { (disk_in pages.new).is_honest → OnOk result ((j : ℕ) → j ≤ more → get_or {A = List ℕ} held.new j [] ≡ over txn.now (stored pages.old) (get_or children.now j 0)) }
+    ensures reads { (disk_in pages.new).is_honest → OnOk result ((j : ℕ) → j ≤ more
+        → get_or {A = List ℕ} held.new j [] ≡ over txn.now (stored pages.old) (get_or children.now j 0)) }
     ensures passed { OnOk result (Passed pages.old pages.new) }
-    ensures err { IfErr result (λ e. ReadsErr (λ P. (j : ℕ) → j ≤ more → IsLevel (txn_pages txn.now) (over txn.now P) 0 (get_or children.now j 0)) pages.old pages.new e) }
+    ensures err { IfErr result (λ e. ReadsErr (λ P. (j : ℕ) → j ≤ more
+        → IsLevel (txn_pages txn.now) (over txn.now P) 0 (get_or children.now j 0)) pages.old pages.new e) }
 {
     for j in 0..more + 1 {
         read_level(txn, pages, children[j], 0, &mut held[j])?;
@@ -234,8 +237,10 @@ fn read_leaves<D: SectorDevice>(
 
 /// Stands before the first row in a leaf's page that isn't below a key.
 fn stand(leaf: &mut Leaf, page: &[u8; 4096], key: &[u8]) -> Result<(), TreeError>
-    ensures rows { (node : Node) → IsNode page.now node → Rises node.entries → OnOk result (IsAhead page.now leaf.new.at (entries_from key.now node.entries)) }
-    ensures left { (node : Node) → IsNode page.now node → Rises node.entries → OnOk result (leaf.new.left ≡ length (entries_from key.now node.entries)) }
+    ensures rows { (node : Node) → IsNode page.now node → Rises node.entries
+        → OnOk result (IsAhead page.now leaf.new.at (entries_from key.now node.entries)) }
+    ensures left { (node : Node) → IsNode page.now node → Rises node.entries
+        → OnOk result (leaf.new.left ≡ length (entries_from key.now node.entries)) }
     ensures more { leaf.new.more ≡ leaf.old.more }
     ensures bound { bound_in leaf.new ≡ bound_in leaf.old }
     ensures err { IfErr result (λ e. e ≡ DeviceFault) }
@@ -250,10 +255,13 @@ fn stand(leaf: &mut Leaf, page: &[u8; 4096], key: &[u8]) -> Result<(), TreeError
 /// Finds the child of a node above the leaves that a key belongs to, and keeps the first key in it that is above this one, as the
 /// bound.
 fn go_down(leaf: &mut Leaf, page: &[u8; 4096], key: &[u8]) -> Result<u32, TreeError>
-    ensures child { (node : Node) → IsNode page.now node → RisesBehind node.entries → IfOk result (λ child. option_map child_in (floor key.now node.entries) ≡ Some child) }
-    ensures bound { (node : Node) → IsNode page.now node → RisesBehind node.entries → OnOk result (bound_in leaf.new ≡ nearer (ceiling key.now node.entries) (bound_in leaf.old)) }
+    ensures child { (node : Node) → IsNode page.now node → RisesBehind node.entries
+        → IfOk result (λ child. option_map child_in (floor key.now node.entries) ≡ Some child) }
+    ensures bound { (node : Node) → IsNode page.now node → RisesBehind node.entries
+        → OnOk result (bound_in leaf.new ≡ nearer (ceiling key.now node.entries) (bound_in leaf.old)) }
     ensures err { IfErr result (λ e. e ≡ DeviceFault) }
-    ensures refused { OnErr result ((node : Node) → IsNode page.now node → RisesBehind node.entries → 0 < node.level → floor key.now node.entries ≡ None) }
+    ensures refused { OnErr result ((node : Node) → IsNode page.now node
+        → RisesBehind node.entries → 0 < node.level → floor key.now node.entries ≡ None) }
 {
     let way = way_for(page, key)?;
     match way.bound {
@@ -276,9 +284,11 @@ fn ways_in(
     children: &mut [u32; 4],
 ) -> Result<(), TreeError>
     ensures few { OnOk result (leaf.new.more ≤ 3) }
-    ensures ways { (node : Node) → IsNode page.now node → RisesBehind node.entries → OnOk result (HasWays key.now node.entries (bound_in leaf.old) leaf.new children.new) }
+    ensures ways { (node : Node) → IsNode page.now node → RisesBehind node.entries
+        → OnOk result (HasWays key.now node.entries (bound_in leaf.old) leaf.new children.new) }
     ensures err { IfErr result (λ e. e ≡ DeviceFault) }
-    ensures refused { OnErr result ((node : Node) → IsNode page.now node → RisesBehind node.entries → 0 < node.level → floor key.now node.entries ≡ None) }
+    ensures refused { OnErr result ((node : Node) → IsNode page.now node
+        → RisesBehind node.entries → 0 < node.level → floor key.now node.entries ≡ None) }
 {
     let mut behind = [0; 3];
     let ways = ways_for(page, key, prefix, &mut behind)?;

@@ -83,7 +83,8 @@ fn link_batch<D: SectorDevice>(
     requires capacity { 256 ≤ room_of writes.old }
     ensures sectors { (D.disk device.new).sectors ≡ (D.disk device.old).sectors }
     ensures honest { (D.disk device.new).is_honest → (D.disk device.old).is_honest }
-    ensures model { (D.disk device.new).is_honest → OnOk result (Links layout.journal_pages layout.pages from (D.disk device.old) (D.disk device.new)) }
+    ensures model { (D.disk device.new).is_honest → OnOk result
+        (Links layout.journal_pages layout.pages from (D.disk device.old) (D.disk device.new)) }
     ensures fault { (D.disk device.new).is_honest → OnErr result ((D.disk device.old).faults < (D.disk device.new).faults) }
     ensures capacity { 256 ≤ room_of writes.new }
 {
@@ -111,7 +112,8 @@ fn link_all<D: SectorDevice>(
     ensures sectors { (D.disk device.new).sectors ≡ (D.disk device.old).sectors }
     ensures honest { (D.disk device.new).is_honest → (D.disk device.old).is_honest }
     ensures linked { (D.disk device.new).is_honest → IfOk result (λ made. IsLinked made.layout.journal_pages made.layout.pages (D.disk device.new)) }
-    ensures layout { IfOk result (λ made. (made.layout.journal_pages ≡ journal_pages) × HasRoom (D.disk device.old).sectors made.layout.journal_pages made.layout.pages) }
+    ensures layout { IfOk result (λ made. (made.layout.journal_pages ≡ journal_pages)
+        × HasRoom (D.disk device.old).sectors made.layout.journal_pages made.layout.pages) }
     ensures room { IfOk result (λ made. 256 ≤ room_of made.writes) }
     ensures passed { (D.disk device.new).is_honest → OnOk result ((D.disk device.new).faults ≡ (D.disk device.old).faults) }
     ensures ok { OnOk result (home journal_pages + 64 ≤ (D.disk device.old).sectors) }

@@ -11,7 +11,8 @@ pub record LiesAt (page : List ℕ) (at value end : ℕ) : Type 0 where
 
 -- it doesn't
 abbrev pub LiesNot : List ℕ → ℕ → Type 0
-LiesNot page at = at + 3 + key_length (drop at page) + value_length (drop at page) ≤ 4096 → key_length (drop at page) ≤ 72 → value_length (drop at page) ≤ 1024 → ⊥
+LiesNot page at = at + 3 + key_length (drop at page) + value_length (drop at page) ≤ 4096
+    → key_length (drop at page) ≤ 72 → value_length (drop at page) ≤ 1024 → ⊥
 
 -- bytes with an entry written at a place
 abbrev pub with_entry : List ℕ → ℕ → Entry → List ℕ

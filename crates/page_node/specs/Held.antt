@@ -7,7 +7,8 @@ use Rattle.page_node.specs.Node.{Node, IsShape}
 
 -- a node is stored as the pair of its fields
 abbrev pub node_code : Coded Node
-node_code = code_by (ℕ × List Entry) (coded× coded_ℕ (coded_list (coded× (coded_list coded_ℕ) (coded_list coded_ℕ)))) (λ n. (n.level, n.entries)) (λ p. record { level = p.0; entries = p.1 }) (λ _. refl)
+node_code = code_by (ℕ × List Entry) (coded× coded_ℕ (coded_list (coded× (coded_list coded_ℕ) (coded_list coded_ℕ))))
+    (λ n. (n.level, n.entries)) (λ p. record { level = p.0; entries = p.1 }) (λ _. refl)
 
 abbrev pub held_node : ℕ → ℕ → List ℕ → Node
 held_node level count bytes = record { level = level; entries = read_from count (drop 4 bytes) }

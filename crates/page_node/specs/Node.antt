@@ -23,7 +23,8 @@ Fits node = size_of node.entries ≤ 4092
 
 -- the page that is written for it
 abbrev pub bytes_of : Node → List ℕ
-bytes_of node = node.level ∷ 0 ∷ length node.entries / 256 ∷ length node.entries % 256 ∷ (body_of node.entries ++ replicate (4092 - size_of node.entries) 0)
+bytes_of node = node.level ∷ 0 ∷ length node.entries / 256 ∷ length node.entries % 256
+    ∷ (body_of node.entries ++ replicate (4092 - size_of node.entries) 0)
 
 -- how many entries a page says that it has
 abbrev pub count_in : List ℕ → ℕ

@@ -1,5 +1,6 @@
 -- Where a row stands in a page, and what the edits of a page do.
-use Rattle.std.specs.Prelude.{◌≡◌, ◌<◌, ◌+◌, ◌≤◌, ℕ, Bool, true, false, List, length, take, remove, Option, Some, None, is_some, insert, slice_set, Result, IfOk}
+use Rattle.std.specs.Prelude.{◌≡◌, ◌<◌, ◌+◌, ◌≤◌, ℕ, Bool, true, false, List, length, take, remove}
+use Rattle.std.specs.Prelude.{Option, Some, None, is_some, insert, slice_set, Result, IfOk}
 use Rattle.std.specs.FinMap.{find, put}
 use Rattle.page_node.specs.Entries.{Entry, size_of}
 use Rattle.page_node.specs.Node.{Node, IsNode, Fits}
@@ -18,18 +19,21 @@ Becomes old new node false = (new ≡ old) × (Fits node → ⊥)
 
 -- a row was put into a leaf, or has no room there and the page is as it was
 abbrev pub IsRowPut : List ℕ → List ℕ → List ℕ → List ℕ → List Entry → Option Bool → Type 0
-IsRowPut old new key value es (Some had) = IsNode new (record { level = 0; entries = put key_cmp key value es }) × (had ≡ is_some (find key_cmp key es))
+IsRowPut old new key value es (Some had) = IsNode new (record { level = 0; entries = put key_cmp key value es })
+    × (had ≡ is_some (find key_cmp key es))
 IsRowPut old new key value es None = (new ≡ old) × (Fits (record { level = 0; entries = put key_cmp key value es }) → ⊥)
 
 -- a row was taken out of a leaf, which has so many left, or its key isn't there and the page is as it was
 abbrev pub IsRowTaken : List ℕ → List ℕ → List ℕ → List Entry → Option ℕ → Type 0
 IsRowTaken old new key es None = (new ≡ old) × (find key_cmp key es ≡ None)
-IsRowTaken old new key es (Some left) = (i : ℕ) × IsFound key es i × IsNode new (record { level = 0; entries = remove es i }) × (left ≡ length (remove es i))
+IsRowTaken old new key es (Some left) = (i : ℕ) × IsFound key es i
+    × IsNode new (record { level = 0; entries = remove es i }) × (left ≡ length (remove es i))
 
 -- a row was taken out of a leaf, which has others, or its key isn't there; or it is the only one. But for the first, the page is as
 -- it was
 abbrev pub IsSpareTaken : List ℕ → List ℕ → List ℕ → List Entry → Option Bool → Type 0
-IsSpareTaken old new key es (Some true) = (i : ℕ) × IsFound key es i × IsNode new (record { level = 0; entries = remove es i }) × (0 < length (remove es i))
+IsSpareTaken old new key es (Some true) = (i : ℕ) × IsFound key es i
+    × IsNode new (record { level = 0; entries = remove es i }) × (0 < length (remove es i))
 IsSpareTaken old new key es (Some false) = (new ≡ old) × (find key_cmp key es ≡ None)
 IsSpareTaken old new key es None = (new ≡ old) × (length es ≡ 1)
 

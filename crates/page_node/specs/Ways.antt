@@ -23,7 +23,8 @@ pub record IsFollowed (prefix : List ℕ) (bound : Option (List ℕ)) (Behind : 
 -- key that begins with the prefix. The last one's end at the bound.
 abbrev pub AreWays : List ℕ → List Entry → List ℕ → ℕ → ℕ → List ℕ → Option (List ℕ) → Type 0
 AreWays prefix es key child zero behind bound = (option_map child_in (floor key es) ≡ Some child) × (bound ≡ ceiling key es)
-AreWays prefix es key child (suc more) behind bound = (option_map child_in (floor key es) ≡ Some child) × IsFollowed prefix (ceiling key es) (λ b. AreWays prefix es b (get_or behind 0 0) more (drop 1 behind) bound)
+AreWays prefix es key child (suc more) behind bound = (option_map child_in (floor key es) ≡ Some child)
+    × IsFollowed prefix (ceiling key es) (λ b. AreWays prefix es b (get_or behind 0 0) more (drop 1 behind) bound)
 
 -- from an entry that a key's turn found, the ways were followed to the bound: of each node that the page stands for
 abbrev pub FollowsWays : List ℕ → List ℕ → Above → List ℕ → Result Followed NotANode → Type 0

@@ -1,5 +1,6 @@
 //! Rows put into a page and taken out of it where they lie.
-ghost use Rattle.std.specs.Prelude.{◌≡◌, ◌≤◌, ◌<◌, ◌+◌, ◌-◌, ◌/◌, ◌%◌, ◌++◌, List, length, take, drop, slice_set, IfOk, OnErr, cond, true, false, Option, Some, None};
+ghost use Rattle.std.specs.Prelude.{◌≡◌, ◌≤◌, ◌<◌, ◌+◌, ◌-◌, ◌/◌, ◌%◌, ◌++◌, List, length, take, drop};
+ghost use Rattle.std.specs.Prelude.{slice_set, IfOk, OnErr, cond, true, false, Option, Some, None};
 ghost use Rattle.std.specs.List.{copy_within};
 ghost use Rattle.page_node.specs.Entries.{Entry, entry_bytes, entry_size, key_at, size_of};
 ghost use Rattle.page_node.specs.Node.{Node, IsNode};
@@ -46,7 +47,8 @@ fn splice(page: &mut [u8; 4096], at: usize, end: usize, used: usize, key: &[u8],
     requires order { end ≤ used }
     requires used { used ≤ 4096 }
     requires room { at + 3 + length key.now + length value.now + (used - end) ≤ 4096 }
-    ensures { page.new ≡ take at page.old ++ (entry_bytes (key.now, value.now) ++ (take (used - end) (drop end page.old) ++ drop (at + entry_size (key.now, value.now) + (used - end)) page.old)) }
+    ensures { page.new ≡ take at page.old ++ (entry_bytes (key.now, value.now)
+        ++ (take (used - end) (drop end page.old) ++ drop (at + entry_size (key.now, value.now) + (used - end)) page.old)) }
 {
     move_in(page, end, used, at + 3 + key.len() + value.len());
     put_entry_in(page, at, key, value);
@@ -106,7 +108,8 @@ fn replace_in(
     requires index { index < 65536 }
     ensures replaced { ReplacesEntry page.old page.new index at end (key.now, value.now) result }
     ensures kept { IfOk result (λ fits. fits ≡ false → page.new ≡ page.old) }
-    ensures err { OnErr result ((node : Node) → IsNode page.old node → index < length node.entries → end ≡ 4 + size_of (take (index + 1) node.entries) → ⊥) }
+    ensures err { OnErr result ((node : Node) → IsNode page.old node
+        → index < length node.entries → end ≡ 4 + size_of (take (index + 1) node.entries) → ⊥) }
 {
     if at + 3 + key.len() + value.len() == end {
         put_entry_in(page, at, key, value);
@@ -141,7 +144,8 @@ fn remove_in(page: &mut [u8; 4096], at: usize, end: usize) -> Result<usize, NotA
 pub fn put_row(page: &mut [u8; 4096], key: &[u8], value: &[u8]) -> Result<Option<bool>, NotANode>
     requires key { length key.now ≤ 72 }
     requires value { length value.now ≤ 1024 }
-    ensures put { (es : List Entry) → IsNode page.old (record { level = 0; entries = es }) → Rises es → IfOk result (λ did. IsRowPut page.old page.new key.now value.now es did) }
+    ensures put { (es : List Entry) → IsNode page.old (record { level = 0; entries = es })
+        → Rises es → IfOk result (λ did. IsRowPut page.old page.new key.now value.now es did) }
     ensures kept { IfOk result (λ did. did ≡ None → page.new ≡ page.old) }
     ensures err { OnErr result ((es : List Entry) → IsNode page.old (record { level = 0; entries = es }) → Rises es → ⊥) }
 {
@@ -163,7 +167,8 @@ fn told(fits: bool, had: bool) -> Option<bool>
 
 /// Takes the row of a key out of a leaf whose keys rise: how many are left, or none where the key isn't there.
 pub fn take_row(page: &mut [u8; 4096], key: &[u8]) -> Result<Option<usize>, NotANode>
-    ensures taken { (es : List Entry) → IsNode page.old (record { level = 0; entries = es }) → Rises es → IfOk result (λ did. IsRowTaken page.old page.new key.now es did) }
+    ensures taken { (es : List Entry) → IsNode page.old (record { level = 0; entries = es })
+        → Rises es → IfOk result (λ did. IsRowTaken page.old page.new key.now es did) }
     ensures absent { IfOk result (λ did. did ≡ None → page.new ≡ page.old) }
     ensures err { OnErr result ((es : List Entry) → IsNode page.old (record { level = 0; entries = es }) → Rises es → ⊥) }
 {
@@ -178,7 +183,8 @@ pub fn take_row(page: &mut [u8; 4096], key: &[u8]) -> Result<Option<usize>, NotA
 /// Takes the row of a key out of a leaf whose keys rise, where others are left, and tells whether the key was there; or none where
 /// its row is the only one and the page stays.
 pub fn take_spare_row(page: &mut [u8; 4096], key: &[u8]) -> Result<Option<bool>, NotANode>
-    ensures taken { (es : List Entry) → IsNode page.old (record { level = 0; entries = es }) → Rises es → IfOk result (λ did. IsSpareTaken page.old page.new key.now es did) }
+    ensures taken { (es : List Entry) → IsNode page.old (record { level = 0; entries = es })
+        → Rises es → IfOk result (λ did. IsSpareTaken page.old page.new key.now es did) }
     ensures kept { IfOk result (λ did. (did ≡ Some true → ⊥) → page.new ≡ page.old) }
     ensures err { OnErr result ((es : List Entry) → IsNode page.old (record { level = 0; entries = es }) → Rises es → ⊥) }
 {

@@ -66,7 +66,8 @@ pub fn copy_ends(from: &[u16; 1366], i: usize, count: usize, to: &mut [u16; 1366
 pub fn cut_at(ends: &[u16; 1366], count: usize, added: usize) -> usize
     requires room { count ≤ 1365 }
     requires first { get_or ends.now 0 0 ≡ 4 }
-    requires steps { (k : ℕ) → k < count → (get_or ends.now k 0 ≤ get_or ends.now (k + 1) 0) × (get_or ends.now (k + 1) 0 ≤ get_or ends.now k 0 + 1099) }
+    requires steps { (k : ℕ) → k < count → (get_or ends.now k 0 ≤ get_or ends.now (k + 1) 0)
+        × (get_or ends.now (k + 1) 0 ≤ get_or ends.now k 0 + 1099) }
     requires some { 2 < count }
     requires large { 2202 < get_or ends.now count 0 }
     requires most { get_or ends.now count 0 ≤ 5195 }

@@ -29,7 +29,8 @@ impl Model for NodeBuf {
 }
 
 impl NodeBuf {
-    ghost use Rattle.std.specs.Prelude.{◌≡◌, ◌≤◌, ◌<◌, ◌+◌, ◌↔◌, ℕ, List, [], ◌++◌, length, take, insert, remove, slice_set, IsTrue, OnOk, OnErr, IfOk, IfErr, MatchResult};
+    ghost use Rattle.std.specs.Prelude.{◌≡◌, ◌≤◌, ◌<◌, ◌+◌, ◌↔◌, ℕ, List, [], ◌++◌, length, take, insert};
+    ghost use Rattle.std.specs.Prelude.{remove, slice_set, IsTrue, OnOk, OnErr, IfOk, IfErr, MatchResult};
     ghost use Rattle.page_node.specs.Entries.{key_at, value_at, child_in, size_of};
     ghost use Rattle.page_node.specs.Node.{Node, IsNode, IsShape, Fits, bytes_of};
     ghost use Rattle.page_node.specs.Held.{IsCutAtHalf};
@@ -115,7 +116,8 @@ impl NodeBuf {
     pub fn find(&self, key: &[u8]) -> Result<usize, usize>
         ensures within { MatchResult result (λ i. i < length self.now.entries) (λ i. i ≤ length self.now.entries) }
         ensures here { IfOk result (λ i. key_at self.now.entries i ≡ key.now) }
-        ensures place { Rises self.now.entries → MatchResult result (λ i. IsFound key.now self.now.entries i) (λ i. IsGap key.now self.now.entries i) }
+        ensures place { Rises self.now.entries → MatchResult result
+            (λ i. IsFound key.now self.now.entries i) (λ i. IsGap key.now self.now.entries i) }
     {
         let mut low = 0;
         let mut high = self.count;
@@ -246,7 +248,8 @@ impl NodeBuf {
         ensures level { (self.new.level ≡ self.old.level) × (right.new.level ≡ self.old.level) }
         ensures some { (0 < length self.new.entries) × (0 < length right.new.entries) }
         ensures fits { Fits self.new × Fits right.new }
-        ensures last { added + 1 ≡ length self.old.entries → size_of (take added self.old.entries) ≤ 4092 → self.new.entries ≡ take added self.old.entries }
+        ensures last { added + 1 ≡ length self.old.entries → size_of (take added self.old.entries) ≤ 4092
+            → self.new.entries ≡ take added self.old.entries }
         ensures half { IsCutAtHalf added self.old.entries self.new.entries }
     {
         let used = self.ends[self.count] as usize;

@@ -113,7 +113,8 @@ pub(crate) fn row_near(page: &[u8; 4096], key: &[u8]) -> Option<RowNear>
 
 /// The value of a key in a page whose keys rise, if the key is there.
 pub fn value_for<'a>(page: &'a [u8; 4096], key: &[u8]) -> Result<Option<&'a [u8]>, NotANode>
-    ensures value { (node : Node) → IsNode page.now node → Rises node.entries → IfOk result (λ found. option_copied found ≡ find key_cmp key.now node.entries) }
+    ensures value { (node : Node) → IsNode page.now node → Rises node.entries
+        → IfOk result (λ found. option_copied found ≡ find key_cmp key.now node.entries) }
     ensures err { OnErr result ((node : Node) → IsNode page.now node → ⊥) }
 {
     let count = count_of(page);
@@ -191,7 +192,8 @@ struct Near {
 /// One key of nine is looked at.
 fn near_for(page: &[u8; 4096], key: &[u8]) -> Option<Near>
     ensures within { IfSome result (λ near. (near.at ≤ 4096) × (near.value ≤ 4096) × (near.k ≤ count_in page.now)) }
-    ensures last { (node : Node) → IsNode page.now node → RisesBehind node.entries → IfSome result (λ near. IsLast page.now key.now node.entries near.k near.value near.at) }
+    ensures last { (node : Node) → IsNode page.now node → RisesBehind node.entries
+        → IfSome result (λ near. IsLast page.now key.now node.entries near.k near.value near.at) }
     ensures none { IfNone result ((node : Node) → IsNode page.now node → ⊥) }
 {
     let count = count_of(page);
@@ -242,12 +244,16 @@ pub(crate) struct WayDown {
 /// The child that a key belongs to, as `child_for` finds it, with the first entry whose key is above it, in a page whose keys rise
 /// behind the first, which is not looked at.
 pub(crate) fn turn_for(page: &[u8; 4096], key: &[u8]) -> Result<WayDown, NotANode>
-    ensures child { (node : Node) → IsNode page.now node → RisesBehind node.entries → IfOk result (λ turn. option_map child_in (floor key.now node.entries) ≡ Some turn.child) }
+    ensures child { (node : Node) → IsNode page.now node → RisesBehind node.entries
+        → IfOk result (λ turn. option_map child_in (floor key.now node.entries) ≡ Some turn.child) }
     ensures lies { IfOk result (λ turn. IfSome turn.above (λ above. LiesAt page.now above.at above.value above.end)) }
     ensures few { IfOk result (λ turn. IfSome turn.above (λ above. above.k < 65536)) }
-    ensures above { (node : Node) → IsNode page.now node → RisesBehind node.entries → IfOk result (λ turn. IfSome turn.above (λ above. IsTurn key.now node.entries above.k above.at)) }
-    ensures last { (node : Node) → IsNode page.now node → RisesBehind node.entries → IfOk result (λ turn. IfNone turn.above (ceiling key.now node.entries ≡ None)) }
-    ensures err { OnErr result ((node : Node) → IsNode page.now node → RisesBehind node.entries → 0 < node.level → floor key.now node.entries ≡ None) }
+    ensures above { (node : Node) → IsNode page.now node → RisesBehind node.entries
+        → IfOk result (λ turn. IfSome turn.above (λ above. IsTurn key.now node.entries above.k above.at)) }
+    ensures last { (node : Node) → IsNode page.now node → RisesBehind node.entries
+        → IfOk result (λ turn. IfNone turn.above (ceiling key.now node.entries ≡ None)) }
+    ensures err { OnErr result ((node : Node) → IsNode page.now node
+        → RisesBehind node.entries → 0 < node.level → floor key.now node.entries ≡ None) }
 {
     let count = count_of(page);
     let near = match near_for(page, key) {
@@ -292,10 +298,13 @@ pub struct Way<'a> {
 /// The child that a key belongs to, as `child_for` finds it, with the first key above it, in a page whose keys rise behind the
 /// first, which is not looked at.
 pub fn way_for<'a>(page: &'a [u8; 4096], key: &[u8]) -> Result<Way<'a>, NotANode>
-    ensures child { (node : Node) → IsNode page.now node → RisesBehind node.entries → IfOk result (λ way. option_map child_in (floor key.now node.entries) ≡ Some way.child) }
-    ensures bound { (node : Node) → IsNode page.now node → RisesBehind node.entries → IfOk result (λ way. option_copied way.bound ≡ ceiling key.now node.entries) }
+    ensures child { (node : Node) → IsNode page.now node → RisesBehind node.entries
+        → IfOk result (λ way. option_map child_in (floor key.now node.entries) ≡ Some way.child) }
+    ensures bound { (node : Node) → IsNode page.now node → RisesBehind node.entries
+        → IfOk result (λ way. option_copied way.bound ≡ ceiling key.now node.entries) }
     ensures short { IfOk result (λ way. IfSome way.bound (λ bound. length bound.now ≤ 72)) }
-    ensures err { OnErr result ((node : Node) → IsNode page.now node → RisesBehind node.entries → 0 < node.level → floor key.now node.entries ≡ None) }
+    ensures err { OnErr result ((node : Node) → IsNode page.now node
+        → RisesBehind node.entries → 0 < node.level → floor key.now node.entries ≡ None) }
 {
     let turn = turn_for(page, key)?;
     let child = turn.child;

@@ -22,7 +22,8 @@ pub(crate) struct Spot {
 
 /// The spot of a key in a page whose keys rise.
 pub(crate) fn spot_of(page: &[u8; 4096], key: &[u8]) -> Result<Spot, NotANode>
-    ensures spot { (node : Node) → IsNode page.now node → Rises node.entries → IfOk result (λ s. IsSpot key.now node.entries s.found s.index s.at s.end) }
+    ensures spot { (node : Node) → IsNode page.now node → Rises node.entries
+        → IfOk result (λ s. IsSpot key.now node.entries s.found s.index s.at s.end) }
     ensures order { IfOk result (λ s. (4 ≤ s.at) × (s.at ≤ s.end) × (s.end ≤ 4096)) }
     ensures few { IfOk result (λ s. s.index ≤ 65535) }
     ensures err { OnErr result ((node : Node) → IsNode page.now node → ⊥) }
@@ -70,7 +71,8 @@ pub(crate) fn spot_of(page: &[u8; 4096], key: &[u8]) -> Result<Spot, NotANode>
 /// Where the last entry of a page ends, from where one of them begins on.
 pub(crate) fn end_from(page: &[u8; 4096], index: usize, at: usize) -> Result<usize, NotANode>
     requires { at ≤ 4096 }
-    ensures end { (node : Node) → IsNode page.now node → index ≤ length node.entries → at ≡ 4 + size_of (take index node.entries) → IfOk result (λ end. end ≡ 4 + size_of node.entries) }
+    ensures end { (node : Node) → IsNode page.now node → index ≤ length node.entries
+        → at ≡ 4 + size_of (take index node.entries) → IfOk result (λ end. end ≡ 4 + size_of node.entries) }
     ensures order { IfOk result (λ end. (at ≤ end) × (end ≤ 4096)) }
     ensures err { OnErr result ((node : Node) → IsNode page.now node → index ≤ length node.entries → at ≡ 4 + size_of (take index node.entries) → ⊥) }
 {

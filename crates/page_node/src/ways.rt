@@ -42,7 +42,8 @@ fn follow(
     ensures lies { IfOk result (λ found. LiesAt page.now found.bound.at found.bound.value found.bound.end) }
     ensures under { IfOk result (λ found. starts_with nat_eq (part_of page.now (found.bound.at + 3) found.bound.value) prefix.now ≡ true) }
     ensures ways { FollowsWays page.now prefix.now first behind.new result }
-    ensures err { OnErr result ((node : Node) → IsNode page.now node → (key : List ℕ) → IsTurn key node.entries first.k first.at → 0 < node.level → ⊥) }
+    ensures err { OnErr result ((node : Node) → IsNode page.now node → (key : List ℕ)
+        → IsTurn key node.entries first.k first.at → 0 < node.level → ⊥) }
 {
     let count = count_of(page);
     let mut bound = first;
@@ -84,7 +85,8 @@ pub fn ways_for<'a>(
     ensures few { IfOk result (λ ways. ways.more ≤ 3) }
     ensures under { IfOk result (λ ways. 0 < ways.more → IsSomeAnd ways.bound (λ bound. starts_with nat_eq bound.now prefix.now ≡ true)) }
     ensures short { IfOk result (λ ways. IfSome ways.bound (λ bound. length bound.now ≤ 72)) }
-    ensures err { OnErr result ((node : Node) → IsNode page.now node → RisesBehind node.entries → 0 < node.level → floor key.now node.entries ≡ None) }
+    ensures err { OnErr result ((node : Node) → IsNode page.now node
+        → RisesBehind node.entries → 0 < node.level → floor key.now node.entries ≡ None) }
 {
     let turn = turn_for(page, key)?;
     let child = turn.child;

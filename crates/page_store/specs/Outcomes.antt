@@ -5,7 +5,8 @@ use Rattle.sector_device.specs.declared.SectorDevice.{Ghosts}
 use Rattle.gate_journal.specs.Store.{IsBeforeOrAfter}
 use Rattle.gate_journal.specs.Writes.{IsEdited}
 use Rattle.page_store.specs.Chain.{chain}
-use Rattle.page_store.specs.Transactions.{stored, disk_in, count_of, journal_of, has_halted, txn_list, txn_first, txn_free, IsWritten, over, free_over}
+use Rattle.page_store.specs.Transactions.{stored, disk_in, count_of, journal_of, has_halted, txn_list}
+use Rattle.page_store.specs.Transactions.{txn_first, txn_free, IsWritten, over, free_over}
 use Rattle.page_store.specs.declared.pages.Pages.{Pages}
 use Rattle.page_store.specs.declared.txn.Txn.{Txn}
 

@@ -100,7 +100,8 @@ module _ {D : Type 0} {g : Ghosts D} where
     -- from a fault on nothing changes
     pub still : is_halted old.journal ≡ true → new.journal ≡ old.journal
     -- only a fault halts, and each one does
-    pub rose : is_halted old.journal ≡ false → is_halted new.journal ≡ true → (disk_of new.journal).is_honest → (disk_of old.journal).faults < (disk_of new.journal).faults
+    pub rose : is_halted old.journal ≡ false → is_halted new.journal ≡ true
+        → (disk_of new.journal).is_honest → (disk_of old.journal).faults < (disk_of new.journal).faults
     pub calm : is_halted new.journal ≡ false → (disk_of new.journal).is_honest → (disk_of new.journal).faults ≡ (disk_of old.journal).faults
 
   -- a fault, and from then on only refusals
@@ -130,7 +131,8 @@ module _ {D : Type 0} {g : Ghosts D} where
   -- why no page is taken
   abbrev pub TakeErr : Txn → Pages D g → Pages D g → PageError → Type 0
   TakeErr t old new NoPages = t.free ≡ 0
-  TakeErr t old new DeviceFault = HasHalted old.journal new.journal ⊎ ((disk_of new.journal).is_honest → AreFree t.pages (free_over t (content old.journal)) → ⊥)
+  TakeErr t old new DeviceFault = HasHalted old.journal new.journal
+      ⊎ ((disk_of new.journal).is_honest → AreFree t.pages (free_over t (content old.journal)) → ⊥)
   TakeErr t old new Halted = is_halted old.journal ≡ true
   TakeErr t old new NotAStore = ⊥
   TakeErr t old new TooManyPages = ⊥

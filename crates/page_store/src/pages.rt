@@ -46,7 +46,8 @@ fn read_meta<D: SectorDevice>(journal: &mut Journal<D>) -> Result<Meta, PageErro
     ensures quiet { (disk_of journal.new).is_honest → is_halted journal.old ≡ false → Touches Nowhere (disk_of journal.old) (disk_of journal.new) }
     ensures honest { (disk_of journal.new).is_honest → (disk_of journal.old).is_honest }
     ensures same { (disk_of journal.new).is_honest → content journal.new ≡ content journal.old }
-    ensures below { IfOk result (λ meta. (meta.root < page_count journal.old) × (meta.first < page_count journal.old) × (meta.free < page_count journal.old)) }
+    ensures below { IfOk result (λ meta. (meta.root < page_count journal.old)
+        × (meta.first < page_count journal.old) × (meta.free < page_count journal.old)) }
     ensures meta { (disk_of journal.new).is_honest → IfOk result (λ meta. IsMeta (content journal.old) meta.root meta.first meta.free) }
     ensures working { OnOk result (is_halted journal.new ≡ false) }
     ensures passed { (disk_of journal.new).is_honest → OnOk result ((disk_of journal.new).faults ≡ (disk_of journal.old).faults) }
@@ -74,14 +75,16 @@ impl<D: SectorDevice> Pages<D> {
     ghost use Rattle.page_store.specs.Chain.{root_in, free_in, IsPages};
     ghost use Rattle.page_store.specs.Openings.{AllPageStores};
     ghost use Rattle.page_store.specs.Lent.{held_at, lent_bytes};
-    ghost use Rattle.page_store.specs.Transactions.{stored, disk_in, device_in, count_of, journal_of, has_halted, txn_pages, txn_writes, txn_root, over, free_over, IsQuiet, IsKept, IsUntouched, ReadErr, OpenErr, device_after};
+    ghost use Rattle.page_store.specs.Transactions.{stored, disk_in, device_in, count_of, journal_of, has_halted, txn_pages, txn_writes, txn_root};
+    ghost use Rattle.page_store.specs.Transactions.{over, free_over, IsQuiet, IsKept, IsUntouched, ReadErr, OpenErr, device_after};
 
     /// Opens the pages that a device holds, as `Journal::open`. With a refusal the device comes back. `Memory`: no room for the
     /// pages that are to be held; it comes of a store alone.
     pub fn open(alloc: Global, device: D) -> Result<Pages<D>, (PageError, D)>
         ensures sectors { (D.disk (device_after result)).sectors ≡ (D.disk device).sectors }
         ensures honest { (D.disk (device_after result)).is_honest → (D.disk device).is_honest }
-        ensures any_moment { (D.disk (device_after result)).is_honest → AllStores (D.disk device) → LeavesOnly (ReadsAs (D.disk device)) (D.disk device) (D.disk (device_after result)) }
+        ensures any_moment { (D.disk (device_after result)).is_honest → AllStores (D.disk device)
+            → LeavesOnly (ReadsAs (D.disk device)) (D.disk device) (D.disk (device_after result)) }
         ensures working { IfOk result (λ ps. has_halted ps ≡ false) }
         ensures room { IfOk result (λ ps. HasRoom (D.disk device).sectors (journal_of ps) (count_of ps)) }
         ensures found { IfOk result (λ ps. (disk_in ps).is_honest → Found (journal_of ps) (count_of ps) (D.disk device) (disk_in ps)) }

@@ -45,7 +45,9 @@ impl Txn {
     ghost use Rattle.std.specs.Fn.{FnOnceReturnsAtMut};
     ghost use Rattle.gate_journal.specs.Store.{put};
     ghost use Rattle.page_store.specs.Chain.{IsIn, AreFree, IsPages, root_in, free_in};
-    ghost use Rattle.page_store.specs.Transactions.{stored, disk_in, count_of, has_halted, txn_pages, txn_list, txn_writes, IsWritten, txn_root, txn_first, txn_free, over, free_over, prepared_pages, prepared_writes, after, IsQuiet, ReadErr, TakeErr, GiveErr};
+    ghost use Rattle.page_store.specs.Transactions.{stored, disk_in, count_of, has_halted, txn_pages, txn_list};
+    ghost use Rattle.page_store.specs.Transactions.{txn_writes, IsWritten, txn_root, txn_first, txn_free};
+    ghost use Rattle.page_store.specs.Transactions.{over, free_over, prepared_pages, prepared_writes, after, IsQuiet, ReadErr, TakeErr, GiveErr};
     ghost use Rattle.page_store.specs.Outcomes.{EditsPage, TellsNextFree};
     ghost use Rattle.page_store.specs.declared.error.PageError.TheVariants.{Memory};
     ghost use Rattle.page_store.specs.Lent.{lent_bytes};
@@ -163,7 +165,8 @@ impl Txn {
         ensures list { txn_list self.new ≡ txn_list self.old }
         ensures over { (P : Image) → over self.new P ≡ over self.old P }
         ensures below { IfOk result (λ p. p < txn_pages self.old) }
-        ensures taken { (disk_in pages.new).is_honest → IfOk result (λ p. free_over self.old (stored pages.old) ≡ p ∷ free_over self.new (stored pages.old)) }
+        ensures taken { (disk_in pages.new).is_honest
+            → IfOk result (λ p. free_over self.old (stored pages.old) ≡ p ∷ free_over self.new (stored pages.old)) }
         ensures passed { (disk_in pages.new).is_honest → OnOk result ((disk_in pages.new).faults ≡ (disk_in pages.old).faults) }
         ensures ok { OnOk result (has_halted pages.new ≡ has_halted pages.old) }
         ensures err { IfErr result (λ e. TakeErr self.old pages.old pages.new e) }
@@ -281,7 +284,8 @@ impl Txn {
 impl Prepared {
     ghost use Rattle.std.specs.Prelude.{◌≡◌, ◌≤◌, length, true, false, Err, OnOk, IfErr};
     ghost use Rattle.sector_device.specs.Disk.{Image};
-    ghost use Rattle.page_store.specs.Transactions.{stored, disk_in, count_of, journal_of, has_halted, prepared_pages, prepared_writes, after, HasShape, IsSame, IsKept, CommitErr};
+    ghost use Rattle.page_store.specs.Transactions.{stored, disk_in, count_of, journal_of, has_halted, prepared_pages};
+    ghost use Rattle.page_store.specs.Transactions.{prepared_writes, after, HasShape, IsSame, IsKept, CommitErr};
     ghost use Rattle.page_store.specs.Outcomes.{LeavesAllOrNone, IsCommittedWithoutFault};
     ghost use Rattle.page_store.specs.declared.error.PageError.TheVariants.{Halted};
 
@@ -294,7 +298,8 @@ impl Prepared {
         ensures after { (disk_in pages.new).is_honest → OnOk result (stored pages.new ≡ after self (stored pages.old)) }
         ensures kept { (disk_in pages.new).is_honest → OnOk result (IsKept pages.new) }
         ensures passed { (disk_in pages.new).is_honest → OnOk result ((disk_in pages.new).faults ≡ (disk_in pages.old).faults) }
-        ensures ok { OnOk result ((has_halted pages.old ≡ false) × (length (prepared_writes self) ≤ journal_of pages.old) × (has_halted pages.new ≡ false)) }
+        ensures ok { OnOk result ((has_halted pages.old ≡ false)
+            × (length (prepared_writes self) ≤ journal_of pages.old) × (has_halted pages.new ≡ false)) }
         ensures succeeds { IsCommittedWithoutFault (prepared_writes self) pages.old pages.new result }
         ensures still { has_halted pages.old ≡ true → (result ≡ Err Halted) × IsSame pages.old pages.new }
         ensures err { IfErr result (λ e. CommitErr (length (prepared_writes self)) pages.old pages.new e) }

@@ -1,5 +1,6 @@
 -- The records of the geographic header that are taken: 2020 Census PL 94-171 summary file, fields of the geographic header.
-use Rattle.std.specs.Prelude.{◌≡◌, ℕ, ◌+◌, ◌-◌, ◌*◌, ◌^◌, Bool, not, ◌||◌, if◌then◌else◌, ◌==◌, nat_lt, nat_eq, List, [], length, get_or, slice_index, Option, Some, None, Result, Ok, Err, codes, IfSome}
+use Rattle.std.specs.Prelude.{◌≡◌, ℕ, ◌+◌, ◌-◌, ◌*◌, ◌^◌, Bool, not, ◌||◌, if◌then◌else◌, ◌==◌, nat_lt, nat_eq, List, []}
+use Rattle.std.specs.Prelude.{length, get_or, slice_index, Option, Some, None, Result, Ok, Err, codes, IfSome}
 use Rattle.std.specs.Cmp.Lexicographic.{pointwise}
 use Rattle.field_text.specs.Digits.{number_of, number_of_digits}
 use Rattle.field_text.specs.Fields.{fields}
@@ -67,7 +68,8 @@ block_entry (Some n) (Some s) (Some c) (Some p) i (Some t) (Some b) =
     Ok (record { block = Some (block_number s c t b); number = n; state = s; city = if i then p else None })
 
 abbrev pub block_read : List (List ℕ) → Result GeoRecord HeaderLineFault
-block_read whole = block_entry (logrecno whole) (state_code whole) (county_code whole) (place_of (field 30 whole)) (is_city (field 31 whole)) (tract_code whole) (block_code whole)
+block_read whole = block_entry (logrecno whole) (state_code whole) (county_code whole)
+    (place_of (field 30 whole)) (is_city (field 31 whole)) (tract_code whole) (block_code whole)
 
 abbrev pub state_entry : Option ℕ → Option ℕ → Result GeoRecord HeaderLineFault
 state_entry None s = Err RecordNumber

@@ -75,7 +75,8 @@ refused refusal.Memory number = fault.Memory
 
 -- the records of all lines
 abbrev pub Finishes : List GeoRecord → ℕ → Result GeoRows GeoFault → Type 0
-Finishes es number (Ok rows) = AreGeoRows rows × (0 < length (ids_of es)) × (rows.blocks.items ≡ blocks_of es) × (rows.state_record ≡ state_record_of es)
+Finishes es number (Ok rows) = AreGeoRows rows × (0 < length (ids_of es))
+    × (rows.blocks.items ≡ blocks_of es) × (rows.state_record ≡ state_record_of es)
 Finishes es number (Err e) = (e ≡ fault.NoBlock number) × (ids_of es ≡ [])
 
 -- the bytes that came are these good lines, whose records the header holds, and the held bytes

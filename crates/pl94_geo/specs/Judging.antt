@@ -1,5 +1,6 @@
 -- When the lines of a geographic header are good: each taken record against those before it.
-use Rattle.std.specs.Prelude.{ℕ, Bool, not, if◌then◌else◌, ◌==◌, nat_le, nat_eq, List, [], ◌∷◌, map, length, Option, Some, None, Result, Ok, Err, is_some, is_none}
+use Rattle.std.specs.Prelude.{ℕ, Bool, not, if◌then◌else◌, ◌==◌, nat_le, nat_eq, List, [], ◌∷◌, map}
+use Rattle.std.specs.Prelude.{length, Option, Some, None, Result, Ok, Err, is_some, is_none}
 use Rattle.std.specs.List.{list_any, filter_map}
 use Rattle.std.specs.Option.{option_map}
 use Rattle.desk_model.specs.Geography.{block_limit}

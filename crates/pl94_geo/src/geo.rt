@@ -100,7 +100,8 @@ fn finish(header: Header, lines: u64) -> Result<GeoRows, GeoFault>
 impl GeoReader {
     /// Reads the header to the end of the source. It holds one line at a time.
     pub fn read<R: Source>(alloc: Global, reader: &mut R) -> Result<GeoRows, GeoFault>
-        ensures read { (text : List ℕ) × Consumes (R.remaining reader.old) (R.remaining reader.new) text × IsRead text (R.remaining reader.new) result }
+        ensures read { (text : List ℕ) × Consumes (R.remaining reader.old) (R.remaining reader.new) text
+            × IsRead text (R.remaining reader.new) result }
         ensures valid { IfOk result AreGeoRows }
         ensures failures { R.failures reader.new ≡ failures_after_file (R.failures reader.old) result }
         ensures turns { (line : ℕ) → result ≡ Err (GeoFault.TurnLimit line) → R.turns reader.new ≡ counted (R.turns reader.old) turn_limit }

@@ -69,9 +69,12 @@ pub record AreRowsOf (header first second third : List ℕ) (geo : GeoRows) (a b
 
 -- what the join gives of them is what the texts say, and where the texts say it the join gives it
 abbrev pub FilesLaw : Type 0
-FilesLaw = (header first second third : List ℕ) (geo : GeoRows) (a b c : SegRows) (rows : List BlockRow) → AreRowsOf header first second third geo a b c
-    → (AreJoined geo a b c rows → AreCensusFiles header first second third rows) × (AreCensusFiles header first second third rows → AreJoined geo a b c rows)
+FilesLaw = (header first second third : List ℕ) (geo : GeoRows) (a b c : SegRows) (rows : List BlockRow)
+    → AreRowsOf header first second third geo a b c
+    → (AreJoined geo a b c rows → AreCensusFiles header first second third rows)
+    × (AreCensusFiles header first second third rows → AreJoined geo a b c rows)
 
 -- a segment's lines are good one after the other exactly where they are a segment's as a whole
 abbrev pub SegmentLaw : Type 0
-SegmentLaw = (part : SegmentNumber) (ls : List (List ℕ)) → (AreGood (judge part) ls → AreSegmentLines part ls) × (AreSegmentLines part ls → AreGood (judge part) ls)
+SegmentLaw = (part : SegmentNumber) (ls : List (List ℕ))
+    → (AreGood (judge part) ls → AreSegmentLines part ls) × (AreSegmentLines part ls → AreGood (judge part) ls)

@@ -1,5 +1,6 @@
 -- The header and the segments together: 2020 Census PL 94-171 summary file, joined by LOGRECNO.
-use Rattle.std.specs.Prelude.{◌≡◌, ◌≢◌, ℕ, ◌<◌, ◌≤◌, ◌^◌, if◌then◌else◌, List, ◌++◌, map, sum_by, All, Contains, Option, Some, None, IsSome, IfSome, Result, Ok, Err, is_none, unwrap_or, MatchOption, ⊤}
+use Rattle.std.specs.Prelude.{◌≡◌, ◌≢◌, ℕ, ◌<◌, ◌≤◌, ◌^◌, if◌then◌else◌, List, ◌++◌, map, sum_by, All, Contains, Option}
+use Rattle.std.specs.Prelude.{Some, None, IsSome, IfSome, Result, Ok, Err, is_none, unwrap_or, MatchOption, ⊤}
 use Rattle.std.specs.Prelude.{Vec}
 use Rattle.std.specs.declared.alloc.Global.{Global}
 use Rattle.std.specs.List.Sorted.{IsPermutation}

@@ -1,5 +1,6 @@
 -- A segment as a whole: which texts are segments, and what they say.
-use Rattle.std.specs.Prelude.{◌≡◌, ℕ, ◌-◌, List, [], ◌∷◌, ◌++◌, length, get_or, if◌then◌else◌, ◌==◌, nat_lt, false, Option, Some, None, Result, Ok, Err, ⊤}
+use Rattle.std.specs.Prelude.{◌≡◌, ℕ, ◌-◌, List, [], ◌∷◌, ◌++◌, length, get_or, if◌then◌else◌}
+use Rattle.std.specs.Prelude.{◌==◌, nat_lt, false, Option, Some, None, Result, Ok, Err, ⊤}
 use Rattle.std.specs.BTreeMap.{get}
 use Rattle.std.specs.Ordering.{nat_cmp}
 use Rattle.std.specs.Io.KnownBytes.{Consumes, IsAtEnd}

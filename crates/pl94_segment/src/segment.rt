@@ -201,7 +201,8 @@ impl SegmentReader {
         part: SegmentNumber,
         reader: &mut R,
     ) -> Result<SegRows, SegFault>
-        ensures read { (text : List ℕ) × Consumes (R.remaining reader.old) (R.remaining reader.new) text × IsRead part text (R.remaining reader.new) result }
+        ensures read { (text : List ℕ) × Consumes (R.remaining reader.old) (R.remaining reader.new) text
+            × IsRead part text (R.remaining reader.new) result }
         ensures failures { R.failures reader.new ≡ failures_after_file (R.failures reader.old) result }
         ensures turns { (line : ℕ) → result ≡ Err (SegFault.TurnLimit line) → R.turns reader.new ≡ counted (R.turns reader.old) turn_limit }
         ensures most { R.turns reader.new ≤ R.turns reader.old + turn_limit }

@@ -17,7 +17,8 @@ use Rattle.plan_table.specs.PlanRows.{IsFound, revised_rows}
 
 -- the rows of a revision's chunks, of which so many are new, those by which the plan holds these, and those of all names
 abbrev pub front_rows : ℕ → List (List ℕ) → PlanRow → List ℕ → ℕ → List Row
-front_rows first lists row numbers used = (new_chunk_rows first lists ++ new_holding_rows row.number first used) ++ name_rows row.number (row.revisions + 1) numbers
+front_rows first lists row numbers used = (new_chunk_rows first lists ++ new_holding_rows row.number first used)
+    ++ name_rows row.number (row.revisions + 1) numbers
 
 -- and then the plan's and that of the numbers, of which so many are used
 abbrev pub rows_put : List ℕ → PlanRow → Counters → List (List ℕ) → List ℕ → ℕ → List Row

@@ -87,7 +87,8 @@ pub record CanMake (g : Ground) (name : List ℕ) (source : PlanRow) (next : Cou
   pub fit : CountersFit next
   pub room : HasPlanNumber next
 
-pub record MakesFork (name : List ℕ) (from : List ℕ × ℕ) (source : PlanRow) (next : Counters) (numbers : List ℕ) (m : KeyMap) (d : Desk) : Type 0 where
+pub record MakesFork (name : List ℕ) (from : List ℕ × ℕ) (source : PlanRow)
+    (next : Counters) (numbers : List ℕ) (m : KeyMap) (d : Desk) : Type 0 where
   pub can : CanFork name source next numbers m
   pub is : IsDeskMap (forked_map name source next numbers m) (with_fork name from d)
 

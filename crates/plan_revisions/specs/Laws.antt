@@ -32,10 +32,12 @@ all_rows g name last next row counters kept =
     rows_put name row counters (changed g last next) (drawn counters.chunk 0 kept (changes_in last next (cuts_of g))) (length (changed g last next))
 
 abbrev pub DesksAreAdded : Type 0
-DesksAreAdded = (g : Ground) (name : List ℕ) (last : Option (List ℕ)) (next : List ℕ) (row : PlanRow) (counters : Counters) (kept : List ℕ) → CanAdd g last next row counters
+DesksAreAdded = (g : Ground) (name : List ℕ) (last : Option (List ℕ)) (next : List ℕ)
+    (row : PlanRow) (counters : Counters) (kept : List ℕ) → CanAdd g last next row counters
     → (m : KeyMap) (d : Desk) → IsDeskMap m d → TakesRevision g name last d → AreRead name (length (cuts_of g)) row counters kept m
     → IsDeskMap (put_rows m (all_rows g name last next row counters kept)) (with_next name next d)
 
 -- they are as many as a store is to have room for
 abbrev pub RowsAreFew : Type 0
-RowsAreFew = (g : Ground) (name : List ℕ) (last : Option (List ℕ)) (next : List ℕ) (row : PlanRow) (counters : Counters) (kept : List ℕ) → length (all_rows g name last next row counters kept) ≡ revision_rows g last next
+RowsAreFew = (g : Ground) (name : List ℕ) (last : Option (List ℕ)) (next : List ℕ) (row : PlanRow) (counters : Counters) (kept : List ℕ)
+    → length (all_rows g name last next row counters kept) ≡ revision_rows g last next

@@ -26,17 +26,20 @@ module _ {D : Type 0} {g : Ghosts D} where
       MatchResult result (λ _. HasStepped says next rows t u old new) (λ e. StepErr says rows t old new e)
 
   -- the same of one that asks for numbers, where they were left
-  abbrev pub StepsWhereLeft : (Desk → Type 0) → (Desk → Desk) → ℕ → (Counters → Type 0) → Txn → Txn → Pages D g → Pages D g → Result ChangeOutcome TreeError → Type 0
+  abbrev pub StepsWhereLeft : (Desk → Type 0) → (Desk → Desk) → ℕ → (Counters → Type 0)
+      → Txn → Txn → Pages D g → Pages D g → Result ChangeOutcome TreeError → Type 0
   StepsWhereLeft says next rows enough t u old new result =
       MatchResult result (λ change. IsStepped says next rows enough t u old new change) (λ e. StepErr says rows t old new e)
 
 -- the rows of a revision in which these counties change, with the numbers of its chunks, of which so many are used
-abbrev pub AddsRows : {D T : Type 0} {g : Ghosts D} → List ℕ → PlanRow → Counters → List Bool → List ℕ → List Cut → List ℕ → ℕ → Txn → Txn → Pages D g → Pages D g → Result T TreeError → Type 0
+abbrev pub AddsRows : {D T : Type 0} {g : Ghosts D} → List ℕ → PlanRow → Counters → List Bool
+    → List ℕ → List Cut → List ℕ → ℕ → Txn → Txn → Pages D g → Pages D g → Result T TreeError → Type 0
 AddsRows name row counters changes next cuts numbers used t u old new result =
     PutsRows (rows_put name row counters (new_lists changes next cuts) numbers used) t u old new result
 
 -- behind a last revision since which these counties change: the desk's plan has one more, where numbers were left for their chunks
-abbrev pub AddsRevision : {D : Type 0} {g : Ghosts D} → Ground → List Cut → List Bool → List ℕ → List ℕ → Txn → Txn → Pages D g → Pages D g → Result ChangeOutcome TreeError → Type 0
+abbrev pub AddsRevision : {D : Type 0} {g : Ghosts D} → Ground → List Cut → List Bool → List ℕ
+    → List ℕ → Txn → Txn → Pages D g → Pages D g → Result ChangeOutcome TreeError → Type 0
 AddsRevision geography cuts changes name next t u old new result =
     (last : Option (List ℕ)) → changes ≡ changes_in last next cuts
     → StepsWhereLeft (TakesRevision geography name last) (with_next name next) (revision_rows geography last next)

@@ -39,11 +39,13 @@ fn put_revision<D: SectorDevice>(
     requires geography { shown.now.geography ≡ Some geography.now }
     requires cut { cuts.now ≡ cuts_in shown.now.geography }
     requires revised { IsRevised shown.now name.now after then.now }
-    requires changes { changes.now ≡ changes_between (revision_in (map_of.get shown.now.plans name.now) after) (revision_in (map_of.get then.now.plans name.now) (after + 1)) cuts.now }
+    requires changes { changes.now ≡ changes_between (revision_in (map_of.get shown.now.plans name.now) after)
+        (revision_in (map_of.get then.now.plans name.now) (after + 1)) cuts.now }
     ensures quiet { IsQuiet pages.old pages.new }
     ensures begun { txn_pages txn.new ≡ count_of pages.new }
     ensures put { MatchResult result
-        (λ change. IsStepped (λ d. d ≡ shown.now) (λ d. then.now) (rows_added_by shown.now name.now then.now) (HasChunkNumbers (added_by shown.now name.now then.now)) txn.old txn.new pages.old pages.new change)
+        (λ change. IsStepped (λ d. d ≡ shown.now) (λ d. then.now) (rows_added_by shown.now name.now then.now)
+        (HasChunkNumbers (added_by shown.now name.now then.now)) txn.old txn.new pages.old pages.new change)
         (λ e. StepErr (λ d. d ≡ shown.now) (rows_added_by shown.now name.now then.now) txn.old pages.old pages.new e) }
 {
     let next = next_of(then, name, after + 1);
@@ -71,7 +73,8 @@ pub fn put_command<D: SectorDevice>(
     ensures quiet { IsQuiet pages.old pages.new }
     ensures begun { txn_pages txn.new ≡ count_of pages.new }
     ensures put { MatchResult result
-        (λ change. IsStepped (λ d. d ≡ shown.now) (λ d. then.now) (rows_of_command shown.now command.now) (HasNumbers shown.now command.now) txn.old txn.new pages.old pages.new change)
+        (λ change. IsStepped (λ d. d ≡ shown.now) (λ d. then.now) (rows_of_command shown.now command.now)
+        (HasNumbers shown.now command.now) txn.old txn.new pages.old pages.new change)
         (λ e. StepErr (λ d. d ≡ shown.now) (rows_of_command shown.now command.now) txn.old pages.old pages.new e) }
 {
     let Some(geography) = shown.geography() else {

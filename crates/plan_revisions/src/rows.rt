@@ -41,7 +41,8 @@ fn rows_between(
     requires geography { shown.now.geography ≡ Some geography.now }
     requires cut { cuts.now ≡ cuts_in shown.now.geography }
     requires revised { IsRevised shown.now name.now after then.now }
-    requires changes { changes.now ≡ changes_between (revision_in (map_of.get shown.now.plans name.now) after) (revision_in (map_of.get then.now.plans name.now) (after + 1)) cuts.now }
+    requires changes { changes.now ≡ changes_between (revision_in (map_of.get shown.now.plans name.now) after)
+        (revision_in (map_of.get then.now.plans name.now) (after + 1)) cuts.now }
     ensures { result ≡ added_rows shown.now.geography (map_of.get shown.now.plans name.now) (map_of.get then.now.plans name.now) }
 {
     let _blocks = geography.blocks();

@@ -31,12 +31,17 @@ IsTold m g name (Some p) None = ⊥
 IsTold m g name (Some p) (Some row) = (row ≡ plan_row_of row.number p) × HasPlan m g name row.number p
 
 abbrev pub PlansAreTold : Type 0
-PlansAreTold = (m : KeyMap) (g : Ground) (plans : FinMap name_cmp Plan) (name : List ℕ) (found : Option PlanRow) → IsDesk m (desk_with g plans) → IsFound m name found → IfSome found RowFits → IsTold m g name (get plans name) found
+PlansAreTold = (m : KeyMap) (g : Ground) (plans : FinMap name_cmp Plan) (name : List ℕ) (found : Option PlanRow)
+    → IsDesk m (desk_with g plans) → IsFound m name found → IfSome found RowFits → IsTold m g name (get plans name) found
 
 -- ---- a plan that is created or taken away
 pub record MakesAndTakes (m : KeyMap) (g : Ground) (plans : FinMap name_cmp Plan) (name : List ℕ) : Type 0 where
   pub created : (kind : Kind) (districts : ℕ) (next : Counters) → IsPlanName name → CountersFit next → districts < 2 ^ 16
-      → IsDesk (put_rows m (created_rows name kind districts next)) (desk_with g (insert plans name (record { kind = kind; n = districts; revisions = [] })))
+      → IsDesk (put_rows m (created_rows name kind districts next)) (desk_with g (insert plans name (record {
+        kind = kind;
+        n = districts;
+        revisions = [];
+      })))
   pub taken_away : (number : ℕ) → IsDesk (retired_map m name number) (desk_with g (remove plans name))
 
 abbrev pub PlansAreMade : Type 0
@@ -48,13 +53,16 @@ pub record HasRevisionRows (m n : KeyMap) (g : Ground) (plans : FinMap name_cmp 
   pub seals : SameTag 83 m n
   pub rows : SameTag 103 m n
   pub names : SameTag 80 m n
-  pub earlier : (other : List ℕ) (plan : ℕ) (q : Plan) → get plans other ≡ Some q → HasPlan m g other plan q → RevisionsStay m n plan (length q.revisions)
+  pub earlier : (other : List ℕ) (plan : ℕ) (q : Plan) → get plans other ≡ Some q
+      → HasPlan m g other plan q → RevisionsStay m n plan (length q.revisions)
   pub added : HasRevision n number (length p.revisions + 1) (cut g districts)
 
 -- then the plan's row with one revision more makes the desk with that revision, whichever numbers come next
 abbrev pub RevisionsAreCounted : Type 0
-RevisionsAreCounted = (m n : KeyMap) (g : Ground) (plans : FinMap name_cmp Plan) (name : List ℕ) (row : PlanRow) (p : Plan) (districts : List ℕ) (used : ℕ) (next : Counters)
-    → IsDesk m (desk_with g plans) → get plans name ≡ Some p → row ≡ plan_row_of row.number p → HasPlan m g name row.number p → length districts ≡ length g.blocks → length p.revisions < most_revisions
+RevisionsAreCounted = (m n : KeyMap) (g : Ground) (plans : FinMap name_cmp Plan)
+    (name : List ℕ) (row : PlanRow) (p : Plan) (districts : List ℕ) (used : ℕ) (next : Counters)
+    → IsDesk m (desk_with g plans) → get plans name ≡ Some p → row ≡ plan_row_of row.number p
+    → HasPlan m g name row.number p → length districts ≡ length g.blocks → length p.revisions < most_revisions
     → HasRevisionRows m n g plans row.number p districts
     → IsDesk (put_rows n (revised_rows name row used next)) (desk_with g (insert plans name (with_revision p districts)))
 

@@ -46,10 +46,12 @@ module _ {D : Type 0} {g : Ghosts D} where
 
   -- why a change of two rows that asks for numbers was refused
   abbrev pub ChangeErr : (Counters → List Row) → Txn → Pages D g → Pages D g → TreeError → Type 0
-  ChangeErr rows t old new DeviceFault = HasFailed old new ⊎ ((disk_in new).is_honest → (m : KeyMap) (next : Counters) → InTxn t (stored old) m → IsNext m next → ⊥)
+  ChangeErr rows t old new DeviceFault = HasFailed old new
+      ⊎ ((disk_in new).is_honest → (m : KeyMap) (next : Counters) → InTxn t (stored old) m → IsNext m next → ⊥)
   ChangeErr rows t old new Halted = has_halted old ≡ true
   ChangeErr rows t old new NoPages = txn_free t < 12
-  ChangeErr rows t old new TooDeep = (disk_in new).is_honest → (m : KeyMap) → InTxn t (stored old) m → (next : Counters) × CountersFit next × IsNext m next × HasDeepened (rows next) t old m
+  ChangeErr rows t old new TooDeep = (disk_in new).is_honest → (m : KeyMap) → InTxn t (stored old) m
+      → (next : Counters) × CountersFit next × IsNext m next × HasDeepened (rows next) t old m
   ChangeErr rows t old new Memory = Unit {0}
 
   -- the plan was taken away
@@ -65,5 +67,6 @@ module _ {D : Type 0} {g : Ghosts D} where
   RetireErr name number t old new DeviceFault = IsFault t old new
   RetireErr name number t old new Halted = has_halted old ≡ true
   RetireErr name number t old new NoPages = txn_free t < 6
-  RetireErr name number t old new TooDeep = (disk_in new).is_honest → (m : KeyMap) → InTxn t (stored old) m → HasDeepened (retired_rows number) t old (remove m (key_of (named name)))
+  RetireErr name number t old new TooDeep = (disk_in new).is_honest → (m : KeyMap)
+      → InTxn t (stored old) m → HasDeepened (retired_rows number) t old (remove m (key_of (named name)))
   RetireErr name number t old new Memory = Unit {0}

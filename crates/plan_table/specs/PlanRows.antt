@@ -25,7 +25,8 @@ plan_rows name row next = (key_of (named name), plan_bytes row) ∷ (key_of coun
 
 -- A plan is created: it gets the number that is next, and has no revision.
 abbrev pub created_rows : List ℕ → Kind → ℕ → Counters → List Row
-created_rows name kind districts next = plan_rows name (record { number = next.plan; kind = kind; districts = districts; revisions = 0 }) (one_plan_more next)
+created_rows name kind districts next = plan_rows name
+    (record { number = next.plan; kind = kind; districts = districts; revisions = 0 }) (one_plan_more next)
 
 abbrev pub HasPlanNumber : Counters → Type 0
 HasPlanNumber next = next.plan + 1 < 2 ^ 64

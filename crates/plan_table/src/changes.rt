@@ -115,7 +115,8 @@ pub fn retire_plan<D: SectorDevice>(
     requires begun { txn_pages txn.old ≡ count_of pages.old }
     ensures quiet { IsQuiet pages.old pages.new }
     ensures begun { txn_pages txn.new ≡ count_of pages.new }
-    ensures retire { MatchResult result (λ _. HasRetired name.now number txn.old txn.new pages.old pages.new) (λ e. RetireErr name.now number txn.old pages.old pages.new e) }
+    ensures retire { MatchResult result (λ _. HasRetired name.now number txn.old txn.new pages.old pages.new)
+        (λ e. RetireErr name.now number txn.old pages.old pages.new e) }
     ensures spent { IfErr result (λ e. e ≡ NoPages → txn_free txn.new ≡ 0) }
 {
     let key = Key::named(name);

@@ -22,7 +22,8 @@ pub fn find_plan<D: SectorDevice>(
     requires begun { txn_pages txn.now ≡ count_of pages.old }
     ensures quiet { IsQuiet pages.old pages.new }
     ensures passed { OnOk result (Passed pages.old pages.new) }
-    ensures found { (disk_in pages.new).is_honest → (m : KeyMap) → InTxn txn.now (stored pages.old) m → IfOk result (λ found. IsFound m name.now found) }
+    ensures found { (disk_in pages.new).is_honest → (m : KeyMap)
+        → InTxn txn.now (stored pages.old) m → IfOk result (λ found. IsFound m name.now found) }
     ensures err { IfErr result (λ e. ReadErr (HasRow name.now) txn.now pages.old pages.new e) }
 {
     get_row(txn, pages, &Key::named(name))

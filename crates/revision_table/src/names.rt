@@ -27,7 +27,8 @@ fn append_part<D: SectorDevice>(
     requires index { index < 2 ^ 8 }
     requires within { 128 * index < count }
     ensures quiet { IsQuiet pages.old pages.new }
-    ensures there { (disk_in pages.new).is_honest → (m : KeyMap) → InTxn txn.now (stored pages.old) m → OnOk result (HasRow (key_of (part plan revision index)) m) }
+    ensures there { (disk_in pages.new).is_honest → (m : KeyMap) → InTxn txn.now (stored pages.old) m
+        → OnOk result (HasRow (key_of (part plan revision index)) m) }
     ensures append { Appends (AreNames plan revision count) (names_in index) txn.now pages.old pages.new into.old.items into.new.items result }
 {
     let mut bytes = [0; 1024];

@@ -25,7 +25,8 @@ fn append_county<D: SectorDevice>(
     requires each { length numbers.now ≡ length cuts.now }
     requires within { county < length cuts.now }
     ensures quiet { IsQuiet pages.old pages.new }
-    ensures append { Appends (AreCounties numbers.now cuts.now) (λ all. get_or all county []) txn.now pages.old pages.new into.old.items into.new.items result }
+    ensures append { Appends (AreCounties numbers.now cuts.now)
+        (λ all. get_or all county []) txn.now pages.old pages.new into.old.items into.new.items result }
 {
     append_chunk(
         txn,

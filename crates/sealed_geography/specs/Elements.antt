@@ -22,7 +22,8 @@ pub record HoldsElement {X : Type 0} (bytes_of : X → List ℕ) (fits : X → T
   pub row : row_at m key ≡ Some (bytes_of x)
 
 -- so many elements stand in the rows of a load, each at its place
-pub record HoldsElements {X : Type 0} (bytes_of : X → List ℕ) (fits : X → Type 0) (key_at : ℕ → List ℕ) (count : ℕ) (m : KeyMap) (xs : List X) : Type 0 where
+pub record HoldsElements {X : Type 0} (bytes_of : X → List ℕ) (fits : X
+    → Type 0) (key_at : ℕ → List ℕ) (count : ℕ) (m : KeyMap) (xs : List X) : Type 0 where
   pub long : length xs ≡ count
   pub fit : All fits xs
   pub rows : (place : ℕ) → place < count → row_at m (key_at place) ≡ element_row bytes_of xs place

@@ -33,7 +33,8 @@ pub record IsTaken (found : Bool) (scan : Scan) (row : Row) (m : KeyMap) : Type 
   pub scans : Scans scan m
   pub row_is : IsFound found row m
 
-pub record HoldsBeside {X : Type 0} (found : Bool) (row : Row) (bytes_of : X → List ℕ) (fits : X → Type 0) (key : List ℕ) (m : KeyMap) (x : X) : Type 0 where
+pub record HoldsBeside {X : Type 0} (found : Bool) (row : Row) (bytes_of : X
+    → List ℕ) (fits : X → Type 0) (key : List ℕ) (m : KeyMap) (x : X) : Type 0 where
   pub row_is : IsFound found row m
   pub held : HoldsElement bytes_of fits key m x
 
@@ -49,7 +50,8 @@ module _ {D : Type 0} {g : Ghosts D} {X : Type 0} where
       → OnOk result (after.items ≡ before.items ++ x ∷ [])
 
   -- the element under a key, beside a row that was found
-  abbrev pub AddsElementBeside : {T E : Type 0} → Bool → Row → (X → List ℕ) → (X → Type 0) → List ℕ → Txn → Pages D g → Pages D g → Vec X Global → Vec X Global → Result T E → Type 0
+  abbrev pub AddsElementBeside : {T E : Type 0} → Bool → Row → (X → List ℕ) → (X → Type 0)
+      → List ℕ → Txn → Pages D g → Pages D g → Vec X Global → Vec X Global → Result T E → Type 0
   AddsElementBeside found row bytes_of fits key t old new before after result =
       (disk_in new).is_honest → (m : KeyMap) (x : X) → InTxn t (stored old) m → IsFound found row m → HoldsElement bytes_of fits key m x
       → OnOk result (after.items ≡ before.items ++ x ∷ [])

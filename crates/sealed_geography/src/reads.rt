@@ -62,7 +62,8 @@ fn take_next<D: SectorDevice>(
     ensures quiet { IsQuiet pages.old pages.new }
     ensures passed { OnOk result (Passed pages.old pages.new) }
     ensures working { OnOk result (fault_in scan.new ≡ None) }
-    ensures taken { (disk_in pages.new).is_honest → (m : KeyMap) → InTxn txn.now (stored pages.old) m → Scans scan.old m → IfOk result (λ found. IsTaken found scan.new row.new m) }
+    ensures taken { (disk_in pages.new).is_honest → (m : KeyMap) → InTxn txn.now (stored pages.old) m
+        → Scans scan.old m → IfOk result (λ found. IsTaken found scan.new row.new m) }
     ensures err { IfErr result (λ e. ReadErr (Scans scan.old) txn.now pages.old pages.new e) }
 {
     let found = scan.next(txn, pages, row);
@@ -112,7 +113,8 @@ fn append_along<D: SectorDevice, E: Element>(
     ensures quiet { IsQuiet pages.old pages.new }
     ensures passed { OnOk result (Passed pages.old pages.new) }
     ensures working { OnOk result (fault_in scan.new ≡ None) }
-    ensures scans { (disk_in pages.new).is_honest → (m : KeyMap) → InTxn txn.now (stored pages.old) m → Scans scan.old m → OnOk result (Scans scan.new m) }
+    ensures scans { (disk_in pages.new).is_honest → (m : KeyMap)
+        → InTxn txn.now (stored pages.old) m → Scans scan.old m → OnOk result (Scans scan.new m) }
     ensures read { AddsElement (HoldsAlong scan.old E.bytes_of E.fits (E.key_at load place)) txn.now pages.old pages.new all.old all.new result }
     ensures err { IfErr result (λ e. AppendErr (HoldsAlong scan.old E.bytes_of E.fits (E.key_at load place)) txn.now pages.old pages.new e) }
 {

@@ -59,7 +59,8 @@ fn read_sealed<D: SectorDevice>(
     requires begun { txn_pages txn.now ≡ count_of pages.old }
     ensures quiet { IsQuiet pages.old pages.new }
     ensures passed { OnOk result (Passed pages.old pages.new) }
-    ensures read { (disk_in pages.new).is_honest → (m : KeyMap) (g : Ground) → InTxn txn.now (stored pages.old) m → IsSealedAs sealed.now m g → IfOk result (λ geography. geography ≡ g) }
+    ensures read { (disk_in pages.new).is_honest → (m : KeyMap) (g : Ground) → InTxn txn.now (stored pages.old) m
+        → IsSealedAs sealed.now m g → IfOk result (λ geography. geography ≡ g) }
     ensures err { IfErr result (λ e. AppendErr (IsSealedAs sealed.now) txn.now pages.old pages.new e) }
 {
     let blocks: Vec<BlockRow> = read_elements(alloc, txn, pages, sealed.load, sealed.blocks)?;

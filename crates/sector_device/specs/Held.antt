@@ -31,7 +31,8 @@ none_later [] t c late had = had
 none_later (state ∷ states) t c late (inl here) = let le : t ≤ length states = here.0 in omega arith
 none_later (state ∷ states) t c late (inr there) = none_later states t c (omega arith) there
 
-pub only_now : (sectors : List (List ℕ)) (unsynced : List Bool) (states : List State) (c : Image) → Leaves sectors unsynced c ⊎ HadLeft states (length states) c → Leaves sectors unsynced c
+pub only_now : (sectors : List (List ℕ)) (unsynced : List Bool) (states : List State) (c : Image)
+    → Leaves sectors unsynced c ⊎ HadLeft states (length states) c → Leaves sectors unsynced c
 only_now sectors unsynced states c (inl now) = now
 only_now sectors unsynced states c (inr had) = absurd (none_later states (length states) c (omega arith) had)
 

@@ -46,7 +46,8 @@ impl HeldSector {
 
     /// Lets go of a sector.
     fn forget(&mut self, sector: u32)
-        ensures { (before after : List (List ℕ)) → ((j : ℕ) → j ≢ sector → get_or after j [] ≡ get_or before j []) → IsRight self.old before → IsRight self.new after }
+        ensures { (before after : List (List ℕ)) → ((j : ℕ) → j ≢ sector → get_or after j [] ≡ get_or before j [])
+            → IsRight self.old before → IsRight self.new after }
     {
         if self.sector == sector {
             self.is = false;
@@ -100,7 +101,8 @@ impl Recent {
 
     /// Lets go of a sector, which alone may have changed.
     pub(crate) fn forget(&mut self, sector: u32)
-        ensures { (before after : List (List ℕ)) → ((j : ℕ) → j ≢ sector → get_or after j [] ≡ get_or before j []) → Recalls self.old before → Recalls self.new after }
+        ensures { (before after : List (List ℕ)) → ((j : ℕ) → j ≢ sector → get_or after j [] ≡ get_or before j [])
+            → Recalls self.old before → Recalls self.new after }
     {
         self.first.forget(sector);
         self.second.forget(sector);

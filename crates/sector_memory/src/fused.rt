@@ -52,7 +52,8 @@ impl SectorDevice for Fused {
     fn read(&mut self, i: u32, sector: &mut [u8; 4096]) -> Result<(), DeviceFault>
         requires { i < (fused_disk self.old).sectors }
         ensures sectors { (fused_disk self.new).sectors ≡ (fused_disk self.old).sectors }
-        ensures model { (fused_disk self.new).is_honest → Touches Nowhere (fused_disk self.old) (fused_disk self.new) × HasCause (fused_disk self.old) (fused_disk self.new) result }
+        ensures model { (fused_disk self.new).is_honest
+            → Touches Nowhere (fused_disk self.old) (fused_disk self.new) × HasCause (fused_disk self.old) (fused_disk self.new) result }
         ensures reads { (fused_disk self.new).is_honest → OnOk result (sector.new ≡ (fused_disk self.old).reads i) }
         ensures call { Burns (calls_left self.old) (calls_left self.new) result }
         ensures unsynced { unsynced (inner self.new) ≡ unsynced (inner self.old) }
@@ -68,7 +69,8 @@ impl SectorDevice for Fused {
     fn write(&mut self, i: u32, sector: &[u8; 4096]) -> Result<(), DeviceFault>
         requires { i < (fused_disk self.old).sectors }
         ensures sectors { (fused_disk self.new).sectors ≡ (fused_disk self.old).sectors }
-        ensures model { (fused_disk self.new).is_honest → Touches (Only i) (fused_disk self.old) (fused_disk self.new) × HasCause (fused_disk self.old) (fused_disk self.new) result }
+        ensures model { (fused_disk self.new).is_honest
+            → Touches (Only i) (fused_disk self.old) (fused_disk self.new) × HasCause (fused_disk self.old) (fused_disk self.new) result }
         ensures written { (fused_disk self.new).is_honest → OnOk result ((fused_disk self.new).reads i ≡ sector.now) }
         ensures call { Burns (calls_left self.old) (calls_left self.new) result }
         ensures unsynced { unsynced (inner self.new) ≡ slice_set (unsynced (inner self.old)) i true }
@@ -83,7 +85,8 @@ impl SectorDevice for Fused {
 
     fn sync(&mut self) -> Result<(), DeviceFault>
         ensures sectors { (fused_disk self.new).sectors ≡ (fused_disk self.old).sectors }
-        ensures model { (fused_disk self.new).is_honest → Touches Nowhere (fused_disk self.old) (fused_disk self.new) × HasCause (fused_disk self.old) (fused_disk self.new) result }
+        ensures model { (fused_disk self.new).is_honest
+            → Touches Nowhere (fused_disk self.old) (fused_disk self.new) × HasCause (fused_disk self.old) (fused_disk self.new) result }
         ensures synced { (fused_disk self.new).is_honest → OnOk result (IsSynced (fused_disk self.new)) }
         ensures call { Burns (calls_left self.old) (calls_left self.new) result }
         ensures none { OnOk result ((i : ℕ) → slice_index_or (unsynced (inner self.new)) i false ≡ false) }
@@ -170,7 +173,8 @@ impl SectorDevice for FailOnce {
     fn read(&mut self, i: u32, sector: &mut [u8; 4096]) -> Result<(), DeviceFault>
         requires { i < (once_disk self.old).sectors }
         ensures sectors { (once_disk self.new).sectors ≡ (once_disk self.old).sectors }
-        ensures model { (once_disk self.new).is_honest → Touches Nowhere (once_disk self.old) (once_disk self.new) × HasCause (once_disk self.old) (once_disk self.new) result }
+        ensures model { (once_disk self.new).is_honest
+            → Touches Nowhere (once_disk self.old) (once_disk self.new) × HasCause (once_disk self.old) (once_disk self.new) result }
         ensures reads { (once_disk self.new).is_honest → OnOk result (sector.new ≡ (once_disk self.old).reads i) }
         ensures call { FailsOnce (calls_before self.old) (calls_before self.new) result }
         ensures unsynced { unsynced (inner_once self.new) ≡ unsynced (inner_once self.old) }
@@ -185,7 +189,8 @@ impl SectorDevice for FailOnce {
     fn write(&mut self, i: u32, sector: &[u8; 4096]) -> Result<(), DeviceFault>
         requires { i < (once_disk self.old).sectors }
         ensures sectors { (once_disk self.new).sectors ≡ (once_disk self.old).sectors }
-        ensures model { (once_disk self.new).is_honest → Touches (Only i) (once_disk self.old) (once_disk self.new) × HasCause (once_disk self.old) (once_disk self.new) result }
+        ensures model { (once_disk self.new).is_honest
+            → Touches (Only i) (once_disk self.old) (once_disk self.new) × HasCause (once_disk self.old) (once_disk self.new) result }
         ensures written { (once_disk self.new).is_honest → OnOk result ((once_disk self.new).reads i ≡ sector.now) }
         ensures call { FailsOnce (calls_before self.old) (calls_before self.new) result }
         ensures unsynced { unsynced (inner_once self.new) ≡ slice_set (unsynced (inner_once self.old)) i true }
@@ -199,7 +204,8 @@ impl SectorDevice for FailOnce {
 
     fn sync(&mut self) -> Result<(), DeviceFault>
         ensures sectors { (once_disk self.new).sectors ≡ (once_disk self.old).sectors }
-        ensures model { (once_disk self.new).is_honest → Touches Nowhere (once_disk self.old) (once_disk self.new) × HasCause (once_disk self.old) (once_disk self.new) result }
+        ensures model { (once_disk self.new).is_honest
+            → Touches Nowhere (once_disk self.old) (once_disk self.new) × HasCause (once_disk self.old) (once_disk self.new) result }
         ensures synced { (once_disk self.new).is_honest → OnOk result (IsSynced (once_disk self.new)) }
         ensures call { FailsOnce (calls_before self.old) (calls_before self.new) result }
         ensures none { OnOk result ((i : ℕ) → slice_index_or (unsynced (inner_once self.new)) i false ≡ false) }

@@ -116,7 +116,8 @@ impl SectorDevice for MemoryDevice {
     fn read(&mut self, i: u32, sector: &mut [u8; 4096]) -> Result<(), DeviceFault>
         requires { i < (disk_of self.old).sectors }
         ensures sectors { (disk_of self.new).sectors ≡ (disk_of self.old).sectors }
-        ensures model { (disk_of self.new).is_honest → Touches Nowhere (disk_of self.old) (disk_of self.new) × HasCause (disk_of self.old) (disk_of self.new) result }
+        ensures model { (disk_of self.new).is_honest
+            → Touches Nowhere (disk_of self.old) (disk_of self.new) × HasCause (disk_of self.old) (disk_of self.new) result }
         ensures reads { (disk_of self.new).is_honest → OnOk result (sector.new ≡ (disk_of self.old).reads i) }
         ensures passes { IsOk result }
         ensures unsynced { unsynced self.new ≡ unsynced self.old }
@@ -128,7 +129,8 @@ impl SectorDevice for MemoryDevice {
     fn write(&mut self, i: u32, sector: &[u8; 4096]) -> Result<(), DeviceFault>
         requires { i < (disk_of self.old).sectors }
         ensures sectors { (disk_of self.new).sectors ≡ (disk_of self.old).sectors }
-        ensures model { (disk_of self.new).is_honest → Touches (Only i) (disk_of self.old) (disk_of self.new) × HasCause (disk_of self.old) (disk_of self.new) result }
+        ensures model { (disk_of self.new).is_honest
+            → Touches (Only i) (disk_of self.old) (disk_of self.new) × HasCause (disk_of self.old) (disk_of self.new) result }
         ensures written { (disk_of self.new).is_honest → OnOk result ((disk_of self.new).reads i ≡ sector.now) }
         ensures passes { IsOk result }
         ensures unsynced { unsynced self.new ≡ slice_set (unsynced self.old) i true }
@@ -142,7 +144,8 @@ impl SectorDevice for MemoryDevice {
 
     fn sync(&mut self) -> Result<(), DeviceFault>
         ensures sectors { (disk_of self.new).sectors ≡ (disk_of self.old).sectors }
-        ensures model { (disk_of self.new).is_honest → Touches Nowhere (disk_of self.old) (disk_of self.new) × HasCause (disk_of self.old) (disk_of self.new) result }
+        ensures model { (disk_of self.new).is_honest
+            → Touches Nowhere (disk_of self.old) (disk_of self.new) × HasCause (disk_of self.old) (disk_of self.new) result }
         ensures synced { (disk_of self.new).is_honest → OnOk result (IsSynced (disk_of self.new)) }
         ensures passes { IsOk result }
         ensures unsynced { (i : ℕ) → slice_index_or (unsynced self.new) i false ≡ false }

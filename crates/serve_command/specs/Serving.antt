@@ -146,7 +146,8 @@ module _ {D O : Type 0} (g : Ghosts D) (opens : O → List ℕ → Result D Stor
     Announces port stores name (Err (Store fault)) stores_after before after =
         ((after ≡ before) × NotOpened stores name fault stores_after) ⊎ (HasAnnounced port before after × HasStopped stores name fault stores_after)
     Announces port stores name (Err Socket) stores_after before after =
-        ((listening ≡ None) × (after ≡ before) × (stores_after ≡ stores)) ⊎ (HasAnnounced port before after × IsServed stores name false true stores_after)
+        ((listening ≡ None) × (after ≡ before) × (stores_after ≡ stores))
+        ⊎ (HasAnnounced port before after × IsServed stores name false true stores_after)
     Announces port stores name (Err Output) stores_after before after =
         ((fault : WriteFault) × Writes before after (listening_text port) (Err fault)) × IsUnused stores name stores_after
 

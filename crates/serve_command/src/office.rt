@@ -51,7 +51,8 @@ fn serve_named<
     ensures kept { J.sound → Keeps (clerk_in result) }
     ensures ran { IsRunFrom J.first (desk_of (clerk_in result)) }
     ensures left { IfOk result (λ end. IsLeftBy J.first J.begins J.asked end.0) }
-    ensures talked { IfOk result (λ end. HasTalked (traffic A.gives A.takes_back A.Reader.Source A.Writer.Sink arrivals.now) J.first J.begins end.0 end.1) }
+    ensures talked { IfOk result (λ end. HasTalked
+        (traffic A.gives A.takes_back A.Reader.Source A.Writer.Sink arrivals.now) J.first J.begins end.0 end.1) }
 {
     let (shower, visitors) = match Gallery::new::<J>(alloc, opened, catalogue, workers as usize) {
         Ok(gallery) => gallery,

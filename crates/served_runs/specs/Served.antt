@@ -48,9 +48,11 @@ module _ {D : Type 0} {g : Ghosts D} where
   calls_in x _ _ _ _ _ (Talk.went _ input h target body rest text y output n shut z has may talk) =
       calls_with x (order_of h.method target body) (closes_after h) (is_head h.method) text false y may (calls_in y rest output n shut z talk)
 
-  abbrev pub short_calls : (x : Clerk D g) (input answers : List ℕ) (y : Clerk D g) → IsShortTalk DoesAtCounter AsksAtCounter x input answers y → List Call
+  abbrev pub short_calls : (x : Clerk D g) (input answers : List ℕ) (y : Clerk D g)
+      → IsShortTalk DoesAtCounter AsksAtCounter x input answers y → List Call
   short_calls x input answers y (inl talk) = calls_in x input answers talk.0 false y talk.1
-  short_calls x input answers y (inr cut) = calls_in x (cut.taken ++ []) (answers ++ []) (cut.count + 0) false y (cut.on [] [] 0 false y (Talk.over y))
+  short_calls x input answers y (inr cut) = calls_in x (cut.taken ++ [])
+      (answers ++ []) (cut.count + 0) false y (cut.on [] [] 0 false y (Talk.over y))
 
   -- the commands of a served stream; where the writer failed, of all that was answered
   abbrev pub calls_served : (x : Clerk D g) (result : Result Served StreamFault) (left : Option (List ℕ)) (input output : List ℕ) (y : Clerk D g)
@@ -69,10 +71,12 @@ module _ {D : Type 0} {g : Ghosts D} where
 
   abbrev pub SurvivesEachStream : Clerk D g → Type 0
   SurvivesEachStream x = (result : Result Served StreamFault) (left : Option (List ℕ)) (input output : List ℕ) (y : Clerk D g)
-      (serves : ServesTo DoesAtCounter AsksAtCounter x result left input output y) → StreamSurvives x (calls_served x result left input output y serves) y
+      (serves : ServesTo DoesAtCounter AsksAtCounter x result left input output y)
+      → StreamSurvives x (calls_served x result left input output y serves) y
 
   -- a served stream, and what a stop at any moment of it leaves
-  pub record ServesDurably (x : Clerk D g) (result : Result Served StreamFault) (y : Clerk D g) (unread left before after : Option (List ℕ)) : Type 0 where
+  pub record ServesDurably (x : Clerk D g) (result : Result Served StreamFault)
+      (y : Clerk D g) (unread left before after : Option (List ℕ)) : Type 0 where
     pub input : List ℕ
     pub output : List ℕ
     pub reads : Consumes unread left input

@@ -22,7 +22,8 @@ pub fn serve_clerk<R: Source, W: GatherSink, D: SectorDevice, G: Gate>(
     clerk: &mut Clerk<D>,
     gate: &G,
 ) -> Result<Served, StreamFault>
-    ensures serves { ServesDurably clerk.old result clerk.new (R.remaining reader.old) (R.remaining reader.new) (W.contents writer.old) (W.contents writer.new) }
+    ensures serves { ServesDurably clerk.old result clerk.new (R.remaining reader.old)
+        (R.remaining reader.new) (W.contents writer.old) (W.contents writer.new) }
     ensures read_failures { R.failures reader.new ≡ read_failures (R.failures reader.old) result }
     ensures write_failures { W.failures writer.new ≡ write_failures (W.failures writer.old) result }
     ensures turn_limit { result ≡ Err StreamFault.TurnLimit → R.turns reader.new ≡ counted (R.turns reader.old) 4294967296 }

@@ -27,4 +27,5 @@ pub record IsCut (full : List Piece) (rest : Piece) (count : ℕ) : Type 0 where
 -- full pieces with a part in the place of their own, from a place on
 pub record ArePut (first : ℕ) (part : List ℕ) (old new : List Piece) : Type 0 where
   pub long : length new ≡ length old
-  pub each : (place : ℕ) (d : Piece) → place < length old → (get_or new place d).value.items ≡ laid first (map Some part) (place * 512) (get_or old place d).value.items
+  pub each : (place : ℕ) (d : Piece) → place < length old
+      → (get_or new place d).value.items ≡ laid first (map Some part) (place * 512) (get_or old place d).value.items

@@ -16,7 +16,8 @@ OpensCensus {R} {O} opens before paths files after = (first : O) × (second : O)
     × opens second paths.seg2.now files.seg2 third × opens third paths.seg3.now files.seg3 after
 
 -- a companion by its name, where one is given, and with its number of districts
-abbrev pub OpensCompanion : {R O : Type 0} → (O → List ℕ → Result R OpenFault → O → Type 0) → O → Option (List ℕ) → Option ℕ → Option (Companion R) → O → Type 0
+abbrev pub OpensCompanion : {R O : Type 0} → (O → List ℕ → Result R OpenFault → O → Type 0)
+    → O → Option (List ℕ) → Option ℕ → Option (Companion R) → O → Type 0
 OpensCompanion opens before None n None after = after ≡ before
 OpensCompanion opens before None n (Some companion) after = ⊥
 OpensCompanion opens before (Some name) n None after = ⊥

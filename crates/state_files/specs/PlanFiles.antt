@@ -52,7 +52,8 @@ AreBytesOf before after read = (text : List ℕ) × Consumes before.unread after
 abbrev pub ReadsBytes : PlanFile → (before after : Opening) → Result (Vec ℕ Global) FileFault → Type 0
 ReadsBytes f (Err fault) after outcome = (after ≡ Err fault) × (outcome ≡ Err (Plan f (plan_fault_of_open fault)))
 ReadsBytes f (Ok before) (Err fault) outcome = ⊥
-ReadsBytes f (Ok before) (Ok after) outcome = (read : Result (Vec ℕ Global) WholeFault) × AreBytesOf before after read × (outcome ≡ whole_outcome f read)
+ReadsBytes f (Ok before) (Ok after) outcome = (read : Result (Vec ℕ Global) WholeFault)
+    × AreBytesOf before after read × (outcome ≡ whole_outcome f read)
 
 -- what the bytes say: the district of each block, or the first fault
 abbrev pub JudgesPlan : PlanFile → Ground → ℕ → List ℕ → Result (Vec ℕ Global) FileFault → Type 0
@@ -69,7 +70,8 @@ companion_of unread turns failures (Some companion) = Some (opening_of unread tu
 
 abbrev pub ReadsPlanBeside : {R : Type 0} → Ghosts R → PlanFile → Ground → (before after : Companion R) → Result (Vec ℕ Global) FileFault → Type 0
 ReadsPlanBeside r f g before after outcome =
-    ReadsPlan f g before.districts (opening_of r.remaining r.turns r.failures before.opened) (opening_of r.remaining r.turns r.failures after.opened) outcome
+    ReadsPlan f g before.districts (opening_of r.remaining r.turns r.failures before.opened)
+    (opening_of r.remaining r.turns r.failures after.opened) outcome
 
 abbrev pub ReadsCompanion : PlanFile → Ground → (before after : Option (Opening × ℕ)) → Result (Option (Vec ℕ Global)) FileFault → Type 0
 ReadsCompanion f g None after outcome = (after ≡ None) × (outcome ≡ Ok None)

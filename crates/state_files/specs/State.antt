@@ -59,7 +59,8 @@ IsSegmentOf part before after read = (text : List ℕ) × Consumes before.unread
 abbrev pub ReadsSegment : SegmentNumber → (before after : Opening) → Result SegRows FileFault → Type 0
 ReadsSegment part (Err fault) after outcome = (after ≡ Err fault) × (outcome ≡ Err (NoSegment part fault))
 ReadsSegment part (Ok before) (Err fault) outcome = ⊥
-ReadsSegment part (Ok before) (Ok after) outcome = (read : Result SegRows SegFault) × IsSegmentOf part before after read × (outcome ≡ segment_outcome part read)
+ReadsSegment part (Ok before) (Ok after) outcome = (read : Result SegRows SegFault)
+    × IsSegmentOf part before after read × (outcome ≡ segment_outcome part read)
 
 -- the header and the segments together
 abbrev pub Joins : GeoRows → SegRows → SegRows → SegRows → Result (Vec BlockRow Global) FileFault → Type 0
@@ -81,7 +82,8 @@ NoFile = Unit {0}
 -- the files of a state, one after the other
 abbrev pub ReadsState : (before after : Census) → Result (Vec BlockRow Global) FileFault → Type 0
 ReadsState before after =
-    Then (ReadsHeader before.header after.header) ((after.first ≡ before.first) × (after.second ≡ before.second) × (after.third ≡ before.third)) (λ rows.
+    Then (ReadsHeader before.header after.header) ((after.first ≡ before.first)
+    × (after.second ≡ before.second) × (after.third ≡ before.third)) (λ rows.
     Then (ReadsSegment One before.first after.first) ((after.second ≡ before.second) × (after.third ≡ before.third)) (λ one.
     Then (ReadsSegment Two before.second after.second) (after.third ≡ before.third) (λ two.
     Then (ReadsSegment Three before.third after.third) NoFile (λ three. Joins rows one two three))))

@@ -18,7 +18,8 @@ fn read_neighbours<R: Source>(
     blocks: &[BlockRow],
 ) -> Result<Vec<(BlockId, BlockId)>, FileFault>
     requires { AreBlocks blocks.now }
-    ensures read { ReadsNeighbours blocks.now (opening_of R.remaining R.turns R.failures opened.old) (opening_of R.remaining R.turns R.failures opened.new) result }
+    ensures read { ReadsNeighbours blocks.now (opening_of R.remaining R.turns R.failures opened.old)
+        (opening_of R.remaining R.turns R.failures opened.new) result }
     ensures valid { IfOk result (λ pairs. All (AreDifferentBlocks blocks.now) pairs.items) }
 {
     match opened {
@@ -52,7 +53,8 @@ pub fn read_ground<R: Source>(
     opened: &mut Result<R, OpenFault>,
 ) -> Result<Geography, FileFault>
     requires { AreBlocks blocks.items }
-    ensures { ReadsGround blocks.items (opening_of R.remaining R.turns R.failures opened.old) (opening_of R.remaining R.turns R.failures opened.new) result }
+    ensures { ReadsGround blocks.items (opening_of R.remaining R.turns R.failures opened.old)
+        (opening_of R.remaining R.turns R.failures opened.new) result }
 {
     let pairs = read_neighbours(alloc, opened, blocks.as_slice())?;
     make_ground(alloc, blocks, pairs.as_slice())

@@ -2,7 +2,8 @@
 ghost use Rattle.std.specs.Prelude.{◌≡◌, IfOk, IfSome, length, is_some};
 ghost use Rattle.std.specs.Option.{option_copied};
 ghost use Rattle.state_files.specs.Opening.{opening_of};
-ghost use Rattle.state_files.specs.PlanFiles.{plan_fault_of_open, plan_fault_of_whole, ReadsBytes, JudgesPlan, ReadsPlan, companion_of, ReadsCompanion, beside, ReadsPlanBeside};
+ghost use Rattle.state_files.specs.PlanFiles.{plan_fault_of_open, plan_fault_of_whole, ReadsBytes, JudgesPlan};
+ghost use Rattle.state_files.specs.PlanFiles.{ReadsPlan, companion_of, ReadsCompanion, beside, ReadsPlanBeside};
 
 use crate::fault::{FileFault, OpenFault, PlanFault, PlanFile};
 use crate::whole::{WholeFault, read_whole};
@@ -85,7 +86,8 @@ pub fn read_plan<R: Source>(
     n: u16,
     opened: &mut Result<R, OpenFault>,
 ) -> Result<Vec<u16>, FileFault>
-    ensures read { ReadsPlan file geography.now n (opening_of R.remaining R.turns R.failures opened.old) (opening_of R.remaining R.turns R.failures opened.new) result }
+    ensures read { ReadsPlan file geography.now n (opening_of R.remaining R.turns R.failures opened.old)
+        (opening_of R.remaining R.turns R.failures opened.new) result }
     ensures beside { IfOk result (λ plan. length plan.items ≡ length geography.now.blocks) }
 {
     let bytes = read_bytes(alloc, file, opened)?;
@@ -113,7 +115,8 @@ pub fn read_companion<R: Source>(
     geography: &Geography,
     companion: &mut Option<Companion<R>>,
 ) -> Result<Option<Vec<u16>>, FileFault>
-    ensures read { ReadsCompanion file geography.now (companion_of R.remaining R.turns R.failures companion.old) (companion_of R.remaining R.turns R.failures companion.new) result }
+    ensures read { ReadsCompanion file geography.now (companion_of R.remaining R.turns R.failures companion.old)
+        (companion_of R.remaining R.turns R.failures companion.new) result }
     ensures beside { IfOk result (λ plan. IfSome plan (λ p. length p.items ≡ length geography.now.blocks)) }
     ensures same { IfOk result (λ plan. is_some plan ≡ is_some companion.old) }
 {

@@ -77,7 +77,8 @@ fn read_piece<R: Source>(reader: &mut R, text: &mut Vec<u8>, filled: usize) -> T
 
 /// Reads a file to the end of its source. At most one byte more than `PLAN_FILE_LIMIT` is asked for.
 pub fn read_whole<R: Source>(alloc: Global, reader: &mut R) -> Result<Vec<u8>, WholeFault>
-    ensures read { (text : List ℕ) × Consumes (R.remaining reader.old) (R.remaining reader.new) text × IsWholeFile text (R.remaining reader.new) result }
+    ensures read { (text : List ℕ) × Consumes (R.remaining reader.old) (R.remaining reader.new) text
+        × IsWholeFile text (R.remaining reader.new) result }
     ensures failures { R.failures reader.new ≡ failures_after_whole (R.failures reader.old) result }
     ensures limit { result ≡ Err WholeFault.TurnLimit → R.turns reader.new ≡ counted (R.turns reader.old) turn_limit }
     ensures turns { R.turns reader.new ≤ R.turns reader.old + turn_limit }

@@ -1,7 +1,8 @@
 -- Numbers in use, and those that come next.
 use Rattle.std.specs.Prelude.{◌≡◌, ◌<◌, ◌^◌, ℕ, List, [], All}
 use Rattle.desk_model.specs.Desk.{Desk}
-use Rattle.store_rows.specs.Keys.{RowKey, Fits, counters, retired, begun, holding, tally, named, part, seal, version, block, pair, chunk, in_four, in_eight}
+use Rattle.store_rows.specs.Keys.{RowKey, Fits, counters, retired, begun, holding, tally, named}
+use Rattle.store_rows.specs.Keys.{part, seal, version, block, pair, chunk, in_four, in_eight}
 use Rattle.store_rows.specs.Values.{plan_bytes, seal_bytes}
 use Rattle.store_rows.specs.Lists.{AreChunks, chunks_bytes}
 use Rattle.store_rows.specs.declared.value.Counters.{Counters}

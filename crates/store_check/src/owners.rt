@@ -5,7 +5,8 @@ ghost use Rattle.page_btree.specs.Map.{InTxn};
 ghost use Rattle.row_table.specs.Reading.{ReadErr};
 ghost use Rattle.store_rows.specs.Rows.{KeyMap};
 ghost use Rattle.store_rows.specs.Tidy.{AreRows};
-ghost use Rattle.store_check.specs.Owners.{AreOwnedBelow, AreOwnedBy, HasOwners, IsNextPart, IsOwned, IsOwnedTo, IsUnderParts, Passes, behind_revision};
+ghost use Rattle.store_check.specs.Owners.{AreOwnedBelow, AreOwnedBy, HasOwners, IsNextPart, IsOwned};
+ghost use Rattle.store_check.specs.Owners.{IsOwnedTo, IsUnderParts, Passes, behind_revision};
 
 use crate::firsts::first_from;
 use crate::keys::part_in;

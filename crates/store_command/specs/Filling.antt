@@ -36,7 +36,8 @@ module _ {D : Type 0} (g : Ghosts D) where
     pub y : Clerk D g
     pub loaded : IsLoaded x area y
     pub back : left ≡ device_in (pages_of y)
-    pub any_moment : (g.disk left).is_honest → AllDesks (g.disk device) → LeavesOnly (OpensOneOr (g.disk device) (sealed_desk area)) (g.disk device) (g.disk left)
+    pub any_moment : (g.disk left).is_honest → AllDesks (g.disk device)
+        → LeavesOnly (OpensOneOr (g.disk device) (sealed_desk area)) (g.disk device) (g.disk left)
     pub after : (g.disk left).is_honest → AllVersions (g.disk device) → LeavesDesk (g.disk device) (g.disk left) (sealed_desk area)
 
   -- The device was opened, and a load that was refused left the desk. Where no fault came, what a stop leaves from then on opens
@@ -48,7 +49,8 @@ module _ {D : Type 0} (g : Ghosts D) where
     pub why : LoadRefused x area e y
     pub desk : desk_of y ≡ desk_of x
     pub back : left ≡ device_in (pages_of y)
-    pub any_moment : (g.disk left).is_honest → AllDesks (g.disk device) → LeavesOnly (OpensOneOr (g.disk device) (sealed_desk area)) (g.disk device) (g.disk left)
+    pub any_moment : (g.disk left).is_honest → AllDesks (g.disk device)
+        → LeavesOnly (OpensOneOr (g.disk device) (sealed_desk area)) (g.disk device) (g.disk left)
     pub after : (g.disk left).is_honest → AllVersions (g.disk device) → is_halted y ≡ false → LeavesDesk (g.disk device) (g.disk left) (desk_of x)
 
   -- the device isn't opened, and is left so

@@ -31,7 +31,8 @@ openings_of unread turns failures files = record {
 -- the files one after the other, and the geography that they say
 abbrev pub ReadsGeography : (before after : Openings) → Result Ground FileFault → Type 0
 ReadsGeography before after =
-    Then (ReadsState before.census after.census) (after.neighbours ≡ before.neighbours) (λ rows. ReadsGround rows.items before.neighbours after.neighbours)
+    Then (ReadsState before.census after.census) (after.neighbours ≡ before.neighbours)
+    (λ rows. ReadsGround rows.items before.neighbours after.neighbours)
 
 module _ {D O : Type 0} (g : Ghosts D) (opens : O → List ℕ → Result D StoreFault → O → Type 0) (closes : O → D → O → Type 0) where
   -- the device of the name was opened, and closed as what was to be filled with the geography came to
@@ -50,7 +51,8 @@ module _ {D O : Type 0} (g : Ghosts D) (opens : O → List ℕ → Result D Stor
       ((fault ≡ Memory) × (after ≡ before)) ⊎ (opens before name (Err fault) after ⊎ IsUsed before name area (Err fault) after)
 
   -- what comes of the files: a store is filled with their geography; or none is touched, and their fault is told
-  abbrev pub EndsLoad : (stores stores_after : O) → List ℕ → Result Ground FileFault → Status → (before after told_before told_after : Written) → Type 0
+  abbrev pub EndsLoad : (stores stores_after : O) → List ℕ → Result Ground FileFault
+      → Status → (before after told_before told_after : Written) → Type 0
   EndsLoad stores stores_after name (Ok area) status before after told_before told_after = (given : Result (Vec ℕ Global) StoreFault)
       × Fills stores name area given stores_after × EndsStore (write_fault_line (codes "load")) given status before after told_before told_after
   EndsLoad stores stores_after name (Err fault) status before after told_before told_after =

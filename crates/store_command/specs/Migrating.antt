@@ -196,7 +196,8 @@ module _ {D O : Type 0} (g : Ghosts D) (opens : O → List ℕ → Result D Stor
   abbrev pub Migrates : (before : O) → List ℕ → Result (Vec ℕ Global) StoreFault → (after : O) → Type 0
   Migrates before name (Ok text) after = (rows : ℕ) × (text.items ≡ migrated_text rows) × IsLed before name (Ok rows) after
   Migrates before name (Err fault) after =
-      opens before name (Err fault) after ⊎ (IsLed before name (Err fault) after ⊎ ((fault ≡ Memory) × (rows : ℕ) × IsLed before name (Ok rows) after))
+      opens before name (Err fault) after ⊎ (IsLed before name (Err fault) after
+      ⊎ ((fault ≡ Memory) × (rows : ℕ) × IsLed before name (Ok rows) after))
 
   -- the store of the name, which becomes one of the new version
   abbrev pub MigratesStore : (stores stores_after : O) → List ℕ → Status → (before after told_before told_after : Written) → Type 0

@@ -109,7 +109,8 @@ module _ {D O : Type 0} (g : Ghosts D) (opens : O → List ℕ → Result D Stor
   abbrev pub Sweeps : (before : O) → List ℕ → Result (Vec ℕ Global) StoreFault → (after : O) → Type 0
   Sweeps before name (Ok text) after = (rows : ℕ) × (text.items ≡ swept_text rows) × IsSwept before name (Ok rows) after
   Sweeps before name (Err fault) after =
-      opens before name (Err fault) after ⊎ (IsSwept before name (Err fault) after ⊎ ((fault ≡ Memory) × (rows : ℕ) × IsSwept before name (Ok rows) after))
+      opens before name (Err fault) after ⊎ (IsSwept before name (Err fault) after
+      ⊎ ((fault ≡ Memory) × (rows : ℕ) × IsSwept before name (Ok rows) after))
 
   -- the store of the name, whose rows that were left over are taken out
   abbrev pub SweepsStore : (stores stores_after : O) → List ℕ → Status → (before after told_before told_after : Written) → Type 0

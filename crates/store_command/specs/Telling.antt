@@ -5,7 +5,8 @@ use Rattle.command_output.specs.declared.status.Status.{Status}
 use Rattle.command_output.specs.declared.status.Status.TheVariants as status
 use Rattle.command_output.specs.Writing.{Written, Told, Prints}
 use Rattle.store_command.specs.declared.fault.StoreFault.{StoreFault}
-use Rattle.store_command.specs.declared.fault.StoreFault.TheVariants.{NotFound, WrongSize, Exists, TooSmall, NotAStore, OldVersion, AlreadyNew, AlreadySealed, Full, DeviceFault, Memory}
+use Rattle.store_command.specs.declared.fault.StoreFault.TheVariants.{NotFound, WrongSize, Exists, TooSmall, NotAStore, OldVersion}
+use Rattle.store_command.specs.declared.fault.StoreFault.TheVariants.{AlreadyNew, AlreadySealed, Full, DeviceFault, Memory}
 
 abbrev pub name_of : StoreFault → List ℕ
 name_of NotFound = codes "NotFound"

@@ -52,7 +52,8 @@ pub fn format<D: SectorDevice + Drop, O: Stores<D>, W: Sink, E: Sink>(
 ) -> Status
     requires least { 256 ≤ journal_pages }
     requires most { journal_pages ≤ 65536 }
-    ensures { OfWriters (Formats D.SectorDevice O.makes O.closes stores.old stores.new name.now sectors journal_pages result) W.Sink writer.old writer.new E.Sink errors.old errors.new }
+    ensures { OfWriters (Formats D.SectorDevice O.makes O.closes stores.old stores.new name.now sectors journal_pages result)
+        W.Sink writer.old writer.new E.Sink errors.old errors.new }
 {
     let given = make_store(alloc, stores, name, sectors, journal_pages);
     end_store(b"plandesk: format: WriteFault\n", given, writer, errors)

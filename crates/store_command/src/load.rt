@@ -72,7 +72,8 @@ fn end_load<D: SectorDevice + Drop, O: Stores<D>, P: Progress, W: Sink, E: Sink>
     writer: &mut W,
     errors: &mut E,
 ) -> Status
-    ensures { OfWriters (EndsLoad D.SectorDevice O.opens O.closes stores.old stores.new name.now read result) W.Sink writer.old writer.new E.Sink errors.old errors.new }
+    ensures { OfWriters (EndsLoad D.SectorDevice O.opens O.closes stores.old stores.new name.now read result)
+        W.Sink writer.old writer.new E.Sink errors.old errors.new }
 {
     match read {
         Ok(geography) => {

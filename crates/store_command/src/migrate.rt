@@ -67,7 +67,8 @@ pub fn migrate<D: SectorDevice + Drop, O: Stores<D>, P: Progress, W: Sink, E: Si
     writer: &mut W,
     errors: &mut E,
 ) -> Status
-    ensures { OfWriters (MigratesStore D.SectorDevice O.opens O.closes stores.old stores.new name.now result) W.Sink writer.old writer.new E.Sink errors.old errors.new }
+    ensures { OfWriters (MigratesStore D.SectorDevice O.opens O.closes stores.old stores.new name.now result)
+        W.Sink writer.old writer.new E.Sink errors.old errors.new }
 {
     let given = migrate_store(alloc, stores, name, progress);
     end_store(b"plandesk: migrate: WriteFault\n", given, writer, errors)

@@ -67,7 +67,8 @@ pub fn sweep<D: SectorDevice + Drop, O: Stores<D>, P: Progress, W: Sink, E: Sink
     writer: &mut W,
     errors: &mut E,
 ) -> Status
-    ensures { OfWriters (SweepsStore D.SectorDevice O.opens O.closes stores.old stores.new name.now result) W.Sink writer.old writer.new E.Sink errors.old errors.new }
+    ensures { OfWriters (SweepsStore D.SectorDevice O.opens O.closes stores.old stores.new name.now result)
+        W.Sink writer.old writer.new E.Sink errors.old errors.new }
 {
     let given = sweep_store(alloc, stores, name, progress);
     end_store(b"plandesk: sweep: WriteFault\n", given, writer, errors)

@@ -15,11 +15,15 @@ use Rattle.store_rows.specs.Shares.{CanHold, Holds, hold_all, with_shared}
 
 -- a plan comes to hold so many chunks, one after the other
 abbrev pub ChunksAreHeld : Type 0
-ChunksAreHeld = (m : KeyMap) (limit plan : ℕ) (numbers : List ℕ) → CanHold m limit plan → ((number : ℕ) → Contains numbers number → number < 2 ^ 64) → Holds m (hold_all m plan numbers) limit plan numbers
+ChunksAreHeld = (m : KeyMap) (limit plan : ℕ) (numbers : List ℕ) → CanHold m limit plan
+    → ((number : ℕ) → Contains numbers number → number < 2 ^ 64) → Holds m (hold_all m plan numbers) limit plan numbers
 
 -- the desk with that revision, and tidy rows
 abbrev pub SharesMakeDesks : Type 0
-SharesMakeDesks = (m : KeyMap) (tidy : Tidy m) → tidy.new ≡ true → (source : ℕ) (g : Ground) (plans : FinMap name_cmp Plan) (name : List ℕ) (number : ℕ) (p : Plan) (districts : List ℕ) (numbers : List ℕ)
-    → IsDesk m (desk_with g plans) → get plans name ≡ Some p → HasPlan m g name number p → length districts ≡ length g.blocks → length p.revisions < most_revisions
+SharesMakeDesks = (m : KeyMap) (tidy : Tidy m) → tidy.new ≡ true
+    → (source : ℕ) (g : Ground) (plans : FinMap name_cmp Plan) (name : List ℕ)
+    (number : ℕ) (p : Plan) (districts : List ℕ) (numbers : List ℕ)
+    → IsDesk m (desk_with g plans) → get plans name ≡ Some p → HasPlan m g name number p
+    → length districts ≡ length g.blocks → length p.revisions < most_revisions
     → length numbers ≤ 128 * 2 ^ 8 → AreKept m source numbers (cut g districts)
     → MakesRevision g plans name p districts (chunks_more tidy.next 0) true (with_shared m tidy.next name (plan_row_of number p) numbers)

@@ -20,17 +20,20 @@ pub record JoinsHolders (m : KeyMap) (limit plan number count : ℕ) : Type 0 wh
   pub tallied : AreTallied (put_rows m (holding_rows plan number count))
 
 abbrev pub HoldersJoin : Type 0
-HoldersJoin = (m : KeyMap) (limit plan number count : ℕ) → AreTallied m → AreHoldersBelow m limit → limit < 2 ^ 64 → plan < limit → number < 2 ^ 64 → count < 2 ^ 64
+HoldersJoin = (m : KeyMap) (limit plan number count : ℕ) → AreTallied m
+    → AreHoldersBelow m limit → limit < 2 ^ 64 → plan < limit → number < 2 ^ 64 → count < 2 ^ 64
     → Lacks m (holding plan number) → row_in m (tally number) ≡ tally_row count → JoinsHolders m limit plan number count
 
 -- A plan that holds a chunk lets it go: its row is removed, and the count goes down by one, or its row is removed too.
 abbrev pub HoldersLeave : Type 0
-HoldersLeave = (m : KeyMap) (plan number count : ℕ) → AreTallied m → plan < 2 ^ 64 → number < 2 ^ 64 → count + 1 < 2 ^ 64 → IsHeld m plan number → row_in m (tally number) ≡ tally_row (suc count)
+HoldersLeave = (m : KeyMap) (plan number count : ℕ) → AreTallied m → plan < 2 ^ 64 → number < 2 ^ 64
+    → count + 1 < 2 ^ 64 → IsHeld m plan number → row_in m (tally number) ≡ tally_row (suc count)
     → AreTallied (released m plan number count)
 
 -- a chunk that a plan holds has a count
 abbrev pub HeldIsTallied : Type 0
-HeldIsTallied = (m : KeyMap) (plan number : ℕ) → AreTallied m → plan < 2 ^ 64 → number < 2 ^ 64 → IsHeld m plan number → (count : ℕ) × (count + 1 < 2 ^ 64) × Has m (tally number) (in_eight (count + 1))
+HeldIsTallied = (m : KeyMap) (plan number : ℕ) → AreTallied m → plan < 2 ^ 64 → number < 2 ^ 64
+    → IsHeld m plan number → (count : ℕ) × (count + 1 < 2 ^ 64) × Has m (tally number) (in_eight (count + 1))
 
 -- a chunk without a count is held by none
 abbrev pub NoneHolds : Type 0
@@ -44,4 +47,5 @@ pub record IsHeldByAnother (m : KeyMap) (plan number : ℕ) : Type 0 where
   pub held : IsHeld m other number
 
 abbrev pub AnotherHolds : Type 0
-AnotherHolds = (m : KeyMap) (plan number : ℕ) (value : List ℕ) → AreTallied m → number < 2 ^ 64 → Has m (tally number) value → Lacks m (holding plan number) → IsHeldByAnother m plan number
+AnotherHolds = (m : KeyMap) (plan number : ℕ) (value : List ℕ) → AreTallied m → number < 2 ^ 64
+    → Has m (tally number) value → Lacks m (holding plan number) → IsHeldByAnother m plan number

@@ -28,7 +28,8 @@ pub record HoldsNamed (m : KeyMap) (next : Counters) (new : Bool) (plan number :
 
 -- A plan, also one that was taken away, comes to hold a chunk that a part of it names.
 abbrev pub NamedIsHeld : Type 0
-NamedIsHeld = (m : KeyMap) (tidy : Tidy m) (plan number : ℕ) → number < 2 ^ 64 → IsNamedBy m plan number → HoldsNamed m tidy.next tidy.new plan number (hold m plan number)
+NamedIsHeld = (m : KeyMap) (tidy : Tidy m) (plan number : ℕ) → number < 2 ^ 64
+    → IsNamedBy m plan number → HoldsNamed m tidy.next tidy.new plan number (hold m plan number)
 
 -- Where each plan holds what it names, the rows may tell the new version.
 abbrev pub VersionIsTold : Type 0

@@ -38,13 +38,17 @@ pub record AddsRevision (m n : KeyMap) (new : Bool) (next : Counters) (given : �
   pub seals : SameTag 83 m n
   pub loads : SameTag 103 m n
   pub parts : (index : ℕ) → index < 2 ^ 8 → row_in n (part p.number (p.revisions + 1) index) ≡ part_row 128 chunks_bytes numbers index
-  pub other_parts : (plan revision index : ℕ) → Fits (part plan revision index) → ((plan ≡ p.number) × (revision ≡ p.revisions + 1) → ⊥) → row_in n (part plan revision index) ≡ row_in m (part plan revision index)
-  pub pieces : (number piece : ℕ) (value : List ℕ) → Fits (chunk number piece) → IsGiven next given number → Has n (chunk number piece) value → IsPiece value
-  pub other_chunks : (number piece : ℕ) → Fits (chunk number piece) → (IsGiven next given number → ⊥) → row_in n (chunk number piece) ≡ row_in m (chunk number piece)
+  pub other_parts : (plan revision index : ℕ) → Fits (part plan revision index)
+      → ((plan ≡ p.number) × (revision ≡ p.revisions + 1) → ⊥) → row_in n (part plan revision index) ≡ row_in m (part plan revision index)
+  pub pieces : (number piece : ℕ) (value : List ℕ) → Fits (chunk number piece)
+      → IsGiven next given number → Has n (chunk number piece) value → IsPiece value
+  pub other_chunks : (number piece : ℕ) → Fits (chunk number piece) → (IsGiven next given number → ⊥)
+      → row_in n (chunk number piece) ≡ row_in m (chunk number piece)
   pub told : row_in n version ≡ row_in m version
   pub holdings : new ≡ true → (number : ℕ) → Contains numbers number → IsHeld n p.number number
   pub empty : (plan number : ℕ) (value : List ℕ) → Fits (holding plan number) → Has n (holding plan number) value → value ≡ []
-  pub other_holdings : (plan number : ℕ) → Fits (holding plan number) → ((plan ≡ p.number) × Contains numbers number → ⊥) → row_in n (holding plan number) ≡ row_in m (holding plan number)
+  pub other_holdings : (plan number : ℕ) → Fits (holding plan number) → ((plan ≡ p.number) × Contains numbers number → ⊥)
+      → row_in n (holding plan number) ≡ row_in m (holding plan number)
   pub tallied : AreTallied n
 
 -- the rows of new chunks, under rising numbers from the first on
@@ -69,7 +73,8 @@ told_held false given = 0
 
 -- the rows of one revision more: its new chunks, those by which the plan holds them, its parts, the plan's row and the counters
 abbrev pub rows_of_revision : Bool → Counters → List ℕ → PlanRow → List (List ℕ) → List ℕ → List Row
-rows_of_revision new next name p lists numbers = new_chunk_rows next.chunk lists ++ (new_holding_rows p.number next.chunk (told_held new (length lists)) ++ (name_rows p.number (p.revisions + 1) numbers
+rows_of_revision new next name p lists numbers = new_chunk_rows next.chunk lists
+    ++ (new_holding_rows p.number next.chunk (told_held new (length lists)) ++ (name_rows p.number (p.revisions + 1) numbers
     ++ (key_of (named name), plan_bytes (one_revision_more p)) ∷ (key_of counters, counters_bytes (chunks_more next (length lists))) ∷ []))
 
 -- the districts of one chunk
@@ -100,5 +105,6 @@ pub record IsDrawn (m : KeyMap) (next : Counters) (plan : ℕ) (lists : List (Li
   pub few : length numbers ≤ 128 * 2 ^ 8
   pub count : length numbers ≡ length counties
   pub sound : All IsChunkList lists
-  pub each : (county : ℕ) → county < length counties → IsKeptChunk m plan (get_or numbers county 0) (get_or counties county []) ⊎ IsNewChunk next lists (get_or numbers county 0) (get_or counties county [])
+  pub each : (county : ℕ) → county < length counties → IsKeptChunk m plan (get_or numbers county 0) (get_or counties county [])
+      ⊎ IsNewChunk next lists (get_or numbers county 0) (get_or counties county [])
   pub used : (place : ℕ) → place < length lists → (county : ℕ) × (county < length counties) × (get_or numbers county 0 ≡ next.chunk + place)

@@ -46,14 +46,16 @@ pub record CanHold (m : KeyMap) (limit plan : ℕ) : Type 0 where
 pub record Holds (m n : KeyMap) (limit plan : ℕ) (numbers : List ℕ) : Type 0 where
   pub can : CanHold n limit plan
   pub held : (number : ℕ) → Contains numbers number → IsHeld n plan number
-  pub others : (other number : ℕ) → Fits (holding other number) → ((other ≡ plan) × Contains numbers number → ⊥) → row_in n (holding other number) ≡ row_in m (holding other number)
+  pub others : (other number : ℕ) → Fits (holding other number) → ((other ≡ plan) × Contains numbers number → ⊥)
+      → row_in n (holding other number) ≡ row_in m (holding other number)
   pub rest : (tag : ℕ) → (tag ≡ 72 → ⊥) → (tag ≡ 75 → ⊥) → SameTag tag m n
   pub rows : AreRows m → AreRows n
 
 -- The rows of a revision that has the chunks of another plan's, and no new one: the plan holds them, its parts name them, and its row
 -- tells one revision more.
 abbrev pub shared_rows : Counters → List ℕ → PlanRow → List ℕ → List Row
-shared_rows next name p numbers = name_rows p.number (p.revisions + 1) numbers ++ (key_of (named name), plan_bytes (one_revision_more p)) ∷ (key_of counters, counters_bytes (chunks_more next 0)) ∷ []
+shared_rows next name p numbers = name_rows p.number (p.revisions + 1) numbers
+    ++ (key_of (named name), plan_bytes (one_revision_more p)) ∷ (key_of counters, counters_bytes (chunks_more next 0)) ∷ []
 
 abbrev pub with_shared : KeyMap → Counters → List ℕ → PlanRow → List ℕ → KeyMap
 with_shared m next name p numbers = put_rows (hold_all m p.number numbers) (shared_rows next name p numbers)

@@ -67,7 +67,8 @@ pub record AreOwned (m : KeyMap) : Type 0 where
   pub one : (name other : List ℕ) (number : ℕ) → IsNumbered m name number → IsNumbered m other number → name ≡ other
   pub gone : (name : List ℕ) (number : ℕ) → IsNumbered m name number → row_in m (retired number) ≡ None
   pub parts : (plan revision index : ℕ) (value : List ℕ) → Fits (part plan revision index) → Has m (part plan revision index) value → IsKnown m plan
-  pub chunks : (number index : ℕ) (value : List ℕ) → Fits (chunk number index) → Has m (chunk number index) value → (plan : ℕ) × IsNamedBy m plan number
+  pub chunks : (number index : ℕ) (value : List ℕ) → Fits (chunk number index)
+      → Has m (chunk number index) value → (plan : ℕ) × IsNamedBy m plan number
   pub blocks : (load place : ℕ) (value : List ℕ) → Fits (block load place) → Has m (block load place) value → IsLoad m load
   pub pairs : (load place : ℕ) (value : List ℕ) → Fits (pair load place) → Has m (pair load place) value → IsLoad m load
   -- the sealed load is none of those that were begun
@@ -86,7 +87,8 @@ version_row false = None
 -- chunk that it names; one that was taken away may have let some go. In the old one none need be held.
 pub record AreHoldings (m : KeyMap) (new : Bool) : Type 0 where
   pub told : row_in m version ≡ version_row new
-  pub held : (plan number : ℕ) (value : List ℕ) → Fits (holding plan number) → Has m (holding plan number) value → (value ≡ []) × IsNamedBy m plan number
+  pub held : (plan number : ℕ) (value : List ℕ) → Fits (holding plan number)
+      → Has m (holding plan number) value → (value ≡ []) × IsNamedBy m plan number
   pub tallied : AreTallied m
   pub hold : new ≡ true → AllHold m
 
@@ -103,7 +105,8 @@ pub record AreCounted (m : KeyMap) : Type 0 where
   pub parts : (plan revision index : ℕ) (value : List ℕ) → Fits (part plan revision index) → Has m (part plan revision index) value → IsPart value
   pub pieces : (number piece : ℕ) (value : List ℕ) → Fits (chunk number piece) → Has m (chunk number piece) value → IsPiece value
   pub counted : (name : List ℕ) (p : PlanRow) → p.number < 2 ^ 64 → p.revisions < 2 ^ 32 → Has m (named name) (plan_bytes p)
-      → (revision index : ℕ) (value : List ℕ) → Fits (part p.number revision index) → Has m (part p.number revision index) value → (0 < revision) × (revision ≤ p.revisions)
+      → (revision index : ℕ) (value : List ℕ) → Fits (part p.number revision index)
+      → Has m (part p.number revision index) value → (0 < revision) × (revision ≤ p.revisions)
 
 pub record Tidy (m : KeyMap) : Type 0 where
   pub next : Counters

@@ -50,7 +50,12 @@ NumbersAreFree = (m : KeyMap) (tidy : Tidy m) → AreFree m tidy.next
 -- a plan's row is put under a number of its own, or gives way to the mark that its number was taken away
 pub record PlansLeaveTidy (m : KeyMap) (next : Counters) (new : Bool) (name : List ℕ) : Type 0 where
   pub created : (kind : Kind) (districts : ℕ) → IsPlanName name → Lacks m (named name) → next.plan + 1 < 2 ^ 64
-      → TidyWith (insert (insert m (key_of (named name)) (plan_bytes (record { number = next.plan; kind = kind; districts = districts; revisions = 0 }))) (key_of counters) (counters_bytes (one_plan_more next))) (one_plan_more next) new
+      → TidyWith (insert (insert m (key_of (named name)) (plan_bytes (record {
+        number = next.plan;
+        kind = kind;
+        districts = districts;
+        revisions = 0;
+      }))) (key_of counters) (counters_bytes (one_plan_more next))) (one_plan_more next) new
   pub taken_away : (number : ℕ) → IsNumbered m name number → TidyWith (insert (remove m (key_of (named name))) (key_of (retired number)) []) next new
 
 abbrev pub PlansComeAndGoTidily : Type 0
@@ -58,40 +63,56 @@ PlansComeAndGoTidily = (m : KeyMap) (tidy : Tidy m) (name : List ℕ) → PlansL
 
 -- a load is begun, with no row yet, its rows are put, and it is sealed where none was
 pub record LoadsLeaveTidy (m : KeyMap) (next : Counters) (new : Bool) : Type 0 where
-  pub started : next.load + 1 < 2 ^ 64 → TidyWith (insert (insert m (key_of (begun next.load)) []) (key_of counters) (counters_bytes (one_load_more next))) (one_load_more next) new
-  pub unstaged : (g : Ground) → IsStaged (insert (insert m (key_of (begun next.load)) []) (key_of counters) (counters_bytes (one_load_more next))) next.load g 0
-  pub staged : (load : ℕ) (rows : List Row) → load < 2 ^ 64 → IsLoad m load → All (λ row. IsLoadKey load row.0) rows → TidyWith (put_rows m rows) next new
-  pub told : (load : ℕ) (row : ℕ → Row) (count : ℕ) → load < 2 ^ 64 → IsLoad m load → ((k : ℕ) → k < count → IsLoadKey load (row k).0) → TidyWith (put_rows m (rows_told row count)) next new
-  pub sealed : (s : SealRow) → s.load < 2 ^ 64 → Lacks m seal → Has m (begun s.load) [] → TidyWith (remove (insert m (key_of seal) (seal_bytes s)) (key_of (begun s.load))) next new
+  pub started : next.load + 1 < 2 ^ 64 → TidyWith (insert (insert m (key_of (begun next.load)) [])
+      (key_of counters) (counters_bytes (one_load_more next))) (one_load_more next) new
+  pub unstaged : (g : Ground) → IsStaged (insert (insert m (key_of (begun next.load)) [])
+      (key_of counters) (counters_bytes (one_load_more next))) next.load g 0
+  pub staged : (load : ℕ) (rows : List Row) → load < 2 ^ 64 → IsLoad m load
+      → All (λ row. IsLoadKey load row.0) rows → TidyWith (put_rows m rows) next new
+  pub told : (load : ℕ) (row : ℕ → Row) (count : ℕ) → load < 2 ^ 64 → IsLoad m load
+      → ((k : ℕ) → k < count → IsLoadKey load (row k).0) → TidyWith (put_rows m (rows_told row count)) next new
+  pub sealed : (s : SealRow) → s.load < 2 ^ 64 → Lacks m seal → Has m (begun s.load) []
+      → TidyWith (remove (insert m (key_of seal) (seal_bytes s)) (key_of (begun s.load))) next new
 
 abbrev pub LoadsAreLoadedTidily : Type 0
 LoadsAreLoadedTidily = (m : KeyMap) (tidy : Tidy m) → LoadsLeaveTidy m tidy.next tidy.new
 
 -- A plan gets one revision more: in whatever order its rows were put, and as they are listed.
 pub record RevisionLeavesTidy (m : KeyMap) (next : Counters) (new : Bool) (name : List ℕ) (p : PlanRow) : Type 0 where
-  pub added : (n : KeyMap) (given : ℕ) (numbers : List ℕ) → next.chunk + given < 2 ^ 64 → AreItsChunks m next given p.number numbers → AddsRevision m n new next given name p numbers → TidyWith n (chunks_more next given) new
-  pub put : (lists : List (List ℕ)) (numbers : List ℕ) → next.chunk + length lists < 2 ^ 64 → length numbers ≤ 128 * 2 ^ 8 → All IsChunkList lists → AreItsChunks m next (length lists) p.number numbers
+  pub added : (n : KeyMap) (given : ℕ) (numbers : List ℕ) → next.chunk + given < 2 ^ 64 → AreItsChunks m next given p.number numbers
+      → AddsRevision m n new next given name p numbers → TidyWith n (chunks_more next given) new
+  pub put : (lists : List (List ℕ)) (numbers : List ℕ) → next.chunk + length lists < 2 ^ 64
+      → length numbers ≤ 128 * 2 ^ 8 → All IsChunkList lists → AreItsChunks m next (length lists) p.number numbers
       → AddsRevision m (put_rows m (rows_of_revision new next name p lists numbers)) new next (length lists) name p numbers
 
 abbrev pub RevisionsAreAddedTidily : Type 0
-RevisionsAreAddedTidily = (m : KeyMap) (tidy : Tidy m) (name : List ℕ) (p : PlanRow) → p.number < 2 ^ 64 → p.revisions + 1 < 2 ^ 32 → Has m (named name) (plan_bytes p) → RevisionLeavesTidy m tidy.next tidy.new name p
+RevisionsAreAddedTidily = (m : KeyMap) (tidy : Tidy m) (name : List ℕ) (p : PlanRow) → p.number < 2 ^ 64
+    → p.revisions + 1 < 2 ^ 32 → Has m (named name) (plan_bytes p) → RevisionLeavesTidy m tidy.next tidy.new name p
 
 -- The desk with the revision, and tidy rows.
-pub record MakesRevision (g : Ground) (plans : FinMap name_cmp Plan) (name : List ℕ) (p : Plan) (districts : List ℕ) (next : Counters) (new : Bool) (n : KeyMap) : Type 0 where
+pub record MakesRevision (g : Ground) (plans : FinMap name_cmp Plan) (name : List ℕ)
+    (p : Plan) (districts : List ℕ) (next : Counters) (new : Bool) (n : KeyMap) : Type 0 where
   pub desk : IsDesk n (desk_with g (insert plans name (with_revision p districts)))
   pub tidy : TidyWith n next new
 
 -- whichever way its rows were put, where its new chunks are there
-pub record RevisionMakesDesk (m : KeyMap) (next : Counters) (new : Bool) (g : Ground) (plans : FinMap name_cmp Plan) (name : List ℕ) (number : ℕ) (p : Plan) (districts : List ℕ) (lists : List (List ℕ)) (numbers : List ℕ) : Type 0 where
-  pub added : (n : KeyMap) → AddsRevision m n new next (length lists) name (plan_row_of number p) numbers → ((place : ℕ) → place < length lists → HasChunk n (next.chunk + place) (get_or lists place []))
+pub record RevisionMakesDesk (m : KeyMap) (next : Counters) (new : Bool) (g : Ground) (plans : FinMap name_cmp Plan)
+    (name : List ℕ) (number : ℕ) (p : Plan) (districts : List ℕ) (lists : List (List ℕ)) (numbers : List ℕ) : Type 0 where
+  pub added : (n : KeyMap) → AddsRevision m n new next (length lists) name (plan_row_of number p) numbers
+      → ((place : ℕ) → place < length lists → HasChunk n (next.chunk + place) (get_or lists place []))
       → MakesRevision g plans name p districts (chunks_more next (length lists)) new n
-  pub put : MakesRevision g plans name p districts (chunks_more next (length lists)) new (put_rows m (rows_of_revision new next name (plan_row_of number p) lists numbers))
+  pub put : MakesRevision g plans name p districts (chunks_more next (length lists)) new
+      (put_rows m (rows_of_revision new next name (plan_row_of number p) lists numbers))
 
 abbrev pub RevisionsMakeDesks : Type 0
-RevisionsMakeDesks = (m : KeyMap) (tidy : Tidy m) (g : Ground) (plans : FinMap name_cmp Plan) (name : List ℕ) (number : ℕ) (p : Plan) (districts : List ℕ) (lists : List (List ℕ)) (numbers : List ℕ)
-    → IsDesk m (desk_with g plans) → get plans name ≡ Some p → HasPlan m g name number p → length districts ≡ length g.blocks → length p.revisions < most_revisions
-    → tidy.next.chunk + length lists < 2 ^ 64 → IsDrawn m tidy.next number lists numbers (cut g districts) → RevisionMakesDesk m tidy.next tidy.new g plans name number p districts lists numbers
+RevisionsMakeDesks = (m : KeyMap) (tidy : Tidy m) (g : Ground) (plans : FinMap name_cmp Plan)
+    (name : List ℕ) (number : ℕ) (p : Plan) (districts : List ℕ) (lists : List (List ℕ)) (numbers : List ℕ)
+    → IsDesk m (desk_with g plans) → get plans name ≡ Some p → HasPlan m g name number p
+    → length districts ≡ length g.blocks → length p.revisions < most_revisions
+    → tidy.next.chunk + length lists < 2 ^ 64 → IsDrawn m tidy.next number lists numbers (cut g districts)
+    → RevisionMakesDesk m tidy.next tidy.new g plans name number p districts lists numbers
 
 -- the chunks of a revision can be kept by a later one
 abbrev pub ChunksAreKept : Type 0
-ChunksAreKept = (m : KeyMap) (plan revision : ℕ) (numbers : List ℕ) (counties : List (List ℕ)) → plan < 2 ^ 64 → revision < 2 ^ 32 → NamesChunks m plan revision numbers → HasRevision m plan revision counties → AreKept m plan numbers counties
+ChunksAreKept = (m : KeyMap) (plan revision : ℕ) (numbers : List ℕ) (counties : List (List ℕ)) → plan < 2 ^ 64 → revision < 2 ^ 32
+    → NamesChunks m plan revision numbers → HasRevision m plan revision counties → AreKept m plan numbers counties

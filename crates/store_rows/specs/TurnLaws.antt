@@ -79,4 +79,5 @@ AreTurns m (turn ∷ turns) = CanTurn m turn × AreTurns (turned m turn) turns
 
 -- in the new version
 abbrev pub TurnsAreSwept : Type 0
-TurnsAreSwept = (m : KeyMap) (tidy : Tidy m) → tidy.new ≡ true → (d : Desk) (turns : List Turn) → IsDesk m d → AreTurns m turns → IsSwept d tidy.next tidy.new (take_turns m turns)
+TurnsAreSwept = (m : KeyMap) (tidy : Tidy m) → tidy.new ≡ true → (d : Desk) (turns : List Turn)
+    → IsDesk m d → AreTurns m turns → IsSwept d tidy.next tidy.new (take_turns m turns)

@@ -1,6 +1,9 @@
 //! Keys of rows.
 ghost use Rattle.std.specs.Prelude.{◌≡◌, ◌≤◌, ◌<◌, ◌+◌, ◌++◌, [], ◌∷◌, length, vec_len};
-ghost use Rattle.store_rows.specs.Keys.{RowKey, key_of, counters, retired, begun, holding, tally, named, part, seal, version, block, pair, chunk, in_one, in_two, in_four, in_eight, plans_prefix, retired_prefix, begun_prefix, holdings_prefix, parts_prefix, plan_parts_prefix, revision_prefix, load_prefix, blocks_prefix, pairs_prefix, chunks_prefix, chunk_prefix};
+ghost use Rattle.store_rows.specs.Keys.{RowKey, key_of, counters, retired, begun, holding, tally, named, part, seal, version, block};
+ghost use Rattle.store_rows.specs.Keys.{pair, chunk, in_one, in_two, in_four, in_eight, plans_prefix, retired_prefix};
+ghost use Rattle.store_rows.specs.Keys.{begun_prefix, holdings_prefix, parts_prefix, plan_parts_prefix, revision_prefix};
+ghost use Rattle.store_rows.specs.Keys.{load_prefix, blocks_prefix, pairs_prefix, chunks_prefix, chunk_prefix};
 
 use arrayvec::ArrayVec;
 use desk_model::name::PlanName;

@@ -56,7 +56,8 @@ pub fn fill_districts(value: &mut ListValue, districts: &[u16])
 
 /// The chunks that a part of a revision names; None where the row's value names none, or more than 128.
 pub fn read_chunks(bytes: &[u8]) -> Option<ArrayVec<u64, PART_CHUNKS>>
-    ensures { MatchOption result ((ns : List ℕ) → AreChunks ns → chunks_bytes ns ≡ bytes.now → ⊥) (λ v. AreChunks v.items × (chunks_bytes v.items ≡ bytes.now)) }
+    ensures { MatchOption result ((ns : List ℕ) → AreChunks ns → chunks_bytes ns ≡ bytes.now
+        → ⊥) (λ v. AreChunks v.items × (chunks_bytes v.items ≡ bytes.now)) }
 {
     let count = bytes.len() / 8;
     if count == 0 || count > PART_CHUNKS || bytes.len() != 8 * count {
@@ -71,7 +72,8 @@ pub fn read_chunks(bytes: &[u8]) -> Option<ArrayVec<u64, PART_CHUNKS>>
 
 /// The districts that a piece of a chunk holds; None where the row's value holds none, or more than 512.
 pub fn read_districts(bytes: &[u8]) -> Option<ArrayVec<u16, PIECE_DISTRICTS>>
-    ensures { MatchOption result ((ds : List ℕ) → AreDistricts ds → districts_bytes ds ≡ bytes.now → ⊥) (λ v. AreDistricts v.items × (districts_bytes v.items ≡ bytes.now)) }
+    ensures { MatchOption result ((ds : List ℕ) → AreDistricts ds → districts_bytes ds ≡ bytes.now
+        → ⊥) (λ v. AreDistricts v.items × (districts_bytes v.items ≡ bytes.now)) }
 {
     let count = bytes.len() / 2;
     if count == 0 || count > PIECE_DISTRICTS || bytes.len() != 2 * count {

@@ -14,7 +14,7 @@ use Rattle.store_rows.specs.Tidy.{Tidy}
 use Rattle.store_sweep.specs.Leftovers.{IsSpared, IsOfLoad, IsSweptClean}
 use Rattle.store_sweep.specs.declared.leftovers.Left.{Left}
 use Rattle.store_sweep.specs.declared.leftovers.Left.TheVariants as left
-use Rattle.store_sweep.specs.declared.pieces.Gap.{Gap}
+use Rattle.store_sweep.specs.declared.pieces.PieceGap.{PieceGap}
 
 -- a row whose key begins with a prefix, where there is one
 pub record IsUnder (prefix : List ℕ) (row : Row) (m : KeyMap) : Type 0 where
@@ -93,15 +93,15 @@ abbrev pub EndsAt : Bool → ℕ → List ℕ → Type 0
 EndsAt true to key = IsPieceKey to key
 EndsAt false to key = Unit {0}
 
-abbrev pub IsGap : Gap → List ℕ → KeyMap → Type 0
+abbrev pub IsGap : PieceGap → List ℕ → KeyMap → Type 0
 IsGap gap key m = AreFree gap.from gap.to m × EndsAt gap.ends gap.to key
 
-abbrev pub IsSought : Bool → ℕ → Gap → List ℕ → KeyMap → Type 0
+abbrev pub IsSought : Bool → ℕ → PieceGap → List ℕ → KeyMap → Type 0
 IsSought true number gap key m = IsPieceKey number key × IsGap gap key m
 IsSought false number gap key m = IsFreeChunk m number × IsGap gap key m
 
 -- a piece of it is left that no plan holds, or not
-abbrev pub IsSoughtLeft : Bool → ℕ → Gap → List ℕ → KeyMap → Type 0
+abbrev pub IsSoughtLeft : Bool → ℕ → PieceGap → List ℕ → KeyMap → Type 0
 IsSoughtLeft true number gap key m = IsPieceKey number key × Lacks m (tally number)
 IsSoughtLeft false number gap key m = IsDone m number × IsGap gap key m
 

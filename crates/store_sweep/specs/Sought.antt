@@ -10,7 +10,7 @@ use Rattle.store_rows.specs.Tidy.{AreRows}
 use Rattle.store_sweep.specs.Leftovers.{IsOfLoad}
 use Rattle.store_sweep.specs.Finding.{HasPlanMark, HoldsNone, IsLeftKey, IsLeft, IsGap, IsSought, IsSoughtLeft}
 use Rattle.store_sweep.specs.declared.leftovers.Left.{Left}
-use Rattle.store_sweep.specs.declared.pieces.Gap.{Gap}
+use Rattle.store_sweep.specs.declared.pieces.PieceGap.{PieceGap}
 
 module _ {D : Type 0} {g : Ghosts D} where
   -- of a plan with a mark that holds no chunk, the key that was found is one of a row that nothing needs, and of no load
@@ -26,13 +26,13 @@ module _ {D : Type 0} {g : Ghosts D} where
       → IfOk result (λ found. IsLeft m key (λ row. (load : ℕ) → IsOfLoad load row → ⊥) found)
 
   -- a piece of the chunk was found under the key, or it has none, and the gap and its key are right still
-  abbrev pub SeeksPiece : {E : Type 0} → ℕ → Txn → Pages D g → Pages D g → Gap → List ℕ → Gap → List ℕ → Result Bool E → Type 0
+  abbrev pub SeeksPiece : {E : Type 0} → ℕ → Txn → Pages D g → Pages D g → PieceGap → List ℕ → PieceGap → List ℕ → Result Bool E → Type 0
   SeeksPiece number t old new was was_key gap key result =
       (disk_in new).is_honest → (m : KeyMap) → InTxn t (stored old) m → AreRows m → IsGap was was_key m
       → IfOk result (λ found. IsSought found number gap key m)
 
   -- a piece of the chunk was found that no plan holds, or the chunk is done with, and the gap and its key are right still
-  abbrev pub SeeksLeft : {E : Type 0} → ℕ → Txn → Pages D g → Pages D g → Gap → List ℕ → Gap → List ℕ → Result Bool E → Type 0
+  abbrev pub SeeksLeft : {E : Type 0} → ℕ → Txn → Pages D g → Pages D g → PieceGap → List ℕ → PieceGap → List ℕ → Result Bool E → Type 0
   SeeksLeft number t old new was was_key gap key result =
       (disk_in new).is_honest → (m : KeyMap) → InTxn t (stored old) m → AreRows m → IsGap was was_key m
       → IfOk result (λ found. IsSoughtLeft found number gap key m)

@@ -3,7 +3,8 @@ use Rattle.std.specs.Prelude.{◌≡◌, ◌⊎◌, ◌<◌, ◌≤◌, ◌+◌,
 use Rattle.sector_device.specs.Moments.{LeavesOnly}
 use Rattle.sector_device.specs.declared.SectorDevice.{Ghosts}
 use Rattle.gate_journal.specs.Store.{home}
-use Rattle.page_store.specs.Transactions.{stored, disk_in, count_of, journal_of, has_halted, txn_pages, txn_free, txn_writes, HasFailed, IsQuiet, IsSame, Passed}
+use Rattle.page_store.specs.Transactions.{stored, disk_in, count_of, journal_of, has_halted, txn_pages}
+use Rattle.page_store.specs.Transactions.{txn_free, txn_writes, HasFailed, IsQuiet, IsSame, Passed}
 use Rattle.page_store.specs.declared.pages.Pages.{Pages}
 use Rattle.page_store.specs.declared.txn.Txn.{Txn}
 use Rattle.page_btree.specs.Map.{InTxn, InPages}
@@ -31,7 +32,8 @@ module _ {D : Type 0} {g : Ghosts D} where
   pub record HasSwept (running : Option ℕ) (count : ℕ) (t u : Txn) (old new : Pages D g) : Type 0 where
     pub passed : Passed old new
     pub pages : txn_pages u ≡ txn_pages t
-    pub swept : (disk_in new).is_honest → (m : KeyMap) (d : Desk) → InTxn t (stored old) m → IsDeskMap m d → (n : KeyMap) × InTxn u (stored old) n × IsSweptMap running count m d n
+    pub swept : (disk_in new).is_honest → (m : KeyMap) (d : Desk) → InTxn t (stored old) m
+        → IsDeskMap m d → (n : KeyMap) × InTxn u (stored old) n × IsSweptMap running count m d n
     pub writes : txn_writes u ≤ txn_writes t + 9 * count
     pub given : (disk_in new).is_honest → (m : KeyMap) (d : Desk) → InTxn t (stored old) m → IsDeskMap m d → txn_free t ≤ txn_free u
 

@@ -30,7 +30,8 @@ pub(crate) fn finish<D: SectorDevice>(txn: Txn, pages: &mut Pages<D>) -> Result<
     ensures shape { HasShape pages.old pages.new }
     ensures honest { (disk_in pages.new).is_honest → (disk_in pages.old).is_honest }
     ensures any_moment { (disk_in pages.new).is_honest → Leaves txn pages.old pages.new }
-    ensures held { (disk_in pages.new).is_honest → OnOk result ((m : KeyMap) → InTxn txn (stored pages.old) m → InPages pages.new m × (length (free_in (stored pages.new)) ≡ txn_free txn)) }
+    ensures held { (disk_in pages.new).is_honest → OnOk result ((m : KeyMap) → InTxn txn (stored pages.old) m
+        → InPages pages.new m × (length (free_in (stored pages.new)) ≡ txn_free txn)) }
     ensures kept { (disk_in pages.new).is_honest → OnOk result (IsKept pages.new) }
     ensures passed { (disk_in pages.new).is_honest → OnOk result ((disk_in pages.new).faults ≡ (disk_in pages.old).faults) }
     ensures ok { OnOk result (has_halted pages.new ≡ false) }

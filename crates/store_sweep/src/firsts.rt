@@ -22,7 +22,8 @@ pub(crate) fn first_under<D: SectorDevice>(
     requires short { length prefix.now ≤ 72 }
     ensures quiet { IsQuiet pages.old pages.new }
     ensures passed { OnOk result (Passed pages.old pages.new) }
-    ensures found { (disk_in pages.new).is_honest → (m : KeyMap) → InTxn txn.now (stored pages.old) m → IfOk result (λ found. IsFirst found prefix.now row.new m) }
+    ensures found { (disk_in pages.new).is_honest → (m : KeyMap) → InTxn txn.now (stored pages.old) m
+        → IfOk result (λ found. IsFirst found prefix.now row.new m) }
     ensures err { IfErr result (λ e. GetErr txn.now pages.old pages.new e) }
 {
     let mut scan = Scan::new(prefix);
@@ -47,7 +48,8 @@ pub(crate) fn first_mark<D: SectorDevice>(
     requires short { length prefix.now ≤ 72 }
     ensures quiet { IsQuiet pages.old pages.new }
     ensures passed { OnOk result (Passed pages.old pages.new) }
-    ensures found { (disk_in pages.new).is_honest → (m : KeyMap) → InTxn txn.now (stored pages.old) m → IfOk result (λ found. IsFirstMark found prefix.now spared.now row.new m) }
+    ensures found { (disk_in pages.new).is_honest → (m : KeyMap) → InTxn txn.now (stored pages.old) m
+        → IfOk result (λ found. IsFirstMark found prefix.now spared.now row.new m) }
     ensures err { IfErr result (λ e. GetErr txn.now pages.old pages.new e) }
 {
     let mut scan = Scan::new(prefix);

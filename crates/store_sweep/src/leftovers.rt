@@ -111,7 +111,8 @@ fn left_of_load<D: SectorDevice>(
     requires begun { txn_pages txn.now ≡ count_of pages.old }
     ensures quiet { IsQuiet pages.old pages.new }
     ensures passed { OnOk result (Passed pages.old pages.new) }
-    ensures found { (disk_in pages.new).is_honest → (m : KeyMap) → InTxn txn.now (stored pages.old) m → HasLoadMark load m → OnOk result (IsLeftKey m row.new.key (IsOfLoad load)) }
+    ensures found { (disk_in pages.new).is_honest → (m : KeyMap) → InTxn txn.now (stored pages.old) m
+        → HasLoadMark load m → OnOk result (IsLeftKey m row.new.key (IsOfLoad load)) }
     ensures err { IfErr result (λ e. ReadErr (HasLoadMark load) txn.now pages.old pages.new e) }
 {
     let prefix = Key::load(load);
@@ -142,7 +143,8 @@ fn left_of_loads<D: SectorDevice>(
     requires begun { txn_pages txn.now ≡ count_of pages.old }
     ensures quiet { IsQuiet pages.old pages.new }
     ensures passed { OnOk result (Passed pages.old pages.new) }
-    ensures found { (disk_in pages.new).is_honest → (m : KeyMap) → InTxn txn.now (stored pages.old) m → Tidy m → IfOk result (λ found. IsLoadLeft found running row.new.key m) }
+    ensures found { (disk_in pages.new).is_honest → (m : KeyMap) → InTxn txn.now (stored pages.old) m
+        → Tidy m → IfOk result (λ found. IsLoadLeft found running row.new.key m) }
     ensures err { IfErr result (λ e. ReadErr Tidy txn.now pages.old pages.new e) }
 {
     let prefix = Key::all_begun();
@@ -166,7 +168,8 @@ fn left_of_plans<D: SectorDevice>(
     requires begun { txn_pages txn.now ≡ count_of pages.old }
     ensures quiet { IsQuiet pages.old pages.new }
     ensures passed { OnOk result (Passed pages.old pages.new) }
-    ensures found { (disk_in pages.new).is_honest → (m : KeyMap) → InTxn txn.now (stored pages.old) m → Tidy m → IfOk result (λ found. IsPlanLeft found row.new.key m) }
+    ensures found { (disk_in pages.new).is_honest → (m : KeyMap) → InTxn txn.now (stored pages.old) m
+        → Tidy m → IfOk result (λ found. IsPlanLeft found row.new.key m) }
     ensures err { IfErr result (λ e. ReadErr Tidy txn.now pages.old pages.new e) }
 {
     let prefix = Key::all_retired();
@@ -191,7 +194,8 @@ pub(crate) fn next_leftover<D: SectorDevice>(
     requires begun { txn_pages txn.now ≡ count_of pages.old }
     ensures quiet { IsQuiet pages.old pages.new }
     ensures passed { OnOk result (Passed pages.old pages.new) }
-    ensures found { (disk_in pages.new).is_honest → (m : KeyMap) → InTxn txn.now (stored pages.old) m → Tidy m → IfOk result (λ found. IsNextLeft found running row.new.key m) }
+    ensures found { (disk_in pages.new).is_honest → (m : KeyMap) → InTxn txn.now (stored pages.old) m
+        → Tidy m → IfOk result (λ found. IsNextLeft found running row.new.key m) }
     ensures err { IfErr result (λ e. ReadErr Tidy txn.now pages.old pages.new e) }
 {
     if let Some(left) = left_of_plans(txn, pages, row)? {

@@ -42,7 +42,8 @@ fn key_from<D: SectorDevice>(
     requires begun { txn_pages txn.now ≡ count_of pages.old }
     ensures quiet { IsQuiet pages.old pages.new }
     ensures passed { OnOk result (Passed pages.old pages.new) }
-    ensures found { (disk_in pages.new).is_honest → (m : KeyMap) → InTxn txn.now (stored pages.old) m → IfOk result (λ is. IsFirstFrom is key.now found.new m) }
+    ensures found { (disk_in pages.new).is_honest → (m : KeyMap) → InTxn txn.now (stored pages.old) m
+        → IfOk result (λ is. IsFirstFrom is key.now found.new m) }
     ensures err { IfErr result (λ e. GetErr txn.now pages.old pages.new e) }
 {
     let mut leaf = Leaf::empty();
@@ -84,7 +85,8 @@ fn chunk_from<D: SectorDevice>(
     requires begun { txn_pages txn.now ≡ count_of pages.old }
     ensures quiet { IsQuiet pages.old pages.new }
     ensures passed { OnOk result (Passed pages.old pages.new) }
-    ensures found { (disk_in pages.new).is_honest → (m : KeyMap) → InTxn txn.now (stored pages.old) m → AreRows m → IfOk result (λ next. IsNextChunk next number row.new.key m) }
+    ensures found { (disk_in pages.new).is_honest → (m : KeyMap) → InTxn txn.now (stored pages.old) m
+        → AreRows m → IfOk result (λ next. IsNextChunk next number row.new.key m) }
     ensures err { IfErr result (λ e. ReadErr AreRows txn.now pages.old pages.new e) }
 {
     let prefix = Key::chunk_pieces(number);
@@ -105,7 +107,7 @@ fn chunk_from<D: SectorDevice>(
 /// Chunks from a number on and below another, of which none has a piece. Where it ends at one that has, the key of its first piece
 /// is at hand.
 #[derive(Clone, Copy, Drop)]
-struct Gap {
+struct PieceGap {
     from: u64,
     to: u64,
     ends: bool,
@@ -117,7 +119,7 @@ fn seek_piece<D: SectorDevice>(
     txn: &Txn,
     pages: &mut Pages<D>,
     number: u64,
-    gap: &mut Gap,
+    gap: &mut PieceGap,
     row: &mut Row,
 ) -> Result<bool, TreeError>
     requires begun { txn_pages txn.now ≡ count_of pages.old }
@@ -172,7 +174,7 @@ fn seek_left<D: SectorDevice>(
     txn: &Txn,
     pages: &mut Pages<D>,
     number: u64,
-    gap: &mut Gap,
+    gap: &mut PieceGap,
     row: &mut Row,
 ) -> Result<bool, TreeError>
     requires begun { txn_pages txn.now ≡ count_of pages.old }
@@ -201,10 +203,11 @@ pub(crate) fn first_piece<D: SectorDevice>(
     requires begun { txn_pages txn.now ≡ count_of pages.old }
     ensures quiet { IsQuiet pages.old pages.new }
     ensures passed { OnOk result (Passed pages.old pages.new) }
-    ensures found { (disk_in pages.new).is_honest → (m : KeyMap) → InTxn txn.now (stored pages.old) m → AreRows m → IfOk result (λ found. IsFirstPiece found numbers.now row.new.key m) }
+    ensures found { (disk_in pages.new).is_honest → (m : KeyMap) → InTxn txn.now (stored pages.old) m
+        → AreRows m → IfOk result (λ found. IsFirstPiece found numbers.now row.new.key m) }
     ensures err { IfErr result (λ e. ReadErr AreRows txn.now pages.old pages.new e) }
 {
-    let mut gap = Gap {
+    let mut gap = PieceGap {
         from: 0,
         to: 0,
         ends: false,

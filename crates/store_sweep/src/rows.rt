@@ -43,7 +43,8 @@ fn sweep_turn<D: SectorDevice>(
     requires begun { txn_pages txn.old ≡ count_of pages.old }
     ensures quiet { IsQuiet pages.old pages.new }
     ensures begun { txn_pages txn.new ≡ count_of pages.new }
-    ensures turn { MatchResult result (λ count. IsTurn running count txn.old txn.new pages.old pages.new) (λ e. TakeErr HasDesk txn.old pages.old pages.new e) }
+    ensures turn { MatchResult result (λ count. IsTurn running count txn.old txn.new pages.old pages.new)
+        (λ e. TakeErr HasDesk txn.old pages.old pages.new e) }
 {
     turns_are_swept();
     held_is_tallied();
@@ -77,8 +78,10 @@ pub(crate) fn sweep_rows<D: SectorDevice>(
     ensures quiet { IsQuiet pages.old pages.new }
     ensures begun { txn_pages txn.new ≡ count_of pages.new }
     ensures few { IfOk result (λ count. count ≤ 16) }
-    ensures clean { (disk_in pages.new).is_honest → (n : KeyMap) → InTxn txn.new (stored pages.old) n → Tidy n → IfOk result (λ count. count < 15 → IsSweptClean running n) }
-    ensures swept { MatchResult result (λ count. HasSwept running count txn.old txn.new pages.old pages.new) (λ e. TakeErr HasDesk txn.old pages.old pages.new e) }
+    ensures clean { (disk_in pages.new).is_honest → (n : KeyMap) → InTxn txn.new (stored pages.old) n
+        → Tidy n → IfOk result (λ count. count < 15 → IsSweptClean running n) }
+    ensures swept { MatchResult result (λ count. HasSwept running count txn.old txn.new pages.old pages.new)
+        (λ e. TakeErr HasDesk txn.old pages.old pages.new e) }
 {
     let mut row = Row::empty();
     let mut swept = 0;

@@ -31,9 +31,12 @@ pub fn sweep_step<D: SectorDevice>(
     ensures honest { (disk_in pages.new).is_honest → (disk_in pages.old).is_honest }
     ensures any_moment { StopsLeave (DeskInPages pages.old) OpensDesk pages.old pages.new }
     ensures few { IfOk result (λ count. count ≤ 16) }
-    ensures swept { (disk_in pages.new).is_honest → (m : KeyMap) (d : Desk) → InPages pages.old m → IsDeskMap m d → IfOk result (λ count. HoldsSwept running count m d pages.new) }
-    ensures exact { (disk_in pages.new).is_honest → (m : KeyMap) (d : Desk) → InPages pages.old m → IsDeskMap m d → IfOk result (λ count. (count ≡ 0) ↔ IsSweptClean running m) }
-    ensures free { (disk_in pages.new).is_honest → (d : Desk) → DeskInPages pages.old d → OnOk result (length (free_in (stored pages.old)) ≤ length (free_in (stored pages.new))) }
+    ensures swept { (disk_in pages.new).is_honest → (m : KeyMap) (d : Desk) → InPages pages.old m
+        → IsDeskMap m d → IfOk result (λ count. HoldsSwept running count m d pages.new) }
+    ensures exact { (disk_in pages.new).is_honest → (m : KeyMap) (d : Desk) → InPages pages.old m
+        → IsDeskMap m d → IfOk result (λ count. (count ≡ 0) ↔ IsSweptClean running m) }
+    ensures free { (disk_in pages.new).is_honest → (d : Desk) → DeskInPages pages.old d
+        → OnOk result (length (free_in (stored pages.old)) ≤ length (free_in (stored pages.new))) }
     ensures kept { (disk_in pages.new).is_honest → OnOk result (IsKept pages.new) }
     ensures passed { (disk_in pages.new).is_honest → OnOk result ((disk_in pages.new).faults ≡ (disk_in pages.old).faults) }
     ensures ok { OnOk result ((has_halted pages.old ≡ false) × (has_halted pages.new ≡ false)) }

@@ -57,7 +57,9 @@ module _ {D : Type 0} (g : Ghosts D) where
 
   -- The same, and the status tells how it ended: a read fault or a write fault only where the reader or the writer failed, and the turn
   -- limit only where all its turns were made.
-  abbrev pub Talks : Status → (unread left before after : Option (List ℕ)) → (reads_failed reads_fail writes_failed writes_fail turned turns : ℕ) → Type 0
+  abbrev pub Talks : Status → (unread left before after : Option (List ℕ))
+      → (reads_failed reads_fail writes_failed writes_fail turned turns : ℕ) → Type 0
   Talks status unread left before after reads_failed reads_fail writes_failed writes_fail turned turns =
-      (served : Result Served StreamFault) × (status ≡ status_of served) × ServesSample served unread left before after × (reads_fail ≡ read_failures reads_failed served)
+      (served : Result Served StreamFault) × (status ≡ status_of served)
+      × ServesSample served unread left before after × (reads_fail ≡ read_failures reads_failed served)
       × (writes_fail ≡ write_failures writes_failed served) × (served ≡ Err fault.TurnLimit → turns ≡ counted turned 4294967296)

@@ -61,7 +61,8 @@ fn serve_sample<R: Source, W: GatherSink>(
     reader: &mut R,
     writer: &mut W,
 ) -> Result<Served, StreamFault>
-    ensures serves { ServesSample ⟦<MemoryDevice as SectorDevice>⟧ result (R.remaining reader.old) (R.remaining reader.new) (W.contents writer.old) (W.contents writer.new) }
+    ensures serves { ServesSample ⟦<MemoryDevice as SectorDevice>⟧ result (R.remaining reader.old)
+        (R.remaining reader.new) (W.contents writer.old) (W.contents writer.new) }
     ensures read_failures { R.failures reader.new ≡ read_failures (R.failures reader.old) result }
     ensures write_failures { W.failures writer.new ≡ write_failures (W.failures writer.old) result }
     ensures turns { result ≡ Err StreamFault.TurnLimit → R.turns reader.new ≡ counted (R.turns reader.old) 4294967296 }

@@ -5,7 +5,7 @@ use Rattle.row_table.proofs.Outcomes.{match_of}
 use Rattle.store_rows.specs.Rows.{KeyMap}
 use Rattle.desk_migration.specs.Puts.{HoldErrOf, IsTurn}
 use Rattle.desk_migration.specs.Walks.{IsNextPair, IsWalking}
-use Rattle.desk_migration.specs.declared.parts.Pair.{Pair}
+use Rattle.desk_migration.specs.declared.parts.HeldPair.{HeldPair}
 use Rattle.desk_migration.proofs.Pairs.{still_walking}
 use Rattle.desk_migration.proofs.Turns.{not_found, pair_not_taken, pair_taken}
 use Rattle.desk_migration.proofs.holds.hold_next.Goals as goal
@@ -26,7 +26,7 @@ returns-in-None-clause-held g c = (
   refl,
   λ honest m holds walking.
       let is = c.in_ok-next_pair.ensures.next honest m holds walking in
-      (is.0, subst (λ (o : Option Pair). IsNextPair m o) c.in-None.is is.1),
+      (is.0, subst (λ (o : Option HeldPair). IsNextPair m o) c.in-None.is is.1),
 )
 
 pub returns-in_err-hold_unheld-in-Some-clause-quiet : goal.returns-in_err-hold_unheld-in-Some-clause-quiet
@@ -43,7 +43,7 @@ returns-in_err-hold_unheld-in-Some-clause-held g c =
     let e = c.in_err-hold_unheld-in-Some.field-0.0 in
     match_of c.from_residual-in_err-hold_unheld-in-Some.result (λ found. IsTurn found has then t c.hold_unheld.new.txn a d) e (HoldErrOf 1 has t a d) c.from_residual-in_err-hold_unheld-in-Some.ensures.1
     (pair_not_taken c.in-Some.pair has then t a b d e (λ m walking. walking.tidy) c.in_ok-next_pair.ensures.passed
-    (λ honest m holds walking. let is = c.in_ok-next_pair.ensures.next honest m holds walking in (is.0, subst (λ (o : Option Pair). IsNextPair m o) c.in-Some.is is.1))
+    (λ honest m holds walking. let is = c.in_ok-next_pair.ensures.next honest m holds walking in (is.0, subst (λ (o : Option HeldPair). IsNextPair m o) c.in-Some.is is.1))
     c.in_err-hold_unheld-in-Some.ensures.quiet c.in_err-hold_unheld-in-Some.ensures.hold)
 
 pub returns-in_ok-hold_unheld-in-Some-clause-quiet : goal.returns-in_ok-hold_unheld-in-Some-clause-quiet
@@ -55,5 +55,5 @@ returns-in_ok-hold_unheld-in-Some-clause-held g c =
     let then = IsWalking c.next_pair.new.walk in
     pair_taken c.in-Some.pair has then c.args.txn.now c.hold_unheld.new.txn c.args.pages.now c.next_pair.new.pages c.hold_unheld.new.pages
     (λ m plan number is walking. still_walking c.named_is_held.ensures m plan number is c.next_pair.new.walk walking) c.in_ok-next_pair.ensures.passed
-    (λ honest m holds walking. let is = c.in_ok-next_pair.ensures.next honest m holds walking in (is.0, subst (λ (o : Option Pair). IsNextPair m o) c.in-Some.is is.1))
+    (λ honest m holds walking. let is = c.in_ok-next_pair.ensures.next honest m holds walking in (is.0, subst (λ (o : Option HeldPair). IsNextPair m o) c.in-Some.is is.1))
     c.in_ok-hold_unheld-in-Some.ensures.hold

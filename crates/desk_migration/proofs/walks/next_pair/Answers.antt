@@ -10,7 +10,7 @@ use Rattle.row_table.proofs.Outcomes.{err_of}
 use Rattle.row_table.specs.Reading.{ReadErr}
 use Rattle.store_check.proofs.Behind.{all_left}
 use Rattle.desk_migration.specs.Walks.{IsWalking, IsUnheldIn, Looks}
-use Rattle.desk_migration.specs.declared.parts.Look.{Look}
+use Rattle.desk_migration.specs.declared.parts.PartLook.{PartLook}
 use Rattle.desk_migration.proofs.Unread.{then_unread}
 use Rattle.desk_migration.proofs.walks.next_pair.Goals as goal
 
@@ -46,7 +46,7 @@ returns-in-Ended-clause-next g c = λ honest m holds walking.
     let then = c.in_ok-look.ensures.quiet.honest honest in
     let there = subst (λ (P : Image). InTxn c.args.txn.now P m) (sym (before.passed.quiet.same then)) holds in
     let is = c.in_ok-look.ensures.looks honest m there (before.done then m holds walking).0 in
-    (is.0, subst (λ (l : Look). Looks l c.loop-taken.walk c.look.new.walk m) c.in-Ended.is is.1)
+    (is.0, subst (λ (l : PartLook). Looks l c.loop-taken.walk c.look.new.walk m) c.in-Ended.is is.1)
 
 pub returns-in-Found-clause-quiet : goal.returns-in-Found-clause-quiet
 returns-in-Found-clause-quiet g c = quiet_more c.args.pages.now c.loop-taken.pages c.look.new.pages c.loop-taken.invariant.passed.quiet c.in_ok-look.ensures.quiet
@@ -60,10 +60,10 @@ returns-in-Found-clause-next g c = λ honest m holds walking.
     let then = c.in_ok-look.ensures.quiet.honest honest in
     let there = subst (λ (P : Image). InTxn c.args.txn.now P m) (sym (before.passed.quiet.same then)) holds in
     let is = c.in_ok-look.ensures.looks honest m there (before.done then m holds walking).0 in
-    (is.0, subst (λ (l : Look). Looks l c.loop-taken.walk c.look.new.walk m) c.in-Found.is is.1)
+    (is.0, subst (λ (l : PartLook). Looks l c.loop-taken.walk c.look.new.walk m) c.in-Found.is is.1)
 
 pub returns-in-Found-clause-unheld : goal.returns-in-Found-clause-unheld
-returns-in-Found-clause-unheld g c = subst (λ (l : Look). IsUnheldIn l c.args.txn.now c.look.new.pages) c.in-Found.is c.in_ok-look.ensures.unheld
+returns-in-Found-clause-unheld g c = subst (λ (l : PartLook). IsUnheldIn l c.args.txn.now c.look.new.pages) c.in-Found.is c.in_ok-look.ensures.unheld
 
 pub loop-taken-preserved : goal.loop-taken-preserved
 loop-taken-preserved g c =
@@ -78,7 +78,7 @@ loop-taken-preserved g c =
           let was = before.done then m holds walking in
           let is = c.in_ok-look.ensures.looks honest m there was.0 in
           let few = was.1 in
-          let less = subst (λ (l : Look). Looks l c.loop-taken.walk c.look.new.walk m) c.in-Passed.is is.1 in
+          let less = subst (λ (l : PartLook). Looks l c.loop-taken.walk c.look.new.walk m) c.in-Passed.is is.1 in
           (is.0, omega arith);
     }
 

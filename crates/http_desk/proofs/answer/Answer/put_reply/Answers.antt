@@ -5,7 +5,7 @@ use Rattle.desk_model.specs.declared.reply.Reply.TheVariants as reply
 use Rattle.http_answer.specs.declared.response.ContentType.TheVariants.{Json, PlainText}
 use Rattle.http_answer.specs.Answer.{answer_text}
 use Rattle.http_routes.specs.Methods.{methods_text}
-use Rattle.http_desk.specs.declared.answer.Head.{Head}
+use Rattle.http_desk.specs.declared.answer.AnswerHead.{AnswerHead}
 use Rattle.http_desk.specs.Answers.{bytes_of, saying, message_of, closes_after}
 use Rattle.http_desk.proofs.answer.Answer.put_reply.Goals as goal
 
@@ -14,7 +14,7 @@ file_text : (r : Reply) (text : List ℕ) (closing bare : Bool) → (r ≡ reply
 file_text r text closing bare (inl e) = rw e refl
 file_text r text closing bare (inr e) = rw e refl
 
-list_text : (h : Head) (closing bare : Bool) (body text : List ℕ) → h ≡ record { status = 200; kind = Json; allow = None; closes = closing; bare = bare } → body ≡ text
+list_text : (h : AnswerHead) (closing bare : Bool) (body text : List ℕ) → h ≡ record { status = 200; kind = Json; allow = None; closes = closing; bare = bare } → body ≡ text
     → answer_text h.status h.kind (option_map methods_text h.allow) h.closes h.bare body ≡ bytes_of closing bare (saying 200 Json text)
 list_text h closing bare body text e f = rw (e, f) refl
 

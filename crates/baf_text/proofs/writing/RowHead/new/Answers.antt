@@ -1,7 +1,7 @@
 use Rattle.std.proofs.Common.{length, ap, arith, ◌∙◌}
 use Rattle.std.proofs.lemmas.Fmt.{length-decimal-le}
 use Rattle.baf_text.proofs.Printing.{length-padded}
-use Rattle.baf_text.proofs.writing.Head.new.Goals as goal
+use Rattle.baf_text.proofs.writing.RowHead.new.Goals as goal
 
 pub copy_from_slice-requires : goal.copy_from_slice-requires
 copy_from_slice-requires c = omega (
