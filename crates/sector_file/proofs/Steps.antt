@@ -1,4 +1,5 @@
-use Rattle.std.proofs.Common.{◌≡◌, ◌≢◌, ◌<◌, ◌+◌, ◌∙◌, ℕ, zero, suc, Bool, length, cond, get_or, true, false, List, [], ◌∷◌, refl, sym, ap, subst, inl, inr, nat_eq, arith, IsTrue, ◌&&◌}
+use Rattle.std.proofs.Common.{◌≡◌, ◌≢◌, ◌<◌, ◌+◌, ◌∙◌, ℕ, zero, suc, Bool, length, cond, get_or, set, get_or-set_other, true, false, List, [], ◌∷◌, refl, sym, ap, subst, inl, inr, nat_eq, arith, IsTrue, ◌&&◌}
+use Rattle.std.proofs.lemmas.List.{length-set}
 use Rattle.std.proofs.lemmas.Bool.{cases_eq}
 use Rattle.std.proofs.lemmas.Bool.Decides.{nat_tests}
 use Rattle.sector_file.specs.Recalled.{Recalls}
@@ -32,6 +33,31 @@ pub recalled_read : (t u : Told) (i : ℕ) (bytes : List ℕ) (old new : Recent)
 recalled_read t u i bytes old new is had noted honest =
     let there : IsTrue (t.3 && same_bytes bytes (get_or t.0 i [])) = subst (λ (v : Told). IsTrue v.3) is honest in
     subst (λ (sectors : List (List ℕ)). Recalls new sectors) (sym (ap (λ (v : Told). v.0) is)) (noted t.0 (had (first_true t.3 _ there)) (sym (bytes_same t.3 bytes (get_or t.0 i []) there)))
+
+-- behind a write of a sector, whole or not, others are recalled
+module _ (t u : Told) (i n : ℕ) (bytes : List ℕ) (whole : n ≡ 4096 → u ≡ after_write t i bytes) (torn : n ≢ 4096 → u ≡ after_torn t i) where
+  pub length_wrote : length u.0 ≡ length t.0
+  length_wrote = elim (cases_eq n 4096) [
+    | inl is ↦ ap (λ (v : Told). length v.0) (whole is) ∙ length-set t.0 i bytes
+    | inr not ↦ ap (λ (v : Told). length v.0) (torn not)
+  ]
+
+  others_are : (j : ℕ) → j ≢ i → get_or u.0 j [] ≡ get_or t.0 j []
+  others_are j off = elim (cases_eq n 4096) [
+    | inl is ↦ ap (λ (v : Told). get_or v.0 j []) (whole is) ∙ get_or-set_other t.0 i j bytes [] off
+    | inr not ↦ ap (λ (v : Told). get_or v.0 j []) (torn not)
+  ]
+
+  was_honest : IsTrue u.3 → IsTrue t.3
+  was_honest honest = elim (cases_eq n 4096) [
+    | inl is ↦ subst (λ (v : Told). IsTrue v.3) (whole is) honest
+    | inr not ↦ subst (λ (v : Told). IsTrue v.3) (torn not) honest
+  ]
+
+  pub recalled_wrote : (old new : Recent) → (IsTrue t.3 → Recalls old t.0)
+      → ((before after : List (List ℕ)) → ((j : ℕ) → j ≢ i → get_or after j [] ≡ get_or before j []) → Recalls old before → Recalls new after)
+      → IsTrue u.3 → Recalls new u.0
+  recalled_wrote old new had forgot honest = forgot t.0 u.0 others_are (had (was_honest honest))
 
 module _ (sector : ℕ → List ℕ) where
   pub length_held : (from count : ℕ) → length (held_from sector from count) ≡ count

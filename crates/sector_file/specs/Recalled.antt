@@ -6,7 +6,7 @@ use Rattle.sector_file.specs.declared.recent.Recent.{Recent}
 
 -- what is held of a sector is what these sectors have
 abbrev pub IsRight : HeldSector → List (List ℕ) → Type 0
-IsRight held sectors = held.is ≡ true → get_or sectors held.sector [] ≡ held.bytes
+IsRight held sectors = held.is ≡ true → get_or sectors held.sector [] ≡ get_or held.bytes.items 0 []
 
 abbrev pub Recalls : Recent → List (List ℕ) → Type 0
 Recalls recent sectors = IsRight recent.first sectors × IsRight recent.second sectors

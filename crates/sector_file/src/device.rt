@@ -9,6 +9,7 @@ use crate::error::{FileError, of_making, of_opening};
 use crate::recent::Recent;
 use crate::record::Record;
 use sector_device::{DeviceFault, SectorDevice};
+use std::alloc::Global;
 use std::fs::{File, OpenOptions, TryLockError};
 use std::marker::PhantomData;
 
@@ -70,7 +71,7 @@ impl<S: Contents> FileDevice<S> {
     ghost use Rattle.sector_file.specs.Device.{file_disk};
 
     /// The device of an open file of this size.
-    fn of_size(file: File, size: u64, count: u32) -> Result<FileDevice<S>, FileError>
+    fn of_size(alloc: Global, file: File, size: u64, count: u32) -> Result<FileDevice<S>, FileError>
         ensures ok { IfOk result (λ device. (size ≡ 4096 * count) × ((file_disk device).sectors ≡ count)) }
         ensures held { IfOk result (λ device. (i : ℕ) → i < count → (file_disk device).reads i ≡ S.Contents.sector i) }
         ensures honest { IfOk result (λ device. (file_disk device).is_honest) }
@@ -84,7 +85,7 @@ impl<S: Contents> FileDevice<S> {
             count,
             size,
             log: Record::opened::<S>(count),
-            recent: Recent::none(),
+            recent: Recent::none(alloc),
             is_full: false,
             start: PhantomData,
         })
@@ -110,7 +111,7 @@ impl<S: Contents> FileDevice<S> {
         };
         let size = size_of(&file)?;
         let held = hold(&file);
-        let device = FileDevice::of_size(file, size, count)?;
+        let device = FileDevice::of_size(rt.alloc(), file, size, count)?;
         held?;
         Ok(device)
     }
@@ -141,7 +142,7 @@ impl<S: Contents> FileDevice<S> {
         hold(&file)?;
         lengthen(&file, 4096 * count as u64)?;
         let size = size_of(&file)?;
-        match FileDevice::of_size(file, size, count) {
+        match FileDevice::of_size(rt.alloc(), file, size, count) {
             Ok(device) => Ok(device),
             Err(_) => Err(FileError::DeviceFault),
         }

@@ -1,27 +1,30 @@
-//! The sectors that were read last, held in memory.
+//! The sectors that were read last, held in memory: on the heap, so that a device that is handed on is small.
 ghost use Rattle.std.specs.Prelude.{◌≡◌, ◌≢◌, ℕ, List, [], IfSome};
 ghost use Rattle.std.proofs.Common.{get_or};
 ghost use Rattle.sector_file.specs.Recalled.{IsRight, Recalls};
+
+use std::alloc::Global;
 
 /// A sector that was read, if there is one.
 #[derive(Drop)]
 pub struct HeldSector {
     is: bool,
     sector: u32,
-    bytes: [u8; 4096],
+    /// Room for its bytes, once there is one.
+    bytes: Vec<[u8; 4096]>,
 }
 
 impl HeldSector {
     ghost use Rattle.std.specs.Prelude.{◌≡◌, false, true};
 
     /// None.
-    fn none() -> HeldSector
+    fn none(alloc: Global) -> HeldSector
         ensures { result.is ≡ false }
     {
         HeldSector {
             is: false,
             sector: 0,
-            bytes: [0; 4096],
+            bytes: Vec::new(alloc),
         }
     }
 
@@ -30,18 +33,22 @@ impl HeldSector {
         ensures { (sectors : List (List ℕ)) → IsRight self.now sectors → IfSome result (λ bytes. get_or sectors sector [] ≡ bytes.now) }
     {
         if self.is && self.sector == sector {
-            return Some(&self.bytes);
+            return self.bytes.as_slice().first();
         }
         None
     }
 
-    /// Takes a sector in its place.
+    /// Takes a sector in its place, where there is room for it: else none is held.
     fn put(&mut self, sector: u32, bytes: &[u8; 4096])
         ensures { (sectors : List (List ℕ)) → get_or sectors sector [] ≡ bytes.now → IsRight self.new sectors }
     {
-        self.is = true;
+        self.is = false;
+        self.bytes.clear();
+        if self.bytes.push(*bytes).is_err() {
+            return;
+        }
         self.sector = sector;
-        self.bytes = *bytes;
+        self.is = true;
     }
 
     /// Lets go of a sector.
@@ -66,12 +73,12 @@ pub struct Recent {
 
 impl Recent {
     /// None.
-    pub(crate) fn none() -> Recent
+    pub(crate) fn none(alloc: Global) -> Recent
         ensures { (sectors : List (List ℕ)) → Recalls result sectors }
     {
         Recent {
-            first: HeldSector::none(),
-            second: HeldSector::none(),
+            first: HeldSector::none(alloc),
+            second: HeldSector::none(alloc),
             turn: true,
         }
     }

@@ -1,7 +1,8 @@
-use Rattle.std.proofs.Common.{◌≡◌, ◌+◌, ap, arith}
+use Rattle.std.proofs.Common.{◌≡◌, ◌+◌, ◌∙◌, ap, arith}
 use Rattle.sector_device.specs.Held.{refused}
 use Rattle.sector_file.specs.Told.{Told, replay}
 use Rattle.sector_file.proofs.Disks.{write_is, torn_is}
+use Rattle.sector_file.proofs.Steps.{length_wrote, recalled_wrote}
 use Rattle.sector_file.proofs.device.FileDeviceSectorDevice.write.Goals as goal
 
 pub returns-then-put-eq4096-clause-model : goal.returns-then-put-eq4096-clause-model
@@ -21,3 +22,18 @@ returns-else-put-eq4096-clause-model g c = λ honest.
     let is = c.write_sector-put.ensures.torn c.if-put-eq4096.false in
     let more : refused u.2 ≡ refused t.2 + 1 = ap (λ (t : Told). refused t.2) is in
     (torn_is t was.few u _ c.args.i is honest, record { failed = omega (arith, more); passed = tt })
+
+pub invariant_of-self : goal.invariant_of-self
+invariant_of-self g c =
+    let was = c.args.self.now in
+    let t = replay g.S.Contents.sector was.log.calls in
+    let u = replay g.S.Contents.sector c.write_sector-put.new.log.calls in
+    let put = c.write_sector-put.ensures in
+    let long = length_wrote t u c.args.i c.write_sector-put.result c.args.sector.now put.whole put.torn in
+    let few = was.few in
+    record {
+      few = omega (arith, long);
+      counted = long ∙ was.counted;
+      whole = was.whole;
+      recalled = recalled_wrote t u c.args.i c.write_sector-put.result c.args.sector.now put.whole put.torn was.recent c.forget.new.self was.recalled c.forget.ensures;
+    }
