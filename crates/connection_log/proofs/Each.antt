@@ -2,7 +2,7 @@
 use Rattle.std.proofs.Common.{◌≡◌, ℕ, ◌+◌, ◌<◌, List, ◌∷◌, length, drop, get_or, Option, sym, subst}
 use Rattle.std.proofs.lemmas.List.{drop_more}
 use Rattle.connection_log.specs.declared.connection.Connection.{Connection}
-use Rattle.connection_log.specs.declared.line.LogEntry.TheVariants as entry
+use Rattle.connection_log.specs.declared.line.LogLine.TheVariants as entry
 use Rattle.connection_log.specs.Lines.{TellsEntry, TellsEach}
 
 -- what is told of those from a place on, where the one there is told and then the others

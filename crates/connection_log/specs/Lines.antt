@@ -5,8 +5,8 @@ use Rattle.byte_stream.specs.Sends.{Sends}
 use Rattle.byte_stream.specs.declared.sink.WriteFault.{WriteFault}
 use Rattle.http_arrivals.specs.declared.ran.Ran.{Ran}
 use Rattle.connection_log.specs.declared.connection.Connection.{Connection}
-use Rattle.connection_log.specs.declared.line.LogEntry.{LogEntry}
-use Rattle.connection_log.specs.declared.line.LogEntry.TheVariants as entry
+use Rattle.connection_log.specs.declared.line.LogLine.{LogLine}
+use Rattle.connection_log.specs.declared.line.LogLine.TheVariants as entry
 
 abbrev pub connection_line : Connection → List ℕ
 connection_line c =
@@ -17,7 +17,7 @@ abbrev pub end_line : Ran → List ℕ
 end_line ran =
     (codes "served: streams " ++ decimal ran.streams) ++ (codes ", requests " ++ decimal ran.requests) ++ (codes ", faults " ++ decimal ran.faults) ++ codes "\n"
 
-abbrev pub entry_line : LogEntry → List ℕ
+abbrev pub entry_line : LogLine → List ℕ
 entry_line (entry.Connection c) = connection_line c
 entry_line (entry.End ran) = end_line ran
 
@@ -31,7 +31,7 @@ dropped_after dropped (Ok a) = 0
 dropped_after dropped (Err e) = counted dropped 1
 
 -- an entry's line is sent behind the number of those that were dropped before, and is one of these where that fails
-pub record TellsEntry (dropped : ℕ) (e : LogEntry) (left : ℕ) (old new : Option (List ℕ)) : Type 0 where
+pub record TellsEntry (dropped : ℕ) (e : LogLine) (left : ℕ) (old new : Option (List ℕ)) : Type 0 where
   pub sent : Result (Unit {0}) WriteFault
   pub text : Sends old new sent (dropped_line dropped ++ entry_line e)
   pub drops : left ≡ dropped_after dropped sent

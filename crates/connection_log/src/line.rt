@@ -13,7 +13,7 @@ const LINE_LEN: usize = 512;
 
 /// What a line of a log is of.
 #[derive(Clone, Copy, Debug, PartialEq, Eq)]
-pub enum LogEntry {
+pub enum LogLine {
     /// A connection that has ended.
     Connection(Connection),
     /// All of them.
@@ -112,13 +112,13 @@ impl LineText {
     }
 
     /// Puts the line of an entry.
-    pub fn put_entry(&mut self, entry: &LogEntry)
+    pub fn put_entry(&mut self, entry: &LogLine)
         requires { length self.old ≤ 100 }
         ensures { self.new ≡ self.old ++ entry_line entry.now }
     {
         match entry {
-            LogEntry::Connection(connection) => self.put_connection(connection),
-            LogEntry::End(ran) => self.put_end(ran),
+            LogLine::Connection(connection) => self.put_connection(connection),
+            LogLine::End(ran) => self.put_end(ran),
         }
     }
 

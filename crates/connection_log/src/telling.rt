@@ -2,13 +2,13 @@
 ghost use Rattle.connection_log.specs.Lines.{TellsEntry, TellsEach, TellsEnd, TellsBatch};
 
 use crate::connection::Connection;
-use crate::line::{LineText, LogEntry};
+use crate::line::{LineText, LogLine};
 use crate::waiting::Taken;
 use byte_stream::sink::Sink;
 use http_arrivals::ran::Ran;
 
 /// Writes an entry's line, behind the number of those that were dropped before: the number of those that are to be told so now.
-fn tell_entry<W: Sink>(writer: &mut W, text: &mut LineText, entry: &LogEntry, dropped: u64) -> u64
+fn tell_entry<W: Sink>(writer: &mut W, text: &mut LineText, entry: &LogLine, dropped: u64) -> u64
     ensures { TellsEntry dropped entry.now result (W.contents writer.old) (W.contents writer.new) }
 {
     text.clear();
@@ -30,7 +30,7 @@ fn tell_each<W: Sink>(
 {
     let mut left = dropped;
     for connection in connections {
-        left = tell_entry(writer, text, &LogEntry::Connection(*connection), left);
+        left = tell_entry(writer, text, &LogLine::Connection(*connection), left);
     }
     left
 }
@@ -39,7 +39,7 @@ fn tell_end<W: Sink>(writer: &mut W, text: &mut LineText, end: Option<Ran>, drop
     ensures { TellsEnd dropped end result (W.contents writer.old) (W.contents writer.new) }
 {
     match end {
-        Some(ran) => tell_entry(writer, text, &LogEntry::End(ran), dropped),
+        Some(ran) => tell_entry(writer, text, &LogLine::End(ran), dropped),
         None => dropped,
     }
 }

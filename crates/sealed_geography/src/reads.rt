@@ -5,12 +5,14 @@ ghost use Rattle.page_btree.specs.Map.{InTxn};
 ghost use Rattle.store_rows.specs.Rows.{KeyMap};
 ghost use Rattle.row_table.specs.Appending.{AppendErr};
 ghost use Rattle.row_table.specs.Reading.{ReadErr};
+ghost use Rattle.page_btree.specs.declared.error.TreeError.TheVariants.{Memory};
 ghost use Rattle.btree_scan.specs.Scanning.{fault_in};
 ghost use Rattle.sealed_geography.specs.Following.{HoldsAlong, HoldsBeside, IsTaken, Scans, AddsElement, AddsElementBeside, ReadsElements};
 ghost use Rattle.sealed_geography.specs.Elements.{HoldsElement, HoldsElements, ValueErr};
 
 use crate::elements::Element;
 use btree_scan::{Row, Scan};
+use desk_model::geography::BLOCK_LIMIT;
 use page_store::{Pages, Txn};
 use row_table::{TreeError, read_row};
 use sector_device::SectorDevice;
@@ -123,6 +125,21 @@ fn append_along<D: SectorDevice, E: Element>(
     Ok(())
 }
 
+/// Room for so many elements, and for no more than a state may have blocks: what a seal tells wasn't held against its rows yet.
+fn room_for<E: Element>(alloc: Global, count: u32) -> Result<Vec<E>, TreeError>
+    ensures none { IfOk result (λ all. all.items ≡ []) }
+    ensures err { IfErr result (λ e. e ≡ Memory) }
+{
+    let mut room = count as usize;
+    if room > BLOCK_LIMIT {
+        room = BLOCK_LIMIT;
+    }
+    match Vec::with_capacity(alloc, room) {
+        Ok(all) => Ok(all),
+        Err(_) => Err(TreeError::Memory),
+    }
+}
+
 /// Reads so many elements of a load, from the first place on.
 pub(crate) fn read_elements<D: SectorDevice, E: Element>(
     alloc: Global,
@@ -137,10 +154,10 @@ pub(crate) fn read_elements<D: SectorDevice, E: Element>(
     ensures read { ReadsElements (HoldsElements E.bytes_of E.fits (E.key_at load) count) txn.now pages.old pages.new result }
     ensures err { IfErr result (λ e. AppendErr (HoldsElements E.bytes_of E.fits (E.key_at load) count) txn.now pages.old pages.new e) }
 {
+    let mut all = room_for(alloc, count)?;
     let prefix = E::prefix(load);
     let mut scan = Scan::new(prefix.as_slice());
     let mut row = Row::empty();
-    let mut all = Vec::new(alloc);
     for place in 0..count {
         append_along(&mut scan, &mut row, txn, pages, load, place, &mut all)?;
     }

@@ -63,11 +63,11 @@ impl Read for Asking<'_> {
 
 /// Notes each pass.
 #[derive(Drop)]
-struct Noting<'a> {
+struct NotingGate<'a> {
     notes: &'a Notes,
 }
 
-impl Gate for Noting<'_> {
+impl Gate for NotingGate<'_> {
     fn pass(&self, worker: u32, piece: u32) {
         self.notes.expect(piece.saturating_add(1), piece, piece);
         if worker != 0 {
@@ -125,7 +125,7 @@ fn a_gate_is_passed_once_a_request(rt: HostRuntime) {
     });
     let mut writer = WriteSink::new(Vec::new(rt.alloc()));
     let mut counter = Noted { notes: &notes };
-    let gate = Noting { notes: &notes };
+    let gate = NotingGate { notes: &notes };
     let served = serve(rt.alloc(), &mut reader, &mut writer, &mut counter, &gate);
     let _ = reader.into_inner();
     assert!(rt; writer.into_inner().as_slice().starts_with(LISTED));

@@ -26,7 +26,7 @@ returns-in_err-append_along-clause-err g c =
     let place = c.loop-place.place in
     let all : KeyMap → List g.row.E.Denot → Type 0 = HoldsElements bytes_of fits key_at c.args.count in
     let one : KeyMap → g.row.E.Denot → Type 0 = HoldsAlong c.loop-place.scan bytes_of fits (key_at place) in
-    err_of c.from_residual.result c.in_err-append_along.field-0.0 (AppendErr all c.args.txn.now c.args.pages.now c.append_along.new.pages) c.from_residual.ensures.1
+    err_of c.from_residual-in_err-append_along.result c.in_err-append_along.field-0.0 (AppendErr all c.args.txn.now c.args.pages.now c.append_along.new.pages) c.from_residual-in_err-append_along.ensures.1
     (then_unappended all one c.args.txn.now c.args.pages.now c.loop-place.pages c.append_along.new.pages c.in_err-append_along.field-0.0
     (λ honest m xs holds held. let element = element_at bytes_of fits key_at c.args.count m xs place c.loop-place-test.true held in (element.x, record { scans = c.loop-place.invariant.scans honest m holds; held = element.held }))
     c.loop-place.invariant.passed c.append_along.ensures.quiet c.in_err-append_along.ensures.err)
@@ -67,5 +67,5 @@ loop-place-init g c = record {
   begun = c.requires.begun;
   working = c.new-scan.ensures.fault;
   scans = λ honest m holds. (under c.as_slice.result.now (entries m), c.new-scan.ensures.rows m, all_in m c.as_slice.result.now);
-  read = λ honest m xs holds held. c.new-all.ensures.items;
+  read = λ honest m xs holds held. c.in_ok-all.ensures.none;
 }
