@@ -73,10 +73,7 @@ fn unassigned(alloc: Global, count: usize) -> Result<Districts, TreeError>
     ensures zeros { IfOk result (λ districts. districts ≡ replicate count 0) }
     ensures err { IfErr result (λ e. e ≡ Memory) }
 {
-    let Ok(zeros) = vec![in alloc; 0u16; count] else {
-        return Err(TreeError::Memory);
-    };
-    match Districts::new(alloc, zeros.as_slice(), None) {
+    match Districts::unassigned(alloc, count) {
         Ok(districts) => Ok(districts),
         Err(_) => Err(TreeError::Memory),
     }

@@ -1,5 +1,5 @@
 //! The list.
-ghost use Rattle.std.specs.Prelude.{◌≡◌, ◌+◌, ◌*◌, ◌≤◌, ◌<◌, ◌^◌, ℕ, ◌++◌, length, get_or, take, drop, nat_eq, IfOk, OnOk};
+ghost use Rattle.std.specs.Prelude.{◌≡◌, ◌+◌, ◌*◌, ◌≤◌, ◌<◌, ◌^◌, ℕ, ◌++◌, length, get_or, take, drop, replicate, nat_eq, IfOk, OnOk};
 ghost use Rattle.std.specs.Cmp.Lexicographic.{pointwise};
 ghost use Rattle.shared_districts.specs.Laid.{laid, with_at};
 ghost use Rattle.shared_districts.specs.Pieces.{joined, AreFull, ArePut, IsCut};
@@ -7,6 +7,7 @@ ghost use Rattle.shared_districts.specs.Pieces.{joined, AreFull, ArePut, IsCut};
 use crate::pieces::{FULL, Piece, behind, front, piece_of, piece_put, piece_with};
 use std::alloc::{AllocError, Global};
 use std::marker::Model;
+use std::sync::Arc;
 
 /// A list of districts, which shares its pieces with the list that it was made after.
 #[derive(Drop)]
@@ -48,6 +49,20 @@ impl Districts {
             rest,
             count: list.len(),
         })
+    }
+
+    /// So many blocks without a district: each full piece is the same one.
+    pub fn unassigned(alloc: Global, count: usize) -> Result<Districts, AllocError>
+        ensures { IfOk result (λ districts. districts ≡ replicate count 0) }
+    {
+        let number = count / FULL;
+        let piece: Piece = Arc::new(alloc, vec![in alloc; 0u16; FULL]?)?;
+        let rest: Piece = Arc::new(alloc, vec![in alloc; 0u16; count % FULL]?)?;
+        let mut full = Vec::with_capacity(alloc, number)?;
+        for _place in 0..number {
+            full.push(piece.clone()?)?;
+        }
+        Ok(Districts { full, rest, count })
     }
 
     /// The list with the listed districts in the place of its own, where what is listed stands from the place `first` on. A piece
