@@ -20,7 +20,7 @@ ghost use Rattle.page_btree.specs.declared.error.TreeError.TheVariants.{NoPages,
 
 use crate::puts::put_cutting;
 use page_btree::{TreeError, find_leaf, read_level};
-use page_node::{NotANode, put_row};
+use page_node::{NotANode, PAGE_SIZE, put_row};
 use page_store::{Pages, Txn};
 use sector_device::SectorDevice;
 
@@ -159,7 +159,7 @@ fn put_unwritten<D: SectorDevice>(
     ensures passed { OnOk result (Passed pages.old pages.new) }
     ensures err { IfErr result (λ e. LeafErr page txn.old pages.old pages.new e) }
 {
-    let mut bytes = [0; 4096];
+    let mut bytes = [0; PAGE_SIZE];
     read_level(txn, pages, page, 0, &mut bytes)?;
     match put_row(&mut bytes, key, value)? {
         None => Ok(None),

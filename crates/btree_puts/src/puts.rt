@@ -11,7 +11,7 @@ ghost use Rattle.page_btree.specs.declared.error.TreeError.TheVariants.{NoPages,
 
 use crate::tree::{Workspace, place_behind, settle, step_down, write_node};
 use page_btree::TreeError;
-use page_node::{NodeBuf, level_of};
+use page_node::{NodeBuf, PAGE_SIZE, level_of};
 use page_store::{Pages, Txn};
 use sector_device::SectorDevice;
 
@@ -45,7 +45,7 @@ pub(crate) fn put_cutting<D: SectorDevice>(
     ensures err { IfErr result (λ e. PutErr txn.old pages.old pages.new e) }
 {
     let mut room = Workspace {
-        page: [0; 4096],
+        page: [0; PAGE_SIZE],
         node: NodeBuf::EMPTY,
         upper: NodeBuf::EMPTY,
     };

@@ -15,14 +15,14 @@ ghost use Rattle.btree_puts.specs.Outcomes.{WritesNode, CutsNode};
 ghost use Rattle.page_btree.specs.declared.error.TreeError.TheVariants.{Memory, NoPages};
 
 use page_btree::TreeError;
-use page_node::{NodeBuf, child_for, level_of};
+use page_node::{NodeBuf, PageBytes, child_for, level_of};
 use page_store::{Pages, Txn};
 use sector_device::SectorDevice;
 
 /// What a put works in: a page's bytes, the node that they stand for, and the upper half of a node that was cut.
 #[derive(Drop)]
 pub(crate) struct Workspace {
-    pub(crate) page: [u8; 4096],
+    pub(crate) page: PageBytes,
     pub(crate) node: NodeBuf,
     pub(crate) upper: NodeBuf,
 }
@@ -30,7 +30,7 @@ pub(crate) struct Workspace {
 /// Writes a node.
 pub(crate) fn write_node(
     txn: &mut Txn,
-    bytes: &mut [u8; 4096],
+    bytes: &mut PageBytes,
     page: u32,
     node: &NodeBuf,
 ) -> Result<(), TreeError>
@@ -128,7 +128,7 @@ fn cut<D: SectorDevice>(
 pub(crate) fn step_down<D: SectorDevice>(
     txn: &Txn,
     pages: &mut Pages<D>,
-    bytes: &mut [u8; 4096],
+    bytes: &mut PageBytes,
     page: u32,
     level: u8,
     key: &[u8],

@@ -13,7 +13,7 @@ ghost use Rattle.btree_removes.specs.Removing.{CanRemove, StaysAt, IsDone, IsPut
 ghost use Rattle.btree_removes.specs.Outcomes.{RemovesKey, RemovesKeyAt};
 
 use page_btree::{TreeError, read_level};
-use page_node::{NodeBuf, child_for, level_of, take_row};
+use page_node::{NodeBuf, PAGE_SIZE, PageBytes, child_for, level_of, take_row};
 use page_store::{Pages, Txn};
 use sector_device::SectorDevice;
 
@@ -47,7 +47,7 @@ pub(crate) fn remove_through<D: SectorDevice>(
     if root == 0 {
         return Ok(false);
     }
-    let mut page = [0; 4096];
+    let mut page = [0; PAGE_SIZE];
     txn.read(pages, root, &mut page)?;
     let level = level_of(&page);
     if level > 5 {
@@ -68,7 +68,7 @@ fn remove_below<D: SectorDevice>(
     txn: &mut Txn,
     pages: &mut Pages<D>,
     p: u32,
-    page: &mut [u8; 4096],
+    page: &mut PageBytes,
     level: u8,
     key: &[u8],
 ) -> Result<Removed, TreeError>
@@ -90,7 +90,7 @@ fn remove_below<D: SectorDevice>(
         return remove_row(txn, p, page, key);
     }
     let child = child_for(page, key)?;
-    let mut below = [0; 4096];
+    let mut below = [0; PAGE_SIZE];
     read_level(txn, pages, child, level - 1, &mut below)?;
     match remove_below(txn, pages, child, &mut below, level - 1, key)? {
         Removed::Absent => Ok(Removed::Absent),
@@ -100,12 +100,7 @@ fn remove_below<D: SectorDevice>(
 }
 
 /// Takes a row out of a leaf.
-fn remove_row(
-    txn: &mut Txn,
-    p: u32,
-    page: &mut [u8; 4096],
-    key: &[u8],
-) -> Result<Removed, TreeError>
+fn remove_row(txn: &mut Txn, p: u32, page: &mut PageBytes, key: &[u8]) -> Result<Removed, TreeError>
     requires below { p < txn_pages txn.old }
     ensures pages { txn_pages txn.new ≡ txn_pages txn.old }
     ensures root { txn_root txn.new ≡ txn_root txn.old }
@@ -128,7 +123,7 @@ fn remove_row(
 fn remove_link(
     txn: &mut Txn,
     p: u32,
-    page: &mut [u8; 4096],
+    page: &mut PageBytes,
     key: &[u8],
 ) -> Result<Removed, TreeError>
     requires below { p < txn_pages txn.old }
@@ -169,7 +164,7 @@ fn link_of(node: &NodeBuf, key: &[u8]) -> usize
 }
 
 /// Writes the page of a node, or gives it back where no entries are left.
-fn write_back(txn: &mut Txn, p: u32, page: &[u8; 4096], left: usize) -> Result<Removed, TreeError>
+fn write_back(txn: &mut Txn, p: u32, page: &PageBytes, left: usize) -> Result<Removed, TreeError>
     requires below { p < txn_pages txn.old }
     ensures pages { txn_pages txn.new ≡ txn_pages txn.old }
     ensures root { txn_root txn.new ≡ txn_root txn.old }

@@ -14,7 +14,7 @@ ghost use Rattle.btree_removes.specs.Outcomes.{RemovesKey, RemovesSpareKey};
 
 use crate::removes::remove_through;
 use page_btree::{TreeError, find_leaf, read_level};
-use page_node::{NotANode, take_spare_row};
+use page_node::{NotANode, PAGE_SIZE, take_spare_row};
 use page_store::{Pages, Txn};
 use sector_device::SectorDevice;
 
@@ -129,7 +129,7 @@ fn take_unwritten<D: SectorDevice>(
     ensures passed { OnOk result (Passed pages.old pages.new) }
     ensures err { IfErr result (λ e. LeafErr page txn.old pages.old pages.new e) }
 {
-    let mut bytes = [0; 4096];
+    let mut bytes = [0; PAGE_SIZE];
     read_level(txn, pages, page, 0, &mut bytes)?;
     match take_spare_row(&mut bytes, key)? {
         None => Ok(None),

@@ -9,7 +9,7 @@ ghost use Rattle.btree_scan.specs.Parts.{row_at};
 
 use crate::parts::Parts;
 use page_btree::{Leaf, SmallBytes, TreeError};
-use page_node::{Lengths, bounds_in};
+use page_node::{Lengths, PageBytes, bounds_in};
 
 /// A row, held in place.
 #[derive(Drop)]
@@ -35,7 +35,7 @@ impl Row {
 
 /// Takes the row before which a leaf stands, and stands behind it.
 pub(crate) fn take_row(
-    page: &[u8; 4096],
+    page: &PageBytes,
     leaf: &mut Leaf,
     last: &mut Lengths,
 ) -> Result<Parts, TreeError>
@@ -56,7 +56,7 @@ pub(crate) fn take_row(
 
 /// Where the row at a place lies, if one does. The place is then behind it, and one less is left.
 pub(crate) fn parts_at(
-    page: &[u8; 4096],
+    page: &PageBytes,
     at: &mut usize,
     left: &mut usize,
     last: &mut Lengths,

@@ -11,7 +11,7 @@ ghost use Rattle.chunk_table.specs.Holding.{HoldsChunk, HoldsChunks, HoldsUnheld
 
 use crate::tallies::tally_of;
 use btree_scan::Scan;
-use page_btree::get;
+use page_btree::{VALUE_LIMIT, get};
 use page_store::{Pages, Txn};
 use row_table::{TreeError, put_row};
 use sector_device::SectorDevice;
@@ -32,7 +32,7 @@ pub fn is_held<D: SectorDevice>(
     ensures err { IfErr result (λ e. GetErr txn.now pages.old pages.new e) }
 {
     let key = Key::holding(plan, number);
-    let mut bytes = [0; 1024];
+    let mut bytes = [0; VALUE_LIMIT];
     match get(txn, pages, key.as_slice(), &mut bytes)? {
         None => Ok(false),
         Some(_) => Ok(true),

@@ -2,7 +2,7 @@
 use crate::stores::formatted;
 use desk_store::clerk::Clerk;
 use desk_store::opening::OpenError;
-use sector_device::SectorDevice;
+use sector_device::{Sector, SectorDevice};
 use sector_memory::{FailOnce, Fused, MemoryDevice};
 use std::alloc::Global;
 use std::process::Abort;
@@ -14,7 +14,7 @@ const SECTORS: u32 = 400;
 pub static FILLS: [Option<u8>; 4] = [Some(0), Some(0xff), Some(0xa5), None];
 
 /// A sector and its bytes.
-pub type Pick = (u64, [u8; 4096]);
+pub type Pick = (u64, Sector);
 
 /// A pick of every sector.
 pub fn picks<R: Abort>(rt: &R, alloc: Global, fill: Option<u8>) -> Vec<Pick> {
@@ -62,7 +62,7 @@ impl Faulty for FailOnce {
 }
 
 /// The bytes of each sector.
-pub type Image = Vec<[u8; 4096]>;
+pub type Image = Vec<Sector>;
 
 /// What a read of each sector gives.
 pub fn image_of<R: Abort>(rt: &R, alloc: Global, device: MemoryDevice) -> Image {
@@ -78,7 +78,7 @@ pub fn image_of<R: Abort>(rt: &R, alloc: Global, device: MemoryDevice) -> Image 
 }
 
 /// A device with these sectors, all of them on the disk.
-pub fn device_with<R: Abort>(rt: &R, alloc: Global, image: &[[u8; 4096]]) -> MemoryDevice {
+pub fn device_with<R: Abort>(rt: &R, alloc: Global, image: &[Sector]) -> MemoryDevice {
     assert!(rt; image.len() <= 4096);
     let mut device = MemoryDevice::new(alloc, image.len() as u32).expect(rt, "no memory");
     for (i, sector) in image.iter().enumerate() {
@@ -93,7 +93,7 @@ pub fn device_with<R: Abort>(rt: &R, alloc: Global, image: &[[u8; 4096]]) -> Mem
 pub fn opened_at<R: Abort, F: Faulty>(
     rt: &R,
     alloc: Global,
-    image: &[[u8; 4096]],
+    image: &[Sector],
     k: u64,
 ) -> Result<Clerk<F>, F> {
     match Clerk::open(alloc, F::at(device_with(rt, alloc, image), k)) {

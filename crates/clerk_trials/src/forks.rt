@@ -4,7 +4,7 @@ use crate::stores::{device_of, opened};
 use crate::streams::{answers, sealed_store};
 use desk_store::clerk::Clerk;
 use desk_store::sweeps::SweepError;
-use sector_device::SectorDevice;
+use sector_device::{Sector, SectorDevice};
 use sector_memory::{FailOnce, Fused, MemoryDevice};
 use std::alloc::Global;
 use std::process::Abort;
@@ -117,7 +117,7 @@ fn sweeps<R: Abort, D: SectorDevice>(rt: &R, alloc: Global, clerk: &mut Clerk<D>
 fn swept_at<R: Abort, F: Faulty>(
     rt: &R,
     alloc: Global,
-    image: &[[u8; 4096]],
+    image: &[Sector],
     k: u64,
     picks: &[Pick],
 ) -> (bool, MemoryDevice) {
@@ -134,7 +134,7 @@ fn swept_at<R: Abort, F: Faulty>(
 fn faults_kept<R: Abort, F: Faulty>(
     rt: &R,
     alloc: Global,
-    image: &[[u8; 4096]],
+    image: &[Sector],
     fill: Option<u8>,
 ) -> u32 {
     let picks = picks(rt, alloc, fill);

@@ -11,7 +11,7 @@ use desk_migration::{Migration, MigrationError, MigrationOpenError};
 use desk_store::clerk::Clerk;
 use desk_store::opening::OpenError;
 use page_store::Pages;
-use sector_device::SectorDevice;
+use sector_device::{Sector, SectorDevice};
 use sector_memory::{FailOnce, Fused, MemoryDevice};
 use std::alloc::Global;
 use std::process::Abort;
@@ -154,7 +154,7 @@ fn migrates_on<R: Abort, D: SectorDevice>(
 fn migrated_at<R: Abort, F: Faulty>(
     rt: &R,
     alloc: Global,
-    image: &[[u8; 4096]],
+    image: &[Sector],
     k: u64,
     picks: &[Pick],
 ) -> (bool, MemoryDevice) {
@@ -192,7 +192,7 @@ fn kept<R: Abort>(rt: &R, alloc: Global, device: MemoryDevice) -> usize
 fn faults_kept<R: Abort, F: Faulty>(
     rt: &R,
     alloc: Global,
-    image: &[[u8; 4096]],
+    image: &[Sector],
     picks: &[Pick],
 ) -> [u32; 4] {
     let mut counts = [0u32; 4];

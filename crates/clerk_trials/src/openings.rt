@@ -2,12 +2,13 @@
 use crate::devices::{FILLS, Faulty, Image, Pick, device_with, image_of, opened_at, picks};
 use crate::streams::{found, sealed_store, served};
 use crate::texts::shows;
+use sector_device::Sector;
 use sector_memory::{FailOnce, Fused};
 use std::alloc::Global;
 use std::process::Abort;
 
 /// Whether the gate stands open.
-fn is_open(image: &[[u8; 4096]]) -> bool {
+fn is_open(image: &[Sector]) -> bool {
     image.len() > 1 && image[1][0] == 0xa5
 }
 
@@ -28,7 +29,7 @@ fn left_open<R: Abort>(rt: &R, alloc: Global, picks: &[Pick]) -> Image {
 fn reopened<R: Abort, F: Faulty>(
     rt: &R,
     alloc: Global,
-    image: &[[u8; 4096]],
+    image: &[Sector],
     k: u64,
     picks: &[Pick],
 ) -> (bool, Image) {
@@ -40,7 +41,7 @@ fn reopened<R: Abort, F: Faulty>(
 }
 
 /// Asserts that the third command is found.
-fn keeps<R: Abort>(rt: &R, alloc: Global, image: &[[u8; 4096]]) {
+fn keeps<R: Abort>(rt: &R, alloc: Global, image: &[Sector]) {
     let text = found(rt, alloc, device_with(rt, alloc, image));
     assert!(rt; shows(text.as_slice(), 3));
 }
@@ -49,7 +50,7 @@ fn keeps<R: Abort>(rt: &R, alloc: Global, image: &[[u8; 4096]]) {
 fn faults_kept<R: Abort, F: Faulty>(
     rt: &R,
     alloc: Global,
-    image: &[[u8; 4096]],
+    image: &[Sector],
     picks: &[Pick],
 ) -> u32 {
     let mut count = 0u32;
@@ -78,7 +79,7 @@ fn a_fault_in_recovery_loses_nothing(rt: HostRuntime) {
 
 /// Stops in an opening at each call in turn, and in the next one: the third command is found after both. How many of the first
 /// left the gate open.
-fn stops_kept<R: Abort>(rt: &R, alloc: Global, image: &[[u8; 4096]], picks: &[Pick]) -> u32 {
+fn stops_kept<R: Abort>(rt: &R, alloc: Global, image: &[Sector], picks: &[Pick]) -> u32 {
     let mut count = 0u32;
     for k in 0..1_000u64 {
         let (opens, left) = reopened::<R, Fused>(rt, alloc, image, k, picks);

@@ -8,7 +8,7 @@ use desk_model::reply::{Refusal, Reply};
 use desk_store::clerk::Clerk;
 use desk_store::loads::LoadError;
 use geo_tables::Load;
-use sector_device::SectorDevice;
+use sector_device::{Sector, SectorDevice};
 use sector_memory::{FailOnce, Fused, MemoryDevice};
 use std::alloc::Global;
 use std::process::Abort;
@@ -105,7 +105,7 @@ fn loads<R: Abort, D: SectorDevice>(rt: &R, alloc: Global, clerk: &mut Clerk<D>)
 fn stopped<R: Abort, F: Faulty>(
     rt: &R,
     alloc: Global,
-    image: &[[u8; 4096]],
+    image: &[Sector],
     k: u64,
     picks: &[Pick],
 ) -> (u32, MemoryDevice) {

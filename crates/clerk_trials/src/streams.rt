@@ -10,7 +10,7 @@ use command_progress::Untold;
 use desk_loading::load_geography;
 use desk_model::gate::NoGate;
 use desk_store::clerk::Clerk;
-use sector_device::SectorDevice;
+use sector_device::{Sector, SectorDevice};
 use sector_memory::{FailOnce, Fused, MemoryDevice};
 use served_runs::serve::serve_clerk;
 use std::alloc::Global;
@@ -61,7 +61,7 @@ fn serve_commands<R: Abort, D: SectorDevice>(rt: &R, alloc: Global, clerk: &mut 
 pub fn served<R: Abort, F: Faulty>(
     rt: &R,
     alloc: Global,
-    image: &[[u8; 4096]],
+    image: &[Sector],
     k: u64,
     picks: &[Pick],
 ) -> (usize, MemoryDevice) {
@@ -78,7 +78,7 @@ pub fn served<R: Abort, F: Faulty>(
 fn outcomes<R: Abort, F: Faulty>(
     rt: &R,
     alloc: Global,
-    image: &[[u8; 4096]],
+    image: &[Sector],
     fill: Option<u8>,
 ) -> (u32, u32) {
     let picks = picks(rt, alloc, fill);

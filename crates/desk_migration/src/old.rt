@@ -12,6 +12,7 @@ use btree_removes::remove;
 use btree_scan::{Row, row_limit};
 pub use desk_opening::read_desk;
 use desk_pages::commit_txn;
+use page_node::KEY_LIMIT;
 use page_store::{PageError, Pages, Txn};
 use row_table::TreeError;
 use sector_device::SectorDevice;
@@ -35,7 +36,7 @@ fn take_first<D: SectorDevice>(
         return Ok(false);
     }
     let key = row.key.as_slice();
-    if key.is_empty() || key.len() > 72 {
+    if key.is_empty() || key.len() > KEY_LIMIT {
         return Err(TreeError::DeviceFault);
     }
     if !key.starts_with(&[tag]) {

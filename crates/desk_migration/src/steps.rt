@@ -13,7 +13,7 @@ use crate::error::MigrationError;
 use crate::holds::hold_pairs;
 use btree_scan::SmallBytes;
 use page_store::Pages;
-use row_table::put_row;
+use row_table::{ROW_PAGES, put_row};
 use sector_device::SectorDevice;
 use std::alloc::Global;
 use store_rows::Key;
@@ -81,7 +81,7 @@ pub(crate) fn put_version<D: SectorDevice>(
     if pages.is_halted() {
         return Err(MigrationError::Halted);
     }
-    if pages.free_pages() < 13 {
+    if pages.free_pages() < ROW_PAGES {
         return Err(MigrationError::Full);
     }
     let mut txn = pages.begin(alloc);

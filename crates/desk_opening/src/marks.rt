@@ -10,7 +10,7 @@ ghost use Rattle.store_check.specs.Numbers.{IsKept};
 
 use crate::rows::{number_fits, row_fits};
 use btree_scan::Row;
-use page_btree::get;
+use page_btree::{VALUE_LIMIT, get};
 use page_store::{Pages, Txn};
 use row_table::{TreeError, get_row};
 use sector_device::SectorDevice;
@@ -25,7 +25,7 @@ fn refuse_row<D: SectorDevice>(txn: &Txn, pages: &mut Pages<D>, key: &Key) -> Re
     ensures none { (disk_in pages.new).is_honest → (m : KeyMap) → InTxn txn.now (stored pages.old) m → OnOk result (row_at m key.now ≡ None) }
     ensures err { IfErr result (λ e. ReadErr (λ m. row_at m key.now ≡ None) txn.now pages.old pages.new e) }
 {
-    let mut bytes = [0; 1024];
+    let mut bytes = [0; VALUE_LIMIT];
     match get(txn, pages, key.as_slice(), &mut bytes) {
         Ok(None) => Ok(()),
         Ok(Some(_)) => Err(TreeError::DeviceFault),

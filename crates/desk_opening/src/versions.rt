@@ -8,7 +8,7 @@ ghost use Rattle.store_rows.specs.Rows.{KeyMap, row_in};
 ghost use Rattle.store_rows.specs.Tidy.{version_row};
 ghost use Rattle.desk_opening.specs.Opening.{HasVersion};
 
-use page_btree::get;
+use page_btree::{VALUE_LIMIT, get};
 use page_store::{Pages, Txn};
 use row_table::TreeError;
 use sector_device::SectorDevice;
@@ -26,7 +26,7 @@ pub fn is_new<D: SectorDevice>(txn: &Txn, pages: &mut Pages<D>) -> Result<bool, 
     ensures err { IfErr result (λ e. ReadErr HasVersion txn.now pages.old pages.new e) }
 {
     let key = Key::version();
-    let mut bytes = [0; 1024];
+    let mut bytes = [0; VALUE_LIMIT];
     match get(txn, pages, key.as_slice(), &mut bytes) {
         Ok(None) => Ok(false),
         Ok(Some(length)) => {

@@ -7,7 +7,7 @@ ghost use Rattle.desk_pages.specs.Formats.{FormatErr, OpensNew, HasJournal};
 
 use btree_puts::write_first_row;
 use page_store::PageError;
-use sector_device::SectorDevice;
+use sector_device::{SECTOR_SIZE, Sector, SectorDevice};
 use std::alloc::Global;
 use store_rows::Key;
 
@@ -23,7 +23,7 @@ pub enum FormatError {
 }
 
 /// Writes the page of a store without any row but that of its version.
-fn write_version(page: &mut [u8; 4096])
+fn write_version(page: &mut Sector)
     ensures { IsOnlyRow page.new (key_of version) (in_four 2) }
 {
     let key = Key::version();
@@ -47,7 +47,7 @@ pub fn format<D: SectorDevice>(
     ensures ok { OnOk result (home journal_pages + 64 ≤ (D.disk device.old).sectors) }
     ensures err { IfErr result (λ e. FormatErr D.SectorDevice journal_pages device.old device.new e) }
 {
-    let mut root = [0; 4096];
+    let mut root = [0; SECTOR_SIZE];
     write_version(&mut root);
     match page_format::format_with(alloc, device, journal_pages, &root) {
         Ok(()) => Ok(()),

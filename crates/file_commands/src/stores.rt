@@ -1,5 +1,6 @@
 //! The files of stores, by their paths.
 use fault_words::explanation::Reason;
+use sector_device::SECTOR_SIZE;
 use sector_file::{FileDevice, FileError, Unknown};
 use std::fs::File;
 use std::io::{Error, ErrorKind};
@@ -88,8 +89,8 @@ fn sectors_of(rt: &HostRuntime, name: &str) -> Result<u32, Refused> {
         Ok(found) => found.len(),
         Err(e) => return Err(refused_by(&e)),
     };
-    let sectors = bytes / 4096;
-    if bytes % 4096 != 0 || sectors > u32::MAX as u64 {
+    let sectors = bytes / SECTOR_SIZE as u64;
+    if bytes % SECTOR_SIZE as u64 != 0 || sectors > u32::MAX as u64 {
         return Err(without_reason(StoreFault::WrongSize));
     }
     Ok(sectors as u32)

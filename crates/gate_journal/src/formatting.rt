@@ -13,7 +13,7 @@ use crate::opening::LEAST_PAGES;
 use crate::steps::{set_gate, write_through};
 use crate::words::fill_header;
 use crate::writes::PageWrites;
-use sector_device::{DeviceFault, SectorDevice};
+use sector_device::{DeviceFault, SECTOR_SIZE, SectorDevice};
 
 /// Whether 64 pages remain of so many sectors.
 pub fn has_room(sectors: u32, journal_pages: u32) -> bool
@@ -49,7 +49,7 @@ pub fn format<D: SectorDevice>(device: &mut D, journal_pages: u32) -> Result<Lay
         journal_pages,
         pages: count - home,
     };
-    let mut header = [0; 4096];
+    let mut header = [0; SECTOR_SIZE];
     fill_header(&mut header, layout);
     device.write(0, &header)?;
     set_gate(device, 0)?;

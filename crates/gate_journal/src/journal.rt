@@ -9,7 +9,7 @@ use crate::layout::{Layout, homes_begin};
 use crate::opening::start;
 use crate::steps::write_through;
 use crate::writes::PageWrites;
-use sector_device::SectorDevice;
+use sector_device::{Sector, SectorDevice};
 
 /// Pages behind a gate, on a device.
 #[derive(Drop)]
@@ -95,7 +95,7 @@ impl<D: SectorDevice> Journal<D> {
     }
 
     /// Reads a page.
-    pub fn read_page(&mut self, p: u32, page: &mut [u8; 4096]) -> Result<(), JournalError>
+    pub fn read_page(&mut self, p: u32, page: &mut Sector) -> Result<(), JournalError>
         requires { p < page_count self.old }
         ensures shape { HasShapeOf self.old self.new }
         ensures quiet { (disk_of self.new).is_honest → is_halted self.old ≡ false → Touches Nowhere (disk_of self.old) (disk_of self.new) }

@@ -9,7 +9,7 @@ use crate::error::JournalError;
 use crate::layout::{Layout, homes_begin};
 use crate::recovery::{bring_back, list_entry, list_fits};
 use crate::words::{fill_header, word_at};
-use sector_device::{DeviceFault, SectorDevice};
+use sector_device::{DeviceFault, SECTOR_SIZE, SectorDevice};
 
 /// The fewest journal pages, and the most.
 const LEAST_JOURNAL: u32 = 256;
@@ -31,7 +31,7 @@ fn find_layout<D: SectorDevice>(device: &mut D) -> Result<Option<Layout>, Device
     if count < 1 {
         return Ok(None);
     }
-    let mut sector = [0; 4096];
+    let mut sector = [0; SECTOR_SIZE];
     device.read(0, &mut sector)?;
     let journal_pages = word_at(&sector, 3);
     if journal_pages < LEAST_JOURNAL || journal_pages > MOST_JOURNAL {
@@ -45,7 +45,7 @@ fn find_layout<D: SectorDevice>(device: &mut D) -> Result<Option<Layout>, Device
         journal_pages,
         pages: count - home,
     };
-    let mut header = [0; 4096];
+    let mut header = [0; SECTOR_SIZE];
     fill_header(&mut header, layout);
     if sector == header {
         Ok(Some(layout))
@@ -62,7 +62,7 @@ fn close_gate<D: SectorDevice>(device: &mut D, layout: Layout) -> Result<(), Jou
     ensures errs { IfErr result (λ e. (e ≡ JournalError.NotAStore) ⊎ (e ≡ JournalError.DeviceFault)) }
     ensures model { ClosesGate layout (D.disk device.old) (D.disk device.new) result }
 {
-    let mut sector = [0; 4096];
+    let mut sector = [0; SECTOR_SIZE];
     device.read(1, &mut sector)?;
     if sector[0] != OPEN {
         return Ok(());

@@ -9,7 +9,7 @@ use crate::error::JournalError;
 use crate::layout::{Layout, copies_begin, homes_begin};
 use crate::steps::set_gate;
 use crate::words::word_at;
-use sector_device::{DeviceFault, SectorDevice};
+use sector_device::{DeviceFault, SECTOR_SIZE, Sector, SectorDevice};
 
 /// Reads a word of the list.
 pub fn list_entry<D: SectorDevice>(device: &mut D, k: u32) -> Result<u32, DeviceFault>
@@ -19,13 +19,13 @@ pub fn list_entry<D: SectorDevice>(device: &mut D, k: u32) -> Result<u32, Device
         × HasCause (D.disk device.old) (D.disk device.new) result }
     ensures entry { (D.disk device.new).is_honest → IfOk result (λ n. n ≡ list_word (D.disk device.old).reads k) }
 {
-    let mut sector = [0; 4096];
+    let mut sector = [0; SECTOR_SIZE];
     device.read(2 + k / 1024, &mut sector)?;
     Ok(word_at(&sector, (k % 1024) as usize))
 }
 
 /// Whether the words of a sector of the list, of which the first is the `from`-th, name pages of the store.
-fn names_pages(sector: &[u8; 4096], from: u32, count: u32, pages: u32) -> bool
+fn names_pages(sector: &Sector, from: u32, count: u32, pages: u32) -> bool
     requires from { from ≤ count }
     requires limit { count ≤ 65536 }
     ensures good { IsTrue result → SectorNames from count pages sector.now 1024 }
@@ -54,7 +54,7 @@ pub fn list_fits<D: SectorDevice>(
         × HasCause (D.disk device.old) (D.disk device.new) result }
     ensures fits { TellsWhetherNamed count layout.pages (D.disk device.old) (D.disk device.new) result }
 {
-    let mut sector = [0; 4096];
+    let mut sector = [0; SECTOR_SIZE];
     for s in 0..count / 1024 + 1 {
         device.read(2 + s, &mut sector)?;
         if !names_pages(&sector, 1024 * s, count, layout.pages) {
@@ -72,7 +72,7 @@ fn copy_sector<D: SectorDevice>(device: &mut D, from: u32, to: u32) -> Result<()
     ensures model { (D.disk device.new).is_honest → Step (Only to)
         (Copied from to (D.disk device.old)) (D.disk device.old) (D.disk device.new) result }
 {
-    let mut sector = [0; 4096];
+    let mut sector = [0; SECTOR_SIZE];
     device.read(from, &mut sector)?;
     device.write(to, &sector)
 }

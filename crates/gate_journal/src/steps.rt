@@ -7,13 +7,13 @@ ghost use Rattle.gate_journal.specs.Store.{Homes, Staging, IsSettled, IsWithin, 
 use crate::OPEN;
 use crate::layout::{Layout, copies_begin, homes_begin};
 use crate::words::fill_list;
-use sector_device::{DeviceFault, SectorDevice};
+use sector_device::{DeviceFault, SECTOR_SIZE, Sector, SectorDevice};
 
 /// Writes the copies from a sector on.
 pub fn write_copies<D: SectorDevice>(
     device: &mut D,
     first: u32,
-    writes: &[(u32, [u8; 4096])],
+    writes: &[(u32, Sector)],
 ) -> Result<(), DeviceFault>
     requires { first + length writes.now ≤ (D.disk device.old).sectors }
     ensures sectors { (D.disk device.new).sectors ≡ (D.disk device.old).sectors }
@@ -30,7 +30,7 @@ pub fn write_copies<D: SectorDevice>(
 pub fn write_homes<D: SectorDevice>(
     device: &mut D,
     home: u32,
-    writes: &[(u32, [u8; 4096])],
+    writes: &[(u32, Sector)],
 ) -> Result<(), DeviceFault>
     requires { (k : ℕ) → k < length writes.now → home + (slice_index_or writes.now k (0, [])).0 < (D.disk device.old).sectors }
     ensures sectors { (D.disk device.new).sectors ≡ (D.disk device.old).sectors }
@@ -47,7 +47,7 @@ pub fn write_homes<D: SectorDevice>(
 pub fn bring_home<D: SectorDevice>(
     device: &mut D,
     home: u32,
-    writes: &[(u32, [u8; 4096])],
+    writes: &[(u32, Sector)],
 ) -> Result<(), DeviceFault>
     requires { (k : ℕ) → k < length writes.now → home + (slice_index_or writes.now k (0, [])).0 < (D.disk device.old).sectors }
     ensures sectors { (D.disk device.new).sectors ≡ (D.disk device.old).sectors }
@@ -64,7 +64,7 @@ pub fn set_gate<D: SectorDevice>(device: &mut D, byte: u8) -> Result<(), DeviceF
     ensures sectors { (D.disk device.new).sectors ≡ (D.disk device.old).sectors }
     ensures model { (D.disk device.new).is_honest → Step (Only 1) (HasGate byte) (D.disk device.old) (D.disk device.new) result }
 {
-    let mut sector = [0; 4096];
+    let mut sector = [0; SECTOR_SIZE];
     sector[0] = byte;
     device.write(1, &sector)?;
     device.sync()
@@ -73,7 +73,7 @@ pub fn set_gate<D: SectorDevice>(device: &mut D, byte: u8) -> Result<(), DeviceF
 /// Writes the list of the pages.
 pub fn write_list<D: SectorDevice>(
     device: &mut D,
-    writes: &[(u32, [u8; 4096])],
+    writes: &[(u32, Sector)],
 ) -> Result<(), DeviceFault>
     requires few { length writes.now < 2 ^ 32 }
     requires room { 2 + length writes.now / 1024 < (D.disk device.old).sectors }
@@ -82,7 +82,7 @@ pub fn write_list<D: SectorDevice>(
         (HasList writes.now (length writes.now + 1)) (D.disk device.old) (D.disk device.new) result }
 {
     for s in 0..writes.len() / 1024 + 1 {
-        let mut sector = [0; 4096];
+        let mut sector = [0; SECTOR_SIZE];
         fill_list(&mut sector, writes, 1024 * s);
         device.write(2 + s as u32, &sector)?;
     }
@@ -93,7 +93,7 @@ pub fn write_list<D: SectorDevice>(
 pub fn stage<D: SectorDevice>(
     device: &mut D,
     journal_pages: u32,
-    writes: &[(u32, [u8; 4096])],
+    writes: &[(u32, Sector)],
 ) -> Result<(), DeviceFault>
     requires few { length writes.now ≤ journal_pages }
     requires room { home journal_pages ≤ (D.disk device.old).sectors }
@@ -111,7 +111,7 @@ pub fn stage<D: SectorDevice>(
 pub fn write_through<D: SectorDevice>(
     device: &mut D,
     layout: Layout,
-    writes: &[(u32, [u8; 4096])],
+    writes: &[(u32, Sector)],
 ) -> Result<(), DeviceFault>
     requires few { length writes.now ≤ layout.journal_pages }
     requires room { home layout.journal_pages + layout.pages ≤ (D.disk device.old).sectors }

@@ -4,6 +4,7 @@ ghost use Rattle.gate_journal.specs.Store.{word, put_word, header_of};
 ghost use Rattle.gate_journal.specs.Steps.{want};
 
 use crate::layout::Layout;
+use sector_device::{SECTOR_SIZE, Sector};
 
 const PLAN: u32 = 0x504c414e;
 
@@ -12,7 +13,7 @@ const DESK: u32 = 0x4445534b;
 const VERSION: u32 = 1;
 
 /// The number in the k-th four bytes.
-pub fn word_at(sector: &[u8; 4096], k: usize) -> u32
+pub fn word_at(sector: &Sector, k: usize) -> u32
     requires { k < 1024 }
     ensures { result ≡ word sector.now k }
 {
@@ -21,7 +22,7 @@ pub fn word_at(sector: &[u8; 4096], k: usize) -> u32
 }
 
 /// Puts a number in the k-th four bytes.
-pub fn set_word(sector: &mut [u8; 4096], k: usize, n: u32)
+pub fn set_word(sector: &mut Sector, k: usize, n: u32)
     requires { k < 1024 }
     ensures set { word sector.new k ≡ n }
     ensures others { (j : ℕ) → j ≢ k → word sector.new j ≡ word sector.old j }
@@ -36,10 +37,10 @@ pub fn set_word(sector: &mut [u8; 4096], k: usize, n: u32)
 }
 
 /// Makes a sector the header of a store.
-pub fn fill_header(sector: &mut [u8; 4096], layout: Layout)
+pub fn fill_header(sector: &mut Sector, layout: Layout)
     ensures { sector.new ≡ header_of layout.journal_pages layout.pages }
 {
-    *sector = [0; 4096];
+    *sector = [0; SECTOR_SIZE];
     set_word(sector, 0, PLAN);
     set_word(sector, 1, DESK);
     set_word(sector, 2, VERSION);
@@ -48,7 +49,7 @@ pub fn fill_header(sector: &mut [u8; 4096], layout: Layout)
 }
 
 /// Puts the words of the list into a sector, from one of them on.
-pub fn fill_list(sector: &mut [u8; 4096], writes: &[(u32, [u8; 4096])], from: usize)
+pub fn fill_list(sector: &mut Sector, writes: &[(u32, Sector)], from: usize)
     requires few { length writes.now < 2 ^ 32 }
     requires within { from ≤ length writes.now }
     ensures { (j : ℕ) → j < 1024 → from + j ≤ length writes.now → word sector.new j ≡ want writes.now (from + j) }

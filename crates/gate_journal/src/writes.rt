@@ -2,6 +2,7 @@
 ghost use Rattle.std.specs.Prelude.{◌≡◌, ◌≢◌, ◌<◌, ℕ, false, length, MatchOption, slice_index_or};
 ghost use Rattle.gate_journal.specs.Store.{AreNumbers, AreApart};
 
+use sector_device::Sector;
 use std::alloc::{AllocError, Global};
 
 /// Pages that a commit is to write, each once.
@@ -9,7 +10,7 @@ use std::alloc::{AllocError, Global};
 pub struct PageWrites {
     /// The number of each page, in the order of the list: a search passes over these alone.
     numbers: Vec<u32>,
-    pub(crate) list: Vec<(u32, [u8; 4096])>,
+    pub(crate) list: Vec<(u32, Sector)>,
     ghost beside: { AreNumbers numbers.items list.items },
     ghost once: { AreApart numbers.items },
 }
@@ -86,7 +87,7 @@ impl PageWrites {
     }
 
     /// Adds a page and its bytes. That the page is one of the store's is the caller's condition.
-    pub fn push(&mut self, page: u32, bytes: &[u8; 4096]) -> Result<(), AllocError>
+    pub fn push(&mut self, page: u32, bytes: &Sector) -> Result<(), AllocError>
         requires { Writes (writes_of self.old) page → ⊥ }
         ensures pushed { OnOk result (writes_of self.new ≡ writes_of self.old ++ (page, bytes.now) ∷ []) }
         ensures same { OnErr result (writes_of self.new ≡ writes_of self.old) }
@@ -107,7 +108,7 @@ impl PageWrites {
     }
 
     /// The bytes that a page is to have, where it is written.
-    pub fn get(&self, page: u32) -> Option<&[u8; 4096]>
+    pub fn get(&self, page: u32) -> Option<&Sector>
         ensures { MatchOption result (Writes (writes_of self.now) page → ⊥) (λ bytes. (P : Image) → overlay (writes_of self.now) P page ≡ bytes.now) }
     {
         let k = self.place(page)?;
@@ -115,7 +116,7 @@ impl PageWrites {
     }
 
     /// Changes the bytes of a page that is written where they lie, and tells what that told; none where the page isn't written.
-    pub fn edit<R, F: FnOnce(&mut [u8; 4096]) -> R>(&mut self, page: u32, change: F) -> Option<R>
+    pub fn edit<R, F: FnOnce(&mut Sector) -> R>(&mut self, page: u32, change: F) -> Option<R>
         requires { F.IsAlwaysCallable change }
         ensures edited { EditsWrite (FnOnceReturnsAtMut F.FnOnce change) page self.old self.new result }
         ensures within { (n : ℕ) → IsWithin (writes_of self.old) n → IsWithin (writes_of self.new) n }
@@ -129,7 +130,7 @@ impl PageWrites {
     }
 
     /// Gives a page its bytes: in place where it is written, and else as a further write.
-    pub fn put(&mut self, page: u32, bytes: &[u8; 4096]) -> Result<(), AllocError>
+    pub fn put(&mut self, page: u32, bytes: &Sector) -> Result<(), AllocError>
         ensures written { OnOk result ((P : Image) (p : ℕ)
             → overlay (writes_of self.new) P p ≡ put (page, bytes.now) (overlay (writes_of self.old) P) p) }
         ensures within { OnOk result ((n : ℕ) → page < n → IsWithin (writes_of self.old) n → IsWithin (writes_of self.new) n) }

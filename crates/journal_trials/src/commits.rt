@@ -6,7 +6,7 @@ ghost use Rattle.gate_journal.specs.Writes.{writes_of};
 
 use crate::recorder::{Recorder, SYNC};
 use gate_journal::{Journal, JournalError, PageWrites, format};
-use sector_device::SectorDevice;
+use sector_device::{Sector, SectorDevice};
 use sector_memory::{FailOnce, Fused, MemoryDevice};
 use std::alloc::Global;
 use std::process::Abort;
@@ -23,7 +23,7 @@ fn passing(device: MemoryDevice) -> Fused {
 }
 
 /// A pick of every sector.
-fn picks<R: Abort>(rt: &R, alloc: Global, fill: Option<u8>) -> Vec<(u64, [u8; 4096])> {
+fn picks<R: Abort>(rt: &R, alloc: Global, fill: Option<u8>) -> Vec<(u64, Sector)> {
     let mut all = Vec::new(alloc);
     if let Some(byte) = fill {
         for i in 0..LEAST {
@@ -160,7 +160,7 @@ fn a_failure_halts_the_journal(rt: HostRuntime) {
     }
 }
 
-fn read_sector<R: Abort>(rt: &R, device: &mut MemoryDevice, i: u32, sector: &mut [u8; 4096]) {
+fn read_sector<R: Abort>(rt: &R, device: &mut MemoryDevice, i: u32, sector: &mut Sector) {
     assert!(rt; i < device.count());
     device.read(i, sector).expect(rt, "not read");
 }

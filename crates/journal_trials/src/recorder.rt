@@ -1,7 +1,7 @@
 //! A device that notes what it writes and syncs.
 ghost use Rattle.std.specs.Prelude.{◌≡◌};
 
-use sector_device::{DeviceFault, SectorDevice};
+use sector_device::{DeviceFault, Sector, SectorDevice};
 use sector_memory::MemoryDevice;
 
 /// A sync among the noted calls.
@@ -62,11 +62,11 @@ impl SectorDevice for Recorder {
         self.device.count()
     }
 
-    fn read(&mut self, i: u32, sector: &mut [u8; 4096]) -> Result<(), DeviceFault> {
+    fn read(&mut self, i: u32, sector: &mut Sector) -> Result<(), DeviceFault> {
         self.device.read(i, sector)
     }
 
-    fn write(&mut self, i: u32, sector: &[u8; 4096]) -> Result<(), DeviceFault> {
+    fn write(&mut self, i: u32, sector: &Sector) -> Result<(), DeviceFault> {
         self.note(i);
         self.device.write(i, sector)
     }

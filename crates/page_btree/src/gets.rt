@@ -16,7 +16,7 @@ ghost use Rattle.page_btree.specs.Getting.{CanGetAt, IsCopied, IsLevel, ReadsErr
 ghost use Rattle.page_btree.specs.Outcomes.{ReadsValueAt};
 
 use crate::error::TreeError;
-use page_node::{NotANode, level_of, value_for, way_for};
+use page_node::{NotANode, PageBytes, VALUE_LIMIT, level_of, value_for, way_for};
 use page_store::{Pages, Txn};
 use sector_device::SectorDevice;
 
@@ -27,7 +27,7 @@ pub fn get<D: SectorDevice>(
     txn: &Txn,
     pages: &mut Pages<D>,
     key: &[u8],
-    into: &mut [u8; 1024],
+    into: &mut [u8; VALUE_LIMIT],
 ) -> Result<Option<usize>, TreeError>
     requires begun { txn_pages txn.now ≡ count_of pages.old }
     ensures quiet { IsQuiet pages.old pages.new }
@@ -57,7 +57,7 @@ fn get_below<D: SectorDevice>(
     place: usize,
     level: u8,
     key: &[u8],
-    into: &mut [u8; 1024],
+    into: &mut [u8; VALUE_LIMIT],
 ) -> Result<Option<usize>, TreeError>
     requires begun { txn_pages txn.now ≡ count_of pages.old }
     ensures value { ReadsValueAt txn.now pages.old pages.new level p key.now into.new result }
@@ -78,7 +78,7 @@ fn get_below<D: SectorDevice>(
 }
 
 /// The child that a key belongs to, in a page whose keys rise behind the first.
-pub(crate) fn child_of_key(bytes: &[u8; 4096], key: &[u8]) -> Result<u32, NotANode>
+pub(crate) fn child_of_key(bytes: &PageBytes, key: &[u8]) -> Result<u32, NotANode>
     ensures child { (node : Node) → IsNode bytes.now node → RisesBehind node.entries
         → IfOk result (λ child. option_map child_in (floor key.now node.entries) ≡ Some child) }
     ensures err { OnErr result ((node : Node) → IsNode bytes.now node
@@ -92,9 +92,9 @@ pub(crate) fn child_of_key(bytes: &[u8; 4096], key: &[u8]) -> Result<u32, NotANo
 
 /// Copies the value of a key in a leaf.
 fn copy_value(
-    page: &[u8; 4096],
+    page: &PageBytes,
     key: &[u8],
-    into: &mut [u8; 1024],
+    into: &mut [u8; VALUE_LIMIT],
 ) -> Result<Option<usize>, TreeError>
     ensures value { (node : Node) → IsNode page.now node → Rises node.entries
         → IfOk result (λ found. IsCopied found into.new (find key_cmp key.now node.entries)) }
@@ -105,7 +105,7 @@ fn copy_value(
     match value_for(page, key)? {
         None => Ok(None),
         Some(value) => {
-            if value.len() > 1024 {
+            if value.len() > VALUE_LIMIT {
                 return Err(TreeError::DeviceFault);
             }
             into[..value.len()].copy_from_slice(value);
@@ -130,7 +130,7 @@ pub(crate) fn lend_level<'t, D: SectorDevice>(
     p: u32,
     level: u8,
     place: usize,
-) -> Result<Option<&'t [u8; 4096]>, TreeError>
+) -> Result<Option<&'t PageBytes>, TreeError>
     requires begun { txn_pages txn.now ≡ count_of pages.old }
     ensures quiet { IsQuiet pages.old pages.new }
     ensures lends { (disk_in pages.new).is_honest → IfOk result (λ own. lent_bytes pages.new own place ≡ over txn.now (stored pages.old) p) }
@@ -157,7 +157,7 @@ pub fn read_level<D: SectorDevice>(
     pages: &mut Pages<D>,
     p: u32,
     level: u8,
-    page: &mut [u8; 4096],
+    page: &mut PageBytes,
 ) -> Result<(), TreeError>
     requires begun { txn_pages txn.now ≡ count_of pages.old }
     ensures quiet { IsQuiet pages.old pages.new }

@@ -12,6 +12,7 @@ mod ways;
 pub use error::TreeError;
 pub use gets::{get, read_level};
 pub use kept::laws;
+pub use page_node::VALUE_LIMIT;
 pub use seeks::{Leaf, leaf_from};
 pub use small_bytes::SmallBytes;
 pub use ways::find_leaf;

@@ -21,7 +21,7 @@ ghost use Rattle.page_btree.specs.declared.error.TreeError.TheVariants.{DeviceFa
 use crate::error::TreeError;
 use crate::gets::{lend_level, place_of, read_level};
 use crate::small_bytes::SmallBytes;
-use page_node::{level_of, place_from, way_for, ways_for};
+use page_node::{PageBytes, level_of, place_from, way_for, ways_for};
 use page_store::{Pages, Txn};
 use sector_device::SectorDevice;
 
@@ -71,7 +71,7 @@ pub fn leaf_from<D: SectorDevice>(
     key: &[u8],
     prefix: &[u8],
     leaf: &mut Leaf,
-    held: &mut [[u8; 4096]; 4],
+    held: &mut [PageBytes; 4],
 ) -> Result<(), TreeError>
     requires begun { txn_pages txn.now ≡ count_of pages.old }
     ensures quiet { IsQuiet pages.old pages.new }
@@ -104,7 +104,7 @@ fn leaf_behind<D: SectorDevice>(
     pages: &mut Pages<D>,
     prefix: &[u8],
     leaf: &mut Leaf,
-    held: &mut [[u8; 4096]; 4],
+    held: &mut [PageBytes; 4],
 ) -> Result<(), TreeError>
     requires begun { txn_pages txn.now ≡ count_of pages.old }
     ensures quiet { IsQuiet pages.old pages.new }
@@ -126,7 +126,7 @@ fn leaf_for<D: SectorDevice>(
     key: &[u8],
     prefix: &[u8],
     leaf: &mut Leaf,
-    held: &mut [[u8; 4096]; 4],
+    held: &mut [PageBytes; 4],
 ) -> Result<(), TreeError>
     requires begun { txn_pages txn.now ≡ count_of pages.old }
     ensures quiet { IsQuiet pages.old pages.new }
@@ -162,7 +162,7 @@ fn leaf_below<D: SectorDevice>(
     key: &[u8],
     prefix: &[u8],
     leaf: &mut Leaf,
-    held: &mut [[u8; 4096]; 4],
+    held: &mut [PageBytes; 4],
 ) -> Result<(), TreeError>
     requires begun { txn_pages txn.now ≡ count_of pages.old }
     ensures quiet { IsQuiet pages.old pages.new }
@@ -195,7 +195,7 @@ fn leaves_below<D: SectorDevice>(
     key: &[u8],
     prefix: &[u8],
     leaf: &mut Leaf,
-    held: &mut [[u8; 4096]; 4],
+    held: &mut [PageBytes; 4],
 ) -> Result<(), TreeError>
     requires begun { txn_pages txn.now ≡ count_of pages.old }
     ensures quiet { IsQuiet pages.old pages.new }
@@ -218,7 +218,7 @@ fn read_leaves<D: SectorDevice>(
     pages: &mut Pages<D>,
     children: &[u32; 4],
     more: usize,
-    held: &mut [[u8; 4096]; 4],
+    held: &mut [PageBytes; 4],
 ) -> Result<(), TreeError>
     requires begun { txn_pages txn.now ≡ count_of pages.old }
     requires few { more ≤ 3 }
@@ -236,7 +236,7 @@ fn read_leaves<D: SectorDevice>(
 }
 
 /// Stands before the first row in a leaf's page that isn't below a key.
-fn stand(leaf: &mut Leaf, page: &[u8; 4096], key: &[u8]) -> Result<(), TreeError>
+fn stand(leaf: &mut Leaf, page: &PageBytes, key: &[u8]) -> Result<(), TreeError>
     ensures rows { (node : Node) → IsNode page.now node → Rises node.entries
         → OnOk result (IsAhead page.now leaf.new.at (entries_from key.now node.entries)) }
     ensures left { (node : Node) → IsNode page.now node → Rises node.entries
@@ -254,7 +254,7 @@ fn stand(leaf: &mut Leaf, page: &[u8; 4096], key: &[u8]) -> Result<(), TreeError
 
 /// Finds the child of a node above the leaves that a key belongs to, and keeps the first key in it that is above this one, as the
 /// bound.
-fn go_down(leaf: &mut Leaf, page: &[u8; 4096], key: &[u8]) -> Result<u32, TreeError>
+fn go_down(leaf: &mut Leaf, page: &PageBytes, key: &[u8]) -> Result<u32, TreeError>
     ensures child { (node : Node) → IsNode page.now node → RisesBehind node.entries
         → IfOk result (λ child. option_map child_in (floor key.now node.entries) ≡ Some child) }
     ensures bound { (node : Node) → IsNode page.now node → RisesBehind node.entries
@@ -278,7 +278,7 @@ fn go_down(leaf: &mut Leaf, page: &[u8; 4096], key: &[u8]) -> Result<u32, TreeEr
 /// read with it, and keeps the first key behind the last of these, as the bound.
 fn ways_in(
     leaf: &mut Leaf,
-    page: &[u8; 4096],
+    page: &PageBytes,
     key: &[u8],
     prefix: &[u8],
     children: &mut [u32; 4],

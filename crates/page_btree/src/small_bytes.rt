@@ -1,10 +1,11 @@
 //! A few bytes, held in place.
+use page_node::VALUE_LIMIT;
 use std::marker::Model;
 
 /// At most 1,024 bytes, held in place, so that they take no memory.
 #[derive(Drop)]
 pub struct SmallBytes {
-    bytes: [u8; 1024],
+    bytes: [u8; VALUE_LIMIT],
     length: usize,
 }
 
@@ -26,7 +27,7 @@ impl SmallBytes {
         ensures { result ≡ [] }
     {
         SmallBytes {
-            bytes: [0; 1024],
+            bytes: [0; VALUE_LIMIT],
             length: 0,
         }
     }

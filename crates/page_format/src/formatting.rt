@@ -9,14 +9,14 @@ ghost use Rattle.page_format.specs.New.{AreLinked, next_of, IsNew, IsNewWith, Is
 
 use gate_journal::{Layout, PageWrites, commit_on, has_room, set_word};
 use page_store::PageError;
-use sector_device::{DeviceFault, SectorDevice};
+use sector_device::{DeviceFault, SECTOR_SIZE, Sector, SectorDevice};
 use std::alloc::Global;
 
 /// How many pages are linked by one commit.
 const BATCH: u32 = 256;
 
 /// Gives a page its bytes, where there is room.
-fn put_in_room(writes: &mut PageWrites, page: u32, bytes: &[u8; 4096])
+fn put_in_room(writes: &mut PageWrites, page: u32, bytes: &Sector)
     requires { length (writes_of writes.old) < room_of writes.old }
     ensures written { (P : Image) (p : ℕ) → overlay (writes_of writes.new) P p ≡ put (page, bytes.now) (overlay (writes_of writes.old) P) p }
     ensures within { (n : ℕ) → page < n → IsWithin (writes_of writes.old) n → IsWithin (writes_of writes.new) n }
@@ -47,7 +47,7 @@ fn link_pages(writes: &mut PageWrites, pages: u32, from: u32, to: u32)
     ensures room { 256 ≤ room_of writes.new }
 {
     writes.clear();
-    let mut link = [0; 4096];
+    let mut link = [0; SECTOR_SIZE];
     for p in from..to {
         set_word(&mut link, 0, next_page(pages, p));
         put_in_room(writes, p, &link);
@@ -141,7 +141,7 @@ fn put_meta(writes: &mut PageWrites, pages: u32, root: u32)
     ensures room { 256 ≤ room_of writes.new }
 {
     writes.clear();
-    let mut meta = [0; 4096];
+    let mut meta = [0; SECTOR_SIZE];
     set_word(&mut meta, 0, root);
     set_word(&mut meta, 1, root + 1);
     set_word(&mut meta, 2, pages - 1 - root);
@@ -175,7 +175,7 @@ pub fn format_with<D: SectorDevice>(
     alloc: Global,
     device: &mut D,
     journal_pages: u32,
-    root: &[u8; 4096],
+    root: &Sector,
 ) -> Result<(), PageError>
     requires least { 256 ≤ journal_pages }
     requires most { journal_pages ≤ 65536 }

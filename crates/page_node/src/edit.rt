@@ -10,10 +10,11 @@ ghost use Rattle.page_node.specs.Spots.{IsRowPut, IsRowTaken, IsSpareTaken, Inse
 
 use crate::scan::NotANode;
 use crate::search::count_of;
+use crate::sizes::{PAGE_SIZE, PageBytes};
 use crate::spot::{end_from, spot_of};
 
 /// Moves the bytes between two places of a page to another one.
-fn move_in(page: &mut [u8; 4096], from: usize, end: usize, to: usize)
+fn move_in(page: &mut PageBytes, from: usize, end: usize, to: usize)
     requires order { from ≤ end }
     requires end { end ≤ 4096 }
     requires to { to + (end - from) ≤ 4096 }
@@ -26,7 +27,7 @@ fn move_in(page: &mut [u8; 4096], from: usize, end: usize, to: usize)
 }
 
 /// Writes an entry at a place of a page.
-fn put_entry_in(page: &mut [u8; 4096], at: usize, key: &[u8], value: &[u8])
+fn put_entry_in(page: &mut PageBytes, at: usize, key: &[u8], value: &[u8])
     requires key { length key.now ≤ 72 }
     requires value { length value.now ≤ 1024 }
     requires room { at + 3 + length key.now + length value.now ≤ 4096 }
@@ -41,7 +42,7 @@ fn put_entry_in(page: &mut [u8; 4096], at: usize, key: &[u8], value: &[u8])
 }
 
 /// Puts an entry in the place of the bytes between two places, up to where the last entry ends.
-fn splice(page: &mut [u8; 4096], at: usize, end: usize, used: usize, key: &[u8], value: &[u8])
+fn splice(page: &mut PageBytes, at: usize, end: usize, used: usize, key: &[u8], value: &[u8])
     requires key { length key.now ≤ 72 }
     requires value { length value.now ≤ 1024 }
     requires order { end ≤ used }
@@ -55,7 +56,7 @@ fn splice(page: &mut [u8; 4096], at: usize, end: usize, used: usize, key: &[u8],
 }
 
 /// Says how many entries the page has.
-fn set_count(page: &mut [u8; 4096], count: usize)
+fn set_count(page: &mut PageBytes, count: usize)
     requires { count < 65536 }
     ensures { page.new ≡ slice_set (slice_set page.old 2 (count / 256)) 3 (count % 256) }
 {
@@ -65,7 +66,7 @@ fn set_count(page: &mut [u8; 4096], count: usize)
 
 /// Puts an entry before the one at a place, and tells whether it had room.
 fn insert_in(
-    page: &mut [u8; 4096],
+    page: &mut PageBytes,
     index: usize,
     at: usize,
     key: &[u8],
@@ -83,7 +84,7 @@ fn insert_in(
     if count == 65535 {
         return Err(NotANode);
     }
-    if used + 3 + key.len() + value.len() > 4096 {
+    if used + 3 + key.len() + value.len() > PAGE_SIZE {
         return Ok(false);
     }
     splice(page, at, at, used, key, value);
@@ -94,7 +95,7 @@ fn insert_in(
 /// Replaces the value of the entry that begins and ends at two places, and tells whether it had room. A value of the same length
 /// is written where the old one lies.
 fn replace_in(
-    page: &mut [u8; 4096],
+    page: &mut PageBytes,
     index: usize,
     at: usize,
     end: usize,
@@ -116,7 +117,7 @@ fn replace_in(
         return Ok(true);
     }
     let used = end_from(page, index + 1, end)?;
-    if at + 3 + key.len() + value.len() + (used - end) > 4096 {
+    if at + 3 + key.len() + value.len() + (used - end) > PAGE_SIZE {
         return Ok(false);
     }
     splice(page, at, end, used, key, value);
@@ -125,7 +126,7 @@ fn replace_in(
 
 /// Removes the entry that begins and ends at two places, and tells how many are left. All bytes behind it are moved, so that it
 /// needn't be known where the last entry ends.
-fn remove_in(page: &mut [u8; 4096], at: usize, end: usize) -> Result<usize, NotANode>
+fn remove_in(page: &mut PageBytes, at: usize, end: usize) -> Result<usize, NotANode>
     requires order { at ≤ end }
     requires end { end ≤ 4096 }
     ensures removed { RemovesEntry page.old page.new at end result }
@@ -135,13 +136,13 @@ fn remove_in(page: &mut [u8; 4096], at: usize, end: usize) -> Result<usize, NotA
     if count == 0 {
         return Err(NotANode);
     }
-    move_in(page, end, 4096, at);
+    move_in(page, end, PAGE_SIZE, at);
     set_count(page, count - 1);
     Ok(count - 1)
 }
 
 /// Puts a row into a leaf whose keys rise: whether its key was there, or none where it has no room and the page stays.
-pub fn put_row(page: &mut [u8; 4096], key: &[u8], value: &[u8]) -> Result<Option<bool>, NotANode>
+pub fn put_row(page: &mut PageBytes, key: &[u8], value: &[u8]) -> Result<Option<bool>, NotANode>
     requires key { length key.now ≤ 72 }
     requires value { length value.now ≤ 1024 }
     ensures put { (es : List Entry) → IsNode page.old (record { level = 0; entries = es })
@@ -166,7 +167,7 @@ fn told(fits: bool, had: bool) -> Option<bool>
 }
 
 /// Takes the row of a key out of a leaf whose keys rise: how many are left, or none where the key isn't there.
-pub fn take_row(page: &mut [u8; 4096], key: &[u8]) -> Result<Option<usize>, NotANode>
+pub fn take_row(page: &mut PageBytes, key: &[u8]) -> Result<Option<usize>, NotANode>
     ensures taken { (es : List Entry) → IsNode page.old (record { level = 0; entries = es })
         → Rises es → IfOk result (λ did. IsRowTaken page.old page.new key.now es did) }
     ensures absent { IfOk result (λ did. did ≡ None → page.new ≡ page.old) }
@@ -182,7 +183,7 @@ pub fn take_row(page: &mut [u8; 4096], key: &[u8]) -> Result<Option<usize>, NotA
 
 /// Takes the row of a key out of a leaf whose keys rise, where others are left, and tells whether the key was there; or none where
 /// its row is the only one and the page stays.
-pub fn take_spare_row(page: &mut [u8; 4096], key: &[u8]) -> Result<Option<bool>, NotANode>
+pub fn take_spare_row(page: &mut PageBytes, key: &[u8]) -> Result<Option<bool>, NotANode>
     ensures taken { (es : List Entry) → IsNode page.old (record { level = 0; entries = es })
         → Rises es → IfOk result (λ did. IsSpareTaken page.old page.new key.now es did) }
     ensures kept { IfOk result (λ did. (did ≡ Some true → ⊥) → page.new ≡ page.old) }

@@ -2,6 +2,8 @@
 ghost use Rattle.std.specs.Prelude.{◌≡◌, ◌≤◌, ◌<◌, ◌+◌, ◌-◌, ◌^◌, ℕ, get_or};
 ghost use Rattle.page_node.specs.Held.{IsEndAtHalf};
 
+use crate::sizes::PAGE_SIZE;
+
 /// Makes room for an entry of so many bytes at a place.
 pub fn insert_end(ends: &mut [u16; 1366], i: usize, count: usize, size: u16)
     requires within { i ≤ count }
@@ -78,7 +80,7 @@ pub fn cut_at(ends: &[u16; 1366], count: usize, added: usize) -> usize
     ensures half { IsEndAtHalf ends.now count added result }
 {
     let last = count - 1;
-    if added == last && ends[last] <= 4096 {
+    if added == last && ends[last] as usize <= PAGE_SIZE {
         return last;
     }
     let size = ends[count] as usize;

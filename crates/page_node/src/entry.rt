@@ -4,6 +4,8 @@ ghost use Rattle.std.specs.List.{copy_within};
 ghost use Rattle.page_node.specs.Entries.{key_length, value_length};
 ghost use Rattle.page_node.specs.Bytes.{LiesAt, LiesNot, with_entry};
 
+use crate::sizes::{BODY_SIZE, KEY_LIMIT, PAGE_SIZE, PageBytes, VALUE_LIMIT};
+
 /// Where the value of an entry begins and ends. Its key stands before the value.
 #[derive(Clone, Copy, Drop)]
 pub struct Bounds {
@@ -34,7 +36,7 @@ impl Lengths {
 }
 
 /// The entry at the last three bytes of a page, which is one without bytes, if it is that.
-fn bounds_at_end(page: &[u8; 4096], at: usize) -> Option<Bounds>
+fn bounds_at_end(page: &PageBytes, at: usize) -> Option<Bounds>
     requires { 4092 < at }
     ensures some { IfSome result (λ b. LiesAt page.now at b.value b.end) }
     ensures none { IfNone result (LiesNot page.now at) }
@@ -43,24 +45,24 @@ fn bounds_at_end(page: &[u8; 4096], at: usize) -> Option<Bounds>
         return None;
     }
     Some(Bounds {
-        value: 4096,
-        end: 4096,
+        value: PAGE_SIZE,
+        end: PAGE_SIZE,
     })
 }
 
 /// The entry at a place in a page, if it lies in the page and is in the limits. It becomes the last that was looked at.
-pub fn bounds_in(page: &[u8; 4096], at: usize, last: &mut Lengths) -> Option<Bounds>
+pub fn bounds_in(page: &PageBytes, at: usize, last: &mut Lengths) -> Option<Bounds>
     ensures some { IfSome result (λ b. LiesAt page.now at b.value b.end) }
     ensures none { IfNone result (LiesNot page.now at) }
 {
-    if at > 4092 {
+    if at > BODY_SIZE {
         return bounds_at_end(page, at);
     }
     let head = u32::from_be_bytes([page[at], page[at + 1], page[at + 2], page[at + 3]]) / 256;
     if head != last.head {
         let key = (head / 65536) as usize;
         let length = (head % 65536) as usize;
-        if key > 72 || length > 1024 {
+        if key > KEY_LIMIT || length > VALUE_LIMIT {
             return None;
         }
         *last = Lengths {
@@ -70,7 +72,7 @@ pub fn bounds_in(page: &[u8; 4096], at: usize, last: &mut Lengths) -> Option<Bou
         };
     }
     let end = at + last.size;
-    if end > 4096 {
+    if end > PAGE_SIZE {
         return None;
     }
     Some(Bounds {
@@ -127,7 +129,7 @@ pub fn put_entry(bytes: &mut [u8; 5200], at: usize, key: &[u8], value: &[u8])
 }
 
 /// Writes the entries up to a place into a page, and zeros behind them.
-pub fn put_body(page: &mut [u8; 4096], bytes: &[u8; 5200], used: usize)
+pub fn put_body(page: &mut PageBytes, bytes: &[u8; 5200], used: usize)
     requires low { 4 ≤ used }
     requires high { used ≤ 4096 }
     ensures { page.new ≡ take 4 page.old ++ (take (used - 4) (drop 4 bytes.now) ++ replicate (4096 - used) 0) }

@@ -8,6 +8,7 @@ mod node_buf;
 mod passing;
 mod scan;
 mod search;
+mod sizes;
 mod spot;
 mod ways;
 
@@ -16,4 +17,5 @@ pub use entry::{Bounds, Lengths, bounds_in};
 pub use node_buf::NodeBuf;
 pub use scan::NotANode;
 pub use search::{Place, Way, child_for, level_of, place_from, value_for, way_for};
+pub use sizes::{KEY_LIMIT, PAGE_SIZE, PageBytes, VALUE_LIMIT};
 pub use ways::{Ways, ways_for};

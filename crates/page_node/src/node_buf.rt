@@ -2,6 +2,7 @@
 use crate::ends::{copy_ends, cut_at, insert_end, remove_end, resize_end};
 use crate::entry::{copy_body, key_in, move_bytes, put_body, put_entry, value_in};
 use crate::scan::{NotANode, scan};
+use crate::sizes::{BODY_SIZE, KEY_LIMIT, PAGE_SIZE, PageBytes};
 use std::cmp::Ordering;
 use std::marker::Model;
 
@@ -54,14 +55,14 @@ impl NodeBuf {
     }
 
     /// Reads the node that a page stands for. Where it stands for none, the buffer is a leaf without entries.
-    pub fn read(&mut self, page: &[u8; 4096]) -> Result<(), NotANode>
+    pub fn read(&mut self, page: &PageBytes) -> Result<(), NotANode>
         ensures read { OnOk result (IsNode page.now self.new) }
         ensures refused { OnErr result ((node : Node) → IsNode page.now node → ⊥) }
         ensures nothing { OnErr result (self.new ≡ record { level = 0; entries = [] }) }
     {
         match scan(page, &mut self.ends) {
             Some(count) => {
-                self.bytes[..4096].copy_from_slice(page);
+                self.bytes[..PAGE_SIZE].copy_from_slice(page);
                 self.count = count;
                 self.level = page[0];
                 Ok(())
@@ -109,7 +110,7 @@ impl NodeBuf {
     pub fn overflows(&self) -> bool
         ensures { IsTrue result ↔ (4092 < size_of self.now.entries) }
     {
-        self.size() > 4092
+        self.size() > BODY_SIZE
     }
 
     /// Finds a key where keys rise: its place, or that which it would have.
@@ -187,13 +188,13 @@ impl NodeBuf {
         requires child { 0 < self.old.level → length value.now ≡ 4 }
         ensures { self.new ≡ record self.old { entries = slice_set self.old.entries i (key_at self.old.entries i, value.now) } }
     {
-        let mut key = [0; 72];
+        let mut key = [0; KEY_LIMIT];
         let length = self.copy_key(i, &mut key);
         self.set_entry(i, &key[..length], value);
     }
 
     /// Copies the key of an entry, and tells its length.
-    fn copy_key(&self, i: usize, key: &mut [u8; 72]) -> usize
+    fn copy_key(&self, i: usize, key: &mut [u8; KEY_LIMIT]) -> usize
         requires { i < length self.now.entries }
         ensures short { result ≤ 72 }
         ensures key { take result key.new ≡ key_at self.now.entries i }
@@ -263,7 +264,7 @@ impl NodeBuf {
     }
 
     /// Writes the page that stands for the node.
-    pub fn write(&self, page: &mut [u8; 4096])
+    pub fn write(&self, page: &mut PageBytes)
         requires { Fits self.now }
         ensures bytes { page.new ≡ bytes_of self.now }
         ensures node { IsNode page.new self.now }

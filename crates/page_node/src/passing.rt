@@ -4,9 +4,10 @@ ghost use Rattle.page_node.specs.Entries.{Entry, key_length, value_length};
 ghost use Rattle.page_node.specs.Walking.{IsAhead, PassesTo};
 
 use crate::entry::{Lengths, bounds_in};
+use crate::sizes::{PAGE_SIZE, PageBytes};
 
 /// The three bytes at a place as a number, as a `Lengths` holds them.
-fn head_at(page: &[u8; 4096], at: usize) -> u32
+fn head_at(page: &PageBytes, at: usize) -> u32
     requires { at < 4093 }
     ensures { result ≡ 65536 * key_length (drop at page.now) + value_length (drop at page.now) }
 {
@@ -14,13 +15,13 @@ fn head_at(page: &[u8; 4096], at: usize) -> u32
 }
 
 /// Whether the four entries from a place on have the lengths of the last one, and end before the page does.
-fn four_in(page: &[u8; 4096], at: usize, last: &Lengths) -> bool
+fn four_in(page: &PageBytes, at: usize, last: &Lengths) -> bool
     requires { at ≤ 4096 }
     ensures within { result ≡ true → at + 4 * last.now.size ≤ 4096 }
     ensures passed { result ≡ true → PassesTo page.now at 4 (at + 4 * last.now.size) }
 {
     let size = last.size;
-    if at + 4 * size >= 4096 {
+    if at + 4 * size >= PAGE_SIZE {
         return false;
     }
     let first = head_at(page, at) == last.head;
@@ -31,7 +32,7 @@ fn four_in(page: &[u8; 4096], at: usize, last: &Lengths) -> bool
 }
 
 /// The same of eight.
-fn eight_in(page: &[u8; 4096], at: usize, last: &Lengths) -> bool
+fn eight_in(page: &PageBytes, at: usize, last: &Lengths) -> bool
     requires { at ≤ 4096 }
     ensures within { result ≡ true → at + 8 * last.now.size ≤ 4096 }
     ensures passed { result ≡ true → PassesTo page.now at 8 (at + 8 * last.now.size) }
@@ -40,7 +41,7 @@ fn eight_in(page: &[u8; 4096], at: usize, last: &Lengths) -> bool
 }
 
 /// Where eight entries end that are looked at one by one.
-fn each_in(page: &[u8; 4096], at: usize, last: &mut Lengths) -> Option<usize>
+fn each_in(page: &PageBytes, at: usize, last: &mut Lengths) -> Option<usize>
     requires { at ≤ 4096 }
     ensures within { IfSome result (λ end. (at ≤ end) × (end ≤ 4096)) }
     ensures passed { IfSome result (λ end. PassesTo page.now at 8 end) }
@@ -58,7 +59,7 @@ fn each_in(page: &[u8; 4096], at: usize, last: &mut Lengths) -> Option<usize>
 
 /// Where the eight entries from a place on end.
 #[inline(always)]
-pub(crate) fn pass(page: &[u8; 4096], at: usize, last: &mut Lengths) -> Option<usize>
+pub(crate) fn pass(page: &PageBytes, at: usize, last: &mut Lengths) -> Option<usize>
     requires { at ≤ 4096 }
     ensures within { IfSome result (λ end. (at ≤ end) × (end ≤ 4096)) }
     ensures passed { IfSome result (λ end. PassesTo page.now at 8 end) }

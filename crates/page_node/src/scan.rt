@@ -5,13 +5,14 @@ ghost use Rattle.page_node.specs.Node.{Node, IsNode, count_in};
 ghost use Rattle.page_node.specs.Held.{IsHeld};
 
 use crate::entry::{Lengths, bounds_in};
+use crate::sizes::PageBytes;
 
 /// The bytes of a page stand for no node.
 #[derive(Clone, Copy, Debug, Drop, PartialEq, Eq)]
 pub struct NotANode;
 
 /// How many entries the page has, and where they end, if it stands for a node.
-pub fn scan(page: &[u8; 4096], ends: &mut [u16; 1366]) -> Option<usize>
+pub fn scan(page: &PageBytes, ends: &mut [u16; 1366]) -> Option<usize>
     requires { get_or ends.old 0 0 ≡ 4 }
     ensures first { get_or ends.new 0 0 ≡ 4 }
     ensures count { IfSome result (λ count. count ≡ count_in page.now) }

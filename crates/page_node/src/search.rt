@@ -14,11 +14,12 @@ ghost use Rattle.page_node.specs.Searching.{IsBelow, IsLast, IsTurn, RisesBehind
 use crate::entry::{Lengths, bounds_in};
 use crate::passing::pass;
 use crate::scan::NotANode;
+use crate::sizes::PageBytes;
 use key_order::compare;
 use std::cmp::Ordering;
 
 /// The level that a page says, 0 for a leaf.
-pub fn level_of(page: &[u8; 4096]) -> u8
+pub fn level_of(page: &PageBytes) -> u8
     ensures level { (node : Node) → IsNode page.now node → result ≡ node.level }
     ensures byte { result ≡ get_or page.now 0 0 }
 {
@@ -27,7 +28,7 @@ pub fn level_of(page: &[u8; 4096]) -> u8
 
 /// How many entries a page says that it has.
 #[inline(always)]
-pub(crate) fn count_of(page: &[u8; 4096]) -> usize
+pub(crate) fn count_of(page: &PageBytes) -> usize
     ensures count { result ≡ count_in page.now }
     ensures few { result ≤ 65535 }
 {
@@ -36,7 +37,7 @@ pub(crate) fn count_of(page: &[u8; 4096]) -> usize
 
 /// A part of a page.
 #[inline(always)]
-pub(crate) fn part(page: &[u8; 4096], from: usize, end: usize) -> &[u8]
+pub(crate) fn part(page: &PageBytes, from: usize, end: usize) -> &[u8]
     requires order { from ≤ end }
     requires end { end ≤ 4096 }
     ensures { result.now ≡ take (end - from) (drop from page.now) }
@@ -46,7 +47,7 @@ pub(crate) fn part(page: &[u8; 4096], from: usize, end: usize) -> &[u8]
 
 /// Compares a part of a page with a key.
 #[inline(always)]
-pub(crate) fn compare_part(page: &[u8; 4096], from: usize, end: usize, key: &[u8]) -> Ordering
+pub(crate) fn compare_part(page: &PageBytes, from: usize, end: usize, key: &[u8]) -> Ordering
     requires order { from ≤ end }
     requires end { end ≤ 4096 }
     ensures { result ≡ key_cmp (take (end - from) (drop from page.now)) key.now }
@@ -56,7 +57,7 @@ pub(crate) fn compare_part(page: &[u8; 4096], from: usize, end: usize, key: &[u8
 
 /// Whether a part of a page is above a key.
 #[inline(always)]
-fn is_above(page: &[u8; 4096], from: usize, end: usize, key: &[u8]) -> bool
+fn is_above(page: &PageBytes, from: usize, end: usize, key: &[u8]) -> bool
     requires order { from ≤ end }
     requires end { end ≤ 4096 }
     ensures { result ≡ is_gt (key_cmp (take (end - from) (drop from page.now)) key.now) }
@@ -66,7 +67,7 @@ fn is_above(page: &[u8; 4096], from: usize, end: usize, key: &[u8]) -> bool
 
 /// Whether a part of a page is below a key.
 #[inline(always)]
-fn is_below(page: &[u8; 4096], from: usize, end: usize, key: &[u8]) -> bool
+fn is_below(page: &PageBytes, from: usize, end: usize, key: &[u8]) -> bool
     requires order { from ≤ end }
     requires end { end ≤ 4096 }
     ensures { result ≡ is_lt (key_cmp (take (end - from) (drop from page.now)) key.now) }
@@ -82,7 +83,7 @@ pub(crate) struct RowNear {
 }
 
 /// A place near a key's in a page whose keys rise: each key before it is below this one. One key of nine is looked at.
-pub(crate) fn row_near(page: &[u8; 4096], key: &[u8]) -> Option<RowNear>
+pub(crate) fn row_near(page: &PageBytes, key: &[u8]) -> Option<RowNear>
     ensures within { IfSome result (λ near. (4 ≤ near.at) × (near.at ≤ 4096) × (near.k ≤ count_in page.now)) }
     ensures below { (node : Node) → IsNode page.now node → IfSome result (λ near. IsBelow key.now node.entries near.k near.at) }
     ensures none { IfNone result ((node : Node) → IsNode page.now node → ⊥) }
@@ -112,7 +113,7 @@ pub(crate) fn row_near(page: &[u8; 4096], key: &[u8]) -> Option<RowNear>
 }
 
 /// The value of a key in a page whose keys rise, if the key is there.
-pub fn value_for<'a>(page: &'a [u8; 4096], key: &[u8]) -> Result<Option<&'a [u8]>, NotANode>
+pub fn value_for<'a>(page: &'a PageBytes, key: &[u8]) -> Result<Option<&'a [u8]>, NotANode>
     ensures value { (node : Node) → IsNode page.now node → Rises node.entries
         → IfOk result (λ found. option_copied found ≡ find key_cmp key.now node.entries) }
     ensures err { OnErr result ((node : Node) → IsNode page.now node → ⊥) }
@@ -139,7 +140,7 @@ pub fn value_for<'a>(page: &'a [u8; 4096], key: &[u8]) -> Result<Option<&'a [u8]
 }
 
 /// The number in a value, which begins and ends at these places, if it is that of a page.
-pub(crate) fn child_at(page: &[u8; 4096], value: usize, end: usize) -> Result<u32, NotANode>
+pub(crate) fn child_at(page: &PageBytes, value: usize, end: usize) -> Result<u32, NotANode>
     requires end { end ≤ 4096 }
     requires value { value ≤ 4096 }
     ensures ok { IfOk result (λ child. (0 < value) × (value + 4 ≡ end) × (child ≡ child_in (take 4 (drop value page.now)))) }
@@ -158,7 +159,7 @@ pub(crate) fn child_at(page: &[u8; 4096], value: usize, end: usize) -> Result<u3
 
 /// The child that a key belongs to: that of the entry before the first one whose key is above it. The first key is not looked
 /// at.
-pub fn child_for(page: &[u8; 4096], key: &[u8]) -> Result<u32, NotANode>
+pub fn child_for(page: &PageBytes, key: &[u8]) -> Result<u32, NotANode>
     ensures child { (node : Node) → IsNode page.now node → IfOk result (λ child. option_map child_in (floor key.now node.entries) ≡ Some child) }
     ensures err { OnErr result ((node : Node) → IsNode page.now node → 0 < node.level → floor key.now node.entries ≡ None) }
 {
@@ -190,7 +191,7 @@ struct Near {
 
 /// A place near the child that a key belongs to, in a page whose keys rise behind the first: no key before it is above this one.
 /// One key of nine is looked at.
-fn near_for(page: &[u8; 4096], key: &[u8]) -> Option<Near>
+fn near_for(page: &PageBytes, key: &[u8]) -> Option<Near>
     ensures within { IfSome result (λ near. (near.at ≤ 4096) × (near.value ≤ 4096) × (near.k ≤ count_in page.now)) }
     ensures last { (node : Node) → IsNode page.now node → RisesBehind node.entries
         → IfSome result (λ near. IsLast page.now key.now node.entries near.k near.value near.at) }
@@ -243,7 +244,7 @@ pub(crate) struct WayDown {
 
 /// The child that a key belongs to, as `child_for` finds it, with the first entry whose key is above it, in a page whose keys rise
 /// behind the first, which is not looked at.
-pub(crate) fn turn_for(page: &[u8; 4096], key: &[u8]) -> Result<WayDown, NotANode>
+pub(crate) fn turn_for(page: &PageBytes, key: &[u8]) -> Result<WayDown, NotANode>
     ensures child { (node : Node) → IsNode page.now node → RisesBehind node.entries
         → IfOk result (λ turn. option_map child_in (floor key.now node.entries) ≡ Some turn.child) }
     ensures lies { IfOk result (λ turn. IfSome turn.above (λ above. LiesAt page.now above.at above.value above.end)) }
@@ -297,7 +298,7 @@ pub struct Way<'a> {
 
 /// The child that a key belongs to, as `child_for` finds it, with the first key above it, in a page whose keys rise behind the
 /// first, which is not looked at.
-pub fn way_for<'a>(page: &'a [u8; 4096], key: &[u8]) -> Result<Way<'a>, NotANode>
+pub fn way_for<'a>(page: &'a PageBytes, key: &[u8]) -> Result<Way<'a>, NotANode>
     ensures child { (node : Node) → IsNode page.now node → RisesBehind node.entries
         → IfOk result (λ way. option_map child_in (floor key.now node.entries) ≡ Some way.child) }
     ensures bound { (node : Node) → IsNode page.now node → RisesBehind node.entries
@@ -325,7 +326,7 @@ pub struct Place {
 }
 
 /// Where the entries from a key on begin in a page whose keys rise.
-pub fn place_from(page: &[u8; 4096], key: &[u8]) -> Result<Place, NotANode>
+pub fn place_from(page: &PageBytes, key: &[u8]) -> Result<Place, NotANode>
     ensures place { FindsPlace page.now key.now result }
     ensures err { OnErr result ((node : Node) → IsNode page.now node → ⊥) }
 {

@@ -8,6 +8,7 @@ ghost use Rattle.page_node.specs.Spots.{IsSpot};
 use crate::entry::{Lengths, bounds_in};
 use crate::scan::NotANode;
 use crate::search::{compare_part, count_of, row_near};
+use crate::sizes::PageBytes;
 use std::cmp::Ordering;
 
 /// Where the entry of a key begins and ends, or where it would begin.
@@ -21,7 +22,7 @@ pub(crate) struct Spot {
 }
 
 /// The spot of a key in a page whose keys rise.
-pub(crate) fn spot_of(page: &[u8; 4096], key: &[u8]) -> Result<Spot, NotANode>
+pub(crate) fn spot_of(page: &PageBytes, key: &[u8]) -> Result<Spot, NotANode>
     ensures spot { (node : Node) → IsNode page.now node → Rises node.entries
         → IfOk result (λ s. IsSpot key.now node.entries s.found s.index s.at s.end) }
     ensures order { IfOk result (λ s. (4 ≤ s.at) × (s.at ≤ s.end) × (s.end ≤ 4096)) }
@@ -69,7 +70,7 @@ pub(crate) fn spot_of(page: &[u8; 4096], key: &[u8]) -> Result<Spot, NotANode>
 }
 
 /// Where the last entry of a page ends, from where one of them begins on.
-pub(crate) fn end_from(page: &[u8; 4096], index: usize, at: usize) -> Result<usize, NotANode>
+pub(crate) fn end_from(page: &PageBytes, index: usize, at: usize) -> Result<usize, NotANode>
     requires { at ≤ 4096 }
     ensures end { (node : Node) → IsNode page.now node → index ≤ length node.entries
         → at ≡ 4 + size_of (take index node.entries) → IfOk result (λ end. end ≡ 4 + size_of node.entries) }

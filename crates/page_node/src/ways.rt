@@ -11,6 +11,7 @@ ghost use Rattle.page_node.specs.Ways.{FollowsWays, FindsWays};
 use crate::entry::{Lengths, bounds_in};
 use crate::scan::NotANode;
 use crate::search::{Above, child_at, count_of, part, turn_for};
+use crate::sizes::PageBytes;
 
 /// The child that a key belongs to, how many children behind it were found, and the first key behind the last of them, if there
 /// is one.
@@ -30,7 +31,7 @@ struct Followed {
 
 /// The children behind an entry whose key begins with a prefix, up to the first whose upper key is missing or doesn't.
 fn follow(
-    page: &[u8; 4096],
+    page: &PageBytes,
     first: Above,
     prefix: &[u8],
     behind: &mut [u32; 3],
@@ -76,7 +77,7 @@ fn follow(
 /// The child that a key belongs to, as `way_for` finds it, and children behind it whose lower and upper keys begin with a prefix:
 /// at most three, up to the first whose upper key is missing or doesn't begin with it. `behind` begins with them.
 pub fn ways_for<'a>(
-    page: &'a [u8; 4096],
+    page: &'a PageBytes,
     key: &[u8],
     prefix: &[u8],
     behind: &mut [u32; 3],

@@ -9,7 +9,7 @@ ghost use Rattle.page_store.specs.Openings.{MetaErr};
 use crate::error::PageError;
 use crate::txn::Txn;
 use gate_journal::{Journal, PageWrites, word_at};
-use sector_device::SectorDevice;
+use sector_device::{SECTOR_SIZE, Sector, SectorDevice};
 use std::alloc::Global;
 
 /// Pages behind a journal. Page 0 is the meta page, and the others are free or in use.
@@ -22,7 +22,7 @@ pub struct Pages<D: SectorDevice> {
     pub(crate) free: u32,
     /// The numbers of the pages that are held, 0 for none, and the bytes of each, as they are stored.
     pub(crate) numbers: [u32; 16],
-    held: Vec<[u8; 4096]>,
+    held: Vec<Sector>,
     ghost places: { length held.items ≡ 16 },
     ghost root_below: { root < page_count journal },
     ghost first_below: { first < page_count journal },
@@ -53,7 +53,7 @@ fn read_meta<D: SectorDevice>(journal: &mut Journal<D>) -> Result<Meta, PageErro
     ensures passed { (disk_of journal.new).is_honest → OnOk result ((disk_of journal.new).faults ≡ (disk_of journal.old).faults) }
     ensures err { IfErr result (λ e. MetaErr journal.old journal.new e) }
 {
-    let mut page = [0; 4096];
+    let mut page = [0; SECTOR_SIZE];
     journal.read_page(0, &mut page)?;
     let meta = Meta {
         root: word_at(&page, 0),
@@ -98,7 +98,7 @@ impl<D: SectorDevice> Pages<D> {
             Ok(journal) => journal,
             Err((e, device)) => return Err((PageError::from(e), device)),
         };
-        let held = match vec![in alloc; [0; 4096]; 16] {
+        let held = match vec![in alloc; [0; SECTOR_SIZE]; 16] {
             Ok(held) => held,
             Err(_) => return Err((PageError::Memory, journal.into_device())),
         };
@@ -169,7 +169,7 @@ impl<D: SectorDevice> Pages<D> {
     }
 
     /// Reads a page as it is stored.
-    pub(crate) fn read_stored(&mut self, p: u32, page: &mut [u8; 4096]) -> Result<(), PageError>
+    pub(crate) fn read_stored(&mut self, p: u32, page: &mut Sector) -> Result<(), PageError>
         requires { p < count_of self.old }
         ensures quiet { IsQuiet self.old self.new }
         ensures reads { (disk_in self.new).is_honest → OnOk result (page.new ≡ stored self.old p) }
@@ -204,7 +204,7 @@ impl<D: SectorDevice> Pages<D> {
     }
 
     /// The bytes of a page that a transaction lent: those of its own write, or those that are held at the page's place.
-    pub fn lent<'a>(&'a self, own: Option<&'a [u8; 4096]>, place: usize) -> &'a [u8; 4096]
+    pub fn lent<'a>(&'a self, own: Option<&'a Sector>, place: usize) -> &'a Sector
         ensures { result.now ≡ lent_bytes self.now own.entry place }
     {
         match own {

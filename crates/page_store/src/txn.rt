@@ -8,7 +8,7 @@ ghost use Rattle.page_store.specs.Chain.{IsMeta};
 use crate::error::PageError;
 use crate::pages::Pages;
 use gate_journal::{PageWrites, set_word, word_at};
-use sector_device::SectorDevice;
+use sector_device::{SECTOR_SIZE, Sector, SectorDevice};
 
 /// New pages over those of a store. Dropping it changes nothing.
 #[derive(Drop)]
@@ -57,7 +57,7 @@ impl Txn {
         &self,
         pages: &mut Pages<D>,
         p: u32,
-        page: &mut [u8; 4096],
+        page: &mut Sector,
     ) -> Result<(), PageError>
         requires begun { txn_pages self.now ≡ count_of pages.old }
         requires page { p < count_of pages.old }
@@ -82,7 +82,7 @@ impl Txn {
         pages: &mut Pages<D>,
         p: u32,
         place: usize,
-    ) -> Result<Option<&'t [u8; 4096]>, PageError>
+    ) -> Result<Option<&'t Sector>, PageError>
         requires begun { txn_pages self.now ≡ count_of pages.old }
         requires page { p < count_of pages.old }
         ensures quiet { IsQuiet pages.old pages.new }
@@ -99,7 +99,7 @@ impl Txn {
     }
 
     /// Writes a page.
-    pub fn write(&mut self, p: u32, bytes: &[u8; 4096]) -> Result<(), PageError>
+    pub fn write(&mut self, p: u32, bytes: &Sector) -> Result<(), PageError>
         requires { p < txn_pages self.old }
         ensures pages { txn_pages self.new ≡ txn_pages self.old }
         ensures root { txn_root self.new ≡ txn_root self.old }
@@ -118,7 +118,7 @@ impl Txn {
     }
 
     /// Changes a page that it writes, where that lies, and tells what the change told; none where it doesn't write the page.
-    pub fn edit<R, F: FnOnce(&mut [u8; 4096]) -> R>(&mut self, p: u32, change: F) -> Option<R>
+    pub fn edit<R, F: FnOnce(&mut Sector) -> R>(&mut self, p: u32, change: F) -> Option<R>
         requires { F.IsAlwaysCallable change }
         ensures pages { txn_pages self.new ≡ txn_pages self.old }
         ensures root { txn_root self.new ≡ txn_root self.old }
@@ -146,7 +146,7 @@ impl Txn {
         if self.free == 1 {
             return Ok(0);
         }
-        let mut page = [0; 4096];
+        let mut page = [0; SECTOR_SIZE];
         self.read(pages, self.first, &mut page)?;
         let next = word_at(&page, 0);
         if next >= self.pages {
@@ -202,7 +202,7 @@ impl Txn {
         if self.free + 1 >= self.pages {
             return Err(PageError::DeviceFault);
         }
-        let mut link = [0; 4096];
+        let mut link = [0; SECTOR_SIZE];
         set_word(&mut link, 0, self.first);
         self.writes.put(p, &link)?;
         self.first = p;
@@ -228,7 +228,7 @@ impl Txn {
             first,
             free,
         } = self;
-        let mut meta = [0; 4096];
+        let mut meta = [0; SECTOR_SIZE];
         set_word(&mut meta, 0, root);
         set_word(&mut meta, 1, first);
         set_word(&mut meta, 2, free);

@@ -1,7 +1,7 @@
 //! A device that counts how often each of its sectors is read.
 ghost use Rattle.std.specs.Prelude.{◌≡◌};
 
-use sector_device::{DeviceFault, SectorDevice};
+use sector_device::{DeviceFault, Sector, SectorDevice};
 use sector_memory::MemoryDevice;
 
 /// How many sectors there are of which reads are counted.
@@ -50,12 +50,12 @@ impl SectorDevice for Recorder {
         self.device.count()
     }
 
-    fn read(&mut self, i: u32, sector: &mut [u8; 4096]) -> Result<(), DeviceFault> {
+    fn read(&mut self, i: u32, sector: &mut Sector) -> Result<(), DeviceFault> {
         self.note_read(i);
         self.device.read(i, sector)
     }
 
-    fn write(&mut self, i: u32, sector: &[u8; 4096]) -> Result<(), DeviceFault> {
+    fn write(&mut self, i: u32, sector: &Sector) -> Result<(), DeviceFault> {
         self.device.write(i, sector)
     }
 

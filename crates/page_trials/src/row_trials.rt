@@ -5,6 +5,7 @@ use btree_removes::remove;
 use page_btree::get;
 use page_format::format_with;
 use page_store::Pages;
+use sector_device::Sector;
 use sector_memory::{Fused, MemoryDevice};
 use std::alloc::{AllocError, Global};
 use std::collections::BTreeMap;
@@ -115,7 +116,7 @@ fn made_with_seven<R: Abort>(rt: &R, alloc: Global, sectors: u32) -> Pages<Fused
 }
 
 /// The bytes of page 1, which is the root.
-fn root_of<R: Abort>(rt: &R, alloc: Global, pages: &mut Pages<Fused>) -> [u8; 4096] {
+fn root_of<R: Abort>(rt: &R, alloc: Global, pages: &mut Pages<Fused>) -> Sector {
     let txn = pages.begin(alloc);
     let mut bytes = [0; 4096];
     assert!(rt; txn.root() == 1);

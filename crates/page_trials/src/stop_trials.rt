@@ -3,6 +3,7 @@ use crate::long_trials::{has_long, long_key, made, passing, put_long, store};
 use btree_removes::remove;
 use page_btree::TreeError;
 use page_store::Pages;
+use sector_device::Sector;
 use sector_memory::{Fused, MemoryDevice};
 use std::alloc::Global;
 use std::process::Abort;
@@ -15,7 +16,7 @@ const LEAST: u32 = 323;
 const FILLS: [(u8, u32); 5] = [(0, 1), (0xff, 1), (0xa5, 1), (0xa5, 2), (0, LEAST)];
 
 /// Picks for a stop.
-fn picks<R: Abort>(rt: &R, alloc: Global, fill: (u8, u32)) -> Vec<(u64, [u8; 4096])> {
+fn picks<R: Abort>(rt: &R, alloc: Global, fill: (u8, u32)) -> Vec<(u64, Sector)> {
     let mut all = Vec::new(alloc);
     for i in 0..LEAST {
         if fill.1 > 0 && i % fill.1 == 0 {

@@ -8,6 +8,7 @@ ghost use Rattle.row_table.specs.Reading.{HasRow};
 ghost use Rattle.row_table.specs.Appending.{Appends};
 ghost use Rattle.revision_table.specs.Reading.{AreNames, HasParts, names_in};
 
+use page_btree::VALUE_LIMIT;
 use page_store::{Pages, Txn};
 use row_table::{TreeError, read_row};
 use sector_device::SectorDevice;
@@ -31,7 +32,7 @@ fn append_part<D: SectorDevice>(
         → OnOk result (HasRow (key_of (part plan revision index)) m) }
     ensures append { Appends (AreNames plan revision count) (names_in index) txn.now pages.old pages.new into.old.items into.new.items result }
 {
-    let mut bytes = [0; 1024];
+    let mut bytes = [0; VALUE_LIMIT];
     let length = read_row(
         txn,
         pages,

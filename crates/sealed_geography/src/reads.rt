@@ -13,6 +13,7 @@ ghost use Rattle.sealed_geography.specs.Elements.{HoldsElement, HoldsElements, V
 use crate::elements::Element;
 use btree_scan::{Row, Scan};
 use desk_model::geography::BLOCK_LIMIT;
+use page_btree::VALUE_LIMIT;
 use page_store::{Pages, Txn};
 use row_table::{TreeError, read_row};
 use sector_device::SectorDevice;
@@ -46,7 +47,7 @@ fn append_element<D: SectorDevice, E: Element>(
     ensures read { AddsElement (HoldsElement E.bytes_of E.fits (E.key_at load place)) txn.now pages.old pages.new all.old all.new result }
     ensures err { IfErr result (λ e. AppendErr (HoldsElement E.bytes_of E.fits (E.key_at load place)) txn.now pages.old pages.new e) }
 {
-    let mut bytes = [0; 1024];
+    let mut bytes = [0; VALUE_LIMIT];
     let key = E::key(load, place);
     let length = read_row(txn, pages, &key, &mut bytes)?;
     append_read(&bytes[..length], all)

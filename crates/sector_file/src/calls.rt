@@ -6,6 +6,7 @@ ghost use Rattle.sector_file.specs.Told.{replay, after_read, after_fault, after_
 use crate::contents::Contents;
 use crate::error::{FileError, of_making};
 use crate::record::Record;
+use sector_device::{SECTOR_SIZE, Sector};
 use std::fs::File;
 use std::io;
 use std::os::unix::fs::FileExt;
@@ -15,7 +16,7 @@ fn moved(answer: io::Result<()>) -> usize
     ensures { MatchResult answer (λ _. result ≡ 4096) (λ _. result ≡ 0) }
 {
     match answer {
-        Ok(()) => 4096,
+        Ok(()) => SECTOR_SIZE,
         Err(_) => 0,
     }
 }
@@ -33,12 +34,12 @@ pub(crate) fn read_sector<S: Contents>(
     file: &File,
     log: &mut Record,
     i: u32,
-    sector: &mut [u8; 4096],
+    sector: &mut Sector,
 ) -> usize
     ensures whole { result ≡ 4096 → replay S.Contents.sector log.new.calls ≡ after_read (replay S.Contents.sector log.old.calls) i sector.new }
     ensures fault { result ≢ 4096 → replay S.Contents.sector log.new.calls ≡ after_fault (replay S.Contents.sector log.old.calls) }
 {
-    let got = moved(file.read_exact_at(sector, 4096 * i as u64));
+    let got = moved(file.read_exact_at(sector, SECTOR_SIZE as u64 * i as u64));
     log.read::<S>(i, got, sector);
     got
 }
@@ -49,13 +50,13 @@ pub(crate) fn write_sector<S: Contents>(
     file: &File,
     log: &mut Record,
     i: u32,
-    sector: &[u8; 4096],
+    sector: &Sector,
     is_full: &mut bool,
 ) -> usize
     ensures whole { result ≡ 4096 → replay S.Contents.sector log.new.calls ≡ after_write (replay S.Contents.sector log.old.calls) i sector.now }
     ensures torn { result ≢ 4096 → replay S.Contents.sector log.new.calls ≡ after_torn (replay S.Contents.sector log.old.calls) i }
 {
-    let answer = file.write_all_at(sector, 4096 * i as u64);
+    let answer = file.write_all_at(sector, SECTOR_SIZE as u64 * i as u64);
     *is_full |= is_full_by(&answer);
     let put = moved(answer);
     log.written::<S>(i, put, sector);

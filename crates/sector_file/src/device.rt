@@ -8,7 +8,7 @@ use crate::contents::Contents;
 use crate::error::{FileError, of_making, of_opening};
 use crate::recent::Recent;
 use crate::record::Record;
-use sector_device::{DeviceFault, SectorDevice};
+use sector_device::{DeviceFault, SECTOR_SIZE, Sector, SectorDevice};
 use std::alloc::Global;
 use std::fs::{File, OpenOptions, TryLockError};
 use std::marker::PhantomData;
@@ -77,7 +77,7 @@ impl<S: Contents> FileDevice<S> {
         ensures honest { IfOk result (λ device. (file_disk device).is_honest) }
         ensures err { IfErr result (λ e. (e ≡ FileError.WrongSize) × (size ≢ 4096 * count)) }
     {
-        if size != 4096 * count as u64 {
+        if size != SECTOR_SIZE as u64 * count as u64 {
             return Err(FileError::WrongSize);
         }
         Ok(FileDevice {
@@ -140,7 +140,7 @@ impl<S: Contents> FileDevice<S> {
             Err(error) => return Err(of_making(&error)),
         };
         hold(&file)?;
-        lengthen(&file, 4096 * count as u64)?;
+        lengthen(&file, SECTOR_SIZE as u64 * count as u64)?;
         let size = size_of(&file)?;
         match FileDevice::of_size(rt.alloc(), file, size, count) {
             Ok(device) => Ok(device),
@@ -163,7 +163,7 @@ impl<S: Contents> SectorDevice for FileDevice<S> {
         self.count
     }
 
-    fn read(&mut self, i: u32, sector: &mut [u8; 4096]) -> Result<(), DeviceFault> {
+    fn read(&mut self, i: u32, sector: &mut Sector) -> Result<(), DeviceFault> {
         match self.recent.find(i) {
             Some(bytes) => {
                 *sector = *bytes;
@@ -172,7 +172,7 @@ impl<S: Contents> SectorDevice for FileDevice<S> {
             None => {}
         }
         let got = read_sector::<S>(&self.file, &mut self.log, i, sector);
-        if got == 4096 {
+        if got == SECTOR_SIZE {
             self.recent.note(i, sector);
             Ok(())
         } else {
@@ -180,10 +180,10 @@ impl<S: Contents> SectorDevice for FileDevice<S> {
         }
     }
 
-    fn write(&mut self, i: u32, sector: &[u8; 4096]) -> Result<(), DeviceFault> {
+    fn write(&mut self, i: u32, sector: &Sector) -> Result<(), DeviceFault> {
         self.recent.forget(i);
         let put = write_sector::<S>(&self.file, &mut self.log, i, sector, &mut self.is_full);
-        if put == 4096 {
+        if put == SECTOR_SIZE {
             Ok(())
         } else {
             Err(DeviceFault)

@@ -3,6 +3,7 @@ ghost use Rattle.std.specs.Prelude.{◌≡◌, ◌≢◌, ℕ, List, [], IfSome}
 ghost use Rattle.std.proofs.Common.{get_or};
 ghost use Rattle.sector_file.specs.Recalled.{IsRight, Recalls};
 
+use sector_device::Sector;
 use std::alloc::Global;
 
 /// A sector that was read, if there is one.
@@ -11,7 +12,7 @@ pub struct HeldSector {
     is: bool,
     sector: u32,
     /// Room for its bytes, once there is one.
-    bytes: Vec<[u8; 4096]>,
+    bytes: Vec<Sector>,
 }
 
 impl HeldSector {
@@ -29,7 +30,7 @@ impl HeldSector {
     }
 
     /// The bytes of a sector, if it is this one.
-    fn find(&self, sector: u32) -> Option<&[u8; 4096]>
+    fn find(&self, sector: u32) -> Option<&Sector>
         ensures { (sectors : List (List ℕ)) → IsRight self.now sectors → IfSome result (λ bytes. get_or sectors sector [] ≡ bytes.now) }
     {
         if self.is && self.sector == sector {
@@ -39,7 +40,7 @@ impl HeldSector {
     }
 
     /// Takes a sector in its place, where there is room for it: else none is held.
-    fn put(&mut self, sector: u32, bytes: &[u8; 4096])
+    fn put(&mut self, sector: u32, bytes: &Sector)
         ensures { (sectors : List (List ℕ)) → get_or sectors sector [] ≡ bytes.now → IsRight self.new sectors }
     {
         self.is = false;
@@ -84,7 +85,7 @@ impl Recent {
     }
 
     /// The bytes of a sector, if it was read lately.
-    pub(crate) fn find(&self, sector: u32) -> Option<&[u8; 4096]>
+    pub(crate) fn find(&self, sector: u32) -> Option<&Sector>
         ensures { (sectors : List (List ℕ)) → Recalls self.now sectors → IfSome result (λ bytes. get_or sectors sector [] ≡ bytes.now) }
     {
         match self.first.find(sector) {
@@ -94,7 +95,7 @@ impl Recent {
     }
 
     /// Notes a sector that was read.
-    pub(crate) fn note(&mut self, sector: u32, bytes: &[u8; 4096])
+    pub(crate) fn note(&mut self, sector: u32, bytes: &Sector)
         ensures { (sectors : List (List ℕ)) → Recalls self.old sectors → get_or sectors sector [] ≡ bytes.now → Recalls self.new sectors }
     {
         if self.turn {

@@ -3,6 +3,7 @@ ghost use Rattle.std.specs.Prelude.{ℕ, List};
 ghost use Rattle.std.specs.Borrow.{ftrue};
 
 use crate::contents::Contents;
+use sector_device::Sector;
 use std::marker::{Model, PhantomData};
 
 /// A sector was read: the sector, how many bytes came, and the bytes.
@@ -66,7 +67,7 @@ impl Record {
     }
 
     /// A read gave so many bytes of a sector.
-    pub(crate) fn read<S: Contents>(&mut self, i: u32, got: usize, sector: &[u8; 4096])
+    pub(crate) fn read<S: Contents>(&mut self, i: u32, got: usize, sector: &Sector)
         ensures whole { got ≡ 4096 → replay S.Contents.sector self.new.calls ≡ after_read (replay S.Contents.sector self.old.calls) i sector.now }
         ensures short { got ≢ 4096 → replay S.Contents.sector self.new.calls ≡ after_fault (replay S.Contents.sector self.old.calls) }
     {
@@ -74,7 +75,7 @@ impl Record {
     }
 
     /// A write took so many bytes of a sector.
-    pub(crate) fn written<S: Contents>(&mut self, i: u32, put: usize, sector: &[u8; 4096])
+    pub(crate) fn written<S: Contents>(&mut self, i: u32, put: usize, sector: &Sector)
         ensures whole { put ≡ 4096 → replay S.Contents.sector self.new.calls ≡ after_write (replay S.Contents.sector self.old.calls) i sector.now }
         ensures torn { put ≢ 4096 → replay S.Contents.sector self.new.calls ≡ after_torn (replay S.Contents.sector self.old.calls) i }
     {

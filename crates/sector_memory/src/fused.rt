@@ -2,7 +2,7 @@
 ghost use Rattle.std.specs.Prelude.{◌≡◌, ◌+◌, ◌↔◌, ℕ, IsTrue};
 
 use crate::memory::MemoryDevice;
-use sector_device::{DeviceFault, SectorDevice};
+use sector_device::{DeviceFault, Sector, SectorDevice};
 
 /// Lets so many calls pass, and then each fails.
 #[derive(Drop)]
@@ -27,7 +27,7 @@ impl Fused {
     }
 
     /// Stops, as `MemoryDevice::stop`. The sector of a refused write counts as written.
-    pub fn stop(self, picks: &[(u64, [u8; 4096])]) -> MemoryDevice
+    pub fn stop(self, picks: &[(u64, Sector)]) -> MemoryDevice
         ensures picked { (i : ℕ) → (disk_of result).reads i ≡ after_stop picks.now (unsynced (inner self)) (fused_disk self).reads i }
         ensures left { (fused_disk self).leaves (disk_of result).reads }
         ensures sectors { (disk_of result).sectors ≡ (fused_disk self).sectors }
@@ -49,7 +49,7 @@ impl SectorDevice for Fused {
         self.device.count()
     }
 
-    fn read(&mut self, i: u32, sector: &mut [u8; 4096]) -> Result<(), DeviceFault>
+    fn read(&mut self, i: u32, sector: &mut Sector) -> Result<(), DeviceFault>
         requires { i < (fused_disk self.old).sectors }
         ensures sectors { (fused_disk self.new).sectors ≡ (fused_disk self.old).sectors }
         ensures model { (fused_disk self.new).is_honest
@@ -66,7 +66,7 @@ impl SectorDevice for Fused {
         self.device.read(i, sector)
     }
 
-    fn write(&mut self, i: u32, sector: &[u8; 4096]) -> Result<(), DeviceFault>
+    fn write(&mut self, i: u32, sector: &Sector) -> Result<(), DeviceFault>
         requires { i < (fused_disk self.old).sectors }
         ensures sectors { (fused_disk self.new).sectors ≡ (fused_disk self.old).sectors }
         ensures model { (fused_disk self.new).is_honest
@@ -128,7 +128,7 @@ impl FailOnce {
     }
 
     /// Stops, as `MemoryDevice::stop`. The sector of a refused write counts as written.
-    pub fn stop(self, picks: &[(u64, [u8; 4096])]) -> MemoryDevice
+    pub fn stop(self, picks: &[(u64, Sector)]) -> MemoryDevice
         ensures picked { (i : ℕ) → (disk_of result).reads i ≡ after_stop picks.now (unsynced (inner_once self)) (once_disk self).reads i }
         ensures left { (once_disk self).leaves (disk_of result).reads }
         ensures sectors { (disk_of result).sectors ≡ (once_disk self).sectors }
@@ -170,7 +170,7 @@ impl SectorDevice for FailOnce {
         self.device.count()
     }
 
-    fn read(&mut self, i: u32, sector: &mut [u8; 4096]) -> Result<(), DeviceFault>
+    fn read(&mut self, i: u32, sector: &mut Sector) -> Result<(), DeviceFault>
         requires { i < (once_disk self.old).sectors }
         ensures sectors { (once_disk self.new).sectors ≡ (once_disk self.old).sectors }
         ensures model { (once_disk self.new).is_honest
@@ -186,7 +186,7 @@ impl SectorDevice for FailOnce {
         self.device.read(i, sector)
     }
 
-    fn write(&mut self, i: u32, sector: &[u8; 4096]) -> Result<(), DeviceFault>
+    fn write(&mut self, i: u32, sector: &Sector) -> Result<(), DeviceFault>
         requires { i < (once_disk self.old).sectors }
         ensures sectors { (once_disk self.new).sectors ≡ (once_disk self.old).sectors }
         ensures model { (once_disk self.new).is_honest

@@ -4,13 +4,13 @@ ghost use Rattle.sector_device.specs.Held.{image_of};
 ghost use Rattle.sector_memory.specs.Memory.{after_pick, after_stop};
 
 use crate::past::PastStates;
-use sector_device::{DeviceFault, SectorDevice};
+use sector_device::{DeviceFault, SECTOR_SIZE, Sector, SectorDevice};
 use std::alloc::{AllocError, Global};
 
 /// A device whose sectors lie in memory.
 #[derive(Drop)]
 pub struct MemoryDevice {
-    sectors: Vec<[u8; 4096]>,
+    sectors: Vec<Sector>,
     /// Which sectors were written since the last sync.
     unsynced: Vec<bool>,
     past: PastStates,
@@ -19,7 +19,7 @@ pub struct MemoryDevice {
 }
 
 /// Puts the picked bytes into its sector, if that was written.
-fn put_pick(sectors: &mut [[u8; 4096]], unsynced: &[bool], pick: &(u64, [u8; 4096]))
+fn put_pick(sectors: &mut [Sector], unsynced: &[bool], pick: &(u64, Sector))
     requires { length unsynced.now ≡ length sectors.old }
     ensures { (i : ℕ) → image_of sectors.new i ≡ after_pick pick.now unsynced.now (image_of sectors.old) i }
 {
@@ -29,7 +29,7 @@ fn put_pick(sectors: &mut [[u8; 4096]], unsynced: &[bool], pick: &(u64, [u8; 409
 }
 
 /// Puts the picked bytes into the sectors that were written.
-fn put_picks(sectors: &mut [[u8; 4096]], unsynced: &[bool], picks: &[(u64, [u8; 4096])])
+fn put_picks(sectors: &mut [Sector], unsynced: &[bool], picks: &[(u64, Sector)])
     requires { length unsynced.now ≡ length sectors.old }
     ensures { (i : ℕ) → image_of sectors.new i ≡ after_stop picks.now unsynced.now (image_of sectors.old) i }
 {
@@ -50,7 +50,7 @@ impl MemoryDevice {
         ensures zeros { IfOk result (λ device. (i : ℕ) → i < count → (disk_of device).reads i ≡ replicate 4096 0) }
         ensures synced { IfOk result (λ device. IsSynced (disk_of device)) }
     {
-        let sectors = vec![in alloc; [0; 4096]; count as usize]?;
+        let sectors = vec![in alloc; [0; SECTOR_SIZE]; count as usize]?;
         let unsynced = vec![in alloc; false; count as usize]?;
         Ok(MemoryDevice {
             sectors,
@@ -81,7 +81,7 @@ impl MemoryDevice {
 
     /// Stops. A pick is a sector and its bytes, and the last pick of a sector counts; picks of sectors that were not
     /// written since the last sync are ignored.
-    pub fn stop(self, picks: &[(u64, [u8; 4096])]) -> MemoryDevice
+    pub fn stop(self, picks: &[(u64, Sector)]) -> MemoryDevice
         ensures picked { (i : ℕ) → (disk_of result).reads i ≡ after_stop picks.now (unsynced self) (disk_of self).reads i }
         ensures left { (disk_of self).leaves (disk_of result).reads }
         ensures sectors { (disk_of result).sectors ≡ (disk_of self).sectors }
@@ -113,7 +113,7 @@ impl SectorDevice for MemoryDevice {
         self.sectors.len() as u32
     }
 
-    fn read(&mut self, i: u32, sector: &mut [u8; 4096]) -> Result<(), DeviceFault>
+    fn read(&mut self, i: u32, sector: &mut Sector) -> Result<(), DeviceFault>
         requires { i < (disk_of self.old).sectors }
         ensures sectors { (disk_of self.new).sectors ≡ (disk_of self.old).sectors }
         ensures model { (disk_of self.new).is_honest
@@ -126,7 +126,7 @@ impl SectorDevice for MemoryDevice {
         Ok(())
     }
 
-    fn write(&mut self, i: u32, sector: &[u8; 4096]) -> Result<(), DeviceFault>
+    fn write(&mut self, i: u32, sector: &Sector) -> Result<(), DeviceFault>
         requires { i < (disk_of self.old).sectors }
         ensures sectors { (disk_of self.new).sectors ≡ (disk_of self.old).sectors }
         ensures model { (disk_of self.new).is_honest

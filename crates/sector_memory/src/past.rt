@@ -2,6 +2,7 @@
 ghost use Rattle.std.specs.Prelude.{◌≡◌, ℕ, Bool, true, false, List, [], ◌∷◌};
 ghost use Rattle.std.specs.Borrow.{ftrue};
 
+use sector_device::Sector;
 use std::marker::{Model, PhantomData};
 
 #[derive(Drop)]
@@ -24,12 +25,12 @@ impl PastStates {
     }
 
     /// Notes what the device held before a call that passed.
-    pub(crate) fn note(&mut self, _sectors: &[[u8; 4096]], _dirty: &[bool])
+    pub(crate) fn note(&mut self, _sectors: &[Sector], _dirty: &[bool])
         ensures { self.new.states ≡ (_sectors.now, _dirty.now, false) ∷ self.old.states }
     {}
 
     /// Notes what the device held before a call that was refused.
-    pub(crate) fn note_fault(&mut self, _sectors: &[[u8; 4096]], _dirty: &[bool])
+    pub(crate) fn note_fault(&mut self, _sectors: &[Sector], _dirty: &[bool])
         ensures { self.new.states ≡ (_sectors.now, _dirty.now, true) ∷ self.old.states }
     {}
 }

@@ -5,6 +5,7 @@ ghost use Rattle.store_check.specs.Owners.{IsPartKey};
 ghost use Rattle.store_check.specs.Rows.{IsKind, IsPast, IsRow, IsUnder};
 
 use crate::numbers::{eight, four};
+use page_node::KEY_LIMIT;
 
 /// Whether a key is a tag and one number.
 fn is_numbered(key: &[u8]) -> bool
@@ -76,7 +77,7 @@ pub(crate) fn is_row(key: &[u8]) -> bool
         b'H' => is_holding(key),
         b'K' => is_numbered(key),
         b'L' => is_numbered(key),
-        b'P' => key.len() <= 72,
+        b'P' => key.len() <= KEY_LIMIT,
         b'R' => is_part(key),
         b'S' => key.len() == 1,
         b'V' => key.len() == 1,

@@ -6,6 +6,7 @@ ghost use Rattle.page_btree.specs.Map.{InTxn};
 ghost use Rattle.row_table.specs.Reading.{ReadErr};
 ghost use Rattle.store_rows.specs.Rows.{KeyMap};
 
+use page_btree::VALUE_LIMIT;
 use page_store::{Pages, Txn};
 use row_table::{TreeError, read_row};
 use sector_device::SectorDevice;
@@ -24,7 +25,7 @@ pub fn refuse_unmarked<D: SectorDevice>(
     ensures known { (disk_in pages.new).is_honest → (m : KeyMap) → InTxn txn.now (stored pages.old) m → OnOk result (row_at m key.now ≡ Some []) }
     ensures err { IfErr result (λ e. ReadErr (λ m. row_at m key.now ≡ Some []) txn.now pages.old pages.new e) }
 {
-    let mut bytes = [0; 1024];
+    let mut bytes = [0; VALUE_LIMIT];
     let length = read_row(txn, pages, key, &mut bytes)?;
     if length > 0 {
         return Err(TreeError::DeviceFault);

@@ -15,7 +15,7 @@ ghost use Rattle.store_sweep.specs.Sought.{SeeksPiece, SeeksLeft};
 
 use btree_scan::{Row, SmallBytes};
 use page_btree::{Leaf, get, leaf_from};
-use page_node::{Lengths, bounds_in};
+use page_node::{Lengths, PAGE_SIZE, PageBytes, VALUE_LIMIT, bounds_in};
 use page_store::{Pages, Txn};
 use row_table::TreeError;
 use sector_device::SectorDevice;
@@ -47,7 +47,7 @@ fn key_from<D: SectorDevice>(
     ensures err { IfErr result (λ e. GetErr txn.now pages.old pages.new e) }
 {
     let mut leaf = Leaf::empty();
-    let mut held = [[0; 4096]; 4];
+    let mut held = [[0; PAGE_SIZE]; 4];
     leaf_from(txn, pages, key, key, &mut leaf, &mut held)?;
     if leaf.left > 0 {
         return copy_key(&held[0], leaf.at, found);
@@ -59,7 +59,7 @@ fn key_from<D: SectorDevice>(
 }
 
 /// Copies the key of the row at a place in a leaf's page.
-fn copy_key(page: &[u8; 4096], at: usize, found: &mut SmallBytes) -> Result<bool, TreeError>
+fn copy_key(page: &PageBytes, at: usize, found: &mut SmallBytes) -> Result<bool, TreeError>
     ensures copied { (e : Entry) (es : List Entry) → IsAhead page.now at (e ∷ es) → OnOk result (found.new ≡ e.0) }
     ensures ok { IfOk result (λ is. is ≡ true) }
     ensures err { IfErr result (λ e. e ≡ DeviceFault) }
@@ -162,7 +162,7 @@ fn is_shared<D: SectorDevice>(
     ensures err { IfErr result (λ e. GetErr txn.now pages.old pages.new e) }
 {
     let key = Key::tally(number);
-    let mut bytes = [0; 1024];
+    let mut bytes = [0; VALUE_LIMIT];
     match get(txn, pages, key.as_slice(), &mut bytes)? {
         None => Ok(false),
         Some(_) => Ok(true),

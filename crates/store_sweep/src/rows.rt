@@ -12,6 +12,7 @@ use crate::leftovers::{Left, next_leftover};
 use btree_removes::remove;
 use btree_scan::Row;
 use chunk_table::release;
+use page_node::KEY_LIMIT;
 use page_store::{Pages, Txn};
 use row_table::TreeError;
 use sector_device::SectorDevice;
@@ -29,7 +30,7 @@ fn is_key(bytes: &[u8]) -> bool
     if bytes.is_empty() {
         return false;
     }
-    bytes.len() <= 72
+    bytes.len() <= KEY_LIMIT
 }
 
 /// Takes the next turn, if anything is left over: a row that nothing needs is taken out, or a plan that was taken away lets a chunk go.

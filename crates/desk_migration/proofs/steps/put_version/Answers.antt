@@ -20,17 +20,17 @@ pub returns-then-is_halted-clause-err : goal.returns-then-is_halted-clause-err
 returns-then-is_halted-clause-err g c = (sym c.is_halted.ensures ∙ c.if-is_halted.true, refl)
 
 -- ---- too few pages are free
-pub returns-then-free_pages-lt13-clause-any_moment : goal.returns-then-free_pages-lt13-clause-any_moment
-returns-then-free_pages-lt13-clause-any_moment g c = all_quiet c.args.pages.now c.args.pages.now (quiet_none c.args.pages.now)
+pub returns-then-free_pages-lt-ROW_PAGES-clause-any_moment : goal.returns-then-free_pages-lt-ROW_PAGES-clause-any_moment
+returns-then-free_pages-lt-ROW_PAGES-clause-any_moment g c = all_quiet c.args.pages.now c.args.pages.now (quiet_none c.args.pages.now)
 
-pub returns-then-free_pages-lt13-clause-faults : goal.returns-then-free_pages-lt13-clause-faults
-returns-then-free_pages-lt13-clause-faults g c = quiet_faults c.args.pages.now c.args.pages.now (quiet_none c.args.pages.now)
+pub returns-then-free_pages-lt-ROW_PAGES-clause-faults : goal.returns-then-free_pages-lt-ROW_PAGES-clause-faults
+returns-then-free_pages-lt-ROW_PAGES-clause-faults g c = quiet_faults c.args.pages.now c.args.pages.now (quiet_none c.args.pages.now)
 
-pub returns-then-free_pages-lt13-clause-still : goal.returns-then-free_pages-lt13-clause-still
-returns-then-free_pages-lt13-clause-still g c = λ halted. both (has_halted c.args.pages.now) halted (sym c.is_halted.ensures ∙ c.if-is_halted.false)
+pub returns-then-free_pages-lt-ROW_PAGES-clause-still : goal.returns-then-free_pages-lt-ROW_PAGES-clause-still
+returns-then-free_pages-lt-ROW_PAGES-clause-still g c = λ halted. both (has_halted c.args.pages.now) halted (sym c.is_halted.ensures ∙ c.if-is_halted.false)
 
-pub returns-then-free_pages-lt13-clause-err : goal.returns-then-free_pages-lt13-clause-err
-returns-then-free_pages-lt13-clause-err g c = short_now c.args.pages.now c.free_pages.result (c.free_pages.ensures (sym c.is_halted.ensures ∙ c.if-is_halted.false)) c.if-free_pages-lt13.true
+pub returns-then-free_pages-lt-ROW_PAGES-clause-err : goal.returns-then-free_pages-lt-ROW_PAGES-clause-err
+returns-then-free_pages-lt-ROW_PAGES-clause-err g c = short_now c.args.pages.now c.free_pages.result (c.free_pages.ensures (sym c.is_halted.ensures ∙ c.if-is_halted.false)) c.if-free_pages-lt-ROW_PAGES.true
 
 -- ---- the row isn't put
 pub returns-in_err-put_row-clause-shape : goal.returns-in_err-put_row-clause-shape
@@ -55,7 +55,7 @@ returns-in_err-put_row-clause-err g c =
     let begun = begun_now ps t (sym c.is_halted.ensures ∙ c.if-is_halted.false) c.begin-txn.ensures.none c.begin-txn.ensures.pages c.begin-txn.ensures.over c.begin-txn.ensures.root c.begin-txn.ensures.free in
     let e = c.in_err-put_row.field-0.0 in
     err_of c.from_residual.result (tree_told e) (FinishErr ps c.put_row.new.pages) c.from_residual.ensures.1
-    (version_not_put t ps c.put_row.new.pages begun c.in_err-put_row.ensures.quiet (room_now c.args.pages.now c.free_pages.result (c.free_pages.ensures (sym c.is_halted.ensures ∙ c.if-is_halted.false)) c.if-free_pages-lt13.false) e (subst (λ (rows : List Row). PutsErr rows t ps c.put_row.new.pages e) (one_row c.version.result c.to_be_bytes.result c.version.ensures c.to_be_bytes.ensures) c.in_err-put_row.ensures.put))
+    (version_not_put t ps c.put_row.new.pages begun c.in_err-put_row.ensures.quiet (room_now c.args.pages.now c.free_pages.result (c.free_pages.ensures (sym c.is_halted.ensures ∙ c.if-is_halted.false)) c.if-free_pages-lt-ROW_PAGES.false) e (subst (λ (rows : List Row). PutsErr rows t ps c.put_row.new.pages e) (one_row c.version.result c.to_be_bytes.result c.version.ensures c.to_be_bytes.ensures) c.in_err-put_row.ensures.put))
 
 -- ---- the commit
 pub commit-requires-clause-working : goal.commit-requires-clause-working
@@ -93,7 +93,7 @@ returns-clause-told g c = λ honest d holds.
     ok_then c.commit.result _ _ (λ committed. version_holds c.version_is_told.ensures t c.put_row.new.txn ps c.put_row.new.pages begun (subst (λ (rows : List Row). HasPut rows t c.put_row.new.txn ps c.put_row.new.pages) (one_row c.version.result c.to_be_bytes.result c.version.ensures c.to_be_bytes.ensures) c.in_ok-put_row.ensures.put) c.commit.new.pages committed (c.commit.ensures.honest honest) d holds) (c.commit.ensures.held honest)
 
 pub returns-clause-room : goal.returns-clause-room
-returns-clause-room g c = λ honest. ok_so c.commit.result _ ((room_now c.args.pages.now c.free_pages.result (c.free_pages.ensures (sym c.is_halted.ensures ∙ c.if-is_halted.false)) c.if-free_pages-lt13.false) (c.in_ok-put_row.ensures.quiet.honest (c.commit.ensures.honest honest)))
+returns-clause-room g c = λ honest. ok_so c.commit.result _ ((room_now c.args.pages.now c.free_pages.result (c.free_pages.ensures (sym c.is_halted.ensures ∙ c.if-is_halted.false)) c.if-free_pages-lt-ROW_PAGES.false) (c.in_ok-put_row.ensures.quiet.honest (c.commit.ensures.honest honest)))
 
 pub returns-clause-kept : goal.returns-clause-kept
 returns-clause-kept g c = c.commit.ensures.kept
@@ -112,4 +112,4 @@ returns-clause-err g c =
     let ps = c.args.pages.now in
     let t = c.begin-txn.result in
     let begun = begun_now ps t (sym c.is_halted.ensures ∙ c.if-is_halted.false) c.begin-txn.ensures.none c.begin-txn.ensures.pages c.begin-txn.ensures.over c.begin-txn.ensures.root c.begin-txn.ensures.free in
-    err_then c.commit.result _ _ (λ e why. version_not_committed c.version_is_told.ensures t c.put_row.new.txn ps c.put_row.new.pages begun (subst (λ (rows : List Row). HasPut rows t c.put_row.new.txn ps c.put_row.new.pages) (one_row c.version.result c.to_be_bytes.result c.version.ensures c.to_be_bytes.ensures) c.in_ok-put_row.ensures.put) c.commit.new.pages (room_now c.args.pages.now c.free_pages.result (c.free_pages.ensures (sym c.is_halted.ensures ∙ c.if-is_halted.false)) c.if-free_pages-lt13.false) c.commit.ensures.honest e why) c.commit.ensures.err
+    err_then c.commit.result _ _ (λ e why. version_not_committed c.version_is_told.ensures t c.put_row.new.txn ps c.put_row.new.pages begun (subst (λ (rows : List Row). HasPut rows t c.put_row.new.txn ps c.put_row.new.pages) (one_row c.version.result c.to_be_bytes.result c.version.ensures c.to_be_bytes.ensures) c.in_ok-put_row.ensures.put) c.commit.new.pages (room_now c.args.pages.now c.free_pages.result (c.free_pages.ensures (sym c.is_halted.ensures ∙ c.if-is_halted.false)) c.if-free_pages-lt-ROW_PAGES.false) c.commit.ensures.honest e why) c.commit.ensures.err

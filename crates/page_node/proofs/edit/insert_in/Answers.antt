@@ -14,13 +14,13 @@ returns-then-count-eq65535-clause-err c = λ node is le at_is.
     let many = c.if-count-eq65535.true in
     omega arith
 
-pub returns-then-used-key-gt4096-clause-inserted : goal.returns-then-used-key-gt4096-clause-inserted
-returns-then-used-key-gt4096-clause-inserted c = λ node is child le at_is. (
+pub returns-then-used-key-gt-PAGE_SIZE-clause-inserted : goal.returns-then-used-key-gt-PAGE_SIZE-clause-inserted
+returns-then-used-key-gt-PAGE_SIZE-clause-inserted c = λ node is child le at_is. (
   refl,
   λ fits.
       let used_is = c.in_ok-used.ensures.end node is le at_is in
       let size = inserted_size c.args.page.now node is c.told-page c.args.index c.args.at c.in_ok-used.used at_is used_is (c.args.key.now, c.args.value.now) in
-      let over = c.if-used-key-gt4096.true in
+      let over = c.if-used-key-gt-PAGE_SIZE.true in
       omega arith,
 )
 
@@ -29,6 +29,6 @@ returns-clause-inserted c = λ node is child le at_is.
     let used_is = c.in_ok-used.ensures.end node is le at_is in
     let counted = c.count_of-count.ensures.count in
     let n = is.count in
-    let room = c.if-used-key-gt4096.false in
+    let room = c.if-used-key-gt-PAGE_SIZE.false in
     subst (λ p. IsNode p (record node { entries = insert node.entries c.args.index (c.args.key.now, c.args.value.now) })) (sym c.set_count.ensures)
     (inserted_node c.args.page.now node is c.told-page c.args.index c.args.at c.in_ok-used.used at_is used_is (c.args.key.now, c.args.value.now) c.splice.new.page _ le (c.requires.key, c.requires.value) child (omega arith) c.splice.ensures (omega arith))

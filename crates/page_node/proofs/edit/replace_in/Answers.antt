@@ -8,13 +8,13 @@ returns-then-at-key-clause-replaced c = λ node is child within at_is end_is.
     let same = c.if-at-key.true in
     replaced_here c.args.page.now node is c.told-page c.args.index c.args.at (4 + size_of node.entries) at_is refl c.args.end end_is within (c.args.key.now, c.args.value.now) c.put_entry_in.new.page (c.requires.key, c.requires.value) child (omega arith) c.put_entry_in.ensures
 
-pub returns-then-at-key-gt4096-clause-replaced : goal.returns-then-at-key-gt4096-clause-replaced
-returns-then-at-key-gt4096-clause-replaced c = λ node is child within at_is end_is. (
+pub returns-then-at-key-gt-PAGE_SIZE-clause-replaced : goal.returns-then-at-key-gt-PAGE_SIZE-clause-replaced
+returns-then-at-key-gt-PAGE_SIZE-clause-replaced c = λ node is child within at_is end_is. (
   refl,
   λ fits.
       let used_is = c.in_ok-used.ensures.end node is (omega arith) end_is in
       let size = replaced_size c.args.page.now node is c.told-page c.args.index c.args.at c.in_ok-used.used at_is used_is c.args.end end_is within (c.args.key.now, c.args.value.now) in
-      let over = c.if-at-key-gt4096.true in
+      let over = c.if-at-key-gt-PAGE_SIZE.true in
       let order = c.requires.order in
       let behind = c.in_ok-used.ensures.order.0 in
       omega arith,
@@ -23,5 +23,5 @@ returns-then-at-key-gt4096-clause-replaced c = λ node is child within at_is end
 pub returns-clause-replaced : goal.returns-clause-replaced
 returns-clause-replaced c = λ node is child within at_is end_is.
     let used_is = c.in_ok-used.ensures.end node is (omega arith) end_is in
-    let room = c.if-at-key-gt4096.false in
+    let room = c.if-at-key-gt-PAGE_SIZE.false in
     replaced_node c.args.page.now node is c.told-page c.args.index c.args.at c.in_ok-used.used at_is used_is c.args.end end_is within (c.args.key.now, c.args.value.now) c.splice.new.page (c.requires.key, c.requires.value) child (omega arith) c.splice.ensures

@@ -5,21 +5,21 @@ use Rattle.sector_file.proofs.Disks.{write_is, torn_is}
 use Rattle.sector_file.proofs.Steps.{length_wrote, recalled_wrote}
 use Rattle.sector_file.proofs.device.FileDeviceSectorDevice.write.Goals as goal
 
-pub returns-then-put-eq4096-clause-model : goal.returns-then-put-eq4096-clause-model
-returns-then-put-eq4096-clause-model g c = λ honest.
+pub returns-then-put-eq-SECTOR_SIZE-clause-model : goal.returns-then-put-eq-SECTOR_SIZE-clause-model
+returns-then-put-eq-SECTOR_SIZE-clause-model g c = λ honest.
     let was = c.args.self.now in
     let t = replay g.S.Contents.sector was.log.calls in
     let u = replay g.S.Contents.sector c.write_sector-put.new.log.calls in
-    let is = c.write_sector-put.ensures.whole c.if-put-eq4096.true in
+    let is = c.write_sector-put.ensures.whole c.if-put-eq-SECTOR_SIZE.true in
     let passed : refused u.2 ≡ refused t.2 = ap (λ (t : Told). refused t.2) is in
     (write_is t was.few u _ c.args.i c.args.sector.now is honest, record { failed = tt; passed = passed })
 
-pub returns-else-put-eq4096-clause-model : goal.returns-else-put-eq4096-clause-model
-returns-else-put-eq4096-clause-model g c = λ honest.
+pub returns-else-put-eq-SECTOR_SIZE-clause-model : goal.returns-else-put-eq-SECTOR_SIZE-clause-model
+returns-else-put-eq-SECTOR_SIZE-clause-model g c = λ honest.
     let was = c.args.self.now in
     let t = replay g.S.Contents.sector was.log.calls in
     let u = replay g.S.Contents.sector c.write_sector-put.new.log.calls in
-    let is = c.write_sector-put.ensures.torn c.if-put-eq4096.false in
+    let is = c.write_sector-put.ensures.torn c.if-put-eq-SECTOR_SIZE.false in
     let more : refused u.2 ≡ refused t.2 + 1 = ap (λ (t : Told). refused t.2) is in
     (torn_is t was.few u _ c.args.i is honest, record { failed = omega (arith, more); passed = tt })
 
