@@ -118,8 +118,9 @@ fn end_audit<W: Sink, E: Sink>(
     }
 }
 
-/// Prints the report of a plan of so many districts, which doesn't depend on the number of workers: 1 where it names a broken clause, else 0. 3 where a file is refused
-/// and 5 where memory is, with the file and its fault told and nothing printed; 6 where the writing fails.
+/// Prints the report of a plan of so many districts, which doesn't depend on the number of workers: 1 where it names a broken
+/// clause, else 0. 3 where a file is refused and 5 where memory is, with the file and its fault told and nothing printed; 6 where
+/// the writing fails.
 pub fn audit_plan<T: Threads + Sync, R: Source, W: Sink, E: Sink>(
     rt: &T,
     alloc: Global,

@@ -43,7 +43,8 @@ HasPaths found (Load store census gal) = AreCensusPaths found census
     × (first_value found (codes "store") ≡ Some store.now)
     × (first_value found (codes "gal") ≡ Some gal.now)
 HasPaths found (Serve store serving log) = (first_value found (codes "store") ≡ Some store.now)
-    × (serving_read (first_value found (codes "port")) (first_value found (codes "workers")) (first_value found (codes "connections")) (first_value found (codes "idle")) ≡ Some serving)
+    × (serving_read (first_value found (codes "port")) (first_value found (codes "workers"))
+    (first_value found (codes "connections")) (first_value found (codes "idle")) ≡ Some serving)
     × (first_value found (codes "log") ≡ option_copied log)
 HasPaths found (Sweep store) = first_value found (codes "store") ≡ Some store.now
 HasPaths found (Migrate store) = first_value found (codes "store") ≡ Some store.now

@@ -80,7 +80,9 @@ impl<J: Room> Model for Shower<J> {
 
     ghost view = { λ s. s.whole };
 
-    ghost invariant = { λ s. Stands J.book J.root J.first s.copies.desk.shown.value × (shown_of J.root s.copies.desk.shown.value.past.seen.log ≡ s.whole.0) × (drop s.copies.behind s.copies.log.items ≡ []) × MatchOption s.pending (s.whole.0 ≡ s.whole.1) (λ catalogue. catalogue.value ≡ after J.first s.whole.1) };
+    ghost invariant = { λ s. Stands J.book J.root J.first s.copies.desk.shown.value
+        × (shown_of J.root s.copies.desk.shown.value.past.seen.log ≡ s.whole.0) × (drop s.copies.behind s.copies.log.items ≡ [])
+        × MatchOption s.pending (s.whole.0 ≡ s.whole.1) (λ catalogue. catalogue.value ≡ after J.first s.whole.1) };
 }
 
 impl<J: Room> Shower<J> {

@@ -73,7 +73,8 @@ fn serve_named<
 /// Serves what a clerk keeps by so many workers, until no further stream comes: the clerk as it then is, whose desk is what commands
 /// led to that were accepted one after the other, and what the streams came to. At whatever moment a stop comes: since a command was
 /// acknowledged, each image that the stop may leave opens to the desk after that command and all before it. Each stream was answered
-/// along these very commands, and each command was asked for in the bytes of one. Err where memory is refused, with the clerk, and then nothing was served.
+/// along these very commands, and each command was asked for in the bytes of one. Err where memory is refused, with the clerk, and
+/// then nothing was served.
 pub fn serve_clerk<
     D: SectorDevice + Drop + Send + Sync,
     A: Arrivals + Sync,

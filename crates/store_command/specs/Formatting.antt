@@ -56,4 +56,5 @@ module _ {D O : Type 0} (g : Ghosts D) (makes : O → List ℕ → ℕ → Resul
   -- a store of so many sectors, with so many journal pages, under the name
   abbrev pub Formats : (stores stores_after : O) → List ℕ → (sectors J : ℕ) → Status → (before after told_before told_after : Written) → Type 0
   Formats stores stores_after name sectors J status before after told_before told_after = (given : Result (Vec ℕ Global) StoreFault)
-      × Makes stores name sectors J given stores_after × EndsStore (write_fault_line (codes "format")) given status before after told_before told_after
+      × Makes stores name sectors J given stores_after
+      × EndsStore (write_fault_line (codes "format")) given status before after told_before told_after

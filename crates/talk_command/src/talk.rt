@@ -101,7 +101,8 @@ pub fn talk<R: Source, W: GatherSink, E: Write>(
     writer: &mut W,
     errors: &mut E,
 ) -> Status
-    ensures { Talks ⟦<MemoryDevice as SectorDevice>⟧ result (R.remaining reader.old) (R.remaining reader.new) (W.contents writer.old) (W.contents writer.new)
+    ensures { Talks ⟦<MemoryDevice as SectorDevice>⟧ result
+        (R.remaining reader.old) (R.remaining reader.new) (W.contents writer.old) (W.contents writer.new)
         (R.failures reader.old) (R.failures reader.new) (W.failures writer.old) (W.failures writer.new) (R.turns reader.old) (R.turns reader.new) }
 {
     let served = serve_sample(alloc, reader, writer);
