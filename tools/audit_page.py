@@ -4,6 +4,8 @@ from fractions import Fraction
 from html import escape
 
 from audit import CLAUSES, KINDS, block_words, count, decimal, exact, figures, grouped, result, verdict
+from audit_more import More, links_part, made_part, pieces_part, unassigned_part
+from page_parts import codes, document, element, table
 
 # where a picture's scale begins and ends, in hundredths of its width: districts stand before it, and people after it
 LEFT, RIGHT = 13, 78
@@ -133,22 +135,24 @@ def gap_picture(gap):
             '<rect x="77%" y="8" width="18" height="18" fill="#b3401f"/></svg>')
 
 
-def gaps_part(report):
+def gaps_part(report, more):
     if not report.contiguity:
         return '<p>Each district holds together: every two of its blocks are joined by neighbours within it.</p>'
-    rows = [(str(gap['district']), escape(block_words(gap['from'])) if 'from' in gap else 'no block',
-             escape(block_words(gap['to'])) if 'to' in gap else '', gap_picture(gap) if 'from' in gap else '')
+    rows = [(str(gap['district']), escape(more.names.of_block(gap['from'])) if 'from' in gap else 'no block',
+             escape(more.names.of_block(gap['to'])) if 'to' in gap else '', gap_picture(gap) if 'from' in gap else '')
             for gap in report.contiguity]
     heads = [(text, False) for text in ('District', 'Its least block', 'Not reached from there', 'Picture')]
-    return table('A block is told by its state and county, tract and number: the first block of the district, and the first one to '
+    said = table('A block is told by its state and county, tract and number: the first block of the district, and the first one to '
                  'which no path of neighbours within the district leads from it.', heads, rows)
+    return said + (pieces_part(more.ground, more.names) if more.ground and more.ground.pieces() else '')
 
 
-def divided_part(report):
+def divided_part(report, names):
     return ('<p>No number of divided counties or cities breaks a clause: the law asks for as few as possible, and who compares plans '
             'judges that. Counties are told by the census’s three digits, cities by its five.</p>' +
-            codes('Divided counties', report.counties, 'none') + codes('Divided cities', report.cities, 'none') +
-            codes('Cities that are divided within one county', report.cities_in_county, 'none'))
+            codes('Divided counties', list(map(names.county, report.counties)), 'none') +
+            codes('Divided cities', list(map(names.city, report.cities)), 'none') +
+            codes('Cities that are divided within one county', list(map(names.city, report.cities_in_county)), 'none'))
 
 
 def nesting_part(report):
@@ -172,15 +176,20 @@ def facts(report):
     return element('dl', ''.join(f'<div><dt>{name}</dt><dd>{escape(str(value))}</dd></div>' for name, value in pairs))
 
 
-def page(report, title, source):
+def page(report, title, source, more=More()):
     """The page of a report; the source is its line of JSON."""
     parts = [('The clauses', clauses_part(report)), ('People by district', people_part(report)),
-             ('What does not hold together', gaps_part(report))]
+             ('What does not hold together', gaps_part(report, more))]
+    if more.ground and more.ground.unassigned():
+        parts.append(('Blocks without a district', unassigned_part(more.ground, more.names)))
     if report.kind == 'house':
         parts.append(('Nesting in senate districts', nesting_part(report)))
     if report.divided_by_congress is not None:
         parts.append(('Division by congressional districts', congress_part(report)))
-    parts += [('Divided counties and cities', divided_part(report)), ('The report itself', element('pre', escape(source)))]
-    body = (f'<h1>{escape(title)}</h1>\n<p class="verdict{" broken" if report.broken else ""}">{KINDS[report.kind]} plan of '
-            f'{count(report.districts, "district")}: it {verdict(report)}.</p>\n{facts(report)}\n')
+    parts.append(('Divided counties and cities', divided_part(report, more.names)))
+    if more.made:
+        parts.append(('What was audited', made_part(more.made)))
+    parts.append(('The report itself', element('pre', escape(source))))
+    body = (f'<h1>{escape(title)}</h1>\n{links_part(more.links)}<p class="verdict{" broken" if report.broken else ""}">'
+            f'{KINDS[report.kind]} plan of {count(report.districts, "district")}: it {verdict(report)}.</p>\n{facts(report)}\n')
     return document(title, body + '\n'.join(f'<section>\n<h2>{name}</h2>\n{part}\n</section>' for name, part in parts))

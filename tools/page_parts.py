@@ -17,6 +17,7 @@ figure { margin: 1rem 0; } figcaption { font-size: 0.9rem; color: #444; } svg { 
 svg text { font: 12px "DejaVu Sans", Verdana, sans-serif; fill: #1b1b1b; }
 ul.codes { list-style: none; display: flex; flex-wrap: wrap; gap: 0.4rem; padding: 0; margin: 0.4rem 0; }
 ul.codes li { border: 1px solid #777; border-radius: 0.3rem; padding: 0 0.5rem; font-variant-numeric: tabular-nums; }
+code { overflow-wrap: anywhere; font-size: 0.85rem; } nav a { margin-right: 1rem; }
 pre { white-space: pre-wrap; overflow-wrap: anywhere; font-size: 0.8rem; background: #f4f4f4; padding: 0.6rem; }
 @media (max-width: 40rem) { .stacks thead { display: none; } .stacks tr { display: block; border-bottom: 1px solid #ccc; }
   .stacks th, .stacks td { display: block; border: 0; padding: 0.1rem 0; } .stacks tr { padding: 0.5rem 0; } }
