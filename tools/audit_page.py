@@ -188,7 +188,7 @@ def page(report, title, source, more=More()):
         parts.append(('Division by congressional districts', congress_part(report)))
     parts.append(('Divided counties and cities', divided_part(report, more.names)))
     if more.made:
-        parts.append(('What was audited', made_part(more.made)))
+        parts.append(('What was audited', made_part(more.made, more.ground)))
     parts.append(('The report itself', element('pre', escape(source))))
     body = (f'<h1>{escape(title)}</h1>\n{links_part(more.links)}<p class="verdict{" broken" if report.broken else ""}">'
             f'{KINDS[report.kind]} plan of {count(report.districts, "district")}: it {verdict(report)}.</p>\n{facts(report)}\n')

@@ -1,6 +1,8 @@
 """For tools/report: a report as lines for a terminal."""
+import itertools
+
 from audit import CLAUSES, KINDS, count, decimal, exact, figures, grouped, result, verdict
-from audit_more import SOME, More, numbered
+from audit_more import MOST, SOME, More, numbered
 
 BAR = 20
 
@@ -45,13 +47,18 @@ def list_line(name, codes):
 
 def piece_lines(ground, names):
     """The pieces of the districts that have several."""
-    rows = [(str(piece.district), f'{place} of {of}', grouped(len(piece.blocks)),
-             'unknown' if piece.people is None else grouped(piece.people), names.of_block(piece.blocks[0]))
-            for piece, place, of in numbered(ground.pieces())]
-    if rows:
-        yield ''
-        yield 'Their pieces'
-        yield from table(('District', 'Piece', 'Blocks', 'People', 'Lowest block'), rows)
+    pieces = ground.pieces()
+    if not pieces:
+        return
+    rows = [(str(piece.district), f'{place} of {of}', grouped(len(piece.blocks)), '' if piece.people is None else grouped(piece.people))
+            for piece, place, of in itertools.islice(numbered(pieces), MOST)]
+    yield ''
+    yield 'Their pieces'
+    last = ['Lowest block', *(names.of_block(piece.blocks[0]) for piece in pieces)]
+    heads = 'District', 'Piece', 'Blocks', '' if ground.people is None else 'People'
+    yield from (f'{line}  {words}' for line, words in zip(table(heads, rows), last))
+    if len(pieces) > MOST:
+        yield f'and {grouped(len(pieces) - MOST)} more'
 
 
 def unassigned_lines(ground, names):

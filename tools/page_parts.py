@@ -9,7 +9,7 @@ h1 { font-size: 1.6rem; line-height: 1.2; margin: 0.5rem 0; } h2 { font-size: 1.
 .verdict.broken { border-color: #a3300f; background: #fbeee9; }
 dl { display: grid; grid-template-columns: repeat(auto-fit, minmax(9rem, 1fr)); gap: 0.5rem 1.5rem; margin: 1rem 0; }
 dl div { border-top: 1px solid #bbb; } dt { font-size: 0.85rem; color: #444; } dd { margin: 0; font-weight: bold; }
-table { border-collapse: collapse; width: 100%; } caption { text-align: left; font-size: 0.9rem; color: #444; padding: 0.3rem 0; }
+table + table { margin-top: 1.5rem; } table { border-collapse: collapse; width: 100%; } caption { text-align: left; font-size: 0.9rem; color: #444; padding: 0.3rem 0; }
 th, td { text-align: left; vertical-align: top; padding: 0.3rem 0.6rem 0.3rem 0; border-bottom: 1px solid #ccc; }
 th.n, td.n { text-align: right; font-variant-numeric: tabular-nums; } small { display: block; color: #444; font-weight: normal; }
 .is-broken { color: #a3300f; font-weight: bold; } .is-kept { color: #1f6b3a; }
@@ -20,7 +20,8 @@ ul.codes li { border: 1px solid #777; border-radius: 0.3rem; padding: 0 0.5rem; 
 code { overflow-wrap: anywhere; font-size: 0.85rem; } nav a { margin-right: 1rem; }
 pre { white-space: pre-wrap; overflow-wrap: anywhere; font-size: 0.8rem; background: #f4f4f4; padding: 0.6rem; }
 @media (max-width: 40rem) { .stacks thead { display: none; } .stacks tr { display: block; border-bottom: 1px solid #ccc; }
-  .stacks th, .stacks td { display: block; border: 0; padding: 0.1rem 0; } .stacks tr { padding: 0.5rem 0; } }
+  .stacks th, .stacks td { display: block; border: 0; padding: 0.1rem 0; } .stacks tr { padding: 0.5rem 0; }
+  .stacks th.n, .stacks td.n { text-align: left; } .stacks [data-label]::before { content: attr(data-label) ": "; } }
 @media print { :root { font-size: 11px; } body { max-width: none; padding: 0; } h2 { break-after: avoid; }
   tr, figure.small { break-inside: avoid; } thead { display: table-header-group; }
   svg, .verdict, pre { print-color-adjust: exact; -webkit-print-color-adjust: exact; } }
@@ -34,21 +35,24 @@ def element(name, content, **attributes):
     return f'<{name}{said}>{content}</{name}>'
 
 
-def row(cells, head=False):
-    """A row of a table: its cells' HTML, and whether each is a number. The first heads the row."""
+def row(cells, head=False, labels=None):
+    """A row of a table: its cells' HTML, and whether each is a number. The first heads the row. A label is said before its cell
+    where a narrow page shows the row as a block."""
     said = []
     for place, (content, number) in enumerate(cells):
         scope = 'col' if head else 'row' if place == 0 else None
         # the roles stay where a narrow page shows a row as a block
-        attributes = {'scope': scope, 'role': ROLES[scope], 'class': 'n' if number else None}
+        attributes = {'scope': scope, 'role': ROLES[scope], 'class': 'n' if number else None,
+                      'data-label': labels[place] if labels else None}
         said.append(element('th' if scope else 'td', content, **attributes))
     return element('tr', ''.join(said), role='row')
 
 
-def table(caption, heads, rows, **attributes):
+def table(caption, heads, rows, labelled=False, **attributes):
     """A table of texts; each column has a head and whether it is of numbers."""
     head = element('thead', row([(escape(text), number) for text, number in heads], head=True), role='rowgroup')
-    body = ''.join(row([(cell, number) for cell, (_, number) in zip(cells, heads)]) for cells in rows)
+    labels = [text for text, _ in heads] if labelled else None
+    body = ''.join(row([(cell, number) for cell, (_, number) in zip(cells, heads)], labels=labels) for cells in rows)
     content = element('caption', escape(caption)) + head + element('tbody', body, role='rowgroup')
     return element('table', content, role='table', **attributes)
 
