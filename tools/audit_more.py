@@ -35,7 +35,7 @@ def found_again(ground):
     """Which figures of the report were found again from the files of its blocks."""
     found = ['the blocks without a district'] + (['the people of each district'] if ground.people is not None else []) + \
         (['what does not hold together'] if ground.pairs is not None else [])
-    return f'For this page the plan was read again; it gives the same as the report for {" and ".join(found)}.'
+    return f'For this page the plan was read again; it gives the same as the report for {", ".join(found)}.'
 
 
 def made_part(made, ground):

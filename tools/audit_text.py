@@ -2,7 +2,7 @@
 import itertools
 
 from audit import CLAUSES, KINDS, count, decimal, exact, figures, grouped, result, verdict
-from audit_more import MOST, SOME, More, numbered
+from audit_more import MOST, SOME, More, found_again, numbered
 
 BAR = 20
 
@@ -73,7 +73,7 @@ def unassigned_lines(ground, names):
         yield f'  and {grouped(len(blocks) - SOME)} more'
 
 
-def made_lines(made):
+def made_lines(made, ground):
     """What was audited, as far as it is known."""
     yield ''
     yield 'What was audited'
@@ -81,6 +81,8 @@ def made_lines(made):
         yield f'  {file.digest}  {file.name}, {count(file.size, "byte")}'
     if made.source:
         yield f'  {made.source}'
+    if ground:
+        yield found_again(ground)
     yield f'Program: {made.version or "not told"}'
     yield f'Made: {made.date}'
 
@@ -105,7 +107,7 @@ def text(report, title, more=More()):
     yield list_line('Divided cities', map(names.city, report.cities))
     yield list_line('Cities divided within one county', map(names.city, report.cities_in_county))
     if more.made:
-        yield from made_lines(more.made)
+        yield from made_lines(more.made, more.ground)
 
 
 def lists(report, more):
