@@ -80,9 +80,12 @@ class Answering(http.server.BaseHTTPRequestHandler):
 
 
 @contextlib.contextmanager
-def answering(status, body=b'', length=None):
-    """An address at which something answers so, which is no desk, and the heads that it was asked with."""
+def answering(status, body=b'', length=None, trust=None):
+    """An address at which something answers so, which is no desk, and the heads that it was asked with; by TLS where a context is
+    given."""
     with http.server.ThreadingHTTPServer(('127.0.0.1', 0), Answering) as server:
+        if trust:
+            server.socket = trust.wrap_socket(server.socket, server_side=True)
         server.said, server.asked = (status, body, length), []
         threading.Thread(target=server.serve_forever, daemon=True).start()
         yield f'http://127.0.0.1:{server.server_port}', server.asked
