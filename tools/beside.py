@@ -67,7 +67,7 @@ def sums(found, place):
     return said
 
 
-def by_district(first, second, found):
+def by_district(found):
     ones, others, both = sums(found, 1), sums(found, 2), sums([part for part in found if part[1] == part[2]], 1)
     rising = sorted(ones.keys() | others.keys(), key=lambda district: (district == 'none', district != 'none' and int(district)))
     rows = []
@@ -75,27 +75,28 @@ def by_district(first, second, found):
         one, other = ones.get(district, 0), others.get(district, 0)
         sign = '+' if other > one else '\u2212' if other < one else ''
         rows.append((district, grouped(one), grouped(other), sign + grouped(abs(other - one)), grouped(both.get(district, 0))))
-    heads = ('District', False), (first, True), (second, True), ('Difference', True), ('In both', True)
-    return table('People by the district’s number; ‘in both’ are those who have this number in either.', heads, rows)
+    heads = ('District', False), ('First', True), ('Second', True), ('Difference', True), ('Both', True)
+    return table('People by the district’s number; under ‘both’ are those who have this number in the first and in the second.',
+                 heads, rows)
 
 
-def by_county(first, second, found):
+def by_county(found):
     rows = []
     for county in sorted({part[0] for part in found}):
         mine = [part for part in found if part[0] == county]
-        others = moved(mine)
-        rows.append((county_words(county), grouped(sum(part[3] for part in mine)), grouped(sum(part[4] for part in mine)),
-                     grouped(len({part[1] for part in mine} - {'none'})), grouped(len({part[2] for part in mine} - {'none'})),
-                     grouped(sum(part[3] for part in others)), grouped(sum(part[4] for part in others))))
-    heads = (('County', False), ('Blocks', True), ('People', True), (f'Districts of {first}', True), (f'Districts of {second}', True),
-             ('Blocks otherwise', True), ('People otherwise', True))
-    return table('By state and county; ‘otherwise’ are those in a district of another number.', heads, rows)
+        firsts, seconds = ({part[place] for part in mine} - {'none'} for place in (1, 2))
+        people, others = (sum(part[4] for part in some) for some in (mine, moved(mine)))
+        rows.append((county_words(county), grouped(people), grouped(len(firsts)), grouped(len(seconds)), grouped(others)))
+    heads = ('County', False), ('People', True), ('First', True), ('Second', True), ('Otherwise', True)
+    return table('By state and county: the people, how many districts have a part of it in the first and in the second, and the '
+                 'people in a district of another number.', heads, rows)
 
 
 def beside_part(first, second, found):
     """Two revisions beside one another, of one plan or of two."""
+    named = element('p', f'First: {escape(first)}. Second: {escape(second)}.')
     said = f'{total(moved(found))}, of {total(found)}, are in a district of another number.'
-    return element('p', escape(said[0].upper() + said[1:])) + \
-        '<h2>By district</h2>' + by_district(first, second, found) + \
-        '<h2>By county</h2>' + by_county(first, second, found) + \
-        '<h2>Part by part</h2>' + parts_table('The blocks of each county by their districts in either.', first, second, found)
+    return named + element('p', escape(said[0].upper() + said[1:])) + \
+        '<h2>By district</h2>' + by_district(found) + \
+        '<h2>By county</h2>' + by_county(found) + \
+        '<h2>Part by part</h2>' + parts_table('The blocks of each county by their districts.', 'First', 'Second', found)

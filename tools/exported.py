@@ -63,7 +63,7 @@ class Exported:
         return f'{count(len(self.plans), "plan")}, {count(sum(plan["revisions"] for plan in self.plans.values()), "revision")}'
 
     def save(self):
-        value = {'format': FORMAT, 'blocks': self.blocks, 'plans': list(self.plans.values()), 'complete': self.complete}
+        value = {'format': FORMAT, 'blocks': self.blocks, 'plans': [self.plans[name] for name in sorted(self.plans)], 'complete': self.complete}
         write_whole(self.place(MANIFEST), as_json(value))
 
     def put(self, plan, number, text):
