@@ -11,13 +11,19 @@ root = os.path.join(here, '..')
 LOGINS = 'PLANDESK_USER', 'PLANDESK_PASSWORD', 'SSL_CERT_FILE', 'SSL_CERT_DIR'
 
 
-def tool(name, *words, status=0, told='', home='/nowhere', place='tools', **environment):
-    """What a tool prints, where it ends so."""
+def ran(name, *words, given=b'', output=subprocess.PIPE, home='/nowhere', place='tools', **environment):
+    """How a tool ends, what it prints and what it tells."""
     clean = {key: value for key, value in os.environ.items() if key not in LOGINS}
-    done = subprocess.run([os.path.join(root, place, name), *words], stdin=subprocess.DEVNULL, capture_output=True, timeout=100,
+    done = subprocess.run([os.path.join(root, place, name), *words], input=given, stdout=output, stderr=subprocess.PIPE, timeout=100,
                           env={**clean, 'HOME': home, **environment})
-    assert (done.returncode, done.stderr.decode()) == (status, told), (name, words, done)
-    return done.stdout.decode()
+    return done.returncode, done.stdout, done.stderr.decode()
+
+
+def tool(name, *words, status=0, told='', **more):
+    """What a tool prints, where it ends so."""
+    ends, printed, said = ran(name, *words, **more)
+    assert (ends, said) == (status, told), (name, words, ends, printed, said)
+    return printed.decode() if printed is not None else ''
 
 
 def refused(name, *words, status, code, **more):

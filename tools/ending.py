@@ -2,15 +2,15 @@
 import sys
 
 from audit import Refused, put
+from faults import tell
 
 
-def ends(tool, work):
-    """Prints what the work says; the status."""
+def ends(tool, work, meanings=None):
+    """Prints what the work says; the status. At a terminal a fault is told with what it means."""
     try:
         said = work()
     except Refused as fault:
-        print(f'{tool}: {fault.code}', file=sys.stderr)
-        return fault.status
+        return tell(tool, fault, meanings or {})
     except KeyboardInterrupt:
         print(f'{tool}: Stopped', file=sys.stderr)
         return 130

@@ -1,25 +1,10 @@
-"""For tests/plan_files, tests/reports, tests/report_files and tests/neighbours: runs of the programs in tools, their pages of HTML,
-and the tables of docs/TOOLS.md."""
-import os, re, runpy, subprocess, sys
+"""For tests/plan_files, tests/reports, tests/report_files and tests/neighbours: the sections of docs/TOOLS.md, and pages of HTML."""
+import os, re, runpy, sys
 from html.parser import HTMLParser
 
-here = os.path.dirname(os.path.abspath(__file__))
-root = os.path.join(here, '..')
+from tooling import root, tool
+
 VOID = 'meta', 'rect', 'line', 'circle'
-
-
-def ran(name, *words, given=b'', output=subprocess.PIPE, environment=None):
-    """How the tool ends, what it prints and what it tells."""
-    done = subprocess.run([os.path.join(root, 'tools', name), *words], input=given, stdout=output, stderr=subprocess.PIPE, timeout=60,
-                          env={**os.environ, **(environment or {})})
-    return done.returncode, done.stdout, done.stderr.decode()
-
-
-def tool(name, *words, status=0, told='', **more):
-    """What the tool prints, where it ends so and tells this."""
-    ends, printed, said = ran(name, *words, **more)
-    assert (ends, said) == (status, told), (name, words, ends, said)
-    return printed.decode() if printed is not None else ''
 
 
 def section(name):
