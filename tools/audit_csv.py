@@ -17,13 +17,18 @@ def number(value, places):
     return '' if value is None else decimal(value, places).replace(',', '').replace('\u2212', '-')
 
 
+def pieces_of(report, ground):
+    """How many pieces each district has."""
+    used, several = set(ground.districts.values()), {piece.district: of for piece, _, of in numbered(ground.pieces())}
+    return {district: several.get(district, int(district in used)) for district in range(1, report.districts + 1)}
+
+
 def districts_csv(report, more):
     """Of each district the people, how far they are from the ideal, and whether a limit on people names it."""
-    pieces = {piece.district: of for piece, _, of in numbered(more.ground.pieces())} if more.ground and more.ground.pairs is not None else None
+    pieces = pieces_of(report, more.ground) if more.ground and more.ground.pairs is not None else {}
     for district, people in enumerate(report.populations, 1):
-        found = '' if pieces is None else pieces.get(district, 1 if district in more.ground.districts.values() else 0)
         yield (district, people, number(report.ideal(), 2), number(people - report.ideal(), 2), number(report.percent(people), 4),
-               'yes' if district in report.over() else 'no', found)
+               'yes' if district in report.over() else 'no', pieces.get(district, ''))
 
 
 def where(block, names):

@@ -86,7 +86,8 @@ def pieces_part(ground, names):
     people = [('People', True)] if ground.people is not None else []
     heads = [('District', False), ('Piece', False), ('Blocks', True), *people, ('Which blocks', False), ('Counties', False)]
     which = 'All' if len(pieces) <= MOST else f'The first {MOST} of {grouped(len(pieces))}'
-    return table(f'{which} pieces of these districts, found anew from the plan and the neighbours.', heads, rows, labelled=True, class_='stacks')
+    caption = f'{which} pieces of these districts, found anew from the plan and the neighbours.'
+    return table(caption, heads, rows, labelled=True, class_='stacks')
 
 
 def by_county(blocks):
