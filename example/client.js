@@ -79,7 +79,7 @@ function button(plan) {
 async function list() {
   shown = await plans()
   at('plans').replaceChildren(...shown.map(plan =>
-    row(cell(plan.name), cell(plan.kind), cell(plan.districts, true), cell(plan.revisions, true), cell(button(plan)))))
+    row(cell(plan.name), cell(`${plan.kind}, districts: ${plan.districts}`), cell(button(plan)))))
   for (const form of ['keep', 'move']) {
     const { plan } = at(form).elements, chosen = plan.value
     plan.replaceChildren(...shown.map(each => new Option(each.name)))

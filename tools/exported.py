@@ -63,7 +63,8 @@ class Exported:
         return f'{count(len(self.plans), "plan")}, {count(sum(plan["revisions"] for plan in self.plans.values()), "revision")}'
 
     def save(self):
-        value = {'format': FORMAT, 'blocks': self.blocks, 'plans': [self.plans[name] for name in sorted(self.plans)], 'complete': self.complete}
+        plans = [self.plans[name] for name in sorted(self.plans)]
+        value = {'format': FORMAT, 'blocks': self.blocks, 'plans': plans, 'complete': self.complete}
         write_whole(self.place(MANIFEST), as_json(value))
 
     def put(self, plan, number, text):

@@ -47,7 +47,7 @@ class Pages:
 
     def __init__(self, path):
         self.path, self.maker = path, maker()
-        self.known, self.now, self.made = self.read(), {}, 0
+        self.known, self.now, self.made, self.saved = self.read(), {}, 0, 0
 
     def read(self):
         try:
@@ -78,6 +78,12 @@ class Pages:
 
     def save(self, files):
         write_whole(self.place(MANIFEST), as_json({'format': 1, 'files': files}))
+        self.saved = self.made
+
+    def note(self):
+        """Keeps what was made so far, so that a run that is stopped here needn't make it again."""
+        if self.made > self.saved:
+            self.save({**self.known, **self.now})
 
     def finish(self):
         """Takes away what is not shown any more and is as it was written, and keeps what is known now."""
