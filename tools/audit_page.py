@@ -4,61 +4,14 @@ from fractions import Fraction
 from html import escape
 
 from audit import CLAUSES, KINDS, block_words, count, decimal, exact, figures, grouped, result, verdict
+from audit_more import More, links_part, made_part, pieces_part, unassigned_part
+from page_parts import codes, document, element, table
 
-STYLE = '''
-:root { color: #1b1b1b; background: #fff; font: 16px/1.5 "DejaVu Sans", Verdana, sans-serif; }
-body { max-width: 60rem; margin: 0 auto; padding: 1rem; }
-h1 { font-size: 1.6rem; line-height: 1.2; margin: 0.5rem 0; } h2 { font-size: 1.2rem; margin: 2rem 0 0.5rem; }
-.verdict { font-size: 1.1rem; padding: 0.6rem 0.9rem; border-left: 0.4rem solid #1f6b3a; background: #eef6f0; }
-.verdict.broken { border-color: #a3300f; background: #fbeee9; }
-dl { display: grid; grid-template-columns: repeat(auto-fit, minmax(9rem, 1fr)); gap: 0.5rem 1.5rem; margin: 1rem 0; }
-dl div { border-top: 1px solid #bbb; } dt { font-size: 0.85rem; color: #444; } dd { margin: 0; font-weight: bold; }
-table { border-collapse: collapse; width: 100%; } caption { text-align: left; font-size: 0.9rem; color: #444; padding: 0.3rem 0; }
-th, td { text-align: left; vertical-align: top; padding: 0.3rem 0.6rem 0.3rem 0; border-bottom: 1px solid #ccc; }
-th.n, td.n { text-align: right; font-variant-numeric: tabular-nums; } small { display: block; color: #444; font-weight: normal; }
-.is-broken { color: #a3300f; font-weight: bold; } .is-kept { color: #1f6b3a; }
-figure { margin: 1rem 0; } figcaption { font-size: 0.9rem; color: #444; } svg { width: 100%; display: block; }
-svg text { font: 12px "DejaVu Sans", Verdana, sans-serif; fill: #1b1b1b; }
-ul.codes { list-style: none; display: flex; flex-wrap: wrap; gap: 0.4rem; padding: 0; margin: 0.4rem 0; }
-ul.codes li { border: 1px solid #777; border-radius: 0.3rem; padding: 0 0.5rem; font-variant-numeric: tabular-nums; }
-pre { white-space: pre-wrap; overflow-wrap: anywhere; font-size: 0.8rem; background: #f4f4f4; padding: 0.6rem; }
-@media (max-width: 40rem) { .stacks thead { display: none; } .stacks tr { display: block; border-bottom: 1px solid #ccc; }
-  .stacks th, .stacks td { display: block; border: 0; padding: 0.1rem 0; } .stacks tr { padding: 0.5rem 0; } }
-@media print { :root { font-size: 11px; } body { max-width: none; padding: 0; } h2 { break-after: avoid; }
-  tr, figure.small { break-inside: avoid; } thead { display: table-header-group; }
-  svg, .verdict, pre { print-color-adjust: exact; -webkit-print-color-adjust: exact; } }
-'''
 # where a picture's scale begins and ends, in hundredths of its width: districts stand before it, and people after it
 LEFT, RIGHT = 13, 78
 ROW, TOP = 18, 44
 # how many districts a picture has at most, so that a printed page has room for it
 DISTRICTS = 20
-ROLES = {'col': 'columnheader', 'row': 'rowheader', None: 'cell'}
-
-
-def element(name, content, **attributes):
-    """An element whose content is HTML already; what its attributes say is escaped."""
-    said = ''.join(f' {key.rstrip("_")}="{escape(str(value))}"' for key, value in attributes.items() if value is not None)
-    return f'<{name}{said}>{content}</{name}>'
-
-
-def row(cells, head=False):
-    """A row of a table: its cells' HTML, and whether each is a number. The first heads the row."""
-    said = []
-    for place, (content, number) in enumerate(cells):
-        scope = 'col' if head else 'row' if place == 0 else None
-        # the roles stay where a narrow page shows a row as a block
-        attributes = {'scope': scope, 'role': ROLES[scope], 'class': 'n' if number else None}
-        said.append(element('th' if scope else 'td', content, **attributes))
-    return element('tr', ''.join(said), role='row')
-
-
-def table(caption, heads, rows, **attributes):
-    """A table of texts; each column has a head and whether it is of numbers."""
-    head = element('thead', row([(escape(text), number) for text, number in heads], head=True), role='rowgroup')
-    body = ''.join(row([(cell, number) for cell, (_, number) in zip(cells, heads)]) for cells in rows)
-    content = element('caption', escape(caption)) + head + element('tbody', body, role='rowgroup')
-    return element('table', content, role='table', **attributes)
 
 
 class Scale:
@@ -182,28 +135,24 @@ def gap_picture(gap):
             '<rect x="77%" y="8" width="18" height="18" fill="#b3401f"/></svg>')
 
 
-def gaps_part(report):
+def gaps_part(report, more):
     if not report.contiguity:
         return '<p>Each district holds together: every two of its blocks are joined by neighbours within it.</p>'
-    rows = [(str(gap['district']), escape(block_words(gap['from'])) if 'from' in gap else 'no block',
-             escape(block_words(gap['to'])) if 'to' in gap else '', gap_picture(gap) if 'from' in gap else '')
+    rows = [(str(gap['district']), escape(more.names.of_block(gap['from'])) if 'from' in gap else 'no block',
+             escape(more.names.of_block(gap['to'])) if 'to' in gap else '', gap_picture(gap) if 'from' in gap else '')
             for gap in report.contiguity]
     heads = [(text, False) for text in ('District', 'Its least block', 'Not reached from there', 'Picture')]
-    return table('A block is told by its state and county, tract and number: the first block of the district, and the first one to '
+    said = table('A block is told by its state and county, tract and number: the first block of the district, and the first one to '
                  'which no path of neighbours within the district leads from it.', heads, rows)
+    return said + (pieces_part(more.ground, more.names) if more.ground and more.ground.pieces() else '')
 
 
-def codes(title, values, none):
-    if not values:
-        return f'<p>{escape(title)}: {escape(none)}.</p>'
-    return f'<p>{escape(title)}: {len(values)}</p>' + element('ul', ''.join(element('li', escape(v)) for v in values), class_='codes')
-
-
-def divided_part(report):
+def divided_part(report, names):
     return ('<p>No number of divided counties or cities breaks a clause: the law asks for as few as possible, and who compares plans '
             'judges that. Counties are told by the census’s three digits, cities by its five.</p>' +
-            codes('Divided counties', report.counties, 'none') + codes('Divided cities', report.cities, 'none') +
-            codes('Cities that are divided within one county', report.cities_in_county, 'none'))
+            codes('Divided counties', list(map(names.county, report.counties)), 'none') +
+            codes('Divided cities', list(map(names.city, report.cities)), 'none') +
+            codes('Cities that are divided within one county', list(map(names.city, report.cities_in_county)), 'none'))
 
 
 def nesting_part(report):
@@ -227,23 +176,20 @@ def facts(report):
     return element('dl', ''.join(f'<div><dt>{name}</dt><dd>{escape(str(value))}</dd></div>' for name, value in pairs))
 
 
-def document(title, body):
-    """A page: its text is escaped already, but for the title."""
-    return ('<!DOCTYPE html>\n<html lang="en">\n<head>\n<meta charset="utf-8">\n'
-            '<meta http-equiv="Content-Security-Policy" content="default-src \'none\'; style-src \'unsafe-inline\'">\n'
-            '<meta name="viewport" content="width=device-width, initial-scale=1">\n'
-            f'<title>{escape(title)}</title>\n<style>{STYLE}</style>\n</head>\n<body>\n<main>\n{body}\n</main>\n</body>\n</html>\n')
-
-
-def page(report, title, source):
+def page(report, title, source, more=More()):
     """The page of a report; the source is its line of JSON."""
     parts = [('The clauses', clauses_part(report)), ('People by district', people_part(report)),
-             ('What does not hold together', gaps_part(report))]
+             ('What does not hold together', gaps_part(report, more))]
+    if more.ground and more.ground.unassigned():
+        parts.append(('Blocks without a district', unassigned_part(more.ground, more.names)))
     if report.kind == 'house':
         parts.append(('Nesting in senate districts', nesting_part(report)))
     if report.divided_by_congress is not None:
         parts.append(('Division by congressional districts', congress_part(report)))
-    parts += [('Divided counties and cities', divided_part(report)), ('The report itself', element('pre', escape(source)))]
-    body = (f'<h1>{escape(title)}</h1>\n<p class="verdict{" broken" if report.broken else ""}">{KINDS[report.kind]} plan of '
-            f'{count(report.districts, "district")}: it {verdict(report)}.</p>\n{facts(report)}\n')
+    parts.append(('Divided counties and cities', divided_part(report, more.names)))
+    if more.made:
+        parts.append(('What was audited', made_part(more.made, more.ground)))
+    parts.append(('The report itself', element('pre', escape(source))))
+    body = (f'<h1>{escape(title)}</h1>\n{links_part(more.links)}<p class="verdict{" broken" if report.broken else ""}">'
+            f'{KINDS[report.kind]} plan of {count(report.districts, "district")}: it {verdict(report)}.</p>\n{facts(report)}\n')
     return document(title, body + '\n'.join(f'<section>\n<h2>{name}</h2>\n{part}\n</section>' for name, part in parts))

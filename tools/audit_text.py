@@ -1,5 +1,8 @@
 """For tools/report: a report as lines for a terminal."""
-from audit import CLAUSES, KINDS, block_words, count, decimal, exact, figures, grouped, result, verdict
+import itertools
+
+from audit import CLAUSES, KINDS, count, decimal, exact, figures, grouped, result, verdict
+from audit_more import MOST, SOME, More, found_again, numbered
 
 BAR = 20
 
@@ -32,18 +35,61 @@ def people_lines(report):
         yield f'{text:<{wide}}  {picture}{"  named" if d in report.over() else ""}'.rstrip()
 
 
-def gap_line(gap):
+def gap_line(gap, names):
     if 'from' not in gap:
         return f'  district {gap["district"]} has no block'
-    return f'  district {gap["district"]}: no path within it from {block_words(gap["from"])} to {block_words(gap["to"])}'
+    return f'  district {gap["district"]}: no path within it from {names.of_block(gap["from"])} to {names.of_block(gap["to"])}'
 
 
 def list_line(name, codes):
-    return f'{name}: {", ".join(codes) if codes else "none"}'
+    return f'{name}: {", ".join(codes) or "none"}'
 
 
-def text(report, title):
+def piece_lines(ground, names):
+    """The pieces of the districts that have several."""
+    pieces = ground.pieces()
+    if not pieces:
+        return
+    rows = [(str(piece.district), f'{place} of {of}', grouped(len(piece.blocks)), '' if piece.people is None else grouped(piece.people))
+            for piece, place, of in itertools.islice(numbered(pieces), MOST)]
+    yield ''
+    yield 'Their pieces'
+    last = ['Lowest block', *(names.of_block(piece.blocks[0]) for piece in pieces)]
+    heads = 'District', 'Piece', 'Blocks', '' if ground.people is None else 'People'
+    yield from (f'{line}  {words}' for line, words in zip(table(heads, rows), last))
+    if len(pieces) > MOST:
+        yield f'and {grouped(len(pieces) - MOST)} more'
+
+
+def unassigned_lines(ground, names):
+    blocks = ground.unassigned()
+    if blocks:
+        yield ''
+        yield 'Blocks without a district'
+    for block in blocks[:SOME]:
+        people = '' if ground.people is None else f': {grouped(ground.people[block])} people'
+        yield f'  {names.of_block(block)}{people}'
+    if len(blocks) > SOME:
+        yield f'  and {grouped(len(blocks) - SOME)} more'
+
+
+def made_lines(made, ground):
+    """What was audited, as far as it is known."""
+    yield ''
+    yield 'What was audited'
+    for file in made.files:
+        yield f'  {file.digest}  {file.name}, {count(file.size, "byte")}'
+    if made.source:
+        yield f'  {made.source}'
+    if ground:
+        yield found_again(ground)
+    yield f'Program: {made.version or "not told"}'
+    yield f'Made: {made.date}'
+
+
+def text(report, title, more=More()):
     """The lines of a report."""
+    names = more.names
     yield title
     yield f'{KINDS[report.kind]} plan of {count(report.districts, "district")}: it {verdict(report)}.'
     yield f'People {grouped(report.population)}, ideal {exact(report.ideal())}, mean deviation {decimal(report.mean_percent())} percent'
@@ -55,17 +101,27 @@ def text(report, title):
                 yield f'           {figures(report, clause)}'
     yield ''
     yield from people_lines(report)
+    yield from lists(report, more)
+    yield ''
+    yield list_line('Divided counties', map(names.county, report.counties))
+    yield list_line('Divided cities', map(names.city, report.cities))
+    yield list_line('Cities divided within one county', map(names.city, report.cities_in_county))
+    if more.made:
+        yield from made_lines(more.made, more.ground)
+
+
+def lists(report, more):
+    """What does not hold together, the blocks without a district, and the districts that are not nested or are divided."""
     if report.contiguity:
         yield ''
         yield 'What does not hold together'
-        yield from map(gap_line, report.contiguity)
+        yield from (gap_line(gap, more.names) for gap in report.contiguity)
+    if more.ground:
+        yield from piece_lines(more.ground, more.names)
+        yield from unassigned_lines(more.ground, more.names)
     if report.nesting:
         yield ''
         yield list_line('Districts that are not nested', map(str, report.nesting))
     if report.divided_by_congress is not None:
         yield ''
-        yield list_line('Districts that congressional districts divide', list(map(str, report.divided_by_congress)))
-    yield ''
-    yield list_line('Divided counties', report.counties)
-    yield list_line('Divided cities', report.cities)
-    yield list_line('Cities divided within one county', report.cities_in_county)
+        yield list_line('Districts that congressional districts divide', map(str, report.divided_by_congress))

@@ -1,45 +1,92 @@
-"""For tools/report and tools/desk: what a served desk is asked, over HTTP."""
-import contextlib, http.client, json, re
+"""For the tools that ask a served desk: what it is asked, over HTTP, on one connection that is kept."""
+import hashlib, http.client, json, re, ssl
 from urllib.parse import urlsplit
 
 from audit import Refused
+from login import authorization, login, trust
 
 # a revision of 1,048,576 blocks has some 21 million bytes, the list of 65,535 plans some eight
 LARGEST = 64 << 20
 SECONDS = 60
+# what the library takes as a host
+HOST = re.compile(r'[^\x00-\x20\x7f]+\Z')
 NAME = re.compile(r'[A-Za-z0-9._-]{1,64}\Z')
 BLOCK = re.compile(r'([0-9]{15})\|([0-9]{1,3}|ZZ|ZZZ|)\Z')
+PLACED = re.compile(r'([0-9]{15})\|([0-9]{5})?\|([0-9]{1,10})\Z')
+SIZES = {'congress': 99, 'senate': 999, 'house': 999}
+PLAN_KEYS = {'name', 'kind', 'districts', 'revisions'}
+# what a connection that was kept too long ends with: a question may be asked again on a new one
+ENDED = ConnectionResetError, BrokenPipeError, http.client.RemoteDisconnected
 
 
 class Desk:
-    """A desk at an address as http://127.0.0.1:8080, or at one of a proxy."""
+    """A desk at an address as http://127.0.0.1:8080, or behind a proxy at one as https://desk.example.org."""
 
-    def __init__(self, address):
+    def __init__(self, address, netrc=None, authority=None):
+        if '@' in address:
+            # it isn't told again: it may have a password
+            raise Refused('PasswordInAddress', 2)
         try:
             parts = urlsplit(address)
             port = parts.port
         except ValueError:
             raise Refused('BadAddress', 2) from None
-        if parts.scheme not in ('http', 'https') or not parts.hostname or parts.query or parts.fragment or parts.username:
+        if parts.scheme not in ('http', 'https') or not parts.hostname or parts.query or parts.fragment or not HOST.match(parts.hostname):
             raise Refused('BadAddress', 2)
-        kind = http.client.HTTPSConnection if parts.scheme == 'https' else http.client.HTTPConnection
-        self.connect = lambda: kind(parts.hostname, port, timeout=SECONDS)
-        self.path = parts.path.rstrip('/')
+        self.path, self.heads = parts.path.rstrip('/'), {}
+        if parts.scheme == 'https':
+            # a name and a password are told by TLS alone
+            self.heads = authorization(login(parts.hostname, netrc))
+            self.connection = http.client.HTTPSConnection(parts.hostname, port, timeout=SECONDS, context=trust(authority))
+        else:
+            self.connection = http.client.HTTPConnection(parts.hostname, port, timeout=SECONDS)
 
-    def ask(self, path):
-        """The body of the answer to a GET; a refusal has the desk's name of it."""
+    def close(self):
+        self.connection.close()
+
+    def answer(self, method, path, body):
+        """The status and the body of the answer."""
+        kept = self.connection.sock is not None
         try:
-            with contextlib.closing(self.connect()) as connection:
-                connection.request('GET', self.path + path)
-                answer = connection.getresponse()
-                body = answer.read(LARGEST + 1)
+            self.connection.request(method, self.path + path, body, self.heads)
+            answer = self.connection.getresponse()
+            found = answer.read(LARGEST + 1)
+            if answer.length and len(found) <= LARGEST:
+                # `read` itself takes a body that was cut for a whole one
+                raise http.client.IncompleteRead(found)
+            return answer.status, found
+        except ENDED:
+            self.close()
+            if kept and method == 'GET':
+                return self.answer(method, path, body)
+            raise
+
+    def ask(self, path, method='GET', body=None):
+        """The body of the answer to a request that is carried out; a refusal has the desk's name of it."""
+        try:
+            status, found = self.answer(method, path, body)
+        except ssl.SSLCertVerificationError:
+            raise Refused('BadCertificate', 4) from None
+        except ssl.SSLError as fault:
+            raise Refused('NoAnswer' if isinstance(fault, ssl.SSLEOFError) else 'NoTls', 4) from None
         except (OSError, http.client.HTTPException, ValueError):
             raise Refused('NoAnswer', 4) from None
-        if len(body) > LARGEST:
+        if len(found) > LARGEST:
             raise Refused('TooLarge', 4)
-        if answer.status != 200:
-            raise Refused(f'desk {answer.status} {refusal(body)}'.rstrip(), 4)
-        return body
+        if status not in (200, 201):
+            raise Refused(self.refused(status, found), 4)
+        return found
+
+    def refused(self, status, body):
+        """Why there is no answer: the desk's own word, or what a proxy before it says."""
+        name = refusal(body)
+        if name:
+            return f'desk {status} {name}'
+        if status == 401:
+            return 'BadLogin' if self.heads else 'NoLogin'
+        if status == 403:
+            return 'Forbidden'
+        return f'NoDesk {status}' if status in (502, 503, 504) else f'NotADesk {status}'
 
     def audit(self, plan, revision, **beside):
         """The report of a revision, beside those of the companions that are given by the names of their kinds."""
@@ -50,25 +97,36 @@ class Desk:
         """Each plan's name, kind, number of districts and number of revisions."""
         try:
             plans = json.loads(self.ask('/plans').decode())['plans']
-            found = [(plan['name'], plan['kind'], plan['districts'], plan['revisions']) for plan in plans]
         except (ValueError, KeyError, TypeError, RecursionError):
-            raise Refused('BadPlans', 4) from None
-        for name, kind, districts, revisions in found:
-            if not (is_name(name) and isinstance(kind, str) and type(districts) is int and type(revisions) is int):
-                raise Refused('BadPlans', 4)
-        return found
+            raise Refused('NotADesk', 4) from None
+        if not isinstance(plans, list) or not all(map(is_plan, plans)) or len({plan['name'] for plan in plans}) < len(plans):
+            raise Refused('BadPlans', 4)
+        return [(plan['name'], plan['kind'], plan['districts'], plan['revisions']) for plan in plans]
+
+    def text(self, plan, revision):
+        """A revision as its text, a block assignment file."""
+        return self.ask(f'/plans/{plan}/revisions/{revision}')
 
     def districts(self, plan, revision):
         """The code of each block in a revision; the county of a block is its first five digits."""
-        lines = self.ask(f'/plans/{plan}/revisions/{revision}').decode('latin-1').split('\n')
-        found = [BLOCK.match(line) for line in lines[1:] if line]
-        if lines[0] != 'BLOCKID|DISTRICT' or None in found:
-            raise Refused('BadRevision', 4)
-        return {match[1]: match[2] for match in found}
+        return districts(self.text(plan, revision))
+
+    def blocks(self):
+        """The text that lists the blocks, each with its place and its people."""
+        return self.ask('/blocks')
 
 
 def is_name(text):
     return isinstance(text, str) and NAME.match(text) is not None
+
+
+def is_plan(value):
+    """Whether a value of JSON tells of a plan, by the keys that a desk's list has."""
+    if not isinstance(value, dict) or not PLAN_KEYS <= value.keys() or not isinstance(value['kind'], str):
+        return False
+    districts, revisions = value['districts'], value['revisions']
+    return is_name(value['name']) and type(districts) is int and type(revisions) is int and \
+        1 <= districts <= SIZES.get(value['kind'], 0) and 0 <= revisions <= 65_535
 
 
 def refusal(body):
@@ -80,12 +138,33 @@ def refusal(body):
     return name if isinstance(name, str) and re.match(r'[A-Za-z]{1,40}\Z', name) else ''
 
 
-def changes(before, after):
-    """For each county that differs between two revisions, how many of its blocks went from which code to which."""
+def digest(data):
+    return hashlib.sha256(data).hexdigest()
+
+
+def lines_of(body, head, line, code):
+    """What the line's parts match in each line behind the head."""
+    lines = body.decode('latin-1').split('\n')
+    found = [line.match(each) for each in lines[1:] if each]
+    if lines[0] != head or None in found:
+        raise Refused(code, 4)
+    return found
+
+
+def districts(text):
+    """The code of each block that a block assignment text lists."""
+    return {match[1]: match[2] for match in lines_of(text, 'BLOCKID|DISTRICT', BLOCK, 'BadRevision')}
+
+
+def people(text):
+    """The people of each block, from the desk's list of blocks."""
+    return {match[1]: int(match[3]) for match in lines_of(text, 'BLOCKID|PLACE|POPULATION', PLACED, 'BadBlocks')}
+
+
+def overlaps(before, after):
+    """The blocks of each county by their codes in one plan and in another: for each such pair the blocks."""
     found = {}
     for block in sorted(before.keys() | after.keys()):
-        move = before.get(block, ''), after.get(block, '')
-        if move[0] != move[1]:
-            county = found.setdefault(block[:5], {})
-            county[move] = county.get(move, 0) + 1
+        pair = before.get(block, ''), after.get(block, '')
+        found.setdefault(block[:5], {}).setdefault(pair, []).append(block)
     return found

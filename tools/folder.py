@@ -1,0 +1,96 @@
+"""For tools/desk, tools/export and tools/release: files that are written whole or not at all, and a folder that knows what each of
+its pages was made of."""
+import glob, json, os
+
+from audit import Refused
+from served import digest
+
+MANIFEST = 'pages.json'
+
+
+def read_file(path):
+    """The bytes of a file, or none where it can't be read."""
+    try:
+        with open(path, 'rb') as file:
+            return file.read()
+    except (OSError, ValueError):
+        return None
+
+
+def write_whole(path, data):
+    """Writes a file beside its place and then puts it there, so that a stop leaves the old one or the new one."""
+    part = f'{path}.part'
+    try:
+        os.makedirs(os.path.dirname(path) or '.', exist_ok=True)
+        with open(part, 'wb') as file:
+            file.write(data)
+            file.flush()
+            os.fsync(file.fileno())
+        os.replace(part, path)
+    except (OSError, ValueError):
+        raise Refused('WriteFault', 6) from None
+
+
+def as_json(value):
+    return (json.dumps(value, indent=1, sort_keys=True) + '\n').encode()
+
+
+def maker():
+    """What makes the pages: the bytes of these tools."""
+    here = os.path.dirname(os.path.abspath(__file__))
+    return digest(b''.join(read_file(path) or b'' for path in sorted([*glob.glob(f'{here}/*.py'), f'{here}/desk'])))
+
+
+class Pages:
+    """A folder of pages. Its manifest has for each file what it was made of and the file's own hash; a page that would be made of
+    the same again stays as it is, and one of an earlier run that isn't shown any more is taken away."""
+
+    def __init__(self, path):
+        self.path, self.maker = path, maker()
+        self.known, self.now, self.made, self.saved = self.read(), {}, 0, 0
+
+    def read(self):
+        try:
+            known = json.loads(read_file(self.place(MANIFEST)) or b'{}')['files']
+            return {name: entry for name, entry in known.items() if os.path.basename(name) == name and isinstance(entry, dict)}
+        except (ValueError, KeyError, TypeError, AttributeError, RecursionError):
+            return {}
+
+    def place(self, name):
+        return os.path.join(self.path, name)
+
+    def stands(self, name):
+        """Whether the file is as an earlier run wrote it."""
+        data = read_file(self.place(name))
+        return data is not None and digest(data) == self.known.get(name, {}).get('sha256')
+
+    def put(self, name, of, make):
+        """Writes what `make` gives, unless it was made of the same."""
+        of = digest(as_json([self.maker, of]))
+        if self.known.get(name, {}).get('of') == of and self.stands(name):
+            self.now[name] = self.known[name]
+            return
+        data = make()
+        data = data.encode() if isinstance(data, str) else data
+        write_whole(self.place(name), data)
+        self.now[name] = {'of': of, 'sha256': digest(data)}
+        self.made += 1
+
+    def save(self, files):
+        write_whole(self.place(MANIFEST), as_json({'format': 1, 'files': files}))
+        self.saved = self.made
+
+    def note(self):
+        """Keeps what was made so far, so that a run that is stopped here needn't make it again."""
+        if self.made > self.saved:
+            self.save({**self.known, **self.now})
+
+    def finish(self):
+        """Takes away what is not shown any more and is as it was written, and keeps what is known now."""
+        for name in sorted(self.known.keys() - self.now.keys()):
+            if self.stands(name):
+                try:
+                    os.remove(self.place(name))
+                except OSError:
+                    raise Refused('WriteFault', 6) from None
+        self.save(self.now)
