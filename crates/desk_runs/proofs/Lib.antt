@@ -3,3 +3,4 @@ mod Runs
 mod One
 mod Migrated
 mod Following
+pub mod Read
