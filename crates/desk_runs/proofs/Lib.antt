@@ -3,4 +3,3 @@ mod Runs
 mod One
 mod Migrated
 mod Following
-pub mod Read

@@ -22,7 +22,7 @@ use Rattle.desk_runs.specs.Recovery.{ImagesAreOne, HoldsOne, HoldsEither, Shows,
 abbrev Held : Bool → ℕ → Image → Desk → Type 0
 Held new n P d = HoldsDeskOf new n P (root_in P) (free_in P) d
 
-pub held_pages : (new : Bool) (sectors : ℕ) (d : Desk) (c : Image) (is : OpensDeskOf new sectors d c) → Held new is.n (pages is.J c) d
+held_pages : (new : Bool) (sectors : ℕ) (d : Desk) (c : Image) (is : OpensDeskOf new sectors d c) → Held new is.n (pages is.J c) d
 held_pages new sectors d c is = subst (λ (P : Image). Held new is.n P d) (λ i p. sym (is.opens.each p) i) is.holds
 
 pub images_are_one : HoldsOneDesk → ImagesAreOne
@@ -46,7 +46,7 @@ either_as sectors d c = ⊎_elim (λ is. (true, is)) (λ is. (false, is))
 pub one_opens : ImagesAreOne → (new : Bool) (sectors : ℕ) (d e : Desk) (c : Image) → sectors ≤ 2 ^ 32 → OpensEither sectors d c → OpensDeskOf new sectors e c → e ≡ d
 one_opens one new sectors d e c few either opens = let is = either_as sectors d c either in one new is.0 sectors e d c few opens is.1
 
-pub few_sectors : (disk : Disk) → disk.sectors ≤ 2 ^ 32
+few_sectors : (disk : Disk) → disk.sectors ≤ 2 ^ 32
 few_sectors disk = let few = disk.few in omega (arith, few)
 
 -- all images open to a desk

@@ -1,6 +1,5 @@
 //! Lives of a store, one after the other, each ended by a stop.
 ghost use Rattle.desk_runs.specs.Lives.{LivesSurvive};
-ghost use Rattle.desk_runs.specs.Reading.{HoldsWhatIsRead, FindsWhatIsRead};
 
 use crate::desk_law::one_desk_opens;
 use crate::law::each_run_survives;
@@ -15,10 +14,3 @@ pub fn lives_survive<D: SectorDevice>()
     one_desk_opens();
     each_run_survives::<D>();
 }
-
-/// A device that was synced as it was opened is one on which lives may begin, by what it reads; and where it reads as an image which a stop
-/// may have left, it is what the next life finds.
-pub fn lives_find_what_is_read<D: SectorDevice>()
-    ensures first { HoldsWhatIsRead D.SectorDevice }
-    ensures next { FindsWhatIsRead D.SectorDevice }
-{}

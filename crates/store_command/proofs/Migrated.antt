@@ -10,7 +10,7 @@ use Rattle.desk_model.specs.Desk.{Desk}
 use Rattle.store_rows.specs.Rows.{KeyMap}
 use Rattle.store_rows.specs.Shares.{hold}
 use Rattle.desk_pages.specs.Desks.{OpensDesk, OpensOld, OpensEither}
-use Rattle.desk_runs.specs.Reading.{BeginsAtWhatIsRead}
+use Rattle.store_command.specs.Reading.{BeginsAtWhatIsRead}
 use Rattle.desk_migration.specs.Holding.{AreUnheld, IsHeldBy, hold_pairs}
 use Rattle.desk_migration.specs.Migrating.{device_of, disk_of, has_ended, is_halted, sectors_of, Ends, HasMore, HasRows, Keeps, KeepsNew, Moves}
 use Rattle.desk_migration.specs.Puts.{StepErr}

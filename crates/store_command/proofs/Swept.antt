@@ -11,7 +11,7 @@ use Rattle.desk_store.specs.declared.clerk.Clerk.{Clerk}
 use Rattle.desk_store.specs.Clerks.{desk_of, disk_of, pages_of, Keeps, Moves}
 use Rattle.desk_store.specs.Sweeps.{HasRows, HasSwept as HasSweptStep, SweepRefused}
 use Rattle.desk_store.proofs.Moved.{unmoved}
-use Rattle.desk_runs.specs.Reading.{ShowsWhatIsRead}
+use Rattle.store_command.specs.Reading.{ShowsWhatIsRead}
 use Rattle.desk_loading.specs.Openings.{IsOpened}
 use Rattle.desk_loading.proofs.Moves.{then_moved}
 use Rattle.store_sweep.specs.declared.error.SweepError.{SweepError}

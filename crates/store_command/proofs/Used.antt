@@ -12,7 +12,7 @@ use Rattle.desk_store.specs.declared.clerk.Clerk.{Clerk}
 use Rattle.desk_store.specs.declared.loads.LoadError.{LoadError}
 use Rattle.desk_store.specs.Clerks.{desk_of, disk_of, pages_of, sectors_of, Keeps, Moves}
 use Rattle.desk_store.specs.Keeping.{IsLeft, OpensOneMore, sealed_desk}
-use Rattle.desk_runs.specs.Reading.{LeavesDesk, ReadsDesk, ShowsWhatIsRead}
+use Rattle.store_command.specs.Reading.{LeavesDesk, ReadsDesk, ShowsWhatIsRead}
 use Rattle.desk_loading.specs.Loads.{IsLoaded, LoadRefused}
 use Rattle.desk_loading.specs.Openings.{IsOpened}
 use Rattle.desk_loading.proofs.Moves.{OneOf}

@@ -12,7 +12,7 @@ use Rattle.desk_store.specs.declared.opening.OpenError.{OpenError}
 use Rattle.desk_store.specs.declared.loads.LoadError.{LoadError}
 use Rattle.desk_store.specs.Clerks.{desk_of, is_halted, pages_of}
 use Rattle.desk_store.specs.Keeping.{sealed_desk}
-use Rattle.desk_runs.specs.Reading.{ReadsDesk, RefusesWhatIsRead, ShowsWhatIsRead}
+use Rattle.store_command.specs.Reading.{ReadsDesk, RefusesWhatIsRead, ShowsWhatIsRead}
 use Rattle.desk_loading.specs.Openings.{IsOpened, IsUnopened}
 use Rattle.desk_loading.specs.Loads.{IsLoaded, LoadRefused}
 use Rattle.store_command.specs.Faults.{fault_of_open, fault_of_load}

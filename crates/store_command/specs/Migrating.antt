@@ -8,7 +8,7 @@ use Rattle.desk_model.specs.Desk.{Desk}
 use Rattle.store_rows.specs.Rows.{KeyMap}
 use Rattle.desk_pages.specs.Desks.{OpensDesk, OpensEither, OpensOld}
 use Rattle.desk_pages.specs.Openings.{AllVersions, IsOneOld, IsSpared, OpensOneAs}
-use Rattle.desk_runs.specs.Reading.{BarsWhatIsRead, BeginsAtWhatIsRead, ReadsOld}
+use Rattle.store_command.specs.Reading.{BarsWhatIsRead, BeginsAtWhatIsRead, ReadsOld}
 use Rattle.desk_migration.specs.Holding.{IsHeldBy}
 use Rattle.desk_migration.specs.Migrating.{device_of, disk_of, has_ended, is_halted, sectors_of, Ends, HasRows, Keeps, KeepsNew, Moves}
 use Rattle.desk_migration.specs.Openings.{IsFound, IsRefused}

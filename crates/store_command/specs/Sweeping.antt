@@ -10,7 +10,7 @@ use Rattle.store_sweep.specs.declared.error.SweepError.{SweepError}
 use Rattle.store_sweep.specs.declared.error.SweepError.TheVariants as sweep
 use Rattle.desk_store.specs.declared.clerk.Clerk.{Clerk}
 use Rattle.desk_store.specs.Clerks.{desk_of, disk_of, is_halted, pages_of, Moves}
-use Rattle.desk_runs.specs.Reading.{LeavesDesk, ShowsWhatIsRead}
+use Rattle.store_command.specs.Reading.{LeavesDesk, ShowsWhatIsRead}
 use Rattle.desk_store.specs.Sweeps.{HasRows, IsClean, SweepRefused}
 use Rattle.desk_loading.specs.Openings.{IsOpened}
 use Rattle.command_output.specs.Writing.{Written, write_fault_line}

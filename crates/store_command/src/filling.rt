@@ -2,7 +2,7 @@
 ghost use Rattle.std.specs.Prelude.{IfOk, IfErr};
 ghost use Rattle.sector_device.specs.Disk.{IsSynced};
 ghost use Rattle.desk_loading.specs.Openings.{IsOpened};
-ghost use Rattle.desk_runs.specs.Reading.{ShowsWhatIsRead};
+ghost use Rattle.store_command.specs.Reading.{ShowsWhatIsRead};
 ghost use Rattle.store_command.specs.Filling.{IsNotOpened, FillsDevice};
 
 use crate::fault::{StoreFault, load_fault, open_fault};

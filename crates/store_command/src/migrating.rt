@@ -2,7 +2,7 @@
 ghost use Rattle.std.specs.Prelude.{◌≡◌, ◌≤◌, ◌^◌, false, IfOk, IfErr};
 ghost use Rattle.sector_device.specs.Disk.{IsSynced};
 ghost use Rattle.desk_migration.specs.Migrating.{is_halted, Moves};
-ghost use Rattle.desk_runs.specs.Reading.{BeginsAtWhatIsRead};
+ghost use Rattle.store_command.specs.Reading.{BeginsAtWhatIsRead};
 ghost use Rattle.store_command.specs.Migrating.{fault_of_begin, fault_of_migration, IsBegun, IsNotBegun, PutsAll, MigratesAll};
 
 use crate::fault::StoreFault;

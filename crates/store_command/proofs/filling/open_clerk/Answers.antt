@@ -1,4 +1,4 @@
-use Rattle.desk_runs.proofs.Read.{shows, refuses}
+use Rattle.store_command.proofs.Read.{shows, refuses}
 use Rattle.store_command.proofs.filling.open_clerk.Goals as goal
 
 pub returns-in-Ok-clause-shows : goal.returns-in-Ok-clause-shows

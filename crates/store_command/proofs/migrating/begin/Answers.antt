@@ -1,4 +1,4 @@
-use Rattle.desk_runs.proofs.Read.{begins, bars_it}
+use Rattle.store_command.proofs.Read.{begins, bars_it}
 use Rattle.store_command.proofs.migrating.begin.Goals as goal
 
 pub returns-in-Ok-clause-ok : goal.returns-in-Ok-clause-ok

@@ -1,5 +1,5 @@
-use Rattle.desk_runs.proofs.Read.{holds_read, finds_read}
-use Rattle.desk_runs.proofs.lives.lives_find_what_is_read.Goals as goal
+use Rattle.store_command.proofs.Read.{holds_read, finds_read}
+use Rattle.file_commands.proofs.premises.lives_find_what_is_read.Goals as goal
 
 pub returns-clause-first : goal.returns-clause-first
 returns-clause-first g c = holds_read g.D.SectorDevice

@@ -26,8 +26,7 @@ use Rattle.desk_migration.specs.Migrating.{disk_of as migrated_disk, Keeps as Ke
 use Rattle.desk_migration.specs.Openings.{IsRefused, KeepsOne}
 use Rattle.desk_runs.specs.Recovery.{ImagesAreOne}
 use Rattle.desk_runs.specs.Lives.{left_by}
-use Rattle.desk_runs.specs.Reading.{ReadsDesk, ReadsOld, ShowsDesk, ShowsWhatIsRead, BeginsAt, BeginsAtWhatIsRead, RefusesDesk, RefusesOld, RefusesWhatIsRead, BarsOld, BarsDesk, BarsWhatIsRead, HoldsWhatIsRead, FindsWhatIsRead}
-use Rattle.desk_runs.proofs.One.{held_pages, few_sectors}
+use Rattle.store_command.specs.Reading.{ReadsDesk, ReadsOld, ShowsDesk, ShowsWhatIsRead, BeginsAt, BeginsAtWhatIsRead, RefusesDesk, RefusesOld, RefusesWhatIsRead, BarsOld, BarsDesk, BarsWhatIsRead, HoldsWhatIsRead, FindsWhatIsRead}
 
 -- ---- one image, one version
 version_once : (m : KeyMap) → row_in m version ≡ version_row true → row_in m version ≡ version_row false → ⊥
@@ -35,6 +34,9 @@ version_once m one other = let clash = sym one ∙ other in cc
 
 abbrev Held : Bool → ℕ → Image → Desk → Type 0
 Held new n P d = HoldsDeskOf new n P (root_in P) (free_in P) d
+
+held_pages : (new : Bool) (sectors : ℕ) (d : Desk) (c : Image) (is : OpensDeskOf new sectors d c) → Held new is.n (pages is.J c) d
+held_pages new sectors d c is = subst (λ (P : Image). Held new is.n P d) (λ i p. sym (is.opens.each p) i) is.holds
 
 moved : (new : Bool) (J n K m : ℕ) (d : Desk) (c : Image) → K ≡ J → m ≡ n → Held new m (pages K c) d → Held new n (pages J c) d
 moved new J n K m d c journal count held = subst (λ (L : ℕ). Held new n (pages L c) d) journal (subst (λ (l : ℕ). Held new l (pages K c) d) count held)
@@ -53,6 +55,13 @@ one_version sectors d e c few is other =
     let journal : other.J ≡ is.J = same_journal other.J other.n is.J is.n (omega (arith, less)) (omega (arith, most)) (sym other.opens.store.header ∙ is.opens.store.header) in
     let count : other.n ≡ is.n = omega (arith, journal, is.whole, other.whole) in
     versions_clash is.n (pages is.J c) d e (omega (arith, few, is.whole)) (held_pages true sectors d c is) (moved false is.J is.n other.J other.n e c journal count (held_pages false sectors e c other))
+
+few_sectors : (disk : Disk) → disk.sectors ≤ 2 ^ 32
+few_sectors disk = let few = disk.few in omega (arith, few)
+
+pub in_either : (new : Bool) (sectors : ℕ) (d : Desk) (c : Image) → OpensDeskOf new sectors d c → OpensEither sectors d c
+in_either true sectors d c opens = inl opens
+in_either false sectors d c opens = inr opens
 
 module _ (disk : Disk) (synced : IsSynced disk) where
   -- an image that a stop may leave now is what is read
