@@ -1,1 +1,1 @@
-mod Met
+mod JustOpened

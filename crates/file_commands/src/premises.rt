@@ -23,7 +23,10 @@ pub fn premises_are_met<S: Contents>(
     ensures { IfOk result (λ clerk. HasNoPremise (first_image S.Contents.sector) clerk) }
 {
     let mut stores = StoreFiles::new(rt, start);
-    let device: FileDevice<S> = stores.open(name)?;
+    let device: FileDevice<S> = match stores.open(name) {
+        Ok(device) => device,
+        Err(fault) => return Err(fault),
+    };
     match open_clerk(rt.alloc(), device) {
         Ok(clerk) => Ok(clerk),
         Err((fault, left)) => {
