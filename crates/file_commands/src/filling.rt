@@ -9,7 +9,7 @@ use byte_stream::source::ReadSource;
 use command_line::options::Size;
 use command_output::status::Status;
 use command_progress::Telling;
-use sector_file::{FileDevice, Unknown};
+use sector_file::{Contents, FileDevice};
 use state_files::open::{CensusPaths, Opener, open_census};
 use std::fs::File;
 use std::io::IsTerminal;
@@ -17,14 +17,14 @@ use store_command::format::format;
 use store_command::load::{StateFiles, load};
 
 /// Makes a store in a new file.
-pub fn format_store(rt: &HostRuntime, name: &str, size: Size) -> Status
+pub fn format_store<S: Contents>(rt: &HostRuntime, name: &str, size: Size, start: S) -> Status
     requires least { 256 ≤ size.journal_pages }
     requires most { size.journal_pages ≤ 65536 }
 {
-    let mut stores = StoreFiles::new(rt);
+    let mut stores = StoreFiles::new(rt, start);
     let mut writer = WriteSink::new(rt.stdout());
     let mut errors = standard_error(rt);
-    let status = format::<FileDevice<Unknown>, _, _, _>(
+    let status = format::<FileDevice<S>, _, _, _>(
         rt.alloc(),
         &mut stores,
         name,
@@ -39,23 +39,24 @@ pub fn format_store(rt: &HostRuntime, name: &str, size: Size) -> Status
 }
 
 /// Fills a store with what the files at these paths say.
-pub fn load_state(
+pub fn load_state<S: Contents>(
     rt: &HostRuntime,
     name: &str,
     paths: CensusPaths<'_>,
     neighbours: &str,
+    start: S,
 ) -> Status {
     let mut opener = Files::new(rt);
     let census = open_census(&mut opener, paths);
     let gal = opener.open(neighbours);
     let mut files: StateFiles<ReadSource<File>> = StateFiles { census, gal };
-    let mut stores = StoreFiles::new(rt);
+    let mut stores = StoreFiles::new(rt, start);
     let mut writer = WriteSink::new(rt.stdout());
     let mut errors = standard_error(rt);
     let terminal = rt.stderr();
     let is_terminal = terminal.is_terminal();
     let mut progress = Telling::new(terminal, is_terminal, b"plandesk: load: ", 65_536);
-    let status = load::<_, FileDevice<Unknown>, _, _, _, _>(
+    let status = load::<_, FileDevice<S>, _, _, _, _>(
         rt.alloc(),
         &mut files,
         &mut stores,

@@ -4,19 +4,19 @@ use crate::stores::StoreFiles;
 use byte_stream::sink::WriteSink;
 use command_output::status::Status;
 use command_progress::Telling;
-use sector_file::{FileDevice, Unknown};
+use sector_file::{Contents, FileDevice};
 use std::io::IsTerminal;
 use store_command::migrate::migrate;
 
 /// Leads a store from the old version to the new one.
-pub fn migrate_desk(rt: &HostRuntime, name: &str) -> Status {
-    let mut stores = StoreFiles::new(rt);
+pub fn migrate_desk<S: Contents>(rt: &HostRuntime, name: &str, start: S) -> Status {
+    let mut stores = StoreFiles::new(rt, start);
     let mut writer = WriteSink::new(rt.stdout());
     let mut errors = standard_error(rt);
     let terminal = rt.stderr();
     let is_terminal = terminal.is_terminal();
     let mut progress = Telling::new(terminal, is_terminal, b"plandesk: migrate: ", 16_384);
-    let status = migrate::<FileDevice<Unknown>, _, _, _, _>(
+    let status = migrate::<FileDevice<S>, _, _, _, _>(
         rt.alloc(),
         &mut stores,
         name,

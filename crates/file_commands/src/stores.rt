@@ -1,25 +1,32 @@
 //! The files of stores, by their paths.
+ghost use Rattle.std.specs.Prelude.{IfOk};
+ghost use Rattle.sector_file.specs.Device.{file_disk, first_image};
+ghost use Rattle.file_commands.specs.Premises.{IsJustOpened};
+
 use fault_words::explanation::Reason;
 use sector_device::SECTOR_SIZE;
-use sector_file::{FileDevice, FileError, Unknown};
+use sector_file::{Contents, FileDevice, FileError};
 use std::fs::File;
 use std::io::{Error, ErrorKind};
 use store_command::fault::StoreFault;
 use store_command::stores::Stores;
 
-/// Makes, opens and closes the files of stores in the file system, and knows why the last one was refused.
+/// Makes, opens and closes the file of a store in the file system, and knows why it was refused. `S` says what the file holds.
 #[derive(Drop)]
-pub struct StoreFiles<'a> {
+pub struct StoreFiles<'a, S: Contents> {
     rt: &'a HostRuntime,
+    /// Used up by the file that is made or opened, since no other one need hold the same.
+    start: Option<S>,
     /// The last device is that of a new file.
     is_new: bool,
     reason: Option<Reason>,
 }
 
-impl<'a> StoreFiles<'a> {
-    pub fn new(rt: &'a HostRuntime) -> StoreFiles<'a> {
+impl<'a, S: Contents> StoreFiles<'a, S> {
+    pub fn new(rt: &'a HostRuntime, start: S) -> StoreFiles<'a, S> {
         StoreFiles {
             rt,
+            start: Some(start),
             is_new: false,
             reason: None,
         }
@@ -96,25 +103,42 @@ fn sectors_of(rt: &HostRuntime, name: &str) -> Result<u32, Refused> {
     Ok(sectors as u32)
 }
 
+/// What is told where one file was made or opened, and another is asked for.
+fn refused_again() -> Refused {
+    without_reason(StoreFault::DeviceFault)
+}
+
 /// Opens a file as a device of as many sectors as it has.
-fn open_device(rt: &HostRuntime, name: &str) -> Result<FileDevice<Unknown>, Refused> {
+fn open_device<S: Contents>(
+    rt: &HostRuntime,
+    name: &str,
+    start: S,
+) -> Result<FileDevice<S>, Refused>
+    ensures { IfOk result (λ device. IsJustOpened (first_image S.Contents.sector) (file_disk device)) }
+{
     let sectors = sectors_of(rt, name)?;
-    match FileDevice::open(rt, name, sectors, Unknown) {
+    match FileDevice::open(rt, name, sectors, start) {
         Ok(device) => Ok(device),
         Err(e) => Err(refused_as(e)),
     }
 }
 
-impl<'a> Stores<FileDevice<Unknown>> for StoreFiles<'a> {
-    // What the file system has under a name isn't known.
+impl<'a, S: Contents> Stores<FileDevice<S>> for StoreFiles<'a, S> {
+    ghost use Rattle.sector_file.specs.Device.{file_disk, first_image};
+    ghost use Rattle.file_commands.specs.Premises.{IsJustOpened};
+
     ghost makes = { λ _ _ _ _ _. Unit {0} };
 
-    ghost opens = { λ _ _ _ _. Unit {0} };
+    // What the file system has under a name is what `S` says.
+    ghost opens = { λ _ _ result _. IfOk result (λ device. IsJustOpened (first_image S.Contents.sector) (file_disk device)) };
 
     ghost closes = { λ _ _ _. Unit {0} };
 
-    fn make(&mut self, name: &str, sectors: u32) -> Result<FileDevice<Unknown>, StoreFault> {
-        match FileDevice::create(self.rt, name, sectors, Unknown) {
+    fn make(&mut self, name: &str, sectors: u32) -> Result<FileDevice<S>, StoreFault> {
+        let Some(start) = self.start.take() else {
+            return Err(self.refuse(refused_again()));
+        };
+        match FileDevice::create(self.rt, name, sectors, start) {
             Ok(device) => {
                 self.is_new = true;
                 Ok(device)
@@ -123,8 +147,11 @@ impl<'a> Stores<FileDevice<Unknown>> for StoreFiles<'a> {
         }
     }
 
-    fn open(&mut self, name: &str) -> Result<FileDevice<Unknown>, StoreFault> {
-        match open_device(self.rt, name) {
+    fn open(&mut self, name: &str) -> Result<FileDevice<S>, StoreFault> {
+        let Some(start) = self.start.take() else {
+            return Err(self.refuse(refused_again()));
+        };
+        match open_device(self.rt, name, start) {
             Ok(device) => {
                 self.is_new = false;
                 Ok(device)
@@ -135,7 +162,7 @@ impl<'a> Stores<FileDevice<Unknown>> for StoreFiles<'a> {
 
     // A device's file closes where the device is dropped. That the disk is full is a reason for a new file alone, which is to be
     // made again.
-    fn close(&mut self, device: FileDevice<Unknown>) {
+    fn close(&mut self, device: FileDevice<S>) {
         if self.is_new && device.is_full() {
             self.reason = Some(Reason::NoRoom);
         }

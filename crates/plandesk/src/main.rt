@@ -7,6 +7,7 @@ mod serving;
 
 use crate::run::run;
 use command_output::status::Status;
+use sector_file::{Contents, Unknown};
 use std::env;
 use std::io::ErrorKind;
 use std::process::ExitCode;
@@ -35,9 +36,10 @@ fn all_words(rt: &HostRuntime) -> Result<Vec<String>, Status> {
     }
 }
 
-fn run_words<T: Threads + Wait + Clock + Copy + Send + Sync + 'static>(
+fn run_words<T: Threads + Wait + Clock + Copy + Send + Sync + 'static, S: Contents + Send + Sync>(
     rt: &HostRuntime,
     threads: &T,
+    start: S,
 ) -> Result<Status, Status> {
     let words = all_words(rt)?;
     let mut texts = Vec::with_capacity(rt.alloc(), words.len())?;
@@ -46,11 +48,12 @@ fn run_words<T: Threads + Wait + Clock + Copy + Send + Sync + 'static>(
             return Err(Status::Memory);
         }
     }
-    Ok(run(rt, threads, texts.as_slice()))
+    Ok(run(rt, threads, texts.as_slice(), start))
 }
 
+/// What a store's file holds is not known here: all below is proved whatever it holds, and this is the one place that names it.
 fn main(rt: HostRuntime) -> ExitCode {
-    match run_words(&rt, &rt) {
+    match run_words(&rt, &rt, Unknown) {
         Ok(status) => ExitCode::from(status.code()),
         Err(status) => ExitCode::from(status.code()),
     }

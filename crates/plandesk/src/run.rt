@@ -10,6 +10,7 @@ use file_commands::filling::{format_store, load_state};
 use file_commands::migrating::migrate_desk;
 use file_commands::sweeping::sweep_desk;
 use file_commands::talking::serve_talk;
+use sector_file::Contents;
 use std::io::Write;
 use std::sync::Wait;
 use std::thread::Threads;
@@ -36,21 +37,23 @@ fn end_mistake(rt: &HostRuntime, mistake: &Mistake) -> Status {
 }
 
 /// Does what the words ask for; the first is the program's name. `threads` starts the workers of an audit or of
-/// a served store, which wait for one another, and what writes the log of a served store.
-pub fn run<T: Threads + Wait + Clock + Copy + Send + Sync + 'static>(
+/// a served store, which wait for one another, and what writes the log of a served store. `S` says what the store's file holds, where one
+/// is named.
+pub fn run<T: Threads + Wait + Clock + Copy + Send + Sync + 'static, S: Contents + Send + Sync>(
     rt: &HostRuntime,
     threads: &T,
     words: &[&str],
+    start: S,
 ) -> Status {
     match job_of(rt.alloc(), words) {
         Ok(Job::Talk) => serve_talk(rt),
         Ok(Job::Counts(paths)) => check_counts(rt, paths),
         Ok(Job::Audit(paths, terms, workers)) => check_plan(rt, threads, paths, terms, workers),
-        Ok(Job::Format(name, size)) => format_store(rt, name, size),
-        Ok(Job::Load(name, paths, neighbours)) => load_state(rt, name, paths, neighbours),
-        Ok(Job::Serve(name, serving, log)) => serve_desk(rt, threads, name, serving, log),
-        Ok(Job::Sweep(name)) => sweep_desk(rt, name),
-        Ok(Job::Migrate(name)) => migrate_desk(rt, name),
+        Ok(Job::Format(name, size)) => format_store(rt, name, size, start),
+        Ok(Job::Load(name, paths, neighbours)) => load_state(rt, name, paths, neighbours, start),
+        Ok(Job::Serve(name, serving, log)) => serve_desk(rt, threads, name, serving, log, start),
+        Ok(Job::Sweep(name)) => sweep_desk(rt, name, start),
+        Ok(Job::Migrate(name)) => migrate_desk(rt, name, start),
         Ok(Job::Explain(code)) => explain_code(rt, code),
         Err(mistake) => end_mistake(rt, &mistake),
     }

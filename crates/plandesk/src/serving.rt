@@ -10,7 +10,7 @@ use file_commands::faults::{explain_last, standard_error};
 use file_commands::logs::open_log;
 use file_commands::stores::StoreFiles;
 use http_arrivals::listening::Listening;
-use sector_file::{FileDevice, Unknown};
+use sector_file::{Contents, FileDevice};
 use serve_command::log::refuse_log;
 use serve_command::serve::serve;
 use state_files::fault::OpenFault;
@@ -53,18 +53,22 @@ fn watcher_of(log: &Option<Arc<Log, Global>>) -> Option<&Log> {
 
 /// Serves a store on a port of 127.0.0.1, with a line of a log for each connection. The log's file is opened first. The store is
 /// opened once the socket listens, so that where the port is taken it is left alone.
-pub fn serve_desk<T: Threads + Wait + Clock + Copy + Send + Sync + 'static>(
+pub fn serve_desk<
+    T: Threads + Wait + Clock + Copy + Send + Sync + 'static,
+    S: Contents + Send + Sync,
+>(
     rt: &HostRuntime,
     threads: &T,
     name: &str,
     serving: Serving,
     log: Option<&str>,
+    start: S,
 ) -> Status
     requires workers { 1 ≤ serving.workers }
     requires idle { 1 ≤ serving.idle }
 {
     match log_of(rt, threads, log) {
-        Ok(log) => serve_watched(rt, threads, name, serving, watcher_of(&log)),
+        Ok(log) => serve_watched(rt, threads, name, serving, watcher_of(&log), start),
         Err(fault) => {
             let mut errors = standard_error(rt);
             let status = refuse_log(fault, &mut errors);
@@ -75,12 +79,13 @@ pub fn serve_desk<T: Threads + Wait + Clock + Copy + Send + Sync + 'static>(
 }
 
 /// The same, with a log or without one.
-fn serve_watched<T: Threads + Wait + Clock + Sync>(
+fn serve_watched<T: Threads + Wait + Clock + Sync, S: Contents + Send + Sync>(
     rt: &HostRuntime,
     threads: &T,
     name: &str,
     serving: Serving,
     log: Option<&Log>,
+    start: S,
 ) -> Status
     requires workers { 1 ≤ serving.workers }
     requires idle { 1 ≤ serving.idle }
@@ -93,51 +98,56 @@ fn serve_watched<T: Threads + Wait + Clock + Sync>(
                 serving.idle,
             );
             let watching = Watching::new(threads, &listening, log);
-            serve_given(rt, threads, name, serving, &watching)
+            serve_given(rt, threads, name, serving, &watching, start)
         }
-        Err(_) => serve_nowhere(rt, threads, name, serving),
+        Err(_) => serve_nowhere(rt, threads, name, serving, start),
     }
 }
 
 /// Serves a store to connections that are watched.
-fn serve_given<A: Watched + Sync, T: Threads + Wait + Sync>(
+fn serve_given<A: Watched + Sync, T: Threads + Wait + Sync, S: Contents + Send + Sync>(
     rt: &HostRuntime,
     threads: &T,
     name: &str,
     serving: Serving,
     listening: &A,
+    start: S,
 ) -> Status
     requires { 1 ≤ serving.workers }
 {
-    serve_at(rt, threads, name, serving, Some(listening))
+    serve_at(rt, threads, name, serving, Some(listening), start)
 }
 
 /// Tells that no socket listens.
-fn serve_nowhere<T: Threads + Wait + Clock + Sync>(
+fn serve_nowhere<T: Threads + Wait + Clock + Sync, S: Contents + Send + Sync>(
     rt: &HostRuntime,
     threads: &T,
     name: &str,
     serving: Serving,
+    start: S,
 ) -> Status
     requires { 1 ≤ serving.workers }
 {
-    serve_at::<Watching<'_, '_, '_, Listening<'_>, T>, T>(rt, threads, name, serving, None)
+    serve_at::<Watching<'_, '_, '_, Listening<'_>, T>, T, S>(
+        rt, threads, name, serving, None, start,
+    )
 }
 
 /// Serves a store to the connections that come, where a socket listens.
-fn serve_at<A: Watched + Sync, T: Threads + Wait + Sync>(
+fn serve_at<A: Watched + Sync, T: Threads + Wait + Sync, S: Contents + Send + Sync>(
     rt: &HostRuntime,
     threads: &T,
     name: &str,
     serving: Serving,
     listening: Option<&A>,
+    start: S,
 ) -> Status
     requires { 1 ≤ serving.workers }
 {
-    let mut stores = StoreFiles::new(rt);
+    let mut stores = StoreFiles::new(rt, start);
     let mut writer = WriteSink::new(rt.stdout());
     let mut errors = standard_error(rt);
-    let status = serve::<FileDevice<Unknown>, _, _, _, _, _>(
+    let status = serve::<FileDevice<S>, _, _, _, _, _>(
         threads,
         rt.alloc(),
         &mut stores,

@@ -68,12 +68,14 @@ fn lengthen(file: &File, size: u64) -> Result<(), FileError>
 
 impl<S: Contents> FileDevice<S> {
     ghost use Rattle.std.specs.Prelude.{◌≡◌, ◌≢◌, ◌<◌, ◌*◌, ℕ, IfOk, IfErr};
-    ghost use Rattle.sector_file.specs.Device.{file_disk};
+    ghost use Rattle.sector_device.specs.Disk.{IsSynced};
+    ghost use Rattle.sector_file.specs.Device.{file_disk, first_image};
 
     /// The device of an open file of this size.
     fn of_size(alloc: Global, file: File, size: u64, count: u32) -> Result<FileDevice<S>, FileError>
         ensures ok { IfOk result (λ device. (size ≡ 4096 * count) × ((file_disk device).sectors ≡ count)) }
         ensures held { IfOk result (λ device. (i : ℕ) → i < count → (file_disk device).reads i ≡ S.Contents.sector i) }
+        ensures reads { IfOk result (λ device. (file_disk device).reads ≡ first_image S.Contents.sector count) }
         ensures honest { IfOk result (λ device. (file_disk device).is_honest) }
         ensures err { IfErr result (λ e. (e ≡ FileError.WrongSize) × (size ≢ 4096 * count)) }
     {
@@ -93,7 +95,8 @@ impl<S: Contents> FileDevice<S> {
 
     /// Opens a file that has just so many sectors, and holds it until the device is dropped. The first of these that applies is the
     /// answer: NotFound, NotPermitted, WrongSize, InUse where another open of it holds it; DeviceFault where the system refused the
-    /// opening or its size for any other reason. No sector is read. The start is used up, so that code over any `S` opens one file.
+    /// opening, its size or a sync for any other reason. No sector is read, and none is written. What others wrote before is on the
+    /// disk, since the file is synced: so a stop leaves what is read. The start is used up, so that code over any `S` opens one file.
     pub fn open(
         rt: &HostRuntime,
         path: &str,
@@ -102,6 +105,8 @@ impl<S: Contents> FileDevice<S> {
     ) -> Result<FileDevice<S>, FileError>
         ensures count { IfOk result (λ device. (file_disk device).sectors ≡ count) }
         ensures held { IfOk result (λ device. (i : ℕ) → i < count → (file_disk device).reads i ≡ S.Contents.sector i) }
+        ensures reads { IfOk result (λ device. (file_disk device).reads ≡ first_image S.Contents.sector count) }
+        ensures synced { IfOk result (λ device. IsSynced (file_disk device)) }
         ensures honest { IfOk result (λ device. (file_disk device).is_honest) }
         ensures err { IfErr result (λ e. (e ≢ FileError.Exists) × (e ≢ FileError.NoSpace)) }
     {
@@ -111,9 +116,14 @@ impl<S: Contents> FileDevice<S> {
         };
         let size = size_of(&file)?;
         let held = hold(&file);
-        let device = FileDevice::of_size(rt.alloc(), file, size, count)?;
+        let mut device = FileDevice::<S>::of_size(rt.alloc(), file, size, count)?;
         held?;
-        Ok(device)
+        let lent = &mut device;
+        if sync_sectors::<S>(&lent.file, &mut lent.log, &mut lent.is_full) {
+            Ok(device)
+        } else {
+            Err(FileError::DeviceFault)
+        }
     }
 
     /// Makes a file of so many sectors, where there is none, and holds it. What it has is for the caller to write. Exists where a

@@ -1,15 +1,27 @@
 -- A run from a clerk who is like the first one.
-use Rattle.std.proofs.Common.{◌≡◌, Result, Ok, Err, IfOk, List, sym, subst, ◌∙◌}
+use Rattle.std.proofs.Common.{◌≡◌, false, Result, Ok, Err, IfOk, List, sym, subst, ◌∙◌}
 use Rattle.sector_device.specs.declared.SectorDevice.{Ghosts}
 use Rattle.desk_model.specs.declared.command.Command.{Command}
 use Rattle.desk_model.specs.Desk.{Desk}
 use Rattle.desk_store.specs.declared.clerk.Clerk.{Clerk}
-use Rattle.desk_store.specs.Clerks.{desk_of}
-use Rattle.desk_runs.specs.Runs.{SurvivesEachRun}
+use Rattle.desk_store.specs.Clerks.{desk_of, disk_of, is_halted}
+use Rattle.store_command.specs.Reading.{ShowsWhatIsRead}
+use Rattle.desk_runs.specs.Runs.{Call, Run, SurvivesEachRun}
 use Rattle.desk_gallery.specs.Working.{AreAccepted}
 use Rattle.http_arrivals.specs.declared.ran.Ran.{Ran}
 use Rattle.http_seats.specs.Streams.{Traffic, AreCounted}
-use Rattle.serve_command.specs.Lasting.{IsLike, HasTalked, ServesStreams}
+use Rattle.serve_command.specs.Lasting.{IsLike, HasTalked, Outlasts, OutlastsWhatIsRead, ServesStreams}
+
+honest_before : {D : Type 0} {g : Ghosts D} (x : Clerk D g) (calls : List Call) (z : Clerk D g) → Run x calls z → (disk_of z).is_honest → (disk_of x).is_honest
+honest_before x _ z (Run.over _) honest = honest
+honest_before x _ z (Run.went _ c r y calls _ does run) honest = does.moves.honest (honest_before y calls z run honest)
+
+-- from what the device read as it was opened
+pub lasts_on : {D : Type 0} {g : Ghosts D} (device : D) (first last : Clerk D g) → ShowsWhatIsRead device first → is_halted first ≡ false → (lasts : Outlasts first last) → OutlastsWhatIsRead device first last lasts
+lasts_on device first last shows working lasts honest d reads =
+    let shown = shows d reads in
+    let was = lasts.is_first.honest (honest_before lasts.start lasts.calls last lasts.run honest) in
+    record { desk = shown.desk was; opening = shown.any_moment was; survives = lasts.survives shown.keeps working honest }
 
 module _ {D : Type 0} {g : Ghosts D} {R W : Type 0} (s : Traffic R W) where
   serves_streams : (first last : Clerk D g) (start : Desk) (came_to : Ran) → start ≡ desk_of first → ((x : Clerk D g) → SurvivesEachRun x) → HasTalked s start (λ E h x. IsLike first x) last came_to

@@ -10,8 +10,10 @@ use Rattle.command_output.specs.Writing.{Written, Writes, Told}
 use Rattle.command_output.specs.Faults.{status_of_open}
 use Rattle.state_files.specs.declared.fault.OpenFault.{OpenFault}
 use Rattle.state_files.specs.declared.fault.OpenFault.TheVariants.{Unreadable, Memory as NoMemory}
+use Rattle.desk_model.specs.Desk.{Desk}
 use Rattle.desk_store.specs.declared.clerk.Clerk.{Clerk}
 use Rattle.desk_store.specs.Clerks.{desk_of, is_halted, pages_of, Keeps}
+use Rattle.store_command.specs.Reading.{ReadsDesk, ShowsWhatIsRead}
 use Rattle.desk_gallery.specs.Working.{IsRunFrom}
 use Rattle.http_arrivals.specs.declared.ran.Ran.{Ran}
 use Rattle.http_seats.specs.Streams.{Traffic}
@@ -20,7 +22,7 @@ use Rattle.store_command.specs.Filling.{IsNotOpened}
 use Rattle.store_command.specs.Telling.{store_line, status_of as status_of_store}
 use Rattle.store_command.specs.declared.fault.StoreFault.{StoreFault}
 use Rattle.store_command.specs.declared.fault.StoreFault.TheVariants.{Memory, DeviceFault}
-use Rattle.serve_command.specs.Lasting.{ServesStreams}
+use Rattle.serve_command.specs.Lasting.{OutlastsWhatIsRead, ServesStreams}
 use Rattle.serve_command.specs.declared.fault.ServeFault.{ServeFault}
 use Rattle.serve_command.specs.declared.fault.ServeFault.TheVariants.{Store, Socket, Output}
 
@@ -67,11 +69,12 @@ EndsServing (Ok u) end told_before told_after = (end ≡ status.Done) × (told_a
 EndsServing (Err fault) end told_before told_after = (end ≡ status_of fault) × Told told_before told_after (fault_line fault)
 
 module _ {D O : Type 0} (g : Ghosts D) (opens : O → List ℕ → Result D StoreFault → O → Type 0) (closes : O → D → O → Type 0) where
-  -- this clerk opened the store of the name
+  -- this clerk opened the store of the name, and shows the desk to which opens what its device read
   pub record IsOpen (before : O) (name : List ℕ) (clerk : Clerk D g) (after : O) : Type 0 where
     pub device : D
     pub given : opens before name (Ok device) after
     pub opened : IsOpened device clerk
+    pub shows : ShowsWhatIsRead device clerk
 
   -- a clerk's device was closed as the clerk left it
   abbrev pub ClosesClerk : (before : O) → Clerk D g → (after : O) → Type 0
@@ -97,14 +100,14 @@ module _ {D O : Type 0} (g : Ghosts D) (opens : O → List ℕ → Result D Stor
   OpensStore before name (Ok clerk) after = IsOpen before name clerk after
   OpensStore before name (Err fault) after = opens before name (Err fault) after ⊎ IsNoStore before name fault after
 
-  -- the store of the name was opened and not served: who has it last keeps it if who opened it did, and has the desk after commands
-  -- that were accepted one after the other; and its device was closed
+  -- the store of the name was opened and not served: who has it last keeps it, where what the device read opened to a desk, and has the
+  -- desk after commands that were accepted one after the other; and its device was closed
   pub record IsGivenUp (before : O) (name : List ℕ) (after : O) : Type 0 where
     pub first : Clerk D g
     pub middle : O
     pub found : IsOpen before name first middle
     pub last : Clerk D g
-    pub keeps : Keeps first → Keeps last
+    pub keeps : (d : Desk) → ReadsDesk (g.disk found.device) d → Keeps last
     pub ran : IsRunFrom (desk_of first) (desk_of last)
     pub closed : ClosesClerk middle last after
 
@@ -114,20 +117,22 @@ module _ {D O : Type 0} (g : Ghosts D) (opens : O → List ℕ → Result D Stor
 
   -- what streams come from, where that is anything; what it heard of a run, and whether it said that it failed
   module _ {A R W : Type 0} (streams : A → Traffic R W) (heard : A → Ran → Type 0) (fails : A → Bool → Type 0) (listening : Option A) where
-    -- The store of the name was opened and served; who has it last keeps it if who opened it did, and has the desk after commands that
-    -- were accepted one after the other, which outlive a stop at any moment. Along these the connections were answered that came from
-    -- what listens, and came to this, which was heard there, and it said whether it failed. Its device was closed.
+    -- The store of the name was opened and served; who has it last keeps it, where what the device read opened to a desk, and has the desk
+    -- after commands that were accepted one after the other. They outlive a stop at any moment, from that desk on. Along these the
+    -- connections were answered that came from what listens, and came to this, which was heard there, and it said whether it failed. Its
+    -- device was closed.
     pub record IsServed (before : O) (name : List ℕ) (has_halted has_failed : Bool) (after : O) : Type 0 where
       pub first : Clerk D g
       pub middle : O
       pub found : IsOpen before name first middle
       pub last : Clerk D g
-      pub keeps : Keeps first → Keeps last
+      pub keeps : (d : Desk) → ReadsDesk (g.disk found.device) d → Keeps last
       pub ran : IsRunFrom (desk_of first) (desk_of last)
       pub listener : A
       pub listens : listening ≡ Some listener
       pub came_to : Ran
       pub served : ServesStreams (streams listener) first last came_to
+      pub survives : OutlastsWhatIsRead found.device first last served.lasts
       pub told : heard listener came_to
       pub failed : fails listener has_failed
       pub halted : is_halted last ≡ has_halted

@@ -1,3 +1,4 @@
 pub mod Migrated
+pub mod Read
 pub mod Swept
 pub mod Used

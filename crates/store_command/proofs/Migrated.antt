@@ -10,7 +10,7 @@ use Rattle.desk_model.specs.Desk.{Desk}
 use Rattle.store_rows.specs.Rows.{KeyMap}
 use Rattle.store_rows.specs.Shares.{hold}
 use Rattle.desk_pages.specs.Desks.{OpensDesk, OpensOld, OpensEither}
-use Rattle.desk_pages.specs.Openings.{AllVersions, IsOneOld, OpensOneAs}
+use Rattle.store_command.specs.Reading.{BeginsAtWhatIsRead}
 use Rattle.desk_migration.specs.Holding.{AreUnheld, IsHeldBy, hold_pairs}
 use Rattle.desk_migration.specs.Migrating.{device_of, disk_of, has_ended, is_halted, sectors_of, Ends, HasMore, HasRows, Keeps, KeepsNew, Moves}
 use Rattle.desk_migration.specs.Puts.{StepErr}
@@ -18,7 +18,7 @@ use Rattle.desk_migration.specs.declared.migration.Migration.{Migration}
 use Rattle.desk_migration.specs.declared.error.MigrationError.{MigrationError}
 use Rattle.store_command.specs.declared.fault.StoreFault.{StoreFault}
 use Rattle.store_command.specs.declared.fault.StoreFault.TheVariants.{DeviceFault}
-use Rattle.store_command.specs.Migrating.{fault_of_migration, HasMigrated, HasPut, HasStopped, IsBegun, IsMigrated, IsPut, IsStopped, LeavesNew, LeavesOld, MigratesAll, MigratesDevice, OpensSince}
+use Rattle.store_command.specs.Migrating.{fault_of_migration, HasMigrated, HasNew, HasOld, HasPut, HasStopped, IsBegun, IsMigrated, IsPut, IsStopped, LeavesEither, MigratesAll, MigratesDevice, WhereItReadsOld}
 
 -- ---- pairs that come to be held
 held_more : (m : KeyMap) (ps qs : List (ℕ × ℕ)) → hold_pairs m (ps ++ qs) ≡ hold_pairs (hold_pairs m ps) qs
@@ -96,83 +96,76 @@ module _ {D : Type 0} {g : Ghosts D} where
   endless x y rows many put = inr (refl, λ honest d m has. record { rows = rows; many = many; put = put honest d m has })
 
   -- ---- the device
-  module _ (device : D) (x : Migration D g) (begun : IsBegun device x) where
+  module _ (device : D) (x : Migration D g) (begun : IsBegun device x) (begins : BeginsAtWhatIsRead device x) where
     abbrev old : Disk
     old = g.disk device
 
-    was_old : (d : Desk) → IsOneOld old d → (c : Image) → OpensOld (sectors_of x) d c → OpensSince old c
-    was_old d one c opens = inl (record { x = (false, d); one = one; opens = subst (λ (n : ℕ). OpensOld n d c) begun.sectors opens })
+    was_old : (d : Desk) (c : Image) → OpensOld (sectors_of x) d c → OpensEither old.sectors d c
+    was_old d c opens = inr (subst (λ (n : ℕ). OpensOld n d c) begun.sectors opens)
 
-    is_new : (d : Desk) → IsOneOld old d → (c : Image) → OpensDesk (sectors_of x) d c → OpensSince old c
-    is_new d one c opens = inr (record { desk = d; one = one; opens = subst (λ (n : ℕ). OpensDesk n d c) begun.sectors opens })
+    is_new : (d : Desk) (c : Image) → OpensDesk (sectors_of x) d c → OpensEither old.sectors d c
+    is_new d c opens = inl (subst (λ (n : ℕ). OpensDesk n d c) begun.sectors opens)
 
     -- at any moment since the opening began
-    stepped : (y : Migration D g) → Moves x y → (disk_of y).is_honest → AllVersions old → LeavesOnly (OpensSince old) old (disk_of y)
-    stepped y moves honest all =
-        let kept = begun.keeps all (moves.goes.honest honest) in
-        leaves_more (OpensSince old) old (disk_of x) (disk_of y)
-        (leaves_wider (OpensOneAs old) (OpensSince old) old (disk_of x) (λ c is. inl is) (begun.any_moment (moves.goes.honest honest) all))
-        (leaves_wider (OpensOld (sectors_of x) kept.0) (OpensSince old) (disk_of x) (disk_of y) (was_old kept.0 kept.1.1) (moves.any_moment kept.0 kept.1.0 begun.working honest))
+    stepped : (y : Migration D g) → Moves x y → WhereItReadsOld old (disk_of y) (λ d. LeavesEither old (disk_of y) d)
+    stepped y moves honest d reads =
+        let began = begins (moves.goes.honest honest) d reads in
+        leaves_more (OpensEither old.sectors d) old (disk_of x) (disk_of y)
+        (leaves_wider (OpensOld old.sectors d) (OpensEither old.sectors d) old (disk_of x) (λ c is. inr is) began.any_moment)
+        (leaves_wider (OpensOld (sectors_of x) d) (OpensEither old.sectors d) (disk_of x) (disk_of y) (was_old d) (moves.any_moment d began.keeps begun.working honest))
 
-    ended : (y z : Migration D g) → Moves x y → is_halted y ≡ false → Ends y z → (disk_of z).is_honest → AllVersions old → LeavesOnly (OpensSince old) old (disk_of z)
-    ended y z moves works ends honest all =
+    ended : (y z : Migration D g) → Moves x y → is_halted y ≡ false → Ends y z → WhereItReadsOld old (disk_of z) (λ d. LeavesEither old (disk_of z) d)
+    ended y z moves works ends honest d reads =
         let was = ends.goes.honest honest in
-        let kept = begun.keeps all (moves.goes.honest was) in
-        let last : LeavesOnly (OpensEither (sectors_of x) kept.0) (disk_of y) (disk_of z) = subst (λ (n : ℕ). LeavesOnly (OpensEither n kept.0) (disk_of y) (disk_of z)) moves.goes.sectors (ends.any_moment kept.0 (moves.keeps kept.0 kept.1.0) works honest) in
-        leaves_more (OpensSince old) old (disk_of y) (disk_of z) (stepped y moves was all)
-        (leaves_wider (OpensEither (sectors_of x) kept.0) (OpensSince old) (disk_of y) (disk_of z) (λ c. ⊎_elim (λ new. is_new kept.0 kept.1.1 c new) (λ before. was_old kept.0 kept.1.1 c before)) last)
+        let began = begins (moves.goes.honest was) d reads in
+        let last : LeavesOnly (OpensEither (sectors_of x) d) (disk_of y) (disk_of z) = subst (λ (n : ℕ). LeavesOnly (OpensEither n d) (disk_of y) (disk_of z)) moves.goes.sectors (ends.any_moment d (moves.keeps d began.keeps) works honest) in
+        leaves_more (OpensEither old.sectors d) old (disk_of y) (disk_of z) (stepped y moves was d reads)
+        (leaves_wider (OpensEither (sectors_of x) d) (OpensEither old.sectors d) (disk_of y) (disk_of z) (λ c. ⊎_elim (λ new. is_new d c new) (λ before. was_old d c before)) last)
 
-    new_left : (y z : Migration D g) → Moves x y → Ends y z → ((disk_of z).is_honest → (d : Desk) → Keeps y d → KeepsNew z d) → (disk_of z).is_honest → AllVersions old → LeavesNew old (disk_of z)
-    new_left y z moves ends told honest all =
-        let kept = begun.keeps all (moves.goes.honest (ends.goes.honest honest)) in
+    new_left : (y z : Migration D g) → Moves x y → Ends y z → ((disk_of z).is_honest → (d : Desk) → Keeps y d → KeepsNew z d) → WhereItReadsOld old (disk_of z) (λ d. HasNew old (disk_of z) d)
+    new_left y z moves ends told honest d reads c leaves =
+        let began = begins (moves.goes.honest (ends.goes.honest honest)) d reads in
         let sectors : sectors_of z ≡ old.sectors = ends.goes.sectors ∙ moves.goes.sectors ∙ begun.sectors in
-        record {
-          desk = kept.0;
-          one = kept.1.1;
-          each = λ c leaves. subst (λ (n : ℕ). OpensDesk n kept.0 c) sectors ((told honest kept.0 (moves.keeps kept.0 kept.1.0)).left c leaves);
-        }
+        subst (λ (n : ℕ). OpensDesk n d c) sectors ((told honest d (moves.keeps d began.keeps)).left c leaves)
 
-    old_left : (z : Migration D g) → sectors_of z ≡ sectors_of x → ((disk_of z).is_honest → (disk_of x).is_honest) → ((d : Desk) → Keeps x d → Keeps z d) → (disk_of z).is_honest → AllVersions old → LeavesOld old (disk_of z)
-    old_left z same before keeps honest all =
-        let kept = begun.keeps all (before honest) in
+    old_left : (z : Migration D g) → sectors_of z ≡ sectors_of x → ((disk_of z).is_honest → (disk_of x).is_honest) → ((d : Desk) → Keeps x d → Keeps z d) → WhereItReadsOld old (disk_of z) (λ d. HasOld old (disk_of z) d)
+    old_left z same before keeps honest d reads c leaves =
         let sectors : sectors_of z ≡ old.sectors = same ∙ begun.sectors in
-        record {
-          desk = kept.0;
-          one = kept.1.1;
-          each = λ c leaves. subst (λ (n : ℕ). OpensOld n kept.0 c) sectors ((keeps kept.0 kept.1.0).left honest c leaves);
-        }
+        subst (λ (n : ℕ). OpensOld n d c) sectors ((keeps d (begins (before honest) d reads).keeps).left honest c leaves)
 
     -- what was opened, migrated and given back
     pub has_migrated : (z : Migration D g) (rows : ℕ) → IsMigrated x rows z → (left : D) → left ≡ device_of z → HasMigrated g device rows left
     has_migrated z rows did left back = subst (λ (d : D). HasMigrated g device rows d) (sym back) (record {
       x = x;
       begun = begun;
+      begins = begins;
       z = z;
       migrated = did;
       back = refl;
-      any_moment = λ honest all. ended did.y z did.moves did.put.works did.ends honest all;
-      after = λ honest all. new_left did.y z did.moves did.ends did.told honest all;
+      any_moment = ended did.y z did.moves did.put.works did.ends;
+      after = new_left did.y z did.moves did.ends did.told;
     })
 
-    any_left : (z : Migration D g) (fault : StoreFault) → MigratesAll x (Err fault) z → (disk_of z).is_honest → AllVersions old → LeavesOnly (OpensSince old) old (disk_of z)
-    any_left z fault (inl did) honest all = stepped z did.0 honest all
-    any_left z fault (inr did) honest all = ended did.2.y z did.2.moves did.2.put.works did.2.ends honest all
+    any_left : (z : Migration D g) (fault : StoreFault) → MigratesAll x (Err fault) z → WhereItReadsOld old (disk_of z) (λ d. LeavesEither old (disk_of z) d)
+    any_left z fault (inl did) = stepped z did.0
+    any_left z fault (inr did) = ended did.2.y z did.2.moves did.2.put.works did.2.ends
 
-    old_after : (z : Migration D g) (fault : StoreFault) → MigratesAll x (Err fault) z → (disk_of z).is_honest → AllVersions old → is_halted z ≡ false → LeavesOld old (disk_of z)
-    old_after z fault (inl did) honest all works = old_left z did.0.goes.sectors did.0.goes.honest did.0.keeps honest all
-    old_after z fault (inr did) honest all works =
+    old_after : (z : Migration D g) (fault : StoreFault) → MigratesAll x (Err fault) z → is_halted z ≡ false → WhereItReadsOld old (disk_of z) (λ d. HasOld old (disk_of z) d)
+    old_after z fault (inl did) works = old_left z did.0.goes.sectors did.0.goes.honest did.0.keeps
+    old_after z fault (inr did) works =
         let it = did.2 in
-        old_left z (it.ends.goes.sectors ∙ it.moves.goes.sectors) (λ is. it.moves.goes.honest (it.ends.goes.honest is)) (λ d keeps. it.stays works d (it.moves.keeps d keeps)) honest all
+        old_left z (it.ends.goes.sectors ∙ it.moves.goes.sectors) (λ is. it.moves.goes.honest (it.ends.goes.honest is)) (λ d keeps. it.stays works d (it.moves.keeps d keeps))
 
     pub has_stopped : (z : Migration D g) (fault : StoreFault) → MigratesAll x (Err fault) z → (left : D) → left ≡ device_of z → HasStopped g device fault left
     has_stopped z fault why left back = subst (λ (d : D). HasStopped g device fault d) (sym back) (record {
       x = x;
       begun = begun;
+      begins = begins;
       z = z;
       why = why;
       back = refl;
-      any_moment = λ honest all. any_left z fault why honest all;
-      after = λ honest all works. old_after z fault why honest all works;
+      any_moment = any_left z fault why;
+      after = old_after z fault why;
     })
 
     pub device_migrated : (z : Migration D g) (did : Result ℕ StoreFault) → MigratesAll x did z → (left : D) → left ≡ device_of z → MigratesDevice g device did left

@@ -11,13 +11,14 @@ use Rattle.desk_store.specs.declared.clerk.Clerk.{Clerk}
 use Rattle.desk_store.specs.Clerks.{desk_of, disk_of, pages_of, Keeps, Moves}
 use Rattle.desk_store.specs.Sweeps.{HasRows, HasSwept as HasSweptStep, SweepRefused}
 use Rattle.desk_store.proofs.Moved.{unmoved}
+use Rattle.store_command.specs.Reading.{ShowsWhatIsRead}
 use Rattle.desk_loading.specs.Openings.{IsOpened}
 use Rattle.desk_loading.proofs.Moves.{then_moved}
 use Rattle.store_sweep.specs.declared.error.SweepError.{SweepError}
 use Rattle.store_command.specs.declared.fault.StoreFault.{StoreFault}
 use Rattle.store_command.specs.declared.fault.StoreFault.TheVariants.{DeviceFault}
 use Rattle.store_command.specs.Sweeping.{fault_of_sweep, KeepsDesk, HasTaken, HasSweptAll, IsStopped, SweepsAll, HasSwept, SweepsDevice}
-use Rattle.store_command.proofs.Used.{kept_left, left_now}
+use Rattle.store_command.proofs.Used.{kept_left, left_same}
 
 module _ {D : Type 0} {g : Ghosts D} where
   pub none_kept : (x : Clerk D g) → KeepsDesk x x
@@ -61,16 +62,17 @@ module _ {D : Type 0} {g : Ghosts D} where
 
   -- ---- the device
   -- what was opened, swept and given back
-  pub has_swept : (device : D) (x y : Clerk D g) → IsOpened device x → (swept : Result ℕ StoreFault) → KeepsDesk x y → SweepsAll x swept y → (left : D) → left ≡ device_in (pages_of y) → HasSwept g device swept left
-  has_swept device x y opened swept keeps sweeps left back = subst (λ (d : D). HasSwept g device swept d) (sym back) (record {
+  pub has_swept : (device : D) (x y : Clerk D g) → IsOpened device x → ShowsWhatIsRead device x → (swept : Result ℕ StoreFault) → KeepsDesk x y → SweepsAll x swept y → (left : D) → left ≡ device_in (pages_of y) → HasSwept g device swept left
+  has_swept device x y opened shows swept keeps sweeps left back = subst (λ (d : D). HasSwept g device swept d) (sym back) (record {
     x = x;
     opened = opened;
+    shows = shows;
     y = y;
     keeps = keeps;
     sweeps = sweeps;
     back = refl;
-    any_moment = λ honest all. kept_left device x y opened keeps.moves honest all;
-    after = λ honest all works. left_now device x y opened (desk_of x) (desk_of x) keeps.moves keeps.desk works honest all;
+    any_moment = kept_left device x y opened shows keeps.moves;
+    after = λ works. left_same device x y opened shows (desk_of x) keeps.moves keeps.desk works;
   })
 
   pub device_swept : (device : D) (swept : Result ℕ StoreFault) (left : D) → HasSwept g device swept left → SweepsDevice g device swept left

@@ -10,41 +10,51 @@ use Rattle.desk_model.specs.Geography.{Ground}
 use Rattle.desk_pages.specs.Desks.{OpensDesk}
 use Rattle.desk_store.specs.declared.clerk.Clerk.{Clerk}
 use Rattle.desk_store.specs.declared.loads.LoadError.{LoadError}
-use Rattle.desk_store.specs.Clerks.{desk_of, disk_of, pages_of, sectors_of, Moves}
+use Rattle.desk_store.specs.Clerks.{desk_of, disk_of, pages_of, sectors_of, Keeps, Moves}
 use Rattle.desk_store.specs.Keeping.{IsLeft, OpensOneMore, sealed_desk}
-use Rattle.desk_pages.specs.Openings.{AllDesks, AllVersions, OpensOneOf}
-use Rattle.desk_pages.proofs.Found.{all_versions}
+use Rattle.store_command.specs.Reading.{LeavesDesk, ReadsDesk, ShowsWhatIsRead}
 use Rattle.desk_loading.specs.Loads.{IsLoaded, LoadRefused}
 use Rattle.desk_loading.specs.Openings.{IsOpened}
 use Rattle.desk_loading.proofs.Moves.{OneOf}
-use Rattle.store_command.specs.Filling.{OpensOneOr, LeavesDesk, HasLoaded, HasKept}
+use Rattle.store_command.specs.Filling.{HasDesk, HasLoaded, HasKept, OpensOr, WhereItReads}
 
 left_working : (halted : Bool) (sectors : ℕ) (d : Desk) (c : Image) → halted ≡ false → IsLeft halted sectors d c → OpensDesk sectors d c
 left_working halted sectors d c working left = ⊎_elim (λ opens. opens) (λ (more : OpensOneMore halted sectors d c). absurd (let clash : true ≡ false = sym more.halt ∙ working in cc)) left
 
-module _ {D : Type 0} {g : Ghosts D} (device : D) (x y : Clerk D g) (opened : IsOpened device x) where
+module _ {D : Type 0} {g : Ghosts D} (device : D) (x y : Clerk D g) (opened : IsOpened device x) (shows : ShowsWhatIsRead device x) where
   abbrev old : Disk
   old = g.disk device
 
-  shown : AllDesks old → (disk_of x).is_honest → (c : Image) → OpensDesk (sectors_of x) (desk_of x) c → OpensOneOf old c
-  shown all honest c opens = record { desk = desk_of x; one = opened.one (all_versions old all) honest; opens = subst (λ (n : ℕ). OpensDesk n (desk_of x) c) opened.sectors opens }
+  -- what the clerk shows is what the device reads as
+  shown : (d : Desk) → ReadsDesk old d → (disk_of x).is_honest → (c : Image) → OpensDesk (sectors_of x) (desk_of x) c → OpensDesk old.sectors d c
+  shown d reads honest c opens = subst (λ (e : Desk). OpensDesk old.sectors e c) ((shows d reads).desk honest) (subst (λ (n : ℕ). OpensDesk n (desk_of x) c) opened.sectors opens)
 
   -- at any moment since the opening began
-  pub used_left : (next : Desk) → Moves next x y → (disk_of y).is_honest → AllDesks old → LeavesOnly (OpensOneOr old next) old (disk_of y)
-  used_left next moves honest all = leaves_more (OpensOneOr old next) old (disk_of x) (disk_of y)
-      (leaves_wider (OpensOneOf old) (OpensOneOr old next) old (disk_of x) (λ c is. inl is) (opened.any_moment (moves.honest honest) all))
-      (leaves_wider (OneOf x next) (OpensOneOr old next) (disk_of x) (disk_of y) (λ c. ⊎_elim (λ was. inl (shown all (moves.honest honest) c was)) (λ now. inr (subst (λ (n : ℕ). OpensDesk n next c) opened.sectors now))) (moves.any_moment (opened.keeps (all_versions old all)) opened.working honest))
+  pub used_left : (next : Desk) → Moves next x y → WhereItReads old (disk_of y) (λ d. LeavesOnly (OpensOr old.sectors d next) old (disk_of y))
+  used_left next moves honest d reads =
+      let was = moves.honest honest in
+      leaves_more (OpensOr old.sectors d next) old (disk_of x) (disk_of y)
+      (leaves_wider (OpensDesk old.sectors d) (OpensOr old.sectors d next) old (disk_of x) (λ c is. inl is) ((shows d reads).any_moment was))
+      (leaves_wider (OneOf x next) (OpensOr old.sectors d next) (disk_of x) (disk_of y) (λ c. ⊎_elim (λ here. inl (shown d reads was c here)) (λ now. inr (subst (λ (n : ℕ). OpensDesk n next c) opened.sectors now))) (moves.any_moment (shows d reads).keeps opened.working honest))
 
   -- where the desk stays
-  pub kept_left : Moves (desk_of x) x y → (disk_of y).is_honest → AllDesks old → LeavesOnly (OpensOneOf old) old (disk_of y)
-  kept_left moves honest all = leaves_more (OpensOneOf old) old (disk_of x) (disk_of y) (opened.any_moment (moves.honest honest) all)
-      (leaves_wider (OneOf x (desk_of x)) (OpensOneOf old) (disk_of x) (disk_of y) (λ c. ⊎_elim (λ was. shown all (moves.honest honest) c was) (λ now. shown all (moves.honest honest) c now)) (moves.any_moment (opened.keeps (all_versions old all)) opened.working honest))
+  pub kept_left : Moves (desk_of x) x y → WhereItReads old (disk_of y) (λ d. LeavesDesk old (disk_of y) d)
+  kept_left moves honest d reads =
+      let was = moves.honest honest in
+      leaves_more (OpensDesk old.sectors d) old (disk_of x) (disk_of y) ((shows d reads).any_moment was)
+      (leaves_wider (OneOf x (desk_of x)) (OpensDesk old.sectors d) (disk_of x) (disk_of y) (λ c. ⊎_elim (λ here. shown d reads was c here) (λ now. shown d reads was c now)) (moves.any_moment (shows d reads).keeps opened.working honest))
 
   -- from then on, where no fault came
-  pub left_now : (next d : Desk) → Moves next x y → desk_of y ≡ d → y.halted ≡ false → (disk_of y).is_honest → AllVersions old → LeavesDesk old (disk_of y) d
-  left_now next d moves desk works honest all c leaves =
-      subst (λ (e : Desk). OpensDesk old.sectors e c) desk
-      (subst (λ (n : ℕ). OpensDesk n (desk_of y) c) (moves.sectors ∙ opened.sectors) (left_working y.halted (sectors_of y) (desk_of y) c works ((moves.keeps (opened.keeps all)).left honest c leaves)))
+  left_now : (next : Desk) → Moves next x y → Keeps x → y.halted ≡ false → (disk_of y).is_honest → HasDesk old (disk_of y) (desk_of y)
+  left_now next moves keeps works honest c leaves =
+      subst (λ (n : ℕ). OpensDesk n (desk_of y) c) (moves.sectors ∙ opened.sectors) (left_working y.halted (sectors_of y) (desk_of y) c works ((moves.keeps keeps).left honest c leaves))
+
+  pub left_next : (next : Desk) → Moves next x y → desk_of y ≡ next → y.halted ≡ false → WhereItReads old (disk_of y) (λ d. HasDesk old (disk_of y) next)
+  left_next next moves desk works honest d reads c leaves = subst (λ (e : Desk). OpensDesk old.sectors e c) desk (left_now next moves (shows d reads).keeps works honest c leaves)
+
+  pub left_same : (next : Desk) → Moves next x y → desk_of y ≡ desk_of x → y.halted ≡ false → WhereItReads old (disk_of y) (λ d. HasDesk old (disk_of y) d)
+  left_same next moves desk works honest d reads c leaves =
+      subst (λ (e : Desk). OpensDesk old.sectors e c) (desk ∙ (shows d reads).desk (moves.honest honest)) (left_now next moves (shows d reads).keeps works honest c leaves)
 
   -- a load
   module _ (area : Ground) (moves : Moves (sealed_desk area) x y) (left : D) (back : left ≡ device_in (pages_of y)) where
@@ -52,21 +62,23 @@ module _ {D : Type 0} {g : Ghosts D} (device : D) (x y : Clerk D g) (opened : Is
     has_loaded loaded = subst (λ (d : D). HasLoaded g device area d) (sym back) (record {
       x = x;
       opened = opened;
+      shows = shows;
       y = y;
       loaded = loaded;
       back = refl;
-      any_moment = λ honest all. used_left (sealed_desk area) moves honest all;
-      after = λ honest all. left_now (sealed_desk area) (sealed_desk area) moves loaded.desk loaded.works honest all;
+      any_moment = used_left (sealed_desk area) moves;
+      after = left_next (sealed_desk area) moves loaded.desk loaded.works;
     })
 
     pub has_kept : (e : LoadError) → LoadRefused x area e y → desk_of y ≡ desk_of x → HasKept g device area e left
     has_kept e why desk = subst (λ (d : D). HasKept g device area e d) (sym back) (record {
       x = x;
       opened = opened;
+      shows = shows;
       y = y;
       why = why;
       desk = desk;
       back = refl;
-      any_moment = λ honest all. used_left (sealed_desk area) moves honest all;
-      after = λ honest all works. left_now (sealed_desk area) (desk_of x) moves desk works honest all;
+      any_moment = used_left (sealed_desk area) moves;
+      after = λ works. left_same (sealed_desk area) moves desk works;
     })

@@ -1,5 +1,5 @@
 -- A store that is filled with a geography.
-use Rattle.std.specs.Prelude.{◌≡◌, ◌⊎◌, false, Result, Ok, Err}
+use Rattle.std.specs.Prelude.{◌≡◌, ◌⊎◌, ℕ, false, Result, Ok, Err}
 use Rattle.sector_device.specs.Disk.{Disk, Image}
 use Rattle.sector_device.specs.Moments.{LeavesOnly}
 use Rattle.sector_device.specs.declared.SectorDevice.{Ghosts}
@@ -12,52 +12,59 @@ use Rattle.desk_store.specs.declared.opening.OpenError.{OpenError}
 use Rattle.desk_store.specs.declared.loads.LoadError.{LoadError}
 use Rattle.desk_store.specs.Clerks.{desk_of, is_halted, pages_of}
 use Rattle.desk_store.specs.Keeping.{sealed_desk}
-use Rattle.desk_pages.specs.Openings.{AllDesks, AllVersions, OpensOneOf}
+use Rattle.store_command.specs.Reading.{ReadsDesk, RefusesWhatIsRead, ShowsWhatIsRead}
 use Rattle.desk_loading.specs.Openings.{IsOpened, IsUnopened}
 use Rattle.desk_loading.specs.Loads.{IsLoaded, LoadRefused}
 use Rattle.store_command.specs.Faults.{fault_of_open, fault_of_load}
 use Rattle.store_command.specs.declared.fault.StoreFault.{StoreFault}
 
--- the image opens to a desk to which one opened before, or to the next one
-abbrev pub OpensOneOr : Disk → Desk → Image → Type 0
-OpensOneOr old next c = OpensOneOf old c ⊎ OpensDesk old.sectors next c
+-- the image opens to the desk, or to the next one
+abbrev pub OpensOr : ℕ → (d next : Desk) → Image → Type 0
+OpensOr sectors d next c = OpensDesk sectors d c ⊎ OpensDesk sectors next c
 
 -- each image that a stop may leave now opens to the desk
-abbrev pub LeavesDesk : (old new : Disk) → Desk → Type 0
-LeavesDesk old new d = (c : Image) → new.leaves c → OpensDesk old.sectors d c
+abbrev pub HasDesk : (old new : Disk) → Desk → Type 0
+HasDesk old new d = (c : Image) → new.leaves c → OpensDesk old.sectors d c
+
+-- Of what a device reads: this, where it reads as a desk, and is found honest behind that.
+abbrev pub WhereItReads : (old new : Disk) → (Desk → Type 0) → Type 0
+WhereItReads old new P = new.is_honest → (d : Desk) → ReadsDesk old d → P d
 
 module _ {D : Type 0} (g : Ghosts D) where
-  -- The device was opened, and the clerk loaded the geography where none was sealed and gave it back so. A stop at any moment of
-  -- both left what opens to a desk to which one opened before, or to that with this geography and no plan; and what it leaves
-  -- from then on opens to that.
+  -- The device was opened, and the clerk loaded the geography where none was sealed and gave it back so. Where the device read as a
+  -- desk, a stop at any moment of both left this desk, or that with this geography and no plan; and what it leaves from then on
+  -- opens to that.
   pub record HasLoaded (device : D) (area : Ground) (left : D) : Type 0 where
     pub x : Clerk D g
     pub opened : IsOpened device x
+    pub shows : ShowsWhatIsRead device x
     pub y : Clerk D g
     pub loaded : IsLoaded x area y
     pub back : left ≡ device_in (pages_of y)
-    pub any_moment : (g.disk left).is_honest → AllDesks (g.disk device)
-        → LeavesOnly (OpensOneOr (g.disk device) (sealed_desk area)) (g.disk device) (g.disk left)
-    pub after : (g.disk left).is_honest → AllVersions (g.disk device) → LeavesDesk (g.disk device) (g.disk left) (sealed_desk area)
+    pub any_moment : WhereItReads (g.disk device) (g.disk left)
+        (λ d. LeavesOnly (OpensOr (g.disk device).sectors d (sealed_desk area)) (g.disk device) (g.disk left))
+    pub after : WhereItReads (g.disk device) (g.disk left) (λ d. HasDesk (g.disk device) (g.disk left) (sealed_desk area))
 
   -- The device was opened, and a load that was refused left the desk. Where no fault came, what a stop leaves from then on opens
   -- to it.
   pub record HasKept (device : D) (area : Ground) (e : LoadError) (left : D) : Type 0 where
     pub x : Clerk D g
     pub opened : IsOpened device x
+    pub shows : ShowsWhatIsRead device x
     pub y : Clerk D g
     pub why : LoadRefused x area e y
     pub desk : desk_of y ≡ desk_of x
     pub back : left ≡ device_in (pages_of y)
-    pub any_moment : (g.disk left).is_honest → AllDesks (g.disk device)
-        → LeavesOnly (OpensOneOr (g.disk device) (sealed_desk area)) (g.disk device) (g.disk left)
-    pub after : (g.disk left).is_honest → AllVersions (g.disk device) → is_halted y ≡ false → LeavesDesk (g.disk device) (g.disk left) (desk_of x)
+    pub any_moment : WhereItReads (g.disk device) (g.disk left)
+        (λ d. LeavesOnly (OpensOr (g.disk device).sectors d (sealed_desk area)) (g.disk device) (g.disk left))
+    pub after : is_halted y ≡ false → WhereItReads (g.disk device) (g.disk left) (λ d. HasDesk (g.disk device) (g.disk left) d)
 
   -- the device isn't opened, and is left so
   pub record IsNotOpened (device : D) (fault : StoreFault) (left : D) : Type 0 where
     pub error : OpenError
     pub told : fault ≡ fault_of_open error
     pub why : IsUnopened g device error left
+    pub refuses : (g.disk left).is_honest → RefusesWhatIsRead (g.disk device) (g.disk left) error
 
   -- or the geography isn't loaded
   pub record IsUnloaded (device : D) (area : Ground) (fault : StoreFault) (left : D) : Type 0 where

@@ -3,6 +3,7 @@ pub mod Filling
 pub mod Formatting
 pub mod Loading
 pub mod Migrating
+pub mod Reading
 pub mod Telling
 pub mod Texts
 pub mod Sweeping

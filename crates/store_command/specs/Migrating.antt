@@ -6,8 +6,9 @@ use Rattle.sector_device.specs.Moments.{LeavesOnly}
 use Rattle.sector_device.specs.declared.SectorDevice.{Ghosts}
 use Rattle.desk_model.specs.Desk.{Desk}
 use Rattle.store_rows.specs.Rows.{KeyMap}
-use Rattle.desk_pages.specs.Desks.{OpensDesk, OpensOld}
+use Rattle.desk_pages.specs.Desks.{OpensDesk, OpensEither, OpensOld}
 use Rattle.desk_pages.specs.Openings.{AllVersions, IsOneOld, IsSpared, OpensOneAs}
+use Rattle.store_command.specs.Reading.{BarsWhatIsRead, BeginsAtWhatIsRead, ReadsOld}
 use Rattle.desk_migration.specs.Holding.{IsHeldBy}
 use Rattle.desk_migration.specs.Migrating.{device_of, disk_of, has_ended, is_halted, sectors_of, Ends, HasRows, Keeps, KeepsNew, Moves}
 use Rattle.desk_migration.specs.Openings.{IsFound, IsRefused}
@@ -39,27 +40,20 @@ fault_of_migration migration.Memory = Memory
 fault_of_migration migration.DeviceFault = DeviceFault
 fault_of_migration migration.Halted = DeviceFault
 
--- the image opens in the new version to a desk to which one opened before in the old version
-pub record OpensNewly (disk : Disk) (c : Image) : Type 0 where
-  pub desk : Desk
-  pub one : IsOneOld disk desk
-  pub opens : OpensDesk disk.sectors desk c
+-- each image that a stop may leave now opens to the desk in the new version, or in the old one
+abbrev pub HasNew : (old new : Disk) → Desk → Type 0
+HasNew old new d = (c : Image) → new.leaves c → OpensDesk old.sectors d c
 
--- the image opens to a desk to which one opened before, in the version in which it was there, or in the new one
-abbrev pub OpensSince : Disk → Image → Type 0
-OpensSince disk c = OpensOneAs disk c ⊎ OpensNewly disk c
+abbrev pub HasOld : (old new : Disk) → Desk → Type 0
+HasOld old new d = (c : Image) → new.leaves c → OpensOld old.sectors d c
 
--- each image that a stop may leave now opens in the new version to a desk that was there in the old one
-pub record LeavesNew (old new : Disk) : Type 0 where
-  pub desk : Desk
-  pub one : IsOneOld old desk
-  pub each : (c : Image) → new.leaves c → OpensDesk old.sectors desk c
+-- at each moment between, a stop left what opens to the desk, in either version
+abbrev pub LeavesEither : (old new : Disk) → Desk → Type 0
+LeavesEither old new d = LeavesOnly (OpensEither old.sectors d) old new
 
--- each does in the old version
-pub record LeavesOld (old new : Disk) : Type 0 where
-  pub desk : Desk
-  pub one : IsOneOld old desk
-  pub each : (c : Image) → new.leaves c → OpensOld old.sectors desk c
+-- Of what a device reads: this, where it reads as a desk in the old version, and is found honest behind that.
+abbrev pub WhereItReadsOld : (old new : Disk) → (Desk → Type 0) → Type 0
+WhereItReadsOld old new P = new.is_honest → (d : Desk) → ReadsOld old d → P d
 
 module _ {D : Type 0} {g : Ghosts D} where
   -- A migration for which the device was opened: at each moment of that a stop left what opens to a desk to which one opened
@@ -152,29 +146,31 @@ module _ {D : Type 0} (g : Ghosts D) where
     pub any_moment : (g.disk left).is_honest → AllVersions (g.disk device) → LeavesOnly (OpensOneAs (g.disk device)) (g.disk device) (g.disk left)
     pub why : IsRefused (g.disk device) (g.disk left) error
     pub spared : (g.disk left).is_honest → error ≡ opening.NotAStore → IsSpared (g.disk device) (g.disk left)
+    pub bars : (g.disk left).is_honest → BarsWhatIsRead (g.disk device) (g.disk left) error
 
-  -- The device was opened and migrated, and given back so. A stop at any moment of both left what opens to a desk to which one
-  -- opened before, in its version or in the new one; and what it leaves from then on opens in the new one to one that was there
-  -- in the old one.
+  -- The device was opened and migrated, and given back so. Where it read as a desk in the old version, a stop at any moment of both
+  -- left this desk, in either version; and what it leaves from then on opens to it in the new one.
   pub record HasMigrated (device : D) (rows : ℕ) (left : D) : Type 0 where
     pub x : Migration D g
     pub begun : IsBegun device x
+    pub begins : BeginsAtWhatIsRead device x
     pub z : Migration D g
     pub migrated : IsMigrated x rows z
     pub back : left ≡ device_of z
-    pub any_moment : (g.disk left).is_honest → AllVersions (g.disk device) → LeavesOnly (OpensSince (g.disk device)) (g.disk device) (g.disk left)
-    pub after : (g.disk left).is_honest → AllVersions (g.disk device) → LeavesNew (g.disk device) (g.disk left)
+    pub any_moment : WhereItReadsOld (g.disk device) (g.disk left) (λ d. LeavesEither (g.disk device) (g.disk left) d)
+    pub after : WhereItReadsOld (g.disk device) (g.disk left) (λ d. HasNew (g.disk device) (g.disk left) d)
 
   -- The device was opened, and its migration was stopped. Where no fault came, what a stop leaves from then on opens in the old
   -- version.
   pub record HasStopped (device : D) (fault : StoreFault) (left : D) : Type 0 where
     pub x : Migration D g
     pub begun : IsBegun device x
+    pub begins : BeginsAtWhatIsRead device x
     pub z : Migration D g
     pub why : MigratesAll x (Err fault) z
     pub back : left ≡ device_of z
-    pub any_moment : (g.disk left).is_honest → AllVersions (g.disk device) → LeavesOnly (OpensSince (g.disk device)) (g.disk device) (g.disk left)
-    pub after : (g.disk left).is_honest → AllVersions (g.disk device) → is_halted z ≡ false → LeavesOld (g.disk device) (g.disk left)
+    pub any_moment : WhereItReadsOld (g.disk device) (g.disk left) (λ d. LeavesEither (g.disk device) (g.disk left) d)
+    pub after : is_halted z ≡ false → WhereItReadsOld (g.disk device) (g.disk left) (λ d. HasOld (g.disk device) (g.disk left) d)
 
   -- what became of the device: it isn't opened, or its migration went so far
   abbrev pub MigratesDevice : D → Result ℕ StoreFault → D → Type 0
@@ -191,13 +187,11 @@ module _ {D O : Type 0} (g : Ghosts D) (opens : O → List ℕ → Result D Stor
     pub migrates : MigratesDevice g device migrated left
     pub closed : closes middle left after
 
-  -- What comes of a store, with the text that is printed: its device is refused; or it was opened, migrated and closed, and
-  -- memory for the text may be refused behind that.
+  -- what comes of a store, with the text that is printed; where memory is refused before, none is opened
   abbrev pub Migrates : (before : O) → List ℕ → Result (Vec ℕ Global) StoreFault → (after : O) → Type 0
   Migrates before name (Ok text) after = (rows : ℕ) × (text.items ≡ migrated_text rows) × IsLed before name (Ok rows) after
   Migrates before name (Err fault) after =
-      opens before name (Err fault) after ⊎ (IsLed before name (Err fault) after
-      ⊎ ((fault ≡ Memory) × (rows : ℕ) × IsLed before name (Ok rows) after))
+      ((fault ≡ Memory) × (after ≡ before)) ⊎ (opens before name (Err fault) after ⊎ IsLed before name (Err fault) after)
 
   -- the store of the name, which becomes one of the new version
   abbrev pub MigratesStore : (stores stores_after : O) → List ℕ → Status → (before after told_before told_after : Written) → Type 0

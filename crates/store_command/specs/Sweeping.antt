@@ -1,7 +1,6 @@
 -- A store that is swept until nothing is left to be taken out.
 use Rattle.std.specs.Prelude.{◌≡◌, ◌⊎◌, ◌≤◌, ◌^◌, ℕ, List, ◌++◌, codes, decimal, false, Result, Ok, Err, Vec}
 use Rattle.std.specs.declared.alloc.Global.{Global}
-use Rattle.sector_device.specs.Moments.{LeavesOnly}
 use Rattle.sector_device.specs.declared.SectorDevice.{Ghosts}
 use Rattle.page_store.specs.Transactions.{device_in}
 use Rattle.command_output.specs.declared.status.Status.{Status}
@@ -11,11 +10,11 @@ use Rattle.store_sweep.specs.declared.error.SweepError.{SweepError}
 use Rattle.store_sweep.specs.declared.error.SweepError.TheVariants as sweep
 use Rattle.desk_store.specs.declared.clerk.Clerk.{Clerk}
 use Rattle.desk_store.specs.Clerks.{desk_of, disk_of, is_halted, pages_of, Moves}
-use Rattle.desk_pages.specs.Openings.{AllDesks, AllVersions, OpensOneOf}
+use Rattle.store_command.specs.Reading.{LeavesDesk, ShowsWhatIsRead}
 use Rattle.desk_store.specs.Sweeps.{HasRows, IsClean, SweepRefused}
 use Rattle.desk_loading.specs.Openings.{IsOpened}
 use Rattle.command_output.specs.Writing.{Written, write_fault_line}
-use Rattle.store_command.specs.Filling.{LeavesDesk, IsNotOpened}
+use Rattle.store_command.specs.Filling.{HasDesk, IsNotOpened, WhereItReads}
 use Rattle.store_command.specs.Telling.{EndsStore}
 use Rattle.store_command.specs.declared.fault.StoreFault.{StoreFault}
 use Rattle.store_command.specs.declared.fault.StoreFault.TheVariants.{DeviceFault, Memory}
@@ -77,17 +76,18 @@ module _ {D : Type 0} {g : Ghosts D} where
   SweepsAll x (Err fault) y = IsStopped x fault y
 
 module _ {D : Type 0} (g : Ghosts D) where
-  -- The device was opened, and the clerk swept it and gave it back so. A stop at any moment of both left what opens to a desk to
-  -- which one opened before. Where no fault came, what it leaves from then on opens to the one that was shown.
+  -- The device was opened, and the clerk swept it and gave it back so. Where it read as a desk, a stop at any moment of both left this
+  -- desk; and where no fault came, what it leaves from then on opens to it.
   pub record HasSwept (device : D) (swept : Result ℕ StoreFault) (left : D) : Type 0 where
     pub x : Clerk D g
     pub opened : IsOpened device x
+    pub shows : ShowsWhatIsRead device x
     pub y : Clerk D g
     pub keeps : KeepsDesk x y
     pub sweeps : SweepsAll x swept y
     pub back : left ≡ device_in (pages_of y)
-    pub any_moment : (g.disk left).is_honest → AllDesks (g.disk device) → LeavesOnly (OpensOneOf (g.disk device)) (g.disk device) (g.disk left)
-    pub after : (g.disk left).is_honest → AllVersions (g.disk device) → is_halted y ≡ false → LeavesDesk (g.disk device) (g.disk left) (desk_of x)
+    pub any_moment : WhereItReads (g.disk device) (g.disk left) (λ d. LeavesDesk (g.disk device) (g.disk left) d)
+    pub after : is_halted y ≡ false → WhereItReads (g.disk device) (g.disk left) (λ d. HasDesk (g.disk device) (g.disk left) d)
 
   -- what became of the device: it isn't opened, or it was swept
   abbrev pub SweepsDevice : D → Result ℕ StoreFault → D → Type 0
@@ -104,13 +104,11 @@ module _ {D O : Type 0} (g : Ghosts D) (opens : O → List ℕ → Result D Stor
     pub sweeps : SweepsDevice g device swept left
     pub closed : closes middle left after
 
-  -- What comes of a store, with the text that is printed: its device is refused; or it was opened, swept and closed, and memory
-  -- for the text may be refused behind that.
+  -- what comes of a store, with the text that is printed; where memory is refused before, none is opened
   abbrev pub Sweeps : (before : O) → List ℕ → Result (Vec ℕ Global) StoreFault → (after : O) → Type 0
   Sweeps before name (Ok text) after = (rows : ℕ) × (text.items ≡ swept_text rows) × IsSwept before name (Ok rows) after
   Sweeps before name (Err fault) after =
-      opens before name (Err fault) after ⊎ (IsSwept before name (Err fault) after
-      ⊎ ((fault ≡ Memory) × (rows : ℕ) × IsSwept before name (Ok rows) after))
+      ((fault ≡ Memory) × (after ≡ before)) ⊎ (opens before name (Err fault) after ⊎ IsSwept before name (Err fault) after)
 
   -- the store of the name, whose rows that were left over are taken out
   abbrev pub SweepsStore : (stores stores_after : O) → List ℕ → Status → (before after told_before told_after : Written) → Type 0

@@ -1,39 +1,47 @@
 //! Fills a store with a geography.
 ghost use Rattle.std.specs.Prelude.{IfOk, IfErr};
+ghost use Rattle.sector_device.specs.Disk.{IsSynced};
 ghost use Rattle.desk_loading.specs.Openings.{IsOpened};
+ghost use Rattle.store_command.specs.Reading.{ShowsWhatIsRead};
 ghost use Rattle.store_command.specs.Filling.{IsNotOpened, FillsDevice};
 
 use crate::fault::{StoreFault, load_fault, open_fault};
 use command_progress::Progress;
 use desk_loading::{load_geography, open_store};
 use desk_model::geography::Geography;
+use desk_runs::desk_law::one_desk_opens;
 use desk_store::clerk::Clerk;
 use sector_device::SectorDevice;
 use std::alloc::Global;
 use std::sync::Arc;
 
-/// The clerk who opens the store that a device holds. A refusal hands the device back.
+/// The clerk who opens the store that a synced device holds: its desk is that to which opens what the device reads. A refusal hands the
+/// device back.
 pub fn open_clerk<D: SectorDevice + Drop>(
     alloc: Global,
     device: D,
 ) -> Result<Clerk<D>, (StoreFault, D)>
+    requires { IsSynced (D.disk device) }
     ensures ok { IfOk result (λ x. IsOpened device x) }
+    ensures shows { IfOk result (λ x. ShowsWhatIsRead device x) }
     ensures err { IfErr result (λ e. IsNotOpened D.SectorDevice device e.0 e.1) }
 {
+    one_desk_opens();
     match open_store(alloc, device) {
         Ok(clerk) => Ok(clerk),
         Err((e, left)) => Err((open_fault(e), left)),
     }
 }
 
-/// Fills the store that a device holds with a geography, and gives the device back. `progress` hears how many rows were written
-/// so far.
+/// Fills the store that a synced device holds with a geography, and gives the device back. `progress` hears how many rows were
+/// written so far.
 pub fn fill<D: SectorDevice + Drop, P: Progress>(
     alloc: Global,
     device: D,
     geography: Arc<Geography>,
     progress: &mut P,
 ) -> (Result<(), StoreFault>, D)
+    requires { IsSynced (D.disk device) }
     ensures { FillsDevice D.SectorDevice device geography.value result.0 result.1 }
 {
     let mut clerk = match open_clerk(alloc, device) {

@@ -1,25 +1,28 @@
 //! `migrate`: a store of the old version becomes one of the new version.
 ghost use Rattle.std.specs.Prelude.{◌≡◌};
+ghost use Rattle.sector_device.specs.Disk.{IsSynced};
 ghost use Rattle.command_output.specs.Writing.{OfWriters};
 ghost use Rattle.store_command.specs.Migrating.{MigratesDevice, Migrates, MigratesStore};
 
 use crate::fault::StoreFault;
-use crate::migrate_texts::migrated_text;
+use crate::migrate_texts::put_migrated;
 use crate::migrating::{begin, migrate_all};
 use crate::stores::Stores;
 use crate::telling::end_store;
+use crate::texts::room_for_text;
 use byte_stream::sink::Sink;
 use command_output::status::Status;
 use command_progress::Progress;
 use sector_device::SectorDevice;
 use std::alloc::Global;
 
-/// Migrates the store that a device holds, and gives the device back: how many rows were put.
+/// Migrates the store that a synced device holds, and gives the device back: how many rows were put.
 fn migrate_device<D: SectorDevice + Drop, P: Progress>(
     alloc: Global,
     device: D,
     progress: &mut P,
 ) -> (Result<u64, StoreFault>, D)
+    requires { IsSynced (D.disk device) }
     ensures { MigratesDevice D.SectorDevice device result.0 result.1 }
 {
     let mut migration = match begin(alloc, device) {
@@ -30,7 +33,7 @@ fn migrate_device<D: SectorDevice + Drop, P: Progress>(
     (migrated, migration.into_device())
 }
 
-/// Migrates the store of a name, and closes it: what is printed of it.
+/// Migrates the store of a name, and closes it: what is printed of it. Memory for that is taken before the store is opened.
 fn migrate_store<D: SectorDevice + Drop, O: Stores<D>, P: Progress>(
     alloc: Global,
     stores: &mut O,
@@ -39,19 +42,16 @@ fn migrate_store<D: SectorDevice + Drop, O: Stores<D>, P: Progress>(
 ) -> Result<Vec<u8>, StoreFault>
     ensures { Migrates D.SectorDevice O.opens O.closes stores.old name.now result stores.new }
 {
-    let device = match stores.open(name) {
-        Ok(device) => device,
-        Err(fault) => return Err(fault),
-    };
+    let mut text = room_for_text(alloc)?;
+    let device = stores.open(name)?;
     let (migrated, left) = migrate_device(alloc, device, progress);
     stores.close(left);
-    let rows = match migrated {
-        Ok(rows) => rows,
-        Err(fault) => return Err(fault),
-    };
-    match migrated_text(alloc, rows) {
-        Ok(text) => Ok(text),
-        Err(_) => Err(StoreFault::Memory),
+    match migrated {
+        Ok(rows) => {
+            put_migrated(&mut text, rows);
+            Ok(text)
+        }
+        Err(fault) => Err(fault),
     }
 }
 

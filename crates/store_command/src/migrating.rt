@@ -1,11 +1,14 @@
 //! Leads a store of the old version to the new one by as many steps as it takes.
 ghost use Rattle.std.specs.Prelude.{◌≡◌, ◌≤◌, ◌^◌, false, IfOk, IfErr};
+ghost use Rattle.sector_device.specs.Disk.{IsSynced};
 ghost use Rattle.desk_migration.specs.Migrating.{is_halted, Moves};
+ghost use Rattle.store_command.specs.Reading.{BeginsAtWhatIsRead};
 ghost use Rattle.store_command.specs.Migrating.{fault_of_begin, fault_of_migration, IsBegun, IsNotBegun, PutsAll, MigratesAll};
 
 use crate::fault::StoreFault;
 use command_progress::Progress;
 use desk_migration::{Migration, MigrationError, MigrationOpenError};
+use desk_runs::desk_law::one_desk_opens;
 use sector_device::SectorDevice;
 use std::alloc::Global;
 
@@ -35,14 +38,18 @@ fn migration_fault(e: MigrationError) -> StoreFault
     }
 }
 
-/// Opens the store that a device holds for its migration. A refusal hands the device back.
+/// Opens the store that a synced device holds for its migration: its desk is that to which opens what the device reads. A refusal hands
+/// the device back.
 pub fn begin<D: SectorDevice + Drop>(
     alloc: Global,
     device: D,
 ) -> Result<Migration<D>, (StoreFault, D)>
+    requires { IsSynced (D.disk device) }
     ensures ok { IfOk result (λ x. IsBegun device x) }
+    ensures begins { IfOk result (λ x. BeginsAtWhatIsRead device x) }
     ensures err { IfErr result (λ e. IsNotBegun D.SectorDevice device e.0 e.1) }
 {
+    one_desk_opens();
     match Migration::open(alloc, device) {
         Ok(migration) => Ok(migration),
         Err((e, left)) => Err((begin_fault(e), left)),

@@ -1,5 +1,6 @@
 //! What makes, opens and closes the devices of stores, by their names.
 ghost use Rattle.std.specs.Prelude.{◌≡◌, ℕ, List, Result, IfOk};
+ghost use Rattle.sector_device.specs.Disk.{IsSynced};
 ghost use Rattle.store_command.specs.declared.fault.StoreFault.{StoreFault as Fault};
 
 use crate::fault::StoreFault;
@@ -20,8 +21,10 @@ pub trait Stores<D: SectorDevice> {
         ensures made { makes self.old name.now sectors result self.new }
         ensures sectors { IfOk result (λ device. (D.disk device).sectors ≡ sectors) };
 
+    /// What is opened was synced, so that a stop leaves what it reads.
     fn open(&mut self, name: &str) -> Result<D, StoreFault>
-        ensures { opens self.old name.now result self.new };
+        ensures opened { opens self.old name.now result self.new }
+        ensures synced { IfOk result (λ device. IsSynced (D.disk device)) };
 
     fn close(&mut self, device: D)
         ensures { closes self.old device self.new };

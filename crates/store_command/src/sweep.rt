@@ -1,26 +1,29 @@
 //! `sweep`: a store is swept until nothing is left to be taken out.
 ghost use Rattle.std.specs.Prelude.{◌≡◌};
+ghost use Rattle.sector_device.specs.Disk.{IsSynced};
 ghost use Rattle.command_output.specs.Writing.{OfWriters};
 ghost use Rattle.store_command.specs.Sweeping.{SweepsDevice, Sweeps, SweepsStore};
 
 use crate::fault::StoreFault;
 use crate::filling::open_clerk;
 use crate::stores::Stores;
-use crate::sweep_texts::swept_text;
+use crate::sweep_texts::put_swept;
 use crate::sweeping::sweep_all;
 use crate::telling::end_store;
+use crate::texts::room_for_text;
 use byte_stream::sink::Sink;
 use command_output::status::Status;
 use command_progress::Progress;
 use sector_device::SectorDevice;
 use std::alloc::Global;
 
-/// Sweeps the store that a device holds, and gives the device back: how many rows were taken out.
+/// Sweeps the store that a synced device holds, and gives the device back: how many rows were taken out.
 fn sweep_device<D: SectorDevice + Drop, P: Progress>(
     alloc: Global,
     device: D,
     progress: &mut P,
 ) -> (Result<u64, StoreFault>, D)
+    requires { IsSynced (D.disk device) }
     ensures { SweepsDevice D.SectorDevice device result.0 result.1 }
 {
     let mut clerk = match open_clerk(alloc, device) {
@@ -31,7 +34,7 @@ fn sweep_device<D: SectorDevice + Drop, P: Progress>(
     (swept, clerk.into_device())
 }
 
-/// Sweeps the store of a name, and closes it: what is printed of it.
+/// Sweeps the store of a name, and closes it: what is printed of it. Memory for that is taken before the store is opened.
 fn sweep_store<D: SectorDevice + Drop, O: Stores<D>, P: Progress>(
     alloc: Global,
     stores: &mut O,
@@ -40,19 +43,16 @@ fn sweep_store<D: SectorDevice + Drop, O: Stores<D>, P: Progress>(
 ) -> Result<Vec<u8>, StoreFault>
     ensures { Sweeps D.SectorDevice O.opens O.closes stores.old name.now result stores.new }
 {
-    let device = match stores.open(name) {
-        Ok(device) => device,
-        Err(fault) => return Err(fault),
-    };
+    let mut text = room_for_text(alloc)?;
+    let device = stores.open(name)?;
     let (swept, left) = sweep_device(alloc, device, progress);
     stores.close(left);
-    let rows = match swept {
-        Ok(rows) => rows,
-        Err(fault) => return Err(fault),
-    };
-    match swept_text(alloc, rows) {
-        Ok(text) => Ok(text),
-        Err(_) => Err(StoreFault::Memory),
+    match swept {
+        Ok(rows) => {
+            put_swept(&mut text, rows);
+            Ok(text)
+        }
+        Err(fault) => Err(fault),
     }
 }
 

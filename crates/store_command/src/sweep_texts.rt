@@ -1,17 +1,16 @@
 //! What is printed once a store is swept.
-ghost use Rattle.std.specs.Prelude.{◌≡◌, IfOk};
-ghost use Rattle.store_command.specs.Sweeping.{swept_text as text_of_rows};
+ghost use Rattle.std.specs.Prelude.{◌≡◌, ◌≤◌, vec_capacity};
+ghost use Rattle.store_command.specs.Sweeping.{swept_text};
 
-use itoa::Buffer;
-use std::alloc::{AllocError, Global};
+use crate::texts::{ROOM, add, add_number};
 
-pub fn swept_text(alloc: Global, rows: u64) -> Result<Vec<u8>, AllocError>
-    ensures { IfOk result (λ text. text.items ≡ text_of_rows rows) }
+/// In room that was taken before.
+pub fn put_swept(text: &mut Vec<u8>, rows: u64)
+    requires { ROOM ≤ vec_capacity text.old }
+    ensures { text.new.items ≡ swept_text rows }
 {
-    let mut digits = Buffer::new();
-    let mut text = Vec::new(alloc);
-    text.extend_from_slice(b"swept ")?;
-    text.extend_from_slice(digits.format(rows).as_bytes())?;
-    text.extend_from_slice(b" rows\n")?;
-    Ok(text)
+    text.clear();
+    add(text, b"swept ");
+    add_number(text, rows);
+    add(text, b" rows\n");
 }

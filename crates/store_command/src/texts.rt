@@ -1,5 +1,5 @@
 //! What is printed of a store.
-ghost use Rattle.std.specs.Prelude.{◌≡◌, ◌++◌, OnOk, IfOk};
+ghost use Rattle.std.specs.Prelude.{◌≡◌, ◌≤◌, ◌+◌, ◌++◌, length, decimal, vec_capacity, vec_len, OnOk, IfOk};
 ghost use Rattle.store_command.specs.Texts.{number_after, formatted_text as text_of_store, loaded_text as text_of_geography};
 
 use audit_population::people::total;
@@ -7,6 +7,39 @@ use desk_model::cuts::cuts;
 use desk_model::geography::Geography;
 use itoa::Buffer;
 use std::alloc::{AllocError, Global};
+
+/// Room for what is printed of a number of rows, in bytes.
+pub const ROOM: usize = 64;
+
+/// A text in which there is such room, so that what is printed behind the work takes no memory.
+pub fn room_for_text(alloc: Global) -> Result<Vec<u8>, AllocError>
+    ensures { IfOk result (λ text. ROOM ≤ vec_capacity text) }
+{
+    Vec::with_capacity(alloc, ROOM)
+}
+
+/// Puts words behind what is there.
+pub fn add(text: &mut Vec<u8>, words: &[u8])
+    requires room { ROOM ≤ vec_capacity text.old }
+    requires short { vec_len text.old + length words.now ≤ ROOM }
+    ensures items { text.new.items ≡ text.old.items ++ words.now }
+    ensures len { vec_len text.new ≡ vec_len text.old + length words.now }
+    ensures room { ROOM ≤ vec_capacity text.new }
+{
+    let _ = text.extend_from_slice(words);
+}
+
+/// Puts a number behind what is there.
+pub fn add_number(text: &mut Vec<u8>, number: u64)
+    requires room { ROOM ≤ vec_capacity text.old }
+    requires short { vec_len text.old + 20 ≤ ROOM }
+    ensures items { text.new.items ≡ text.old.items ++ decimal number }
+    ensures len { vec_len text.new ≤ vec_len text.old + 20 }
+    ensures room { ROOM ≤ vec_capacity text.new }
+{
+    let mut digits = Buffer::new();
+    add(text, digits.format(number).as_bytes());
+}
 
 /// Adds words and a number behind them.
 fn push_number(text: &mut Vec<u8>, words: &[u8], number: u64) -> Result<(), AllocError>

@@ -4,6 +4,7 @@ use Rattle.http_seats.specs.Streams.{traffic}
 use Rattle.serve_command.specs.declared.fault.ServeFault.{ServeFault}
 use Rattle.serve_command.specs.Serving.{listening_text, HasAnnounced, Announces}
 use Rattle.serve_command.proofs.Ends.{run_ends}
+use Rattle.serve_command.proofs.Lasts.{lasts_on}
 use Rattle.serve_command.proofs.serve.serve_store.Goals as goal
 
 pub returns-in-Err-send : goal.returns-in-Err-send
@@ -37,12 +38,13 @@ returns-in-Ok-serve_clerk g c =
       middle = c.open_store.new.stores;
       found = c.in-Ok-open_store.ensures;
       last = c.in-Ok-serve_clerk.last;
-      keeps = c.in-Ok-serve_clerk.ensures.kept;
+      keeps = λ d reads. c.in-Ok-serve_clerk.ensures.kept (c.in-Ok-open_store.ensures.shows d reads).keeps;
       ran = c.in-Ok-serve_clerk.ensures.ran;
       listener = c.args.listening.now;
       listens = refl;
       came_to = c.in-Ok-serve_clerk.ran;
       served = c.in-Ok-serve_clerk.ensures.served;
+      survives = lasts_on c.in-Ok-open_store.ensures.device c.in-Ok-open_store.clerk c.in-Ok-serve_clerk.last c.in-Ok-open_store.ensures.shows c.in-Ok-open_store.ensures.opened.working c.in-Ok-serve_clerk.ensures.served.lasts;
       told = c.hear.ensures;
       failed = c.has_failed.ensures;
       halted = refl;
@@ -65,7 +67,7 @@ returns g c =
           middle = c.open_store.new.stores;
           found = c.in-Ok-open_store.ensures;
           last = c.in-Err-serve_clerk.unserved;
-          keeps = c.in-Err-serve_clerk.ensures.kept;
+          keeps = λ d reads. c.in-Err-serve_clerk.ensures.kept (c.in-Ok-open_store.ensures.shows d reads).keeps;
           ran = c.in-Err-serve_clerk.ensures.ran;
           closed = subst (λ d. g.O.Stores.closes c.open_store.new.stores d c.close-in-Err-serve_clerk.new.self) c.into_device-in-Err-serve_clerk.ensures c.close-in-Err-serve_clerk.ensures;
         },

@@ -5,7 +5,7 @@ use Rattle.store_command.proofs.filling.fill.Goals as goal
 pub returns-in-Ok-load_geography : goal.returns-in-Ok-load_geography
 returns-in-Ok-load_geography g c =
     let did = c.in-Ok-load_geography.ensures in
-    has_loaded c.args.device c.in-Ok.clerk c.load_geography.new.clerk c.in-Ok.ensures.ok c.args.geography.value did.moves c.into_device.result c.into_device.ensures did.loaded
+    has_loaded c.args.device c.in-Ok.clerk c.load_geography.new.clerk c.in-Ok.ensures.ok c.in-Ok.ensures.shows c.args.geography.value did.moves c.into_device.result c.into_device.ensures did.loaded
 
 pub returns-in-Err-load_geography : goal.returns-in-Err-load_geography
 returns-in-Err-load_geography g c =
@@ -13,5 +13,5 @@ returns-in-Err-load_geography g c =
     inr (record {
       error = c.in-Err-load_geography.e;
       told = c.load_fault.ensures;
-      kept = has_kept c.args.device c.in-Ok.clerk c.load_geography.new.clerk c.in-Ok.ensures.ok c.args.geography.value did.moves c.into_device-in-Err-load_geography.result c.into_device-in-Err-load_geography.ensures c.in-Err-load_geography.e did.err did.same;
+      kept = has_kept c.args.device c.in-Ok.clerk c.load_geography.new.clerk c.in-Ok.ensures.ok c.in-Ok.ensures.shows c.args.geography.value did.moves c.into_device-in-Err-load_geography.result c.into_device-in-Err-load_geography.ensures c.in-Err-load_geography.e did.err did.same;
     })

@@ -1,3 +1,4 @@
+use Rattle.store_command.proofs.Read.{begins, bars_it}
 use Rattle.store_command.proofs.migrating.begin.Goals as goal
 
 pub returns-in-Ok-clause-ok : goal.returns-in-Ok-clause-ok
@@ -11,6 +12,10 @@ returns-in-Ok-clause-ok g c = record {
   calm = c.in-Ok.ensures.passed;
 }
 
+pub returns-in-Ok-clause-begins : goal.returns-in-Ok-clause-begins
+returns-in-Ok-clause-begins g c =
+    begins g.D.SectorDevice c.one_desk_opens.ensures c.args.device c.requires c.in-Ok.migration c.in-Ok.ensures.any_moment c.in-Ok.ensures.opened
+
 pub returns-in-Err-clause-err : goal.returns-in-Err-clause-err
 returns-in-Err-clause-err g c = record {
   error = c.in-Err.e;
@@ -20,4 +25,5 @@ returns-in-Err-clause-err g c = record {
   any_moment = c.in-Err.ensures.any_moment;
   why = c.in-Err.ensures.err;
   spared = c.in-Err.ensures.untouched;
+  bars = λ honest. bars_it g.D.SectorDevice c.one_desk_opens.ensures c.args.device c.requires c.in-Err.left c.in-Err.e honest c.in-Err.ensures.any_moment c.in-Err.ensures.err;
 }

@@ -1,0 +1,38 @@
+-- Each premise is met of a device just opened.
+use Rattle.std.proofs.Common.{◌≡◌, ℕ, Bool, true, false, sym, subst}
+use Rattle.sector_device.specs.Disk.{Disk, Image}
+use Rattle.sector_device.specs.declared.SectorDevice.{Ghosts}
+use Rattle.desk_model.specs.Desk.{Desk}
+use Rattle.desk_pages.specs.Desks.{OpensAs, OpensDeskOf}
+use Rattle.desk_store.specs.declared.clerk.Clerk.{Clerk}
+use Rattle.store_command.specs.Reading.{ShowsWhatIsRead}
+use Rattle.store_command.proofs.Read.{all_either, all_new, all_old, in_either, left_opens}
+use Rattle.desk_loading.specs.Openings.{IsOpened}
+use Rattle.file_commands.specs.Premises.{IsJustOpened, MeetsPremises, HasNoPremise}
+
+module _ (held : ℕ → Image) (disk : Disk) (just : IsJustOpened held disk) where
+  -- what the file held is read
+  read_as : (x : Bool × Desk) → OpensAs disk.sectors x (held disk.sectors) → OpensAs disk.sectors x disk.reads
+  read_as x opens = subst (λ (c : Image). OpensAs disk.sectors x c) (sym just.reads) opens
+
+  pub meets : (x : Bool × Desk) → OpensAs disk.sectors x (held disk.sectors) → MeetsPremises disk x
+  meets x opens =
+      let reads = read_as x opens in
+      record {
+        versions = all_either disk just.synced x.0 x.1 reads;
+        desks = λ new. all_new disk just.synced x.1 (subst (λ (b : Bool). OpensDeskOf b disk.sectors x.1 disk.reads) new reads);
+        old_desks = λ old. all_old disk just.synced x.1 (subst (λ (b : Bool). OpensDeskOf b disk.sectors x.1 disk.reads) old reads);
+        lives = λ c leaves. in_either x.0 disk.sectors x.1 c (left_opens disk just.synced x.0 x.1 reads c leaves);
+        desk = λ new. subst (λ (b : Bool). OpensDeskOf b disk.sectors x.1 disk.reads) new reads;
+        old_desk = λ old. subst (λ (b : Bool). OpensDeskOf b disk.sectors x.1 disk.reads) old reads;
+      }
+
+pub no_premise : {D : Type 0} {g : Ghosts D} (held : ℕ → Image) (device : D) (x : Clerk D g) → IsJustOpened held (g.disk device) → IsOpened device x → ShowsWhatIsRead device x → HasNoPremise held x
+no_premise {D} {g} held device x just opened shows = record {
+  device = device;
+  just = just;
+  opened = opened;
+  working = opened.working;
+  met = meets held (g.disk device) just;
+  begins = λ d opens. (let shown = shows d (read_as held (g.disk device) just (true, d) opens) in record { keeps = shown.keeps; desk = shown.desk });
+}

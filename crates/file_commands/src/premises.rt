@@ -1,0 +1,44 @@
+//! The premises of what is proved of commands, met at the device that these are handed.
+ghost use Rattle.std.specs.Prelude.{IfOk};
+ghost use Rattle.store_command.specs.Reading.{HoldsWhatIsRead, FindsWhatIsRead};
+ghost use Rattle.sector_file.specs.Device.{first_image};
+ghost use Rattle.file_commands.specs.Premises.{HasNoPremise};
+
+use crate::stores::StoreFiles;
+use desk_store::clerk::Clerk;
+use sector_device::SectorDevice;
+use sector_file::{Contents, FileDevice};
+use store_command::fault::StoreFault;
+use store_command::filling::open_clerk;
+use store_command::stores::Stores;
+
+/// Opens the store of a name as the commands do. Whatever its file held: where that opens to a desk, each premise of what is proved of
+/// openings, loads, sweeps, migrations, lives, runs and served stores is met by this very device and this clerk. That the device keeps to
+/// its model from then on is the one that is left.
+pub fn premises_are_met<S: Contents>(
+    rt: &HostRuntime,
+    name: &str,
+    start: S,
+) -> Result<Clerk<FileDevice<S>>, StoreFault>
+    ensures { IfOk result (λ clerk. HasNoPremise (first_image S.Contents.sector) clerk) }
+{
+    let mut stores = StoreFiles::new(rt, start);
+    let device: FileDevice<S> = match stores.open(name) {
+        Ok(device) => device,
+        Err(fault) => return Err(fault),
+    };
+    match open_clerk(rt.alloc(), device) {
+        Ok(clerk) => Ok(clerk),
+        Err((fault, left)) => {
+            stores.close(left);
+            Err(fault)
+        }
+    }
+}
+
+/// Of lives of a store: what was synced as it was opened is a device on which lives may begin, by what it reads; and where it reads as an
+/// image that a stop in a life may have left, it is what the next life finds.
+pub fn lives_find_what_is_read<D: SectorDevice>()
+    ensures first { HoldsWhatIsRead D.SectorDevice }
+    ensures next { FindsWhatIsRead D.SectorDevice }
+{}

@@ -1,0 +1,172 @@
+-- A synced device, by what it reads.
+use Rattle.std.proofs.Common.{◌≡◌, ◌≢◌, ◌≤◌, ◌+◌, ◌^◌, ℕ, Bool, true, false, None, Some, inl, inr, ⊎_elim, sym, subst, ◌∙◌, arith}
+use Rattle.sector_device.specs.Disk.{Disk, Image, IsSynced}
+use Rattle.sector_device.specs.Moments.{LeavesOnly}
+use Rattle.sector_device.proofs.Moments.{leaves_wider}
+use Rattle.sector_device.specs.declared.SectorDevice.{Ghosts}
+use Rattle.gate_journal.specs.Store.{pages}
+use Rattle.gate_journal.proofs.Headers.{same_journal}
+use Rattle.page_store.specs.Chain.{root_in, free_in}
+use Rattle.page_btree.proofs.MapLaws.{one_map}
+use Rattle.desk_model.specs.Desk.{Desk}
+use Rattle.store_rows.specs.Keys.{version}
+use Rattle.store_rows.specs.Rows.{KeyMap, row_in}
+use Rattle.store_rows.specs.Tidy.{version_row}
+use Rattle.desk_pages.specs.Desks.{HoldsDeskOf, OpensDeskOf, OpensAs, OpensDesk, OpensOld, OpensEither}
+use Rattle.desk_pages.specs.Openings.{AllDesks, AllOld, AllVersions, IsOneAs, LeavesOneAs, LeavesOneOf, OpensOneAs, OpensOneOf}
+use Rattle.desk_store.specs.declared.clerk.Clerk.{Clerk}
+use Rattle.desk_store.specs.declared.opening.OpenError.{OpenError}
+use Rattle.desk_store.specs.declared.opening.OpenError.TheVariants.{NotAStore, OldVersion}
+use Rattle.desk_store.specs.Clerks.{desk_of, disk_of, Keeps}
+use Rattle.desk_store.specs.Openings.{OpenRefused}
+use Rattle.desk_migration.specs.declared.error.MigrationOpenError.{MigrationOpenError}
+use Rattle.desk_migration.specs.declared.error.MigrationOpenError.TheVariants as entry
+use Rattle.desk_migration.specs.declared.migration.Migration.{Migration}
+use Rattle.desk_migration.specs.Migrating.{disk_of as migrated_disk, Keeps as KeepsOld}
+use Rattle.desk_migration.specs.Openings.{IsRefused, KeepsOne}
+use Rattle.desk_runs.specs.Recovery.{ImagesAreOne}
+use Rattle.desk_runs.specs.Lives.{left_by}
+use Rattle.store_command.specs.Reading.{ReadsDesk, ReadsOld, ShowsDesk, ShowsWhatIsRead, BeginsAt, BeginsAtWhatIsRead, RefusesDesk, RefusesOld, RefusesWhatIsRead, BarsOld, BarsDesk, BarsWhatIsRead, HoldsWhatIsRead, FindsWhatIsRead}
+
+-- ---- one image, one version
+version_once : (m : KeyMap) → row_in m version ≡ version_row true → row_in m version ≡ version_row false → ⊥
+version_once m one other = let clash = sym one ∙ other in cc
+
+abbrev Held : Bool → ℕ → Image → Desk → Type 0
+Held new n P d = HoldsDeskOf new n P (root_in P) (free_in P) d
+
+held_pages : (new : Bool) (sectors : ℕ) (d : Desk) (c : Image) (is : OpensDeskOf new sectors d c) → Held new is.n (pages is.J c) d
+held_pages new sectors d c is = subst (λ (P : Image). Held new is.n P d) (λ i p. sym (is.opens.each p) i) is.holds
+
+moved : (new : Bool) (J n K m : ℕ) (d : Desk) (c : Image) → K ≡ J → m ≡ n → Held new m (pages K c) d → Held new n (pages J c) d
+moved new J n K m d c journal count held = subst (λ (L : ℕ). Held new n (pages L c) d) journal (subst (λ (l : ℕ). Held new l (pages K c) d) count held)
+
+versions_clash : (n : ℕ) (P : Image) (d e : Desk) → n ≤ 2 ^ 32 → Held true n P d → Held false n P e → ⊥
+versions_clash n P d e few new old =
+    let same : new.m ≡ old.m = one_map n P (root_in P) (free_in P) new.m old.m few new.holds old.holds in
+    let is_new : row_in new.m version ≡ version_row true = subst (λ (b : Bool). row_in new.m version ≡ version_row b) new.is.version new.is.tidy.holdings.told in
+    let is_old : row_in old.m version ≡ version_row false = subst (λ (b : Bool). row_in old.m version ≡ version_row b) old.is.version old.is.tidy.holdings.told in
+    version_once old.m (subst (λ (m : KeyMap). row_in m version ≡ version_row true) same is_new) is_old
+
+pub one_version : (sectors : ℕ) (d e : Desk) (c : Image) → sectors ≤ 2 ^ 32 → OpensDesk sectors d c → OpensOld sectors e c → ⊥
+one_version sectors d e c few is other =
+    let most = is.opens.store.most_journal in
+    let less = other.opens.store.most_journal in
+    let journal : other.J ≡ is.J = same_journal other.J other.n is.J is.n (omega (arith, less)) (omega (arith, most)) (sym other.opens.store.header ∙ is.opens.store.header) in
+    let count : other.n ≡ is.n = omega (arith, journal, is.whole, other.whole) in
+    versions_clash is.n (pages is.J c) d e (omega (arith, few, is.whole)) (held_pages true sectors d c is) (moved false is.J is.n other.J other.n e c journal count (held_pages false sectors e c other))
+
+few_sectors : (disk : Disk) → disk.sectors ≤ 2 ^ 32
+few_sectors disk = let few = disk.few in omega (arith, few)
+
+pub in_either : (new : Bool) (sectors : ℕ) (d : Desk) (c : Image) → OpensDeskOf new sectors d c → OpensEither sectors d c
+in_either true sectors d c opens = inl opens
+in_either false sectors d c opens = inr opens
+
+module _ (disk : Disk) (synced : IsSynced disk) where
+  -- an image that a stop may leave now is what is read
+  as_read : (c : Image) → disk.leaves c → disk.reads ≡ c
+  as_read c leaves = λ i k. (sym ((synced c leaves).same k (λ none. none))) i
+
+  pub left_opens : (new : Bool) (d : Desk) → OpensDeskOf new disk.sectors d disk.reads → (c : Image) → disk.leaves c → OpensDeskOf new disk.sectors d c
+  left_opens new d reads c leaves = subst (λ (i : Image). OpensDeskOf new disk.sectors d i) (as_read c leaves) reads
+
+  pub all_new : (d : Desk) → ReadsDesk disk d → AllDesks disk
+  all_new d reads c leaves = (d, left_opens true d reads c leaves)
+
+  pub all_old : (d : Desk) → ReadsOld disk d → AllOld disk
+  all_old d reads c leaves = (d, left_opens false d reads c leaves)
+
+  pub all_either : (new : Bool) (d : Desk) → OpensDeskOf new disk.sectors d disk.reads → AllVersions disk
+  all_either new d reads c leaves = ((new, d), left_opens new d reads c leaves)
+
+  -- what was there is what is read
+  was_read : (x : Bool × Desk) → IsOneAs disk x → OpensAs disk.sectors x disk.reads
+  was_read x one = subst (λ (c : Image). OpensAs disk.sectors x c) (sym (as_read one.was one.left)) one.opens
+
+  module _ (law : ImagesAreOne) where
+    pub it_is : (new other : Bool) (d e : Desk) → OpensDeskOf new disk.sectors d disk.reads → IsOneAs disk (other, e) → e ≡ d
+    it_is new other d e reads one = law other new disk.sectors e d disk.reads (few_sectors disk) (was_read (other, e) one) reads
+
+    -- images that open to one of those that were there
+    new_only : (d : Desk) → ReadsDesk disk d → (c : Image) → OpensOneOf disk c → OpensDesk disk.sectors d c
+    new_only d reads c is = subst (λ (e : Desk). OpensDesk disk.sectors e c) (it_is true true d is.desk reads is.one) is.opens
+
+    old_only : (d : Desk) → ReadsOld disk d → (c : Image) → OpensOneAs disk c → OpensOld disk.sectors d c
+    old_only d reads c is = in_old is.x.0 is.x.1 is.one is.opens
+      where
+        in_old : (b : Bool) (e : Desk) → IsOneAs disk (b, e) → OpensDeskOf b disk.sectors e c → OpensOld disk.sectors d c
+        in_old true e one opens = absurd (one_version disk.sectors e d disk.reads (few_sectors disk) (was_read (true, e) one) reads)
+        in_old false e one opens = subst (λ (f : Desk). OpensOld disk.sectors f c) (it_is false false d e reads one) opens
+
+    pub leaves_new : (new : Disk) → new.is_honest → LeavesOneOf disk new → (d : Desk) → ReadsDesk disk d → LeavesOnly (OpensDesk disk.sectors d) disk new
+    leaves_new new honest leaves d reads = leaves_wider (OpensOneOf disk) (OpensDesk disk.sectors d) disk new (λ c is. new_only d reads c is) (leaves honest (all_new d reads))
+
+    pub leaves_old : (new : Disk) → new.is_honest → LeavesOneAs disk new → (d : Desk) → ReadsOld disk d → LeavesOnly (OpensOld disk.sectors d) disk new
+    leaves_old new honest leaves d reads = leaves_wider (OpensOneAs disk) (OpensOld disk.sectors d) disk new (λ c is. old_only d reads c is) (leaves honest (all_either false d reads))
+
+    leaves_new_as : (new : Disk) → new.is_honest → LeavesOneAs disk new → (d : Desk) → ReadsDesk disk d → LeavesOnly (OpensDesk disk.sectors d) disk new
+    leaves_new_as new honest leaves d reads = leaves_wider (OpensOneAs disk) (OpensDesk disk.sectors d) disk new (λ c is. in_new c is.x.0 is.x.1 is.one is.opens) (leaves honest (all_either true d reads))
+      where
+        in_new : (c : Image) (b : Bool) (e : Desk) → IsOneAs disk (b, e) → OpensDeskOf b disk.sectors e c → OpensDesk disk.sectors d c
+        in_new c true e one opens = subst (λ (f : Desk). OpensDesk disk.sectors f c) (it_is true true d e reads one) opens
+        in_new c false e one opens = absurd (one_version disk.sectors d e disk.reads (few_sectors disk) reads (was_read (false, e) one))
+
+    -- ---- openings for a migration that were refused
+    bars : (new : Disk) (error : MigrationOpenError) → new.is_honest → LeavesOneAs disk new → IsRefused disk new error → BarsWhatIsRead disk new error
+    bars new error honest leaves why = record {
+      old_desk = λ d reads. record {
+        a_store = λ is. subst (λ (e : MigrationOpenError). IsRefused disk new e) is why honest (all_either false d reads);
+        not_yet = λ is. (subst (λ (e : MigrationOpenError). IsRefused disk new e) is why honest).1 (all_old d reads);
+        any_moment = leaves_old new honest leaves d reads;
+      };
+      desk = λ d reads. record {
+        a_store = λ is. subst (λ (e : MigrationOpenError). IsRefused disk new e) is why honest (all_either true d reads);
+        any_moment = leaves_new_as new honest leaves d reads;
+      };
+    }
+
+module _ {D : Type 0} (g : Ghosts D) (law : ImagesAreOne) (device : D) (synced : IsSynced (g.disk device)) where
+  abbrev old : Disk
+  old = g.disk device
+
+  -- a clerk who opened the device
+  pub shows : (x : Clerk D g) → LeavesOneOf old (disk_of x) → (AllVersions old → Keeps x) → (AllVersions old → (disk_of x).is_honest → IsOneAs old (true, desk_of x)) → ShowsWhatIsRead device x
+  shows x leaves keeps one d reads = record {
+    keeps = keeps (all_either old synced true d reads);
+    desk = λ honest. it_is old synced law true true d (desk_of x) reads (one (all_either old synced true d reads) honest);
+    any_moment = λ honest. leaves_new old synced law (disk_of x) honest leaves d reads;
+  }
+
+  -- a migration
+  pub begins : (x : Migration D g) → LeavesOneAs old (migrated_disk x) → (AllVersions old → (migrated_disk x).is_honest → KeepsOne old x) → BeginsAtWhatIsRead device x
+  begins x leaves opened honest d reads =
+      let kept = opened (all_either old synced false d reads) honest in
+      record {
+        keeps = subst (λ (e : Desk). KeepsOld x e) (it_is old synced law false false d kept.0 reads kept.1.1) kept.1.0;
+        any_moment = leaves_old old synced law (migrated_disk x) honest leaves d reads;
+      }
+
+  -- an opening that was refused
+  pub refuses : (left : D) (error : OpenError) → (g.disk left).is_honest → LeavesOneOf old (g.disk left) → LeavesOneAs old (g.disk left) → OpenRefused g device left error → RefusesWhatIsRead old (g.disk left) error
+  refuses left error honest leaves versions why = record {
+    desk = λ d reads. record {
+      a_store = λ is. subst (λ (e : OpenError). OpenRefused g device left e) is why honest (all_either old synced true d reads);
+      of_today = λ is. (subst (λ (e : OpenError). OpenRefused g device left e) is why honest).1 (all_new old synced d reads);
+      any_moment = leaves_new old synced law (g.disk left) honest leaves d reads;
+    };
+    old_desk = λ d reads. record {
+      a_store = λ is. subst (λ (e : OpenError). OpenRefused g device left e) is why honest (all_either old synced false d reads);
+      any_moment = leaves_old old synced law (g.disk left) honest versions d reads;
+    };
+  }
+
+  pub bars_it : (left : D) (error : MigrationOpenError) → (g.disk left).is_honest → LeavesOneAs old (g.disk left) → IsRefused old (g.disk left) error → BarsWhatIsRead old (g.disk left) error
+  bars_it left error honest leaves why = bars old synced law (g.disk left) error honest leaves why
+
+-- ---- lives
+pub holds_read : {D : Type 0} (g : Ghosts D) → HoldsWhatIsRead g
+holds_read g device d synced reads c leaves = subst (λ (i : Image). OpensEither (g.disk device).sectors d i) (as_read (g.disk device) synced c leaves) reads
+
+pub finds_read : {D : Type 0} (g : Ghosts D) → FindsWhatIsRead g
+finds_read g life n device sectors synced reads = (sectors, λ c leaves. subst (λ (i : Image). left_by life i) (as_read (g.disk device) synced c leaves) reads)

@@ -1,0 +1,15 @@
+use Rattle.store_command.proofs.Read.{shows, refuses}
+use Rattle.store_command.proofs.filling.open_clerk.Goals as goal
+
+pub returns-in-Ok-clause-shows : goal.returns-in-Ok-clause-shows
+returns-in-Ok-clause-shows g c =
+    let opened = c.in-Ok.ensures.ok in
+    shows g.D.SectorDevice c.one_desk_opens.ensures c.args.device c.requires c.in-Ok.clerk opened.any_moment opened.keeps opened.one
+
+pub returns-in-Err-clause-err : goal.returns-in-Err-clause-err
+returns-in-Err-clause-err g c = record {
+  error = c.in-Err.e;
+  told = c.open_fault.ensures;
+  why = c.in-Err.ensures.err;
+  refuses = λ honest. refuses g.D.SectorDevice c.one_desk_opens.ensures c.args.device c.requires c.in-Err.left c.in-Err.e honest c.in-Err.ensures.err.any_moment c.in-Err.ensures.err.any_version c.in-Err.ensures.err.why;
+}
