@@ -1,10 +1,11 @@
 -- A clerk behind a front, by the clerk with whom its gallery began.
-use Rattle.std.specs.Prelude.{◌≡◌, All, List}
+use Rattle.std.specs.Prelude.{◌≡◌, ℕ, All, List}
 use Rattle.sector_device.specs.declared.SectorDevice.{Ghosts}
 use Rattle.desk_model.specs.declared.command.Command.{Command}
 use Rattle.desk_model.specs.Desk.{Desk}
 use Rattle.desk_store.specs.declared.clerk.Clerk.{Clerk}
 use Rattle.desk_runs.specs.Runs.{Call, Run, acknowledged}
+use Rattle.desk_gallery.specs.Telling.{halts_of}
 use Rattle.desk_gallery.specs.Working.{AreAccepted}
 
 -- what is known of the clerk with whom a gallery begins
@@ -21,17 +22,19 @@ module _ {D : Type 0} {g : Ghosts D} where
   BeginsWith begins x = begins D g x
 
   -- Commands were done one after the other, each of which was asked for, from a clerk on of whom this is known to this one; those
-  -- that were acknowledged are what is shown.
-  pub record HasRun (begins : Beginning) (asked : Command → Type 0) (last : Clerk D g) (shown : List Command) : Type 0 where
+  -- that were acknowledged are what is shown, and so many were told as halted.
+  pub record HasRun (begins : Beginning) (asked : Command → Type 0) (last : Clerk D g) (shown : List Command) (halts : ℕ) : Type 0 where
     pub first : Clerk D g
     pub began : BeginsWith begins first
     pub calls : List Call
     pub run : Run first calls last
     pub each : All (λ call. asked call.0) calls
     pub are_shown : acknowledged calls ≡ shown
+    pub are_halts : halts_of calls ≡ halts
 
   -- so they were, and each of the acknowledged ones is accepted after those before it
   pub record IsLeftBy (start : Desk) (begins : Beginning) (asked : Command → Type 0) (last : Clerk D g) : Type 0 where
     pub commands : List Command
     pub accepted : AreAccepted start commands
-    pub ran : HasRun begins asked last commands
+    pub halts : ℕ
+    pub ran : HasRun begins asked last commands halts

@@ -4,4 +4,6 @@ pub mod Shelves
 pub mod Outcomes
 pub mod Fronts
 pub mod Working
+pub mod Telling
+pub mod Naming
 pub mod Begun

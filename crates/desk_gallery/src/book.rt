@@ -118,18 +118,22 @@ impl<'a> Plain<Showing<'a>, LogEntry, u64> for Add {
     ghost state = { λ a. None };
 }
 
-/// Names one gallery: its list of changes with the first key, the desk before them, what is known of the store and of the clerk from
-/// the start, and which commands may be carried out. Each call of a program picks it.
+/// Names one gallery: its list of changes with the first key, the counts of its seats, the desk before the changes, what is known
+/// of the store and of the clerk from the start, and which commands may be carried out. Each call of a program picks it.
 pub trait Room {
     ghost use Rattle.std.specs.Prelude.{ℕ};
     ghost use Rattle.logbook.specs.Pages.{Book};
     ghost use Rattle.desk_model.specs.declared.command.Command.{Command};
     ghost use Rattle.desk_model.specs.Desk.{Desk};
     ghost use Rattle.desk_gallery.specs.Begun.{Beginning};
+    ghost use Rattle.desk_gallery.specs.Naming.{Counts};
 
     ghost book: { Book };
 
     ghost root: { ℕ };
+
+    // the ledgers of what its seats are told
+    ghost counts: { Counts };
 
     ghost first: { Desk };
 
@@ -145,11 +149,14 @@ pub trait Room {
 
 impl Room for Brand {
     ghost use Rattle.desk_gallery.specs.Begun.{nobody};
+    ghost use Rattle.desk_gallery.specs.Naming.{no_counts};
     ghost use Rattle.desk_gallery.specs.Rules.{no_desk};
 
     ghost book = { record { number = 0; log_name = 0; cells_name = 0 } };
 
     ghost root = { 0 };
+
+    ghost counts = { no_counts };
 
     ghost first = { no_desk };
 

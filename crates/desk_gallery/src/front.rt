@@ -7,6 +7,7 @@ ghost use Rattle.desk_gallery.specs.Working.{Agree, Worked};
 
 use crate::book::Room;
 use crate::shower::Shower;
+use crate::tally::{Books, Tallies, Tally};
 use crate::visitor::{Told, Visitor};
 use desk_catalogue::catalogue::Catalogue;
 use desk_model::command::Command;
@@ -67,15 +68,17 @@ fn work<J: Room, D: SectorDevice, R: Wait>(
     settle(rt, clerk, shower, ready, next)
 }
 
-/// What lies under an office's lock: a clerk, and the writer that shows its desk.
+/// What lies under an office's lock: a clerk, the writer that shows its desk, and the books of what its seats are told.
 ///
 /// It is not `Drop`: end it by `close`.
 pub struct Front<J: Room, D: SectorDevice> {
     pub(crate) clerk: Clerk<D>,
     pub(crate) shower: Shower<J>,
+    pub(crate) books: Books<J>,
 }
 
 impl<J: Room, D: SectorDevice> Model for Front<J, D> {
+    ghost use Rattle.std.specs.Prelude.{◌≡◌, length};
     ghost use Rattle.desk_store.specs.Clerks.{Keeps};
     ghost use Rattle.desk_gallery.specs.Begun.{HasRun};
     ghost use Rattle.desk_gallery.specs.Fronts.{Kept, kept_of};
@@ -85,11 +88,12 @@ impl<J: Room, D: SectorDevice> Model for Front<J, D> {
 
     ghost view = { λ f. kept_of f.clerk f.shower };
 
-    ghost invariant = { λ f. Agree J.first f.clerk f.shower × (J.sound → Keeps f.clerk) × HasRun J.begins J.asked f.clerk f.shower.0 };
+    ghost invariant = { λ f. Agree J.first f.clerk f.shower × (J.sound → Keeps f.clerk) × HasRun J.begins J.asked f.clerk f.shower.0 f.books.halted.total
+        × (f.books.accepted.total ≡ length f.shower.0) };
 }
 
 impl<J: Room, D: SectorDevice> Front<J, D> {
-    ghost use Rattle.std.specs.Prelude.{◌≡◌, ◌≤◌, ◌+◌, ◌∷◌, ◌++◌, [], false, length};
+    ghost use Rattle.std.specs.Prelude.{◌≡◌, ◌≤◌, ◌+◌, ◌∷◌, ◌++◌, ℕ, [], false, length};
     ghost use mathlib.Core.List.{IsPrefix};
     ghost use Rattle.desk_model.specs.Outcome.{IsAcceptance};
     ghost use Rattle.desk_store.specs.Clerks.{desk_of, is_halted, Keeps};
@@ -97,17 +101,23 @@ impl<J: Room, D: SectorDevice> Front<J, D> {
     ghost use Rattle.desk_gallery.specs.Begun.{BeginsWith, HasRun};
     ghost use Rattle.desk_gallery.specs.Fronts.{kept_of, IsClerk, Works, OpensShown};
     ghost use Rattle.desk_gallery.specs.Outcomes.{OutcomeMay};
+    ghost use Rattle.desk_gallery.specs.Telling.{accepted_in, halted_in};
     ghost use Rattle.desk_gallery.specs.Working.{AreAccepted, Joins};
 
-    /// Of a clerk and a writer that shows its desk, to which nothing was appended.
-    pub fn new(clerk: Clerk<D>, shower: Shower<J>) -> Front<J, D>
+    /// Of a clerk and a writer that shows its desk, to which nothing was appended, and of books in which nothing stands.
+    pub fn new(clerk: Clerk<D>, shower: Shower<J>, books: Books<J>) -> Front<J, D>
         requires none { shower ≡ ([], []) }
+        requires books { (books.accepted.total ≡ 0) × (books.halted.total ≡ 0) }
         requires same { desk_of clerk ≡ after J.first shower.0 }
         requires kept { J.sound → Keeps clerk }
         requires begins { BeginsWith J.begins clerk }
         ensures { result ≡ kept_of clerk shower }
     {
-        Front { clerk, shower }
+        Front {
+            clerk,
+            shower,
+            books,
+        }
     }
 
     /// How many changes are shown.
@@ -159,8 +169,15 @@ impl<J: Room, D: SectorDevice> Front<J, D> {
         let _ = &self.clerk;
     }
 
-    /// The outcome of a command, and what is shown then. A change is shown once its commit is done.
-    pub fn command<R: Wait>(&mut self, rt: &R, alloc: Global, command: Command) -> (Reply, Told<J>)
+    /// The outcome of a command, and what is shown then. A change is shown once its commit is done. The seat's tally counts what it is
+    /// told: no command is done that isn't counted there.
+    pub fn command<R: Wait>(
+        &mut self,
+        rt: &R,
+        alloc: Global,
+        command: Command,
+        tally: &mut Tally<J>,
+    ) -> (Reply, Told<J>)
         requires { J.asked command }
         ensures works { Works D.SectorDevice J.first self.old command result.0 self.new }
         ensures outcome { OutcomeMay (after J.first self.old.shown) command result.0 (after J.first self.new.shown) }
@@ -168,8 +185,12 @@ impl<J: Room, D: SectorDevice> Front<J, D> {
         ensures same { ¬ IsAcceptance result.0 → self.new.shown ≡ self.old.shown }
         ensures joins { Joins J.first (self.old.shown, self.old.all) command result.0 (self.new.shown, self.new.all) }
         ensures told { result.1 ≡ self.new.shown }
+        ensures accepted { tally.new.accepted.amount ≡ tally.old.accepted.amount + accepted_in result.0 }
+        ensures halted { tally.new.halted.amount ≡ tally.old.halted.amount + halted_in result.0 }
     {
-        work(rt, alloc, &mut self.clerk, &mut self.shower, command)
+        let (reply, told) = work(rt, alloc, &mut self.clerk, &mut self.shower, command);
+        self.books.count(tally, &reply);
+        (reply, told)
     }
 
     /// The clerk, whom commands left of the first one, those that are shown acknowledged. It waits for those that are visiting.
@@ -177,9 +198,34 @@ impl<J: Room, D: SectorDevice> Front<J, D> {
         ensures clerk { IsClerk J.first self result }
         ensures kept { J.sound → Keeps result }
         ensures accepted { AreAccepted J.first self.shown }
-        ensures ran { HasRun J.begins J.asked result self.shown }
+        ensures ran { (halts : ℕ) × HasRun J.begins J.asked result self.shown halts }
     {
-        let Front { clerk, shower } = self;
+        let Front {
+            clerk,
+            shower,
+            books: _,
+        } = self;
+        shower.close(rt);
+        clerk
+    }
+
+    /// The same by who has the tallies of all seats: each command that was accepted was told to one of them as that, once, and each
+    /// that was told as halted to one of them as that.
+    pub fn close_counted<R: Wait>(self, rt: &R, tallies: Tallies<J>) -> Clerk<D>
+        requires { tallies.accepted.parts ≡ J.counts.seats }
+        ensures clerk { IsClerk J.first self result }
+        ensures kept { J.sound → Keeps result }
+        ensures accepted { AreAccepted J.first self.shown }
+        ensures ran { HasRun J.begins J.asked result self.shown tallies.halted.amount }
+        ensures counted { length self.shown ≡ tallies.accepted.amount }
+    {
+        let mut tallies = tallies;
+        let Front {
+            clerk,
+            shower,
+            mut books,
+        } = self;
+        books.audit(&mut tallies);
         shower.close(rt);
         clerk
     }

@@ -7,5 +7,6 @@ pub mod gallery;
 pub mod office;
 pub mod shelf;
 pub mod shower;
+pub mod tally;
 pub mod tied;
 pub mod visitor;

@@ -8,6 +8,7 @@ ghost use Rattle.desk_gallery.specs.Working.{IsRunFrom};
 use crate::book::Room;
 use crate::front::Front;
 use crate::shower::Shower;
+use crate::tally::Books;
 use desk_store::clerk::Clerk;
 use sector_device::SectorDevice;
 use std::sync::{Mutex, MutexGuard, Wait};
@@ -18,15 +19,16 @@ pub struct Office<J: Room, D: SectorDevice> {
 }
 
 impl<J: Room, D: SectorDevice> Office<J, D> {
-    /// Puts a clerk and a writer that shows its desk, to which nothing was appended, behind a lock.
-    pub fn new(clerk: Clerk<D>, shower: Shower<J>) -> Office<J, D>
+    /// Puts a clerk and a writer that shows its desk, to which nothing was appended, behind a lock, with books in which nothing stands.
+    pub fn new(clerk: Clerk<D>, shower: Shower<J>, books: Books<J>) -> Office<J, D>
         requires none { shower ≡ ([], []) }
+        requires books { (books.accepted.total ≡ 0) × (books.halted.total ≡ 0) }
         requires same { desk_of clerk ≡ after J.first shower.0 }
         requires kept { J.sound → Keeps clerk }
         requires begins { BeginsWith J.begins clerk }
     {
         Office {
-            front: Mutex::new(Front::new(clerk, shower)),
+            front: Mutex::new(Front::new(clerk, shower, books)),
         }
     }
 

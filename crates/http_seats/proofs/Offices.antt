@@ -21,6 +21,8 @@ use Rattle.left_right.specs.contracts.board.Doing as Doing
 use Rattle.left_right.specs.contracts.part.Part as Part
 use Rattle.left_right.specs.contracts.reader.Factory as Factory
 use Rattle.left_right.specs.contracts.reader.Reader as Reader
+use Rattle.core.proofs.ledger.Book.TheSendSync.{the_send as book_send}
+use Rattle.core.proofs.ledger.Share.TheSendSync.{the_send as share_send}
 use Rattle.logbook.proofs.tokens.Pen.TheSendSync.{the_send as pen_send}
 use Rattle.logbook.proofs.tokens.Seen.TheSendSync.{the_send as seen_send}
 use Rattle.logbook.proofs.word.Word.TheSendSync.{the_send as word_send}
@@ -41,10 +43,14 @@ use Rattle.left_right.specs.contracts.writer.Writer as Writer
 use Rattle.desk_gallery.specs.contracts.office.Office as Office
 use Rattle.desk_gallery.specs.contracts.shelf.Shelf as Shelf
 use Rattle.desk_gallery.specs.contracts.shower.Shower as Shower
+use Rattle.desk_gallery.specs.contracts.tally.Books as Books
+use Rattle.desk_gallery.specs.contracts.tally.Tally as Tally
 use Rattle.desk_gallery.specs.contracts.tied.Tied as Tied
 use Rattle.desk_gallery.specs.contracts.tied.TiedProtocolShelfUnit.TheImpl as tie
 use Rattle.desk_gallery.specs.contracts.visitor.Told as Told
 use Rattle.desk_gallery.specs.contracts.visitor.Visitor as Visitor
+use Rattle.http_seats.specs.contracts.guest.Guest as Guest
+use Rattle.http_seats.specs.contracts.guest.Guest.TheInside as GuestInside
 use Rattle.http_seats.specs.contracts.many.WorkerPlace as WorkerPlace
 use Rattle.http_seats.proofs.Crosses.{catalogue_send, catalogue_sync, shelf_send, shelf_sync}
 
@@ -73,9 +79,18 @@ module _ (J : RattleType) (g : room.Ghosts J.Denot) where
   pub visitor_send : IsSend J → IsSend (Visitor.the_row J g)
   visitor_send s = view_send (VisitorInside.the_row J g) _ _ _ _ (declared_send (VisitorInside.the_type J g) (reader_send, (told_send s, tt)))
 
+  tally_send : IsSend (Tally.the_row J g)
+  tally_send = search (sendable, share_send) depth 40
+
+  books_send : IsSend (Books.the_row J g)
+  books_send = search (sendable, book_send) depth 40
+
+  guest_send : IsSend J → IsSend (Guest.the_row J g)
+  guest_send s = view_send (GuestInside.the_row J g) _ _ _ _ (declared_send (GuestInside.the_type J g) (visitor_send s, (tally_send, tt)))
+
   -- a worker's place
   pub worker_send : IsSend J → IsSend (WorkerPlace.the_row J g)
-  worker_send s = search (sendable, crosses, visitor_send) depth 40 fits 20000
+  worker_send s = search (sendable, crosses, guest_send) depth 40 fits 20000
 
   writer_send : IsSend (Writer.the_row Shelf.the_row Shelf.the_row unit (Tied.the_row J) Global.the_row (Tuple (Catalogue.the_row ∷ Mark.the_row ∷ [])) absorb.ghosts (tie.ghosts J g tie.no_dict) heap.ghosts)
   writer_send = search (sendable, crosses, table_send, table_sync, lease_send, lease_sync, slot_send, seat_send, part_send, deed_send, shelf_send, shelf_sync) depth 60 fits 20000
@@ -92,7 +107,7 @@ module _ (D : RattleType) (h : device.Ghosts D.Denot) where
 
 module _ (J D : RattleType) (g : room.Ghosts J.Denot) (h : device.Ghosts D.Denot) where
   pub front_send : IsSend J → IsSend D → IsSend (Front.the_row J D h g)
-  front_send s t = view_send (FrontInside.the_row J D h g) _ _ _ _ (declared_send (FrontInside.the_type J D h g) (clerk_send D h t, (shower_send J g s, tt)))
+  front_send s t = view_send (FrontInside.the_row J D h g) _ _ _ _ (declared_send (FrontInside.the_type J D h g) (clerk_send D h t, (shower_send J g s, (books_send J g, tt))))
 
   pub office_sync : IsSend J → IsSend D → IsSync (Office.the_row J D g h)
   office_sync s t = search (sendable, crosses, front_send) depth 60 fits 20000

@@ -1,5 +1,6 @@
 -- What the streams of many workers came to, and what they were answered.
-use Rattle.std.specs.Prelude.{◌≡◌, ℕ, All, List, [], ◌∷◌, map, reverse, fold, Option, Some, None, Result, ⊤}
+use Rattle.std.specs.Prelude.{◌≡◌, ℕ, All, List, [], ◌∷◌, length, map, reverse, fold, Option, Some, None, Result, ⊤}
+use Rattle.std.specs.List.{sum_by}
 use mathlib.Core.List.{IsPrefix}
 use Rattle.byte_stream.specs.declared.source.Source as source
 use Rattle.byte_stream.specs.declared.sink.Sink as sink
@@ -15,6 +16,7 @@ use Rattle.http_desk.specs.Asking.{IsAskedIn}
 use Rattle.http_desk.specs.Serving.{Serves, read_failures, write_failures}
 use Rattle.http_arrivals.specs.declared.ran.Ran.{Ran}
 use Rattle.http_seats.specs.Explained.{ExplainsCommand, ExplainsQuery}
+use Rattle.http_seats.specs.Seated.{Seated, newcomer}
 use Rattle.http_arrivals.specs.Running.{joined, no_streams, one_more, requests_of}
 
 -- the streams of one worker, the last first
@@ -56,79 +58,85 @@ pub record IsAskedOf {R W : Type 0} (s : Traffic R W) (c : Command) : Type 0 whe
   pub given : s.gives (Some (reader, writer))
   pub asked : IsAskedIn (s.unread reader) c
 
--- what a worker's visitor has heard of in the end, and what its streams came to
+-- what a worker's guest has heard of and was told in the end, and what its streams came to
 pub record Worker : Type 0 where
-  pub heard : List Command
+  pub guest : Seated
   pub ran : Ran
 
 module _ {R W : Type 0} (s : Traffic R W) (first : Desk) where
   -- A stream was given, and taken back as it was left, with what it came to. What was written to it since is a talk over what was read
-  -- from it since, each answer of which is explained by a list of changes that begins with all that was heard of before. It began with
-  -- what the seat had heard of, and this is heard of in the end.
-  pub record IsTalkedTo (before : List Command) (served : Result Served StreamFault) (heard : List Command) : Type 0 where
+  -- from it since, each answer of which is explained by a list of changes that begins with all that was heard of before, and each
+  -- command of which counts as what it is told as. So the seat was when it began, and so it is in the end.
+  pub record IsTalkedTo (before : Seated) (served : Result Served StreamFault) (guest : Seated) : Type 0 where
     pub reader : R
     pub writer : W
     pub given : s.gives (Some (reader, writer))
     pub reader_left : R
     pub writer_left : W
-    pub serves : Serves (ExplainsCommand first) (ExplainsQuery first) before served heard
+    pub serves : Serves (ExplainsCommand first) (ExplainsQuery first) before served guest
         (s.unread reader) (s.unread reader_left) (s.written writer) (s.written writer_left)
     pub failed_reads : s.failed_reads reader_left ≡ read_failures (s.failed_reads reader) served
     pub failed_writes : s.failed_writes writer_left ≡ write_failures (s.failed_writes writer) served
     pub taken_back : s.takes_back reader_left writer_left served
 
-  -- streams one after the other, the last first, at a seat that had heard of this before
-  abbrev pub AreTalkedTo : List Command → List (Result Served StreamFault) → List Command → Type 0
-  AreTalkedTo before [] heard = heard ≡ before
-  AreTalkedTo before (served ∷ streams) heard = (list : List Command) × AreTalkedTo before streams list × IsTalkedTo list served heard
+  -- streams one after the other, the last first, at a seat that was so before
+  abbrev pub AreTalkedTo : Seated → List (Result Served StreamFault) → Seated → Type 0
+  AreTalkedTo before [] guest = guest ≡ before
+  AreTalkedTo before (served ∷ streams) guest = (between : Seated) × AreTalkedTo before streams between × IsTalkedTo between served guest
 
   -- streams at a seat, and what they came to
-  pub record AreServed (before heard : List Command) (ran : Ran) : Type 0 where
+  pub record AreServed (before guest : Seated) (ran : Ran) : Type 0 where
     pub streams : List (Result Served StreamFault)
-    pub talked : AreTalkedTo before streams heard
+    pub talked : AreTalkedTo before streams guest
     pub counts : ran ≡ counts_of streams
 
-  -- What a worker came to whose visitor had heard of this before, and of that in the end. It ended where no further stream was given.
-  pub record HasWorked (before heard : List Command) (ran : Ran) : Type 0 where
-    pub served : AreServed before heard ran
+  -- What a worker came to whose guest was so before, and so in the end. It ended where no further stream was given.
+  pub record HasWorked (before guest : Seated) (ran : Ran) : Type 0 where
+    pub served : AreServed before guest ran
     pub over : s.gives None
 
-  -- what a worker leaves of its place: the visitor is back, and so much its streams came to
-  abbrev pub LeavesPlace : Option (List Command) → Option (List Command) → Ran → Type 0
+  -- what a worker leaves of its place: the guest is back, and so much its streams came to
+  abbrev pub LeavesPlace : Option Seated → Option Seated → Ran → Type 0
   LeavesPlace None after ran = after ≡ None
-  LeavesPlace (Some before) after ran = (heard : List Command) × (after ≡ Some heard) × HasWorked before heard ran
+  LeavesPlace (Some before) after ran = (guest : Seated) × (after ≡ Some guest) × HasWorked before guest ran
 
   -- the same of each place
-  abbrev pub LeavesPlaces : List (Option (List Command)) → List (Option (List Command) × Ran) → Type 0
+  abbrev pub LeavesPlaces : List (Option Seated) → List (Option Seated × Ran) → Type 0
   LeavesPlaces [] [] = ⊤
   LeavesPlaces (before ∷ old) (after ∷ new) = LeavesPlace before after.0 after.1 × LeavesPlaces old new
   LeavesPlaces [] (after ∷ new) = ⊥
   LeavesPlaces (before ∷ old) [] = ⊥
 
-  -- what each of the workers came to whose visitors had heard of this
+  -- what each of the workers came to whose visitors had heard of this, and had asked for nothing
   abbrev pub EachHasWorked : List (List Command) → List Worker → Type 0
   EachHasWorked [] [] = ⊤
-  EachHasWorked (before ∷ visitors) (worker ∷ workers) = HasWorked before worker.heard worker.ran × EachHasWorked visitors workers
+  EachHasWorked (before ∷ visitors) (worker ∷ workers) =
+      HasWorked (newcomer before) worker.guest worker.ran × EachHasWorked visitors workers
   EachHasWorked [] (worker ∷ workers) = ⊥
   EachHasWorked (before ∷ visitors) [] = ⊥
 
   -- A run is what the workers of these visitors came to together. In the end the changes begin with all that any of them has heard of.
-  pub record AreCounted (changes : List Command) (visitors : List (List Command)) (ran : Ran) : Type 0 where
+  -- There are as many changes as commands that they were told of as accepted, and so many as they were told of as halted.
+  pub record AreCounted (changes : List Command) (halts : ℕ) (visitors : List (List Command)) (ran : Ran) : Type 0 where
     pub workers : List Worker
     pub each : EachHasWorked (reverse visitors) workers
-    pub shown : All (λ w. IsPrefix w.heard changes) workers
+    pub shown : All (λ w. IsPrefix w.guest.heard changes) workers
+    pub accepted : length changes ≡ sum_by (λ w. w.guest.accepted) workers
+    pub halted : halts ≡ sum_by (λ w. w.guest.halted) workers
     pub total : ran ≡ total_of (map (λ w. w.ran) workers)
 
   module _ {D : Type 0} {g : device.Ghosts D} where
     -- Streams were served at the seats of these visitors, and came to this. Commands were done one after the other, each of which
     -- one of the streams asked for, from the clerk with whom the office began to this one. The changes along which the streams were
-    -- answered are those of them that were acknowledged, each accepted after those before it.
+    -- answered are those of them that were acknowledged, each accepted after those before it, and each was told once as accepted; so
+    -- many were told as halted.
     pub record HasServed (begins : Beginning) (visitors : List (List Command)) (last : Clerk D g) (ran : Ran) : Type 0 where
       pub changes : List Command
+      pub halts : ℕ
       pub accepted : AreAccepted first changes
-      pub left : HasRun begins (IsAskedOf s) last changes
-      pub counted : AreCounted changes visitors ran
+      pub left : HasRun begins (IsAskedOf s) last changes halts
+      pub counted : AreCounted changes halts visitors ran
 
 -- the last visitor's place is the first
-abbrev pub WereVisitors : List (List Command) → List (Option (List Command)) → Type 0
-WereVisitors visitors places = places ≡ map Some (reverse visitors)
+abbrev pub WereVisitors : List (List Command) → List (Option Seated) → Type 0
+WereVisitors visitors places = places ≡ map (λ v. Some (newcomer v)) (reverse visitors)

@@ -1,17 +1,21 @@
 //! Many streams, served at seats of one office.
-ghost use Rattle.std.specs.Prelude.{◌≡◌, ◌≤◌, All, IfOk, IfSome, map};
+ghost use Rattle.std.specs.Prelude.{◌≡◌, ◌≤◌, ◌+◌, All, IfOk, IfSome, length, map};
+ghost use Rattle.std.specs.List.{sum_by};
 ghost use mathlib.Core.List.{IsPrefix};
 ghost use Rattle.desk_model.specs.declared.command.Command.{Command};
 ghost use Rattle.desk_store.specs.Clerks.{desk_of, Keeps};
 ghost use Rattle.desk_gallery.specs.Begun.{IsLeftBy};
 ghost use Rattle.desk_gallery.specs.Working.{IsRunFrom};
 ghost use Rattle.http_arrivals.specs.Running.{no_streams};
+ghost use Rattle.http_seats.specs.Seated.{accepted_at, halted_at, seats_at};
 ghost use Rattle.http_seats.specs.Streams.{HasServed, HasWorked, IsAskedOf, LeavesPlace, LeavesPlaces, WereVisitors, total_of, traffic};
 
+use crate::guest::Guest;
 use crate::seat::Seat;
 use desk_gallery::book::Room;
 use desk_gallery::front::Front;
 use desk_gallery::office::Office;
+use desk_gallery::tally::Tallies;
 use desk_gallery::visitor::Visitor;
 use desk_model::gate::Gate;
 use desk_store::clerk::Clerk;
@@ -37,11 +41,11 @@ impl<'a, G: Gate> Gate for AtWorker<'a, G> {
     }
 }
 
-/// A worker's number, its visitor until it begins, and what its streams came to.
+/// A worker's number, its guest until it begins and once it has ended, and what its streams came to.
 #[derive(Drop)]
 struct WorkerPlace<J: Room> {
     worker: u32,
-    visitor: Option<Visitor<J>>,
+    guest: Option<Guest<J>>,
     totals: Totals,
 }
 
@@ -69,7 +73,7 @@ fn work<J: Room, D: SectorDevice, A: Arrivals, G: Gate, R: Wait>(
     unreachable!()
 }
 
-/// Serves streams at the seat of a place, and counts them there. The visitor comes back to it.
+/// Serves streams at the seat of a place, and counts them there. The guest comes back to it.
 fn work_at<J: Room, D: SectorDevice, A: Arrivals, G: Gate, R: Wait>(
     rt: &R,
     alloc: Global,
@@ -80,39 +84,65 @@ fn work_at<J: Room, D: SectorDevice, A: Arrivals, G: Gate, R: Wait>(
 )
     requires { (c : Command) → IsAskedOf (traffic A.gives A.takes_back A.Reader.Source A.Writer.Sink arrivals.now) c → J.asked c }
     ensures { LeavesPlace (traffic A.gives A.takes_back A.Reader.Source A.Writer.Sink arrivals.now)
-        J.first place.old.visitor place.new.visitor place.new.totals.ran }
+        J.first place.old.guest place.new.guest place.new.totals.ran }
 {
-    let Some(visitor) = place.visitor.take() else {
+    let Some(guest) = place.guest.take() else {
         return;
     };
-    let mut seat = Seat::new(rt, office, visitor);
+    let mut seat = Seat::new(rt, office, guest);
     let gate = AtWorker {
         gate,
         worker: place.worker,
     };
     place.totals = work(rt, alloc, &mut seat, Acceptor::new(arrivals), &gate);
-    place.visitor = Some(seat.into_visitor());
+    place.guest = Some(seat.into_guest());
 }
 
-/// The places of the visitors' workers, the last first.
+/// The places of the visitors' workers, the last first, each with a tally of its own.
 fn places_for<J: Room>(
     alloc: Global,
     visitors: Vec<Visitor<J>>,
+    tallies: &mut Tallies<J>,
 ) -> Result<Vec<WorkerPlace<J>>, AllocError>
-    ensures { IfOk result (λ places. WereVisitors visitors.items (map (λ p. p.visitor) places.items)) }
+    requires seats { length visitors.items ≤ tallies.old.accepted.parts }
+    requires none { (tallies.old.accepted.amount ≡ 0) × (tallies.old.halted.amount ≡ 0) }
+    ensures places { IfOk result (λ places. WereVisitors visitors.items (map (λ p. p.guest) places.items)) }
+    ensures seats { IfOk result (λ _. tallies.new.accepted.parts + length visitors.items ≡ tallies.old.accepted.parts) }
+    ensures none { IfOk result (λ _. (tallies.new.accepted.amount ≡ 0) × (tallies.new.halted.amount ≡ 0)) }
 {
+    let mut visitors = visitors;
     let mut places = Vec::with_capacity(alloc, visitors.len())?;
-    let mut worker = 0u32;
-    for visitor in visitors {
+    while let Some(visitor) = visitors.pop() {
         places.push(WorkerPlace {
-            worker,
-            visitor: Some(visitor),
+            worker: u32::try_from(visitors.len()).unwrap_or(u32::MAX),
+            guest: Some(Guest::new(visitor, tallies.seat())),
             totals: Totals::new(),
         })?;
-        worker = worker.saturating_add(1);
     }
-    places.reverse();
     Ok(places)
+}
+
+/// Takes in the tally of a guest, if one came back.
+fn take_in<J: Room>(tallies: &mut Tallies<J>, guest: Option<Guest<J>>)
+    ensures seats { tallies.new.accepted.parts ≡ tallies.old.accepted.parts + seats_at guest }
+    ensures accepted { tallies.new.accepted.amount ≡ tallies.old.accepted.amount + accepted_at guest }
+    ensures halted { tallies.new.halted.amount ≡ tallies.old.halted.amount + halted_at guest }
+{
+    if let Some(guest) = guest {
+        tallies.merge(guest.tally);
+    }
+}
+
+/// Takes in the tallies of the guests that came back.
+fn gather<J: Room>(tallies: &mut Tallies<J>, places: Vec<WorkerPlace<J>>)
+    ensures seats { tallies.new.accepted.parts ≡ tallies.old.accepted.parts + sum_by (λ p. seats_at p.guest) places.items }
+    ensures accepted { tallies.new.accepted.amount ≡ tallies.old.accepted.amount + sum_by (λ p. accepted_at p.guest) places.items }
+    ensures halted { tallies.new.halted.amount ≡ tallies.old.halted.amount + sum_by (λ p. halted_at p.guest) places.items }
+{
+    let mut places = places;
+    while let Some(place) = places.pop() {
+        take_in(tallies, place.guest);
+    }
 }
 
 /// What all workers came to together.
@@ -143,7 +173,7 @@ fn serve_places<
 )
     requires { (c : Command) → IsAskedOf (traffic A.gives A.takes_back A.Reader.Source A.Writer.Sink arrivals.now) c → J.asked c }
     ensures { LeavesPlaces (traffic A.gives A.takes_back A.Reader.Source A.Writer.Sink arrivals.now) J.first
-        (map (λ p. p.visitor) places.old) (map (λ p. (p.visitor, p.totals.ran)) places.new) }
+        (map (λ p. p.guest) places.old) (map (λ p. (p.guest, p.totals.ran)) places.new) }
 {
     let threads = places.len().max(1);
     for_each_mut(
@@ -153,24 +183,24 @@ fn serve_places<
         &|_, place: &mut WorkerPlace<J>|
             requires { (c : Command) → IsAskedOf (traffic A.gives A.takes_back A.Reader.Source A.Writer.Sink arrivals.now) c → J.asked c }
             ensures { LeavesPlace (traffic A.gives A.takes_back A.Reader.Source A.Writer.Sink arrivals.entry.now)
-                J.first place.old.visitor place.new.visitor place.new.totals.ran }
+                J.first place.old.guest place.new.guest place.new.totals.ran }
         { work_at(rt, alloc, office, place, arrivals, gate) },
     );
 }
 
-/// The visitor of a place has heard of no more than the front shows.
+/// The guest of a place has heard of no more than the front shows.
 fn know_at<J: Room, D: SectorDevice>(front: &mut Front<J, D>, place: &WorkerPlace<J>)
-    ensures begins { IfSome place.now.visitor (λ v. IsPrefix v front.new.shown) }
+    ensures begins { IfSome place.now.guest (λ guest. IsPrefix guest.heard front.new.shown) }
     ensures same { front.new ≡ front.old }
 {
-    if let Some(visitor) = &place.visitor {
-        front.knows(visitor);
+    if let Some(guest) = &place.guest {
+        front.knows(&guest.visitor);
     }
 }
 
-/// None of the places' visitors has heard of more than the front shows.
+/// None of the places' guests has heard of more than the front shows.
 fn know_all<J: Room, D: SectorDevice>(front: &mut Front<J, D>, places: &[WorkerPlace<J>])
-    ensures all { All (λ p. IfSome p.visitor (λ v. IsPrefix v front.new.shown)) places.now }
+    ensures all { All (λ p. IfSome p.guest (λ guest. IsPrefix guest.heard front.new.shown)) places.now }
     ensures same { front.new ≡ front.old }
 {
     for place in places {
@@ -186,7 +216,7 @@ fn know_all<J: Room, D: SectorDevice>(front: &mut Front<J, D>, places: &[WorkerP
 /// `Arrivals::ended` as it was left: what was written to it is a talk over what was read from it, explained along one list of changes
 /// that grows, from what the visitor had heard of on, and that the commands begin with which the clerk has carried out in the end.
 /// Each command that the clerk was handed was asked for in the bytes of a stream that was given: this is what `asked` of the
-/// gallery's name has to say.
+/// gallery's name has to say. Each that was accepted is done once: there are as many changes as answers that tell of one.
 /// Err where memory for the workers is refused, and then no stream was taken.
 pub fn serve_many<
     J: Room + Send + Sync,
@@ -199,9 +229,12 @@ pub fn serve_many<
     alloc: Global,
     office: Office<J, D>,
     visitors: Vec<Visitor<J>>,
+    tallies: Tallies<J>,
     arrivals: &A,
     gate: &G,
 ) -> (Clerk<D>, Result<Ran, AllocError>)
+    requires seats { (tallies.accepted.parts ≡ J.counts.seats) × (length visitors.items ≤ J.counts.seats) }
+    requires none { (tallies.accepted.amount ≡ 0) × (tallies.halted.amount ≡ 0) }
     requires asked { (c : Command) → IsAskedOf (traffic A.gives A.takes_back A.Reader.Source A.Writer.Sink arrivals.now) c → J.asked c }
     requires only { (c : Command) → J.asked c → IsAskedOf (traffic A.gives A.takes_back A.Reader.Source A.Writer.Sink arrivals.now) c }
     ensures kept { J.sound → Keeps result.0 }
@@ -211,7 +244,8 @@ pub fn serve_many<
     ensures served { IfOk result.1 (HasServed (traffic A.gives A.takes_back A.Reader.Source A.Writer.Sink arrivals.now)
         J.first J.begins visitors.items result.0) }
 {
-    let Ok(mut places) = places_for(alloc, visitors) else {
+    let mut tallies = tallies;
+    let Ok(mut places) = places_for(alloc, visitors, &mut tallies) else {
         return (office.close(rt), Err(AllocError));
     };
     let stands = places.as_mut_slice();
@@ -219,6 +253,7 @@ pub fn serve_many<
     let mut front = office.into_front();
     know_all(&mut front, stands);
     let totals = together(stands);
-    let last = front.close(rt);
+    gather(&mut tallies, places);
+    let last = front.close_counted(rt, tallies);
     (last, Ok(totals.ran))
 }

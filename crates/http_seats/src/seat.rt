@@ -1,4 +1,4 @@
-//! A seat: one visitor and the office.
+//! A seat: one guest and the office.
 ghost use Rattle.std.specs.Prelude.{◌≡◌, IfOk};
 ghost use Rattle.std.specs.Sync.Mutex.{mutex_guard_value};
 ghost use mathlib.Core.List.{IsPrefix};
@@ -6,11 +6,13 @@ ghost use Rattle.desk_model.specs.Desk.{Desk};
 ghost use Rattle.desk_catalogue.specs.Audits.{AskMay};
 ghost use Rattle.http_seats.specs.Explained.{ExplainsCommand, ExplainsQuery};
 
+use crate::guest::Guest;
 use desk_catalogue::catalogue::Catalogue;
 use desk_counter::Counter;
 use desk_gallery::book::Room;
 use desk_gallery::front::Front;
 use desk_gallery::office::Office;
+use desk_gallery::tally::Tally;
 use desk_gallery::visitor::Visitor;
 use desk_model::command::{Command, Query};
 use desk_model::reply::{Refusal, Reply};
@@ -42,40 +44,45 @@ fn answered(alloc: Global, shown: Result<Arc<Catalogue>, AllocError>, query: Que
     }
 }
 
-/// A place at which commands go to the office and queries to the gallery. Contracts see it as the list of changes that it heard of.
+/// A place at which commands go to the office and queries to the gallery. Contracts see it as its guest.
 #[derive(Drop)]
-pub struct Seat<'a, J: Room, D: SectorDevice, R: Wait> {
+pub struct Seat<'a, J: Room, D: SectorDevice, R> {
     rt: &'a R,
     office: &'a Office<J, D>,
     visitor: Visitor<J>,
+    tally: Tally<J>,
 }
 
-impl<'a, J: Room, D: SectorDevice, R: Wait> Model for Seat<'a, J, D, R> {
-    ghost use Rattle.std.specs.Prelude.{List};
-    ghost use Rattle.desk_model.specs.declared.command.Command.{Command};
+impl<'a, J: Room, D: SectorDevice, R> Model for Seat<'a, J, D, R> {
+    ghost use Rattle.http_seats.specs.Seated.{Seated};
 
-    ghost Value = { List Command };
+    ghost Value = { Seated };
 
-    ghost view = { λ s. s.visitor };
+    ghost view = { λ s. record { heard = s.visitor; accepted = s.tally.accepted.amount; halted = s.tally.halted.amount } };
 }
 
-impl<'a, J: Room, D: SectorDevice, R: Wait> Seat<'a, J, D, R> {
-    /// A seat of a visitor at the office of its gallery. It waits for nobody.
-    pub fn new(rt: &'a R, office: &'a Office<J, D>, visitor: Visitor<J>) -> Seat<'a, J, D, R>
-        ensures { result ≡ visitor }
+impl<'a, J: Room, D: SectorDevice, R> Seat<'a, J, D, R> {
+    /// A seat of a guest at the office of its gallery.
+    pub fn new(rt: &'a R, office: &'a Office<J, D>, guest: Guest<J>) -> Seat<'a, J, D, R>
+        ensures { result ≡ guest }
     {
+        let Guest { visitor, tally } = guest;
         Seat {
             rt,
             office,
             visitor,
+            tally,
         }
     }
 
-    /// Its visitor, who has heard of what the seat has.
-    pub fn into_visitor(self) -> Visitor<J>
+    /// Its guest, who has heard of what the seat has, and was told what it was told.
+    pub fn into_guest(self) -> Guest<J>
         ensures { result ≡ self.entry }
     {
-        self.visitor
+        Guest {
+            visitor: self.visitor,
+            tally: self.tally,
+        }
     }
 }
 
@@ -91,7 +98,7 @@ impl<'a, J: Room, D: SectorDevice, R: Wait> Counter for Seat<'a, J, D, R> {
     /// It waits for whoever has the front, and for those that are visiting.
     fn command(&mut self, alloc: Global, command: Command) -> Reply {
         let mut front = front_for(self.rt, self.office, &self.visitor);
-        let (reply, told) = front.command(self.rt, alloc, command);
+        let (reply, told) = front.command(self.rt, alloc, command, &mut self.tally);
         MutexGuard::unlock(front);
         self.visitor.learn(told);
         reply

@@ -1,5 +1,5 @@
 //! Two streams at the seats of one office, served by two workers at once.
-ghost use Rattle.std.specs.Prelude.{◌≡◌};
+ghost use Rattle.std.specs.Prelude.{◌≡◌, ◌≤◌, length};
 ghost use Rattle.desk_model.specs.declared.command.Command.{Command};
 ghost use Rattle.desk_store.specs.Clerks.{desk_of, Keeps};
 ghost use Rattle.desk_gallery.specs.Begun.{BeginsWith};
@@ -12,6 +12,7 @@ use desk_catalogue::catalogue::Catalogue;
 use desk_gallery::book::{Opened, Room};
 use desk_gallery::gallery::{Gallery, GalleryFault};
 use desk_gallery::office::Office;
+use desk_gallery::tally::{Blanks, Tallies};
 use desk_gallery::visitor::Visitor;
 use desk_model::gate::Gate;
 use desk_store::clerk::Clerk;
@@ -131,13 +132,16 @@ fn serve_at<
     alloc: Global,
     office: Office<J, MemoryDevice>,
     visitors: Vec<Visitor<J>>,
+    tallies: Tallies<J>,
     streams: &A,
     gate: &G,
 ) -> Ran
+    requires seats { (tallies.accepted.parts ≡ J.counts.seats) × (length visitors.items ≤ J.counts.seats) }
+    requires none { (tallies.accepted.amount ≡ 0) × (tallies.halted.amount ≡ 0) }
     requires asked { (c : Command) → IsAskedOf (traffic A.gives A.takes_back A.Reader.Source A.Writer.Sink streams.now) c → J.asked c }
     requires only { (c : Command) → J.asked c → IsAskedOf (traffic A.gives A.takes_back A.Reader.Source A.Writer.Sink streams.now) c }
 {
-    let (_, ran) = serve_many(rt, alloc, office, visitors, streams, gate);
+    let (_, ran) = serve_many(rt, alloc, office, visitors, tallies, streams, gate);
     ran.expect(rt, "no memory")
 }
 
@@ -151,6 +155,7 @@ fn served_in<
     rt: &R,
     alloc: Global,
     opened: Opened,
+    blanks: Blanks,
     clerk: Clerk<MemoryDevice>,
     catalogue: Arc<Catalogue>,
     streams: &A,
@@ -158,6 +163,7 @@ fn served_in<
 ) -> Ran
     requires book { opened.seen.book ≡ J.book }
     requires root { opened.pen.nib.key ≡ J.root }
+    requires counts { (blanks ≡ J.counts) × (J.counts.seats ≡ 2) }
     requires first { catalogue.value ≡ J.first }
     requires same { desk_of clerk ≡ J.first }
     requires kept { J.sound → Keeps clerk }
@@ -173,8 +179,9 @@ fn served_in<
             panic!(rt; "no place")
         }
     };
-    let office = Office::new(clerk, shower);
-    serve_at(rt, alloc, office, visitors, streams, gate)
+    let (books, tallies) = blanks.open::<J>();
+    let office = Office::new(clerk, shower, books);
+    serve_at(rt, alloc, office, visitors, tallies, streams, gate)
 }
 
 /// The same, of the sample geography.
@@ -188,7 +195,16 @@ fn served<A: Arrivals + Sync, G: Gate + Sync, R: Threads + Wait + Abort + Sync>(
         .ok()
         .expect(rt, "no clerk");
     let catalogue = clerk.published().expect(rt, "no memory");
-    served_in::<Brand, A, G, R>(rt, alloc, Opened::new(), clerk, catalogue, streams, gate)
+    served_in::<Brand, A, G, R>(
+        rt,
+        alloc,
+        Opened::new(),
+        Blanks::new(2),
+        clerk,
+        catalogue,
+        streams,
+        gate,
+    )
 }
 
 #[test]

@@ -9,6 +9,7 @@ use desk_catalogue::catalogue::Catalogue;
 use desk_gallery::book::{Opened, Room};
 use desk_gallery::front::Front;
 use desk_gallery::gallery::{Gallery, GalleryFault};
+use desk_gallery::tally::Blanks;
 use desk_store::clerk::Clerk;
 use sector_memory::FailOnce;
 use std::alloc::Global;
@@ -21,11 +22,13 @@ fn is_shown<J: Room, R: Wait + Abort>(
     rt: &R,
     alloc: Global,
     opened: Opened,
+    blanks: Blanks,
     clerk: Clerk<FailOnce>,
     catalogue: Arc<Catalogue>,
 ) -> bool
     requires book { opened.seen.book ≡ J.book }
     requires root { opened.pen.nib.key ≡ J.root }
+    requires counts { (blanks ≡ J.counts) × (J.counts.seats ≡ 1) }
     requires first { catalogue.value ≡ J.first }
     requires same { desk_of clerk ≡ J.first }
     requires kept { J.sound → Keeps clerk }
@@ -40,17 +43,20 @@ fn is_shown<J: Room, R: Wait + Abort>(
             panic!(rt; "refused")
         }
     };
-    let mut front = Front::new(clerk, shower);
+    let (books, tallies) = blanks.open::<J>();
+    let mut tallies = tallies;
+    let mut tally = tallies.seat();
+    let mut front = Front::new(clerk, shower, books);
     let mut visitors = visitors;
     let mut visitor = visitors.pop().expect(rt, "no visitor");
-    let (reply, told) = front.command(rt, alloc, create(rt, b"a"));
+    let (reply, told) = front.command(rt, alloc, create(rt, b"a"), &mut tally);
     visitor.learn(told);
     let accepted = is_created(&reply);
     assert!(rt; plans_seen(rt, alloc, &mut visitor) == accepted as usize);
     assert!(rt; visitor.heard() == accepted as u128 && front.shown() == accepted as u128);
     if !accepted {
         assert!(rt; is_halted(&reply) && front.halted());
-        let (next, _) = front.command(rt, alloc, create(rt, b"b"));
+        let (next, _) = front.command(rt, alloc, create(rt, b"b"), &mut tally);
         assert!(rt; is_halted(&next) && front.shown() == 0);
         assert!(rt; plans_seen(rt, alloc, &mut visitor) == 0);
     }
@@ -62,7 +68,8 @@ fn is_shown<J: Room, R: Wait + Abort>(
 fn at_call<R: Wait + Abort>(rt: &R, alloc: Global, k: u64) -> Option<bool> {
     let clerk = clerk_failing_at(rt, alloc, k)?;
     let catalogue = clerk.published().expect(rt, "no memory");
-    Some(is_shown::<Brand, _>(rt, alloc, Opened::new(), clerk, catalogue))
+    let blanks = Blanks::new(1);
+    Some(is_shown::<Brand, _>(rt, alloc, Opened::new(), blanks, clerk, catalogue))
 }
 
 #[test]

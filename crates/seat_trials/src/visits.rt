@@ -9,6 +9,7 @@ use desk_catalogue::catalogue::Catalogue;
 use desk_gallery::book::{Opened, Room};
 use desk_gallery::front::Front;
 use desk_gallery::gallery::{Gallery, GalleryFault};
+use desk_gallery::tally::Blanks;
 use desk_store::clerk::Clerk;
 use gallery_law::office::are_standing;
 use sector_memory::FailOnce;
@@ -23,11 +24,13 @@ fn two_visitors<J: Room, R: Wait + Abort>(
     rt: &R,
     alloc: Global,
     opened: Opened,
+    blanks: Blanks,
     clerk: Clerk<FailOnce>,
     catalogue: Arc<Catalogue>,
 )
     requires book { opened.seen.book ≡ J.book }
     requires root { opened.pen.nib.key ≡ J.root }
+    requires counts { (blanks ≡ J.counts) × (J.counts.seats ≡ 1) }
     requires first { catalogue.value ≡ J.first }
     requires same { desk_of clerk ≡ J.first }
     requires kept { J.sound → Keeps clerk }
@@ -42,19 +45,22 @@ fn two_visitors<J: Room, R: Wait + Abort>(
             panic!(rt; "refused")
         }
     };
-    let mut front = Front::new(clerk, shower);
+    let (books, tallies) = blanks.open::<J>();
+    let mut tallies = tallies;
+    let mut tally = tallies.seat();
+    let mut front = Front::new(clerk, shower, books);
     let mut visitors = visitors;
     are_standing(&mut front, visitors.as_slice());
     assert!(rt; plans_seen(rt, alloc, &mut visitors[0]) == 0);
     for (name, so_far) in [(b"a", 1), (b"b", 2)] {
-        let (reply, told) = front.command(rt, alloc, create(rt, name));
+        let (reply, told) = front.command(rt, alloc, create(rt, name), &mut tally);
         assert!(rt; is_created(&reply));
         visitors[0].learn(told);
         assert!(rt; visitors[0].heard() == so_far as u128 && front.shown() == so_far as u128);
         assert!(rt; plans_seen(rt, alloc, &mut visitors[0]) == so_far);
         are_standing(&mut front, visitors.as_slice());
     }
-    let (again, told) = front.command(rt, alloc, create(rt, b"a"));
+    let (again, told) = front.command(rt, alloc, create(rt, b"a"), &mut tally);
     assert!(rt; !is_created(&again));
     visitors[0].learn(told);
     assert!(rt; visitors[0].heard() == 2 && visitors[1].heard() == 0);
@@ -68,5 +74,6 @@ fn visitors_see_what_was_committed(rt: HostRuntime) {
     let alloc = rt.alloc();
     let clerk = clerk_failing_at(&rt, alloc, u64::MAX).expect(&rt, "no clerk");
     let catalogue = clerk.published().expect(&rt, "no memory");
-    two_visitors::<Brand, _>(&rt, alloc, Opened::new(), clerk, catalogue);
+    let blanks = Blanks::new(1);
+    two_visitors::<Brand, _>(&rt, alloc, Opened::new(), blanks, clerk, catalogue);
 }

@@ -7,9 +7,9 @@ use Rattle.store_command.specs.declared.fault.StoreFault.{StoreFault}
 use Rattle.http_seats.specs.Streams.{Traffic}
 use Rattle.serve_command.specs.Serving.{end_of, HasAnnounced, IsServed, Announces}
 
-module _ {D O : Type 0} (g : Ghosts D) (opens : O → List ℕ → Result D StoreFault → O → Type 0) (closes : O → D → O → Type 0) {A R W : Type 0} (streams : A → Traffic R W) (heard : A → Ran → Type 0) (fails : A → Bool → Type 0) (listening : Option A) where
+module _ {D O : Type 0} (g : Ghosts D) (opens : O → List ℕ → Result D StoreFault → O → Type 0) (closes : O → D → O → Type 0) {A R W : Type 0} (streams : A → Traffic R W) (heard : A → Ran → Type 0) (fails : A → Bool → Type 0) (listening : Option A) (workers : ℕ) where
   pub run_ends : (port : ℕ) (stores : O) (name : List ℕ) (left : O) (before after : Written) (has_halted has_failed : Bool)
-      → HasAnnounced port before after → IsServed g opens closes streams heard fails listening stores name has_halted has_failed left → Announces g opens closes streams heard fails listening port stores name (end_of has_halted has_failed) left before after
+      → HasAnnounced port before after → IsServed g opens closes streams heard fails listening workers stores name has_halted has_failed left → Announces g opens closes streams heard fails listening workers port stores name (end_of has_halted has_failed) left before after
   run_ends port stores name left before after true failed line served = inr (line, inr (refl, failed, served))
   run_ends port stores name left before after false true line served = inr (line, served)
   run_ends port stores name left before after false false line served = (line, served)

@@ -1,5 +1,5 @@
 -- A run from a clerk who is like the first one.
-use Rattle.std.proofs.Common.{◌≡◌, false, Result, Ok, Err, IfOk, List, sym, subst, ◌∙◌}
+use Rattle.std.proofs.Common.{◌≡◌, ℕ, false, Result, Ok, Err, IfOk, List, sym, subst, ◌∙◌}
 use Rattle.sector_device.specs.declared.SectorDevice.{Ghosts}
 use Rattle.desk_model.specs.declared.command.Command.{Command}
 use Rattle.desk_model.specs.Desk.{Desk}
@@ -7,6 +7,7 @@ use Rattle.desk_store.specs.declared.clerk.Clerk.{Clerk}
 use Rattle.desk_store.specs.Clerks.{desk_of, disk_of, is_halted}
 use Rattle.store_command.specs.Reading.{ShowsWhatIsRead}
 use Rattle.desk_runs.specs.Runs.{Call, Run, SurvivesEachRun}
+use Rattle.desk_gallery.specs.Telling.{halts_of}
 use Rattle.desk_gallery.specs.Working.{AreAccepted}
 use Rattle.http_arrivals.specs.declared.ran.Ran.{Ran}
 use Rattle.http_seats.specs.Streams.{Traffic, AreCounted}
@@ -24,9 +25,9 @@ lasts_on device first last shows working lasts honest d reads =
     record { desk = shown.desk was; opening = shown.any_moment was; survives = lasts.survives shown.keeps working honest }
 
 module _ {D : Type 0} {g : Ghosts D} {R W : Type 0} (s : Traffic R W) where
-  serves_streams : (first last : Clerk D g) (start : Desk) (came_to : Ran) → start ≡ desk_of first → ((x : Clerk D g) → SurvivesEachRun x) → HasTalked s start (λ E h x. IsLike first x) last came_to
-      → ServesStreams s first last came_to
-  serves_streams first last start came_to same survive talked =
+  serves_streams : (workers : ℕ) (first last : Clerk D g) (start : Desk) (came_to : Ran) → start ≡ desk_of first → ((x : Clerk D g) → SurvivesEachRun x) → HasTalked s workers start (λ E h x. IsLike first x) last came_to
+      → ServesStreams s workers first last came_to
+  serves_streams workers first last start came_to same survive talked =
       let ran = talked.served.left in
       record {
         lasts = record {
@@ -39,11 +40,13 @@ module _ {D : Type 0} {g : Ghosts D} {R W : Type 0} (s : Traffic R W) where
         };
         asked = ran.each;
         visitors = talked.visitors;
+        many = talked.many;
         fresh = talked.fresh;
-        counted = subst (λ (l : List Command). AreCounted s (desk_of first) l talked.visitors came_to) (sym ran.are_shown) (subst (λ (d : Desk). AreCounted s d talked.served.changes talked.visitors came_to) same talked.served.counted);
+        counted = subst (λ (l : List Command). AreCounted s (desk_of first) l (halts_of ran.calls) talked.visitors came_to) (sym ran.are_shown) (subst (λ (n : ℕ). AreCounted s (desk_of first) talked.served.changes n talked.visitors came_to) (sym ran.are_halts)
+            (subst (λ (d : Desk). AreCounted s d talked.served.changes talked.served.halts talked.visitors came_to) same talked.served.counted));
       }
 
-  pub all_serve : {E : Type 0} (first : Clerk D g) (start : Desk) (r : Result (Clerk D g × Ran) E) → start ≡ desk_of first → ((x : Clerk D g) → SurvivesEachRun x) → IfOk r (λ end. HasTalked s start (λ E h x. IsLike first x) end.0 end.1)
-      → IfOk r (λ end. ServesStreams s first end.0 end.1)
-  all_serve first start (Ok end) same survive talked = serves_streams first end.0 start end.1 same survive talked
-  all_serve first start (Err e) same survive none = none
+  pub all_serve : {E : Type 0} (workers : ℕ) (first : Clerk D g) (start : Desk) (r : Result (Clerk D g × Ran) E) → start ≡ desk_of first → ((x : Clerk D g) → SurvivesEachRun x) → IfOk r (λ end. HasTalked s workers start (λ E h x. IsLike first x) end.0 end.1)
+      → IfOk r (λ end. ServesStreams s workers first end.0 end.1)
+  all_serve workers first start (Ok end) same survive talked = serves_streams workers first end.0 start end.1 same survive talked
+  all_serve workers first start (Err e) same survive none = none

@@ -1,5 +1,5 @@
 -- What a stop at any moment of a served store leaves, and what its streams came to.
-use Rattle.std.specs.Prelude.{◌≡◌, false, All, List, [], Result, Ok, Err}
+use Rattle.std.specs.Prelude.{◌≡◌, ℕ, false, All, List, [], length, Result, Ok, Err}
 use Rattle.std.specs.declared.alloc.AllocError.{AllocError}
 use Rattle.sector_device.specs.declared.SectorDevice.{Ghosts}
 use Rattle.desk_model.specs.declared.command.Command.{Command}
@@ -9,6 +9,7 @@ use Rattle.desk_store.specs.Clerks.{desk_of, disk_of, is_halted, sectors_of, Kee
 use Rattle.store_command.specs.Reading.{LeavesDesk, ReadsDesk}
 use Rattle.desk_runs.specs.Runs.{Call, Run, Survives, acknowledged}
 use Rattle.desk_gallery.specs.Begun.{Beginning}
+use Rattle.desk_gallery.specs.Telling.{halts_of}
 use Rattle.desk_gallery.specs.Working.{AreAccepted}
 use Rattle.http_arrivals.specs.declared.ran.Ran.{Ran}
 use Rattle.http_seats.specs.Streams.{Traffic, IsAskedOf, AreCounted, HasServed}
@@ -46,22 +47,24 @@ module _ {D : Type 0} {g : Ghosts D} where
       (disk_of last).is_honest → (d : Desk) → ReadsDesk (g.disk device) d → OutlastsDesk device first last lasts d
 
   module _ {R W : Type 0} (s : Traffic R W) where
-    -- Streams were served at the seats of visitors who had heard of nothing, by an office that began with such a clerk and this desk.
-    -- They came to this, and this clerk came back.
-    pub record HasTalked (first : Desk) (begins : Beginning) (last : Clerk D g) (ran : Ran) : Type 0 where
+    -- Streams were served at the seats of so many visitors, who had heard of nothing, by an office that began with such a clerk and this
+    -- desk. They came to this, and this clerk came back.
+    pub record HasTalked (workers : ℕ) (first : Desk) (begins : Beginning) (last : Clerk D g) (ran : Ran) : Type 0 where
       pub visitors : List (List Command)
+      pub many : length visitors ≡ workers
       pub fresh : All (λ (v : List Command). v ≡ []) visitors
       pub served : HasServed s first begins visitors last ran
 
     -- Commands were done one after the other from the first clerk to the last, and outlive each stop; each was asked for by one of the
-    -- streams. Along those that were acknowledged, streams were served at the seats of visitors who had heard of nothing, and came to
-    -- this.
-    pub record ServesStreams (first last : Clerk D g) (ran : Ran) : Type 0 where
+    -- streams. Along those that were acknowledged, streams were served at the seats of so many visitors, who had heard of nothing, and
+    -- came to this. Each that was acknowledged was answered once, as accepted; so many were answered as halted as were told so.
+    pub record ServesStreams (workers : ℕ) (first last : Clerk D g) (ran : Ran) : Type 0 where
       pub lasts : Outlasts first last
       pub asked : All (λ (call : Call). IsAskedOf s call.0) lasts.calls
       pub visitors : List (List Command)
+      pub many : length visitors ≡ workers
       pub fresh : All (λ (v : List Command). v ≡ []) visitors
-      pub counted : AreCounted s (desk_of first) (acknowledged lasts.calls) visitors ran
+      pub counted : AreCounted s (desk_of first) (acknowledged lasts.calls) (halts_of lasts.calls) visitors ran
 
 -- the clerk behind a run, and behind one for which memory was refused
 abbrev pub clerk_in : {D : Type 0} {g : Ghosts D} → Result (Clerk D g × Ran) (AllocError × Clerk D g) → Clerk D g

@@ -115,8 +115,10 @@ module _ {D O : Type 0} (g : Ghosts D) (opens : O → List ℕ → Result D Stor
   abbrev pub NotOpened : (before : O) → List ℕ → StoreFault → (after : O) → Type 0
   NotOpened before name fault after = ((fault ≡ Memory) × (after ≡ before)) ⊎ OpensStore before name (Err fault) after
 
-  -- what streams come from, where that is anything; what it heard of a run, and whether it said that it failed
-  module _ {A R W : Type 0} (streams : A → Traffic R W) (heard : A → Ran → Type 0) (fails : A → Bool → Type 0) (listening : Option A) where
+  -- what streams come from, where that is anything; what it heard of a run, and whether it said that it failed; and by how many they are
+  -- served
+  module _ {A R W : Type 0} (streams : A → Traffic R W) (heard : A → Ran → Type 0) (fails : A → Bool → Type 0)
+      (listening : Option A) (workers : ℕ) where
     -- The store of the name was opened and served; who has it last keeps it, where what the device read opened to a desk, and has the desk
     -- after commands that were accepted one after the other. They outlive a stop at any moment, from that desk on. Along these the
     -- connections were answered that came from what listens, and came to this, which was heard there, and it said whether it failed. Its
@@ -131,7 +133,7 @@ module _ {D O : Type 0} (g : Ghosts D) (opens : O → List ℕ → Result D Stor
       pub listener : A
       pub listens : listening ≡ Some listener
       pub came_to : Ran
-      pub served : ServesStreams (streams listener) first last came_to
+      pub served : ServesStreams (streams listener) workers first last came_to
       pub survives : OutlastsWhatIsRead found.device first last served.lasts
       pub told : heard listener came_to
       pub failed : fails listener has_failed

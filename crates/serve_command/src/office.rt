@@ -11,6 +11,7 @@ use desk_catalogue::catalogue::Catalogue;
 use desk_gallery::book::{Opened, Room};
 use desk_gallery::gallery::{Gallery, GalleryFault};
 use desk_gallery::office::Office;
+use desk_gallery::tally::Blanks;
 use desk_model::gate::NoGate;
 use desk_runs::law::each_run_survives;
 use desk_store::clerk::Clerk;
@@ -34,6 +35,7 @@ fn serve_named<
     rt: &R,
     alloc: Global,
     opened: Opened,
+    blanks: Blanks,
     clerk: Clerk<D>,
     catalogue: Arc<Catalogue>,
     workers: u16,
@@ -41,6 +43,7 @@ fn serve_named<
 ) -> Result<(Clerk<D>, Ran), (AllocError, Clerk<D>)>
     requires book { opened.seen.book ≡ J.book }
     requires root { opened.pen.nib.key ≡ J.root }
+    requires counts { (blanks ≡ J.counts) × (J.counts.seats ≡ workers) }
     requires first { catalogue.value ≡ J.first }
     requires same { desk_of clerk ≡ J.first }
     requires kept { J.sound → Keeps clerk }
@@ -52,7 +55,7 @@ fn serve_named<
     ensures ran { IsRunFrom J.first (desk_of (clerk_in result)) }
     ensures left { IfOk result (λ end. IsLeftBy J.first J.begins J.asked end.0) }
     ensures talked { IfOk result (λ end. HasTalked
-        (traffic A.gives A.takes_back A.Reader.Source A.Writer.Sink arrivals.now) J.first J.begins end.0 end.1) }
+        (traffic A.gives A.takes_back A.Reader.Source A.Writer.Sink arrivals.now) workers J.first J.begins end.0 end.1) }
 {
     let (shower, visitors) = match Gallery::new::<J>(alloc, opened, catalogue, workers as usize) {
         Ok(gallery) => gallery,
@@ -62,8 +65,9 @@ fn serve_named<
             return Err((AllocError, clerk));
         }
     };
-    let office = Office::new(clerk, shower);
-    let (last, ran) = serve_many(rt, alloc, office, visitors, arrivals, &NoGate);
+    let (books, tallies) = blanks.open::<J>();
+    let office = Office::new(clerk, shower, books);
+    let (last, ran) = serve_many(rt, alloc, office, visitors, tallies, arrivals, &NoGate);
     match ran {
         Ok(ran) => Ok((last, ran)),
         Err(e) => Err((e, last)),
@@ -89,7 +93,7 @@ pub fn serve_clerk<
     requires { 1 ≤ workers }
     ensures kept { Keeps clerk → Keeps (clerk_in result) }
     ensures ran { IsRunFrom (desk_of clerk) (desk_of (clerk_in result)) }
-    ensures served { IfOk result (λ end. ServesStreams (traffic A.gives A.takes_back A.Reader.Source A.Writer.Sink arrivals.now) clerk end.0 end.1) }
+    ensures served { IfOk result (λ end. ServesStreams (traffic A.gives A.takes_back A.Reader.Source A.Writer.Sink arrivals.now) workers clerk end.0 end.1) }
 {
     each_run_survives::<D>();
     let Ok(catalogue) = clerk.published() else {
@@ -99,6 +103,7 @@ pub fn serve_clerk<
         rt,
         alloc,
         Opened::new(),
+        Blanks::new(u64::from(workers)),
         clerk,
         catalogue,
         workers,

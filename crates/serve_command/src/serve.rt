@@ -74,7 +74,7 @@ fn serve_store<
 ) -> Result<(), ServeFault>
     requires { 1 ≤ serving.workers }
     ensures { Announces D.SectorDevice O.opens O.closes (traffic A.gives A.takes_back A.Reader.Source A.Writer.Sink) A.heard A.fails
-        (Some listening.now) serving.port stores.old name.now result stores.new
+        (Some listening.now) serving.workers serving.port stores.old name.now result stores.new
         (written_of W.contents W.failures writer.old) (written_of W.contents W.failures writer.new) }
 {
     let Ok(text) = listening_text(alloc, serving.port) else {
@@ -129,7 +129,7 @@ pub fn serve<
     requires { 1 ≤ serving.workers }
     ensures { OfWriters
         (Serves D.SectorDevice O.opens O.closes (traffic A.gives A.takes_back A.Reader.Source A.Writer.Sink)
-        A.heard A.fails (listener_of listening.entry) serving.port stores.old name.now result stores.new)
+        A.heard A.fails (listener_of listening.entry) serving.workers serving.port stores.old name.now result stores.new)
         W.Sink writer.old writer.new E.Sink errors.old errors.new }
 {
     let ended = match listening {

@@ -1,5 +1,12 @@
-use Rattle.std.proofs.Common.{◌≡◌, map, Some}
+use Rattle.std.proofs.Common.{◌≡◌, ◌+◌, ◌++◌, length, map, reverse}
+use Rattle.http_seats.proofs.Counts.{arrived}
 use Rattle.http_seats.proofs.many.places_for.Given as goal
 
 abbrev pub invariant-loop-visitor : goal.invariant-loop-visitor
-invariant-loop-visitor g l = map (λ p. p.visitor) l.places.items ≡ map Some l.yielded
+invariant-loop-visitor g l =
+    (map (λ p. p.guest) l.places.items ++ map arrived (reverse l.visitors.items) ≡ map arrived (reverse l.fn.visitors.items))
+    × (l.tallies.accepted.parts + length l.fn.visitors.items ≡ l.fn.tallies.accepted.parts + length l.visitors.items)
+    × (l.tallies.accepted.amount ≡ 0) × (l.tallies.halted.amount ≡ 0)
+
+abbrev pub decreases-loop-visitor : goal.decreases-loop-visitor
+decreases-loop-visitor g l = length l.visitors.items

@@ -13,4 +13,4 @@ returns-clause-ran g c = subst (λ (d : Desk). IsRunFrom d (desk_of (clerk_in c.
 pub returns-clause-served : goal.returns-clause-served
 returns-clause-served g c =
     let s = traffic g.A.Arrivals.gives g.A.Arrivals.takes_back g.A.Reader.Source g.A.Writer.Sink c.args.arrivals.now in
-    all_serve s c.args.clerk c.in-Ok.catalogue.value c.serve_named.result c.in-Ok.ensures c.each_run_survives.ensures c.serve_named.ensures.talked
+    all_serve s c.args.workers c.args.clerk c.in-Ok.catalogue.value c.serve_named.result c.in-Ok.ensures c.each_run_survives.ensures c.serve_named.ensures.talked

@@ -32,8 +32,8 @@ returns-in-Ok-serve_clerk g c =
     let streams = traffic g.A.Arrivals.gives g.A.Arrivals.takes_back g.A.Reader.Source g.A.Writer.Sink in
     let heard = g.A.Watched.heard in
     let fails = g.A.Listens.fails in
-    let ends : Result (Unit {0}) ServeFault → Type 0 = λ ended. Announces g.D.SectorDevice g.O.Stores.opens g.O.Stores.closes streams heard fails (Some c.args.listening.now) c.args.serving.port c.args.stores.now c.args.name.now ended c.close-in-Ok-serve_clerk.new.self before after in
-    subst ends (sym c.end_run-ended.ensures) (run_ends g.D.SectorDevice g.O.Stores.opens g.O.Stores.closes streams heard fails (Some c.args.listening.now) c.args.serving.port c.args.stores.now c.args.name.now c.close-in-Ok-serve_clerk.new.self before after _ c.has_failed.result line (record {
+    let ends : Result (Unit {0}) ServeFault → Type 0 = λ ended. Announces g.D.SectorDevice g.O.Stores.opens g.O.Stores.closes streams heard fails (Some c.args.listening.now) c.args.serving.workers c.args.serving.port c.args.stores.now c.args.name.now ended c.close-in-Ok-serve_clerk.new.self before after in
+    subst ends (sym c.end_run-ended.ensures) (run_ends g.D.SectorDevice g.O.Stores.opens g.O.Stores.closes streams heard fails (Some c.args.listening.now) c.args.serving.workers c.args.serving.port c.args.stores.now c.args.name.now c.close-in-Ok-serve_clerk.new.self before after _ c.has_failed.result line (record {
       first = c.in-Ok-open_store.clerk;
       middle = c.open_store.new.stores;
       found = c.in-Ok-open_store.ensures;

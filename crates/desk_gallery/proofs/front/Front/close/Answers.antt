@@ -14,4 +14,4 @@ returns-clause-accepted g c =
     subst (λ (k : Kept g.row.D.Denot). AreAccepted g.J.Room.first k.shown) c.self.view_is (accepted_first g.J.Room.first shower.0 begins.0 all)
 
 pub returns-clause-ran : goal.returns-clause-ran
-returns-clause-ran g c = subst (λ (k : Kept g.row.D.Denot). HasRun g.J.Room.begins g.J.Room.asked c.self.inside.clerk k.shown) c.self.view_is c.self.invariant.2
+returns-clause-ran g c = (c.self.inside.books.halted.total, subst (λ (k : Kept g.row.D.Denot). HasRun g.J.Room.begins g.J.Room.asked c.self.inside.clerk k.shown c.self.inside.books.halted.total) c.self.view_is c.self.invariant.2)

@@ -3,28 +3,30 @@ use Rattle.desk_gallery.specs.After.{after}
 use Rattle.desk_gallery.specs.Fronts.{Kept}
 use Rattle.desk_gallery.specs.Outcomes.{OutcomeMay}
 use Rattle.desk_gallery.specs.Working.{Joins}
-use Rattle.desk_gallery.proofs.Running.{has_run_more}
+use Rattle.desk_gallery.proofs.Running.{counted_by, has_run_more}
 use Rattle.desk_gallery.proofs.Working.{works_of, outcome_of}
 use Rattle.desk_gallery.proofs.front.Front.command.Goals as goal
 
 pub invariant_of-self : goal.invariant_of-self
 invariant_of-self g c =
-    let worked = c.work.ensures.worked in (
+    let worked = c.work-reply.ensures.worked in (
       worked.agree,
       λ sound. worked.does.moves.keeps (c.self.invariant.1 sound),
-      has_run_more g.J.Room.begins g.J.Room.asked c.self.inside.clerk c.work.new.clerk c.self.inside.shower.0 c.work.new.shower.0 c.args.command c.work.result.0 c.requires c.self.invariant.2 worked.does worked.joined worked.same,
+      has_run_more g.J.Room.begins g.J.Room.asked c.self.inside.clerk c.work-reply.new.clerk c.self.inside.shower.0 c.work-reply.new.shower.0 c.self.inside.books.halted.total c.count.new.self.halted.total c.args.command c.work-reply.result.0
+          c.requires c.self.invariant.2 worked.does worked.joined worked.same c.count.ensures.halts,
+      counted_by c.self.inside.shower.0 c.work-reply.new.shower.0 c.args.command c.work-reply.result.0 c.self.inside.books.accepted.total c.count.new.self.accepted.total worked.joined worked.same c.self.invariant.3 c.count.ensures.book,
     )
 
 pub returns-clause-works : goal.returns-clause-works
 returns-clause-works g c =
-    works_of g.J.Room.first c.self.inside.clerk c.work.new.clerk c.self.inside.shower c.work.new.shower c.args.self.now c.args.command c.work.result.0 c.self.view_is c.self.invariant.0 c.work.ensures.worked
+    works_of g.J.Room.first c.self.inside.clerk c.work-reply.new.clerk c.self.inside.shower c.work-reply.new.shower c.args.self.now c.args.command c.work-reply.result.0 c.self.view_is c.self.invariant.0 c.work-reply.ensures.worked
 
 pub returns-clause-outcome : goal.returns-clause-outcome
 returns-clause-outcome g c =
-    subst (λ (k : Kept g.row.D.Denot). OutcomeMay (after g.J.Room.first k.shown) c.args.command c.work.result.0 (after g.J.Room.first c.work.new.shower.0)) c.self.view_is
-    (outcome_of g.J.Room.first c.self.inside.clerk c.work.new.clerk c.self.inside.shower c.work.new.shower c.args.command c.work.result.0 c.self.invariant.0 c.work.ensures.worked)
+    subst (λ (k : Kept g.row.D.Denot). OutcomeMay (after g.J.Room.first k.shown) c.args.command c.work-reply.result.0 (after g.J.Room.first c.work-reply.new.shower.0)) c.self.view_is
+    (outcome_of g.J.Room.first c.self.inside.clerk c.work-reply.new.clerk c.self.inside.shower c.work-reply.new.shower c.args.command c.work-reply.result.0 c.self.invariant.0 c.work-reply.ensures.worked)
 
 pub returns-clause-joins : goal.returns-clause-joins
 returns-clause-joins g c =
-    subst (λ (k : Kept g.row.D.Denot). Joins g.J.Room.first (k.shown, k.all) c.args.command c.work.result.0 (c.work.new.shower.0, c.work.new.shower.1)) c.self.view_is
-    c.work.ensures.worked.joins
+    subst (λ (k : Kept g.row.D.Denot). Joins g.J.Room.first (k.shown, k.all) c.args.command c.work-reply.result.0 (c.work-reply.new.shower.0, c.work-reply.new.shower.1)) c.self.view_is
+    c.work-reply.ensures.worked.joins

@@ -1,4 +1,4 @@
-use Rattle.std.proofs.Common.{◌≡◌, List, ap, sym, ◌∙◌, subst, arith, length}
+use Rattle.std.proofs.Common.{List, ap, sym, ◌∙◌, subst, arith, length}
 use mathlib.Core.List.{IsPrefix}
 use Rattle.desk_model.specs.declared.command.Command.{Command}
 use Rattle.desk_gallery.specs.Working.{AreAccepted}
@@ -18,5 +18,6 @@ invariant_of-result g c =
         accepted = subst (λ (s : List Command × List Command). AreAccepted g.J.Room.first s.1) (sym none) tt;
       },
       c.requires.kept,
-      has_run_none g.J.Room.begins g.J.Room.asked c.args.clerk c.args.shower.0 c.requires.begins (ap (λ (s : List Command × List Command). s.0) none),
+      has_run_none g.J.Room.begins g.J.Room.asked c.args.clerk c.args.shower.0 c.args.books.halted.total c.requires.begins (ap (λ (s : List Command × List Command). s.0) none) c.requires.books.1,
+      c.requires.books.0 ∙ sym (ap (λ (s : List Command × List Command). length s.0) none),
     )

@@ -1,10 +1,12 @@
-use Rattle.std.proofs.Common.{subst, List}
+use Rattle.std.proofs.Common.{subst, ap}
 use mathlib.Core.List.{IsPrefix}
-use Rattle.desk_model.specs.declared.command.Command.{Command}
+use Rattle.http_seats.specs.Seated.{Seated}
 use Rattle.http_seats.proofs.seat.SeatCounter.ask.Goals as goal
 
 pub returns : goal.returns
 returns g c = record {
-  later = subst (λ (l : List Command). IsPrefix l c.visit-shown.new.self) c.self.view_is c.visit-shown.ensures.later;
+  later = subst (λ (s : Seated). IsPrefix s.heard c.visit-shown.new.self) c.self.view_is c.visit-shown.ensures.later;
   answer = c.answered.ensures _ c.visit-shown.ensures.value;
+  accepted = ap (λ (s : Seated). s.accepted) c.self.view_is;
+  halted = ap (λ (s : Seated). s.halted) c.self.view_is;
 }

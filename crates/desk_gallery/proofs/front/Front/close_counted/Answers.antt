@@ -1,0 +1,22 @@
+use Rattle.std.proofs.Common.{◌≡◌, ◌∙◌, ℕ, List, length, sym, subst}
+use Rattle.desk_model.specs.declared.command.Command.{Command}
+use Rattle.desk_gallery.specs.Begun.{HasRun}
+use Rattle.desk_gallery.specs.Fronts.{Kept}
+use Rattle.desk_gallery.specs.Working.{AreAccepted}
+use Rattle.desk_gallery.proofs.Afters.{accepted_first}
+use Rattle.desk_gallery.proofs.front.Front.close_counted.Goals as goal
+
+pub returns-clause-accepted : goal.returns-clause-accepted
+returns-clause-accepted g c =
+    let shower = c.self.inside.shower in
+    let begins = c.self.invariant.0.begins in
+    let all = subst (λ (l : List Command). AreAccepted g.J.Room.first l) (sym begins.1) c.self.invariant.0.accepted in
+    subst (λ (k : Kept g.row.D.Denot). AreAccepted g.J.Room.first k.shown) c.self.view_is (accepted_first g.J.Room.first shower.0 begins.0 all)
+
+pub returns-clause-ran : goal.returns-clause-ran
+returns-clause-ran g c =
+    subst (λ (n : ℕ). HasRun g.J.Room.begins g.J.Room.asked c.self.inside.clerk c.args.self.shown n) (sym c.audit.ensures.halted)
+    (subst (λ (k : Kept g.row.D.Denot). HasRun g.J.Room.begins g.J.Room.asked c.self.inside.clerk k.shown c.self.inside.books.halted.total) c.self.view_is c.self.invariant.2)
+
+pub returns-clause-counted : goal.returns-clause-counted
+returns-clause-counted g c = subst (λ (k : Kept g.row.D.Denot). length k.shown ≡ c.args.tallies.accepted.amount) c.self.view_is (sym (c.audit.ensures.accepted ∙ c.self.invariant.3))

@@ -1,0 +1,160 @@
+//! What the seats of an office are told, counted: two books under its lock, of the commands that are accepted and of those that are
+//! told as halted, and at each seat its share of both. They exist in proofs alone.
+ghost use Rattle.std.specs.Prelude.{◌≡◌, ◌+◌, ◌<◌};
+ghost use Rattle.desk_gallery.specs.Telling.{accepted_in, halted_in};
+
+use crate::book::Room;
+use desk_model::reply::{Refusal, Reply};
+use std::marker::{Model, PhantomData};
+use std::sync::ledger::{Blank, Book, Ledger, Share};
+
+/// The ledger of the commands that are accepted.
+pub struct Accepted<J> {
+    of: PhantomData<J>,
+}
+
+impl<J: Room> Ledger for Accepted<J> {
+    ghost name = { J.counts.accepted };
+
+    ghost parts = { J.counts.seats };
+}
+
+/// The ledger of the commands that are told as halted.
+pub struct Halts<J> {
+    of: PhantomData<J>,
+}
+
+impl<J: Room> Ledger for Halts<J> {
+    ghost name = { J.counts.halted };
+
+    ghost parts = { J.counts.seats };
+}
+
+/// Two ledgers for so many seats, which no gallery's name stands for yet. Contracts see what the name has to be.
+#[derive(Drop)]
+pub struct Blanks {
+    accepted: Blank,
+    halted: Blank,
+}
+
+impl Model for Blanks {
+    ghost use Rattle.std.specs.Prelude.{◌≡◌};
+    ghost use Rattle.desk_gallery.specs.Naming.{Counts};
+
+    ghost Value = { Counts };
+
+    ghost view = { λ b. record { accepted = b.accepted.name; halted = b.halted.name; seats = b.accepted.parts } };
+
+    ghost invariant = { λ b. b.halted.parts ≡ b.accepted.parts };
+}
+
+impl Blanks {
+    pub fn new(seats: u64) -> Blanks
+        ensures { result.seats ≡ seats }
+    {
+        Blanks {
+            accepted: Blank::new(seats),
+            halted: Blank::new(seats),
+        }
+    }
+
+    /// The books, in which nothing stands, and the tallies of all seats.
+    pub fn open<J: Room>(self) -> (Books<J>, Tallies<J>)
+        requires { self ≡ J.counts }
+        ensures none { (result.0.accepted.total ≡ 0) × (result.0.halted.total ≡ 0) }
+        ensures all { result.1.accepted.parts ≡ J.counts.seats }
+        ensures told { (result.1.accepted.amount ≡ 0) × (result.1.halted.amount ≡ 0) }
+    {
+        let Blanks { accepted, halted } = self;
+        let (accepted_book, accepted) = accepted.open::<Accepted<J>>();
+        let (halted_book, halted) = halted.open::<Halts<J>>();
+        (
+            Books {
+                accepted: accepted_book,
+                halted: halted_book,
+            },
+            Tallies { accepted, halted },
+        )
+    }
+}
+
+/// How many commands were accepted, and how many told as halted, at all seats.
+#[derive(Drop)]
+pub struct Books<J: Room> {
+    accepted: Book<Accepted<J>>,
+    halted: Book<Halts<J>>,
+}
+
+/// How many commands of one seat were accepted, and how many told as halted.
+#[derive(Drop)]
+pub struct Tally<J: Room> {
+    accepted: Share<Accepted<J>>,
+    halted: Share<Halts<J>>,
+    ghost one: { accepted.parts ≡ 1 },
+    ghost same: { halted.parts ≡ 1 },
+}
+
+/// The same of seats that nobody has.
+#[derive(Drop)]
+pub struct Tallies<J: Room> {
+    accepted: Share<Accepted<J>>,
+    halted: Share<Halts<J>>,
+    ghost same: { halted.parts ≡ accepted.parts },
+}
+
+impl<J: Room> Books<J> {
+    /// Counts a reply at the seat that is told it.
+    pub(crate) fn count(&mut self, tally: &mut Tally<J>, reply: &Reply)
+        ensures book { self.new.accepted.total ≡ self.old.accepted.total + accepted_in reply.now }
+        ensures halts { self.new.halted.total ≡ self.old.halted.total + halted_in reply.now }
+        ensures seat { tally.new.accepted.amount ≡ tally.old.accepted.amount + accepted_in reply.now }
+        ensures seat_halts { tally.new.halted.amount ≡ tally.old.halted.amount + halted_in reply.now }
+    {
+        let Tally { accepted, halted } = tally;
+        match reply {
+            Reply::Created { .. } | Reply::Retired { .. } => self.accepted.add(accepted, 1),
+            Reply::Refused(Refusal::Halted) => self.halted.add(halted, 1),
+            _ => {}
+        }
+    }
+
+    /// Who has the tallies of all seats has the totals.
+    pub(crate) fn audit(&mut self, all: &mut Tallies<J>)
+        requires { all.old.accepted.parts ≡ J.counts.seats }
+        ensures accepted { all.old.accepted.amount ≡ self.old.accepted.total }
+        ensures halted { all.old.halted.amount ≡ self.old.halted.total }
+        ensures same { (self.new.accepted.total ≡ self.old.accepted.total) × (self.new.halted.total ≡ self.old.halted.total) }
+    {
+        let Tallies { accepted, halted } = all;
+        self.accepted.audit(accepted);
+        self.halted.audit(halted);
+    }
+}
+
+impl<J: Room> Tallies<J> {
+    /// The tally of one seat more, which was told nothing.
+    pub fn seat(&mut self) -> Tally<J>
+        requires left { 0 < self.old.accepted.parts }
+        requires none { (self.old.accepted.amount ≡ 0) × (self.old.halted.amount ≡ 0) }
+        ensures told { (result.accepted.amount ≡ 0) × (result.halted.amount ≡ 0) }
+        ensures one { self.new.accepted.parts + 1 ≡ self.old.accepted.parts }
+        ensures none { (self.new.accepted.amount ≡ 0) × (self.new.halted.amount ≡ 0) }
+    {
+        let Tallies { accepted, halted } = self;
+        Tally {
+            accepted: accepted.split_off(1, 0),
+            halted: halted.split_off(1, 0),
+        }
+    }
+
+    /// Takes in that of a seat which nobody has any more.
+    pub fn merge(&mut self, tally: Tally<J>)
+        ensures one { self.new.accepted.parts ≡ self.old.accepted.parts + 1 }
+        ensures accepted { self.new.accepted.amount ≡ self.old.accepted.amount + tally.accepted.amount }
+        ensures halted { self.new.halted.amount ≡ self.old.halted.amount + tally.halted.amount }
+    {
+        let Tallies { accepted, halted } = self;
+        accepted.merge(tally.accepted);
+        halted.merge(tally.halted);
+    }
+}
