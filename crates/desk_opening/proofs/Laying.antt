@@ -3,6 +3,7 @@ use Rattle.std.proofs.Common.{◌≡◌, ◌<◌, ◌≤◌, ◌+◌, ◌++◌, 
 use Rattle.std.proofs.Common.{refl, sym, ap, subst, ◌∙◌, arith, append_assoc, length-append, length-drop, length-take}
 use Rattle.std.proofs.Math.Seq.{take-add}
 use Rattle.std.proofs.lemmas.List.{append-nil, drop-drop, drop_all, drop_at}
+use Rattle.std.proofs.lemmas.List.Elements.{All-drop, All-take}
 use Rattle.std.proofs.lemmas.List.{length-take-le, take_at, take-append-drop}
 use Rattle.std.specs.List.{concat}
 use Rattle.desk_model.specs.Cuts.{cut, laid, sizes, ListsAreCut}
@@ -54,13 +55,13 @@ in_place p n ds within =
     ∙ take-append-drop (p + n) ds
 
 -- ---- a county that the revision before has too
-pub known_stays : (number : ℕ) (c : Cut) (last : List ℕ) (county : ℕ) (districts : List ℕ) (m : KeyMap) (chunk : List ℕ)
+pub known_stays : (n number : ℕ) (c : Cut) (last : List ℕ) (county : ℕ) (districts : List ℕ) (m : KeyMap) (chunk : List ℕ)
     → c.first + c.count ≤ length districts → county < length last → get_or last county 0 ≡ number
-    → IsCounty number c last county districts m chunk → districts ≡ with_at c.first chunk districts
-known_stays number c last county districts m chunk within there same said =
+    → IsCounty n number c last county districts m chunk → districts ≡ with_at c.first chunk districts
+known_stays n number c last county districts m chunk within there same said =
     let part = take c.count (drop c.first districts) in
-    let long : length part ≡ length chunk = part_long c.first c.count districts districts within ∙ sym said.is.long in
-    let is = one_chunk m number part chunk (subst (λ n. HasChunk m n part) same (said.known there)) said.is.has long in
+    let long : length part ≡ length chunk = part_long c.first c.count districts districts within ∙ sym said.is.is.long in
+    let is = one_chunk m number part chunk (subst (λ n. HasChunk m n part) same (said.known there)) said.is.is.has long in
     sym (ap (λ (l : List ℕ). with_at c.first l districts) (sym is) ∙ in_place c.first c.count districts within)
 
 -- ---- where counties begin
@@ -141,8 +142,8 @@ module _ (lists : ListsAreCut) (cuts : List Cut) (count : ℕ) (are : AreCountie
         let all = all_placed xs whole in
         omega arith
 
-    module _ (names last before all districts : List ℕ) (number : ℕ) (m : KeyMap) (whole : length before ≡ count)
-        (said : AreNamed cuts names last before m all) (each : length names ≡ length cuts) (numbered : number ≡ get_or names k 0)
+    module _ (n : ℕ) (names last before all districts : List ℕ) (number : ℕ) (m : KeyMap) (whole : length before ≡ count)
+        (said : AreNamed n cuts names last before m all) (each : length names ≡ length cuts) (numbered : number ≡ get_or names k 0)
         (laid_so : districts ≡ so_far cuts all before k) where
       fits : here.first + here.count ≤ length all
       fits = county_fits all (said.long ∙ whole)
@@ -159,13 +160,16 @@ module _ (lists : ListsAreCut) (cuts : List Cut) (count : ℕ) (are : AreCountie
           ∙ ap (λ (l : List ℕ). take here.count l) (behind here.first here.count all before fits)
 
       -- so the next county is this one's chunk
-      pub is_county : IsCounty number here last k districts m chunk_of
+      pub is_county : IsCounty n number here last k districts m chunk_of
       is_county =
           let there : k < length names = omega arith in
           record {
             is = record {
-              has = subst (λ n. HasChunk m n chunk_of) (sym numbered) (said.named k d there within);
-              long = part_long here.first here.count all before fits;
+              is = record {
+                has = subst (λ k. HasChunk m k chunk_of) (sym numbered) (said.named k d there within);
+                long = part_long here.first here.count all before fits;
+              };
+              within = All-take (λ (x : ℕ). x ≤ n) here.count (drop here.first all) (All-drop (λ (x : ℕ). x ≤ n) here.first all said.within);
             };
             known = λ known. subst (λ (l : List ℕ). HasChunk m (get_or last k 0) l) (sym still_before) (said.known k d known within);
           }

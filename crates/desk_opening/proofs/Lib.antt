@@ -11,3 +11,4 @@ mod Shown
 mod Seals
 mod PlanNumbers
 pub mod Owned
+pub mod Within

@@ -7,6 +7,7 @@ use Rattle.desk_model.specs.declared.cuts.Cut.{Cut}
 use Rattle.desk_model.specs.Desk.{Plan}
 use Rattle.desk_model.specs.Kind.{most_districts}
 use Rattle.desk_model.specs.Subject.{revision_at}
+use Rattle.desk_pages.specs.Desks.{AreWithin}
 use Rattle.page_store.specs.Transactions.{stored, disk_in, Passed}
 use Rattle.page_store.specs.declared.pages.Pages.{Pages}
 use Rattle.page_store.specs.declared.txn.Txn.{Txn}
@@ -35,26 +36,33 @@ pub record IsOfBlocks (g : Ground) (plan revision : ℕ) (m : KeyMap) (districts
   pub has : HasRevision m plan revision (cut g districts)
   pub whole : length districts ≡ length g.blocks
 
+-- a number names the districts of one county, which has so many blocks and none of them in a district above n
+pub record IsChunkWithin (n number count : ℕ) (m : KeyMap) (districts : List ℕ) : Type 0 where
+  pub is : IsChunk number count m districts
+  pub within : AreWithin n districts
+
 -- ---- a revision beside the one before it
 -- the numbers name what the list has at the places of the first counties
 abbrev pub AreKnown : List ℕ → List ℕ → List Cut → KeyMap → Type 0
 AreKnown names districts cuts m = (county : ℕ) (c : Cut) → county < length names → county < length cuts
     → HasChunk m (get_or names county 0) (take (get_or cuts county c).count (drop (get_or cuts county c).first districts))
 
--- a revision of a plan has a district for each block, and the numbers of the one before name its districts
-pub record IsNext (g : Ground) (plan revision : ℕ) (last before : List ℕ) (m : KeyMap) (districts : List ℕ) : Type 0 where
+-- a revision of a plan has a district for each block, none above n, and the numbers of the one before name its districts
+pub record IsNext (g : Ground) (n plan revision : ℕ) (last before : List ℕ) (m : KeyMap) (districts : List ℕ) : Type 0 where
   pub is : IsOfBlocks g plan revision m districts
+  pub within : AreWithin n districts
   pub known : AreKnown last before (cuts_of g) m
 
 -- where that was so, these numbers name these districts
-abbrev pub BecomesKnown : {D : Type 0} {g : Ghosts D} → Ground → ℕ → ℕ → List ℕ → List ℕ → Txn → Pages D g → Pages D g
+abbrev pub BecomesKnown : {D : Type 0} {g : Ghosts D} → Ground → ℕ → ℕ → ℕ → List ℕ → List ℕ → Txn → Pages D g → Pages D g
     → List ℕ → List ℕ → Type 0
-BecomesKnown g plan revision last before t old new names districts = (disk_in new).is_honest → (m : KeyMap) (all : List ℕ)
-    → InTxn t (stored old) m → IsNext g plan revision last before m all → AreKnown names districts (cuts_of g) m
+BecomesKnown g n plan revision last before t old new names districts = (disk_in new).is_honest → (m : KeyMap) (all : List ℕ)
+    → InTxn t (stored old) m → IsNext g n plan revision last before m all → AreKnown names districts (cuts_of g) m
 
--- the numbers name the districts of a revision, and those of the one before its districts
-pub record AreNamed (cuts : List Cut) (names last before : List ℕ) (m : KeyMap) (districts : List ℕ) : Type 0 where
+-- the numbers name the districts of a revision, none of which is above n, and those of the one before its districts
+pub record AreNamed (n : ℕ) (cuts : List Cut) (names last before : List ℕ) (m : KeyMap) (districts : List ℕ) : Type 0 where
   pub long : length districts ≡ length before
+  pub within : AreWithin n districts
   pub named : AreKnown names districts cuts m
   pub known : AreKnown last before cuts m
 
@@ -65,9 +73,9 @@ pub record AreCountiesOf (cuts : List Cut) (count : ℕ) : Type 0 where
   pub blocks : count ≡ length ground.blocks
 
 -- a number names the districts of one county, and that of the revision before, if it has one, those that a list has at its place
-pub record IsCounty (number : ℕ) (c : Cut) (last : List ℕ) (county : ℕ) (before : List ℕ) (m : KeyMap) (districts : List ℕ)
+pub record IsCounty (n number : ℕ) (c : Cut) (last : List ℕ) (county : ℕ) (before : List ℕ) (m : KeyMap) (districts : List ℕ)
     : Type 0 where
-  pub is : IsChunk number c.count m districts
+  pub is : IsChunkWithin n number c.count m districts
   pub known : county < length last → HasChunk m (get_or last county 0) (take c.count (drop c.first before))
 
 -- ---- the rows that were read, whether or not they are a desk's
@@ -100,9 +108,10 @@ IsLast p districts = IfSome (revision_at p (length p.revisions)) (λ last. distr
 abbrev pub NamesLast : Ground → List ℕ → Plan → KeyMap → Type 0
 NamesLast g last p m = (before : List ℕ) → IsLast p before → AreKnown last before (cuts_of g) m
 
--- a revision of a plan has a district for each block, and the numbers name those of the plan's last one
+-- a revision of a plan has a district for each block, each one of the plan's, and the numbers name those of the plan's last one
 pub record IsAfter (g : Ground) (plan revision : ℕ) (last : List ℕ) (p : Plan) (m : KeyMap) (districts : List ℕ) : Type 0 where
   pub is : IsOfBlocks g plan revision m districts
+  pub within : AreWithin p.n districts
   pub known : NamesLast g last p m
 
 -- where that was so, these numbers name the districts of the last one of this plan
@@ -110,6 +119,10 @@ abbrev pub BecomesLast : {D : Type 0} {g : Ghosts D} → Ground → ℕ → ℕ 
     → List ℕ → Plan → Type 0
 BecomesLast g plan revision last p t old new names next = (disk_in new).is_honest → (m : KeyMap) (all : List ℕ)
     → InTxn t (stored old) m → IsAfter g plan revision last p m all → NamesLast g names next m
+
+-- no revision of the plan has a block in a district above its last
+abbrev pub AreAllWithin : Plan → Type 0
+AreAllWithin p = All (AreWithin p.n) p.revisions
 
 -- each revision of the plan has a district for each block
 abbrev pub IsWhole : Ground → Plan → Type 0
@@ -123,3 +136,4 @@ pub record IsPlanRow (g : Ground) (name : List ℕ) (row : PlanRow) (m : KeyMap)
   pub revisions : row.revisions ≡ length p.revisions
   pub some : 1 ≤ p.n
   pub few : p.n ≤ most_districts p.kind
+  pub within : AreAllWithin p

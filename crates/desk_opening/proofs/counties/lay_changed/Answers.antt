@@ -3,9 +3,9 @@ use Rattle.page_store.proofs.Stops.{passed_none}
 use Rattle.row_table.proofs.Outcomes.{map_both}
 use Rattle.row_table.specs.Appending.{AppendErr}
 use Rattle.row_table.proofs.Appending.{then_unappended}
-use Rattle.chunk_table.specs.Reading.{HasPieces, IsChunk}
+use Rattle.chunk_table.specs.Reading.{HasPieces}
 use Rattle.shared_districts.specs.Laid.{with_at}
-use Rattle.desk_opening.specs.Reading.{HasRead, IsCounty, IsCountyThere}
+use Rattle.desk_opening.specs.Reading.{HasRead, IsChunkWithin, IsCounty, IsCountyThere}
 use Rattle.desk_opening.proofs.Laying.{known_stays}
 use Rattle.desk_opening.proofs.WholeDesks.{ok_then}
 use Rattle.desk_opening.proofs.counties.lay_changed.Goals as goal
@@ -15,13 +15,13 @@ returns-then-is_known-clause-read g c = record {
   passed = passed_none c.args.pages.now;
   read = λ honest m chunk holds said.
       let is = c.is_known.ensures c.if-is_known.true in
-      known_stays c.args.number c.args.cut c.args.last.now c.args.county c.args.districts m chunk c.requires.within is.0 is.1 said;
+      known_stays c.args.n c.args.number c.args.cut c.args.last.now c.args.county c.args.districts m chunk c.requires.within is.0 is.1 said;
 }
 
 pub returns-clause-read : goal.returns-clause-read
 returns-clause-read g c =
-    let chunk = IsChunk c.args.number c.args.cut.count in
-    let says = IsCounty c.args.number c.args.cut c.args.last.now c.args.county c.args.districts in
+    let chunk = IsChunkWithin c.args.n c.args.number c.args.cut.count in
+    let says = IsCounty c.args.n c.args.number c.args.cut c.args.last.now c.args.county c.args.districts in
     let t = c.args.txn.now in
     let a = c.args.pages.now in
     let b = c.lay_county.new.pages in

@@ -15,6 +15,7 @@ loop-county-init g c = record {
   read = record { passed = passed_none c.args.pages.now; read = λ honest m x holds said. refl };
   there = λ honest m holds county less. absurd (omega arith);
   long = refl;
+  within = λ within. within;
   begun = c.requires.begun;
 }
 
@@ -36,16 +37,16 @@ returns-in_err-districts-clause-read g c =
     let k = c.loop-county.county in
     let none : Cut = record { first = 0; count = 0 } in
     let cut = get_or cuts k none in
-    let says = AreNamed cuts names last before in
+    let says = AreNamed c.args.n cuts names last before in
     let a = c.args.pages.now in
     let d = c.lay_changed.new.pages in
     let error = c.in_err-districts.field-0.0 in
     match_of c.from_residual.result (λ all. HasRead says (λ (x : List ℕ). x) t a d all) error (λ e. AppendErr says t a d e) c.from_residual.ensures.1
-    (then_unappended says (IsCounty (get_or names k 0) cut last k c.loop-county.districts) t a c.loop-county.pages d error
+    (then_unappended says (IsCounty c.args.n (get_or names k 0) cut last k c.loop-county.districts) t a c.loop-county.pages d error
     (λ honest m x holds said. (
       take cut.count (drop cut.first x),
       is_county c.lists_are_cut.ensures cuts (length before) c.requires.cut k none c.loop-county-test.true
-          names last before x c.loop-county.districts (get_or names k 0) m refl said c.requires.each refl (c.loop-county.invariant.read.read honest m x holds said),
+          c.args.n names last before x c.loop-county.districts (get_or names k 0) m refl said c.requires.each refl (c.loop-county.invariant.read.read honest m x holds said),
     ))
     c.loop-county.invariant.read.passed c.in_err-districts.ensures.quiet c.in_err-districts.ensures.read)
 
@@ -70,9 +71,9 @@ loop-county-preserved g c =
             let so = before.read.read then m x holds said in
             now.read.read honest m (take cut.count (drop cut.first x)) still
             (is_county c.lists_are_cut.ensures cuts (length first) c.requires.cut k none c.loop-county-test.true
-            names last first x c.loop-county.districts (get_or names k 0) m refl said c.requires.each refl so)
+            c.args.n names last first x c.loop-county.districts (get_or names k 0) m refl said c.requires.each refl so)
             ∙ county_more c.lists_are_cut.ensures cuts (length first) c.requires.cut k none c.loop-county-test.true
-            names last first x c.loop-county.districts (get_or names k 0) m refl said c.requires.each refl so;
+            c.args.n names last first x c.loop-county.districts (get_or names k 0) m refl said c.requires.each refl so;
       };
       there = λ honest m holds county less. elim (cases_lt county k) [
         | inl earlier ↦ before.there (now.quiet.honest honest) m holds county earlier
@@ -82,6 +83,7 @@ loop-county-preserved g c =
             subst (λ (n : ℕ). IsCountyThere (get_or names n 0) (get_or cuts n no_cut).count last n m) same (now.there honest m still)
       ];
       long = now.long ∙ before.long;
+      within = λ within. now.within (before.within within);
       begun = before.begun ∙ sym now.quiet.count;
     }
 
