@@ -1,5 +1,5 @@
 -- What is read back of a desk.
-use Rattle.std.specs.Prelude.{◌≡◌, ◌⊎◌, ◌≤◌, ◌<◌, ℕ, List, length, take, drop, get_or, All, IfSome, Result, MatchResult}
+use Rattle.std.specs.Prelude.{◌≡◌, ◌⊎◌, ◌≤◌, ◌<◌, ◌+◌, ℕ, List, [], length, take, drop, get_or, All, IfSome, Result, MatchResult}
 use Rattle.sector_device.specs.declared.SectorDevice.{Ghosts}
 use Rattle.desk_model.specs.Geography.{Ground}
 use Rattle.desk_model.specs.Cuts.{cut, cuts_of}
@@ -17,6 +17,8 @@ use Rattle.store_rows.specs.declared.value.PlanRow.{PlanRow}
 use Rattle.store_rows.specs.Rows.{KeyMap}
 use Rattle.store_rows.specs.RevisionRows.{HasChunk, HasRevision}
 use Rattle.store_rows.specs.DeskRows.{HasPlan}
+use Rattle.store_rows.specs.Changes.{with_revision}
+use Rattle.shared_districts.specs.Laid.{with_at}
 use Rattle.row_table.specs.Appending.{AppendErr}
 use Rattle.revision_table.specs.Reading.{HasParts}
 use Rattle.chunk_table.specs.Reading.{HasPieces, IsChunk}
@@ -78,26 +80,49 @@ pub record IsCounty (n number : ℕ) (c : Cut) (last : List ℕ) (county : ℕ) 
   pub is : IsChunkWithin n number c.count m districts
   pub known : county < length last → HasChunk m (get_or last county 0) (take c.count (drop c.first before))
 
--- ---- the rows that were read, whether or not they are a desk's
+-- no revision of the plan has a block in a district above its last
+abbrev pub AreAllWithin : Plan → Type 0
+AreAllWithin p = All (AreWithin p.n) p.revisions
+
+-- ---- what was read of rows, whether or not they are a desk's
 abbrev pub no_cut : Cut
 no_cut = record { first = 0; count = 0 }
 
--- the revision before names the chunk for a county too, or each piece of it is there
-abbrev pub IsCountyThere : ℕ → ℕ → List ℕ → ℕ → KeyMap → Type 0
-IsCountyThere number count last county m = ((county < length last) × (get_or last county 0 ≡ number)) ⊎ HasPieces number count m
+-- a county's districts among those of all blocks
+abbrev pub part_of : Cut → List ℕ → List ℕ
+part_of c districts = take c.count (drop c.first districts)
 
--- so it is in each of the counties, whose chunks have these numbers
-abbrev pub AreCountiesThere : List Cut → List ℕ → List ℕ → KeyMap → Type 0
-AreCountiesThere cuts names last m = (county : ℕ) → county < length cuts
-    → IsCountyThere (get_or names county 0) (get_or cuts county no_cut).count last county m
+-- the rows of the chunks with these numbers have what the list has at the places of the first counties
+abbrev pub AreRead : List ℕ → List ℕ → List Cut → KeyMap → Type 0
+AreRead names districts cuts m = (county : ℕ) → county < length names → county < length cuts
+    → HasPieces (get_or names county 0) (get_or cuts county no_cut).count m (part_of (get_or cuts county no_cut) districts)
 
--- and the list of these numbers is there
-abbrev pub IsRevisionThere : ℕ → ℕ → List Cut → List ℕ → List ℕ → KeyMap → Type 0
-IsRevisionThere plan revision cuts names last m = HasParts plan revision (length cuts) m × AreCountiesThere cuts names last m
+-- these districts with what the rows of a chunk have at a county's place
+pub record IsLaid (number : ℕ) (c : Cut) (before : List ℕ) (m : KeyMap) (all : List ℕ) : Type 0 where
+  pub chunk : List ℕ
+  pub pieces : HasPieces number c.count m chunk
+  pub is : all ≡ with_at c.first chunk before
 
--- the list of each revision of a plan is there
-abbrev pub HasLists : ℕ → ℕ → ℕ → KeyMap → Type 0
-HasLists plan count counties m = (revision : ℕ) → 0 < revision → revision ≤ count → HasParts plan revision counties m
+-- or the revision before names that chunk for the county too, and they stay
+abbrev pub IsCountyRead : ℕ → Cut → List ℕ → ℕ → List ℕ → KeyMap → List ℕ → Type 0
+IsCountyRead number c last county before m all =
+    ((county < length last) × (get_or last county 0 ≡ number) × (all ≡ before)) ⊎ IsLaid number c before m all
+
+-- rows have the numbers of a revision's chunks; and where those of the revision before name its districts, these name this one's
+pub record IsRevisionRead (plan revision : ℕ) (cuts : List Cut) (last before names : List ℕ) (m : KeyMap) (all : List ℕ) : Type 0 where
+  pub parts : HasParts plan revision (length cuts) m names
+  pub read : AreRead last before cuts m → AreRead names all cuts m
+
+-- a revision of a plan is what the rows of its numbers and of their chunks say
+pub record IsRevisionShown (plan revision : ℕ) (cuts : List Cut) (m : KeyMap) (districts : List ℕ) : Type 0 where
+  pub numbers : List ℕ
+  pub parts : HasParts plan revision (length cuts) m numbers
+  pub chunks : AreRead numbers districts cuts m
+
+-- so is each revision of a plan, and no block of them is in a district above the plan's last
+pub record AreRevisionsShown (number : ℕ) (cuts : List Cut) (m : KeyMap) (p : Plan) : Type 0 where
+  pub within : AreAllWithin p
+  pub read : (k : ℕ) → k < length p.revisions → IsRevisionShown number (k + 1) cuts m (get_or p.revisions k [])
 
 -- ---- a plan's last revision
 -- these are its districts; any are, where the plan has no revision
@@ -120,13 +145,20 @@ abbrev pub BecomesLast : {D : Type 0} {g : Ghosts D} → Ground → ℕ → ℕ 
 BecomesLast g plan revision last p t old new names next = (disk_in new).is_honest → (m : KeyMap) (all : List ℕ)
     → InTxn t (stored old) m → IsAfter g plan revision last p m all → NamesLast g names next m
 
--- no revision of the plan has a block in a district above its last
-abbrev pub AreAllWithin : Plan → Type 0
-AreAllWithin p = All (AreWithin p.n) p.revisions
-
 -- each revision of the plan has a district for each block
 abbrev pub IsWhole : Ground → Plan → Type 0
 IsWhole g p = All (λ districts. length districts ≡ length g.blocks) p.revisions
+
+-- the rows of the chunks with these numbers have the districts of the plan's last revision
+abbrev pub LastIsRead : List ℕ → Plan → List Cut → KeyMap → Type 0
+LastIsRead last p cuts m = (before : List ℕ) → IsLast p before → AreRead last before cuts m
+
+-- the plan got a revision that was read so
+pub record IsNextRead (plan revision : ℕ) (cuts : List Cut) (last : List ℕ) (p : Plan) (names : List ℕ) (m : KeyMap) (next : Plan) : Type 0 where
+  pub districts : List ℕ
+  pub is : next ≡ with_revision p districts
+  pub parts : HasParts plan revision (length cuts) m names
+  pub read : LastIsRead last p cuts m → AreRead names districts cuts m
 
 -- the plan stands under the name with this row, and its size is one that plans may have
 pub record IsPlanRow (g : Ground) (name : List ℕ) (row : PlanRow) (m : KeyMap) (p : Plan) : Type 0 where

@@ -1,13 +1,12 @@
 //! Lays the counties of a revision over the districts of the one before.
-ghost use Rattle.std.specs.Prelude.{◌≡◌, ◌<◌, ◌≤◌, ◌+◌, true, false, length, get_or, IfOk, OnOk};
+ghost use Rattle.std.specs.Prelude.{◌≡◌, ◌<◌, ◌≤◌, ◌+◌, true, false, length, get_or, IfOk};
 ghost use Rattle.shared_districts.specs.Laid.{with_at};
 ghost use Rattle.page_store.specs.Transactions.{stored, disk_in, count_of, txn_pages, IsQuiet};
 ghost use Rattle.page_btree.specs.Map.{InTxn};
 ghost use Rattle.store_rows.specs.Rows.{KeyMap};
-ghost use Rattle.chunk_table.specs.Reading.{HasPieces};
 ghost use Rattle.desk_pages.specs.Desks.{AreWithin};
-ghost use Rattle.desk_opening.specs.Reading.{AreCountiesOf, AreCountiesThere, AreNamed, Reads};
-ghost use Rattle.desk_opening.specs.Reading.{IsChunkWithin, IsCounty, IsCountyThere};
+ghost use Rattle.desk_opening.specs.Reading.{AreCountiesOf, AreNamed, AreRead, Reads};
+ghost use Rattle.desk_opening.specs.Reading.{IsChunkWithin, IsCounty, IsCountyRead, IsLaid};
 
 use chunk_table::append_chunk;
 use desk_model::cuts::Cut;
@@ -46,7 +45,8 @@ fn lay_county<D: SectorDevice>(
     requires within { cut.first + cut.count ≤ length districts }
     ensures quiet { IsQuiet pages.old pages.new }
     ensures long { IfOk result (λ all. length all ≡ length districts) }
-    ensures there { (disk_in pages.new).is_honest → (m : KeyMap) → InTxn txn.now (stored pages.old) m → OnOk result (HasPieces number cut.count m) }
+    ensures there { (disk_in pages.new).is_honest → (m : KeyMap) → InTxn txn.now (stored pages.old) m
+        → IfOk result (IsLaid number cut districts m) }
     ensures within { AreWithin n districts → IfOk result (AreWithin n) }
     ensures read { Reads (IsChunkWithin n number cut.count) (λ chunk. with_at cut.first chunk districts) txn.now pages.old pages.new result }
 {
@@ -90,7 +90,7 @@ fn lay_changed<D: SectorDevice>(
     ensures quiet { IsQuiet pages.old pages.new }
     ensures long { IfOk result (λ all. length all ≡ length districts) }
     ensures there { (disk_in pages.new).is_honest → (m : KeyMap) → InTxn txn.now (stored pages.old) m
-        → OnOk result (IsCountyThere number cut.count last.now county m) }
+        → IfOk result (IsCountyRead number cut last.now county districts m) }
     ensures within { AreWithin n districts → IfOk result (AreWithin n) }
     ensures read { Reads (IsCounty n number cut last.now county districts)
         (λ chunk. with_at cut.first chunk districts) txn.now pages.old pages.new result }
@@ -120,7 +120,7 @@ pub(crate) fn lay_counties<D: SectorDevice>(
     ensures quiet { IsQuiet pages.old pages.new }
     ensures long { IfOk result (λ all. length all ≡ length before) }
     ensures there { (disk_in pages.new).is_honest → (m : KeyMap) → InTxn txn.now (stored pages.old) m
-        → OnOk result (AreCountiesThere cuts.now names.now last.now m) }
+        → IfOk result (λ all. AreRead last.now before cuts.now m → AreRead names.now all cuts.now m) }
     ensures within { AreWithin n before → IfOk result (AreWithin n) }
     ensures read { Reads (AreNamed n cuts.now names.now last.now before) (λ districts. districts) txn.now pages.old pages.new result }
 {

@@ -1,5 +1,5 @@
 //! Reads plans.
-ghost use Rattle.std.specs.Prelude.{◌≡◌, ◌≤◌, ◌<◌, ◌+◌, ◌*◌, ◌^◌, length, replicate, IfOk, OnOk, IfErr};
+ghost use Rattle.std.specs.Prelude.{◌≡◌, ◌≤◌, ◌<◌, ◌+◌, ◌*◌, ◌^◌, length, replicate, IfOk, IfErr};
 ghost use Rattle.desk_model.specs.Cuts.{cuts_of};
 ghost use Rattle.desk_model.specs.Step.{revision_limit};
 ghost use Rattle.page_store.specs.Transactions.{stored, disk_in, count_of, txn_pages, IsQuiet};
@@ -8,8 +8,8 @@ ghost use Rattle.store_rows.specs.Rows.{KeyMap};
 ghost use Rattle.store_rows.specs.Changes.{plan_row_of, with_revision};
 ghost use Rattle.page_btree.specs.declared.error.TreeError.TheVariants.{Memory};
 ghost use Rattle.desk_pages.specs.Desks.{AreWithin};
-ghost use Rattle.desk_opening.specs.Reading.{AreAllWithin, BecomesKnown, BecomesLast, HasLists, Reads, IsAfter};
-ghost use Rattle.desk_opening.specs.Reading.{IsLast, IsNext, IsPlanRow, IsRevisionThere, IsWhole};
+ghost use Rattle.desk_opening.specs.Reading.{AreAllWithin, AreRevisionsShown, BecomesKnown, BecomesLast, Reads, IsAfter};
+ghost use Rattle.desk_opening.specs.Reading.{IsLast, IsNext, IsNextRead, IsPlanRow, IsRevisionRead, IsWhole};
 
 use crate::counties::lay_counties;
 use desk_model::cuts::Cut;
@@ -45,7 +45,7 @@ fn read_next<D: SectorDevice>(
     ensures quiet { IsQuiet pages.old pages.new }
     ensures whole { IfOk result (λ next. length next ≡ length geography.now.blocks) }
     ensures there { (disk_in pages.new).is_honest → (m : KeyMap) → InTxn txn.now (stored pages.old) m
-        → OnOk result (IsRevisionThere plan revision cuts.now last.new.items last.old.items m) }
+        → IfOk result (IsRevisionRead plan revision cuts.now last.old.items before last.new.items m) }
     ensures within { AreWithin n before → IfOk result (AreWithin n) }
     ensures read { Reads (IsNext geography.now n plan revision last.old.items before)
         (λ districts. districts) txn.now pages.old pages.new result }
@@ -129,7 +129,7 @@ fn with_next<D: SectorDevice>(
     ensures whole { IfOk result (λ next. IsWhole geography.now next.1) }
     ensures within { AreAllWithin entry.now.1 → IfOk result (λ next. AreAllWithin next.1) }
     ensures there { (disk_in pages.new).is_honest → (m : KeyMap) → InTxn txn.now (stored pages.old) m
-        → OnOk result (IsRevisionThere plan revision cuts.now last.new.items last.old.items m) }
+        → IfOk result (λ next. IsNextRead plan revision cuts.now last.old.items entry.now.1 last.new.items m next.1) }
     ensures read { Reads (IsAfter geography.now plan revision last.old.items entry.now.1)
         (λ districts. (entry.now.0, with_revision entry.now.1 districts)) txn.now pages.old pages.new result }
     ensures known { IfOk result
@@ -174,8 +174,8 @@ pub fn read_entry<D: SectorDevice>(
     ensures whole { IfOk result (λ entry. IsWhole geography.now entry.1) }
     ensures within { IfOk result (λ entry. AreAllWithin entry.1) }
     ensures row { IfOk result (λ entry. row.now ≡ plan_row_of row.now.number entry.1) }
-    ensures lists { (disk_in pages.new).is_honest → (m : KeyMap) → InTxn txn.now (stored pages.old) m
-        → OnOk result (HasLists row.now.number row.now.revisions (length cuts.now) m) }
+    ensures shown { (disk_in pages.new).is_honest → (m : KeyMap) → InTxn txn.now (stored pages.old) m
+        → IfOk result (λ entry. AreRevisionsShown row.now.number cuts.now m entry.1) }
     ensures read { Reads (IsPlanRow geography.now name row.now) (λ plan. (name, plan)) txn.now pages.old pages.new result }
 {
     if row.revisions > REVISION_LIMIT {

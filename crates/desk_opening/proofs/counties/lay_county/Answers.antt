@@ -44,7 +44,13 @@ returns-in-Ok-clause-read g c = record {
 }
 
 pub returns-in-Ok-clause-there : goal.returns-in-Ok-clause-there
-returns-in-Ok-clause-there g c = c.in_ok-append_chunk.ensures.there
+returns-in-Ok-clause-there g c = λ honest m holds.
+    let read = c.in_ok-append_chunk.ensures.there honest m holds in
+    record {
+      chunk = read.xs;
+      pieces = read.stands;
+      is = c.in-Ok.ensures ∙ ap (λ (l : List ℕ). with_at c.args.cut.first l c.args.districts) (c.as_slice-2.ensures.value ∙ read.is ∙ ap (λ (l : List ℕ). l ++ read.xs) c.clear.ensures.items);
+    }
 
 pub returns-then-is_above-clause-read : goal.returns-then-is_above-clause-read
 returns-then-is_above-clause-read g c = inr (λ honest m x holds said.
