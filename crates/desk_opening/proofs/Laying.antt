@@ -13,7 +13,7 @@ use Rattle.store_rows.specs.Rows.{KeyMap}
 use Rattle.store_rows.specs.RevisionRows.{HasChunk}
 use Rattle.std.proofs.Common.{inl, inr}
 use Rattle.std.proofs.lemmas.Bool.{cases_lt}
-use Rattle.desk_opening.specs.Reading.{AreCountiesOf, AreNamed, AreRead, IsCounty, IsCountyRead, IsLaid, no_cut, part_of}
+use Rattle.desk_opening.specs.Reading.{AreCountiesOf, AreNamed, AreChunksRead, IsCounty, IsCountyRead, IsLaid, no_cut, part_of}
 use Rattle.chunk_table.specs.Reading.{HasPieces}
 use Rattle.desk_opening.proofs.Chunks.{one_chunk}
 
@@ -232,7 +232,7 @@ module _ (lists : ListsAreCut) (cuts : List Cut) (count : ℕ) (are : AreCountie
 
 -- ---- the first counties were read, and the others stand as before
 pub record LaidTo (cuts : List Cut) (names last before : List ℕ) (m : KeyMap) (k : ℕ) (districts : List ℕ) : Type 0 where
-  pub read : AreRead last before cuts m → (county : ℕ) → county < k → county < length cuts
+  pub read : AreChunksRead last before cuts m → (county : ℕ) → county < k → county < length cuts
       → HasPieces (get_or names county 0) (get_or cuts county no_cut).count m (part_of (get_or cuts county no_cut) districts)
   pub rest : (county : ℕ) → k ≤ county → county < length cuts
       → part_of (get_or cuts county no_cut) districts ≡ part_of (get_or cuts county no_cut) before

@@ -12,3 +12,4 @@ mod Seals
 mod PlanNumbers
 pub mod Owned
 pub mod Within
+pub mod Readings

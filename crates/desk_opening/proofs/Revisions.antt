@@ -135,7 +135,7 @@ revision_at_end p districts =
     ∙ ap (λ n. slice_get (p.revisions ++ districts ∷ []) n) back
     ∙ end_of p.revisions districts
 
-last_is : (p : Plan) (districts before : List ℕ) → IsLast (with_revision p districts) before → before ≡ districts
+pub last_is : (p : Plan) (districts before : List ℕ) → IsLast (with_revision p districts) before → before ≡ districts
 last_is p districts before is = subst (λ (o : Option (List ℕ)). IfSome o (λ last. before ≡ last)) (revision_at_end p districts) is
 
 pub next_of : (g : Ground) (plan revision : ℕ) (last before : List ℕ) (p : Plan) (m : KeyMap) (all : List ℕ) → IsLast p before

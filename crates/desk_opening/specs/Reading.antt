@@ -93,8 +93,8 @@ abbrev pub part_of : Cut → List ℕ → List ℕ
 part_of c districts = take c.count (drop c.first districts)
 
 -- the rows of the chunks with these numbers have what the list has at the places of the first counties
-abbrev pub AreRead : List ℕ → List ℕ → List Cut → KeyMap → Type 0
-AreRead names districts cuts m = (county : ℕ) → county < length names → county < length cuts
+abbrev pub AreChunksRead : List ℕ → List ℕ → List Cut → KeyMap → Type 0
+AreChunksRead names districts cuts m = (county : ℕ) → county < length names → county < length cuts
     → HasPieces (get_or names county 0) (get_or cuts county no_cut).count m (part_of (get_or cuts county no_cut) districts)
 
 -- these districts with what the rows of a chunk have at a county's place
@@ -111,13 +111,13 @@ IsCountyRead number c last county before m all =
 -- rows have the numbers of a revision's chunks; and where those of the revision before name its districts, these name this one's
 pub record IsRevisionRead (plan revision : ℕ) (cuts : List Cut) (last before names : List ℕ) (m : KeyMap) (all : List ℕ) : Type 0 where
   pub parts : HasParts plan revision (length cuts) m names
-  pub read : AreRead last before cuts m → AreRead names all cuts m
+  pub read : AreChunksRead last before cuts m → AreChunksRead names all cuts m
 
 -- a revision of a plan is what the rows of its numbers and of their chunks say
 pub record IsRevisionShown (plan revision : ℕ) (cuts : List Cut) (m : KeyMap) (districts : List ℕ) : Type 0 where
   pub numbers : List ℕ
   pub parts : HasParts plan revision (length cuts) m numbers
-  pub chunks : AreRead numbers districts cuts m
+  pub chunks : AreChunksRead numbers districts cuts m
 
 -- so is each revision of a plan, and no block of them is in a district above the plan's last
 pub record AreRevisionsShown (number : ℕ) (cuts : List Cut) (m : KeyMap) (p : Plan) : Type 0 where
@@ -151,14 +151,14 @@ IsWhole g p = All (λ districts. length districts ≡ length g.blocks) p.revisio
 
 -- the rows of the chunks with these numbers have the districts of the plan's last revision
 abbrev pub LastIsRead : List ℕ → Plan → List Cut → KeyMap → Type 0
-LastIsRead last p cuts m = (before : List ℕ) → IsLast p before → AreRead last before cuts m
+LastIsRead last p cuts m = (before : List ℕ) → IsLast p before → AreChunksRead last before cuts m
 
 -- the plan got a revision that was read so
 pub record IsNextRead (plan revision : ℕ) (cuts : List Cut) (last : List ℕ) (p : Plan) (names : List ℕ) (m : KeyMap) (next : Plan) : Type 0 where
   pub districts : List ℕ
   pub is : next ≡ with_revision p districts
   pub parts : HasParts plan revision (length cuts) m names
-  pub read : LastIsRead last p cuts m → AreRead names districts cuts m
+  pub read : LastIsRead last p cuts m → AreChunksRead names districts cuts m
 
 -- the plan stands under the name with this row, and its size is one that plans may have
 pub record IsPlanRow (g : Ground) (name : List ℕ) (row : PlanRow) (m : KeyMap) (p : Plan) : Type 0 where

@@ -5,7 +5,7 @@ ghost use Rattle.page_store.specs.Transactions.{stored, disk_in, count_of, txn_p
 ghost use Rattle.page_btree.specs.Map.{InTxn};
 ghost use Rattle.store_rows.specs.Rows.{KeyMap};
 ghost use Rattle.desk_pages.specs.Desks.{AreWithin};
-ghost use Rattle.desk_opening.specs.Reading.{AreCountiesOf, AreNamed, AreRead, Reads};
+ghost use Rattle.desk_opening.specs.Reading.{AreCountiesOf, AreNamed, AreChunksRead, Reads};
 ghost use Rattle.desk_opening.specs.Reading.{IsChunkWithin, IsCounty, IsCountyRead, IsLaid};
 
 use chunk_table::append_chunk;
@@ -120,7 +120,7 @@ pub(crate) fn lay_counties<D: SectorDevice>(
     ensures quiet { IsQuiet pages.old pages.new }
     ensures long { IfOk result (λ all. length all ≡ length before) }
     ensures there { (disk_in pages.new).is_honest → (m : KeyMap) → InTxn txn.now (stored pages.old) m
-        → IfOk result (λ all. AreRead last.now before cuts.now m → AreRead names.now all cuts.now m) }
+        → IfOk result (λ all. AreChunksRead last.now before cuts.now m → AreChunksRead names.now all cuts.now m) }
     ensures within { AreWithin n before → IfOk result (AreWithin n) }
     ensures read { Reads (AreNamed n cuts.now names.now last.now before) (λ districts. districts) txn.now pages.old pages.new result }
 {

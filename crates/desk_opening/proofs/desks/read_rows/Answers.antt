@@ -104,7 +104,7 @@ returns-in-Ok-clause-shown g c honest m holds =
     let still = subst (λ (P : Image). InTxn c.args.txn.now P m) (sym (c.in_ok-ground.ensures.passed.quiet.same then)) holds in
     subst (λ (d : Desk). IsShown m d) (sym c.restored.ensures) (record {
       ground = λ lacks. some_ground _ (sym c.in-Some.is ∙ c.in_ok-ground.ensures.read then m None holds lacks);
-      plans = subst (λ (g : Ground). ArePlansShown m (length (cuts_of g)) c.in_ok-plans.plans) (sym c.in-Ok.ensures.ok) (c.in_ok-plans.ensures.shown honest m still);
+      plans = subst (λ (g : Ground). ArePlansShown m (cuts_of g) c.in_ok-plans.plans) (sym c.in-Ok.ensures.ok) (c.in_ok-plans.ensures.shown honest m still);
       apart = c.in_ok-plans.ensures.apart honest m still;
     })
 

@@ -1,10 +1,10 @@
-use Rattle.std.proofs.Common.{List, ℕ, length, inr, sym, subst, ◌∙◌, arith}
+use Rattle.std.proofs.Common.{◌≡◌, ◌++◌, List, ℕ, length, inr, sym, ap, subst, ◌∙◌, arith}
 use Rattle.page_store.proofs.Stops.{quiet_more, passed_none}
 use Rattle.row_table.proofs.Outcomes.{match_of}
 use Rattle.row_table.specs.Appending.{AppendErr}
 use Rattle.row_table.proofs.Appending.{then_unappended}
-use Rattle.revision_table.specs.Reading.{AreNames}
-use Rattle.desk_opening.specs.Reading.{AreCountiesThere, AreNamed, HasRead, IsNext}
+use Rattle.revision_table.specs.Reading.{AreNames, HasParts}
+use Rattle.desk_opening.specs.Reading.{AreNamed, AreChunksRead, HasRead, IsNext}
 use Rattle.desk_opening.proofs.Revisions.{names_of, so_many, are_named, next_read, next_known}
 use Rattle.sector_device.specs.Disk.{Image}
 use Rattle.page_btree.specs.Map.{InTxn}
@@ -74,10 +74,15 @@ returns-clause-within g c = c.in_ok-next.ensures.within
 pub returns-clause-there : goal.returns-clause-there
 returns-clause-there g c = λ honest m holds.
     let cuts = c.args.cuts.now in
+    let last = c.args.last.now.items in
+    let next = c.in_ok-next.next in
     let then = c.in_ok-next.ensures.quiet.honest honest in
     let still = subst (λ (P : Image). InTxn c.args.txn.now P m) (sym (c.in_ok-append_names.ensures.append.passed.quiet.same then)) holds in
-    let there = c.in_ok-next.ensures.there honest m still in (
-      c.in_ok-append_names.ensures.there then m holds,
-      subst (λ (l : List ℕ). AreCountiesThere cuts c.append_names.new.into.items l m) c.as_slice-2.ensures.value
-          (subst (λ (l : List ℕ). AreCountiesThere cuts l c.as_slice-2.result.now m) c.as_slice.ensures.value there),
-    )
+    let named = c.in_ok-append_names.ensures.there then m holds in
+    let are : c.append_names.new.into.items ≡ named.xs = named.is ∙ ap (λ (l : List ℕ). l ++ named.xs) c.in-Ok.ensures.items in
+    record {
+      parts = subst (λ (l : List ℕ). HasParts c.args.plan c.args.revision (length cuts) m l) (sym are) named.stands;
+      read = λ before.
+          subst (λ (l : List ℕ). AreChunksRead l next cuts m) c.as_slice.ensures.value
+          (c.in_ok-next.ensures.there honest m still (subst (λ (l : List ℕ). AreChunksRead l c.args.before cuts m) (sym c.as_slice-2.ensures.value) before));
+    }

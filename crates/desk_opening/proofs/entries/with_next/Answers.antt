@@ -1,6 +1,7 @@
 use Rattle.std.proofs.Common.{◌≡◌, List, ℕ, length, sym, ap, subst, ◌∙◌}
 use Rattle.std.proofs.lemmas.List.Elements.{All-push}
 use Rattle.page_store.proofs.Stops.{passed_none}
+use Rattle.desk_model.specs.Desk.{Plan}
 use Rattle.store_rows.specs.Changes.{with_revision}
 use Rattle.row_table.proofs.Outcomes.{match_of}
 use Rattle.row_table.specs.Appending.{AppendErr}
@@ -54,4 +55,11 @@ returns-in-Ok-clause-within g c = λ within.
     (one_more_within p c.in_ok-next.next within (subst (λ (n : ℕ). AreWithin n c.in_ok-next.next) c.n.ensures.value next))
 
 pub returns-in-Ok-clause-there : goal.returns-in-Ok-clause-there
-returns-in-Ok-clause-there g c = c.in_ok-next.ensures.there
+returns-in-Ok-clause-there g c = λ honest m holds.
+    let read = c.in_ok-next.ensures.there honest m holds in
+    record {
+      districts = c.in_ok-next.next;
+      is = ap (λ (e : List ℕ × Plan). e.1) c.in-Ok.ensures;
+      parts = read.parts;
+      read = λ known. read.read (known c.in_ok-before.before c.in_ok-before.ensures.last);
+    }
