@@ -25,6 +25,7 @@ use Rattle.store_rows.specs.DeskRows.{IsDesk}
 use Rattle.store_rows.specs.Tidy.{IsNumbered, Tidy, version_row}
 use Rattle.store_rows.specs.Changes.{desk_with, plan_row_of}
 use Rattle.store_check.specs.Numbers.{HasNumbersBelow}
+use Rattle.sealed_geography.specs.Elements.{IsGroundRead}
 use Rattle.desk_opening.specs.Reading.{AreRevisionsShown}
 use Rattle.desk_pages.specs.Desks.{InTxnOf, IsMapOf, IsSized, IsWithinLimits}
 
@@ -199,19 +200,14 @@ IsShownAt m cuts name (Some p) = IsPlanShown m cuts name p
 abbrev pub ArePlansShown : KeyMap → List Cut → FinMap name_cmp Plan → Type 0
 ArePlansShown m cuts plans = (name : List ℕ) → IsShownAt m cuts name (get plans name)
 
--- a geography is shown where one is sealed
-abbrev pub IsGroundShown : KeyMap → Option Ground → Type 0
-IsGroundShown m None = Lacks m seal
-IsGroundShown m (Some g) = Lacks m seal → ⊥
-
--- what the rows of plans and the seal say is shown
+-- what the rows of plans, of a load and of the seal say is shown
 pub record IsShown (m : KeyMap) (d : Desk) : Type 0 where
-  pub ground : IsGroundShown m d.geography
+  pub ground : IsGroundRead m d.geography
   pub plans : ArePlansShown m (cuts_in d.geography) d.plans
   pub apart : ArePlansApart m
 
 -- No number in use is one that comes next, no row stands where a desk has none, the sealed load is none that was begun, what the
--- rows of plans and of their revisions say is shown, and each part of a revision is of one that is counted, or of a plan that was taken
+-- rows of the geography, of plans and of their revisions say is shown, and each part of a revision is of one that is counted, or of a plan that was taken
 -- away.
 pub record IsReadFrom (m : KeyMap) (d : Desk) : Type 0 where
   pub numbers : HasSoundNumbers m

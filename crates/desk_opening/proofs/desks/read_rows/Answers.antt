@@ -103,7 +103,7 @@ returns-in-Ok-clause-shown g c honest m holds =
     let then = c.read_plans.ensures.quiet.honest honest in
     let still = subst (λ (P : Image). InTxn c.args.txn.now P m) (sym (c.in_ok-ground.ensures.passed.quiet.same then)) holds in
     subst (λ (d : Desk). IsShown m d) (sym c.restored.ensures) (record {
-      ground = λ lacks. some_ground _ (sym c.in-Some.is ∙ c.in_ok-ground.ensures.read then m None holds lacks);
+      ground = subst (λ (x : Option Ground). IsGroundRead m x) (c.in-Some.is ∙ ap Some (sym c.in-Ok.ensures.ok)) (c.in_ok-ground.ensures.there then m holds);
       plans = subst (λ (g : Ground). ArePlansShown m (cuts_of g) c.in_ok-plans.plans) (sym c.in-Ok.ensures.ok) (c.in_ok-plans.ensures.shown honest m still);
       apart = c.in_ok-plans.ensures.apart honest m still;
     })
