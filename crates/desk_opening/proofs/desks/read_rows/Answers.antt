@@ -1,4 +1,4 @@
-use Rattle.std.proofs.Common.{◌≡◌, length, Some, None, sym, ap, subst, ◌∙◌}
+use Rattle.std.proofs.Common.{◌≡◌, length, Option, Some, None, sym, ap, subst, ◌∙◌}
 use Rattle.sector_device.specs.Disk.{Image}
 use Rattle.page_store.proofs.Stops.{quiet_more, passed_more, passed_none}
 use Rattle.page_btree.specs.Map.{InTxn}
@@ -7,12 +7,13 @@ use Rattle.page_store.specs.Transactions.{Passed}
 use Rattle.desk_model.specs.Geography.{Ground}
 use Rattle.desk_model.specs.Cuts.{cuts_of}
 use Rattle.desk_model.specs.Desk.{Desk}
+use Rattle.sealed_geography.specs.Elements.{IsGroundRead}
 use Rattle.row_table.specs.Reading.{ReadErr}
 use Rattle.row_table.proofs.Outcomes.{err_of}
 use Rattle.row_table.proofs.Appending.{then_unappended}
 use Rattle.desk_pages.specs.Desks.{new_desk}
 use Rattle.desk_opening.specs.Opening.{AreCounts, ArePlans, ArePlansShown, HasNothing, IsMapAs, IsShown, OpenErr}
-use Rattle.desk_opening.proofs.WholeDesks.{is_new, are_plans, unopened, has_nothing, unread_unopened, some_ground, ok_then, if_ok_then, err_then}
+use Rattle.desk_opening.proofs.WholeDesks.{is_new, are_plans, unopened, has_nothing, unread_unopened, ok_then, if_ok_then, err_then}
 use Rattle.desk_opening.proofs.PlanNumbers.{none_counted}
 use Rattle.desk_opening.proofs.Shown.{nothing_shown}
 use Rattle.desk_opening.proofs.desks.read_rows.Goals as goal
