@@ -2,3 +2,4 @@ pub mod Reading
 pub mod Changing
 pub mod Holding
 pub mod Releasing
+pub mod Parts

@@ -1,16 +1,20 @@
 -- The counties of a revision, laid one after the other over the districts of the one before.
-use Rattle.std.proofs.Common.{◌≡◌, ◌<◌, ◌≤◌, ◌+◌, ◌++◌, ℕ, zero, suc, List, [], ◌∷◌, length, get_or, take, take_all, drop, map}
+use Rattle.std.proofs.Common.{◌≡◌, ◌<◌, ◌≤◌, ◌+◌, ◌-◌, ◌++◌, ℕ, zero, suc, List, [], ◌∷◌, length, get_or, take, take_all, drop, map}
 use Rattle.std.proofs.Common.{refl, sym, ap, subst, ◌∙◌, arith, append_assoc, length-append, length-drop, length-take}
 use Rattle.std.proofs.Math.Seq.{take-add}
-use Rattle.std.proofs.lemmas.List.{append-nil, drop-drop, drop_all, drop_at}
-use Rattle.std.proofs.lemmas.List.{length-take-le, take_at, take-append-drop}
+use Rattle.std.proofs.lemmas.List.{append-nil, drop-append-le, drop-drop, drop_all, drop_at}
+use Rattle.std.proofs.lemmas.List.Elements.{All-drop, All-take}
+use Rattle.std.proofs.lemmas.List.{length-take-le, take_at, take-append-drop, take-append-le}
 use Rattle.std.specs.List.{concat}
 use Rattle.desk_model.specs.Cuts.{cut, laid, sizes, ListsAreCut}
 use Rattle.desk_model.specs.declared.cuts.Cut.{Cut}
 use Rattle.shared_districts.specs.Laid.{with_at}
 use Rattle.store_rows.specs.Rows.{KeyMap}
 use Rattle.store_rows.specs.RevisionRows.{HasChunk}
-use Rattle.desk_opening.specs.Reading.{AreCountiesOf, AreNamed, IsCounty}
+use Rattle.std.proofs.Common.{inl, inr}
+use Rattle.std.proofs.lemmas.Bool.{cases_lt}
+use Rattle.desk_opening.specs.Reading.{AreCountiesOf, AreNamed, AreChunksRead, IsCounty, IsCountyRead, IsLaid, no_cut, part_of}
+use Rattle.chunk_table.specs.Reading.{HasPieces}
 use Rattle.desk_opening.proofs.Chunks.{one_chunk}
 
 -- ---- a part in the place of its own
@@ -53,14 +57,53 @@ in_place p n ds within =
     ∙ laid_more p n ds ds within
     ∙ take-append-drop (p + n) ds
 
+-- ---- what stands at a place of what a part was laid over
+module _ (p : ℕ) (part ds : List ℕ) (within : p + length part ≤ length ds) where
+  front_at : length (take p ds) ≡ p
+  front_at = length-take-le p ds (omega arith)
+
+  -- before it
+  kept_front : (at n : ℕ) (rest : List ℕ) → at + n ≤ p → take n (drop at (take p ds ++ rest)) ≡ take n (drop at (take p ds))
+  kept_front at n rest before =
+      let long = front_at in
+      let left = length-drop at (take p ds) in
+      ap (λ (l : List ℕ). take n l) (drop-append-le at (take p ds) rest (omega arith)) ∙ take-append-le n (drop at (take p ds)) rest (omega arith)
+
+  pub before_part : (at n : ℕ) → at + n ≤ p → take n (drop at (with_at p part ds)) ≡ take n (drop at ds)
+  before_part at n before =
+      kept_front at n (part ++ drop (p + length part) ds) before
+      ∙ sym (kept_front at n (drop p ds) before)
+      ∙ ap (λ (l : List ℕ). take n (drop at l)) (take-append-drop p ds)
+
+  -- itself
+  pub at_part : take (length part) (drop p (with_at p part ds)) ≡ part
+  at_part =
+      ap (λ (l : List ℕ). take (length part) l) (drop_at (take p ds) (part ++ drop (p + length part) ds) p front_at)
+      ∙ take_at part (drop (p + length part) ds) (length part) refl
+
+  -- behind it
+  end_at : drop (p + length part) (with_at p part ds) ≡ drop (p + length part) ds
+  end_at =
+      sym (drop-drop (length part) p (with_at p part ds))
+      ∙ ap (λ (l : List ℕ). drop (length part) l) (drop_at (take p ds) (part ++ drop (p + length part) ds) p front_at)
+      ∙ drop_at part (drop (p + length part) ds) (length part) refl
+
+  pub behind_part : (at n : ℕ) → p + length part ≤ at → take n (drop at (with_at p part ds)) ≡ take n (drop at ds)
+  behind_part at n after =
+      let more = at - (p + length part) in
+      let is : (p + length part) + more ≡ at = omega arith in
+      ap (λ k. take n (drop k (with_at p part ds))) (sym is)
+      ∙ ap (λ (l : List ℕ). take n l) (sym (drop-drop more (p + length part) (with_at p part ds)) ∙ ap (λ (l : List ℕ). drop more l) end_at ∙ drop-drop more (p + length part) ds)
+      ∙ ap (λ k. take n (drop k ds)) is
+
 -- ---- a county that the revision before has too
-pub known_stays : (number : ℕ) (c : Cut) (last : List ℕ) (county : ℕ) (districts : List ℕ) (m : KeyMap) (chunk : List ℕ)
+pub known_stays : (n number : ℕ) (c : Cut) (last : List ℕ) (county : ℕ) (districts : List ℕ) (m : KeyMap) (chunk : List ℕ)
     → c.first + c.count ≤ length districts → county < length last → get_or last county 0 ≡ number
-    → IsCounty number c last county districts m chunk → districts ≡ with_at c.first chunk districts
-known_stays number c last county districts m chunk within there same said =
+    → IsCounty n number c last county districts m chunk → districts ≡ with_at c.first chunk districts
+known_stays n number c last county districts m chunk within there same said =
     let part = take c.count (drop c.first districts) in
-    let long : length part ≡ length chunk = part_long c.first c.count districts districts within ∙ sym said.is.long in
-    let is = one_chunk m number part chunk (subst (λ n. HasChunk m n part) same (said.known there)) said.is.has long in
+    let long : length part ≡ length chunk = part_long c.first c.count districts districts within ∙ sym said.is.is.long in
+    let is = one_chunk m number part chunk (subst (λ n. HasChunk m n part) same (said.known there)) said.is.is.has long in
     sym (ap (λ (l : List ℕ). with_at c.first l districts) (sym is) ∙ in_place c.first c.count districts within)
 
 -- ---- where counties begin
@@ -79,6 +122,12 @@ never_past : (k : ℕ) (cuts : List Cut) → place_at k cuts ≤ place_at (lengt
 never_past zero cuts = omega arith
 never_past (suc k) [] = omega arith
 never_past (suc k) (c ∷ cuts) = let rest = never_past k cuts in omega arith
+
+place_rises : (j k : ℕ) (cuts : List Cut) → j ≤ k → place_at j cuts ≤ place_at k cuts
+place_rises zero k cuts less = omega arith
+place_rises (suc j) zero cuts less = absurd (omega arith)
+place_rises (suc j) (suc k) [] less = omega arith
+place_rises (suc j) (suc k) (c ∷ cuts) less = let rest = place_rises j k cuts (omega arith) in omega arith
 
 first_at : (first : ℕ) (ns : List ℕ) (k : ℕ) (d : Cut) → k < length (laid first ns)
     → (get_or (laid first ns) k d).first ≡ first + place_at k (laid first ns)
@@ -141,8 +190,8 @@ module _ (lists : ListsAreCut) (cuts : List Cut) (count : ℕ) (are : AreCountie
         let all = all_placed xs whole in
         omega arith
 
-    module _ (names last before all districts : List ℕ) (number : ℕ) (m : KeyMap) (whole : length before ≡ count)
-        (said : AreNamed cuts names last before m all) (each : length names ≡ length cuts) (numbered : number ≡ get_or names k 0)
+    module _ (n : ℕ) (names last before all districts : List ℕ) (number : ℕ) (m : KeyMap) (whole : length before ≡ count)
+        (said : AreNamed n cuts names last before m all) (each : length names ≡ length cuts) (numbered : number ≡ get_or names k 0)
         (laid_so : districts ≡ so_far cuts all before k) where
       fits : here.first + here.count ≤ length all
       fits = county_fits all (said.long ∙ whole)
@@ -159,13 +208,16 @@ module _ (lists : ListsAreCut) (cuts : List Cut) (count : ℕ) (are : AreCountie
           ∙ ap (λ (l : List ℕ). take here.count l) (behind here.first here.count all before fits)
 
       -- so the next county is this one's chunk
-      pub is_county : IsCounty number here last k districts m chunk_of
+      pub is_county : IsCounty n number here last k districts m chunk_of
       is_county =
           let there : k < length names = omega arith in
           record {
             is = record {
-              has = subst (λ n. HasChunk m n chunk_of) (sym numbered) (said.named k d there within);
-              long = part_long here.first here.count all before fits;
+              is = record {
+                has = subst (λ k. HasChunk m k chunk_of) (sym numbered) (said.named k d there within);
+                long = part_long here.first here.count all before fits;
+              };
+              within = All-take (λ (x : ℕ). x ≤ n) here.count (drop here.first all) (All-drop (λ (x : ℕ). x ≤ n) here.first all said.within);
             };
             known = λ known. subst (λ (l : List ℕ). HasChunk m (get_or last k 0) l) (sym still_before) (said.known k d known within);
           }
@@ -177,3 +229,79 @@ module _ (lists : ListsAreCut) (cuts : List Cut) (count : ℕ) (are : AreCountie
           ap (λ (l : List ℕ). with_at here.first chunk_of l) from_first
           ∙ laid_more here.first here.count all before fits
           ∙ ap (λ p. take p all ++ drop p before) (ends ∙ ap (λ n. place_at n cuts) next)
+
+-- ---- the first counties were read, and the others stand as before
+pub record LaidTo (cuts : List Cut) (names last before : List ℕ) (m : KeyMap) (k : ℕ) (districts : List ℕ) : Type 0 where
+  pub read : AreChunksRead last before cuts m → (county : ℕ) → county < k → county < length cuts
+      → HasPieces (get_or names county 0) (get_or cuts county no_cut).count m (part_of (get_or cuts county no_cut) districts)
+  pub rest : (county : ℕ) → k ≤ county → county < length cuts
+      → part_of (get_or cuts county no_cut) districts ≡ part_of (get_or cuts county no_cut) before
+
+pub none_laid : (cuts : List Cut) (names last before : List ℕ) (m : KeyMap) → LaidTo cuts names last before m 0 before
+none_laid cuts names last before m = record { read = λ are county less. absurd (omega arith); rest = λ county from within. refl }
+
+module _ (lists : ListsAreCut) (cuts : List Cut) (count : ℕ) (are : AreCountiesOf cuts count) (names last before : List ℕ) (m : KeyMap) (k : ℕ)
+    (within : k < length cuts) (districts after : List ℕ) (long : length districts ≡ count) (laid_so : LaidTo cuts names last before m k districts) where
+  abbrev at : ℕ → Cut
+  at county = get_or cuts county no_cut
+
+  apart : (i j : ℕ) → i < j → j < length cuts → (at i).first + (at i).count ≤ (at j).first
+  apart i j less inside =
+      let end = ends lists cuts count are i no_cut (omega arith) in
+      let start = begins lists cuts count are j no_cut inside in
+      let rises = place_rises (suc i) j cuts (omega arith) in
+      omega arith
+
+  module _ (number : ℕ) (numbered : number ≡ get_or names k 0) where
+    -- the county stays
+    stays_so : k < length last → get_or last k 0 ≡ number → after ≡ districts → LaidTo cuts names last before m (k + 1) after
+    stays_so known same is = record {
+      read = λ read county less inside. elim (cases_lt county k) [
+        | inl earlier ↦ subst (λ (l : List ℕ). HasPieces (get_or names county 0) (at county).count m (part_of (at county) l)) (sym is) (laid_so.read read county earlier inside)
+        | inr not ↦
+            let here : k ≡ county = omega arith in
+            subst (λ (i : ℕ). HasPieces (get_or names i 0) (at i).count m (part_of (at i) after)) here
+            (subst (λ (n : ℕ). HasPieces n (at k).count m (part_of (at k) after)) (same ∙ numbered)
+            (subst (λ (l : List ℕ). HasPieces (get_or last k 0) (at k).count m l) (sym (ap (λ (l : List ℕ). part_of (at k) l) is ∙ laid_so.rest k (omega arith) within))
+            (read k known within)))
+      ];
+      rest = λ county from inside. ap (λ (l : List ℕ). part_of (at county) l) is ∙ laid_so.rest county (omega arith) inside;
+    }
+
+    -- or is read
+    module _ (laid : IsLaid number (at k) districts m after) where
+      fits_so : (at k).first + length laid.chunk ≤ length districts
+      fits_so =
+          let many = laid.pieces.long in
+          let all = county_fits lists cuts count are k no_cut within districts long in
+          omega arith
+
+      here_so : part_of (at k) after ≡ laid.chunk
+      here_so =
+          ap (λ (l : List ℕ). part_of (at k) l) laid.is
+          ∙ ap (λ n. take n (drop (at k).first (with_at (at k).first laid.chunk districts))) (sym laid.pieces.long)
+          ∙ at_part (at k).first laid.chunk districts fits_so
+
+      reads_so : LaidTo cuts names last before m (k + 1) after
+      reads_so = record {
+        read = λ read county less inside. elim (cases_lt county k) [
+          | inl earlier ↦
+              let same = ap (λ (l : List ℕ). part_of (at county) l) laid.is ∙ before_part (at k).first laid.chunk districts fits_so (at county).first (at county).count (apart county k earlier within) in
+              subst (λ (l : List ℕ). HasPieces (get_or names county 0) (at county).count m l) (sym same) (laid_so.read read county earlier inside)
+          | inr not ↦
+              let here : k ≡ county = omega arith in
+              subst (λ (i : ℕ). HasPieces (get_or names i 0) (at i).count m (part_of (at i) after)) here
+              (subst (λ (n : ℕ). HasPieces n (at k).count m (part_of (at k) after)) numbered
+              (subst (λ (l : List ℕ). HasPieces number (at k).count m l) (sym here_so) laid.pieces))
+        ];
+        rest = λ county from inside.
+            let many = laid.pieces.long in
+            let ordered = apart k county (omega arith) inside in
+            ap (λ (l : List ℕ). part_of (at county) l) laid.is
+            ∙ behind_part (at k).first laid.chunk districts fits_so (at county).first (at county).count (omega arith)
+            ∙ laid_so.rest county (omega arith) inside;
+      }
+
+    pub laid_one_more : IsCountyRead number (at k) last k districts m after → LaidTo cuts names last before m (k + 1) after
+    laid_one_more (inl (known, same, is)) = stays_so known same is
+    laid_one_more (inr laid) = reads_so laid

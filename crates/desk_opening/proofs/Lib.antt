@@ -11,3 +11,5 @@ mod Shown
 mod Seals
 mod PlanNumbers
 pub mod Owned
+pub mod Within
+pub mod Readings

@@ -66,6 +66,7 @@ module _ (g : Ground) (plans : FinMap name_cmp Plan) (row : Row) (m : KeyMap) (p
         revisions = ap (λ (r : PlanRow). r.revisions) t.0;
         some = is.sized.some;
         few = is.sized.most;
+        within = is.sized.within;
       }
 
   -- it wasn't taken away

@@ -4,6 +4,7 @@ use Rattle.std.proofs.Common.{refl, sym, ap, subst, ◌∙◌, arith, length-app
 use Rattle.std.specs.Prelude.{false, ◌==◌, Option, None, IfSome}
 use Rattle.std.specs.List.{slice_get}
 use Rattle.std.proofs.lemmas.Bool.Decides.{nat_tests}
+use Rattle.std.proofs.lemmas.List.Elements.{All-get_or}
 use Rattle.std.proofs.lemmas.List.{take_more, drop-drop}
 use Rattle.sector_device.specs.declared.SectorDevice.{Ghosts}
 use Rattle.desk_model.specs.Geography.{Ground}
@@ -22,6 +23,7 @@ use Rattle.store_rows.specs.Changes.{with_revision}
 use Rattle.store_rows.specs.RevisionRows.{HasChunk}
 use Rattle.row_table.specs.Appending.{HasAppended}
 use Rattle.revision_table.specs.Reading.{AreNames}
+use Rattle.desk_pages.specs.Desks.{AreWithin}
 use Rattle.desk_opening.specs.Reading.{AreKnown, AreNamed, BecomesKnown, BecomesLast, HasRead}
 use Rattle.desk_opening.specs.Reading.{IsAfter, IsLast, IsNext, IsOfBlocks, IsPlanRow, NamesLast}
 
@@ -76,11 +78,12 @@ module _ {D : Type 0} {h : Ghosts D} (g : Ground) (cuts : List Cut) (plan revisi
       ∙ (names_of g cuts plan revision m all same is).long
 
   -- with them the next revision is named
-  module _ (whole : length before ≡ length g.blocks) (shown shown_last : List ℕ) (one : shown ≡ names) (other : shown_last ≡ last) where
+  module _ (n : ℕ) (whole : length before ≡ length g.blocks) (shown shown_last : List ℕ) (one : shown ≡ names) (other : shown_last ≡ last) where
     pub are_named : (disk_in b).is_honest → (m : KeyMap) (all : List ℕ) → InTxn t (stored a) m
-        → IsNext g plan revision last before m all → AreNamed cuts shown shown_last before m all
+        → IsNext g n plan revision last before m all → AreNamed n cuts shown shown_last before m all
     are_named honest m all holds said = record {
       long = said.is.whole ∙ sym whole;
+      within = said.within;
       named = subst (λ (l : List Cut). AreKnown shown all l m) (sym same)
           (now_known g plan revision m shown all said.is (one ∙ are_names honest m all holds said.is));
       known = subst (λ (l : List Cut). AreKnown shown_last before l m) (sym same)
@@ -89,18 +92,18 @@ module _ {D : Type 0} {h : Ghosts D} (g : Ground) (cuts : List Cut) (plan revisi
 
     -- and what is read by them is it
     module _ (d : Pages D h) (next : List ℕ)
-        (read : HasRead (AreNamed cuts shown shown_last before) (λ (all : List ℕ). all) t b d next) where
+        (read : HasRead (AreNamed n cuts shown shown_last before) (λ (all : List ℕ). all) t b d next) where
       is_next : (disk_in d).is_honest → (m : KeyMap) (all : List ℕ) → InTxn t (stored a) m
-          → IsNext g plan revision last before m all → next ≡ all
+          → IsNext g n plan revision last before m all → next ≡ all
       is_next honest m all holds said =
           let then = read.passed.quiet.honest honest in
           let still = subst (λ P. InTxn t P m) (sym (named.passed.quiet.same then)) holds in
           read.read honest m all still (are_named then m all holds said)
 
-      pub next_read : HasRead (IsNext g plan revision last before) (λ (all : List ℕ). all) t a d next
+      pub next_read : HasRead (IsNext g n plan revision last before) (λ (all : List ℕ). all) t a d next
       next_read = record { passed = passed_more a b d named.passed read.passed; read = is_next }
 
-      pub next_known : BecomesKnown g plan revision last before t a d names next
+      pub next_known : BecomesKnown g n plan revision last before t a d names next
       next_known honest m all holds said =
           let then = read.passed.quiet.honest honest in
           subst (λ (l : List Cut). AreKnown names next l m) same
@@ -132,16 +135,16 @@ revision_at_end p districts =
     ∙ ap (λ n. slice_get (p.revisions ++ districts ∷ []) n) back
     ∙ end_of p.revisions districts
 
-last_is : (p : Plan) (districts before : List ℕ) → IsLast (with_revision p districts) before → before ≡ districts
+pub last_is : (p : Plan) (districts before : List ℕ) → IsLast (with_revision p districts) before → before ≡ districts
 last_is p districts before is = subst (λ (o : Option (List ℕ)). IfSome o (λ last. before ≡ last)) (revision_at_end p districts) is
 
 pub next_of : (g : Ground) (plan revision : ℕ) (last before : List ℕ) (p : Plan) (m : KeyMap) (all : List ℕ) → IsLast p before
-    → IsAfter g plan revision last p m all → IsNext g plan revision last before m all
-next_of g plan revision last before p m all is said = record { is = said.is; known = said.known before is }
+    → IsAfter g plan revision last p m all → IsNext g p.n plan revision last before m all
+next_of g plan revision last before p m all is said = record { is = said.is; within = said.within; known = said.known before is }
 
 module _ {D : Type 0} {h : Ghosts D} where
   pub becomes_last : (g : Ground) (plan revision : ℕ) (last before : List ℕ) (p : Plan) (t : Txn) (a b : Pages D h)
-      (names next : List ℕ) → IsLast p before → BecomesKnown g plan revision last before t a b names next
+      (names next : List ℕ) → IsLast p before → BecomesKnown g p.n plan revision last before t a b names next
       → BecomesLast g plan revision last p t a b names (with_revision p next)
   becomes_last g plan revision last before p t a b names next was known = λ honest m all holds said other is.
       subst (λ (l : List ℕ). AreKnown names l (cuts_of g) m) (sym (last_is p next other is))
@@ -153,6 +156,12 @@ of_blocks g name row m p i is less =
     let many = is.revisions in
     let within : i < length p.revisions = omega arith in
     record { has = is.has.revisions i within; whole = is.has.whole i within }
+
+pub within_at : (g : Ground) (name : List ℕ) (row : PlanRow) (m : KeyMap) (p : Plan) (i : ℕ) → IsPlanRow g name row m p → i < row.revisions → AreWithin p.n (get_or p.revisions i [])
+within_at g name row m p i is less =
+    let many = is.revisions in
+    let within : i < length p.revisions = omega arith in
+    All-get_or (AreWithin p.n) p.revisions i [] within is.within
 
 pub one_revision_more : (name : List ℕ) (p : Plan) (i : ℕ) (entry next : List ℕ × Plan) → i < length p.revisions → entry ≡ (name, record p { revisions = take i p.revisions }) → next ≡ (entry.0, with_revision entry.1 (get_or p.revisions i [])) → next ≡ (name, record p { revisions = take (i + 1) p.revisions })
 one_revision_more name p i entry next within before is =

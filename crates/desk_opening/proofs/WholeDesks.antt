@@ -57,9 +57,6 @@ module _ {new : Bool} (m : KeyMap) (d : Desk) (is : IsMapOf new m d) where
       none_there name None lacks = lacks
       none_there name (Some p) has = absurd has
 
-pub some_ground : (g : Ground) → ◌≡◌ {A = Option Ground} (Some g) None → ⊥
-some_ground g same = cc
-
 -- what isn't read of the rows of a desk
 pub unopened : {D : Type 0} {g : Ghosts D} (t : Txn) (a b : Pages D g) (e : TreeError) → AppendErr IsMapAs t a b e → OpenErr t a b e
 unopened t a b DeviceFault why = elim why [

@@ -6,6 +6,7 @@ use Rattle.std.specs.Ordering.{nat_cmp}
 use Rattle.sector_device.specs.declared.SectorDevice.{Ghosts}
 use Rattle.desk_model.specs.Geography.{Ground}
 use Rattle.desk_model.specs.Cuts.{cuts_of}
+use Rattle.desk_model.specs.declared.cuts.Cut.{Cut}
 use Rattle.desk_model.specs.Desk.{Desk, Plan, name_cmp}
 use Rattle.desk_model.specs.Step.{plan_limit}
 use Rattle.page_store.specs.Transactions.{stored, disk_in, has_halted, HasFailed}
@@ -24,7 +25,8 @@ use Rattle.store_rows.specs.DeskRows.{IsDesk}
 use Rattle.store_rows.specs.Tidy.{IsNumbered, Tidy, version_row}
 use Rattle.store_rows.specs.Changes.{desk_with, plan_row_of}
 use Rattle.store_check.specs.Numbers.{HasNumbersBelow}
-use Rattle.desk_opening.specs.Reading.{HasLists}
+use Rattle.sealed_geography.specs.Elements.{IsGroundRead}
+use Rattle.desk_opening.specs.Reading.{AreRevisionsShown}
 use Rattle.desk_pages.specs.Desks.{InTxnOf, IsMapOf, IsSized, IsWithinLimits}
 
 -- the device failed, or the transaction reads no desk in either version; or a growth was refused
@@ -163,46 +165,49 @@ pub record IsAdded (plans : FinMap name_cmp Plan) (row : Row) (all : FinMap name
   pub value : row.value ≡ plan_bytes (plan_row_of number plan)
   pub is : all ≡ insert plans name plan
 
--- and the list of each of its revisions is there, of a number for each of so many counties
-pub record IsListed (plans : FinMap name_cmp Plan) (row : Row) (counties : ℕ) (m : KeyMap) (all : FinMap name_cmp Plan) : Type 0 where
+-- the same under a name with this row, and its revisions are what their rows say
+pub record IsAddedAs (plans : FinMap name_cmp Plan) (name : List ℕ) (row : PlanRow) (cuts : List Cut) (m : KeyMap) (all : FinMap name_cmp Plan)
+    : Type 0 where
+  pub plan : Plan
+  pub of : row ≡ plan_row_of row.number plan
+  pub is : all ≡ insert plans name plan
+  pub revisions : AreRevisionsShown row.number cuts m plan
+
+-- the same of a row that was taken
+pub record IsListed (plans : FinMap name_cmp Plan) (row : Row) (cuts : List Cut) (m : KeyMap) (all : FinMap name_cmp Plan) : Type 0 where
   pub added : IsAdded plans row all
-  pub lists : HasLists added.number (length added.plan.revisions) counties m
+  pub revisions : AreRevisionsShown added.number cuts m added.plan
 
--- so many counties has the geography that is there
-abbrev pub counties_of : Option Ground → ℕ
-counties_of None = 0
-counties_of (Some g) = length (cuts_of g)
+-- the counties of the geography that is there
+abbrev pub cuts_in : Option Ground → List Cut
+cuts_in None = []
+cuts_in (Some g) = cuts_of g
 
--- The size of a plan and the count of its revisions stand under its name, its number wasn't taken away, and the list of each
--- revision is there.
-pub record IsPlanShown (m : KeyMap) (counties : ℕ) (name : List ℕ) (p : Plan) : Type 0 where
+-- The size of a plan and the count of its revisions stand under its name, its number wasn't taken away, and its revisions are what
+-- their rows say.
+pub record IsPlanShown (m : KeyMap) (cuts : List Cut) (name : List ℕ) (p : Plan) : Type 0 where
   pub number : ℕ
   pub fits : number < 2 ^ 64
   pub row : Has m (named name) (plan_bytes (plan_row_of number p))
   pub kept : Lacks m (retired number)
-  pub lists : HasLists number (length p.revisions) counties m
+  pub revisions : AreRevisionsShown number cuts m p
 
 -- such a plan is shown, and none where nothing stands
-abbrev pub IsShownAt : KeyMap → ℕ → List ℕ → Option Plan → Type 0
-IsShownAt m counties name None = Lacks m (named name)
-IsShownAt m counties name (Some p) = IsPlanShown m counties name p
+abbrev pub IsShownAt : KeyMap → List Cut → List ℕ → Option Plan → Type 0
+IsShownAt m cuts name None = Lacks m (named name)
+IsShownAt m cuts name (Some p) = IsPlanShown m cuts name p
 
-abbrev pub ArePlansShown : KeyMap → ℕ → FinMap name_cmp Plan → Type 0
-ArePlansShown m counties plans = (name : List ℕ) → IsShownAt m counties name (get plans name)
+abbrev pub ArePlansShown : KeyMap → List Cut → FinMap name_cmp Plan → Type 0
+ArePlansShown m cuts plans = (name : List ℕ) → IsShownAt m cuts name (get plans name)
 
--- a geography is shown where one is sealed
-abbrev pub IsGroundShown : KeyMap → Option Ground → Type 0
-IsGroundShown m None = Lacks m seal
-IsGroundShown m (Some g) = Lacks m seal → ⊥
-
--- what the rows of plans and the seal say is shown
+-- what the rows of plans, of a load and of the seal say is shown
 pub record IsShown (m : KeyMap) (d : Desk) : Type 0 where
-  pub ground : IsGroundShown m d.geography
-  pub plans : ArePlansShown m (counties_of d.geography) d.plans
+  pub ground : IsGroundRead m d.geography
+  pub plans : ArePlansShown m (cuts_in d.geography) d.plans
   pub apart : ArePlansApart m
 
 -- No number in use is one that comes next, no row stands where a desk has none, the sealed load is none that was begun, what the
--- rows of plans and the seal say is shown, and each part of a revision is of one that is counted, or of a plan that was taken
+-- rows of the geography, of plans and of their revisions say is shown, and each part of a revision is of one that is counted, or of a plan that was taken
 -- away.
 pub record IsReadFrom (m : KeyMap) (d : Desk) : Type 0 where
   pub numbers : HasSoundNumbers m

@@ -1,5 +1,5 @@
 -- What is read back of a desk.
-use Rattle.std.specs.Prelude.{◌≡◌, ◌⊎◌, ◌≤◌, ◌<◌, ℕ, List, length, take, drop, get_or, All, IfSome, Result, MatchResult}
+use Rattle.std.specs.Prelude.{◌≡◌, ◌⊎◌, ◌≤◌, ◌<◌, ◌+◌, ℕ, List, [], length, take, drop, get_or, All, IfSome, Result, MatchResult}
 use Rattle.sector_device.specs.declared.SectorDevice.{Ghosts}
 use Rattle.desk_model.specs.Geography.{Ground}
 use Rattle.desk_model.specs.Cuts.{cut, cuts_of}
@@ -7,6 +7,7 @@ use Rattle.desk_model.specs.declared.cuts.Cut.{Cut}
 use Rattle.desk_model.specs.Desk.{Plan}
 use Rattle.desk_model.specs.Kind.{most_districts}
 use Rattle.desk_model.specs.Subject.{revision_at}
+use Rattle.desk_pages.specs.Desks.{AreWithin}
 use Rattle.page_store.specs.Transactions.{stored, disk_in, Passed}
 use Rattle.page_store.specs.declared.pages.Pages.{Pages}
 use Rattle.page_store.specs.declared.txn.Txn.{Txn}
@@ -16,6 +17,8 @@ use Rattle.store_rows.specs.declared.value.PlanRow.{PlanRow}
 use Rattle.store_rows.specs.Rows.{KeyMap}
 use Rattle.store_rows.specs.RevisionRows.{HasChunk, HasRevision}
 use Rattle.store_rows.specs.DeskRows.{HasPlan}
+use Rattle.store_rows.specs.Changes.{with_revision}
+use Rattle.shared_districts.specs.Laid.{with_at}
 use Rattle.row_table.specs.Appending.{AppendErr}
 use Rattle.revision_table.specs.Reading.{HasParts}
 use Rattle.chunk_table.specs.Reading.{HasPieces, IsChunk}
@@ -35,26 +38,33 @@ pub record IsOfBlocks (g : Ground) (plan revision : ℕ) (m : KeyMap) (districts
   pub has : HasRevision m plan revision (cut g districts)
   pub whole : length districts ≡ length g.blocks
 
+-- a number names the districts of one county, which has so many blocks and none of them in a district above n
+pub record IsChunkWithin (n number count : ℕ) (m : KeyMap) (districts : List ℕ) : Type 0 where
+  pub is : IsChunk number count m districts
+  pub within : AreWithin n districts
+
 -- ---- a revision beside the one before it
 -- the numbers name what the list has at the places of the first counties
 abbrev pub AreKnown : List ℕ → List ℕ → List Cut → KeyMap → Type 0
 AreKnown names districts cuts m = (county : ℕ) (c : Cut) → county < length names → county < length cuts
     → HasChunk m (get_or names county 0) (take (get_or cuts county c).count (drop (get_or cuts county c).first districts))
 
--- a revision of a plan has a district for each block, and the numbers of the one before name its districts
-pub record IsNext (g : Ground) (plan revision : ℕ) (last before : List ℕ) (m : KeyMap) (districts : List ℕ) : Type 0 where
+-- a revision of a plan has a district for each block, none above n, and the numbers of the one before name its districts
+pub record IsNext (g : Ground) (n plan revision : ℕ) (last before : List ℕ) (m : KeyMap) (districts : List ℕ) : Type 0 where
   pub is : IsOfBlocks g plan revision m districts
+  pub within : AreWithin n districts
   pub known : AreKnown last before (cuts_of g) m
 
 -- where that was so, these numbers name these districts
-abbrev pub BecomesKnown : {D : Type 0} {g : Ghosts D} → Ground → ℕ → ℕ → List ℕ → List ℕ → Txn → Pages D g → Pages D g
+abbrev pub BecomesKnown : {D : Type 0} {g : Ghosts D} → Ground → ℕ → ℕ → ℕ → List ℕ → List ℕ → Txn → Pages D g → Pages D g
     → List ℕ → List ℕ → Type 0
-BecomesKnown g plan revision last before t old new names districts = (disk_in new).is_honest → (m : KeyMap) (all : List ℕ)
-    → InTxn t (stored old) m → IsNext g plan revision last before m all → AreKnown names districts (cuts_of g) m
+BecomesKnown g n plan revision last before t old new names districts = (disk_in new).is_honest → (m : KeyMap) (all : List ℕ)
+    → InTxn t (stored old) m → IsNext g n plan revision last before m all → AreKnown names districts (cuts_of g) m
 
--- the numbers name the districts of a revision, and those of the one before its districts
-pub record AreNamed (cuts : List Cut) (names last before : List ℕ) (m : KeyMap) (districts : List ℕ) : Type 0 where
+-- the numbers name the districts of a revision, none of which is above n, and those of the one before its districts
+pub record AreNamed (n : ℕ) (cuts : List Cut) (names last before : List ℕ) (m : KeyMap) (districts : List ℕ) : Type 0 where
   pub long : length districts ≡ length before
+  pub within : AreWithin n districts
   pub named : AreKnown names districts cuts m
   pub known : AreKnown last before cuts m
 
@@ -65,31 +75,54 @@ pub record AreCountiesOf (cuts : List Cut) (count : ℕ) : Type 0 where
   pub blocks : count ≡ length ground.blocks
 
 -- a number names the districts of one county, and that of the revision before, if it has one, those that a list has at its place
-pub record IsCounty (number : ℕ) (c : Cut) (last : List ℕ) (county : ℕ) (before : List ℕ) (m : KeyMap) (districts : List ℕ)
+pub record IsCounty (n number : ℕ) (c : Cut) (last : List ℕ) (county : ℕ) (before : List ℕ) (m : KeyMap) (districts : List ℕ)
     : Type 0 where
-  pub is : IsChunk number c.count m districts
+  pub is : IsChunkWithin n number c.count m districts
   pub known : county < length last → HasChunk m (get_or last county 0) (take c.count (drop c.first before))
 
--- ---- the rows that were read, whether or not they are a desk's
+-- no revision of the plan has a block in a district above its last
+abbrev pub AreAllWithin : Plan → Type 0
+AreAllWithin p = All (AreWithin p.n) p.revisions
+
+-- ---- what was read of rows, whether or not they are a desk's
 abbrev pub no_cut : Cut
 no_cut = record { first = 0; count = 0 }
 
--- the revision before names the chunk for a county too, or each piece of it is there
-abbrev pub IsCountyThere : ℕ → ℕ → List ℕ → ℕ → KeyMap → Type 0
-IsCountyThere number count last county m = ((county < length last) × (get_or last county 0 ≡ number)) ⊎ HasPieces number count m
+-- a county's districts among those of all blocks
+abbrev pub part_of : Cut → List ℕ → List ℕ
+part_of c districts = take c.count (drop c.first districts)
 
--- so it is in each of the counties, whose chunks have these numbers
-abbrev pub AreCountiesThere : List Cut → List ℕ → List ℕ → KeyMap → Type 0
-AreCountiesThere cuts names last m = (county : ℕ) → county < length cuts
-    → IsCountyThere (get_or names county 0) (get_or cuts county no_cut).count last county m
+-- the rows of the chunks with these numbers have what the list has at the places of the first counties
+abbrev pub AreChunksRead : List ℕ → List ℕ → List Cut → KeyMap → Type 0
+AreChunksRead names districts cuts m = (county : ℕ) → county < length names → county < length cuts
+    → HasPieces (get_or names county 0) (get_or cuts county no_cut).count m (part_of (get_or cuts county no_cut) districts)
 
--- and the list of these numbers is there
-abbrev pub IsRevisionThere : ℕ → ℕ → List Cut → List ℕ → List ℕ → KeyMap → Type 0
-IsRevisionThere plan revision cuts names last m = HasParts plan revision (length cuts) m × AreCountiesThere cuts names last m
+-- these districts with what the rows of a chunk have at a county's place
+pub record IsLaid (number : ℕ) (c : Cut) (before : List ℕ) (m : KeyMap) (all : List ℕ) : Type 0 where
+  pub chunk : List ℕ
+  pub pieces : HasPieces number c.count m chunk
+  pub is : all ≡ with_at c.first chunk before
 
--- the list of each revision of a plan is there
-abbrev pub HasLists : ℕ → ℕ → ℕ → KeyMap → Type 0
-HasLists plan count counties m = (revision : ℕ) → 0 < revision → revision ≤ count → HasParts plan revision counties m
+-- or the revision before names that chunk for the county too, and they stay
+abbrev pub IsCountyRead : ℕ → Cut → List ℕ → ℕ → List ℕ → KeyMap → List ℕ → Type 0
+IsCountyRead number c last county before m all =
+    ((county < length last) × (get_or last county 0 ≡ number) × (all ≡ before)) ⊎ IsLaid number c before m all
+
+-- rows have the numbers of a revision's chunks; and where those of the revision before name its districts, these name this one's
+pub record IsRevisionRead (plan revision : ℕ) (cuts : List Cut) (last before names : List ℕ) (m : KeyMap) (all : List ℕ) : Type 0 where
+  pub parts : HasParts plan revision (length cuts) m names
+  pub read : AreChunksRead last before cuts m → AreChunksRead names all cuts m
+
+-- a revision of a plan is what the rows of its numbers and of their chunks say
+pub record IsRevisionShown (plan revision : ℕ) (cuts : List Cut) (m : KeyMap) (districts : List ℕ) : Type 0 where
+  pub numbers : List ℕ
+  pub parts : HasParts plan revision (length cuts) m numbers
+  pub chunks : AreChunksRead numbers districts cuts m
+
+-- so is each revision of a plan, and no block of them is in a district above the plan's last
+pub record AreRevisionsShown (number : ℕ) (cuts : List Cut) (m : KeyMap) (p : Plan) : Type 0 where
+  pub within : AreAllWithin p
+  pub read : (k : ℕ) → k < length p.revisions → IsRevisionShown number (k + 1) cuts m (get_or p.revisions k [])
 
 -- ---- a plan's last revision
 -- these are its districts; any are, where the plan has no revision
@@ -100,9 +133,10 @@ IsLast p districts = IfSome (revision_at p (length p.revisions)) (λ last. distr
 abbrev pub NamesLast : Ground → List ℕ → Plan → KeyMap → Type 0
 NamesLast g last p m = (before : List ℕ) → IsLast p before → AreKnown last before (cuts_of g) m
 
--- a revision of a plan has a district for each block, and the numbers name those of the plan's last one
+-- a revision of a plan has a district for each block, each one of the plan's, and the numbers name those of the plan's last one
 pub record IsAfter (g : Ground) (plan revision : ℕ) (last : List ℕ) (p : Plan) (m : KeyMap) (districts : List ℕ) : Type 0 where
   pub is : IsOfBlocks g plan revision m districts
+  pub within : AreWithin p.n districts
   pub known : NamesLast g last p m
 
 -- where that was so, these numbers name the districts of the last one of this plan
@@ -115,6 +149,17 @@ BecomesLast g plan revision last p t old new names next = (disk_in new).is_hones
 abbrev pub IsWhole : Ground → Plan → Type 0
 IsWhole g p = All (λ districts. length districts ≡ length g.blocks) p.revisions
 
+-- the rows of the chunks with these numbers have the districts of the plan's last revision
+abbrev pub LastIsRead : List ℕ → Plan → List Cut → KeyMap → Type 0
+LastIsRead last p cuts m = (before : List ℕ) → IsLast p before → AreChunksRead last before cuts m
+
+-- the plan got a revision that was read so
+pub record IsNextRead (plan revision : ℕ) (cuts : List Cut) (last : List ℕ) (p : Plan) (names : List ℕ) (m : KeyMap) (next : Plan) : Type 0 where
+  pub districts : List ℕ
+  pub is : next ≡ with_revision p districts
+  pub parts : HasParts plan revision (length cuts) m names
+  pub read : LastIsRead last p cuts m → AreChunksRead names districts cuts m
+
 -- the plan stands under the name with this row, and its size is one that plans may have
 pub record IsPlanRow (g : Ground) (name : List ℕ) (row : PlanRow) (m : KeyMap) (p : Plan) : Type 0 where
   pub has : HasPlan m g name row.number p
@@ -123,3 +168,4 @@ pub record IsPlanRow (g : Ground) (name : List ℕ) (row : PlanRow) (m : KeyMap)
   pub revisions : row.revisions ≡ length p.revisions
   pub some : 1 ≤ p.n
   pub few : p.n ≤ most_districts p.kind
+  pub within : AreAllWithin p

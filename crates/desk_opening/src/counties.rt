@@ -1,11 +1,12 @@
 //! Lays the counties of a revision over the districts of the one before.
-ghost use Rattle.std.specs.Prelude.{◌≡◌, ◌<◌, ◌≤◌, ◌+◌, true, length, get_or, IfOk, OnOk};
+ghost use Rattle.std.specs.Prelude.{◌≡◌, ◌<◌, ◌≤◌, ◌+◌, true, false, length, get_or, IfOk};
 ghost use Rattle.shared_districts.specs.Laid.{with_at};
 ghost use Rattle.page_store.specs.Transactions.{stored, disk_in, count_of, txn_pages, IsQuiet};
 ghost use Rattle.page_btree.specs.Map.{InTxn};
 ghost use Rattle.store_rows.specs.Rows.{KeyMap};
-ghost use Rattle.chunk_table.specs.Reading.{HasPieces, IsChunk};
-ghost use Rattle.desk_opening.specs.Reading.{AreCountiesOf, AreCountiesThere, AreNamed, Reads, IsCounty, IsCountyThere};
+ghost use Rattle.desk_pages.specs.Desks.{AreWithin};
+ghost use Rattle.desk_opening.specs.Reading.{AreCountiesOf, AreNamed, AreChunksRead, Reads};
+ghost use Rattle.desk_opening.specs.Reading.{IsChunkWithin, IsCounty, IsCountyRead, IsLaid};
 
 use chunk_table::append_chunk;
 use desk_model::cuts::Cut;
@@ -16,11 +17,25 @@ use sector_device::SectorDevice;
 use shared_districts::Districts;
 use std::alloc::Global;
 
-/// These districts with those of a county, which are read from its chunk, in the place of theirs. `part` is room for them.
+/// Whether some block is in a district above the last.
+fn is_above(n: u16, districts: &[u16]) -> bool
+    ensures none { result ≡ false → AreWithin n districts.now }
+    ensures some { result ≡ true → AreWithin n districts.now → ⊥ }
+{
+    let mut above = false;
+    for district in districts {
+        above |= *district > n;
+    }
+    above
+}
+
+/// These districts with those of a county, which are read from its chunk, in the place of theirs. `part` is room for them, and no
+/// block may be in a district above n.
 fn lay_county<D: SectorDevice>(
     alloc: Global,
     txn: &Txn,
     pages: &mut Pages<D>,
+    n: u16,
     cut: Cut,
     number: u64,
     part: &mut Vec<u16>,
@@ -30,12 +45,17 @@ fn lay_county<D: SectorDevice>(
     requires within { cut.first + cut.count ≤ length districts }
     ensures quiet { IsQuiet pages.old pages.new }
     ensures long { IfOk result (λ all. length all ≡ length districts) }
-    ensures there { (disk_in pages.new).is_honest → (m : KeyMap) → InTxn txn.now (stored pages.old) m → OnOk result (HasPieces number cut.count m) }
-    ensures read { Reads (IsChunk number cut.count) (λ chunk. with_at cut.first chunk districts) txn.now pages.old pages.new result }
+    ensures there { (disk_in pages.new).is_honest → (m : KeyMap) → InTxn txn.now (stored pages.old) m
+        → IfOk result (IsLaid number cut districts m) }
+    ensures within { AreWithin n districts → IfOk result (AreWithin n) }
+    ensures read { Reads (IsChunkWithin n number cut.count) (λ chunk. with_at cut.first chunk districts) txn.now pages.old pages.new result }
 {
     part.clear();
     append_chunk(txn, pages, number, cut.count as usize, part)?;
     if part.len() != cut.count as usize {
+        return Err(TreeError::DeviceFault);
+    }
+    if is_above(n, part.as_slice()) {
         return Err(TreeError::DeviceFault);
     }
     match districts.with_part(alloc, cut.first as usize, part.as_slice()) {
@@ -57,6 +77,7 @@ fn lay_changed<D: SectorDevice>(
     alloc: Global,
     txn: &Txn,
     pages: &mut Pages<D>,
+    n: u16,
     cut: Cut,
     number: u64,
     last: &[u64],
@@ -69,22 +90,25 @@ fn lay_changed<D: SectorDevice>(
     ensures quiet { IsQuiet pages.old pages.new }
     ensures long { IfOk result (λ all. length all ≡ length districts) }
     ensures there { (disk_in pages.new).is_honest → (m : KeyMap) → InTxn txn.now (stored pages.old) m
-        → OnOk result (IsCountyThere number cut.count last.now county m) }
-    ensures read { Reads (IsCounty number cut last.now county districts)
+        → IfOk result (IsCountyRead number cut last.now county districts m) }
+    ensures within { AreWithin n districts → IfOk result (AreWithin n) }
+    ensures read { Reads (IsCounty n number cut last.now county districts)
         (λ chunk. with_at cut.first chunk districts) txn.now pages.old pages.new result }
 {
     if is_known(last, county, number) {
         return Ok(districts);
     }
-    lay_county(alloc, txn, pages, cut, number, part, districts)
+    lay_county(alloc, txn, pages, n, cut, number, part, districts)
 }
 
 /// The districts of a revision, whose counties have these numbers. Those of the revision before are `before`, and its numbers are
-/// `last`: what it has too is not read, and lists share it. `last` may be empty, and `before` any districts then.
+/// `last`: what it has too is not read, and lists share it. `last` may be empty, and `before` any districts then. No block may be in
+/// a district above n.
 pub(crate) fn lay_counties<D: SectorDevice>(
     alloc: Global,
     txn: &Txn,
     pages: &mut Pages<D>,
+    n: u16,
     cuts: &[Cut],
     names: &[u64],
     last: &[u64],
@@ -96,8 +120,9 @@ pub(crate) fn lay_counties<D: SectorDevice>(
     ensures quiet { IsQuiet pages.old pages.new }
     ensures long { IfOk result (λ all. length all ≡ length before) }
     ensures there { (disk_in pages.new).is_honest → (m : KeyMap) → InTxn txn.now (stored pages.old) m
-        → OnOk result (AreCountiesThere cuts.now names.now last.now m) }
-    ensures read { Reads (AreNamed cuts.now names.now last.now before) (λ districts. districts) txn.now pages.old pages.new result }
+        → IfOk result (λ all. AreChunksRead last.now before cuts.now m → AreChunksRead names.now all cuts.now m) }
+    ensures within { AreWithin n before → IfOk result (AreWithin n) }
+    ensures read { Reads (AreNamed n cuts.now names.now last.now before) (λ districts. districts) txn.now pages.old pages.new result }
 {
     lists_are_cut();
     let mut part = Vec::new(alloc);
@@ -107,6 +132,7 @@ pub(crate) fn lay_counties<D: SectorDevice>(
             alloc,
             txn,
             pages,
+            n,
             cuts[county],
             names[county],
             last,

@@ -1,5 +1,5 @@
 //! Reads plans.
-ghost use Rattle.std.specs.Prelude.{◌≡◌, ◌≤◌, ◌<◌, ◌+◌, ◌*◌, ◌^◌, length, replicate, IfOk, OnOk, IfErr};
+ghost use Rattle.std.specs.Prelude.{◌≡◌, ◌≤◌, ◌<◌, ◌+◌, ◌*◌, ◌^◌, length, replicate, IfOk, IfErr};
 ghost use Rattle.desk_model.specs.Cuts.{cuts_of};
 ghost use Rattle.desk_model.specs.Step.{revision_limit};
 ghost use Rattle.page_store.specs.Transactions.{stored, disk_in, count_of, txn_pages, IsQuiet};
@@ -7,8 +7,9 @@ ghost use Rattle.page_btree.specs.Map.{InTxn};
 ghost use Rattle.store_rows.specs.Rows.{KeyMap};
 ghost use Rattle.store_rows.specs.Changes.{plan_row_of, with_revision};
 ghost use Rattle.page_btree.specs.declared.error.TreeError.TheVariants.{Memory};
-ghost use Rattle.desk_opening.specs.Reading.{BecomesKnown, BecomesLast, HasLists, Reads, IsAfter};
-ghost use Rattle.desk_opening.specs.Reading.{IsLast, IsNext, IsPlanRow, IsRevisionThere, IsWhole};
+ghost use Rattle.desk_pages.specs.Desks.{AreWithin};
+ghost use Rattle.desk_opening.specs.Reading.{AreAllWithin, AreRevisionsShown, BecomesKnown, BecomesLast, Reads, IsAfter};
+ghost use Rattle.desk_opening.specs.Reading.{IsLast, IsNext, IsNextRead, IsPlanRow, IsRevisionRead, IsWhole};
 
 use crate::counties::lay_counties;
 use desk_model::cuts::Cut;
@@ -25,12 +26,13 @@ use std::alloc::Global;
 use store_rows::PlanRow;
 
 /// A revision that stands under a plan's number. Its counties are laid over `before`, the districts of the revision before, whose
-/// chunks have the numbers of `last`; it gets the numbers of this one's.
+/// chunks have the numbers of `last`; it gets the numbers of this one's. No block may be in a district above n.
 fn read_next<D: SectorDevice>(
     alloc: Global,
     txn: &Txn,
     pages: &mut Pages<D>,
     geography: &Geography,
+    n: u16,
     cuts: &[Cut],
     last: &mut Vec<u64>,
     before: Districts,
@@ -43,10 +45,12 @@ fn read_next<D: SectorDevice>(
     ensures quiet { IsQuiet pages.old pages.new }
     ensures whole { IfOk result (λ next. length next ≡ length geography.now.blocks) }
     ensures there { (disk_in pages.new).is_honest → (m : KeyMap) → InTxn txn.now (stored pages.old) m
-        → OnOk result (IsRevisionThere plan revision cuts.now last.new.items last.old.items m) }
-    ensures read { Reads (IsNext geography.now plan revision last.old.items before) (λ districts. districts) txn.now pages.old pages.new result }
+        → IfOk result (IsRevisionRead plan revision cuts.now last.old.items before last.new.items m) }
+    ensures within { AreWithin n before → IfOk result (AreWithin n) }
+    ensures read { Reads (IsNext geography.now n plan revision last.old.items before)
+        (λ districts. districts) txn.now pages.old pages.new result }
     ensures known { IfOk result
-        (λ next. BecomesKnown geography.now plan revision last.old.items before txn.now pages.old pages.new last.new.items next) }
+        (λ next. BecomesKnown geography.now n plan revision last.old.items before txn.now pages.old pages.new last.new.items next) }
 {
     let Ok(mut names) = Vec::with_capacity(alloc, cuts.len()) else {
         return Err(TreeError::Memory);
@@ -59,6 +63,7 @@ fn read_next<D: SectorDevice>(
         alloc,
         txn,
         pages,
+        n,
         cuts,
         names.as_slice(),
         last.as_slice(),
@@ -88,6 +93,7 @@ fn districts_before(
     requires whole { IsWhole geography.now entry.now.1 }
     ensures last { IfOk result (λ districts. IsLast entry.now.1 districts) }
     ensures whole { IfOk result (λ districts. length districts ≡ length geography.now.blocks) }
+    ensures within { AreAllWithin entry.now.1 → IfOk result (AreWithin entry.now.1.n) }
     ensures err { IfErr result (λ e. e ≡ Memory) }
 {
     let Some(last) = entry.revision(entry.count()) else {
@@ -121,8 +127,9 @@ fn with_next<D: SectorDevice>(
     ensures sized { IfOk result (λ next. (next.1.kind ≡ entry.now.1.kind) × (next.1.n ≡ entry.now.1.n)) }
     ensures longer { IfOk result (λ next. length next.1.revisions ≡ length entry.now.1.revisions + 1) }
     ensures whole { IfOk result (λ next. IsWhole geography.now next.1) }
+    ensures within { AreAllWithin entry.now.1 → IfOk result (λ next. AreAllWithin next.1) }
     ensures there { (disk_in pages.new).is_honest → (m : KeyMap) → InTxn txn.now (stored pages.old) m
-        → OnOk result (IsRevisionThere plan revision cuts.now last.new.items last.old.items m) }
+        → IfOk result (λ next. IsNextRead plan revision cuts.now last.old.items entry.now.1 last.new.items m next.1) }
     ensures read { Reads (IsAfter geography.now plan revision last.old.items entry.now.1)
         (λ districts. (entry.now.0, with_revision entry.now.1 districts)) txn.now pages.old pages.new result }
     ensures known { IfOk result
@@ -131,7 +138,16 @@ fn with_next<D: SectorDevice>(
 {
     let before = districts_before(alloc, geography, entry)?;
     let next = read_next(
-        alloc, txn, pages, geography, cuts, last, before, plan, revision,
+        alloc,
+        txn,
+        pages,
+        geography,
+        entry.n(),
+        cuts,
+        last,
+        before,
+        plan,
+        revision,
     )?;
     match entry.with_revision(alloc, next) {
         Ok(with) => Ok(with),
@@ -140,7 +156,7 @@ fn with_next<D: SectorDevice>(
 }
 
 /// The plan that stands under a name with this row, with all its revisions. `cuts` are the geography's counties. `DeviceFault`
-/// comes also where the store has no such plan, `Memory` where a growth was refused.
+/// comes also where the store has no such plan or one with a block in a district that it lacks, `Memory` where a growth was refused.
 #[tactic(auto, using(crate::proofs::Revisions::none_last))]
 pub fn read_entry<D: SectorDevice>(
     alloc: Global,
@@ -156,9 +172,10 @@ pub fn read_entry<D: SectorDevice>(
     ensures quiet { IsQuiet pages.old pages.new }
     ensures named { IfOk result (λ entry. entry.0 ≡ name) }
     ensures whole { IfOk result (λ entry. IsWhole geography.now entry.1) }
+    ensures within { IfOk result (λ entry. AreAllWithin entry.1) }
     ensures row { IfOk result (λ entry. row.now ≡ plan_row_of row.now.number entry.1) }
-    ensures lists { (disk_in pages.new).is_honest → (m : KeyMap) → InTxn txn.now (stored pages.old) m
-        → OnOk result (HasLists row.now.number row.now.revisions (length cuts.now) m) }
+    ensures shown { (disk_in pages.new).is_honest → (m : KeyMap) → InTxn txn.now (stored pages.old) m
+        → IfOk result (λ entry. AreRevisionsShown row.now.number cuts.now m entry.1) }
     ensures read { Reads (IsPlanRow geography.now name row.now) (λ plan. (name, plan)) txn.now pages.old pages.new result }
 {
     if row.revisions > REVISION_LIMIT {

@@ -1,5 +1,5 @@
 //! Reads plans into those that were read before.
-ghost use Rattle.std.specs.Prelude.{◌≡◌, ◌<◌, length, IfOk, OnOk, None, Some};
+ghost use Rattle.std.specs.Prelude.{◌≡◌, ◌<◌, IfOk, None, Some};
 ghost use Rattle.std.specs.FinMap as map_of;
 ghost use Rattle.desk_model.specs.Cuts.{cuts_of};
 ghost use Rattle.desk_model.specs.Desk.{Plan};
@@ -9,7 +9,8 @@ ghost use Rattle.page_btree.specs.Map.{InTxn};
 ghost use Rattle.store_rows.specs.Rows.{KeyMap};
 ghost use Rattle.store_rows.specs.Changes.{plan_row_of};
 ghost use Rattle.desk_catalogue.specs.Kept.{AreWhole};
-ghost use Rattle.desk_opening.specs.Reading.{HasLists, Reads, IsPlanRow};
+ghost use Rattle.desk_opening.specs.Opening.{IsAddedAs};
+ghost use Rattle.desk_opening.specs.Reading.{Reads, IsPlanRow};
 
 use crate::entries::read_entry;
 use desk_model::cuts::Cut;
@@ -40,8 +41,8 @@ pub fn add_plan<D: SectorDevice>(
     ensures quiet { IsQuiet pages.old pages.new }
     ensures whole { IfOk result (λ all. AreWhole (Some geography.now) plans.now → AreWhole (Some geography.now) all) }
     ensures added { IfOk result (λ all. (p : Plan) × (row.now ≡ plan_row_of row.now.number p) × (all ≡ map_of.insert plans.now name p)) }
-    ensures lists { (disk_in pages.new).is_honest → (m : KeyMap) → InTxn txn.now (stored pages.old) m
-        → OnOk result (HasLists row.now.number row.now.revisions (length cuts.now) m) }
+    ensures shown { (disk_in pages.new).is_honest → (m : KeyMap) → InTxn txn.now (stored pages.old) m
+        → IfOk result (IsAddedAs plans.now name row.now cuts.now m) }
     ensures read { Reads (IsPlanRow geography.now name row.now) (λ plan. map_of.insert plans.now name plan) txn.now pages.old pages.new result }
 {
     let entry = read_entry(alloc, txn, pages, geography, cuts, name, row)?;

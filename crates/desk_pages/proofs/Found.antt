@@ -9,13 +9,14 @@ use Rattle.gate_journal.specs.Recovery.{HasRoom, AllStores, ReadsAs, Found}
 use Rattle.gate_journal.proofs.Headers.{same_journal}
 use Rattle.page_store.specs.Chain.{root_in, free_in, IsPages}
 use Rattle.page_store.specs.Openings.{AllPageStores}
-use Rattle.page_store.specs.Transactions.{stored, disk_in, count_of, journal_of, IsQuiet}
+use Rattle.page_store.specs.Transactions.{stored, disk_in, count_of, journal_of, IsKept, IsQuiet}
+use Rattle.page_store.proofs.Stops.{kept_quiet}
 use Rattle.page_store.specs.declared.pages.Pages.{Pages}
 use Rattle.page_btree.specs.Map.{Holds, InPages as HasRows}
 use Rattle.desk_model.specs.Desk.{Desk}
 use Rattle.store_rows.specs.Rows.{KeyMap}
 use Rattle.desk_pages.specs.Desks.{HoldsDeskOf, InPagesAs, OpensAs, OpensDeskOf}
-use Rattle.desk_pages.specs.Openings.{AllDesks, AllVersions, OpensOneOf, OpensOneAs, HasPages}
+use Rattle.desk_pages.specs.Openings.{AllDesks, AllVersions, OpensOneOf, OpensOneAs, HasPages, StillStands}
 
 -- what is of the new version is of either
 pub all_versions : (disk : Disk) → AllDesks disk → AllVersions disk
@@ -103,6 +104,15 @@ module _ {D : Type 0} {g : Ghosts D} where
 
   pub pages_left : (old : Disk) (a b : Pages D g) → ((disk_in a).is_honest → Found (journal_of a) (count_of a) old (disk_in a)) → IsQuiet a b → (disk_in b).is_honest → HasPages old (disk_in b)
   pages_left old a b found quiet honest = (journal_of b, count_of b, found_after old a b found quiet honest)
+
+  pub pages_stand : (old : Disk) (a b : Pages D g) → ((disk_in a).is_honest → Found (journal_of a) (count_of a) old (disk_in a)) → ((disk_in a).is_honest → IsKept a) → IsQuiet a b
+      → (disk_in b).is_honest → StillStands old (disk_in b)
+  pages_stand old a b found kept quiet honest = record {
+    J = journal_of b;
+    n = count_of b;
+    found = found_after old a b found quiet honest;
+    stands = kept_quiet a b quiet honest (kept (quiet.honest honest));
+  }
 
   -- rows that are held after calls that read were held before
   pub rows_before : (a b : Pages D g) (m : KeyMap) → IsQuiet a b → (disk_in b).is_honest → HasRows b m → HasRows a m

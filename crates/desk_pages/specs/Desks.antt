@@ -1,5 +1,5 @@
 -- Pages that hold a desk.
-use Rattle.std.specs.Prelude.{Bool, true, false, ◌≡◌, ◌⊎◌, ◌≤◌, ◌+◌, ℕ, List, Some, None}
+use Rattle.std.specs.Prelude.{Bool, true, false, ◌≡◌, ◌⊎◌, ◌≤◌, ◌+◌, ℕ, List, All, Some, None}
 use Rattle.std.specs.FinMap as map_of
 use Rattle.sector_device.specs.Disk.{Image}
 use Rattle.sector_device.specs.declared.SectorDevice.{Ghosts}
@@ -16,10 +16,15 @@ use Rattle.store_rows.specs.Rows.{KeyMap}
 use Rattle.store_rows.specs.DeskRows.{IsDesk}
 use Rattle.store_rows.specs.Tidy.{Tidy}
 
--- a number of districts that a plan of its kind may have
+-- no block is in a district above a plan's last
+abbrev pub AreWithin : ℕ → List ℕ → Type 0
+AreWithin n districts = All (λ d. d ≤ n) districts
+
+-- a number of districts that a plan of its kind may have, and no block in another district
 pub record IsSized (p : Plan) : Type 0 where
   pub some : 1 ≤ p.n
   pub most : p.n ≤ most_districts p.kind
+  pub within : All (AreWithin p.n) p.revisions
 
 -- a desk has so many plans at most, and each is of a size that plans may have
 pub record IsWithinLimits (d : Desk) : Type 0 where

@@ -2,6 +2,7 @@
 use Rattle.std.specs.Prelude.{◌⊎◌, ℕ, Bool, true, false}
 use Rattle.sector_device.specs.Disk.{Disk, Image}
 use Rattle.sector_device.specs.Moments.{LeavesOnly}
+use Rattle.gate_journal.specs.Store.{Opens, pages}
 use Rattle.gate_journal.specs.Recovery.{Found}
 use Rattle.page_store.specs.Transactions.{IsUntouched}
 use Rattle.desk_model.specs.Desk.{Desk}
@@ -55,6 +56,13 @@ LeavesOneOf old new = new.is_honest → AllDesks old → LeavesOnly (OpensOneOf 
 abbrev pub HasPages : Disk → Disk → Type 0
 HasPages old new = (J : ℕ) × (n : ℕ) × Found J n old new
 
+-- and each image that a stop may leave stands for them, with its header
+pub record StillStands (old new : Disk) : Type 0 where
+  pub J : ℕ
+  pub n : ℕ
+  pub found : Found J n old new
+  pub stands : (c : Image) → new.leaves c → Opens J n (pages J new.reads) c
+
 -- what is no store stays as it is, and so do the pages of one that holds no desk
 abbrev pub IsSpared : Disk → Disk → Type 0
-IsSpared old new = IsUntouched old new ⊎ HasPages old new
+IsSpared old new = IsUntouched old new ⊎ StillStands old new

@@ -1,8 +1,8 @@
 -- What an opening finds in the pages.
-use Rattle.std.proofs.Common.{◌≡◌, ◌<◌, ℕ, true, false, sym, subst, ◌∙◌, arith}
-use Rattle.sector_device.specs.Disk.{Disk, Image}
+use Rattle.std.proofs.Common.{◌≡◌, ◌<◌, ℕ, true, false, refl, sym, subst, ◌∙◌, arith}
+use Rattle.sector_device.specs.Disk.{Disk, Image, Nowhere, Touches}
 use Rattle.sector_device.specs.declared.SectorDevice.{Ghosts}
-use Rattle.gate_journal.specs.Store.{pages}
+use Rattle.gate_journal.specs.Store.{Opens, pages}
 use Rattle.gate_journal.specs.Recovery.{HasRoom, Found}
 use Rattle.gate_journal.specs.Contents.{content, disk_of, device_of, page_count, is_halted}
 use Rattle.gate_journal.specs.declared.journal.Journal.{Journal}
@@ -10,6 +10,7 @@ use Rattle.gate_journal.proofs.Headers.{same_journal}
 use Rattle.page_store.specs.Chain.{IsPages}
 use Rattle.page_store.specs.Openings.{AllPageStores, MetaErr}
 use Rattle.page_store.specs.Transactions.{OpenErr, HasBadPages}
+use Rattle.page_store.proofs.Stops.{kept_still}
 use Rattle.page_store.specs.declared.error.PageError.{PageError}
 use Rattle.page_store.specs.declared.error.PageError.TheVariants.{NotAStore, DeviceFault, Halted, TooManyPages, TooSmall, NoPages, Memory}
 
@@ -25,13 +26,15 @@ found_pages a b J n found room all =
     subst (λ (P : Image). IsPages n P) (sym found.same) (subst (λ (k : ℕ). IsPages k (pages J found.was)) count here)
 
 -- the pages that were found are no store's
-pub bad_pages : (a b d : Disk) (J K n : ℕ) → Found J n a b → K ≡ J → pages K d.reads ≡ pages J b.reads → (IsPages n (pages J b.reads) → ⊥) → HasBadPages a d
-bad_pages a b d J K n found journal same unsound =
+pub bad_pages : (a b d : Disk) (J K n : ℕ) → Found J n a b → K ≡ J → pages K d.reads ≡ pages J b.reads → ((c : Image) → b.leaves c → Opens J n (pages J b.reads) c) → Touches Nowhere b d
+    → (IsPages n (pages J b.reads) → ⊥) → HasBadPages a d
+bad_pages a b d J K n found journal same kept still unsound =
     let here : pages J d.reads ≡ pages J b.reads = subst (λ (k : ℕ). pages k d.reads ≡ pages J b.reads) journal same in
     record {
       J = J;
       n = n;
       found = record { was = found.was; left = found.left; header = found.header; same = here ∙ found.same };
+      stands = kept_still J n J n b d (pages J b.reads) (pages J d.reads) refl refl here kept still;
       unsound = λ sound. unsound (subst (λ (P : Image). IsPages n P) here sound);
     }
 

@@ -2,7 +2,7 @@
 use Rattle.std.specs.Prelude.{◌≡◌, ◌≤◌, ◌<◌, ◌⊎◌, ℕ, Bool, true, false, List, Result, Ok, Err, length}
 use Rattle.sector_device.specs.Disk.{Disk, Image, Touches, Nowhere}
 use Rattle.sector_device.specs.declared.SectorDevice.{Ghosts}
-use Rattle.gate_journal.specs.Store.{overlay, Writes, pages}
+use Rattle.gate_journal.specs.Store.{overlay, Opens, Writes, pages}
 use Rattle.gate_journal.specs.Writes.{writes_of}
 use Rattle.gate_journal.specs.Recovery.{Found}
 use Rattle.gate_journal.specs.Contents.{content, disk_of, device_of, page_count, journal_size, is_halted, HasShapeOf, HasHalted, IsKept as kept}
@@ -156,11 +156,12 @@ module _ {D : Type 0} {g : Ghosts D} where
   abbrev pub IsKept : Pages D g → Type 0
   IsKept ps = kept ps.journal
 
--- the journal was opened, and its pages, which are as they were, are no store's
+-- the journal was opened, and its pages, which are as they were whatever a stop leaves, are no store's
 pub record HasBadPages (old new : Disk) : Type 0 where
   pub J : ℕ
   pub n : ℕ
   pub found : Found J n old new
+  pub stands : (c : Image) → new.leaves c → Opens J n (pages J new.reads) c
   pub unsound : IsPages n (pages J new.reads) → ⊥
 
 -- what no store holds stays as it is

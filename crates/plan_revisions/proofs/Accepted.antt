@@ -26,6 +26,7 @@ use Rattle.store_rows.specs.Changes.{with_revision}
 use Rattle.plan_revisions.specs.Rows.{added_chunks, added_by}
 use Rattle.plan_revisions.specs.Plans.{TakesPlan, with_plan, HasPlanAt, without_plan, TakesFork, with_fork}
 use Rattle.plan_revisions.specs.Accepted.{IsRevised}
+use Rattle.plan_revisions.proofs.Within.{AreSmall, body_small, patched_within, revision_within, whole_within}
 
 -- ---- a plan is created
 module _ (d : Desk) (name : List ℕ) (size : Kind × ℕ) where
@@ -129,25 +130,35 @@ module _ (d : Desk) (name : List ℕ) (after : ℕ) where
   revision_there g go tells None is = λ told. absurd (cc)
   revision_there g go tells (Some p) is = revision_last g go tells p is (after == length p.revisions) refl
 
-  whole_told : (g : Ground) → d.geography ≡ Some g → (p : Plan) → map_of.get d.plans name ≡ Some p → after ≡ length p.revisions → length p.revisions < revision_limit → (reading : Result Values Fault) → TellsRevision (whole_read g d name p reading)
-  whole_told g geography p there last few (Err f) = λ told. absurd (cc)
-  whole_told g geography p there last few (Ok listed) = λ told. record { g = g; plan = p; districts = whole g listed; geography = geography; there = there; count = last; few = few; desk = refl }
+  whole_told : (g : Ground) → d.geography ≡ Some g → (p : Plan) → map_of.get d.plans name ≡ Some p → after ≡ length p.revisions → length p.revisions < revision_limit → (reading : Result Values Fault) → ((listed : Values) → reading ≡ Ok listed → AreSmall p.n listed) → TellsRevision (whole_read g d name p reading)
+  whole_told g geography p there last few (Err f) small = λ told. absurd (cc)
+  whole_told g geography p there last few (Ok listed) small = λ told. record { g = g; plan = p; districts = whole g listed; geography = geography; there = there; count = last; few = few; within = λ limits. whole_within g p.n listed (small listed refl); desk = refl }
 
-  part_told : (g : Ground) → d.geography ≡ Some g → (p : Plan) → map_of.get d.plans name ≡ Some p → after ≡ length p.revisions → length p.revisions < revision_limit → (listed : Values) (part : Option ℕ) → TellsRevision (county_patched g d name p listed part)
-  part_told g geography p there last few listed (Some county) = λ told. absurd (cc)
-  part_told g geography p there last few listed None = λ told. record { g = g; plan = p; districts = patched g listed (revision_at p (length p.revisions)); geography = geography; there = there; count = last; few = few; desk = refl }
+  part_told : (g : Ground) → d.geography ≡ Some g → (p : Plan) → map_of.get d.plans name ≡ Some p → after ≡ length p.revisions → length p.revisions < revision_limit → (listed : Values) → AreSmall p.n listed → (part : Option ℕ) → TellsRevision (county_patched g d name p listed part)
+  part_told g geography p there last few listed small (Some county) = λ told. absurd (cc)
+  part_told g geography p there last few listed small None = λ told. record {
+    g = g;
+    plan = p;
+    districts = patched g listed (revision_at p (length p.revisions));
+    geography = geography;
+    there = there;
+    count = last;
+    few = few;
+    within = λ limits. patched_within g p.n listed (revision_at p (length p.revisions)) small (λ districts is. revision_within p (length p.revisions) districts is (limits.sizes name p there).within);
+    desk = refl;
+  }
 
-  patch_told : (g : Ground) → d.geography ≡ Some g → (p : Plan) → map_of.get d.plans name ≡ Some p → after ≡ length p.revisions → length p.revisions < revision_limit → (reading : Result Values Fault) → TellsRevision (patch_read g d name p reading)
-  patch_told g geography p there last few (Err f) = λ told. absurd (cc)
-  patch_told g geography p there last few (Ok listed) = part_told g geography p there last few listed (partly_listed g listed)
+  patch_told : (g : Ground) → d.geography ≡ Some g → (p : Plan) → map_of.get d.plans name ≡ Some p → after ≡ length p.revisions → length p.revisions < revision_limit → (reading : Result Values Fault) → ((listed : Values) → reading ≡ Ok listed → AreSmall p.n listed) → TellsRevision (patch_read g d name p reading)
+  patch_told g geography p there last few (Err f) small = λ told. absurd (cc)
+  patch_told g geography p there last few (Ok listed) small = part_told g geography p there last few listed (small listed refl) (partly_listed g listed)
 
   whole_geography : (body : List ℕ) (geo : Option Ground) → d.geography ≡ geo → TellsRevision (step_at geo d (Whole name after body))
   whole_geography body None is = λ told. absurd (cc)
-  whole_geography body (Some g) is = revision_there g (λ p. whole_read g d name p (body_read g p.n body)) (λ p there last few. whole_told g is p there last few (body_read g p.n body)) (map_of.get d.plans name) refl
+  whole_geography body (Some g) is = revision_there g (λ p. whole_read g d name p (body_read g p.n body)) (λ p there last few. whole_told g is p there last few (body_read g p.n body) (body_small g p.n body)) (map_of.get d.plans name) refl
 
   counties_geography : (body : List ℕ) (geo : Option Ground) → d.geography ≡ geo → TellsRevision (step_at geo d (Counties name after body))
   counties_geography body None is = λ told. absurd (cc)
-  counties_geography body (Some g) is = revision_there g (λ p. patch_read g d name p (body_read g p.n body)) (λ p there last few. patch_told g is p there last few (body_read g p.n body)) (map_of.get d.plans name) refl
+  counties_geography body (Some g) is = revision_there g (λ p. patch_read g d name p (body_read g p.n body)) (λ p there last few. patch_told g is p there last few (body_read g p.n body) (body_small g p.n body)) (map_of.get d.plans name) refl
 
   pub whole_revised : (body : List ℕ) → TellsRevision (step d (Whole name after body))
   whole_revised body = whole_geography body d.geography refl

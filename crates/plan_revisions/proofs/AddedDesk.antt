@@ -2,6 +2,7 @@
 use Rattle.std.proofs.Common.{◌≡◌, ◌<◌, ◌+◌, ◌-◌, ◌^◌, ℕ, Bool, true, false, cond, List, [], ◌++◌, length, get_or, Option, Some, None, refl, sym, ap, subst, ◌∙◌, inl, inr, arith, append_assoc}
 use Rattle.std.specs.FinMap.{get, insert}
 use Rattle.std.specs.List.{slice_get}
+use Rattle.std.proofs.lemmas.List.Elements.{All-push}
 use Rattle.std.proofs.lemmas.Option.{get_or_from_slice_get, slice_get_cases}
 use Rattle.desk_model.specs.Cuts.{cut, cuts_of, CutsAreCounties, ListsAreCut, sizes}
 use Rattle.desk_model.specs.Desk.{Plan, Desk}
@@ -20,9 +21,9 @@ use Rattle.store_rows.specs.RevisionSteps.{AreKept, IsDrawn, new_chunk_rows, new
 use Rattle.store_rows.specs.TidyLaws.{ChunksAreKept, NextIsOne, RevisionsMakeDesks}
 use Rattle.plan_table.specs.PlanRows.{revised_rows}
 use Rattle.plan_table.specs.Laws.{PlansAreTold}
-use Rattle.desk_pages.specs.Desks.{IsDeskMap}
+use Rattle.desk_pages.specs.Desks.{AreWithin, IsDeskMap}
 use Rattle.desk_room.specs.Cutting.{changes_in}
-use Rattle.plan_revisions.specs.Plans.{TakesRevision, with_next, with_next_of}
+use Rattle.plan_revisions.specs.Plans.{TakesNext, with_next, with_next_of}
 use Rattle.plan_revisions.specs.Counties.{drawn}
 use Rattle.plan_revisions.specs.Adding.{AreRead, rows_put}
 use Rattle.plan_revisions.specs.Laws.{CanAdd, all_rows}
@@ -97,27 +98,27 @@ next_there d name next p there = ap (λ (o : Option Plan). with_next_of d name n
 
 module _ (told : PlansAreTold) (one : NextIsOne) (makes : RevisionsMakeDesks) (kept_law : ChunksAreKept) (firsts : FirstsAreDrawn) (changes : ChangesAreDrawn) (counties : CutsAreCounties) (cut_law : ListsAreCut) where
   pub desks_added : (g : Ground) (name : List ℕ) (last : Option (List ℕ)) (next : List ℕ) (row : PlanRow) (counters : Counters) (kept : List ℕ) → CanAdd g last next row counters
-      → (m : KeyMap) (d : Desk) → IsDeskMap m d → TakesRevision g name last d → AreRead name (length (cuts_of g)) row counters kept m
+      → (m : KeyMap) (d : Desk) → IsDeskMap m d → TakesNext g name last next d → AreRead name (length (cuts_of g)) row counters kept m
       → IsDeskMap (put_rows m (all_rows g name last next row counters kept)) (with_next name next d)
   desks_added g name last next row counters kept can m d is says read =
       let numbers = drawn counters.chunk 0 kept (changes_in last next (cuts_of g)) in
       let lists = changed g last next in
-      let p = says.plan in
-      let row_is = told_plan told m d g name row p is.desk says.geography says.there read.found can.row_fits in
+      let p = says.takes.plan in
+      let row_is = told_plan told m d g name row p is.desk says.takes.geography says.takes.there read.found can.row_fits in
       let are : is.tidy.next ≡ counters = numbers_are one m is.tidy counters can.fit read.is_next in
-      let draws = is_drawn kept_law firsts changes counties cut_law m g name next row counters kept p row_is.0 row_is.1 read last says.last_is can in
-      let made = (makes m is.tidy g d.plans name row.number p next lists numbers (is_with m d g says.geography is.desk) says.there row_is.1 can.long says.room
+      let draws = is_drawn kept_law firsts changes counties cut_law m g name next row counters kept p row_is.0 row_is.1 read last says.takes.last_is can in
+      let made = (makes m is.tidy g d.plans name row.number p next lists numbers (is_with m d g says.takes.geography is.desk) says.takes.there row_is.1 can.long says.takes.room
       (subst (λ (n : Counters). n.chunk + length lists < 2 ^ 64) (sym are) can.room)
       (subst (λ (n : Counters). IsDrawn m n row.number lists numbers (cut g next)) (sym are) draws)).put in
       let rows : all_rows g name last next row counters kept ≡ rows_of_revision is.tidy.new is.tidy.next name (plan_row_of row.number p) lists numbers =
       in_order counters name row (plan_row_of row.number p) lists numbers row_is.0
       ∙ ap (λ (n : Counters). rows_of_revision true n name (plan_row_of row.number p) lists numbers) (sym are)
       ∙ ap (λ (b : Bool). rows_of_revision b is.tidy.next name (plan_row_of row.number p) lists numbers) (sym is.version) in
-      let sized = is.limits.sizes name p says.there in
-      subst (λ (e : Desk). IsDeskMap (put_rows m (all_rows g name last next row counters kept)) e) (next_there d name next p says.there)
+      let sized = is.limits.sizes name p says.takes.there in
+      subst (λ (e : Desk). IsDeskMap (put_rows m (all_rows g name last next row counters kept)) e) (next_there d name next p says.takes.there)
       (subst (λ (rs : List Row). IsDeskMap (put_rows m rs) (record d { plans = insert d.plans name (with_revision p next) })) (sym rows) (record {
-        desk = is_still _ d g _ says.geography made.desk;
+        desk = is_still _ d g _ says.takes.geography made.desk;
         tidy = made.tidy.0;
         version = made.tidy.2 ∙ is.version;
-        limits = with_another d name (with_revision p next) p says.there (record { some = sized.some; most = sized.most }) is.limits;
+        limits = with_another d name (with_revision p next) p says.takes.there (record { some = sized.some; most = sized.most; within = All-push (AreWithin p.n) p.revisions next sized.within (says.within is.limits) }) is.limits;
       }))

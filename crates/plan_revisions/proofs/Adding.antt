@@ -24,14 +24,14 @@ use Rattle.plan_table.specs.Outcomes.{HasSpent}
 use Rattle.plan_table.specs.PlanRows.{HasChunkNumbers}
 use Rattle.plan_table.specs.Laws.{RowFits}
 use Rattle.plan_revisions.specs.Steps.{HasStepped, LeavesNumbers, StepErr}
-use Rattle.plan_revisions.specs.Plans.{TakesRevision, with_next}
+use Rattle.plan_revisions.specs.Plans.{TakesNext, with_next}
 use Rattle.plan_revisions.specs.Adding.{AreRead, rows_put}
 use Rattle.plan_revisions.specs.Laws.{CanAdd, DesksAreAdded, RowsAreFew, all_rows}
 use Rattle.plan_revisions.proofs.Retiring.{deep_before}
 
 module _ (ground : Ground) (name : List ℕ) (last : Option (List ℕ)) (next : List ℕ) (row : PlanRow) (counters : Counters) (kept : List ℕ) where
   abbrev says : Desk → Type 0
-  says = TakesRevision ground name last
+  says = TakesNext ground name last next
 
   abbrev rows : List Row
   rows = all_rows ground name last next row counters kept

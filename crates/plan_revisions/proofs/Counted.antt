@@ -10,10 +10,11 @@ use Rattle.desk_model.specs.declared.command.Command.{Command}
 use Rattle.desk_model.specs.declared.command.Command.TheVariants.{Whole, Counties}
 use Rattle.desk_room.specs.Cutting.{changes_in}
 use Rattle.desk_catalogue.specs.Drafts.{changes_between, changes_of}
+use Rattle.desk_catalogue.specs.Accepting.{IsAfter}
 use Rattle.desk_catalogue.specs.Kept.{IsWhole, revision_in}
 use Rattle.plan_revisions.specs.Rows.{cuts_in}
 use Rattle.plan_revisions.specs.Accepted.{IsRevised}
-use Rattle.plan_revisions.proofs.Accepted.{next_is}
+use Rattle.plan_revisions.proofs.Accepted.{counties_revised, next_is, whole_revised}
 
 some_is : {X : Type 0} (x y : X) → Some x ≡ Some y → x ≡ y
 some_is x y same = cc
@@ -50,3 +51,12 @@ pub changes_by : (d : Desk) (q : Command) (name : List ℕ) (after : ℕ) (e : D
     → changes ≡ changes_of d q e cuts → changes ≡ changes_between (revision_in (map_of.get d.plans name) after) (revision_in (map_of.get e.plans name) (after + 1)) cuts
 changes_by d q name after e cuts changes (inl whole) are = are ∙ ap (λ (x : Command). changes_of d x e cuts) whole.1
 changes_by d q name after e cuts changes (inr counties) are = are ∙ ap (λ (x : Command). changes_of d x e cuts) counties.1
+
+-- the plan of a command that was accepted got a revision more
+pub revised_by : (d : Desk) (q : Command) (name : List ℕ) (after : ℕ) (e : Desk) → ((body : List ℕ) × (q ≡ Whole name after body)) ⊎ ((body : List ℕ) × (q ≡ Counties name after body)) → IsAfter d q e → IsRevised d name after e
+revised_by d q name after e (inl (body, same)) is =
+    let then = subst (λ (x : Command). IsAfter d x e) same is in
+    subst (λ (x : Desk). IsRevised d name after x) (sym then.desk) (whole_revised d name after body then.reply)
+revised_by d q name after e (inr (body, same)) is =
+    let then = subst (λ (x : Command). IsAfter d x e) same is in
+    subst (λ (x : Desk). IsRevised d name after x) (sym then.desk) (counties_revised d name after body then.reply)

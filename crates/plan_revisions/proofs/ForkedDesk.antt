@@ -2,7 +2,7 @@
 use Rattle.std.proofs.Common.{◌≡◌, ◌<◌, ◌≤◌, ◌-◌, ◌*◌, ◌^◌, ℕ, true, List, [], ◌∷◌, length, get_or, Option, Some, refl, sym, ap, subst, ◌∙◌, arith}
 use Rattle.std.specs.Prelude.{Contains}
 use Rattle.std.specs.FinMap.{FinMap, insert}
-use Rattle.std.proofs.lemmas.List.Elements.{All-contains}
+use Rattle.std.proofs.lemmas.List.Elements.{All-cons, All-contains, All-nil}
 use Rattle.desk_model.proofs.Maps.{insert_again}
 use Rattle.desk_model.specs.Cuts.{cut, cuts_of, CutsAreCounties, ListsAreCut}
 use Rattle.desk_model.specs.Desk.{Plan, Desk, name_cmp}
@@ -29,7 +29,7 @@ use Rattle.store_rows.proofs.Forked.{can_hold}
 use Rattle.plan_table.specs.PlanRows.{IsFound}
 use Rattle.plan_table.specs.Laws.{PlansAreMade, PlansAreTold, RowFits}
 use Rattle.plan_table.proofs.Made.{numbers_moved, rows_keep}
-use Rattle.desk_pages.specs.Desks.{IsDeskMap}
+use Rattle.desk_pages.specs.Desks.{AreWithin, IsDeskMap}
 use Rattle.plan_revisions.specs.Plans.{HasRevisionAt, TakesFork, TakesPlan, with_fork, with_plan}
 use Rattle.plan_revisions.specs.Forking.{CanMake, IsSource, MakesFork, forked_map, row_like, with_made}
 use Rattle.plan_revisions.proofs.Creating.{IsSize, created_desk}
@@ -37,6 +37,7 @@ use Rattle.plan_revisions.proofs.ChunkLists.{few_counties}
 use Rattle.plan_revisions.proofs.Desks.{is_with, is_still, numbers_are}
 use Rattle.plan_revisions.proofs.LastRevision.{as_many, told_plan, last_named}
 use Rattle.plan_revisions.proofs.Limits.{put_there, with_one_more}
+use Rattle.plan_revisions.proofs.Within.{revision_within}
 use Rattle.plan_revisions.proofs.Looking.{stands_at}
 
 -- ---- chunks that can be kept stay so where the parts and the pieces do
@@ -168,6 +169,12 @@ module _ (told : PlansAreTold) (made : PlansAreMade) (tidily : PlansComeAndGoTid
     abbrev new_plan : Plan
     new_plan = record { kind = source.kind; n = source.districts; revisions = says.districts ∷ [] }
 
+    fork_within : AreWithin source.districts says.districts
+    fork_within =
+        let n : source.districts ≡ origin.plan.n = ap (λ (r : PlanRow). r.districts) source_is.0 in
+        subst (λ (k : ℕ). AreWithin k says.districts) (sym n)
+        (revision_within origin.plan from.1 says.districts origin.is (is.limits.sizes from.0 origin.plan origin.there).within)
+
     with_new : record d { plans = insert d.plans name new_plan } ≡ with_fork name from d
     with_new =
         let kind : source.kind ≡ origin.plan.kind = ap (λ (r : PlanRow). r.kind) source_is.0 in
@@ -182,6 +189,6 @@ module _ (told : PlansAreTold) (made : PlansAreMade) (tidily : PlansComeAndGoTid
         desk = is_still (forked_map name source next numbers m) d g (insert d.plans name new_plan) origin.geography (subst (λ (plans : FinMap name_cmp Plan). IsDesk (forked_map name source next numbers m) (desk_with g plans)) (insert_again d.plans name first new_plan) forked.desk);
         tidy = forked.tidy.0;
         version = forked.tidy.2;
-        limits = with_one_more d name new_plan (record { some = sized.some; most = sized.few }) says.room is.limits;
+        limits = with_one_more d name new_plan (record { some = sized.some; most = sized.few; within = All-cons (AreWithin source.districts) says.districts [] fork_within (All-nil (AreWithin source.districts)) }) says.room is.limits;
       });
     }

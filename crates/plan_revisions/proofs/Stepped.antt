@@ -18,8 +18,8 @@ use Rattle.row_table.proofs.Outcomes.{map_both}
 use Rattle.plan_table.specs.PlanRows.{HasChunkNumbers}
 use Rattle.plan_table.specs.declared.change.ChangeOutcome.{ChangeOutcome}
 use Rattle.plan_table.specs.declared.change.ChangeOutcome.TheVariants.{Made, Spent}
-use Rattle.desk_pages.specs.Desks.{InTxn}
-use Rattle.plan_revisions.specs.Plans.{TakesRevision, with_next, with_next_of}
+use Rattle.desk_pages.specs.Desks.{AreWithin, InTxn}
+use Rattle.plan_revisions.specs.Plans.{TakesNext, with_next, with_next_of}
 use Rattle.plan_revisions.specs.Steps.{HasStepped, IsStepped, StepErr}
 use Rattle.plan_revisions.specs.Rows.{added_by, rows_added_by}
 use Rattle.plan_revisions.specs.Accepted.{IsRevised}
@@ -56,21 +56,21 @@ module _ {D : Type 0} {g : Ghosts D} where
   -- a revision of the plan that the desk has
   pub revision_put : (d : Desk) (name : List ℕ) (after : ℕ) (e : Desk) (r : IsRevised d name after e) (ground : Ground) (last : Option (List ℕ)) (next : List ℕ) (t u : Txn) (a b : Pages D g) (result : Result ChangeOutcome TreeError)
       → d.geography ≡ Some ground → last ≡ revision_in (map_of.get d.plans name) after → next ≡ r.districts
-      → MatchResult result (λ change. IsStepped (TakesRevision ground name last) (with_next name next) (revision_rows ground last next) (HasChunkNumbers (length (changed ground last next))) t u a b change) (λ x. StepErr (TakesRevision ground name last) (revision_rows ground last next) t a b x)
+      → MatchResult result (λ change. IsStepped (TakesNext ground name last next) (with_next name next) (revision_rows ground last next) (HasChunkNumbers (length (changed ground last next))) t u a b change) (λ x. StepErr (TakesNext ground name last next) (revision_rows ground last next) t a b x)
       → MatchResult result (λ change. IsStepped (λ x. x ≡ d) (λ x. e) (rows_added_by d name e) (HasChunkNumbers (added_by d name e)) t u a b change) (λ x. StepErr (λ x. x ≡ d) (rows_added_by d name e) t a b x)
   revision_put d name after e r ground last next t u a b result geography last_told next_told put =
       let same = same_ground d ground r.g geography r.geography in
       let rows : revision_rows ground last next ≡ rows_added_by d name e = (λ i. revision_rows (same i) (last_told i) (next_told i)) ∙ sym (rows_added d name after e r) in
       let chunks : length (changed ground last next) ≡ added_by d name e = (λ i. length (changed (same i) (last_told i) (next_told i))) ∙ sym (chunks_added d name after e r) in
-      let takes : TakesRevision ground name last d = record { geography = geography; plan = r.plan; there = r.there; last_is = sym (last_told ∙ last_is d name after e r); room = r.few } in
-      let gives = λ (x : Desk) (is : x ≡ d). subst (λ (y : Desk). TakesRevision ground name last y) (sym is) takes in
+      let takes : TakesNext ground name last next d = record { takes = record { geography = geography; plan = r.plan; there = r.there; last_is = sym (last_told ∙ last_is d name after e r); room = r.few }; within = λ limits. subst (λ (l : List ℕ). AreWithin r.plan.n l) (sym next_told) (r.within limits) } in
+      let gives = λ (x : Desk) (is : x ≡ d). subst (λ (y : Desk). TakesNext ground name last next y) (sym is) takes in
       let then_d : with_next name next d ≡ e = ap (λ (q : Option Plan). with_next_of d name next q) r.there ∙ ap (λ (n : List ℕ). record d { plans = map_of.insert d.plans name (with_revision r.plan n) }) next_told ∙ sym r.desk in
       let then_is = λ (x : Desk) (is : x ≡ d). ap (λ (y : Desk). with_next name next y) is ∙ then_d in
       subst (λ (n : ℕ). MatchResult result (λ change. IsStepped (λ x. x ≡ d) (λ x. e) n (HasChunkNumbers (added_by d name e)) t u a b change) (λ x. StepErr (λ x. x ≡ d) n t a b x)) rows
       (subst (λ (n : ℕ). MatchResult result (λ change. IsStepped (λ x. x ≡ d) (λ x. e) (revision_rows ground last next) (HasChunkNumbers n) t u a b change) (λ x. StepErr (λ x. x ≡ d) (revision_rows ground last next) t a b x)) chunks
-      (map_both result (λ change. IsStepped (TakesRevision ground name last) (with_next name next) (revision_rows ground last next) (HasChunkNumbers (length (changed ground last next))) t u a b change)
+      (map_both result (λ change. IsStepped (TakesNext ground name last next) (with_next name next) (revision_rows ground last next) (HasChunkNumbers (length (changed ground last next))) t u a b change)
       (λ change. IsStepped (λ x. x ≡ d) (λ x. e) (revision_rows ground last next) (HasChunkNumbers (length (changed ground last next))) t u a b change)
-      (λ x. StepErr (TakesRevision ground name last) (revision_rows ground last next) t a b x) (λ x. StepErr (λ x. x ≡ d) (revision_rows ground last next) t a b x)
-      (λ change. change_as (TakesRevision ground name last) (λ x. x ≡ d) (with_next name next) (λ x. e) (revision_rows ground last next) (HasChunkNumbers (length (changed ground last next))) t u a b gives then_is change)
-      (λ x. err_as (TakesRevision ground name last) (λ x. x ≡ d) (revision_rows ground last next) t a b gives x)
+      (λ x. StepErr (TakesNext ground name last next) (revision_rows ground last next) t a b x) (λ x. StepErr (λ x. x ≡ d) (revision_rows ground last next) t a b x)
+      (λ change. change_as (TakesNext ground name last next) (λ x. x ≡ d) (with_next name next) (λ x. e) (revision_rows ground last next) (HasChunkNumbers (length (changed ground last next))) t u a b gives then_is change)
+      (λ x. err_as (TakesNext ground name last next) (λ x. x ≡ d) (revision_rows ground last next) t a b gives x)
       put))

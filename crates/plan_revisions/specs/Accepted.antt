@@ -5,6 +5,7 @@ use Rattle.desk_model.specs.Geography.{Ground}
 use Rattle.desk_model.specs.Desk.{Plan, Desk}
 use Rattle.desk_model.specs.Step.{revision_limit}
 use Rattle.store_rows.specs.Changes.{with_revision}
+use Rattle.desk_pages.specs.Desks.{AreWithin, IsWithinLimits}
 
 -- a plan got a revision more
 pub record IsRevised (d : Desk) (name : List ℕ) (after : ℕ) (e : Desk) : Type 0 where
@@ -15,4 +16,5 @@ pub record IsRevised (d : Desk) (name : List ℕ) (after : ℕ) (e : Desk) : Typ
   pub there : map_of.get d.plans name ≡ Some plan
   pub count : after ≡ length plan.revisions
   pub few : length plan.revisions < revision_limit
+  pub within : IsWithinLimits d → AreWithin plan.n districts
   pub desk : e ≡ record d { plans = map_of.insert d.plans name (with_revision plan districts) }

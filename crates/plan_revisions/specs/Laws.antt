@@ -12,7 +12,7 @@ use Rattle.store_rows.specs.Tidy.{CountersFit}
 use Rattle.plan_table.specs.Laws.{RowFits}
 use Rattle.desk_pages.specs.Desks.{IsDeskMap}
 use Rattle.desk_room.specs.Cutting.{changes_in}
-use Rattle.plan_revisions.specs.Plans.{TakesRevision, with_next}
+use Rattle.plan_revisions.specs.Plans.{TakesNext, with_next}
 use Rattle.plan_revisions.specs.Counties.{drawn}
 use Rattle.plan_revisions.specs.Adding.{AreRead, rows_put}
 
@@ -34,7 +34,7 @@ all_rows g name last next row counters kept =
 abbrev pub DesksAreAdded : Type 0
 DesksAreAdded = (g : Ground) (name : List ℕ) (last : Option (List ℕ)) (next : List ℕ)
     (row : PlanRow) (counters : Counters) (kept : List ℕ) → CanAdd g last next row counters
-    → (m : KeyMap) (d : Desk) → IsDeskMap m d → TakesRevision g name last d → AreRead name (length (cuts_of g)) row counters kept m
+    → (m : KeyMap) (d : Desk) → IsDeskMap m d → TakesNext g name last next d → AreRead name (length (cuts_of g)) row counters kept m
     → IsDeskMap (put_rows m (all_rows g name last next row counters kept)) (with_next name next d)
 
 -- they are as many as a store is to have room for

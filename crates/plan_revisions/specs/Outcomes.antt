@@ -15,7 +15,7 @@ use Rattle.plan_table.specs.PlanRows.{HasChunkNumbers}
 use Rattle.plan_table.specs.declared.change.ChangeOutcome.{ChangeOutcome}
 use Rattle.desk_room.specs.Cutting.{changes_in}
 use Rattle.plan_revisions.specs.Steps.{HasStepped, IsStepped, StepErr}
-use Rattle.plan_revisions.specs.Plans.{TakesRevision, with_next}
+use Rattle.plan_revisions.specs.Plans.{TakesNext, with_next}
 use Rattle.plan_revisions.specs.Counties.{new_lists}
 use Rattle.plan_revisions.specs.Adding.{rows_put}
 
@@ -42,5 +42,5 @@ abbrev pub AddsRevision : {D : Type 0} {g : Ghosts D} → Ground → List Cut �
     → List ℕ → Txn → Txn → Pages D g → Pages D g → Result ChangeOutcome TreeError → Type 0
 AddsRevision geography cuts changes name next t u old new result =
     (last : Option (List ℕ)) → changes ≡ changes_in last next cuts
-    → StepsWhereLeft (TakesRevision geography name last) (with_next name next) (revision_rows geography last next)
+    → StepsWhereLeft (TakesNext geography name last next) (with_next name next) (revision_rows geography last next)
     (HasChunkNumbers (length (changed geography last next))) t u old new result

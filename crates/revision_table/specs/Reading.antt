@@ -1,19 +1,16 @@
 -- What is read of a revision.
-use Rattle.std.specs.Prelude.{◌≡◌, ◌<◌, ◌*◌, ℕ, List, [], length, get_or, map, take, drop}
+use Rattle.std.specs.Prelude.{◌≡◌, ◌<◌, ◌*◌, ◌^◌, ℕ, List, [], length, get_or, map, take, drop}
 use Rattle.desk_model.specs.declared.cuts.Cut.{Cut}
-use Rattle.store_rows.specs.Keys.{key_of, part}
+use Rattle.store_rows.specs.Keys.{part}
+use Rattle.store_rows.specs.Lists.{chunks_bytes}
 use Rattle.store_rows.specs.Rows.{KeyMap}
 use Rattle.store_rows.specs.RevisionRows.{HasChunk, NamesChunks, HasRevision}
-use Rattle.row_table.specs.Reading.{HasRow}
+use Rattle.chunk_table.specs.Parts.{AppendsAll, AppendsPart, StandsInParts}
 
 -- the revision names these chunks, and they are so many
 pub record AreNames (plan revision count : ℕ) (m : KeyMap) (numbers : List ℕ) : Type 0 where
   pub names : NamesChunks m plan revision numbers
   pub long : length numbers ≡ count
-
--- a row is there for each part of a revision that names so many chunks
-abbrev pub HasParts : ℕ → ℕ → ℕ → KeyMap → Type 0
-HasParts plan revision count m = (index : ℕ) → 128 * index < count → HasRow (key_of (part plan revision index)) m
 
 -- those of them in one part
 abbrev pub names_in : ℕ → List ℕ → List ℕ
@@ -32,3 +29,17 @@ pub record AreCounties (numbers : List ℕ) (cuts : List Cut) (m : KeyMap) (coun
 pub record IsRevision (plan revision : ℕ) (cuts : List Cut) (m : KeyMap) (counties : List (List ℕ)) : Type 0 where
   pub has : HasRevision m plan revision counties
   pub long : AreLong cuts counties
+
+-- ---- what was read, whether or not the revision names chunks
+-- these numbers stand in the rows of its parts
+abbrev pub HasParts : ℕ → ℕ → ℕ → KeyMap → List ℕ → Type 0
+HasParts plan revision count m numbers = StandsInParts 128 (2 ^ 64) chunks_bytes (part plan revision) count m numbers
+
+-- and a list has them behind what was there
+abbrev pub AppendsParts : ℕ → ℕ → ℕ → KeyMap → List ℕ → List ℕ → Type 0
+AppendsParts plan revision count m before after = AppendsAll 128 (2 ^ 64) chunks_bytes (part plan revision) count m before after
+
+-- those of one part
+abbrev pub AppendsNames : ℕ → ℕ → ℕ → ℕ → KeyMap → List ℕ → List ℕ → Type 0
+AppendsNames plan revision count index m before after =
+    AppendsPart 128 (2 ^ 64) chunks_bytes (part plan revision) count index m before after

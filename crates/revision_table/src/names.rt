@@ -1,18 +1,26 @@
 //! Reads which chunks a revision names.
-ghost use Rattle.std.specs.Prelude.{◌≡◌, ◌≤◌, ◌*◌, ◌<◌, ◌^◌, OnOk};
+ghost use Rattle.std.specs.Prelude.{◌≡◌, ◌-◌, ◌*◌, ◌<◌, ◌^◌, min, OnOk};
 ghost use Rattle.page_store.specs.Transactions.{stored, disk_in, count_of, txn_pages, IsQuiet};
 ghost use Rattle.page_btree.specs.Map.{InTxn};
-ghost use Rattle.store_rows.specs.Keys.{key_of, part};
 ghost use Rattle.store_rows.specs.Rows.{KeyMap};
-ghost use Rattle.row_table.specs.Reading.{HasRow};
 ghost use Rattle.row_table.specs.Appending.{Appends};
-ghost use Rattle.revision_table.specs.Reading.{AreNames, HasParts, names_in};
+ghost use Rattle.revision_table.specs.Reading.{AppendsNames, AppendsParts, AreNames, names_in};
 
 use page_btree::VALUE_LIMIT;
 use page_store::{Pages, Txn};
 use row_table::{TreeError, read_row};
 use sector_device::SectorDevice;
 use store_rows::{Key, PART_CHUNKS, read_chunks};
+
+/// How many numbers a part of a revision's has, of so many in all.
+fn part_length(count: usize, index: usize) -> usize
+    requires index { index < 2 ^ 8 }
+    requires within { 128 * index < count }
+    ensures { result ≡ min 128 (count - 128 * index) }
+{
+    let rest = count - PART_CHUNKS * index;
+    if rest < PART_CHUNKS { rest } else { PART_CHUNKS }
+}
 
 /// Appends a part of the numbers of a revision's chunks, which are so many.
 fn append_part<D: SectorDevice>(
@@ -29,7 +37,7 @@ fn append_part<D: SectorDevice>(
     requires within { 128 * index < count }
     ensures quiet { IsQuiet pages.old pages.new }
     ensures there { (disk_in pages.new).is_honest → (m : KeyMap) → InTxn txn.now (stored pages.old) m
-        → OnOk result (HasRow (key_of (part plan revision index)) m) }
+        → OnOk result (AppendsNames plan revision count index m into.old.items into.new.items) }
     ensures append { Appends (AreNames plan revision count) (names_in index) txn.now pages.old pages.new into.old.items into.new.items result }
 {
     let mut bytes = [0; VALUE_LIMIT];
@@ -42,6 +50,9 @@ fn append_part<D: SectorDevice>(
     let Some(part) = read_chunks(&bytes[..length]) else {
         return Err(TreeError::DeviceFault);
     };
+    if part.len() != part_length(count, index) {
+        return Err(TreeError::DeviceFault);
+    }
     match into.extend_from_slice(part.as_slice()) {
         Ok(_) => Ok(()),
         Err(_) => Err(TreeError::Memory),
@@ -60,7 +71,8 @@ pub fn append_names<D: SectorDevice>(
 ) -> Result<(), TreeError>
     requires begun { txn_pages txn.now ≡ count_of pages.old }
     ensures quiet { IsQuiet pages.old pages.new }
-    ensures there { (disk_in pages.new).is_honest → (m : KeyMap) → InTxn txn.now (stored pages.old) m → OnOk result (HasParts plan revision count m) }
+    ensures there { (disk_in pages.new).is_honest → (m : KeyMap) → InTxn txn.now (stored pages.old) m
+        → OnOk result (AppendsParts plan revision count m into.old.items into.new.items) }
     ensures append { Appends (AreNames plan revision count) (λ numbers. numbers) txn.now pages.old pages.new into.old.items into.new.items result }
 {
     if count > PART_CHUNKS * 256 {

@@ -1,6 +1,6 @@
 -- What was read of a geography, where it is none.
 use Rattle.std.proofs.Common.{◌≡◌, Ok, Err, List, sym, subst, inr}
-use Rattle.std.specs.Prelude.{Result, OnOk, IfErr}
+use Rattle.std.specs.Prelude.{Result, OnOk, IfOk, IfErr}
 use Rattle.sector_device.specs.Disk.{Image}
 use Rattle.sector_device.specs.declared.SectorDevice.{Ghosts}
 use Rattle.page_store.specs.Transactions.{stored, disk_in, Passed}
@@ -20,6 +20,10 @@ use Rattle.sealed_geography.specs.Elements.{IsSealedAs}
 pub on_ok : {T E : Type 0} (r : Result T E) (P : Type 0) → P → OnOk r P
 on_ok (Ok x) P h = h
 on_ok (Err e) P h = tt
+
+pub if_made : {T E : Type 0} (r : Result T E) (x : T) (P : T → Type 0) → IfOk r (λ y. y ≡ x) → P x → IfOk r P
+if_made (Ok y) x P is has = subst P (sym is) has
+if_made (Err e) x P is has = tt
 
 module _ {D : Type 0} {g : Ghosts D} (sealed : SealRow) (t : Txn) (a b d : Pages D g) (first : Passed a b) (second : Passed b d) (blocks : List BlockRow) (pairs : List Pair)
     (blocks_are : (disk_in b).is_honest → (m : KeyMap) (x : Ground) → InTxn t (stored a) m → IsSealedAs sealed m x → blocks ≡ x.blocks)

@@ -1,8 +1,11 @@
 -- One element more of those that a load's rows hold.
-use Rattle.std.proofs.Common.{◌≡◌, ◌<◌, ◌+◌, ℕ, zero, suc, List, [], ◌∷◌, ◌++◌, length, take, Some, refl, ap, subst, ◌∙◌, ⊎_elim, inl, inr, arith}
+use Rattle.std.proofs.Common.{◌≡◌, ◌<◌, ◌+◌, ℕ, zero, suc, List, [], ◌∷◌, ◌++◌, length, length-append, take, Some, refl, sym, ap, subst, ◌∙◌, ⊎_elim, inl, inr, arith}
 use Rattle.std.specs.Prelude.{option_map, Result, Ok, Err, IfErr}
+use Rattle.std.specs.FinMap.{get as row_at}
 use Rattle.std.specs.List.{slice_get}
+use Rattle.std.proofs.lemmas.Bool.{cases_lt}
 use Rattle.std.proofs.lemmas.List.{take_more}
+use Rattle.std.proofs.lemmas.List.Elements.{All-nil, All-push}
 use Rattle.std.proofs.lemmas.Option.{get_or_from_slice_get}
 use Rattle.sector_device.specs.declared.SectorDevice.{Ghosts}
 use Rattle.page_store.specs.Transactions.{stored, disk_in}
@@ -13,7 +16,7 @@ use Rattle.page_btree.specs.declared.error.TreeError.{TreeError}
 use Rattle.page_btree.specs.declared.error.TreeError.TheVariants.{DeviceFault, Halted, NoPages, TooDeep, Memory}
 use Rattle.store_rows.specs.Rows.{KeyMap}
 use Rattle.row_table.specs.Appending.{AppendErr}
-use Rattle.sealed_geography.specs.Elements.{HoldsElement, HoldsElements, ValueErr}
+use Rattle.sealed_geography.specs.Elements.{AddsHeld, HoldsElement, HoldsElements, ValueErr}
 
 there : {X : Type 0} (xs : List X) (place : ℕ) → place < length xs → (x : X) × (slice_get xs place ≡ Some x)
 there [] place less = absurd (omega arith)
@@ -37,6 +40,44 @@ element_at {X = X} bytes_of fits key_at count m xs place less held =
       held = record { fit = subst fits same (held.fit place here.0 within); row = held.rows place less ∙ ap (option_map bytes_of) here.1 };
       next = take_more xs place here.0 within ∙ ap (λ (x : X). take place xs ++ x ∷ []) same;
     }
+
+-- ---- what was read is what the rows hold
+at_end : {X : Type 0} (xs : List X) (x : X) → slice_get (xs ++ x ∷ []) (length xs) ≡ Some x
+at_end [] x = refl
+at_end (y ∷ ys) x = at_end ys x
+
+in_front : {X : Type 0} (xs ys : List X) (place : ℕ) → place < length xs → slice_get (xs ++ ys) place ≡ slice_get xs place
+in_front [] ys place less = absurd (omega arith)
+in_front (x ∷ xs) ys zero less = refl
+in_front (x ∷ xs) ys (suc place) less = in_front xs ys place (omega arith)
+
+pub none_held : {X : Type 0} (bytes_of : X → List ℕ) (fits : X → Type 0) (key_at : ℕ → List ℕ) (m : KeyMap) (xs : List X) → xs ≡ [] → HoldsElements bytes_of fits key_at 0 m xs
+none_held bytes_of fits key_at m xs none = subst (λ l. HoldsElements bytes_of fits key_at 0 m l) (sym none) (record {
+  long = refl;
+  fit = All-nil fits;
+  rows = λ place less. absurd (omega arith);
+})
+
+module _ {X : Type 0} (bytes_of : X → List ℕ) (fits : X → Type 0) (key_at : ℕ → List ℕ) (m : KeyMap) (count : ℕ) (before after : List X)
+    (held : HoldsElements bytes_of fits key_at count m before) (adds : AddsHeld bytes_of fits (key_at count) m before after) where
+  abbrev both : List X
+  both = before ++ adds.x ∷ []
+
+  row_so : (place : ℕ) → place < count + 1 → row_at m (key_at place) ≡ option_map bytes_of (slice_get both place)
+  row_so place less = elim (cases_lt place count) [
+    | inl earlier ↦ let long = held.long in held.rows place earlier ∙ ap (option_map bytes_of) (sym (in_front before (adds.x ∷ []) place (omega arith)))
+    | inr not ↦
+        let here : length before ≡ place = let long = held.long in omega arith in
+        let there : count ≡ place = omega arith in
+        ap (λ p. row_at m (key_at p)) (sym there) ∙ adds.held.row ∙ ap (option_map bytes_of) (sym (ap (λ p. slice_get both p) (sym here) ∙ at_end before adds.x))
+  ]
+
+  pub one_more_held : HoldsElements bytes_of fits key_at (count + 1) m after
+  one_more_held = subst (λ l. HoldsElements bytes_of fits key_at (count + 1) m l) (sym adds.added) (record {
+    long = let long = held.long in let sum = length-append before (adds.x ∷ []) in omega arith;
+    fit = All-push fits before adds.x held.fit adds.held.fit;
+    rows = row_so;
+  })
 
 pub value_unappended : {X D : Type 0} {g : Ghosts D} (bytes_of : X → List ℕ) (fits : X → Type 0) (key bytes : List ℕ) (t : Txn) (a b : Pages D g) (r : Result (Unit {0}) TreeError) → ((disk_in b).is_honest → (m : KeyMap) (x : X) → InTxn t (stored a) m → HoldsElement bytes_of fits key m x → bytes_of x ≡ bytes) → IfErr r (λ e. ValueErr bytes_of fits bytes e) → IfErr r (λ e. AppendErr (HoldsElement bytes_of fits key) t a b e)
 value_unappended bytes_of fits key bytes t a b (Ok x) same why = tt

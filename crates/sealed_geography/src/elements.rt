@@ -8,7 +8,7 @@ use store_rows::{Key, read_block, read_pair};
 
 /// An element of a geography, as a row holds it.
 pub(crate) trait Element: Copy {
-    ghost use Rattle.std.specs.Prelude.{◌≡◌, ℕ, List, MatchOption};
+    ghost use Rattle.std.specs.Prelude.{◌≡◌, ℕ, List, IfSome, MatchOption};
 
     ghost bytes_of: { Self → List ℕ };
 
@@ -28,7 +28,8 @@ pub(crate) trait Element: Copy {
 
     /// The element with these bytes; None where there is none.
     fn read(bytes: &[u8]) -> Option<Self>
-        ensures { MatchOption result ((x : Self) → fits x → bytes_of x ≡ bytes.now → ⊥) (λ x. (y : Self) → fits y → bytes_of y ≡ bytes.now → x ≡ y) };
+        ensures one { MatchOption result ((x : Self) → fits x → bytes_of x ≡ bytes.now → ⊥) (λ x. (y : Self) → fits y → bytes_of y ≡ bytes.now → x ≡ y) }
+        ensures is { IfSome result (λ x. fits x × (bytes_of x ≡ bytes.now)) };
 }
 
 impl Element for BlockRow {

@@ -7,8 +7,8 @@ ghost use Rattle.row_table.specs.Appending.{AppendErr};
 ghost use Rattle.row_table.specs.Reading.{ReadErr};
 ghost use Rattle.page_btree.specs.declared.error.TreeError.TheVariants.{Memory};
 ghost use Rattle.btree_scan.specs.Scanning.{fault_in};
-ghost use Rattle.sealed_geography.specs.Following.{HoldsAlong, HoldsBeside, IsTaken, Scans, AddsElement, AddsElementBeside, ReadsElements};
-ghost use Rattle.sealed_geography.specs.Elements.{HoldsElement, HoldsElements, ValueErr};
+ghost use Rattle.sealed_geography.specs.Following.{HoldsAlong, HoldsBeside, IsFound, IsTaken, Scans, AddsElement, AddsElementBeside, ReadsElements};
+ghost use Rattle.sealed_geography.specs.Elements.{AddsHeld, AddsValue, HoldsElement, HoldsElements, ValueErr};
 
 use crate::elements::Element;
 use btree_scan::{Row, Scan};
@@ -22,6 +22,7 @@ use std::alloc::Global;
 /// Appends the element that bytes hold.
 fn append_read<E: Element>(bytes: &[u8], all: &mut Vec<E>) -> Result<(), TreeError>
     ensures read { (x : E) → E.fits x → E.bytes_of x ≡ bytes.now → OnOk result (all.new.items ≡ all.old.items ++ x ∷ []) }
+    ensures there { OnOk result (AddsValue E.bytes_of E.fits bytes.now all.old.items all.new.items) }
     ensures err { IfErr result (λ e. ValueErr E.bytes_of E.fits bytes.now e) }
 {
     let Some(element) = E::read(bytes) else {
@@ -45,6 +46,8 @@ fn append_element<D: SectorDevice, E: Element>(
     ensures quiet { IsQuiet pages.old pages.new }
     ensures passed { OnOk result (Passed pages.old pages.new) }
     ensures read { AddsElement (HoldsElement E.bytes_of E.fits (E.key_at load place)) txn.now pages.old pages.new all.old all.new result }
+    ensures there { (disk_in pages.new).is_honest → (m : KeyMap) → InTxn txn.now (stored pages.old) m
+        → OnOk result (AddsHeld E.bytes_of E.fits (E.key_at load place) m all.old.items all.new.items) }
     ensures err { IfErr result (λ e. AppendErr (HoldsElement E.bytes_of E.fits (E.key_at load place)) txn.now pages.old pages.new e) }
 {
     let mut bytes = [0; VALUE_LIMIT];
@@ -90,6 +93,8 @@ fn append_next<D: SectorDevice, E: Element>(
     ensures quiet { IsQuiet pages.old pages.new }
     ensures passed { OnOk result (Passed pages.old pages.new) }
     ensures read { AddsElementBeside found row.now E.bytes_of E.fits (E.key_at load place) txn.now pages.old pages.new all.old all.new result }
+    ensures there { (disk_in pages.new).is_honest → (m : KeyMap) → InTxn txn.now (stored pages.old) m → IsFound found row.now m
+        → OnOk result (AddsHeld E.bytes_of E.fits (E.key_at load place) m all.old.items all.new.items) }
     ensures err { IfErr result (λ e. AppendErr (HoldsBeside found row.now E.bytes_of E.fits (E.key_at load place)) txn.now pages.old pages.new e) }
 {
     if found {
@@ -119,6 +124,8 @@ fn append_along<D: SectorDevice, E: Element>(
     ensures scans { (disk_in pages.new).is_honest → (m : KeyMap)
         → InTxn txn.now (stored pages.old) m → Scans scan.old m → OnOk result (Scans scan.new m) }
     ensures read { AddsElement (HoldsAlong scan.old E.bytes_of E.fits (E.key_at load place)) txn.now pages.old pages.new all.old all.new result }
+    ensures there { (disk_in pages.new).is_honest → (m : KeyMap) → InTxn txn.now (stored pages.old) m → Scans scan.old m
+        → OnOk result (AddsHeld E.bytes_of E.fits (E.key_at load place) m all.old.items all.new.items) }
     ensures err { IfErr result (λ e. AppendErr (HoldsAlong scan.old E.bytes_of E.fits (E.key_at load place)) txn.now pages.old pages.new e) }
 {
     let found = take_next(scan, row, txn, pages)?;
@@ -153,6 +160,8 @@ pub(crate) fn read_elements<D: SectorDevice, E: Element>(
     ensures quiet { IsQuiet pages.old pages.new }
     ensures passed { OnOk result (Passed pages.old pages.new) }
     ensures read { ReadsElements (HoldsElements E.bytes_of E.fits (E.key_at load) count) txn.now pages.old pages.new result }
+    ensures there { (disk_in pages.new).is_honest → (m : KeyMap) → InTxn txn.now (stored pages.old) m
+        → IfOk result (λ all. HoldsElements E.bytes_of E.fits (E.key_at load) count m all.items) }
     ensures err { IfErr result (λ e. AppendErr (HoldsElements E.bytes_of E.fits (E.key_at load) count) txn.now pages.old pages.new e) }
 {
     let mut all = room_for(alloc, count)?;

@@ -7,7 +7,7 @@ ghost use Rattle.desk_model.specs.Geography.{Ground, IsGround};
 ghost use Rattle.store_rows.specs.Rows.{KeyMap};
 ghost use Rattle.store_rows.specs.GeographyRows.{IsGeography};
 ghost use Rattle.row_table.specs.Appending.{AppendErr, TellsOfEach};
-ghost use Rattle.sealed_geography.specs.Elements.{IsSealedAs, IsSealRow};
+ghost use Rattle.sealed_geography.specs.Elements.{IsGroundRead, IsSealedAs, IsSealRead, IsSealRow};
 
 use crate::checks::are_blocks;
 use crate::ranges::code_fits;
@@ -61,6 +61,7 @@ fn read_sealed<D: SectorDevice>(
     ensures passed { OnOk result (Passed pages.old pages.new) }
     ensures read { (disk_in pages.new).is_honest → (m : KeyMap) (g : Ground) → InTxn txn.now (stored pages.old) m
         → IsSealedAs sealed.now m g → IfOk result (λ geography. geography ≡ g) }
+    ensures there { (disk_in pages.new).is_honest → (m : KeyMap) → InTxn txn.now (stored pages.old) m → IfOk result (IsSealRead sealed.now m) }
     ensures err { IfErr result (λ e. AppendErr (IsSealedAs sealed.now) txn.now pages.old pages.new e) }
 {
     let blocks: Vec<BlockRow> = read_elements(alloc, txn, pages, sealed.load, sealed.blocks)?;
@@ -79,6 +80,7 @@ pub fn geography<D: SectorDevice>(
     ensures quiet { IsQuiet pages.old pages.new }
     ensures passed { OnOk result (Passed pages.old pages.new) }
     ensures read { TellsOfEach IsGeography txn.now pages.old pages.new (λ found. IfOk result (λ geography. geography ≡ found)) }
+    ensures there { (disk_in pages.new).is_honest → (m : KeyMap) → InTxn txn.now (stored pages.old) m → IfOk result (IsGroundRead m) }
     ensures err { IfErr result (λ e. AppendErr IsGeography txn.now pages.old pages.new e) }
 {
     let found: Option<SealRow> = get_row(txn, pages, &Key::seal())?;

@@ -1,13 +1,12 @@
-use Rattle.std.proofs.Common.{List, ℕ, inl, inr}
+use Rattle.std.proofs.Common.{List, ℕ, inl, inr, refl}
 use Rattle.page_store.proofs.Stops.{passed_none}
 use Rattle.row_table.proofs.Outcomes.{map_both}
 use Rattle.row_table.specs.Appending.{AppendErr}
 use Rattle.row_table.proofs.Appending.{then_unappended}
-use Rattle.chunk_table.specs.Reading.{HasPieces, IsChunk}
 use Rattle.shared_districts.specs.Laid.{with_at}
-use Rattle.desk_opening.specs.Reading.{HasRead, IsCounty, IsCountyThere}
+use Rattle.desk_opening.specs.Reading.{HasRead, IsChunkWithin, IsCounty, IsCountyRead, IsLaid}
 use Rattle.desk_opening.proofs.Laying.{known_stays}
-use Rattle.desk_opening.proofs.WholeDesks.{ok_then}
+use Rattle.desk_opening.proofs.WholeDesks.{if_ok_then}
 use Rattle.desk_opening.proofs.counties.lay_changed.Goals as goal
 
 pub returns-then-is_known-clause-read : goal.returns-then-is_known-clause-read
@@ -15,13 +14,13 @@ returns-then-is_known-clause-read g c = record {
   passed = passed_none c.args.pages.now;
   read = λ honest m chunk holds said.
       let is = c.is_known.ensures c.if-is_known.true in
-      known_stays c.args.number c.args.cut c.args.last.now c.args.county c.args.districts m chunk c.requires.within is.0 is.1 said;
+      known_stays c.args.n c.args.number c.args.cut c.args.last.now c.args.county c.args.districts m chunk c.requires.within is.0 is.1 said;
 }
 
 pub returns-clause-read : goal.returns-clause-read
 returns-clause-read g c =
-    let chunk = IsChunk c.args.number c.args.cut.count in
-    let says = IsCounty c.args.number c.args.cut c.args.last.now c.args.county c.args.districts in
+    let chunk = IsChunkWithin c.args.n c.args.number c.args.cut.count in
+    let says = IsCounty c.args.n c.args.number c.args.cut c.args.last.now c.args.county c.args.districts in
     let t = c.args.txn.now in
     let a = c.args.pages.now in
     let b = c.lay_county.new.pages in
@@ -35,9 +34,9 @@ returns-clause-read g c =
     c.lay_county.ensures.read
 
 pub returns-then-is_known-clause-there : goal.returns-then-is_known-clause-there
-returns-then-is_known-clause-there g c = λ honest m holds. inl (c.is_known.ensures c.if-is_known.true)
+returns-then-is_known-clause-there g c = λ honest m holds. let known = c.is_known.ensures c.if-is_known.true in inl (known.0, known.1, refl)
 
 pub returns-clause-there : goal.returns-clause-there
 returns-clause-there g c = λ honest m holds.
-    let pieces = HasPieces c.args.number c.args.cut.count m in
-    ok_then c.lay_county.result pieces (IsCountyThere c.args.number c.args.cut.count c.args.last.now c.args.county m) (λ has. inr has) (c.lay_county.ensures.there honest m holds)
+    if_ok_then c.lay_county.result (λ all. IsLaid c.args.number c.args.cut c.args.districts m all)
+    (λ all. IsCountyRead c.args.number c.args.cut c.args.last.now c.args.county c.args.districts m all) (λ all laid. inr laid) (c.lay_county.ensures.there honest m holds)

@@ -1,20 +1,20 @@
 use Rattle.std.proofs.Common.{◌≡◌, ◌<◌, List, ℕ, length, get_or, take, drop, inl, inr, refl, sym, subst, ◌∙◌, arith}
-use Rattle.std.proofs.lemmas.Bool.{cases_lt}
 use Rattle.desk_model.specs.declared.cuts.Cut.{Cut}
 use Rattle.page_store.proofs.Stops.{quiet_more, passed_more, passed_none}
 use Rattle.page_btree.specs.Map.{InTxn}
 use Rattle.row_table.proofs.Outcomes.{match_of}
 use Rattle.row_table.specs.Appending.{AppendErr}
 use Rattle.row_table.proofs.Appending.{then_unappended}
-use Rattle.desk_opening.specs.Reading.{AreNamed, HasRead, IsCounty, IsCountyThere, no_cut}
-use Rattle.desk_opening.proofs.Laying.{all_laid, county_fits, is_county, county_more}
+use Rattle.desk_opening.specs.Reading.{AreNamed, HasRead, IsCounty}
+use Rattle.desk_opening.proofs.Laying.{all_laid, county_fits, county_more, is_county, laid_one_more, none_laid}
 use Rattle.desk_opening.proofs.counties.lay_counties.Goals as goal
 
 pub loop-county-init : goal.loop-county-init
 loop-county-init g c = record {
   read = record { passed = passed_none c.args.pages.now; read = λ honest m x holds said. refl };
-  there = λ honest m holds county less. absurd (omega arith);
+  there = λ honest m holds. none_laid c.args.cuts.now c.args.names.now c.args.last.now c.args.before m;
   long = refl;
+  within = λ within. within;
   begun = c.requires.begun;
 }
 
@@ -36,16 +36,16 @@ returns-in_err-districts-clause-read g c =
     let k = c.loop-county.county in
     let none : Cut = record { first = 0; count = 0 } in
     let cut = get_or cuts k none in
-    let says = AreNamed cuts names last before in
+    let says = AreNamed c.args.n cuts names last before in
     let a = c.args.pages.now in
     let d = c.lay_changed.new.pages in
     let error = c.in_err-districts.field-0.0 in
     match_of c.from_residual.result (λ all. HasRead says (λ (x : List ℕ). x) t a d all) error (λ e. AppendErr says t a d e) c.from_residual.ensures.1
-    (then_unappended says (IsCounty (get_or names k 0) cut last k c.loop-county.districts) t a c.loop-county.pages d error
+    (then_unappended says (IsCounty c.args.n (get_or names k 0) cut last k c.loop-county.districts) t a c.loop-county.pages d error
     (λ honest m x holds said. (
       take cut.count (drop cut.first x),
       is_county c.lists_are_cut.ensures cuts (length before) c.requires.cut k none c.loop-county-test.true
-          names last before x c.loop-county.districts (get_or names k 0) m refl said c.requires.each refl (c.loop-county.invariant.read.read honest m x holds said),
+          c.args.n names last before x c.loop-county.districts (get_or names k 0) m refl said c.requires.each refl (c.loop-county.invariant.read.read honest m x holds said),
     ))
     c.loop-county.invariant.read.passed c.in_err-districts.ensures.quiet c.in_err-districts.ensures.read)
 
@@ -70,18 +70,17 @@ loop-county-preserved g c =
             let so = before.read.read then m x holds said in
             now.read.read honest m (take cut.count (drop cut.first x)) still
             (is_county c.lists_are_cut.ensures cuts (length first) c.requires.cut k none c.loop-county-test.true
-            names last first x c.loop-county.districts (get_or names k 0) m refl said c.requires.each refl so)
+            c.args.n names last first x c.loop-county.districts (get_or names k 0) m refl said c.requires.each refl so)
             ∙ county_more c.lists_are_cut.ensures cuts (length first) c.requires.cut k none c.loop-county-test.true
-            names last first x c.loop-county.districts (get_or names k 0) m refl said c.requires.each refl so;
+            c.args.n names last first x c.loop-county.districts (get_or names k 0) m refl said c.requires.each refl so;
       };
-      there = λ honest m holds county less. elim (cases_lt county k) [
-        | inl earlier ↦ before.there (now.quiet.honest honest) m holds county earlier
-        | inr not ↦
-            let same : k ≡ county = omega arith in
-            let still = subst (λ P. InTxn t P m) (sym (before.read.passed.quiet.same (now.quiet.honest honest))) holds in
-            subst (λ (n : ℕ). IsCountyThere (get_or names n 0) (get_or cuts n no_cut).count last n m) same (now.there honest m still)
-      ];
+      there = λ honest m holds.
+          let then = now.quiet.honest honest in
+          let still = subst (λ P. InTxn t P m) (sym (before.read.passed.quiet.same then)) holds in
+          laid_one_more c.lists_are_cut.ensures cuts (length first) c.requires.cut names last first m k c.loop-county-test.true c.loop-county.districts c.in_ok-districts.districts before.long
+          (before.there then m holds) (get_or names k 0) refl (now.there honest m still);
       long = now.long ∙ before.long;
+      within = λ within. now.within (before.within within);
       begun = before.begun ∙ sym now.quiet.count;
     }
 
@@ -98,8 +97,8 @@ returns-clause-read g c =
     }
 
 pub returns-clause-there : goal.returns-clause-there
-returns-clause-there g c = λ honest m holds county within.
+returns-clause-there g c = λ honest m holds read county named within.
     let last = c.loop-county-test.false in
     let end = c.loop-county.auto.county-end in
     let less : county < c.loop-county.county = omega arith in
-    c.loop-county.invariant.there honest m holds county less
+    (c.loop-county.invariant.there honest m holds).read read county less within

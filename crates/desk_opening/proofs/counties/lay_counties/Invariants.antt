@@ -1,16 +1,17 @@
-use Rattle.std.proofs.Common.{◌≡◌, ◌<◌, ℕ, length, get_or}
+use Rattle.std.proofs.Common.{◌≡◌, length}
 use Rattle.page_store.specs.Transactions.{count_of, disk_in, stored, txn_pages}
 use Rattle.page_btree.specs.Map.{InTxn}
 use Rattle.store_rows.specs.Rows.{KeyMap}
-use Rattle.desk_opening.specs.Reading.{AreNamed, HasRead, IsCountyThere, no_cut}
-use Rattle.desk_opening.proofs.Laying.{so_far}
+use Rattle.desk_pages.specs.Desks.{AreWithin}
+use Rattle.desk_opening.specs.Reading.{AreNamed, HasRead}
+use Rattle.desk_opening.proofs.Laying.{LaidTo, so_far}
 use Rattle.desk_opening.proofs.counties.lay_counties.Given as goal
 
 abbrev pub invariant-loop-county : goal.invariant-loop-county
 invariant-loop-county g l = record {
-  read : HasRead (AreNamed l.cuts l.names l.last l.fn.before) (λ all. so_far l.cuts all l.fn.before l.county) l.txn l.initial.pages l.pages l.districts;
-  there : (disk_in l.pages).is_honest → (m : KeyMap) → InTxn l.txn (stored l.initial.pages) m → (county : ℕ) → county < l.county
-      → IsCountyThere (get_or l.names county 0) (get_or l.cuts county no_cut).count l.last county m;
+  read : HasRead (AreNamed l.n l.cuts l.names l.last l.fn.before) (λ all. so_far l.cuts all l.fn.before l.county) l.txn l.initial.pages l.pages l.districts;
+  there : (disk_in l.pages).is_honest → (m : KeyMap) → InTxn l.txn (stored l.initial.pages) m → LaidTo l.cuts l.names l.last l.fn.before m l.county l.districts;
+  within : AreWithin l.n l.fn.before → AreWithin l.n l.districts;
   long : length l.districts ≡ length l.fn.before;
   begun : txn_pages l.txn ≡ count_of l.pages;
 }

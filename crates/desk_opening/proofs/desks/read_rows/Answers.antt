@@ -1,4 +1,4 @@
-use Rattle.std.proofs.Common.{◌≡◌, length, Some, None, sym, ap, subst, ◌∙◌}
+use Rattle.std.proofs.Common.{◌≡◌, length, Option, Some, None, sym, ap, subst, ◌∙◌}
 use Rattle.sector_device.specs.Disk.{Image}
 use Rattle.page_store.proofs.Stops.{quiet_more, passed_more, passed_none}
 use Rattle.page_btree.specs.Map.{InTxn}
@@ -7,12 +7,13 @@ use Rattle.page_store.specs.Transactions.{Passed}
 use Rattle.desk_model.specs.Geography.{Ground}
 use Rattle.desk_model.specs.Cuts.{cuts_of}
 use Rattle.desk_model.specs.Desk.{Desk}
+use Rattle.sealed_geography.specs.Elements.{IsGroundRead}
 use Rattle.row_table.specs.Reading.{ReadErr}
 use Rattle.row_table.proofs.Outcomes.{err_of}
 use Rattle.row_table.proofs.Appending.{then_unappended}
 use Rattle.desk_pages.specs.Desks.{new_desk}
 use Rattle.desk_opening.specs.Opening.{AreCounts, ArePlans, ArePlansShown, HasNothing, IsMapAs, IsShown, OpenErr}
-use Rattle.desk_opening.proofs.WholeDesks.{is_new, are_plans, unopened, has_nothing, unread_unopened, some_ground, ok_then, if_ok_then, err_then}
+use Rattle.desk_opening.proofs.WholeDesks.{is_new, are_plans, unopened, has_nothing, unread_unopened, ok_then, if_ok_then, err_then}
 use Rattle.desk_opening.proofs.PlanNumbers.{none_counted}
 use Rattle.desk_opening.proofs.Shown.{nothing_shown}
 use Rattle.desk_opening.proofs.desks.read_rows.Goals as goal
@@ -103,8 +104,8 @@ returns-in-Ok-clause-shown g c honest m holds =
     let then = c.read_plans.ensures.quiet.honest honest in
     let still = subst (λ (P : Image). InTxn c.args.txn.now P m) (sym (c.in_ok-ground.ensures.passed.quiet.same then)) holds in
     subst (λ (d : Desk). IsShown m d) (sym c.restored.ensures) (record {
-      ground = λ lacks. some_ground _ (sym c.in-Some.is ∙ c.in_ok-ground.ensures.read then m None holds lacks);
-      plans = subst (λ (g : Ground). ArePlansShown m (length (cuts_of g)) c.in_ok-plans.plans) (sym c.in-Ok.ensures.ok) (c.in_ok-plans.ensures.shown honest m still);
+      ground = subst (λ (x : Option Ground). IsGroundRead m x) (c.in-Some.is ∙ ap Some (sym c.in-Ok.ensures.ok)) (c.in_ok-ground.ensures.there then m holds);
+      plans = subst (λ (g : Ground). ArePlansShown m (cuts_of g) c.in_ok-plans.plans) (sym c.in-Ok.ensures.ok) (c.in_ok-plans.ensures.shown honest m still);
       apart = c.in_ok-plans.ensures.apart honest m still;
     })
 

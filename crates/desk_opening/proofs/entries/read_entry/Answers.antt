@@ -1,15 +1,15 @@
 use Rattle.std.proofs.Common.{◌≡◌, ◌<◌, ◌≤◌, ◌+◌, List, ℕ, [], length, get_or, inl, inr, sym, ap, subst, ◌∙◌, take_all, arith}
-use Rattle.std.proofs.lemmas.Bool.{cases_lt}
 use Rattle.desk_model.specs.Desk.{Plan}
 use Rattle.page_store.proofs.Stops.{quiet_more, passed_more}
 use Rattle.page_btree.specs.Map.{InTxn}
 use Rattle.row_table.proofs.Outcomes.{match_of}
 use Rattle.row_table.specs.Appending.{AppendErr}
 use Rattle.row_table.proofs.Appending.{then_unappended}
-use Rattle.revision_table.specs.Reading.{HasParts}
+use Rattle.desk_pages.specs.Desks.{AreWithin}
 use Rattle.desk_opening.specs.Reading.{HasRead, IsAfter, IsPlanRow}
+use Rattle.desk_opening.proofs.Readings.{none_so_far, one_more_read}
 use Rattle.desk_opening.proofs.Shown.{row_is}
-use Rattle.desk_opening.proofs.Revisions.{of_blocks, one_revision_more}
+use Rattle.desk_opening.proofs.Revisions.{of_blocks, one_revision_more, within_at}
 use Rattle.desk_opening.proofs.entries.read_entry.Goals as goal
 
 pub returns-in_err-entry-clause-quiet : goal.returns-in_err-entry-clause-quiet
@@ -22,7 +22,7 @@ returns-in_err-entry-clause-read g c =
     let error = c.in_err-entry.field-0.0 in
     match_of c.from_residual.result (λ entry. HasRead says (λ (plan : Plan). (c.args.name, plan)) c.args.txn.now c.args.pages.now c.with_next.new.pages entry) error (λ e. AppendErr says c.args.txn.now c.args.pages.now c.with_next.new.pages e) c.from_residual.ensures.1
     (then_unappended says (IsAfter c.args.geography.now c.args.row.now.number (i + 1) c.loop-before.last.items c.loop-before.entry.1) c.args.txn.now c.args.pages.now c.loop-before.pages c.with_next.new.pages error
-    (λ honest m p holds said. (get_or p.revisions i [], record { is = of_blocks c.args.geography.now c.args.name c.args.row.now m p i said c.loop-before-test.true; known = c.loop-before.invariant.known honest m p holds said }))
+    (λ honest m p holds said. (get_or p.revisions i [], record { is = of_blocks c.args.geography.now c.args.name c.args.row.now m p i said c.loop-before-test.true; within = subst (λ (n : ℕ). AreWithin n (get_or p.revisions i [])) (sym (c.loop-before.invariant.districts ∙ said.districts)) (within_at c.args.geography.now c.args.name c.args.row.now m p i said c.loop-before-test.true); known = c.loop-before.invariant.known honest m p holds said }))
     c.loop-before.invariant.read.passed c.in_err-entry.ensures.quiet c.in_err-entry.ensures.read)
 
 pub loop-before-preserved : goal.loop-before-preserved
@@ -31,6 +31,7 @@ loop-before-preserved g c =
     let now = c.in_ok-entry.ensures in
     let i = c.loop-before.before in
     let less = c.loop-before-test.true in
+    let many = before.many in
     record {
       read = record {
         passed = passed_more c.args.pages.now c.loop-before.pages c.with_next.new.pages before.read.passed now.read.passed;
@@ -40,20 +41,19 @@ loop-before-preserved g c =
             let many = said.revisions in
             let within : i < length p.revisions = omega arith in
             one_revision_more c.args.name p i c.loop-before.entry c.in_ok-entry.entry within (before.read.read then m p holds said)
-            (now.read.read honest m (get_or p.revisions i []) still (record { is = of_blocks c.args.geography.now c.args.name c.args.row.now m p i said less; known = before.known then m p holds said }));
+            (now.read.read honest m (get_or p.revisions i []) still (record { is = of_blocks c.args.geography.now c.args.name c.args.row.now m p i said less; within = subst (λ (n : ℕ). AreWithin n (get_or p.revisions i [])) (sym (before.districts ∙ said.districts)) (within_at c.args.geography.now c.args.name c.args.row.now m p i said less); known = before.known then m p holds said }));
       };
       known = λ honest m p holds said.
           let then = now.quiet.honest honest in
           let still = subst (λ P. InTxn c.args.txn.now P m) (sym (before.read.passed.quiet.same then)) holds in
-          now.known honest m (get_or p.revisions i []) still (record { is = of_blocks c.args.geography.now c.args.name c.args.row.now m p i said less; known = before.known then m p holds said });
-      lists = λ honest m holds revision some few. elim (cases_lt i revision) [
-        | inl later ↦
-            let same : i + 1 ≡ revision = omega arith in
-            let still = subst (λ P. InTxn c.args.txn.now P m) (sym (before.read.passed.quiet.same (now.quiet.honest honest))) holds in
-            subst (λ (n : ℕ). HasParts c.args.row.now.number n (length c.args.cuts.now) m) same ((now.there honest m still).0)
-        | inr not ↦ before.lists (now.quiet.honest honest) m holds revision some not
-      ];
+          now.known honest m (get_or p.revisions i []) still (record { is = of_blocks c.args.geography.now c.args.name c.args.row.now m p i said less; within = subst (λ (n : ℕ). AreWithin n (get_or p.revisions i [])) (sym (before.districts ∙ said.districts)) (within_at c.args.geography.now c.args.name c.args.row.now m p i said less); known = before.known then m p holds said });
+      shown = λ honest m holds.
+          let then = now.quiet.honest honest in
+          let still = subst (λ P. InTxn c.args.txn.now P m) (sym (before.read.passed.quiet.same then)) holds in
+          one_more_read c.args.row.now.number c.args.cuts.now m c.loop-before.last.items c.loop-before.entry.1 (i + 1) c.with_next.new.last.items c.in_ok-entry.entry.1
+          (omega arith) (before.shown then m holds) (now.there honest m still);
       whole = now.whole;
+      within = now.within before.within;
       named = now.named ∙ before.named;
       kind = now.sized.0 ∙ before.kind;
       districts = now.sized.1 ∙ before.districts;
@@ -80,8 +80,7 @@ returns-clause-row g c =
     let row = c.args.row.now in
     row_is row c.loop-before.entry.1 before.kind before.districts (let many = before.many in let end = c.loop-before.auto.before-end in omega arith)
 
-pub returns-clause-lists : goal.returns-clause-lists
-returns-clause-lists g c = λ honest m holds revision some few.
-    let last = c.loop-before-test.false in
-    let within : revision ≤ c.loop-before.before = omega arith in
-    c.loop-before.invariant.lists honest m holds revision some within
+pub returns-clause-shown : goal.returns-clause-shown
+returns-clause-shown g c = λ honest m holds.
+    let so_far = c.loop-before.invariant.shown honest m holds in
+    record { within = c.loop-before.invariant.within; read = so_far.read }

@@ -1,10 +1,10 @@
-use Rattle.std.proofs.Common.{List, ℕ, length, inr, sym, subst, ◌∙◌, arith}
+use Rattle.std.proofs.Common.{◌≡◌, ◌++◌, List, ℕ, length, inr, sym, ap, subst, ◌∙◌, arith}
 use Rattle.page_store.proofs.Stops.{quiet_more, passed_none}
 use Rattle.row_table.proofs.Outcomes.{match_of}
 use Rattle.row_table.specs.Appending.{AppendErr}
 use Rattle.row_table.proofs.Appending.{then_unappended}
-use Rattle.revision_table.specs.Reading.{AreNames}
-use Rattle.desk_opening.specs.Reading.{AreCountiesThere, AreNamed, HasRead, IsNext}
+use Rattle.revision_table.specs.Reading.{AreNames, HasParts}
+use Rattle.desk_opening.specs.Reading.{AreNamed, AreChunksRead, HasRead, IsNext}
 use Rattle.desk_opening.proofs.Revisions.{names_of, so_many, are_named, next_read, next_known}
 use Rattle.sector_device.specs.Disk.{Image}
 use Rattle.page_btree.specs.Map.{InTxn}
@@ -12,7 +12,7 @@ use Rattle.desk_opening.proofs.entries.read_next.Goals as goal
 
 pub returns-in_err-append_names-clause-read : goal.returns-in_err-append_names-clause-read
 returns-in_err-append_names-clause-read g c =
-    let says = IsNext c.args.geography.now c.args.plan c.args.revision c.args.last.now.items c.args.before in
+    let says = IsNext c.args.geography.now c.args.n c.args.plan c.args.revision c.args.last.now.items c.args.before in
     let a = c.args.pages.now in
     let b = c.append_names.new.pages in
     let error = c.in_err-append_names.field-0.0 in
@@ -40,17 +40,17 @@ pub returns-in_err-next-clause-read : goal.returns-in_err-next-clause-read
 returns-in_err-next-clause-read g c =
     let ground = c.args.geography.now in
     let last = c.args.last.now.items in
-    let says = IsNext ground c.args.plan c.args.revision last c.args.before in
+    let says = IsNext ground c.args.n c.args.plan c.args.revision last c.args.before in
     let a = c.args.pages.now in
     let b = c.append_names.new.pages in
     let d = c.lay_counties.new.pages in
     let error = c.in_err-next.field-0.0 in
     match_of c.from_residual-in_err-next.result (λ next. HasRead says (λ (districts : List ℕ). districts) c.args.txn.now a d next) error (λ e. AppendErr says c.args.txn.now a d e) c.from_residual-in_err-next.ensures.1
-    (then_unappended says (AreNamed c.args.cuts.now c.as_slice.result.now c.as_slice-2.result.now c.args.before) c.args.txn.now a b d error
+    (then_unappended says (AreNamed c.args.n c.args.cuts.now c.as_slice.result.now c.as_slice-2.result.now c.args.before) c.args.txn.now a b d error
     (λ honest m x holds said. (
       x,
       are_named ground c.args.cuts.now c.args.plan c.args.revision last c.args.before c.in-Ok.names.items c.append_names.new.into.items c.args.txn.now a b c.requires.cut c.in-Ok.ensures.items c.in_ok-append_names.ensures.append
-          c.requires.whole c.as_slice.result.now c.as_slice-2.result.now c.as_slice.ensures.value c.as_slice-2.ensures.value honest m x holds said,
+          c.args.n c.requires.whole c.as_slice.result.now c.as_slice-2.result.now c.as_slice.ensures.value c.as_slice-2.ensures.value honest m x holds said,
     ))
     c.in_ok-append_names.ensures.append.passed c.in_err-next.ensures.quiet c.in_err-next.ensures.read)
 
@@ -62,19 +62,27 @@ returns-clause-whole g c = c.in_ok-next.ensures.long ∙ c.requires.whole
 
 pub returns-clause-read : goal.returns-clause-read
 returns-clause-read g c = next_read c.args.geography.now c.args.cuts.now c.args.plan c.args.revision c.args.last.now.items c.args.before c.in-Ok.names.items c.append_names.new.into.items c.args.txn.now c.args.pages.now c.append_names.new.pages c.requires.cut
-    c.in-Ok.ensures.items c.in_ok-append_names.ensures.append c.requires.whole c.as_slice.result.now c.as_slice-2.result.now c.as_slice.ensures.value c.as_slice-2.ensures.value c.lay_counties.new.pages c.in_ok-next.next c.in_ok-next.ensures.read
+    c.in-Ok.ensures.items c.in_ok-append_names.ensures.append c.args.n c.requires.whole c.as_slice.result.now c.as_slice-2.result.now c.as_slice.ensures.value c.as_slice-2.ensures.value c.lay_counties.new.pages c.in_ok-next.next c.in_ok-next.ensures.read
 
 pub returns-clause-known : goal.returns-clause-known
 returns-clause-known g c = next_known c.args.geography.now c.args.cuts.now c.args.plan c.args.revision c.args.last.now.items c.args.before c.in-Ok.names.items c.append_names.new.into.items c.args.txn.now c.args.pages.now c.append_names.new.pages c.requires.cut
-    c.in-Ok.ensures.items c.in_ok-append_names.ensures.append c.requires.whole c.as_slice.result.now c.as_slice-2.result.now c.as_slice.ensures.value c.as_slice-2.ensures.value c.lay_counties.new.pages c.in_ok-next.next c.in_ok-next.ensures.read
+    c.in-Ok.ensures.items c.in_ok-append_names.ensures.append c.args.n c.requires.whole c.as_slice.result.now c.as_slice-2.result.now c.as_slice.ensures.value c.as_slice-2.ensures.value c.lay_counties.new.pages c.in_ok-next.next c.in_ok-next.ensures.read
+
+pub returns-clause-within : goal.returns-clause-within
+returns-clause-within g c = c.in_ok-next.ensures.within
 
 pub returns-clause-there : goal.returns-clause-there
 returns-clause-there g c = λ honest m holds.
     let cuts = c.args.cuts.now in
+    let last = c.args.last.now.items in
+    let next = c.in_ok-next.next in
     let then = c.in_ok-next.ensures.quiet.honest honest in
     let still = subst (λ (P : Image). InTxn c.args.txn.now P m) (sym (c.in_ok-append_names.ensures.append.passed.quiet.same then)) holds in
-    let there = c.in_ok-next.ensures.there honest m still in (
-      c.in_ok-append_names.ensures.there then m holds,
-      subst (λ (l : List ℕ). AreCountiesThere cuts c.append_names.new.into.items l m) c.as_slice-2.ensures.value
-          (subst (λ (l : List ℕ). AreCountiesThere cuts l c.as_slice-2.result.now m) c.as_slice.ensures.value there),
-    )
+    let named = c.in_ok-append_names.ensures.there then m holds in
+    let are : c.append_names.new.into.items ≡ named.xs = named.is ∙ ap (λ (l : List ℕ). l ++ named.xs) c.in-Ok.ensures.items in
+    record {
+      parts = subst (λ (l : List ℕ). HasParts c.args.plan c.args.revision (length cuts) m l) (sym are) named.stands;
+      read = λ before.
+          subst (λ (l : List ℕ). AreChunksRead l next cuts m) c.as_slice.ensures.value
+          (c.in_ok-next.ensures.there honest m still (subst (λ (l : List ℕ). AreChunksRead l c.args.before cuts m) (sym c.as_slice-2.ensures.value) before));
+    }

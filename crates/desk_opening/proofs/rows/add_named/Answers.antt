@@ -1,19 +1,18 @@
-use Rattle.std.proofs.Common.{◌≡◌, List, ℕ, length, inr, sym, ap, subst, ◌∙◌}
+use Rattle.std.proofs.Common.{◌≡◌, List, ℕ, inr, sym, ap, subst, ◌∙◌}
 use Rattle.std.specs.FinMap.{FinMap, insert}
 use Rattle.desk_model.specs.Cuts.{cuts_of}
 use Rattle.desk_model.specs.Desk.{Plan, name_cmp}
 use Rattle.page_store.proofs.Stops.{passed_none}
 use Rattle.store_rows.specs.Keys.{key_of, named}
 use Rattle.store_rows.specs.Values.{plan_bytes}
-use Rattle.store_rows.specs.declared.value.PlanRow.{PlanRow}
-use Rattle.store_rows.specs.Changes.{plan_row_of}
 use Rattle.row_table.proofs.Outcomes.{map_both}
 use Rattle.row_table.specs.Appending.{AppendErr}
 use Rattle.row_table.proofs.Appending.{then_unappended}
-use Rattle.desk_opening.specs.Reading.{HasLists, HasRead, IsPlanRow}
-use Rattle.desk_opening.specs.Opening.{IsListed, IsNewPlan}
+use Rattle.desk_model.specs.declared.cuts.Cut.{Cut}
+use Rattle.desk_opening.specs.Reading.{AreRevisionsShown, HasRead, IsPlanRow}
+use Rattle.desk_opening.specs.Opening.{IsAddedAs, IsListed, IsNewPlan}
 use Rattle.desk_opening.proofs.NewPlans.{is_plan_row, same_name, value_told}
-use Rattle.desk_opening.proofs.WholeDesks.{if_both}
+use Rattle.desk_opening.proofs.WholeDesks.{if_ok_then}
 use Rattle.desk_opening.proofs.rows.add_named.Goals as goal
 
 pub returns-in_default-read_plan-clause-read : goal.returns-in_default-read_plan-clause-read
@@ -52,20 +51,18 @@ returns-clause-read g c =
 
 pub returns-clause-listed : goal.returns-clause-listed
 returns-clause-listed g c = λ honest m holds.
-    let counties = length (cuts_of c.args.geography.now) in
+    let ground = c.args.geography.now in
     let plans = c.args.plans.now in
     let row = c.args.row.now in
     let name = c.in-Some.name in
     let read = c.in-Some-read_plan.plan in
     let key : row.key ≡ key_of (named name) = sym c.as_slice.ensures.bytes ∙ c.in-Some.ensures in
     let bytes : plan_bytes read ≡ row.value = c.in-Some-read_plan.ensures ∙ c.as_slice-2.ensures.bytes in
-    if_both c.add_plan.result
-    (λ (all : FinMap name_cmp Plan). (p : Plan) × (read ≡ plan_row_of read.number p) × (all ≡ insert plans name p))
-    (λ (all : FinMap name_cmp Plan). IsListed plans row counties m all)
-    (HasLists read.number read.revisions (length c.args.cuts.now) m)
-    (λ all is lists. record {
-      added = record { name = name; plan = is.0; number = read.number; key = key; fits = c.row_fits.ensures.number_fits; value = sym bytes ∙ ap plan_bytes is.1; is = is.2 };
-      lists = subst (λ (n : ℕ). HasLists read.number (length is.0.revisions) n m) (ap (λ (l : List _). length l) c.requires.cut)
-          (subst (λ (n : ℕ). HasLists read.number n (length c.args.cuts.now) m) (ap (λ (r : PlanRow). r.revisions) is.1) lists);
+    if_ok_then c.add_plan.result
+    (λ (all : FinMap name_cmp Plan). IsAddedAs plans name read c.args.cuts.now m all)
+    (λ (all : FinMap name_cmp Plan). IsListed plans row (cuts_of ground) m all)
+    (λ all is. record {
+      added = record { name = name; plan = is.plan; number = read.number; key = key; fits = c.row_fits.ensures.number_fits; value = sym bytes ∙ ap plan_bytes is.of; is = is.is };
+      revisions = subst (λ (cuts : List Cut). AreRevisionsShown read.number cuts m is.plan) c.requires.cut is.revisions;
     })
-    c.add_plan.ensures.added (c.add_plan.ensures.lists honest m holds)
+    (c.add_plan.ensures.shown honest m holds)

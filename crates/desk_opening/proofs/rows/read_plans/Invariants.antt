@@ -23,5 +23,5 @@ invariant-loop-taken g l = record {
   fault : fault_in l.scan ≡ None;
   whole : AreWhole (Some l.geography) l.plans;
   taken : (disk_in l.pages).is_honest → (m : KeyMap) → InTxn l.txn (stored l.fn.pages) m →
-      (rows : List Entry) × (length rows ≡ l.taken) × HasTaken plans_prefix rows l.scan (entries m) × ((all : Plans) → ArePlans l.geography m all → AreRead rows l.plans all) × AreShown m (length (cuts_of l.geography)) rows l.plans × AreNoted rows l.counts;
+      (rows : List Entry) × (length rows ≡ l.taken) × HasTaken plans_prefix rows l.scan (entries m) × ((all : Plans) → ArePlans l.geography m all → AreRead rows l.plans all) × AreShown m (cuts_of l.geography) rows l.plans × AreNoted rows l.counts;
 }

@@ -14,7 +14,7 @@ use Rattle.row_table.specs.Puts.{HasPut, PutsErr}
 use Rattle.plan_table.specs.PlanRows.{HasChunkNumbers}
 use Rattle.desk_room.specs.Cutting.{changes_in}
 use Rattle.plan_revisions.specs.Steps.{IsStepped, StepErr}
-use Rattle.plan_revisions.specs.Plans.{TakesRevision, with_next}
+use Rattle.plan_revisions.specs.Plans.{TakesNext, TakesRevision, with_next}
 use Rattle.plan_revisions.specs.Counties.{drawn, new_lists}
 use Rattle.plan_revisions.specs.Adding.{AreRead}
 use Rattle.plan_revisions.proofs.Drawn.{drawn_are, lists_are, long_drawn, many_are}
@@ -27,14 +27,14 @@ returns-in_err-read-clause-add g c = λ last are.
     let ground = c.args.geography.now in
     let name = c.args.name.now in
     let next = c.args.next.now in
-    let says = TakesRevision ground name last in
+    let says = TakesNext ground name last next in
     let rows = revision_rows ground last next in
     let t = c.args.txn.now in
     let a = c.args.pages.now in
     let b = c.read_plan.new.pages in
     let error = c.in_err-read.field-0.0 in
     match_of c.from_residual.result (λ change. IsStepped says (with_next name next) rows (HasChunkNumbers (length (changed ground last next))) t t a b change) error (λ e. StepErr says rows t a b e) c.from_residual.ensures.1
-    (less_said says says rows t a b error (λ d said. said) (c.in_err-read.ensures.err ground last (ap length c.requires.cut)))
+    (less_said (TakesRevision ground name last) says rows t a b error (λ d said. said.takes) (c.in_err-read.ensures.err ground last (ap length c.requires.cut)))
 
 pub returns-then-used-first-clause-add : goal.returns-then-used-first-clause-add
 returns-then-used-first-clause-add g c = λ last are.
@@ -75,7 +75,7 @@ returns-in_err-put_revision-clause-add g c = λ last are.
     let next = c.args.next.now in
     let cuts = c.args.cuts.now in
     let changes = c.args.changes.now in
-    let says = TakesRevision ground name last in
+    let says = TakesNext ground name last next in
     let rows = revision_rows ground last next in
     let t = c.args.txn.now in
     let a = c.args.pages.now in

@@ -1,6 +1,6 @@
 use Rattle.std.proofs.Common.{◌≡◌, Some, rules}
 use Rattle.plan_revisions.proofs.Commands.{create_put, fork_put, retire_put, retire_not_put, revision_as}
-use Rattle.plan_revisions.proofs.Counted.{changes_by, cuts_are}
+use Rattle.plan_revisions.proofs.Counted.{changes_by, cuts_are, revised_by}
 use Rattle.plan_revisions.proofs.puts.put_command.Goals as goal
 
 pub returns-in-Create-clause-put : goal.returns-in-Create-clause-put
@@ -21,6 +21,9 @@ returns-in-Whole-clause-put g c =
 
 pub put_revision-requires-clause-changes : goal.put_revision-requires-clause-changes
 put_revision-requires-clause-changes g c = changes_by c.args.shown.now c.args.command.now c.in-Whole.plan c.in-Whole.after c.args.then.now c.args.cuts.now c.args.changes.now c.in-Whole.is c.requires.changes
+
+pub put_revision-requires-clause-revised : goal.put_revision-requires-clause-revised
+put_revision-requires-clause-revised g c = revised_by c.args.shown.now c.args.command.now c.in-Whole.plan c.in-Whole.after c.args.then.now c.in-Whole.is c.requires.after
 
 pub fork-requires-clause-cut : goal.fork-requires-clause-cut
 fork-requires-clause-cut g c =

@@ -5,12 +5,15 @@ use Rattle.desk_model.specs.declared.command.Command.{Command}
 use Rattle.desk_model.specs.Room.{command_rows as rows_of_command}
 use Rattle.plan_revisions.proofs.Accepted.{rows_forked}
 use Rattle.plan_revisions.proofs.CommandCounties.{few_cuts}
-use Rattle.plan_revisions.proofs.Counted.{changes_by, cuts_are}
+use Rattle.plan_revisions.proofs.Counted.{changes_by, cuts_are, revised_by}
 use Rattle.plan_revisions.proofs.LastRevision.{cuts_long}
 use Rattle.plan_revisions.proofs.rows.command_rows.Goals as goal
 
 pub rows_between-requires-clause-changes : goal.rows_between-requires-clause-changes
 rows_between-requires-clause-changes c = changes_by c.args.shown.now c.args.command.now c.in-Whole.plan c.in-Whole.after c.args.then.now c.args.cuts.now c.args.changes.now c.in-Whole.is c.requires.changes
+
+pub rows_between-requires-clause-revised : goal.rows_between-requires-clause-revised
+rows_between-requires-clause-revised c = revised_by c.args.shown.now c.args.command.now c.in-Whole.plan c.in-Whole.after c.args.then.now c.in-Whole.is c.requires.after
 
 pub fork_rows-requires : goal.fork_rows-requires
 fork_rows-requires c =

@@ -1,4 +1,5 @@
-use Rattle.std.proofs.Common.{◌≡◌, ◌*◌, ◌++◌, List, ℕ, take, drop, inr, ap, sym, subst, ◌∙◌}
+use Rattle.std.proofs.Common.{◌≡◌, ◌-◌, ◌*◌, ◌++◌, List, ℕ, Some, length, length-drop, length-take, min, take, drop, inr, ap, sym, subst, ◌∙◌, arith}
+use Rattle.std.specs.FinMap.{get}
 use Rattle.store_rows.specs.Lists.{chunks_bytes}
 use Rattle.store_rows.proofs.ListLaws.{chunks_differ}
 use Rattle.row_table.proofs.Outcomes.{match_of}
@@ -39,4 +40,25 @@ returns-in-Ok-clause-append g c = record {
 }
 
 pub returns-in-Ok-clause-there : goal.returns-in-Ok-clause-there
-returns-in-Ok-clause-there g c = λ honest m holds. subst (λ (k : List ℕ). HasRow k m) c.part.ensures (_, c.in_ok-length.ensures.read honest m holds)
+returns-in-Ok-clause-there g c = λ honest m holds.
+    let read = c.in_ok-length.ensures.read honest m holds in
+    let told = c.in-Some.ensures in
+    record {
+      xs = c.in-Some.part.items;
+      is = c.in-Ok.ensures.items ∙ ap (λ (l : List ℕ). c.args.into.now.items ++ l) c.as_slice.ensures.value;
+      long = sym c.len.ensures.value ∙ c.if-len-part_length.false ∙ c.part_length.ensures;
+      each = told.0.each;
+      stands = subst (λ (k : List ℕ). get m k ≡ Some (chunks_bytes c.in-Some.part.items)) c.part.ensures (read ∙ ap Some (sym told.1));
+    }
+
+pub returns-then-len-part_length-clause-append : goal.returns-then-len-part_length-clause-append
+returns-then-len-part_length-clause-append g c = inr (λ honest m numbers holds said.
+    let some = take 128 (drop (128 * c.args.index) numbers) in
+    let read = one_value c.part.result _ (chunks_bytes some) m (c.in_ok-length.ensures.read honest m holds) (part_is_there m c.args.plan c.args.revision c.args.count c.args.index numbers c.part.result said c.part.ensures c.requires.index c.requires.within) in
+    let told = c.in-Some.ensures in
+    let same : c.in-Some.part.items ≡ some = chunks_differ c.in-Some.part.items some told.0 (part_is m c.args.plan c.args.revision c.args.count c.args.index numbers said c.requires.within) (told.1 ∙ read) in
+    let taken = length-take 128 (drop (128 * c.args.index) numbers) in
+    let left = length-drop (128 * c.args.index) numbers in
+    let long = said.long in
+    let many : length some ≡ min 128 (c.args.count - 128 * c.args.index) = omega arith in
+    absurd (c.if-len-part_length.true (c.len.ensures.value ∙ ap (λ (l : List ℕ). length l) same ∙ many ∙ sym c.part_length.ensures)))

@@ -39,6 +39,12 @@ returns-clause-passed g c = passed_more c.args.pages.now c.take_next.new.pages c
 pub returns-clause-scans : goal.returns-clause-scans
 returns-clause-scans g c = λ honest m holds scans. (c.in_ok-found.ensures.taken (c.append_next.ensures.quiet.honest honest) m holds scans).scans
 
+pub returns-clause-there : goal.returns-clause-there
+returns-clause-there g c = λ honest m holds scans.
+    let before = c.append_next.ensures.quiet.honest honest in
+    let still = subst (λ (P : Image). InTxn c.args.txn.now P m) (sym (c.in_ok-found.ensures.passed.quiet.same before)) holds in
+    c.in_ok-append_next.ensures.there honest m still (c.in_ok-found.ensures.taken before m holds scans).row_is
+
 pub returns-clause-read : goal.returns-clause-read
 returns-clause-read g c = λ honest m x holds held.
     let before = c.append_next.ensures.quiet.honest honest in

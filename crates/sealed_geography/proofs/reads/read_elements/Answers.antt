@@ -1,4 +1,4 @@
-use Rattle.std.proofs.Common.{◌≤◌, List, length, [], ◌∷◌, ◌++◌, sym, ap, subst, ◌∙◌, arith}
+use Rattle.std.proofs.Common.{◌≡◌, ◌≤◌, ℕ, List, length, [], ◌∷◌, ◌++◌, sym, ap, subst, ◌∙◌, arith}
 use Rattle.std.proofs.lemmas.List.{take_all}
 use Rattle.sector_device.specs.Disk.{Image}
 use Rattle.page_store.proofs.Stops.{quiet_more, passed_more, passed_none}
@@ -12,7 +12,7 @@ use Rattle.sealed_geography.specs.Following.{HoldsAlong}
 use Rattle.btree_scan.specs.Prefixes.{under}
 use Rattle.std.specs.FinMap.{entries}
 use Rattle.sealed_geography.proofs.Along.{all_in}
-use Rattle.sealed_geography.proofs.OneMore.{element_at}
+use Rattle.sealed_geography.proofs.OneMore.{element_at, none_held, one_more_held}
 use Rattle.sealed_geography.proofs.reads.read_elements.Goals as goal
 
 pub returns-in_err-append_along-clause-quiet : goal.returns-in_err-append_along-clause-quiet
@@ -46,6 +46,11 @@ loop-place-preserved g c =
           let before = c.append_along.ensures.quiet.honest honest in
           let still = subst (λ (P : Image). InTxn c.args.txn.now P m) (sym (passed.quiet.same before)) holds in
           c.in_ok-append_along.ensures.scans honest m still (c.loop-place.invariant.scans before m holds);
+      there = λ honest m holds.
+          let before = c.append_along.ensures.quiet.honest honest in
+          let still = subst (λ (P : Image). InTxn c.args.txn.now P m) (sym (passed.quiet.same before)) holds in
+          one_more_held bytes_of fits key_at m place c.loop-place.all.items c.append_along.new.all.items (c.loop-place.invariant.there before m holds)
+          (c.in_ok-append_along.ensures.there honest m still (c.loop-place.invariant.scans before m holds));
       read = λ honest m xs holds held.
           let before = c.append_along.ensures.quiet.honest honest in
           let element = element_at bytes_of fits key_at c.args.count m xs place c.loop-place-test.true held in
@@ -61,11 +66,19 @@ returns-clause-read g c = λ honest m xs holds held.
     let whole : length xs ≤ c.loop-place.place = omega arith in
     c.loop-place.invariant.read honest m xs holds held ∙ take_all c.loop-place.place xs whole
 
+pub returns-clause-there : goal.returns-clause-there
+returns-clause-there g c = λ honest m holds.
+    let last = c.loop-place-test.false in
+    let end = c.loop-place.auto.place-end in
+    let same : c.loop-place.place ≡ c.args.count = omega arith in
+    subst (λ (n : ℕ). HoldsElements g.E.Element.bytes_of g.E.Element.fits (g.E.Element.key_at c.args.load) n m c.loop-place.all.items) same (c.loop-place.invariant.there honest m holds)
+
 pub loop-place-init : goal.loop-place-init
 loop-place-init g c = record {
   passed = passed_none c.args.pages.now;
   begun = c.requires.begun;
   working = c.new-scan.ensures.fault;
   scans = λ honest m holds. (under c.as_slice.result.now (entries m), c.new-scan.ensures.rows m, all_in m c.as_slice.result.now);
+  there = λ honest m holds. none_held g.E.Element.bytes_of g.E.Element.fits (g.E.Element.key_at c.args.load) m c.in_ok-all.all.items c.in_ok-all.ensures.none;
   read = λ honest m xs holds held. c.in_ok-all.ensures.none;
 }

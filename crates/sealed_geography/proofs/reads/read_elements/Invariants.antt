@@ -13,5 +13,6 @@ invariant-loop-place g l = record {
   begun : txn_pages l.txn ≡ count_of l.pages;
   working : fault_in l.scan ≡ None;
   scans : (disk_in l.pages).is_honest → (m : KeyMap) → InTxn l.txn (stored l.initial.pages) m → Scans l.scan m;
+  there : (disk_in l.pages).is_honest → (m : KeyMap) → InTxn l.txn (stored l.initial.pages) m → HoldsElements g.E.Element.bytes_of g.E.Element.fits (g.E.Element.key_at l.load) l.place m l.all.items;
   read : (disk_in l.pages).is_honest → (m : KeyMap) (xs : List g.row.E.Denot) → InTxn l.txn (stored l.initial.pages) m → HoldsElements g.E.Element.bytes_of g.E.Element.fits (g.E.Element.key_at l.load) l.count m xs → l.all.items ≡ take l.place xs;
 }

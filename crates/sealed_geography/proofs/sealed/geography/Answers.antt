@@ -1,4 +1,4 @@
-use Rattle.std.proofs.Common.{List, ℕ, Option, Some, ap, sym, subst, ◌∙◌}
+use Rattle.std.proofs.Common.{List, ℕ, None, Option, Some, ap, sym, subst, ◌∙◌}
 use Rattle.sector_device.specs.Disk.{Image}
 use Rattle.page_store.proofs.Stops.{quiet_more, passed_more}
 use Rattle.page_btree.specs.Map.{InTxn}
@@ -54,3 +54,19 @@ returns-in_ok-geography-in-Some-clause-read g c = λ honest m found holds is.
     (subst (λ (row : Option SealRow). StandsAs seal_bytes c.seal.result m row) c.in-Some.is (c.in_ok-found.ensures.get before m holds))) is in
     let still = subst (λ (P : Image). InTxn c.args.txn.now P m) (sym (c.in_ok-found.ensures.passed.quiet.same before)) holds in
     ap Some (c.in_ok-geography-in-Some.ensures.read honest m told.0 still told.2) ∙ sym told.1
+
+pub returns-in_ok-geography-in-Some-clause-there : goal.returns-in_ok-geography-in-Some-clause-there
+returns-in_ok-geography-in-Some-clause-there g c = λ honest m holds.
+    let sealed = c.in-Some.sealed in
+    let before = c.read_sealed.ensures.quiet.honest honest in
+    let still = subst (λ (P : Image). InTxn c.args.txn.now P m) (sym (c.in_ok-found.ensures.passed.quiet.same before)) holds in (
+      sealed,
+      subst (λ (key : List ℕ). StandsAs seal_bytes key m (Some sealed)) c.seal.ensures
+          (subst (λ (row : Option SealRow). StandsAs seal_bytes c.seal.result m row) c.in-Some.is (c.in_ok-found.ensures.get before m holds)),
+      c.in_ok-geography-in-Some.ensures.there honest m still,
+    )
+
+pub returns-in-None-clause-there : goal.returns-in-None-clause-there
+returns-in-None-clause-there g c = λ honest m holds.
+    sym (subst (λ (key : List ℕ). StandsAs seal_bytes key m None) c.seal.ensures
+    (subst (λ (row : Option SealRow). StandsAs seal_bytes c.seal.result m row) c.in-None.is (c.in_ok-found.ensures.get honest m holds)))

@@ -1,4 +1,6 @@
-use Rattle.std.proofs.Common.{List}
+use Rattle.std.proofs.Common.{List, sym, subst}
+use Rattle.sector_device.specs.Disk.{Image}
+use Rattle.page_btree.specs.Map.{InTxn}
 use Rattle.page_store.proofs.Stops.{quiet_more, passed_more, passed_none}
 use Rattle.page_store.specs.Transactions.{Passed}
 use Rattle.desk_model.specs.declared.block.BlockRow.{BlockRow}
@@ -11,8 +13,8 @@ use Rattle.store_rows.specs.GeographyRows.{IsBlockRow, neighbours_bytes}
 use Rattle.row_table.proofs.Outcomes.{err_of}
 use Rattle.row_table.specs.Appending.{AppendErr}
 use Rattle.row_table.proofs.Appending.{then_unappended}
-use Rattle.sealed_geography.specs.Elements.{HoldsElements, IsPairRow, IsSealedAs}
-use Rattle.sealed_geography.proofs.Grounds.{on_ok, no_ground}
+use Rattle.sealed_geography.specs.Elements.{HoldsElements, IsPairRow, IsSealRead, IsSealedAs}
+use Rattle.sealed_geography.proofs.Grounds.{if_made, on_ok, no_ground}
 use Rattle.sealed_geography.proofs.sealed.read_sealed.Goals as goal
 
 pub returns-in_err-blocks-clause-err : goal.returns-in_err-blocks-clause-err
@@ -40,6 +42,16 @@ returns-clause-quiet g c = quiet_more c.args.pages.now c.read_elements.new.pages
 
 pub returns-clause-passed : goal.returns-clause-passed
 returns-clause-passed g c = on_ok c.geography_of.result (Passed c.args.pages.now c.read_elements-2.new.pages) (passed_more c.args.pages.now c.read_elements.new.pages c.read_elements-2.new.pages c.in_ok-blocks.ensures.passed c.in_ok-pairs.ensures.passed)
+
+pub returns-clause-there : goal.returns-clause-there
+returns-clause-there g c = λ honest m holds.
+    let load = c.args.sealed.now.load in
+    let blocks = c.in_ok-blocks.blocks.items in
+    let pairs = c.in_ok-pairs.pairs.items in
+    let before = c.read_elements-2.ensures.quiet.honest honest in
+    let still = subst (λ (P : Image). InTxn c.args.txn.now P m) (sym (c.in_ok-blocks.ensures.passed.quiet.same before)) holds in
+    if_made c.geography_of.result (record { blocks = blocks; pairs = pairs }) (λ (x : Ground). IsSealRead c.args.sealed.now m x) c.geography_of.ensures.made
+    (record { blocks = c.in_ok-blocks.ensures.there before m holds; pairs = c.in_ok-pairs.ensures.there honest m still })
 
 pub returns-clause-err : goal.returns-clause-err
 returns-clause-err g c =

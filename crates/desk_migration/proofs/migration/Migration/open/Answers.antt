@@ -3,7 +3,7 @@ use Rattle.sector_device.specs.Moments.{LeavesOnly}
 use Rattle.page_store.proofs.Stops.{leaves_quiet}
 use Rattle.page_store.specs.Transactions.{disk_in}
 use Rattle.desk_pages.specs.Openings.{AllVersions, OpensOneAs, IsSpared}
-use Rattle.desk_pages.proofs.Found.{open_versions, pages_left, stores_of}
+use Rattle.desk_pages.proofs.Found.{open_versions, pages_stand, stores_of}
 use Rattle.desk_migration.specs.Openings.{IsRefused}
 use Rattle.desk_migration.specs.declared.error.MigrationOpenError.{MigrationOpenError}
 use Rattle.desk_migration.specs.declared.error.MigrationOpenError.TheVariants.{NotAStore}
@@ -58,5 +58,5 @@ returns-in-Err-judge-clause-err g c =
 pub returns-in-Err-judge-clause-untouched : goal.returns-in-Err-judge-clause-untouched
 returns-in-Err-judge-clause-untouched g c =
     let old = g.D.SectorDevice.disk c.args.device in
-    let told = λ (honest : (disk_in c.judge.new.pages).is_honest) (is : c.in-Err-judge.e ≡ NotAStore). inr (pages_left old c.in-Ok.pages c.judge.new.pages c.in-Ok.ensures.found c.judge.ensures.quiet honest) in
+    let told = λ (honest : (disk_in c.judge.new.pages).is_honest) (is : c.in-Err-judge.e ≡ NotAStore). inr (pages_stand old c.in-Ok.pages c.judge.new.pages c.in-Ok.ensures.found c.in-Ok.ensures.kept c.judge.ensures.quiet honest) in
     subst (λ d. (g.D.SectorDevice.disk d).is_honest → c.in-Err-judge.e ≡ NotAStore → IsSpared old (g.D.SectorDevice.disk d)) (sym c.into_device.ensures) told

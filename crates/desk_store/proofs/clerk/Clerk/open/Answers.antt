@@ -3,7 +3,7 @@ use Rattle.sector_device.specs.Moments.{LeavesOnly}
 use Rattle.page_store.proofs.Stops.{leaves_quiet}
 use Rattle.page_store.specs.Transactions.{disk_in}
 use Rattle.desk_pages.specs.Openings.{AllDesks, AllVersions, OpensOneOf, OpensOneAs, IsSpared}
-use Rattle.desk_pages.proofs.Found.{all_versions, stores_of, open_leaves, open_versions, pages_left}
+use Rattle.desk_pages.proofs.Found.{all_versions, stores_of, open_leaves, open_versions, pages_stand}
 use Rattle.desk_store.specs.Openings.{OpenRefused}
 use Rattle.desk_store.specs.declared.opening.OpenError.{OpenError}
 use Rattle.desk_store.specs.declared.opening.OpenError.TheVariants.{NotAStore}
@@ -74,5 +74,5 @@ returns-in-Ok-read_shown-clause-found g c =
 pub returns-in-Err-read_shown-clause-untouched : goal.returns-in-Err-read_shown-clause-untouched
 returns-in-Err-read_shown-clause-untouched g c =
     let old = g.D.SectorDevice.disk c.args.device in
-    let told = λ (honest : (disk_in c.read_shown.new.pages).is_honest) (is : c.in-Err-read_shown.e ≡ NotAStore). inr (pages_left old c.in-Ok.pages c.read_shown.new.pages c.in-Ok.ensures.found c.read_shown.ensures.quiet honest) in
+    let told = λ (honest : (disk_in c.read_shown.new.pages).is_honest) (is : c.in-Err-read_shown.e ≡ NotAStore). inr (pages_stand old c.in-Ok.pages c.read_shown.new.pages c.in-Ok.ensures.found c.in-Ok.ensures.kept c.read_shown.ensures.quiet honest) in
     subst (λ d. (g.D.SectorDevice.disk d).is_honest → c.in-Err-read_shown.e ≡ NotAStore → IsSpared old (g.D.SectorDevice.disk d)) (sym c.into_device.ensures) told

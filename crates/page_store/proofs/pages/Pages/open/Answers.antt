@@ -51,4 +51,5 @@ returns-in-Err-read_meta-clause-untouched g c =
     let e = c.in-Err-read_meta.e in
     subst (λ d. (g.D.SectorDevice.disk d).is_honest → e ≡ NotAStore → IsUntouched a (g.D.SectorDevice.disk d)) (sym c.into_device-in-Err-read_meta.ensures)
     (λ honest is. inr (bad_pages a (disk_of c.in-Ok.journal) (disk_of c.read_meta.new.journal) _ _ _ (c.in-Ok.ensures.found (read.honest honest)) read.shape.journal_pages (read.same honest)
+    (c.in-Ok.ensures.kept (read.honest honest)) (read.quiet honest c.in-Ok.ensures.working)
     (subst (λ (x : PageError). MetaErr c.in-Ok.journal c.read_meta.new.journal x) is read.err honest)))

@@ -1,0 +1,45 @@
+-- No block of a plan's revisions is in a district above its last.
+use Rattle.std.proofs.Common.{◌≡◌, ◌<◌, ◌≤◌, ◌+◌, ◌-◌, ◌++◌, ℕ, Bool, true, false, cond, List, [], length, get_or, take, drop, Some, None, sym, ap, subst, ◌∙◌, inl, inr, arith}
+use Rattle.std.specs.Prelude.{◌==◌, All, Option, replicate}
+use Rattle.std.specs.List.{slice_get}
+use Rattle.std.proofs.lemmas.Option.{get_or_from_slice_get, slice_get_cases}
+use Rattle.std.proofs.lemmas.List.Elements.{All-append, All-drop, All-get_or, All-push, All-replicate, All-take}
+use Rattle.shared_districts.specs.Laid.{with_at}
+use Rattle.desk_model.specs.Desk.{Plan}
+use Rattle.desk_model.specs.Subject.{revision_at}
+use Rattle.desk_pages.specs.Desks.{AreWithin}
+use Rattle.store_rows.specs.Changes.{with_revision}
+use Rattle.desk_opening.specs.Reading.{AreAllWithin, IsLast}
+
+-- a part that is laid over others
+pub with_at_within : (n first : ℕ) (part districts : List ℕ) → AreWithin n part → AreWithin n districts → AreWithin n (with_at first part districts)
+with_at_within n first part districts one all =
+    All-append (λ (d : ℕ). d ≤ n) (take first districts) (part ++ drop (first + length part) districts) (All-take (λ (d : ℕ). d ≤ n) first districts all)
+    (All-append (λ (d : ℕ). d ≤ n) part (drop (first + length part) districts) one (All-drop (λ (d : ℕ). d ≤ n) (first + length part) districts all))
+
+pub none_above : (n count : ℕ) → AreWithin n (replicate count 0)
+none_above n count = All-replicate (λ (d : ℕ). d ≤ n) count 0 (omega arith)
+
+-- ---- the last revision
+some_is : (a b : List ℕ) → ◌≡◌ {A = Option (List ℕ)} (Some a) (Some b) → a ≡ b
+some_is a b same = cc
+
+no_some : (a : List ℕ) → ◌≡◌ {A = Option (List ℕ)} None (Some a) → ⊥
+no_some a same = cc
+
+at_within : (n : ℕ) (revisions : List (List ℕ)) (k : ℕ) (districts : List ℕ) → All (AreWithin n) revisions → slice_get revisions k ≡ Some districts → AreWithin n districts
+at_within n revisions k districts all is = elim (slice_get_cases revisions k).1 [
+  | inl found ↦ subst (AreWithin n) (get_or_from_slice_get revisions k districts [] is) (All-get_or (AreWithin n) revisions k [] found.1 all)
+  | inr past ↦ absurd (no_some districts (sym past.1 ∙ is))
+]
+
+counted_within : (b : Bool) (n : ℕ) (revisions : List (List ℕ)) (k : ℕ) (districts : List ℕ) → All (AreWithin n) revisions → cond b None (slice_get revisions k) ≡ Some districts → AreWithin n districts
+counted_within true n revisions k districts all is = absurd (no_some districts is)
+counted_within false n revisions k districts all is = at_within n revisions k districts all is
+
+pub revision_within : (p : Plan) (k : ℕ) (districts : List ℕ) → revision_at p k ≡ Some districts → AreAllWithin p → AreWithin p.n districts
+revision_within p k districts is all = counted_within (k == 0) p.n p.revisions (k - 1) districts all is
+
+pub one_more_within : (p : Plan) (districts : List ℕ) → AreAllWithin p → AreWithin p.n districts → AreAllWithin (with_revision p districts)
+one_more_within p districts all one = All-push (AreWithin p.n) p.revisions districts all one
+

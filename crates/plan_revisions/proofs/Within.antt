@@ -1,0 +1,133 @@
+-- No block of a revision that a command makes is in a district above its plan's last.
+use Rattle.std.proofs.Common.{◌≡◌, ◌<◌, ◌≤◌, ◌+◌, ◌-◌, ℕ, Bool, true, false, cond, List, [], ◌∷◌, ◌++◌, length, get_or, Option, Some, None, Result, Ok, Err, refl, sym, ap, subst, ◌∙◌, inl, inr, arith}
+use Rattle.std.specs.Prelude.{◌==◌, ◌&&◌, All, not, nat_le, unwrap_or, nat_eq, is_some}
+use Rattle.std.specs.List.{list_any, slice_get, slice_split, zip}
+use Rattle.std.specs.Str.Lines.{lines}
+use Rattle.std.specs.Cmp.Lexicographic.{pointwise}
+use Rattle.std.proofs.lemmas.Bool.{leb-true}
+use Rattle.std.proofs.lemmas.Option.{get_or_from_slice_get, slice_get_cases}
+use Rattle.std.proofs.lemmas.List.Elements.{All-nil, All-cons, All-head, All-tail, All-push, All-map, All-get_or}
+use Rattle.desk_model.specs.declared.reply.BodyFault.{BodyFault}
+use Rattle.desk_model.specs.declared.block.BlockRow.{BlockRow}
+use Rattle.desk_model.specs.Baf.{Values, Fault, at_line, body_read, fields_of, header, in_range, line_read, placed, rows_read, value_at, with_header}
+use Rattle.desk_model.specs.Desk.{Plan}
+use Rattle.desk_model.specs.Geography.{Ground, ids}
+use Rattle.desk_model.specs.Step.{patched, whole}
+use Rattle.desk_model.specs.Subject.{revision_at}
+use Rattle.desk_pages.specs.Desks.{AreWithin}
+
+-- each value that is listed is n at most
+abbrev pub AreSmall : ℕ → Values → Type 0
+AreSmall n listed = All (λ (e : ℕ × ℕ). e.1 ≤ n) listed
+
+clash : {A E : Type 0} (e : E) (a : A) → ◌≡◌ {A = Result A E} (Err e) (Ok a) → ⊥
+clash e a same = cc
+
+ok_is : {A E : Type 0} (a b : A) → ◌≡◌ {A = Result A E} (Ok a) (Ok b) → a ≡ b
+ok_is a b same = cc
+
+some_is : {A : Type 0} (a b : A) → ◌≡◌ {A = Option A} (Some a) (Some b) → a ≡ b
+some_is a b same = cc
+
+no_some : {A : Type 0} (a : A) → ◌≡◌ {A = Option A} None (Some a) → ⊥
+no_some a same = cc
+
+-- ---- a body
+range_small : (n v d : ℕ) (some few : Bool) → nat_le v n ≡ few → cond (some && few) (Some v) None ≡ Some d → d ≤ n
+range_small n v d false few told is = absurd (no_some d is)
+range_small n v d true false told is = absurd (no_some d is)
+range_small n v d true true told is = subst (λ k. k ≤ n) (some_is v d is) (leb-true v n told)
+
+in_range_small : (n : ℕ) (value : Option ℕ) (d : ℕ) → in_range n value ≡ Some d → d ≤ n
+in_range_small n None d is = let zero : 0 ≡ d = some_is 0 d is in omega arith
+in_range_small n (Some v) d is = range_small n v d (nat_le 1 v) (nat_le v n) refl is
+
+module _ (n : ℕ) (so_far : Values) (next : Values) (small : AreSmall n so_far) where
+  placed_small : (id : ℕ) (value : Option ℕ) → ((d : ℕ) → value ≡ Some d → d ≤ n) → placed so_far id value ≡ Ok next → AreSmall n next
+  placed_small id None few is = absurd (clash _ next is)
+  placed_small id (Some d) few is = subst (AreSmall n) (ok_is (so_far ++ (id, d) ∷ []) next is) (All-push (λ (e : ℕ × ℕ). e.1 ≤ n) so_far (id, d) small (few d refl))
+
+  tested_small : (id : ℕ) (value : Option ℕ) (unknown seen : Bool) (one two : BodyFault) → ((d : ℕ) → value ≡ Some d → d ≤ n)
+      → cond unknown (Err one) (cond seen (Err two) (placed so_far id value)) ≡ Ok next → AreSmall n next
+  tested_small id value true seen one two few is = absurd (clash one next is)
+  tested_small id value false true one two few is = absurd (clash two next is)
+  tested_small id value false false one two few is = placed_small id value few is
+
+  line_small : (g : Ground) (e : Option (ℕ × Option ℕ)) → line_read g n so_far e ≡ Ok next → AreSmall n next
+  line_small g None is = absurd (clash _ next is)
+  line_small g (Some e) is =
+      tested_small e.0 (in_range n e.1) (not (list_any (λ id. id == e.0) (ids g))) (is_some (value_at so_far e.0)) _ _ (in_range_small n e.1) is
+
+module _ (g : Ground) (n : ℕ) (listed : Values) where
+  rows_small : (at : ℕ) (so_far : Values) (ls : List (List ℕ)) → AreSmall n so_far → rows_read g n at so_far ls ≡ Ok listed → AreSmall n listed
+  rows_small at so_far [] small is = subst (AreSmall n) (ok_is so_far listed is) small
+  rows_small at so_far (line ∷ more) small is = by_length (length line == 0) (rows_small (at + 1) so_far more small) (λ next now. rows_small (at + 1) next more now) is
+    where
+      by_line : (r : Result Values BodyFault) → line_read g n so_far (fields_of (slice_split (λ b. b == 124) line)) ≡ r → ((next : Values) → AreSmall n next → rows_read g n (at + 1) next more ≡ Ok listed → AreSmall n listed)
+          → at_line at r (λ next. rows_read g n (at + 1) next more) ≡ Ok listed → AreSmall n listed
+      by_line (Ok next) told go is = go next (line_small n so_far next small g (fields_of (slice_split (λ b. b == 124) line)) told) is
+      by_line (Err e) told go is = absurd (clash _ listed is)
+
+      by_length : (b : Bool) → (rows_read g n (at + 1) so_far more ≡ Ok listed → AreSmall n listed)
+          → ((next : Values) → AreSmall n next → rows_read g n (at + 1) next more ≡ Ok listed → AreSmall n listed)
+          → cond b (rows_read g n (at + 1) so_far more) (at_line at (line_read g n so_far (fields_of (slice_split (λ b. b == 124) line))) (λ next. rows_read g n (at + 1) next more)) ≡ Ok listed → AreSmall n listed
+      by_length true rest go is = rest is
+      by_length false rest go is = by_line (line_read g n so_far (fields_of (slice_split (λ b. b == 124) line))) refl go is
+
+  headed_small : (first : Bool) (more : List (List ℕ)) (e : Fault) → cond first (rows_read g n 2 [] more) (Err e) ≡ Ok listed → AreSmall n listed
+  headed_small true more e is = rows_small 2 [] more (All-nil (λ (e : ℕ × ℕ). e.1 ≤ n)) is
+  headed_small false more e is = absurd (clash e listed is)
+
+  lines_small : (ls : List (List ℕ)) → with_header g n ls ≡ Ok listed → AreSmall n listed
+  lines_small [] is = absurd (clash _ listed is)
+  lines_small (first ∷ more) is = headed_small (pointwise nat_eq first header) more _ is
+
+pub body_small : (g : Ground) (n : ℕ) (text : List ℕ) (listed : Values) → body_read g n text ≡ Ok listed → AreSmall n listed
+body_small g n text listed is = lines_small g n listed (lines text) is
+
+-- ---- the revision that it gives
+value_small : (n : ℕ) (listed : Values) (id d : ℕ) → AreSmall n listed → value_at listed id ≡ Some d → d ≤ n
+value_small n [] id d small is = absurd (no_some d is)
+value_small n (e ∷ more) id d small is = by_id (e.0 == id) (value_small n more id d (All-tail (λ (x : ℕ × ℕ). x.1 ≤ n) e more small)) is
+  where
+    by_id : (b : Bool) → (value_at more id ≡ Some d → d ≤ n) → cond b (Some e.1) (value_at more id) ≡ Some d → d ≤ n
+    by_id true rest is = subst (λ k. k ≤ n) (some_is e.1 d is) (All-head (λ (x : ℕ × ℕ). x.1 ≤ n) e more small)
+    by_id false rest is = rest is
+
+or_small : (n : ℕ) (value : Option ℕ) (x : ℕ) → ((d : ℕ) → value ≡ Some d → d ≤ n) → x ≤ n → unwrap_or value x ≤ n
+or_small n None x few is = is
+or_small n (Some d) x few is = few d refl
+
+pub whole_within : (g : Ground) (n : ℕ) (listed : Values) → AreSmall n listed → AreWithin n (whole g listed)
+whole_within g n listed small =
+    All-map (λ (d : ℕ). d ≤ n) (λ (b : BlockRow). unwrap_or (value_at listed b.id) 0) g.blocks
+    (λ k b within. or_small n (value_at listed (get_or g.blocks k b).id) 0 (λ d. value_small n listed (get_or g.blocks k b).id d small) (omega arith))
+
+beside_within : (n : ℕ) (blocks : List BlockRow) (last : List ℕ) → AreWithin n last → All (λ (e : BlockRow × ℕ). e.1 ≤ n) (zip blocks last)
+beside_within n [] last within = All-nil (λ (e : BlockRow × ℕ). e.1 ≤ n)
+beside_within n (b ∷ blocks) [] within = All-nil (λ (e : BlockRow × ℕ). e.1 ≤ n)
+beside_within n (b ∷ blocks) (d ∷ last) within =
+    All-cons (λ (e : BlockRow × ℕ). e.1 ≤ n) (b, d) (zip blocks last) (All-head (λ (k : ℕ). k ≤ n) d last within)
+    (beside_within n blocks last (All-tail (λ (k : ℕ). k ≤ n) d last within))
+
+pub patched_within : (g : Ground) (n : ℕ) (listed : Values) (last : Option (List ℕ)) → AreSmall n listed
+    → ((districts : List ℕ) → last ≡ Some districts → AreWithin n districts) → AreWithin n (patched g listed last)
+patched_within g n listed None small kept = whole_within g n listed small
+patched_within g n listed (Some last) small kept =
+    All-map (λ (d : ℕ). d ≤ n) (λ (e : BlockRow × ℕ). unwrap_or (value_at listed e.0.id) e.1) (zip g.blocks last)
+    (λ k e within. or_small n (value_at listed (get_or (zip g.blocks last) k e).0.id) (get_or (zip g.blocks last) k e).1
+    (λ d. value_small n listed (get_or (zip g.blocks last) k e).0.id d small) (beside_within n g.blocks last (kept last refl) k e within))
+
+-- ---- a revision of a plan
+at_within : (n : ℕ) (revisions : List (List ℕ)) (k : ℕ) (districts : List ℕ) → All (AreWithin n) revisions → slice_get revisions k ≡ Some districts → AreWithin n districts
+at_within n revisions k districts all is = elim (slice_get_cases revisions k).1 [
+  | inl found ↦ subst (AreWithin n) (get_or_from_slice_get revisions k districts [] is) (All-get_or (AreWithin n) revisions k [] found.1 all)
+  | inr past ↦ absurd (no_some districts (sym past.1 ∙ is))
+]
+
+counted_within : (b : Bool) (n : ℕ) (revisions : List (List ℕ)) (k : ℕ) (districts : List ℕ) → All (AreWithin n) revisions → cond b None (slice_get revisions k) ≡ Some districts → AreWithin n districts
+counted_within true n revisions k districts all is = absurd (no_some districts is)
+counted_within false n revisions k districts all is = at_within n revisions k districts all is
+
+pub revision_within : (p : Plan) (k : ℕ) (districts : List ℕ) → revision_at p k ≡ Some districts → All (AreWithin p.n) p.revisions → AreWithin p.n districts
+revision_within p k districts is all = counted_within (k == 0) p.n p.revisions (k - 1) districts all is
