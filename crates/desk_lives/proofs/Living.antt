@@ -42,8 +42,8 @@ use Rattle.desk_lives.specs.declared.lives.Request.{Request}
 use Rattle.desk_lives.specs.declared.lives.Request.TheVariants.{Change, Look, Load, Sweep}
 use Rattle.desk_lives.specs.declared.lives.Answer.{Answer}
 use Rattle.desk_lives.specs.declared.lives.Answer.TheVariants.{Said, Loaded, Unloaded, Swept, Unswept}
-use Rattle.desk_lives.specs.Lives.{new_desk, loaded_desk, after_load, MayRefuse, Asked, Told, Failed, FailsAt, Lived, IsPassing, Lives}
-use Rattle.desk_lives.specs.Inside.{OpensTo, Holds, Going, GoingFailed, Stands, Loads, Sweeps, Answers, Asks, Became, LivesOnce, GoingOn}
+use Rattle.desk_lives.specs.Lives.{new_desk, loaded_desk, after_load, MayRefuse, Asked, Told, Failed, FailsAt, Lived, IsPassing, LifeAfterLife}
+use Rattle.desk_lives.specs.Inside.{OpensTo, Holds, Going, GoingFailed, Stands, Loads, Sweeps, Answers, LivedThrough, LivesOnce, GoingOn}
 
 pub either : (b : Bool) → (b ≡ true) ⊎ (b ≡ false)
 either true = inl refl
@@ -352,26 +352,18 @@ began old new same leaves all c left = let is = all c (leaves c left) in (is.0, 
 one_before : (old new : Disk) → new.sectors ≡ old.sectors → ((c : Image) → new.leaves c → old.leaves c) → (d : Desk) → IsOneOf new d → IsOneOf old d
 one_before old new same leaves d one = record { was = one.was; left = leaves one.was one.left; opens = subst (λ (s : ℕ). OpensDesk s d one.was) same one.opens }
 
-became_from : (old mid : Disk) (asked : List Request) (told : Told) (new : Disk) → mid.sectors ≡ old.sectors → mid.faults ≡ old.faults → ((c : Image) → mid.leaves c → old.leaves c) → Became mid asked told new → Became old asked told new
-became_from old mid asked (Ok told) new same faults leaves became = (
-  became.0,
-  one_before old mid same leaves became.0 became.1,
-  λ i left.
-      (let is = became.2 i left in (is.0, subst (λ (t : ℕ). Lived t new.faults became.0 asked told.items is.0) faults is.1, subst (λ (s : ℕ). OpensDesk s is.0 i) same is.2)),
-)
-became_from old mid asked (Err why) new same faults leaves became = (
-  subst (λ (t : ℕ). IsPassing t new.faults why) faults became.0,
-  λ i left.
-      (let is = became.1 i left in (is.0, one_before old mid same leaves is.0 is.1, subst (λ (s : ℕ). OpensDesk s is.0 i) same is.2)),
-)
-
-pub starts_life : (old mid : Disk) (asked : List Request) (told : Told) (new : Disk) → mid.sectors ≡ old.sectors → (mid.is_honest → old.is_honest) → (mid.is_honest → mid.faults ≡ old.faults)
-    → (mid.is_honest → (c : Image) → mid.leaves c → old.leaves c) → LivesOnce mid asked told new → LivesOnce old asked told new
-starts_life old mid asked told new same was faults leaves once = record {
+pub starts_life : (life : ℕ → ℕ → Desk → Desk → Type 0) (old mid new : Disk) → mid.sectors ≡ old.sectors → (mid.is_honest → old.is_honest) → (mid.is_honest → mid.faults ≡ old.faults)
+    → (mid.is_honest → (c : Image) → mid.leaves c → old.leaves c) → LivesOnce life mid new → LivesOnce life old new
+starts_life life old mid new same was faults leaves once = record {
   sectors = once.sectors ∙ same;
   honest = λ now. was (once.honest now);
   faults = λ now all. subst (λ (t : ℕ). t ≤ new.faults) (faults (once.honest now)) (once.faults now (began old mid same (leaves (once.honest now)) all));
-  became = λ now all. became_from old mid asked told new same (faults (once.honest now)) (leaves (once.honest now)) (once.became now (began old mid same (leaves (once.honest now)) all));
+  became = λ now all c stopped.
+      (let is = once.became now (began old mid same (leaves (once.honest now)) all) c stopped in (
+        is.0,
+        one_before old mid same (leaves (once.honest now)) is.0 is.1,
+        (is.2.0, subst (λ (t : ℕ). life t new.faults is.0 is.2.0) (faults (once.honest now)) is.2.1, subst (λ (s : ℕ). OpensDesk s is.2.0 c) same is.2.2),
+      ));
 }
 
 module _ {D : Type 0} (g : Ghosts D) where
@@ -381,34 +373,37 @@ module _ {D : Type 0} (g : Ghosts D) where
   passing device left u opening.Memory honest all same refused = tt
   passing device left u opening.OldVersion honest all same refused = absurd ((refused honest).1 all)
 
-  pub refused_life : (device left : D) (new : Disk) (asked : List Request) (why : OpenError) → (g.disk left).sectors ≡ (g.disk device).sectors → new.sectors ≡ (g.disk left).sectors
+  pub refused_life : (device left : D) (new : Disk) (life : ℕ → ℕ → Desk → Desk → Type 0) (why : OpenError) → (g.disk left).sectors ≡ (g.disk device).sectors → new.sectors ≡ (g.disk left).sectors
       → ((g.disk left).is_honest → (g.disk device).is_honest) → (new.is_honest → (g.disk left).is_honest) → (new.is_honest → new.faults ≡ (g.disk left).faults)
       → (new.is_honest → (c : Image) → new.leaves c → (g.disk left).leaves c)
       → ((g.disk left).is_honest → AllDesks (g.disk device) → LeavesOnly (OpensOneOf (g.disk device)) (g.disk device) (g.disk left))
       → ((g.disk left).is_honest → (g.disk device).faults ≤ (g.disk left).faults) → OpenRefused g device left why
-      → LivesOnce (g.disk device) asked (Err why) new
-  refused_life device left new asked why long same honest was count leaves moments more refused = record {
+      → ((t u : ℕ) (d : Desk) → IsPassing t u why → life t u d d) → LivesOnce life (g.disk device) new
+  refused_life device left new life why long same honest was count leaves moments more refused is_life = record {
     sectors = same ∙ long;
     honest = λ now. honest (was now);
     faults = λ now all. subst (λ (u : ℕ). (g.disk device).faults ≤ u) (sym (count now)) (more (was now));
-    became = λ now all. (
-      passing device left new.faults why (was now) all (sym (count now)) refused,
-      λ i stopped. (let is = leaves_now (OpensOneOf (g.disk device)) (g.disk device) (g.disk left) (moments (was now) all) i (leaves now i stopped) in (is.desk, is.one, is.opens)),
-    );
+    became = λ now all i stopped.
+        (let is = leaves_now (OpensOneOf (g.disk device)) (g.disk device) (g.disk left) (moments (was now) all) i (leaves now i stopped) in (
+          is.desk,
+          is.one,
+          (is.desk, is_life (g.disk device).faults new.faults is.desk (passing device left new.faults why (was now) all (sym (count now)) refused), is.opens),
+        ));
   }
 
   -- a store's sectors are those of its device
   whole : (x : Clerk D g) → sectors_of x ≡ (disk_of x).sectors
   whole x = x.pages.journal.room.whole
 
-  pub opened_life : (device back : D) (new : Disk) (asked : List Request) (x y : Clerk D g) (told : Vec Answer Global) → sectors_of x ≡ (g.disk device).sectors → is_halted x ≡ false
+  -- a clerk that was opened was asked, as `life` tells it, and stops
+  pub opened_life : (device back : D) (new : Disk) (life : ℕ → ℕ → Desk → Desk → Type 0) (x y : Clerk D g) → sectors_of x ≡ (g.disk device).sectors → is_halted x ≡ false
       → (AllVersions (g.disk device) → Keeps x × ((disk_of x).is_honest → IsOneOf (g.disk device) (desk_of x))) → ((disk_of x).is_honest → (g.disk device).is_honest)
       → ((disk_of x).is_honest → (disk_of x).faults ≡ (g.disk device).faults)
-      → Asks x asked told.items y → back ≡ device_in (pages_of y)
+      → LivedThrough life x y → back ≡ device_in (pages_of y)
       → new.sectors ≡ (g.disk back).sectors → (new.is_honest → (g.disk back).is_honest) → (new.is_honest → new.faults ≡ (g.disk back).faults)
       → (new.is_honest → (c : Image) → new.leaves c → (g.disk back).leaves c)
-      → LivesOnce (g.disk device) asked (Ok told) new
-  opened_life device back new asked x y told long off opened honest calm asks is same was count leaves =
+      → LivesOnce life (g.disk device) new
+  opened_life device back new life x y long off opened honest passed asks is same was count leaves =
       let was_y : new.is_honest → (disk_of y).is_honest = λ now. subst (λ (b : D). (g.disk b).is_honest) is (was now) in
       let from_y : new.is_honest → (disk_of y).faults ≡ new.faults = λ now. sym (count now ∙ (λ i. (g.disk (is i)).faults)) in
       record {
@@ -416,18 +411,18 @@ module _ {D : Type 0} (g : Ghosts D) where
         honest = λ now. honest (asks.honest (was_y now));
         faults = λ now all.
             subst (λ (u : ℕ). (g.disk device).faults ≤ u) (from_y now)
-            (subst (λ (t : ℕ). t ≤ (disk_of y).faults) (calm (asks.honest (was_y now))) (asks.faults (opened (all_versions (g.disk device) all)).0 off (was_y now)));
-        became = λ now all.
-            (let found = opened (all_versions (g.disk device) all) in (
+            (subst (λ (t : ℕ). t ≤ (disk_of y).faults) (passed (asks.honest (was_y now))) (asks.faults (opened (all_versions (g.disk device) all)).0 off (was_y now)));
+        became = λ now all i stopped.
+            (let found = opened (all_versions (g.disk device) all) in
+            let there = asks.lived found.0 off (was_y now) i (subst (λ (b : D). (g.disk b).leaves i) is (leaves now i stopped)) in (
               desk_of x,
               found.1 (asks.honest (was_y now)),
-              λ i stopped.
-                  (let there = asks.lived found.0 off (was_y now) i (subst (λ (b : D). (g.disk b).leaves i) is (leaves now i stopped)) in (
-                    there.0,
-                    subst (λ (u : ℕ). Lived (g.disk device).faults u (desk_of x) asked told.items there.0) (from_y now)
-                        (subst (λ (t : ℕ). Lived t (disk_of y).faults (desk_of x) asked told.items there.0) (calm (asks.honest (was_y now))) there.1),
-                    subst (λ (s : ℕ). OpensDesk s there.0 i) long there.2,
-                  )),
+              (
+                there.0,
+                subst (λ (u : ℕ). life (g.disk device).faults u (desk_of x) there.0) (from_y now)
+                    (subst (λ (t : ℕ). life t (disk_of y).faults (desk_of x) there.0) (passed (asks.honest (was_y now))) there.1),
+                subst (λ (s : ℕ). OpensDesk s there.0 i) long there.2,
+              ),
             ));
       }
 
@@ -436,9 +431,6 @@ module _ {D : Type 0} (g : Ghosts D) where
   first_life back new opens same leaves i stopped = subst (λ (s : ℕ). OpensDesk s new_desk i) (sym same) (opens i (leaves i stopped))
 
 -- ---- lives, one after the other
-further : (t u : ℕ) (d : Desk) (all : List Asked) (so_far : List Told) (told : Told) (answers : List Told) (e : Desk) → Lives t u d all (so_far ++ told ∷ answers) e → Lives t u d all ((so_far ++ told ∷ []) ++ answers) e
-further t u d all so_far told answers e lives = subst (λ (l : List Told). Lives t u d all l e) (sym (append_assoc so_far (told ∷ []) answers)) lives
-
 -- of a desk to which one of the images opens what is known of those that are there is known
 pub known : ImagesAreOne → (disk : Disk) (P : Desk → Type 0) (e : Desk) → Holds disk.sectors P disk → IsOneOf disk e → P e
 known one disk P e holds is =
@@ -446,28 +438,24 @@ known one disk P e holds is =
     let few = disk.few in
     subst P (one true true disk.sectors there.0 e is.was (omega (arith, few)) there.2 is.opens) there.1
 
-pub lives_on : ImagesAreOne → (t : ℕ) (d : Desk) (all : List Asked) (asked : Asked) (rest : List Asked) (so_far : List Told) (old new : Disk) (told : Told) → LivesOnce old asked.items told new → new.is_honest
-    → Holds old.sectors (GoingOn t d all (asked ∷ rest) so_far old.faults) old → Holds new.sectors (GoingOn t d all rest (so_far ++ told ∷ []) new.faults) new
-lives_on one t d all asked rest so_far old new (Ok told) once honest holds i stopped =
-    let desks : AllDesks old = λ c left. let is = holds c left in (is.0, is.2) in
-    let became = once.became honest desks in
-    let more = once.faults honest desks in
-    let going = known one old (GoingOn t d all (asked ∷ rest) so_far old.faults) became.0 holds became.1 in
-    let is = became.2 i stopped in
-    (is.0, (λ u answers e lives. further t u d all so_far (Ok told) answers e (going u (Ok told ∷ answers) e (new.faults, more, is.0, is.1, lives))), subst (λ (s : ℕ). OpensDesk s is.0 i) (sym once.sectors) is.2)
-lives_on one t d all asked rest so_far old new (Err why) once honest holds i stopped =
-    let desks : AllDesks old = λ c left. let is = holds c left in (is.0, is.2) in
-    let became = once.became honest desks in
-    let more = once.faults honest desks in
-    let is = became.1 i stopped in
-    let going = known one old (GoingOn t d all (asked ∷ rest) so_far old.faults) is.0 holds is.1 in
-    (is.0, (λ u answers e lives. further t u d all so_far (Err why) answers e (going u (Err why ∷ answers) e (new.faults, more, became.0, lives))), subst (λ (s : ℕ). OpensDesk s is.0 i) (sym once.sectors) is.2)
+module _ {X Y : Type 0} (life : (t u : ℕ) → Desk → X → Y → Desk → Type 0) where
+  further : (t u : ℕ) (d : Desk) (all : List X) (so_far : List Y) (told : Y) (answers : List Y) (e : Desk) → LifeAfterLife life t u d all (so_far ++ told ∷ answers) e → LifeAfterLife life t u d all ((so_far ++ told ∷ []) ++ answers) e
+  further t u d all so_far told answers e lives = subst (λ (l : List Y). LifeAfterLife life t u d all l e) (sym (append_assoc so_far (told ∷ []) answers)) lives
 
-pub begun : (d : Desk) (all : List Asked) (disk : Disk) → HoldsOne disk d → Holds disk.sectors (GoingOn disk.faults d all all [] disk.faults) disk
-begun d all disk holds i left = (d, (λ u answers e lives. lives), holds i left)
+  pub lives_on : ImagesAreOne → (t : ℕ) (d : Desk) (all : List X) (asked : X) (rest : List X) (so_far : List Y) (old new : Disk) (told : Y) → LivesOnce (λ s u now next. life s u now asked told next) old new → new.is_honest
+      → Holds old.sectors (GoingOn life t d all (asked ∷ rest) so_far old.faults) old → Holds new.sectors (GoingOn life t d all rest (so_far ++ told ∷ []) new.faults) new
+  lives_on one t d all asked rest so_far old new told once honest holds i stopped =
+      let desks : AllDesks old = λ c left. let is = holds c left in (is.0, is.2) in
+      let became = once.became honest desks i stopped in
+      let more = once.faults honest desks in
+      let going = known one old (GoingOn life t d all (asked ∷ rest) so_far old.faults) became.0 holds became.1 in
+      (became.2.0, (λ u answers e lives. further t u d all so_far told answers e (going u (told ∷ answers) e (new.faults, more, became.2.0, became.2.1, lives))), subst (λ (s : ℕ). OpensDesk s became.2.0 i) (sym once.sectors) became.2.2)
 
-pub all_lived : (t : ℕ) (d : Desk) (all : List Asked) (answers : List Told) (disk : Disk) → Holds disk.sectors (GoingOn t d all [] answers disk.faults) disk → (e : Desk) × Lives t disk.faults d all answers e
-all_lived t d all answers disk holds =
-    let is = holds disk.reads disk.as_read in
-    let same : disk.faults ≤ disk.faults = omega arith in
-    (is.0, subst (λ (l : List Told). Lives t disk.faults d all l is.0) (append-nil answers) (is.1 disk.faults [] is.0 (same, refl)))
+  pub begun : (d : Desk) (all : List X) (disk : Disk) → HoldsOne disk d → Holds disk.sectors (GoingOn life disk.faults d all all [] disk.faults) disk
+  begun d all disk holds i left = (d, (λ u answers e lives. lives), holds i left)
+
+  pub all_lived : (t : ℕ) (d : Desk) (all : List X) (answers : List Y) (disk : Disk) → Holds disk.sectors (GoingOn life t d all [] answers disk.faults) disk → (e : Desk) × LifeAfterLife life t disk.faults d all answers e
+  all_lived t d all answers disk holds =
+      let is = holds disk.reads disk.as_read in
+      let same : disk.faults ≤ disk.faults = omega arith in
+      (is.0, subst (λ (l : List Y). LifeAfterLife life t disk.faults d all l is.0) (append-nil answers) (is.1 disk.faults [] is.0 (same, refl)))

@@ -1,5 +1,5 @@
 -- What the loops know: which desks the images of a device open to.
-use Rattle.std.specs.Prelude.{◌≡◌, ◌⊎◌, ◌≤◌, ◌<◌, ◌++◌, ℕ, true, false, List, None, Result, Ok, Err}
+use Rattle.std.specs.Prelude.{◌≡◌, ◌⊎◌, ◌≤◌, ◌<◌, ◌++◌, ℕ, true, false, List, None}
 use Rattle.sector_device.specs.Disk.{Disk, Image}
 use Rattle.sector_device.specs.declared.SectorDevice.{Ghosts}
 use Rattle.desk_model.specs.declared.reply.Reply.{Reply}
@@ -10,7 +10,6 @@ use Rattle.desk_pages.specs.Openings.{AllDesks, IsOneOf}
 use Rattle.desk_store.specs.declared.clerk.Clerk.{Clerk}
 use Rattle.store_sweep.specs.declared.error.SweepError.{SweepError}
 use Rattle.store_sweep.specs.declared.error.SweepError.TheVariants as sweep
-use Rattle.desk_store.specs.declared.opening.OpenError.{OpenError}
 use Rattle.desk_store.specs.Clerks.{desk_of, disk_of, is_halted, sectors_of, Keeps, Moves}
 use Rattle.desk_store.specs.Commands.{Does}
 use Rattle.desk_catalogue.specs.Audits.{AskMay}
@@ -18,7 +17,7 @@ use Rattle.desk_lives.specs.declared.lives.Request.{Request}
 use Rattle.desk_lives.specs.declared.lives.Request.TheVariants.{Change, Look, Load, Sweep}
 use Rattle.desk_lives.specs.declared.lives.Answer.{Answer}
 use Rattle.desk_lives.specs.declared.lives.Answer.TheVariants.{Said, Loaded, Unloaded, Swept, Unswept}
-use Rattle.desk_lives.specs.Lives.{loaded_desk, MayRefuse, Asked, Told, Failed, Lived, IsPassing, Lives}
+use Rattle.desk_lives.specs.Lives.{loaded_desk, MayRefuse, Asked, Told, Failed, Lived, Life, LifeAfterLife}
 
 -- an image of n sectors opens to one of these desks
 abbrev pub OpensTo : ℕ → (Desk → Type 0) → Image → Type 0
@@ -66,25 +65,32 @@ module _ {D : Type 0} {g : Ghosts D} where
   Answers x (Load geography) a y = Moves (loaded_desk geography.value) x y × Loads x geography.value a y
   Answers x Sweep a y = Moves (desk_of x) x y × (desk_of y ≡ desk_of x) × Sweeps a y
 
-  -- what requests come to
-  pub record Asks (x : Clerk D g) (asked : List Request) (told : List Answer) (y : Clerk D g) : Type 0 where
+  -- a clerk was asked, and `life` says what that makes of a desk
+  pub record LivedThrough (life : (t u : ℕ) → Desk → Desk → Type 0) (x y : Clerk D g) : Type 0 where
     pub sectors : sectors_of y ≡ sectors_of x
     pub honest : (disk_of y).is_honest → (disk_of x).is_honest
     pub faults : Keeps x → is_halted x ≡ false → (disk_of y).is_honest → (disk_of x).faults ≤ (disk_of y).faults
     pub lived : Keeps x → is_halted x ≡ false → (disk_of y).is_honest
-        → Holds (sectors_of x) (Lived (disk_of x).faults (disk_of y).faults (desk_of x) asked told) (disk_of y)
+        → Holds (sectors_of x) (life (disk_of x).faults (disk_of y).faults (desk_of x)) (disk_of y)
 
--- what a life comes to
-abbrev pub Became : Disk → List Request → Told → Disk → Type 0
-Became old asked (Ok told) new = (d : Desk) × IsOneOf old d × Holds old.sectors (Lived old.faults new.faults d asked told.items) new
-Became old asked (Err why) new = IsPassing old.faults new.faults why × Holds old.sectors (IsOneOf old) new
+  -- what requests come to
+  abbrev pub Asks : Clerk D g → List Request → List Answer → Clerk D g → Type 0
+  Asks x asked told y = LivedThrough (λ t u d e. Lived t u d asked told e) x y
 
-pub record LivesOnce (old : Disk) (asked : List Request) (told : Told) (new : Disk) : Type 0 where
+-- What one life comes to, where `life` says what it makes of a desk: each image that a stop may leave opens to what it makes of a desk
+-- that was there.
+pub record LivesOnce (life : (t u : ℕ) → Desk → Desk → Type 0) (old new : Disk) : Type 0 where
   pub sectors : new.sectors ≡ old.sectors
   pub honest : new.is_honest → old.is_honest
   pub faults : new.is_honest → AllDesks old → old.faults ≤ new.faults
-  pub became : new.is_honest → AllDesks old → Became old asked told new
+  pub became : new.is_honest → AllDesks old → (c : Image) → new.leaves c
+      → (d : Desk) × IsOneOf old d × OpensTo old.sectors (life old.faults new.faults d) c
 
--- so many lives were answered, and others are left
-abbrev pub GoingOn : ℕ → Desk → List Asked → List Asked → List Told → ℕ → Desk → Type 0
-GoingOn t d all rest so_far s now = (u : ℕ) (told : List Told) (e : Desk) → Lives s u now rest told e → Lives t u d all (so_far ++ told) e
+-- what these answers make of a desk
+abbrev pub IsLife : Asked → Told → ℕ → ℕ → Desk → Desk → Type 0
+IsLife asked told t u d e = Life t u d asked told e
+
+module _ {Asks Tells : Type 0} (life : (t u : ℕ) → Desk → Asks → Tells → Desk → Type 0) where
+  -- so many lives were answered, and others are left
+  abbrev pub GoingOn : (t : ℕ) → Desk → List Asks → List Asks → List Tells → ℕ → Desk → Type 0
+  GoingOn t d all rest so_far s now = (u : ℕ) (told : List Tells) (e : Desk) → LifeAfterLife life s u now rest told e → LifeAfterLife life t u d all (so_far ++ told) e

@@ -3,7 +3,7 @@ ghost use Rattle.std.specs.Prelude.{◌≡◌, ◌≤◌, false, IfOk};
 ghost use Rattle.desk_model.specs.Desk.{Desk};
 ghost use Rattle.desk_store.specs.Clerks.{disk_of};
 ghost use Rattle.desk_runs.specs.Recovery.{HoldsOne};
-ghost use Rattle.desk_lives.specs.Inside.{Answers, Asks, LivesOnce};
+ghost use Rattle.desk_lives.specs.Inside.{Answers, Asks, IsLife, LivesOnce};
 ghost use Rattle.desk_lives.specs.Lives.{Lives, new_desk};
 
 use crate::restarts::Restarts;
@@ -85,7 +85,7 @@ fn live_started<D: Restarts + Drop>(
     device: D,
     asked: Vec<Request>,
 ) -> Result<(Result<Vec<Answer>, OpenError>, D::Off), AllocError>
-    ensures { IfOk result (λ x. LivesOnce (D.disk device) asked.items x.0 (D.rests x.1)) }
+    ensures { IfOk result (λ x. LivesOnce (IsLife asked x.0) (D.disk device) (D.rests x.1)) }
 {
     let mut clerk = match Clerk::open(alloc, device) {
         Ok(clerk) => clerk,
@@ -96,12 +96,12 @@ fn live_started<D: Restarts + Drop>(
 }
 
 /// One life: a device starts, is opened as a store and asked, and stops.
-fn live_once<D: Restarts + Drop>(
+pub fn live_once<D: Restarts + Drop>(
     alloc: Global,
     off: D::Off,
     asked: Vec<Request>,
 ) -> Result<(Result<Vec<Answer>, OpenError>, D::Off), AllocError>
-    ensures { IfOk result (λ x. LivesOnce (D.rests off) asked.items x.0 (D.rests x.1)) }
+    ensures { IfOk result (λ x. LivesOnce (IsLife asked x.0) (D.rests off) (D.rests x.1)) }
 {
     let (told, left) = live_started(alloc, D::start(off), asked)?;
     Ok((told, left))

@@ -1,6 +1,7 @@
 use Rattle.std.proofs.Common.{◌≡◌, ℕ, length}
 use Rattle.desk_model.specs.Desk.{Desk}
 use Rattle.desk_runs.specs.Recovery.{HoldsOne}
+use Rattle.desk_lives.specs.Lives.{Life}
 use Rattle.desk_lives.specs.Inside.{Holds, GoingOn}
 use Rattle.desk_lives.proofs.lives.live_on.Given as goal
 
@@ -10,7 +11,7 @@ invariant-loop-alloc g l =
     record {
       honest : (disk l.off).is_honest → (disk l.fn.off).is_honest;
       holds : (disk l.off).is_honest → (d : Desk) → HoldsOne (disk l.fn.off) d
-          → Holds (disk l.off).sectors (GoingOn (disk l.fn.off).faults d l.fn.lives.items l.lives.items l.answers.items (disk l.off).faults) (disk l.off);
+          → Holds (disk l.off).sectors (GoingOn Life (disk l.fn.off).faults d l.fn.lives.items l.lives.items l.answers.items (disk l.off).faults) (disk l.off);
     }
 
 abbrev pub decreases-loop-alloc : goal.decreases-loop-alloc
