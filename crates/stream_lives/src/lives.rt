@@ -73,10 +73,13 @@ fn one_life<R: Source + Drop, W: GatherSink + Drop, D: Restarts + Drop, G: Gate>
         life x.0) (D.rests off) (D.rests x.1)) }
 {
     match life {
-        Life::Requests(asked) => match live_once::<D>(alloc, off, asked)? {
-            (Ok(told), left) => Ok((Told::Answers(told), left)),
-            (Err(e), left) => Ok((Told::Unopened(e), left)),
-        },
+        Life::Requests(asked) => {
+            let (told, left) = live_once::<D>(alloc, off, asked)?;
+            match told {
+                Ok(answers) => Ok((Told::Answers(answers), left)),
+                Err(e) => Ok((Told::Unopened(e), left)),
+            }
+        }
         Life::Stream(reader, writer) => {
             let started = D::start(off);
             Ok(serve_started(alloc, started, reader, writer, gate))
