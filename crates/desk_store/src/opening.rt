@@ -118,7 +118,7 @@ fn read_shown<D: SectorDevice>(alloc: Global, pages: &mut Pages<D>) -> Result<Sh
 }
 
 impl<D: SectorDevice> Clerk<D> {
-    ghost use Rattle.std.specs.Prelude.{◌≡◌, false, None, OnOk, IfOk, IfErr};
+    ghost use Rattle.std.specs.Prelude.{◌≡◌, ◌≤◌, false, None, OnOk, IfOk, IfErr};
     ghost use Rattle.desk_store.specs.Clerks.{desk_of, disk_of, is_halted, sectors_of, Keeps};
     ghost use Rattle.desk_pages.specs.Openings.{AllVersions, IsOneOf, IsSpared, LeavesOneAs, LeavesOneOf};
     ghost use Rattle.desk_store.specs.Openings.{IsFound, Reopens, device_after, OpenRefused};
@@ -137,6 +137,7 @@ impl<D: SectorDevice> Clerk<D> {
         ensures loading { IfOk result (λ x. x.loading ≡ None) }
         ensures working { IfOk result (λ x. (is_halted x ≡ false) × (sectors_of x ≡ (D.disk device).sectors)) }
         ensures passed { (D.disk (device_after result)).is_honest → OnOk result ((D.disk (device_after result)).faults ≡ (D.disk device).faults) }
+        ensures faults { (D.disk (device_after result)).is_honest → (D.disk device).faults ≤ (D.disk (device_after result)).faults }
         ensures err { IfErr result (λ e. OpenRefused D.SectorDevice device e.1 e.0) }
         ensures untouched { IfErr result (λ e. (D.disk e.1).is_honest → e.0 ≡ OpenError.NotAStore → IsSpared (D.disk device) (D.disk e.1)) }
     {

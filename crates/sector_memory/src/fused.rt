@@ -32,6 +32,7 @@ impl Fused {
         ensures left { (fused_disk self).leaves (disk_of result).reads }
         ensures sectors { (disk_of result).sectors ≡ (fused_disk self).sectors }
         ensures synced { IsSynced (disk_of result) }
+        ensures faults { (disk_of result).faults ≡ (fused_disk self).faults }
     {
         self.device.stop(picks)
     }

@@ -86,6 +86,7 @@ impl MemoryDevice {
         ensures left { (disk_of self).leaves (disk_of result).reads }
         ensures sectors { (disk_of result).sectors ≡ (disk_of self).sectors }
         ensures synced { IsSynced (disk_of result) }
+        ensures faults { (disk_of result).faults ≡ (disk_of self).faults }
     {
         let MemoryDevice {
             mut sectors,

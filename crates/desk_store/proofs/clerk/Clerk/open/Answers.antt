@@ -1,4 +1,4 @@
-use Rattle.std.proofs.Common.{◌≡◌, inr, refl, sym, subst}
+use Rattle.std.proofs.Common.{◌≡◌, ◌≤◌, ℕ, inr, refl, sym, subst}
 use Rattle.sector_device.specs.Moments.{LeavesOnly}
 use Rattle.page_store.proofs.Stops.{leaves_quiet}
 use Rattle.page_store.specs.Transactions.{disk_in}
@@ -76,3 +76,12 @@ returns-in-Err-read_shown-clause-untouched g c =
     let old = g.D.SectorDevice.disk c.args.device in
     let told = λ (honest : (disk_in c.read_shown.new.pages).is_honest) (is : c.in-Err-read_shown.e ≡ NotAStore). inr (pages_stand old c.in-Ok.pages c.read_shown.new.pages c.in-Ok.ensures.found c.in-Ok.ensures.kept c.read_shown.ensures.quiet honest) in
     subst (λ d. (g.D.SectorDevice.disk d).is_honest → c.in-Err-read_shown.e ≡ NotAStore → IsSpared old (g.D.SectorDevice.disk d)) (sym c.into_device.ensures) told
+
+pub returns-in-Err-read_shown-clause-faults : goal.returns-in-Err-read_shown-clause-faults
+returns-in-Err-read_shown-clause-faults g c =
+    let old = g.D.SectorDevice.disk c.args.device in
+    let new = disk_in c.read_shown.new.pages in
+    let told : (new.is_honest → old.faults ≤ new.faults) = λ honest.
+        subst (λ (k : ℕ). k ≤ new.faults) (c.in-Ok.ensures.passed (c.read_shown.ensures.quiet.honest honest))
+        ((c.read_shown.ensures.quiet.moves honest c.in-Ok.ensures.working).faults) in
+    subst (λ d. (g.D.SectorDevice.disk d).is_honest → old.faults ≤ (g.D.SectorDevice.disk d).faults) (sym c.into_device.ensures) told
