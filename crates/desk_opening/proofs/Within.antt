@@ -42,4 +42,3 @@ revision_within p k districts is all = counted_within (k == 0) p.n p.revisions (
 
 pub one_more_within : (p : Plan) (districts : List ℕ) → AreAllWithin p → AreWithin p.n districts → AreAllWithin (with_revision p districts)
 one_more_within p districts all one = All-push (AreWithin p.n) p.revisions districts all one
-

@@ -97,7 +97,7 @@ pub fn live_on<R: Source + Drop, W: GatherSink + Drop, D: Restarts + Drop, G: Ga
     ensures honest { IfOk result (λ x. (D.rests x.1).is_honest → (D.rests off).is_honest) }
     ensures lived { IfOk result (λ x. (D.rests x.1).is_honest → (d : Desk) → HoldsOne (D.rests off) d
         → (e : Desk) × LifeAfterLife (LifeMay (λ r w. record { unread = R.remaining r; turns = R.turns r; failed_reads = R.failures r; written = W.contents w; failed_writes = W.failures w }))
-          (D.rests off).faults (D.rests x.1).faults d lives.items x.0.items e) }
+        (D.rests off).faults (D.rests x.1).faults d lives.items x.0.items e) }
 {
     one_desk_opens();
     let mut off = off;
@@ -124,7 +124,7 @@ pub fn live<R: Source + Drop, W: GatherSink + Drop, D: Restarts + Drop, G: Gate>
     requires most { journal_pages ≤ 65536 }
     ensures { IfOk result (λ x. (D.rests x.1).is_honest
         → (e : Desk) × LifeAfterLife (LifeMay (λ r w. record { unread = R.remaining r; turns = R.turns r; failed_reads = R.failures r; written = W.contents w; failed_writes = W.failures w }))
-          (D.disk device).faults (D.rests x.1).faults new_desk lives.items x.0.items e) }
+        (D.disk device).faults (D.rests x.1).faults new_desk lives.items x.0.items e) }
 {
     let mut first = device;
     match format(alloc, &mut first, journal_pages) {

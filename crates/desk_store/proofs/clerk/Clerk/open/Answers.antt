@@ -82,6 +82,6 @@ returns-in-Err-read_shown-clause-faults g c =
     let old = g.D.SectorDevice.disk c.args.device in
     let new = disk_in c.read_shown.new.pages in
     let told : (new.is_honest → old.faults ≤ new.faults) = λ honest.
-        subst (λ (k : ℕ). k ≤ new.faults) (c.in-Ok.ensures.passed (c.read_shown.ensures.quiet.honest honest))
-        ((c.read_shown.ensures.quiet.moves honest c.in-Ok.ensures.working).faults) in
+    subst (λ (k : ℕ). k ≤ new.faults) (c.in-Ok.ensures.passed (c.read_shown.ensures.quiet.honest honest))
+    ((c.read_shown.ensures.quiet.moves honest c.in-Ok.ensures.working).faults) in
     subst (λ d. (g.D.SectorDevice.disk d).is_honest → old.faults ≤ (g.D.SectorDevice.disk d).faults) (sym c.into_device.ensures) told
