@@ -29,7 +29,8 @@ class Desk:
             port = parts.port
         except ValueError:
             raise Refused('BadAddress', 2) from None
-        if parts.scheme not in ('http', 'https') or not parts.hostname or parts.query or parts.fragment:
+        plain = re.match(r'[!-~]+\Z', address) and parts.hostname
+        if parts.scheme not in ('http', 'https') or not plain or parts.query or parts.fragment:
             raise Refused('BadAddress', 2)
         self.path, self.heads = parts.path.rstrip('/'), {}
         if parts.scheme == 'https':
