@@ -19,7 +19,11 @@ fn part_length(count: usize, index: usize) -> usize
     ensures { result ≡ min 128 (count - 128 * index) }
 {
     let rest = count - PART_CHUNKS * index;
-    if rest < PART_CHUNKS { rest } else { PART_CHUNKS }
+    if rest < PART_CHUNKS {
+        rest
+    } else {
+        PART_CHUNKS
+    }
 }
 
 /// Appends a part of the numbers of a revision's chunks, which are so many.
