@@ -132,11 +132,11 @@ def stubbed(text, kept):
     while line < len(lines):
         found = FUNCTION.match(lines[line])
         at = body_of(lines, line, found[1]) if found and not found[2] and found[3] not in kept else None
-        if at is None:
+        end = next((it for it in range(at + 1, len(lines)) if lines[it] == found[1] + '}'), None) if at is not None else None
+        if end is None:
             made.append(lines[line])
             line += 1
         else:
-            end = next(it for it in range(at + 1, len(lines)) if lines[it] == found[1] + '}')
             made += [*lines[line:at + 1], f'{found[1]}    unreachable!()', lines[end]]
             line = end + 1
     return '\n'.join(made)

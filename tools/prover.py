@@ -58,7 +58,9 @@ def run(command, **how):
 
 
 def lanes():
-    """How many checks go side by side: one a processor, as far as memory lasts."""
+    """How many checks go side by side: one a processor, as far as memory lasts, or as many as RT_JOBS says."""
+    if os.environ.get('RT_JOBS', '').isdigit():
+        return max(1, int(os.environ['RT_JOBS']))
     with open('/proc/meminfo') as file:
         available, = (1024 * int(line.split()[1]) for line in file if line.startswith('MemAvailable:'))
     return max(1, min(len(os.sched_getaffinity(0)), available // NEEDED))
