@@ -1,0 +1,148 @@
+"""Edits of crates/NAME/wrong-bodies: how each is read, and put into a copy of its crate."""
+import os, re
+
+# what is written by hand of a function's proof
+WRITTEN = 'Answers.antt', 'Invariants.antt', 'Proof.antt'
+
+
+def text_of(path):
+    with open(path) as file:
+        return file.read()
+
+
+def write(path, text):
+    os.makedirs(os.path.dirname(path), exist_ok=True)
+    with open(path, 'w') as file:
+        file.write(text)
+
+
+class Edit:
+    """An edit of one function. What a reader found of it stands in its line `read`: the goals at which it was refused, and why."""
+
+    def __init__(self, path):
+        self.name = os.path.basename(path)[:-len('.edit')]
+        lines = [line.partition(': ') for line in text_of(path).split('\n') if line.strip()]
+        self.function, = (text for word, _, text in lines if word == 'fn')
+        goals, _, self.why = next((text for word, _, text in lines if word == 'read'), '').partition(': ')
+        self.read = set(goals.split(', ')) if self.why else set()
+        self.pairs, at, old = [], None, None
+        for word, _, text in lines:
+            if word == 'file':
+                at = text
+            elif word == 'old':
+                old = text
+            elif word == 'new':
+                self.pairs.append((at, old, text))
+
+    def fault(self, folder):
+        """Why the edit can't be applied to the crate in a folder, if it can't."""
+        for at, old, _ in self.pairs:
+            count = text_of(f'{folder}/{at}').count(old)
+            if count != 1:
+                return f'{old.strip()!r} stands {count} times in {at}'
+        return None
+
+    def apply(self, folder):
+        for at, old, new in self.pairs:
+            write(f'{folder}/{at}', text_of(f'{folder}/{at}').replace(old, new))
+
+    def proof(self, function=None):
+        """The folder of the function's proof, or of that of a copy."""
+        return 'proofs/' + (function or self.function).replace('::', '/')
+
+    def beside(self, folder, function):
+        """The file of the function, and its text with this edit under another name; None where it can't stand beside the function."""
+        at = self.pairs[0][0]
+        text, last = text_of(f'{folder}/{at}'), self.function.split('::')[-1]
+        start, end = span(text, last) or (0, 0)
+        body = text[start:end]
+        if any(file != at or old not in body for file, old, _ in self.pairs) or self.is_cited(folder):
+            return None
+        for _, old, new in self.pairs:
+            body = body.replace(old, new)
+        return at, re.sub(rf'\bfn {last}\b', f'fn {function.split("::")[-1]}', body, count=1)
+
+    def is_cited(self, folder):
+        """Whether a file of another proof names the function's, or its proof is one of a cycle of calls."""
+        own = re.compile(rf'\b{re.escape(self.proof().replace("/", "."))}\b')
+        files = [f'{at}/{name}' for at, _, names in os.walk(f'{folder}/proofs') if at != f'{folder}/{self.proof()}' for name in names]
+        return self.is_in_cycle(folder) or any(own.search(text_of(file)) for file in files)
+
+    def is_in_cycle(self, folder):
+        """Whether the function's proof is one of a cycle of calls."""
+        *above, last = self.proof().split('/')
+        return os.path.isdir('/'.join([folder, *above, f'+{last}']))
+
+    def put_beside(self, folder, function, at, body):
+        """Puts a copy of the function behind it, with what is written of its proof."""
+        text = text_of(f'{folder}/{at}')
+        _, end = span(text, self.function.split('::')[-1])
+        write(f'{folder}/{at}', f'{text[:end]}\n{body}{text[end:]}')
+        old, new = self.proof(), self.proof(function)
+        for written in WRITTEN:
+            if os.path.exists(f'{folder}/{old}/{written}'):
+                own = re.compile(rf'\b{re.escape(old.replace("/", "."))}\b')
+                write(f'{folder}/{new}/{written}', own.sub(new.replace('/', '.'), text_of(f'{folder}/{old}/{written}')))
+
+
+def span(text, name):
+    """Where a function stands in a file, with its attributes, by the layout of `rt fmt`: where there is one of that name, and it is no
+    trait's."""
+    found = list(re.finditer(rf'^( *)(?:pub(?:\([a-z ]+\))? )?(?:unsafe )?fn {name}\b', text, re.M))
+    if len(found) != 1:
+        return None
+    indent, lines, line = found[0][1], text.split('\n'), text.count('\n', 0, found[0].start())
+    if indent:
+        owner = next(it for it in reversed(lines[:line]) if it.strip() and not it.startswith(indent))
+        if not re.match(r'(unsafe )?impl\b', owner) or ' for ' in owner.split(' where ')[0]:
+            return None
+    first = last = line
+    while re.match(rf'{indent}(///|#\[)', lines[first - 1]):
+        first -= 1
+    while lines[last] not in (indent + '}', indent + '{}') and not (last == line and lines[line].endswith('}')):
+        last += 1
+    return sum(len(it) + 1 for it in lines[:first]), sum(len(it) + 1 for it in lines[:last + 1])
+
+
+FUNCTION = re.compile(r'( *)(?:pub(?:\([a-z ]+\))? )?(const )?(?:unsafe )?fn (\w+)')
+
+
+def body_of(lines, line, indent):
+    """The line behind which a function's body stands, by the layout of `rt fmt`; None where it has none, or one on the same line."""
+    for at in range(line, len(lines)):
+        text = lines[at]
+        is_head = at == line or text.startswith((f'{indent})', f'{indent}where'))
+        if text == indent + '{' or is_head and text.endswith(' {'):
+            return at
+        if is_head and text.endswith((';', '}')) or not is_head and text.strip() and not text.startswith(indent + ' '):
+            return None
+    return None
+
+
+def stub(folder, kept):
+    """Leaves out the bodies of a crate's functions but those of these names: a function is proved by its callees' contracts, and what
+    these call isn't read then."""
+    for at, _, names in os.walk(f'{folder}/src'):
+        for name in names:
+            write(f'{at}/{name}', stubbed(text_of(f'{at}/{name}'), kept))
+
+
+def stubbed(text, kept):
+    lines, made, line = text.split('\n'), [], 0
+    while line < len(lines):
+        found = FUNCTION.match(lines[line])
+        at = body_of(lines, line, found[1]) if found and not found[2] and found[3] not in kept else None
+        end = next((it for it in range(at + 1, len(lines)) if lines[it] == found[1] + '}'), None) if at is not None else None
+        if end is None:
+            made.append(lines[line])
+            line += 1
+        else:
+            made += [*lines[line:at + 1], f'{found[1]}    unreachable!()', lines[end]]
+            line = end + 1
+    return '\n'.join(made)
+
+
+def edits_of(folder):
+    """The edits of a crate, by name."""
+    at = f'{folder}/wrong-bodies'
+    return [Edit(f'{at}/{name}') for name in sorted(os.listdir(at) if os.path.isdir(at) else []) if name.endswith('.edit')]
