@@ -1,5 +1,5 @@
 -- Each premise is met of a device just opened.
-use Rattle.std.proofs.Common.{◌≡◌, ℕ, Bool, true, false, sym, subst}
+use Rattle.std.proofs.Common.{ℕ, Bool, true, sym, subst}
 use Rattle.sector_device.specs.Disk.{Disk, Image}
 use Rattle.sector_device.specs.declared.SectorDevice.{Ghosts}
 use Rattle.desk_model.specs.Desk.{Desk}

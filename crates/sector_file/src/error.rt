@@ -48,8 +48,11 @@ pub fn of_making(error: &Error) -> FileError
     ensures none { error_kind error.now ≡ ErrorKind.NotFound → result ≡ FileError.NotFound }
     ensures denied { error_kind error.now ≡ ErrorKind.PermissionDenied → result ≡ FileError.NotPermitted }
     ensures read_only { error_kind error.now ≡ ErrorKind.ReadOnlyFilesystem → result ≡ FileError.NotPermitted }
+    ensures folder { error_kind error.now ≡ ErrorKind.IsADirectory → result ≡ FileError.NotPermitted }
     ensures full { error_kind error.now ≡ ErrorKind.StorageFull → result ≡ FileError.NoSpace }
     ensures quota { error_kind error.now ≡ ErrorKind.QuotaExceeded → result ≡ FileError.NoSpace }
+    ensures too_large { error_kind error.now ≡ ErrorKind.FileTooLarge → result ≡ FileError.NoSpace }
+    ensures only_denied { result ≡ FileError.NotPermitted → IsDenial (error_kind error.now) }
     ensures only_there { result ≡ FileError.Exists → error_kind error.now ≡ ErrorKind.AlreadyExists }
     ensures only_none { result ≡ FileError.NotFound → error_kind error.now ≡ ErrorKind.NotFound }
     ensures only_full { result ≡ FileError.NoSpace → IsWantOfSpace (error_kind error.now) }

@@ -11,7 +11,8 @@ use Rattle.desk_gallery.specs.Telling.{halts_of}
 use Rattle.desk_gallery.specs.Working.{AreAccepted}
 use Rattle.http_arrivals.specs.declared.ran.Ran.{Ran}
 use Rattle.http_seats.specs.Streams.{Traffic, AreCounted}
-use Rattle.serve_command.specs.Lasting.{IsLike, HasTalked, Outlasts, OutlastsWhatIsRead, ServesStreams}
+use Rattle.serve_command.specs.Lasting.{IsLike, HasTalked, Outlasts, ServesStreams}
+use Rattle.serve_command.specs.Outlasting.{OutlastsWhatIsRead}
 
 honest_before : {D : Type 0} {g : Ghosts D} (x : Clerk D g) (calls : List Call) (z : Clerk D g) → Run x calls z → (disk_of z).is_honest → (disk_of x).is_honest
 honest_before x _ z (Run.over _) honest = honest

@@ -6,7 +6,6 @@ use Rattle.desk_model.specs.declared.command.Command.{Command}
 use Rattle.desk_model.specs.Desk.{Desk}
 use Rattle.desk_store.specs.declared.clerk.Clerk.{Clerk}
 use Rattle.desk_store.specs.Clerks.{desk_of, disk_of, is_halted, sectors_of, Keeps}
-use Rattle.store_command.specs.Reading.{LeavesDesk, ReadsDesk}
 use Rattle.desk_runs.specs.Runs.{Call, Run, Survives, acknowledged}
 use Rattle.desk_gallery.specs.Begun.{Beginning}
 use Rattle.desk_gallery.specs.Telling.{halts_of}
@@ -34,17 +33,6 @@ module _ {D : Type 0} {g : Ghosts D} where
     pub run : Run start calls last
     pub accepted : AreAccepted (desk_of first) (acknowledged calls)
     pub survives : Keeps first → is_halted first ≡ false → (disk_of last).is_honest → Survives start calls last run
-
-  -- The device read as this desk when it was opened: the first clerk shows it, a stop in the opening left it, and the commands outlive
-  -- each stop from it on.
-  pub record OutlastsDesk (device : D) (first last : Clerk D g) (lasts : Outlasts first last) (d : Desk) : Type 0 where
-    pub desk : desk_of first ≡ d
-    pub opening : LeavesDesk (g.disk device) (disk_of first) d
-    pub survives : Survives lasts.start lasts.calls last lasts.run
-
-  abbrev pub OutlastsWhatIsRead : D → (first last : Clerk D g) → Outlasts first last → Type 0
-  OutlastsWhatIsRead device first last lasts =
-      (disk_of last).is_honest → (d : Desk) → ReadsDesk (g.disk device) d → OutlastsDesk device first last lasts d
 
   module _ {R W : Type 0} (s : Traffic R W) where
     -- Streams were served at the seats of so many visitors, who had heard of nothing, by an office that began with such a clerk and this

@@ -1,2 +1,3 @@
 pub mod Lasting
+pub mod Outlasting
 pub mod Serving

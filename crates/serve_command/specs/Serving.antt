@@ -22,7 +22,8 @@ use Rattle.store_command.specs.Filling.{IsNotOpened}
 use Rattle.store_command.specs.Telling.{store_line, status_of as status_of_store}
 use Rattle.store_command.specs.declared.fault.StoreFault.{StoreFault}
 use Rattle.store_command.specs.declared.fault.StoreFault.TheVariants.{Memory, DeviceFault}
-use Rattle.serve_command.specs.Lasting.{OutlastsWhatIsRead, ServesStreams}
+use Rattle.serve_command.specs.Lasting.{ServesStreams}
+use Rattle.serve_command.specs.Outlasting.{OutlastsWhatIsRead}
 use Rattle.serve_command.specs.declared.fault.ServeFault.{ServeFault}
 use Rattle.serve_command.specs.declared.fault.ServeFault.TheVariants.{Store, Socket, Output}
 

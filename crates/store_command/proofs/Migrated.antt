@@ -1,5 +1,5 @@
 -- Steps of a migration, one after the other, and the end behind them.
-use Rattle.std.proofs.Common.{◌≡◌, ◌⊎◌, ◌≤◌, ◌<◌, ◌+◌, ℕ, List, [], ◌∷◌, ◌++◌, length, true, false, inl, inr, ⊎_elim, refl, sym, subst, ◌∙◌, arith}
+use Rattle.std.proofs.Common.{◌≡◌, ◌⊎◌, ◌≤◌, ◌+◌, ℕ, List, [], ◌∷◌, ◌++◌, length, true, false, inl, inr, ⊎_elim, refl, sym, subst, ◌∙◌, arith}
 use Rattle.std.specs.Prelude.{Result, Ok, Err}
 use Rattle.std.proofs.lemmas.List.{length-append}
 use Rattle.sector_device.specs.Disk.{Disk, Image}
@@ -12,13 +12,11 @@ use Rattle.store_rows.specs.Shares.{hold}
 use Rattle.desk_pages.specs.Desks.{OpensDesk, OpensOld, OpensEither}
 use Rattle.store_command.specs.Reading.{BeginsAtWhatIsRead}
 use Rattle.desk_migration.specs.Holding.{AreUnheld, IsHeldBy, hold_pairs}
-use Rattle.desk_migration.specs.Migrating.{device_of, disk_of, has_ended, is_halted, sectors_of, Ends, HasMore, HasRows, Keeps, KeepsNew, Moves}
-use Rattle.desk_migration.specs.Puts.{StepErr}
+use Rattle.desk_migration.specs.Migrating.{device_of, disk_of, is_halted, sectors_of, Ends, HasMore, HasRows, Keeps, KeepsNew, Moves}
 use Rattle.desk_migration.specs.declared.migration.Migration.{Migration}
-use Rattle.desk_migration.specs.declared.error.MigrationError.{MigrationError}
 use Rattle.store_command.specs.declared.fault.StoreFault.{StoreFault}
 use Rattle.store_command.specs.declared.fault.StoreFault.TheVariants.{DeviceFault}
-use Rattle.store_command.specs.Migrating.{fault_of_migration, HasMigrated, HasNew, HasOld, HasPut, HasStopped, IsBegun, IsMigrated, IsPut, IsStopped, LeavesEither, MigratesAll, MigratesDevice, WhereItReadsOld}
+use Rattle.store_command.specs.Migrating.{HasMigrated, HasNew, HasOld, HasPut, HasStopped, IsBegun, IsMigrated, IsStopped, LeavesEither, MigratesAll, MigratesDevice, WhereItReadsOld}
 
 -- ---- pairs that come to be held
 held_more : (m : KeyMap) (ps qs : List (ℕ × ℕ)) → hold_pairs m (ps ++ qs) ≡ hold_pairs (hold_pairs m ps) qs

@@ -1,5 +1,5 @@
 -- A synced device, by what it reads.
-use Rattle.std.proofs.Common.{◌≡◌, ◌≢◌, ◌≤◌, ◌+◌, ◌^◌, ℕ, Bool, true, false, None, Some, inl, inr, ⊎_elim, sym, subst, ◌∙◌, arith}
+use Rattle.std.proofs.Common.{◌≡◌, ◌≤◌, ◌^◌, ℕ, Bool, true, false, inl, inr, sym, subst, ◌∙◌, arith}
 use Rattle.sector_device.specs.Disk.{Disk, Image, IsSynced}
 use Rattle.sector_device.specs.Moments.{LeavesOnly}
 use Rattle.sector_device.proofs.Moments.{leaves_wider}
@@ -16,17 +16,15 @@ use Rattle.desk_pages.specs.Desks.{HoldsDeskOf, OpensDeskOf, OpensAs, OpensDesk,
 use Rattle.desk_pages.specs.Openings.{AllDesks, AllOld, AllVersions, IsOneAs, LeavesOneAs, LeavesOneOf, OpensOneAs, OpensOneOf}
 use Rattle.desk_store.specs.declared.clerk.Clerk.{Clerk}
 use Rattle.desk_store.specs.declared.opening.OpenError.{OpenError}
-use Rattle.desk_store.specs.declared.opening.OpenError.TheVariants.{NotAStore, OldVersion}
 use Rattle.desk_store.specs.Clerks.{desk_of, disk_of, Keeps}
 use Rattle.desk_store.specs.Openings.{OpenRefused}
 use Rattle.desk_migration.specs.declared.error.MigrationOpenError.{MigrationOpenError}
-use Rattle.desk_migration.specs.declared.error.MigrationOpenError.TheVariants as entry
 use Rattle.desk_migration.specs.declared.migration.Migration.{Migration}
 use Rattle.desk_migration.specs.Migrating.{disk_of as migrated_disk, Keeps as KeepsOld}
 use Rattle.desk_migration.specs.Openings.{IsRefused, KeepsOne}
 use Rattle.desk_runs.specs.Recovery.{ImagesAreOne}
 use Rattle.desk_runs.specs.Lives.{left_by}
-use Rattle.store_command.specs.Reading.{ReadsDesk, ReadsOld, ShowsDesk, ShowsWhatIsRead, BeginsAt, BeginsAtWhatIsRead, RefusesDesk, RefusesOld, RefusesWhatIsRead, BarsOld, BarsDesk, BarsWhatIsRead, HoldsWhatIsRead, FindsWhatIsRead}
+use Rattle.store_command.specs.Reading.{ReadsDesk, ReadsOld, ShowsWhatIsRead, BeginsAtWhatIsRead, RefusesWhatIsRead, BarsWhatIsRead, HoldsWhatIsRead, FindsWhatIsRead}
 
 -- ---- one image, one version
 version_once : (m : KeyMap) → row_in m version ≡ version_row true → row_in m version ≡ version_row false → ⊥

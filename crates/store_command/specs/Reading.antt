@@ -1,7 +1,7 @@
 -- What comes of a device by what it reads as. A stop leaves what a synced device reads, so nothing here is said of what else a stop
 -- may leave.
 use Rattle.std.specs.Prelude.{◌≡◌, ◌≢◌, ℕ}
-use Rattle.sector_device.specs.Disk.{Disk, Image, IsSynced}
+use Rattle.sector_device.specs.Disk.{Disk, IsSynced}
 use Rattle.sector_device.specs.Moments.{LeavesOnly}
 use Rattle.sector_device.specs.declared.SectorDevice.{Ghosts}
 use Rattle.desk_model.specs.Desk.{Desk}
