@@ -135,8 +135,7 @@ module _ {D : Type 0} {g : Ghosts D} (t u n : ℕ) (i : Image) where
       (failed (desk_of y) left, (ends.0, ends.1 ∙ sees.1, refl), (still.2, refl, sees.2, subst (λ j. t < (g.disk j.device).faults) (sym still.0) sees.3))
   commanded x (working d) c r y does honest lasts sees = elim (either (is_halted y)) [
     | inr works ↦ (
-        let may = calm (MustBeFull x c) (MayBeFull x (pages_of y) c) (is_halted y ≡ true) (desk_of x) c r (desk_of y) (λ on. clash_of (is_halted y) on works) does.outcome in
-        (
+        let may = calm (MustBeFull x c) (MayBeFull x (pages_of y) c) (is_halted y ≡ true) (desk_of x) c r (desk_of y) (λ on. clash_of (is_halted y) on works) does.outcome in (
           working (desk_of y),
           subst (λ (e : Desk). CommandMay ⊥ ⊤ ⊥ e c r (desk_of y)) sees.2 may,
           (works, does.moves.keeps sees.1, refl, does.moves.sectors ∙ sees.3, does.moves.calm works honest ∙ sees.4),
@@ -221,7 +220,7 @@ stream_lived {D} {g} x y old new served durably cause =
     let n = sectors_of x in
     let before = served_before x served new.unread durably.input durably.output y durably.serves in
     let seen : ((i : Image) → Keeps x → is_halted x ≡ false → (disk_of y).is_honest → (disk_of y).leaves i
-        → (end : State) × ServedAs t u (working (desk_of x)) served new.unread durably.input durably.output end × Sees t u n i y end)
+    → (end : State) × ServedAs t u (working (desk_of x)) served new.unread durably.input durably.output end × Sees t u n i y end)
     = λ i keeps off honest left. served_seen t u n i x served new.unread durably.input durably.output y durably.serves (working (desk_of x)) honest left refl (off, keeps, refl, refl, refl) in
     record {
       sectors = before.sectors;
