@@ -1,7 +1,7 @@
 -- Requests in a life, and lives in turn.
-use Rattle.std.proofs.Common.{◌≡◌, ◌⊎◌, ℕ, ◌≤◌, ◌<◌, ◌^◌, Bool, true, false, List, [], ◌∷◌, ◌++◌, length, get_or, Result, Ok, Err, inl, inr, ⊎_elim, refl, sym, subst, ◌∙◌, arith, append_assoc}
+use Rattle.std.proofs.Common.{◌≡◌, ◌⊎◌, ℕ, ◌≤◌, ◌<◌, ◌^◌, Bool, true, false, List, [], ◌∷◌, ◌++◌, length, get_or, inl, inr, ⊎_elim, refl, sym, subst, ◌∙◌, arith, append_assoc}
 use Rattle.std.proofs.lemmas.List.{append-nil}
-use Rattle.std.specs.Prelude.{⊤, Vec, None, Some}
+use Rattle.std.specs.Prelude.{⊤, None, Some}
 use Rattle.std.specs.List.{remove}
 use Rattle.std.specs.declared.alloc.Global.{Global}
 use Rattle.std.specs.declared.sync.Arc.{Arc}
@@ -22,9 +22,8 @@ use Rattle.desk_store.specs.declared.loads.LoadError.{LoadError}
 use Rattle.desk_store.specs.declared.loads.LoadError.TheVariants as load
 use Rattle.desk_loading.specs.Loads.{Stopped, LoadRefused}
 use Rattle.desk_store.specs.Loads.{HasGeography}
-use Rattle.desk_model.specs.Outcome.{IsStep, IsFull, RefusalMay, CommandMay}
+use Rattle.desk_model.specs.Outcome.{IsStep, RefusalMay, CommandMay}
 use Rattle.desk_model.specs.Step.{step}
-use Rattle.desk_catalogue.specs.Audits.{AskMay}
 use Rattle.desk_pages.specs.Desks.{OpensDesk}
 use Rattle.desk_pages.specs.Openings.{AllDesks, AllVersions, IsOneOf, OpensOneOf}
 use Rattle.desk_store.specs.declared.clerk.Clerk.{Clerk}
@@ -42,8 +41,8 @@ use Rattle.desk_lives.specs.declared.lives.Request.{Request}
 use Rattle.desk_lives.specs.declared.lives.Request.TheVariants.{Change, Look, Load, Sweep}
 use Rattle.desk_lives.specs.declared.lives.Answer.{Answer}
 use Rattle.desk_lives.specs.declared.lives.Answer.TheVariants.{Said, Loaded, Unloaded, Swept, Unswept}
-use Rattle.desk_lives.specs.Lives.{new_desk, loaded_desk, after_load, MayRefuse, Asked, Told, Failed, FailsAt, Lived, IsPassing, LifeAfterLife}
-use Rattle.desk_lives.specs.Inside.{OpensTo, Holds, Going, GoingFailed, Stands, Loads, Sweeps, Answers, LivedThrough, LivesOnce, GoingOn}
+use Rattle.desk_lives.specs.Lives.{new_desk, loaded_desk, after_load, MayRefuse, Failed, FailsAt, Lived, IsPassing, LifeAfterLife}
+use Rattle.desk_lives.specs.Inside.{Holds, Going, GoingFailed, Stands, Loads, Sweeps, Answers, LivedThrough, LivesOnce, GoingOn}
 
 pub either : (b : Bool) → (b ≡ true) ⊎ (b ≡ false)
 either true = inl refl

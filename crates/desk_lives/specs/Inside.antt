@@ -8,7 +8,6 @@ use Rattle.desk_model.specs.Desk.{Desk}
 use Rattle.desk_pages.specs.Desks.{OpensDesk}
 use Rattle.desk_pages.specs.Openings.{AllDesks, IsOneOf}
 use Rattle.desk_store.specs.declared.clerk.Clerk.{Clerk}
-use Rattle.store_sweep.specs.declared.error.SweepError.{SweepError}
 use Rattle.store_sweep.specs.declared.error.SweepError.TheVariants as sweep
 use Rattle.desk_store.specs.Clerks.{desk_of, disk_of, is_halted, sectors_of, Keeps, Moves}
 use Rattle.desk_store.specs.Commands.{Does}

@@ -10,7 +10,6 @@ use Rattle.desk_model.specs.Desk.{Desk}
 use Rattle.desk_model.specs.Step.{step}
 use Rattle.desk_model.specs.Outcome.{CommandMay}
 use Rattle.desk_catalogue.specs.Audits.{AskMay}
-use Rattle.store_sweep.specs.declared.error.SweepError.{SweepError}
 use Rattle.store_sweep.specs.declared.error.SweepError.TheVariants as sweep
 use Rattle.desk_store.specs.declared.loads.LoadError.{LoadError}
 use Rattle.desk_store.specs.declared.loads.LoadError.TheVariants as load

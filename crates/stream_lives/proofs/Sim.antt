@@ -2,7 +2,7 @@
 use Rattle.std.specs.Prelude.{⊤}
 use Rattle.std.proofs.Common.{◌≡◌, ◌⊎◌, ◌≤◌, ◌<◌, ℕ, Bool, true, false, List, [], ◌∷◌, ◌++◌, Option, Result, Ok, Err, ◌+◌, inl, inr, ⊎_elim, refl, sym, subst, ◌∙◌, arith}
 use Rattle.std.proofs.lemmas.List.{append-nil}
-use Rattle.sector_device.specs.Disk.{Disk, Image}
+use Rattle.sector_device.specs.Disk.{Image}
 use Rattle.sector_device.proofs.Moments.{leaves_now}
 use Rattle.sector_device.specs.declared.SectorDevice.{Ghosts}
 use Rattle.desk_model.specs.declared.command.Command.{Command}
@@ -22,7 +22,7 @@ use Rattle.http_wire.specs.Front.{closes_after, is_head}
 use Rattle.http_desk.specs.declared.serve.Served.{Served}
 use Rattle.http_desk.specs.declared.serve.StreamFault.{StreamFault}
 use Rattle.http_desk.specs.declared.serve.StreamFault.TheVariants as fault
-use Rattle.http_desk.specs.Serving.{ServesTo, IsShortTalk, IsFrontTalk, IsCutTalk}
+use Rattle.http_desk.specs.Serving.{ServesTo, IsShortTalk, IsFrontTalk}
 use Rattle.http_desk.specs.Talk.{Talk, MayAnswer}
 use Rattle.served_runs.specs.Served.{DoesAtCounter, AsksAtCounter, ServesDurably}
 use Rattle.desk_lives.specs.Inside.{LivedThrough}

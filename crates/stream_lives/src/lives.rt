@@ -2,9 +2,9 @@
 ghost use Rattle.std.specs.Prelude.{◌≡◌, ◌≤◌, IfOk};
 ghost use Rattle.desk_model.specs.Desk.{Desk};
 ghost use Rattle.desk_runs.specs.Recovery.{HoldsOne};
-ghost use Rattle.desk_lives.specs.Lives.{LifeAfterLife, new_desk};
+ghost use Rattle.desk_lives.specs.Lives.{new_desk};
 ghost use Rattle.desk_lives.specs.Inside.{LivesOnce};
-ghost use Rattle.stream_lives.specs.Streams.{Ends, LifeMay};
+ghost use Rattle.stream_lives.specs.Streams.{StreamLives};
 ghost use Rattle.stream_lives.specs.Inside.{IsLife};
 
 use byte_stream::source::Source;
@@ -46,7 +46,8 @@ fn serve_started<R: Source + Drop, W: GatherSink + Drop, D: Restarts + Drop, G: 
     writer: W,
     gate: &G,
 ) -> (Told<R, W>, D::Off)
-    ensures { LivesOnce (IsLife (λ r w. record { unread = R.remaining r; turns = R.turns r; failed_reads = R.failures r; written = W.contents w; failed_writes = W.failures w })
+    ensures { LivesOnce (IsLife
+        (λ r w. record { unread = R.remaining r; turns = R.turns r; failed_reads = R.failures r; written = W.contents w; failed_writes = W.failures w })
         (Life.Stream reader writer) result.0) (D.disk device) (D.rests result.1) }
 {
     let mut reader = reader;
@@ -69,7 +70,8 @@ fn one_life<R: Source + Drop, W: GatherSink + Drop, D: Restarts + Drop, G: Gate>
     life: Life<R, W>,
     gate: &G,
 ) -> Result<(Told<R, W>, D::Off), AllocError>
-    ensures { IfOk result (λ x. LivesOnce (IsLife (λ r w. record { unread = R.remaining r; turns = R.turns r; failed_reads = R.failures r; written = W.contents w; failed_writes = W.failures w })
+    ensures { IfOk result (λ x. LivesOnce (IsLife
+        (λ r w. record { unread = R.remaining r; turns = R.turns r; failed_reads = R.failures r; written = W.contents w; failed_writes = W.failures w })
         life x.0) (D.rests off) (D.rests x.1)) }
 {
     match life {
@@ -95,8 +97,8 @@ pub fn live_on<R: Source + Drop, W: GatherSink + Drop, D: Restarts + Drop, G: Ga
     gate: &G,
 ) -> Result<(Vec<Told<R, W>>, D::Off), AllocError>
     ensures honest { IfOk result (λ x. (D.rests x.1).is_honest → (D.rests off).is_honest) }
-    ensures lived { IfOk result (λ x. (D.rests x.1).is_honest → (d : Desk) → HoldsOne (D.rests off) d
-        → (e : Desk) × LifeAfterLife (LifeMay (λ r w. record { unread = R.remaining r; turns = R.turns r; failed_reads = R.failures r; written = W.contents w; failed_writes = W.failures w }))
+    ensures lived { IfOk result (λ x. (D.rests x.1).is_honest → (d : Desk) → HoldsOne (D.rests off) d → (e : Desk) × StreamLives
+        (λ r w. record { unread = R.remaining r; turns = R.turns r; failed_reads = R.failures r; written = W.contents w; failed_writes = W.failures w })
         (D.rests off).faults (D.rests x.1).faults d lives.items x.0.items e) }
 {
     one_desk_opens();
@@ -122,8 +124,8 @@ pub fn live<R: Source + Drop, W: GatherSink + Drop, D: Restarts + Drop, G: Gate>
 ) -> Result<(Vec<Told<R, W>>, D::Off), FormatError>
     requires least { 256 ≤ journal_pages }
     requires most { journal_pages ≤ 65536 }
-    ensures { IfOk result (λ x. (D.rests x.1).is_honest
-        → (e : Desk) × LifeAfterLife (LifeMay (λ r w. record { unread = R.remaining r; turns = R.turns r; failed_reads = R.failures r; written = W.contents w; failed_writes = W.failures w }))
+    ensures { IfOk result (λ x. (D.rests x.1).is_honest → (e : Desk) × StreamLives
+        (λ r w. record { unread = R.remaining r; turns = R.turns r; failed_reads = R.failures r; written = W.contents w; failed_writes = W.failures w })
         (D.disk device).faults (D.rests x.1).faults new_desk lives.items x.0.items e) }
 {
     let mut first = device;

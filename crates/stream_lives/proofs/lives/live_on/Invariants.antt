@@ -1,4 +1,4 @@
-use Rattle.std.proofs.Common.{◌≡◌, ℕ, length}
+use Rattle.std.proofs.Common.{◌≡◌, length}
 use Rattle.desk_model.specs.Desk.{Desk}
 use Rattle.desk_runs.specs.Recovery.{HoldsOne}
 use Rattle.desk_lives.specs.Inside.{Holds, GoingOn}

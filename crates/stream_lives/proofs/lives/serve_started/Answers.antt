@@ -1,4 +1,4 @@
-use Rattle.std.proofs.Common.{Ok, Err, refl}
+use Rattle.std.proofs.Common.{refl}
 use Rattle.desk_lives.proofs.Living.{opened_life, refused_life}
 use Rattle.stream_lives.specs.declared.lives.Life.TheVariants as life
 use Rattle.stream_lives.specs.declared.lives.Told.TheVariants as told

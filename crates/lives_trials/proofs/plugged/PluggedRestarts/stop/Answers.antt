@@ -4,5 +4,5 @@ use Rattle.lives_trials.proofs.plugged.PluggedRestarts.stop.Goals as goal
 
 pub returns-clause-left : goal.returns-clause-left
 returns-clause-left c =
-    let stop = c.stop-memory.ensures in
-    λ honest. left_of (fused_disk c.args.self.device) c.stop-memory.result stop.synced stop.left
+    let stop = c.stop.ensures in
+    λ honest. left_of (fused_disk c.args.self.device) c.stop.result stop.synced stop.left
