@@ -8,8 +8,6 @@ from login import authorization, login, trust
 # a revision of 1,048,576 blocks has some 21 million bytes, the list of 65,535 plans some eight
 LARGEST = 64 << 20
 SECONDS = 60
-# what the library takes as a host
-HOST = re.compile(r'[^\x00-\x20\x7f]+\Z')
 NAME = re.compile(r'[A-Za-z0-9._-]{1,64}\Z')
 BLOCK = re.compile(r'([0-9]{15})\|([0-9]{1,3}|ZZ|ZZZ|)\Z')
 PLACED = re.compile(r'([0-9]{15})\|([0-9]{5})?\|([0-9]{1,10})\Z')
@@ -31,7 +29,8 @@ class Desk:
             port = parts.port
         except ValueError:
             raise Refused('BadAddress', 2) from None
-        if parts.scheme not in ('http', 'https') or not parts.hostname or parts.query or parts.fragment or not HOST.match(parts.hostname):
+        plain = re.match(r'[!-~]+\Z', address) and parts.hostname
+        if parts.scheme not in ('http', 'https') or not plain or parts.query or parts.fragment:
             raise Refused('BadAddress', 2)
         self.path, self.heads = parts.path.rstrip('/'), {}
         if parts.scheme == 'https':
