@@ -17,11 +17,18 @@ def read_file(path):
         return None
 
 
+def make_folder(path):
+    try:
+        os.makedirs(path or '.', exist_ok=True)
+    except (OSError, ValueError):
+        raise Refused('WriteFault', 6) from None
+
+
 def write_whole(path, data):
     """Writes a file beside its place and then puts it there, so that a stop leaves the old one or the new one."""
     part = f'{path}.part'
+    make_folder(os.path.dirname(path))
     try:
-        os.makedirs(os.path.dirname(path) or '.', exist_ok=True)
         with open(part, 'wb') as file:
             file.write(data)
             file.flush()
