@@ -15,12 +15,13 @@ def section(name):
 
 
 def is_explained(name):
-    """The page has each code of the tool with its meaning, and each option; the help has an example."""
+    """The page has each code of the tool with its meaning, and each option. The help has them too, with what to do and an example."""
     said, sys.path[:0] = section(name), [os.path.join(root, 'tools')]
     found = runpy.run_path(os.path.join(root, 'tools', name))
     meanings = {**found['MEANINGS'], **found.get('WARNINGS', {})}
-    rows = re.findall(r'^\| `(\w+)[^`|]*` \| (.*?) \| (.*?) \|$', said, re.M)
-    assert {code: f'{means}. {does}' for code, means, does in rows} == meanings, (rows, meanings)
+    rows = dict(re.findall(r'^\| `(\w+)[^`|]*` \| (.*?) \|$', said, re.M))
+    assert rows == {code: meaning.partition('. ')[0] for code, meaning in meanings.items()}, (rows, meanings)
+    assert all(meaning.partition('. ')[2] for meaning in meanings.values()), meanings
     help_ = tool(name, '--help')
     assert f'tools/{name} ' in help_ and all(f'  {code}: ' in help_ for code in meanings), help_
     options = set(re.findall(r'^  (?:-h, )?(--[a-z0-9-]+)', help_, re.M)) - {'--help'}
