@@ -1,4 +1,4 @@
-use Rattle.std.proofs.Common.{IfOk, subst}
+use Rattle.std.proofs.Common.{subst}
 use Rattle.desk_model.specs.Desk.{Desk}
 use Rattle.desk_store.specs.Clerks.{desk_of}
 use Rattle.desk_gallery.specs.Working.{IsRunFrom}
