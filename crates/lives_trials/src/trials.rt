@@ -231,7 +231,7 @@ fn a_load_is_done_or_not(rt: HostRuntime) {
 fn commands_that_were_acknowledged_are_there(rt: HostRuntime) {
     let alloc = rt.alloc();
     for byte in [None, Some(0), Some(0xa5)] {
-        let (alone, more, swept) = tried_at_each(&rt, alloc, 1, 120, byte);
+        let (alone, more, swept) = tried_at_each(&rt, alloc, 1, 150, byte);
         assert!(&rt; alone > 0 && more > 0 && swept > 0);
     }
 }
@@ -240,7 +240,7 @@ fn commands_that_were_acknowledged_are_there(rt: HostRuntime) {
 fn a_sweep_takes_no_plan(rt: HostRuntime) {
     let alloc = rt.alloc();
     for byte in [None, Some(0), Some(0xa5)] {
-        let (alone, more, swept) = tried_at_each(&rt, alloc, 2, 60, byte);
-        assert!(&rt; alone == 60 && more == 0 && swept > 0 && swept < 60);
+        let (alone, more, swept) = tried_at_each(&rt, alloc, 2, 100, byte);
+        assert!(&rt; alone == 100 && more == 0 && swept > 0 && swept < 100);
     }
 }
