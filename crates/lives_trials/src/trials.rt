@@ -187,6 +187,17 @@ fn tried<R: Abort>(
     (done_in(&answers[1]), there, has_swept(&answers[2]))
 }
 
+/// How many calls pass in each of the first four lives, where the device fails at the call k of one of the first three, and soon in the
+/// last of them.
+fn passing_in(life: usize, k: u64) -> [u64; 4] {
+    let soon = k % 17;
+    match life {
+        0 => [k, u64::MAX, u64::MAX, soon],
+        1 => [u64::MAX, k, u64::MAX, soon],
+        _ => [u64::MAX, u64::MAX, k, soon],
+    }
+}
+
 /// Tries each call of a life, the first of the lives being 0: how often what was acknowledged was there alone, how often the command in
 /// which the device failed was there too, and how often rows were swept.
 fn tried_at_each<R: Abort>(
@@ -200,10 +211,7 @@ fn tried_at_each<R: Abort>(
     let mut more = 0u32;
     let mut swept = 0u32;
     for k in 0..calls {
-        let mut passing = [u64::MAX; 4];
-        passing[life] = k;
-        passing[3] = k % 17;
-        let (done, there, has_swept) = tried(rt, alloc, passing, byte);
+        let (done, there, has_swept) = tried(rt, alloc, passing_in(life, k), byte);
         let next = done.saturating_add(1);
         assert!(rt; there == plans_after(done) || there == plans_after(next));
         if there == plans_after(done) && alone < 1_000 {
