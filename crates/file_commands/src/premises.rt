@@ -1,13 +1,16 @@
 //! The premises of what is proved of commands, met at the device that these are handed.
-ghost use Rattle.std.specs.Prelude.{IfOk};
-ghost use Rattle.store_command.specs.Reading.{HoldsWhatIsRead, FindsWhatIsRead};
+ghost use Rattle.std.specs.Prelude.{◌≤◌, IfOk, OnOk};
+ghost use Rattle.desk_pages.specs.Desks.{new_desk};
+ghost use Rattle.store_command.specs.Reading.{HoldsWhatIsRead, FindsWhatIsRead, ReadsDesk};
 ghost use Rattle.sector_file.specs.Device.{first_image};
 ghost use Rattle.file_commands.specs.Premises.{HasNoPremise};
 
 use crate::stores::StoreFiles;
+use desk_pages::{FormatError, format};
 use desk_store::clerk::Clerk;
 use sector_device::SectorDevice;
 use sector_file::{Contents, FileDevice};
+use std::alloc::Global;
 use store_command::fault::StoreFault;
 use store_command::filling::open_clerk;
 use store_command::stores::Stores;
@@ -42,3 +45,16 @@ pub fn lives_find_what_is_read<D: SectorDevice>()
     ensures first { HoldsWhatIsRead D.SectorDevice }
     ensures next { FindsWhatIsRead D.SectorDevice }
 {}
+
+/// That a device reads as a desk is met by each store that was made: it reads as the desk without geography and plans.
+pub fn new_store_is_read<D: SectorDevice>(
+    alloc: Global,
+    device: &mut D,
+    journal_pages: u32,
+) -> Result<(), FormatError>
+    requires least { 256 ≤ journal_pages }
+    requires most { journal_pages ≤ 65536 }
+    ensures { (D.disk device.new).is_honest → OnOk result (ReadsDesk (D.disk device.new) new_desk) }
+{
+    format(alloc, device, journal_pages)
+}
