@@ -62,6 +62,30 @@ class Edit:
             body = body.replace(old, new)
         return at, re.sub(rf'\bfn {last}\b', f'fn {function.split("::")[-1]}', body, count=1)
 
+    def module(self, folder):
+        """The module of the function, where all of the edit is in it and a copy of the whole may stand beside it: a file that the root
+        names, and that no specs and no other proofs speak of."""
+        at, name = self.pairs[0][0], self.function.split('::')[0]
+        others = [f'{above}/{it}' for part in ('specs', 'proofs') for above, _, names in os.walk(f'{folder}/{part}') for it in names
+                  if not above.startswith(f'{folder}/proofs/{name}/')]
+        if at != f'src/{name}.rt' or any(file != at for file, _, _ in self.pairs) or os.path.isdir(f'{folder}/src/{name}'):
+            return None
+        return None if any(speaks_of(name).search(text_of(it)) for it in others) else name
+
+    def put_module_beside(self, crate, folder, copy):
+        """Puts a copy of the module with this edit into a copy of the crate, with what is written of its proofs."""
+        name = self.function.split('::')[0]
+        renamed = lambda text: re.sub(rf'\bcrate::{name}\b', f'crate::{copy}', speaks_of(name).sub(rf'\1.{copy}', text))
+        text = text_of(f'{crate}/src/{name}.rt')
+        for _, old, new in self.pairs:
+            text = text.replace(old, new)
+        write(f'{folder}/src/{copy}.rt', renamed(text))
+        root = f'{folder}/src/lib.rt' if os.path.exists(f'{folder}/src/lib.rt') else f'{folder}/src/main.rt'
+        write(root, re.sub(rf'^((?:pub(?:\([a-z ]+\))? )?mod ){name};$', rf'\g<0>\n\g<1>{copy};', text_of(root), count=1, flags=re.M))
+        for above, _, names in os.walk(f'{crate}/proofs/{name}'):
+            for it in names:
+                write(f'{folder}/proofs/{copy}{above[len(f"{crate}/proofs/{name}"):]}/{it}', renamed(text_of(f'{above}/{it}')))
+
     def is_cited(self, folder):
         """Whether a file of another proof names the function's, or its proof is one of a cycle of calls."""
         own = re.compile(rf'\b{re.escape(self.proof().replace("/", "."))}\b')
@@ -83,6 +107,11 @@ class Edit:
             if os.path.exists(f'{folder}/{old}/{written}'):
                 own = re.compile(rf'\b{re.escape(old.replace("/", "."))}\b')
                 write(f'{folder}/{new}/{written}', own.sub(new.replace('/', '.'), text_of(f'{folder}/{old}/{written}')))
+
+
+def speaks_of(module):
+    """Where a text names what is declared, stated or proved in a module."""
+    return re.compile(rf'\b(declared|contracts|proofs)\.{module}\b')
 
 
 def span(text, name):

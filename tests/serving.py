@@ -54,16 +54,18 @@ def free_port():
         return free.getsockname()[1]
 
 
-def serving(store, port, connections=1, workers=1, idle=None):
-    """The words that serve a store."""
-    words = ['serve', store, '--port', str(port), '--workers', str(workers), '--connections', str(connections)]
-    return words if idle is None else [*words, '--idle', str(idle)]
+def serving(store, port, connections=1, workers=1, **seconds):
+    """The words that serve a store. What is None isn't said."""
+    given = {'workers': workers, 'connections': connections, **seconds}
+    return ['serve', store, '--port', str(port),
+            *(word for name, value in given.items() if value is not None for word in (f'--{name}', str(value)))]
 
 
-def start(store, connections=1, workers=1, idle=None, **more):
+def start(store, connections=1, workers=1, keep=None, idle=None, request=None, **more):
     """Serves a store to so many connections: the process, its port, and whether it listens."""
     port = free_port()
-    process = subprocess.Popen([program, *serving(store, port, connections, workers, idle)], stdin=subprocess.DEVNULL,
+    words = serving(store, port, connections, workers, keep=keep, idle=idle, request=request)
+    process = subprocess.Popen([program, *words], stdin=subprocess.DEVNULL,
                                stdout=subprocess.PIPE, stderr=subprocess.PIPE, **more)
     line = process.stdout.readline()
     if line not in (b'', b'listening on 127.0.0.1:%d\n' % port):

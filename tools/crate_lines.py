@@ -17,8 +17,13 @@ def stands_on():
 
 def below(name, libraries):
     """The repository's crates under one, each once, those that others stand on first."""
-    found = []
-    for library in libraries[name]:
-        if library in libraries:
-            found += [it for it in [*below(library, libraries), library] if it not in found]
-    return found
+    found = {}
+
+    def add(crate):
+        for library in libraries[crate]:
+            if library in libraries and library not in found:
+                add(library)
+                found[library] = None
+
+    add(name)
+    return list(found)

@@ -1,5 +1,5 @@
 """For the tools that ask a served desk: what it is asked, over HTTP, on one connection that is kept."""
-import hashlib, http.client, json, re, ssl
+import hashlib, http.client, json, re, select, ssl
 from urllib.parse import urlsplit
 
 from audit import Refused
@@ -43,9 +43,16 @@ class Desk:
     def close(self):
         self.connection.close()
 
+    def is_kept(self):
+        """Whether the last connection is still there: one that was ended while nothing was asked has its end to read."""
+        kept = self.connection.sock
+        if kept is not None and select.select([kept], [], [], 0)[0]:
+            self.close()
+        return self.connection.sock is not None
+
     def answer(self, method, path, body):
         """The status and the body of the answer."""
-        kept = self.connection.sock is not None
+        kept = self.is_kept()
         try:
             self.connection.request(method, self.path + path, body, self.heads)
             answer = self.connection.getresponse()

@@ -1,4 +1,7 @@
-//! The population clauses of a plan's audit, Iowa Code 42.4(1), in whole numbers.
+//! The population clauses, Iowa Code 42.4(1)a and b: in whole numbers.
+//!
+//! Seen as lists of numbers. `populations`, `mean_breaks`, `range_breaks`, `congress_breaks`: sums over all blocks and inequalities of
+//! products of whole numbers, without a quotient or rounding.
 #![tactic(auto)]
 
 pub mod clauses;

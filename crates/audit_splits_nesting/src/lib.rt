@@ -1,5 +1,7 @@
-//! Counties and cities that a plan divides, Iowa Code 42.4(2), and districts that aren't nested in a companion plan,
-//! 42.4(6).
+//! Divided counties and cities, Iowa Code 42.4(2), and nesting, 42.4(6): districts that aren't nested in a companion plan.
+//!
+//! Seen as the values of a group's blocks. Both ways: `divided_counties`, `divided_cities`, `cities_in_county`, two blocks of a county or
+//! city with two values; `nesting_breaks`, no one senate value on all blocks.
 #![tactic(auto)]
 
 mod mark;

@@ -1,8 +1,14 @@
-//! The timed programs of `bench/`, by the first word: `commit` with the numbers of pages, up to 208, and of commits; `baf`;
-//! `audit` with the numbers of blocks, up to 1,048,576, and of districts, up to 999, and `workers` likewise; `gal` with the path of
-//! a neighbour file and the number of its blocks; `plans` with the numbers of creates and of the step between their names, or of
-//! posts to one plan and 0; `patches` with the numbers of revisions, the first whole and each other a patch of a county, and of
-//! blocks, up to 1,048,576; `tree` with the number of rows and `rising` or `shuffled`. With no words it does nothing.
+//! The timed programs of `bench/`, by the first word; with no words nothing is done.
+//!
+//! # Notes
+//!
+//! - `commit` with the numbers of pages, up to 208, and of commits
+//! - `baf`
+//! - `audit` with the numbers of blocks, up to 1,048,576, and of districts, up to 999, and `workers` likewise
+//! - `gal` with the path of a neighbour file and the number of its blocks
+//! - `plans` with the numbers of creates and of the step between their names, or of posts to one plan and 0
+//! - `patches` with the numbers of revisions, the first whole and each other a patch of a county, and of blocks, up to 1,048,576
+//! - `tree` with the number of rows and `rising` or `shuffled`
 #![tactic(auto)]
 
 mod audits;

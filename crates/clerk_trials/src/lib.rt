@@ -1,5 +1,9 @@
-//! What only the clerk's own calls show, tried on stores in memory; a fork beside its origin; and served commands, loads, sweeps,
-//! openings and migrations at a device that stops or fails at one of its calls, and the desk that is found then.
+//! What only the clerk's own calls show, on stores in memory, and the desk that is found after a stop or a failure.
+//!
+//! # Notes
+//!
+//! There is a fork beside its origin. Served commands, loads, sweeps, openings and migrations meet a device that stops or fails at one of
+//! its calls.
 #![tactic(auto)]
 
 #[cfg(test)]

@@ -1,22 +1,27 @@
 -- What the program may be asked for.
-use Rattle.std.specs.Prelude.{◌≡◌, ◌≤◌, codes, Some}
+use Rattle.std.specs.Prelude.{◌≡◌, ◌≤◌, ℕ, Bool, true, false, List, [], ◌∷◌, codes, Option, None, Some, is_some, option_map}
 use Rattle.std.specs.Option.{option_copied}
-use Rattle.clap.specs.Matches.{first_value}
+use Rattle.clap.specs.Matches.{first_value, one_text, matched_of, raw_values}
 use Rattle.clap.specs.declared.parser.matches.Found.{Found}
 use Rattle.state_files.specs.declared.open.CensusPaths.{CensusPaths}
 use Rattle.state_files.specs.Opens.{AreAlike}
-use Rattle.command_line.specs.Options.{AreTerms, IsSize, size_read, IsServing, serving_read}
+use Rattle.fault_words.specs.Codes.{code_in, or_code}
+use Rattle.command_line.specs.Options.{AreTerms, form_read, workers_read, IsSize, format_read, IsServing, serving_read}
+use Rattle.command_line.specs.declared.options.Form.{Form}
+use Rattle.command_line.specs.declared.options.Form.TheVariants as form
+use Rattle.command_line.specs.declared.words.Asked.{Asked}
 use Rattle.command_line.specs.declared.words.Job.{Job}
-use Rattle.command_line.specs.declared.words.Job.TheVariants.{Talk, Counts, Audit, Format, Load, Serve, Sweep, Migrate, Explain}
+use Rattle.command_line.specs.declared.words.Job.TheVariants.{Talk, Counts, Audit, Format, Load, Serve, Stat, Sweep, Migrate, Explain}
 
 -- an audit is asked for with its terms in range and 1 to 64 workers, and each companion's file goes with its number of districts
 abbrev pub IsJob : Job → Type 0
 IsJob Talk = Unit {0}
 IsJob (Counts paths) = Unit {0}
 IsJob (Audit paths terms workers) = AreTerms terms × AreAlike paths.beside terms.beside × (1 ≤ workers) × (workers ≤ 64)
-IsJob (Format store size) = IsSize size
+IsJob (Format store size reckoned) = IsSize size
 IsJob (Load store census gal) = Unit {0}
 IsJob (Serve store serving log) = IsServing serving
+IsJob (Stat store json) = Unit {0}
 IsJob (Sweep store) = Unit {0}
 IsJob (Migrate store) = Unit {0}
 IsJob (Explain code) = Unit {0}
@@ -28,24 +33,60 @@ pub record AreCensusPaths (found : Found) (paths : CensusPaths) : Type 0 where
   pub second : first_value found (codes "seg2") ≡ Some paths.seg2.now
   pub third : first_value found (codes "seg3") ≡ Some paths.seg3.now
 
--- and so is each file of an audit
+-- an option without a value was given, or wasn't
+pub record IsFlag (found : Found) (name : List ℕ) (is : Bool) : Type 0 where
+  pub given : one_text found name ≡ Some (codes "true") → is ≡ true
+  pub not_given : one_text found name ≡ Some (codes "false") → is ≡ false
+  pub none : one_text found name ≡ None → is ≡ false
+
+-- the form of `check` that the options ask for, with the kind, the districts and the companions of an audit
+abbrev pub form_asked : Found → Option Form
+form_asked found = form_read (is_some (first_value found (codes "gal"))) (is_some (first_value found (codes "plan")))
+    (first_value found (codes "kind")) (first_value found (codes "districts"))
+    (is_some (first_value found (codes "senate"))) (is_some (first_value found (codes "congress")))
+    (record { senate = first_value found (codes "senate-districts"); congress = first_value found (codes "congress-districts") })
+
+-- the code of the first word that has one
+abbrev pub first_code : List (List ℕ) → Option (List ℕ)
+first_code [] = None
+first_code (w ∷ ws) = or_code (code_in w) (first_code ws)
+
+-- no word asks for all codes, and words for that of the first one that has one
+abbrev pub code_read : Option (List (List ℕ)) → Option (Option (List ℕ))
+code_read None = Some None
+code_read (Some []) = Some None
+code_read (Some (w ∷ ws)) = option_map Some (first_code (w ∷ ws))
+
+-- the job is the one that the options ask for, as a whole
 abbrev pub HasPaths : Found → Job → Type 0
 HasPaths found Talk = Unit {0}
-HasPaths found (Counts paths) = AreCensusPaths found paths
+HasPaths found (Counts paths) = AreCensusPaths found paths × (form_asked found ≡ Some form.Counts)
 HasPaths found (Audit paths terms workers) = AreCensusPaths found paths.census
     × (first_value found (codes "gal") ≡ Some paths.gal.now)
     × (first_value found (codes "plan") ≡ Some paths.plan.now)
     × (first_value found (codes "senate") ≡ option_copied paths.beside.senate)
     × (first_value found (codes "congress") ≡ option_copied paths.beside.congress)
-HasPaths found (Format store size) = (first_value found (codes "store") ≡ Some store.now)
-    × (size_read (first_value found (codes "sectors")) (first_value found (codes "journal")) ≡ Some size)
+    × (form_asked found ≡ Some (form.Audit terms))
+    × (workers_read (first_value found (codes "workers")) ≡ Some workers)
+HasPaths found (Format store size reckoned) = (first_value found (codes "store") ≡ Some store.now)
+    × (format_read (first_value found (codes "sectors")) (first_value found (codes "journal"))
+    (first_value found (codes "blocks")) (first_value found (codes "counties"))
+    (first_value found (codes "plans")) (first_value found (codes "revisions")) ≡ Some (size, reckoned))
 HasPaths found (Load store census gal) = AreCensusPaths found census
     × (first_value found (codes "store") ≡ Some store.now)
     × (first_value found (codes "gal") ≡ Some gal.now)
 HasPaths found (Serve store serving log) = (first_value found (codes "store") ≡ Some store.now)
     × (serving_read (first_value found (codes "port")) (first_value found (codes "workers"))
-    (first_value found (codes "connections")) (first_value found (codes "idle")) ≡ Some serving)
+    (first_value found (codes "connections")) (first_value found (codes "keep"))
+    (first_value found (codes "idle")) (first_value found (codes "request")) ≡ Some serving)
     × (first_value found (codes "log") ≡ option_copied log)
+HasPaths found (Stat store json) = (first_value found (codes "store") ≡ Some store.now) × IsFlag found (codes "json") json
 HasPaths found (Sweep store) = first_value found (codes "store") ≡ Some store.now
 HasPaths found (Migrate store) = first_value found (codes "store") ≡ Some store.now
-HasPaths found (Explain code) = first_value found (codes "code") ≡ Some code.now
+HasPaths found (Explain code) = code_read (option_map raw_values (matched_of found (codes "code"))) ≡ Some (option_copied code)
+
+-- and a fault is told with what it means where the flag of that is set
+pub record IsAsked (found : Found) (asked : Asked) : Type 0 where
+  pub job : HasPaths found asked.job
+  pub words : one_text found (codes "words") ≡ Some (codes "true") → asked.with_words ≡ true
+  pub none : one_text found (codes "words") ≡ Some (codes "false") → asked.with_words ≡ false

@@ -14,8 +14,9 @@ To read: README.md, and docs/FAULTS.md, of which explain prints a line.";
 pub(crate) const FORMAT_HELP: &str =
     "Where it ends with 4 or 5 after the file was made, the file is no store: remove it before the next format.
 
-Example:
+Examples, the second of a size that is reckoned as docs/FORMATS.md does, with three pairs of neighbours for each block:
   ./plandesk format state.store --sectors 2000 --journal 256
+  ./plandesk format state.store --blocks 4 --counties 2 --plans 10 --revisions 5
 
 Statuses:
   0  the store is made
@@ -44,12 +45,14 @@ Statuses:
 To read: docs/IOWA.md (from the files of the census to a loaded store), docs/FAULTS.md.";
 
 pub(crate) const SERVE_HELP: &str =
-    "It listens on 127.0.0.1 and ends once so many connections were served. Each worker serves one connection at a time: commands go
-one after the other, and what is read waits for nobody. One that brings no byte, or takes none, for the idle seconds ends alone.
+    "It listens on 127.0.0.1, and ends once so many connections were served, or else when it is killed. Each worker serves one connection
+at a time: commands go one after the other, and what is read waits for nobody. One that asks nothing gives way after the seconds of
+--keep, and at once where another waits for a worker. One that is silent within a request, or takes no byte of an answer, ends after
+those of --idle, and one whose request hasn't come whole after those of --request.
 No connection waits for the log: lines for which there is no room are dropped, and the next one tells how many.
 
 Example, of a store that was formatted and loaded:
-  ./plandesk serve state.store --port 8080 --workers 4 --connections 1000 --log state.log
+  ./plandesk serve state.store --port 8080 --log state.log
   curl http://127.0.0.1:8080/plans
 
 Statuses:
@@ -61,6 +64,23 @@ Statuses:
   6  the socket or standard output failed
 
 To read: docs/OPERATE.md (serve, stop, back up, who may do what), docs/FAULTS.md.";
+
+pub(crate) const STAT_HELP: &str =
+    "It prints a line for each figure: its key and its value. For a whole revision, a patch of the largest county and a fork it tells
+whether they would be refused as Full now, how many free pages and pages of the journal they need, and how many free pages are short
+or left. chunks are those that plans hold; deleted_plans and stopped_loads hold pages until a sweep. Nothing in the store changes.
+
+Example:
+  ./plandesk stat state.store --json
+
+Statuses:
+  0  the figures were printed
+  2  the command line is wrong; nothing was opened
+  4  the store was refused, is in use, or its device failed
+  5  memory was refused
+  6  standard output failed
+
+To read: docs/OPERATE.md (how full a store is), docs/FAULTS.md.";
 
 pub(crate) const SWEEP_HELP: &str =
     "It goes on until no such row is left; where it is stopped, the next one goes on from there. The desk stays as it is.
@@ -124,14 +144,17 @@ Statuses:
 
 To read: README.md (each request), docs/FAULTS.md.";
 
-pub(crate) const EXPLAIN_HELP: &str = "At a terminal the same words follow a fault's own line.
+pub(crate) const EXPLAIN_HELP: &str =
+    "At a terminal, and with --words, the same words follow a fault's own line.
 
-Example:
+Examples, the last of which lists all codes:
   ./plandesk explain A7
+  ./plandesk explain 'plandesk: plan: B2 line 2'
+  ./plandesk explain
 
 Statuses:
-  0  what is known of the code was printed
-  2  the command line is wrong: no fault has such a code
+  0  what is known of the code, or of all codes, was printed
+  2  the command line is wrong: none of its words is a fault's code
   5  memory was refused
   6  standard output failed
 

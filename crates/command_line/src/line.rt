@@ -1,7 +1,6 @@
 //! The command line, made of its tables.
 use crate::helps::STATUSES;
-use crate::tables::{Argument, KINDS, ORDERS, Subcommand, Values};
-use clap::builder::ValueParser;
+use crate::tables::{Argument, KINDS, Subcommand, Values, first_orders, last_orders};
 use clap::{Arg, ArgAction, Command};
 use std::alloc::{AllocError, Global};
 
@@ -20,8 +19,7 @@ fn option<'a>(alloc: Global, name: &'a str, value: &'a str, help: &'a str) -> Ar
 /// An option whose values are of one sort.
 fn of_values<'a>(option: Arg<'a>, values: Values) -> Arg<'a> {
     match values {
-        Values::Texts => option,
-        Values::Numbers(least, most) => option.value_parser(ValueParser::unsigned(least, most)),
+        Values::Texts | Values::Numbers(_, _) => option,
         Values::Kinds => option.value_parser(KINDS),
     }
 }
@@ -38,19 +36,32 @@ fn arg_of<'a>(alloc: Global, entry: &Argument) -> Result<Arg<'a>, AllocError> {
             Arg::new(alloc, "code")
                 .value_name("CODE")
                 .help(
-                    "The code of a fault, as G1 or DeviceFault, or the error of an answer over HTTP",
+                    "The code of a fault, as G1 or DeviceFault, the error of an answer over HTTP, or a line that has one, in any case; without one all codes are listed",
                 )
-                .required(true),
+                .num_args(0..),
         ),
         Argument::File(name, help) => Ok(option(alloc, name, "FILE", help).required(true)),
-        Argument::Number(name, value, help, least, most) => {
-            let option = option(alloc, name, value, help).required(true);
-            Ok(of_values(option, Values::Numbers(*least, *most)))
+        Argument::Number(name, value, help, _, _) => {
+            Ok(option(alloc, name, value, help).required(true))
         }
+        Argument::Flag(name, help) => Ok(
+            Arg::new(alloc, name)
+                .long(name)
+                .help(help)
+                .action(ArgAction::SetTrue),
+        ),
         Argument::Beside(name, value, help, values, others) => {
             of_values(option(alloc, name, value, help), *values).requires_all(others)
         }
     }
+}
+
+/// The option of each command that has a fault's line followed by what it means.
+fn words<'a>(alloc: Global) -> Arg<'a> {
+    Arg::new(alloc, "words")
+        .long("words")
+        .help("Tells behind a fault's line what it means, also where standard error is no terminal")
+        .action(ArgAction::SetTrue)
 }
 
 /// A command that takes what its table says.
@@ -60,6 +71,19 @@ fn command_of<'a>(alloc: Global, order: &Subcommand) -> Result<Command<'a>, Allo
         .after_help(order.after);
     for entry in order.entries {
         command = command.arg(arg_of(alloc, entry)?)?;
+    }
+    command.arg(words(alloc))
+}
+
+/// A command line with these commands more.
+fn with_orders<'a>(
+    alloc: Global,
+    command: Command<'a>,
+    orders: &[Subcommand],
+) -> Result<Command<'a>, AllocError> {
+    let mut command = command;
+    for order in orders {
+        command = command.subcommand(command_of(alloc, order)?)?;
     }
     Ok(command)
 }
@@ -71,8 +95,6 @@ pub fn command<'a>(alloc: Global) -> Result<Command<'a>, AllocError> {
         .version(VERSION)
         .after_help(STATUSES)
         .subcommand_required(true);
-    for order in &ORDERS {
-        command = command.subcommand(command_of(alloc, order)?)?;
-    }
-    Ok(command)
+    command = with_orders(alloc, command, first_orders())?;
+    with_orders(alloc, command, last_orders())
 }

@@ -4,8 +4,10 @@ ghost use Rattle.std.specs.Option.{option_copied};
 ghost use Rattle.desk_model.specs.Companions.{takes, companions_copied};
 ghost use Rattle.state_files.specs.Opens.{AreAlike};
 ghost use Rattle.command_line.specs.Options.{number_to as number_in, beside_read, companions_read, terms_read, is_any, form_read, AreTerms, IsForm};
-ghost use Rattle.command_line.specs.Options.{HasCompanions, workers_read, at_least, size_read, IsSize, idle_read, serving_read, IsServing};
+ghost use Rattle.command_line.specs.Options.{HasCompanions, workers_read, at_least, size_read, IsSize, reckoned_read, format_read};
+ghost use Rattle.command_line.specs.Options.{seconds_read, serving_workers_read, connections_read, patience_read, serving_read, IsPatience, IsServing};
 
+use crate::sizes::size_for;
 use desk_model::companions::Companions;
 use desk_model::kind::Kind;
 
@@ -33,13 +35,80 @@ pub struct Size {
     pub journal_pages: u32,
 }
 
-/// On which port a store is served, by how many workers, and to how many connections, each of which may be idle for so many seconds.
+/// How large a store is to be: of so many sectors and journal pages, or as the numbers of what it is to hold are reckoned, which answers
+/// true. `None` where both are asked for or neither, where a number is missing, isn't digits alone, or is out of its range, and where a
+/// store of such a size can't be.
+pub fn read_format(
+    sectors: Option<&[u8]>,
+    journal: Option<&[u8]>,
+    blocks: Option<&[u8]>,
+    counties: Option<&[u8]>,
+    plans: Option<&[u8]>,
+    revisions: Option<&[u8]>,
+) -> Option<(Size, bool)>
+    ensures value { result ≡ format_read (option_copied sectors.entry) (option_copied journal.entry) (option_copied blocks.entry)
+        (option_copied counties.entry) (option_copied plans.entry) (option_copied revisions.entry) }
+    ensures valid { IfSome result (λ read. IsSize read.0) }
+{
+    if blocks.is_none() && counties.is_none() && plans.is_none() && revisions.is_none() {
+        let size = read_size(sectors, journal)?;
+        return Some((size, false));
+    }
+    if sectors.is_some() || journal.is_some() {
+        return None;
+    }
+    let size = read_reckoned(blocks, counties, plans, revisions)?;
+    Some((size, true))
+}
+
+/// How large a store is to be by what it is to hold.
+fn read_reckoned(
+    blocks: Option<&[u8]>,
+    counties: Option<&[u8]>,
+    plans: Option<&[u8]>,
+    revisions: Option<&[u8]>,
+) -> Option<Size>
+    ensures value { result ≡ reckoned_read (option_copied blocks.entry) (option_copied counties.entry)
+        (option_copied plans.entry) (option_copied revisions.entry) }
+    ensures valid { IfSome result IsSize }
+{
+    let blocks = blocks?;
+    let counties = counties?;
+    let plans = plans?;
+    let revisions = revisions?;
+    let blocks = number_up_to(1_048_576, blocks)?;
+    let counties = number_up_to(1_000, counties)?;
+    let plans = number_up_to(65_535, plans)?;
+    let revisions = number_up_to(65_535, revisions)?;
+    size_for(blocks, counties, plans, revisions)
+}
+
+/// Whether a text is a number from the least to the most, of digits alone.
+pub(crate) fn is_number(least: u64, most: u64, text: &[u8]) -> bool {
+    match number_up_to(4_294_967_295, text) {
+        Some(number) => least <= number as u64 && number as u64 <= most,
+        None => false,
+    }
+}
+
+/// For how many seconds a connection is kept.
+#[derive(Clone, Copy)]
+pub struct Patience {
+    /// That brings nothing between requests.
+    pub keep: u32,
+    /// That brings nothing within a request.
+    pub idle: u32,
+    /// From the first byte of a request until that has come whole.
+    pub request: u32,
+}
+
+/// On which port a store is served, by how many workers, to how many connections, or without end, and for how long each is kept.
 #[derive(Clone, Copy)]
 pub struct Serving {
     pub port: u16,
     pub workers: u16,
-    pub connections: u32,
-    pub idle: u32,
+    pub connections: Option<u32>,
+    pub patience: Patience,
 }
 
 /// The number that digits alone write, where it is 1 to `most`. Leading zeros are digits like others.
@@ -101,41 +170,85 @@ pub fn read_size(sectors: Option<&[u8]>, journal: Option<&[u8]>) -> Option<Size>
     })
 }
 
-/// The seconds for which a word lets a connection be idle, 1 to 86,400, a day: digits alone. 60 where there is no word.
-fn read_idle(word: Option<&[u8]>) -> Option<u32>
-    ensures value { result ≡ idle_read (option_copied word.entry) }
+/// The seconds that a word asks for, 1 to 86,400, a day: digits alone. The usual ones where there is no word.
+fn read_seconds(usual: u32, word: Option<&[u8]>) -> Option<u32>
+    requires { (1 ≤ usual) × (usual ≤ 86400) }
+    ensures value { result ≡ seconds_read usual (option_copied word.entry) }
     ensures some { IfSome result (λ n. 1 ≤ n) }
     ensures few { IfSome result (λ n. n ≤ 86400) }
 {
     match word {
-        None => Some(60),
+        None => Some(usual),
         Some(text) => number_up_to(86_400, text),
     }
 }
 
-/// How a store is to be served. `None` where a number is missing, isn't digits alone, or is out of its range.
+/// The number of threads that a word lets serve, 1 to 64: digits alone. 16 where there is no word.
+fn read_serving_workers(word: Option<&[u8]>) -> Option<u16>
+    ensures value { result ≡ serving_workers_read (option_copied word.entry) }
+    ensures some { IfSome result (λ n. 1 ≤ n) }
+    ensures few { IfSome result (λ n. n ≤ 64) }
+{
+    match word {
+        None => Some(16),
+        Some(text) => number_to(64, text),
+    }
+}
+
+/// After how many connections a word ends the serving, 1 to 4,294,967,295: digits alone. Never where there is no word.
+fn read_connections(word: Option<&[u8]>) -> Option<Option<u32>>
+    ensures value { result ≡ connections_read (option_copied word.entry) }
+    ensures some { IfSome result (λ connections. IfSome connections (λ n. 1 ≤ n)) }
+{
+    let Some(text) = word else {
+        return Some(None);
+    };
+    let connections = number_up_to(4_294_967_295, text)?;
+    Some(Some(connections))
+}
+
+/// For how long a connection is kept.
+fn read_patience(
+    keep: Option<&[u8]>,
+    idle: Option<&[u8]>,
+    request: Option<&[u8]>,
+) -> Option<Patience>
+    ensures value { result ≡ patience_read (option_copied keep.entry) (option_copied idle.entry) (option_copied request.entry) }
+    ensures valid { IfSome result IsPatience }
+{
+    let keep = read_seconds(5, keep)?;
+    let idle = read_seconds(60, idle)?;
+    let request = read_seconds(300, request)?;
+    Some(Patience {
+        keep,
+        idle,
+        request,
+    })
+}
+
+/// How a store is to be served. `None` where the port is missing, or a number isn't digits alone or is out of its range.
 pub fn read_serving(
     port: Option<&[u8]>,
     workers: Option<&[u8]>,
     connections: Option<&[u8]>,
+    keep: Option<&[u8]>,
     idle: Option<&[u8]>,
+    request: Option<&[u8]>,
 ) -> Option<Serving>
-    ensures value { result ≡ serving_read (option_copied port.entry) (option_copied workers.entry)
-        (option_copied connections.entry) (option_copied idle.entry) }
+    ensures value { result ≡ serving_read (option_copied port.entry) (option_copied workers.entry) (option_copied connections.entry)
+        (option_copied keep.entry) (option_copied idle.entry) (option_copied request.entry) }
     ensures valid { IfSome result IsServing }
 {
     let port = port?;
-    let workers = workers?;
-    let connections = connections?;
     let port = number_to(65_535, port)?;
-    let workers = number_to(64, workers)?;
-    let connections = number_up_to(4_294_967_295, connections)?;
-    let idle = read_idle(idle)?;
+    let workers = read_serving_workers(workers)?;
+    let connections = read_connections(connections)?;
+    let patience = read_patience(keep, idle, request)?;
     Some(Serving {
         port,
         workers,
         connections,
-        idle,
+        patience,
     })
 }
 
@@ -180,7 +293,7 @@ fn companions_districts(
     files: Companions<&str>,
     words: Companions<&[u8]>,
 ) -> Option<Companions<u16>>
-    ensures value { result ≡ companions_read kind files.entry (companions_copied words.entry) }
+    ensures value { result ≡ companions_read kind (is_some files.entry.senate) (is_some files.entry.congress) (companions_copied words.entry) }
     ensures senate { IfSome result (λ beside. IsSome beside.senate → IsTrue (takes Kind.Senate kind)) }
     ensures congress { IfSome result (λ beside. IsSome beside.congress → IsTrue (takes Kind.Congress kind)) }
     ensures alike { IfSome result (AreAlike files.entry) }
@@ -201,7 +314,7 @@ fn read_terms(
     files: Companions<&str>,
     words: Companions<&[u8]>,
 ) -> Option<Terms>
-    ensures value { result ≡ terms_read word.now districts.now files.entry (companions_copied words.entry) }
+    ensures value { result ≡ terms_read word.now districts.now (is_some files.entry.senate) (is_some files.entry.congress) (companions_copied words.entry) }
     ensures valid { IfSome result AreTerms }
     ensures alike { IfSome result (λ terms. AreAlike files.entry terms.beside) }
 {
@@ -238,7 +351,7 @@ pub fn read_form(
     words: Companions<&[u8]>,
 ) -> Option<Form>
     ensures value { result ≡ form_read gal plan (option_copied word.entry)
-        (option_copied districts.entry) files.entry (companions_copied words.entry) }
+        (option_copied districts.entry) (is_some files.entry.senate) (is_some files.entry.congress) (companions_copied words.entry) }
     ensures valid { IfSome result IsForm }
     ensures beside { IfSome result (HasCompanions files.entry) }
 {

@@ -1,7 +1,7 @@
 //! What each command takes, in the order of its help.
 use crate::helps::{
-    CHECK_HELP, EXPLAIN_HELP, FORMAT_HELP, LOAD_HELP, MIGRATE_HELP, SERVE_HELP, SWEEP_HELP,
-    TALK_HELP,
+    CHECK_HELP, EXPLAIN_HELP, FORMAT_HELP, LOAD_HELP, MIGRATE_HELP, SERVE_HELP, STAT_HELP,
+    SWEEP_HELP, TALK_HELP,
 };
 
 /// A command: its name, what it does, what is told behind its options, and these.
@@ -16,12 +16,14 @@ pub(crate) struct Subcommand {
 pub(crate) enum Argument {
     /// The file of a store, a word that stands alone.
     Store,
-    /// The code of a fault, a word that stands alone.
+    /// The code of a fault, or the words of a line that has one; they may be left out.
     Code,
     /// A file that has to be named: the option and its help.
     File(&'static str, &'static str),
     /// A number that has to be given: the option, what its value is called, its help, the least and the greatest.
     Number(&'static str, &'static str, &'static str, u64, u64),
+    /// An option without a value: its name and its help.
+    Flag(&'static str, &'static str),
     /// An option that may be left out: its name, what its value is called, its help, its values, and the options that it requires.
     Beside(&'static str, &'static str, &'static str, Values, &'static [&'static str]),
 }
@@ -121,19 +123,47 @@ const CHECK: &[Argument] = &[
 
 const FORMAT: &[Argument] = &[
     Argument::Store,
-    Argument::Number(
+    Argument::Beside(
         "sectors",
         "N",
         "How many sectors of 4,096 bytes",
-        1,
-        4_294_967_295,
+        Values::Numbers(1, 4_294_967_295),
+        &["journal"],
     ),
-    Argument::Number(
+    Argument::Beside(
         "journal",
         "J",
         "How many pages a commit may write: 256 to 65536",
-        256,
-        65_536,
+        Values::Numbers(256, 65_536),
+        &["sectors"],
+    ),
+    Argument::Beside(
+        "blocks",
+        "B",
+        "In place of both, how many blocks the state has: 1 to 1048576",
+        Values::Numbers(1, 1_048_576),
+        &["counties", "plans", "revisions"],
+    ),
+    Argument::Beside(
+        "counties",
+        "C",
+        "In how many counties: 1 to 1000",
+        Values::Numbers(1, 1_000),
+        &["blocks"],
+    ),
+    Argument::Beside(
+        "plans",
+        "P",
+        "How many plans the store has room for: 1 to 65535",
+        Values::Numbers(1, 65_535),
+        &["blocks"],
+    ),
+    Argument::Beside(
+        "revisions",
+        "R",
+        "How many whole revisions each of them has: 1 to 65535",
+        Values::Numbers(1, 65_535),
+        &["blocks"],
     ),
 ];
 
@@ -149,18 +179,38 @@ const LOAD: &[Argument] = &[
 const SERVE: &[Argument] = &[
     Argument::Store,
     Argument::Number("port", "P", "The port of 127.0.0.1: 1 to 65535", 1, 65_535),
-    Argument::Number("workers", "W", "How many threads serve: 1 to 64", 1, 64),
-    Argument::Number(
+    Argument::Beside(
+        "workers",
+        "W",
+        "How many threads serve: 1 to 64, by default 16",
+        Values::Numbers(1, 64),
+        &[],
+    ),
+    Argument::Beside(
         "connections",
         "C",
-        "After how many connections it ends: 1 to 4294967295",
-        1,
-        4_294_967_295,
+        "After how many connections it ends: 1 to 4294967295, by default never",
+        Values::Numbers(1, 4_294_967_295),
+        &[],
+    ),
+    Argument::Beside(
+        "keep",
+        "SECONDS",
+        "How long a connection may ask nothing before it is ended: 1 to 86400, by default 5",
+        Values::Numbers(1, 86_400),
+        &[],
     ),
     Argument::Beside(
         "idle",
         "SECONDS",
-        "How long a connection may be silent before it is ended: 1 to 86400, by default 60",
+        "How long a connection may be silent within a request: 1 to 86400, by default 60",
+        Values::Numbers(1, 86_400),
+        &[],
+    ),
+    Argument::Beside(
+        "request",
+        "SECONDS",
+        "How long a request may take to come whole: 1 to 86400, by default 300",
         Values::Numbers(1, 86_400),
         &[],
     ),
@@ -173,14 +223,19 @@ const SERVE: &[Argument] = &[
     ),
 ];
 
+const STAT: &[Argument] = &[
+    Argument::Store,
+    Argument::Flag("json", "Prints the figures as one object of JSON"),
+];
+
 const SWEEP: &[Argument] = &[Argument::Store];
 
 const MIGRATE: &[Argument] = &[Argument::Store];
 
 const EXPLAIN: &[Argument] = &[Argument::Code];
 
-/// The commands, in the order of the help.
-pub(crate) static ORDERS: [Subcommand; 8] = [
+/// The commands, in the order of the help: those of a state and its store.
+static FIRST: [Subcommand; 4] = [
     Subcommand {
         name: "check",
         about: "Prints the counts of a state's census files, or with a plan its audit",
@@ -204,6 +259,16 @@ pub(crate) static ORDERS: [Subcommand; 8] = [
         about: "Serves a store over HTTP/1.1",
         after: SERVE_HELP,
         entries: SERVE,
+    },
+];
+
+/// The others.
+static LAST: [Subcommand; 5] = [
+    Subcommand {
+        name: "stat",
+        about: "Prints how full a store is, and what would be refused as Full now",
+        after: STAT_HELP,
+        entries: STAT,
     },
     Subcommand {
         name: "sweep",
@@ -230,3 +295,13 @@ pub(crate) static ORDERS: [Subcommand; 8] = [
         entries: EXPLAIN,
     },
 ];
+
+/// The first commands of the help.
+pub(crate) fn first_orders() -> &'static [Subcommand] {
+    &FIRST
+}
+
+/// The commands behind them.
+pub(crate) fn last_orders() -> &'static [Subcommand] {
+    &LAST
+}

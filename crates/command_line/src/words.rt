@@ -1,18 +1,19 @@
 //! The words of the command line.
-ghost use Rattle.std.specs.Prelude.{◌≡◌, IfOk, IfSome};
+ghost use Rattle.std.specs.Prelude.{◌≡◌, map, IfOk, IfSome};
 ghost use Rattle.std.specs.Option.{option_copied};
 ghost use Rattle.clap.specs.Matches.{found_of};
-ghost use Rattle.command_line.specs.Jobs.{IsJob, AreCensusPaths, HasPaths};
+ghost use Rattle.command_line.specs.Jobs.{IsJob, AreCensusPaths, HasPaths, IsAsked, first_code as code_of_first};
 
 use crate::line::command;
 use crate::options::{
-    Form, Serving, Size, Terms, read_form, read_serving, read_size, read_workers,
+    Form, Serving, Size, Terms, is_number, read_form, read_format, read_serving, read_workers,
 };
+use crate::tables::{Argument, Subcommand, Values, first_orders, last_orders};
 use clap::ArgMatches;
 use clap::error::ErrorKind;
 use command_output::status::Status;
 use desk_model::companions::Companions;
-use fault_words::finding::is_code;
+use fault_words::finding::code_in;
 use state_files::open::{AuditPaths, CensusPaths};
 use std::alloc::{AllocError, Global};
 
@@ -24,18 +25,27 @@ pub enum Job<'a> {
     Counts(CensusPaths<'a>),
     /// `check` with a plan, by so many workers.
     Audit(AuditPaths<'a>, Terms, u16),
-    /// `format`: a store of so many sectors, with so many journal pages.
-    Format(&'a str, Size),
+    /// `format`: a store of so many sectors, with so many journal pages, and whether these were reckoned by what it is to hold.
+    Format(&'a str, Size, bool),
     /// `load`: a store is filled with what the census files and the neighbour file say.
     Load(&'a str, CensusPaths<'a>, &'a str),
     /// `serve`: a store is served to connections, which are told to the file of a log where one is named.
     Serve(&'a str, Serving, Option<&'a str>),
+    /// `stat`: how full a store is, as JSON or in lines.
+    Stat(&'a str, bool),
     /// `sweep`: what nothing needs any more is taken out of a store.
     Sweep(&'a str),
     /// `migrate`: a store of version 1 becomes one of version 2.
     Migrate(&'a str),
-    /// `explain`: what is known of the code of a fault is printed.
-    Explain(&'a str),
+    /// `explain`: what is known of the code of a fault is printed, or where none is named, of all codes.
+    Explain(Option<&'a str>),
+}
+
+/// What is asked for, and whether a fault is to be told with what it means.
+#[derive(Clone, Copy)]
+pub struct Asked<'a> {
+    pub job: Job<'a>,
+    pub with_words: bool,
 }
 
 /// Why it does nothing: help or the version was asked for, the words are wrong, or memory was refused.
@@ -71,13 +81,13 @@ const WRONG_NUMBER: &str =
 const WRONG_WORKERS: &str = "error: a number of workers is digits alone, 1 to 64\n";
 
 const WRONG_SIZE: &str =
-    "error: a number of sectors is digits alone, 1 to 4294967295, and of journal pages 256 to 65536\n";
+    "error: a store's size is given as '--sectors <N> --journal <J>', or by what it is to hold as '--blocks <B> --counties <C> --plans <P> --revisions <R>', of at most 4294967295 sectors and 65536 journal pages\n";
 
 const WRONG_SERVING: &str =
-    "error: a port is digits alone, 1 to 65535, a number of workers 1 to 64, of connections 1 to 4294967295, and of idle seconds 1 to 86400\n";
+    "error: a port is digits alone, 1 to 65535, a number of workers 1 to 64, of connections 1 to 4294967295, and of seconds 1 to 86400\n";
 
 const WRONG_CODE: &str =
-    "error: invalid value for '<CODE>': it is none of the codes in docs/FAULTS.md\n";
+    "error: invalid value for '<CODE>': no word of it is one of the codes in docs/FAULTS.md\n";
 
 fn memory() -> Mistake {
     Mistake {
@@ -154,11 +164,15 @@ fn format_job<'a>(matches: &ArgMatches<'a>) -> Option<Job<'a>>
     ensures paths { IfSome result (HasPaths (found_of matches.now)) }
 {
     let store = matches.get_str("store")?;
-    let size = read_size(
+    let (size, is_reckoned) = read_format(
         bytes_of(matches.get_str("sectors")),
         bytes_of(matches.get_str("journal")),
+        bytes_of(matches.get_str("blocks")),
+        bytes_of(matches.get_str("counties")),
+        bytes_of(matches.get_str("plans")),
+        bytes_of(matches.get_str("revisions")),
     )?;
-    Some(Job::Format(store, size))
+    Some(Job::Format(store, size, is_reckoned))
 }
 
 /// What `load` is asked for.
@@ -180,9 +194,20 @@ fn serve_job<'a>(matches: &ArgMatches<'a>) -> Option<Job<'a>>
         bytes_of(matches.get_str("port")),
         bytes_of(matches.get_str("workers")),
         bytes_of(matches.get_str("connections")),
+        bytes_of(matches.get_str("keep")),
         bytes_of(matches.get_str("idle")),
+        bytes_of(matches.get_str("request")),
     )?;
     Some(Job::Serve(store, serving, matches.get_str("log")))
+}
+
+/// What `stat` is asked for.
+fn stat_job<'a>(matches: &ArgMatches<'a>) -> Option<Job<'a>>
+    ensures valid { IfSome result IsJob }
+    ensures paths { IfSome result (HasPaths (found_of matches.now)) }
+{
+    let store = matches.get_str("store")?;
+    Some(Job::Stat(store, matches.get_flag("json")))
 }
 
 /// What `sweep` is asked for.
@@ -201,16 +226,34 @@ fn migrate_job<'a>(matches: &ArgMatches<'a>) -> Option<Job<'a>>
     Some(Job::Migrate(matches.get_str("store")?))
 }
 
-/// What `explain` is asked for, where it is the code of a fault.
+/// The code of the first word that has one.
+fn first_code(words: &[&str]) -> Option<&'static str>
+    ensures { option_copied result ≡ code_of_first (map (λ w. w.now) words.now) }
+{
+    for word in words {
+        match code_in(word.as_bytes()) {
+            Some(code) => return Some(code),
+            None => {}
+        }
+    }
+    None
+}
+
+/// What `explain` is asked for: all codes where there is no word, else the one that its words have.
 fn explain_job<'a>(matches: &ArgMatches<'a>) -> Option<Job<'a>>
     ensures valid { IfSome result IsJob }
     ensures paths { IfSome result (HasPaths (found_of matches.now)) }
 {
-    let code = matches.get_str("code")?;
-    if !is_code(code) {
-        return None;
+    match matches.get_raw("code") {
+        None => Some(Job::Explain(None)),
+        Some(words) => {
+            if words.is_empty() {
+                return Some(Job::Explain(None));
+            }
+            let code = first_code(words)?;
+            Some(Job::Explain(Some(code)))
+        }
     }
-    Some(Job::Explain(code))
 }
 
 /// A mistake that is told so, or want of memory where the text has none.
@@ -253,17 +296,110 @@ fn mistake_of(alloc: Global, error: &clap::Error) -> Mistake {
 
 /// What a command is asked for, where its options go together.
 fn job_under<'a>(name: &str, options: &ArgMatches<'a>) -> Option<Job<'a>>
-    ensures { IfSome result IsJob }
+    ensures valid { IfSome result IsJob }
+    ensures asked { IfSome result (HasPaths (found_of options.now)) }
 {
     match name {
         "talk" => Some(Job::Talk),
         "format" => format_job(options),
         "load" => load_job(options),
         "serve" => serve_job(options),
+        "stat" => stat_job(options),
         "sweep" => sweep_job(options),
         "migrate" => migrate_job(options),
         "explain" => explain_job(options),
         _ => check_job(options),
+    }
+}
+
+/// The same, and whether its faults are told with what they mean.
+fn asked_under<'a>(name: &str, options: &ArgMatches<'a>) -> Option<Asked<'a>>
+    ensures valid { IfSome result (λ asked. IsJob asked.job) }
+    ensures asked { IfSome result (IsAsked (found_of options.now)) }
+{
+    let job = job_under(name, options)?;
+    Some(Asked {
+        job,
+        with_words: options.get_flag("words"),
+    })
+}
+
+/// What the number of an option is called.
+fn number_name(option: &str) -> &'static str {
+    match option {
+        "sectors" => "a number of sectors",
+        "journal" => "a number of journal pages",
+        "blocks" => "a number of blocks",
+        "counties" => "a number of counties",
+        "plans" => "a number of plans",
+        "revisions" => "a number of revisions",
+        "districts" | "senate-districts" | "congress-districts" => "a number of districts",
+        "workers" => "a number of workers",
+        "port" => "a port",
+        "connections" => "a number of connections",
+        "keep" | "idle" | "request" => "a number of seconds",
+        _ => "a number",
+    }
+}
+
+/// A number that an option can't have: the option, what its value is called, what was given, and the least and the greatest.
+#[derive(Clone, Copy)]
+struct WrongNumber<'a> {
+    option: &'static str,
+    value: &'static str,
+    given: &'a str,
+    least: u64,
+    most: u64,
+}
+
+/// The number of an option, where it is none or out of its range.
+fn wrong_value<'a>(entry: &Argument, options: &ArgMatches<'a>) -> Option<WrongNumber<'a>> {
+    let (option, value, least, most) = match entry {
+        Argument::Number(option, value, _, least, most) => (*option, *value, *least, *most),
+        Argument::Beside(option, value, _, Values::Numbers(least, most), _) => {
+            (*option, *value, *least, *most)
+        }
+        _ => return None,
+    };
+    let given = options.get_str(option)?;
+    if is_number(least, most, given.as_bytes()) {
+        return None;
+    }
+    Some(WrongNumber {
+        option,
+        value,
+        given,
+        least,
+        most,
+    })
+}
+
+/// The first number among these options that is none or out of its range.
+fn wrong_number<'a>(entries: &[Argument], options: &ArgMatches<'a>) -> Option<WrongNumber<'a>> {
+    for entry in entries {
+        match wrong_value(entry, options) {
+            Some(wrong) => return Some(wrong),
+            None => {}
+        }
+    }
+    None
+}
+
+/// What the command of a name takes, where it is one of these.
+fn entries_in(orders: &'static [Subcommand], name: &str) -> Option<&'static [Argument]> {
+    for order in orders {
+        if order.name == name {
+            return Some(order.entries);
+        }
+    }
+    None
+}
+
+/// What a command takes.
+fn entries_of(name: &str) -> &'static [Argument] {
+    match entries_in(first_orders(), name) {
+        Some(entries) => entries,
+        None => entries_in(last_orders(), name).unwrap_or(&[]),
     }
 }
 
@@ -273,15 +409,32 @@ fn wrong_under<'a>(name: &str, options: &ArgMatches<'a>) -> &'static str {
         "format" => WRONG_SIZE,
         "load" => "error: a file is missing\n",
         "serve" => WRONG_SERVING,
-        "sweep" | "migrate" => "error: a store is missing\n",
+        "stat" | "sweep" | "migrate" => "error: a store is missing\n",
         "explain" => WRONG_CODE,
         _ => wrong_options(options),
     }
 }
 
+/// The mistake of a command's options, which clap let pass.
+fn mistake_under<'a>(alloc: Global, name: &str, options: &ArgMatches<'a>) -> Mistake {
+    match wrong_number(entries_of(name), options) {
+        Some(wrong) => {
+            let (option, value, given) = (wrong.option, wrong.value, wrong.given);
+            let (least, most, number) = (wrong.least, wrong.most, number_name(option));
+            telling(
+                Status::Usage,
+                format!(in alloc;
+                    "error: invalid value '{given}' for '--{option} <{value}>': {number} is {least} to {most}, digits alone\n"
+                ),
+            )
+        }
+        None => usage(alloc, wrong_under(name, options)),
+    }
+}
+
 /// What the words ask for; the first is the program's name.
-pub fn job_of<'a>(alloc: Global, words: &'a [&'a str]) -> Result<Job<'a>, Mistake>
-    ensures { IfOk result IsJob }
+pub fn job_of<'a>(alloc: Global, words: &'a [&'a str]) -> Result<Asked<'a>, Mistake>
+    ensures { IfOk result (λ asked. IsJob asked.job) }
 {
     let Ok(command) = command(alloc) else {
         return Err(memory());
@@ -293,8 +446,8 @@ pub fn job_of<'a>(alloc: Global, words: &'a [&'a str]) -> Result<Job<'a>, Mistak
     let Some((name, options)) = matches.subcommand() else {
         return Err(usage(alloc, "error: a command is missing\n"));
     };
-    match job_under(name, options) {
-        Some(job) => Ok(job),
-        None => Err(usage(alloc, wrong_under(name, options))),
+    match asked_under(name, options) {
+        Some(asked) => Ok(asked),
+        None => Err(mistake_under(alloc, name, options)),
     }
 }

@@ -7,17 +7,17 @@ use Rattle.command_output.specs.declared.status.Status.{Status}
 use Rattle.command_output.specs.declared.status.Status.TheVariants.{Done, Memory}
 use Rattle.command_output.specs.Writing.{Written, Told, Prints, write_fault_line}
 
--- the line's words are told, where it has some; or memory was refused for them
-abbrev pub TellsKnown : Result (Unit {0}) AllocError → Option Words → (before after : Written) → Type 0
-TellsKnown (Ok u) None before after = after ≡ before
-TellsKnown (Ok u) (Some words) before after = Told before after (sentence_of words)
-TellsKnown (Err e) words before after = IsSome words × (after ≡ before)
+-- the line's words are told with the path of its file, where it has some; or memory was refused for them
+abbrev pub TellsKnown : Result (Unit {0}) AllocError → (path : Option (List ℕ)) → Option Words → (before after : Written) → Type 0
+TellsKnown (Ok u) path None before after = after ≡ before
+TellsKnown (Ok u) path (Some words) before after = Told before after (sentence_of path words)
+TellsKnown (Err e) path words before after = IsSome words × (after ≡ before)
 
--- elsewhere than at a terminal nothing is, and no memory is taken
-abbrev pub TellsWords : (is_terminal : Bool) → Result (Unit {0}) AllocError → Option Words → (before after : Written) → Type 0
-TellsWords false (Ok u) words before after = after ≡ before
-TellsWords false (Err e) words before after = ⊥
-TellsWords true result words before after = TellsKnown result words before after
+-- where they are neither asked for nor told to a terminal nothing is, and no memory is taken
+abbrev pub TellsWords : (is_wanted : Bool) → Result (Unit {0}) AllocError → (path : Option (List ℕ)) → Option Words → (before after : Written) → Type 0
+TellsWords false (Ok u) path words before after = after ≡ before
+TellsWords false (Err e) path words before after = ⊥
+TellsWords true result path words before after = TellsKnown result path words before after
 
 -- this text is printed, and the status says how that ended; or memory was refused for it
 abbrev pub Explains : List ℕ → Status → (before after told_before told_after : Written) → Type 0

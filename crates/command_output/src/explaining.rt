@@ -1,31 +1,34 @@
-//! What a fault means: told behind its line at a terminal, and printed for its code.
-ghost use Rattle.std.specs.Prelude.{◌≡◌};
+//! What a fault means: told behind its line where somebody asks for it or sits at a terminal, and printed for its code.
+ghost use Rattle.std.specs.Prelude.{◌≡◌, ◌||◌, map};
+ghost use Rattle.std.specs.Option.{option_copied};
 ghost use Rattle.command_output.specs.Writing.{written_of, OfWriters};
-ghost use Rattle.fault_words.specs.Lines.{line_words};
-ghost use Rattle.fault_words.specs.Entries.{entries_for};
+ghost use Rattle.fault_words.specs.Lines.{line_words, line_path, named};
+ghost use Rattle.fault_words.specs.Entries.{entries_asked};
 ghost use Rattle.command_output.specs.Explaining.{TellsKnown, TellsWords, Explains};
 
 use crate::status::Status;
 use crate::telling::{print, send_line};
 use byte_stream::sink::Sink;
 use fault_words::explanation::{Reason, sentence};
-use fault_words::finding::{all_words, explained};
+use fault_words::finding::{explained, path_in, words_for};
 use std::alloc::{AllocError, Global};
 
-/// Tells what the fault means whose line was told, as far as it can be written. `Err` where memory is refused for it.
+/// Tells what the fault means whose line was told, and in which file it is, as far as it can be written. `Err` where memory is refused
+/// for it.
 fn tell_known<E: Sink>(
     alloc: Global,
     line: &[u8],
     reason: Option<Reason>,
+    files: &[(&'static str, &str)],
     errors: &mut E,
 ) -> Result<(), AllocError>
-    ensures { TellsKnown result (line_words line.now reason)
+    ensures { TellsKnown result (line_path line.now (map named files.now)) (line_words line.now reason)
         (written_of E.contents E.failures errors.old) (written_of E.contents E.failures errors.new) }
 {
     let Some(words) = explained(line, reason) else {
         return Ok(());
     };
-    match sentence(alloc, words) {
+    match sentence(alloc, path_in(line, files), words) {
         Ok(text) => {
             send_line(errors, text.as_slice());
             Ok(())
@@ -34,34 +37,37 @@ fn tell_known<E: Sink>(
     }
 }
 
-/// Tells at a terminal what the fault means whose line was told, as far as it can be written, and elsewhere nothing. `Err` where
-/// memory is refused for it. The reason is that of a device's fault, where it is known.
+/// Tells what the fault means whose line was told, as far as it can be written, where that is asked for or somebody sits at a terminal,
+/// and else nothing. `Err` where memory is refused for it. The reason is that of a device's fault, where it is known, and the files are
+/// those that the command was given, each with its role before its path.
 pub fn tell_words<E: Sink>(
     alloc: Global,
+    is_asked: bool,
     is_terminal: bool,
     line: &[u8],
     reason: Option<Reason>,
+    files: &[(&'static str, &str)],
     errors: &mut E,
 ) -> Result<(), AllocError>
-    ensures { TellsWords is_terminal result (line_words line.now reason)
+    ensures { TellsWords (is_asked || is_terminal) result (line_path line.now (map named files.now)) (line_words line.now reason)
         (written_of E.contents E.failures errors.old) (written_of E.contents E.failures errors.new) }
 {
-    if !is_terminal {
+    if !is_asked && !is_terminal {
         return Ok(());
     }
-    tell_known(alloc, line, reason, errors)
+    tell_known(alloc, line, reason, files, errors)
 }
 
-/// Prints what is known of a code: 0, 5 where memory is refused, 6 where the writing fails.
+/// Prints what is known of a code, or where none is asked for, of all codes: 0, 5 where memory is refused, 6 where the writing fails.
 pub fn explain<W: Sink, E: Sink>(
     alloc: Global,
-    code: &str,
+    code: Option<&str>,
     writer: &mut W,
     errors: &mut E,
 ) -> Status
-    ensures { OfWriters (Explains (entries_for code.now) result) W.Sink writer.old writer.new E.Sink errors.old errors.new }
+    ensures { OfWriters (Explains (entries_asked (option_copied code.entry)) result) W.Sink writer.old writer.new E.Sink errors.old errors.new }
 {
-    match all_words(alloc, code) {
+    match words_for(alloc, code) {
         Ok(text) => print(
             b"plandesk: explain: WriteFault\n",
             text.as_slice(),

@@ -1,4 +1,6 @@
-//! How far a long command is, told to whoever sits at a terminal.
+//! How far a long command is: for whoever sits at a terminal.
+//!
+//! Seen as rows so far. Only what `Telling` begins with has a clause.
 #![tactic(auto)]
 
 use itoa::Buffer;

@@ -1,5 +1,6 @@
 -- What a connection came to.
-use Rattle.std.specs.Prelude.{ℕ, Result, Ok, Err}
+use Rattle.std.specs.Prelude.{ℕ, Option, Result, Ok, Err}
+use Rattle.jiff_core.specs.declared.civil.datetime.DateTime.{DateTime}
 use Rattle.http_desk.specs.declared.serve.Served.{Served}
 use Rattle.http_desk.specs.declared.serve.StreamFault.{StreamFault}
 use Rattle.connection_log.specs.declared.connection.Connection.{Connection}
@@ -14,8 +15,9 @@ abbrev pub faults_of : Result Served StreamFault → ℕ
 faults_of (Ok served) = 0
 faults_of (Err fault) = 1
 
-abbrev pub connection_of : (number : ℕ) → Result Served StreamFault → (read : ℕ) → Sent → Connection
-connection_of number served read sent = record {
+abbrev pub connection_of : Option DateTime → (number : ℕ) → Result Served StreamFault → (read : ℕ) → Sent → Connection
+connection_of at number served read sent = record {
+  at = at;
   number = number;
   requests = requests_of served sent;
   refusals = sent.refusals;

@@ -1,29 +1,51 @@
 -- The lines of a log.
-use Rattle.std.specs.Prelude.{◌≡◌, ℕ, ◌==◌, if◌then◌else◌, List, [], ◌∷◌, ◌++◌, codes, decimal, Option, Some, None, Result, Ok, Err}
+use Rattle.std.specs.Prelude.{◌≡◌, ℕ, ◌+◌, ◌/◌, ◌%◌, ◌==◌, if◌then◌else◌, List, [], ◌∷◌, ◌++◌, codes, decimal, Option, Some, None, Result, Ok, Err, ℤ, unsigned_abs}
+use Rattle.jiff_core.specs.declared.civil.datetime.DateTime.{DateTime}
 use Rattle.byte_stream.specs.Counts.{counted}
 use Rattle.byte_stream.specs.Sends.{Sends}
 use Rattle.byte_stream.specs.declared.sink.WriteFault.{WriteFault}
-use Rattle.http_arrivals.specs.declared.ran.Ran.{Ran}
 use Rattle.connection_log.specs.declared.connection.Connection.{Connection}
+use Rattle.connection_log.specs.declared.line.Ending.{Ending}
 use Rattle.connection_log.specs.declared.line.LogLine.{LogLine}
 use Rattle.connection_log.specs.declared.line.LogLine.TheVariants as entry
 
+-- the last two digits of a number
+abbrev pub two_digits : ℕ → List ℕ
+two_digits n = (48 + n / 10 % 10) ∷ (48 + n % 10) ∷ []
+
+-- the four digits of a year and a dash
+abbrev pub year_text : ℤ → List ℕ
+year_text y = two_digits (unsigned_abs y / 100) ++ (two_digits (unsigned_abs y) ++ codes "-")
+
+-- a moment of UTC as RFC 3339 writes it, and a blank: `2020-04-01T09:05:00Z `
+abbrev pub stamp : Option DateTime → List ℕ
+stamp None = []
+stamp (Some at) =
+    year_text at.date.year ++ (two_digits at.date.month ++ codes "-") ++ (two_digits at.date.day ++ codes "T")
+    ++ (two_digits at.time.hour ++ codes ":") ++ (two_digits at.time.minute ++ codes ":") ++ (two_digits at.time.second ++ codes "Z ")
+
 abbrev pub connection_line : Connection → List ℕ
 connection_line c =
-    (codes "connection " ++ decimal c.number) ++ (codes ": requests " ++ decimal c.requests) ++ (codes ", refusals " ++ decimal c.refusals)
+    stamp c.at ++ (codes "connection " ++ decimal c.number) ++ (codes ": requests " ++ decimal c.requests) ++ (codes ", refusals " ++ decimal c.refusals)
     ++ (codes ", faults " ++ decimal c.faults) ++ (codes ", read " ++ decimal c.read) ++ (codes " bytes, written " ++ decimal c.written) ++ codes " bytes\n"
 
-abbrev pub end_line : Ran → List ℕ
-end_line ran =
-    (codes "served: streams " ++ decimal ran.streams) ++ (codes ", requests " ++ decimal ran.requests) ++ (codes ", faults " ++ decimal ran.faults) ++ codes "\n"
+abbrev pub end_line : Ending → List ℕ
+end_line e =
+    stamp e.at ++ (codes "served: streams " ++ decimal e.ran.streams) ++ (codes ", requests " ++ decimal e.ran.requests)
+    ++ (codes ", faults " ++ decimal e.ran.faults) ++ codes "\n"
 
 abbrev pub entry_line : LogLine → List ℕ
 entry_line (entry.Connection c) = connection_line c
-entry_line (entry.End ran) = end_line ran
+entry_line (entry.End e) = end_line e
+
+-- when it came about
+abbrev pub entry_moment : LogLine → Option DateTime
+entry_moment (entry.Connection c) = c.at
+entry_moment (entry.End e) = e.at
 
 -- nothing where no line was dropped
-abbrev pub dropped_line : ℕ → List ℕ
-dropped_line n = if n == 0 then [] else decimal n ++ codes " lines were dropped\n"
+abbrev pub dropped_line : Option DateTime → ℕ → List ℕ
+dropped_line at n = if n == 0 then [] else stamp at ++ decimal n ++ codes " lines were dropped\n"
 
 -- how many lines are still to be told as dropped, behind one that was sent so
 abbrev pub dropped_after : {A E : Type 0} → ℕ → Result A E → ℕ
@@ -33,7 +55,7 @@ dropped_after dropped (Err e) = counted dropped 1
 -- an entry's line is sent behind the number of those that were dropped before, and is one of these where that fails
 pub record TellsEntry (dropped : ℕ) (e : LogLine) (left : ℕ) (old new : Option (List ℕ)) : Type 0 where
   pub sent : Result (Unit {0}) WriteFault
-  pub text : Sends old new sent (dropped_line dropped ++ entry_line e)
+  pub text : Sends old new sent (dropped_line (entry_moment e) dropped ++ entry_line e)
   pub drops : left ≡ dropped_after dropped sent
 
 -- each connection's line, one after the other
@@ -43,13 +65,13 @@ TellsEach dropped (c ∷ cs) left old new =
     (more : ℕ) × (middle : Option (List ℕ)) × TellsEntry dropped (entry.Connection c) more old middle × TellsEach more cs left middle new
 
 -- the line of all connections, once they are all served
-abbrev pub TellsEnd : (dropped : ℕ) → Option Ran → (left : ℕ) → (old new : Option (List ℕ)) → Type 0
+abbrev pub TellsEnd : (dropped : ℕ) → Option Ending → (left : ℕ) → (old new : Option (List ℕ)) → Type 0
 TellsEnd dropped None left old new = (left ≡ dropped) × (new ≡ old)
-TellsEnd dropped (Some ran) left old new = TellsEntry dropped (entry.End ran) left old new
+TellsEnd dropped (Some e) left old new = TellsEntry dropped (entry.End e) left old new
 
 -- the connections that waited, then the end, where it came; so many lines were dropped behind them for want of room
 pub record TellsBatch (dropped : ℕ) (connections : List Connection) (refused : ℕ)
-    (end : Option Ran) (left : ℕ) (old new : Option (List ℕ)) : Type 0 where
+    (end : Option Ending) (left : ℕ) (old new : Option (List ℕ)) : Type 0 where
   pub more : ℕ
   pub middle : Option (List ℕ)
   pub each : TellsEach dropped connections more old middle

@@ -4,10 +4,13 @@ ghost use Rattle.connection_log.specs.Connections.{connection_of as connection_b
 
 use crate::counting::Sent;
 use http_desk::serve::{Served, StreamFault};
+use jiff_core::civil::DateTime;
 
 /// What a connection came to.
-#[derive(Clone, Copy, Debug, PartialEq, Eq)]
+#[derive(Clone, Copy, Debug)]
 pub struct Connection {
+    /// When it ended, in UTC, where the clock told it.
+    pub at: Option<DateTime>,
     /// Its place among those that were taken, from 1 on.
     pub number: u64,
     /// The answers that were written, the interim ones aside.
@@ -40,16 +43,18 @@ fn faults(served: &Result<Served, StreamFault>) -> u64
     }
 }
 
-/// What a connection of this number came to, of which so many bytes were read, and this was written.
+/// What a connection of this number, which ended at this moment, came to: so many bytes of it were read, and this was written.
 pub fn connection_of(
+    at: Option<DateTime>,
     number: u64,
     served: &Result<Served, StreamFault>,
     read: u64,
     sent: &Sent,
 ) -> Connection
-    ensures { result ≡ connection_by number served.now read sent.now }
+    ensures { result ≡ connection_by at number served.now read sent.now }
 {
     Connection {
+        at,
         number,
         requests: requests(served, sent),
         refusals: sent.refusals,

@@ -1,23 +1,44 @@
 //! The lines of a log.
 ghost use Rattle.std.specs.Prelude.{◌≡◌, ◌+◌, ◌≤◌, ◌++◌, [], length, decimal, IfOk};
-ghost use Rattle.connection_log.specs.Lines.{connection_line, dropped_line, end_line, entry_line};
+ghost use Rattle.connection_log.specs.Lines.{connection_line, dropped_line, end_line, entry_line, entry_moment, stamp, two_digits, year_text};
 
 use crate::connection::Connection;
 use http_arrivals::ran::Ran;
 use itoa::Buffer;
+use jiff_core::civil::DateTime;
 use std::alloc::{AllocError, Global};
 use std::marker::Model;
 
 /// Room for the longest line and the one of those that were dropped before it, in bytes.
 const LINE_LEN: usize = 512;
 
+/// What all connections came to, and when the last one had ended.
+#[derive(Clone, Copy, Debug)]
+pub struct Ending {
+    /// In UTC, where the clock told it.
+    pub at: Option<DateTime>,
+    pub ran: Ran,
+}
+
 /// What a line of a log is of.
-#[derive(Clone, Copy, Debug, PartialEq, Eq)]
+#[derive(Clone, Copy, Debug)]
 pub enum LogLine {
     /// A connection that has ended.
     Connection(Connection),
     /// All of them.
-    End(Ran),
+    End(Ending),
+}
+
+impl LogLine {
+    /// When it came about.
+    pub fn moment(&self) -> Option<DateTime>
+        ensures { result ≡ entry_moment self.now }
+    {
+        match self {
+            LogLine::Connection(connection) => connection.at,
+            LogLine::End(ending) => ending.at,
+        }
+    }
 }
 
 /// The text that is written next, with all the room that it ever takes.
@@ -86,11 +107,59 @@ impl LineText {
         self.put_number(n);
     }
 
+    /// Puts the last two digits of a number.
+    fn put_two(&mut self, n: u16)
+        requires { length self.old + 2 ≤ 512 }
+        ensures items { self.new ≡ self.old ++ two_digits n }
+        ensures short { length self.new ≤ length self.old + 2 }
+    {
+        self.put(&[b'0' + (n / 10 % 10) as u8, b'0' + (n % 10) as u8]);
+    }
+
+    /// Puts the last two digits of a number, and words behind them.
+    fn put_pair(&mut self, n: u16, words: &[u8])
+        requires { length self.old + length words.now + 2 ≤ 512 }
+        ensures items { self.new ≡ self.old ++ (two_digits n ++ words.now) }
+        ensures short { length self.new ≤ length self.old + length words.now + 2 }
+    {
+        self.put_two(n);
+        self.put(words);
+    }
+
+    /// Puts the four digits of a year, and a dash.
+    fn put_year(&mut self, year: i16)
+        requires { length self.old ≤ 100 }
+        ensures items { self.new ≡ self.old ++ year_text year }
+        ensures short { length self.new ≤ length self.old + 5 }
+    {
+        let year = year.unsigned_abs();
+        self.put_two(year / 100);
+        self.put_pair(year, b"-");
+    }
+
+    /// Puts a moment as RFC 3339 writes it, and a blank; nothing where there is none.
+    fn put_moment(&mut self, at: Option<DateTime>)
+        requires { length self.old ≤ 100 }
+        ensures items { self.new ≡ self.old ++ stamp at }
+        ensures short { length self.new ≤ length self.old + 21 }
+    {
+        let Some(at) = at else {
+            return;
+        };
+        self.put_year(at.date.year);
+        self.put_pair(at.date.month as u16, b"-");
+        self.put_pair(at.date.day as u16, b"T");
+        self.put_pair(at.time.hour as u16, b":");
+        self.put_pair(at.time.minute as u16, b":");
+        self.put_pair(at.time.second as u16, b"Z ");
+    }
+
     /// Puts the line of a connection.
     fn put_connection(&mut self, connection: &Connection)
         requires { length self.old ≤ 100 }
         ensures { self.new ≡ self.old ++ connection_line connection.now }
     {
+        self.put_moment(connection.at);
         self.put_count(b"connection ", connection.number);
         self.put_count(b": requests ", connection.requests);
         self.put_count(b", refusals ", connection.refusals);
@@ -101,13 +170,14 @@ impl LineText {
     }
 
     /// Puts the line of all connections.
-    fn put_end(&mut self, ran: &Ran)
+    fn put_end(&mut self, ending: &Ending)
         requires { length self.old ≤ 100 }
-        ensures { self.new ≡ self.old ++ end_line ran.now }
+        ensures { self.new ≡ self.old ++ end_line ending.now }
     {
-        self.put_count(b"served: streams ", ran.streams);
-        self.put_count(b", requests ", ran.requests);
-        self.put_count(b", faults ", ran.faults);
+        self.put_moment(ending.at);
+        self.put_count(b"served: streams ", ending.ran.streams);
+        self.put_count(b", requests ", ending.ran.requests);
+        self.put_count(b", faults ", ending.ran.faults);
         self.put(b"\n");
     }
 
@@ -118,19 +188,20 @@ impl LineText {
     {
         match entry {
             LogLine::Connection(connection) => self.put_connection(connection),
-            LogLine::End(ran) => self.put_end(ran),
+            LogLine::End(ending) => self.put_end(ending),
         }
     }
 
-    /// Puts how many lines were dropped, where any were.
-    pub fn put_dropped(&mut self, dropped: u64)
+    /// Puts how many lines were dropped until a moment, where any were.
+    pub fn put_dropped(&mut self, dropped: u64, at: Option<DateTime>)
         requires { self.old ≡ [] }
-        ensures items { self.new ≡ dropped_line dropped }
+        ensures items { self.new ≡ dropped_line at dropped }
         ensures short { length self.new ≤ 100 }
     {
         if dropped == 0 {
             return;
         }
+        self.put_moment(at);
         self.put_number(dropped);
         self.put(b" lines were dropped\n");
     }

@@ -1,7 +1,8 @@
 //! A log that many threads put connections into, and one writes.
 use crate::batch::Batch;
 use crate::connection::Connection;
-use crate::line::LineText;
+use crate::line::{Ending, LineText};
+use crate::moment::moment_now;
 use crate::telling::tell_batch;
 use crate::waiting::{Taken, Waiting};
 use byte_stream::sink::Sink;
@@ -47,8 +48,12 @@ impl Log {
 
     /// All connections are served: waits until the last line is written, for a second at most.
     pub fn end<R: Wait + Clock>(&self, rt: &R, ran: Ran) {
+        let ending = Ending {
+            at: moment_now(rt),
+            ran,
+        };
         let mut waiting = self.waiting.lock(rt);
-        waiting.put_end(ran);
+        waiting.put_end(ending);
         MutexGuard::unlock(waiting);
         self.changed.notify_all();
         let waiting = self.waiting.lock(rt);

@@ -2,17 +2,16 @@
 ghost use Rattle.connection_log.specs.Lines.{TellsEntry, TellsEach, TellsEnd, TellsBatch};
 
 use crate::connection::Connection;
-use crate::line::{LineText, LogLine};
+use crate::line::{Ending, LineText, LogLine};
 use crate::waiting::Taken;
 use byte_stream::sink::Sink;
-use http_arrivals::ran::Ran;
 
 /// Writes an entry's line, behind the number of those that were dropped before: the number of those that are to be told so now.
 fn tell_entry<W: Sink>(writer: &mut W, text: &mut LineText, entry: &LogLine, dropped: u64) -> u64
     ensures { TellsEntry dropped entry.now result (W.contents writer.old) (W.contents writer.new) }
 {
     text.clear();
-    text.put_dropped(dropped);
+    text.put_dropped(dropped, entry.moment());
     text.put_entry(entry);
     match writer.send(text.as_slice()) {
         Ok(()) => 0,
@@ -35,11 +34,11 @@ fn tell_each<W: Sink>(
     left
 }
 
-fn tell_end<W: Sink>(writer: &mut W, text: &mut LineText, end: Option<Ran>, dropped: u64) -> u64
+fn tell_end<W: Sink>(writer: &mut W, text: &mut LineText, end: Option<Ending>, dropped: u64) -> u64
     ensures { TellsEnd dropped end result (W.contents writer.old) (W.contents writer.new) }
 {
     match end {
-        Some(ran) => tell_entry(writer, text, &LogLine::End(ran), dropped),
+        Some(ending) => tell_entry(writer, text, &LogLine::End(ending), dropped),
         None => dropped,
     }
 }

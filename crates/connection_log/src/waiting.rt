@@ -4,7 +4,7 @@ ghost use Rattle.connection_log.specs.Waits.{HasPut, HasTaken};
 
 use crate::batch::{Batch, MOST_WAITING};
 use crate::connection::Connection;
-use http_arrivals::ran::Ran;
+use crate::line::Ending;
 use std::alloc::{AllocError, Global};
 use std::mem;
 
@@ -15,7 +15,7 @@ pub struct Waiting {
     /// The connections that found no room.
     refused: u64,
     /// What all of them came to, once the last is served.
-    end: Option<Ran>,
+    end: Option<Ending>,
     /// The end is written, as far as it can be.
     is_over: bool,
 }
@@ -24,7 +24,7 @@ pub struct Waiting {
 #[derive(Clone, Copy, Debug)]
 pub struct Taken {
     pub refused: u64,
-    pub end: Option<Ran>,
+    pub end: Option<Ending>,
 }
 
 impl Waiting {
@@ -51,10 +51,10 @@ impl Waiting {
     }
 
     /// All connections are served.
-    pub fn put_end(&mut self, ran: Ran)
-        ensures { self.new.end ≡ Some ran }
+    pub fn put_end(&mut self, ending: Ending)
+        ensures { self.new.end ≡ Some ending }
     {
-        self.end = Some(ran);
+        self.end = Some(ending);
     }
 
     /// Whether nothing waits.

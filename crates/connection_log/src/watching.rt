@@ -2,6 +2,7 @@
 use crate::connection::connection_of;
 use crate::counting::{CountedSink, CountedSource};
 use crate::log::Log;
+use crate::moment::moment_now;
 use http_arrivals::arrivals::Arrivals;
 use http_arrivals::listening::Listens;
 use http_arrivals::ran::Ran;
@@ -75,7 +76,13 @@ impl<'r, 'a, 'l, A: Listens, R: Wait + Clock> Arrivals for Watching<'r, 'a, 'l, 
     )
         ensures { A.takes_back self.now.arrivals.now reader.reader writer.writer served }
     {
-        let connection = connection_of(reader.number(), &served, reader.read(), &writer.sent());
+        let number = reader.number();
+        let (read, sent) = (reader.read(), writer.sent());
+        let at = match self.log {
+            Some(_) => moment_now(self.rt),
+            None => None,
+        };
+        let connection = connection_of(at, number, &served, read, &sent);
         self.arrivals
             .ended(reader.into_inner(), writer.into_inner(), served);
         if let Some(log) = self.log {

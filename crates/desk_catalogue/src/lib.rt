@@ -1,4 +1,15 @@
 //! The desk in memory, which doesn't change: a catalogue that answers queries and makes the catalogue after a command.
+//!
+//! Seen as `Desk`. `restored`, `ask`, `after`, `draft`: the desk's answer and step, and the same desk after each refusal; of `draft` also
+//! for each county whether it changes (`changes_of`). An audit is answered with the text of a report on just the subject that the desk's
+//! answer names, or with its refusal.
+//!
+//! # Notes
+//!
+//! The query `Audit` has the address of each companion, or none. `answer` of desk_model says what is audited: `subject_of` finds the plan,
+//! the revision and the companions, or the refusal, in that order. `takes` is the one table of which kind takes which companion. What a
+//! report on that subject is, the audit's crates define above desk_model. So `QueryMay` takes the relation `Reports`, and this crate gives
+//! it once: `IsReportText`. `AskMay` is `QueryMay` with it.
 #![tactic(auto)]
 
 mod blocks;

@@ -1,7 +1,10 @@
-//! What answers commands and queries: the counter at which a served stream asks, whoever stands behind it. A clerk alone with its store
-//! is one, and a seat at an office another.
+//! What answers commands and queries: the counter at which a served stream asks, whoever is behind it.
 //!
-//! Its model is its own: which commands it takes, which replies a command or a query may have, and what they leave.
+//! Seen as its own (`Counter`): which commands it takes, which replies a command or a query may have, and what they leave.
+//!
+//! # Notes
+//!
+//! A clerk alone with its store is a counter, and a seat at an office another.
 #![tactic(auto)]
 
 ghost use Rattle.std.specs.Prelude.{◌≡◌};

@@ -1,5 +1,5 @@
 -- Requests in a life, and lives in turn.
-use Rattle.std.proofs.Common.{◌≡◌, ◌⊎◌, ℕ, ◌≤◌, ◌<◌, ◌^◌, Bool, true, false, List, [], ◌∷◌, ◌++◌, length, get_or, inl, inr, ⊎_elim, refl, sym, subst, ◌∙◌, arith, append_assoc}
+use Rattle.std.proofs.Common.{◌≡◌, ◌⊎◌, ℕ, ◌≤◌, ◌<◌, Bool, true, false, List, [], ◌∷◌, ◌++◌, length, get_or, inl, inr, ⊎_elim, refl, sym, subst, ◌∙◌, arith, append_assoc}
 use Rattle.std.proofs.lemmas.List.{append-nil}
 use Rattle.std.specs.Prelude.{⊤, None, Some}
 use Rattle.std.specs.List.{remove}
@@ -226,7 +226,7 @@ module _ {D : Type 0} {g : Ghosts D} where
       stayed t d n all rest so_far x (Load area) (Unloaded why) y still.0 still.2 loads.0 (λ told failed. (tt, failed)) more holds
 
   -- a step of a sweep
-  swept : (t : ℕ) (d : Desk) (n : ℕ) (all rest : List Request) (so_far : List Answer) (x : Clerk D g) (a : Answer) (y : Clerk D g) → sectors_of x ≡ n → (disk_of y).is_honest → Moves (desk_of x) x y → desk_of y ≡ desk_of x → Sweeps a y
+  swept : (t : ℕ) (d : Desk) (n : ℕ) (all rest : List Request) (so_far : List Answer) (x : Clerk D g) (a : Answer) (y : Clerk D g) → sectors_of x ≡ n → (disk_of y).is_honest → Moves (desk_of x) x y → desk_of y ≡ desk_of x → Sweeps x a y
       → is_halted x ≡ false → Keeps x → (disk_of x).faults ≡ t → Going t d all (Sweep ∷ rest) so_far (desk_of x) → Stands t d n all rest (so_far ++ a ∷ []) y
   swept t d n all rest so_far x (Said r) y long honest moves same sweeps off keeps was going = absurd sweeps
   swept t d n all rest so_far x Loaded y long honest moves same sweeps off keeps was going = absurd sweeps
@@ -245,12 +245,12 @@ module _ {D : Type 0} {g : Ghosts D} where
       moves.keeps keeps,
       still_calm t x y (moves.calm works honest) was,
       λ u told e lived. regroup t u d all so_far (Unswept why) told e
-          (going u (Unswept why ∷ told) e (inr (inl ((λ i. Unswept (sweeps works i)), subst (λ (now : Desk). Lived t u now rest told e) same lived)))),
+          (going u (Unswept why ∷ told) e (inr (inl ((λ i. Unswept (sweeps works keeps honest i)), subst (λ (now : Desk). Lived t u now rest told e) same lived)))),
     )
     | inl on ↦ failed_at t d n all rest so_far x Sweep (Unswept why) y (desk_of x) (desk_of x) long on (failed_more t x y (moves.rose keeps off on honest) was) same (λ u told e more fails. inr (inr (more, tt, fails))) (moves.any_moment keeps off honest) refl going
   ]
 
-  unswept_on : (t : ℕ) (d : Desk) (n : ℕ) (all rest : List Request) (so_far : List Answer) (x : Clerk D g) (a : Answer) (y : Clerk D g) → Moves (desk_of x) x y → desk_of y ≡ desk_of x → Sweeps a y
+  unswept_on : (t : ℕ) (d : Desk) (n : ℕ) (all rest : List Request) (so_far : List Answer) (x : Clerk D g) (a : Answer) (y : Clerk D g) → Moves (desk_of x) x y → desk_of y ≡ desk_of x → Sweeps x a y
       → is_halted x ≡ true → t < (disk_of x).faults → Holds n (GoingFailed t d all (Sweep ∷ rest) so_far (desk_of x)) (disk_of x) → Stands t d n all rest (so_far ++ a ∷ []) y
   unswept_on t d n all rest so_far x (Said r) y moves same sweeps on more holds = absurd sweeps
   unswept_on t d n all rest so_far x Loaded y moves same sweeps on more holds = absurd sweeps
@@ -335,10 +335,11 @@ module _ {D : Type 0} {g : Ghosts D} where
   may_refuse x area load.Ended y refused works keeps honest = absurd refused
 
   -- why a step of a sweep was refused
-  pub swept_for : (x : Clerk D g) (e : SweepError) (y : Clerk D g) → (is_halted x ≡ true → is_halted y ≡ true) → SweepRefused x e (is_halted y) (pages_of y) → is_halted y ≡ false → e ≡ sweep.Memory
-  swept_for x sweep.Memory y still refused works = refl
-  swept_for x sweep.DeviceFault y still refused works = absurd (clash_of (is_halted y) refused.1 works)
-  swept_for x sweep.Halted y still refused works = absurd (clash_of (is_halted y) (still refused) works)
+  pub swept_for : (x : Clerk D g) (e : SweepError) (y : Clerk D g) → (is_halted x ≡ true → is_halted y ≡ true) → ((disk_of y).is_honest → (disk_of x).is_honest) → SweepRefused x e (is_halted y) (pages_of y) → is_halted y ≡ false → Keeps x → (disk_of y).is_honest → e ≡ sweep.Memory
+  swept_for x sweep.Memory y still was refused works keeps honest = refl
+  swept_for x sweep.NotAStore y still was refused works keeps honest = absurd (refused.3 honest (keeps.holds refused.0 (was honest)))
+  swept_for x sweep.DeviceFault y still was refused works keeps honest = absurd (clash_of (is_halted y) refused.1 works)
+  swept_for x sweep.Halted y still was refused works keeps honest = absurd (clash_of (is_halted y) (still refused) works)
 
 -- ---- one life
 all_versions : (disk : Disk) → AllDesks disk → AllVersions disk
@@ -437,10 +438,10 @@ known one disk P e holds is =
     let few = disk.few in
     subst P (one true true disk.sectors there.0 e is.was (omega (arith, few)) there.2 is.opens) there.1
 
-module _ {X Y : Type 0} (life : (t u : ℕ) → Desk → X → Y → Desk → Type 0) where
-  further : (t u : ℕ) (d : Desk) (all : List X) (so_far : List Y) (told : Y) (answers : List Y) (e : Desk) → LifeAfterLife life t u d all (so_far ++ told ∷ answers) e → LifeAfterLife life t u d all ((so_far ++ told ∷ []) ++ answers) e
-  further t u d all so_far told answers e lives = subst (λ (l : List Y). LifeAfterLife life t u d all l e) (sym (append_assoc so_far (told ∷ []) answers)) lives
+pub further : {S X Y : Type 0} (life : (t u : ℕ) → S → X → Y → S → Type 0) (t u : ℕ) (d : S) (all : List X) (so_far : List Y) (told : Y) (answers : List Y) (e : S) → LifeAfterLife life t u d all (so_far ++ told ∷ answers) e → LifeAfterLife life t u d all ((so_far ++ told ∷ []) ++ answers) e
+further {S} {X} {Y} life t u d all so_far told answers e lives = subst (λ (l : List Y). LifeAfterLife life t u d all l e) (sym (append_assoc so_far (told ∷ []) answers)) lives
 
+module _ {X Y : Type 0} (life : (t u : ℕ) → Desk → X → Y → Desk → Type 0) where
   pub lives_on : ImagesAreOne → (t : ℕ) (d : Desk) (all : List X) (asked : X) (rest : List X) (so_far : List Y) (old new : Disk) (told : Y) → LivesOnce (λ s u now next. life s u now asked told next) old new → new.is_honest
       → Holds old.sectors (GoingOn life t d all (asked ∷ rest) so_far old.faults) old → Holds new.sectors (GoingOn life t d all rest (so_far ++ told ∷ []) new.faults) new
   lives_on one t d all asked rest so_far old new told once honest holds i stopped =
@@ -448,7 +449,7 @@ module _ {X Y : Type 0} (life : (t u : ℕ) → Desk → X → Y → Desk → Ty
       let became = once.became honest desks i stopped in
       let more = once.faults honest desks in
       let going = known one old (GoingOn life t d all (asked ∷ rest) so_far old.faults) became.0 holds became.1 in
-      (became.2.0, (λ u answers e lives. further t u d all so_far told answers e (going u (told ∷ answers) e (new.faults, more, became.2.0, became.2.1, lives))), subst (λ (s : ℕ). OpensDesk s became.2.0 i) (sym once.sectors) became.2.2)
+      (became.2.0, (λ u answers e lives. further life t u d all so_far told answers e (going u (told ∷ answers) e (new.faults, more, became.2.0, became.2.1, lives))), subst (λ (s : ℕ). OpensDesk s became.2.0 i) (sym once.sectors) became.2.2)
 
   pub begun : (d : Desk) (all : List X) (disk : Disk) → HoldsOne disk d → Holds disk.sectors (GoingOn life disk.faults d all all [] disk.faults) disk
   begun d all disk holds i left = (d, (λ u answers e lives. lives), holds i left)

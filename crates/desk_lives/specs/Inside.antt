@@ -50,19 +50,19 @@ module _ {D : Type 0} {g : Ghosts D} where
   Loads x area (Unswept why) y = ⊥
 
   -- what a step of a sweep comes to
-  abbrev pub Sweeps : Answer → Clerk D g → Type 0
-  Sweeps (Said r) y = ⊥
-  Sweeps Loaded y = ⊥
-  Sweeps (Unloaded why) y = ⊥
-  Sweeps (Swept count) y = is_halted y ≡ false
-  Sweeps (Unswept why) y = is_halted y ≡ false → why ≡ sweep.Memory
+  abbrev pub Sweeps : Clerk D g → Answer → Clerk D g → Type 0
+  Sweeps x (Said r) y = ⊥
+  Sweeps x Loaded y = ⊥
+  Sweeps x (Unloaded why) y = ⊥
+  Sweeps x (Swept count) y = is_halted y ≡ false
+  Sweeps x (Unswept why) y = is_halted y ≡ false → Keeps x → (disk_of y).is_honest → why ≡ sweep.Memory
 
   -- what a request comes to
   abbrev pub Answers : Clerk D g → Request → Answer → Clerk D g → Type 0
   Answers x (Change c) a y = (r : Reply) × (a ≡ Said r) × Does x c r y
   Answers x (Look q) a y = (r : Reply) × (a ≡ Said r) × AskMay (desk_of x) q r × (y ≡ x)
   Answers x (Load geography) a y = Moves (loaded_desk geography.value) x y × Loads x geography.value a y
-  Answers x Sweep a y = Moves (desk_of x) x y × (desk_of y ≡ desk_of x) × Sweeps a y
+  Answers x Sweep a y = Moves (desk_of x) x y × (desk_of y ≡ desk_of x) × Sweeps x a y
 
   -- a clerk was asked, and `life` says what that makes of a desk
   pub record LivedThrough (life : (t u : ℕ) → Desk → Desk → Type 0) (x y : Clerk D g) : Type 0 where
@@ -89,7 +89,7 @@ pub record LivesOnce (life : (t u : ℕ) → Desk → Desk → Type 0) (old new 
 abbrev pub IsLife : Asked → Told → ℕ → ℕ → Desk → Desk → Type 0
 IsLife asked told t u d e = Life t u d asked told e
 
-module _ {Asks Tells : Type 0} (life : (t u : ℕ) → Desk → Asks → Tells → Desk → Type 0) where
+module _ {Store Asks Tells : Type 0} (life : (t u : ℕ) → Store → Asks → Tells → Store → Type 0) where
   -- so many lives were answered, and others are left
-  abbrev pub GoingOn : (t : ℕ) → Desk → List Asks → List Asks → List Tells → ℕ → Desk → Type 0
-  GoingOn t d all rest so_far s now = (u : ℕ) (told : List Tells) (e : Desk) → LifeAfterLife life s u now rest told e → LifeAfterLife life t u d all (so_far ++ told) e
+  abbrev pub GoingOn : (t : ℕ) → Store → List Asks → List Asks → List Tells → ℕ → Store → Type 0
+  GoingOn t d all rest so_far s now = (u : ℕ) (told : List Tells) (e : Store) → LifeAfterLife life s u now rest told e → LifeAfterLife life t u d all (so_far ++ told) e

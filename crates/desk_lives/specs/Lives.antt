@@ -116,15 +116,15 @@ Life t u d asked (Ok told) e = Lived t u d asked.items told.items e
 Life t u d asked (Err why) e = IsPassing t u why × (e ≡ d)
 
 -- Life after life, where `life` says what one may come to.
-module _ {Asks Tells : Type 0} (life : (t u : ℕ) → Desk → Asks → Tells → Desk → Type 0) where
+module _ {Store Asks Tells : Type 0} (life : (t u : ℕ) → Store → Asks → Tells → Store → Type 0) where
   -- From the desk d on and to e: each life begins with the desk that the stop before it left. The device had failed t times before, and u
-  -- times in the end.
-  abbrev pub LifeAfterLife : (t u : ℕ) → Desk → List Asks → List Tells → Desk → Type 0
+  -- times in the end. A store may be told by more than its desk.
+  abbrev pub LifeAfterLife : (t u : ℕ) → Store → List Asks → List Tells → Store → Type 0
   LifeAfterLife t u d [] [] e = (t ≤ u) × (e ≡ d)
   LifeAfterLife t u d [] (told ∷ answers) e = ⊥
   LifeAfterLife t u d (asked ∷ lives) [] e = ⊥
   LifeAfterLife t u d (asked ∷ lives) (told ∷ answers) e =
-      (s : ℕ) × (t ≤ s) × (next : Desk) × life t s d asked told next × LifeAfterLife s u next lives answers e
+      (s : ℕ) × (t ≤ s) × (next : Store) × life t s d asked told next × LifeAfterLife s u next lives answers e
 
 abbrev pub Lives : (t u : ℕ) → Desk → List Asked → List Told → Desk → Type 0
 Lives t u d lives answers e = LifeAfterLife Life t u d lives answers e

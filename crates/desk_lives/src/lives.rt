@@ -63,7 +63,7 @@ fn answered<D: SectorDevice>(alloc: Global, clerk: &mut Clerk<D>, request: Reque
 }
 
 /// Answers requests, one after the other.
-fn answer_all<D: SectorDevice>(
+pub fn answer_all<D: SectorDevice>(
     alloc: Global,
     clerk: &mut Clerk<D>,
     asked: Vec<Request>,

@@ -2,6 +2,8 @@
 use Rattle.std.proofs.Common.{◌≡◌, ℕ, Bool, true, false, inl, inr, refl, sym, subst, ◌∙◌, arith}
 use Rattle.sector_device.specs.Disk.{Disk, Image}
 use Rattle.sector_device.specs.declared.SectorDevice.{Ghosts}
+use Rattle.sector_device.proofs.Moments.{leaves_now}
+use Rattle.page_store.proofs.Stops.{leaves_here, leaves_quiet}
 use Rattle.gate_journal.specs.Recovery.{HasRoom, Found}
 use Rattle.page_store.specs.Transactions.{stored, disk_in, count_of, journal_of, has_halted, IsQuiet, IsKept, IsUntouched, OpenErr, Passed}
 use Rattle.page_store.specs.declared.pages.Pages.{Pages}
@@ -23,7 +25,7 @@ use Rattle.desk_pages.proofs.Found.{found_after, found_desk, page_stores_of, pag
 use Rattle.desk_pages.proofs.Kept.{opens_now}
 use Rattle.desk_migration.specs.Holding.{AreHeldTo}
 use Rattle.desk_migration.specs.Migrating.{disk_of, has_ended, is_halted, sectors_of}
-use Rattle.desk_migration.specs.Openings.{AreOfVersion, AreRead, IsFound, IsRefused, JudgeErr, KeepsOne, missing, page_told, tree_told}
+use Rattle.desk_migration.specs.Openings.{AreOfVersion, AreRead, IsFound, IsRefused, JudgeErr, KeepsOne, LeavesNew, missing, page_told, tree_told}
 use Rattle.desk_migration.specs.declared.error.MigrationOpenError.{MigrationOpenError}
 use Rattle.desk_migration.specs.declared.error.MigrationOpenError.TheVariants.{NotAStore, DeviceFault, Memory, AlreadyNew}
 use Rattle.desk_migration.specs.declared.migration.Migration.{Migration}
@@ -49,6 +51,16 @@ page_spared h old new page.Halted why untouched = absurd why
 page_spared h old new page.TooManyPages why untouched = absurd why
 page_spared h old new page.TooSmall why untouched = absurd why
 page_spared h old new page.NoPages why untouched = absurd why
+
+-- none of them is of the new version
+pub page_not_new : (e : PageError) → page_told e ≡ AlreadyNew → ⊥
+page_not_new page.NotAStore is = cc
+page_not_new page.DeviceFault is = cc
+page_not_new page.Memory is = cc
+page_not_new page.Halted is = cc
+page_not_new page.TooManyPages is = cc
+page_not_new page.TooSmall is = cc
+page_not_new page.NoPages is = cc
 
 module _ {D : Type 0} {g : Ghosts D} where
   -- ---- whether pages hold a desk in the old version
@@ -175,3 +187,16 @@ module _ {D : Type 0} {g : Ghosts D} where
             let (d, opens) = all it.was it.left in
             both false (version_of false true a d (found_desk old a it room (false, d) opens) (why honest).0) refl,
       )
+
+      -- a stop behind such a refusal leaves the new version
+      pub left_new : (b : Pages D g) (e : MigrationOpenError) → has_halted a ≡ false → IsQuiet a b → JudgeErr a b e → (disk_in b).is_honest → e ≡ AlreadyNew → LeavesNew old (disk_in b)
+      left_new b e working quiet why = λ honest is all c leaves.
+          let told = subst (λ (e : MigrationOpenError). JudgeErr a b e) is why honest in
+          let before = quiet.honest honest in
+          let it = found before in
+          let was = all it.was it.left in let new = was.0.0 in let d = was.0.1 in let opens = was.1 in
+          let is_new : new ≡ true = version_of new true a d (found_desk old a it room (new, d) opens) told.0 in
+          let opens_new : OpensDeskOf true old.sectors d it.was = subst (λ (b : Bool). OpensDeskOf b old.sectors d it.was) is_new opens in
+          let holds : InPagesOf true a d = found_desk old a it room (true, d) opens_new in
+          let still = leaves_quiet a b quiet honest (OpensDeskOf true old.sectors d) (disk_in a) (leaves_here (OpensDeskOf true old.sectors d) (disk_in a) (λ i left. opens_now {new = true} a working before old.sectors d room.whole holds i left)) in
+          record { desk = d; one = record { was = it.was; left = it.left; opens = opens_new }; opens = leaves_now (OpensDeskOf true old.sectors d) (disk_in a) (disk_in b) still c leaves }

@@ -18,7 +18,7 @@ use Rattle.store_rows.specs.Rows.{KeyMap, row_in}
 use Rattle.store_rows.specs.Tidy.{version_row}
 use Rattle.desk_opening.specs.Opening.{IsReadFrom}
 use Rattle.desk_pages.specs.Desks.{InPagesOf}
-use Rattle.desk_pages.specs.Openings.{AllOld, AllVersions, HasPages, IsOneOld}
+use Rattle.desk_pages.specs.Openings.{AllOld, AllVersions, HasPages, IsOneOld, OpensOneOf}
 use Rattle.desk_migration.specs.Migrating.{disk_of, Keeps}
 use Rattle.desk_migration.specs.declared.error.MigrationOpenError.{MigrationOpenError}
 use Rattle.desk_migration.specs.declared.error.MigrationOpenError.TheVariants.{NotAStore, DeviceFault, Memory, AlreadyNew}
@@ -49,6 +49,10 @@ pub record IsFoundNew (old new : Disk) : Type 0 where
 -- what is opened keeps one that was there in the old version
 abbrev pub KeepsOne : {D : Type 0} {g : Ghosts D} → Disk → Migration D g → Type 0
 KeepsOne old x = (d : Desk) × (Keeps x d × IsOneOld old d)
+
+-- where each image that a stop might have left opened to a desk, in either version, each now opens to one that was there in the new version
+abbrev pub LeavesNew : Disk → Disk → Type 0
+LeavesNew old new = AllVersions old → (c : Image) → new.leaves c → OpensOneOf old c
 
 abbrev pub device_after : {D : Type 0} {g : Ghosts D} → Result (Migration D g) (MigrationOpenError × D) → D
 device_after (Ok x) = x.pages.journal.device

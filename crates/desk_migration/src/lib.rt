@@ -1,5 +1,17 @@
-//! Leads a store from the old version of its rows to the new one, in which a row tells each plan that holds a chunk, and another how
-//! many they are. A stopped migration is begun anew, and keeps the rows that are there.
+//! Turns a store of version 1 into one of version 2: there a row says of each plan that it holds a chunk, and another how many do.
+//!
+//! Seen as the desk, which stays, and the map. `Migration::open`: as the clerk's; AlreadyNew only where the version's row is there and a
+//! desk was read. `step`: at most 16 rows; at each moment each image opens to the desk in version 1; 0 exactly where each part of any plan
+//! names chunks that it holds. `finish`: in version 1 or 2, at Ok in version 2. Full exactly where fewer than 13 free pages a row are
+//! there, or the tree would be too deep.
+//!
+//! # Notes
+//!
+//! A stopped migration is begun anew, and keeps the rows that are there. The store keeps its desk all along
+//! (`Rattle.desk_migration.specs.Migrating.Keeps`). Each image that a stop may leave opens to it: in version 1 up to `finish`, in either
+//! within it, and in version 2 after it.
+//!
+//! # Example
 //!
 //! ```text
 //! let mut migration = Migration::open(alloc, device)?;
@@ -7,9 +19,6 @@
 //! migration.finish(alloc)?;
 //! let device = migration.into_device();
 //! ```
-//!
-//! The store keeps its desk all along (`Rattle.desk_migration.specs.Migrating.Keeps`): each image that a stop may leave opens to it, in
-//! the old version up to the end, in either within it, and in the new one behind it.
 #![tactic(auto)]
 
 mod commits;

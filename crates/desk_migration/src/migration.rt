@@ -31,11 +31,12 @@ impl<D: SectorDevice> Migration<D> {
     ghost use Rattle.desk_migration.specs.Migrating.{Ends, Keeps, KeepsNew, Moves};
     ghost use Rattle.desk_migration.specs.Outcomes.{PutsMore, TellsEnd};
     ghost use Rattle.desk_migration.specs.Puts.{FinishErr, StepErr};
-    ghost use Rattle.desk_migration.specs.Openings.{device_after, IsFound, IsRefused, KeepsOne};
+    ghost use Rattle.desk_migration.specs.Openings.{device_after, IsFound, IsRefused, KeepsOne, LeavesNew};
 
     /// Opens the store that a device holds, whose rows are to be of the old version: a commit that a stop cut short is finished or
     /// dropped. At any moment of it a stop leaves a desk that was there at its start, in its version. With a refusal the device comes
-    /// back, its pages as they were; what is no store stays as it is. `Memory` and `AlreadyNew` come of a store alone.
+    /// back, its pages as they were; what is no store stays as it is. `Memory` and `AlreadyNew` come of a store alone, and behind
+    /// `AlreadyNew` a stop leaves a desk of the new version.
     pub fn open(alloc: Global, device: D) -> Result<Migration<D>, (MigrationOpenError, D)>
         ensures sectors { (D.disk (device_after result)).sectors ≡ (D.disk device).sectors }
         ensures honest { (D.disk (device_after result)).is_honest → (D.disk device).is_honest }
@@ -45,7 +46,9 @@ impl<D: SectorDevice> Migration<D> {
         ensures begins { IfOk result (λ x. has_ended x ≡ false) }
         ensures working { IfOk result (λ x. (is_halted x ≡ false) × (sectors_of x ≡ (D.disk device).sectors)) }
         ensures passed { (D.disk (device_after result)).is_honest → OnOk result ((D.disk (device_after result)).faults ≡ (D.disk device).faults) }
+        ensures faults { (D.disk (device_after result)).is_honest → (D.disk device).faults ≤ (D.disk (device_after result)).faults }
         ensures err { IfErr result (λ e. IsRefused (D.disk device) (D.disk e.1) e.0) }
+        ensures already { IfErr result (λ e. (D.disk e.1).is_honest → e.0 ≡ MigrationOpenError.AlreadyNew → LeavesNew (D.disk device) (D.disk e.1)) }
         ensures untouched { IfErr result (λ e. (D.disk e.1).is_honest → e.0 ≡ MigrationOpenError.NotAStore → IsSpared (D.disk device) (D.disk e.1)) }
     {
         let mut pages = match Pages::open(alloc, device) {

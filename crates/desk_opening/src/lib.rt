@@ -1,12 +1,18 @@
-//! A desk is read back from the rows of a store: `read_desk(alloc, &txn, &mut pages)?`.
+//! A desk, read from rows of either version.
 //!
-//! The model is `IsDesk` and `Tidy` of store_rows. What a desk's rows say is read as that desk, whichever version they are of;
-//! `is_new` tells which. Of rows that are no desk's, `IsReadFrom` says what is read: each plan whose row stands there, with a
-//! number of its own that is below the next, and no other. A row is there for each part of the list of each of its revisions,
-//! and beyond these none, but of plans that were taken away.
+//! Seen as `IsDesk` and `Tidy` of store_rows. `read_desk`: where the transaction reads a desk, the catalogue of that desk; it reads. Of
+//! other rows `IsReadFrom` says that what is shown is what the rows say. That is the blocks and pairs of the sealed load, and of each
+//! revision the numbers of its chunks and their districts, within the plan's number. No part of a revision is of a plan that was never
+//! made, or beyond its plan's revisions. It doesn't say that no row stands after a list's last. `read_entry`, `add_plan`: a plan with all
+//! its revisions. `is_new`: whether the version's row is there.
 //!
-//! The revisions of a plan are read one after the other. Of each the list of its chunks is read, and of these the ones alone that
-//! the revision before doesn't name for the same county: they are laid over its districts, and both share the rest.
+//! # Notes
+//!
+//! `read_desk(alloc, &txn, &mut pages)?` reads each plan whose row is there, with a number of its own that is below the next, and no other.
+//! A row is there for each part of the list of each of its revisions, and beyond these none, but of plans that were taken away.
+//!
+//! The revisions of a plan are read one after the other. Of each the list of its chunks is read, and then only the chunks that the revision
+//! before doesn't name for the same county. They are laid over its districts, and both share the rest.
 #![tactic(auto)]
 
 mod counties;

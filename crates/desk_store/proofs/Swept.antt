@@ -1,5 +1,5 @@
 -- Sweeps at a clerk.
-use Rattle.std.proofs.Common.{◌≡◌, ◌⊎◌, ◌<◌, ◌+◌, ◌^◌, ℕ, zero, suc, true, false, List, [], ◌∷◌, ◌++◌, Option, Some, inl, inr, ⊎_elim, refl, sym, ap, subst, ◌∙◌, arith}
+use Rattle.std.proofs.Common.{◌≡◌, ◌⊎◌, ◌<◌, ◌+◌, ◌^◌, ℕ, zero, suc, Bool, true, false, List, [], ◌∷◌, ◌++◌, Option, Some, inl, inr, ⊎_elim, refl, sym, ap, subst, ◌∙◌, arith}
 use Rattle.std.specs.FinMap.{remove}
 use Rattle.sector_device.specs.declared.SectorDevice.{Ghosts}
 use Rattle.page_store.specs.Transactions.{disk_in, has_halted, IsQuiet}
@@ -20,12 +20,13 @@ use Rattle.desk_pages.specs.Desks.{IsDeskMap, InPages}
 use Rattle.store_sweep.specs.Leftovers.{IsOfLoad, IsApart, AreNotSpared, IsSweptBy, IsSweptClean}
 use Rattle.store_sweep.specs.Sweeping.{HoldsSwept, SweepErr}
 use Rattle.store_sweep.specs.declared.error.SweepError.{SweepError}
-use Rattle.store_sweep.specs.declared.error.SweepError.TheVariants.{Memory, DeviceFault, Halted}
+use Rattle.store_sweep.specs.declared.error.SweepError.TheVariants.{Memory, NotAStore, DeviceFault, Halted}
 use Rattle.store_sweep.proofs.Stepped.{quiet_rows}
-use Rattle.desk_store.specs.Clerks.{desk_of, disk_of, pages_of, Keeps}
+use Rattle.desk_store.specs.Clerks.{desk_of, disk_of, pages_of, Keeps, Reads, Moves}
 use Rattle.desk_store.specs.Loads.{Stages, IsLast}
-use Rattle.desk_store.specs.Sweeps.{HasRows, HasSwept, is_sweep_fault}
+use Rattle.desk_store.specs.Sweeps.{HasRows, HasSwept, SweepRefused, is_sweep_fault}
 use Rattle.desk_store.specs.declared.clerk.Clerk.{Clerk}
+use Rattle.desk_store.proofs.Done.{reads_move}
 
 -- ---- turns leave the rows of a load
 -- a plan that lets a chunk go leaves the rows with other tags
@@ -139,14 +140,35 @@ module _ {D : Type 0} {g : Ghosts D} where
   sweep_rose x b Memory working met why on keeps honest = ⊎_elim (λ clash. absurd (cc)) (λ halted. why.rose (x.working working) halted honest) on
   sweep_rose x b DeviceFault working met why on keeps honest = elim why [
     | inl failed ↦ failed.rose honest
-    | inr none ↦ absurd (none honest (desk_of x) (keeps.holds working (met honest)))
+    | inr none ↦ absurd (none honest)
   ]
+  sweep_rose x b NotAStore working met why on keeps honest = absurd (why.2 honest (desk_of x) (keeps.holds working (met honest)))
   sweep_rose x b Halted working met why on keeps honest = absurd (let clash : true ≡ false = sym why.0 ∙ x.working working in cc)
 
   pub sweep_quiet : (a b : Pages D g) (e : SweepError) → is_sweep_fault e ≡ false → SweepErr a b e → IsQuiet a b
   sweep_quiet a b Memory off why = why
+  sweep_quiet a b NotAStore off why = why.0
   sweep_quiet a b DeviceFault off why = absurd (cc)
   sweep_quiet a b Halted off why = absurd (cc)
+
+  -- and as a refusal of the clerk, who goes on
+  pub refused_so : (x : Clerk D g) (b : Pages D g) (e : SweepError) (halted : Bool) → x.halted ≡ false → halted ≡ false → is_sweep_fault e ≡ false → SweepErr (pages_of x) b e → SweepRefused x e halted b
+  refused_so x b Memory halted working works off why = (works, why)
+  refused_so x b NotAStore halted working works off why = (working, works, why.0, λ honest holds. why.2 honest (desk_of x) holds)
+  refused_so x b DeviceFault halted working works off why = absurd (cc)
+  refused_so x b Halted halted working works off why = absurd (cc)
+
+  -- a check that met a fault read at most
+  pub checked_failed : (x y : Clerk D g) (e : SweepError) → x.halted ≡ false → desk_of y ≡ desk_of x → IsQuiet (pages_of x) (pages_of y) → SweepErr (pages_of x) (pages_of y) e → (is_sweep_fault e ≡ true) ⊎ (has_halted (pages_of y) ≡ true) → Moves (desk_of x) x y
+  checked_failed x y e working desk quiet why on =
+      let reads : Reads x y = record {
+        quiet = quiet;
+        desk = desk;
+        halts = λ was. absurd (let clash : true ≡ false = sym was ∙ working in cc);
+        still = λ was. absurd (let clash : true ≡ false = sym was ∙ working in cc);
+        rose = λ keeps off now honest. sweep_rose x (pages_of y) e working quiet.honest why on keeps honest;
+      } in
+      reads_move (desk_of x) x y reads
 
   -- a load that is under way stays so where nothing was committed, and where the clerk halts
   pub still_stages : (x y : Clerk D g) (load : Load) → x.halted ≡ false → desk_of y ≡ desk_of x → IsQuiet (pages_of x) (pages_of y) → Keeps y → Stages x load → Stages y load

@@ -1,20 +1,21 @@
 -- Sweeps at a clerk.
 use Rattle.std.specs.Prelude.{◌≡◌, ◌<◌, ℕ, Bool, true, false}
 use Rattle.sector_device.specs.declared.SectorDevice.{Ghosts}
-use Rattle.page_store.specs.Transactions.{IsQuiet}
+use Rattle.page_store.specs.Transactions.{disk_in, IsQuiet}
 use Rattle.page_store.specs.declared.pages.Pages.{Pages}
 use Rattle.page_btree.specs.Map.{InPages as HoldsRows}
 use Rattle.store_rows.specs.Rows.{KeyMap}
-use Rattle.desk_pages.specs.Desks.{IsDeskMap}
+use Rattle.desk_pages.specs.Desks.{IsDeskMap, InPages}
 use Rattle.store_sweep.specs.Leftovers.{IsSweptBy, IsSweptClean}
 use Rattle.store_sweep.specs.declared.error.SweepError.{SweepError}
-use Rattle.store_sweep.specs.declared.error.SweepError.TheVariants.{Memory, DeviceFault, Halted}
+use Rattle.store_sweep.specs.declared.error.SweepError.TheVariants.{Memory, NotAStore, DeviceFault, Halted}
 use Rattle.desk_store.specs.declared.clerk.Clerk.{Clerk}
 use Rattle.desk_store.specs.Clerks.{desk_of, pages_of}
 
--- the device failed, or holds what no store has
+-- the device failed
 abbrev pub is_sweep_fault : SweepError → Bool
 is_sweep_fault Memory = false
+is_sweep_fault NotAStore = false
 is_sweep_fault DeviceFault = true
 is_sweep_fault Halted = true
 
@@ -38,5 +39,6 @@ module _ {D : Type 0} {g : Ghosts D} where
   -- why nothing is swept
   abbrev pub SweepRefused : Clerk D g → SweepError → Bool → Pages D g → Type 0
   SweepRefused x Memory halted b = (halted ≡ false) × IsQuiet (pages_of x) b
+  SweepRefused x NotAStore halted b = (x.halted ≡ false) × (halted ≡ false) × IsQuiet (pages_of x) b × ((disk_in b).is_honest → InPages (pages_of x) (desk_of x) → ⊥)
   SweepRefused x DeviceFault halted b = (x.halted ≡ false) × (halted ≡ true)
   SweepRefused x Halted halted b = x.halted ≡ true

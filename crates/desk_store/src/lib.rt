@@ -1,8 +1,21 @@
-//! The desk in a store: the door by which everything above opens, changes, loads and sweeps it. A `Clerk` keeps the desk in the
-//! pages of a device and shows it from a catalogue in memory. A clerk means its desk (`Rattle.desk_store.specs.Clerks.desk_of`)
-//! and what its device holds: each image that a stop may leave opens to the desk before a call or to the one after it. `format`
-//! makes a device a store of the new version, which `Clerk::open` takes alone; `Clerk::begin_load`, `load_batch` and `seal` load a
-//! geography, `prepare` and `Ready::commit` do a command, and `sweep_step` takes out what is left over.
+//! The clerk, who keeps the desk in a store: the door by which everything above opens, changes, loads and sweeps it.
+//!
+//! Seen as `desk_of`, the desk that is shown, `disk_of`, the device, and `Keeps`: each image opens to what is shown. `prepare`, `commit`,
+//! `command`: `Does`. An accepted command has the desk's step, and at every moment each image opens to the desk before or after; a refused
+//! one leaves the desk. Halted comes after a fault, Full for want of pages, journal pages, numbers or levels. A commit takes no memory and
+//! succeeds unless the device fails. `Clerk::ask`: the desk's answer. `begin_load`, `load_batch`, `seal`: geo_tables' at the clerk.
+//! `sweep_step`: store_sweep's; a load under way goes on. `Clerk::open`: at each moment each image opens to a desk to which one opened
+//! before, and at Ok the clerk keeps one of these (`any_moment`, `opened`, with [their
+//! premise](docs/PROOFS.md#the-premise-of-every-clause-on-openings)). Of any device a clerk who is given shows the desk of the pages found
+//! (`found`). NotAStore leaves the device unwritten or with the pages that were found (`untouched`). `reopens`: what it keeps opens again.
+//!
+//! # Notes
+//!
+//! A `Clerk` keeps the desk in the pages of a device and shows it from a catalogue in memory. `format` makes a device a store of version 2,
+//! which `Clerk::open` takes alone. `Clerk::begin_load`, `load_batch` and `seal` load a geography, `prepare` and `Ready::commit` do a
+//! command, and `sweep_step` takes out what is left over. `desk_of` is in `Rattle.desk_store.specs.Clerks`.
+//!
+//! # Example
 //!
 //! ```text
 //! format(alloc, &mut device, 1024)?;

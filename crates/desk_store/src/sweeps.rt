@@ -15,7 +15,7 @@ fn has_failed<D: SectorDevice>(e: SweepError, pages: &Pages<D>) -> bool
     ensures passed { (result ≡ false) → (is_sweep_fault e ≡ false) × (has_halted pages.now ≡ false) }
 {
     match e {
-        SweepError::Memory => pages.is_halted(),
+        SweepError::Memory | SweepError::NotAStore => pages.is_halted(),
         SweepError::DeviceFault | SweepError::Halted => true,
     }
 }
@@ -33,7 +33,10 @@ fn in_range(number: Option<u64>) -> Option<u64>
 
 impl<D: SectorDevice> Clerk<D> {
     ghost use Rattle.std.specs.Prelude.{◌≡◌, ◌≤◌, ◌↔◌, false, OnOk, IfOk, IfErr};
+    ghost use Rattle.page_store.specs.Transactions.{IsQuiet};
+    ghost use Rattle.page_btree.specs.Map.{InPages as HoldsRows};
     ghost use Rattle.store_rows.specs.Rows.{KeyMap};
+    ghost use Rattle.store_holdings.specs.Checks.{AreSoundHoldings};
     ghost use Rattle.geo_tables.specs.declared.load.Load.{Load};
     ghost use Rattle.desk_store.specs.Clerks.{desk_of, disk_of, free_of, pages_of, Keeps, Moves};
     ghost use Rattle.desk_store.specs.Loads.{Stages, IsLast};
@@ -41,7 +44,8 @@ impl<D: SectorDevice> Clerk<D> {
 
     /// Takes out or changes up to 16 of the rows that plans that were taken away and loads that were begun and never sealed left in
     /// the store: how many there were, 0 only where none is left. The desk stays as it is, and so does the load that was begun last since the
-    /// opening. `Memory`: nothing changed. `DeviceFault`: the device failed in this call. `Halted`: it had failed before.
+    /// opening. `Memory`: nothing changed. `NotAStore`: the rows are none that a desk leaves, and nothing changed. `DeviceFault`: the device
+    /// failed in this call. `Halted`: it had failed before.
     pub fn sweep_step(&mut self, alloc: Global) -> Result<usize, SweepError>
         ensures moves { Moves (desk_of self.old) self.old self.new }
         ensures desk { desk_of self.new ≡ desk_of self.old }
@@ -60,6 +64,32 @@ impl<D: SectorDevice> Clerk<D> {
         let running = in_range(self.loading);
         match store_sweep::sweep_step(alloc, &mut self.pages, running) {
             Ok(count) => Ok(count),
+            Err(e) => {
+                if has_failed(e, &self.pages) {
+                    self.halted = true;
+                    return Err(SweepError::DeviceFault);
+                }
+                Err(e)
+            }
+        }
+    }
+
+    /// Checks before a sweep that each chunk's count is the number of plans that hold it, and that a plan that wasn't taken away holds
+    /// each chunk that its revisions name. Nothing is written. `NotAStore`: that isn't so. The other errors are those of `sweep_step`.
+    pub fn check_holders(&mut self, alloc: Global) -> Result<(), SweepError>
+        ensures moves { Moves (desk_of self.old) self.old self.new }
+        ensures desk { desk_of self.new ≡ desk_of self.old }
+        ensures loading { self.new.loading ≡ self.old.loading }
+        ensures quiet { IsQuiet (pages_of self.old) (pages_of self.new) }
+        ensures sound { (disk_of self.new).is_honest → (m : KeyMap) → HoldsRows (pages_of self.old) m → OnOk result (AreSoundHoldings m) }
+        ensures working { OnOk result ((self.old.halted ≡ false) × (self.new.halted ≡ false)) }
+        ensures err { IfErr result (λ e. SweepRefused self.old e self.new.halted (pages_of self.new)) }
+    {
+        if self.halted {
+            return Err(SweepError::Halted);
+        }
+        match store_sweep::check_holders(alloc, &mut self.pages) {
+            Ok(()) => Ok(()),
             Err(e) => {
                 if has_failed(e, &self.pages) {
                     self.halted = true;

@@ -1,6 +1,9 @@
-//! Plans, lists and districts that share what they have, past the sizes at which their parts fill; worlds of the sample's
-//! catalogue, moved by worked events; and the audit where the program doesn't show it: more districts of a congress plan than it
-//! takes, and what passes the gate between workers.
+//! Plans, lists and districts that share what they have, worlds of the sample's catalogue, and audits that the program doesn't show.
+//!
+//! # Notes
+//!
+//! Plans, lists and districts go past the sizes at which their parts fill. Worked events move the worlds. The audits are of more districts
+//! of a congress plan than it takes, and of what passes the gate between workers.
 #![tactic(auto)]
 
 #[cfg(test)]

@@ -1,5 +1,5 @@
 -- What is known of a code wherever it is told.
-use Rattle.std.specs.Prelude.{ℕ, Bool, false, ◌||◌, if◌then◌else◌, List, [], ◌∷◌, ◌++◌}
+use Rattle.std.specs.Prelude.{ℕ, if◌then◌else◌, List, [], ◌∷◌, ◌++◌, Option, Some, None}
 use Rattle.std.specs.Str.{bytes_eq}
 use Rattle.fault_words.specs.Sentences.{entry_of}
 use Rattle.fault_words.specs.Tables.{Words, places, words_at, place_name}
@@ -18,15 +18,20 @@ entries_in code (p ∷ ps) = entries_among code (place_name p) (words_at p) ++ e
 unfoldable pub entries_for : List ℕ → List ℕ
 entries_for code = entries_in code places
 
--- some row is of the code
-abbrev pub stands_among : List ℕ → List Words → Bool
-stands_among code [] = false
-stands_among code (w ∷ ws) = bytes_eq w.code code || stands_among code ws
+-- the entries of all codes among a place's rows
+abbrev pub all_among : List ℕ → List Words → List ℕ
+all_among place [] = []
+all_among place (w ∷ ws) = entry_of place w ++ all_among place ws
 
-abbrev pub stands_in : List ℕ → List FaultPlace → Bool
-stands_in code [] = false
-stands_in code (p ∷ ps) = stands_among code (words_at p) || stands_in code ps
+-- the same of all places
+abbrev pub all_in : List FaultPlace → List ℕ
+all_in [] = []
+all_in (p ∷ ps) = all_among (place_name p) (words_at p) ++ all_in ps
 
--- it is the code of a fault
-unfoldable pub is_known : List ℕ → Bool
-is_known code = stands_in code places
+unfoldable pub all_entries : List ℕ
+all_entries = all_in places
+
+-- the entries of a code, or where none is asked for, of all
+abbrev pub entries_asked : Option (List ℕ) → List ℕ
+entries_asked None = all_entries
+entries_asked (Some code) = entries_for code

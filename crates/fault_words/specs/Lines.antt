@@ -1,7 +1,8 @@
 -- Which words are those of a line.
 use Rattle.std.specs.Prelude.{ℕ, ◌&&◌, ◌||◌, ◌==◌, if◌then◌else◌, List, [], ◌∷◌, codes, take, drop, length, Option, Some, None}
+use Rattle.std.specs.Borrow.{Bor}
 use Rattle.std.specs.Str.{bytes_eq}
-use Rattle.fault_words.specs.Tables.{Words, words_at, case_at, place_at}
+use Rattle.fault_words.specs.Tables.{Words, words_at, case_at, place_at, reason_at}
 use Rattle.fault_words.specs.declared.explanation.FaultPlace.{FaultPlace}
 use Rattle.fault_words.specs.declared.explanation.FaultPlace.TheVariants.{EveryFile, Command}
 use Rattle.fault_words.specs.declared.explanation.Reason.{Reason}
@@ -40,7 +41,7 @@ rest_words place reason (Some text) = code_words place reason (rest_behind (code
 -- where the word is a file's role or a command, what stands behind it has the code; else the word itself is one, of a command
 abbrev pub role_words : Option FaultPlace → (role rest : List ℕ) → Option Reason → Option Words
 role_words None role rest reason = place_words Command role None
-role_words (Some place) role rest reason = rest_words place reason (rest_behind role rest)
+role_words (Some place) role rest reason = rest_words place (reason_at role reason) (rest_behind role rest)
 
 abbrev pub name_words : Option Reason → Option (List ℕ) → Option Words
 name_words reason None = None
@@ -49,3 +50,20 @@ name_words reason (Some rest) = role_words (place_at (word_to 58 10 rest)) (word
 -- the words for a fault's line, as `plandesk: geo: G1 line 2`, and none for a line without a code of its place
 unfoldable pub line_words : List ℕ → Option Reason → Option Words
 line_words line reason = name_words reason (rest_behind (codes "plandesk: ") line)
+
+-- the path of a file among those of several roles
+abbrev pub path_among : List ℕ → List (List ℕ × List ℕ) → Option (List ℕ)
+path_among role [] = None
+path_among role (f ∷ fs) = if bytes_eq f.0 role then Some f.1 else path_among role fs
+
+abbrev pub rest_path : List (List ℕ × List ℕ) → Option (List ℕ) → Option (List ℕ)
+rest_path files None = None
+rest_path files (Some rest) = path_among (word_to 58 10 rest) files
+
+-- the path of the file whose fault a line tells
+unfoldable pub line_path : List ℕ → List (List ℕ × List ℕ) → Option (List ℕ)
+line_path line files = rest_path files (rest_behind (codes "plandesk: ") line)
+
+-- a role and a path, as the code has them
+abbrev pub named : Bor (List ℕ) × Bor (List ℕ) → List ℕ × List ℕ
+named file = (file.0.now, file.1.now)

@@ -1,14 +1,19 @@
 -- How the words for a code are shown.
-use Rattle.std.specs.Prelude.{ℕ, List, [], ◌∷◌, ◌++◌, codes}
+use Rattle.std.specs.Prelude.{ℕ, List, [], ◌∷◌, ◌++◌, codes, Option, Some, None}
 use Rattle.fault_words.specs.Tables.{Words}
 
 -- what is meant, and what to do
 abbrev pub words_of : Words → List ℕ
 words_of words = words.means ++ codes ". What to do: " ++ words.remedy ++ codes ".\n"
 
--- the line behind a fault's line
-abbrev pub sentence_of : Words → List ℕ
-sentence_of words = codes "  It means: " ++ words_of words
+-- how the line behind a fault's line begins, with the path of the file where there is one
+abbrev pub head_of : Option (List ℕ) → List ℕ
+head_of None = codes "  It means: "
+head_of (Some path) = codes "  In " ++ path ++ codes " it means: "
+
+-- that line
+abbrev pub sentence_of : Option (List ℕ) → Words → List ℕ
+sentence_of path words = head_of path ++ words_of words
 
 -- a case is told where there is one
 abbrev pub case_text : List ℕ → List ℕ

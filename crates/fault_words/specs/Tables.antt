@@ -6,7 +6,7 @@ use Rattle.fault_words.specs.declared.explanation.Explanation.{Explanation}
 use Rattle.fault_words.specs.declared.explanation.FaultPlace.{FaultPlace}
 use Rattle.fault_words.specs.declared.explanation.FaultPlace.TheVariants.{EveryFile, Geo, Segment, Join, Gal, Plan, Store, Command, Bytes, Requests}
 use Rattle.fault_words.specs.declared.explanation.Reason.{Reason}
-use Rattle.fault_words.specs.declared.explanation.Reason.TheVariants.{InUse, NotPermitted, NoRoom}
+use Rattle.fault_words.specs.declared.explanation.Reason.TheVariants.{InUse, NotPermitted, NoRoom, Stands}
 use Rattle.fault_words.specs.declared.census.TheConstants.{GEO, SEGMENT, JOIN}
 use Rattle.fault_words.specs.declared.plans.TheConstants.{EVERY_FILE, GAL, PLAN}
 use Rattle.fault_words.specs.declared.stores.TheConstants.{STORE, COMMAND}
@@ -66,12 +66,13 @@ place_name Command = codes "standard streams and sockets"
 place_name Bytes = codes "over HTTP"
 place_name Requests = codes "over HTTP"
 
--- the case of a device's reason
+-- the case of a device's reason, and of a command that did what it was asked for
 unfoldable pub case_at : Option Reason → List ℕ
 case_at None = codes ""
 case_at (Some InUse) = codes "in use"
 case_at (Some NotPermitted) = codes "not permitted"
 case_at (Some NoRoom) = codes "no room"
+case_at (Some Stands) = codes "of `format`, `load`, `sweep` or `migrate`"
 
 -- whose fault a line tells, by the word behind the program's name: a file's role, or a command; of a log only what is of every file
 abbrev pub is_segment_role : List ℕ → Bool
@@ -82,7 +83,16 @@ is_plan_role role = bytes_eq role (codes "plan") || bytes_eq role (codes "senate
 
 abbrev pub is_command : List ℕ → Bool
 is_command role = bytes_eq role (codes "check") || bytes_eq role (codes "explain") || bytes_eq role (codes "format") || bytes_eq role (codes "load")
-    || bytes_eq role (codes "migrate") || bytes_eq role (codes "serve") || bytes_eq role (codes "sweep") || bytes_eq role (codes "talk")
+    || bytes_eq role (codes "migrate") || bytes_eq role (codes "serve") || bytes_eq role (codes "stat") || bytes_eq role (codes "sweep")
+    || bytes_eq role (codes "talk")
+
+-- a command that makes or changes a store and then prints what it did
+abbrev pub is_store_command : List ℕ → Bool
+is_store_command role = bytes_eq role (codes "format") || bytes_eq role (codes "load") || bytes_eq role (codes "sweep") || bytes_eq role (codes "migrate")
+
+-- of such a command's streams, that this is done; else the reason that is known
+abbrev pub reason_at : List ℕ → Option Reason → Option Reason
+reason_at role reason = if is_store_command role then Some Stands else reason
 
 unfoldable pub place_at : List ℕ → Option FaultPlace
 place_at role =

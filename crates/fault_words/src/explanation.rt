@@ -1,6 +1,7 @@
 //! The words for a code, and whose code it is.
 ghost use Rattle.std.specs.Prelude.{◌≡◌, ◌++◌, map, IfOk};
-ghost use Rattle.fault_words.specs.Sentences.{words_of, sentence_of, case_text, entry_of};
+ghost use Rattle.std.specs.Option.{option_copied};
+ghost use Rattle.fault_words.specs.Sentences.{words_of, head_of, sentence_of, case_text, entry_of};
 ghost use Rattle.fault_words.specs.Tables.{told, row_words, case_at, words_at, place_name};
 
 use crate::census::{GEO, JOIN, SEGMENT};
@@ -35,7 +36,7 @@ pub(crate) fn explanation_of(row: &FaultRow) -> Explanation
     }
 }
 
-/// Why a device fails, where that is told apart.
+/// Why a device fails, where that is told apart, or what a command did before its fault.
 #[derive(Clone, Copy, Debug, PartialEq, Eq)]
 pub enum Reason {
     /// Another open of the file holds it.
@@ -44,9 +45,11 @@ pub enum Reason {
     NotPermitted,
     /// There is no room for it on the disk.
     NoRoom,
+    /// The command had done with its store what it was asked for.
+    Stands,
 }
 
-/// The case of a reason, as the table of stores has it.
+/// The case of a reason, as the tables have it.
 #[tactic(auto, unfolding(crate::specs::Tables::case_at))]
 pub(crate) fn case_of(reason: Option<Reason>) -> &'static str
     ensures { result.now ≡ case_at reason }
@@ -55,6 +58,7 @@ pub(crate) fn case_of(reason: Option<Reason>) -> &'static str
         Some(Reason::InUse) => "in use",
         Some(Reason::NotPermitted) => "not permitted",
         Some(Reason::NoRoom) => "no room",
+        Some(Reason::Stands) => "of `format`, `load`, `sweep` or `migrate`",
         None => "",
     }
 }
@@ -138,12 +142,34 @@ fn put_words(text: &mut Vec<u8>, words: Explanation) -> Result<(), AllocError>
     Ok(())
 }
 
-/// The line that follows a fault's line.
-pub fn sentence(alloc: Global, words: Explanation) -> Result<Vec<u8>, AllocError>
-    ensures { IfOk result (λ text. text.items ≡ sentence_of (told words)) }
+/// Puts the beginning of the line that follows a fault's line behind a text.
+fn put_head(text: &mut Vec<u8>, path: Option<&str>) -> Result<(), AllocError>
+    ensures { IfOk result (λ _. text.new.items ≡ text.old.items ++ head_of (option_copied path.entry)) }
+{
+    match path {
+        Some(path) => {
+            text.extend_from_slice(b"  In ")?;
+            text.extend_from_slice(path.as_bytes())?;
+            text.extend_from_slice(b" it means: ")?;
+            Ok(())
+        }
+        None => {
+            text.extend_from_slice(b"  It means: ")?;
+            Ok(())
+        }
+    }
+}
+
+/// The line that follows a fault's line, with the path of its file where one is concerned.
+pub fn sentence(
+    alloc: Global,
+    path: Option<&str>,
+    words: Explanation,
+) -> Result<Vec<u8>, AllocError>
+    ensures { IfOk result (λ text. text.items ≡ sentence_of (option_copied path.entry) (told words)) }
 {
     let mut text = Vec::new(alloc);
-    text.extend_from_slice(b"  It means: ")?;
+    put_head(&mut text, path)?;
     put_words(&mut text, words)?;
     Ok(text)
 }

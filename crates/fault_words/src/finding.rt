@@ -1,9 +1,11 @@
 //! The words for a line, and for a code.
 ghost use Rattle.std.specs.Prelude.{◌≡◌, ◌++◌, map, IfOk, OnOk, codes};
 ghost use Rattle.std.specs.Option.{option_copied, option_map};
-ghost use Rattle.fault_words.specs.Tables.{told, row_words, is_segment_role, is_plan_role, is_command, place_at};
-ghost use Rattle.fault_words.specs.Lines.{rest_behind, word_to, row_for, place_words, code_words, line_words};
-ghost use Rattle.fault_words.specs.Entries.{entries_among, entries_in, entries_for, stands_among, stands_in, is_known};
+ghost use Rattle.std.specs.Str.{str_eq_ignore_ascii_case};
+ghost use Rattle.fault_words.specs.Tables.{told, row_words, is_segment_role, is_plan_role, is_command, is_store_command, reason_at, place_at};
+ghost use Rattle.fault_words.specs.Lines.{rest_behind, word_to, row_for, place_words, code_words, line_words, path_among, line_path, named};
+ghost use Rattle.fault_words.specs.Codes.{code_among as code_in_table, code_at as code_in_tables, code_of_word, front_word, code_in as code_of_text};
+ghost use Rattle.fault_words.specs.Entries.{entries_among, entries_in, entries_for, all_among, all_in, all_entries, entries_asked};
 
 use crate::explanation::{
     Explanation, FaultPlace, FaultRow, PLACES, Reason, case_of, explanation_of, name_of, put_entry,
@@ -32,8 +34,29 @@ fn is_command(role: &[u8]) -> bool
         || role == b"load".as_slice()
         || role == b"migrate".as_slice()
         || role == b"serve".as_slice()
+        || role == b"stat".as_slice()
         || role == b"sweep".as_slice()
         || role == b"talk".as_slice()
+}
+
+/// Whether it is a command that makes or changes a store and then prints what it did.
+fn is_of_store(role: &[u8]) -> bool
+    ensures { result ≡ is_store_command role.now }
+{
+    role == b"format".as_slice()
+        || role == b"load".as_slice()
+        || role == b"sweep".as_slice()
+        || role == b"migrate".as_slice()
+}
+
+/// The reason of a fault of a role: such a command had done what it was asked for.
+fn reason_of(role: &[u8], reason: Option<Reason>) -> Option<Reason>
+    ensures { result ≡ reason_at role.now reason }
+{
+    if is_of_store(role) {
+        return Some(Reason::Stands);
+    }
+    reason
 }
 
 /// Whose fault a line tells, by the word behind the program's name: a file's role, or a command.
@@ -130,41 +153,100 @@ pub fn explained(line: &[u8], reason: Option<Reason>) -> Option<Explanation>
     let rest = behind(line, b"plandesk: ")?;
     let role = before(rest, b':', b'\n');
     match place_of(role) {
-        Some(place) => behind_role(place, behind(rest, role)?, reason),
+        Some(place) => behind_role(place, behind(rest, role)?, reason_of(role, reason)),
         None => at_place(FaultPlace::Command, role, None),
     }
 }
 
-/// Whether a table has this code.
-fn stands_in(table: &[FaultRow], code: &str) -> bool
-    ensures { result ≡ stands_among code.now (map row_words table.now) }
+/// The path of a role's file.
+fn path_of<'a>(role: &[u8], files: &[(&'static str, &'a str)]) -> Option<&'a str>
+    ensures { option_copied result ≡ path_among role.now (map named files.now) }
+{
+    for file in files {
+        if file.0.as_bytes() == role {
+            return Some(file.1);
+        }
+    }
+    None
+}
+
+/// The path of the file whose fault a line tells, among the files of these roles.
+#[tactic(auto, unfolding(crate::specs::Lines::line_path))]
+pub fn path_in<'a>(line: &[u8], files: &[(&'static str, &'a str)]) -> Option<&'a str>
+    ensures { option_copied result ≡ line_path line.now (map named files.now) }
+{
+    let rest = behind(line, b"plandesk: ")?;
+    path_of(before(rest, b':', b'\n'), files)
+}
+
+/// Whether two words are the same in any case.
+fn is_alike(code: &[u8], word: &[u8]) -> bool
+    ensures { result ≡ str_eq_ignore_ascii_case code.now word.now }
+{
+    code.eq_ignore_ascii_case(word)
+}
+
+/// The code of a table that a word is.
+fn code_among(table: &[FaultRow], word: &[u8]) -> Option<&'static str>
+    ensures { option_copied result ≡ code_in_table word.now (map row_words table.now) }
 {
     for row in table {
-        if row.0 == code {
-            return true;
+        if is_alike(row.0.as_bytes(), word) {
+            return Some(row.0);
         }
     }
-    false
+    None
 }
 
-/// Whether the table of one of these places has this code.
-fn stands_at(places: &[FaultPlace], code: &str) -> bool
-    ensures { result ≡ stands_in code.now places.now }
+/// The same of the tables of these places.
+fn code_at(places: &[FaultPlace], word: &[u8]) -> Option<&'static str>
+    ensures { option_copied result ≡ code_in_tables word.now places.now }
 {
     for place in places {
-        if stands_in(table_of(*place), code) {
-            return true;
+        match code_among(table_of(*place), word) {
+            Some(code) => return Some(code),
+            None => {}
         }
     }
-    false
+    None
 }
 
-/// Whether this is the code of a fault.
-#[tactic(auto, unfolding(crate::specs::Entries::is_known))]
-pub fn is_code(code: &str) -> bool
-    ensures { result ≡ is_known code.now }
+#[tactic(auto, unfolding(crate::specs::Codes::code_of_word))]
+fn code_of(word: &[u8]) -> Option<&'static str>
+    ensures { option_copied result ≡ code_of_word word.now }
 {
-    stands_at(&PLACES, code)
+    code_at(&PLACES, word)
+}
+
+/// The letters and digits at a text's front.
+fn front_of(text: &[u8]) -> &[u8]
+    ensures { result.now ≡ front_word text.now }
+{
+    for (i, byte) in text.iter().enumerate() {
+        if !byte.is_ascii_alphanumeric() {
+            return &text[..i];
+        }
+    }
+    text
+}
+
+/// The code that a text has, as the tables write it: that of its first word of letters and digits which is one in any case.
+#[tactic(auto, unfolding(crate::specs::Codes::code_in))]
+pub fn code_in(text: &[u8]) -> Option<&'static str>
+    ensures { option_copied result ≡ code_of_text text.now }
+{
+    let mut in_word = false;
+    for (i, byte) in text.iter().enumerate() {
+        let is_letter = byte.is_ascii_alphanumeric();
+        if is_letter && !in_word {
+            match code_of(front_of(&text[i..])) {
+                Some(code) => return Some(code),
+                None => {}
+            }
+        }
+        in_word = is_letter;
+    }
+    None
 }
 
 /// Puts what a table has of a code behind a text.
@@ -196,10 +278,50 @@ fn put_all(text: &mut Vec<u8>, places: &[FaultPlace], code: &str) -> Result<(), 
 
 /// What is known of a code, a line for each place and case.
 #[tactic(auto, unfolding(crate::specs::Entries::entries_for))]
-pub fn all_words(alloc: Global, code: &str) -> Result<Vec<u8>, AllocError>
+fn all_words(alloc: Global, code: &str) -> Result<Vec<u8>, AllocError>
     ensures { IfOk result (λ text. text.items ≡ entries_for code.now) }
 {
     let mut text = Vec::new(alloc);
     put_all(&mut text, &PLACES, code)?;
     Ok(text)
+}
+
+/// Puts what a table has of all codes behind a text.
+fn put_table(text: &mut Vec<u8>, table: &[FaultRow], place: &str) -> Result<(), AllocError>
+    ensures { OnOk result (text.new.items ≡ text.old.items ++ all_among place.now (map row_words table.now)) }
+{
+    for row in table {
+        put_entry(text, place, explanation_of(row))?;
+    }
+    Ok(())
+}
+
+/// Puts what these places have of all codes behind a text.
+fn put_tables(text: &mut Vec<u8>, places: &[FaultPlace]) -> Result<(), AllocError>
+    ensures { OnOk result (text.new.items ≡ text.old.items ++ all_in places.now) }
+{
+    for place in places {
+        put_table(text, table_of(*place), name_of(*place))?;
+    }
+    Ok(())
+}
+
+/// What is known of all codes, a line for each.
+#[tactic(auto, unfolding(crate::specs::Entries::all_entries))]
+fn every_word(alloc: Global) -> Result<Vec<u8>, AllocError>
+    ensures { IfOk result (λ text. text.items ≡ all_entries) }
+{
+    let mut text = Vec::new(alloc);
+    put_tables(&mut text, &PLACES)?;
+    Ok(text)
+}
+
+/// What is known of a code, or where none is asked for, of all codes.
+pub fn words_for(alloc: Global, code: Option<&str>) -> Result<Vec<u8>, AllocError>
+    ensures { IfOk result (λ text. text.items ≡ entries_asked (option_copied code.entry)) }
+{
+    match code {
+        Some(code) => all_words(alloc, code),
+        None => every_word(alloc),
+    }
 }

@@ -106,7 +106,7 @@ pub(crate) static PLAN: [FaultRow; 6] = [
         "B1",
         "",
         "the first line isn't `BLOCKID|DISTRICT`, byte for byte",
-        "write that line; save without a byte order mark",
+        "write that line; save without a byte order mark; a spreadsheet (.xlsx) or another zip file begins with `PK`, a gzip file with the bytes 1f 8b, UTF-16 with ff fe or fe ff: save each as text, with bars in the place of commas",
     ),
     (
         "B2",

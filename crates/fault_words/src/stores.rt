@@ -90,11 +90,17 @@ pub(crate) static STORE: [FaultRow; 14] = [
 ];
 
 /// Standard streams and sockets.
-pub(crate) static COMMAND: [FaultRow; 5] = [
+pub(crate) static COMMAND: [FaultRow; 6] = [
     (
         "WriteFault",
         "",
-        "standard output can't be written; of `format`, `load`, `sweep` and `migrate` the store is made, filled, swept or migrated all the same",
+        "standard output can't be written",
+        "look where the output goes: to a full disk, or to a program that has ended",
+    ),
+    (
+        "WriteFault",
+        "of `format`, `load`, `sweep` or `migrate`",
+        "standard output can't be written; the store is made, filled, swept or migrated all the same",
         "look where the output goes: to a full disk, or to a program that has ended",
     ),
     (

@@ -3,8 +3,9 @@ ghost use Rattle.std.specs.Prelude.{◌≤◌};
 ghost use Rattle.state_files.specs.Opens.{AreAlike};
 ghost use Rattle.command_line.specs.Options.{AreTerms};
 
-use crate::faults::{explain_last, standard_error};
+use crate::faults::{explain_audit, explain_last, standard_error};
 use crate::files::Files;
+use crate::fronts::Fronted;
 use byte_stream::sink::WriteSink;
 use byte_stream::source::ReadSource;
 use check_command::audit_plan::audit_plan;
@@ -17,14 +18,20 @@ use std::fs::File;
 use std::thread::Threads;
 
 /// Prints the counts of the census files at these paths.
-pub fn check_counts(rt: &HostRuntime, paths: CensusPaths<'_>) -> Status {
+pub fn check_counts(rt: &HostRuntime, with_words: bool, paths: CensusPaths<'_>) -> Status {
     let mut opener = Files::new(rt);
     let mut files: CensusFiles<ReadSource<File>> = open_census(&mut opener, paths);
     let mut writer = WriteSink::new(rt.stdout());
     let mut errors = standard_error(rt);
     let status = check(rt.alloc(), &mut files, &mut writer, &mut errors);
     let _ = writer.into_inner();
-    explain_last(rt, errors, None);
+    let named = [
+        ("geo", paths.geo),
+        ("seg1", paths.seg1),
+        ("seg2", paths.seg2),
+        ("seg3", paths.seg3),
+    ];
+    explain_last(rt, errors, with_words, &named, None);
     status
 }
 
@@ -32,6 +39,7 @@ pub fn check_counts(rt: &HostRuntime, paths: CensusPaths<'_>) -> Status {
 pub fn check_plan<T: Threads + Sync>(
     rt: &HostRuntime,
     threads: &T,
+    with_words: bool,
     paths: AuditPaths<'_>,
     terms: Terms,
     workers: u16,
@@ -42,7 +50,11 @@ pub fn check_plan<T: Threads + Sync>(
 {
     let (kind, districts) = (terms.kind, terms.districts);
     let mut opener = Files::new(rt);
-    let mut files: AuditFiles<ReadSource<File>> = open_audit(&mut opener, paths, terms.beside);
+    let mut files: AuditFiles<ReadSource<Fronted<File>>> = open_audit(
+        &mut opener,
+        paths,
+        terms.beside,
+    );
     let mut writer = WriteSink::new(rt.stdout());
     let mut errors = standard_error(rt);
     let status = audit_plan(
@@ -56,6 +68,18 @@ pub fn check_plan<T: Threads + Sync>(
         &mut errors,
     );
     let _ = writer.into_inner();
-    explain_last(rt, errors, None);
+    let census = paths.census;
+    let named = [
+        ("geo", census.geo),
+        ("seg1", census.seg1),
+        ("seg2", census.seg2),
+        ("seg3", census.seg3),
+        ("gal", paths.gal),
+        ("plan", paths.plan),
+        // without a companion no fault is told of one
+        ("senate", paths.beside.senate.unwrap_or("")),
+        ("congress", paths.beside.congress.unwrap_or("")),
+    ];
+    explain_audit(rt, errors, with_words, &named, files);
     status
 }

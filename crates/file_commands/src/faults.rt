@@ -1,26 +1,73 @@
-//! The lines of faults on standard error, and what they mean at a terminal.
+//! The lines of faults on standard error, and what they mean.
+use crate::fronts::{Fronted, faulty_reader, front_line};
 use byte_stream::sink::WriteSink;
+use byte_stream::source::ReadSource;
 use command_output::explaining::tell_words;
 use fault_words::explanation::Reason;
 use fault_words::noting::Noting;
-use std::io::{IsTerminal, Stderr};
+use state_files::open::AuditFiles;
+use std::fs::File;
+use std::io::{IsTerminal, Stderr, Write};
 
 /// Standard error, where a command tells its fault.
 pub fn standard_error(rt: &HostRuntime) -> WriteSink<Noting<Stderr>> {
     WriteSink::new(Noting::new(rt.stderr()))
 }
 
-/// Tells at a terminal what the fault means whose line was told last, where one was. The reason is that of a store's device.
-pub fn explain_last(rt: &HostRuntime, told: WriteSink<Noting<Stderr>>, reason: Option<Reason>) {
-    explain_line(rt, &told.into_inner(), reason);
+/// Tells what the fault means whose line was told last, where one was, and that is asked for or somebody sits at a terminal. The files
+/// are those that the command was given, each with its role before its path. The reason is that of a store's device.
+pub fn explain_last(
+    rt: &HostRuntime,
+    told: WriteSink<Noting<Stderr>>,
+    with_words: bool,
+    files: &[(&'static str, &str)],
+    reason: Option<Reason>,
+) {
+    explain_line(rt, &told.into_inner(), with_words, files, reason);
+}
+
+/// The same of a fault of an audit's files. Where it is the first line of a plan, what its file begins with is told too.
+pub fn explain_audit(
+    rt: &HostRuntime,
+    told: WriteSink<Noting<Stderr>>,
+    with_words: bool,
+    named: &[(&'static str, &str)],
+    files: AuditFiles<ReadSource<Fronted<File>>>,
+) {
+    let told = told.into_inner();
+    explain_line(rt, &told, with_words, named, None);
+    let mut terminal = rt.stderr();
+    if !with_words && !terminal.is_terminal() {
+        return;
+    }
+    if let Some(reader) = faulty_reader(told.line(), files) {
+        // without memory for it the line stands without what the file begins with
+        if let Ok(text) = front_line(rt.alloc(), reader.front()) {
+            let _ = terminal.write_all(text.as_slice());
+        }
+    }
 }
 
 /// The same of what was written by itself.
-pub fn explain_line(rt: &HostRuntime, told: &Noting<Stderr>, reason: Option<Reason>) {
+pub fn explain_line(
+    rt: &HostRuntime,
+    told: &Noting<Stderr>,
+    with_words: bool,
+    files: &[(&'static str, &str)],
+    reason: Option<Reason>,
+) {
     let terminal = rt.stderr();
     let is_terminal = terminal.is_terminal();
     let mut errors = WriteSink::new(terminal);
     // without memory for them the line stands without words
-    let _ = tell_words(rt.alloc(), is_terminal, told.line(), reason, &mut errors);
+    let _ = tell_words(
+        rt.alloc(),
+        with_words,
+        is_terminal,
+        told.line(),
+        reason,
+        files,
+        &mut errors,
+    );
     let _ = errors.into_inner();
 }

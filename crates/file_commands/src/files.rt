@@ -1,4 +1,5 @@
 //! The files of the file system, by their paths.
+use crate::fronts::Fronted;
 use byte_stream::source::ReadSource;
 use state_files::fault::OpenFault;
 use state_files::open::Opener;
@@ -17,19 +18,32 @@ impl<'a> Files<'a> {
     }
 }
 
+/// Opens a file for reading.
+fn open_file(rt: &HostRuntime, name: &str) -> Result<File, OpenFault> {
+    match File::open(rt, name) {
+        Ok(file) => Ok(file),
+        Err(e) => {
+            if e.kind() == ErrorKind::OutOfMemory {
+                return Err(OpenFault::Memory);
+            }
+            Err(OpenFault::Unreadable)
+        }
+    }
+}
+
 impl<'a> Opener<ReadSource<File>> for Files<'a> {
     // What the file system has under a name isn't known.
     ghost opens = { λ _ _ _ _. Unit {0} };
 
     fn open(&mut self, name: &str) -> Result<ReadSource<File>, OpenFault> {
-        match File::open(self.rt, name) {
-            Ok(file) => Ok(ReadSource::new(file)),
-            Err(e) => {
-                if e.kind() == ErrorKind::OutOfMemory {
-                    return Err(OpenFault::Memory);
-                }
-                Err(OpenFault::Unreadable)
-            }
-        }
+        Ok(ReadSource::new(open_file(self.rt, name)?))
+    }
+}
+
+impl<'a> Opener<ReadSource<Fronted<File>>> for Files<'a> {
+    ghost opens = { λ _ _ _ _. Unit {0} };
+
+    fn open(&mut self, name: &str) -> Result<ReadSource<Fronted<File>>, OpenFault> {
+        Ok(ReadSource::new(Fronted::new(open_file(self.rt, name)?)))
     }
 }

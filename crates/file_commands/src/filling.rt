@@ -16,8 +16,15 @@ use std::io::IsTerminal;
 use store_command::format::format;
 use store_command::load::{StateFiles, load};
 
-/// Makes a store in a new file.
-pub fn format_store<S: Contents>(rt: &HostRuntime, name: &str, size: Size, start: S) -> Status
+/// Makes a store in a new file, whose bytes are printed too where that is asked for.
+pub fn format_store<S: Contents>(
+    rt: &HostRuntime,
+    with_words: bool,
+    name: &str,
+    size: Size,
+    with_bytes: bool,
+    start: S,
+) -> Status
     requires least { 256 ≤ size.journal_pages }
     requires most { size.journal_pages ≤ 65536 }
 {
@@ -28,19 +35,21 @@ pub fn format_store<S: Contents>(rt: &HostRuntime, name: &str, size: Size, start
         rt.alloc(),
         &mut stores,
         name,
+        with_bytes,
         size.sectors,
         size.journal_pages,
         &mut writer,
         &mut errors,
     );
     let _ = writer.into_inner();
-    explain_last(rt, errors, stores.reason());
+    explain_last(rt, errors, with_words, &[("store", name)], stores.reason());
     status
 }
 
 /// Fills a store with what the files at these paths say.
 pub fn load_state<S: Contents>(
     rt: &HostRuntime,
+    with_words: bool,
     name: &str,
     paths: CensusPaths<'_>,
     neighbours: &str,
@@ -67,6 +76,14 @@ pub fn load_state<S: Contents>(
     );
     let _ = progress.into_inner();
     let _ = writer.into_inner();
-    explain_last(rt, errors, stores.reason());
+    let named = [
+        ("geo", paths.geo),
+        ("seg1", paths.seg1),
+        ("seg2", paths.seg2),
+        ("seg3", paths.seg3),
+        ("gal", neighbours),
+        ("store", name),
+    ];
+    explain_last(rt, errors, with_words, &named, stores.reason());
     status
 }

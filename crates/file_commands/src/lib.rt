@@ -1,6 +1,13 @@
-//! Commands over the file system and the standard streams: each opens what it reads and writes by its name, hands that to the
-//! command, a function over readers and writers, and tells at a terminal what a fault means. What a store's file holds is a parameter
-//! `S` of these functions, which no code can read: so all is proved whatever it holds, and `premises` says what that rests on.
+//! The commands over files and standard streams: each opens by their names what it reads and writes.
+//!
+//! Seen as an exit status. Safety and return alone, but of `premises_are_met` and `lives_find_what_is_read`
+//! ([PROOFS](docs/PROOFS.md#the-premise-of-every-clause-on-openings)).
+//!
+//! # Notes
+//!
+//! What is opened is handed to the command, a function over readers and writers, and words say what a fault means. What a
+//! store's file holds is a parameter `S` of these functions, which no code can read. So all is proved whatever it holds, and `premises`
+//! says what that rests on.
 #![tactic(auto)]
 
 pub mod checks;
@@ -8,9 +15,11 @@ pub mod explaining;
 pub mod faults;
 pub mod files;
 pub mod filling;
+pub mod fronts;
 pub mod logs;
 pub mod migrating;
 pub mod premises;
+pub mod stating;
 pub mod stores;
 pub mod sweeping;
 pub mod talking;

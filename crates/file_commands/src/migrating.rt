@@ -9,7 +9,12 @@ use std::io::IsTerminal;
 use store_command::migrate::migrate;
 
 /// Leads a store from the old version to the new one.
-pub fn migrate_desk<S: Contents>(rt: &HostRuntime, name: &str, start: S) -> Status {
+pub fn migrate_desk<S: Contents>(
+    rt: &HostRuntime,
+    with_words: bool,
+    name: &str,
+    start: S,
+) -> Status {
     let mut stores = StoreFiles::new(rt, start);
     let mut writer = WriteSink::new(rt.stdout());
     let mut errors = standard_error(rt);
@@ -26,6 +31,6 @@ pub fn migrate_desk<S: Contents>(rt: &HostRuntime, name: &str, start: S) -> Stat
     );
     let _ = progress.into_inner();
     let _ = writer.into_inner();
-    explain_last(rt, errors, stores.reason());
+    explain_last(rt, errors, with_words, &[("store", name)], stores.reason());
     status
 }

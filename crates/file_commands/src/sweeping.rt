@@ -9,7 +9,7 @@ use std::io::IsTerminal;
 use store_command::sweep::sweep;
 
 /// Takes out of a store what deleted plans and ended loads left in it.
-pub fn sweep_desk<S: Contents>(rt: &HostRuntime, name: &str, start: S) -> Status {
+pub fn sweep_desk<S: Contents>(rt: &HostRuntime, with_words: bool, name: &str, start: S) -> Status {
     let mut stores = StoreFiles::new(rt, start);
     let mut writer = WriteSink::new(rt.stdout());
     let mut errors = standard_error(rt);
@@ -26,6 +26,6 @@ pub fn sweep_desk<S: Contents>(rt: &HostRuntime, name: &str, start: S) -> Status
     );
     let _ = progress.into_inner();
     let _ = writer.into_inner();
-    explain_last(rt, errors, stores.reason());
+    explain_last(rt, errors, with_words, &[("store", name)], stores.reason());
     status
 }

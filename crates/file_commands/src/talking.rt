@@ -7,13 +7,13 @@ use fault_words::noting::Noting;
 use talk_command::talk::talk;
 
 /// Serves standard input to standard output.
-pub fn serve_talk(rt: &HostRuntime) -> Status {
+pub fn serve_talk(rt: &HostRuntime, with_words: bool) -> Status {
     let mut reader = ReadSource::new(rt.stdin());
     let mut writer = WriteSink::new(rt.stdout());
     let mut errors = Noting::new(rt.stderr());
     let status = talk(rt.alloc(), &mut reader, &mut writer, &mut errors);
     let _ = reader.into_inner();
     let _ = writer.into_inner();
-    explain_line(rt, &errors, None);
+    explain_line(rt, &errors, with_words, &[], None);
     status
 }

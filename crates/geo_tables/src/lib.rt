@@ -1,7 +1,16 @@
-//! A geography in a store: its rows are put in batches under a load's number, and are the store's geography once the load is
-//! sealed. A load is begun, its rows are staged by `load_batch`, and once all of them are staged it is sealed, each by a commit
-//! of its own; until then the desk has no geography (`Rattle.geo_tables.specs.Loading.HoldsLoad`). What is sealed is read by
-//! `sealed_geography`.
+//! A geography, loaded by commits: its rows are put in batches under a load's number, and are the store's once the load is sealed.
+//!
+//! Seen as a load: its number, its geography and how many rows are staged. `begin_load`, `load_batch`: the desk stays at every moment, and
+//! at Ok exactly the rows asked for are staged in addition. `seal`: the desk before, or the one with the geography, and that one at Ok.
+//! Each looks first for 13 free pages and 13 journal pages a row. Refusals by cases (`BeginErr`, `BatchErr`, `SealErr`): AlreadySealed only
+//! where a seal is, NoNumbers only where the last number is next. `begin_rows`, `put_batch`, `seal_rows`: the same in a transaction.
+//!
+//! # Notes
+//!
+//! A load is begun, its rows are staged by `load_batch`, and once all of them are staged it is sealed, each by a commit of its own. Until
+//! then the desk has no geography (`Rattle.geo_tables.specs.Loading.HoldsLoad`). `sealed_geography` reads what is sealed.
+//!
+//! # Example
 //!
 //! ```text
 //! let mut load = begin_load(alloc, &mut pages, geography)?;

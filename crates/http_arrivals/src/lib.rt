@@ -1,4 +1,7 @@
-//! Streams that arrive to be served: where they come from and go back to, connections to a socket, and what a run over them came to.
+//! Where streams come from and go back to: their giver, their workers, and what a run over them came to.
+//!
+//! Seen as two relations of the maker's (`gives`, `takes_back`), and `Ran`, three numbers. A worker has streams by an `Acceptor` alone,
+//! which counts each that goes back.
 #![tactic(auto)]
 
 pub mod acceptor;

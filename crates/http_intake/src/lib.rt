@@ -1,8 +1,13 @@
-//! The intake of a stream: the bytes that have come and belong to nothing yet, and the reader and the turns that bring more; and
-//! bodies that are read from it, whole or in chunks (RFC 9112, section 7.1).
+//! A stream's intake, bodies in chunks, limits of a head: the bytes that came and belong to nothing yet, and what brings more.
 //!
-//! The model is the bytes that are left of the stream. The main calls are `read_body` and `read_chunks`: a body of a length, and one in
-//! chunks, read straight into memory of its own.
+//! Seen as a reader, the bytes that came, and the turns left (`Intake`). `Draws`: turns, failures, the limit; `Reads`: which bytes.
+//! `read_body`: filled to at most twice what has come and 65,536 bytes more; how much room std keeps isn't stated. `chunk_law`: each input
+//! begins with exactly one of a body, one fault, or incomplete.
+//!
+//! # Notes
+//!
+//! The main calls are `read_body` and `read_chunks`: a body of a length, and one in chunks (RFC 9112, section 7.1). Both are read straight
+//! into memory of their own.
 #![tactic(auto)]
 
 pub mod body;

@@ -1,4 +1,6 @@
-//! The order of keys: by their bytes, a key before its longer continuations.
+//! The order of keys: by their bytes.
+//!
+//! Seen as lists of bytes. `compare`: keys compare as these lists do, a key before its longer continuations.
 #![tactic(auto)]
 
 mod keys;

@@ -20,13 +20,13 @@ fn named<R: Abort>(rt: &R, name: &[u8]) -> PlanName {
     PlanName::read(name).expect(rt, "no name")
 }
 
-fn load<R: Abort>(rt: &R, alloc: Global, asked: &mut Vec<Request>) {
+pub(crate) fn load<R: Abort>(rt: &R, alloc: Global, asked: &mut Vec<Request>) {
     let ground: Geography = sample(alloc).expect(rt, "no memory");
     let shared = Arc::new(alloc, ground).expect(rt, "no memory");
     asked.push(Request::Load(shared)).expect(rt, "no memory");
 }
 
-fn create<R: Abort>(rt: &R, asked: &mut Vec<Request>, name: &[u8]) {
+pub(crate) fn create<R: Abort>(rt: &R, asked: &mut Vec<Request>, name: &[u8]) {
     let command = Command::Create {
         plan: named(rt, name),
         size: PlanSize::new(Kind::House, 100),
@@ -34,7 +34,7 @@ fn create<R: Abort>(rt: &R, asked: &mut Vec<Request>, name: &[u8]) {
     asked.push(Request::Change(command)).expect(rt, "no memory");
 }
 
-fn look<R: Abort>(rt: &R, asked: &mut Vec<Request>) {
+pub(crate) fn look<R: Abort>(rt: &R, asked: &mut Vec<Request>) {
     asked
         .push(Request::Look(Query::Plans))
         .expect(rt, "no memory");
@@ -75,7 +75,7 @@ fn lives<R: Abort>(rt: &R, alloc: Global) -> Vec<Vec<Request>> {
 }
 
 /// Which of the two plans a list names: 1 for the first, 2 for the second.
-fn listed(reply: &Answer) -> Option<usize> {
+pub(crate) fn listed(reply: &Answer) -> Option<usize> {
     let Answer::Said(Reply::Plans(rows)) = reply else {
         return None;
     };
@@ -148,7 +148,7 @@ fn has_swept(told: &Result<Vec<Answer>, OpenError>) -> bool {
 }
 
 /// What a stop leaves in each sector that was not on the disk: what was written, or this byte.
-fn picks<R: Abort>(rt: &R, alloc: Global, byte: Option<u8>) -> Vec<(u64, Sector)> {
+pub(crate) fn picks<R: Abort>(rt: &R, alloc: Global, byte: Option<u8>) -> Vec<(u64, Sector)> {
     let mut all = Vec::new(alloc);
     if let Some(byte) = byte {
         for i in 0..SECTORS {

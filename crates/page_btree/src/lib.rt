@@ -1,5 +1,18 @@
-//! A finite map of byte keys to byte values in the pages of a store: what it is, and how it is read. It changes by transactions
-//! alone, whose puts and removes are those of `btree_puts` and `btree_removes`.
+//! A map of keys in pages: what it is, and how it is read.
+//!
+//! Seen as a finite map of byte keys to byte values (`KeyMap`). Pages hold it by `Holds`, a transaction reads it by `InTxn`, an image opens
+//! to it by `OpensMap`. `get`: the value of a key, or none, without memory. `leaf_from`: the leaf with the first row from a key on, and up
+//! to three leaves after it under the same node. `laws`: pages hold one map at most; a commit that stopped leaves the map before or after;
+//! a map has at most 1,364 rows a page.
+//!
+//! # Notes
+//!
+//! A map changes by transactions alone, whose puts and removes are those of `btree_puts` and `btree_removes`.
+//!
+//! A leaf has rows whose keys rise; a node above has children, each with a key. A child's rows are from its key on and below the next
+//! child's. The first key of a node says nothing: its rows begin at the bound from above (`IsTree` hands down two bounds). `Holds` also
+//! says that each page of the tree is there once and isn't free, and that the tree's pages, the free ones and page 0 are all. So no page is
+//! lost.
 #![tactic(auto)]
 
 mod error;

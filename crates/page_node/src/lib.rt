@@ -1,4 +1,9 @@
-//! The nodes of a tree of keys, and the bytes of the pages that hold them.
+//! The nodes of a tree of keys: lists of entries, and the bytes of the pages that hold them.
+//!
+//! Seen as a node: a level, 0 for a leaf, and a list of entries. `NodeBuf::read`: Ok exactly where the page's bytes are a node (`IsNode`),
+//! and then that one. `write`, `find`, `insert`, `replace`, `remove`, `split`: as on the list; both halves of a split fit and neither is
+//! empty. `value_for`, `child_for`, `way_for`, `ways_for`, `place_from`, `put_row`, `take_row`, `take_spare_row`: the same of a page where
+//! its bytes lie, without memory. How many children `ways_for` gives, up to three, is no clause's.
 #![tactic(auto)]
 
 mod edit;

@@ -1,5 +1,8 @@
-//! Pages and rows over devices in memory: stops and failures at each call of a device, and rows put, got and removed beside an
-//! ordered map.
+//! Pages and rows over devices in memory: stops and failures at each call of a device, and rows beside an ordered map.
+//!
+//! # Notes
+//!
+//! Rows are put, got and removed in a tree of pages and in the map.
 #![tactic(auto)]
 
 #[cfg(test)]

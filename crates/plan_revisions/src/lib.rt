@@ -1,9 +1,14 @@
-//! One step of a desk in a transaction: a plan is created, taken away, forked, or gets one revision more, whose rows name the chunk
-//! of each county's districts; a county that is as in the revision before keeps its chunk, and a fork those of the revision that it
-//! comes from. The commit is the caller's.
+//! A command's rows in a transaction: a plan is created, taken away, forked, or gets one revision more.
 //!
-//! The model is the desk that the transaction reads: after `put_command(alloc, txn, pages, cuts, &shown, &command, &then)?` it reads the
-//! desk after the command, and `command_rows` says how many rows that takes.
+//! Seen as the desk that the transaction reads, and the desk after the command. `command_rows`: the number that desk_model says.
+//! `put_command`, `create`, `retire`, `add`, `fork`: the next desk with as many rows put as room was asked for (`HasStepped`). Else the
+//! numbers weren't left and nothing was written (`HasSpent`), or `StepErr`. A county that is as before keeps its chunk. `append_districts`:
+//! a revision's districts. The commit is the caller's.
+//!
+//! # Notes
+//!
+//! The rows of a revision name the chunk of each county's districts, and those of a fork the chunks of the revision that it comes from.
+//! After `put_command(alloc, txn, pages, cuts, &shown, &command, &then)?` the transaction reads the desk after the command.
 #![tactic(auto)]
 
 mod adds;

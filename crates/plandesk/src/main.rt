@@ -1,5 +1,10 @@
-//! The plan desk's program: it finds out what its words ask for, opens the files and the standard streams, and hands them to the
-//! command, a function over its readers and writers that answers the exit status.
+//! The program: it finds out what its words ask for, opens files and standard streams, and hands them to the command.
+//!
+//! Safety and return alone.
+//!
+//! # Notes
+//!
+//! A command is a function over its readers and writers that answers the exit status.
 #![tactic(auto)]
 
 mod run;

@@ -1,6 +1,8 @@
 //! What the words ask for, done.
+ghost use Rattle.command_line.specs.Jobs.{IsJob};
+
 use crate::serving::serve_desk;
-use command_line::words::{Job, Mistake, job_of};
+use command_line::words::{Asked, Job, Mistake, job_of};
 use command_output::status::Status;
 use fault_words::noting::Noting;
 use file_commands::checks::{check_counts, check_plan};
@@ -8,6 +10,7 @@ use file_commands::explaining::explain_code;
 use file_commands::faults::explain_line;
 use file_commands::filling::{format_store, load_state};
 use file_commands::migrating::migrate_desk;
+use file_commands::stating::stat_desk;
 use file_commands::sweeping::sweep_desk;
 use file_commands::talking::serve_talk;
 use sector_file::Contents;
@@ -26,13 +29,45 @@ fn end_mistake(rt: &HostRuntime, mistake: &Mistake) -> Status {
     if mistake.status() != Status::Done {
         let mut errors = Noting::new(rt.stderr());
         tell(&mut errors, mistake.text());
-        explain_line(rt, &errors, None);
+        explain_line(rt, &errors, false, &[], None);
         return mistake.status();
     }
     let mut output = rt.stdout();
     match output.write_all(mistake.text().as_bytes()) {
         Ok(()) => Status::Done,
         Err(_) => Status::Stream,
+    }
+}
+
+/// Does what is asked for.
+fn run_job<T: Threads + Wait + Clock + Copy + Send + Sync + 'static, S: Contents + Send + Sync>(
+    rt: &HostRuntime,
+    threads: &T,
+    asked: Asked<'_>,
+    start: S,
+) -> Status
+    requires { IsJob asked.job }
+{
+    let words = asked.with_words;
+    match asked.job {
+        Job::Talk => serve_talk(rt, words),
+        Job::Counts(paths) => check_counts(rt, words, paths),
+        Job::Audit(paths, terms, workers) => {
+            check_plan(rt, threads, words, paths, terms, workers)
+        }
+        Job::Format(name, size, is_reckoned) => {
+            format_store(rt, words, name, size, is_reckoned, start)
+        }
+        Job::Load(name, paths, neighbours) => {
+            load_state(rt, words, name, paths, neighbours, start)
+        }
+        Job::Serve(name, serving, log) => {
+            serve_desk(rt, threads, words, name, serving, log, start)
+        }
+        Job::Stat(name, json) => stat_desk(rt, words, name, json, start),
+        Job::Sweep(name) => sweep_desk(rt, words, name, start),
+        Job::Migrate(name) => migrate_desk(rt, words, name, start),
+        Job::Explain(code) => explain_code(rt, words, code),
     }
 }
 
@@ -46,15 +81,7 @@ pub fn run<T: Threads + Wait + Clock + Copy + Send + Sync + 'static, S: Contents
     start: S,
 ) -> Status {
     match job_of(rt.alloc(), words) {
-        Ok(Job::Talk) => serve_talk(rt),
-        Ok(Job::Counts(paths)) => check_counts(rt, paths),
-        Ok(Job::Audit(paths, terms, workers)) => check_plan(rt, threads, paths, terms, workers),
-        Ok(Job::Format(name, size)) => format_store(rt, name, size, start),
-        Ok(Job::Load(name, paths, neighbours)) => load_state(rt, name, paths, neighbours, start),
-        Ok(Job::Serve(name, serving, log)) => serve_desk(rt, threads, name, serving, log, start),
-        Ok(Job::Sweep(name)) => sweep_desk(rt, name, start),
-        Ok(Job::Migrate(name)) => migrate_desk(rt, name, start),
-        Ok(Job::Explain(code)) => explain_code(rt, code),
+        Ok(asked) => run_job(rt, threads, asked, start),
         Err(mistake) => end_mistake(rt, &mistake),
     }
 }

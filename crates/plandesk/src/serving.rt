@@ -1,5 +1,5 @@
 //! `serve` over the file system, the network and the standard streams.
-ghost use Rattle.std.specs.Prelude.{◌≤◌};
+ghost use Rattle.std.specs.Prelude.{◌≡◌, ◌≤◌, ◌^◌, ◌-◌, ℕ, None, Some};
 
 use byte_stream::sink::WriteSink;
 use command_line::options::Serving;
@@ -9,10 +9,13 @@ use connection_log::watching::{Watched, Watching};
 use file_commands::faults::{explain_last, standard_error};
 use file_commands::logs::open_log;
 use file_commands::stores::StoreFiles;
-use http_arrivals::listening::Listening;
+use kept_connections::door;
+use kept_connections::door::Door;
+use kept_connections::listening::Listening;
+use kept_connections::pace::Limits;
 use sector_file::{Contents, FileDevice};
 use serve_command::log::refuse_log;
-use serve_command::serve::serve;
+use serve_command::serve::{refuse_memory, serve};
 use state_files::fault::OpenFault;
 use std::alloc::Global;
 use std::io::IsTerminal;
@@ -59,55 +62,113 @@ pub fn serve_desk<
 >(
     rt: &HostRuntime,
     threads: &T,
+    with_words: bool,
     name: &str,
     serving: Serving,
     log: Option<&str>,
     start: S,
 ) -> Status
     requires workers { 1 ≤ serving.workers }
-    requires idle { 1 ≤ serving.idle }
+    requires idle { 1 ≤ serving.patience.idle }
 {
     match log_of(rt, threads, log) {
-        Ok(log) => serve_watched(rt, threads, name, serving, watcher_of(&log), start),
+        Ok(log) => serve_watched(
+            rt,
+            threads,
+            with_words,
+            name,
+            serving,
+            watcher_of(&log),
+            start,
+        ),
         Err(fault) => {
             let mut errors = standard_error(rt);
             let status = refuse_log(fault, &mut errors);
-            explain_last(rt, errors, None);
+            explain_last(rt, errors, with_words, &[("log", log.unwrap_or(""))], None);
             status
         }
     }
 }
 
+/// How many connections are served: without end where no number is given.
+fn connections_of(serving: &Serving) -> u64
+    ensures some { (n : ℕ) → serving.now.connections ≡ Some n → result ≡ n }
+    ensures none { serving.now.connections ≡ None → result ≡ 2 ^ 64 - 1 }
+{
+    match serving.connections {
+        Some(connections) => connections as u64,
+        None => u64::MAX,
+    }
+}
+
+/// For how long each connection is kept.
+fn limits_of(serving: &Serving) -> Limits
+    ensures keep { result.keep ≡ serving.now.patience.keep }
+    ensures idle { result.idle ≡ serving.now.patience.idle }
+    ensures request { result.request ≡ serving.now.patience.request }
+{
+    Limits {
+        keep: serving.patience.keep,
+        idle: serving.patience.idle,
+        request: serving.patience.request,
+    }
+}
+
 /// The same, with a log or without one.
-fn serve_watched<T: Threads + Wait + Clock + Sync, S: Contents + Send + Sync>(
+fn serve_watched<
+    T: Threads + Wait + Clock + Copy + Send + Sync + 'static,
+    S: Contents + Send + Sync,
+>(
     rt: &HostRuntime,
     threads: &T,
+    with_words: bool,
     name: &str,
     serving: Serving,
     log: Option<&Log>,
     start: S,
 ) -> Status
     requires workers { 1 ≤ serving.workers }
-    requires idle { 1 ≤ serving.idle }
+    requires idle { 1 ≤ serving.patience.idle }
 {
-    match TcpListener::bind(rt, (Ipv4Addr::LOCALHOST, serving.port)) {
-        Ok(listener) => {
-            let listening = Listening::with_idle(
-                &listener,
-                serving.connections as u64,
-                serving.idle,
-            );
-            let watching = Watching::new(threads, &listening, log);
-            serve_given(rt, threads, name, serving, &watching, start)
+    let Ok(listener) = TcpListener::bind(rt, (Ipv4Addr::LOCALHOST, serving.port)) else {
+        return serve_nowhere(rt, threads, with_words, name, serving, start);
+    };
+    let connections = connections_of(&serving);
+    match door::open(threads, rt.alloc(), listener, connections, serving.workers) {
+        Ok(door) => serve_door(rt, threads, with_words, name, serving, &*door, log, start),
+        Err(_) => {
+            let mut errors = standard_error(rt);
+            let status = refuse_memory(&mut errors);
+            explain_last(rt, errors, with_words, &[("store", name)], None);
+            status
         }
-        Err(_) => serve_nowhere(rt, threads, name, serving, start),
     }
+}
+
+/// Serves a store to the connections that come in at a door.
+fn serve_door<T: Threads + Wait + Clock + Sync, S: Contents + Send + Sync>(
+    rt: &HostRuntime,
+    threads: &T,
+    with_words: bool,
+    name: &str,
+    serving: Serving,
+    door: &Door,
+    log: Option<&Log>,
+    start: S,
+) -> Status
+    requires workers { 1 ≤ serving.workers }
+    requires idle { 1 ≤ serving.patience.idle }
+{
+    let listening = Listening::new(threads, door, limits_of(&serving));
+    let watching = Watching::new(threads, &listening, log);
+    serve_given(rt, threads, with_words, name, serving, &watching, start)
 }
 
 /// Serves a store to connections that are watched.
 fn serve_given<A: Watched + Sync, T: Threads + Wait + Sync, S: Contents + Send + Sync>(
     rt: &HostRuntime,
     threads: &T,
+    with_words: bool,
     name: &str,
     serving: Serving,
     listening: &A,
@@ -115,21 +176,30 @@ fn serve_given<A: Watched + Sync, T: Threads + Wait + Sync, S: Contents + Send +
 ) -> Status
     requires { 1 ≤ serving.workers }
 {
-    serve_at(rt, threads, name, serving, Some(listening), start)
+    serve_at(
+        rt,
+        threads,
+        with_words,
+        name,
+        serving,
+        Some(listening),
+        start,
+    )
 }
 
 /// Tells that no socket listens.
 fn serve_nowhere<T: Threads + Wait + Clock + Sync, S: Contents + Send + Sync>(
     rt: &HostRuntime,
     threads: &T,
+    with_words: bool,
     name: &str,
     serving: Serving,
     start: S,
 ) -> Status
     requires { 1 ≤ serving.workers }
 {
-    serve_at::<Watching<'_, '_, '_, Listening<'_>, T>, T, S>(
-        rt, threads, name, serving, None, start,
+    serve_at::<Watching<'_, '_, '_, Listening<'_, T>, T>, T, S>(
+        rt, threads, with_words, name, serving, None, start,
     )
 }
 
@@ -137,6 +207,7 @@ fn serve_nowhere<T: Threads + Wait + Clock + Sync, S: Contents + Send + Sync>(
 fn serve_at<A: Watched + Sync, T: Threads + Wait + Sync, S: Contents + Send + Sync>(
     rt: &HostRuntime,
     threads: &T,
+    with_words: bool,
     name: &str,
     serving: Serving,
     listening: Option<&A>,
@@ -158,6 +229,6 @@ fn serve_at<A: Watched + Sync, T: Threads + Wait + Sync, S: Contents + Send + Sy
         &mut errors,
     );
     let _ = writer.into_inner();
-    explain_last(rt, errors, stores.reason());
+    explain_last(rt, errors, with_words, &[("store", name)], stores.reason());
     status
 }

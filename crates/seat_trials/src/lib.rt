@@ -1,5 +1,8 @@
-//! What is served beside others: the gate of a served stream; what visitors of a gallery see, also once a device has failed; and
-//! two streams at the seats of one office.
+//! What is served beside others: the gate of a served stream, visitors of a gallery, and two streams at the seats of one office.
+//!
+//! # Notes
+//!
+//! Visitors are also tried once a device has failed.
 #![tactic(auto)]
 
 #[cfg(test)]

@@ -1,9 +1,15 @@
-//! A device of 4,096-byte sectors in a file.
+//! A device in a file: its sectors have 4,096 bytes, and it keeps a record of each call of the system.
 //!
-//! What a file held as it was opened no code can know, so it is a parameter of the device's type, and all is proved for any
-//! contents. The device keeps a record of each call of the system with its answer, which takes no memory, and is honest
-//! while each sector that was read is as the record has it: what was written last, and before the first write what the file
-//! held as it was opened. All that the model promises is promised of an honest device.
+//! Seen as `Disk` of what the file held at first, a parameter of the type (`Contents`), and of the calls since. `FileDevice::open`,
+//! `create`: exactly the number of sectors that is asked for. An opened one holds at first what its parameter says, and all of it counts as
+//! synced; of a new one nothing does. It keeps the model as long as each sector that is read is as it was last written, or as it was held
+//! first.
+//!
+//! # Notes
+//!
+//! No code can know what a file held as it was opened, so that is a parameter of the device's type, and all is proved for any contents. The
+//! device keeps a record of each call of the system with its answer, which takes no memory. While each sector that was read is as the
+//! record has it, the device is honest. All that the model promises is promised of an honest device.
 #![tactic(auto)]
 
 mod calls;

@@ -1,5 +1,10 @@
-//! Devices in memory: one that keeps all it was told, and two over it that fail at a chosen call. Each can be stopped, and
-//! its caller picks what the stop leaves in the sectors that were not on the disk.
+//! Devices in memory: one that keeps all it was given, and two over it that fail at a chosen call.
+//!
+//! Seen as `Disk`: they keep the model. The caller picks what torn sectors hold.
+//!
+//! # Notes
+//!
+//! Each can be stopped. Torn sectors are those that weren't on the disk then.
 #![tactic(auto)]
 
 mod fused;

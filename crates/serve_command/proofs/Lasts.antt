@@ -1,5 +1,6 @@
 -- A run from a clerk who is like the first one.
-use Rattle.std.proofs.Common.{◌≡◌, ℕ, false, Result, Ok, Err, IfOk, List, sym, subst, ◌∙◌}
+use Rattle.std.proofs.Common.{◌≡◌, ℕ, false, Result, Ok, Err, IfOk, List, [], refl, sym, subst, ◌∙◌}
+use Rattle.std.proofs.lemmas.List.Elements.{All-nil}
 use Rattle.sector_device.specs.declared.SectorDevice.{Ghosts}
 use Rattle.desk_model.specs.declared.command.Command.{Command}
 use Rattle.desk_model.specs.Desk.{Desk}
@@ -7,11 +8,12 @@ use Rattle.desk_store.specs.declared.clerk.Clerk.{Clerk}
 use Rattle.desk_store.specs.Clerks.{desk_of, disk_of, is_halted}
 use Rattle.store_command.specs.Reading.{ShowsWhatIsRead}
 use Rattle.desk_runs.specs.Runs.{Call, Run, SurvivesEachRun}
+use Rattle.desk_gallery.specs.Begun.{IsLeftBy}
 use Rattle.desk_gallery.specs.Telling.{halts_of}
 use Rattle.desk_gallery.specs.Working.{AreAccepted}
 use Rattle.http_arrivals.specs.declared.ran.Ran.{Ran}
-use Rattle.http_seats.specs.Streams.{Traffic, AreCounted}
-use Rattle.serve_command.specs.Lasting.{IsLike, HasTalked, Outlasts, ServesStreams}
+use Rattle.http_seats.specs.Streams.{Traffic, IsAskedOf, AreCounted}
+use Rattle.serve_command.specs.Lasting.{IsLike, HasTalked, LastsAsked, Outlasts, ServesStreams}
 use Rattle.serve_command.specs.Outlasting.{OutlastsWhatIsRead}
 
 honest_before : {D : Type 0} {g : Ghosts D} (x : Clerk D g) (calls : List Call) (z : Clerk D g) → Run x calls z → (disk_of z).is_honest → (disk_of x).is_honest
@@ -26,6 +28,36 @@ lasts_on device first last shows working lasts honest d reads =
     record { desk = shown.desk was; opening = shown.any_moment was; survives = lasts.survives shown.keeps working honest }
 
 module _ {D : Type 0} {g : Ghosts D} {R W : Type 0} (s : Traffic R W) where
+  -- commands were done from a clerk like the first one
+  pub lasts_asked : (first last : Clerk D g) (start : Desk) → start ≡ desk_of first → ((x : Clerk D g) → SurvivesEachRun x) → IsLeftBy start (λ E h x. IsLike first x) (IsAskedOf s) last → LastsAsked s first last
+  lasts_asked first last start same survive left =
+      let ran = left.ran in
+      record {
+        lasts = record {
+          start = ran.first;
+          is_first = ran.began;
+          calls = ran.calls;
+          run = ran.run;
+          accepted = subst (λ (l : List Command). AreAccepted (desk_of first) l) (sym ran.are_shown) (subst (λ (d : Desk). AreAccepted d left.commands) same left.accepted);
+          survives = λ keeps working honest. survive ran.first ran.calls last ran.run (ran.began.keeps keeps) (ran.began.halted ∙ working) honest;
+        };
+        asked = ran.each;
+      }
+
+  -- none was done
+  pub none_asked : (first : Clerk D g) → ((x : Clerk D g) → SurvivesEachRun x) → LastsAsked s first first
+  none_asked first survive = record {
+    lasts = record {
+      start = first;
+      is_first = record { desk = refl; sectors = refl; moment = refl; faults = refl; halted = refl; honest = λ honest. honest; keeps = λ keeps. keeps };
+      calls = [];
+      run = Run.over first;
+      accepted = tt;
+      survives = λ keeps working honest. survive first [] first (Run.over first) keeps working honest;
+    };
+    asked = All-nil (λ (call : Call). IsAskedOf s call.0);
+  }
+
   serves_streams : (workers : ℕ) (first last : Clerk D g) (start : Desk) (came_to : Ran) → start ≡ desk_of first → ((x : Clerk D g) → SurvivesEachRun x) → HasTalked s workers start (λ E h x. IsLike first x) last came_to
       → ServesStreams s workers first last came_to
   serves_streams workers first last start came_to same survive talked =

@@ -13,11 +13,13 @@ use Rattle.desk_gallery.specs.Working.{AreAccepted}
 use Rattle.http_arrivals.specs.declared.ran.Ran.{Ran}
 use Rattle.http_seats.specs.Streams.{Traffic, IsAskedOf, AreCounted, HasServed}
 
--- the same desk, in a store of as many sectors, at the same moment of its device, which is as honest and keeps it where the other does
+-- the same desk, in a store of as many sectors, at the same moment of its device, which has failed as often, is as honest and keeps it
+-- where the other does
 pub record IsLike {D : Type 0} {g : Ghosts D} {E : Type 0} {h : Ghosts E} (x : Clerk D g) (y : Clerk E h) : Type 0 where
   pub desk : desk_of y ≡ desk_of x
   pub sectors : sectors_of y ≡ sectors_of x
   pub moment : (disk_of y).moment ≡ (disk_of x).moment
+  pub faults : (disk_of y).faults ≡ (disk_of x).faults
   pub halted : is_halted y ≡ is_halted x
   pub honest : (disk_of y).is_honest → (disk_of x).is_honest
   pub keeps : Keeps x → Keeps y
@@ -42,6 +44,12 @@ module _ {D : Type 0} {g : Ghosts D} where
       pub many : length visitors ≡ workers
       pub fresh : All (λ (v : List Command). v ≡ []) visitors
       pub served : HasServed s first begins visitors last ran
+
+    -- Commands were done one after the other from the first clerk to the last, and outlive each stop; each was asked for by one of the
+    -- streams.
+    pub record LastsAsked (first last : Clerk D g) : Type 0 where
+      pub lasts : Outlasts first last
+      pub asked : All (λ (call : Call). IsAskedOf s call.0) lasts.calls
 
     -- Commands were done one after the other from the first clerk to the last, and outlive each stop; each was asked for by one of the
     -- streams. Along those that were acknowledged, streams were served at the seats of so many visitors, who had heard of nothing, and

@@ -1,9 +1,18 @@
-//! `serve`: a store is served to many connections. The command is a function over what opens stores, over what listens, and over its
-//! writers, that answers the exit status.
+//! `serve`: a store is served to many connections.
+//!
+//! Seen as a function to an exit status, over what opens stores and what listens. `serve`: the store is opened, the line printed, streams
+//! served, the device closed, or the first fault with what was opened and printed by then (`Serves`). `serve_clerk`: commands one after the
+//! other led from the first clerk to the last. The acknowledged ones outlive each stop, from the desk on as which the device read
+//! (`OutlastsWhatIsRead`). Along them the counted connections were answered at as many seats as workers (`ServesStreams`). When a socket's
+//! failure is asked for, no clause says.
+//!
+//! # Notes
+//!
+//! The command is a function over what opens stores, over what listens, and over its writers, that answers the exit status.
 #![tactic(auto)]
 
 pub mod fault;
 pub mod log;
-mod office;
+pub mod office;
 pub mod serve;
 mod texts;

@@ -5,7 +5,7 @@ ghost use Rattle.desk_store.specs.Clerks.{desk_of, Keeps};
 ghost use Rattle.desk_gallery.specs.Begun.{BeginsWith, IsLeftBy};
 ghost use Rattle.desk_gallery.specs.Working.{IsRunFrom};
 ghost use Rattle.http_seats.specs.Streams.{IsAskedOf, traffic};
-ghost use Rattle.serve_command.specs.Lasting.{HasTalked, ServesStreams, clerk_in};
+ghost use Rattle.serve_command.specs.Lasting.{HasTalked, LastsAsked, ServesStreams, clerk_in};
 
 use desk_catalogue::catalogue::Catalogue;
 use desk_gallery::book::{Opened, Room};
@@ -53,7 +53,7 @@ fn serve_named<
     requires workers { 1 ≤ workers }
     ensures kept { J.sound → Keeps (clerk_in result) }
     ensures ran { IsRunFrom J.first (desk_of (clerk_in result)) }
-    ensures left { IfOk result (λ end. IsLeftBy J.first J.begins J.asked end.0) }
+    ensures left { IsLeftBy J.first J.begins J.asked (clerk_in result) }
     ensures talked { IfOk result (λ end. HasTalked
         (traffic A.gives A.takes_back A.Reader.Source A.Writer.Sink arrivals.now) workers J.first J.begins end.0 end.1) }
 {
@@ -93,6 +93,7 @@ pub fn serve_clerk<
     requires { 1 ≤ workers }
     ensures kept { Keeps clerk → Keeps (clerk_in result) }
     ensures ran { IsRunFrom (desk_of clerk) (desk_of (clerk_in result)) }
+    ensures lasts { LastsAsked (traffic A.gives A.takes_back A.Reader.Source A.Writer.Sink arrivals.now) clerk (clerk_in result) }
     ensures served { IfOk result (λ end. ServesStreams (traffic A.gives A.takes_back A.Reader.Source A.Writer.Sink arrivals.now) workers clerk end.0 end.1) }
 {
     each_run_survives::<D>();

@@ -1,8 +1,10 @@
 //! `serve`: a store is served to connections.
-ghost use Rattle.std.specs.Prelude.{◌≡◌, ◌≤◌, Some};
+ghost use Rattle.std.specs.Prelude.{◌≡◌, ◌≤◌, Some, Err};
 ghost use Rattle.desk_store.specs.Clerks.{is_halted};
 ghost use Rattle.command_output.specs.Writing.{OfWriters, written_of};
 ghost use Rattle.http_seats.specs.Streams.{traffic};
+ghost use Rattle.store_command.specs.declared.fault.StoreFault.TheVariants.{Memory};
+ghost use Rattle.serve_command.specs.declared.fault.ServeFault.TheVariants.{Store};
 ghost use Rattle.serve_command.specs.Serving.{end_of, listener_of, OpensStore, Announces, Serves, EndsServing};
 
 use crate::fault::{ServeFault, fault_line, fault_status};
@@ -150,4 +152,11 @@ fn end_serving<E: Sink>(ended: Result<(), ServeFault>, errors: &mut E) -> Status
             fault_status(fault)
         }
     }
+}
+
+/// Tells that memory was refused before anything was opened, as far as that can be written: 5.
+pub fn refuse_memory<E: Sink>(errors: &mut E) -> Status
+    ensures { EndsServing (Err (Store Memory)) result (written_of E.contents E.failures errors.old) (written_of E.contents E.failures errors.new) }
+{
+    end_serving(Err(ServeFault::Store(StoreFault::Memory)), errors)
 }

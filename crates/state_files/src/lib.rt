@@ -1,5 +1,9 @@
-//! The files of a state: its census files, a neighbour file and plans' files, each opened by its name, read and judged, and the
-//! first fault of them all.
+//! The files of a state, in their order: census, neighbour and plan files, opened by name, read and judged, and the first fault of all.
+//!
+//! Seen as an opening: a file (bytes left, turns, failures), or why it isn't opened. `open_census`, `open_audit`, over any opener: each
+//! name is opened as its own file, each companion has its own number of districts. `read_state`, `read_ground`, `read_plan`,
+//! `read_companion`: what each file says by its reader's relation, or the first fault, with each file before and after. `read_whole`: a
+//! plan's file whole; else more than 33,554,432 bytes came, the source failed or its turns were used up.
 #![tactic(auto)]
 
 pub mod census;

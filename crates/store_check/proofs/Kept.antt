@@ -1,5 +1,5 @@
 -- Rows as commands keep them have numbers below those that come next, and where all rows have, no number in use comes next.
-use Rattle.std.proofs.Common.{◌≡◌, ◌<◌, ◌+◌, ◌^◌, ℕ, zero, suc, Bool, true, false, List, [], All, Option, Some, None, Ok, Err, Result, OnOk, IfErr, inl, inr, refl, sym, ap, subst, ◌∙◌, w64, arith}
+use Rattle.std.proofs.Common.{◌≡◌, ◌<◌, ◌≤◌, ◌+◌, ◌^◌, ℕ, zero, suc, Bool, true, false, List, [], All, Option, Some, None, Ok, Err, Result, OnOk, IfErr, inl, inr, refl, sym, ap, subst, ◌∙◌, w64, arith}
 use Rattle.std.specs.Int.{from_be_bytes}
 use Rattle.std.specs.FinMap.{get}
 use Rattle.std.proofs.lemmas.Nat.{from_be_bytes-to_be_bytes_8}
@@ -24,6 +24,7 @@ use Rattle.store_rows.specs.declared.value.Counters.{Counters}
 use Rattle.store_rows.specs.declared.value.SealRow.{SealRow}
 use Rattle.store_rows.specs.Rows.{KeyMap, row_in, Has}
 use Rattle.store_rows.specs.Holders.{AreHolders, tally_row}
+use Rattle.store_rows.proofs.Counting.{few_holders}
 use Rattle.store_rows.specs.GeographyRows.{IsGeography}
 use Rattle.store_rows.specs.DeskRows.{IsPlanAt, IsDesk}
 use Rattle.store_rows.specs.Changes.{plan_row_of}
@@ -91,13 +92,14 @@ module _ (m : KeyMap) (tidy : Tidy m) where
       let is = tidy.holdings.tallied number fits in
       by is.count is.fits is.row is.holders
     where
-      by : (count : ℕ) → count < 2 ^ 64 → row_in m (tally number) ≡ tally_row count → AreHolders m number count → (number < tidy.next.chunk) × IsCount value
+      by : (count : ℕ) → count < 2 ^ 64 → row_in m (tally number) ≡ tally_row count → AreHolders m number count → (number < tidy.next.chunk) × IsCount tidy.next.plan value
       by zero few row holders = absurd (no_value value (sym has ∙ row))
       by (suc more) few row holders =
           let (small, held) = holders.each 0 (omega arith) in
           let (empty, is_named) = tidy.holdings.held (holders.plan_at 0) number [] (small, fits) held in
           let same : value ≡ in_eight (more + 1) = value_is value (in_eight (more + 1)) (sym has ∙ row) in
-          (tidy.below.named_chunks (holders.plan_at 0) number is_named, (more + 1, omega arith, omega (arith, few), same))
+          let plans : suc more ≤ tidy.next.plan = few_holders m number (suc more) tidy.next.plan holders (λ plan fit held_by. named_plan_below plan number (tidy.holdings.held plan number [] (fit, fits) held_by).1) in
+          (tidy.below.named_chunks (holders.plan_at 0) number is_named, (more + 1, omega arith, omega (arith, plans), omega (arith, few), same))
 
   version_below : (value : List ℕ) → Has m version value → value ≡ in_four 2
   version_below value has = by tidy.new tidy.holdings.told

@@ -1,5 +1,5 @@
 -- Numbers in use, and those that come next.
-use Rattle.std.specs.Prelude.{◌≡◌, ◌<◌, ◌^◌, ℕ, List, [], All}
+use Rattle.std.specs.Prelude.{◌≡◌, ◌<◌, ◌≤◌, ◌^◌, ℕ, List, [], All}
 use Rattle.desk_model.specs.Desk.{Desk}
 use Rattle.store_rows.specs.Keys.{RowKey, Fits, counters, retired, begun, holding, tally, named}
 use Rattle.store_rows.specs.Keys.{part, seal, version, block, pair, chunk, in_four, in_eight}
@@ -13,9 +13,9 @@ use Rattle.store_rows.specs.DeskRows.{IsDesk}
 use Rattle.store_rows.specs.Tidy.{IsNext, CountersFit, AreBelow, Tidy}
 use Rattle.store_check.specs.Rows.{AreBehindSeal, AreRowsToVersion}
 
--- how many plans hold a chunk, 1 or more
-abbrev pub IsCount : List ℕ → Type 0
-IsCount value = (count : ℕ) × (0 < count) × (count < 2 ^ 64) × (value ≡ in_eight count)
+-- how many plans hold a chunk: 1 or more, and no more than were numbered
+abbrev pub IsCount : ℕ → List ℕ → Type 0
+IsCount plans value = (count : ℕ) × (0 < count) × (count ≤ plans) × (count < 2 ^ 64) × (value ≡ in_eight count)
 
 -- The numbers of a plan, of chunks and of a load that a row has are below those that come next. A holding says nothing else, and
 -- a version is the second.
@@ -24,7 +24,7 @@ IsBelow next counters value = Unit {0}
 IsBelow next (retired plan) value = plan < next.plan
 IsBelow next (begun load) value = load < next.load
 IsBelow next (holding plan number) value = (plan < next.plan) × (number < next.chunk) × (value ≡ [])
-IsBelow next (tally number) value = (number < next.chunk) × IsCount value
+IsBelow next (tally number) value = (number < next.chunk) × IsCount next.plan value
 IsBelow next (named name) value = (p : PlanRow) × (plan_bytes p ≡ value) × (p.number < next.plan)
 IsBelow next (part plan revision index) value = (plan < next.plan)
     × ((numbers : List ℕ) × AreChunks numbers × (chunks_bytes numbers ≡ value) × All (λ n. n < next.chunk) numbers)

@@ -53,15 +53,16 @@ pub(crate) fn is_second_below(key: &[u8], next: u64) -> bool
     eight(&key[9..17]) < next
 }
 
-/// Whether the value of a row is a number of 8 bytes that isn't 0.
-pub(crate) fn is_count(value: &[u8]) -> bool
-    ensures some { result ≡ true → IsCount value.now }
-    ensures none { result ≡ false → IsCount value.now → ⊥ }
+/// Whether the value of a row is a number of 8 bytes that isn't 0, and no more than so many plans.
+pub(crate) fn is_count(value: &[u8], plans: u64) -> bool
+    ensures some { result ≡ true → IsCount plans value.now }
+    ensures none { result ≡ false → IsCount plans value.now → ⊥ }
 {
     if value.len() != 8 {
         return false;
     }
-    eight(value) > 0
+    let count = eight(value);
+    count > 0 && count <= plans
 }
 
 /// Whether the value of the row of the version tells the second.

@@ -40,7 +40,7 @@ fn is_below(row: &Row, next: Counters) -> bool
     match key[0] {
         b'D' => is_key_below(key, next.plan),
         b'H' => is_holding_below(key, value, next),
-        b'K' => is_key_below(key, next.chunk) && is_count(value),
+        b'K' => is_key_below(key, next.chunk) && is_count(value, next.plan),
         b'L' => is_key_below(key, next.load),
         b'P' => is_plan_below(value, next.plan),
         b'R' => is_key_below(key, next.plan) && are_chunks_below(value, next.chunk),

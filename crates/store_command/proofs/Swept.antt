@@ -2,7 +2,8 @@
 use Rattle.std.proofs.Common.{◌≡◌, ◌≤◌, ◌+◌, ℕ, [], Option, false, inl, inr, refl, sym, subst, ◌∙◌, arith}
 use Rattle.std.specs.Prelude.{Result, Ok, Err}
 use Rattle.sector_device.specs.declared.SectorDevice.{Ghosts}
-use Rattle.page_store.specs.Transactions.{device_in}
+use Rattle.page_store.specs.Transactions.{device_in, IsQuiet}
+use Rattle.page_btree.specs.Map.{InPages as HoldsRows}
 use Rattle.desk_model.specs.Desk.{Desk}
 use Rattle.store_rows.specs.Rows.{KeyMap}
 use Rattle.store_sweep.specs.Leftovers.{IsSweptBy}
@@ -17,7 +18,8 @@ use Rattle.desk_loading.proofs.Moves.{then_moved}
 use Rattle.store_sweep.specs.declared.error.SweepError.{SweepError}
 use Rattle.store_command.specs.declared.fault.StoreFault.{StoreFault}
 use Rattle.store_command.specs.declared.fault.StoreFault.TheVariants.{DeviceFault}
-use Rattle.store_command.specs.Sweeping.{fault_of_sweep, KeepsDesk, HasTaken, HasSweptAll, IsStopped, SweepsAll, HasSwept, SweepsDevice}
+use Rattle.store_holdings.specs.Checks.{AreSoundHoldings}
+use Rattle.store_command.specs.Sweeping.{fault_of_sweep, KeepsDesk, HasTaken, HasSweptAll, IsChecked, IsStopped, SweepsAll, SweepsSteps, HasSwept, SweepsDevice}
 use Rattle.store_command.proofs.Used.{kept_left, left_same}
 
 module _ {D : Type 0} {g : Ghosts D} where
@@ -59,6 +61,23 @@ module _ {D : Type 0} {g : Ghosts D} where
   -- so many steps were made that more rows were taken out than a store has
   pub endless : (x y : Clerk D g) (rows : ℕ) → 281474976710656 ≤ rows → ((disk_of y).is_honest → (m : KeyMap) → HasRows x m → HasTaken x m rows y) → IsStopped x DeviceFault y
   endless x y rows many taken = inr (refl, λ honest m has. record { rows = rows; many = many; taken = taken honest m has })
+
+  -- ---- the check before it
+  pub kept_now : (x y : Clerk D g) → Moves (desk_of x) x y → desk_of y ≡ desk_of x → y.loading ≡ x.loading → KeepsDesk x y
+  kept_now x y moves desk loading = record { moves = moves; desk = desk; loading = loading }
+
+  pub kept_after : (x w y : Clerk D g) → KeepsDesk x w → KeepsDesk w y → KeepsDesk x y
+  kept_after x w y one two = more_kept x w y one two.moves two.desk two.loading
+
+  pub checked_so : (x w : Clerk D g) → KeepsDesk x w → w.halted ≡ false → IsQuiet (pages_of x) (pages_of w) → ((disk_of w).is_honest → (m : KeyMap) → HoldsRows (pages_of x) m → AreSoundHoldings m) → IsChecked x w
+  checked_so x w keeps works quiet sound = record { keeps = keeps; works = works; quiet = quiet; sound = sound }
+
+  pub swept_after : (x w y : Clerk D g) (r : Result ℕ StoreFault) → IsChecked x w → SweepsSteps w r y → SweepsAll x r y
+  swept_after x w y (Ok rows) checked swept = (w, checked, swept)
+  swept_after x w y (Err fault) checked stopped = inr (w, checked, stopped)
+
+  pub unchecked_so : (x y : Clerk D g) (e : SweepError) (fault : StoreFault) → fault ≡ fault_of_sweep e → IsQuiet (pages_of x) (pages_of y) → SweepRefused x e y.halted (pages_of y) → SweepsAll x (Err fault) y
+  unchecked_so x y e fault told quiet why = inl (record { e = e; told = told; quiet = quiet; why = why })
 
   -- ---- the device
   -- what was opened, swept and given back

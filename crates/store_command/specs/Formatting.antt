@@ -1,5 +1,5 @@
 -- A store that is made.
-use Rattle.std.specs.Prelude.{◌≡◌, ◌⊎◌, ◌≤◌, ◌<◌, ◌+◌, ℕ, List, codes, Result, Ok, Err, Vec}
+use Rattle.std.specs.Prelude.{◌≡◌, ◌⊎◌, ◌≤◌, ◌<◌, ◌+◌, ℕ, Bool, List, codes, Result, Ok, Err, Vec}
 use Rattle.std.specs.declared.alloc.Global.{Global}
 use Rattle.sector_device.specs.declared.SectorDevice.{Ghosts}
 use Rattle.gate_journal.specs.Store.{home}
@@ -49,12 +49,12 @@ module _ {D O : Type 0} (g : Ghosts D) (makes : O → List ℕ → ℕ → Resul
       ⊎ IsNoStore before name sectors J fault after)))
 
   -- what comes of it, with the text that is printed
-  abbrev pub Makes : (before : O) → List ℕ → (sectors J : ℕ) → Result (Vec ℕ Global) StoreFault → (after : O) → Type 0
-  Makes before name sectors J (Ok text) after = (text.items ≡ formatted_text sectors J) × IsStore before name sectors J after
-  Makes before name sectors J (Err fault) after = MakeRefused before name sectors J fault after
+  abbrev pub Makes : (before : O) → List ℕ → (with_bytes : Bool) → (sectors J : ℕ) → Result (Vec ℕ Global) StoreFault → (after : O) → Type 0
+  Makes before name with_bytes sectors J (Ok text) after = (text.items ≡ formatted_text with_bytes sectors J) × IsStore before name sectors J after
+  Makes before name with_bytes sectors J (Err fault) after = MakeRefused before name sectors J fault after
 
   -- a store of so many sectors, with so many journal pages, under the name
-  abbrev pub Formats : (stores stores_after : O) → List ℕ → (sectors J : ℕ) → Status → (before after told_before told_after : Written) → Type 0
-  Formats stores stores_after name sectors J status before after told_before told_after = (given : Result (Vec ℕ Global) StoreFault)
-      × Makes stores name sectors J given stores_after
+  abbrev pub Formats : (stores stores_after : O) → List ℕ → (with_bytes : Bool) → (sectors J : ℕ) → Status → (before after told_before told_after : Written) → Type 0
+  Formats stores stores_after name with_bytes sectors J status before after told_before told_after = (given : Result (Vec ℕ Global) StoreFault)
+      × Makes stores name with_bytes sectors J given stores_after
       × EndsStore (write_fault_line (codes "format")) given status before after told_before told_after

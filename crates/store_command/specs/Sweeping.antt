@@ -2,9 +2,11 @@
 use Rattle.std.specs.Prelude.{◌≡◌, ◌⊎◌, ◌≤◌, ◌^◌, ℕ, List, ◌++◌, codes, decimal, false, Result, Ok, Err, Vec}
 use Rattle.std.specs.declared.alloc.Global.{Global}
 use Rattle.sector_device.specs.declared.SectorDevice.{Ghosts}
-use Rattle.page_store.specs.Transactions.{device_in}
+use Rattle.page_store.specs.Transactions.{device_in, IsQuiet}
+use Rattle.page_btree.specs.Map.{InPages as HoldsRows}
 use Rattle.command_output.specs.declared.status.Status.{Status}
 use Rattle.store_rows.specs.Rows.{KeyMap}
+use Rattle.store_holdings.specs.Checks.{AreSoundHoldings}
 use Rattle.store_sweep.specs.Leftovers.{IsSweptBy}
 use Rattle.store_sweep.specs.declared.error.SweepError.{SweepError}
 use Rattle.store_sweep.specs.declared.error.SweepError.TheVariants as sweep
@@ -17,7 +19,7 @@ use Rattle.command_output.specs.Writing.{Written, write_fault_line}
 use Rattle.store_command.specs.Filling.{HasDesk, IsNotOpened, WhereItReads}
 use Rattle.store_command.specs.Telling.{EndsStore}
 use Rattle.store_command.specs.declared.fault.StoreFault.{StoreFault}
-use Rattle.store_command.specs.declared.fault.StoreFault.TheVariants.{DeviceFault, Memory}
+use Rattle.store_command.specs.declared.fault.StoreFault.TheVariants.{NotAStore, DeviceFault, Memory}
 
 -- what is printed of so many rows that were taken out or changed
 abbrev pub swept_text : ℕ → List ℕ
@@ -25,6 +27,7 @@ swept_text rows = codes "swept " ++ decimal rows ++ codes " rows\n"
 
 abbrev pub fault_of_sweep : SweepError → StoreFault
 fault_of_sweep sweep.Memory = Memory
+fault_of_sweep sweep.NotAStore = NotAStore
 fault_of_sweep sweep.DeviceFault = DeviceFault
 fault_of_sweep sweep.Halted = DeviceFault
 
@@ -70,10 +73,30 @@ module _ {D : Type 0} {g : Ghosts D} where
   IsStopped x fault y = ((e : SweepError) × (fault ≡ fault_of_sweep e) × StepStopped x e y)
       ⊎ ((fault ≡ DeviceFault) × ((disk_of y).is_honest → (m : KeyMap) → HasRows x m → HasEndless x m y))
 
+  -- what steps of a sweep came to
+  abbrev pub SweepsSteps : Clerk D g → Result ℕ StoreFault → Clerk D g → Type 0
+  SweepsSteps x (Ok rows) y = IsSweptOut x rows y
+  SweepsSteps x (Err fault) y = IsStopped x fault y
+
+  -- Before the first step the rows were read alone: each chunk's count is that of the plans that hold it, and a plan that wasn't taken
+  -- away holds what it names.
+  pub record IsChecked (x w : Clerk D g) : Type 0 where
+    pub keeps : KeepsDesk x w
+    pub works : is_halted w ≡ false
+    pub quiet : IsQuiet (pages_of x) (pages_of w)
+    pub sound : (disk_of w).is_honest → (m : KeyMap) → HoldsRows (pages_of x) m → AreSoundHoldings m
+
+  -- they weren't found so, and nothing was written
+  pub record IsUnchecked (x : Clerk D g) (fault : StoreFault) (y : Clerk D g) : Type 0 where
+    pub e : SweepError
+    pub told : fault ≡ fault_of_sweep e
+    pub quiet : IsQuiet (pages_of x) (pages_of y)
+    pub why : SweepRefused x e (is_halted y) (pages_of y)
+
   -- what a sweep at a clerk came to
   abbrev pub SweepsAll : Clerk D g → Result ℕ StoreFault → Clerk D g → Type 0
-  SweepsAll x (Ok rows) y = IsSweptOut x rows y
-  SweepsAll x (Err fault) y = IsStopped x fault y
+  SweepsAll x (Ok rows) y = (w : Clerk D g) × IsChecked x w × IsSweptOut w rows y
+  SweepsAll x (Err fault) y = IsUnchecked x fault y ⊎ ((w : Clerk D g) × IsChecked x w × IsStopped w fault y)
 
 module _ {D : Type 0} (g : Ghosts D) where
   -- The device was opened, and the clerk swept it and gave it back so. Where it read as a desk, a stop at any moment of both left this

@@ -1,5 +1,5 @@
 -- What is printed of a store.
-use Rattle.std.specs.Prelude.{ℕ, List, ◌++◌, length, codes, decimal}
+use Rattle.std.specs.Prelude.{ℕ, ◌*◌, Bool, true, false, List, ◌++◌, length, codes, decimal}
 use Rattle.desk_model.specs.Geography.{Ground}
 use Rattle.desk_model.specs.Cuts.{cuts_of}
 use Rattle.audit_population.specs.People.{state_people}
@@ -8,10 +8,15 @@ use Rattle.audit_population.specs.People.{state_people}
 abbrev pub number_after : List ℕ → ℕ → List ℕ
 number_after words n = words ++ decimal n
 
--- of one that was made: its sectors and its journal's pages
-abbrev pub formatted_text : (sectors journal_pages : ℕ) → List ℕ
-formatted_text sectors journal_pages =
-    number_after (codes "formatted ") sectors ++ number_after (codes " sectors, ") journal_pages ++ codes " journal pages\n"
+-- how the line of one that was made ends, where its bytes are told too and where not
+abbrev pub formatted_end : (with_bytes : Bool) → (sectors : ℕ) → List ℕ
+formatted_end false sectors = codes " journal pages\n"
+formatted_end true sectors = number_after (codes " journal pages, ") (4096 * sectors) ++ codes " bytes\n"
+
+-- of one that was made: its sectors and its journal's pages, and where that is asked for its bytes
+abbrev pub formatted_text : (with_bytes : Bool) → (sectors journal_pages : ℕ) → List ℕ
+formatted_text with_bytes sectors journal_pages =
+    number_after (codes "formatted ") sectors ++ number_after (codes " sectors, ") journal_pages ++ formatted_end with_bytes sectors
 
 -- of a geography that was loaded: its blocks, counties and people
 abbrev pub loaded_text : Ground → List ℕ

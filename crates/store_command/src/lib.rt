@@ -1,6 +1,16 @@
-//! `format`, `load`, `sweep` and `migrate`: a store is made, filled with a state's geography, rid of what deleted plans and ended
-//! loads left in it, and led from the old version to the new one. Each command is a function over what makes and opens stores,
-//! over its readers and its writers, that answers the exit status.
+//! `format`, `load`, `sweep`, `migrate`: a store is made, filled with a state's geography, rid of leftover rows, and led to version 2.
+//!
+//! Seen as functions to an exit status, over what makes and opens stores (`Stores`). The device that was opened and the one that was closed
+//! are named, so that nothing else touched it. `format`: a new store with exactly the sectors and journal pages that are asked for, without
+//! geography and plans. `load`: one load of the geography that the files say, in a store without one; where a file is refused no store is
+//! opened. `sweep`: as many rows as are printed, and none is left. `migrate`: as many rows as are printed, and each image opens in version
+//! 2 to a desk of version 1. Else the first fault, with nothing printed (`Sweeps`, `Migrates`). Where the device reads as a desk, a stop
+//! leaves it, or the desk after the command (`Reading.antt`).
+//!
+//! # Notes
+//!
+//! Leftover rows are what deleted plans and ended loads left. Each command is a function over what makes and opens stores, over its readers
+//! and its writers, that answers the exit status.
 #![tactic(auto)]
 
 pub mod fault;

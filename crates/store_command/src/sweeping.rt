@@ -1,7 +1,7 @@
 //! Sweeps a store by as many steps as it takes.
 ghost use Rattle.std.specs.Prelude.{◌≡◌, false};
 ghost use Rattle.desk_store.specs.Clerks.{is_halted};
-ghost use Rattle.store_command.specs.Sweeping.{fault_of_sweep, KeepsDesk, SweepsAll};
+ghost use Rattle.store_command.specs.Sweeping.{fault_of_sweep, KeepsDesk, SweepsAll, SweepsSteps};
 
 use crate::fault::StoreFault;
 use command_progress::Progress;
@@ -19,20 +19,21 @@ fn sweep_fault(e: SweepError) -> StoreFault
 {
     match e {
         SweepError::Memory => StoreFault::Memory,
+        SweepError::NotAStore => StoreFault::NotAStore,
         SweepError::DeviceFault | SweepError::Halted => StoreFault::DeviceFault,
     }
 }
 
-/// Takes out of a clerk's store what deleted plans and ended loads left in it: how many rows there were. `progress` hears of each
-/// step.
-pub fn sweep_all<D: SectorDevice, P: Progress>(
+/// Takes out of a clerk's store what deleted plans and ended loads left in it, step by step: how many rows there were. `progress` hears
+/// of each step.
+fn sweep_steps<D: SectorDevice, P: Progress>(
     alloc: Global,
     clerk: &mut Clerk<D>,
     progress: &mut P,
 ) -> Result<u64, StoreFault>
     requires { is_halted clerk.old ≡ false }
     ensures keeps { KeepsDesk clerk.old clerk.new }
-    ensures sweeps { SweepsAll clerk.old result clerk.new }
+    ensures sweeps { SweepsSteps clerk.old result clerk.new }
 {
     let mut rows = 0;
     for steps in 0..MOST_STEPS {
@@ -48,4 +49,21 @@ pub fn sweep_all<D: SectorDevice, P: Progress>(
         }
     }
     Err(StoreFault::DeviceFault)
+}
+
+/// Takes out of a clerk's store what deleted plans and ended loads left in it: how many rows there were. Nothing is taken out where a
+/// chunk's count isn't the number of plans that hold it, or a plan lacks a chunk that it names. `progress` hears of each step.
+pub fn sweep_all<D: SectorDevice, P: Progress>(
+    alloc: Global,
+    clerk: &mut Clerk<D>,
+    progress: &mut P,
+) -> Result<u64, StoreFault>
+    requires { is_halted clerk.old ≡ false }
+    ensures keeps { KeepsDesk clerk.old clerk.new }
+    ensures sweeps { SweepsAll clerk.old result clerk.new }
+{
+    match clerk.check_holders(alloc) {
+        Ok(()) => sweep_steps(alloc, clerk, progress),
+        Err(e) => Err(sweep_fault(e)),
+    }
 }

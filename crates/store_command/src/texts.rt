@@ -1,6 +1,6 @@
 //! What is printed of a store.
 ghost use Rattle.std.specs.Prelude.{◌≡◌, ◌≤◌, ◌+◌, ◌++◌, length, decimal, vec_capacity, vec_len, OnOk, IfOk};
-ghost use Rattle.store_command.specs.Texts.{number_after, formatted_text as text_of_store, loaded_text as text_of_geography};
+ghost use Rattle.store_command.specs.Texts.{number_after, formatted_end, formatted_text as text_of_store, loaded_text as text_of_geography};
 
 use audit_population::people::total;
 use desk_model::cuts::cuts;
@@ -50,17 +50,29 @@ fn push_number(text: &mut Vec<u8>, words: &[u8], number: u64) -> Result<(), Allo
     text.extend_from_slice(digits.format(number).as_bytes())
 }
 
+/// Adds the end of the line of a store that was made, with its bytes where that is asked for.
+fn push_end(text: &mut Vec<u8>, with_bytes: bool, sectors: u32) -> Result<(), AllocError>
+    ensures { OnOk result (text.new.items ≡ text.old.items ++ formatted_end with_bytes sectors) }
+{
+    if !with_bytes {
+        return text.extend_from_slice(b" journal pages\n");
+    }
+    push_number(text, b" journal pages, ", 4_096 * sectors as u64)?;
+    text.extend_from_slice(b" bytes\n")
+}
+
 pub fn formatted_text(
     alloc: Global,
+    with_bytes: bool,
     sectors: u32,
     journal_pages: u32,
 ) -> Result<Vec<u8>, AllocError>
-    ensures { IfOk result (λ text. text.items ≡ text_of_store sectors journal_pages) }
+    ensures { IfOk result (λ text. text.items ≡ text_of_store with_bytes sectors journal_pages) }
 {
     let mut text = Vec::new(alloc);
     push_number(&mut text, b"formatted ", sectors as u64)?;
     push_number(&mut text, b" sectors, ", journal_pages as u64)?;
-    text.extend_from_slice(b" journal pages\n")?;
+    push_end(&mut text, with_bytes, sectors)?;
     Ok(text)
 }
 

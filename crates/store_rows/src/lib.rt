@@ -1,7 +1,20 @@
-//! The rows of a store: a row is a key and a value, each a list of bytes, and a store's rows are a finite map from keys to values
-//! (`Rattle.store_rows.specs.Rows.KeyMap`). `Key` makes the keys, the calls named after a kind of row write its value and read
-//! it back. What a map of rows says (its geography, its chunks and revisions, its desk) is defined in specs/; the laws of it are
-//! for the crates that put and remove rows.
+//! Rows as bytes, and what a map of rows says.
+//!
+//! Seen as a row (`RowKey`) and its key's bytes. `laws::keys_differ`, `numbers_decide`: keys are apart, and rise by their numbers.
+//! `read_*`, `*_value`, `fill_*`, `add_*`: what a value says, or none exactly where it says nothing. `IsDesk`: the desk of a map, one at
+//! most (`desk_is_one`); `HasChunk`, `HasRevision`, `IsStaged`, `Tidy`: its parts. `laws`: the rows of each command, and of a load, make
+//! just the desk after it; rows of other tags change nothing (`tags_stay`). `holders`, `migrations`, `forks`: who holds a chunk, and what a
+//! migration and a fork put. `upkeep`: each change keeps rows tidy, and numbers that come next are free. Turns of a sweep keep the desk,
+//! and without marks nothing is left over.
+//!
+//! # Notes
+//!
+//! A row is a key and a value, each a list of bytes, and a store's rows are a finite map from keys to values
+//! (`Rattle.store_rows.specs.Rows.KeyMap`). `Key` makes the keys; the calls named after a kind of row write its value and read it back.
+//! What a map of rows says (its geography, its chunks and revisions, its desk) is defined in specs/. The laws of it are for the crates that
+//! put and remove rows.
+//!
+//! # Example
 //!
 //! ```text
 //! let key = Key::chunk(number, 0);

@@ -24,8 +24,9 @@ use Rattle.store_rows.specs.Tidy.{Tidy}
 use Rattle.desk_pages.specs.Desks.{IsDeskMap, InTxn as DeskInTxn, InPages as DeskInPages, OpensDesk}
 use Rattle.desk_pages.proofs.Kept.{opens_now}
 use Rattle.store_sweep.specs.declared.error.SweepError.{SweepError}
-use Rattle.store_sweep.specs.declared.error.SweepError.TheVariants.{Memory, DeviceFault, Halted}
-use Rattle.store_sweep.specs.Errors.{tree_told}
+use Rattle.store_sweep.specs.declared.error.SweepError.TheVariants.{Memory, NotAStore, DeviceFault, Halted}
+use Rattle.store_sweep.specs.Errors.{tree_told, fault_told}
+use Rattle.store_holdings.specs.Checks.{CheckErr, IsNewTidy, AreSoundHoldings}
 use Rattle.store_sweep.specs.Leftovers.{IsSpared, IsApart, AreNotSpared, rows_of, IsSweptClean}
 use Rattle.store_sweep.specs.Sweeping.{IsSweptMap, HasSwept, HasDesk, TakeErr, HoldsSwept, SweepErr, Leaves, FinishErr}
 
@@ -218,20 +219,46 @@ module _ {D : Type 0} {g : Ghosts D} where
   no_desk : (t : Txn) (a b : Pages D g) → IsBegun a t → IsQuiet a b → ((disk_in b).is_honest → (m : KeyMap) → InTxn t (stored a) m → HasDesk m → ⊥) → (disk_in b).is_honest → (d : Desk) → DeskInPages a d → ⊥
   no_desk t a b start quiet none honest d holds = none honest holds.m (start.reads (quiet.honest honest) holds.m holds.holds) (d, holds.is)
 
-  pub not_taken : (t : Txn) (a b : Pages D g) → IsBegun a t → IsQuiet a b → (e : TreeError) → TakeErr HasDesk t a b e → SweepErr a b (tree_told e)
+  -- a failure halted the pages
+  failed_told : (a b : Pages D g) → HasFailed a b → (halted : Bool) → has_halted b ≡ halted → SweepErr a b (fault_told halted)
+  failed_told a b failed true is = inl failed
+  failed_told a b failed false is = both (has_halted b) failed.halted is
+
+  -- or the rows are none of a desk
+  fault_taken : (a b : Pages D g) → has_halted a ≡ false → IsQuiet a b → ((disk_in b).is_honest → (d : Desk) → DeskInPages a d → ⊥) → (halted : Bool) → has_halted b ≡ halted → SweepErr a b (fault_told halted)
+  fault_taken a b working quiet none true is = inl (record { worked = working; halted = is; rose = quiet.rose working is })
+  fault_taken a b working quiet none false is = (quiet, is, none)
+
+  pub not_taken : (t : Txn) (a b : Pages D g) → IsBegun a t → IsQuiet a b → (e : TreeError) → TakeErr HasDesk t a b e → SweepErr a b (tree_told (has_halted b) e)
   not_taken t a b start quiet tree.DeviceFault why = elim why [
-    | inl failed ↦ inl failed
-    | inr none ↦ inr (no_desk t a b start quiet none)
+    | inl failed ↦ failed_told a b failed (has_halted b) refl
+    | inr none ↦ fault_taken a b start.working quiet (no_desk t a b start quiet none) (has_halted b) refl
   ]
   not_taken t a b start quiet tree.Halted why = both (has_halted a) why start.working
-  not_taken t a b start quiet tree.NoPages why = inr (no_desk t a b start quiet why)
-  not_taken t a b start quiet tree.TooDeep why = inr (no_desk t a b start quiet why)
+  not_taken t a b start quiet tree.NoPages why = fault_taken a b start.working quiet (no_desk t a b start quiet why) (has_halted b) refl
+  not_taken t a b start quiet tree.TooDeep why = fault_taken a b start.working quiet (no_desk t a b start quiet why) (has_halted b) refl
   not_taken t a b start quiet tree.Memory why = quiet
 
   pub not_committed : (a b c : Pages D g) → Passed a b → ((disk_in c).is_honest → (disk_in b).is_honest) → (e : SweepError) → FinishErr b c e → SweepErr a c e
   not_committed a b c passed honest Memory why = subst (λ (p : Pages D g). IsQuiet a p) (sym why) passed.quiet
   not_committed a b c passed honest DeviceFault why = elim why [
     | inl failed ↦ inl (failed_after a b c passed honest failed)
-    | inr none ↦ inr (λ is d holds. none is)
+    | inr none ↦ inr none
   ]
+  not_committed a b c passed honest NotAStore why = absurd why
   not_committed a b c passed honest Halted why = absurd why
+
+  -- ---- a check before a sweep
+  pub not_checked : (t : Txn) (a b : Pages D g) → IsBegun a t → IsQuiet a b → (e : TreeError) → CheckErr IsNewTidy t a b e → SweepErr a b (tree_told (has_halted b) e)
+  not_checked t a b start quiet tree.DeviceFault why = elim why [
+    | inl failed ↦ failed_told a b failed (has_halted b) refl
+    | inr none ↦ fault_taken a b start.working quiet
+        (λ honest d holds. none honest holds.m (start.reads (quiet.honest honest) holds.m holds.holds) (record { tidy = holds.is.tidy; new = holds.is.version })) (has_halted b) refl
+  ]
+  not_checked t a b start quiet tree.Halted why = both (has_halted a) why start.working
+  not_checked t a b start quiet tree.NoPages why = absurd why
+  not_checked t a b start quiet tree.TooDeep why = absurd why
+  not_checked t a b start quiet tree.Memory why = quiet
+
+  pub told_err : (a b : Pages D g) (e told : SweepError) → told ≡ e → SweepErr a b e → SweepErr a b told
+  told_err a b e told is why = subst (λ (x : SweepError). SweepErr a b x) (sym is) why

@@ -1,5 +1,5 @@
 -- What a sweep did.
-use Rattle.std.specs.Prelude.{◌≡◌, ◌⊎◌, ◌<◌, ◌≤◌, ◌+◌, ◌*◌, ℕ, true, Option}
+use Rattle.std.specs.Prelude.{◌≡◌, ◌⊎◌, ◌<◌, ◌≤◌, ◌+◌, ◌*◌, ℕ, true, false, Option}
 use Rattle.sector_device.specs.Moments.{LeavesOnly}
 use Rattle.sector_device.specs.declared.SectorDevice.{Ghosts}
 use Rattle.gate_journal.specs.Store.{home}
@@ -15,7 +15,7 @@ use Rattle.store_rows.specs.Rows.{KeyMap}
 use Rattle.store_rows.specs.Tidy.{Tidy}
 use Rattle.desk_pages.specs.Desks.{IsDeskMap, InTxn as DeskInTxn, InPages as DeskInPages, OpensDesk}
 use Rattle.store_sweep.specs.declared.error.SweepError.{SweepError}
-use Rattle.store_sweep.specs.declared.error.SweepError.TheVariants.{Memory, DeviceFault, Halted}
+use Rattle.store_sweep.specs.declared.error.SweepError.TheVariants.{Memory, NotAStore, DeviceFault, Halted}
 use Rattle.store_sweep.specs.Leftovers.{IsSweptBy, IsSweptClean}
 
 -- a map of the same desk, of which so many rows were changed or taken out
@@ -61,7 +61,8 @@ module _ {D : Type 0} {g : Ghosts D} where
   -- why nothing is swept
   abbrev pub SweepErr : Pages D g → Pages D g → SweepError → Type 0
   SweepErr old new Memory = IsQuiet old new
-  SweepErr old new DeviceFault = HasFailed old new ⊎ ((disk_in new).is_honest → (d : Desk) → DeskInPages old d → ⊥)
+  SweepErr old new NotAStore = IsQuiet old new × (has_halted new ≡ false) × ((disk_in new).is_honest → (d : Desk) → DeskInPages old d → ⊥)
+  SweepErr old new DeviceFault = HasFailed old new ⊎ ((disk_in new).is_honest → ⊥)
   SweepErr old new Halted = (has_halted old ≡ true) × IsSame old new
 
   -- what a stop in a commit leaves
@@ -73,5 +74,6 @@ module _ {D : Type 0} {g : Ghosts D} where
   -- why a sweep is not committed
   abbrev pub FinishErr : Pages D g → Pages D g → SweepError → Type 0
   FinishErr old new Memory = new ≡ old
+  FinishErr old new NotAStore = ⊥
   FinishErr old new DeviceFault = HasFailed old new ⊎ ((disk_in new).is_honest → ⊥)
   FinishErr old new Halted = ⊥

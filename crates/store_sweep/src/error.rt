@@ -1,30 +1,38 @@
 //! Why nothing is swept.
+ghost use Rattle.std.specs.Prelude.{◌≡◌};
+ghost use Rattle.page_store.specs.Transactions.{has_halted};
+ghost use Rattle.store_sweep.specs.Errors.{tree_told};
+
+use page_store::Pages;
 use row_table::TreeError;
+use sector_device::SectorDevice;
 
 /// Why nothing is swept.
 #[derive(Clone, Copy, Debug, Drop, PartialEq, Eq)]
 pub enum SweepError {
     /// A growth was refused. Nothing changed.
     Memory,
-    /// The device failed, or it holds what no store has. The pages answer `Halted` from a failure on.
+    /// The rows are none that a desk leaves. Nothing changed.
+    NotAStore,
+    /// The device failed. The pages answer `Halted` from then on.
     DeviceFault,
     /// The device failed since the pages were opened. Nothing changed.
     Halted,
 }
 
-impl From<TreeError> for SweepError {
-    ghost use Rattle.std.specs.Prelude.{◌≡◌};
-    ghost use Rattle.store_sweep.specs.Errors.{tree_told};
-
-    ghost from_gives = { λ t e. e ≡ tree_told t };
-
-    fn from(error: TreeError) -> Self {
-        match error {
-            TreeError::DeviceFault => SweepError::DeviceFault,
-            TreeError::Halted => SweepError::Halted,
-            TreeError::NoPages => SweepError::DeviceFault,
-            TreeError::TooDeep => SweepError::DeviceFault,
-            TreeError::Memory => SweepError::Memory,
+/// Why rows aren't read or taken out, as a refusal of a sweep: where no failure halted the pages, they are none that a desk leaves.
+pub(crate) fn sweep_refusal<D: SectorDevice>(error: TreeError, pages: &Pages<D>) -> SweepError
+    ensures { result ≡ tree_told (has_halted pages.now) error }
+{
+    match error {
+        TreeError::Memory => SweepError::Memory,
+        TreeError::Halted => SweepError::Halted,
+        TreeError::DeviceFault | TreeError::NoPages | TreeError::TooDeep => {
+            if pages.is_halted() {
+                SweepError::DeviceFault
+            } else {
+                SweepError::NotAStore
+            }
         }
     }
 }

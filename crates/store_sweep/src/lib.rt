@@ -1,4 +1,13 @@
-//! Takes out of a store what plans that were taken away and loads that were never sealed left in it, a few rows in each commit.
+//! Takes leftover rows out of a store: those of deleted plans and of loads that were never sealed, a few in each commit.
+//!
+//! Seen as the desk, which is the same at every moment. `sweep_step`: at most 16 leftover rows are changed or taken out in one commit, none
+//! of the load under way. Free pages never fall, and 0 comes exactly where no such row is left.
+//!
+//! # Notes
+//!
+//! A sweep takes turns (`turns_are_swept`), each found anew from the marks on. Of the deleted plan with the least number it first takes out
+//! holdings, with their counts. Then it takes, of its first part, the pieces that no plan holds, the part itself, and in the end the mark.
+//! A load that was begun goes the same way. Where no mark is left, nothing else is (`swept_is_clean`).
 #![tactic(auto)]
 
 mod commits;
@@ -10,4 +19,4 @@ mod rows;
 mod sweeps;
 
 pub use error::SweepError;
-pub use sweeps::{ROWS_SWEPT, sweep_step};
+pub use sweeps::{ROWS_SWEPT, check_holders, sweep_step};

@@ -1,22 +1,24 @@
 //! Sweeps a store, a few rows in each commit.
 ghost use Rattle.std.specs.Prelude.{◌≡◌, ◌≤◌, ◌<◌, ◌↔◌, Err, true, false, Option, OnOk, IfOk, IfErr, length};
 ghost use Rattle.page_store.specs.Chain.{free_in};
-ghost use Rattle.page_store.specs.Transactions.{stored, disk_in, has_halted, HasShape, IsSame, IsKept};
+ghost use Rattle.page_store.specs.Transactions.{stored, disk_in, has_halted, HasShape, IsSame, IsKept, IsQuiet, Passed};
 ghost use Rattle.page_btree.specs.Map.{InPages};
 ghost use Rattle.desk_model.specs.Desk.{Desk};
 ghost use Rattle.store_rows.specs.Rows.{KeyMap};
 ghost use Rattle.desk_pages.specs.Desks.{IsDeskMap, InPages as DeskInPages, OpensDesk};
 ghost use Rattle.desk_pages.specs.Moments.{StopsLeave};
+ghost use Rattle.store_holdings.specs.Checks.{AreSoundHoldings};
 ghost use Rattle.store_sweep.specs.Leftovers.{IsSweptClean};
 ghost use Rattle.store_sweep.specs.Sweeping.{HoldsSwept, SweepErr};
 
 use crate::commits::finish;
-use crate::error::SweepError;
+use crate::error::{SweepError, sweep_refusal};
 pub use crate::rows::ROWS_SWEPT;
 use crate::rows::sweep_rows;
 use page_store::Pages;
 use sector_device::SectorDevice;
 use std::alloc::Global;
+use store_holdings::check_holdings;
 
 /// Changes or takes out up to 16 rows that plans that were taken away and loads that were begun and never sealed left behind, in one
 /// commit of at most 208 pages: how many there were, 0 only where none is left. Such a plan lets the chunks go that it holds, each by two
@@ -47,10 +49,32 @@ pub fn sweep_step<D: SectorDevice>(
         return Err(SweepError::Halted);
     }
     let mut txn = pages.begin(alloc);
-    let count = sweep_rows(&mut txn, pages, running)?;
+    let count = match sweep_rows(&mut txn, pages, running) {
+        Ok(count) => count,
+        Err(error) => return Err(sweep_refusal(error, pages)),
+    };
     if count == 0 {
         return Ok(0);
     }
     finish(txn, pages)?;
     Ok(count)
+}
+
+/// Checks before a sweep that each chunk's count is the number of plans that hold it, and that a plan that wasn't taken away holds each
+/// chunk that its revisions name: a sweep takes out a chunk without a count. Nothing is written.
+pub fn check_holders<D: SectorDevice>(alloc: Global, pages: &mut Pages<D>) -> Result<(), SweepError>
+    ensures quiet { IsQuiet pages.old pages.new }
+    ensures sound { (disk_in pages.new).is_honest → (m : KeyMap) → InPages pages.old m → OnOk result (AreSoundHoldings m) }
+    ensures ok { OnOk result ((has_halted pages.old ≡ false) × Passed pages.old pages.new) }
+    ensures still { has_halted pages.old ≡ true → (result ≡ Err SweepError.Halted) × IsSame pages.old pages.new }
+    ensures err { IfErr result (λ e. SweepErr pages.old pages.new e) }
+{
+    if pages.is_halted() {
+        return Err(SweepError::Halted);
+    }
+    let txn = pages.begin(alloc);
+    match check_holdings(alloc, &txn, pages) {
+        Ok(()) => Ok(()),
+        Err(error) => Err(sweep_refusal(error, pages)),
+    }
 }

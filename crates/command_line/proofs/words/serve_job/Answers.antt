@@ -7,5 +7,11 @@ returns-clause-paths c =
     let port = c.bytes_of.ensures ∙ c.get_str-2.ensures in
     let workers = c.bytes_of-2.ensures ∙ c.get_str-3.ensures in
     let connections = c.bytes_of-3.ensures ∙ c.get_str-4.ensures in
-    let idle = c.bytes_of-4.ensures ∙ c.get_str-5.ensures in
-    (sym c.in_ok-store.ensures, sym (c.in_ok-serving.ensures.value ∙ (λ i. serving_read (port i) (workers i) (connections i) (idle i))), sym c.get_str-6.ensures)
+    let keep = c.bytes_of-4.ensures ∙ c.get_str-5.ensures in
+    let idle = c.bytes_of-5.ensures ∙ c.get_str-6.ensures in
+    let request = c.bytes_of-6.ensures ∙ c.get_str-7.ensures in (
+      sym c.in_ok-store.ensures,
+      sym (c.in_ok-serving.ensures.value
+          ∙ (λ i. serving_read (port i) (workers i) (connections i) (keep i) (idle i) (request i))),
+      sym c.get_str-8.ensures,
+    )

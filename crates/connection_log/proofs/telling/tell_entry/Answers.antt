@@ -1,13 +1,14 @@
-use Rattle.std.proofs.Common.{rules, ◌≡◌, ◌++◌, ◌∙◌, ℕ, List, Result, Ok, Err, refl, ap, subst}
+use Rattle.std.proofs.Common.{rules, ◌≡◌, ◌++◌, ◌∙◌, ℕ, List, Option, Result, Ok, Err, refl, ap, subst}
 use Rattle.byte_stream.specs.Sends.{Sends}
 use Rattle.byte_stream.specs.declared.sink.WriteFault.{WriteFault}
-use Rattle.connection_log.specs.Lines.{dropped_line, entry_line}
+use Rattle.jiff_core.specs.declared.civil.datetime.DateTime.{DateTime}
+use Rattle.connection_log.specs.Lines.{dropped_line, entry_line, entry_moment}
 use Rattle.connection_log.proofs.telling.tell_entry.Goals as goal
 
 pub returns-in-Ok : goal.returns-in-Ok
 returns-in-Ok g c =
-    let text = dropped_line c.args.dropped ++ entry_line c.args.entry.now in
-    let is : c.as_slice.result.now ≡ text = c.as_slice.ensures ∙ (c.put_entry.ensures ∙ ap (λ (l : List ℕ). l ++ entry_line c.args.entry.now) c.put_dropped.ensures.items) in
+    let text = dropped_line (entry_moment c.args.entry.now) c.args.dropped ++ entry_line c.args.entry.now in
+    let is : c.as_slice.result.now ≡ text = c.as_slice.ensures ∙ (c.put_entry.ensures ∙ ap (λ (l : List ℕ). l ++ entry_line c.args.entry.now) (c.put_dropped.ensures.items ∙ ap (λ (at : Option DateTime). dropped_line at c.args.dropped) c.moment.ensures)) in
     let sent : Result (Unit {0}) WriteFault = Ok tt in
     record {
       sent = sent;
@@ -17,8 +18,8 @@ returns-in-Ok g c =
 
 pub returns-in-Err : goal.returns-in-Err
 returns-in-Err g c =
-    let text = dropped_line c.args.dropped ++ entry_line c.args.entry.now in
-    let is : c.as_slice.result.now ≡ text = c.as_slice.ensures ∙ (c.put_entry.ensures ∙ ap (λ (l : List ℕ). l ++ entry_line c.args.entry.now) c.put_dropped.ensures.items) in
+    let text = dropped_line (entry_moment c.args.entry.now) c.args.dropped ++ entry_line c.args.entry.now in
+    let is : c.as_slice.result.now ≡ text = c.as_slice.ensures ∙ (c.put_entry.ensures ∙ ap (λ (l : List ℕ). l ++ entry_line c.args.entry.now) (c.put_dropped.ensures.items ∙ ap (λ (at : Option DateTime). dropped_line at c.args.dropped) c.moment.ensures)) in
     let sent : Result (Unit {0}) WriteFault = Err c.in-Err.field-0 in
     record {
       sent = sent;

@@ -1,5 +1,14 @@
-use Rattle.std.proofs.Common.{[]}
+use Rattle.std.proofs.Common.{[], refl}
+use Rattle.desk_gallery.proofs.Running.{has_run_none}
 use Rattle.serve_command.proofs.office.serve_named.Goals as goal
 
 pub returns-in-Err-Refused-clause-ran : goal.returns-in-Err-Refused-clause-ran
 returns-in-Err-Refused-clause-ran g c = ([], tt, c.requires.same)
+
+pub returns-in-Err-Refused-clause-left : goal.returns-in-Err-Refused-clause-left
+returns-in-Err-Refused-clause-left g c =
+    record { commands = []; accepted = tt; halts = 0; ran = has_run_none g.J.Room.begins g.J.Room.asked c.args.clerk [] 0 c.requires.begins refl refl }
+
+pub returns-in-Err-Memory-clause-left : goal.returns-in-Err-Memory-clause-left
+returns-in-Err-Memory-clause-left g c =
+    record { commands = []; accepted = tt; halts = 0; ran = has_run_none g.J.Room.begins g.J.Room.asked c.args.clerk [] 0 c.requires.begins refl refl }

@@ -1,59 +1,24 @@
-use Rattle.std.proofs.Common.{arith}
-use Rattle.store_command.proofs.Swept.{none_kept, more_kept, none_taken, more_taken, all_taken, step_stopped, endless}
+use Rattle.store_command.proofs.Swept.{kept_now, kept_after, checked_so, swept_after, unchecked_so}
 use Rattle.store_command.proofs.sweeping.sweep_all.Goals as goal
 
-pub loop-steps-init : goal.loop-steps-init
-loop-steps-init g c = record {
-  working = c.requires;
-  least = omega arith;
-  most = omega arith;
-  kept = none_kept c.args.clerk.now;
-  taken = λ honest m has. none_taken c.args.clerk.now m has;
-}
-
-pub loop-steps-preserved : goal.loop-steps-preserved
-loop-steps-preserved g c =
-    let x = c.args.clerk.now in
-    let y = c.loop-steps.clerk in
-    let z = c.sweep_step.new.self in
-    let before = c.loop-steps.invariant in
+pub returns-in-Ok-clause-keeps : goal.returns-in-Ok-clause-keeps
+returns-in-Ok-clause-keeps g c =
     let did = c.in-Ok.ensures in
-    record {
-      working = did.working.1;
-      least = let least = before.least in let some = c.if-count-eq0.false in omega arith;
-      most = let most = before.most in let few = did.few in omega arith;
-      kept = more_kept x y z before.kept did.moves did.desk did.loading;
-      taken = λ honest m has.
-          let one = before.taken (did.moves.honest honest) m has in
-          more_taken x y z m c.loop-steps.rows c.in-Ok.count before.kept.loading one (did.swept honest one.n one.has);
-    }
+    kept_after c.args.clerk.now c.check_holders.new.self c.sweep_steps.new.clerk (kept_now c.args.clerk.now c.check_holders.new.self did.moves did.desk did.loading) c.sweep_steps.ensures.keeps
 
-pub returns-then-count-eq0-clause-keeps : goal.returns-then-count-eq0-clause-keeps
-returns-then-count-eq0-clause-keeps g c =
+pub returns-in-Ok-clause-sweeps : goal.returns-in-Ok-clause-sweeps
+returns-in-Ok-clause-sweeps g c =
     let did = c.in-Ok.ensures in
-    more_kept c.args.clerk.now c.loop-steps.clerk c.sweep_step.new.self c.loop-steps.invariant.kept did.moves did.desk did.loading
-
-pub returns-then-count-eq0-clause-sweeps : goal.returns-then-count-eq0-clause-sweeps
-returns-then-count-eq0-clause-sweeps g c =
-    let did = c.in-Ok.ensures in
-    let before = c.loop-steps.invariant in
-    record {
-      works = did.working.1;
-      swept = λ honest m has. all_taken c.args.clerk.now c.loop-steps.clerk c.sweep_step.new.self m c.loop-steps.rows c.in-Ok.count before.kept.loading c.if-count-eq0.true (before.taken (did.moves.honest honest) m has) (λ n rows. did.swept honest n rows);
-    }
+    swept_after c.args.clerk.now c.check_holders.new.self c.sweep_steps.new.clerk c.sweep_steps.result
+    (checked_so c.args.clerk.now c.check_holders.new.self (kept_now c.args.clerk.now c.check_holders.new.self did.moves did.desk did.loading) did.working.1 did.quiet did.sound)
+    c.sweep_steps.ensures.sweeps
 
 pub returns-in-Err-clause-keeps : goal.returns-in-Err-clause-keeps
 returns-in-Err-clause-keeps g c =
     let did = c.in-Err.ensures in
-    more_kept c.args.clerk.now c.loop-steps.clerk c.sweep_step.new.self c.loop-steps.invariant.kept did.moves did.desk did.loading
+    kept_now c.args.clerk.now c.check_holders.new.self did.moves did.desk did.loading
 
 pub returns-in-Err-clause-sweeps : goal.returns-in-Err-clause-sweeps
 returns-in-Err-clause-sweeps g c =
-    let before = c.loop-steps.invariant in
-    step_stopped c.args.clerk.now c.loop-steps.clerk c.sweep_step.new.self c.in-Err.e c.sweep_fault.result c.sweep_fault.ensures before.kept before.working c.in-Err.ensures.err
-
-pub returns-clause-sweeps : goal.returns-clause-sweeps
-returns-clause-sweeps g c =
-    let done = c.loop-steps-test.false in
-    let least = c.loop-steps.invariant.least in
-    endless c.args.clerk.now c.loop-steps.clerk c.loop-steps.rows (omega arith) c.loop-steps.invariant.taken
+    let did = c.in-Err.ensures in
+    unchecked_so c.args.clerk.now c.check_holders.new.self c.in-Err.e c.sweep_fault.result c.sweep_fault.ensures did.quiet did.err

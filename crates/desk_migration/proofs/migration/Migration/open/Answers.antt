@@ -1,13 +1,13 @@
-use Rattle.std.proofs.Common.{◌≡◌, inr, refl, sym, subst, ◌∙◌}
+use Rattle.std.proofs.Common.{◌≡◌, ◌≤◌, ℕ, inr, refl, sym, subst, ◌∙◌}
 use Rattle.sector_device.specs.Moments.{LeavesOnly}
 use Rattle.page_store.proofs.Stops.{leaves_quiet}
 use Rattle.page_store.specs.Transactions.{disk_in}
 use Rattle.desk_pages.specs.Openings.{AllVersions, OpensOneAs, IsSpared}
 use Rattle.desk_pages.proofs.Found.{open_versions, pages_stand, stores_of}
-use Rattle.desk_migration.specs.Openings.{IsRefused}
+use Rattle.desk_migration.specs.Openings.{IsRefused, LeavesNew}
 use Rattle.desk_migration.specs.declared.error.MigrationOpenError.{MigrationOpenError}
-use Rattle.desk_migration.specs.declared.error.MigrationOpenError.TheVariants.{NotAStore}
-use Rattle.desk_migration.proofs.Opened.{opened_keeps, page_refused, page_spared, judged, is_found}
+use Rattle.desk_migration.specs.declared.error.MigrationOpenError.TheVariants.{NotAStore, AlreadyNew}
+use Rattle.desk_migration.proofs.Opened.{opened_keeps, page_refused, page_spared, page_not_new, judged, left_new, is_found}
 use Rattle.desk_migration.proofs.migration.Migration.open.Goals as goal
 
 pub returns-in-Err-clause-any_moment : goal.returns-in-Err-clause-any_moment
@@ -60,3 +60,21 @@ returns-in-Err-judge-clause-untouched g c =
     let old = g.D.SectorDevice.disk c.args.device in
     let told = λ (honest : (disk_in c.judge.new.pages).is_honest) (is : c.in-Err-judge.e ≡ NotAStore). inr (pages_stand old c.in-Ok.pages c.judge.new.pages c.in-Ok.ensures.found c.in-Ok.ensures.kept c.judge.ensures.quiet honest) in
     subst (λ d. (g.D.SectorDevice.disk d).is_honest → c.in-Err-judge.e ≡ NotAStore → IsSpared old (g.D.SectorDevice.disk d)) (sym c.into_device.ensures) told
+
+pub returns-in-Err-clause-already : goal.returns-in-Err-clause-already
+returns-in-Err-clause-already g c = λ honest is. absurd (page_not_new c.in-Err.e (sym c.page_error.ensures ∙ is))
+
+pub returns-in-Err-judge-clause-faults : goal.returns-in-Err-judge-clause-faults
+returns-in-Err-judge-clause-faults g c =
+    let old = g.D.SectorDevice.disk c.args.device in
+    let new = disk_in c.judge.new.pages in
+    let told : (new.is_honest → old.faults ≤ new.faults) = λ honest.
+    subst (λ (k : ℕ). k ≤ new.faults) (c.in-Ok.ensures.passed (c.judge.ensures.quiet.honest honest))
+    ((c.judge.ensures.quiet.moves honest c.in-Ok.ensures.working).faults) in
+    subst (λ d. (g.D.SectorDevice.disk d).is_honest → old.faults ≤ (g.D.SectorDevice.disk d).faults) (sym c.into_device.ensures) told
+
+pub returns-in-Err-judge-clause-already : goal.returns-in-Err-judge-clause-already
+returns-in-Err-judge-clause-already g c =
+    let old = g.D.SectorDevice.disk c.args.device in
+    subst (λ d. (g.D.SectorDevice.disk d).is_honest → c.in-Err-judge.e ≡ AlreadyNew → LeavesNew old (g.D.SectorDevice.disk d)) (sym c.into_device.ensures)
+    (left_new old c.in-Ok.pages c.in-Ok.ensures.found c.in-Ok.ensures.room c.judge.new.pages c.in-Err-judge.e c.in-Ok.ensures.working c.judge.ensures.quiet c.in-Err-judge.ensures.err)

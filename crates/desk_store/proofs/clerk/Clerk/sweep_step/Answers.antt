@@ -5,7 +5,7 @@ use Rattle.geo_tables.specs.Loading.{number_of}
 use Rattle.desk_store.specs.Clerks.{desk_of, pages_of, Keeps}
 use Rattle.desk_store.proofs.Moved.{worked, faulted, quieted}
 use Rattle.desk_store.proofs.Loaded.{begin_left}
-use Rattle.desk_store.proofs.Swept.{as_loading, swept_holds, swept_stages, swept_told, sweep_rose, sweep_quiet, still_stages, halted_stages}
+use Rattle.desk_store.proofs.Swept.{as_loading, swept_holds, swept_stages, swept_told, sweep_rose, sweep_quiet, refused_so, still_stages, halted_stages}
 use Rattle.desk_store.proofs.clerk.Clerk.sweep_step.Goals as goal
 
 pub returns-then-has_failed-clause-moves : goal.returns-then-has_failed-clause-moves
@@ -51,3 +51,8 @@ pub returns-else-has_failed-clause-staged : goal.returns-else-has_failed-clause-
 returns-else-has_failed-clause-staged g c = λ load last stages.
     let x = c.args.self.now in
     still_stages x _ load c.if-self.false refl (sweep_quiet (pages_of x) c.sweep_step.new.pages c.in-Err.e (c.if-has_failed.ensures.passed refl).0 c.in-Err.ensures.err) ((returns-else-has_failed-clause-moves g c).keeps stages.keeps) stages
+
+pub returns-else-has_failed-clause-err : goal.returns-else-has_failed-clause-err
+returns-else-has_failed-clause-err g c =
+    let x = c.args.self.now in
+    refused_so x c.sweep_step.new.pages c.in-Err.e x.halted c.if-self.false c.if-self.false (c.if-has_failed.ensures.passed refl).0 c.in-Err.ensures.err

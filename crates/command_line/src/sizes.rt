@@ -1,0 +1,53 @@
+//! How large a store is to be for what it is to hold, as docs/FORMATS.md reckons it.
+ghost use Rattle.std.specs.Prelude.{◌≡◌, ◌≤◌, ◌*◌, IfSome};
+ghost use Rattle.command_line.specs.Options.{IsSize};
+ghost use Rattle.command_line.specs.Sizes.{few_enough, size_reckoned};
+
+use crate::options::Size;
+
+/// The most sectors that a store has.
+const MOST_SECTORS: u64 = 4_294_967_295;
+
+/// A product, where it is no more than a store has sectors.
+fn times(first: u64, second: u64) -> Option<u64>
+    ensures { result ≡ few_enough (first * second) }
+{
+    let product = first.checked_mul(second)?;
+    if product > MOST_SECTORS {
+        return None;
+    }
+    Some(product)
+}
+
+/// The size of a store for so many blocks in so many counties, and so many plans with so many whole revisions each. `None` where that is
+/// more than 4,294,967,295 sectors or 65,536 journal pages.
+pub fn size_for(blocks: u32, counties: u32, plans: u32, revisions: u32) -> Option<Size>
+    requires blocks { blocks ≤ 1048576 }
+    requires counties { counties ≤ 1000 }
+    requires plans { plans ≤ 65535 }
+    requires some { 1 ≤ plans }
+    ensures value { result ≡ size_reckoned blocks counties plans revisions }
+    ensures valid { IfSome result IsSize }
+{
+    let (blocks, counties, plans) = (blocks as u64, counties as u64, plans as u64);
+    let county_rows = (counties + 127) / 128;
+    let district_rows = blocks / 512 + counties;
+    let free = 13 * (district_rows + county_rows + 2 + 2 * counties);
+    let journal = free.max(256);
+    if journal > 65_536 {
+        return None;
+    }
+    let revision = (2 * blocks + 14 * district_rows + 40 * counties + 3_054) / 3_055 + county_rows;
+    let revisions = times(plans, times(revisions as u64, revision)?)?;
+    let geography = (blocks + 119) / 120 + (3 * blocks + 162) / 163;
+    let pages = 1 + geography + revisions + 2 * plans + free;
+    let least = 2 + (journal + 1_024) / 1_024 + journal + pages;
+    let sectors = least + (least + 99) / 100;
+    if sectors > MOST_SECTORS {
+        return None;
+    }
+    Some(Size {
+        sectors: sectors as u32,
+        journal_pages: journal as u32,
+    })
+}

@@ -1,0 +1,6 @@
+use Rattle.std.proofs.Common.{◌<◌}
+use Rattle.kept_connections.specs.Paces.{silence_of}
+use Rattle.kept_connections.proofs.source.take_turn.Given as goal
+
+abbrev pub invariant-loop : goal.invariant-loop
+invariant-loop g l = l.pace.silent < silence_of l.fn.limits l.pace.asks

@@ -1,0 +1,150 @@
+//! The reader of a connection, which judges how long that is kept.
+ghost use Rattle.std.specs.Prelude.{◌≡◌, ◌⊎◌, ℕ, List, None, true, length};
+ghost use Rattle.byte_stream.specs.Counts.{counted};
+ghost use Rattle.byte_stream.specs.Turns.{TurnConsumes, failures_after};
+ghost use Rattle.kept_connections.specs.Paces.{IsPatient, TakesInTime};
+
+use crate::door::Door;
+use crate::mark::Mark;
+use crate::pace::{Fate, Limits, Pace};
+use byte_stream::source::{Source, Turn, turn_of};
+use std::io::{ErrorKind, Read};
+use std::time::Clock;
+
+/// The reader of a connection. Its reads wait for a slice of a second each.
+#[derive(Drop)]
+pub struct KeptSource<'a, S, R> {
+    rt: &'a R,
+    door: &'a Door,
+    mark: &'a Mark,
+    reader: S,
+    limits: Limits,
+    pace: Pace,
+    turns: u64,
+    failures: u64,
+    ghost patient: { IsPatient limits pace },
+}
+
+/// Whether a read that failed so waited for nothing.
+fn is_silence(kind: ErrorKind) -> bool
+    ensures would_block { kind ≡ ErrorKind.WouldBlock → result ≡ true }
+    ensures timed_out { kind ≡ ErrorKind.TimedOut → result ≡ true }
+    ensures only { result ≡ true → (kind ≡ ErrorKind.WouldBlock) ⊎ (kind ≡ ErrorKind.TimedOut) }
+{
+    match kind {
+        ErrorKind::WouldBlock => true,
+        ErrorKind::TimedOut => true,
+        _ => false,
+    }
+}
+
+/// The milliseconds that a clock shows. One that can't be read shows the last.
+fn time_of<R: Clock>(rt: &R) -> u64 {
+    match rt.monotonic() {
+        Ok(time) => time
+            .as_secs()
+            .saturating_mul(1_000)
+            .saturating_add(time.subsec_millis() as u64),
+        Err(_) => u64::MAX,
+    }
+}
+
+/// Reads until bytes come, the stream ends, or the connection's time is up, which is looked at behind each slice of silence.
+fn take_turn<S: Read, R: Clock>(
+    rt: &R,
+    door: &Door,
+    limits: &Limits,
+    pace: &mut Pace,
+    reader: &mut S,
+    buf: &mut [u8],
+) -> Turn
+    requires { IsPatient limits.now pace.old }
+    ensures bytes { TurnConsumes None None result buf.new }
+    ensures patient { IsPatient limits.now pace.new }
+    ensures timely { TakesInTime limits.now pace.old result }
+{
+    match pace.fate(pace.last, false, limits) {
+        Fate::Waits => {}
+        Fate::GivesWay => return Turn::Read(0),
+        Fate::Fails => return Turn::Failed,
+    }
+    for _ in 0..u64::MAX {
+        match reader.read(buf) {
+            Ok(0) => return Turn::Read(0),
+            Ok(n) => {
+                *pace = pace.with_bytes(time_of(rt));
+                return Turn::Read(n);
+            }
+            Err(e) => {
+                if !is_silence(e.kind()) {
+                    return turn_of(e.kind());
+                }
+            }
+        }
+        *pace = pace.with_silence();
+        let another_waits = !pace.asks && door.lets_another_in();
+        match pace.fate(time_of(rt), another_waits, limits) {
+            Fate::Waits => {}
+            Fate::GivesWay => return Turn::Read(0),
+            Fate::Fails => return Turn::Failed,
+        }
+    }
+    Turn::Failed
+}
+
+impl<'a, S: Read, R: Clock> KeptSource<'a, S, R> {
+    /// The reader of a connection that has this mark.
+    pub fn new(
+        rt: &'a R,
+        door: &'a Door,
+        mark: &'a Mark,
+        reader: S,
+        limits: Limits,
+    ) -> KeptSource<'a, S, R> {
+        KeptSource {
+            rt,
+            door,
+            mark,
+            reader,
+            limits,
+            pace: Pace::new(),
+            turns: 0,
+            failures: 0,
+        }
+    }
+
+    /// The connection has ended.
+    pub fn release(&self) {
+        self.mark.release();
+    }
+}
+
+impl<'a, S: Read, R: Clock> Source for KeptSource<'a, S, R> {
+    // A connection that gives way may have had more.
+    ghost remaining = { λ _. None };
+
+    ghost turns = { λ s. s.turns };
+
+    ghost failures = { λ s. s.failures };
+
+    fn turn(&mut self, buf: &mut [u8]) -> Turn
+        ensures bytes { TurnConsumes None None result buf.new }
+        ensures turns { self.new.turns ≡ counted self.old.turns 1 }
+        ensures failures { self.new.failures ≡ failures_after self.old.failures result }
+    {
+        self.turns = self.turns.saturating_add(1);
+        self.pace = self.pace.at_turn(self.mark.take_answer(), buf.len());
+        let turn = take_turn(
+            self.rt,
+            self.door,
+            &self.limits,
+            &mut self.pace,
+            &mut self.reader,
+            buf,
+        );
+        if turn == Turn::Failed {
+            self.failures = self.failures.saturating_add(1);
+        }
+        turn
+    }
+}

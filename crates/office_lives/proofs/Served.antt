@@ -1,0 +1,69 @@
+-- The run of an office as a life.
+use Rattle.std.proofs.Common.{◌≤◌, ℕ, subst, ◌∙◌}
+use Rattle.sector_device.specs.declared.SectorDevice.{Ghosts}
+use Rattle.desk_model.specs.Desk.{Desk}
+use Rattle.desk_pages.specs.Desks.{OpensDesk}
+use Rattle.desk_store.specs.declared.clerk.Clerk.{Clerk}
+use Rattle.desk_store.specs.Clerks.{desk_of, disk_of}
+use Rattle.desk_lives.specs.Lives.{Lived}
+use Rattle.desk_lives.specs.Bridge.{asked_in, told_in}
+use Rattle.desk_lives.specs.Inside.{LivedThrough}
+use Rattle.desk_lives.proofs.Bridging.{run_lived}
+use Rattle.http_arrivals.specs.declared.ran.Ran.{Ran}
+use Rattle.http_seats.specs.Streams.{Traffic}
+use Rattle.serve_command.specs.Lasting.{Outlasts, LastsAsked, ServesStreams}
+use Rattle.office_lives.specs.Offices.{Officed, Answered}
+
+module _ {D : Type 0} {g : Ghosts D} where
+  -- the calls of a run from one who is like the first
+  abbrev Called : (first last : Clerk D g) → Outlasts first last → (t u : ℕ) → Desk → Desk → Type 0
+  Called first last lasts t u d e = Lived t u d (asked_in lasts.calls) (told_in lasts.calls) e
+
+  calls_lived : (first last : Clerk D g) (lasts : Outlasts first last) → LivedThrough (λ t u d e. Called first last lasts t u d e) first last
+  calls_lived first last lasts =
+      let start = lasts.start in
+      let like = lasts.is_first in
+      let run = run_lived start lasts.calls last lasts.run in
+      record {
+        sectors = run.sectors ∙ like.sectors;
+        honest = λ now. like.honest (run.honest now);
+        faults = λ keeps off now. subst (λ (t : ℕ). t ≤ (disk_of last).faults) like.faults (run.faults (like.keeps keeps) (like.halted ∙ off) now);
+        lived = λ keeps off now i left.
+            (let there = run.lived (like.keeps keeps) (like.halted ∙ off) now i left in (
+              there.0,
+              subst (λ (d : Desk). Called first last lasts (disk_of first).faults (disk_of last).faults d there.0) like.desk
+                  (subst (λ (t : ℕ). Called first last lasts t (disk_of last).faults (desk_of start) there.0) like.faults there.1),
+              subst (λ (s : ℕ). OpensDesk s there.0 i) like.sectors there.2,
+            ));
+      }
+
+  -- what holds of each desk that calls lead to
+  wider : (first last : Clerk D g) (small large : (t u : ℕ) → Desk → Desk → Type 0)
+      → ((t u : ℕ) (e : Desk) → small t u (desk_of first) e → large t u (desk_of first) e) → LivedThrough small first last → LivedThrough large first last
+  wider first last small large also through = record {
+    sectors = through.sectors;
+    honest = through.honest;
+    faults = through.faults;
+    lived = λ keeps off now i left. (let there = through.lived keeps off now i left in (there.0, also (disk_of first).faults (disk_of last).faults there.0 there.1, there.2));
+  }
+
+  module _ {R W : Type 0} (s : Traffic R W) (workers : ℕ) where
+    pub office_lived : (first last : Clerk D g) → LastsAsked s first last → LivedThrough (λ t u d e. Officed s workers t u d e) first last
+    office_lived first last did =
+        let lasts = did.lasts in
+        wider first last (λ t u d e. Called first last lasts t u d e) (λ t u d e. Officed s workers t u d e)
+        (λ t u e lived. record { calls = lasts.calls; asked = did.asked; accepted = lasts.accepted; lived = lived })
+        (calls_lived first last lasts)
+
+    pub streams_lived : (first last : Clerk D g) (ran : Ran) → ServesStreams s workers first last ran → LivedThrough (λ t u d e. Answered s workers t u d ran e) first last
+    streams_lived first last ran serves =
+        let lasts = serves.lasts in
+        wider first last (λ t u d e. Called first last lasts t u d e) (λ t u d e. Answered s workers t u d ran e)
+        (λ t u e lived. record {
+          did = record { calls = lasts.calls; asked = serves.asked; accepted = lasts.accepted; lived = lived };
+          visitors = serves.visitors;
+          many = serves.many;
+          fresh = serves.fresh;
+          counted = serves.counted;
+        })
+        (calls_lived first last lasts)

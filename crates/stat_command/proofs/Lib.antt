@@ -1,0 +1,5 @@
+pub mod Counties
+pub mod Told
+pub mod Looked
+pub mod Joined
+pub mod Unread

@@ -1,0 +1,111 @@
+-- The rows that a scan takes under a prefix are rows of the map, each once.
+use Rattle.std.proofs.Common.{◌≡◌, ℕ, List, [], ◌∷◌, ◌++◌, Bool, true, false, cond, ◌&&◌, drop, nat_eq, Some, None, refl, sym, ap, subst, ◌∙◌}
+use Rattle.std.specs.Prelude.{T, Option}
+use Rattle.std.specs.List.{starts_with}
+use Rattle.std.specs.Ordering.{is_lt, eq_by_cmp}
+use Rattle.std.specs.declared.cmp.Ordering.TheVariants.{Less, Equal}
+use Rattle.std.specs.Cmp.Lexicographic.{nat_list_cmp_total}
+use Rattle.std.specs.FinMap.{entries, entries_sorted, find, get, get-entries, is_sorted}
+use Rattle.std.specs.FinMap.Entries.{below_all}
+use Rattle.std.proofs.lemmas.Bool.{eqb-true}
+use Rattle.std.proofs.lemmas.Cmp.{tied_itself}
+use Rattle.page_node.specs.Entries.{Entry}
+use Rattle.page_node.specs.Places.{key_cmp, Rises}
+use Rattle.page_node.proofs.Laws.{is_less}
+use Rattle.btree_scan.specs.Prefixes.{is_under, under}
+use Rattle.btree_scan.proofs.Prefixes.{find_under, head_rises, under_rises}
+use Rattle.store_rows.specs.Rows.{KeyMap}
+use Rattle.store_rows.proofs.Frames.{differs, itself}
+
+pub first_so : (b c : Bool) → (b && c) ≡ true → b ≡ true
+first_so true c h = refl
+first_so false c h = h
+
+pub second_so : (b c : Bool) → (b && c) ≡ true → c ≡ true
+second_so true c h = h
+second_so false c h = cc
+
+pub either_way : (b : Bool) (P : Type 0) → (b ≡ true → P) → (b ≡ false → P) → P
+either_way true P yes_so no_so = yes_so refl
+either_way false P yes_so no_so = no_so refl
+
+true_is : (b : Bool) → T b → b ≡ true
+true_is true h = refl
+true_is false h = absurd h
+
+-- ---- rows under a prefix
+abbrev AllUnder : List ℕ → List Entry → Type 0
+AllUnder prefix [] = Unit {0}
+AllUnder prefix (e ∷ es) = (is_under prefix e ≡ true) × AllUnder prefix es
+
+under_where : (prefix : List ℕ) (e : Entry) (l : List Entry) (b : Bool) → is_under prefix e ≡ b → AllUnder prefix l → AllUnder prefix (cond b (e ∷ l) l)
+under_where prefix e l true is all = (is, all)
+under_where prefix e l false is all = all
+
+all_under : (prefix : List ℕ) (es : List Entry) → AllUnder prefix (under prefix es)
+all_under prefix [] = tt
+all_under prefix (e ∷ es) = under_where prefix e (under prefix es) (is_under prefix e) refl (all_under prefix es)
+
+middle_under : (prefix : List ℕ) (taken : List Entry) (e : Entry) (more : List Entry) → AllUnder prefix (taken ++ e ∷ more) → is_under prefix e ≡ true
+middle_under prefix [] e more all = all.0
+middle_under prefix (f ∷ taken) e more all = middle_under prefix taken e more all.1
+
+-- ---- rows that rise
+below_middle : (key : List ℕ) (taken : List Entry) (e : Entry) (more : List Entry) → below_all key_cmp key (taken ++ e ∷ more) ≡ true → key_cmp key e.0 ≡ Less
+below_middle key [] e more below = is_less (key_cmp key e.0) (first_so (is_lt (key_cmp key e.0)) (below_all key_cmp key more) below)
+below_middle key (f ∷ taken) e more below = below_middle key taken e more (second_so (is_lt (key_cmp key f.0)) (below_all key_cmp key (taken ++ e ∷ more)) below)
+
+unlike : (x y : List ℕ) → key_cmp x y ≡ Less → y ≡ x → ⊥
+unlike x y less same =
+    let clash : Equal ≡ Less = sym (tied_itself nat_list_cmp_total x) ∙ ap (key_cmp x) (sym same) ∙ less in
+    cc
+
+found_middle : (taken : List Entry) (e : Entry) (more : List Entry) → Rises (taken ++ e ∷ more) → (find key_cmp e.0 taken ≡ None) × (find key_cmp e.0 (taken ++ e ∷ more) ≡ Some e.1)
+found_middle [] e more rises = (refl, ap (λ (b : Bool). cond b (Some e.1) (find key_cmp e.0 more)) (itself e.0))
+found_middle (f ∷ taken) e more rises =
+    let h = head_rises f (taken ++ e ∷ more) rises in
+    let rest = found_middle taken e more h.1 in
+    let apart = differs e.0 f.0 (unlike f.0 e.0 (below_middle f.0 taken e more h.0)) in (
+      ap (λ (b : Bool). cond b (Some f.1) (find key_cmp e.0 taken)) apart ∙ rest.0,
+      ap (λ (b : Bool). cond b (Some f.1) (find key_cmp e.0 (taken ++ e ∷ more))) apart ∙ rest.1,
+    )
+
+-- the next row stands in the map, under the prefix, and wasn't taken before
+pub record IsNextUnder (prefix : List ℕ) (m : KeyMap) (taken : List Entry) (e : Entry) : Type 0 where
+  pub under : starts_with nat_eq e.0 prefix ≡ true
+  pub there : get m e.0 ≡ Some e.1
+  pub new : find key_cmp e.0 taken ≡ None
+
+pub next_under : (m : KeyMap) (prefix : List ℕ) (taken : List Entry) (e : Entry) (more : List Entry) → under prefix (entries m) ≡ taken ++ e ∷ more → IsNextUnder prefix m taken e
+next_under m prefix taken e more whole =
+    let rises : Rises (taken ++ e ∷ more) = subst Rises whole (under_rises prefix (entries m) (true_is (is_sorted key_cmp (entries m)) (entries_sorted m))) in
+    let on : is_under prefix e ≡ true = middle_under prefix taken e more (subst (AllUnder prefix) whole (all_under prefix (entries m))) in
+    let found = found_middle taken e more rises in
+    record {
+      under = on;
+      there = get-entries m e.0 ∙ sym (find_under prefix e.0 (entries m) on) ∙ ap (λ (es : List Entry). find key_cmp e.0 es) whole ∙ found.1;
+      new = found.0;
+    }
+
+-- where these are all rows, a key is found among them as in the map
+pub found_among : (m : KeyMap) (prefix : List ℕ) (taken : List Entry) (key : List ℕ) → starts_with nat_eq key prefix ≡ true → under prefix (entries m) ≡ taken → get m key ≡ find key_cmp key taken
+found_among m prefix taken key on all = get-entries m key ∙ sym (find_under prefix key (entries m) on) ∙ ap (λ (es : List Entry). find key_cmp key es) all
+
+-- ---- one row more
+pub find_new : (e : Entry) (taken : List Entry) → find key_cmp e.0 taken ≡ None → find key_cmp e.0 (taken ++ e ∷ []) ≡ Some e.1
+find_new e [] none = ap (λ (b : Bool). cond b (Some e.1) None) (itself e.0)
+find_new e (f ∷ taken) none = either_way (eq_by_cmp key_cmp e.0 f.0) (find key_cmp e.0 ((f ∷ taken) ++ e ∷ []) ≡ Some e.1)
+    (λ same. let clash : ◌≡◌ {A = Option (List ℕ)} (Some f.1) None = sym (ap (λ (b : Bool). cond b (Some f.1) (find key_cmp e.0 taken)) same) ∙ none in cc)
+    (λ other. ap (λ (b : Bool). cond b (Some f.1) (find key_cmp e.0 (taken ++ e ∷ []))) other ∙ find_new e taken (sym (ap (λ (b : Bool). cond b (Some f.1) (find key_cmp e.0 taken)) other) ∙ none))
+
+pub find_old : (e : Entry) (key : List ℕ) (taken : List Entry) → (key ≡ e.0 → ⊥) → find key_cmp key (taken ++ e ∷ []) ≡ find key_cmp key taken
+find_old e key [] apart = ap (λ (b : Bool). cond b (Some e.1) None) (differs key e.0 apart)
+find_old e key (f ∷ taken) apart = ap (λ (o : Option (List ℕ)). cond (eq_by_cmp key_cmp key f.0) (Some f.1) o) (find_old e key taken apart)
+
+-- a key with a tag
+pub behind_tag : (key : List ℕ) (tag : ℕ) (rest : List ℕ) → starts_with nat_eq key (tag ∷ []) ≡ true → drop 1 key ≡ rest → key ≡ tag ∷ rest
+behind_tag [] tag rest on same = absurd (cc)
+behind_tag (x ∷ key) tag rest on same =
+    let one : tag ≡ x = eqb-true tag x (first_so (nat_eq tag x) (starts_with nat_eq key []) on) in
+    let more : key ≡ rest = same in
+    cc

@@ -1,0 +1,14 @@
+use Rattle.std.proofs.Common.{◌≡◌, take}
+use Rattle.std.specs.Prelude.{All}
+use Rattle.page_store.specs.Transactions.{stored, disk_in, count_of, txn_pages, Passed}
+use Rattle.page_btree.specs.Map.{InTxn}
+use Rattle.store_rows.specs.Rows.{KeyMap}
+use Rattle.store_holdings.specs.Checks.{IsHeldOrGone}
+use Rattle.store_holdings.proofs.names.check_numbers.Given as goal
+
+abbrev pub invariant-loop-number : goal.invariant-loop-number
+invariant-loop-number g l = record {
+  begun : txn_pages l.txn ≡ count_of l.pages;
+  passed : Passed l.fn.pages l.pages;
+  done : (disk_in l.pages).is_honest → (m : KeyMap) → InTxn l.txn (stored l.fn.pages) m → All (IsHeldOrGone m l.plan) (take l.number-index l.numbers);
+}

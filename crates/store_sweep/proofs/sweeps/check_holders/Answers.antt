@@ -1,0 +1,32 @@
+use Rattle.std.proofs.Common.{refl, sym, ◌∙◌}
+use Rattle.page_store.specs.Transactions.{has_halted}
+use Rattle.store_sweep.specs.Errors.{tree_told}
+use Rattle.store_sweep.proofs.Stepped.{both, begun_now, not_checked, told_err}
+use Rattle.store_sweep.proofs.sweeps.check_holders.Goals as goal
+
+pub returns-then-is_halted-clause-err : goal.returns-then-is_halted-clause-err
+returns-then-is_halted-clause-err g c = (sym c.is_halted.ensures ∙ c.if-is_halted.true, refl)
+
+pub returns-in-Ok-clause-sound : goal.returns-in-Ok-clause-sound
+returns-in-Ok-clause-sound g c = λ honest m holds.
+    let ps = c.args.pages.now in
+    let t = c.begin-txn.result in
+    let begun = begun_now ps t (sym c.is_halted.ensures ∙ c.if-is_halted.false) c.begin-txn.ensures.none c.begin-txn.ensures.pages c.begin-txn.ensures.over c.begin-txn.ensures.root c.begin-txn.ensures.free in
+    c.in-Ok.ensures.sound honest m (begun.reads (c.in-Ok.ensures.quiet.honest honest) m holds)
+
+pub returns-in-Ok-clause-ok : goal.returns-in-Ok-clause-ok
+returns-in-Ok-clause-ok g c = (sym c.is_halted.ensures ∙ c.if-is_halted.false, c.in-Ok.ensures.passed)
+
+pub returns-in-Ok-clause-still : goal.returns-in-Ok-clause-still
+returns-in-Ok-clause-still g c = λ halted. both (has_halted c.args.pages.now) halted (sym c.is_halted.ensures ∙ c.if-is_halted.false)
+
+pub returns-clause-still : goal.returns-clause-still
+returns-clause-still g c = λ halted. both (has_halted c.args.pages.now) halted (sym c.is_halted.ensures ∙ c.if-is_halted.false)
+
+pub returns-clause-err : goal.returns-clause-err
+returns-clause-err g c =
+    let ps = c.args.pages.now in
+    let t = c.begin-txn.result in
+    let begun = begun_now ps t (sym c.is_halted.ensures ∙ c.if-is_halted.false) c.begin-txn.ensures.none c.begin-txn.ensures.pages c.begin-txn.ensures.over c.begin-txn.ensures.root c.begin-txn.ensures.free in
+    told_err ps c.check_holdings.new.pages (tree_told (has_halted c.check_holdings.new.pages) c.in-Err.error) c.sweep_refusal.result c.sweep_refusal.ensures
+    (not_checked t ps c.check_holdings.new.pages begun c.in-Err.ensures.quiet c.in-Err.error c.in-Err.ensures.err)

@@ -1,0 +1,18 @@
+use Rattle.std.proofs.Common.{length}
+use Rattle.desk_model.specs.Desk.{Desk}
+use Rattle.desk_lives.specs.Inside.{GoingOn}
+use Rattle.version_lives.specs.Versions.{Version, StoreLife}
+use Rattle.version_lives.specs.Inside.{HoldsIn, Knows}
+use Rattle.version_lives.proofs.versions.live_on.Given as goal
+
+abbrev pub invariant-loop-alloc : goal.invariant-loop-alloc
+invariant-loop-alloc g l =
+    let disk = g.D.Restarts.rests in
+    record {
+      honest : (disk l.off).is_honest → (disk l.fn.off).is_honest;
+      holds : (disk l.off).is_honest → (v : Version) (d : Desk) → HoldsIn v (disk l.fn.off) d
+          → Knows (GoingOn StoreLife (disk l.fn.off).faults (v, d) l.fn.lives.items l.lives.items l.answers.items (disk l.off).faults) (disk l.off);
+    }
+
+abbrev pub decreases-loop-alloc : goal.decreases-loop-alloc
+decreases-loop-alloc g l = length l.lives.items
