@@ -3,6 +3,8 @@ import os, re
 
 # what is written by hand of a function's proof
 WRITTEN = 'Answers.antt', 'Invariants.antt', 'Proof.antt'
+# the search for a goal of which a person wrote why it can't be closed: a fifth of that which the prover makes by itself
+SHORT = 'search rules fits 100 steps 2000000'
 
 
 def text_of(path):
@@ -16,8 +18,20 @@ def write(path, text):
         file.write(text)
 
 
+def answered(text):
+    """The goals that a file of answers has answers for."""
+    return set(re.findall(r'^(?:pub )?(\S+) : goal\.', text, re.M))
+
+
+def without(text, goals):
+    """A file of answers without those of some goals: a line with each goal's type, and what stands behind it as far as a blank line."""
+    own = '|'.join(re.escape(goal) for goal in goals)
+    return '\n\n'.join(block for block in re.split(r'\n\n+', text) if not re.search(rf'^(?:pub )?(?:{own}) : goal\.', block, re.M)) + '\n'
+
+
 class Edit:
-    """An edit of one function. What a reader found of it stands in its line `read`: the goals at which it was refused, and why."""
+    """An edit of one function. What a reader found of it stands in its line `read`: the goals at which it was refused, and why. In its
+    line `closed` stand goals that the search closes here, though their answer is for another value."""
 
     def __init__(self, path):
         self.name = os.path.basename(path)[:-len('.edit')]
@@ -25,6 +39,7 @@ class Edit:
         self.function, = (text for word, _, text in lines if word == 'fn')
         goals, _, self.why = next((text for word, _, text in lines if word == 'read'), '').partition(': ')
         self.read = set(goals.split(', ')) if self.why else set()
+        self.closed = {goal for word, _, text in lines if word == 'closed' for goal in text.split(', ')}
         self.pairs, at, old = [], None, None
         for word, _, text in lines:
             if word == 'file':
@@ -85,6 +100,21 @@ class Edit:
         for above, _, names in os.walk(f'{crate}/proofs/{name}'):
             for it in names:
                 write(f'{folder}/proofs/{copy}{above[len(f"{crate}/proofs/{name}"):]}/{it}', renamed(text_of(f'{above}/{it}')))
+
+    def shorten(self, folder, crate, function):
+        """Has the goals that were read and have no answer by hand tried by a short search alone, in a copy of the crate, and those in
+        its line `closed` by the search."""
+        path = f'{folder}/{self.proof(function)}/Answers.antt'
+        text = text_of(path) if os.path.exists(path) else ''
+        if self.closed:
+            text = without(text, self.closed)
+            write(path, text)
+        goals = sorted(self.read - answered(text))
+        if not goals or self.is_in_cycle(folder):
+            return
+        names = f'use Rattle.{crate}.{self.proof(function).replace("/", ".")}.Goals as goal\n'
+        uses = ('' if re.search(r'^use .*\brules\b', text, re.M) else 'use Rattle.std.proofs.Common.{rules}\n') + ('' if names in text else names)
+        write(path, uses + text + ''.join(f'\npub {goal} : goal.{goal}\n{goal} = {SHORT}\n' for goal in goals))
 
     def is_cited(self, folder):
         """Whether a file of another proof names the function's, or its proof is one of a cycle of calls."""
