@@ -366,6 +366,21 @@ starts_life life old mid new same was faults leaves once = record {
       ));
 }
 
+-- what a device leaves that stops after a life
+pub stops_life : (life : ℕ → ℕ → Desk → Desk → Type 0) (old mid new : Disk) → new.sectors ≡ mid.sectors → (new.is_honest → mid.is_honest) → (new.is_honest → new.faults ≡ mid.faults)
+    → (new.is_honest → (c : Image) → new.leaves c → mid.leaves c) → LivesOnce life old mid → LivesOnce life old new
+stops_life life old mid new same was count leaves once = record {
+  sectors = same ∙ once.sectors;
+  honest = λ now. once.honest (was now);
+  faults = λ now all. subst (λ (u : ℕ). old.faults ≤ u) (sym (count now)) (once.faults (was now) all);
+  became = λ now all c stopped.
+      (let is = once.became (was now) all c (leaves now c stopped) in (
+        is.0,
+        is.1,
+        (is.2.0, subst (λ (u : ℕ). life old.faults u is.0 is.2.0) (sym (count now)) is.2.1, is.2.2),
+      ));
+}
+
 module _ {D : Type 0} (g : Ghosts D) where
   passing : (device left : D) (u : ℕ) (why : OpenError) → (g.disk left).is_honest → AllDesks (g.disk device) → (g.disk left).faults ≡ u → OpenRefused g device left why → IsPassing (g.disk device).faults u why
   passing device left u opening.NotAStore honest all same refused = absurd (refused honest (all_versions (g.disk device) all))

@@ -79,20 +79,20 @@ pub fn answer_all<D: SectorDevice>(
     Ok(told)
 }
 
-/// A device that has started is opened as a store and asked, and stops.
-fn live_started<D: Restarts + Drop>(
+/// A device is opened as a store and asked, and given back as it is then.
+pub fn live_in<D: SectorDevice + Drop>(
     alloc: Global,
     device: D,
     asked: Vec<Request>,
-) -> Result<(Result<Vec<Answer>, OpenError>, D::Off), AllocError>
-    ensures { IfOk result (λ x. LivesOnce (IsLife asked x.0) (D.disk device) (D.rests x.1)) }
+) -> Result<(Result<Vec<Answer>, OpenError>, D), AllocError>
+    ensures { IfOk result (λ x. LivesOnce (IsLife asked x.0) (D.disk device) (D.disk x.1)) }
 {
     let mut clerk = match Clerk::open(alloc, device) {
         Ok(clerk) => clerk,
-        Err((e, device)) => return Ok((Err(e), device.stop())),
+        Err((e, device)) => return Ok((Err(e), device)),
     };
     let told = answer_all(alloc, &mut clerk, asked)?;
-    Ok((Ok(told), clerk.into_device().stop()))
+    Ok((Ok(told), clerk.into_device()))
 }
 
 /// One life: a device starts, is opened as a store and asked, and stops.
@@ -103,8 +103,8 @@ pub fn live_once<D: Restarts + Drop>(
 ) -> Result<(Result<Vec<Answer>, OpenError>, D::Off), AllocError>
     ensures { IfOk result (λ x. LivesOnce (IsLife asked x.0) (D.rests off) (D.rests x.1)) }
 {
-    let (told, left) = live_started(alloc, D::start(off), asked)?;
-    Ok((told, left))
+    let (told, device) = live_in(alloc, D::start(off), asked)?;
+    Ok((told, device.stop()))
 }
 
 /// Lives of a store that holds one desk, whatever a stop leaves of it.

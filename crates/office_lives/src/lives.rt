@@ -15,6 +15,7 @@ use desk_store::clerk::Clerk;
 use desk_store::opening::OpenError;
 use http_arrivals::arrivals::Arrivals;
 use http_arrivals::ran::Ran;
+use sector_device::SectorDevice;
 use serve_command::office::serve_clerk;
 use std::alloc::{AllocError, Global};
 use std::sync::Wait;
@@ -31,25 +32,25 @@ pub enum Told {
     Unopened(OpenError),
 }
 
-/// A device that has started is opened as a store and served by so many workers, and stops.
-fn serve_started<D: Restarts + Drop + Send + Sync, A: Arrivals + Sync, R: Threads + Wait + Sync>(
+/// A device is opened as a store and served by so many workers, and given back as it is then.
+pub fn serve_in<D: SectorDevice + Drop + Send + Sync, A: Arrivals + Sync, R: Threads + Wait + Sync>(
     rt: &R,
     alloc: Global,
     device: D,
     workers: u16,
     arrivals: &A,
-) -> (Told, D::Off)
+) -> (Told, D)
     requires { 1 ≤ workers }
     ensures { LivesOnce (IsLife (traffic A.gives A.takes_back A.Reader.Source A.Writer.Sink arrivals.now) workers result.0)
-        (D.disk device) (D.rests result.1) }
+        (D.disk device) (D.disk result.1) }
 {
     let clerk = match Clerk::open(alloc, device) {
         Ok(clerk) => clerk,
-        Err((e, device)) => return (Told::Unopened(e), device.stop()),
+        Err((e, device)) => return (Told::Unopened(e), device),
     };
     match serve_clerk(rt, alloc, clerk, workers, arrivals) {
-        Ok((last, ran)) => (Told::Served(ran), last.into_device().stop()),
-        Err((_, last)) => (Told::Unserved, last.into_device().stop()),
+        Ok((last, ran)) => (Told::Served(ran), last.into_device()),
+        Err((_, last)) => (Told::Unserved, last.into_device()),
     }
 }
 
@@ -66,8 +67,8 @@ pub fn serve_once<D: Restarts + Drop + Send + Sync, A: Arrivals + Sync, R: Threa
         (D.rests off) (D.rests result.1) }
 {
     let started = D::start(off);
-    let (told, left) = serve_started(rt, alloc, started, workers, arrivals);
-    (told, left)
+    let (told, device) = serve_in(rt, alloc, started, workers, arrivals);
+    (told, device.stop())
 }
 
 /// Lives of a store that holds one desk, whatever a stop leaves of it. In each the streams are served that come from one place.

@@ -1,2 +1,3 @@
 mod Steps
 mod Disks
+pub mod Sending

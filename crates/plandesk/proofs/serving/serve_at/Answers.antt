@@ -1,6 +1,6 @@
 use denote.Param.Send.{sendable}
 use Rattle.std.proofs.Crossing.{crosses}
-use Rattle.plandesk.proofs.Devices.{record_send, record_sync}
+use Rattle.sector_file.proofs.Sending.{record_send, record_sync}
 use Rattle.plandesk.proofs.serving.serve_at.Goals as goal
 
 pub serve-status-requires-send-D : goal.serve-status-requires-send-D

@@ -1,0 +1,37 @@
+-- What is known of one life doesn't depend on how often the device failed before.
+use Rattle.std.proofs.Common.{◌<◌, ℕ, List, [], ◌∷◌, Ok, Err, inl, inr}
+use Rattle.desk_model.specs.Desk.{Desk}
+use Rattle.desk_store.specs.declared.opening.OpenError.{OpenError}
+use Rattle.desk_store.specs.declared.opening.OpenError.TheVariants.{NotAStore, DeviceFault, Memory, OldVersion}
+use Rattle.desk_lives.specs.declared.lives.Request.{Request}
+use Rattle.desk_lives.specs.declared.lives.Request.TheVariants.{Change, Look, Load, Sweep}
+use Rattle.desk_lives.specs.declared.lives.Answer.{Answer}
+use Rattle.desk_lives.specs.Lives.{Asked, Told, Lived, Life, IsPassing}
+
+module _ (t u s v : ℕ) (more : t < u → s < v) where
+  pub lived_later : (d : Desk) (asked : List Request) (told : List Answer) (e : Desk) → Lived t u d asked told e → Lived s v d asked told e
+  lived_later d [] [] e is = is
+  lived_later d [] (a ∷ told) e is = is
+  lived_later d (Change c ∷ asked) [] e is = is
+  lived_later d (Change c ∷ asked) (a ∷ told) e (inl is) = inl (is.0, is.1, is.2, is.3, lived_later is.1 asked told e is.4)
+  lived_later d (Change c ∷ asked) (a ∷ told) e (inr is) = inr (more is.0, is.1, is.2)
+  lived_later d (Look q ∷ asked) [] e is = is
+  lived_later d (Look q ∷ asked) (a ∷ told) e is = (is.0, is.1, is.2, lived_later d asked told e is.3)
+  lived_later d (Load g ∷ asked) [] e is = is
+  lived_later d (Load g ∷ asked) (a ∷ told) e (inl is) = inl (is.0, is.1, lived_later _ asked told e is.2)
+  lived_later d (Load g ∷ asked) (a ∷ told) e (inr (inl is)) = inr (inl (is.0, is.1, is.2, lived_later d asked told e is.3))
+  lived_later d (Load g ∷ asked) (a ∷ told) e (inr (inr is)) = inr (inr (more is.0, is.1, is.2))
+  lived_later d (Sweep ∷ asked) [] e is = is
+  lived_later d (Sweep ∷ asked) (a ∷ told) e (inl is) = inl (is.0, is.1, lived_later d asked told e is.2)
+  lived_later d (Sweep ∷ asked) (a ∷ told) e (inr (inl is)) = inr (inl (is.0, lived_later d asked told e is.1))
+  lived_later d (Sweep ∷ asked) (a ∷ told) e (inr (inr is)) = inr (inr (more is.0, is.1, is.2))
+
+  pub passing_later : (why : OpenError) → IsPassing t u why → IsPassing s v why
+  passing_later NotAStore is = is
+  passing_later DeviceFault is = more is
+  passing_later Memory is = is
+  passing_later OldVersion is = is
+
+  pub life_later : (d : Desk) (asked : Asked) (told : Told) (e : Desk) → Life t u d asked told e → Life s v d asked told e
+  life_later d asked (Ok told) e is = lived_later d asked.items told.items e is
+  life_later d asked (Err why) e is = (passing_later why is.0, is.1)

@@ -1,0 +1,3 @@
+mod Later
+mod Files
+mod Served
