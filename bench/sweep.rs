@@ -1,12 +1,14 @@
 // For bench/sweep alone: makes plans at a served store and takes them away again.
 // fill PORT PLAN NAME COUNT PATCHES: so many plans, each of a whole revision and of so many patches of one county behind it;
-// retire PORT NAME COUNT: takes them away.
+// retire PORT NAME COUNT: takes them away;
+// patch PORT PLAN NAME AFTER COUNT: so many patches of a plan one after the other, and prints the milliseconds of each, the least first.
 #[allow(dead_code)]
 mod client;
 
 use client::{Connection, with_body};
 use std::env;
 use std::fs;
+use std::time::Instant;
 
 // one request, whose answer is to be a success
 fn ask(connection: &mut Connection, words: &str, body: &[u8]) {
@@ -54,6 +56,20 @@ fn main() {
             for plan in 0..words[3].parse::<usize>().unwrap() {
                 ask(&mut connection, &format!("DELETE /plans/{}-{plan}", words[2]), b"");
             }
+        }
+        "patch" => {
+            let (_, counties) = texts_of(words[2]);
+            let (after, count): (usize, usize) = (words[4].parse().unwrap(), words[5].parse().unwrap());
+            let mut times: Vec<f64> = (0..count)
+                .map(|patch| {
+                    let body = &counties[7 * patch % counties.len()][(patch / counties.len() + 1) % 2];
+                    let began = Instant::now();
+                    ask(&mut connection, &format!("POST /plans/{}/counties?after={}", words[3], after + patch), body.as_bytes());
+                    began.elapsed().as_secs_f64() * 1e3
+                })
+                .collect();
+            times.sort_by(f64::total_cmp);
+            println!("{}", times.iter().map(|time| format!("{time:.3}")).collect::<Vec<_>>().join(" "));
         }
         word => panic!("what is {word}?"),
     }

@@ -1,4 +1,4 @@
-"""For tests/stores, tests/sweeps, tests/seats, tests/wire, tests/pieces, tests/kept, tests/tables and tests/filled: stores in
+"""For tests/stores, tests/sweeps, tests/sweeps_beside, tests/seats, tests/wire, tests/pieces, tests/kept, tests/tables and tests/filled: stores in
 files, which a state was loaded into, served on 127.0.0.1, and what they are asked.
 
 Before it: rt run in crates/plandesk.
@@ -54,17 +54,17 @@ def free_port():
         return free.getsockname()[1]
 
 
-def serving(store, port, connections=1, workers=1, **seconds):
-    """The words that serve a store. What is None isn't said."""
+def serving(store, port, connections=1, workers=1, sweeps=False, **seconds):
+    """The words that serve a store, which is left to other sweeps unless it is asked for. What is None isn't said."""
     given = {'workers': workers, 'connections': connections, **seconds}
-    return ['serve', store, '--port', str(port),
+    return ['serve', store, '--port', str(port), *([] if sweeps else ['--no-sweep']),
             *(word for name, value in given.items() if value is not None for word in (f'--{name}', str(value)))]
 
 
-def start(store, connections=1, workers=1, keep=None, idle=None, request=None, **more):
+def start(store, connections=1, workers=1, keep=None, idle=None, request=None, sweeps=False, **more):
     """Serves a store to so many connections: the process, its port, and whether it listens."""
     port = free_port()
-    words = serving(store, port, connections, workers, keep=keep, idle=idle, request=request)
+    words = serving(store, port, connections, workers, sweeps, keep=keep, idle=idle, request=request)
     process = subprocess.Popen([program, *words], stdin=subprocess.DEVNULL,
                                stdout=subprocess.PIPE, stderr=subprocess.PIPE, **more)
     line = process.stdout.readline()

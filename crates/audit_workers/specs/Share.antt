@@ -1,5 +1,5 @@
 -- What the workers found, each in its own pieces: those that leave the worker's number when they are divided by the number of workers.
-use Rattle.std.specs.Prelude.{◌≡◌, ◌↔◌, ℕ, ◌+◌, ◌*◌, ◌/◌, ◌%◌, ◌<◌, Bool, false, IsTrue, List, length, get_or, set, remove, Vec}
+use Rattle.std.specs.Prelude.{◌≡◌, ◌↔◌, ℕ, ◌+◌, ◌*◌, ◌/◌, ◌%◌, ◌<◌, min, Bool, false, IsTrue, List, length, get_or, set, remove, Vec}
 use Rattle.std.specs.declared.alloc.Global.{Global}
 use Rattle.audit_workers.specs.declared.work.Found.{Found}
 use Rattle.audit_workers.specs.Work.{Audit, IsPieceOf, IsFound}
@@ -26,6 +26,13 @@ pub record AreNext (a : Audit) (workers worker piece : ℕ) (held : List Found) 
 pub record AreShares (a : Audit) (pieces workers : ℕ) (shares : List (Vec Found Global)) : Type 0 where
   pub wide : length shares ≡ workers
   pub each : (piece : ℕ) (s : Vec Found Global) → piece < pieces → IsHeld a piece (piece / workers) (get_or shares (piece % workers) s).items
+
+-- The audit of a plan of n districts was shared out among so many workers, or among as many as there are pieces where these are fewer: each
+-- of them began, to find the pieces that are its own.
+pub record IsSharedOut {C : Type 0} (begins : C → ℕ → ℕ → Type 0) (crew : C) (workers n : ℕ) : Type 0 where
+  pub pieces : ℕ
+  pub numbered : AreNumberedBelow n pieces
+  pub each : (worker : ℕ) → worker < min workers pieces → begins crew worker (min workers pieces)
 
 -- what the piece found was there, and is no more
 pub record IsTaken (piece workers : ℕ) (old new : List (Vec Found Global)) (found : Found) : Type 0 where

@@ -1,7 +1,8 @@
 //! What the workers find, each in its own pieces of the work.
-ghost use Rattle.std.specs.Prelude.{◌≡◌, ◌+◌, ◌<◌, ◌≤◌, Ok, map, IfOk};
+ghost use Rattle.std.specs.Prelude.{◌≡◌, ℕ, ◌+◌, ◌<◌, ◌≤◌, Ok, map, IfOk};
 ghost use Rattle.audit_workers.specs.Share.{AreNext, AreNumberedBelow, AreOwnParts, AreShares, IsShare};
 
+use crate::crew::Crew;
 use crate::work::{Found, Work};
 use desk_model::gate::Gate;
 use std::alloc::{AllocError, Global};
@@ -83,6 +84,28 @@ fn find_share<G: Gate>(
     Ok(found)
 }
 
+/// What a worker finds, once it has told that it begins.
+fn begin_share<C: Crew>(
+    alloc: Global,
+    crew: &C,
+    work: &Work,
+    pieces: u32,
+    workers: u32,
+    worker: u32,
+) -> Result<Vec<Found>, AllocError>
+    requires pieces { AreNumberedBelow work.now.count pieces }
+    requires three { 3 ≤ pieces }
+    requires some { 0 < workers }
+    requires few { pieces ≤ 66 }
+    requires fewer { workers ≤ pieces }
+    requires own { worker < workers }
+    ensures share { IfOk result (λ v. IsShare work.now pieces workers worker v.items) }
+    ensures begins { C.begins crew.now worker workers }
+{
+    crew.begin(worker, workers);
+    find_share(alloc, crew, work, pieces, workers, worker)
+}
+
 /// The shares, where no worker's memory ran out.
 fn all_shares(
     alloc: Global,
@@ -99,10 +122,10 @@ fn all_shares(
 
 /// What all workers find, each in a thread of its own where one can be started; another thread does the pieces of one that
 /// can't.
-pub fn find_shares<R: Threads + Sync, G: Gate + Sync>(
+pub fn find_shares<R: Threads + Sync, C: Crew + Sync>(
     rt: &R,
     alloc: Global,
-    gate: &G,
+    crew: &C,
     work: &Work,
     pieces: u32,
     workers: u32,
@@ -112,12 +135,13 @@ pub fn find_shares<R: Threads + Sync, G: Gate + Sync>(
     requires some { 0 < workers }
     requires few { pieces ≤ 66 }
     requires fewer { workers ≤ pieces }
-    ensures { IfOk result (λ v. AreShares work.now pieces workers v.items) }
+    ensures shares { IfOk result (λ v. AreShares work.now pieces workers v.items) }
+    ensures each { IfOk result (λ _. (worker : ℕ) → worker < workers → C.begins crew.now worker workers) }
 {
     let share_of = |worker: usize| -> Result<Vec<Found>, AllocError>
         requires { (worker < workers) × (pieces ≤ 66) × (workers ≤ pieces) × (3 ≤ pieces) × AreNumberedBelow work.now.count pieces }
-        ensures { IfOk result (λ v. IsShare work.entry.now pieces workers worker v.items) }
-    { find_share(alloc, gate, work, pieces, workers, worker as u32) };
+        ensures { IfOk result (λ v. IsShare work.entry.now pieces workers worker v.items) × C.begins crew.entry.now worker workers }
+    { begin_share(alloc, crew, work, pieces, workers, worker as u32) };
     let results = thread::map_indices(rt, alloc, workers as usize, &share_of)?;
     all_shares(alloc, results)
 }

@@ -1,12 +1,14 @@
 //! `check` with a plan: the audit of a plan from files.
-ghost use Rattle.std.specs.Prelude.{◌≡◌, ◌≤◌, length, IfSome, IsSome, IsTrue};
+ghost use Rattle.std.specs.Prelude.{◌≡◌, ◌≤◌, length, true, IfOk, IfSome, IsSome, IsTrue};
 ghost use Rattle.std.specs.Option.{option_copied};
 ghost use Rattle.desk_model.specs.Companions.{takes};
 ghost use Rattle.command_output.specs.Writing.{OfWriters};
 ghost use Rattle.check_command.specs.Auditing.{openings_of, AuditsState, report_status as status_of_report, EndsAudit, ReportsBesideFile, Audits};
+ghost use Rattle.check_command.specs.Sharing.{IsDoneBy, is_of_report};
 
 use crate::printing::print;
 use crate::report::{Audited, report_of};
+use audit_workers::crew::Crew;
 use byte_stream::sink::Sink;
 use byte_stream::source::Source;
 use command_output::status::Status;
@@ -24,10 +26,11 @@ use std::thread::Threads;
 
 /// The report of a plan beside a senate plan, if there is one, and beside the congressional plan that a file says, or the file's
 /// fault.
-fn report_beside<T: Threads + Sync, R: Source>(
+fn report_beside<T: Threads + Sync, C: Crew + Sync, R: Source>(
     rt: &T,
     alloc: Global,
     workers: u32,
+    crew: &C,
     geography: &Geography,
     kind: Kind,
     districts: u16,
@@ -42,21 +45,25 @@ fn report_beside<T: Threads + Sync, R: Source>(
     requires senate_long { IfSome (option_copied senate) (λ s. length s ≡ length geography.now.blocks) }
     requires senate_taken { IsSome senate → IsTrue (takes Kind.Senate kind) }
     requires congress_taken { IsSome congress.old → IsTrue (takes Kind.Congress kind) }
-    ensures { ReportsBesideFile R.Source geography.now kind districts plan.now (option_copied senate.entry) congress.old congress.new result }
+    ensures reports { ReportsBesideFile R.Source geography.now kind districts plan.now (option_copied senate.entry) congress.old congress.new result }
+    ensures shared { IfOk result (λ _. IsDoneBy C.begins crew.now workers districts) }
 {
     let congress = read_companion(alloc, PlanFile::Congress, geography, congress)?;
     let beside = Companions {
         senate,
         congress: districts_of(&congress),
     };
-    report_of(rt, alloc, workers, geography, kind, districts, plan, beside)
+    report_of(
+        rt, alloc, workers, crew, geography, kind, districts, plan, beside,
+    )
 }
 
 /// The report of the plan that the files say, or their first fault.
-fn audit_of<T: Threads + Sync, R: Source>(
+fn audit_of<T: Threads + Sync, C: Crew + Sync, R: Source>(
     rt: &T,
     alloc: Global,
     workers: u32,
+    crew: &C,
     files: &mut AuditFiles<R>,
     kind: Kind,
     districts: u16,
@@ -66,8 +73,9 @@ fn audit_of<T: Threads + Sync, R: Source>(
     requires few { districts ≤ 999 }
     requires senate { IsSome files.old.senate → IsTrue (takes Kind.Senate kind) }
     requires congress { IsSome files.old.congress → IsTrue (takes Kind.Congress kind) }
-    ensures { AuditsState (openings_of R.remaining R.turns R.failures files.old)
+    ensures audits { AuditsState (openings_of R.remaining R.turns R.failures files.old)
         (openings_of R.remaining R.turns R.failures files.new) kind districts result }
+    ensures shared { IfOk result (λ _. IsDoneBy C.begins crew.now workers districts) }
 {
     let rows = read_state(alloc, &mut files.census)?;
     let geography = read_ground(alloc, rows, &mut files.gal)?;
@@ -84,6 +92,7 @@ fn audit_of<T: Threads + Sync, R: Source>(
         rt,
         alloc,
         workers,
+        crew,
         &geography,
         kind,
         districts,
@@ -121,10 +130,11 @@ fn end_audit<W: Sink, E: Sink>(
 /// Prints the report of a plan of so many districts, which doesn't depend on the number of workers: 1 where it names a broken
 /// clause, else 0. 3 where a file is refused and 5 where memory is, with the file and its fault told and nothing printed; 6 where
 /// the writing fails.
-pub fn audit_plan<T: Threads + Sync, R: Source, W: Sink, E: Sink>(
+pub fn audit_plan<T: Threads + Sync, C: Crew + Sync, R: Source, W: Sink, E: Sink>(
     rt: &T,
     alloc: Global,
     workers: u32,
+    crew: &C,
     files: &mut AuditFiles<R>,
     kind: Kind,
     districts: u16,
@@ -136,8 +146,9 @@ pub fn audit_plan<T: Threads + Sync, R: Source, W: Sink, E: Sink>(
     requires few { districts ≤ 999 }
     requires senate { IsSome files.old.senate → IsTrue (takes Kind.Senate kind) }
     requires congress { IsSome files.old.congress → IsTrue (takes Kind.Congress kind) }
-    ensures { OfWriters (Audits R.Source files.old files.new kind districts result) W.Sink writer.old writer.new E.Sink errors.old errors.new }
+    ensures audits { OfWriters (Audits R.Source files.old files.new kind districts result) W.Sink writer.old writer.new E.Sink errors.old errors.new }
+    ensures shared { is_of_report result ≡ true → IsDoneBy C.begins crew.now workers districts }
 {
-    let outcome = audit_of(rt, alloc, workers, files, kind, districts);
+    let outcome = audit_of(rt, alloc, workers, crew, files, kind, districts);
     end_audit(alloc, outcome, writer, errors)
 }

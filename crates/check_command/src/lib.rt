@@ -3,7 +3,8 @@
 //! Seen as functions from readers to an exit status. `check`, `audit_plan`: the counts, or the text of a report on the plan that the files
 //! say; status 1 exactly where it names a broken clause. Files are judged in their order and the first fault is reported; of those after it
 //! nothing is read. Read faults and turn limits come only where that reader's counts say so. A refused file prints nothing. Status 6 comes
-//! exactly where the writer of standard output fails once more, and it then holds a prefix of the text.
+//! exactly where the writer of standard output fails once more, and it then holds a prefix of the text. With more than one of `--workers` a
+//! report was shared out among so many (`IsDoneBy`).
 //!
 //! # Notes
 //!

@@ -1,12 +1,15 @@
 //! The report of an audit, as it is printed.
 ghost use Rattle.std.specs.Prelude.{◌≡◌, ◌≤◌, length, IfOk};
 ghost use Rattle.desk_model.specs.Companions.{companions_copied, AreLong, AreTaken};
+ghost use Rattle.audit_report.specs.Report.{IsReport};
 ghost use Rattle.check_command.specs.Auditing.{IsAudited, Reports};
+ghost use Rattle.check_command.specs.Sharing.{IsDoneBy};
 
 use audit_report::audit::audit;
+use audit_report::report::Report;
 use audit_workers::audit::audit_with;
+use audit_workers::crew::Crew;
 use desk_model::companions::Companions;
-use desk_model::gate::NoGate;
 use desk_model::geography::Geography;
 use desk_model::kind::Kind;
 use state_files::fault::{FileFault, PlanFault, PlanFile};
@@ -20,10 +23,57 @@ pub struct Audited {
     pub text: String,
 }
 
-fn print_report<T: Threads + Sync>(
+/// The report by so many workers. One does all alone.
+fn audit_by<T: Threads + Sync, C: Crew + Sync>(
     rt: &T,
     alloc: Global,
     workers: u32,
+    crew: &C,
+    geography: &Geography,
+    kind: Kind,
+    n: u16,
+    plan: &[u16],
+    beside: Companions<&[u16]>,
+) -> Result<Report, AllocError>
+    requires working { 1 ≤ workers }
+    requires some { 1 ≤ n }
+    requires few { n ≤ 999 }
+    requires long { length plan.now ≡ length geography.now.blocks }
+    requires companions_long { AreLong (length geography.now.blocks) (companions_copied beside) }
+    requires companions_taken { AreTaken kind (companions_copied beside) }
+    ensures report { IfOk result (IsReport geography.now kind n plan.now (companions_copied beside.entry)) }
+    ensures shared { IfOk result (λ _. IsDoneBy C.begins crew.now workers n) }
+{
+    if workers == 1 {
+        return audit(
+            alloc,
+            geography,
+            kind,
+            n,
+            plan,
+            beside.senate,
+            beside.congress,
+        );
+    }
+    audit_with(
+        rt,
+        alloc,
+        workers,
+        crew,
+        geography,
+        kind,
+        n,
+        plan,
+        beside.senate,
+        beside.congress,
+    )
+}
+
+fn print_report<T: Threads + Sync, C: Crew + Sync>(
+    rt: &T,
+    alloc: Global,
+    workers: u32,
+    crew: &C,
     geography: &Geography,
     kind: Kind,
     n: u16,
@@ -36,32 +86,10 @@ fn print_report<T: Threads + Sync>(
     requires long { length plan.now ≡ length geography.now.blocks }
     requires companions_long { AreLong (length geography.now.blocks) (companions_copied beside) }
     requires companions_taken { AreTaken kind (companions_copied beside) }
-    ensures { IfOk result (IsAudited geography.now kind n plan.now (companions_copied beside.entry)) }
+    ensures audited { IfOk result (IsAudited geography.now kind n plan.now (companions_copied beside.entry)) }
+    ensures shared { IfOk result (λ _. IsDoneBy C.begins crew.now workers n) }
 {
-    let report = if workers == 1 {
-        audit(
-            alloc,
-            geography,
-            kind,
-            n,
-            plan,
-            beside.senate,
-            beside.congress,
-        )?
-    } else {
-        audit_with(
-            rt,
-            alloc,
-            workers,
-            &NoGate,
-            geography,
-            kind,
-            n,
-            plan,
-            beside.senate,
-            beside.congress,
-        )?
-    };
+    let report = audit_by(rt, alloc, workers, crew, geography, kind, n, plan, beside)?;
     let broken = report.broken.len() > 0;
     let mut text = report.to_json(alloc)?;
     text.push_str("\n")?;
@@ -69,10 +97,11 @@ fn print_report<T: Threads + Sync>(
 }
 
 /// The report of a plan of n districts, by so many workers. `plan` and the plans beside it are as `audit_with` takes them.
-pub fn report_of<T: Threads + Sync>(
+pub fn report_of<T: Threads + Sync, C: Crew + Sync>(
     rt: &T,
     alloc: Global,
     workers: u32,
+    crew: &C,
     geography: &Geography,
     kind: Kind,
     n: u16,
@@ -85,9 +114,10 @@ pub fn report_of<T: Threads + Sync>(
     requires long { length plan.now ≡ length geography.now.blocks }
     requires companions_long { AreLong (length geography.now.blocks) (companions_copied beside) }
     requires companions_taken { AreTaken kind (companions_copied beside) }
-    ensures { Reports geography.now kind n plan.now (companions_copied beside.entry) result }
+    ensures reports { Reports geography.now kind n plan.now (companions_copied beside.entry) result }
+    ensures shared { IfOk result (λ _. IsDoneBy C.begins crew.now workers n) }
 {
-    match print_report(rt, alloc, workers, geography, kind, n, plan, beside) {
+    match print_report(rt, alloc, workers, crew, geography, kind, n, plan, beside) {
         Ok(audited) => Ok(audited),
         Err(_) => Err(FileFault::Plan(PlanFile::Plan, PlanFault::Memory)),
     }

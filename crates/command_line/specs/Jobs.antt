@@ -1,5 +1,5 @@
 -- What the program may be asked for.
-use Rattle.std.specs.Prelude.{◌≡◌, ◌≤◌, ℕ, Bool, true, false, List, [], ◌∷◌, codes, Option, None, Some, is_some, option_map}
+use Rattle.std.specs.Prelude.{◌≡◌, ◌≤◌, ℕ, Bool, true, false, List, [], ◌∷◌, codes, not, Option, None, Some, is_some, option_map}
 use Rattle.std.specs.Option.{option_copied}
 use Rattle.clap.specs.Matches.{first_value, one_text, matched_of, raw_values}
 use Rattle.clap.specs.declared.parser.matches.Found.{Found}
@@ -11,7 +11,7 @@ use Rattle.command_line.specs.declared.options.Form.{Form}
 use Rattle.command_line.specs.declared.options.Form.TheVariants as form
 use Rattle.command_line.specs.declared.words.Asked.{Asked}
 use Rattle.command_line.specs.declared.words.Job.{Job}
-use Rattle.command_line.specs.declared.words.Job.TheVariants.{Talk, Counts, Audit, Format, Load, Serve, Stat, Sweep, Migrate, Explain}
+use Rattle.command_line.specs.declared.words.Job.TheVariants.{Talk, Counts, Audit, Format, Load, Serve, Stat, Verify, Sweep, Migrate, Explain}
 
 -- an audit is asked for with its terms in range and 1 to 64 workers, and each companion's file goes with its number of districts
 abbrev pub IsJob : Job → Type 0
@@ -22,6 +22,7 @@ IsJob (Format store size reckoned) = IsSize size
 IsJob (Load store census gal) = Unit {0}
 IsJob (Serve store serving log) = IsServing serving
 IsJob (Stat store json) = Unit {0}
+IsJob (Verify store) = Unit {0}
 IsJob (Sweep store) = Unit {0}
 IsJob (Migrate store) = Unit {0}
 IsJob (Explain code) = Unit {0}
@@ -76,11 +77,13 @@ HasPaths found (Load store census gal) = AreCensusPaths found census
     × (first_value found (codes "store") ≡ Some store.now)
     × (first_value found (codes "gal") ≡ Some gal.now)
 HasPaths found (Serve store serving log) = (first_value found (codes "store") ≡ Some store.now)
+    × ((rests : Bool) × IsFlag found (codes "no-sweep") rests
     × (serving_read (first_value found (codes "port")) (first_value found (codes "workers"))
     (first_value found (codes "connections")) (first_value found (codes "keep"))
-    (first_value found (codes "idle")) (first_value found (codes "request")) ≡ Some serving)
+    (first_value found (codes "idle")) (first_value found (codes "request")) (not rests) ≡ Some serving))
     × (first_value found (codes "log") ≡ option_copied log)
 HasPaths found (Stat store json) = (first_value found (codes "store") ≡ Some store.now) × IsFlag found (codes "json") json
+HasPaths found (Verify store) = first_value found (codes "store") ≡ Some store.now
 HasPaths found (Sweep store) = first_value found (codes "store") ≡ Some store.now
 HasPaths found (Migrate store) = first_value found (codes "store") ≡ Some store.now
 HasPaths found (Explain code) = code_read (option_map raw_values (matched_of found (codes "code"))) ≡ Some (option_copied code)

@@ -99,19 +99,20 @@ abbrev pub patience_read : (keep idle request : Option (List ℕ)) → Option Pa
 patience_read keep idle request = patience_with (seconds_read 5 keep) (seconds_read 60 idle) (seconds_read 300 request)
 
 -- how a store is served
-abbrev pub serving_with : (port workers : Option ℕ) → (connections : Option (Option ℕ)) → Option Patience → Option Serving
-serving_with None workers connections patience = None
-serving_with (Some port) None connections patience = None
-serving_with (Some port) (Some workers) None patience = None
-serving_with (Some port) (Some workers) (Some connections) None = None
-serving_with (Some port) (Some workers) (Some connections) (Some patience) = Some
-    (record { port = port; workers = workers; connections = connections; patience = patience })
+abbrev pub serving_with : (port workers : Option ℕ) → (connections : Option (Option ℕ)) → Option Patience → (sweeps : Bool) → Option Serving
+serving_with None workers connections patience sweeps = None
+serving_with (Some port) None connections patience sweeps = None
+serving_with (Some port) (Some workers) None patience sweeps = None
+serving_with (Some port) (Some workers) (Some connections) None sweeps = None
+serving_with (Some port) (Some workers) (Some connections) (Some patience) sweeps = Some
+    (record { port = port; workers = workers; connections = connections; patience = patience; sweeps = sweeps })
 
--- the port, the numbers of workers and connections, and for how long one is kept, where the port is there and all are in range
-abbrev pub serving_read : (port workers connections keep idle request : Option (List ℕ)) → Option Serving
-serving_read None workers connections keep idle request = None
-serving_read (Some port) workers connections keep idle request =
-    serving_with (number_to 65535 port) (serving_workers_read workers) (connections_read connections) (patience_read keep idle request)
+-- the port, the numbers of workers and connections, for how long one is kept, and whether it is swept beside, where the port is there and
+-- all are in range
+abbrev pub serving_read : (port workers connections keep idle request : Option (List ℕ)) → (sweeps : Bool) → Option Serving
+serving_read None workers connections keep idle request sweeps = None
+serving_read (Some port) workers connections keep idle request sweeps =
+    serving_with (number_to 65535 port) (serving_workers_read workers) (connections_read connections) (patience_read keep idle request) sweeps
 
 pub record IsPatience (patience : Patience) : Type 0 where
   pub some : 1 ≤ patience.keep

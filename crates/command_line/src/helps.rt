@@ -49,6 +49,7 @@ pub(crate) const SERVE_HELP: &str =
 at a time: commands go one after the other, and what is read waits for nobody. One that asks nothing gives way after the seconds of
 --keep, and at once where another waits for a worker. One that is silent within a request, or takes no byte of an answer, ends after
 those of --idle, and one whose request hasn't come whole after those of --request.
+What deleted plans leave in the store is taken out between commands, unless --no-sweep is there.
 No connection waits for the log: lines for which there is no room are dropped, and the next one tells how many.
 
 Example, of a store that was formatted and loaded:
@@ -81,6 +82,23 @@ Statuses:
   6  standard output failed
 
 To read: docs/OPERATE.md (how full a store is), docs/FAULTS.md.";
+
+pub(crate) const VERIFY_HELP: &str =
+    "It prints 'sound yes' where each row is that of a desk: counts are those of the plans that hold a chunk, chunks are as long as
+their counties, and nothing is there that no plan names. Else it tells what is wrong, and with which row: its key, two digits a byte.
+Nothing in the store changes.
+
+Example, of a copy:
+  ./plandesk verify state.copy
+
+Statuses:
+  0  the store is sound
+  2  the command line is wrong; nothing was opened
+  4  the store isn't sound, was refused, is in use, or its device failed
+  5  memory was refused
+  6  standard output failed
+
+To read: docs/OPERATE.md (what goes wrong, and what to do), docs/FAULTS.md.";
 
 pub(crate) const SWEEP_HELP: &str =
     "It goes on until no such row is left; where it is stopped, the next one goes on from there. The desk stays as it is.

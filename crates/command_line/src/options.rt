@@ -102,13 +102,15 @@ pub struct Patience {
     pub request: u32,
 }
 
-/// On which port a store is served, by how many workers, to how many connections, or without end, and for how long each is kept.
+/// On which port a store is served, by how many workers, to how many connections, or without end, and for how long each is kept; and
+/// whether it is swept beside.
 #[derive(Clone, Copy)]
 pub struct Serving {
     pub port: u16,
     pub workers: u16,
     pub connections: Option<u32>,
     pub patience: Patience,
+    pub sweeps: bool,
 }
 
 /// The number that digits alone write, where it is 1 to `most`. Leading zeros are digits like others.
@@ -234,9 +236,10 @@ pub fn read_serving(
     keep: Option<&[u8]>,
     idle: Option<&[u8]>,
     request: Option<&[u8]>,
+    sweeps: bool,
 ) -> Option<Serving>
     ensures value { result ≡ serving_read (option_copied port.entry) (option_copied workers.entry) (option_copied connections.entry)
-        (option_copied keep.entry) (option_copied idle.entry) (option_copied request.entry) }
+        (option_copied keep.entry) (option_copied idle.entry) (option_copied request.entry) sweeps }
     ensures valid { IfSome result IsServing }
 {
     let port = port?;
@@ -249,6 +252,7 @@ pub fn read_serving(
         workers,
         connections,
         patience,
+        sweeps,
     })
 }
 

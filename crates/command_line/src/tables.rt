@@ -1,7 +1,7 @@
 //! What each command takes, in the order of its help.
 use crate::helps::{
     CHECK_HELP, EXPLAIN_HELP, FORMAT_HELP, LOAD_HELP, MIGRATE_HELP, SERVE_HELP, STAT_HELP,
-    SWEEP_HELP, TALK_HELP,
+    SWEEP_HELP, TALK_HELP, VERIFY_HELP,
 };
 
 /// A command: its name, what it does, what is told behind its options, and these.
@@ -221,12 +221,18 @@ const SERVE: &[Argument] = &[
         Values::Texts,
         &[],
     ),
+    Argument::Flag(
+        "no-sweep",
+        "Leaves what deleted plans hold to the command sweep",
+    ),
 ];
 
 const STAT: &[Argument] = &[
     Argument::Store,
     Argument::Flag("json", "Prints the figures as one object of JSON"),
 ];
+
+const VERIFY: &[Argument] = &[Argument::Store];
 
 const SWEEP: &[Argument] = &[Argument::Store];
 
@@ -263,12 +269,18 @@ static FIRST: [Subcommand; 4] = [
 ];
 
 /// The others.
-static LAST: [Subcommand; 5] = [
+static LAST: [Subcommand; 6] = [
     Subcommand {
         name: "stat",
         about: "Prints how full a store is, and what would be refused as Full now",
         after: STAT_HELP,
         entries: STAT,
+    },
+    Subcommand {
+        name: "verify",
+        about: "Reads all rows of a store, and tells whether it is one that a desk leaves",
+        after: VERIFY_HELP,
+        entries: VERIFY,
     },
     Subcommand {
         name: "sweep",

@@ -33,6 +33,8 @@ pub enum Job<'a> {
     Serve(&'a str, Serving, Option<&'a str>),
     /// `stat`: how full a store is, as JSON or in lines.
     Stat(&'a str, bool),
+    /// `verify`: whether a store is one that a desk leaves.
+    Verify(&'a str),
     /// `sweep`: what nothing needs any more is taken out of a store.
     Sweep(&'a str),
     /// `migrate`: a store of version 1 becomes one of version 2.
@@ -190,6 +192,7 @@ fn serve_job<'a>(matches: &ArgMatches<'a>) -> Option<Job<'a>>
     ensures paths { IfSome result (HasPaths (found_of matches.now)) }
 {
     let store = matches.get_str("store")?;
+    let sweeps = !matches.get_flag("no-sweep");
     let serving = read_serving(
         bytes_of(matches.get_str("port")),
         bytes_of(matches.get_str("workers")),
@@ -197,6 +200,7 @@ fn serve_job<'a>(matches: &ArgMatches<'a>) -> Option<Job<'a>>
         bytes_of(matches.get_str("keep")),
         bytes_of(matches.get_str("idle")),
         bytes_of(matches.get_str("request")),
+        sweeps,
     )?;
     Some(Job::Serve(store, serving, matches.get_str("log")))
 }
@@ -208,6 +212,14 @@ fn stat_job<'a>(matches: &ArgMatches<'a>) -> Option<Job<'a>>
 {
     let store = matches.get_str("store")?;
     Some(Job::Stat(store, matches.get_flag("json")))
+}
+
+/// What `verify` is asked for.
+fn verify_job<'a>(matches: &ArgMatches<'a>) -> Option<Job<'a>>
+    ensures valid { IfSome result IsJob }
+    ensures paths { IfSome result (HasPaths (found_of matches.now)) }
+{
+    Some(Job::Verify(matches.get_str("store")?))
 }
 
 /// What `sweep` is asked for.
@@ -305,6 +317,7 @@ fn job_under<'a>(name: &str, options: &ArgMatches<'a>) -> Option<Job<'a>>
         "load" => load_job(options),
         "serve" => serve_job(options),
         "stat" => stat_job(options),
+        "verify" => verify_job(options),
         "sweep" => sweep_job(options),
         "migrate" => migrate_job(options),
         "explain" => explain_job(options),
@@ -409,7 +422,7 @@ fn wrong_under<'a>(name: &str, options: &ArgMatches<'a>) -> &'static str {
         "format" => WRONG_SIZE,
         "load" => "error: a file is missing\n",
         "serve" => WRONG_SERVING,
-        "stat" | "sweep" | "migrate" => "error: a store is missing\n",
+        "stat" | "verify" | "sweep" | "migrate" => "error: a store is missing\n",
         "explain" => WRONG_CODE,
         _ => wrong_options(options),
     }

@@ -1,13 +1,12 @@
--- Connections that are told one after the other.
+-- Lines that are told one after the other.
 use Rattle.std.proofs.Common.{◌≡◌, ℕ, ◌+◌, ◌<◌, List, ◌∷◌, length, drop, get_or, Option, sym, subst}
 use Rattle.std.proofs.lemmas.List.{drop_more}
-use Rattle.connection_log.specs.declared.connection.Connection.{Connection}
-use Rattle.connection_log.specs.declared.line.LogLine.TheVariants as entry
+use Rattle.connection_log.specs.declared.line.LogLine.{LogLine}
 use Rattle.connection_log.specs.Lines.{TellsEntry, TellsEach}
 
 -- what is told of those from a place on, where the one there is told and then the others
-pub each_more : (cs : List Connection) (i : ℕ) (c : Connection) (dropped more left : ℕ) (old middle new : Option (List ℕ)) → i < length cs → get_or cs i c ≡ c
-    → TellsEntry dropped (entry.Connection c) more old middle → TellsEach more (drop (i + 1) cs) left middle new → TellsEach dropped (drop i cs) left old new
+pub each_more : (cs : List LogLine) (i : ℕ) (c : LogLine) (dropped more left : ℕ) (old middle new : Option (List ℕ)) → i < length cs → get_or cs i c ≡ c
+    → TellsEntry dropped c more old middle → TellsEach more (drop (i + 1) cs) left middle new → TellsEach dropped (drop i cs) left old new
 each_more cs i c dropped more left old middle new inside is told rest =
-    subst (λ (l : List Connection). TellsEach dropped l left old new) (sym (drop_more cs i c inside))
-    (subst (λ (x : Connection). TellsEach dropped (x ∷ drop (i + 1) cs) left old new) (sym is) (more, middle, told, rest))
+    subst (λ (l : List LogLine). TellsEach dropped l left old new) (sym (drop_more cs i c inside))
+    (subst (λ (x : LogLine). TellsEach dropped (x ∷ drop (i + 1) cs) left old new) (sym is) (more, middle, told, rest))

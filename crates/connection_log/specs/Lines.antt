@@ -5,6 +5,7 @@ use Rattle.byte_stream.specs.Counts.{counted}
 use Rattle.byte_stream.specs.Sends.{Sends}
 use Rattle.byte_stream.specs.declared.sink.WriteFault.{WriteFault}
 use Rattle.connection_log.specs.declared.connection.Connection.{Connection}
+use Rattle.connection_log.specs.declared.line.Room.{Room}
 use Rattle.connection_log.specs.declared.line.Ending.{Ending}
 use Rattle.connection_log.specs.declared.line.LogLine.{LogLine}
 use Rattle.connection_log.specs.declared.line.LogLine.TheVariants as entry
@@ -34,13 +35,18 @@ end_line e =
     stamp e.at ++ (codes "served: streams " ++ decimal e.ran.streams) ++ (codes ", requests " ++ decimal e.ran.requests)
     ++ (codes ", faults " ++ decimal e.ran.faults) ++ codes "\n"
 
+abbrev pub room_line : Room → List ℕ
+room_line r = stamp r.at ++ (codes "free " ++ decimal r.free_pages) ++ (codes " pages, a whole revision needs " ++ decimal r.revision_pages) ++ codes "\n"
+
 abbrev pub entry_line : LogLine → List ℕ
 entry_line (entry.Connection c) = connection_line c
+entry_line (entry.Room r) = room_line r
 entry_line (entry.End e) = end_line e
 
 -- when it came about
 abbrev pub entry_moment : LogLine → Option DateTime
 entry_moment (entry.Connection c) = c.at
+entry_moment (entry.Room r) = r.at
 entry_moment (entry.End e) = e.at
 
 -- nothing where no line was dropped
@@ -58,21 +64,21 @@ pub record TellsEntry (dropped : ℕ) (e : LogLine) (left : ℕ) (old new : Opti
   pub text : Sends old new sent (dropped_line (entry_moment e) dropped ++ entry_line e)
   pub drops : left ≡ dropped_after dropped sent
 
--- each connection's line, one after the other
-abbrev pub TellsEach : (dropped : ℕ) → List Connection → (left : ℕ) → (old new : Option (List ℕ)) → Type 0
+-- each line, one after the other
+abbrev pub TellsEach : (dropped : ℕ) → List LogLine → (left : ℕ) → (old new : Option (List ℕ)) → Type 0
 TellsEach dropped [] left old new = (left ≡ dropped) × (new ≡ old)
 TellsEach dropped (c ∷ cs) left old new =
-    (more : ℕ) × (middle : Option (List ℕ)) × TellsEntry dropped (entry.Connection c) more old middle × TellsEach more cs left middle new
+    (more : ℕ) × (middle : Option (List ℕ)) × TellsEntry dropped c more old middle × TellsEach more cs left middle new
 
 -- the line of all connections, once they are all served
 abbrev pub TellsEnd : (dropped : ℕ) → Option Ending → (left : ℕ) → (old new : Option (List ℕ)) → Type 0
 TellsEnd dropped None left old new = (left ≡ dropped) × (new ≡ old)
 TellsEnd dropped (Some e) left old new = TellsEntry dropped (entry.End e) left old new
 
--- the connections that waited, then the end, where it came; so many lines were dropped behind them for want of room
-pub record TellsBatch (dropped : ℕ) (connections : List Connection) (refused : ℕ)
+-- the lines that waited, then the end, where it came; so many lines were dropped behind them for want of room
+pub record TellsBatch (dropped : ℕ) (lines : List LogLine) (refused : ℕ)
     (end : Option Ending) (left : ℕ) (old new : Option (List ℕ)) : Type 0 where
   pub more : ℕ
   pub middle : Option (List ℕ)
-  pub each : TellsEach dropped connections more old middle
+  pub each : TellsEach dropped lines more old middle
   pub all : TellsEnd (counted more refused) end left middle new

@@ -1,20 +1,20 @@
 -- What waits to be written.
 use Rattle.std.specs.Prelude.{◌≡◌, ◌<◌, ◌≤◌, List, [], ◌∷◌, ◌++◌, length, None}
 use Rattle.byte_stream.specs.Counts.{counted}
-use Rattle.connection_log.specs.declared.connection.Connection.{Connection}
+use Rattle.connection_log.specs.declared.line.LogLine.{LogLine}
 use Rattle.connection_log.specs.declared.waiting.Taken.{Taken}
 use Rattle.connection_log.specs.declared.waiting.Waiting.{Waiting}
 
--- a connection is the last of those that wait where fewer than 1,024 do; else one more found no room, and those that wait stay
-pub record HasPut (old : Waiting) (c : Connection) (new : Waiting) : Type 0 where
+-- a line is the last of those that wait where fewer than 1,024 do; else one more found no room, and those that wait stay
+pub record HasPut (old : Waiting) (c : LogLine) (new : Waiting) : Type 0 where
   pub room : length old.batch.list.items < 1024 → (new.batch.list.items ≡ old.batch.list.items ++ c ∷ []) × (new.refused ≡ old.refused)
   pub full : 1024 ≤ length old.batch.list.items → (new.batch.list.items ≡ old.batch.list.items) × (new.refused ≡ counted old.refused 1)
   pub end : new.end ≡ old.end
   pub over : new.is_over ≡ old.is_over
 
 -- all that waited was taken
-pub record HasTaken (old : Waiting) (connections : List Connection) (taken : Taken) (new : Waiting) : Type 0 where
-  pub list : connections ≡ old.batch.list.items
+pub record HasTaken (old : Waiting) (lines : List LogLine) (taken : Taken) (new : Waiting) : Type 0 where
+  pub list : lines ≡ old.batch.list.items
   pub refused : taken.refused ≡ old.refused
   pub end : taken.end ≡ old.end
   pub none : new.batch.list.items ≡ []

@@ -1,16 +1,16 @@
-//! Connections that wait together.
+//! Lines that wait together.
 ghost use Rattle.std.specs.Prelude.{◌≡◌, ◌≤◌, [], vec_capacity, IfOk};
 
-use crate::connection::Connection;
+use crate::line::LogLine;
 use std::alloc::{AllocError, Global};
 
-/// How many connections wait at most to be written.
+/// How many lines wait at most to be written.
 pub const MOST_WAITING: usize = 1024;
 
-/// Connections, with room for as many as ever wait.
+/// Lines, with room for as many as ever wait.
 #[derive(Drop)]
 pub struct Batch {
-    pub(crate) list: Vec<Connection>,
+    pub(crate) list: Vec<LogLine>,
     ghost room: { 1024 ≤ vec_capacity list },
 }
 
@@ -23,7 +23,7 @@ impl Batch {
         Ok(Batch { list })
     }
 
-    pub fn as_slice(&self) -> &[Connection]
+    pub fn as_slice(&self) -> &[LogLine]
         ensures { result.now ≡ self.now.list.items }
     {
         self.list.as_slice()

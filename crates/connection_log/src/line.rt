@@ -1,6 +1,7 @@
 //! The lines of a log.
 ghost use Rattle.std.specs.Prelude.{◌≡◌, ◌+◌, ◌≤◌, ◌++◌, [], length, decimal, IfOk};
-ghost use Rattle.connection_log.specs.Lines.{connection_line, dropped_line, end_line, entry_line, entry_moment, stamp, two_digits, year_text};
+ghost use Rattle.connection_log.specs.Lines.{connection_line, dropped_line, end_line, entry_line, entry_moment, room_line, stamp};
+ghost use Rattle.connection_log.specs.Lines.{two_digits, year_text};
 
 use crate::connection::Connection;
 use http_arrivals::ran::Ran;
@@ -20,12 +21,24 @@ pub struct Ending {
     pub ran: Ran,
 }
 
+/// How much room the store has.
+#[derive(Clone, Copy, Debug)]
+pub struct Room {
+    /// In UTC, where the clock told it.
+    pub at: Option<DateTime>,
+    pub free_pages: u64,
+    /// So many a revision asks for by which each county changes.
+    pub revision_pages: u64,
+}
+
 /// What a line of a log is of.
 #[derive(Clone, Copy, Debug)]
 pub enum LogLine {
     /// A connection that has ended.
     Connection(Connection),
-    /// All of them.
+    /// How much room there is.
+    Room(Room),
+    /// All connections.
     End(Ending),
 }
 
@@ -36,6 +49,7 @@ impl LogLine {
     {
         match self {
             LogLine::Connection(connection) => connection.at,
+            LogLine::Room(room) => room.at,
             LogLine::End(ending) => ending.at,
         }
     }
@@ -181,6 +195,17 @@ impl LineText {
         self.put(b"\n");
     }
 
+    /// Puts the line of the store's room.
+    fn put_room(&mut self, room: &Room)
+        requires { length self.old ≤ 100 }
+        ensures { self.new ≡ self.old ++ room_line room.now }
+    {
+        self.put_moment(room.at);
+        self.put_count(b"free ", room.free_pages);
+        self.put_count(b" pages, a whole revision needs ", room.revision_pages);
+        self.put(b"\n");
+    }
+
     /// Puts the line of an entry.
     pub fn put_entry(&mut self, entry: &LogLine)
         requires { length self.old ≤ 100 }
@@ -188,6 +213,7 @@ impl LineText {
     {
         match entry {
             LogLine::Connection(connection) => self.put_connection(connection),
+            LogLine::Room(room) => self.put_room(room),
             LogLine::End(ending) => self.put_end(ending),
         }
     }

@@ -1,7 +1,6 @@
-//! A log that many threads put connections into, and one writes.
+//! A log that many threads put lines into, and one writes.
 use crate::batch::Batch;
-use crate::connection::Connection;
-use crate::line::{Ending, LineText};
+use crate::line::{Ending, LineText, LogLine};
 use crate::moment::moment_now;
 use crate::telling::tell_batch;
 use crate::waiting::{Taken, Waiting};
@@ -16,7 +15,7 @@ use std::time::{Clock, Duration};
 /// How many milliseconds the end of a run waits for the last lines to be written.
 const LAST_LINES: u64 = 1_000;
 
-/// A log of connections. Its lock is held while a connection is put or taken, and never while a line is written.
+/// A log. Its lock is held while a line is put or taken, and never while a line is written.
 #[derive(Drop)]
 pub struct Log {
     waiting: Mutex<Waiting>,
@@ -38,10 +37,10 @@ impl Log {
         })
     }
 
-    /// Puts a connection behind those that wait to be written, or counts it where too many do. It waits for no line.
-    pub fn note<R: Wait>(&self, rt: &R, connection: Connection) {
+    /// Puts a line behind those that wait to be written, or counts it where too many do. It waits for no other line.
+    pub fn note<R: Wait>(&self, rt: &R, line: LogLine) {
         let mut waiting = self.waiting.lock(rt);
-        waiting.put(connection);
+        waiting.put(line);
         MutexGuard::unlock(waiting);
         self.changed.notify_all();
     }

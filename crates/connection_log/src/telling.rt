@@ -1,7 +1,6 @@
 //! Lines, written one after the other as far as that can be done.
 ghost use Rattle.connection_log.specs.Lines.{TellsEntry, TellsEach, TellsEnd, TellsBatch};
 
-use crate::connection::Connection;
 use crate::line::{Ending, LineText, LogLine};
 use crate::waiting::Taken;
 use byte_stream::sink::Sink;
@@ -19,17 +18,12 @@ fn tell_entry<W: Sink>(writer: &mut W, text: &mut LineText, entry: &LogLine, dro
     }
 }
 
-fn tell_each<W: Sink>(
-    writer: &mut W,
-    text: &mut LineText,
-    connections: &[Connection],
-    dropped: u64,
-) -> u64
-    ensures { TellsEach dropped connections.now result (W.contents writer.old) (W.contents writer.new) }
+fn tell_each<W: Sink>(writer: &mut W, text: &mut LineText, lines: &[LogLine], dropped: u64) -> u64
+    ensures { TellsEach dropped lines.now result (W.contents writer.old) (W.contents writer.new) }
 {
     let mut left = dropped;
-    for connection in connections {
-        left = tell_entry(writer, text, &LogLine::Connection(*connection), left);
+    for line in lines {
+        left = tell_entry(writer, text, line, left);
     }
     left
 }
@@ -43,17 +37,17 @@ fn tell_end<W: Sink>(writer: &mut W, text: &mut LineText, end: Option<Ending>, d
     }
 }
 
-/// Writes the lines of connections, and the one of all where the end has come. `refused` lines were dropped behind the connections'.
+/// Writes lines, and the one of all connections where the end has come. `refused` lines were dropped behind these.
 /// The number of lines that the next one tells as dropped, those among them that can't be written.
 pub fn tell_batch<W: Sink>(
     writer: &mut W,
     text: &mut LineText,
-    connections: &[Connection],
+    lines: &[LogLine],
     taken: Taken,
     dropped: u64,
 ) -> u64
-    ensures { TellsBatch dropped connections.now taken.refused taken.end result (W.contents writer.old) (W.contents writer.new) }
+    ensures { TellsBatch dropped lines.now taken.refused taken.end result (W.contents writer.old) (W.contents writer.new) }
 {
-    let left = tell_each(writer, text, connections, dropped);
+    let left = tell_each(writer, text, lines, dropped);
     tell_end(writer, text, taken.end, left.saturating_add(taken.refused))
 }

@@ -1,10 +1,9 @@
-//! What waits to be written: so many connections at most.
+//! What waits to be written: so many lines at most.
 ghost use Rattle.std.specs.Prelude.{◌≡◌, [], true, Some};
 ghost use Rattle.connection_log.specs.Waits.{HasPut, HasTaken};
 
 use crate::batch::{Batch, MOST_WAITING};
-use crate::connection::Connection;
-use crate::line::Ending;
+use crate::line::{Ending, LogLine};
 use std::alloc::{AllocError, Global};
 use std::mem;
 
@@ -12,15 +11,15 @@ use std::mem;
 #[derive(Drop)]
 pub struct Waiting {
     batch: Batch,
-    /// The connections that found no room.
+    /// The lines that found no room.
     refused: u64,
-    /// What all of them came to, once the last is served.
+    /// What all connections came to, once the last is served.
     end: Option<Ending>,
     /// The end is written, as far as it can be.
     is_over: bool,
 }
 
-/// What was taken beside the connections.
+/// What was taken beside the lines.
 #[derive(Clone, Copy, Debug)]
 pub struct Taken {
     pub refused: u64,
@@ -39,15 +38,15 @@ impl Waiting {
         })
     }
 
-    /// Puts a connection behind those that wait. Where there is no room for it, it is counted alone.
-    pub fn put(&mut self, connection: Connection)
-        ensures { HasPut self.old connection self.new }
+    /// Puts a line behind those that wait. Where there is no room for it, it is counted alone.
+    pub fn put(&mut self, line: LogLine)
+        ensures { HasPut self.old line self.new }
     {
         if self.batch.list.len() >= MOST_WAITING {
             self.refused = self.refused.saturating_add(1);
             return;
         }
-        let _ = self.batch.list.push(connection);
+        let _ = self.batch.list.push(line);
     }
 
     /// All connections are served.
@@ -62,7 +61,7 @@ impl Waiting {
         self.batch.list.is_empty() && self.refused == 0 && self.end.is_none()
     }
 
-    /// Takes all that waits. The connections are those of the other list then, which is the one that fills from now on.
+    /// Takes all that waits. The lines are those of the other list then, which is the one that fills from now on.
     pub fn take(&mut self, batch: &mut Batch) -> Taken
         requires { batch.old.list.items ≡ [] }
         ensures { HasTaken self.old batch.new.list.items result self.new }

@@ -1,6 +1,7 @@
 //! Connections that are watched: each is told to a log when it ends.
 use crate::connection::connection_of;
 use crate::counting::{CountedSink, CountedSource};
+use crate::line::{LogLine, Room};
 use crate::log::Log;
 use crate::moment::moment_now;
 use http_arrivals::arrivals::Arrivals;
@@ -17,6 +18,9 @@ pub trait Watched: Listens {
     ghost use Rattle.http_arrivals.specs.declared.ran.Ran.{Ran};
 
     ghost heard: { Self → Ran → Type 0 };
+
+    /// Hears how many pages are free before streams are served, and how many a whole revision asks for.
+    fn begin(&self, free_pages: u64, revision_pages: u64);
 
     /// Hears what all streams came to.
     fn hear(&self, ran: Ran)
@@ -86,7 +90,7 @@ impl<'r, 'a, 'l, A: Listens, R: Wait + Clock> Arrivals for Watching<'r, 'a, 'l, 
         self.arrivals
             .ended(reader.into_inner(), writer.into_inner(), served);
         if let Some(log) = self.log {
-            log.note(self.rt, connection);
+            log.note(self.rt, LogLine::Connection(connection));
         }
     }
 }
@@ -105,6 +109,21 @@ impl<'r, 'a, 'l, A: Listens, R: Wait + Clock> Listens for Watching<'r, 'a, 'l, A
 impl<'r, 'a, 'l, A: Listens, R: Wait + Clock> Watched for Watching<'r, 'a, 'l, A, R> {
     // What a log got of it isn't known.
     ghost heard = { λ _ _. Unit {0} };
+
+    /// Tells it to the log.
+    fn begin(&self, free_pages: u64, revision_pages: u64) {
+        if let Some(log) = self.log {
+            let at = moment_now(self.rt);
+            log.note(
+                self.rt,
+                LogLine::Room(Room {
+                    at,
+                    free_pages,
+                    revision_pages,
+                }),
+            );
+        }
+    }
 
     /// Tells it to the log, and waits for the last lines, for a second at most.
     fn hear(&self, ran: Ran) {

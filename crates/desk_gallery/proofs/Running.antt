@@ -1,5 +1,5 @@
 -- A run with one command more.
-use Rattle.std.proofs.Common.{◌≡◌, ℕ, ◌+◌, List, [], ◌∷◌, ◌++◌, length, refl, sym, ap, ◌∙◌, arith, append_assoc, length-append}
+use Rattle.std.proofs.Common.{◌≡◌, ℕ, ◌+◌, Bool, false, List, [], ◌∷◌, ◌++◌, length, refl, sym, ap, ◌∙◌, arith, append_assoc, length-append, subst}
 use Rattle.std.proofs.lemmas.List.{append-nil}
 use Rattle.std.proofs.lemmas.List.Elements.{All-nil, All-push, All-weaker}
 use Rattle.sector_device.specs.declared.SectorDevice.{Ghosts}
@@ -9,7 +9,8 @@ use Rattle.desk_model.specs.declared.reply.Reply.TheVariants as reply
 use Rattle.desk_model.specs.Outcome.{IsAcceptance}
 use Rattle.desk_store.specs.declared.clerk.Clerk.{Clerk}
 use Rattle.desk_store.specs.Commands.{Does}
-use Rattle.desk_runs.specs.Runs.{Call, Run, acknowledged, if_accepted}
+use Rattle.desk_runs.specs.Runs.{Call, acknowledged, if_accepted}
+use Rattle.swept_runs.specs.Runs.{Tends, SweptRun}
 use Rattle.desk_gallery.specs.Begun.{Beginning, BeginsWith, HasRun}
 use Rattle.desk_gallery.specs.Telling.{accepted_in, halted_in, halts_of}
 
@@ -47,21 +48,47 @@ halts_more [] c r = omega arith
 halts_more (e ∷ calls) c r = omega (arith, halts_more calls c r)
 
 module _ {D : Type 0} {g : Ghosts D} where
-  run_more : (x y z : Clerk D g) (calls : List Call) (c : Command) (r : Reply) → Run x calls y → Does y c r z → Run x (calls ++ (c, r) ∷ []) z
-  run_more x _ z _ c r (Run.over _) does = Run.went x c r z [] z does (Run.over z)
-  run_more x y z _ c r (Run.went _ d q w calls _ does run) last = Run.went x d q w (calls ++ (c, r) ∷ []) z does (run_more w y z calls c r run last)
+  -- one run behind the other
+  run_on : (a : Bool) (x : Clerk D g) (calls : List Call) (b : Bool) (y : Clerk D g) (more : List Call) (e : Bool) (z : Clerk D g) → SweptRun a x calls b y → SweptRun b y more e z → SweptRun a x (calls ++ more) e z
+  run_on a x _ _ y more e z (SweptRun.over _ _) rest = rest
+  run_on a x _ b y more e z (SweptRun.went _ _ c r w calls _ _ does run) rest = SweptRun.went a x c r w (calls ++ more) e z does (run_on a w calls b y more e z run rest)
+  run_on a x calls b y more e z (SweptRun.tended _ _ m w _ _ _ tends run) rest = SweptRun.tended a x m w (calls ++ more) e z tends (run_on m w calls b y more e z run rest)
 
-  pub has_run_more : (begins : Beginning) (asked : Command → Type 0) (x y : Clerk D g) (shown new : List Command) (halts more : ℕ) (c : Command) (r : Reply) → asked c → HasRun begins asked x shown halts → Does x c r y
-      → (IsAcceptance r → new ≡ shown ++ c ∷ []) → ((IsAcceptance r → ⊥) → new ≡ shown) → more ≡ halts + halted_in r → HasRun begins asked y new more
-  has_run_more begins asked x y shown new halts more c r one so_far does joined same counted = record {
-    first = so_far.first;
-    began = so_far.began;
-    calls = so_far.calls ++ (c, r) ∷ [];
-    run = run_more so_far.first x y so_far.calls c r so_far.run does;
-    each = All-push (λ (call : Call). asked call.0) so_far.calls (c, r) so_far.each one;
-    are_shown = acknowledged_more so_far.calls c r ∙ (ap (λ (l : List Command). l ++ if_accepted c r) so_far.are_shown ∙ sym (grown_by shown new c r joined same));
-    are_halts = halts_more so_far.calls c r ∙ (ap (λ (n : ℕ). n + halted_in r) so_far.are_halts ∙ sym counted);
-  }
+  pub has_run_more : (begins : Beginning) (asked : Command → Type 0) (x y : Clerk D g) (shown new : List Command) (halts more : ℕ) (c : Command) (r : Reply) → asked c → (so_far : HasRun begins asked x shown halts) → Does x c r y
+      → (IsAcceptance r → new ≡ shown ++ c ∷ []) → ((IsAcceptance r → ⊥) → new ≡ shown) → more ≡ halts + halted_in r
+      → (ran : HasRun begins asked y new more) × (ran.checked ≡ so_far.checked)
+  has_run_more begins asked x y shown new halts more c r one so_far does joined same counted = (
+    record {
+      first = so_far.first;
+      began = so_far.began;
+      calls = so_far.calls ++ (c, r) ∷ [];
+      checked = so_far.checked;
+      run = run_on false so_far.first so_far.calls so_far.checked x ((c, r) ∷ []) so_far.checked y so_far.run (SweptRun.went so_far.checked x c r y [] so_far.checked y does (SweptRun.over so_far.checked y));
+      each = All-push (λ (call : Call). asked call.0) so_far.calls (c, r) so_far.each one;
+      are_shown = acknowledged_more so_far.calls c r ∙ (ap (λ (l : List Command). l ++ if_accepted c r) so_far.are_shown ∙ sym (grown_by shown new c r joined same));
+      are_halts = halts_more so_far.calls c r ∙ (ap (λ (n : ℕ). n + halted_in r) so_far.are_halts ∙ sym counted);
+    },
+    refl,
+  )
+
+  -- with a step of a sweep more
+  pub has_run_tended : (begins : Beginning) (asked : Command → Type 0) (x y : Clerk D g) (shown : List Command) (halts : ℕ) (was is : Bool) (so_far : HasRun begins asked x shown halts) → so_far.checked ≡ was → Tends was x is y
+      → (ran : HasRun begins asked y shown halts) × (ran.checked ≡ is)
+  has_run_tended begins asked x y shown halts was is so_far same tends = (
+    record {
+      first = so_far.first;
+      began = so_far.began;
+      calls = so_far.calls;
+      checked = is;
+      run = subst (λ (l : List Call). SweptRun false so_far.first l is y) (append-nil so_far.calls)
+          (run_on false so_far.first so_far.calls so_far.checked x [] is y so_far.run
+          (SweptRun.tended so_far.checked x is y [] is y (subst (λ (a : Bool). Tends a x is y) (sym same) tends) (SweptRun.over is y)));
+      each = so_far.each;
+      are_shown = so_far.are_shown;
+      are_halts = so_far.are_halts;
+    },
+    refl,
+  )
 
   -- of whose commands something else is known, too
   pub has_run_as : (begins : Beginning) (asked other : Command → Type 0) (x : Clerk D g) (shown : List Command) (halts : ℕ) → ((c : Command) → asked c → other c) → HasRun begins asked x shown halts → HasRun begins other x shown halts
@@ -69,12 +96,15 @@ module _ {D : Type 0} {g : Ghosts D} where
     first = ran.first;
     began = ran.began;
     calls = ran.calls;
+    checked = ran.checked;
     run = ran.run;
     each = All-weaker (λ (call : Call). asked call.0) (λ (call : Call). other call.0) (λ call is. also call.0 is) ran.calls ran.each;
     are_shown = ran.are_shown;
     are_halts = ran.are_halts;
   }
 
-  pub has_run_none : (begins : Beginning) (asked : Command → Type 0) (x : Clerk D g) (shown : List Command) (halts : ℕ) → BeginsWith begins x → shown ≡ [] → halts ≡ 0 → HasRun begins asked x shown halts
-  has_run_none begins asked x shown halts began none no_halt =
-      record { first = x; began = began; calls = []; run = Run.over x; each = All-nil (λ (call : Call). asked call.0); are_shown = sym none; are_halts = sym no_halt }
+  pub has_run_none : (begins : Beginning) (asked : Command → Type 0) (x : Clerk D g) (shown : List Command) (halts : ℕ) → BeginsWith begins x → shown ≡ [] → halts ≡ 0 → (ran : HasRun begins asked x shown halts) × (ran.checked ≡ false)
+  has_run_none begins asked x shown halts began none no_halt = (
+    record { first = x; began = began; calls = []; checked = false; run = SweptRun.over false x; each = All-nil (λ (call : Call). asked call.0); are_shown = sym none; are_halts = sym no_halt },
+    refl,
+  )

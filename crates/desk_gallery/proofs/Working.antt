@@ -1,5 +1,5 @@
 -- A command at the clerk beside the writer.
-use Rattle.std.proofs.Common.{◌≡◌, ◌⊎◌, ◌+◌, Bool, true, false, List, [], ◌∷◌, ◌++◌, length, inl, inr, refl, sym, ap, subst, ◌∙◌, arith, length-append}
+use Rattle.std.proofs.Common.{◌≡◌, ◌⊎◌, ◌+◌, ℕ, Bool, Option, Result, true, false, List, [], ◌∷◌, ◌++◌, length, inl, inr, refl, sym, ap, subst, ◌∙◌, arith, length-append}
 use mathlib.Core.List.{IsPrefix}
 use Rattle.sector_device.specs.declared.SectorDevice.{Ghosts}
 use Rattle.desk_model.specs.declared.command.Command.{Command}
@@ -18,12 +18,15 @@ use Rattle.desk_store.specs.Commands.{command_of, after_of, MustBeFull, PrepareE
 use Rattle.desk_store.proofs.Kept.{acceptance_is, accepted_is}
 use Rattle.desk_store.proofs.Done.{refused_does, committed_does}
 use Rattle.desk_gallery.specs.After.{after}
-use Rattle.desk_gallery.specs.Fronts.{Kept, kept_of, IsClerk, Works, OpensShown}
+use Rattle.store_sweep.specs.declared.error.SweepError.{SweepError}
+use Rattle.desk_gallery.specs.Fronts.{Kept, kept_of, IsClerk, Works, SweepsOn, OpensShown}
 use Rattle.desk_gallery.specs.Outcomes.{OutcomeMay}
 use Rattle.desk_gallery.specs.Working.{AreAccepted, Agree, Worked}
 use Rattle.desk_gallery.proofs.Afters.{after_more, accepted_more}
 use Rattle.desk_gallery.proofs.Outcomes.{outcome_is}
 use Rattle.desk_gallery.proofs.Pasts.{prefix_self}
+use Rattle.swept_runs.specs.Runs.{Tends}
+use Rattle.swept_runs.specs.Steps.{StepMay}
 
 either : (b : Bool) → (b ≡ true) ⊎ (b ≡ false)
 either true = inl refl
@@ -130,6 +133,32 @@ module _ {D : Type 0} {g : Ghosts D} where
 
   pub is_clerk_of : (first : Desk) (x : Clerk D g) (s : List Command × List Command) (f : Kept D) → kept_of x s ≡ f → Agree first x s → IsClerk first f x
   is_clerk_of first x s f is agree = subst (λ (k : Kept D). IsClerk first k x) is (is_clerk first x s agree)
+
+  -- a step of a sweep
+  pub agree_tended : (first : Desk) (was : Bool) (x : Clerk D g) (is : Bool) (y : Clerk D g) (s : List Command × List Command) → Agree first x s → Tends was x is y → Agree first y s
+  agree_tended first was x is y s agree tends = record {
+    desk = tends.desk ∙ agree.desk;
+    none = λ off. agree.none (elim (either x.halted) [
+      | inl on ↦ absurd (clash_of y.halted (tends.moves.still on).2 off)
+      | inr works ↦ works
+    ]);
+    few = agree.few;
+    begins = agree.begins;
+    accepted = agree.accepted;
+  }
+
+  pub sweeps_of : (first : Desk) (was : Bool) (x : Clerk D g) (is : Bool) (y : Clerk D g) (s : List Command × List Command) (old : Kept D) (did : Result (Option ℕ) SweepError) → kept_of x s ≡ old → Agree first x s → Tends was x is y → StepMay was x did y
+      → SweepsOn g first old did (kept_of y s)
+  sweeps_of first was x is y s old did same agree tends may = record {
+    clerk = x;
+    is = is_clerk_of first x s old same agree;
+    next = y;
+    is_next = is_clerk first y s (agree_tended first was x is y s agree tends);
+    was_checked = was;
+    is_checked = is;
+    tends = tends;
+    may = may;
+  }
 
   pub works_of : (first : Desk) (x y : Clerk D g) (s t : List Command × List Command) (old : Kept D) (c : Command) (reply : Reply) → kept_of x s ≡ old → Agree first x s → Worked first x s c reply y t → Works g first old c reply (kept_of y t)
   works_of first x y s t old c reply was agree worked = record {

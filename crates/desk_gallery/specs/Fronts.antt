@@ -1,8 +1,9 @@
 -- What lies under an office's lock, as the layers above see it.
-use Rattle.std.specs.Prelude.{◌≡◌, ℕ, Bool, List}
+use Rattle.std.specs.Prelude.{◌≡◌, ℕ, Bool, Option, List, Result}
 use Rattle.sector_device.specs.Disk.{Image}
 use Rattle.sector_device.specs.declared.SectorDevice.{Ghosts}
 use Rattle.page_store.specs.Transactions.{device_in}
+use Rattle.store_sweep.specs.declared.error.SweepError.{SweepError}
 use Rattle.desk_model.specs.declared.command.Command.{Command}
 use Rattle.desk_model.specs.declared.reply.Reply.{Reply}
 use Rattle.desk_model.specs.Desk.{Desk}
@@ -10,6 +11,8 @@ use Rattle.desk_store.specs.declared.clerk.Clerk.{Clerk}
 use Rattle.desk_store.specs.Keeping.{IsLeft}
 use Rattle.desk_store.specs.Clerks.{desk_of, is_halted, sectors_of, room_of, free_of, pages_of}
 use Rattle.desk_store.specs.Commands.{Does}
+use Rattle.swept_runs.specs.Runs.{Tends}
+use Rattle.swept_runs.specs.Steps.{StepMay}
 use Rattle.desk_gallery.specs.After.{after}
 
 -- the store's device, whether it has halted, its sizes, the changes that are shown, and these with what is pending behind them
@@ -50,6 +53,17 @@ pub record Works {D : Type 0} (g : Ghosts D) (first : Desk) (old : Kept D) (c : 
   pub next : Clerk D g
   pub is_next : IsClerk first new next
   pub does : Does clerk c reply next
+
+-- what became of a step of a sweep, at the clerk that lies there: the desk that is shown stays, and so does what images open to
+pub record SweepsOn {D : Type 0} (g : Ghosts D) (first : Desk) (old : Kept D) (did : Result (Option ℕ) SweepError) (new : Kept D) : Type 0 where
+  pub clerk : Clerk D g
+  pub is : IsClerk first old clerk
+  pub next : Clerk D g
+  pub is_next : IsClerk first new next
+  pub was_checked : Bool
+  pub is_checked : Bool
+  pub tends : Tends was_checked clerk is_checked next
+  pub may : StepMay was_checked clerk did next
 
 -- each image that a stop may leave opens to the desk that is shown, or after a halt to that or to the desk after one change more
 abbrev pub OpensShown : {D : Type 0} → Ghosts D → Desk → Kept D → Type 0

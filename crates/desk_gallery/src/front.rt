@@ -14,10 +14,12 @@ use desk_model::command::Command;
 use desk_model::reply::{Refusal, Reply};
 use desk_store::clerk::Clerk;
 use desk_store::ready::Ready;
+use desk_store::sweeps::SweepError;
 use sector_device::SectorDevice;
 use std::alloc::Global;
 use std::marker::Model;
 use std::sync::{Arc, Wait};
+use swept_runs::tending::tend;
 
 /// Commits a command whose change waits to be shown, and shows it once the commit is done. A fault leaves it pending. What is shown
 /// then is told with the catalogue after it.
@@ -75,6 +77,7 @@ pub struct Front<J: Room, D: SectorDevice> {
     pub(crate) clerk: Clerk<D>,
     pub(crate) shower: Shower<J>,
     pub(crate) books: Books<J>,
+    is_checked: bool,
 }
 
 impl<J: Room, D: SectorDevice> Model for Front<J, D> {
@@ -88,7 +91,8 @@ impl<J: Room, D: SectorDevice> Model for Front<J, D> {
 
     ghost view = { λ f. kept_of f.clerk f.shower };
 
-    ghost invariant = { λ f. Agree J.first f.clerk f.shower × (J.sound → Keeps f.clerk) × HasRun J.begins J.asked f.clerk f.shower.0 f.books.halted.total
+    ghost invariant = { λ f. Agree J.first f.clerk f.shower × (J.sound → Keeps f.clerk)
+        × (ran : HasRun J.begins J.asked f.clerk f.shower.0 f.books.halted.total) × (ran.checked ≡ f.is_checked)
         × (f.books.accepted.total ≡ length f.shower.0) };
 }
 
@@ -99,7 +103,7 @@ impl<J: Room, D: SectorDevice> Front<J, D> {
     ghost use Rattle.desk_store.specs.Clerks.{desk_of, is_halted, Keeps};
     ghost use Rattle.desk_gallery.specs.After.{after};
     ghost use Rattle.desk_gallery.specs.Begun.{BeginsWith, HasRun};
-    ghost use Rattle.desk_gallery.specs.Fronts.{kept_of, IsClerk, Works, OpensShown};
+    ghost use Rattle.desk_gallery.specs.Fronts.{kept_of, IsClerk, Works, SweepsOn, OpensShown};
     ghost use Rattle.desk_gallery.specs.Outcomes.{OutcomeMay};
     ghost use Rattle.desk_gallery.specs.Telling.{accepted_in, halted_in};
     ghost use Rattle.desk_gallery.specs.Working.{AreAccepted, Joins};
@@ -117,6 +121,7 @@ impl<J: Room, D: SectorDevice> Front<J, D> {
             clerk,
             shower,
             books,
+            is_checked: false,
         }
     }
 
@@ -193,6 +198,18 @@ impl<J: Room, D: SectorDevice> Front<J, D> {
         (reply, told)
     }
 
+    /// A step of a sweep: no command, and nothing that is shown. The first one that isn't refused checks the holdings, and no row is taken
+    /// out before. Each other takes out or changes up to 16 of the rows that deleted plans and stopped loads left: how many there were, 0
+    /// only where none is left. Once the device has failed nothing is done.
+    pub fn sweep_step(&mut self, alloc: Global) -> Result<Option<usize>, SweepError>
+        ensures sweeps { SweepsOn D.SectorDevice J.first self.old result self.new }
+        ensures shown { (self.new.shown ≡ self.old.shown) × (self.new.all ≡ self.old.all) }
+    {
+        let (is_checked, swept) = tend(alloc, &mut self.clerk, self.is_checked);
+        self.is_checked = is_checked;
+        swept
+    }
+
     /// The clerk, whom commands left of the first one, those that are shown acknowledged. It waits for those that are visiting.
     pub fn close<R: Wait>(self, rt: &R) -> Clerk<D>
         ensures clerk { IsClerk J.first self result }
@@ -204,6 +221,7 @@ impl<J: Room, D: SectorDevice> Front<J, D> {
             clerk,
             shower,
             books: _,
+            is_checked: _,
         } = self;
         shower.close(rt);
         clerk
@@ -224,6 +242,7 @@ impl<J: Room, D: SectorDevice> Front<J, D> {
             clerk,
             shower,
             mut books,
+            is_checked: _,
         } = self;
         books.audit(&mut tallies);
         shower.close(rt);

@@ -1,4 +1,4 @@
-//! A front behind one lock.
+//! A front behind one lock, and who sweeps beside those that take it.
 ghost use Rattle.std.specs.Prelude.{◌≡◌, []};
 ghost use Rattle.desk_store.specs.Clerks.{desk_of, Keeps};
 ghost use Rattle.desk_gallery.specs.After.{after};
@@ -7,15 +7,19 @@ ghost use Rattle.desk_gallery.specs.Working.{IsRunFrom};
 
 use crate::book::Room;
 use crate::front::Front;
+use crate::pace::Pace;
 use crate::shower::Shower;
 use crate::tally::Books;
 use desk_store::clerk::Clerk;
+use desk_store::sweeps::SweepError;
 use sector_device::SectorDevice;
+use std::alloc::Global;
 use std::sync::{Mutex, MutexGuard, Wait};
 
 /// The clerk and the writer, for one thread at a time.
 pub struct Office<J: Room, D: SectorDevice> {
     front: Mutex<Front<J, D>>,
+    pace: Pace,
 }
 
 impl<J: Room, D: SectorDevice> Office<J, D> {
@@ -29,17 +33,72 @@ impl<J: Room, D: SectorDevice> Office<J, D> {
     {
         Office {
             front: Mutex::new(Front::new(clerk, shower, books)),
+            pace: Pace::new(),
         }
     }
 
-    /// Lends the front. It waits for whoever has it.
+    /// Lends the front for a command. It waits for whoever has it.
     pub fn lock<R: Wait>(&self, rt: &R) -> MutexGuard<'_, Front<J, D>> {
+        self.pace.note_command();
         self.front.lock(rt)
+    }
+
+    /// A plan was deleted: it leaves rows that a sweep takes out.
+    pub fn note_rows(&self) {
+        self.pace.note_rows();
+    }
+
+    /// Notes what came of a step: whether others may follow. Where memory is refused the next one comes behind the next deleted plan;
+    /// where the device failed, or the rows are no desk's, none does.
+    fn note_step(&self, swept: Result<Option<usize>, SweepError>) -> bool {
+        match swept {
+            Ok(None) => true,
+            Ok(Some(count)) => {
+                if count == 0 {
+                    self.pace.note_none();
+                }
+                true
+            }
+            Err(SweepError::Memory) => {
+                self.pace.note_none();
+                true
+            }
+            Err(_) => false,
+        }
+    }
+
+    /// A step of a sweep, once nobody has the front: whether others may follow.
+    fn sweep_step<R: Wait>(&self, rt: &R, alloc: Global) -> bool {
+        let mut front = self.front.lock(rt);
+        let swept = front.sweep_step(alloc);
+        let goes_on = self.note_step(swept);
+        MutexGuard::unlock(front);
+        goes_on
+    }
+
+    /// Sweeps step by step, while rows are left and commands leave it time, until the sweeps are ended.
+    pub fn sweep_on<R: Wait>(&self, rt: &R, alloc: Global) {
+        let mut last = self.pace.moves();
+        for _ in rt.forever() {
+            if !self.pace.wait(rt, last) {
+                return;
+            }
+            last = self.pace.moves();
+            if !self.sweep_step(rt, alloc) {
+                return;
+            }
+        }
+        unreachable!()
+    }
+
+    /// Ends the sweeps: a step that was begun is the last.
+    pub fn end_sweeps(&self) {
+        self.pace.end();
     }
 
     /// The front, once nobody has it.
     pub fn into_front(self) -> Front<J, D> {
-        let Office { front } = self;
+        let Office { front, pace: _ } = self;
         front.into_inner()
     }
 
@@ -50,7 +109,7 @@ impl<J: Room, D: SectorDevice> Office<J, D> {
         ensures ran { IsRunFrom J.first (desk_of result) }
         ensures left { IsLeftBy J.first J.begins J.asked result }
     {
-        let Office { front } = self;
+        let Office { front, pace: _ } = self;
         front.into_inner().close(rt)
     }
 }

@@ -1,6 +1,7 @@
 //! What passes the gate between workers.
 use audit_report::report::Report;
 use audit_workers::audit::audit_with;
+use audit_workers::crew::Crew;
 use desk_model::gate::Gate;
 use desk_model::geography::{Geography, sample};
 use desk_model::kind::Kind;
@@ -37,6 +38,12 @@ impl InTurn {
             self.in_turn.fetch_add(1, Ordering::SeqCst);
         }
     }
+}
+
+impl Crew for InTurn {
+    ghost begins = { λ _ _ _. Unit {0} };
+
+    fn begin(&self, _worker: u32, _workers: u32) {}
 }
 
 impl Gate for InTurn {
@@ -108,6 +115,12 @@ impl HoldsFirst {
         }
         self.faults.fetch_add(1, Ordering::SeqCst);
     }
+}
+
+impl Crew for HoldsFirst {
+    ghost begins = { λ _ _ _. Unit {0} };
+
+    fn begin(&self, _worker: u32, _workers: u32) {}
 }
 
 impl Gate for HoldsFirst {

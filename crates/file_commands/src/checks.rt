@@ -1,17 +1,20 @@
 //! `check` over the file system and the standard streams.
-ghost use Rattle.std.specs.Prelude.{◌≤◌};
+ghost use Rattle.std.specs.Prelude.{◌≡◌, ◌≤◌, true};
 ghost use Rattle.state_files.specs.Opens.{AreAlike};
 ghost use Rattle.command_line.specs.Options.{AreTerms};
+ghost use Rattle.check_command.specs.Sharing.{IsDoneBy, is_of_report};
 
 use crate::faults::{explain_audit, explain_last, standard_error};
 use crate::files::Files;
 use crate::fronts::Fronted;
+use audit_workers::crew::Crew;
 use byte_stream::sink::WriteSink;
 use byte_stream::source::ReadSource;
 use check_command::audit_plan::audit_plan;
 use check_command::check::check;
 use command_line::options::Terms;
 use command_output::status::Status;
+use desk_model::gate::NoGate;
 use state_files::census::CensusFiles;
 use state_files::open::{AuditFiles, AuditPaths, CensusPaths, open_audit, open_census};
 use std::fs::File;
@@ -48,6 +51,24 @@ pub fn check_plan<T: Threads + Sync>(
     requires terms { AreTerms terms }
     requires beside { AreAlike paths.beside terms.beside }
 {
+    check_by(rt, threads, &NoGate, with_words, paths, terms, workers)
+}
+
+/// The same, where a crew is told of the workers.
+fn check_by<T: Threads + Sync, C: Crew + Sync>(
+    rt: &HostRuntime,
+    threads: &T,
+    crew: &C,
+    with_words: bool,
+    paths: AuditPaths<'_>,
+    terms: Terms,
+    workers: u16,
+) -> Status
+    requires working { 1 ≤ workers }
+    requires terms { AreTerms terms }
+    requires beside { AreAlike paths.beside terms.beside }
+    ensures { is_of_report result ≡ true → IsDoneBy C.begins crew.now workers terms.districts }
+{
     let (kind, districts) = (terms.kind, terms.districts);
     let mut opener = Files::new(rt);
     let mut files: AuditFiles<ReadSource<Fronted<File>>> = open_audit(
@@ -61,6 +82,7 @@ pub fn check_plan<T: Threads + Sync>(
         threads,
         rt.alloc(),
         workers as u32,
+        crew,
         &mut files,
         kind,
         districts,

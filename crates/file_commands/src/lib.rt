@@ -23,3 +23,4 @@ pub mod stating;
 pub mod stores;
 pub mod sweeping;
 pub mod talking;
+pub mod verifying;

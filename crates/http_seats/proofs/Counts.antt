@@ -126,6 +126,13 @@ module _ {R W : Type 0} (s : Traffic R W) (first : Desk) where
   as_many (v ∷ vs) [] each = absurd each
   as_many (v ∷ vs) (w ∷ ws) each = omega (arith, as_many vs ws each.1)
 
+  -- as many places are left as there were
+  pub left_many : (old : List (Option Seated)) (new : List (Option Seated × Ran)) → LeavesPlaces s first old new → length new ≡ length old
+  left_many [] [] left = refl
+  left_many [] (y ∷ ys) left = absurd left
+  left_many (x ∷ xs) [] left = absurd left
+  left_many (x ∷ xs) (y ∷ ys) left = omega (arith, left_many xs ys left.1)
+
 pub placed_many : {P : Type 0} (seen : P → Option Seated) (ran : P → Ran) (places : List P) (workers : List Worker) → map (standing seen ran) places ≡ map of_worker workers → length places ≡ length workers
 placed_many seen ran [] [] same = refl
 placed_many seen ran [] (w ∷ ws) same = absurd cc

@@ -1,5 +1,5 @@
 -- An office and its visitors may cross threads, as what is shown and the device may.
-use denote.Builtin.{unit}
+use denote.Builtin.{unit, bool}
 use denote.RattleType.{RattleType}
 use denote.Param.Send.{IsSend, IsSync, sendable, view_send}
 use denote.Param.SendFields.{declared_send}
@@ -105,12 +105,19 @@ module _ (D : RattleType) (h : device.Ghosts D.Denot) where
   pub clerk_send : IsSend D → IsSend (Clerk.the_row D h)
   clerk_send s = search (sendable, crosses, catalogue_send, catalogue_sync) depth 60 fits 20000
 
+pub flag_send : IsSend bool
+flag_send = search sendable depth 10
+
 module _ (J D : RattleType) (g : room.Ghosts J.Denot) (h : device.Ghosts D.Denot) where
   pub front_send : IsSend J → IsSend D → IsSend (Front.the_row J D h g)
-  front_send s t = view_send (FrontInside.the_row J D h g) _ _ _ _ (declared_send (FrontInside.the_type J D h g) (clerk_send D h t, (shower_send J g s, (books_send J g, tt))))
+  front_send s t = view_send (FrontInside.the_row J D h g) _ _ _ _ (declared_send (FrontInside.the_type J D h g) (clerk_send D h t, (shower_send J g s, (books_send J g, (flag_send, tt)))))
 
   pub office_sync : IsSend J → IsSend D → IsSync (Office.the_row J D g h)
   office_sync s t = search (sendable, crosses, front_send) depth 60 fits 20000
+
+-- what the sweeper's closure captures
+pub captures_send : (ν : Sym) (A B C E : RattleType) → IsSend A → IsSend B → IsSend C → IsSend E → IsSend (TupleAt ν (A ∷ B ∷ C ∷ E ∷ []))
+captures_send ν A B C E a b c e = search sendable depth 30
 
 -- what a worker's closure captures
 pub captures_sync : (ν : Sym) (A B C D E : RattleType) → IsSync A → IsSync B → IsSync C → IsSync D → IsSync E → IsSync (TupleAt ν (A ∷ B ∷ C ∷ D ∷ E ∷ []))

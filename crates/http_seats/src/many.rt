@@ -26,7 +26,7 @@ use http_desk::serve::serve;
 use sector_device::SectorDevice;
 use std::alloc::{AllocError, Global};
 use std::sync::Wait;
-use std::thread::{Threads, for_each_mut};
+use std::thread::{Threads, for_each_mut, join};
 
 /// A gate as one worker passes it.
 #[derive(Drop)]
@@ -188,6 +188,74 @@ fn serve_places<
     );
 }
 
+/// Serves streams at each place, and ends the sweeps of the office then: the places as they are left.
+fn serve_all<
+    J: Room + Send + Sync,
+    D: SectorDevice + Drop + Send + Sync,
+    A: Arrivals + Sync,
+    G: Gate + Sync,
+    R: Threads + Wait + Sync,
+>(
+    rt: &R,
+    alloc: Global,
+    office: &Office<J, D>,
+    places: Vec<WorkerPlace<J>>,
+    arrivals: &A,
+    gate: &G,
+) -> Vec<WorkerPlace<J>>
+    requires { (c : Command) → IsAskedOf (traffic A.gives A.takes_back A.Reader.Source A.Writer.Sink arrivals.now) c → J.asked c }
+    ensures { LeavesPlaces (traffic A.gives A.takes_back A.Reader.Source A.Writer.Sink arrivals.now) J.first
+        (map (λ p. p.guest) places.items) (map (λ p. (p.guest, p.totals.ran)) result.items) }
+{
+    let mut places = places;
+    serve_places(rt, alloc, office, places.as_mut_slice(), arrivals, gate);
+    office.end_sweeps();
+    places
+}
+
+/// Sweeps beside those that serve, if it is asked to.
+fn sweep_beside<J: Room, D: SectorDevice, R: Wait>(
+    rt: &R,
+    alloc: Global,
+    office: &Office<J, D>,
+    sweeps: bool,
+) {
+    if sweeps {
+        office.sweep_on(rt, alloc);
+    }
+}
+
+/// Serves streams at each place, with a thread beside that sweeps: the places as they are left. Where that thread can't be started nothing
+/// is swept.
+fn serve_beside<
+    J: Room + Send + Sync,
+    D: SectorDevice + Drop + Send + Sync,
+    A: Arrivals + Sync,
+    G: Gate + Sync,
+    R: Threads + Wait + Sync,
+>(
+    rt: &R,
+    alloc: Global,
+    office: &Office<J, D>,
+    sweeps: bool,
+    places: Vec<WorkerPlace<J>>,
+    arrivals: &A,
+    gate: &G,
+) -> Vec<WorkerPlace<J>>
+    requires { (c : Command) → IsAskedOf (traffic A.gives A.takes_back A.Reader.Source A.Writer.Sink arrivals.now) c → J.asked c }
+    ensures { LeavesPlaces (traffic A.gives A.takes_back A.Reader.Source A.Writer.Sink arrivals.now) J.first
+        (map (λ p. p.guest) places.items) (map (λ p. (p.guest, p.totals.ran)) result.items) }
+{
+    let sweep = move || sweep_beside(rt, alloc, office, sweeps);
+    let serve = move || -> Vec<WorkerPlace<J>>
+        requires { (c : Command) → IsAskedOf (traffic A.gives A.takes_back A.Reader.Source A.Writer.Sink arrivals.now) c → J.asked c }
+        ensures { LeavesPlaces (traffic A.gives A.takes_back A.Reader.Source A.Writer.Sink arrivals.entry.now) J.first
+            (map (λ p. p.guest) places.items) (map (λ p. (p.guest, p.totals.ran)) result.items) }
+    { serve_all(rt, alloc, office, places, arrivals, gate) };
+    let (_, left) = join(rt, sweep, serve);
+    left
+}
+
 /// The guest of a place has heard of no more than the front shows.
 fn know_at<J: Room, D: SectorDevice>(front: &mut Front<J, D>, place: &WorkerPlace<J>)
     ensures begins { IfSome place.now.guest (λ guest. IsPrefix guest.heard front.new.shown) }
@@ -217,6 +285,7 @@ fn know_all<J: Room, D: SectorDevice>(front: &mut Front<J, D>, places: &[WorkerP
 /// that grows, from what the visitor had heard of on, and that the commands begin with which the clerk has carried out in the end.
 /// Each command that the clerk was handed was asked for in the bytes of a stream that was given: this is what `asked` of the
 /// gallery's name has to say. Each that was accepted is done once: there are as many changes as answers that tell of one.
+/// With `sweeps` one more thread sweeps the store between commands, which no answer shows.
 /// Err where memory for the workers is refused, and then no stream was taken.
 pub fn serve_many<
     J: Room + Send + Sync,
@@ -228,6 +297,7 @@ pub fn serve_many<
     rt: &R,
     alloc: Global,
     office: Office<J, D>,
+    sweeps: bool,
     visitors: Vec<Visitor<J>>,
     tallies: Tallies<J>,
     arrivals: &A,
@@ -245,15 +315,15 @@ pub fn serve_many<
         J.first J.begins visitors.items result.0) }
 {
     let mut tallies = tallies;
-    let Ok(mut places) = places_for(alloc, visitors, &mut tallies) else {
+    let Ok(places) = places_for(alloc, visitors, &mut tallies) else {
         return (office.close(rt), Err(AllocError));
     };
-    let stands = places.as_mut_slice();
-    serve_places(rt, alloc, &office, stands, arrivals, gate);
+    let left = serve_beside(rt, alloc, &office, sweeps, places, arrivals, gate);
     let mut front = office.into_front();
+    let stands = left.as_slice();
     know_all(&mut front, stands);
     let totals = together(stands);
-    gather(&mut tallies, places);
+    gather(&mut tallies, left);
     let last = front.close_counted(rt, tallies);
     (last, Ok(totals.ran))
 }

@@ -34,6 +34,13 @@ fn front_for<'a, J: Room, D: SectorDevice, R: Wait>(
     front
 }
 
+/// Tells the office of the rows that a deleted plan leaves.
+fn note_rows<J: Room, D: SectorDevice>(office: &Office<J, D>, reply: &Reply) {
+    if let Reply::Retired { .. } = reply {
+        office.note_rows();
+    }
+}
+
 /// The answer of a catalogue, or Memory where none was given.
 fn answered(alloc: Global, shown: Result<Arc<Catalogue>, AllocError>, query: Query) -> Reply
     ensures { (d : Desk) → IfOk shown (λ s. s.value ≡ d) → AskMay d query result }
@@ -100,6 +107,7 @@ impl<'a, J: Room, D: SectorDevice, R: Wait> Counter for Seat<'a, J, D, R> {
         let mut front = front_for(self.rt, self.office, &self.visitor);
         let (reply, told) = front.command(self.rt, alloc, command, &mut self.tally);
         MutexGuard::unlock(front);
+        note_rows(self.office, &reply);
         self.visitor.learn(told);
         reply
     }

@@ -6,7 +6,7 @@ use crate::mark::Mark;
 use std::alloc::{AllocError, Global};
 use std::io::ErrorKind;
 use std::net::{TcpListener, TcpStream};
-use std::sync::atomic::{AtomicU64, Ordering};
+use std::sync::atomic::{AtomicBool, AtomicU64, Ordering};
 use std::sync::{Arc, Condvar, Mutex, MutexGuard, Wait};
 use std::thread;
 use std::thread::Threads;
@@ -32,6 +32,7 @@ pub struct Door {
     went: Condvar,
     waits: AtomicU64,
     faults: AtomicU64,
+    is_over: AtomicBool,
     marks: Vec<Mark>,
 }
 
@@ -117,6 +118,7 @@ impl Door {
             went: Condvar::new(),
             waits: AtomicU64::new(0),
             faults: AtomicU64::new(0),
+            is_over: AtomicBool::new(false),
             marks,
         })
     }
@@ -131,9 +133,14 @@ impl Door {
         None
     }
 
-    /// Whether a connection waits to which no other has given way. It has then.
+    /// Whether a connection waits to which no other has given way, which has then, or all are to give way.
     pub fn lets_another_in(&self) -> bool {
-        self.waits.swap(0, Ordering::SeqCst) > 0
+        self.waits.swap(0, Ordering::SeqCst) > 0 || self.is_over()
+    }
+
+    /// Whether each connection gives way once its requests are answered.
+    pub fn is_over(&self) -> bool {
+        self.is_over.load(Ordering::SeqCst)
     }
 
     /// Whether no further connection comes since the socket failed.
@@ -141,13 +148,30 @@ impl Door {
         self.faults.load(Ordering::SeqCst) > 0
     }
 
-    /// No further connection comes. Whoever waits for one lets it go.
-    pub fn fail<R: Wait>(&self, rt: &R) {
-        self.faults.store(1, Ordering::SeqCst);
+    /// No further connection is given to a worker. Whoever waits for one lets it go.
+    fn shut<R: Wait>(&self, rt: &R) {
         let mut entrance = self.entrance.lock(rt);
         entrance.shut();
         MutexGuard::unlock(entrance);
         self.came.notify_all();
+    }
+
+    /// The socket failed: no further connection comes.
+    pub fn fail<R: Wait>(&self, rt: &R) {
+        self.faults.store(1, Ordering::SeqCst);
+        self.shut(rt);
+    }
+
+    /// From now on each connection gives way once its requests are answered.
+    pub fn note_halt(&self) {
+        self.is_over.store(true, Ordering::SeqCst);
+    }
+
+    /// Where that was noted no further connection is served.
+    pub fn end<R: Wait>(&self, rt: &R) {
+        if self.is_over() {
+            self.shut(rt);
+        }
     }
 
     /// The next connection, or None where no further one comes. It waits for one.

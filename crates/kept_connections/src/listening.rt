@@ -59,7 +59,7 @@ impl<'a, R: Wait + Clock> Listening<'a, R> {
         let mark = self.door.mark()?;
         Some((
             KeptSource::new(self.rt, self.door, mark, stream, self.limits),
-            KeptSink::new(Gathering::new(other), mark),
+            KeptSink::new(Gathering::new(other), mark, self.door),
         ))
     }
 }
@@ -94,7 +94,7 @@ impl<'a, R: Wait + Clock + Sync> Arrivals for Listening<'a, R> {
         }
     }
 
-    /// Closes it.
+    /// Closes it. Where it was told that the store's device has failed, no further one is served.
     fn ended(
         &self,
         reader: KeptSource<'a, TcpStream, R>,
@@ -102,5 +102,6 @@ impl<'a, R: Wait + Clock + Sync> Arrivals for Listening<'a, R> {
         _served: Result<Served, StreamFault>,
     ) {
         reader.release();
+        self.door.end(self.rt);
     }
 }

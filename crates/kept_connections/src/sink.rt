@@ -1,17 +1,20 @@
 //! The writer of a connection, which marks its answers.
-ghost use Rattle.std.specs.Prelude.{◌≡◌, ◌++◌};
+ghost use Rattle.std.specs.Prelude.{◌≡◌, ◌++◌, nat_eq, codes};
+ghost use Rattle.std.specs.List.{ends_with};
 ghost use Rattle.byte_stream.specs.Sends.{Sends, failures_with};
 ghost use Rattle.kept_connections.specs.Answers.{is_answer as is_answer_text};
 
+use crate::door::Door;
 use crate::mark::Mark;
 use byte_stream::sink::{Sink, WriteFault};
 use http_answer::gather::GatherSink;
 
-/// The writer of a connection, which marks that it was answered.
+/// The writer of a connection, which marks that it was answered, and tells the door where the store's device has failed.
 #[derive(Drop)]
 pub struct KeptSink<'a, W> {
     writer: W,
     mark: &'a Mark,
+    door: &'a Door,
 }
 
 /// Whether a text answers a request: an interim answer, which is sent alone, doesn't.
@@ -24,11 +27,18 @@ fn is_answer(text: &[u8]) -> bool
     !text.starts_with(b"HTTP/1.1 1")
 }
 
+/// Whether the last answer in a text is the one to a command behind a fault of the store's device.
+fn tells_halt(text: &[u8]) -> bool
+    ensures { result ≡ ends_with nat_eq text.now (codes "{\"error\":\"Halted\"}") }
+{
+    text.ends_with(b"{\"error\":\"Halted\"}")
+}
+
 impl<'a, W: GatherSink> KeptSink<'a, W> {
-    pub fn new(writer: W, mark: &'a Mark) -> KeptSink<'a, W>
+    pub fn new(writer: W, mark: &'a Mark, door: &'a Door) -> KeptSink<'a, W>
         ensures writer { result.writer ≡ writer }
     {
-        KeptSink { writer, mark }
+        KeptSink { writer, mark, door }
     }
 }
 
@@ -43,6 +53,9 @@ impl<'a, W: GatherSink> Sink for KeptSink<'a, W> {
     {
         if is_answer(bytes) {
             self.mark.note_answer();
+        }
+        if tells_halt(bytes) {
+            self.door.note_halt();
         }
         self.writer.send(bytes)
     }

@@ -38,14 +38,14 @@ fn is_silence(kind: ErrorKind) -> bool
     }
 }
 
-/// The milliseconds that a clock shows. One that can't be read shows the last.
-fn time_of<R: Clock>(rt: &R) -> u64 {
+/// The milliseconds that a clock shows. Where it can't be read it is as late as when the last byte came, so that no request ends by time.
+fn time_of<R: Clock>(rt: &R, last: u64) -> u64 {
     match rt.monotonic() {
         Ok(time) => time
             .as_secs()
             .saturating_mul(1_000)
             .saturating_add(time.subsec_millis() as u64),
-        Err(_) => u64::MAX,
+        Err(_) => last,
     }
 }
 
@@ -63,7 +63,7 @@ fn take_turn<S: Read, R: Clock>(
     ensures patient { IsPatient limits.now pace.new }
     ensures timely { TakesInTime limits.now pace.old result }
 {
-    match pace.fate(pace.last, false, limits) {
+    match pace.fate(pace.last, door.is_over(), limits) {
         Fate::Waits => {}
         Fate::GivesWay => return Turn::Read(0),
         Fate::Fails => return Turn::Failed,
@@ -72,7 +72,7 @@ fn take_turn<S: Read, R: Clock>(
         match reader.read(buf) {
             Ok(0) => return Turn::Read(0),
             Ok(n) => {
-                *pace = pace.with_bytes(time_of(rt));
+                *pace = pace.with_bytes(time_of(rt, pace.last));
                 return Turn::Read(n);
             }
             Err(e) => {
@@ -83,7 +83,7 @@ fn take_turn<S: Read, R: Clock>(
         }
         *pace = pace.with_silence();
         let another_waits = !pace.asks && door.lets_another_in();
-        match pace.fate(time_of(rt), another_waits, limits) {
+        match pace.fate(time_of(rt, pace.last), another_waits, limits) {
             Fate::Waits => {}
             Fate::GivesWay => return Turn::Read(0),
             Fate::Fails => return Turn::Failed,

@@ -1,1 +1,2 @@
+mod Sweeping
 mod Served

@@ -1,5 +1,5 @@
 -- The run of an office as a life.
-use Rattle.std.proofs.Common.{◌≤◌, ℕ, subst, ◌∙◌}
+use Rattle.std.proofs.Common.{◌≤◌, ℕ, false, subst, ◌∙◌}
 use Rattle.sector_device.specs.declared.SectorDevice.{Ghosts}
 use Rattle.desk_model.specs.Desk.{Desk}
 use Rattle.desk_pages.specs.Desks.{OpensDesk}
@@ -8,11 +8,11 @@ use Rattle.desk_store.specs.Clerks.{desk_of, disk_of}
 use Rattle.desk_lives.specs.Lives.{Lived}
 use Rattle.desk_lives.specs.Bridge.{asked_in, told_in}
 use Rattle.desk_lives.specs.Inside.{LivedThrough}
-use Rattle.desk_lives.proofs.Bridging.{run_lived}
 use Rattle.http_arrivals.specs.declared.ran.Ran.{Ran}
 use Rattle.http_seats.specs.Streams.{Traffic}
 use Rattle.serve_command.specs.Lasting.{Outlasts, LastsAsked, ServesStreams}
 use Rattle.office_lives.specs.Offices.{Officed, Answered}
+use Rattle.office_lives.proofs.Sweeping.{swept_lived}
 
 module _ {D : Type 0} {g : Ghosts D} where
   -- the calls of a run from one who is like the first
@@ -23,7 +23,7 @@ module _ {D : Type 0} {g : Ghosts D} where
   calls_lived first last lasts =
       let start = lasts.start in
       let like = lasts.is_first in
-      let run = run_lived start lasts.calls last lasts.run in
+      let run = swept_lived false start lasts.calls lasts.checked last lasts.run in
       record {
         sectors = run.sectors ∙ like.sectors;
         honest = λ now. like.honest (run.honest now);

@@ -32,7 +32,7 @@ pub enum Told {
     Unopened(OpenError),
 }
 
-/// A device is opened as a store and served by so many workers, and given back as it is then.
+/// A device is opened as a store, swept and served by so many workers, and given back as it is then.
 pub fn serve_in<D: SectorDevice + Drop + Send + Sync, A: Arrivals + Sync, R: Threads + Wait + Sync>(
     rt: &R,
     alloc: Global,
@@ -48,7 +48,7 @@ pub fn serve_in<D: SectorDevice + Drop + Send + Sync, A: Arrivals + Sync, R: Thr
         Ok(clerk) => clerk,
         Err((e, device)) => return (Told::Unopened(e), device),
     };
-    match serve_clerk(rt, alloc, clerk, workers, arrivals) {
+    match serve_clerk(rt, alloc, clerk, workers, true, arrivals) {
         Ok((last, ran)) => (Told::Served(ran), last.into_device()),
         Err((_, last)) => (Told::Unserved, last.into_device()),
     }

@@ -10,6 +10,8 @@ mod long_trials;
 #[cfg(test)]
 mod memory_trials;
 #[cfg(test)]
+mod owner_trials;
+#[cfg(test)]
 mod page_trials;
 #[cfg(test)]
 mod place_trials;

@@ -13,6 +13,7 @@ use file_commands::migrating::migrate_desk;
 use file_commands::stating::stat_desk;
 use file_commands::sweeping::sweep_desk;
 use file_commands::talking::serve_talk;
+use file_commands::verifying::verify_desk;
 use sector_file::Contents;
 use std::io::Write;
 use std::sync::Wait;
@@ -65,6 +66,7 @@ fn run_job<T: Threads + Wait + Clock + Copy + Send + Sync + 'static, S: Contents
             serve_desk(rt, threads, words, name, serving, log, start)
         }
         Job::Stat(name, json) => stat_desk(rt, words, name, json, start),
+        Job::Verify(name) => verify_desk(rt, words, name, start),
         Job::Sweep(name) => sweep_desk(rt, words, name, start),
         Job::Migrate(name) => migrate_desk(rt, words, name, start),
         Job::Explain(code) => explain_code(rt, words, code),

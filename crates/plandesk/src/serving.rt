@@ -15,11 +15,11 @@ use kept_connections::listening::Listening;
 use kept_connections::pace::Limits;
 use sector_file::{Contents, FileDevice};
 use serve_command::log::refuse_log;
+use serve_command::loopback::listen_here;
 use serve_command::serve::{refuse_memory, serve};
 use state_files::fault::OpenFault;
 use std::alloc::Global;
 use std::io::IsTerminal;
-use std::net::{Ipv4Addr, TcpListener};
 use std::sync::{Arc, Wait};
 use std::thread::Threads;
 use std::time::Clock;
@@ -130,7 +130,7 @@ fn serve_watched<
     requires workers { 1 ≤ serving.workers }
     requires idle { 1 ≤ serving.patience.idle }
 {
-    let Ok(listener) = TcpListener::bind(rt, (Ipv4Addr::LOCALHOST, serving.port)) else {
+    let Ok(listener) = listen_here(rt, serving.port) else {
         return serve_nowhere(rt, threads, with_words, name, serving, start);
     };
     let connections = connections_of(&serving);
@@ -224,6 +224,7 @@ fn serve_at<A: Watched + Sync, T: Threads + Wait + Sync, S: Contents + Send + Sy
         &mut stores,
         name,
         serving,
+        serving.sweeps,
         listening,
         &mut writer,
         &mut errors,

@@ -141,7 +141,7 @@ fn serve_at<
     requires asked { (c : Command) → IsAskedOf (traffic A.gives A.takes_back A.Reader.Source A.Writer.Sink streams.now) c → J.asked c }
     requires only { (c : Command) → J.asked c → IsAskedOf (traffic A.gives A.takes_back A.Reader.Source A.Writer.Sink streams.now) c }
 {
-    let (_, ran) = serve_many(rt, alloc, office, visitors, tallies, streams, gate);
+    let (_, ran) = serve_many(rt, alloc, office, true, visitors, tallies, streams, gate);
     ran.expect(rt, "no memory")
 }
 

@@ -1,5 +1,5 @@
 -- A run from a clerk who is like the first one.
-use Rattle.std.proofs.Common.{◌≡◌, ℕ, false, Result, Ok, Err, IfOk, List, [], refl, sym, subst, ◌∙◌}
+use Rattle.std.proofs.Common.{◌≡◌, ℕ, Bool, false, Result, Ok, Err, IfOk, List, [], refl, sym, subst, ◌∙◌}
 use Rattle.std.proofs.lemmas.List.Elements.{All-nil}
 use Rattle.sector_device.specs.declared.SectorDevice.{Ghosts}
 use Rattle.desk_model.specs.declared.command.Command.{Command}
@@ -7,7 +7,8 @@ use Rattle.desk_model.specs.Desk.{Desk}
 use Rattle.desk_store.specs.declared.clerk.Clerk.{Clerk}
 use Rattle.desk_store.specs.Clerks.{desk_of, disk_of, is_halted}
 use Rattle.store_command.specs.Reading.{ShowsWhatIsRead}
-use Rattle.desk_runs.specs.Runs.{Call, Run, SurvivesEachRun}
+use Rattle.desk_runs.specs.Runs.{Call}
+use Rattle.swept_runs.specs.Runs.{SweptRun, SurvivesEachSwept}
 use Rattle.desk_gallery.specs.Begun.{IsLeftBy}
 use Rattle.desk_gallery.specs.Telling.{halts_of}
 use Rattle.desk_gallery.specs.Working.{AreAccepted}
@@ -16,20 +17,21 @@ use Rattle.http_seats.specs.Streams.{Traffic, IsAskedOf, AreCounted}
 use Rattle.serve_command.specs.Lasting.{IsLike, HasTalked, LastsAsked, Outlasts, ServesStreams}
 use Rattle.serve_command.specs.Outlasting.{OutlastsWhatIsRead}
 
-honest_before : {D : Type 0} {g : Ghosts D} (x : Clerk D g) (calls : List Call) (z : Clerk D g) → Run x calls z → (disk_of z).is_honest → (disk_of x).is_honest
-honest_before x _ z (Run.over _) honest = honest
-honest_before x _ z (Run.went _ c r y calls _ does run) honest = does.moves.honest (honest_before y calls z run honest)
+honest_before : {D : Type 0} {g : Ghosts D} (a : Bool) (x : Clerk D g) (calls : List Call) (b : Bool) (z : Clerk D g) → SweptRun a x calls b z → (disk_of z).is_honest → (disk_of x).is_honest
+honest_before a x _ _ z (SweptRun.over _ _) honest = honest
+honest_before a x _ b z (SweptRun.went _ _ c r y calls _ _ does run) honest = does.moves.honest (honest_before a y calls b z run honest)
+honest_before a x calls b z (SweptRun.tended _ _ m y _ _ _ tends run) honest = tends.moves.honest (honest_before m y calls b z run honest)
 
 -- from what the device read as it was opened
 pub lasts_on : {D : Type 0} {g : Ghosts D} (device : D) (first last : Clerk D g) → ShowsWhatIsRead device first → is_halted first ≡ false → (lasts : Outlasts first last) → OutlastsWhatIsRead device first last lasts
 lasts_on device first last shows working lasts honest d reads =
     let shown = shows d reads in
-    let was = lasts.is_first.honest (honest_before lasts.start lasts.calls last lasts.run honest) in
+    let was = lasts.is_first.honest (honest_before false lasts.start lasts.calls lasts.checked last lasts.run honest) in
     record { desk = shown.desk was; opening = shown.any_moment was; survives = lasts.survives shown.keeps working honest }
 
 module _ {D : Type 0} {g : Ghosts D} {R W : Type 0} (s : Traffic R W) where
   -- commands were done from a clerk like the first one
-  pub lasts_asked : (first last : Clerk D g) (start : Desk) → start ≡ desk_of first → ((x : Clerk D g) → SurvivesEachRun x) → IsLeftBy start (λ E h x. IsLike first x) (IsAskedOf s) last → LastsAsked s first last
+  pub lasts_asked : (first last : Clerk D g) (start : Desk) → start ≡ desk_of first → ((x : Clerk D g) → SurvivesEachSwept x) → IsLeftBy start (λ E h x. IsLike first x) (IsAskedOf s) last → LastsAsked s first last
   lasts_asked first last start same survive left =
       let ran = left.ran in
       record {
@@ -37,28 +39,30 @@ module _ {D : Type 0} {g : Ghosts D} {R W : Type 0} (s : Traffic R W) where
           start = ran.first;
           is_first = ran.began;
           calls = ran.calls;
+          checked = ran.checked;
           run = ran.run;
           accepted = subst (λ (l : List Command). AreAccepted (desk_of first) l) (sym ran.are_shown) (subst (λ (d : Desk). AreAccepted d left.commands) same left.accepted);
-          survives = λ keeps working honest. survive ran.first ran.calls last ran.run (ran.began.keeps keeps) (ran.began.halted ∙ working) honest;
+          survives = λ keeps working honest. survive ran.first false ran.calls ran.checked last ran.run (ran.began.keeps keeps) (ran.began.halted ∙ working) honest;
         };
         asked = ran.each;
       }
 
   -- none was done
-  pub none_asked : (first : Clerk D g) → ((x : Clerk D g) → SurvivesEachRun x) → LastsAsked s first first
+  pub none_asked : (first : Clerk D g) → ((x : Clerk D g) → SurvivesEachSwept x) → LastsAsked s first first
   none_asked first survive = record {
     lasts = record {
       start = first;
       is_first = record { desk = refl; sectors = refl; moment = refl; faults = refl; halted = refl; honest = λ honest. honest; keeps = λ keeps. keeps };
       calls = [];
-      run = Run.over first;
+      checked = false;
+      run = SweptRun.over false first;
       accepted = tt;
-      survives = λ keeps working honest. survive first [] first (Run.over first) keeps working honest;
+      survives = λ keeps working honest. survive first false [] false first (SweptRun.over false first) keeps working honest;
     };
     asked = All-nil (λ (call : Call). IsAskedOf s call.0);
   }
 
-  serves_streams : (workers : ℕ) (first last : Clerk D g) (start : Desk) (came_to : Ran) → start ≡ desk_of first → ((x : Clerk D g) → SurvivesEachRun x) → HasTalked s workers start (λ E h x. IsLike first x) last came_to
+  serves_streams : (workers : ℕ) (first last : Clerk D g) (start : Desk) (came_to : Ran) → start ≡ desk_of first → ((x : Clerk D g) → SurvivesEachSwept x) → HasTalked s workers start (λ E h x. IsLike first x) last came_to
       → ServesStreams s workers first last came_to
   serves_streams workers first last start came_to same survive talked =
       let ran = talked.served.left in
@@ -67,9 +71,10 @@ module _ {D : Type 0} {g : Ghosts D} {R W : Type 0} (s : Traffic R W) where
           start = ran.first;
           is_first = ran.began;
           calls = ran.calls;
+          checked = ran.checked;
           run = ran.run;
           accepted = subst (λ (l : List Command). AreAccepted (desk_of first) l) (sym ran.are_shown) (subst (λ (d : Desk). AreAccepted d talked.served.changes) same talked.served.accepted);
-          survives = λ keeps working honest. survive ran.first ran.calls last ran.run (ran.began.keeps keeps) (ran.began.halted ∙ working) honest;
+          survives = λ keeps working honest. survive ran.first false ran.calls ran.checked last ran.run (ran.began.keeps keeps) (ran.began.halted ∙ working) honest;
         };
         asked = ran.each;
         visitors = talked.visitors;
@@ -79,7 +84,7 @@ module _ {D : Type 0} {g : Ghosts D} {R W : Type 0} (s : Traffic R W) where
             (subst (λ (d : Desk). AreCounted s d talked.served.changes talked.served.halts talked.visitors came_to) same talked.served.counted));
       }
 
-  pub all_serve : {E : Type 0} (workers : ℕ) (first : Clerk D g) (start : Desk) (r : Result (Clerk D g × Ran) E) → start ≡ desk_of first → ((x : Clerk D g) → SurvivesEachRun x) → IfOk r (λ end. HasTalked s workers start (λ E h x. IsLike first x) end.0 end.1)
+  pub all_serve : {E : Type 0} (workers : ℕ) (first : Clerk D g) (start : Desk) (r : Result (Clerk D g × Ran) E) → start ≡ desk_of first → ((x : Clerk D g) → SurvivesEachSwept x) → IfOk r (λ end. HasTalked s workers start (λ E h x. IsLike first x) end.0 end.1)
       → IfOk r (λ end. ServesStreams s workers first end.0 end.1)
   all_serve workers first start (Ok end) same survive talked = serves_streams workers first end.0 start end.1 same survive talked
   all_serve workers first start (Err e) same survive none = none

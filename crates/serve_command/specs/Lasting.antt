@@ -1,12 +1,13 @@
 -- What a stop at any moment of a served store leaves, and what its streams came to.
-use Rattle.std.specs.Prelude.{◌≡◌, ℕ, false, All, List, [], length, Result, Ok, Err}
+use Rattle.std.specs.Prelude.{◌≡◌, ℕ, Bool, false, All, List, [], length, Result, Ok, Err}
 use Rattle.std.specs.declared.alloc.AllocError.{AllocError}
 use Rattle.sector_device.specs.declared.SectorDevice.{Ghosts}
 use Rattle.desk_model.specs.declared.command.Command.{Command}
 use Rattle.desk_model.specs.Desk.{Desk}
 use Rattle.desk_store.specs.declared.clerk.Clerk.{Clerk}
 use Rattle.desk_store.specs.Clerks.{desk_of, disk_of, is_halted, sectors_of, Keeps}
-use Rattle.desk_runs.specs.Runs.{Call, Run, Survives, acknowledged}
+use Rattle.desk_runs.specs.Runs.{Call, acknowledged}
+use Rattle.swept_runs.specs.Runs.{SweptRun, SurvivesSwept}
 use Rattle.desk_gallery.specs.Begun.{Beginning}
 use Rattle.desk_gallery.specs.Telling.{halts_of}
 use Rattle.desk_gallery.specs.Working.{AreAccepted}
@@ -25,16 +26,17 @@ pub record IsLike {D : Type 0} {g : Ghosts D} {E : Type 0} {h : Ghosts E} (x : C
   pub keeps : Keeps x → Keeps y
 
 module _ {D : Type 0} {g : Ghosts D} where
-  -- Commands were done one after the other, from the first clerk's desk, store and moment to the last clerk; the acknowledged ones are
-  -- each accepted after those before it. They outlive each stop: since the j-th acknowledgement each image opens to the desk after the
+  -- Commands were done one after the other, and steps of sweeps between them, from the first clerk's desk, store and moment to the last
+  -- clerk; the acknowledged ones are each accepted after those before it. They outlive each stop: since the j-th acknowledgement each image opens to the desk after the
   -- first j of them and some that follow, the one in which a fault came behind them.
   pub record Outlasts (first last : Clerk D g) : Type 0 where
     pub start : Clerk D g
     pub is_first : IsLike first start
     pub calls : List Call
-    pub run : Run start calls last
+    pub checked : Bool
+    pub run : SweptRun false start calls checked last
     pub accepted : AreAccepted (desk_of first) (acknowledged calls)
-    pub survives : Keeps first → is_halted first ≡ false → (disk_of last).is_honest → Survives start calls last run
+    pub survives : Keeps first → is_halted first ≡ false → (disk_of last).is_honest → SurvivesSwept false start calls checked last run
 
   module _ {R W : Type 0} (s : Traffic R W) where
     -- Streams were served at the seats of so many visitors, who had heard of nothing, by an office that began with such a clerk and this

@@ -1,3 +1,5 @@
 pub mod Lasting
+pub mod Loopback
 pub mod Outlasting
+pub mod Rooms
 pub mod Serving

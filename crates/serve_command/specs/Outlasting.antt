@@ -1,10 +1,10 @@
 -- That commands outlive each stop from the desk on as which a device read when it was opened.
-use Rattle.std.specs.Prelude.{◌≡◌}
+use Rattle.std.specs.Prelude.{◌≡◌, false}
 use Rattle.sector_device.specs.declared.SectorDevice.{Ghosts}
 use Rattle.desk_model.specs.Desk.{Desk}
 use Rattle.desk_store.specs.declared.clerk.Clerk.{Clerk}
 use Rattle.desk_store.specs.Clerks.{desk_of, disk_of}
-use Rattle.desk_runs.specs.Runs.{Survives}
+use Rattle.swept_runs.specs.Runs.{SurvivesSwept}
 use Rattle.store_command.specs.Reading.{LeavesDesk, ReadsDesk}
 use Rattle.serve_command.specs.Lasting.{Outlasts}
 
@@ -14,7 +14,7 @@ module _ {D : Type 0} {g : Ghosts D} where
   pub record OutlastsDesk (device : D) (first last : Clerk D g) (lasts : Outlasts first last) (d : Desk) : Type 0 where
     pub desk : desk_of first ≡ d
     pub opening : LeavesDesk (g.disk device) (disk_of first) d
-    pub survives : Survives lasts.start lasts.calls last lasts.run
+    pub survives : SurvivesSwept false lasts.start lasts.calls lasts.checked last lasts.run
 
   abbrev pub OutlastsWhatIsRead : D → (first last : Clerk D g) → Outlasts first last → Type 0
   OutlastsWhatIsRead device first last lasts =

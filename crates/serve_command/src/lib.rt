@@ -4,7 +4,7 @@
 //! served, the device closed, or the first fault with what was opened and printed by then (`Serves`). `serve_clerk`: commands one after the
 //! other led from the first clerk to the last. The acknowledged ones outlive each stop, from the desk on as which the device read
 //! (`OutlastsWhatIsRead`). Along them the counted connections were answered at as many seats as workers (`ServesStreams`). When a socket's
-//! failure is asked for, no clause says.
+//! failure is asked for, no clause says. `listen_here`: the socket is asked for at 127.0.0.1.
 //!
 //! # Notes
 //!
@@ -13,6 +13,8 @@
 
 pub mod fault;
 pub mod log;
+pub mod loopback;
 pub mod office;
+mod room;
 pub mod serve;
 mod texts;

@@ -13,7 +13,6 @@ use desk_gallery::gallery::{Gallery, GalleryFault};
 use desk_gallery::office::Office;
 use desk_gallery::tally::Blanks;
 use desk_model::gate::NoGate;
-use desk_runs::law::each_run_survives;
 use desk_store::clerk::Clerk;
 use http_arrivals::arrivals::Arrivals;
 use http_arrivals::ran::Ran;
@@ -23,6 +22,7 @@ use std::alloc::{AllocError, Global};
 use std::marker::Brand;
 use std::sync::{Arc, Wait};
 use std::thread::Threads;
+use swept_runs::law::each_swept_run_survives;
 
 /// Serves what a clerk keeps at the seats of so many workers, until no further stream comes: the clerk as it then is, and what the
 /// streams came to. Where memory for the seats is refused the clerk comes back with that.
@@ -39,6 +39,7 @@ fn serve_named<
     clerk: Clerk<D>,
     catalogue: Arc<Catalogue>,
     workers: u16,
+    sweeps: bool,
     arrivals: &A,
 ) -> Result<(Clerk<D>, Ran), (AllocError, Clerk<D>)>
     requires book { opened.seen.book ≡ J.book }
@@ -67,7 +68,9 @@ fn serve_named<
     };
     let (books, tallies) = blanks.open::<J>();
     let office = Office::new(clerk, shower, books);
-    let (last, ran) = serve_many(rt, alloc, office, visitors, tallies, arrivals, &NoGate);
+    let (last, ran) = serve_many(
+        rt, alloc, office, sweeps, visitors, tallies, arrivals, &NoGate,
+    );
     match ran {
         Ok(ran) => Ok((last, ran)),
         Err(e) => Err((e, last)),
@@ -77,7 +80,7 @@ fn serve_named<
 /// Serves what a clerk keeps by so many workers, until no further stream comes: the clerk as it then is, whose desk is what commands
 /// led to that were accepted one after the other, and what the streams came to. At whatever moment a stop comes: since a command was
 /// acknowledged, each image that the stop may leave opens to the desk after that command and all before it. Each stream was answered
-/// along these very commands, and each command was asked for in the bytes of one. Err where memory is refused, with the clerk, and
+/// along these very commands, and each command was asked for in the bytes of one. With `sweeps` the store is swept between commands. Err where memory is refused, with the clerk, and
 /// then nothing was served.
 pub fn serve_clerk<
     D: SectorDevice + Drop + Send + Sync,
@@ -88,6 +91,7 @@ pub fn serve_clerk<
     alloc: Global,
     clerk: Clerk<D>,
     workers: u16,
+    sweeps: bool,
     arrivals: &A,
 ) -> Result<(Clerk<D>, Ran), (AllocError, Clerk<D>)>
     requires { 1 ≤ workers }
@@ -96,7 +100,7 @@ pub fn serve_clerk<
     ensures lasts { LastsAsked (traffic A.gives A.takes_back A.Reader.Source A.Writer.Sink arrivals.now) clerk (clerk_in result) }
     ensures served { IfOk result (λ end. ServesStreams (traffic A.gives A.takes_back A.Reader.Source A.Writer.Sink arrivals.now) workers clerk end.0 end.1) }
 {
-    each_run_survives::<D>();
+    each_swept_run_survives::<D>();
     let Ok(catalogue) = clerk.published() else {
         return Err((AllocError, clerk));
     };
@@ -108,6 +112,7 @@ pub fn serve_clerk<
         clerk,
         catalogue,
         workers,
+        sweeps,
         arrivals,
     )
 }

@@ -9,6 +9,7 @@ ghost use Rattle.serve_command.specs.Serving.{end_of, listener_of, OpensStore, A
 
 use crate::fault::{ServeFault, fault_line, fault_status};
 use crate::office::serve_clerk;
+use crate::room::tell_room;
 use crate::texts::listening_text;
 use byte_stream::sink::Sink;
 use command_line::options::Serving;
@@ -71,6 +72,7 @@ fn serve_store<
     stores: &mut O,
     name: &str,
     serving: Serving,
+    sweeps: bool,
     listening: &A,
     writer: &mut W,
 ) -> Result<(), ServeFault>
@@ -93,7 +95,8 @@ fn serve_store<
             return Err(ServeFault::Output);
         }
     }
-    match serve_clerk(rt, alloc, clerk, serving.workers, listening) {
+    tell_room(alloc, &clerk, listening);
+    match serve_clerk(rt, alloc, clerk, serving.workers, sweeps, listening) {
         Ok((last, ran)) => {
             let ended = end_run(&last, listening.has_failed());
             stores.close(last.into_device());
@@ -110,7 +113,7 @@ fn serve_store<
 /// Serves the store of a name to the connections that come: 0 once no further one comes. 4 where the store is refused or its device
 /// fails, 5 where memory is refused, and 6 where no socket listens or standard output fails, with the fault told. The line that says
 /// where it listens is printed once the store is open, and the store is closed once the last clerk gives it back. Then what listens
-/// hears what the connections came to.
+/// hears what the connections came to. With `sweeps` the store is swept between commands.
 pub fn serve<
     D: SectorDevice + Drop + Send + Sync,
     O: Stores<D>,
@@ -124,6 +127,7 @@ pub fn serve<
     stores: &mut O,
     name: &str,
     serving: Serving,
+    sweeps: bool,
     listening: Option<&A>,
     writer: &mut W,
     errors: &mut E,
@@ -135,7 +139,7 @@ pub fn serve<
         W.Sink writer.old writer.new E.Sink errors.old errors.new }
 {
     let ended = match listening {
-        Some(listening) => serve_store(rt, alloc, stores, name, serving, listening, writer),
+        Some(listening) => serve_store(rt, alloc, stores, name, serving, sweeps, listening, writer),
         None => Err(ServeFault::Socket),
     };
     end_serving(ended, errors)

@@ -1,4 +1,4 @@
-use Rattle.std.proofs.Common.{sym, ◌∙◌}
+use Rattle.std.proofs.Common.{sym, ◌∙◌, not, rules}
 use Rattle.command_line.specs.Options.{serving_read}
 use Rattle.command_line.proofs.words.serve_job.Goals as goal
 
@@ -11,7 +11,11 @@ returns-clause-paths c =
     let idle = c.bytes_of-5.ensures ∙ c.get_str-6.ensures in
     let request = c.bytes_of-6.ensures ∙ c.get_str-7.ensures in (
       sym c.in_ok-store.ensures,
-      sym (c.in_ok-serving.ensures.value
-          ∙ (λ i. serving_read (port i) (workers i) (connections i) (keep i) (idle i) (request i))),
+      (
+        c.get_flag-sweeps.result,
+        search rules,
+        sym (c.in_ok-serving.ensures.value
+            ∙ (λ i. serving_read (port i) (workers i) (connections i) (keep i) (idle i) (request i) (not c.get_flag-sweeps.result))),
+      ),
       sym c.get_str-8.ensures,
     )

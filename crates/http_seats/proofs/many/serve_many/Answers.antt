@@ -1,47 +1,34 @@
-use Rattle.std.proofs.Common.{rules, ◌≡◌, ◌∙◌, ◌+◌, ◌++◌, refl, map, reverse, length, take, drop, vec_len, sum_by, sym, ap, arith}
-use Rattle.std.proofs.lemmas.List.{length-map}
+use Rattle.std.proofs.Common.{◌≡◌, ◌∙◌, ◌+◌, All, IfSome, refl, map, reverse, length, sum_by, ap, subst, arith}
+use mathlib.Core.List.{IsPrefix}
 use Rattle.desk_gallery.proofs.Running.{has_run_as}
 use Rattle.http_seats.specs.Seated.{seats_at, accepted_at, halted_at}
 use Rattle.http_seats.specs.Streams.{IsAskedOf, traffic, total_of}
-use Rattle.http_seats.proofs.Counts.{arrived, workers_of, rans_of, heard_of, sum_of, all_back, as_many, placed_many, handed_back, reversed_many}
+use Rattle.http_seats.proofs.Counts.{arrived, workers_of, rans_of, heard_of, sum_of, all_back, as_many, reversed_many}
 use Rattle.http_seats.proofs.many.serve_many.Goals as goal
 
 pub close_counted-last-requires : goal.close_counted-last-requires
 close_counted-last-requires g c =
     let s = traffic g.A.Arrivals.gives g.A.Arrivals.takes_back g.A.Reader.Source g.A.Writer.Sink c.args.arrivals.now in
     let first = g.J.Room.first in
-    let places = c.serve_places.new.places in
-    let was : c.as_mut_slice-stands.result.now ≡ c.in-Ok.places.items = search rules in
-    let stood : map (λ p. p.guest) c.as_mut_slice-stands.result.now ≡ map arrived (reverse c.args.visitors.items) = ap (map (λ p. p.guest)) was ∙ c.in-Ok.ensures.places in
-    let workers = workers_of s first (reverse c.args.visitors.items) (map (λ p. p.guest) c.as_mut_slice-stands.result.now) (map (λ p. (p.guest, p.totals.ran)) places) stood c.serve_places.ensures in
+    let places = c.serve_beside-left.result.items in
+    let workers = workers_of s first (reverse c.args.visitors.items) (map (λ p. p.guest) c.in-Ok.places.items) (map (λ p. (p.guest, p.totals.ran)) places) c.in-Ok.ensures.places c.serve_beside-left.ensures in
     let many : length workers.0 ≡ length (reverse c.args.visitors.items) = as_many s first (reverse c.args.visitors.items) workers.0 workers.1 in
-    let placed : length places ≡ length workers.0 = placed_many (λ p. p.guest) (λ p. p.totals.ran) places workers.0 workers.2 in
-    let before : length c.in-Ok.places.items ≡ length (reverse c.args.visitors.items) = sym (length-map c.in-Ok.places.items (λ p. p.guest)) ∙ (ap length c.in-Ok.ensures.places ∙ length-map (reverse c.args.visitors.items) arrived) in
-    let left : take (vec_len c.in-Ok.places) (places ++ drop (length places) c.in-Ok.places.items) ≡ places = handed_back (vec_len c.in-Ok.places) places c.in-Ok.places.items (omega (arith, many, placed, before, c.in-Ok.places.ok.0)) in
-    let seats : c.gather.new.tallies.accepted.parts ≡ c.places_for.new.tallies.accepted.parts + sum_by (λ p. seats_at p.guest) (take (vec_len c.in-Ok.places) (places ++ drop (length places) c.in-Ok.places.items)) = c.gather.ensures.seats in
-    let same = ap (sum_by (λ p. seats_at p.guest)) left in
+    let seats : c.gather.new.tallies.accepted.parts ≡ c.places_for.new.tallies.accepted.parts + sum_by (λ p. seats_at p.guest) places = c.gather.ensures.seats in
     let back : sum_by (λ p. seats_at p.guest) places ≡ length workers.0 = all_back (λ p. p.guest) (λ p. p.totals.ran) places workers.0 workers.2 in
     let given : c.places_for.new.tallies.accepted.parts + length c.args.visitors.items ≡ c.args.tallies.accepted.parts = c.in-Ok.ensures.seats in
-    omega (arith, seats, same, back, many, reversed_many c.args.visitors.items, given, c.requires.seats.0)
+    omega (arith, seats, back, many, reversed_many c.args.visitors.items, given, c.requires.seats.0)
 
 pub returns-clause-served : goal.returns-clause-served
 returns-clause-served g c =
     let s = traffic g.A.Arrivals.gives g.A.Arrivals.takes_back g.A.Reader.Source g.A.Writer.Sink c.args.arrivals.now in
     let first = g.J.Room.first in
-    let places = c.serve_places.new.places in
-    let was : c.as_mut_slice-stands.result.now ≡ c.in-Ok.places.items = search rules in
-    let stood : map (λ p. p.guest) c.as_mut_slice-stands.result.now ≡ map arrived (reverse c.args.visitors.items) = ap (map (λ p. p.guest)) was ∙ c.in-Ok.ensures.places in
-    let workers = workers_of s first (reverse c.args.visitors.items) (map (λ p. p.guest) c.as_mut_slice-stands.result.now) (map (λ p. (p.guest, p.totals.ran)) places) stood c.serve_places.ensures in
-    let many : length workers.0 ≡ length (reverse c.args.visitors.items) = as_many s first (reverse c.args.visitors.items) workers.0 workers.1 in
-    let placed : length places ≡ length workers.0 = placed_many (λ p. p.guest) (λ p. p.totals.ran) places workers.0 workers.2 in
-    let before : length c.in-Ok.places.items ≡ length (reverse c.args.visitors.items) = sym (length-map c.in-Ok.places.items (λ p. p.guest)) ∙ (ap length c.in-Ok.ensures.places ∙ length-map (reverse c.args.visitors.items) arrived) in
-    let left : take (vec_len c.in-Ok.places) (places ++ drop (length places) c.in-Ok.places.items) ≡ places = handed_back (vec_len c.in-Ok.places) places c.in-Ok.places.items (omega (arith, many, placed, before, c.in-Ok.places.ok.0)) in
-    let accepted : c.gather.new.tallies.accepted.amount ≡ c.places_for.new.tallies.accepted.amount + sum_by (λ p. accepted_at p.guest) (take (vec_len c.in-Ok.places) (places ++ drop (length places) c.in-Ok.places.items)) = c.gather.ensures.accepted in
+    let places = c.serve_beside-left.result.items in
+    let workers = workers_of s first (reverse c.args.visitors.items) (map (λ p. p.guest) c.in-Ok.places.items) (map (λ p. (p.guest, p.totals.ran)) places) c.in-Ok.ensures.places c.serve_beside-left.ensures in
+    let accepted : c.gather.new.tallies.accepted.amount ≡ c.places_for.new.tallies.accepted.amount + sum_by (λ p. accepted_at p.guest) places = c.gather.ensures.accepted in
     let told : sum_by (λ p. accepted_at p.guest) places ≡ sum_by (λ w. w.guest.accepted) workers.0 = sum_of accepted_at (λ w. w.guest.accepted) (λ p. p.guest) (λ p. p.totals.ran) places workers.0 (λ w. refl) workers.2 in
-    let same = ap (sum_by (λ p. accepted_at p.guest)) left in
-    let halted : c.gather.new.tallies.halted.amount ≡ c.places_for.new.tallies.halted.amount + sum_by (λ p. halted_at p.guest) (take (vec_len c.in-Ok.places) (places ++ drop (length places) c.in-Ok.places.items)) = c.gather.ensures.halted in
+    let seen : c.as_slice-stands.result.now ≡ places = c.as_slice-stands.ensures.value in
+    let halted : c.gather.new.tallies.halted.amount ≡ c.places_for.new.tallies.halted.amount + sum_by (λ p. halted_at p.guest) places = c.gather.ensures.halted in
     let told_halts : sum_by (λ p. halted_at p.guest) places ≡ sum_by (λ w. w.guest.halted) workers.0 = sum_of halted_at (λ w. w.guest.halted) (λ p. p.guest) (λ p. p.totals.ran) places workers.0 (λ w. refl) workers.2 in
-    let same_halts = ap (sum_by (λ p. halted_at p.guest)) left in
     record {
       changes = c.know_all.new.front.shown;
       halts = c.gather.new.tallies.halted.amount;
@@ -50,10 +37,11 @@ returns-clause-served g c =
       counted = record {
         workers = workers.0;
         each = workers.1;
-        shown = heard_of (λ p. p.guest) (λ p. p.totals.ran) c.know_all.new.front.shown places workers.0 workers.2 c.know_all.ensures.all;
-        accepted = c.close_counted-last.ensures.counted ∙ (accepted ∙ omega (arith, same, told, c.in-Ok.ensures.none.0));
-        halted = halted ∙ omega (arith, same_halts, told_halts, c.in-Ok.ensures.none.1);
-        total = c.together-totals.ensures ∙ ap total_of (rans_of (λ p. p.guest) (λ p. p.totals.ran) places workers.0 workers.2);
+        shown = heard_of (λ p. p.guest) (λ p. p.totals.ran) c.know_all.new.front.shown places workers.0 workers.2
+            (subst (λ l. All (λ p. IfSome p.guest (λ v. IsPrefix v.heard c.know_all.new.front.shown)) l) seen c.know_all.ensures.all);
+        accepted = c.close_counted-last.ensures.counted ∙ (accepted ∙ omega (arith, told, c.in-Ok.ensures.none.0));
+        halted = halted ∙ omega (arith, told_halts, c.in-Ok.ensures.none.1);
+        total = c.together-totals.ensures ∙ (ap (λ l. total_of (map (λ p. p.totals.ran) l)) seen ∙ ap total_of (rans_of (λ p. p.guest) (λ p. p.totals.ran) places workers.0 workers.2));
       };
     }
 

@@ -13,14 +13,14 @@ returns-clause-ran g c = subst (λ (d : Desk). IsRunFrom d (desk_of (clerk_in c.
 pub returns-clause-served : goal.returns-clause-served
 returns-clause-served g c =
     let s = traffic g.A.Arrivals.gives g.A.Arrivals.takes_back g.A.Reader.Source g.A.Writer.Sink c.args.arrivals.now in
-    all_serve s c.args.workers c.args.clerk c.in-Ok.catalogue.value c.serve_named.result c.in-Ok.ensures c.each_run_survives.ensures c.serve_named.ensures.talked
+    all_serve s c.args.workers c.args.clerk c.in-Ok.catalogue.value c.serve_named.result c.in-Ok.ensures c.each_swept_run_survives.ensures c.serve_named.ensures.talked
 
 pub returns-clause-lasts : goal.returns-clause-lasts
 returns-clause-lasts g c =
     let s = traffic g.A.Arrivals.gives g.A.Arrivals.takes_back g.A.Reader.Source g.A.Writer.Sink c.args.arrivals.now in
-    lasts_asked s c.args.clerk (clerk_in c.serve_named.result) c.in-Ok.catalogue.value c.in-Ok.ensures c.each_run_survives.ensures c.serve_named.ensures.left
+    lasts_asked s c.args.clerk (clerk_in c.serve_named.result) c.in-Ok.catalogue.value c.in-Ok.ensures c.each_swept_run_survives.ensures c.serve_named.ensures.left
 
 pub returns-in_default-clause-lasts : goal.returns-in_default-clause-lasts
 returns-in_default-clause-lasts g c =
     let s = traffic g.A.Arrivals.gives g.A.Arrivals.takes_back g.A.Reader.Source g.A.Writer.Sink c.args.arrivals.now in
-    none_asked s c.args.clerk c.each_run_survives.ensures
+    none_asked s c.args.clerk c.each_swept_run_survives.ensures

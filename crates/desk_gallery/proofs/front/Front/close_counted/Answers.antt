@@ -19,4 +19,4 @@ returns-clause-ran g c =
     (subst (λ (k : Kept g.row.D.Denot). HasRun g.J.Room.begins g.J.Room.asked c.self.inside.clerk k.shown c.self.inside.books.halted.total) c.self.view_is c.self.invariant.2)
 
 pub returns-clause-counted : goal.returns-clause-counted
-returns-clause-counted g c = subst (λ (k : Kept g.row.D.Denot). length k.shown ≡ c.args.tallies.accepted.amount) c.self.view_is (sym (c.audit.ensures.accepted ∙ c.self.invariant.3))
+returns-clause-counted g c = subst (λ (k : Kept g.row.D.Denot). length k.shown ≡ c.args.tallies.accepted.amount) c.self.view_is (sym (c.audit.ensures.accepted ∙ c.self.invariant.4))

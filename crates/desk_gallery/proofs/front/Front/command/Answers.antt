@@ -1,4 +1,4 @@
-use Rattle.std.proofs.Common.{subst}
+use Rattle.std.proofs.Common.{◌∙◌, subst}
 use Rattle.desk_gallery.specs.After.{after}
 use Rattle.desk_gallery.specs.Fronts.{Kept}
 use Rattle.desk_gallery.specs.Outcomes.{OutcomeMay}
@@ -9,12 +9,14 @@ use Rattle.desk_gallery.proofs.front.Front.command.Goals as goal
 
 pub invariant_of-self : goal.invariant_of-self
 invariant_of-self g c =
-    let worked = c.work-reply.ensures.worked in (
+    let worked = c.work-reply.ensures.worked in
+    let ran = has_run_more g.J.Room.begins g.J.Room.asked c.self.inside.clerk c.work-reply.new.clerk c.self.inside.shower.0 c.work-reply.new.shower.0 c.self.inside.books.halted.total c.count.new.self.halted.total c.args.command c.work-reply.result.0
+    c.requires c.self.invariant.2 worked.does worked.joined worked.same c.count.ensures.halts in (
       worked.agree,
       λ sound. worked.does.moves.keeps (c.self.invariant.1 sound),
-      has_run_more g.J.Room.begins g.J.Room.asked c.self.inside.clerk c.work-reply.new.clerk c.self.inside.shower.0 c.work-reply.new.shower.0 c.self.inside.books.halted.total c.count.new.self.halted.total c.args.command c.work-reply.result.0
-          c.requires c.self.invariant.2 worked.does worked.joined worked.same c.count.ensures.halts,
-      counted_by c.self.inside.shower.0 c.work-reply.new.shower.0 c.args.command c.work-reply.result.0 c.self.inside.books.accepted.total c.count.new.self.accepted.total worked.joined worked.same c.self.invariant.3 c.count.ensures.book,
+      ran.0,
+      ran.1 ∙ c.self.invariant.3,
+      counted_by c.self.inside.shower.0 c.work-reply.new.shower.0 c.args.command c.work-reply.result.0 c.self.inside.books.accepted.total c.count.new.self.accepted.total worked.joined worked.same c.self.invariant.4 c.count.ensures.book,
     )
 
 pub returns-clause-works : goal.returns-clause-works

@@ -9,7 +9,8 @@ use Rattle.desk_gallery.proofs.front.Front.new.Goals as goal
 pub invariant_of-result : goal.invariant_of-result
 invariant_of-result g c =
     let none = c.requires.none in
-    let same = ap (λ (s : List Command × List Command). s.1) none ∙ sym (ap (λ (s : List Command × List Command). s.0) none) in (
+    let same = ap (λ (s : List Command × List Command). s.1) none ∙ sym (ap (λ (s : List Command × List Command). s.0) none) in
+    let ran = has_run_none g.J.Room.begins g.J.Room.asked c.args.clerk c.args.shower.0 c.args.books.halted.total c.requires.begins (ap (λ (s : List Command × List Command). s.0) none) c.requires.books.1 in (
       record {
         desk = c.requires.same;
         none = λ off. same;
@@ -18,6 +19,7 @@ invariant_of-result g c =
         accepted = subst (λ (s : List Command × List Command). AreAccepted g.J.Room.first s.1) (sym none) tt;
       },
       c.requires.kept,
-      has_run_none g.J.Room.begins g.J.Room.asked c.args.clerk c.args.shower.0 c.args.books.halted.total c.requires.begins (ap (λ (s : List Command × List Command). s.0) none) c.requires.books.1,
+      ran.0,
+      ran.1,
       c.requires.books.0 ∙ sym (ap (λ (s : List Command × List Command). length s.0) none),
     )

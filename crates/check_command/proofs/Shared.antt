@@ -1,0 +1,81 @@
+-- What is known of a printed report.
+use Rattle.std.proofs.Common.{◌≡◌, true, false, Result, Ok, Err, IfOk, refl, sym, ◌∙◌, ap, ⊎_elim, true≢false}
+use Rattle.pl94_geo.specs.declared.geo.GeoFault.{GeoFault}
+use Rattle.pl94_geo.specs.declared.geo.GeoFault.TheVariants as geo
+use Rattle.pl94_segment.specs.declared.segment.SegFault.{SegFault}
+use Rattle.pl94_segment.specs.declared.segment.SegFault.TheVariants as segment
+use Rattle.pl94_segment.specs.declared.join.JoinFault.{JoinFault}
+use Rattle.pl94_segment.specs.declared.join.JoinFault.TheVariants as join
+use Rattle.gal_text.specs.declared.fault.GalFault.{GalFault}
+use Rattle.gal_text.specs.declared.fault.GalFault.TheVariants as gal
+use Rattle.state_files.specs.declared.fault.OpenFault.{OpenFault}
+use Rattle.state_files.specs.declared.fault.OpenFault.TheVariants as opening
+use Rattle.state_files.specs.declared.fault.PlanFault.{PlanFault}
+use Rattle.state_files.specs.declared.fault.PlanFault.TheVariants as plan
+use Rattle.state_files.specs.declared.fault.FileFault.{FileFault}
+use Rattle.state_files.specs.declared.fault.FileFault.TheVariants.{NoHeader, Header, NoSegment, Segment, Join, NoGal, Gal, Plan}
+use Rattle.command_output.specs.declared.status.Status.{Status}
+use Rattle.command_output.specs.Faults.{status_of_open, status_of_geo, status_of_segment, status_of_join, status_of_gal, status_of_plan, status_of_fault}
+use Rattle.command_output.specs.Telling.{Tells}
+use Rattle.command_output.specs.Writing.{Written}
+use Rattle.check_command.specs.declared.report.Audited.{Audited}
+use Rattle.check_command.specs.Auditing.{EndsAudit}
+use Rattle.check_command.specs.Sharing.{is_of_report}
+
+of_open : (fault : OpenFault) → is_of_report (status_of_open fault) ≡ false
+of_open opening.Unreadable = refl
+of_open opening.Memory = refl
+
+of_geo : (fault : GeoFault) → is_of_report (status_of_geo fault) ≡ false
+of_geo (geo.Line fault line) = refl
+of_geo (geo.Read line) = refl
+of_geo (geo.NoBlock line) = refl
+of_geo (geo.TurnLimit line) = refl
+of_geo geo.Memory = refl
+
+of_segment : (fault : SegFault) → is_of_report (status_of_segment fault) ≡ false
+of_segment (segment.Line fault line) = refl
+of_segment (segment.Read line) = refl
+of_segment (segment.TurnLimit line) = refl
+of_segment segment.Memory = refl
+
+of_join : (fault : JoinFault) → is_of_report (status_of_join fault) ≡ false
+of_join (join.Missing number part) = refl
+of_join join.TooManyPeople = refl
+of_join (join.OtherTotal state total) = refl
+of_join join.Memory = refl
+
+of_gal : (fault : GalFault) → is_of_report (status_of_gal fault) ≡ false
+of_gal (gal.Text fault) = refl
+of_gal (gal.MissingUnit block) = refl
+of_gal (gal.OneWay first second) = refl
+of_gal gal.Read = refl
+of_gal gal.TurnLimit = refl
+of_gal gal.Memory = refl
+
+of_plan : (fault : PlanFault) → is_of_report (status_of_plan fault) ≡ false
+of_plan plan.Unreadable = refl
+of_plan plan.TooLarge = refl
+of_plan (plan.Body fault line) = refl
+of_plan plan.Memory = refl
+
+-- no fault's status goes with a report
+of_fault : (fault : FileFault) → is_of_report (status_of_fault fault) ≡ false
+of_fault (NoHeader fault) = of_open fault
+of_fault (Header fault) = of_geo fault
+of_fault (NoSegment part fault) = of_open fault
+of_fault (Segment part fault) = of_segment fault
+of_fault (Join fault) = of_join fault
+of_fault (NoGal fault) = of_open fault
+of_fault (Gal fault) = of_gal fault
+of_fault (Plan file fault) = of_plan fault
+
+of_told : (fault : FileFault) (status : Status) (before after : Written) → Tells fault status before after → is_of_report status ≡ true → ⊥
+of_told fault status before after told is =
+    ⊎_elim (λ own. true≢false (sym is ∙ ap is_of_report own.0 ∙ of_fault fault)) (λ memory. true≢false (sym is ∙ ap is_of_report memory.0)) told
+
+-- what is known of a report is known where the status is that of one
+pub of_printed : {P : Type 0} (outcome : Result Audited FileFault) (status : Status) (printed print told tell : Written)
+    → EndsAudit outcome status printed print told tell → IfOk outcome (λ _. P) → is_of_report status ≡ true → P
+of_printed (Ok audited) status printed print told tell ends known is = known
+of_printed (Err fault) status printed print told tell ends known is = absurd (of_told fault status told tell ends.1 is)

@@ -1,0 +1,13 @@
+use Rattle.std.proofs.Common.{◌≡◌, List, length, sym, subst}
+use Rattle.desk_model.specs.declared.command.Command.{Command}
+use Rattle.desk_store.specs.Clerks.{Keeps}
+use Rattle.desk_gallery.specs.Begun.{HasRun}
+use Rattle.desk_gallery.specs.Working.{Agree}
+use Rattle.desk_gallery.proofs.front.Front.knows_told.Goals as goal
+
+pub invariant_of-self : goal.invariant_of-self
+invariant_of-self g c =
+    let x = c.self.inside.clerk in
+    subst (λ (s : List Command × List Command). Agree g.J.Room.first x s × (g.J.Room.sound → Keeps x)
+    × (ran : HasRun g.J.Room.begins g.J.Room.asked x s.0 c.self.inside.books.halted.total) × (ran.checked ≡ c.self.inside.is_checked)
+    × (c.self.inside.books.accepted.total ≡ length s.0)) (sym c.knows.ensures.same) c.self.invariant

@@ -1,0 +1,86 @@
+//! When a served store may be swept: while no command comes, or behind several of them.
+use std::sync::Wait;
+use std::sync::atomic::{AtomicBool, AtomicU64, Ordering};
+use std::time::Duration;
+
+/// So many commands may come between two steps of a sweep while one comes after the other.
+const COMMANDS: u64 = 16;
+
+/// For so many milliseconds no command comes before a step, where one came since the step before.
+const CALM: u64 = 20;
+
+/// Tells a sweeper when commands come and rows may be left, and that it is to end.
+#[derive(Drop)]
+pub struct Pace {
+    moves: AtomicU64,
+    has_rows: AtomicBool,
+    is_over: AtomicBool,
+}
+
+impl Pace {
+    /// Rows may be left by what was before.
+    pub fn new() -> Pace {
+        Pace {
+            moves: AtomicU64::new(0),
+            has_rows: AtomicBool::new(true),
+            is_over: AtomicBool::new(false),
+        }
+    }
+
+    /// How often a command came, or the sweeper was woken.
+    pub(crate) fn moves(&self) -> u64 {
+        self.moves.load(Ordering::SeqCst)
+    }
+
+    /// A command comes.
+    pub(crate) fn note_command(&self) {
+        self.moves.fetch_add(1, Ordering::SeqCst);
+    }
+
+    /// Rows may be left.
+    pub(crate) fn note_rows(&self) {
+        self.has_rows.store(true, Ordering::SeqCst);
+        self.wake();
+    }
+
+    /// No row is left.
+    pub(crate) fn note_none(&self) {
+        self.has_rows.store(false, Ordering::SeqCst);
+    }
+
+    /// Nothing is swept from now on.
+    pub(crate) fn end(&self) {
+        self.is_over.store(true, Ordering::SeqCst);
+        self.wake();
+    }
+
+    fn wake(&self) {
+        self.moves.fetch_add(1, Ordering::SeqCst);
+        self.moves.wake_all();
+    }
+
+    /// Waits until a step may be done, where there were so many moves at the last one: false once nothing is swept any more.
+    pub(crate) fn wait<R: Wait>(&self, rt: &R, last: u64) -> bool {
+        for _ in rt.forever() {
+            let now = self.moves();
+            if self.is_over.load(Ordering::SeqCst) {
+                return false;
+            }
+            if !self.has_rows.load(Ordering::SeqCst) {
+                self.moves.park(rt, (now & 0xffff_ffff) as u32);
+            } else if self.is_calm(rt, now, last) {
+                return true;
+            }
+        }
+        unreachable!()
+    }
+
+    /// Whether no command comes for a while, or several came since the last step.
+    fn is_calm<R: Wait>(&self, rt: &R, now: u64, last: u64) -> bool {
+        if now == last || now.wrapping_sub(last) > COMMANDS {
+            return true;
+        }
+        self.moves.park_timeout(rt, (now & 0xffff_ffff) as u32, Duration::from_millis(CALM));
+        self.moves() == now
+    }
+}

@@ -1,0 +1,36 @@
+//! `verify` over the file system and the standard streams.
+use crate::faults::{explain_last, standard_error};
+use crate::stores::StoreFiles;
+use byte_stream::sink::WriteSink;
+use command_output::status::Status;
+use command_progress::Telling;
+use sector_file::{Contents, FileDevice};
+use std::io::IsTerminal;
+use verify_command::verify::verify;
+
+/// Tells whether a store is one that a desk leaves.
+pub fn verify_desk<S: Contents>(
+    rt: &HostRuntime,
+    with_words: bool,
+    name: &str,
+    start: S,
+) -> Status {
+    let mut stores = StoreFiles::new(rt, start);
+    let mut writer = WriteSink::new(rt.stdout());
+    let mut errors = standard_error(rt);
+    let terminal = rt.stderr();
+    let is_terminal = terminal.is_terminal();
+    let mut progress = Telling::new(terminal, is_terminal, b"plandesk: verify: ", 262_144);
+    let status = verify::<FileDevice<S>, _, _, _, _>(
+        rt.alloc(),
+        &mut stores,
+        name,
+        &mut progress,
+        &mut writer,
+        &mut errors,
+    );
+    let _ = progress.into_inner();
+    let _ = writer.into_inner();
+    explain_last(rt, errors, with_words, &[("store", name)], stores.reason());
+    status
+}

@@ -1,0 +1,94 @@
+-- Keys that were compared one by one.
+use Rattle.std.proofs.Common.{◌≡◌, ◌<◌, ◌≤◌, ◌+◌, ◌&&◌, ℕ, zero, suc, Bool, true, false, List, [], ◌∷◌, length, get_or, refl, sym, ap, subst, ◌∙◌, arith, add-one}
+use Rattle.std.specs.Prelude.{Option, Some}
+use Rattle.std.specs.List.{AllByRecursion}
+use Rattle.std.specs.Ordering.{is_lt}
+use Rattle.std.specs.declared.cmp.Ordering.TheVariants.{Less}
+use Rattle.std.specs.FinMap.{is_sorted}
+use Rattle.std.specs.FinMap.Entries.{below_all}
+use Rattle.page_node.specs.Entries.{Entry, key_at}
+use Rattle.page_node.specs.Places.{key_cmp, Rises}
+use Rattle.page_node.proofs.Laws.{less_trans, is_less, rises_at}
+use Rattle.page_owners.specs.Order.{lower_of, upper_of, AreRows, AreParts, IsOrdered}
+
+both_so : (b c : Bool) → b ≡ true → c ≡ true → (b && c) ≡ true
+both_so true c h g = g
+both_so false c h g = h
+
+first_so : (b c : Bool) → (b && c) ≡ true → b ≡ true
+first_so true c h = refl
+first_so false c h = h
+
+second_so : (b c : Bool) → (b && c) ≡ true → c ≡ true
+second_so true c h = h
+second_so false c h = cc
+
+-- ---- at each place
+pub all_from : (F : Entry → Type 0) (es : List Entry) → ((k : ℕ) → k < length es → F (get_or es k ([], []))) → AllByRecursion F es
+all_from F [] h = tt
+all_from F (e ∷ es) h = (h 0 (omega arith), all_from F es (λ k lt. h (suc k) (omega arith)))
+
+pub all_at : (F : Entry → Type 0) (es : List Entry) (k : ℕ) → k < length es → AllByRecursion F es → F (get_or es k ([], []))
+all_at F [] k lt h = absurd (omega arith)
+all_at F (e ∷ es) zero lt h = h.0
+all_at F (e ∷ es) (suc k) lt h = all_at F es k (omega arith) h.1
+
+below_more : (x y : List ℕ) (es : List Entry) → key_cmp x y ≡ Less → below_all key_cmp y es ≡ true → below_all key_cmp x es ≡ true
+below_more x y [] less h = refl
+below_more x y (e ∷ es) less h = both_so (is_lt (key_cmp x e.0)) (below_all key_cmp x es)
+    (ap is_lt (less_trans x y e.0 less (is_less (key_cmp y e.0) (first_so (is_lt (key_cmp y e.0)) (below_all key_cmp y es) h))))
+    (below_more x y es less (second_so (is_lt (key_cmp y e.0)) (below_all key_cmp y es) h))
+
+pub rises_from : (es : List Entry) → ((k : ℕ) → suc k < length es → is_lt (key_cmp (key_at es k) (key_at es (suc k))) ≡ true) → Rises es
+rises_from [] h = refl
+rises_from (e ∷ []) h = refl
+rises_from (e ∷ f ∷ es) h =
+    let less = h 0 (omega arith) in
+    let rest : Rises (f ∷ es) = rises_from (f ∷ es) (λ k lt. h (suc k) (omega arith)) in
+    both_so (below_all key_cmp e.0 (f ∷ es)) (is_sorted key_cmp (f ∷ es))
+    (both_so (is_lt (key_cmp e.0 f.0)) (below_all key_cmp e.0 es) less
+    (below_more e.0 f.0 es (is_less (key_cmp e.0 f.0) less) (first_so (below_all key_cmp f.0 es) (is_sorted key_cmp es) rest)))
+    rest
+
+pub rises_next : (es : List Entry) (k : ℕ) → k + 1 < length es → Rises es → is_lt (key_cmp (key_at es k) (key_at es (k + 1))) ≡ true
+rises_next es k lt rises = ap is_lt (rises_at es k (k + 1) rises (omega arith) lt)
+
+-- ---- bounds
+pub lower_first : (low : List ℕ) (es : List Entry) (k : ℕ) → k ≡ 0 → low ≡ lower_of low es k
+lower_first low es k none = ap (lower_of low es) (sym none)
+
+pub lower_some : (low : List ℕ) (es : List Entry) (k : ℕ) → (k ≡ 0 → ⊥) → key_at es k ≡ lower_of low es k
+lower_some low es zero off = absurd (off refl)
+lower_some low es (suc k) off = refl
+
+next_at : (high : Option (List ℕ)) (es : List Entry) (k : ℕ) → suc k < length es → Some (key_at es (suc k)) ≡ upper_of high es k
+next_at high [] k lt = absurd (omega arith)
+next_at high (e ∷ []) k lt = absurd (omega arith)
+next_at high (e ∷ f ∷ es) zero lt = refl
+next_at high (e ∷ f ∷ es) (suc k) lt = next_at high (f ∷ es) k (omega arith)
+
+pub upper_some : (high : Option (List ℕ)) (es : List Entry) (k : ℕ) → k + 1 < length es → Some (key_at es (k + 1)) ≡ upper_of high es k
+upper_some high es k lt = ap (λ n. Some (key_at es n)) (add-one k) ∙ next_at high es k (omega arith)
+
+pub upper_last : (high : Option (List ℕ)) (es : List Entry) (k : ℕ) → length es ≤ k + 1 → high ≡ upper_of high es k
+upper_last high [] zero le = refl
+upper_last high [] (suc k) le = refl
+upper_last high (e ∷ []) zero le = refl
+upper_last high (e ∷ []) (suc k) le = refl
+upper_last high (e ∷ f ∷ es) zero le = absurd (omega arith)
+upper_last high (e ∷ f ∷ es) (suc k) le = upper_last high (f ∷ es) k (omega arith)
+
+-- ---- order of a level
+pub ordered_leaf : (low : List ℕ) (high : Option (List ℕ)) (d : ℕ) (es : List Entry) → d ≡ 0 → AreRows low high es → IsOrdered low high d es
+ordered_leaf low high d es none is = subst (λ n. IsOrdered low high n es) (sym none) is
+
+pub leaf_ordered : (low : List ℕ) (high : Option (List ℕ)) (d : ℕ) (es : List Entry) → d ≡ 0 → IsOrdered low high d es → AreRows low high es
+leaf_ordered low high d es none is = subst (λ n. IsOrdered low high n es) none is
+
+pub ordered_above : (low : List ℕ) (high : Option (List ℕ)) (d : ℕ) (es : List Entry) → (d ≡ 0 → ⊥) → AreParts low high es → IsOrdered low high d es
+ordered_above low high zero es off is = absurd (off refl)
+ordered_above low high (suc d) es off is = is
+
+pub above_ordered : (low : List ℕ) (high : Option (List ℕ)) (d : ℕ) (es : List Entry) → (d ≡ 0 → ⊥) → IsOrdered low high d es → AreParts low high es
+above_ordered low high zero es off is = absurd (off refl)
+above_ordered low high (suc d) es off is = is

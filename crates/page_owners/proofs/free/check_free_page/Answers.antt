@@ -1,0 +1,45 @@
+use Rattle.std.proofs.Common.{List, ℕ, refl, sym, ap, subst, ◌∙◌, arith}
+use Rattle.gate_journal.specs.Store.{word}
+use Rattle.page_store.specs.Transactions.{stored, over}
+use Rattle.page_store.proofs.Stops.{quiet_none}
+use Rattle.page_btree.proofs.Outcomes.{err_of}
+use Rattle.page_owners.specs.declared.error.PagesError.TheVariants.{Unsound}
+use Rattle.page_owners.specs.Owners.{IsBlank, CanName}
+use Rattle.page_owners.specs.Errors.{PagesErr, pages_error}
+use Rattle.page_owners.proofs.Errors.{unread}
+use Rattle.page_owners.proofs.free.check_free_page.Goals as goal
+
+pub returns-in_err-name-clause-quiet : goal.returns-in_err-name-clause-quiet
+returns-in_err-name-clause-quiet g c = quiet_none c.args.pages.now
+
+pub returns-in_err-name-clause-err : goal.returns-in_err-name-clause-err
+returns-in_err-name-clause-err g c =
+    let can = CanName c.args.page c.args.marks.now × IsBlank (over c.args.txn.now (stored c.args.pages.now) c.args.page) in
+    err_of c.from_residual.result (Unsound c.in_err-name.field-0.0) (PagesErr can c.args.pages.now c.args.pages.now) c.from_residual.ensures.1
+    (λ honest is. c.in_err-name.ensures.err is.0.0 is.0.1)
+
+pub read-requires-clause-page : goal.read-requires-clause-page
+read-requires-clause-page g c =
+    let lt = c.in_ok-name.ensures.named.within c.args.page refl in
+    let long = c.requires.long in
+    let begun = c.requires.begun in
+    omega arith
+
+pub returns-in_err-read-clause-err : goal.returns-in_err-read-clause-err
+returns-in_err-read-clause-err g c =
+    let can = CanName c.args.page c.args.marks.now × IsBlank (over c.args.txn.now (stored c.args.pages.now) c.args.page) in
+    err_of c.from_residual-in_err-read.result (pages_error c.in_err-read.field-0.0) (PagesErr can c.args.pages.now c.read.new.pages) c.from_residual-in_err-read.ensures.1
+    (unread can c.args.pages.now c.read.new.pages c.in_err-read.field-0.0 c.in_err-read.ensures.err)
+
+pub returns-then-not-is_blank-clause-err : goal.returns-then-not-is_blank-clause-err
+returns-then-not-is_blank-clause-err g c = λ honest is.
+    c.is_blank.ensures.no c.if-not-is_blank.true (subst IsBlank (sym (c.in_ok-read.ensures.reads honest)) is.1)
+
+pub returns-clause-passed : goal.returns-clause-passed
+returns-clause-passed g c = record { quiet = c.in_ok-read.ensures.quiet; halted = c.in_ok-read.ensures.ok; faults = c.in_ok-read.ensures.passed }
+
+pub returns-clause-free : goal.returns-clause-free
+returns-clause-free g c = λ honest. (
+  c.word_at.ensures ∙ ap (λ (s : List ℕ). word s 0) (c.in_ok-read.ensures.reads honest),
+  subst IsBlank (c.in_ok-read.ensures.reads honest) (c.is_blank.ensures.yes c.if-not-is_blank.false),
+)

@@ -1,0 +1,15 @@
+//! Checks that each page of a store has one owner: the header, the list of free pages or the tree.
+//!
+//! Seen as `AreOwned`. `check_pages`: at Ok the pages hold a map, no page is named twice or lost, and free pages are blank; else the first
+//! page of which that isn't so, with what is wrong, exactly where it isn't so. It reads each page once.
+#![tactic(auto)]
+
+mod checks;
+mod error;
+mod free;
+mod marks;
+mod order;
+mod tree;
+
+pub use checks::check_pages;
+pub use error::{PageFault, PageFaultKind, PagesError};

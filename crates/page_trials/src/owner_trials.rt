@@ -1,0 +1,119 @@
+//! Stores whose pages have one owner each, and stores with a spoiled page.
+use crate::long_trials::{made, put_long};
+use page_owners::{PageFault, PageFaultKind, PagesError, check_pages};
+use page_store::Pages;
+use sector_device::{Sector, SectorDevice};
+use sector_memory::Fused;
+use std::alloc::Global;
+use std::process::Abort;
+
+/// The sector of page 0, behind the header, the gate, the list and 256 copies.
+const HEADER: u32 = 259;
+
+/// A store of 64 pages with a root above three leaves.
+fn grown<R: Abort>(rt: &R, alloc: Global) -> Pages<Fused> {
+    let mut pages = made(rt, alloc, 323);
+    for n in 0..8 {
+        put_long(alloc, &mut pages, n).expect(rt, "not put");
+    }
+    pages
+}
+
+fn opened<R: Abort>(rt: &R, alloc: Global, device: Fused) -> Pages<Fused> {
+    Pages::open(alloc, device).ok().expect(rt, "not opened")
+}
+
+/// The bytes of a page of such a store.
+fn bytes_of<R: Abort, D: SectorDevice>(rt: &R, device: &mut D, page: u32) -> Sector {
+    let mut sector = [0; 4096];
+    let i = HEADER.saturating_add(page);
+    assert!(rt; i < device.count());
+    device.read(i, &mut sector).expect(rt, "not read");
+    sector
+}
+
+/// What is told of such a store where four bytes of a page are others.
+fn told<R: Abort>(
+    rt: &R,
+    alloc: Global,
+    page: u32,
+    at: usize,
+    bytes: [u8; 4],
+) -> Result<(), PagesError> {
+    let mut device = grown(rt, alloc).into_device();
+    let mut sector = bytes_of(rt, &mut device, page);
+    let i = HEADER.saturating_add(page);
+    assert!(rt; i < device.count());
+    assert!(rt; at <= 4092);
+    let [a, b, c, d] = bytes;
+    sector[at] = a;
+    sector[at + 1] = b;
+    sector[at + 2] = c;
+    sector[at + 3] = d;
+    device.write(i, &sector).expect(rt, "not written");
+    let mut pages = opened(rt, alloc, device);
+    check_pages(alloc, &mut pages)
+}
+
+fn unsound(page: u32, kind: PageFaultKind) -> Result<(), PagesError> {
+    Err(PagesError::Unsound(PageFault { page, kind }))
+}
+
+/// Where a store is spoiled, by which bytes, and what is told of which page: in the header and the list of free pages.
+static IN_LIST: [(u32, usize, [u8; 4], u32, PageFaultKind); 7] = [
+    (10, 100, [1, 0, 0, 0], 10, PageFaultKind::NotFree),
+    (10, 0, [0, 0, 0, 10], 10, PageFaultKind::NamedTwice),
+    (10, 0, [0, 0, 0, 64], 64, PageFaultKind::BeyondTheEnd),
+    (63, 0, [0, 0, 0, 4], 4, PageFaultKind::ListGoesOn),
+    (0, 8, [0, 0, 0, 58], 63, PageFaultKind::ListGoesOn),
+    (0, 0, [0, 0, 0, 0], 1, PageFaultKind::Lost),
+    (0, 0, [0, 0, 0, 5], 5, PageFaultKind::NamedTwice),
+];
+
+/// The same in the tree: page 3 is the root, and pages 1, 2 and 4 are its leaves.
+static IN_TREE: [(u32, usize, [u8; 4], u32, PageFaultKind); 8] = [
+    (4, 0, [9, 0, 0, 2], 4, PageFaultKind::NotANode),
+    (3, 0, [2, 0, 0, 3], 4, PageFaultKind::WrongLevel),
+    (4, 0, [0, 0, 0, 0], 4, PageFaultKind::KeysOutOfOrder),
+    (1, 7, [0, 0, 0, 1], 1, PageFaultKind::KeysOutOfOrder),
+    (2, 2205, [0, 0, 0, 6], 2, PageFaultKind::KeysOutOfOrder),
+    (3, 14, [0, 0, 0, 9], 3, PageFaultKind::KeysOutOfOrder),
+    (3, 86, [0, 0, 0, 4], 4, PageFaultKind::NamedTwice),
+    (3, 86, [0, 0, 0, 200], 200, PageFaultKind::BeyondTheEnd),
+];
+
+#[test]
+fn each_page_has_one_owner(rt: HostRuntime) {
+    let alloc = rt.alloc();
+    let mut pages = made(&rt, alloc, 323);
+    assert!(rt; check_pages(alloc, &mut pages) == Ok(()));
+    let mut pages = grown(&rt, alloc);
+    assert!(rt; check_pages(alloc, &mut pages) == Ok(()));
+}
+
+#[test]
+fn a_spoiled_list_is_told_with_its_page(rt: HostRuntime) {
+    let alloc = rt.alloc();
+    for row in &IN_LIST {
+        let (page, at, bytes, found, kind) = *row;
+        assert!(rt; told(&rt, alloc, page, at, bytes) == unsound(found, kind));
+    }
+}
+
+#[test]
+fn a_spoiled_tree_is_told_with_its_page(rt: HostRuntime) {
+    let alloc = rt.alloc();
+    for row in &IN_TREE {
+        let (page, at, bytes, found, kind) = *row;
+        assert!(rt; told(&rt, alloc, page, at, bytes) == unsound(found, kind));
+    }
+}
+
+#[test]
+fn a_failing_device_is_told(rt: HostRuntime) {
+    let alloc = rt.alloc();
+    let device = grown(&rt, alloc).into_device().stop(&[]);
+    let mut pages = opened(&rt, alloc, Fused::new(device, 40));
+    assert!(rt; check_pages(alloc, &mut pages) == Err(PagesError::DeviceFault));
+    assert!(rt; check_pages(alloc, &mut pages) == Err(PagesError::Halted));
+}

@@ -1,0 +1,2 @@
+pub mod Whole
+mod KeyBytes

@@ -1,0 +1,74 @@
+-- All rows say what they are.
+use Rattle.std.proofs.Common.{◌≡◌, ℕ, List, [], ◌∷◌, ◌++◌, Bool, true, false, cond, length, nat_eq, Some, None, refl, sym, ap, subst, ◌∙◌}
+use Rattle.std.specs.Prelude.{Option}
+use Rattle.std.specs.List.{starts_with}
+use Rattle.std.specs.Ordering.{eq_by_cmp}
+use Rattle.std.specs.FinMap.{entries, find, get, get-entries}
+use Rattle.page_node.specs.Entries.{Entry}
+use Rattle.page_node.specs.Places.{key_cmp}
+use Rattle.btree_scan.specs.Prefixes.{under}
+use Rattle.btree_scan.proofs.Prefixes.{find_under}
+use Rattle.store_rows.specs.Keys.{RowKey, key_of, Fits, counters, retired, begun, holding, tally, named, part, seal, version, block, pair, chunk}
+use Rattle.store_rows.specs.Rows.{KeyMap, Has}
+use Rattle.store_rows.specs.Tidy.{Tidy}
+use Rattle.store_rows.proofs.Frames.{is_equal, same_key}
+use Rattle.store_rows.proofs.OneGeography.{no_value, value_is}
+use Rattle.store_check.proofs.Scanned.{either_way}
+use Rattle.row_owners.specs.Wholes.{AllSay, AreWhole, IsRowOf, IsWhole, SaysSo}
+
+-- ---- rows of a tidy map say so
+says_so : (m : KeyMap) → Tidy m → (row : RowKey) (value : List ℕ) → Fits row → Has m row value → SaysSo row value
+says_so m tidy counters value fits has = tt
+says_so m tidy (retired plan) value fits has = tt
+says_so m tidy (begun load) value fits has = tt
+says_so m tidy (holding plan number) value fits has = tt
+says_so m tidy (tally number) value fits has = tt
+says_so m tidy (named name) value fits has = tt
+says_so m tidy (part plan revision index) value fits has = tidy.counted.parts plan revision index value fits has
+says_so m tidy seal value fits has = tt
+says_so m tidy version value fits has = tt
+says_so m tidy (block load place) value fits has = tt
+says_so m tidy (pair load place) value fits has = tt
+says_so m tidy (chunk number piece) value fits has = tidy.counted.pieces number piece value fits has
+
+pub all_say : (m : KeyMap) → Tidy m → AllSay m
+all_say m tidy key value there =
+    let (row, fits, is) = tidy.rows key value there in
+    record { row = row; fits = fits; is = is; says = says_so m tidy row value fits (ap (get m) (sym is) ∙ there) }
+
+-- ---- all rows are under no bytes
+all_under : (key : List ℕ) → starts_with nat_eq key [] ≡ true
+all_under [] = refl
+all_under (x ∷ xs) = refl
+
+under_all : (es : List Entry) → under [] es ≡ es
+under_all [] = refl
+under_all (e ∷ es) = ap (λ (b : Bool). cond b (e ∷ under [] es) (under [] es)) (all_under e.0) ∙ ap (λ (l : List Entry). e ∷ l) (under_all es)
+
+get_is : (m : KeyMap) (key : List ℕ) → get m key ≡ find key_cmp key (under [] (entries m))
+get_is m key = get-entries m key ∙ sym (find_under [] key (entries m) (all_under key))
+
+-- ---- rows, one after the other
+abbrev pub AllWhole : List Entry → Type 0
+AllWhole [] = Unit {0}
+AllWhole (e ∷ es) = IsWhole e × AllWhole es
+
+pub whole_more : (es : List Entry) (e : Entry) → IsWhole e → AllWhole es → AllWhole (es ++ e ∷ [])
+whole_more [] e is all = (is, tt)
+whole_more (f ∷ es) e is all = (all.0, whole_more es e is all.1)
+
+whole_found : (key value : List ℕ) (es : List Entry) → AllWhole es → find key_cmp key es ≡ Some value → IsWhole (key, value)
+whole_found key value [] all there = absurd (no_value value (sym there))
+whole_found key value (e ∷ es) all there = either_way (eq_by_cmp key_cmp key e.0) (IsWhole (key, value))
+    (λ same. subst (λ (x : Entry). IsWhole x) (λ i. (sym (same_key key e.0 (is_equal (key_cmp key e.0) same)) i, value_is e.1 value (sym (ap (λ (b : Bool). cond b (Some e.1) (find key_cmp key es)) same) ∙ there) i)) all.0)
+    (λ other. whole_found key value es all.1 (sym (ap (λ (b : Bool). cond b (Some e.1) (find key_cmp key es)) other) ∙ there))
+
+pub all_whole : (m : KeyMap) (count : ℕ) (rows : List Entry) → under [] (entries m) ≡ rows → length rows ≡ count → AllWhole rows → AreWhole count m
+all_whole m count rows whole many all =
+    let found = λ (key value : List ℕ) (there : get m key ≡ Some value). whole_found key value rows all (sym (get_is m key ∙ ap (λ (es : List Entry). find key_cmp key es) whole) ∙ there) in
+    record {
+      many = sym many ∙ ap (λ (l : List Entry). length l) (sym whole) ∙ ap (λ (l : List Entry). length l) (under_all (entries m));
+      past = λ key value there past. (found key value there).past past;
+      parts = λ plan revision index value fits has. (found (key_of (part plan revision index)) value has).says (part plan revision index) fits refl;
+      pieces = λ number piece value fits has. (found (key_of (chunk number piece)) value has).says (chunk number piece) fits refl;
+    }

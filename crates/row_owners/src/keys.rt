@@ -1,0 +1,129 @@
+//! Keys of rows, and the numbers in them.
+ghost use Rattle.std.specs.Prelude.{◌≡◌, ◌<◌, ◌^◌, ◌++◌, ◌∷◌, ℕ, true, false, length, drop, get_or};
+ghost use Rattle.store_rows.specs.Keys.{Fits, block, chunk, in_two, in_four, in_eight};
+ghost use Rattle.store_check.specs.Rows.{IsKind};
+
+use page_node::KEY_LIMIT;
+
+/// The number of 8 bytes, the highest first.
+pub(crate) fn eight(bytes: &[u8]) -> u64
+    requires { length bytes.now ≡ 8 }
+    ensures bytes { in_eight result ≡ bytes.now }
+    ensures fits { result < 2 ^ 64 }
+{
+    u64::from_be_bytes([
+        bytes[0], bytes[1], bytes[2], bytes[3], bytes[4], bytes[5], bytes[6], bytes[7],
+    ])
+}
+
+/// The number of 4 bytes, the highest first.
+fn four(bytes: &[u8]) -> u32
+    requires { length bytes.now ≡ 4 }
+    ensures bytes { in_four result ≡ bytes.now }
+    ensures fits { result < 2 ^ 32 }
+{
+    u32::from_be_bytes([bytes[0], bytes[1], bytes[2], bytes[3]])
+}
+
+/// The number of 2 bytes, the highest first.
+fn two(bytes: &[u8]) -> u16
+    requires { length bytes.now ≡ 2 }
+    ensures bytes { in_two result ≡ bytes.now }
+    ensures fits { result < 2 ^ 16 }
+{
+    u16::from_be_bytes([bytes[0], bytes[1]])
+}
+
+/// The number behind a key's tag; None where it isn't 8 bytes.
+pub(crate) fn number_in(key: &[u8]) -> Option<u64> {
+    if key.len() != 9 {
+        return None;
+    }
+    Some(eight(&key[1..9]))
+}
+
+/// The plan and the chunk of a holding's key; None where they aren't 16 bytes.
+pub(crate) fn holding_in(key: &[u8]) -> Option<(u64, u64)> {
+    if key.len() != 17 {
+        return None;
+    }
+    Some((eight(&key[1..9]), eight(&key[9..17])))
+}
+
+/// Whether a byte tells the blocks of a load, or its pairs of neighbours.
+fn is_kind(byte: u8) -> bool
+    ensures kind { result ≡ true → IsKind byte }
+    ensures other { result ≡ false → IsKind byte → ⊥ }
+{
+    byte == b'b' || byte == b'p'
+}
+
+/// Whether a key is a tag, a load, and the place of a block or of a pair of neighbours.
+pub(crate) fn is_place(key: &[u8]) -> bool
+    ensures numbers { result ≡ true → (load : ℕ) × (place : ℕ) × Fits (block load place) × IsKind (get_or key.now 9 0)
+        × (drop 1 key.now ≡ in_eight load ++ (get_or key.now 9 0 ∷ in_four place)) }
+    ensures long { result ≡ false → length key.now ≡ 14 → IsKind (get_or key.now 9 0) → ⊥ }
+{
+    if key.len() != 14 {
+        return false;
+    }
+    if !is_kind(key[9]) {
+        return false;
+    }
+    let _load = eight(&key[1..9]);
+    let _place = four(&key[10..14]);
+    true
+}
+
+/// Whether a key is a tag and the numbers of a chunk and of a piece.
+pub(crate) fn is_piece_key(key: &[u8]) -> bool
+    ensures numbers { result ≡ true → (number : ℕ) × (piece : ℕ) × Fits (chunk number piece)
+        × (drop 1 key.now ≡ in_eight number ++ in_two piece) }
+    ensures long { result ≡ false → length key.now ≡ 11 → ⊥ }
+{
+    if key.len() != 11 {
+        return false;
+    }
+    let _number = eight(&key[1..9]);
+    let _piece = two(&key[9..11]);
+    true
+}
+
+/// The load of the key of a block or of a pair of neighbours; None where it is none of these.
+pub(crate) fn load_in(key: &[u8]) -> Option<u64> {
+    if key.len() != 14 {
+        return None;
+    }
+    if key[0] != b'g' || !is_kind(key[9]) {
+        return None;
+    }
+    Some(eight(&key[1..9]))
+}
+
+/// The chunk and the piece of a key; None where it is no piece's.
+pub(crate) fn piece_in(key: &[u8]) -> Option<(u64, u16)> {
+    if key.len() != 11 {
+        return None;
+    }
+    if key[0] != b'k' {
+        return None;
+    }
+    Some((eight(&key[1..9]), two(&key[9..11])))
+}
+
+/// Whether a key is that of a row.
+pub(crate) fn is_row(key: &[u8]) -> bool {
+    if key.is_empty() {
+        return false;
+    }
+    match key[0] {
+        b'A' | b'S' | b'V' => key.len() == 1,
+        b'D' | b'K' | b'L' => key.len() == 9,
+        b'H' => key.len() == 17,
+        b'P' => key.len() <= KEY_LIMIT,
+        b'R' => key.len() == 14,
+        b'g' => load_in(key).is_some(),
+        b'k' => piece_in(key).is_some(),
+        _ => false,
+    }
+}

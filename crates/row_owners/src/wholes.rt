@@ -1,0 +1,86 @@
+//! Checks that each row's key is that of a row, and that parts of revisions and pieces of chunks say what they have.
+ghost use Rattle.std.specs.Prelude.{◌≡◌, ◌<◌, ◌^◌, true, false, OnOk, IfOk, IfErr};
+ghost use Rattle.page_store.specs.Transactions.{stored, disk_in, count_of, txn_pages, IsQuiet, Passed};
+ghost use Rattle.page_btree.specs.Map.{InTxn};
+ghost use Rattle.row_table.specs.Reading.{ReadErr};
+ghost use Rattle.store_rows.specs.Rows.{KeyMap};
+ghost use Rattle.store_rows.specs.Tidy.{IsPart, IsPiece};
+ghost use Rattle.row_owners.specs.Wholes.{AllSay, AreWhole, IsRowOf, IsWhole};
+
+use crate::keys::{is_piece_key, is_place};
+use btree_scan::{Row, Scan, row_limit};
+use command_progress::Progress;
+use page_store::{Pages, Txn};
+use row_table::TreeError;
+use sector_device::SectorDevice;
+use store_rows::{read_chunks, read_districts};
+
+/// Whether a value is that of a part of a revision.
+fn is_part(value: &[u8]) -> bool
+    ensures yes { result ≡ true → IsPart value.now }
+    ensures no { result ≡ false → IsPart value.now → ⊥ }
+{
+    match read_chunks(value) {
+        None => false,
+        Some(_) => true,
+    }
+}
+
+/// Whether a value is that of a piece of a chunk.
+fn is_piece(value: &[u8]) -> bool
+    ensures yes { result ≡ true → IsPiece value.now }
+    ensures no { result ≡ false → IsPiece value.now → ⊥ }
+{
+    match read_districts(value) {
+        None => false,
+        Some(_) => true,
+    }
+}
+
+/// Whether a row behind the version's has the key of one, and a part or a piece says what it has.
+fn is_whole(row: &Row) -> bool
+    ensures yes { result ≡ true → IsWhole (row.now.key, row.now.value) }
+    ensures no { result ≡ false → IsRowOf (row.now.key, row.now.value) → ⊥ }
+{
+    let key = row.key.as_slice();
+    let value = row.value.as_slice();
+    if key.is_empty() {
+        return true;
+    }
+    match key[0] {
+        b'R' => is_part(value),
+        b'g' => is_place(key),
+        b'k' => is_piece_key(key) && is_piece(value),
+        tag => tag <= b'V',
+    }
+}
+
+/// Reads all rows: how many there are. Refuses one whose key is that of none, and a part or a piece that doesn't say what it has.
+/// `progress` hears of each row.
+pub fn check_whole<D: SectorDevice, P: Progress>(
+    txn: &Txn,
+    pages: &mut Pages<D>,
+    progress: &mut P,
+) -> Result<u64, TreeError>
+    requires begun { txn_pages txn.now ≡ count_of pages.old }
+    ensures quiet { IsQuiet pages.old pages.new }
+    ensures passed { OnOk result (Passed pages.old pages.new) }
+    ensures whole { (disk_in pages.new).is_honest → (m : KeyMap) → InTxn txn.now (stored pages.old) m → IfOk result (λ rows. AreWhole rows m) }
+    ensures err { IfErr result (λ e. ReadErr AllSay txn.now pages.old pages.new e) }
+{
+    let mut scan = Scan::new(&[]);
+    let mut row = Row::empty();
+    for taken in 0..row_limit(txn) {
+        if !scan.next(txn, pages, &mut row) {
+            match scan.fault() {
+                None => return Ok(taken),
+                Some(fault) => return Err(fault),
+            }
+        }
+        if !is_whole(&row) {
+            return Err(TreeError::DeviceFault);
+        }
+        progress.note(taken);
+    }
+    Err(TreeError::DeviceFault)
+}

@@ -1,0 +1,19 @@
+-- How much room a store has.
+use Rattle.std.specs.Prelude.{◌≡◌, ◌-◌, ◌^◌, ℕ, nat_le, if◌then◌else◌}
+use Rattle.sector_device.specs.declared.SectorDevice.{Ghosts}
+use Rattle.desk_model.specs.declared.command.Command.{Command}
+use Rattle.desk_model.specs.Room.{need}
+use Rattle.desk_store.specs.declared.clerk.Clerk.{Clerk}
+use Rattle.desk_store.specs.Clerks.{desk_of, disk_of, free_of}
+use Rattle.stat_command.specs.Needs.{all_change, IsRevision}
+
+-- the greatest u64 stands for all above it
+abbrev pub capped : ℕ → ℕ
+capped pages = if nat_le pages (2 ^ 64 - 1) then pages else 2 ^ 64 - 1
+
+module _ {D : Type 0} {g : Ghosts D} where
+  -- So many pages are free, and so many are asked for by each command that gives a plan a revision by which each of the counties changes.
+  pub record IsRoom (x : Clerk D g) (told : ℕ × ℕ) : Type 0 where
+    pub free : (disk_of x).is_honest → told.0 ≡ free_of x
+    pub counties : ℕ
+    pub needs : (c : Command) → IsRevision (desk_of x) c (all_change counties) → told.1 ≡ capped (need (desk_of x) c)

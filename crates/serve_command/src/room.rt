@@ -1,0 +1,42 @@
+//! How much room a store has when it begins to be served.
+ghost use Rattle.std.specs.Prelude.{◌≡◌, false, IfOk};
+ghost use Rattle.desk_store.specs.Clerks.{is_halted};
+ghost use Rattle.serve_command.specs.Rooms.{IsRoom, capped as capped_pages};
+
+use connection_log::watching::Watched;
+use desk_store::clerk::Clerk;
+use sector_device::SectorDevice;
+use stat_command::figures::held_by;
+use std::alloc::{AllocError, Global};
+
+/// A number of pages, the greatest for all above it.
+fn capped(pages: u128) -> u64
+    ensures { result ≡ capped_pages pages }
+{
+    if pages <= u64::MAX as u128 {
+        pages as u64
+    } else {
+        u64::MAX
+    }
+}
+
+/// The free pages of a clerk's store, and those that a revision asks for by which each county changes.
+fn room_of<D: SectorDevice>(alloc: Global, clerk: &Clerk<D>) -> Result<(u64, u64), AllocError>
+    requires { is_halted clerk.now ≡ false }
+    ensures { IfOk result (λ told. IsRoom clerk.now told) }
+{
+    match held_by(alloc, clerk) {
+        Ok(held) => Ok((held.free_pages as u64, capped(held.revision.pages))),
+        Err(_) => Err(AllocError),
+    }
+}
+
+/// Tells the room of a clerk's store to what is served, where there is memory to reckon it.
+pub fn tell_room<D: SectorDevice, A: Watched>(alloc: Global, clerk: &Clerk<D>, listening: &A) {
+    if clerk.halted() {
+        return;
+    }
+    if let Ok((free_pages, revision_pages)) = room_of(alloc, clerk) {
+        listening.begin(free_pages, revision_pages);
+    }
+}

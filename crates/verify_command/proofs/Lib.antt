@@ -1,0 +1,2 @@
+mod Unsound
+mod Devices

@@ -1,0 +1,88 @@
+-- Rows that a desk leaves.
+use Rattle.std.specs.Prelude.{◌≡◌, ◌⊎◌, ℕ, Bool, true, false}
+use Rattle.sector_device.specs.declared.SectorDevice.{Ghosts}
+use Rattle.desk_model.specs.Desk.{Desk}
+use Rattle.page_store.specs.Transactions.{disk_in, has_halted, stored, HasFailed}
+use Rattle.page_store.specs.declared.pages.Pages.{Pages}
+use Rattle.page_store.specs.declared.txn.Txn.{Txn}
+use Rattle.page_btree.specs.Map.{InTxn as HasRows}
+use Rattle.page_btree.specs.declared.error.TreeError.{TreeError}
+use Rattle.page_btree.specs.declared.error.TreeError.TheVariants as tree
+use Rattle.store_rows.specs.Keys.{version, in_four}
+use Rattle.store_rows.specs.Rows.{KeyMap, Has, Lacks}
+use Rattle.store_holdings.specs.Checks.{AreSoundHoldings}
+use Rattle.desk_opening.specs.Opening.{HasVersion, IsReadFrom}
+use Rattle.desk_pages.specs.Desks.{InTxn}
+use Rattle.store_command.specs.declared.fault.StoreFault.{StoreFault}
+use Rattle.store_command.specs.declared.fault.StoreFault.TheVariants.{NotFound, WrongSize, Exists, TooSmall, NotAStore, OldVersion, AlreadyNew, AlreadySealed, Full, DeviceFault, Memory}
+use Rattle.row_owners.specs.Wholes.{AreWhole}
+
+-- The rows tell the new version; what an opening reads of them is this desk; each key is that of a row, and each part and piece says what
+-- it has; each chunk's count is that of the plans that hold it, and a plan that is there holds what it names. They are so many.
+pub record IsSound (rows : ℕ) (m : KeyMap) (d : Desk) : Type 0 where
+  pub version : Has m version (in_four 2)
+  pub read : IsReadFrom m d
+  pub whole : AreWhole rows m
+  pub holdings : AreSoundHoldings m
+
+-- and it is those of some desk
+abbrev pub HasSound : ℕ → KeyMap → Type 0
+HasSound rows m = (d : Desk) × IsSound rows m d
+
+-- what an opening and the checks behind it say, before the version is looked at
+pub record IsFoundSo (rows : ℕ) (m : KeyMap) (d : Desk) : Type 0 where
+  pub read : IsReadFrom m d
+  pub whole : AreWhole rows m
+  pub holdings : AreSoundHoldings m
+
+abbrev pub HasFoundSo : ℕ → KeyMap → Type 0
+HasFoundSo rows m = (d : Desk) × IsFoundSo rows m d
+
+-- rows that aren't found to be a desk's are none where the device didn't fail
+abbrev pub none_or_fault : Bool → StoreFault
+none_or_fault true = DeviceFault
+none_or_fault false = NotAStore
+
+abbrev pub fault_of_tree : Bool → TreeError → StoreFault
+fault_of_tree halted tree.Memory = Memory
+fault_of_tree halted tree.DeviceFault = none_or_fault halted
+fault_of_tree halted tree.Halted = none_or_fault halted
+fault_of_tree halted tree.NoPages = none_or_fault halted
+fault_of_tree halted tree.TooDeep = none_or_fault halted
+
+module _ {D : Type 0} {g : Ghosts D} where
+  -- why rows aren't found to be a desk's in a transaction: the device failed, or they are none; or a growth was refused
+  abbrev pub CheckErr : Txn → Pages D g → Pages D g → TreeError → Type 0
+  CheckErr t old new tree.DeviceFault = HasFailed old new ⊎ ((disk_in new).is_honest → (d : Desk) → InTxn t (stored old) d → ⊥)
+  CheckErr t old new tree.Halted = has_halted old ≡ true
+  CheckErr t old new tree.NoPages = ⊥
+  CheckErr t old new tree.TooDeep = ⊥
+  CheckErr t old new tree.Memory = Unit {0}
+
+  -- why rows aren't of version 2: they tell no version, or none that there is, or the device failed
+  abbrev pub OldIn : Txn → Pages D g → Pages D g → StoreFault → Type 0
+  OldIn t old new NotFound = ⊥
+  OldIn t old new WrongSize = ⊥
+  OldIn t old new Exists = ⊥
+  OldIn t old new TooSmall = ⊥
+  OldIn t old new NotAStore = (disk_in new).is_honest → (m : KeyMap) → HasRows t (stored old) m → HasVersion m → ⊥
+  OldIn t old new OldVersion = (disk_in new).is_honest → (m : KeyMap) → HasRows t (stored old) m → Lacks m version
+  OldIn t old new AlreadyNew = ⊥
+  OldIn t old new AlreadySealed = ⊥
+  OldIn t old new Full = ⊥
+  OldIn t old new DeviceFault = has_halted new ≡ true
+  OldIn t old new Memory = ⊥
+
+  -- the same as a fault that is told
+  abbrev pub UnsoundIn : Txn → Pages D g → Pages D g → StoreFault → Type 0
+  UnsoundIn t old new NotFound = ⊥
+  UnsoundIn t old new WrongSize = ⊥
+  UnsoundIn t old new Exists = ⊥
+  UnsoundIn t old new TooSmall = ⊥
+  UnsoundIn t old new NotAStore = (disk_in new).is_honest → (d : Desk) → InTxn t (stored old) d → ⊥
+  UnsoundIn t old new OldVersion = (disk_in new).is_honest → (d : Desk) → InTxn t (stored old) d → ⊥
+  UnsoundIn t old new AlreadyNew = ⊥
+  UnsoundIn t old new AlreadySealed = ⊥
+  UnsoundIn t old new Full = ⊥
+  UnsoundIn t old new DeviceFault = has_halted new ≡ true
+  UnsoundIn t old new Memory = Unit {0}

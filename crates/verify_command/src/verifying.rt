@@ -1,0 +1,306 @@
+//! Whether the pages and rows of a device's store are those that a desk leaves.
+ghost use Rattle.std.specs.Prelude.{◌≡◌, false, OnOk, IfOk, IfErr, IfSome};
+ghost use Rattle.sector_device.specs.Disk.{IsSynced};
+ghost use Rattle.page_store.specs.Transactions.{stored, disk_in, count_of, has_halted, txn_pages, IsQuiet, Passed};
+ghost use Rattle.page_btree.specs.Map.{InTxn};
+ghost use Rattle.page_owners.specs.Owners.{AreOwned};
+ghost use Rattle.page_owners.specs.Errors.{CheckErr as OwnersErr};
+ghost use Rattle.store_rows.specs.Keys.{version, in_four};
+ghost use Rattle.store_rows.specs.Rows.{KeyMap, Has};
+ghost use Rattle.store_holdings.specs.Checks.{AreSoundHoldings, IsNewTidy, CheckErr as HoldersErr};
+ghost use Rattle.desk_opening.specs.Opening.{IsReadFrom, OpenErr};
+ghost use Rattle.verify_command.specs.Sound.{CheckErr, HasFoundSo, HasSound, OldIn, UnsoundIn, fault_of_tree};
+ghost use Rattle.verify_command.specs.Verifying.{HoldsOwned, HoldsSound, IsStray, IsUnsound, TellsPages, VerifiesDevice, fault_of_page};
+
+use crate::refusal::Refusal;
+use command_progress::Progress;
+use desk_catalogue::catalogue::Catalogue;
+use desk_model::cuts::cuts;
+use desk_opening::{is_new, read_desk};
+use desk_runs::desk_law::one_desk_opens;
+use page_owners::{PagesError, check_pages};
+use page_store::{PageError, Pages, Txn};
+use row_owners::{WrongRow, check_whole, first_wrong};
+use row_table::TreeError;
+use sealed_geography::geography;
+use sector_device::SectorDevice;
+use std::alloc::Global;
+use store_command::fault::StoreFault;
+use store_holdings::check_holdings;
+
+/// What was found in a store that is sound: how many pages it has, and how many rows these hold.
+#[derive(Clone, Copy, Debug, PartialEq, Eq)]
+pub struct Verified {
+    pub pages: u32,
+    pub rows: u64,
+}
+
+/// Reads the desk that a transaction reads, if there is one.
+fn open_desk<D: SectorDevice>(
+    alloc: Global,
+    txn: &Txn,
+    pages: &mut Pages<D>,
+) -> Result<Catalogue, TreeError>
+    requires begun { txn_pages txn.now ≡ count_of pages.old }
+    ensures quiet { IsQuiet pages.old pages.new }
+    ensures passed { OnOk result (Passed pages.old pages.new) }
+    ensures found { (disk_in pages.new).is_honest → (m : KeyMap) → InTxn txn.now (stored pages.old) m → IfOk result (λ catalogue. IsReadFrom m catalogue) }
+    ensures err { IfErr result (λ e. OpenErr txn.now pages.old pages.new e) }
+{
+    read_desk(alloc, txn, pages)
+}
+
+/// Checks that chunks are counted, and held by the plans that name them.
+fn check_holders<D: SectorDevice>(
+    alloc: Global,
+    txn: &Txn,
+    pages: &mut Pages<D>,
+) -> Result<(), TreeError>
+    requires begun { txn_pages txn.now ≡ count_of pages.old }
+    ensures quiet { IsQuiet pages.old pages.new }
+    ensures passed { OnOk result (Passed pages.old pages.new) }
+    ensures sound { (disk_in pages.new).is_honest → (m : KeyMap) → InTxn txn.now (stored pages.old) m → OnOk result (AreSoundHoldings m) }
+    ensures err { IfErr result (λ e. HoldersErr IsNewTidy txn.now pages.old pages.new e) }
+{
+    check_holdings(alloc, txn, pages)
+}
+
+/// Checks that the rows that a transaction reads are those of a desk: how many there are. First that they open to a desk, then that each
+/// says what it is, and then that chunks are counted, and held by the plans that name them.
+fn check_desk<D: SectorDevice, P: Progress>(
+    alloc: Global,
+    txn: &Txn,
+    pages: &mut Pages<D>,
+    progress: &mut P,
+) -> Result<u64, TreeError>
+    requires begun { txn_pages txn.now ≡ count_of pages.old }
+    ensures quiet { IsQuiet pages.old pages.new }
+    ensures found { (disk_in pages.new).is_honest → (m : KeyMap) → InTxn txn.now (stored pages.old) m → IfOk result (λ rows. HasFoundSo rows m) }
+    ensures err { IfErr result (λ e. CheckErr txn.now pages.old pages.new e) }
+{
+    let _catalogue = open_desk(alloc, txn, pages)?;
+    let rows = check_whole(txn, pages, progress)?;
+    check_holders(alloc, txn, pages)?;
+    Ok(rows)
+}
+
+/// What is told of rows that aren't found to be a desk's: where the device didn't fail, they are none.
+fn fault_of(e: TreeError, halted: bool) -> StoreFault
+    ensures { result ≡ fault_of_tree halted e }
+{
+    match e {
+        TreeError::Memory => StoreFault::Memory,
+        TreeError::DeviceFault | TreeError::Halted | TreeError::NoPages | TreeError::TooDeep => {
+            if halted {
+                return StoreFault::DeviceFault;
+            }
+            StoreFault::NotAStore
+        }
+    }
+}
+
+/// Refuses rows that aren't of version 2.
+fn refuse_old<D: SectorDevice>(txn: &Txn, pages: &mut Pages<D>) -> Result<(), StoreFault>
+    requires working { has_halted pages.old ≡ false }
+    requires begun { txn_pages txn.now ≡ count_of pages.old }
+    ensures quiet { IsQuiet pages.old pages.new }
+    ensures passed { OnOk result (Passed pages.old pages.new) }
+    ensures version { (disk_in pages.new).is_honest → (m : KeyMap) → InTxn txn.now (stored pages.old) m → OnOk result (Has m version (in_four 2)) }
+    ensures err { IfErr result (λ fault. OldIn txn.now pages.old pages.new fault) }
+{
+    match is_new(txn, pages) {
+        Ok(true) => Ok(()),
+        Ok(false) => Err(StoreFault::OldVersion),
+        Err(e) => Err(fault_of(e, pages.is_halted())),
+    }
+}
+
+/// Finds the desk that a transaction reads: how many rows it has.
+fn find_desk<D: SectorDevice, P: Progress>(
+    alloc: Global,
+    txn: &Txn,
+    pages: &mut Pages<D>,
+    progress: &mut P,
+) -> Result<u64, StoreFault>
+    requires working { has_halted pages.old ≡ false }
+    requires begun { txn_pages txn.now ≡ count_of pages.old }
+    ensures quiet { IsQuiet pages.old pages.new }
+    ensures sound { (disk_in pages.new).is_honest → (m : KeyMap) → InTxn txn.now (stored pages.old) m → IfOk result (λ rows. HasSound rows m) }
+    ensures err { IfErr result (λ fault. UnsoundIn txn.now pages.old pages.new fault) }
+{
+    refuse_old(txn, pages)?;
+    match check_desk(alloc, txn, pages, progress) {
+        Ok(rows) => Ok(rows),
+        Err(e) => Err(fault_of(e, pages.is_halted())),
+    }
+}
+
+/// A row that is wrong among those that a transaction reads, if one is found.
+fn wrong_row<D: SectorDevice>(
+    alloc: Global,
+    txn: &Txn,
+    pages: &mut Pages<D>,
+) -> Result<Option<WrongRow>, TreeError>
+    requires begun { txn_pages txn.now ≡ count_of pages.old }
+    ensures quiet { IsQuiet pages.old pages.new }
+{
+    match geography(alloc, txn, pages) {
+        Ok(Some(geography)) => match cuts(alloc, &geography) {
+            Ok(cuts) => first_wrong(alloc, txn, pages, cuts.as_slice()),
+            Err(_) => Err(TreeError::Memory),
+        },
+        Err(TreeError::Memory) => Err(TreeError::Memory),
+        _ => first_wrong(alloc, txn, pages, &[]),
+    }
+}
+
+/// The row that is told with a fault.
+fn row_for<D: SectorDevice>(
+    alloc: Global,
+    txn: &Txn,
+    pages: &mut Pages<D>,
+    fault: StoreFault,
+) -> Option<WrongRow>
+    requires begun { txn_pages txn.now ≡ count_of pages.old }
+    ensures quiet { IsQuiet pages.old pages.new }
+{
+    match fault {
+        StoreFault::NotAStore => match wrong_row(alloc, txn, pages) {
+            Ok(row) => row,
+            Err(_) => None,
+        },
+        _ => None,
+    }
+}
+
+/// Why a store isn't sound whose desk opens: a row that is wrong, or what kept it from being looked for. None where all rows are right.
+fn stray<D: SectorDevice>(alloc: Global, txn: &Txn, pages: &mut Pages<D>) -> Option<Refusal>
+    requires begun { txn_pages txn.now ≡ count_of pages.old }
+    ensures quiet { IsQuiet pages.old pages.new }
+    ensures told { IfSome result (λ refusal. IsStray pages.new refusal) }
+{
+    match wrong_row(alloc, txn, pages) {
+        Err(_) => Some(Refusal::of(StoreFault::Memory)),
+        Ok(Some(row)) => Some(Refusal {
+            fault: StoreFault::NotAStore,
+            is_stray: true,
+            row: Some(row),
+            page: None,
+        }),
+        Ok(None) => {
+            if pages.is_halted() {
+                return Some(Refusal::of(StoreFault::DeviceFault));
+            }
+            None
+        }
+    }
+}
+
+/// Verifies the rows that opened pages hold.
+fn verify_pages<D: SectorDevice, P: Progress>(
+    alloc: Global,
+    pages: &mut Pages<D>,
+    progress: &mut P,
+) -> Result<Verified, Refusal>
+    requires { has_halted pages.old ≡ false }
+    ensures quiet { IsQuiet pages.old pages.new }
+    ensures sound { IfOk result (λ found. HoldsSound pages.new found) }
+    ensures err { IfErr result (λ refusal. IsUnsound pages.old pages.new refusal) }
+{
+    let txn = pages.begin(alloc);
+    match find_desk(alloc, &txn, pages, progress) {
+        Ok(rows) => match stray(alloc, &txn, pages) {
+            None => Ok(Verified {
+                pages: txn.page_count(),
+                rows,
+            }),
+            Some(refusal) => Err(refusal),
+        },
+        Err(fault) => {
+            let row = row_for(alloc, &txn, pages, fault);
+            Err(Refusal {
+                fault,
+                is_stray: false,
+                row,
+                page: None,
+            })
+        }
+    }
+}
+
+/// Checks that each page has one owner, and that its bytes are what this makes of it.
+fn check_owners<D: SectorDevice>(alloc: Global, pages: &mut Pages<D>) -> Result<(), PagesError>
+    ensures quiet { IsQuiet pages.old pages.new }
+    ensures passed { OnOk result (Passed pages.old pages.new) }
+    ensures owned { (disk_in pages.new).is_honest → OnOk result (AreOwned (count_of pages.old) (stored pages.old)) }
+    ensures err { IfErr result (λ e. OwnersErr (AreOwned (count_of pages.old) (stored pages.old)) pages.old pages.new e) }
+{
+    check_pages(alloc, pages)
+}
+
+/// What is told of pages that aren't found to be owned.
+fn refusal_of(e: PagesError) -> Refusal
+    ensures { TellsPages e result }
+{
+    match e {
+        PagesError::Unsound(page) => Refusal {
+            fault: StoreFault::NotAStore,
+            is_stray: true,
+            row: None,
+            page: Some(page),
+        },
+        PagesError::DeviceFault => Refusal::of(StoreFault::DeviceFault),
+        PagesError::Halted => Refusal::of(StoreFault::DeviceFault),
+        PagesError::Memory => Refusal::of(StoreFault::Memory),
+    }
+}
+
+/// Verifies what opened pages hold: first that each page has one owner, and then their rows.
+fn verify_all<D: SectorDevice, P: Progress>(
+    alloc: Global,
+    pages: &mut Pages<D>,
+    progress: &mut P,
+) -> Result<Verified, Refusal>
+    requires { has_halted pages.old ≡ false }
+    ensures quiet { IsQuiet pages.old pages.new }
+    ensures sound { IfOk result (λ found. HoldsOwned pages.new found) }
+    ensures err { IfErr result (λ refusal. IsUnsound pages.old pages.new refusal) }
+{
+    match check_owners(alloc, pages) {
+        Ok(()) => verify_pages(alloc, pages, progress),
+        Err(e) => Err(refusal_of(e)),
+    }
+}
+
+/// What is told of pages that aren't opened.
+fn page_fault(e: PageError) -> StoreFault
+    ensures { result ≡ fault_of_page e }
+{
+    match e {
+        PageError::Memory => StoreFault::Memory,
+        PageError::DeviceFault => StoreFault::DeviceFault,
+        _ => StoreFault::NotAStore,
+    }
+}
+
+/// Verifies the store that a synced device holds, and gives the device back. Nothing is written but what a stop in a commit left to be
+/// done.
+pub(crate) fn verify_device<D: SectorDevice + Drop, P: Progress>(
+    alloc: Global,
+    device: D,
+    progress: &mut P,
+) -> (Result<Verified, Refusal>, D)
+    requires { IsSynced (D.disk device) }
+    ensures { VerifiesDevice D.SectorDevice device result.0 result.1 }
+{
+    one_desk_opens();
+    let mut pages = match Pages::open(alloc, device) {
+        Ok(pages) => pages,
+        Err((e, left)) => {
+            let fault = page_fault(e);
+            return (Err(Refusal::of(fault)), left);
+        }
+    };
+    let found = verify_all(alloc, &mut pages, progress);
+    (found, pages.into_device())
+}
