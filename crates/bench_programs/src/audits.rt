@@ -1,12 +1,44 @@
 //! Times the audits of plans.
-ghost use Rattle.std.specs.Prelude.{◌≡◌, length};
+ghost use Rattle.std.specs.Prelude.{◌≡◌, ◌≤◌, ◌<◌, length};
 
-use crate::made::{WIDTH, made_blocks, made_pairs, made_plan};
+use crate::made::{made_plan, made_state, told_of, told_with};
 use audit_contiguity::breaks::breaks;
 use audit_population::people::populations;
 use desk_model::geography::Geography;
 use std::io;
 use std::time::Instant;
+
+/// The nanoseconds of the audit of contiguity, and what it tells.
+fn time_breaks(
+    rt: &HostRuntime,
+    geography: &Geography,
+    count: u16,
+    plan: &[u16],
+) -> io::Result<(u128, u64)>
+    requires { length plan.now ≡ length geography.now.blocks }
+{
+    let start = Instant::now(rt)?;
+    let broken = breaks(rt.alloc(), geography, count, plan)?;
+    Ok((start.elapsed(rt)?.as_nanos(), told_of(0, broken.as_slice())))
+}
+
+/// The nanoseconds of the audit of populations, and what it tells besides.
+fn time_people(
+    rt: &HostRuntime,
+    geography: &Geography,
+    count: u16,
+    plan: &[u16],
+    told: u64,
+) -> io::Result<(u128, u64)>
+    requires { length plan.now ≡ length geography.now.blocks }
+{
+    let start = Instant::now(rt)?;
+    let people = populations(rt.alloc(), geography, count, plan)?;
+    Ok((
+        start.elapsed(rt)?.as_nanos(),
+        told_with(told, people.as_slice()),
+    ))
+}
 
 /// The best of 20 times of both audits, with what they tell.
 fn measure(
@@ -22,26 +54,33 @@ fn measure(
     let mut people_best = 1_000_000_000_000u128;
     let mut told = 0u64;
     for _ in 0..20 {
-        let start = Instant::now(rt)?;
-        let broken = breaks(rt.alloc(), geography, count, plan)?;
-        breaks_best = start.elapsed(rt)?.as_nanos().min(breaks_best);
-        let start = Instant::now(rt)?;
-        let people = populations(rt.alloc(), geography, count, plan)?;
-        people_best = start.elapsed(rt)?.as_nanos().min(people_best);
-        told = 0;
-        for part in broken.as_slice() {
-            told = told.wrapping_mul(31).wrapping_add(part.district as u64);
-            if let Some(gap) = part.gap {
-                told = told.wrapping_mul(31).wrapping_add(gap.from.number());
-                told = told.wrapping_mul(31).wrapping_add(gap.to.number());
-            }
-        }
-        for number in people.as_slice() {
-            told = told.wrapping_mul(31).wrapping_add(*number as u64);
-        }
+        let (time, broken) = time_breaks(rt, geography, count, plan)?;
+        breaks_best = time.min(breaks_best);
+        let (time, people) = time_people(rt, geography, count, plan, broken)?;
+        people_best = time.min(people_best);
+        told = people;
     }
     println!(rt; "{name} {breaks_best} {people_best} {told}")?;
     Ok(())
+}
+
+/// The same of a made plan in stripes.
+fn measure_stripes(
+    rt: &HostRuntime,
+    name: &str,
+    geography: &Geography,
+    districts: u16,
+    stripes: usize,
+) -> io::Result<()>
+    requires some { 0 < length geography.now.blocks }
+    requires few { length geography.now.blocks ≤ 1048576 }
+    requires striped { stripes ≤ 1048576 }
+    requires districted { 0 < districts }
+    requires numbered { districts ≤ 999 }
+{
+    let count = geography.blocks().len();
+    let plan = made_plan(rt.alloc(), count, stripes, districts)?;
+    measure(rt, name, geography, districts, plan.as_slice())
 }
 
 /// Over a made state of so many blocks.
@@ -49,14 +88,10 @@ pub fn run(rt: &HostRuntime, count: usize, districts: u16) -> io::Result<()> {
     if count == 0 || count > 1_048_576 || districts == 0 || districts > 999 {
         return Ok(());
     }
-    let blocks = made_blocks(rt.alloc(), count)?;
-    if blocks.len() != count {
+    let Some(geography) = made_state(rt.alloc(), count)? else {
         return Ok(());
-    }
-    let pairs = made_pairs(rt.alloc(), blocks.as_slice(), WIDTH)?;
-    let geography = Geography::make(rt.alloc(), blocks, pairs.as_slice())?;
-    let whole = made_plan(rt.alloc(), count, districts as usize, districts)?;
-    measure(rt, "whole", &geography, districts, whole.as_slice())?;
-    let parted = made_plan(rt.alloc(), count, 2 * districts as usize, districts)?;
-    measure(rt, "parted", &geography, districts, parted.as_slice())
+    };
+    let stripes = districts as usize;
+    measure_stripes(rt, "whole", &geography, districts, stripes)?;
+    measure_stripes(rt, "parted", &geography, districts, 2 * stripes)
 }

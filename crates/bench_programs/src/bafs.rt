@@ -31,41 +31,66 @@ fn read_in(rt: &HostRuntime, g: &Geography, text: &[u8], assignment: &[u16]) -> 
     let start = Instant::now(rt)?;
     let listed = read(rt.alloc(), text, g, DISTRICTS);
     let taken = start.elapsed(rt)?.as_nanos();
-    match listed {
+    let is_same = match listed {
         Ok(listed) => {
             let districts = whole(rt.alloc(), &listed)?;
-            let same = districts.as_slice() == assignment;
-            if !same {
-                println!(rt; "different")?;
-            }
+            districts.as_slice() == assignment
         }
-        Err(e) => {
-            println!(rt; "{e:?}")?;
-        }
+        Err(_) => false,
+    };
+    if is_same {
+        Ok(taken)
+    } else {
+        Err(io::Error::from(io::ErrorKind::InvalidData))
     }
-    Ok(taken)
 }
 
-fn measure(rt: &HostRuntime, g: &Geography, assignment: &[u16]) -> io::Result<()>
+/// The least times so far, and the bytes of the text.
+#[derive(Clone, Copy)]
+struct Best {
+    write: u128,
+    read: u128,
+    once: u128,
+    size: usize,
+}
+
+/// Writes a text and reads it, and reads a copy of it behind other work.
+fn measure_once(
+    rt: &HostRuntime,
+    g: &Geography,
+    assignment: &[u16],
+    other: &mut [u8],
+    best: &mut Best,
+) -> io::Result<()>
     requires { length assignment.now ≡ length g.now.blocks }
 {
-    let mut write_best = 1_000_000_000u128;
-    let mut read_best = 1_000_000_000u128;
-    let mut once_best = 1_000_000_000u128;
-    let mut size = 0;
-    let mut other = Vec::from_elem(rt.alloc(), 0u8, OTHER)?;
+    let start = Instant::now(rt)?;
+    let text = write(rt.alloc(), assignment, g, Kind::House)?;
+    best.write = start.elapsed(rt)?.as_nanos().min(best.write);
+    best.size = text.len();
+    best.read = read_in(rt, g, text.as_slice(), assignment)?.min(best.read);
+    let copy = text.clone()?;
+    other_work(other);
+    best.once = read_in(rt, g, copy.as_slice(), assignment)?.min(best.once);
+    Ok(())
+}
+
+fn measure(rt: &HostRuntime, g: &Geography, assignment: &[u16], other: &mut [u8]) -> io::Result<()>
+    requires { length assignment.now ≡ length g.now.blocks }
+{
+    let most = 1_000_000_000u128;
+    let mut best = Best {
+        write: most,
+        read: most,
+        once: most,
+        size: 0,
+    };
     for _ in 0..30 {
-        let start = Instant::now(rt)?;
-        let text = write(rt.alloc(), assignment, g, Kind::House)?;
-        write_best = start.elapsed(rt)?.as_nanos().min(write_best);
-        size = text.len();
-        read_best = read_in(rt, g, text.as_slice(), assignment)?.min(read_best);
-        let copy = text.clone()?;
-        other_work(other.as_mut_slice());
-        once_best = read_in(rt, g, copy.as_slice(), assignment)?.min(once_best);
+        measure_once(rt, g, assignment, other, &mut best)?;
     }
     println!(rt;
-        "{size} bytes: write {write_best} ns, read {read_best} ns, read once behind other work {once_best} ns"
+        "{} bytes: write {} ns, read {} ns, read once behind other work {} ns",
+        best.size, best.write, best.read, best.once
     )?;
     Ok(())
 }
@@ -77,7 +102,8 @@ pub fn run(rt: &HostRuntime) -> io::Result<()> {
     let pairs: [(BlockId, BlockId); 0] = [];
     let g = Geography::make(rt.alloc(), blocks, &pairs)?;
     if assignment.len() == g.blocks().len() {
-        measure(rt, &g, assignment.as_slice())?;
+        let mut other = Vec::from_elem(rt.alloc(), 0u8, OTHER)?;
+        measure(rt, &g, assignment.as_slice(), other.as_mut_slice())?;
     }
     Ok(())
 }

@@ -3,7 +3,9 @@
 ghost use Rattle.std.specs.Prelude.{◌≡◌, ◌<◌, ◌≤◌, length, All, IfOk, OnOk};
 ghost use Rattle.desk_model.specs.Geography.{AreBlocks, AreDifferentBlocks};
 
+use audit_contiguity::breaks::Break;
 use desk_model::block::{BlockId, BlockRow};
+use desk_model::geography::Geography;
 use std::alloc::{AllocError, Global};
 
 /// Blocks in a row.
@@ -91,4 +93,39 @@ pub fn made_plan(
         plan.push((stripe % districts as u64) as u16 + 1)?;
     }
     Ok(plan)
+}
+
+/// The geography of such a state.
+pub fn made_state(alloc: Global, count: usize) -> Result<Option<Geography>, AllocError>
+    requires some { 0 < count }
+    requires few { count ≤ 1048576 }
+{
+    let blocks = made_blocks(alloc, count)?;
+    if blocks.len() > 1_048_576 {
+        return Ok(None);
+    }
+    let pairs = made_pairs(alloc, blocks.as_slice(), WIDTH)?;
+    Ok(Some(Geography::make(alloc, blocks, pairs.as_slice())?))
+}
+
+/// A sum over what an audit of contiguity tells.
+pub fn told_of(told: u64, breaks: &[Break]) -> u64 {
+    let mut told = told;
+    for part in breaks {
+        told = told.wrapping_mul(31).wrapping_add(part.district as u64);
+        if let Some(gap) = part.gap {
+            told = told.wrapping_mul(31).wrapping_add(gap.from.number());
+            told = told.wrapping_mul(31).wrapping_add(gap.to.number());
+        }
+    }
+    told
+}
+
+/// The same, and then over the populations of districts.
+pub fn told_with(told: u64, populations: &[u32]) -> u64 {
+    let mut told = told;
+    for number in populations {
+        told = told.wrapping_mul(31).wrapping_add(*number as u64);
+    }
+    told
 }

@@ -23,15 +23,20 @@ const SECTORS: u32 = 2 + 9 + JOURNAL + PAGES;
 /// The rows of a commit.
 const BATCH: u32 = 512;
 
-/// The keys of a table, of which the last eight bytes rise with the row or are shuffled.
-fn key_of(i: u32, shuffled: bool) -> [u8; 20] {
-    let mut key = *b"block.......00000000";
-    let n = if shuffled {
+/// A number that rises with the row, or is shuffled.
+fn number_of(i: u32, shuffled: bool) -> u64 {
+    if shuffled {
         (i as u64).wrapping_mul(0x9e37_79b9_7f4a_7c15)
     } else {
         i as u64
-    };
-    key[12..].copy_from_slice(&n.to_be_bytes());
+    }
+}
+
+/// The keys of a table, of which the last eight bytes rise with the row or are shuffled.
+fn key_of(i: u32, shuffled: bool) -> [u8; 20] {
+    let mut key = [b'.'; 20];
+    key[..5].copy_from_slice(b"block");
+    key[12..].copy_from_slice(&number_of(i, shuffled).to_be_bytes());
     key
 }
 
@@ -170,29 +175,74 @@ fn refused(_: TreeError) -> io::Error {
     io::Error::from(io::ErrorKind::Other)
 }
 
+/// What is timed.
+#[derive(Clone, Copy)]
+enum Job {
+    Put,
+    Get,
+    Scan,
+    Remove,
+}
+
+/// Does a job over all rows: how many keys were there, or a sum over the rows.
+fn work(
+    alloc: Global,
+    pages: &mut Pages<MemoryDevice>,
+    rows: u32,
+    shuffled: bool,
+    job: Job,
+) -> Result<u64, TreeError> {
+    match job {
+        Job::Put => change_all(alloc, pages, rows, shuffled, true),
+        Job::Get => get_all(alloc, pages, rows, shuffled),
+        Job::Scan => scan_all(alloc, pages, rows),
+        Job::Remove => change_all(alloc, pages, rows, shuffled, false),
+    }
+}
+
+/// Prints the nanoseconds of a job, and gives what it told.
+fn time_of(
+    rt: &HostRuntime,
+    pages: &mut Pages<MemoryDevice>,
+    rows: u32,
+    order: &str,
+    job: Job,
+    name: &str,
+) -> io::Result<u64> {
+    let start = Instant::now(rt)?;
+    let told = work(rt.alloc(), pages, rows, order == "shuffled", job).map_err(refused)?;
+    println!(rt; "{order} {name} {}", start.elapsed(rt)?.as_nanos())?;
+    Ok(told)
+}
+
 /// Prints the nanoseconds of the puts, gets, scan and removes, the pages that the rows take, and a sum that other programs print too.
+fn measure(
+    rt: &HostRuntime,
+    pages: &mut Pages<MemoryDevice>,
+    rows: u32,
+    order: &str,
+) -> io::Result<()> {
+    let free = pages.free_pages();
+    let had = time_of(rt, pages, rows, order, Job::Put, "put")?;
+    println!(rt; "{order} pages {}", free.saturating_sub(pages.free_pages()))?;
+    let got = time_of(rt, pages, rows, order, Job::Get, "get")?;
+    let scanned = time_of(rt, pages, rows, order, Job::Scan, "scan")?;
+    println!(rt; "{order} scanned {scanned}")?;
+    let removed = time_of(rt, pages, rows, order, Job::Remove, "remove")?;
+    let told = had.wrapping_add(got).wrapping_add(removed);
+    println!(rt; "{order} told {told} free {}", pages.free_pages())?;
+    Ok(())
+}
+
+/// The same in a new store, of rows that are put in this order.
 pub fn run(rt: &HostRuntime, rows: u32, order: &str) -> io::Result<()> {
-    let shuffled = order == "shuffled";
-    let name = if shuffled { "shuffled" } else { "rising" };
+    let order = if order == "shuffled" {
+        "shuffled"
+    } else {
+        "rising"
+    };
     let Some(mut pages) = made(rt.alloc()) else {
         return Err(io::Error::from(io::ErrorKind::Other));
     };
-    let free = pages.free_pages();
-    let start = Instant::now(rt)?;
-    let had = change_all(rt.alloc(), &mut pages, rows, shuffled, true).map_err(refused)?;
-    println!(rt; "{name} put {}", start.elapsed(rt)?.as_nanos())?;
-    println!(rt; "{name} pages {}", free.saturating_sub(pages.free_pages()))?;
-    let start = Instant::now(rt)?;
-    let got = get_all(rt.alloc(), &mut pages, rows, shuffled).map_err(refused)?;
-    println!(rt; "{name} get {}", start.elapsed(rt)?.as_nanos())?;
-    let start = Instant::now(rt)?;
-    let scanned = scan_all(rt.alloc(), &mut pages, rows).map_err(refused)?;
-    println!(rt; "{name} scan {}", start.elapsed(rt)?.as_nanos())?;
-    println!(rt; "{name} scanned {scanned}")?;
-    let start = Instant::now(rt)?;
-    let removed = change_all(rt.alloc(), &mut pages, rows, shuffled, false).map_err(refused)?;
-    println!(rt; "{name} remove {}", start.elapsed(rt)?.as_nanos())?;
-    let told = had.wrapping_add(got).wrapping_add(removed);
-    println!(rt; "{name} told {told} free {}", pages.free_pages())?;
-    Ok(())
+    measure(rt, &mut pages, rows, order)
 }

@@ -1,7 +1,7 @@
 //! Times the whole audit of a plan, alone and by workers.
-ghost use Rattle.std.specs.Prelude.{◌≡◌, ◌≤◌, length};
+ghost use Rattle.std.specs.Prelude.{◌≡◌, ◌≤◌, ◌<◌, length};
 
-use crate::made::{WIDTH, made_blocks, made_pairs, made_plan};
+use crate::made::{made_plan, made_state, told_of, told_with};
 use audit_report::audit::audit;
 use audit_report::report::Report;
 use audit_workers::audit::audit_with;
@@ -12,23 +12,20 @@ use std::io;
 use std::thread::Threads;
 use std::time::Instant;
 
-/// A number that the report's lists give.
-fn told_of(report: &Report) -> u64 {
-    let mut told = report.unassigned as u64;
-    for part in report.contiguity.as_slice() {
-        told = told.wrapping_mul(31).wrapping_add(part.district as u64);
-        if let Some(gap) = part.gap {
-            told = told.wrapping_mul(31).wrapping_add(gap.from.number());
-            told = told.wrapping_mul(31).wrapping_add(gap.to.number());
-        }
-    }
-    for number in report.populations.as_slice() {
-        told = told.wrapping_mul(31).wrapping_add(*number as u64);
-    }
-    for county in report.counties.as_slice() {
+/// A sum over counties.
+fn told_besides(told: u64, counties: &[u16]) -> u64 {
+    let mut told = told;
+    for county in counties {
         told = told.wrapping_mul(31).wrapping_add(*county as u64);
     }
     told
+}
+
+/// A number that the report's lists give.
+fn told_of_report(report: &Report) -> u64 {
+    let breaks = told_of(report.unassigned as u64, report.contiguity.as_slice());
+    let people = told_with(breaks, report.populations.as_slice());
+    told_besides(people, report.counties.as_slice())
 }
 
 /// The nanoseconds that an audit by so many workers took, 0 for the audit alone, and what its report tells.
@@ -63,7 +60,7 @@ fn time_of<T: Threads + Sync>(
         )?
     };
     let time = start.elapsed(rt)?.as_nanos();
-    Ok((time, told_of(&report)))
+    Ok((time, told_of_report(&report)))
 }
 
 /// The best of 20 times of the audit alone and by one, two and four workers, in turn, each with what its report tells.
@@ -94,6 +91,26 @@ fn measure<T: Threads + Sync>(
     Ok(())
 }
 
+/// The same of a made plan in stripes.
+fn measure_stripes<T: Threads + Sync>(
+    rt: &HostRuntime,
+    threads: &T,
+    name: &str,
+    geography: &Geography,
+    districts: u16,
+    stripes: usize,
+) -> io::Result<()>
+    requires some { 0 < length geography.now.blocks }
+    requires few { length geography.now.blocks ≤ 1048576 }
+    requires striped { stripes ≤ 1048576 }
+    requires districted { 0 < districts }
+    requires numbered { districts ≤ 999 }
+{
+    let count = geography.blocks().len();
+    let plan = made_plan(rt.alloc(), count, stripes, districts)?;
+    measure(rt, threads, name, geography, districts, plan.as_slice())
+}
+
 /// Over a made state of so many blocks.
 pub fn run<T: Threads + Sync>(
     rt: &HostRuntime,
@@ -104,28 +121,10 @@ pub fn run<T: Threads + Sync>(
     if count == 0 || count > 1_048_576 || districts == 0 || districts > 999 {
         return Ok(());
     }
-    let blocks = made_blocks(rt.alloc(), count)?;
-    if blocks.len() != count {
+    let Some(geography) = made_state(rt.alloc(), count)? else {
         return Ok(());
-    }
-    let pairs = made_pairs(rt.alloc(), blocks.as_slice(), WIDTH)?;
-    let geography = Geography::make(rt.alloc(), blocks, pairs.as_slice())?;
-    let whole = made_plan(rt.alloc(), count, districts as usize, districts)?;
-    measure(
-        rt,
-        threads,
-        "whole",
-        &geography,
-        districts,
-        whole.as_slice(),
-    )?;
-    let parted = made_plan(rt.alloc(), count, 2 * districts as usize, districts)?;
-    measure(
-        rt,
-        threads,
-        "parted",
-        &geography,
-        districts,
-        parted.as_slice(),
-    )
+    };
+    let stripes = districts as usize;
+    measure_stripes(rt, threads, "whole", &geography, districts, stripes)?;
+    measure_stripes(rt, threads, "parted", &geography, districts, 2 * stripes)
 }

@@ -1,9 +1,9 @@
 -- A refusal below, told above.
-use Rattle.std.proofs.Common.{◌≡◌, ◌≤◌, ◌<◌, ◌+◌, ℕ, List, inl, inr, ⊎_elim, sym, ◌∙◌, arith, length}
+use Rattle.std.proofs.Common.{◌≡◌, ◌≤◌, ◌<◌, ◌+◌, ℕ, List, inl, inr, ⊎_elim, sym, subst, ◌∙◌, arith, length}
 use Rattle.sector_device.specs.Disk.{Image}
 use Rattle.sector_device.specs.declared.SectorDevice.{Ghosts}
 use Rattle.page_store.specs.Chain.{AreFree}
-use Rattle.page_store.specs.Transactions.{stored, disk_in, txn_pages, txn_root, txn_free, over, free_over, IsQuiet, Passed, ReadErr}
+use Rattle.page_store.specs.Transactions.{stored, disk_in, txn_pages, txn_root, txn_free, over, free_over, IsQuiet, Passed, ReadErr, TakeErr}
 use Rattle.page_store.proofs.Stops.{failed_more}
 use Rattle.page_store.specs.declared.error.PageError.{PageError}
 use Rattle.page_store.specs.declared.error.PageError.TheVariants as page
@@ -67,6 +67,40 @@ module _ {D : Type 0} {g : Ghosts D} where
   link_failed level can p t u old mid new passed quiet le has NoPages why = omega arith
   link_failed level can p t u old mid new passed quiet le has TooDeep why = why
   link_failed level can p t u old mid new passed quiet le has Memory why = tt
+
+  -- ---- of a node that is written
+  pub take_failed : (t : Txn) (old new : Pages D g) (e : PageError) → TakeErr t old new e → WriteErr t old new (tree_error e)
+  take_failed t old new page.DeviceFault why = why
+  take_failed t old new page.Halted why = why
+  take_failed t old new page.NotAStore why = absurd why
+  take_failed t old new page.TooManyPages why = absurd why
+  take_failed t old new page.TooSmall why = absurd why
+  take_failed t old new page.NoPages why = why
+  take_failed t old new page.Memory why = absurd why
+
+  pub row_written_failed : (bytes : List ℕ) (t : Txn) (old new : Pages D g) (e : TreeError) → WriteErr t old new e → RowErr bytes t old new e
+  row_written_failed bytes t old new DeviceFault why = ⊎_elim (λ failed. inl failed) (λ no. inr (λ honest are es is. no honest are)) why
+  row_written_failed bytes t old new Halted why = why
+  row_written_failed bytes t old new NoPages why = why
+  row_written_failed bytes t old new TooDeep why = why
+  row_written_failed bytes t old new Memory why = tt
+
+  pub link_read_failed : (p : ℕ) (t : Txn) (old new : Pages D g) (e : PageError) → ReadErr old new e → LinkErr p t old new (tree_error e)
+  link_read_failed p t old new page.DeviceFault why = inl why
+  link_read_failed p t old new page.Halted why = why
+  link_read_failed p t old new page.NotAStore why = absurd why
+  link_read_failed p t old new page.TooManyPages why = absurd why
+  link_read_failed p t old new page.TooSmall why = absurd why
+  link_read_failed p t old new page.NoPages why = absurd why
+  link_read_failed p t old new page.Memory why = absurd why
+
+  pub link_written_failed : (p : ℕ) (t : Txn) (old mid new : Pages D g) → Passed old mid → IsQuiet mid new → (e : TreeError) → WriteErr t mid new e → LinkErr p t old new e
+  link_written_failed p t old mid new passed quiet DeviceFault why = ⊎_elim (λ failed. inl (failed_more old mid new passed quiet failed))
+      (λ no. inr (λ honest are node is some. no honest (subst (λ S. AreFree (txn_pages t) (free_over t S)) (sym (passed.quiet.same (quiet.honest honest))) are))) why
+  link_written_failed p t old mid new passed quiet Halted why = sym passed.halted ∙ why
+  link_written_failed p t old mid new passed quiet NoPages why = why
+  link_written_failed p t old mid new passed quiet TooDeep why = why
+  link_written_failed p t old mid new passed quiet Memory why = tt
 
   -- ---- of a put at the root
   pub first_failed : (t : Txn) (old new : Pages D g) (e : TreeError) → WriteErr t old new e → PutErr t old new e

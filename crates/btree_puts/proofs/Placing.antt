@@ -65,6 +65,13 @@ module _ (bytes : List ℕ) (node new : Node) (es : List Entry) (i : ℕ) (key v
 pub first_node : (e : Entry) (cleared new : Node) → cleared ≡ record { level = 0; entries = [] } → new ≡ record cleared { entries = insert cleared.entries 0 e } → new ≡ record { level = 0; entries = e ∷ [] }
 first_node e cleared new is made = made ∙ ap (λ (n : Node). record n { entries = insert n.entries 0 e }) is
 
+-- a node of two entries
+pub second_node : (level : ℕ) (e f d c : Entry) (cleared one two : Node) → e ≡ d → f ≡ c → cleared ≡ record { level = level; entries = [] }
+    → one ≡ record cleared { entries = insert cleared.entries 0 e } → two ≡ record one { entries = insert one.entries 1 f } → two ≡ record { level = level; entries = d ∷ c ∷ [] }
+second_node level e f d c cleared one two first second is made more =
+    more ∙ ap (λ (n : Node). record n { entries = insert n.entries 1 f }) (made ∙ ap (λ (n : Node). record n { entries = insert n.entries 0 e }) is)
+    ∙ (λ i. record { level = level; entries = first i ∷ second i ∷ [] })
+
 -- a node with a link more
 pub linked_node : (key : List ℕ) (e f : Entry) (node read new : Node) (i : ℕ) → read ≡ node → e ≡ f → new ≡ record read { entries = insert read.entries i e } → ((x : Entry) → insert read.entries i x ≡ linked key (x ∷ []) read.entries) → new ≡ record node { entries = linked key (f ∷ []) node.entries }
 linked_node key e f node read new i is same made place =

@@ -1,4 +1,4 @@
-use Rattle.std.proofs.Common.{◌≡◌, sym, subst}
+use Rattle.std.proofs.Common.{◌≡◌, sym, subst, inr}
 use Rattle.std.specs.Prelude.{IfOk}
 use Rattle.page_store.specs.Chain.{IsIn, AreFree}
 use Rattle.page_store.specs.Transactions.{stored, txn_pages, over, free_over, Passed}
@@ -7,8 +7,12 @@ use Rattle.page_node.specs.Entries.{Entry, key_at, child_bytes}
 use Rattle.page_node.specs.Node.{IsNode}
 use Rattle.page_node.proofs.Laws.{node_unique}
 use Rattle.btree_puts.specs.Putting.{IsWritten}
-use Rattle.page_btree.proofs.Outcomes.{map_ok}
+use Rattle.page_btree.proofs.Outcomes.{map_ok, err_of, map_err}
 use Rattle.btree_puts.proofs.Placing.{linked_node}
+use Rattle.btree_puts.proofs.Failing.{link_read_failed, link_written_failed}
+use Rattle.btree_puts.specs.Errors.{WriteErr, LinkErr}
+use Rattle.page_btree.specs.Errors.{tree_error}
+use Rattle.page_btree.specs.declared.error.TreeError.TheVariants.{DeviceFault}
 use Rattle.btree_puts.proofs.puts.link.Goals as goal
 
 pub returns-clause-quiet : goal.returns-clause-quiet
@@ -32,3 +36,19 @@ returns-clause-linked g c = λ honest node is some are off.
     let done = c.settle.ensures.written honest (subst (λ S. AreFree (txn_pages t0) (free_over t0 S)) (sym same) are) (subst (λ S. IsIn c.args.page (free_over t0 S) → ⊥) (sym same) off) in
     subst (λ n. IfOk c.settle.result (λ cut. IsWritten (over t0 (stored c.args.pages.now)) (over t1 (stored c.args.pages.now)) (free_over t0 (stored c.args.pages.now)) (free_over t1 (stored c.args.pages.now)) c.args.page cut n c.settle.new.room.upper)) made
     (subst (λ S. IfOk c.settle.result (λ cut. IsWritten (over t0 S) (over t1 S) (free_over t0 S) (free_over t1 S) c.args.page cut c.insert.new.self c.settle.new.room.upper)) same done)
+
+pub returns-in_err-read-clause-err : goal.returns-in_err-read-clause-err
+returns-in_err-read-clause-err g c =
+    err_of c.from_residual.result (tree_error c.in_err-read.field-0.0) (λ e. LinkErr c.args.page c.args.txn.now c.args.pages.now c.read.new.pages e) c.from_residual.ensures.1
+    (link_read_failed c.args.page c.args.txn.now c.args.pages.now c.read.new.pages c.in_err-read.field-0.0 c.in_err-read.ensures.err)
+
+pub returns-in_err-read-2-clause-err : goal.returns-in_err-read-2-clause-err
+returns-in_err-read-2-clause-err g c =
+    err_of c.from_residual-in_err-read-2.result DeviceFault (λ e. LinkErr c.args.page c.args.txn.now c.args.pages.now c.read.new.pages e) c.from_residual-in_err-read-2.ensures.1
+    (inr (λ honest are node is some. c.in_err-read-2.ensures.refused node (subst (λ bytes. IsNode bytes node) (sym (c.in_ok-read.ensures.reads honest)) is)))
+
+pub returns-clause-err : goal.returns-clause-err
+returns-clause-err g c =
+    let first : Passed c.args.pages.now c.read.new.pages = record { quiet = c.read.ensures.quiet; halted = c.in_ok-read.ensures.ok; faults = c.in_ok-read.ensures.passed } in
+    map_err c.settle.result (λ e. WriteErr c.args.txn.now c.read.new.pages c.settle.new.pages e) (λ e. LinkErr c.args.page c.args.txn.now c.args.pages.now c.settle.new.pages e)
+    (link_written_failed c.args.page c.args.txn.now c.args.pages.now c.read.new.pages c.settle.new.pages first c.settle.ensures.quiet) c.settle.ensures.err

@@ -7,6 +7,10 @@ use Rattle.page_btree.specs.Map.{Holds}
 use Rattle.btree_puts.proofs.Roots.{first_holds}
 use Rattle.btree_puts.proofs.Images.{put_here}
 use Rattle.btree_puts.proofs.Placing.{first_node}
+use Rattle.btree_puts.proofs.Failing.{take_failed}
+use Rattle.btree_puts.specs.Errors.{WriteErr}
+use Rattle.page_btree.specs.Errors.{tree_error}
+use Rattle.page_btree.proofs.Outcomes.{err_of}
 use Rattle.btree_puts.proofs.puts.put_first.Goals as goal
 
 pub returns-clause-put : goal.returns-clause-put
@@ -28,3 +32,8 @@ returns-clause-put g c = λ honest m none holds.
     let made = first_holds n (over t0 S) (over t3 S) (txn_root t0) (free_over t0 S) (free_over t3 S) page m c.args.key.now c.args.value.now none holds taken_now (subst (λ b. IsNode b (record { level = 0; entries = (c.args.key.now, c.args.value.now) ∷ [] })) (sym bytes) node) in
     subst (λ k. Holds k (over t3 S) (txn_root t3) (free_over t3 S) (insert m c.args.key.now c.args.value.now)) (sym pages)
     (subst (λ r. Holds n (over t3 S) r (free_over t3 S) (insert m c.args.key.now c.args.value.now)) (sym c.set_root.ensures.root) made)
+
+pub returns-in_err-page-clause-err : goal.returns-in_err-page-clause-err
+returns-in_err-page-clause-err g c =
+    err_of c.from_residual.result (tree_error c.in_err-page.field-0.0) (λ e. WriteErr c.args.txn.now c.args.pages.now c.take_page.new.pages e) c.from_residual.ensures.1
+    (take_failed c.args.txn.now c.args.pages.now c.take_page.new.pages c.in_err-page.field-0.0 c.in_err-page.ensures.err)

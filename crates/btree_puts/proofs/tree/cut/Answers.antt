@@ -1,0 +1,52 @@
+use Rattle.std.proofs.Common.{◌≡◌, ◌∷◌, inl, inr, sym, ap, subst, ◌∙◌}
+use Rattle.page_store.specs.Chain.{IsIn, AreFree}
+use Rattle.page_store.specs.Transactions.{stored, txn_pages, over, free_over}
+use Rattle.page_node.specs.Node.{IsNode}
+use Rattle.btree_puts.proofs.Images.{put_here, put_elsewhere}
+use Rattle.btree_puts.proofs.Failing.{take_failed}
+use Rattle.btree_puts.specs.Errors.{WriteErr}
+use Rattle.page_btree.specs.Errors.{tree_error}
+use Rattle.page_btree.proofs.Outcomes.{err_of}
+use Rattle.btree_puts.proofs.tree.cut.Goals as goal
+
+pub returns-clause-written : goal.returns-clause-written
+returns-clause-written g c = λ honest are off.
+    let S = stored c.args.pages.now in
+    let t0 = c.args.txn.now in
+    let t1 = c.take_page.new.self in
+    let t2 = c.write_node.new.txn in
+    let t3 = c.write_node-2.new.txn in
+    let page = c.args.page in
+    let right = c.in_ok-right.right in
+    let taken : free_over t0 S ≡ right ∷ free_over t1 S = c.in_ok-right.ensures.taken honest in
+    let are_taken : AreFree (txn_pages t0) (right ∷ free_over t1 S) = subst (AreFree (txn_pages t0)) taken are in
+    let off_taken : IsIn page (right ∷ free_over t1 S) → ⊥ = subst (λ l. IsIn page l → ⊥) taken off in
+    let first_free : free_over t2 S ≡ free_over t1 S = c.in_ok-write_node.ensures.free S (λ there. off_taken (inr there)) in
+    let second_free : free_over t3 S ≡ free_over t2 S = c.in_ok-write_node-2.ensures.free S (subst (λ l. IsIn right l → ⊥) (sym first_free) are_taken.2) in
+    let before : over t1 S ≡ over t0 S = c.take_page.ensures.over S in
+    let at_page : over t3 S page ≡ c.write_node.new.bytes =
+    c.in_ok-write_node-2.ensures.written S page
+    ∙ put_elsewhere right c.write_node-2.new.bytes (over t2 S) page (λ same. off_taken (inl same))
+    ∙ c.in_ok-write_node.ensures.written S page
+    ∙ put_here page c.write_node.new.bytes (over t1 S) in
+    let at_right : over t3 S right ≡ c.write_node-2.new.bytes =
+    c.in_ok-write_node-2.ensures.written S right ∙ put_here right c.write_node-2.new.bytes (over t2 S) in
+    record {
+      lower = c.split.new.self.entries;
+      both = c.split.ensures.entries;
+      level = c.split.ensures.level.1;
+      some = c.split.ensures.some;
+      holds = subst (λ b. IsNode b (record { level = c.args.room.now.node.level; entries = c.split.new.self.entries })) (sym at_page)
+          (subst (λ k. IsNode c.write_node.new.bytes (record { level = k; entries = c.split.new.self.entries })) c.split.ensures.level.0 c.write_node.ensures.node);
+      beside = subst (λ b. IsNode b c.split.new.right) (sym at_right) c.write_node-2.ensures.node;
+      elsewhere = λ q not_page not_right.
+          c.in_ok-write_node-2.ensures.written S q ∙ put_elsewhere right c.write_node-2.new.bytes (over t2 S) q not_right
+          ∙ c.in_ok-write_node.ensures.written S q ∙ put_elsewhere page c.write_node.new.bytes (over t1 S) q not_page
+          ∙ ap (λ P. P q) before;
+      taken = taken ∙ ap (λ l. right ∷ l) (sym (second_free ∙ first_free));
+    }
+
+pub returns-in_err-right-clause-err : goal.returns-in_err-right-clause-err
+returns-in_err-right-clause-err g c =
+    err_of c.from_residual.result (tree_error c.in_err-right.field-0.0) (λ e. WriteErr c.args.txn.now c.args.pages.now c.take_page.new.pages e) c.from_residual.ensures.1
+    (take_failed c.args.txn.now c.args.pages.now c.take_page.new.pages c.in_err-right.field-0.0 c.in_err-right.ensures.err)
