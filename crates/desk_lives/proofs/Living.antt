@@ -1,5 +1,5 @@
 -- Requests in a life, and lives in turn.
-use Rattle.std.proofs.Common.{◌≡◌, ◌⊎◌, ℕ, ◌≤◌, ◌<◌, Bool, true, false, List, [], ◌∷◌, ◌++◌, length, get_or, inl, inr, ⊎_elim, refl, sym, subst, ◌∙◌, arith, append_assoc}
+use Rattle.std.proofs.Common.{◌≡◌, ◌≢◌, ◌⊎◌, ℕ, ◌≤◌, ◌<◌, Bool, true, false, List, [], ◌∷◌, ◌++◌, length, get_or, inl, inr, ⊎_elim, refl, sym, subst, ◌∙◌, arith, append_assoc}
 use Rattle.std.proofs.lemmas.List.{append-nil}
 use Rattle.std.specs.Prelude.{⊤, None, Some}
 use Rattle.std.specs.List.{remove}
@@ -382,19 +382,21 @@ stops_life life old mid new same was count leaves once = record {
 }
 
 module _ {D : Type 0} (g : Ghosts D) where
-  passing : (device left : D) (u : ℕ) (why : OpenError) → (g.disk left).is_honest → AllDesks (g.disk device) → (g.disk left).faults ≡ u → OpenRefused g device left why → IsPassing (g.disk device).faults u why
-  passing device left u opening.NotAStore honest all same refused = absurd (refused honest (all_versions (g.disk device) all))
-  passing device left u opening.DeviceFault honest all same refused = subst (λ (k : ℕ). (g.disk device).faults < k) same (refused honest)
-  passing device left u opening.Memory honest all same refused = tt
-  passing device left u opening.OldVersion honest all same refused = absurd ((refused honest).1 all)
+  passing : (device left : D) (u : ℕ) (why : OpenError) → (g.disk left).is_honest → AllDesks (g.disk device) → (g.disk left).faults ≡ u → (why ≢ opening.DeviceFault → (g.disk left).faults ≡ (g.disk device).faults)
+      → OpenRefused g device left why → IsPassing (g.disk device).faults u why
+  passing device left u opening.NotAStore honest all same calm refused = absurd (refused honest (all_versions (g.disk device) all))
+  passing device left u opening.DeviceFault honest all same calm refused = subst (λ (k : ℕ). (g.disk device).faults < k) same (refused honest)
+  passing device left u opening.Memory honest all same calm refused = sym same ∙ calm (λ is. cc)
+  passing device left u opening.OldVersion honest all same calm refused = absurd ((refused honest).1 all)
 
   pub refused_life : (device left : D) (new : Disk) (life : ℕ → ℕ → Desk → Desk → Type 0) (why : OpenError) → (g.disk left).sectors ≡ (g.disk device).sectors → new.sectors ≡ (g.disk left).sectors
       → ((g.disk left).is_honest → (g.disk device).is_honest) → (new.is_honest → (g.disk left).is_honest) → (new.is_honest → new.faults ≡ (g.disk left).faults)
       → (new.is_honest → (c : Image) → new.leaves c → (g.disk left).leaves c)
       → ((g.disk left).is_honest → AllDesks (g.disk device) → LeavesOnly (OpensOneOf (g.disk device)) (g.disk device) (g.disk left))
-      → ((g.disk left).is_honest → (g.disk device).faults ≤ (g.disk left).faults) → OpenRefused g device left why
+      → ((g.disk left).is_honest → (g.disk device).faults ≤ (g.disk left).faults) → ((g.disk left).is_honest → why ≢ opening.DeviceFault → (g.disk left).faults ≡ (g.disk device).faults)
+      → OpenRefused g device left why
       → ((t u : ℕ) (d : Desk) → IsPassing t u why → life t u d d) → LivesOnce life (g.disk device) new
-  refused_life device left new life why long same honest was count leaves moments more refused is_life = record {
+  refused_life device left new life why long same honest was count leaves moments more calm refused is_life = record {
     sectors = same ∙ long;
     honest = λ now. honest (was now);
     faults = λ now all. subst (λ (u : ℕ). (g.disk device).faults ≤ u) (sym (count now)) (more (was now));
@@ -402,7 +404,7 @@ module _ {D : Type 0} (g : Ghosts D) where
         (let is = leaves_now (OpensOneOf (g.disk device)) (g.disk device) (g.disk left) (moments (was now) all) i (leaves now i stopped) in (
           is.desk,
           is.one,
-          (is.desk, is_life (g.disk device).faults new.faults is.desk (passing device left new.faults why (was now) all (sym (count now)) refused), is.opens),
+          (is.desk, is_life (g.disk device).faults new.faults is.desk (passing device left new.faults why (was now) all (sym (count now)) (calm (was now)) refused), is.opens),
         ));
   }
 

@@ -96,11 +96,12 @@ Lived t u d (Sweep ∷ asked) (a ∷ told) e =
     ⊎ (((a ≡ Unswept sweep.Memory) × Lived t u d asked told e)
     ⊎ ((t < u) × IsUnswept a × FailsAt d d asked told e))
 
--- an opening may be refused for this where the device had failed t times before, and u times behind it; it can be tried again
+-- an opening may be refused for this where the device had failed t times before, and u times behind it; it can be tried again: for want
+-- of memory only where the device didn't fail in that life
 abbrev pub IsPassing : (t u : ℕ) → OpenError → Type 0
 IsPassing t u NotAStore = ⊥
 IsPassing t u DeviceFault = t < u
-IsPassing t u Memory = ⊤
+IsPassing t u Memory = u ≡ t
 IsPassing t u OldVersion = ⊥
 
 -- what was asked in a life, and the replies, or why it was not opened

@@ -1,11 +1,11 @@
 -- What an opening finds.
-use Rattle.std.proofs.Common.{◌≡◌, ℕ, Bool, true, false, inl, inr, refl, sym, subst, ◌∙◌, arith}
+use Rattle.std.proofs.Common.{◌≡◌, ◌≢◌, ℕ, Bool, true, false, inl, inr, refl, sym, subst, ◌∙◌, arith}
 use Rattle.sector_device.specs.Disk.{Disk, Image}
 use Rattle.sector_device.specs.declared.SectorDevice.{Ghosts}
 use Rattle.sector_device.proofs.Moments.{leaves_now}
 use Rattle.page_store.proofs.Stops.{leaves_here, leaves_quiet}
 use Rattle.gate_journal.specs.Recovery.{HasRoom, Found}
-use Rattle.page_store.specs.Transactions.{stored, disk_in, count_of, journal_of, has_halted, IsQuiet, IsKept, IsUntouched, OpenErr, Passed}
+use Rattle.page_store.specs.Transactions.{stored, disk_in, count_of, journal_of, has_halted, device_in, IsQuiet, IsKept, IsUntouched, OpenErr, Passed}
 use Rattle.page_store.specs.declared.pages.Pages.{Pages}
 use Rattle.page_store.specs.declared.txn.Txn.{Txn}
 use Rattle.page_store.specs.declared.error.PageError.{PageError}
@@ -25,7 +25,7 @@ use Rattle.desk_pages.proofs.Found.{found_after, found_desk, page_stores_of, pag
 use Rattle.desk_pages.proofs.Kept.{opens_now}
 use Rattle.desk_migration.specs.Holding.{AreHeldTo}
 use Rattle.desk_migration.specs.Migrating.{disk_of, has_ended, is_halted, sectors_of}
-use Rattle.desk_migration.specs.Openings.{AreOfVersion, AreRead, IsFound, IsRefused, JudgeErr, KeepsOne, LeavesNew, missing, page_told, tree_told}
+use Rattle.desk_migration.specs.Openings.{AreOfVersion, AreRead, IsCalm, IsFound, IsRefused, JudgeErr, KeepsOne, LeavesNew, missing, page_told, tree_told}
 use Rattle.desk_migration.specs.declared.error.MigrationOpenError.{MigrationOpenError}
 use Rattle.desk_migration.specs.declared.error.MigrationOpenError.TheVariants.{NotAStore, DeviceFault, Memory, AlreadyNew}
 use Rattle.desk_migration.specs.declared.migration.Migration.{Migration}
@@ -51,6 +51,16 @@ page_spared h old new page.Halted why untouched = absurd why
 page_spared h old new page.TooManyPages why untouched = absurd why
 page_spared h old new page.TooSmall why untouched = absurd why
 page_spared h old new page.NoPages why untouched = absurd why
+
+-- nothing else is told of them for a fault
+pub page_calm : (old new : Disk) (e : PageError) → (new.is_honest → e ≢ page.DeviceFault → new.faults ≡ old.faults) → new.is_honest → page_told e ≢ DeviceFault → new.faults ≡ old.faults
+page_calm old new page.DeviceFault calm honest other = absurd (other refl)
+page_calm old new page.NotAStore calm honest other = calm honest (λ is. cc)
+page_calm old new page.Memory calm honest other = calm honest (λ is. cc)
+page_calm old new page.Halted calm honest other = calm honest (λ is. cc)
+page_calm old new page.TooManyPages calm honest other = calm honest (λ is. cc)
+page_calm old new page.TooSmall calm honest other = calm honest (λ is. cc)
+page_calm old new page.NoPages calm honest other = calm honest (λ is. cc)
 
 -- none of them is of the new version
 pub page_not_new : (e : PageError) → page_told e ≡ AlreadyNew → ⊥
@@ -79,11 +89,24 @@ module _ {D : Type 0} {g : Ghosts D} where
   missing_told a b true is none = sym is
   missing_told a b false is none = none (sym is)
 
+  -- where no fault is told, none came
+  pub calm_told : (b : Pages D g) (e : TreeError) (halted : Bool) → halted ≡ has_halted b → IsCalm b (tree_told e halted)
+  calm_told b e false is = λ other. sym is
+  calm_told b e true is = λ other. absurd (other refl)
+
+  -- the device's faults are those of before
+  pub calm_refused : (device : D) (a b : Pages D g) (e : MigrationOpenError) → ((disk_in a).is_honest → (disk_in a).faults ≡ (g.disk device).faults) → IsQuiet a b → IsCalm b e → (left : D) → left ≡ device_in b
+      → (g.disk left).is_honest → e ≢ DeviceFault → (g.disk left).faults ≡ (g.disk device).faults
+  calm_refused device a b e passed quiet calm left is =
+      subst (λ (x : D). (g.disk x).is_honest → e ≢ DeviceFault → (g.disk x).faults ≡ (g.disk device).faults) (sym is)
+      (λ honest other. quiet.calm (calm other) honest ∙ passed (quiet.honest honest))
+
   abbrev NoDesk : Pages D g → Pages D g → TreeError → Type 0
   NoDesk a b e = (e ≡ tree.Memory → ⊥) → has_halted b ≡ false → JudgeErr a b NotAStore
 
   tree_judged : (a b : Pages D g) (e : TreeError) (halted : Bool) → halted ≡ has_halted b → NoDesk a b e → JudgeErr a b (tree_told e halted)
-  tree_judged a b tree.Memory halted is none = tt
+  tree_judged a b tree.Memory true is none = sym is
+  tree_judged a b tree.Memory false is none = tt
   tree_judged a b tree.DeviceFault halted is none = missing_told a b halted is (none (λ same. cc))
   tree_judged a b tree.Halted halted is none = missing_told a b halted is (none (λ same. cc))
   tree_judged a b tree.NoPages halted is none = missing_told a b halted is (none (λ same. cc))

@@ -1,5 +1,5 @@
 -- What an opening for a migration finds, and what it leaves.
-use Rattle.std.specs.Prelude.{◌≡◌, ◌<◌, ℕ, Bool, true, false, Result, Ok, Err}
+use Rattle.std.specs.Prelude.{◌≡◌, ◌≢◌, ◌<◌, ℕ, Bool, true, false, if◌then◌else◌, Result, Ok, Err}
 use Rattle.sector_device.specs.Disk.{Disk, Image}
 use Rattle.sector_device.specs.declared.SectorDevice.{Ghosts}
 use Rattle.desk_model.specs.Desk.{Desk}
@@ -78,15 +78,18 @@ page_told page.NoPages = NotAStore
 
 -- no desk is there, or a fault came
 abbrev pub missing : Bool → MigrationOpenError
-missing true = DeviceFault
-missing false = NotAStore
+missing halted = if halted then DeviceFault else NotAStore
+
+-- no fault came
+abbrev pub unread : TreeError → MigrationOpenError
+unread tree.Memory = Memory
+unread tree.DeviceFault = NotAStore
+unread tree.Halted = NotAStore
+unread tree.NoPages = NotAStore
+unread tree.TooDeep = NotAStore
 
 abbrev pub tree_told : TreeError → Bool → MigrationOpenError
-tree_told tree.Memory halted = Memory
-tree_told tree.DeviceFault halted = missing halted
-tree_told tree.Halted halted = missing halted
-tree_told tree.NoPages halted = missing halted
-tree_told tree.TooDeep halted = missing halted
+tree_told e halted = if halted then DeviceFault else unread e
 
 module _ {D : Type 0} {g : Ghosts D} where
   -- the pages hold a desk in no version; the device failed; a growth was refused; or they hold one in the new version, and it was read
@@ -95,3 +98,7 @@ module _ {D : Type 0} {g : Ghosts D} where
   JudgeErr old new DeviceFault = has_halted new ≡ true
   JudgeErr old new Memory = Unit {0}
   JudgeErr old new AlreadyNew = (disk_in new).is_honest → AreOfVersion true (count_of old) (stored old) × AreRead (count_of old) (stored old)
+
+  -- nothing but a fault is told of a device that has failed
+  abbrev pub IsCalm : Pages D g → MigrationOpenError → Type 0
+  IsCalm new e = e ≢ DeviceFault → has_halted new ≡ false

@@ -24,7 +24,7 @@ pub struct Migration<D: SectorDevice> {
 }
 
 impl<D: SectorDevice> Migration<D> {
-    ghost use Rattle.std.specs.Prelude.{◌≡◌, ◌≤◌, ◌*◌, true, false, Err, OnOk, IfOk, IfErr, IsErr};
+    ghost use Rattle.std.specs.Prelude.{◌≡◌, ◌≢◌, ◌≤◌, ◌*◌, true, false, Err, OnOk, IfOk, IfErr, IsErr};
     ghost use Rattle.desk_model.specs.Desk.{Desk};
     ghost use Rattle.desk_pages.specs.Openings.{AllVersions, IsSpared, LeavesOneAs};
     ghost use Rattle.desk_migration.specs.Migrating.{device_of, disk_of, free_of, has_ended, is_halted, room_of, sectors_of};
@@ -47,6 +47,7 @@ impl<D: SectorDevice> Migration<D> {
         ensures working { IfOk result (λ x. (is_halted x ≡ false) × (sectors_of x ≡ (D.disk device).sectors)) }
         ensures passed { (D.disk (device_after result)).is_honest → OnOk result ((D.disk (device_after result)).faults ≡ (D.disk device).faults) }
         ensures faults { (D.disk (device_after result)).is_honest → (D.disk device).faults ≤ (D.disk (device_after result)).faults }
+        ensures calm { IfErr result (λ e. (D.disk e.1).is_honest → e.0 ≢ MigrationOpenError.DeviceFault → (D.disk e.1).faults ≡ (D.disk device).faults) }
         ensures err { IfErr result (λ e. IsRefused (D.disk device) (D.disk e.1) e.0) }
         ensures already { IfErr result (λ e. (D.disk e.1).is_honest → e.0 ≡ MigrationOpenError.AlreadyNew → LeavesNew (D.disk device) (D.disk e.1)) }
         ensures untouched { IfErr result (λ e. (D.disk e.1).is_honest → e.0 ≡ MigrationOpenError.NotAStore → IsSpared (D.disk device) (D.disk e.1)) }

@@ -1,7 +1,7 @@
 //! Opens a store for its migration.
 ghost use Rattle.std.specs.Prelude.{◌≡◌, false, OnOk, IfErr};
 ghost use Rattle.page_store.specs.Transactions.{stored, disk_in, count_of, has_halted, IsQuiet, Passed};
-ghost use Rattle.desk_migration.specs.Openings.{AreOfVersion, AreRead, JudgeErr, page_told, tree_told};
+ghost use Rattle.desk_migration.specs.Openings.{AreOfVersion, AreRead, IsCalm, JudgeErr, page_told, tree_told};
 
 use crate::error::MigrationOpenError;
 use desk_opening::{is_new, read_desk};
@@ -25,12 +25,12 @@ pub(crate) fn page_error(e: PageError) -> MigrationOpenError
 fn tree_error(e: TreeError, halted: bool) -> MigrationOpenError
     ensures { result ≡ tree_told e halted }
 {
+    if halted {
+        return MigrationOpenError::DeviceFault;
+    }
     match e {
         TreeError::Memory => MigrationOpenError::Memory,
         TreeError::DeviceFault | TreeError::Halted | TreeError::NoPages | TreeError::TooDeep => {
-            if halted {
-                return MigrationOpenError::DeviceFault;
-            }
             MigrationOpenError::NotAStore
         }
     }
@@ -46,6 +46,7 @@ pub(crate) fn judge<D: SectorDevice>(
     ensures passed { OnOk result (Passed pages.old pages.new) }
     ensures version { (disk_in pages.new).is_honest → OnOk result (AreOfVersion false (count_of pages.old) (stored pages.old)) }
     ensures read { (disk_in pages.new).is_honest → OnOk result (AreRead (count_of pages.old) (stored pages.old)) }
+    ensures calm { IfErr result (λ e. IsCalm pages.new e) }
     ensures err { IfErr result (λ e. JudgeErr pages.old pages.new e) }
 {
     let txn = pages.begin(alloc);

@@ -1,12 +1,12 @@
 -- What an opening finds.
-use Rattle.std.proofs.Common.{◌≡◌, ◌<◌, ℕ, Bool, true, false, inl, inr, refl, sym, ap, subst, ◌∙◌, arith}
+use Rattle.std.proofs.Common.{◌≡◌, ◌≢◌, ◌<◌, ℕ, Bool, true, false, inl, inr, refl, sym, ap, subst, ◌∙◌, arith}
 use Rattle.sector_device.specs.Disk.{Disk, Image}
 use Rattle.sector_device.specs.declared.SectorDevice.{Ghosts}
 use Rattle.gate_journal.specs.Store.{pages}
 use Rattle.gate_journal.specs.Recovery.{HasRoom, Found}
 use Rattle.page_store.specs.Chain.{root_in, free_in}
 use Rattle.page_store.proofs.Stops.{kept_quiet}
-use Rattle.page_store.specs.Transactions.{stored, disk_in, count_of, journal_of, has_halted, HasFailed, IsQuiet, IsKept, IsUntouched, OpenErr}
+use Rattle.page_store.specs.Transactions.{stored, disk_in, count_of, journal_of, has_halted, device_in, HasFailed, IsQuiet, IsKept, IsUntouched, OpenErr}
 use Rattle.page_store.specs.declared.pages.Pages.{Pages}
 use Rattle.page_store.specs.declared.error.PageError.{PageError}
 use Rattle.page_store.specs.declared.error.PageError.TheVariants as page
@@ -26,7 +26,7 @@ use Rattle.desk_pages.specs.Openings.{AllDesks, AllVersions, IsOneOf, HasPages, 
 use Rattle.desk_pages.proofs.Found.{page_stores_of, found_desk, found_after, pages_left, rows_before}
 use Rattle.desk_store.specs.Keeping.{IsLeft}
 use Rattle.desk_store.specs.Clerks.{desk_of, disk_of, pages_of, sectors_of, Keeps}
-use Rattle.desk_store.specs.Finding.{FindErr, ReadNewErr, VersionErr, find_error_of, missing, open_error_of}
+use Rattle.desk_store.specs.Finding.{FindErr, IsCalm, ReadNewErr, VersionErr, find_error_of, missing, open_error_of}
 use Rattle.desk_store.specs.Openings.{IsOldStore, IsFound, OpenRefused}
 use Rattle.desk_store.specs.declared.clerk.Clerk.{Clerk}
 use Rattle.desk_store.specs.declared.opening.OpenError.{OpenError}
@@ -49,6 +49,16 @@ page_refused h old new page.Halted why = absurd why
 page_refused h old new page.TooManyPages why = absurd why
 page_refused h old new page.TooSmall why = absurd why
 page_refused h old new page.NoPages why = absurd why
+
+-- nothing else is told of pages that weren't opened for a fault
+pub page_calm : (old new : Disk) (e : PageError) → (new.is_honest → e ≢ page.DeviceFault → new.faults ≡ old.faults) → new.is_honest → open_error_of e ≢ DeviceFault → new.faults ≡ old.faults
+page_calm old new page.DeviceFault calm honest other = absurd (other refl)
+page_calm old new page.NotAStore calm honest other = calm honest (λ is. cc)
+page_calm old new page.Memory calm honest other = calm honest (λ is. cc)
+page_calm old new page.Halted calm honest other = calm honest (λ is. cc)
+page_calm old new page.TooManyPages calm honest other = calm honest (λ is. cc)
+page_calm old new page.TooSmall calm honest other = calm honest (λ is. cc)
+page_calm old new page.NoPages calm honest other = calm honest (λ is. cc)
 
 pub as_refused : {D : Type 0} (h : Ghosts D) (old new : D) (e : OpenError) → FindTold (h.disk old) (h.disk new) e → OpenRefused h old new e
 as_refused h old new NotAStore told = told
@@ -184,6 +194,13 @@ module _ {D : Type 0} {g : Ghosts D} where
   find_refused device a b Memory room found working passed quiet why disk is = subst (λ (x : Disk). x.is_honest → HasPages (g.disk device) x) is (λ honest. pages_left (g.disk device) a b found quiet honest)
   find_refused device a b OldVersion room found working passed quiet why disk is = subst (λ (x : Disk). x.is_honest → IsOldStore (g.disk device) x × (AllDesks (g.disk device) → ⊥)) is (old_left (g.disk device) a b room found quiet why)
 
+  -- the device's faults are those of before
+  pub calm_refused : (device : D) (a b : Pages D g) (e : OpenError) → ((disk_in a).is_honest → (disk_in a).faults ≡ (g.disk device).faults) → IsQuiet a b → IsCalm b e → (left : D) → left ≡ device_in b
+      → (g.disk left).is_honest → e ≢ DeviceFault → (g.disk left).faults ≡ (g.disk device).faults
+  calm_refused device a b e passed quiet calm left is =
+      subst (λ (x : D). (g.disk x).is_honest → e ≢ DeviceFault → (g.disk x).faults ≡ (g.disk device).faults) (sym is)
+      (λ honest other. quiet.calm (calm other) honest ∙ passed (quiet.honest honest))
+
   -- ---- the desk that is read back
   pub read_of : (a b : Pages D g) (t : Txn) (e : Desk) (x : Bool × Desk) → IsBegun a t → IsQuiet a b → (disk_in b).is_honest → ((disk_in b).is_honest → (y : Bool × Desk) → InTxnAs t (stored a) y → e ≡ y.1) → InPagesAs a x → e ≡ x.1
   read_of a b t e x begun quiet honest read holds = read honest x (begun_reads a t x.1 begun (quiet.honest honest) holds)
@@ -228,7 +245,13 @@ module _ {D : Type 0} {g : Ghosts D} where
   none_read t a b tree.Halted halted is working why = absurd (was_halted a working why)
   none_read t a b tree.NoPages halted is working why = absurd why
   none_read t a b tree.TooDeep halted is working why = absurd why
-  none_read t a b tree.Memory halted is working why = tt
+  none_read t a b tree.Memory true is working why = sym is
+  none_read t a b tree.Memory false is working why = tt
+
+  -- where no fault is told, none came
+  pub calm_found : (b : Pages D g) (e : TreeError) (halted : Bool) → halted ≡ has_halted b → IsCalm b (find_error_of e halted)
+  calm_found b e false is = λ other. sym is
+  calm_found b e true is = λ other. absurd (other refl)
 
   -- nor is it shown
   pub none_found : (a b : Pages D g) (t : Txn) (e : OpenError) → IsBegun a t → IsQuiet a b → ReadNewErr t a b e → FindErr a b e

@@ -1,5 +1,5 @@
 -- Why no desk of the new version is found in pages.
-use Rattle.std.specs.Prelude.{◌≡◌, Bool, true, if◌then◌else◌}
+use Rattle.std.specs.Prelude.{◌≡◌, ◌≢◌, Bool, true, false, if◌then◌else◌}
 use Rattle.sector_device.specs.declared.SectorDevice.{Ghosts}
 use Rattle.desk_model.specs.Desk.{Desk}
 use Rattle.page_store.specs.Transactions.{stored, disk_in, has_halted}
@@ -50,9 +50,17 @@ open_error_of page.NoPages = NotAStore
 abbrev pub missing : Bool → OpenError
 missing halted = if halted then DeviceFault else NotAStore
 
+-- no fault came
+abbrev pub unfound : TreeError → OpenError
+unfound tree.Memory = Memory
+unfound tree.DeviceFault = NotAStore
+unfound tree.Halted = NotAStore
+unfound tree.NoPages = NotAStore
+unfound tree.TooDeep = NotAStore
+
 abbrev pub find_error_of : TreeError → Bool → OpenError
-find_error_of tree.Memory halted = Memory
-find_error_of tree.DeviceFault halted = missing halted
-find_error_of tree.Halted halted = missing halted
-find_error_of tree.NoPages halted = missing halted
-find_error_of tree.TooDeep halted = missing halted
+find_error_of e halted = if halted then DeviceFault else unfound e
+
+-- nothing but a fault is told of a device that has failed
+abbrev pub IsCalm : {D : Type 0} {g : Ghosts D} → Pages D g → OpenError → Type 0
+IsCalm new e = e ≢ DeviceFault → has_halted new ≡ false

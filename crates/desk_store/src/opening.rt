@@ -7,7 +7,7 @@ ghost use Rattle.store_rows.specs.Keys.{version, in_four};
 ghost use Rattle.store_rows.specs.Rows.{KeyMap, Has};
 ghost use Rattle.desk_opening.specs.Opening.{IsReadFrom};
 ghost use Rattle.desk_pages.specs.Desks.{InPagesAs, InTxnAs};
-ghost use Rattle.desk_store.specs.Finding.{FindErr, ReadNewErr, VersionErr, find_error_of, open_error_of};
+ghost use Rattle.desk_store.specs.Finding.{FindErr, IsCalm, ReadNewErr, VersionErr, find_error_of, open_error_of};
 
 use crate::clerk::Clerk;
 use crate::shown::{Shown, to_show};
@@ -46,12 +46,12 @@ fn open_error(e: PageError) -> OpenError
 fn find_error(e: TreeError, halted: bool) -> OpenError
     ensures { result ≡ find_error_of e halted }
 {
+    if halted {
+        return OpenError::DeviceFault;
+    }
     match e {
         TreeError::Memory => OpenError::Memory,
         TreeError::DeviceFault | TreeError::Halted | TreeError::NoPages | TreeError::TooDeep => {
-            if halted {
-                return OpenError::DeviceFault;
-            }
             OpenError::NotAStore
         }
     }
@@ -64,6 +64,7 @@ fn refuse_old<D: SectorDevice>(txn: &Txn, pages: &mut Pages<D>) -> Result<(), Op
     ensures quiet { IsQuiet pages.old pages.new }
     ensures passed { OnOk result (Passed pages.old pages.new) }
     ensures version { (disk_in pages.new).is_honest → (m : KeyMap) → TxnHas txn.now (stored pages.old) m → OnOk result (Has m version (in_four 2)) }
+    ensures calm { IfErr result (λ e. IsCalm pages.new e) }
     ensures err { IfErr result (λ e. VersionErr txn.now pages.old pages.new e) }
 {
     match is_new(txn, pages) {
@@ -88,6 +89,7 @@ fn read_new<D: SectorDevice>(
     ensures found { (disk_in pages.new).is_honest → (m : KeyMap)
         → TxnHas txn.now (stored pages.old) m → IfOk result (λ catalogue. IsReadFrom m catalogue) }
     ensures version { (disk_in pages.new).is_honest → (m : KeyMap) → TxnHas txn.now (stored pages.old) m → OnOk result (Has m version (in_four 2)) }
+    ensures calm { IfErr result (λ e. IsCalm pages.new e) }
     ensures err { IfErr result (λ e. ReadNewErr txn.now pages.old pages.new e) }
 {
     refuse_old(txn, pages)?;
@@ -105,6 +107,7 @@ fn read_shown<D: SectorDevice>(alloc: Global, pages: &mut Pages<D>) -> Result<Sh
     ensures read { (disk_in pages.new).is_honest → (x : Bool × Desk) → InPagesAs pages.old x → IfOk result (λ s. s.catalogue.value ≡ x.1) }
     ensures found { (disk_in pages.new).is_honest → (m : KeyMap) → HasRows pages.old m → IfOk result (λ s. IsReadFrom m s.catalogue.value) }
     ensures version { (disk_in pages.new).is_honest → (m : KeyMap) → HasRows pages.old m → OnOk result (Has m version (in_four 2)) }
+    ensures calm { IfErr result (λ e. IsCalm pages.new e) }
     ensures err { IfErr result (λ e. FindErr pages.old pages.new e) }
 {
     let txn = pages.begin(alloc);
@@ -118,7 +121,7 @@ fn read_shown<D: SectorDevice>(alloc: Global, pages: &mut Pages<D>) -> Result<Sh
 }
 
 impl<D: SectorDevice> Clerk<D> {
-    ghost use Rattle.std.specs.Prelude.{◌≡◌, ◌≤◌, false, None, OnOk, IfOk, IfErr};
+    ghost use Rattle.std.specs.Prelude.{◌≡◌, ◌≢◌, ◌≤◌, false, None, OnOk, IfOk, IfErr};
     ghost use Rattle.desk_store.specs.Clerks.{desk_of, disk_of, is_halted, sectors_of, Keeps};
     ghost use Rattle.desk_pages.specs.Openings.{AllVersions, IsOneOf, IsSpared, LeavesOneAs, LeavesOneOf};
     ghost use Rattle.desk_store.specs.Openings.{IsFound, Reopens, device_after, OpenRefused};
@@ -138,6 +141,7 @@ impl<D: SectorDevice> Clerk<D> {
         ensures working { IfOk result (λ x. (is_halted x ≡ false) × (sectors_of x ≡ (D.disk device).sectors)) }
         ensures passed { (D.disk (device_after result)).is_honest → OnOk result ((D.disk (device_after result)).faults ≡ (D.disk device).faults) }
         ensures faults { (D.disk (device_after result)).is_honest → (D.disk device).faults ≤ (D.disk (device_after result)).faults }
+        ensures calm { IfErr result (λ e. (D.disk e.1).is_honest → e.0 ≢ OpenError.DeviceFault → (D.disk e.1).faults ≡ (D.disk device).faults) }
         ensures err { IfErr result (λ e. OpenRefused D.SectorDevice device e.1 e.0) }
         ensures untouched { IfErr result (λ e. (D.disk e.1).is_honest → e.0 ≡ OpenError.NotAStore → IsSpared (D.disk device) (D.disk e.1)) }
     {

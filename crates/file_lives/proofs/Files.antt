@@ -1,5 +1,5 @@
 -- Lives in a file, by what it held.
-use Rattle.std.proofs.Common.{◌≡◌, ◌<◌, ◌+◌, ℕ, List, [], ◌∷◌, refl, sym, subst, arith}
+use Rattle.std.proofs.Common.{◌≡◌, ◌<◌, ◌+◌, ◌-◌, ℕ, List, [], ◌∷◌, refl, sym, subst, arith}
 use Rattle.sector_device.specs.Disk.{Disk, Image, IsSynced}
 use Rattle.desk_model.specs.Desk.{Desk}
 use Rattle.desk_pages.specs.Desks.{OpensDesk}
@@ -28,7 +28,7 @@ module _ {X Y : Type 0} (life : (t u : ℕ) → Desk → X → Y → Desk → Ty
         opens = subst (λ (s : ℕ). OpensDesk s is.2.0 left) count is.2.2;
       }
 
-  module _ (later : (t u s v : ℕ) (more : t < u → s < v) (d : Desk) (asked : X) (told : Y) (e : Desk) → life t u d asked told e → life s v d asked told e) where
+  module _ (later : (t u s v : ℕ) (more : t < u → s < v) (calm : u ≡ t → v ≡ s) (d : Desk) (asked : X) (told : Y) (e : Desk) → life t u d asked told e → life s v d asked told e) where
     lives_on : (sectors t : ℕ) (held left : Image) (d : Desk) (lives : List X) (answers : List Y) → OpensDesk sectors d held → FileLives life sectors held lives answers left
         → (u : ℕ) × (e : Desk) × LifeAfterLife life t u d lives answers e × OpensDesk sectors e left
     lives_on sectors t held left d [] [] opens is = (t, d, (omega arith, refl), subst (λ (i : Image). OpensDesk sectors d i) (sym is) opens)
@@ -36,9 +36,9 @@ module _ {X Y : Type 0} (life : (t u : ℕ) → Desk → X → Y → Desk → Ty
     lives_on sectors t held left d (asked ∷ lives) [] opens is = absurd is
     lives_on sectors t held left d (asked ∷ lives) (told ∷ answers) opens is =
         let first = is.1 d opens in
-        let s = t + first.behind in
+        let s = t + (first.behind - first.before) in
         let rest = lives_on sectors s is.0 left first.last lives answers first.opens is.2 in
-        (rest.0, rest.1, (s, omega arith, first.last, later first.before first.behind t s (λ less. omega (arith, less)) d asked told first.last first.lived, rest.2), rest.3)
+        (rest.0, rest.1, (s, omega arith, first.last, later first.before first.behind t s (λ less. omega (arith, less)) (λ same. omega (arith, same)) d asked told first.last first.lived, rest.2), rest.3)
 
     pub are_lives : AreLives life
     are_lives sectors held left d lives answers opens is =

@@ -1,5 +1,5 @@
 -- What is known of one life doesn't depend on how often the device failed before.
-use Rattle.std.proofs.Common.{◌<◌, ℕ, List, [], ◌∷◌, Ok, Err, inl, inr}
+use Rattle.std.proofs.Common.{◌≡◌, ◌<◌, ℕ, List, [], ◌∷◌, Ok, Err, inl, inr}
 use Rattle.desk_model.specs.Desk.{Desk}
 use Rattle.desk_store.specs.declared.opening.OpenError.{OpenError}
 use Rattle.desk_store.specs.declared.opening.OpenError.TheVariants.{NotAStore, DeviceFault, Memory, OldVersion}
@@ -8,7 +8,7 @@ use Rattle.desk_lives.specs.declared.lives.Request.TheVariants.{Change, Look, Lo
 use Rattle.desk_lives.specs.declared.lives.Answer.{Answer}
 use Rattle.desk_lives.specs.Lives.{Asked, Told, Lived, Life, IsPassing}
 
-module _ (t u s v : ℕ) (more : t < u → s < v) where
+module _ (t u s v : ℕ) (more : t < u → s < v) (calm : u ≡ t → v ≡ s) where
   pub lived_later : (d : Desk) (asked : List Request) (told : List Answer) (e : Desk) → Lived t u d asked told e → Lived s v d asked told e
   lived_later d [] [] e is = is
   lived_later d [] (a ∷ told) e is = is
@@ -29,7 +29,7 @@ module _ (t u s v : ℕ) (more : t < u → s < v) where
   pub passing_later : (why : OpenError) → IsPassing t u why → IsPassing s v why
   passing_later NotAStore is = is
   passing_later DeviceFault is = more is
-  passing_later Memory is = is
+  passing_later Memory is = calm is
   passing_later OldVersion is = is
 
   pub life_later : (d : Desk) (asked : Asked) (told : Told) (e : Desk) → Life t u d asked told e → Life s v d asked told e

@@ -1,5 +1,5 @@
 -- What is known of an office's life doesn't depend on how often the device failed before.
-use Rattle.std.proofs.Common.{◌<◌, ℕ}
+use Rattle.std.proofs.Common.{◌≡◌, ◌<◌, ℕ}
 use Rattle.desk_model.specs.Desk.{Desk}
 use Rattle.desk_lives.specs.Bridge.{asked_in, told_in}
 use Rattle.http_seats.specs.Streams.{Traffic}
@@ -9,21 +9,21 @@ use Rattle.office_lives.specs.Offices.{Officed, OfficeLife}
 use Rattle.file_lives.proofs.Later.{lived_later, passing_later}
 
 module _ {R W : Type 0} (s : Traffic R W) (workers : ℕ) where
-  abbrev officed_later : (t u v w : ℕ) (more : t < u → v < w) (d e : Desk) → Officed s workers t u d e → Officed s workers v w d e
-  officed_later t u v w more d e is = record {
+  abbrev officed_later : (t u v w : ℕ) (more : t < u → v < w) (calm : u ≡ t → w ≡ v) (d e : Desk) → Officed s workers t u d e → Officed s workers v w d e
+  officed_later t u v w more calm d e is = record {
     calls = is.calls;
     asked = is.asked;
     accepted = is.accepted;
-    lived = lived_later t u v w more d (asked_in is.calls) (told_in is.calls) e is.lived;
+    lived = lived_later t u v w more calm d (asked_in is.calls) (told_in is.calls) e is.lived;
   }
 
-  pub office_later : (t u v w : ℕ) (more : t < u → v < w) (d : Desk) (told : Told) (e : Desk) → OfficeLife s workers t u d told e → OfficeLife s workers v w d told e
-  office_later t u v w more d (Served ran) e is = record {
-    did = officed_later t u v w more d e is.did;
+  pub office_later : (t u v w : ℕ) (more : t < u → v < w) (calm : u ≡ t → w ≡ v) (d : Desk) (told : Told) (e : Desk) → OfficeLife s workers t u d told e → OfficeLife s workers v w d told e
+  office_later t u v w more calm d (Served ran) e is = record {
+    did = officed_later t u v w more calm d e is.did;
     visitors = is.visitors;
     many = is.many;
     fresh = is.fresh;
     counted = is.counted;
   }
-  office_later t u v w more d Unserved e is = officed_later t u v w more d e is
-  office_later t u v w more d (Unopened why) e is = (passing_later t u v w more why is.0, is.1)
+  office_later t u v w more calm d Unserved e is = officed_later t u v w more calm d e is
+  office_later t u v w more calm d (Unopened why) e is = (passing_later t u v w more calm why is.0, is.1)

@@ -66,14 +66,15 @@ module _ (J n : ℕ) (a : Disk) (synced : IsSynced a) where
   pub quiet_opens : (b : Disk) → IsStore J n a.reads → Touches Nowhere a b → LeavesOnly (Opens J n (pages J a.reads)) a b
   quiet_opens b store ab = leaves_from (Opens J n (pages J a.reads)) Nowhere a b synced ab (λ c agree. subst (λ (x : Image). Opens J n (pages J a.reads) x) (agreed a.reads c agree) (record { store = store; each = λ p. refl }))
 
-  pub quiet_recovers : {T : Type 0} (b : Disk) (r : Result T JournalError) → Touches Nowhere a b → OnOk r (b.faults ≡ a.faults) → (IsErrOf r DeviceFault → a.faults < b.faults) → (IsErrOf r NotAStore → IsStore J n a.reads → ⊥) → OnOk r (IsSettled J n b) → Recovers J n a b r
-  quiet_recovers b r ab passed faulted refused settled = record {
+  pub quiet_recovers : {T : Type 0} (b : Disk) (r : Result T JournalError) → Touches Nowhere a b → OnOk r (b.faults ≡ a.faults) → (IsErrOf r DeviceFault → a.faults < b.faults) → (IsErrOf r NotAStore → IsStore J n a.reads → ⊥) → (IsErrOf r NotAStore → b.faults ≡ a.faults) → OnOk r (IsSettled J n b) → Recovers J n a b r
+  quiet_recovers b r ab passed faulted refused calm settled = record {
     was_honest = ab.was_honest;
     faults = ab.faults;
     any_moment = λ store. quiet_opens b store ab;
     passed = passed;
     faulted = faulted;
     refused = refused;
+    calm = calm;
     untouched = λ _. ab;
     settled = settled;
     after = always r (ap (λ (x : Image). pages J x) (sym (same_reads a b ab)));
@@ -81,7 +82,7 @@ module _ (J n : ℕ) (a : Disk) (synced : IsSynced a) where
 
   pub fault_recovers : {T : Type 0} (b : Disk) (r : Result T JournalError) → IsErrAnd r (λ e. e ≡ DeviceFault) → Touches Nowhere a b → a.faults < b.faults → Recovers J n a b r
   fault_recovers b (Ok x) is ab rose = absurd is
-  fault_recovers b (Err e) is ab rose = quiet_recovers b (Err e) ab tt (λ _. rose) (λ was store. not_both (Err e) is was) tt
+  fault_recovers b (Err e) is ab rose = quiet_recovers b (Err e) ab tt (λ _. rose) (λ was store. not_both (Err e) is was) (λ was. absurd (not_both (Err e) is was)) tt
 
   -- after the gate was found open
   pub back_recovers : {T : Type 0} (d e : Disk) (r : Result T JournalError) → Touches Nowhere a d → d.faults ≡ a.faults → Reopens J n d e r → Recovers J n a e r
@@ -95,6 +96,7 @@ module _ (J n : ℕ) (a : Disk) (synced : IsSynced a) where
         passed = cause.passed;
         faulted = λ is. at_err r DeviceFault is cause.failed;
         refused = λ is store. not_both r re.only is;
+        calm = λ is. absurd (not_both r re.only is);
         untouched = λ is. absurd (not_both r re.only is);
         settled = re.settled;
         after = on_ok r (λ p. p ∙ ap (λ (x : Image). pages J x) (sym same)) re.after;
@@ -109,6 +111,7 @@ fault_starts a b (Err e) is ab rose = record {
   passed = tt;
   faulted = λ _. rose;
   refused = λ was all. not_both (Err e) is was;
+  calm = λ was. absurd (not_both (Err e) is was);
   untouched = λ _. ab;
   settled = tt;
   found = tt;
@@ -144,6 +147,7 @@ module _ (a d e : Disk) (l : Layout) (ad : Touches Nowhere a d) (passed : d.faul
     passed = de.passed ∙ passed;
     faulted = λ is. let never : Ok l ≡ Err DeviceFault = is in cc;
     refused = λ is all. let never : Ok l ≡ Err NotAStore = is in cc;
+    calm = λ is. let never : Ok l ≡ Err NotAStore = is in cc;
     untouched = λ is. let never : Ok l ≡ Err NotAStore = is in cc;
     settled = de.settled;
     found = quiet_found l.journal_pages l.pages a d e ad layout de.after;
@@ -158,6 +162,7 @@ module _ (a d e : Disk) (l : Layout) (ad : Touches Nowhere a d) (passed : d.faul
     passed = tt;
     faulted = λ was. let same : x ≡ DeviceFault = sym (subst (λ (s : Result Layout JournalError). IfErr s (λ e. e ≡ x)) was is) in let rose = de.faulted (λ i. Err (same i)) in omega (arith, passed, rose);
     refused = λ was all. let same : x ≡ NotAStore = sym (subst (λ (s : Result Layout JournalError). IfErr s (λ e. e ≡ x)) was is) in de.refused (λ i. Err (same i)) (store_at all);
+    calm = λ was. let same : x ≡ NotAStore = sym (subst (λ (s : Result Layout JournalError). IfErr s (λ e. e ≡ x)) was is) in de.calm (λ i. Err (same i)) ∙ passed;
     untouched = λ was. let same : x ≡ NotAStore = sym (subst (λ (s : Result Layout JournalError). IfErr s (λ e. e ≡ x)) was is) in touches_more Nowhere Nowhere a d e (λ i none. none) ad (de.untouched (λ i. Err (same i)));
     settled = tt;
     found = tt;

@@ -66,6 +66,7 @@ pub record Recovers {T : Type 0} (J n : ℕ) (old new : Disk) (result : Result T
   pub passed : OnOk result (new.faults ≡ old.faults)
   pub faulted : IsErrOf result DeviceFault → old.faults < new.faults
   pub refused : IsErrOf result NotAStore → IsStore J n old.reads → ⊥
+  pub calm : IsErrOf result NotAStore → new.faults ≡ old.faults
   pub untouched : IsErrOf result NotAStore → Touches Nowhere old new
   pub settled : OnOk result (IsSettled J n new)
   pub after : OnOk result (pages J new.reads ≡ pages J old.reads)
@@ -85,6 +86,7 @@ pub record Starts (old new : Disk) (result : Result Layout JournalError) : Type 
   pub passed : OnOk result (new.faults ≡ old.faults)
   pub faulted : IsErrOf result DeviceFault → old.faults < new.faults
   pub refused : IsErrOf result NotAStore → AllStores old → ⊥
+  pub calm : IsErrOf result NotAStore → new.faults ≡ old.faults
   pub untouched : IsErrOf result NotAStore → Touches Nowhere old new
   pub settled : IfOk result (λ l. IsSettled l.journal_pages l.pages new)
   pub found : IfOk result (λ l. Found l.journal_pages l.pages old new)

@@ -47,6 +47,7 @@ impl<D: SectorDevice> Journal<D> {
         ensures passed { (D.disk (device_after result)).is_honest → OnOk result ((D.disk (device_after result)).faults ≡ (D.disk device).faults) }
         ensures errs { IfErr result (λ e. (e.0 ≡ JournalError.NotAStore) ⊎ (e.0 ≡ JournalError.DeviceFault)) }
         ensures fault { IfErr result (λ e. (D.disk e.1).is_honest → e.0 ≡ JournalError.DeviceFault → (D.disk device).faults < (D.disk e.1).faults) }
+        ensures calm { IfErr result (λ e. (D.disk e.1).is_honest → e.0 ≡ JournalError.NotAStore → (D.disk e.1).faults ≡ (D.disk device).faults) }
         ensures no_store { IfErr result (λ e. (D.disk e.1).is_honest → e.0 ≡ JournalError.NotAStore → AllStores (D.disk device) → ⊥) }
         ensures untouched { IfErr result (λ e. (D.disk e.1).is_honest → e.0 ≡ JournalError.NotAStore → Touches Nowhere (D.disk device) (D.disk e.1)) }
     {

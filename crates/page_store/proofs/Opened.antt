@@ -1,13 +1,16 @@
 -- What an opening finds in the pages.
-use Rattle.std.proofs.Common.{◌≡◌, ◌<◌, ℕ, true, false, refl, sym, subst, ◌∙◌, arith}
+use Rattle.std.proofs.Common.{◌≡◌, ◌≢◌, ◌⊎◌, ◌<◌, ℕ, true, false, inl, inr, refl, sym, ap, subst, ◌∙◌, arith}
 use Rattle.sector_device.specs.Disk.{Disk, Image, Nowhere, Touches}
 use Rattle.sector_device.specs.declared.SectorDevice.{Ghosts}
 use Rattle.gate_journal.specs.Store.{Opens, pages}
 use Rattle.gate_journal.specs.Recovery.{HasRoom, Found}
 use Rattle.gate_journal.specs.Contents.{content, disk_of, device_of, page_count, is_halted}
 use Rattle.gate_journal.specs.declared.journal.Journal.{Journal}
+use Rattle.gate_journal.specs.declared.error.JournalError.{JournalError}
+use Rattle.gate_journal.specs.declared.error.JournalError.TheVariants as journal
 use Rattle.gate_journal.proofs.Headers.{same_journal}
 use Rattle.page_store.specs.Chain.{IsPages}
+use Rattle.page_store.specs.Errors.{page_error}
 use Rattle.page_store.specs.Openings.{AllPageStores, MetaErr}
 use Rattle.page_store.specs.Transactions.{OpenErr, HasBadPages}
 use Rattle.page_store.proofs.Stops.{kept_still}
@@ -42,9 +45,26 @@ bad_pages a b d J K n found journal same kept still unsound =
 pub opened_err : {D : Type 0} (g : Ghosts D) (a d : D) (old new : Journal D g) (e : PageError) → d ≡ device_of new → is_halted old ≡ false
     → ((disk_of new).is_honest → (disk_of old).faults ≡ (g.disk a).faults) → ((disk_of new).is_honest → AllPageStores (g.disk a) → IsPages (page_count old) (content old)) → MetaErr old new e → OpenErr g a d e
 opened_err {D = D} g a d old new DeviceFault is working passed sound why = subst (λ (x : D). (g.disk x).is_honest → (g.disk a).faults < (g.disk x).faults) (sym is) (λ honest. let rose = why.rose honest in let same = passed honest in omega (arith, rose, same))
-opened_err {D = D} g a d old new NotAStore is working passed sound why = subst (λ (x : D). (g.disk x).is_honest → AllPageStores (g.disk a) → ⊥) (sym is) (λ honest all. why honest (sound honest all))
+opened_err {D = D} g a d old new NotAStore is working passed sound why = subst (λ (x : D). (g.disk x).is_honest → AllPageStores (g.disk a) → ⊥) (sym is) (λ honest all. (why honest).0 (sound honest all))
 opened_err g a d old new Halted is working passed sound why = let never : true ≡ false = sym why ∙ working in cc
 opened_err g a d old new TooManyPages is working passed sound why = absurd why
 opened_err g a d old new TooSmall is working passed sound why = absurd why
 opened_err g a d old new NoPages is working passed sound why = absurd why
 opened_err g a d old new Memory is working passed sound why = absurd why
+
+-- where that is told without a fault, the device's faults are those of before
+pub opened_calm : {D : Type 0} (g : Ghosts D) (a d : D) (old new : Journal D g) (e : PageError) → d ≡ device_of new → is_halted old ≡ false
+    → ((disk_of new).is_honest → (disk_of old).faults ≡ (g.disk a).faults) → MetaErr old new e → (g.disk d).is_honest → e ≢ DeviceFault → (g.disk d).faults ≡ (g.disk a).faults
+opened_calm {D = D} g a d old new NotAStore is working passed why = subst (λ (x : D). (g.disk x).is_honest → NotAStore ≢ DeviceFault → (g.disk x).faults ≡ (g.disk a).faults) (sym is) (λ honest other. (why honest).1 ∙ passed honest)
+opened_calm g a d old new DeviceFault is working passed why = λ honest other. absurd (other refl)
+opened_calm g a d old new Halted is working passed why = let never : true ≡ false = sym why ∙ working in cc
+opened_calm g a d old new TooManyPages is working passed why = absurd why
+opened_calm g a d old new TooSmall is working passed why = absurd why
+opened_calm g a d old new NoPages is working passed why = absurd why
+opened_calm g a d old new Memory is working passed why = absurd why
+
+-- the same where the journal was not opened
+pub journal_calm : (old new : Disk) (e : JournalError) (p : PageError) → p ≡ page_error e → (e ≡ journal.NotAStore) ⊎ (e ≡ journal.DeviceFault) → (new.is_honest → e ≡ journal.NotAStore → new.faults ≡ old.faults)
+    → new.is_honest → p ≢ DeviceFault → new.faults ≡ old.faults
+journal_calm old new e p told (inl is) calm honest other = calm honest is
+journal_calm old new e p told (inr is) calm honest other = absurd (other (told ∙ ap page_error is))

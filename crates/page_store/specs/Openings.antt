@@ -25,7 +25,7 @@ AllPageStores disk = (c : Image) → disk.leaves c → IsPageStoreOf disk.sector
 abbrev pub MetaErr : {D : Type 0} {g : Ghosts D} → Journal D g → Journal D g → PageError → Type 0
 MetaErr old new DeviceFault = HasHalted old new
 MetaErr old new Halted = is_halted old ≡ true
-MetaErr {g = g} old new NotAStore = (g.disk new.device).is_honest → IsPages (page_count old) (content old) → ⊥
+MetaErr {g = g} old new NotAStore = (g.disk new.device).is_honest → (IsPages (page_count old) (content old) → ⊥) × ((g.disk new.device).faults ≡ (g.disk old.device).faults)
 MetaErr old new TooManyPages = ⊥
 MetaErr old new TooSmall = ⊥
 MetaErr old new NoPages = ⊥

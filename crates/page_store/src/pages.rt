@@ -68,7 +68,7 @@ fn read_meta<D: SectorDevice>(journal: &mut Journal<D>) -> Result<Meta, PageErro
 }
 
 impl<D: SectorDevice> Pages<D> {
-    ghost use Rattle.std.specs.Prelude.{◌≡◌, ◌≤◌, ◌<◌, ℕ, false, length, OnOk, IfOk, IfErr};
+    ghost use Rattle.std.specs.Prelude.{◌≡◌, ◌≢◌, ◌≤◌, ◌<◌, ℕ, false, length, OnOk, IfOk, IfErr};
     ghost use Rattle.sector_device.specs.Disk.{Disk};
     ghost use Rattle.sector_device.specs.Moments.{LeavesOnly};
     ghost use Rattle.gate_journal.specs.Recovery.{HasRoom, AllStores, ReadsAs, Found};
@@ -92,6 +92,7 @@ impl<D: SectorDevice> Pages<D> {
         ensures sound { IfOk result (λ ps. (disk_in ps).is_honest → AllPageStores (D.disk device) → IsPages (count_of ps) (stored ps)) }
         ensures passed { (D.disk (device_after result)).is_honest → OnOk result ((D.disk (device_after result)).faults ≡ (D.disk device).faults) }
         ensures faults { (D.disk (device_after result)).is_honest → (D.disk device).faults ≤ (D.disk (device_after result)).faults }
+        ensures calm { IfErr result (λ e. (D.disk e.1).is_honest → e.0 ≢ PageError.DeviceFault → (D.disk e.1).faults ≡ (D.disk device).faults) }
         ensures err { IfErr result (λ e. OpenErr D.SectorDevice device e.1 e.0) }
         ensures untouched { IfErr result (λ e. (D.disk e.1).is_honest → e.0 ≡ PageError.NotAStore → IsUntouched (D.disk device) (D.disk e.1)) }
     {

@@ -1,5 +1,5 @@
 -- Lives of a store of either version.
-use Rattle.std.proofs.Common.{◌≡◌, ◌≤◌, ◌^◌, ℕ, Bool, true, false, List, [], ◌∷◌, ◌++◌, Ok, Err, inl, inr, ⊎_elim, refl, sym, subst, ◌∙◌, arith}
+use Rattle.std.proofs.Common.{◌≡◌, ◌≢◌, ◌≤◌, ◌^◌, ℕ, Bool, true, false, List, [], ◌∷◌, ◌++◌, Ok, Err, inl, inr, ⊎_elim, refl, sym, subst, ◌∙◌, arith}
 use Rattle.std.specs.Prelude.{⊤, Vec}
 use Rattle.std.specs.declared.alloc.Global.{Global}
 use Rattle.std.proofs.lemmas.List.{append-nil}
@@ -205,18 +205,20 @@ module _ {D : Type 0} (g : Ghosts D) where
             ));
       }
 
-  barred : (device left : D) (v : Version) (why : OpenError) → (g.disk left).is_honest → AllIn v (g.disk device) → OpenRefused g device left why → MayBar (g.disk device).faults (g.disk left).faults v why
-  barred device left v opening.NotAStore now all refused = refused now (all_in v (g.disk device) all)
-  barred device left v opening.DeviceFault now all refused = refused now
-  barred device left v opening.Memory now all refused = tt
-  barred device left version_1 opening.OldVersion now all refused = tt
-  barred device left version_2 opening.OldVersion now all refused = (refused now).1 all
-  barred device left either opening.OldVersion now all refused = tt
+  barred : (device left : D) (v : Version) (why : OpenError) → (g.disk left).is_honest → AllIn v (g.disk device) → (why ≢ opening.DeviceFault → (g.disk left).faults ≡ (g.disk device).faults) → OpenRefused g device left why
+      → MayBar (g.disk device).faults (g.disk left).faults v why
+  barred device left v opening.NotAStore now all calm refused = refused now (all_in v (g.disk device) all)
+  barred device left v opening.DeviceFault now all calm refused = refused now
+  barred device left v opening.Memory now all calm refused = calm (λ is. cc)
+  barred device left version_1 opening.OldVersion now all calm refused = (tt, calm (λ is. cc))
+  barred device left version_2 opening.OldVersion now all calm refused = absurd ((refused now).1 all)
+  barred device left either opening.OldVersion now all calm refused = (tt, calm (λ is. cc))
 
   pub refused_lives : (device left : D) (asked : Asked) (why : OpenError) → (g.disk left).sectors ≡ (g.disk device).sectors → ((g.disk left).is_honest → (g.disk device).is_honest)
-      → LeavesOneAs (g.disk device) (g.disk left) → ((g.disk left).is_honest → (g.disk device).faults ≤ (g.disk left).faults) → OpenRefused g device left why
+      → LeavesOneAs (g.disk device) (g.disk left) → ((g.disk left).is_honest → (g.disk device).faults ≤ (g.disk left).faults)
+      → ((g.disk left).is_honest → why ≢ opening.DeviceFault → (g.disk left).faults ≡ (g.disk device).faults) → OpenRefused g device left why
       → LivesIn (IsAsked asked (Err why)) (g.disk device) (g.disk left)
-  refused_lives device left asked why same honest moments more refused = record {
+  refused_lives device left asked why same honest moments more calm refused = record {
     sectors = same;
     honest = honest;
     faults = λ now all. more now;
@@ -224,39 +226,41 @@ module _ {D : Type 0} (g : Ghosts D) where
       v,
       λ c stopped.
           (let is = left_in v (g.disk device) (g.disk left) now all moments c stopped in
-          (is.0, is.1, (is.0, (barred device left v why now all refused, refl), is.2))),
+          (is.0, is.1, (is.0, (barred device left v why now all (calm now) refused, refl), is.2))),
     );
   }
 
   -- ---- it is led on
-  bars : (device left : D) (why : MigrationOpenError) → LeavesOneAs (g.disk device) (g.disk left) → IsRefused (g.disk device) (g.disk left) why
+  bars : (device left : D) (why : MigrationOpenError) → LeavesOneAs (g.disk device) (g.disk left) → ((g.disk left).is_honest → why ≢ entry.DeviceFault → (g.disk left).faults ≡ (g.disk device).faults)
+      → IsRefused (g.disk device) (g.disk left) why
       → ((g.disk left).is_honest → why ≡ entry.AlreadyNew → LeavesNew (g.disk device) (g.disk left)) → (g.disk left).is_honest → (v : Version) → AllIn v (g.disk device)
       → Becomes (IsLed (led.Unopened why)) v (g.disk device) (g.disk left)
-  bars device left entry.NotAStore moments refused already now v all = absurd (refused now (all_in v (g.disk device) all))
-  bars device left entry.DeviceFault moments refused already now v all = (
+  bars device left entry.NotAStore moments calm refused already now v all = absurd (refused now (all_in v (g.disk device) all))
+  bars device left entry.DeviceFault moments calm refused already now v all = (
     v,
     λ c stopped. (let is = left_in v (g.disk device) (g.disk left) now all moments c stopped in (is.0, is.1, (is.0, ((refl, refused now), refl), is.2))),
   )
-  bars device left entry.Memory moments refused already now v all = (
+  bars device left entry.Memory moments calm refused already now v all = (
     v,
-    λ c stopped. (let is = left_in v (g.disk device) (g.disk left) now all moments c stopped in (is.0, is.1, (is.0, (refl, refl), is.2))),
+    λ c stopped. (let is = left_in v (g.disk device) (g.disk left) now all moments c stopped in (is.0, is.1, (is.0, ((refl, calm now (λ same. cc)), refl), is.2))),
   )
-  bars device left entry.AlreadyNew moments refused already now v all = (
+  bars device left entry.AlreadyNew moments calm refused already now v all = (
     version_2,
     λ c stopped.
         (let is = already now refl (all_in v (g.disk device) all) c stopped in
         let one = one_in v (g.disk device) all (true, is.desk) is.one in
-        (is.desk, one.1, (is.desk, ((may_be_new v one.0, refl), refl), is.opens))),
+        (is.desk, one.1, (is.desk, ((may_be_new v one.0, refl, calm now (λ same. cc)), refl), is.opens))),
   )
 
   pub barred_lives : (device left : D) (why : MigrationOpenError) → (g.disk left).sectors ≡ (g.disk device).sectors → ((g.disk left).is_honest → (g.disk device).is_honest)
-      → LeavesOneAs (g.disk device) (g.disk left) → ((g.disk left).is_honest → (g.disk device).faults ≤ (g.disk left).faults) → IsRefused (g.disk device) (g.disk left) why
+      → LeavesOneAs (g.disk device) (g.disk left) → ((g.disk left).is_honest → (g.disk device).faults ≤ (g.disk left).faults)
+      → ((g.disk left).is_honest → why ≢ entry.DeviceFault → (g.disk left).faults ≡ (g.disk device).faults) → IsRefused (g.disk device) (g.disk left) why
       → ((g.disk left).is_honest → why ≡ entry.AlreadyNew → LeavesNew (g.disk device) (g.disk left)) → LivesIn (IsLed (led.Unopened why)) (g.disk device) (g.disk left)
-  barred_lives device left why same honest moments more refused already = record {
+  barred_lives device left why same honest moments more calm refused already = record {
     sectors = same;
     honest = honest;
     faults = λ now all. more now;
-    became = λ now v all. bars device left why moments refused already now v all;
+    became = λ now v all. bars device left why moments calm refused already now v all;
   }
 
   -- the version to which it was led

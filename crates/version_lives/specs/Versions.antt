@@ -33,12 +33,13 @@ MayBeNew either = ⊤
 abbrev pub Store : Type 0
 Store = Version × Desk
 
--- A store may not be opened for this, where the device had failed t times before, and u times behind it: it is as it was.
+-- A store may not be opened for this, where the device had failed t times before, and u times behind it: it is as it was. Nothing but a
+-- fault is told of a device that failed in that life.
 abbrev pub MayBar : (t u : ℕ) → Version → OpenError → Type 0
 MayBar t u v opening.NotAStore = ⊥
 MayBar t u v opening.DeviceFault = t < u
-MayBar t u v opening.Memory = ⊤
-MayBar t u v opening.OldVersion = MayBeOld v
+MayBar t u v opening.Memory = u ≡ t
+MayBar t u v opening.OldVersion = MayBeOld v × (u ≡ t)
 
 -- It is asked: a store that may be of the new version is answered from its desk on, and is then of that version; or it is not opened.
 abbrev pub AskedLife : (t u : ℕ) → Store → Asked → Told → Store → Type 0
@@ -56,8 +57,8 @@ Leads t u v (led.Stopped step.DeviceFault) w = MayBeOld v × (w ≡ either) × (
 Leads t u v (led.Stopped step.Halted) w = ⊥
 Leads t u v (led.Unopened entry.NotAStore) w = ⊥
 Leads t u v (led.Unopened entry.DeviceFault) w = (w ≡ v) × (t < u)
-Leads t u v (led.Unopened entry.Memory) w = w ≡ v
-Leads t u v (led.Unopened entry.AlreadyNew) w = MayBeNew v × (w ≡ version_2)
+Leads t u v (led.Unopened entry.Memory) w = (w ≡ v) × (u ≡ t)
+Leads t u v (led.Unopened entry.AlreadyNew) w = MayBeNew v × (w ≡ version_2) × (u ≡ t)
 
 -- One life: the store is asked, or led on, and then its desk is as it was.
 abbrev pub StoreLife : (t u : ℕ) → Store → Task → Done → Store → Type 0

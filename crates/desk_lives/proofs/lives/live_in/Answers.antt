@@ -7,7 +7,7 @@ pub returns-in-Err : goal.returns-in-Err
 returns-in-Err g c =
     let e = c.in-Err.ensures in
     let device = c.in-Err.device in
-    refused_life g.D.SectorDevice c.args.device device (g.D.SectorDevice.disk device) (IsLife c.args.asked (Err c.in-Err.e)) c.in-Err.e e.sectors refl e.honest (λ now. now) (λ now. refl) (λ now i left. left) e.any_moment e.faults e.err
+    refused_life g.D.SectorDevice c.args.device device (g.D.SectorDevice.disk device) (IsLife c.args.asked (Err c.in-Err.e)) c.in-Err.e e.sectors refl e.honest (λ now. now) (λ now. refl) (λ now i left. left) e.any_moment e.faults e.calm e.err
     (λ t u d why. (why, refl))
 
 pub returns : goal.returns

@@ -4,9 +4,9 @@ use Rattle.page_store.proofs.Stops.{quiet_more, passed_more}
 use Rattle.page_btree.specs.Map.{InTxn as TxnHas}
 use Rattle.row_table.proofs.Outcomes.{err_of}
 use Rattle.desk_opening.proofs.WholeDesks.{still_reads, then_unopened}
-use Rattle.desk_store.specs.Finding.{ReadNewErr}
+use Rattle.desk_store.specs.Finding.{IsCalm, ReadNewErr}
 use Rattle.desk_store.specs.declared.opening.OpenError.{OpenError}
-use Rattle.desk_store.proofs.Opened.{none_read, old_unread}
+use Rattle.desk_store.proofs.Opened.{calm_found, none_read, old_unread}
 use Rattle.desk_store.proofs.opening.read_new.Goals as goal
 
 pub returns-in-Err-clause-err : goal.returns-in-Err-clause-err
@@ -46,3 +46,13 @@ returns-in-Ok-clause-version g c = λ honest m holds. c.in_ok-refuse_old.ensures
 
 pub returns-in-Err-clause-quiet : goal.returns-in-Err-clause-quiet
 returns-in-Err-clause-quiet g c = quiet_more c.args.pages.now c.refuse_old.new.pages c.read_desk.new.pages c.in_ok-refuse_old.ensures.quiet c.read_desk.ensures.quiet
+
+pub returns-in_err-refuse_old-clause-calm : goal.returns-in_err-refuse_old-clause-calm
+returns-in_err-refuse_old-clause-calm g c =
+    let b = c.refuse_old.new.pages in
+    err_of c.from_residual.result c.in_err-refuse_old.field-0.0 (λ e. IsCalm b e) c.from_residual.ensures.1 c.in_err-refuse_old.ensures.calm
+
+pub returns-in-Err-clause-calm : goal.returns-in-Err-clause-calm
+returns-in-Err-clause-calm g c =
+    let d = c.read_desk.new.pages in
+    subst (λ (e : OpenError). IsCalm d e) (sym c.find_error.ensures) (calm_found d c.in-Err.e c.is_halted.result c.is_halted.ensures)

@@ -21,7 +21,7 @@ returns-then-sector-clause-model g c = λ honest synced layout.
     let r = c.in_ok-read.ensures.model honest in
     let read = c.in_ok-read.ensures.reads honest in
     let shut : gate b.reads ≡ 165 → ⊥ = λ is. c.if-sector.true (ap (λ (s : List ℕ). get_or s 0 0) (read ∙ sym (r.0.reads.same 1 (λ none. none))) ∙ is) in
-    quiet_recovers J n a synced b _ r.0 r.1.passed (λ is. absurd (search rules)) (λ is store. absurd (search rules)) (record {
+    quiet_recovers J n a synced b _ r.0 r.1.passed (λ is. absurd (search rules)) (λ is store. absurd (search rules)) (λ _. r.1.passed) (record {
       store = record {
         least_journal = c.requires.room.least_journal;
         most_journal = c.requires.room.most_journal;
@@ -49,7 +49,7 @@ returns-then-count-layout-clause-model g c = λ honest synced layout.
     let is_open : gate a.reads ≡ 165 = sym (ap (λ (s : List ℕ). get_or s 0 0) (c.in_ok-read.ensures.reads s.0.was_honest)) ∙ c.if-sector.false in
     let count : c.in_ok-count.count ≡ list_word a.reads 0 = c.in_ok-count.ensures.entry honest ∙ sym (ap (λ (x : Image). list_word x 0) same) in
     quiet_recovers c.args.layout.journal_pages c.args.layout.pages a synced _ _ (touches_more Nowhere Nowhere _ _ _ (λ i none. none) r.0 s.0) tt (λ is. absurd (search rules))
-    (λ is store. let most = (store.list is_open).count in omega (arith, most, count, c.if-count-layout.true)) tt
+    (λ is store. let most = (store.list is_open).count in omega (arith, most, count, c.if-count-layout.true)) (λ _. s.1.passed ∙ r.1.passed) tt
 
 pub returns-in_err-list_fits-clause-model : goal.returns-in_err-list_fits-clause-model
 returns-in_err-list_fits-clause-model g c = λ honest synced layout.
@@ -76,7 +76,7 @@ returns-then-not-branch-clause-model g c = λ honest synced layout.
     (λ is store.
     let names : NamesPages c.in_ok-count.count n a.reads = λ k lt. (store.list is_open).each k (omega (arith, count)) in
     let yes = fits.1 (subst (λ (x : Image). NamesPages c.in_ok-count.count n x) (same_reads a d ab) names) in
-    not_true (rw c.if-not-branch.true at yes)) tt
+    not_true (rw c.if-not-branch.true at yes)) (λ _. f.1.passed ∙ s.1.passed ∙ r.1.passed) tt
 
 pub returns-clause-model : goal.returns-clause-model
 returns-clause-model g c = λ honest synced layout.

@@ -32,6 +32,7 @@ returns-in_default-clause-model g c = λ honest.
       passed = tt;
       faulted = λ is. absurd (search rules);
       refused = λ is all. no_store (reads_store a all b s.0);
+      calm = λ _. f.1.passed ∙ s.1.passed;
       untouched = λ _. ad;
       settled = tt;
       found = tt;

@@ -12,7 +12,7 @@ returns-in-Err g c =
     let device = c.in-Err.device in
     let s = traffic g.A.Arrivals.gives g.A.Arrivals.takes_back g.A.Reader.Source g.A.Writer.Sink c.args.arrivals.now in
     refused_life g.D.SectorDevice c.args.device device (g.D.SectorDevice.disk device) (IsLife s c.args.workers (told.Unopened c.in-Err.e)) c.in-Err.e
-    e.sectors refl e.honest (λ now. now) (λ now. refl) (λ now i left. left) e.any_moment e.faults e.err (λ t u d why. (why, refl))
+    e.sectors refl e.honest (λ now. now) (λ now. refl) (λ now i left. left) e.any_moment e.faults e.calm e.err (λ t u d why. (why, refl))
 
 pub returns-in-Ok-serve_clerk : goal.returns-in-Ok-serve_clerk
 returns-in-Ok-serve_clerk g c =

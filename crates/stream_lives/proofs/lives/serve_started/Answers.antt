@@ -13,7 +13,7 @@ returns-in-Err g c =
     let stop = c.stop.ensures in
     let ends : g.row.R.Denot → g.row.W.Denot → Ends = λ r w. record { unread = g.R.Source.remaining r; turns = g.R.Source.turns r; failed_reads = g.R.Source.failures r; written = g.W.Sink.contents w; failed_writes = g.W.Sink.failures w } in
     refused_life g.D.SectorDevice c.args.device c.in-Err.device (g.D.Restarts.rests c.stop.result) (IsLife ends (life.Stream c.args.reader c.args.writer) (told.Unopened c.in-Err.e)) c.in-Err.e
-    e.sectors stop.sectors e.honest stop.honest stop.faults stop.left e.any_moment e.faults e.err (λ t u d why. (why, refl))
+    e.sectors stop.sectors e.honest stop.honest stop.faults stop.left e.any_moment e.faults e.calm e.err (λ t u d why. (why, refl))
 
 pub returns : goal.returns
 returns g c =

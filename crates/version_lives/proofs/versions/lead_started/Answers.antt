@@ -10,7 +10,7 @@ returns-in-Err g c =
     let stop = c.stop.ensures in
     let disk = g.D.SectorDevice.disk in
     stops_in (IsLed (led.Unopened c.in-Err.e)) (disk c.args.device) (disk c.in-Err.device) (g.D.Restarts.rests c.stop.result) stop.sectors stop.honest stop.faults stop.left
-    (barred_lives g.D.SectorDevice c.args.device c.in-Err.device c.in-Err.e e.sectors e.honest e.any_moment e.faults e.err e.already)
+    (barred_lives g.D.SectorDevice c.args.device c.in-Err.device c.in-Err.e e.sectors e.honest e.any_moment e.faults e.calm e.err e.already)
 
 pub returns : goal.returns
 returns g c =

@@ -1,4 +1,4 @@
-use Rattle.std.proofs.Common.{◌≡◌, ◌≤◌, ℕ, inr, refl, sym, subst, ◌∙◌}
+use Rattle.std.proofs.Common.{◌≡◌, ◌≢◌, ◌≤◌, ℕ, inr, refl, sym, subst, ◌∙◌}
 use Rattle.sector_device.specs.Moments.{LeavesOnly}
 use Rattle.page_store.proofs.Stops.{leaves_quiet}
 use Rattle.page_store.specs.Transactions.{disk_in}
@@ -6,8 +6,8 @@ use Rattle.desk_pages.specs.Openings.{AllVersions, OpensOneAs, IsSpared}
 use Rattle.desk_pages.proofs.Found.{open_versions, pages_stand, stores_of}
 use Rattle.desk_migration.specs.Openings.{IsRefused, LeavesNew}
 use Rattle.desk_migration.specs.declared.error.MigrationOpenError.{MigrationOpenError}
-use Rattle.desk_migration.specs.declared.error.MigrationOpenError.TheVariants.{NotAStore, AlreadyNew}
-use Rattle.desk_migration.proofs.Opened.{opened_keeps, page_refused, page_spared, page_not_new, judged, left_new, is_found}
+use Rattle.desk_migration.specs.declared.error.MigrationOpenError.TheVariants.{NotAStore, DeviceFault, AlreadyNew}
+use Rattle.desk_migration.proofs.Opened.{opened_keeps, page_refused, page_spared, page_calm, calm_refused, page_not_new, judged, left_new, is_found}
 use Rattle.desk_migration.proofs.migration.Migration.open.Goals as goal
 
 pub returns-in-Err-clause-any_moment : goal.returns-in-Err-clause-any_moment
@@ -78,3 +78,13 @@ returns-in-Err-judge-clause-already g c =
     let old = g.D.SectorDevice.disk c.args.device in
     subst (λ d. (g.D.SectorDevice.disk d).is_honest → c.in-Err-judge.e ≡ AlreadyNew → LeavesNew old (g.D.SectorDevice.disk d)) (sym c.into_device.ensures)
     (left_new old c.in-Ok.pages c.in-Ok.ensures.found c.in-Ok.ensures.room c.judge.new.pages c.in-Err-judge.e c.in-Ok.ensures.working c.judge.ensures.quiet c.in-Err-judge.ensures.err)
+
+pub returns-in-Err-clause-calm : goal.returns-in-Err-clause-calm
+returns-in-Err-clause-calm g c =
+    let old = g.D.SectorDevice.disk c.args.device in
+    let new = g.D.SectorDevice.disk c.in-Err.device in
+    subst (λ (e : MigrationOpenError). new.is_honest → e ≢ DeviceFault → new.faults ≡ old.faults) (sym c.page_error.ensures) (page_calm old new c.in-Err.e c.in-Err.ensures.calm)
+
+pub returns-in-Err-judge-clause-calm : goal.returns-in-Err-judge-clause-calm
+returns-in-Err-judge-clause-calm g c =
+    calm_refused c.args.device c.in-Ok.pages c.judge.new.pages c.in-Err-judge.e c.in-Ok.ensures.passed c.judge.ensures.quiet c.in-Err-judge.ensures.calm c.into_device.result c.into_device.ensures

@@ -1,4 +1,4 @@
-use Rattle.std.proofs.Common.{◌≡◌, ◌≤◌, ℕ, inr, refl, sym, subst}
+use Rattle.std.proofs.Common.{◌≡◌, ◌≢◌, ◌≤◌, ℕ, inr, refl, sym, subst}
 use Rattle.sector_device.specs.Moments.{LeavesOnly}
 use Rattle.page_store.proofs.Stops.{leaves_quiet}
 use Rattle.page_store.specs.Transactions.{disk_in}
@@ -6,8 +6,8 @@ use Rattle.desk_pages.specs.Openings.{AllDesks, AllVersions, OpensOneOf, OpensOn
 use Rattle.desk_pages.proofs.Found.{all_versions, stores_of, open_leaves, open_versions, pages_stand}
 use Rattle.desk_store.specs.Openings.{OpenRefused}
 use Rattle.desk_store.specs.declared.opening.OpenError.{OpenError}
-use Rattle.desk_store.specs.declared.opening.OpenError.TheVariants.{NotAStore}
-use Rattle.desk_store.proofs.Opened.{opened_keeps, page_refused, page_spared, not_other, find_refused, as_refused, is_found}
+use Rattle.desk_store.specs.declared.opening.OpenError.TheVariants.{NotAStore, DeviceFault}
+use Rattle.desk_store.proofs.Opened.{opened_keeps, page_refused, page_spared, page_calm, not_other, find_refused, calm_refused, as_refused, is_found}
 use Rattle.desk_store.proofs.clerk.Clerk.open.Goals as goal
 
 pub returns-in-Err-clause-any_moment : goal.returns-in-Err-clause-any_moment
@@ -85,3 +85,13 @@ returns-in-Err-read_shown-clause-faults g c =
     subst (λ (k : ℕ). k ≤ new.faults) (c.in-Ok.ensures.passed (c.read_shown.ensures.quiet.honest honest))
     ((c.read_shown.ensures.quiet.moves honest c.in-Ok.ensures.working).faults) in
     subst (λ d. (g.D.SectorDevice.disk d).is_honest → old.faults ≤ (g.D.SectorDevice.disk d).faults) (sym c.into_device.ensures) told
+
+pub returns-in-Err-clause-calm : goal.returns-in-Err-clause-calm
+returns-in-Err-clause-calm g c =
+    let old = g.D.SectorDevice.disk c.args.device in
+    let new = g.D.SectorDevice.disk c.in-Err.device in
+    subst (λ (e : OpenError). new.is_honest → e ≢ DeviceFault → new.faults ≡ old.faults) (sym c.open_error.ensures) (page_calm old new c.in-Err.e c.in-Err.ensures.calm)
+
+pub returns-in-Err-read_shown-clause-calm : goal.returns-in-Err-read_shown-clause-calm
+returns-in-Err-read_shown-clause-calm g c =
+    calm_refused c.args.device c.in-Ok.pages c.read_shown.new.pages c.in-Err-read_shown.e c.in-Ok.ensures.passed c.read_shown.ensures.quiet c.in-Err-read_shown.ensures.calm c.into_device.result c.into_device.ensures

@@ -10,7 +10,7 @@ use Rattle.page_store.specs.Transactions.{IsUntouched}
 use Rattle.page_store.specs.declared.error.PageError.{PageError}
 use Rattle.page_store.specs.declared.error.PageError.TheVariants.{NotAStore}
 use Rattle.page_store.proofs.Stops.{kept_still}
-use Rattle.page_store.proofs.Opened.{found_pages, bad_pages, opened_err}
+use Rattle.page_store.proofs.Opened.{found_pages, bad_pages, opened_err, opened_calm}
 use Rattle.page_store.proofs.pages.Pages.open.Goals as goal
 
 pub returns-in-Ok-read_meta-clause-any_moment : goal.returns-in-Ok-read_meta-clause-any_moment
@@ -52,4 +52,10 @@ returns-in-Err-read_meta-clause-untouched g c =
     subst (λ d. (g.D.SectorDevice.disk d).is_honest → e ≡ NotAStore → IsUntouched a (g.D.SectorDevice.disk d)) (sym c.into_device-in-Err-read_meta.ensures)
     (λ honest is. inr (bad_pages a (disk_of c.in-Ok.journal) (disk_of c.read_meta.new.journal) _ _ _ (c.in-Ok.ensures.found (read.honest honest)) read.shape.journal_pages (read.same honest)
     (c.in-Ok.ensures.kept (read.honest honest)) (read.quiet honest c.in-Ok.ensures.working)
-    (subst (λ (x : PageError). MetaErr c.in-Ok.journal c.read_meta.new.journal x) is read.err honest)))
+    ((subst (λ (x : PageError). MetaErr c.in-Ok.journal c.read_meta.new.journal x) is read.err honest).0)))
+
+pub returns-in-Err-read_meta-clause-calm : goal.returns-in-Err-read_meta-clause-calm
+returns-in-Err-read_meta-clause-calm g c =
+    let read = c.in-Err-read_meta.ensures in
+    opened_calm g.D.SectorDevice c.args.device c.into_device-in-Err-read_meta.result c.in-Ok.journal c.read_meta.new.journal c.in-Err-read_meta.e c.into_device-in-Err-read_meta.ensures c.in-Ok.ensures.working
+    (λ honest. c.in-Ok.ensures.passed (read.honest honest)) read.err
