@@ -1,11 +1,13 @@
 -- A device that was formatted, and then opened.
-use Rattle.std.proofs.Common.{true}
+use Rattle.std.proofs.Common.{◌≡◌, ◌<◌, ◌≤◌, ◌^◌, ◌∙◌, ℕ, true, sym, arith}
+use Rattle.gate_journal.proofs.Headers.{same_journal}
+use Rattle.page_store.specs.Transactions.{count_of}
 use Rattle.sector_device.specs.declared.SectorDevice.{Ghosts}
 use Rattle.desk_pages.specs.Desks.{new_desk}
-use Rattle.desk_pages.specs.Formats.{OpensNew}
+use Rattle.desk_pages.specs.Formats.{OpensNew, HasJournal}
 use Rattle.desk_pages.specs.Openings.{AllVersions}
 use Rattle.desk_store.specs.declared.clerk.Clerk.{Clerk}
-use Rattle.desk_store.specs.Clerks.{disk_of, Keeps}
+use Rattle.desk_store.specs.Clerks.{disk_of, pages_of, room_of, Keeps}
 use Rattle.desk_loading.specs.Openings.{IsOpened}
 
 module _ {D : Type 0} {g : Ghosts D} where
@@ -17,3 +19,10 @@ module _ {D : Type 0} {g : Ghosts D} where
     where
       all : (disk_of x).is_honest → AllVersions (g.disk device)
       all h c leaves = ((true, new_desk), new (opened.honest h) c leaves)
+
+  -- the journal that is found is the one that was made
+  pub opened_journal : (J : ℕ) (device : D) (x : Clerk D g) → J ≤ 65536 → room_of x < 2 ^ 32 → ((g.disk device).is_honest → HasJournal J (g.disk device)) → IsOpened device x → (disk_of x).is_honest → room_of x ≡ J
+  opened_journal J device x most fits made opened honest =
+      let pages = (opened.found honest).pages in
+      let there = made (opened.honest honest) pages.was pages.left in
+      same_journal (room_of x) (count_of (pages_of x)) J there.0 fits (omega (arith, most)) (sym pages.header ∙ there.2.header)

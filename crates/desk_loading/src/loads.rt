@@ -1,5 +1,5 @@
 //! Loads a geography by as many batches as it takes.
-ghost use Rattle.std.specs.Prelude.{◌≡◌, ◌≤◌, ◌+◌, ◌*◌, None, OnOk, OnErr, IfErr};
+ghost use Rattle.std.specs.Prelude.{◌≡◌, ◌≤◌, ◌+◌, ◌-◌, ◌*◌, None, OnOk, OnErr, IfErr};
 ghost use Rattle.store_rows.specs.GeographyRows.{geography_rows};
 ghost use Rattle.geo_tables.specs.Loading.{ground_of, done_of};
 ghost use Rattle.desk_store.specs.Clerks.{desk_of, Moves, MovesIf};
@@ -34,7 +34,7 @@ fn batch_rows(journal_pages: u32) -> usize
     }
 }
 
-/// Stages the rows that are left of a load. `progress` hears of each batch.
+/// Stages the rows that are left of a load. `progress` hears how many these are, and then of each batch.
 fn stage_rows<D: SectorDevice, P: Progress>(
     alloc: Global,
     clerk: &mut Clerk<D>,
@@ -48,9 +48,11 @@ fn stage_rows<D: SectorDevice, P: Progress>(
     ensures staged { OnOk result (HasStaged clerk.old load.old clerk.new load.new) }
     ensures done { OnOk result (done_of load.new ≡ geography_rows (ground_of load.new)) }
     ensures err { IfErr result (λ e. StageRefused clerk.old load.old e clerk.new) }
+    ensures told { P.is_told progress.new (geography_rows (ground_of load.old) - done_of load.old) }
 {
     let most = batch_rows(clerk.journal_pages());
     let all = load.left();
+    progress.expect(all as u64);
     let mut left = all;
     while left > 0 {
         left = match clerk.load_batch(alloc, load, left.min(most)) {
@@ -63,7 +65,7 @@ fn stage_rows<D: SectorDevice, P: Progress>(
 }
 
 /// Loads a geography, in place of a load that is under way: begins, stages its rows in batches, and seals. After a refusal the desk
-/// is as it was. `progress` hears after each batch how many rows there were so far.
+/// is as it was. `progress` hears how many rows there are, and after each batch how many there were so far.
 pub fn load_geography<D: SectorDevice, P: Progress>(
     alloc: Global,
     clerk: &mut Clerk<D>,
@@ -74,6 +76,7 @@ pub fn load_geography<D: SectorDevice, P: Progress>(
     ensures loaded { OnOk result (IsLoaded clerk.old geography.value clerk.new) }
     ensures same { OnErr result (desk_of clerk.new ≡ desk_of clerk.old) }
     ensures err { IfErr result (λ e. LoadRefused clerk.old geography.value e clerk.new) }
+    ensures told { OnOk result (P.is_told progress.new (geography_rows geography.value)) }
 {
     let mut load = match clerk.begin_load(alloc, geography) {
         Ok(load) => load,

@@ -1,7 +1,7 @@
 //! Makes a device a store that holds a geography and no plan.
-ghost use Rattle.std.specs.Prelude.{◌≡◌, ◌≤◌, false, IfOk, IfErr};
+ghost use Rattle.std.specs.Prelude.{◌≡◌, ◌≤◌, ◌<◌, ◌^◌, false, IfOk, IfErr};
 ghost use Rattle.desk_pages.specs.Formats.{OpensNew};
-ghost use Rattle.desk_store.specs.Clerks.{desk_of, is_halted, Keeps};
+ghost use Rattle.desk_store.specs.Clerks.{desk_of, disk_of, is_halted, room_of, sectors_of, Keeps};
 ghost use Rattle.desk_store.specs.Keeping.{sealed_desk};
 ghost use Rattle.desk_loading.specs.Openings.{IsOpened, IsUnopened};
 ghost use Rattle.desk_loading.specs.Starts.{start_of_format, start_of_open, start_of_load, IsFormatted, IsUnformatted, IsStarted, StartRefused};
@@ -91,6 +91,18 @@ fn opened<D: SectorDevice + Drop>(alloc: Global, device: D) -> Result<Clerk<D>, 
     }
 }
 
+/// A number of pages has 32 bits.
+fn word_fits(pages: u32)
+    ensures { pages < 2 ^ 32 }
+{}
+
+/// The journal's pages are so few that the header names them.
+fn journal_fits<D: SectorDevice>(clerk: &Clerk<D>)
+    ensures { room_of clerk.now < 2 ^ 32 }
+{
+    word_fits(clerk.journal_pages());
+}
+
 /// Makes a device a store with so many journal pages, 256 to 65,536, which holds the geography and no plan, and opens it. What the
 /// device held is gone.
 pub fn start<D: SectorDevice + Drop>(
@@ -104,6 +116,8 @@ pub fn start<D: SectorDevice + Drop>(
     ensures keeps { IfOk result Keeps }
     ensures desk { IfOk result (λ clerk. desk_of clerk ≡ sealed_desk geography.value) }
     ensures working { IfOk result (λ clerk. is_halted clerk ≡ false) }
+    ensures size { IfOk result (λ clerk. sectors_of clerk ≡ (D.disk device).sectors) }
+    ensures journal { IfOk result (λ clerk. (disk_of clerk).is_honest → room_of clerk ≡ journal_pages) }
     ensures started { IfOk result (λ clerk. IsStarted D.SectorDevice journal_pages device geography.value clerk) }
     ensures err { IfErr result (λ e. StartRefused D.SectorDevice journal_pages device geography.value e) }
 {
@@ -115,6 +129,7 @@ pub fn start<D: SectorDevice + Drop>(
         Ok(clerk) => clerk,
         Err((e, _)) => return Err(open_error(e)),
     };
+    journal_fits(&clerk);
     match load_geography(alloc, &mut clerk, geography, &mut Untold) {
         Ok(()) => Ok(clerk),
         Err(e) => Err(load_error(e)),

@@ -1,2 +1,3 @@
 pub mod Premises
 pub mod Fronts
+pub mod Refusals

@@ -1,7 +1,9 @@
 //! The files of stores, by their paths.
-ghost use Rattle.std.specs.Prelude.{IfOk};
+ghost use Rattle.std.specs.Prelude.{◌≡◌, Some, None, IfOk, IfErr};
+ghost use Rattle.std.specs.IoError.{error_kind};
 ghost use Rattle.sector_file.specs.Device.{file_disk, first_image};
 ghost use Rattle.file_commands.specs.Premises.{IsJustOpened};
+ghost use Rattle.file_commands.specs.Refusals.{IsTold, fault_of_file, reason_of_file};
 
 use fault_words::explanation::Reason;
 use sector_device::SECTOR_SIZE;
@@ -23,6 +25,8 @@ pub struct StoreFiles<'a, S: Contents> {
 }
 
 impl<'a, S: Contents> StoreFiles<'a, S> {
+    ghost use Rattle.std.specs.Prelude.{◌≡◌};
+
     pub fn new(rt: &'a HostRuntime, start: S) -> StoreFiles<'a, S> {
         StoreFiles {
             rt,
@@ -33,12 +37,17 @@ impl<'a, S: Contents> StoreFiles<'a, S> {
     }
 
     /// Why the device of a store fails, where that is told apart.
-    pub fn reason(&self) -> Option<Reason> {
+    pub fn reason(&self) -> Option<Reason>
+        ensures { result ≡ self.now.reason }
+    {
         self.reason
     }
 
     /// The fault of a store, whose reason is kept.
-    fn refuse(&mut self, refused: Refused) -> StoreFault {
+    fn refuse(&mut self, refused: Refused) -> StoreFault
+        ensures fault { result ≡ refused.fault }
+        ensures reason { self.new.reason ≡ refused.reason }
+    {
         self.reason = refused.reason;
         refused.fault
     }
@@ -51,21 +60,30 @@ struct Refused {
     reason: Option<Reason>,
 }
 
-fn without_reason(fault: StoreFault) -> Refused {
+fn without_reason(fault: StoreFault) -> Refused
+    ensures fault { result.fault ≡ fault }
+    ensures reason { result.reason ≡ None }
+{
     Refused {
         fault,
         reason: None,
     }
 }
 
-fn device_fault(reason: Reason) -> Refused {
+fn device_fault(reason: Reason) -> Refused
+    ensures fault { result.fault ≡ StoreFault.DeviceFault }
+    ensures reason { result.reason ≡ Some reason }
+{
     Refused {
         fault: StoreFault::DeviceFault,
         reason: Some(reason),
     }
 }
 
-fn refused_as(e: FileError) -> Refused {
+fn refused_as(e: FileError) -> Refused
+    ensures fault { result.fault ≡ fault_of_file e }
+    ensures reason { result.reason ≡ reason_of_file e }
+{
     match e {
         FileError::NotFound => without_reason(StoreFault::NotFound),
         FileError::WrongSize => without_reason(StoreFault::WrongSize),
@@ -77,7 +95,14 @@ fn refused_as(e: FileError) -> Refused {
     }
 }
 
-fn refused_by(e: &Error) -> Refused {
+fn refused_by(e: &Error) -> Refused
+    ensures none { error_kind e.now ≡ ErrorKind.NotFound → result.fault ≡ StoreFault.NotFound }
+    ensures memory { error_kind e.now ≡ ErrorKind.OutOfMemory → result.fault ≡ StoreFault.Memory }
+    ensures denied { error_kind e.now ≡ ErrorKind.PermissionDenied → result.reason ≡ Some Reason.NotPermitted }
+    ensures only_none { result.fault ≡ StoreFault.NotFound → error_kind e.now ≡ ErrorKind.NotFound }
+    ensures only_memory { result.fault ≡ StoreFault.Memory → error_kind e.now ≡ ErrorKind.OutOfMemory }
+    ensures told { IsTold result.fault result.reason }
+{
     match e.kind() {
         ErrorKind::NotFound => without_reason(StoreFault::NotFound),
         ErrorKind::OutOfMemory => without_reason(StoreFault::Memory),
@@ -87,7 +112,9 @@ fn refused_by(e: &Error) -> Refused {
 }
 
 /// The number of sectors that a file has.
-fn sectors_of(rt: &HostRuntime, name: &str) -> Result<u32, Refused> {
+fn sectors_of(rt: &HostRuntime, name: &str) -> Result<u32, Refused>
+    ensures { IfErr result (λ refused. IsTold refused.fault refused.reason) }
+{
     let file = match File::open(rt, name) {
         Ok(file) => file,
         Err(e) => return Err(refused_by(&e)),
@@ -104,7 +131,9 @@ fn sectors_of(rt: &HostRuntime, name: &str) -> Result<u32, Refused> {
 }
 
 /// What is told where one file was made or opened, and another is asked for.
-fn refused_again() -> Refused {
+fn refused_again() -> Refused
+    ensures { IsTold result.fault result.reason }
+{
     without_reason(StoreFault::DeviceFault)
 }
 
@@ -114,7 +143,8 @@ fn open_device<S: Contents>(
     name: &str,
     start: S,
 ) -> Result<FileDevice<S>, Refused>
-    ensures { IfOk result (λ device. IsJustOpened (first_image S.Contents.sector) (file_disk device)) }
+    ensures opened { IfOk result (λ device. IsJustOpened (first_image S.Contents.sector) (file_disk device)) }
+    ensures refused { IfErr result (λ refused. IsTold refused.fault refused.reason) }
 {
     let sectors = sectors_of(rt, name)?;
     match FileDevice::open(rt, name, sectors, start) {
@@ -126,11 +156,14 @@ fn open_device<S: Contents>(
 impl<'a, S: Contents> Stores<FileDevice<S>> for StoreFiles<'a, S> {
     ghost use Rattle.sector_file.specs.Device.{file_disk, first_image};
     ghost use Rattle.file_commands.specs.Premises.{IsJustOpened};
+    ghost use Rattle.file_commands.specs.Refusals.{IsTold};
 
-    ghost makes = { λ _ _ _ _ _. Unit {0} };
+    // The reason that is kept is that of the fault.
+    ghost makes = { λ _ _ _ result after. IfErr result (λ fault. IsTold fault after.reason) };
 
     // What the file system has under a name is what `S` says.
-    ghost opens = { λ _ _ result _. IfOk result (λ device. IsJustOpened (first_image S.Contents.sector) (file_disk device)) };
+    ghost opens = { λ _ _ result after. IfOk result (λ device. IsJustOpened (first_image S.Contents.sector) (file_disk device))
+        × IfErr result (λ fault. IsTold fault after.reason) };
 
     ghost closes = { λ _ _ _. Unit {0} };
 

@@ -18,6 +18,10 @@ abbrev pub formatted_text : (with_bytes : Bool) → (sectors journal_pages : ℕ
 formatted_text with_bytes sectors journal_pages =
     number_after (codes "formatted ") sectors ++ number_after (codes " sectors, ") journal_pages ++ formatted_end with_bytes sectors
 
+-- of one that is to be made: its bytes
+abbrev pub size_line : (sectors : ℕ) → List ℕ
+size_line sectors = number_after (codes "plandesk: format: ") (4096 * sectors) ++ codes " bytes to write\n"
+
 -- of a geography that was loaded: its blocks, counties and people
 abbrev pub loaded_text : Ground → List ℕ
 loaded_text g =

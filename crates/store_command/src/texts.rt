@@ -1,6 +1,6 @@
 //! What is printed of a store.
 ghost use Rattle.std.specs.Prelude.{◌≡◌, ◌≤◌, ◌+◌, ◌++◌, length, decimal, vec_capacity, vec_len, OnOk, IfOk};
-ghost use Rattle.store_command.specs.Texts.{number_after, formatted_end, formatted_text as text_of_store, loaded_text as text_of_geography};
+ghost use Rattle.store_command.specs.Texts.{number_after, formatted_end, formatted_text as text_of_store, loaded_text as text_of_geography, size_line as line_of_size};
 
 use audit_population::people::total;
 use desk_model::cuts::cuts;
@@ -73,6 +73,16 @@ pub fn formatted_text(
     push_number(&mut text, b"formatted ", sectors as u64)?;
     push_number(&mut text, b" sectors, ", journal_pages as u64)?;
     push_end(&mut text, with_bytes, sectors)?;
+    Ok(text)
+}
+
+/// What is told before so many sectors are made a store.
+pub fn size_line(alloc: Global, sectors: u32) -> Result<Vec<u8>, AllocError>
+    ensures { IfOk result (λ text. text.items ≡ line_of_size sectors) }
+{
+    let mut text = Vec::new(alloc);
+    push_number(&mut text, b"plandesk: format: ", 4_096 * sectors as u64)?;
+    text.extend_from_slice(b" bytes to write\n")?;
     Ok(text)
 }
 

@@ -8,7 +8,7 @@ use Rattle.desk_model.specs.declared.reply.Reply.{Reply}
 use Rattle.desk_model.specs.Sample.{sample_desk}
 use Rattle.desk_catalogue.specs.Audits.{AskMay}
 use Rattle.desk_store.specs.declared.clerk.Clerk.{Clerk}
-use Rattle.desk_store.specs.Clerks.{desk_of, disk_of, is_halted, Keeps}
+use Rattle.desk_store.specs.Clerks.{desk_of, disk_of, is_halted, room_of, sectors_of, Keeps}
 use Rattle.desk_store.specs.Commands.{Does}
 use Rattle.byte_stream.specs.Counts.{counted}
 use Rattle.http_desk.specs.Serving.{read_failures, write_failures}
@@ -40,14 +40,16 @@ module _ {D : Type 0} (g : Ghosts D) where
   abbrev pub clerk_asks : Clerk D g → Query → Reply → Clerk D g → Type 0
   clerk_asks x query reply y = AskMay (desk_of x) query reply × (y ≡ x)
 
-  -- What was written is a talk over what was read, of a clerk whose store keeps the sample desk, and whose device has not failed; and since
-  -- each acknowledgement what a stop leaves opens to a desk that has it.
+  -- What was written is a talk over what was read, of a clerk whose store keeps the sample desk in 2,000 sectors with 256 journal pages, and
+  -- whose device has not failed; and since each acknowledgement what a stop leaves opens to a desk that has it.
   pub record ServesClerk (served : Result Served StreamFault) (unread left before after : Option (List ℕ)) : Type 0 where
     pub clerk : Clerk D g
     pub keeps : Keeps clerk
     pub desk : desk_of clerk ≡ sample_desk
     pub working : is_halted clerk ≡ false
     pub honest : (disk_of clerk).is_honest
+    pub size : sectors_of clerk ≡ 2000
+    pub journal : room_of clerk ≡ 256
     pub last : Clerk D g
     pub stays_honest : (disk_of last).is_honest
     pub serves : ServesDurably clerk served last unread left before after

@@ -3,8 +3,9 @@ ghost use Rattle.std.specs.Prelude.{◌≡◌, ◌+◌, ◌≤◌, false, Err, I
 ghost use Rattle.byte_stream.specs.Counts.{counted};
 ghost use Rattle.http_desk.specs.Serving.{read_failures, write_failures};
 ghost use Rattle.desk_model.specs.Sample.{sample_desk};
-ghost use Rattle.desk_store.specs.Clerks.{desk_of, is_halted, Keeps};
+ghost use Rattle.desk_store.specs.Clerks.{desk_of, is_halted, room_of, sectors_of, Keeps};
 ghost use Rattle.desk_store.specs.Keeping.{sealed_desk};
+ghost use Rattle.sector_memory.specs.Device.{disk_of};
 ghost use Rattle.talk_command.specs.Talking.{Talks, ServesSample, status_of as status_of_served};
 
 use byte_stream::source::Source;
@@ -36,6 +37,8 @@ fn clerk_in(
     ensures keeps { IfSome result Keeps }
     ensures desk { IfSome result (λ clerk. desk_of clerk ≡ sealed_desk geography.value) }
     ensures working { IfSome result (λ clerk. is_halted clerk ≡ false) }
+    ensures size { IfSome result (λ clerk. sectors_of clerk ≡ (disk_of device).sectors) }
+    ensures journal { IfSome result (λ clerk. room_of clerk ≡ 256) }
 {
     match start(alloc, device, JOURNAL_PAGES, geography) {
         Ok(clerk) => Some(clerk),
@@ -48,6 +51,8 @@ fn sample_clerk(alloc: Global) -> Option<Clerk<MemoryDevice>>
     ensures keeps { IfSome result Keeps }
     ensures desk { IfSome result (λ clerk. desk_of clerk ≡ sample_desk) }
     ensures working { IfSome result (λ clerk. is_halted clerk ≡ false) }
+    ensures size { IfSome result (λ clerk. sectors_of clerk ≡ 2000) }
+    ensures journal { IfSome result (λ clerk. room_of clerk ≡ 256) }
 {
     let geography = sample(alloc).ok()?;
     let shared = Arc::new(alloc, geography).ok()?;

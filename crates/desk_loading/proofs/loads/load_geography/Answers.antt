@@ -1,4 +1,6 @@
-use Rattle.std.proofs.Common.{ap}
+use Rattle.std.proofs.Common.{◌≡◌, ◌-◌, ℕ, ap, subst, arith}
+use Rattle.store_rows.specs.GeographyRows.{geography_rows}
+use Rattle.geo_tables.specs.Loading.{ground_of, done_of}
 use Rattle.desk_store.specs.Keeping.{sealed_desk}
 use Rattle.desk_store.specs.Clerks.{Keeps}
 use Rattle.desk_store.specs.Loads.{Stages}
@@ -47,6 +49,14 @@ returns-in-Ok-seal-clause-loaded g c =
     load_sealed c.args.clerk.now c.begin_load.new.self c.stage_rows.new.clerk c.seal.new.self c.args.geography.value c.in-Ok.load c.stage_rows.new.load
     (record { unsealed = did.unsealed; worked = did.working.0; moves = did.moves; desk = did.desk; staged = did.staged; last = did.last; ground = ap (λ a. a.value) did.load.0; none = did.load.1; works = did.working.1 })
     c.in-Ok-stage_rows.ensures.staged c.in-Ok-stage_rows.ensures.done sealed.moves sealed.loading sealed.sealed sealed.working.1
+
+pub returns-in-Ok-seal-clause-told : goal.returns-in-Ok-seal-clause-told
+returns-in-Ok-seal-clause-told g c =
+    let begun = c.in-Ok.ensures.load in
+    let area : geography_rows (ground_of c.in-Ok.load) ≡ geography_rows c.args.geography.value = ap (λ a. geography_rows a.value) begun.0 in
+    let none : done_of c.in-Ok.load ≡ 0 = begun.1 in
+    let rows : geography_rows (ground_of c.in-Ok.load) - done_of c.in-Ok.load ≡ geography_rows c.args.geography.value = omega (arith, area, none) in
+    subst (λ (n : ℕ). g.P.Progress.is_told c.stage_rows.new.progress n) rows c.stage_rows.ensures.told
 
 pub returns-in-Err-seal-clause-moves : goal.returns-in-Err-seal-clause-moves
 returns-in-Err-seal-clause-moves g c =

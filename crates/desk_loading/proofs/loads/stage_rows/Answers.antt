@@ -1,4 +1,4 @@
-use Rattle.std.proofs.Common.{◌≡◌, ◌-◌, ◌∙◌, ap, arith}
+use Rattle.std.proofs.Common.{◌≡◌, ◌-◌, ◌∙◌, ℕ, ap, subst, arith}
 use Rattle.std.specs.Prelude.{min}
 use Rattle.store_rows.specs.GeographyRows.{geography_rows}
 use Rattle.geo_tables.specs.Loading.{ground_of, done_of}
@@ -13,6 +13,10 @@ loop-left-init g c = record {
   last = c.requires.last;
   unsealed = c.requires.unsealed;
   left = c.left-all.ensures;
+  told =
+      let left = c.left-all.ensures in
+      let rows : c.left-all.result ≡ geography_rows (ground_of c.args.load.now) - done_of c.args.load.now = omega (arith, left) in
+      subst (λ (n : ℕ). g.P.Progress.is_told c.expect.new.self n) rows c.expect.ensures;
 }
 
 pub loop-left-preserved : goal.loop-left-preserved
@@ -24,6 +28,7 @@ loop-left-preserved g c =
       last = did.last;
       unsealed = ap (λ d. d.geography) did.desk ∙ before.unsealed;
       left = did.left;
+      told = c.note.ensures (geography_rows (ground_of c.args.load.now) - done_of c.args.load.now) before.told;
     }
 
 pub returns-in-Err-clause-moves : goal.returns-in-Err-clause-moves

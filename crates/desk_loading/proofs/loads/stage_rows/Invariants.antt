@@ -1,4 +1,4 @@
-use Rattle.std.proofs.Common.{◌≡◌, ◌+◌, None}
+use Rattle.std.proofs.Common.{◌≡◌, ◌+◌, ◌-◌, None}
 use Rattle.store_rows.specs.GeographyRows.{geography_rows}
 use Rattle.geo_tables.specs.Loading.{ground_of, done_of}
 use Rattle.desk_store.specs.Clerks.{desk_of}
@@ -12,6 +12,7 @@ invariant-loop-left g l = record {
   last : IsLast l.clerk l.load;
   unsealed : (desk_of l.clerk).geography ≡ None;
   left : l.left + done_of l.load ≡ geography_rows (ground_of l.load);
+  told : g.P.Progress.is_told l.progress (geography_rows (ground_of l.initial.load) - done_of l.initial.load);
 }
 
 abbrev pub decreases-loop-left : goal.decreases-loop-left

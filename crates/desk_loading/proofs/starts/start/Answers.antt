@@ -1,4 +1,5 @@
-use Rattle.std.proofs.Common.{inl, inr}
+use Rattle.std.proofs.Common.{◌∙◌, inl, inr}
+use Rattle.desk_loading.proofs.Opened.{opened_journal}
 use Rattle.desk_loading.proofs.starts.start.Goals as goal
 
 pub returns-in-Err-opened-clause-err : goal.returns-in-Err-opened-clause-err
@@ -10,6 +11,15 @@ returns-in-Err-opened-clause-err g c = inr (inl (record {
   left = c.in-Err-opened.field-0-1;
   why = c.in-Err-opened.ensures.err;
 }))
+
+pub returns-in-Ok-load_geography-clause-size : goal.returns-in-Ok-load_geography-clause-size
+returns-in-Ok-load_geography-clause-size g c = c.load_geography.ensures.moves.sectors ∙ c.in-Ok-opened.ensures.ok.sectors ∙ c.in-Ok.ensures.ok.sectors
+
+pub returns-in-Ok-load_geography-clause-journal : goal.returns-in-Ok-load_geography-clause-journal
+returns-in-Ok-load_geography-clause-journal g c = λ honest.
+    let x = c.in-Ok-opened.clerk in
+    let moves = c.load_geography.ensures.moves in
+    moves.room ∙ opened_journal c.args.journal_pages c.in-Ok.device x c.requires.most c.journal_fits.ensures c.in-Ok.ensures.ok.journal c.in-Ok-opened.ensures.ok (moves.honest honest)
 
 pub returns-in-Ok-load_geography-clause-started : goal.returns-in-Ok-load_geography-clause-started
 returns-in-Ok-load_geography-clause-started g c = record {
