@@ -51,7 +51,7 @@ impl<'r, 'a, 'l, A: Listens, R: Wait + Clock> Arrivals for Watching<'r, 'a, 'l, 
     ghost use Rattle.std.specs.Option.{option_map};
 
     // What is known of the connections below.
-    ghost gives = { λ w given. A.gives w.arrivals.now (option_map (λ s. (s.0.reader, s.1.writer)) given) };
+    ghost gives = { λ w worker given. A.gives w.arrivals.now worker (option_map (λ s. (s.0.reader, s.1.writer)) given) };
 
     ghost takes_back = { λ w reader writer served. A.takes_back w.arrivals.now reader.reader writer.writer served };
 
@@ -60,10 +60,10 @@ impl<'r, 'a, 'l, A: Listens, R: Wait + Clock> Arrivals for Watching<'r, 'a, 'l, 
     type Writer = CountedSink<A::Writer>;
 
     /// The next one, whose bytes are counted.
-    fn next(&self) -> Option<(CountedSource<A::Reader>, CountedSink<A::Writer>)>
-        ensures { A.gives self.now.arrivals.now (option_map (λ s. (s.0.reader, s.1.writer)) result) }
+    fn next(&self, worker: usize) -> Option<(CountedSource<A::Reader>, CountedSink<A::Writer>)>
+        ensures { A.gives self.now.arrivals.now worker (option_map (λ s. (s.0.reader, s.1.writer)) result) }
     {
-        let (reader, writer) = self.arrivals.next()?;
+        let (reader, writer) = self.arrivals.next(worker)?;
         let number = self.taken.fetch_add(1, Ordering::SeqCst).wrapping_add(1);
         Some((
             CountedSource::new(reader, number),

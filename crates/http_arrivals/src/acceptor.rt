@@ -10,26 +10,29 @@ use http_desk::serve::{Served, StreamFault};
 #[derive(Drop)]
 pub struct Acceptor<'a, A: Arrivals> {
     arrivals: &'a A,
+    worker: usize,
     totals: Totals,
 }
 
 impl<'a, A: Arrivals> Acceptor<'a, A> {
-    /// No stream was taken yet.
-    pub fn new(arrivals: &'a A) -> Acceptor<'a, A>
+    /// For the worker of this number. No stream was taken yet.
+    pub fn new(arrivals: &'a A, worker: usize) -> Acceptor<'a, A>
         ensures from { result.arrivals.now ≡ arrivals.now }
+        ensures number { result.worker ≡ worker }
         ensures none { result.totals.ran ≡ no_streams }
     {
         Acceptor {
             arrivals,
+            worker,
             totals: Totals::new(),
         }
     }
 
     /// The next stream, or None where no further one comes. It may wait.
     pub fn accept(&self) -> Option<(A::Reader, A::Writer)>
-        ensures { A.gives self.now.arrivals.now result }
+        ensures { A.gives self.now.arrivals.now self.now.worker result }
     {
-        self.arrivals.next()
+        self.arrivals.next(self.worker)
     }
 
     /// Hands a stream back with what it came to, and counts it.
@@ -40,6 +43,7 @@ impl<'a, A: Arrivals> Acceptor<'a, A> {
         served: Result<Served, StreamFault>,
     )
         ensures from { self.new.arrivals.now ≡ self.old.arrivals.now }
+        ensures number { self.new.worker ≡ self.old.worker }
         ensures back { A.takes_back self.old.arrivals.now reader writer served }
         ensures counted { self.new.totals.ran ≡ one_more self.old.totals.ran (requests_of served) }
     {

@@ -1,5 +1,5 @@
 //! Where streams come from.
-ghost use Rattle.std.specs.Prelude.{Option, Result};
+ghost use Rattle.std.specs.Prelude.{ℕ, Option, Result};
 ghost use Rattle.http_desk.specs.declared.serve.Served.{Served as Answered};
 ghost use Rattle.http_desk.specs.declared.serve.StreamFault.{StreamFault as Fault};
 
@@ -13,15 +13,15 @@ pub trait Arrivals {
 
     type Writer: GatherSink + Send + Sync;
 
-    // The next stream was asked for, and this was given.
-    ghost gives: { Self → Option (Self.Reader × Self.Writer) → Type 0 } = { λ _ _. Unit {0} };
+    // A worker of this number asked for the next stream, and was given this.
+    ghost gives: { Self → ℕ → Option (Self.Reader × Self.Writer) → Type 0 } = { λ _ _ _. Unit {0} };
 
     // A stream was taken back so, with what it came to.
     ghost takes_back: { Self → Self.Reader → Self.Writer → Result Answered Fault → Type 0 } = { λ _ _ _ _. Unit {0} };
 
-    /// The next stream, or None where no further one comes. It may wait.
-    fn next(&self) -> Option<(Self::Reader, Self::Writer)>
-        ensures { gives self.now result };
+    /// The next stream, for the worker of this number, or None where no further one comes. It may wait.
+    fn next(&self, worker: usize) -> Option<(Self::Reader, Self::Writer)>
+        ensures { gives self.now worker result };
 
     /// Takes a stream back once it is served, with what it came to.
     fn ended(&self, reader: Self::Reader, writer: Self::Writer, served: Result<Served, StreamFault>)

@@ -11,7 +11,7 @@ use Rattle.http_desk.specs.declared.serve.StreamFault.{StreamFault}
 use Rattle.http_arrivals.specs.declared.ran.Ran.{Ran}
 use Rattle.http_arrivals.specs.Running.{no_streams, one_more, requests_of}
 use Rattle.http_seats.specs.Seated.{Seated, newcomer, seats_at}
-use Rattle.http_seats.specs.Streams.{Traffic, Worker, IsTalkedTo, AreServed, LeavesPlace, LeavesPlaces, EachHasWorked}
+use Rattle.http_seats.specs.Streams.{Traffic, Worker, IsTalkedTo, AreServed, LeavesPlace, LeavesPlaces, EachHasWorked, places_of}
 
 -- a place as its guest and what its streams came to
 abbrev pub standing : {P : Type 0} → (P → Option Seated) → (P → Ran) → P → Option Seated × Ran
@@ -24,39 +24,43 @@ of_worker w = (Some w.guest, w.ran)
 abbrev pub arrived : List Command → Option Seated
 arrived v = Some (newcomer v)
 
-module _ {R W : Type 0} (s : Traffic R W) (first : Desk) where
-  pub served_none : (before heard : Seated) (ran : Ran) → heard ≡ before → ran ≡ no_streams → AreServed s first before heard ran
-  served_none before heard ran same none = record { streams = []; talked = same; counts = none }
+-- what was given, of what stands for the giver and the worker
+pub given_as : {A S : Type 0} (gives : A → ℕ → Option S → Type 0) (a b : A) (n m : ℕ) (o : Option S) → a ≡ b → n ≡ m → gives a n o → gives b m o
+given_as {A} gives a b n m o from number given = subst (λ (x : A). gives x m o) from (subst (λ (k : ℕ). gives a k o) number given)
 
-  pub served_more : (before list heard : Seated) (ran new : Ran) (served : Result Served StreamFault) → AreServed s first before list ran → IsTalkedTo s first list served heard
-      → new ≡ one_more ran (requests_of served) → AreServed s first before heard new
-  served_more before list heard ran new served so_far talked more = record {
+module _ {R W : Type 0} (s : Traffic R W) (first : Desk) where
+  pub served_none : (worker : ℕ) (before heard : Seated) (ran : Ran) → heard ≡ before → ran ≡ no_streams → AreServed s first worker before heard ran
+  served_none worker before heard ran same none = record { streams = []; talked = same; counts = none }
+
+  pub served_more : (worker : ℕ) (before list heard : Seated) (ran new : Ran) (served : Result Served StreamFault) → AreServed s first worker before list ran → IsTalkedTo s first worker list served heard
+      → new ≡ one_more ran (requests_of served) → AreServed s first worker before heard new
+  served_more worker before list heard ran new served so_far talked more = record {
     streams = served ∷ so_far.streams;
     talked = (list, so_far.talked, talked);
     counts = more ∙ ap (λ (r : Ran). one_more r (requests_of served)) so_far.counts;
   }
 
   -- what each place was left with, as its guest and what its streams came to
-  pub each_left : {P : Type 0} (seen : P → Option Seated) (ran : P → Ran) (old new : List P) → length new ≡ length old
-      → ((i : ℕ) (d : P) → i < length old → LeavesPlace s first (seen (slice_index_or old i d)) (seen (slice_index_or new i d)) (ran (slice_index_or new i d)))
-      → LeavesPlaces s first (map seen old) (map (standing seen ran) new)
-  each_left seen ran [] [] long each = tt
-  each_left seen ran [] (y ∷ ys) long each = absurd (omega (arith, long))
-  each_left seen ran (x ∷ xs) [] long each = absurd (omega (arith, long))
-  each_left seen ran (x ∷ xs) (y ∷ ys) long each = (each 0 x (omega arith), each_left seen ran xs ys (omega (arith, long)) (λ i d less. each (suc i) d (omega (arith, less))))
+  pub each_left : {P : Type 0} (number : P → ℕ) (seen : P → Option Seated) (ran : P → Ran) (old new : List P) → length new ≡ length old
+      → ((i : ℕ) (d : P) → i < length old → LeavesPlace s first (number (slice_index_or old i d)) (seen (slice_index_or old i d)) (seen (slice_index_or new i d)) (ran (slice_index_or new i d)))
+      → LeavesPlaces s first (map (λ p. (number p, seen p)) old) (map (standing seen ran) new)
+  each_left number seen ran [] [] long each = tt
+  each_left number seen ran [] (y ∷ ys) long each = absurd (omega (arith, long))
+  each_left number seen ran (x ∷ xs) [] long each = absurd (omega (arith, long))
+  each_left number seen ran (x ∷ xs) (y ∷ ys) long each = (each 0 x (omega arith), each_left number seen ran xs ys (omega (arith, long)) (λ i d less. each (suc i) d (omega (arith, less))))
 
   -- the same of what stands for both
-  pub stood : {P : Type 0} (seen : P → Option Seated) (ran : P → Ran) (x y a b : P) → a ≡ x → b ≡ y → LeavesPlace s first (seen a) (seen b) (ran b) → LeavesPlace s first (seen x) (seen y) (ran y)
-  stood {P} seen ran x y a b before after worked =
-      subst (λ (p : P). LeavesPlace s first (seen p) (seen y) (ran y)) before
-      (subst (λ (p : P). LeavesPlace s first (seen a) (seen p) (ran p)) after worked)
+  pub stood : {P : Type 0} (number : P → ℕ) (seen : P → Option Seated) (ran : P → Ran) (x y a b : P) → a ≡ x → b ≡ y → LeavesPlace s first (number a) (seen a) (seen b) (ran b) → LeavesPlace s first (number x) (seen x) (seen y) (ran y)
+  stood {P} number seen ran x y a b before after worked =
+      subst (λ (p : P). LeavesPlace s first (number p) (seen p) (seen y) (ran y)) before
+      (subst (λ (p : P). LeavesPlace s first (number a) (seen a) (seen p) (ran p)) after worked)
 
   -- places as their workers left them
   abbrev pub AreLeftBy : List (Option Seated × Ran) → List Worker → Type 0
   AreLeftBy places workers = places ≡ map of_worker workers
 
   -- the workers of places at which visitors stood
-  pub workers_of : (visitors : List (List Command)) (old : List (Option Seated)) (new : List (Option Seated × Ran)) → old ≡ map arrived visitors → LeavesPlaces s first old new
+  pub workers_of : (visitors : List (List Command)) (old : List (ℕ × Option Seated)) (new : List (Option Seated × Ran)) → old ≡ places_of visitors → LeavesPlaces s first old new
       → (workers : List Worker) × EachHasWorked s first visitors workers × AreLeftBy new workers
   workers_of [] [] [] same left = ([], tt, refl)
   workers_of [] [] (y ∷ ys) same left = absurd left
@@ -64,8 +68,8 @@ module _ {R W : Type 0} (s : Traffic R W) (first : Desk) where
   workers_of (v ∷ vs) [] new same left = absurd cc
   workers_of (v ∷ vs) (x ∷ xs) [] same left = absurd left
   workers_of (v ∷ vs) (x ∷ xs) (y ∷ ys) same left =
-      let is : x ≡ arrived v = cc same in
-      let here : LeavesPlace s first (arrived v) y.0 y.1 = subst (λ (o : Option Seated). LeavesPlace s first o y.0 y.1) is left.0 in
+      let is : x ≡ (length vs, arrived v) = cc same in
+      let here : LeavesPlace s first (length vs) (arrived v) y.0 y.1 = subst (λ (p : ℕ × Option Seated). LeavesPlace s first p.0 p.1 y.0 y.1) is left.0 in
       let rest = workers_of vs xs ys (cc same) left.1 in
       let worker : Worker = record { guest = here.0; ran = y.1 } in
       let one : y ≡ (Some worker.guest, worker.ran) = ap (λ (o : Option Seated). (o, y.1)) here.1 in (
@@ -127,7 +131,7 @@ module _ {R W : Type 0} (s : Traffic R W) (first : Desk) where
   as_many (v ∷ vs) (w ∷ ws) each = omega (arith, as_many vs ws each.1)
 
   -- as many places are left as there were
-  pub left_many : (old : List (Option Seated)) (new : List (Option Seated × Ran)) → LeavesPlaces s first old new → length new ≡ length old
+  pub left_many : (old : List (ℕ × Option Seated)) (new : List (Option Seated × Ran)) → LeavesPlaces s first old new → length new ≡ length old
   left_many [] [] left = refl
   left_many [] (y ∷ ys) left = absurd left
   left_many (x ∷ xs) [] left = absurd left

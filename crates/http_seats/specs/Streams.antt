@@ -28,10 +28,10 @@ counts_of (served ∷ streams) = one_more (counts_of streams) (requests_of serve
 abbrev pub total_of : List Ran → Ran
 total_of workers = fold joined no_streams workers
 
--- What is known of streams: what was given where the next one was asked for, and what was taken back, with what it came to; what is
--- unread of a reader, what a writer holds, and how often each failed.
+-- What is known of streams: what was given where a worker, by its number, asked for the next one, and what was taken back, with what it
+-- came to; what is unread of a reader, what a writer holds, and how often each failed.
 pub record Traffic (R W : Type 0) : Type 1 where
-  pub gives : Option (R × W) → Type 0
+  pub gives : (worker : ℕ) → Option (R × W) → Type 0
   pub takes_back : R → W → Result Served StreamFault → Type 0
   pub unread : R → Option (List ℕ)
   pub failed_reads : R → ℕ
@@ -39,7 +39,7 @@ pub record Traffic (R W : Type 0) : Type 1 where
   pub failed_writes : W → ℕ
 
 -- of what comes from here
-abbrev pub traffic : {A R W : Type 0} → (A → Option (R × W) → Type 0) → (A → R → W → Result Served StreamFault → Type 0)
+abbrev pub traffic : {A R W : Type 0} → (A → ℕ → Option (R × W) → Type 0) → (A → R → W → Result Served StreamFault → Type 0)
     → source.Ghosts R → sink.Ghosts W → A → Traffic R W
 traffic gives takes_back r w from =
     record {
@@ -51,11 +51,12 @@ traffic gives takes_back r w from =
       failed_writes = w.failures;
     }
 
--- a stream was given, and in the bytes that its reader gives the command is asked for
+-- a stream was given to a worker, and in the bytes that its reader gives the command is asked for
 pub record IsAskedOf {R W : Type 0} (s : Traffic R W) (c : Command) : Type 0 where
+  pub worker : ℕ
   pub reader : R
   pub writer : W
-  pub given : s.gives (Some (reader, writer))
+  pub given : s.gives worker (Some (reader, writer))
   pub asked : IsAskedIn (s.unread reader) c
 
 -- what a worker's guest has heard of and was told in the end, and what its streams came to
@@ -64,13 +65,13 @@ pub record Worker : Type 0 where
   pub ran : Ran
 
 module _ {R W : Type 0} (s : Traffic R W) (first : Desk) where
-  -- A stream was given, and taken back as it was left, with what it came to. What was written to it since is a talk over what was read
+  -- A stream was given to a worker, and taken back as it was left, with what it came to. What was written to it since is a talk over what was read
   -- from it since, each answer of which is explained by a list of changes that begins with all that was heard of before, and each
   -- command of which counts as what it is told as. So the seat was when it began, and so it is in the end.
-  pub record IsTalkedTo (before : Seated) (served : Result Served StreamFault) (guest : Seated) : Type 0 where
+  pub record IsTalkedTo (worker : ℕ) (before : Seated) (served : Result Served StreamFault) (guest : Seated) : Type 0 where
     pub reader : R
     pub writer : W
-    pub given : s.gives (Some (reader, writer))
+    pub given : s.gives worker (Some (reader, writer))
     pub reader_left : R
     pub writer_left : W
     pub serves : Serves (ExplainsCommand first) (ExplainsQuery first) before served guest
@@ -79,39 +80,42 @@ module _ {R W : Type 0} (s : Traffic R W) (first : Desk) where
     pub failed_writes : s.failed_writes writer_left ≡ write_failures (s.failed_writes writer) served
     pub taken_back : s.takes_back reader_left writer_left served
 
-  -- streams one after the other, the last first, at a seat that was so before
-  abbrev pub AreTalkedTo : Seated → List (Result Served StreamFault) → Seated → Type 0
-  AreTalkedTo before [] guest = guest ≡ before
-  AreTalkedTo before (served ∷ streams) guest = (between : Seated) × AreTalkedTo before streams between × IsTalkedTo between served guest
+  -- a worker's streams one after the other, the last first, at a seat that was so before
+  abbrev pub AreTalkedTo : (worker : ℕ) → Seated → List (Result Served StreamFault) → Seated → Type 0
+  AreTalkedTo worker before [] guest = guest ≡ before
+  AreTalkedTo worker before (served ∷ streams) guest =
+      (between : Seated) × AreTalkedTo worker before streams between × IsTalkedTo worker between served guest
 
-  -- streams at a seat, and what they came to
-  pub record AreServed (before guest : Seated) (ran : Ran) : Type 0 where
+  -- a worker's streams at a seat, and what they came to
+  pub record AreServed (worker : ℕ) (before guest : Seated) (ran : Ran) : Type 0 where
     pub streams : List (Result Served StreamFault)
-    pub talked : AreTalkedTo before streams guest
+    pub talked : AreTalkedTo worker before streams guest
     pub counts : ran ≡ counts_of streams
 
-  -- What a worker came to whose guest was so before, and so in the end. It ended where no further stream was given.
-  pub record HasWorked (before guest : Seated) (ran : Ran) : Type 0 where
-    pub served : AreServed before guest ran
-    pub over : s.gives None
+  -- What the worker of a number came to, whose guest was so before, and so in the end. All its streams were given to it, and it asked
+  -- until no further one was.
+  pub record HasWorked (worker : ℕ) (before guest : Seated) (ran : Ran) : Type 0 where
+    pub served : AreServed worker before guest ran
+    pub over : s.gives worker None
 
-  -- what a worker leaves of its place: the guest is back, and so much its streams came to
-  abbrev pub LeavesPlace : Option Seated → Option Seated → Ran → Type 0
-  LeavesPlace None after ran = after ≡ None
-  LeavesPlace (Some before) after ran = (guest : Seated) × (after ≡ Some guest) × HasWorked before guest ran
+  -- what the worker of a number leaves of its place: the guest is back, and so much its streams came to
+  abbrev pub LeavesPlace : (worker : ℕ) → Option Seated → Option Seated → Ran → Type 0
+  LeavesPlace worker None after ran = after ≡ None
+  LeavesPlace worker (Some before) after ran = (guest : Seated) × (after ≡ Some guest) × HasWorked worker before guest ran
 
-  -- the same of each place
-  abbrev pub LeavesPlaces : List (Option Seated) → List (Option Seated × Ran) → Type 0
+  -- the same of each place, with its worker's number
+  abbrev pub LeavesPlaces : List (ℕ × Option Seated) → List (Option Seated × Ran) → Type 0
   LeavesPlaces [] [] = ⊤
-  LeavesPlaces (before ∷ old) (after ∷ new) = LeavesPlace before after.0 after.1 × LeavesPlaces old new
+  LeavesPlaces (before ∷ old) (after ∷ new) = LeavesPlace before.0 before.1 after.0 after.1 × LeavesPlaces old new
   LeavesPlaces [] (after ∷ new) = ⊥
   LeavesPlaces (before ∷ old) [] = ⊥
 
-  -- what each of the workers came to whose visitors had heard of this, and had asked for nothing
+  -- What each of the workers came to whose visitors had heard of this, and had asked for nothing. There are as many workers as visitors,
+  -- each with a number of its own: the last one's is 0.
   abbrev pub EachHasWorked : List (List Command) → List Worker → Type 0
   EachHasWorked [] [] = ⊤
   EachHasWorked (before ∷ visitors) (worker ∷ workers) =
-      HasWorked (newcomer before) worker.guest worker.ran × EachHasWorked visitors workers
+      HasWorked (length visitors) (newcomer before) worker.guest worker.ran × EachHasWorked visitors workers
   EachHasWorked [] (worker ∷ workers) = ⊥
   EachHasWorked (before ∷ visitors) [] = ⊥
 
@@ -137,6 +141,11 @@ module _ {R W : Type 0} (s : Traffic R W) (first : Desk) where
       pub left : HasRun begins (IsAskedOf s) last changes halts
       pub counted : AreCounted changes halts visitors ran
 
+-- the places of visitors who had heard of this, each with its worker's number: the last one's is 0
+abbrev pub places_of : List (List Command) → List (ℕ × Option Seated)
+places_of [] = []
+places_of (v ∷ visitors) = (length visitors, Some (newcomer v)) ∷ places_of visitors
+
 -- the last visitor's place is the first
-abbrev pub WereVisitors : List (List Command) → List (Option Seated) → Type 0
-WereVisitors visitors places = places ≡ map (λ v. Some (newcomer v)) (reverse visitors)
+abbrev pub WereVisitors : List (List Command) → List (ℕ × Option Seated) → Type 0
+WereVisitors visitors places = places ≡ places_of (reverse visitors)

@@ -44,7 +44,7 @@ impl<'a, G: Gate> Gate for AtWorker<'a, G> {
 /// A worker's number, its guest until it begins and once it has ended, and what its streams came to.
 #[derive(Drop)]
 struct WorkerPlace<J: Room> {
-    worker: u32,
+    worker: usize,
     guest: Option<Guest<J>>,
     totals: Totals,
 }
@@ -60,7 +60,7 @@ fn work<J: Room, D: SectorDevice, A: Arrivals, G: Gate, R: Wait>(
     requires none { acceptor.totals.ran ≡ no_streams }
     requires asked { (c : Command) → IsAskedOf (traffic A.gives A.takes_back A.Reader.Source A.Writer.Sink acceptor.arrivals.now) c → J.asked c }
     ensures { HasWorked (traffic A.gives A.takes_back A.Reader.Source A.Writer.Sink acceptor.entry.arrivals.now)
-        J.first seat.old seat.new result.ran }
+        J.first acceptor.entry.worker seat.old seat.new result.ran }
 {
     let mut acceptor = acceptor;
     for _ in rt.forever() {
@@ -84,7 +84,7 @@ fn work_at<J: Room, D: SectorDevice, A: Arrivals, G: Gate, R: Wait>(
 )
     requires { (c : Command) → IsAskedOf (traffic A.gives A.takes_back A.Reader.Source A.Writer.Sink arrivals.now) c → J.asked c }
     ensures { LeavesPlace (traffic A.gives A.takes_back A.Reader.Source A.Writer.Sink arrivals.now)
-        J.first place.old.guest place.new.guest place.new.totals.ran }
+        J.first place.old.worker place.old.guest place.new.guest place.new.totals.ran }
 {
     let Some(guest) = place.guest.take() else {
         return;
@@ -92,9 +92,15 @@ fn work_at<J: Room, D: SectorDevice, A: Arrivals, G: Gate, R: Wait>(
     let mut seat = Seat::new(rt, office, guest);
     let gate = AtWorker {
         gate,
-        worker: place.worker,
+        worker: u32::try_from(place.worker).unwrap_or(u32::MAX),
     };
-    place.totals = work(rt, alloc, &mut seat, Acceptor::new(arrivals), &gate);
+    place.totals = work(
+        rt,
+        alloc,
+        &mut seat,
+        Acceptor::new(arrivals, place.worker),
+        &gate,
+    );
     place.guest = Some(seat.into_guest());
 }
 
@@ -106,7 +112,7 @@ fn places_for<J: Room>(
 ) -> Result<Vec<WorkerPlace<J>>, AllocError>
     requires seats { length visitors.items ≤ tallies.old.accepted.parts }
     requires none { (tallies.old.accepted.amount ≡ 0) × (tallies.old.halted.amount ≡ 0) }
-    ensures places { IfOk result (λ places. WereVisitors visitors.items (map (λ p. p.guest) places.items)) }
+    ensures places { IfOk result (λ places. WereVisitors visitors.items (map (λ p. (p.worker, p.guest)) places.items)) }
     ensures seats { IfOk result (λ _. tallies.new.accepted.parts + length visitors.items ≡ tallies.old.accepted.parts) }
     ensures none { IfOk result (λ _. (tallies.new.accepted.amount ≡ 0) × (tallies.new.halted.amount ≡ 0)) }
 {
@@ -114,7 +120,7 @@ fn places_for<J: Room>(
     let mut places = Vec::with_capacity(alloc, visitors.len())?;
     while let Some(visitor) = visitors.pop() {
         places.push(WorkerPlace {
-            worker: u32::try_from(visitors.len()).unwrap_or(u32::MAX),
+            worker: visitors.len(),
             guest: Some(Guest::new(visitor, tallies.seat())),
             totals: Totals::new(),
         })?;
@@ -173,7 +179,7 @@ fn serve_places<
 )
     requires { (c : Command) → IsAskedOf (traffic A.gives A.takes_back A.Reader.Source A.Writer.Sink arrivals.now) c → J.asked c }
     ensures { LeavesPlaces (traffic A.gives A.takes_back A.Reader.Source A.Writer.Sink arrivals.now) J.first
-        (map (λ p. p.guest) places.old) (map (λ p. (p.guest, p.totals.ran)) places.new) }
+        (map (λ p. (p.worker, p.guest)) places.old) (map (λ p. (p.guest, p.totals.ran)) places.new) }
 {
     let threads = places.len().max(1);
     for_each_mut(
@@ -183,7 +189,7 @@ fn serve_places<
         &|_, place: &mut WorkerPlace<J>|
             requires { (c : Command) → IsAskedOf (traffic A.gives A.takes_back A.Reader.Source A.Writer.Sink arrivals.now) c → J.asked c }
             ensures { LeavesPlace (traffic A.gives A.takes_back A.Reader.Source A.Writer.Sink arrivals.entry.now)
-                J.first place.old.guest place.new.guest place.new.totals.ran }
+                J.first place.old.worker place.old.guest place.new.guest place.new.totals.ran }
         { work_at(rt, alloc, office, place, arrivals, gate) },
     );
 }
@@ -205,7 +211,7 @@ fn serve_all<
 ) -> Vec<WorkerPlace<J>>
     requires { (c : Command) → IsAskedOf (traffic A.gives A.takes_back A.Reader.Source A.Writer.Sink arrivals.now) c → J.asked c }
     ensures { LeavesPlaces (traffic A.gives A.takes_back A.Reader.Source A.Writer.Sink arrivals.now) J.first
-        (map (λ p. p.guest) places.items) (map (λ p. (p.guest, p.totals.ran)) result.items) }
+        (map (λ p. (p.worker, p.guest)) places.items) (map (λ p. (p.guest, p.totals.ran)) result.items) }
 {
     let mut places = places;
     serve_places(rt, alloc, office, places.as_mut_slice(), arrivals, gate);
@@ -244,13 +250,13 @@ fn serve_beside<
 ) -> Vec<WorkerPlace<J>>
     requires { (c : Command) → IsAskedOf (traffic A.gives A.takes_back A.Reader.Source A.Writer.Sink arrivals.now) c → J.asked c }
     ensures { LeavesPlaces (traffic A.gives A.takes_back A.Reader.Source A.Writer.Sink arrivals.now) J.first
-        (map (λ p. p.guest) places.items) (map (λ p. (p.guest, p.totals.ran)) result.items) }
+        (map (λ p. (p.worker, p.guest)) places.items) (map (λ p. (p.guest, p.totals.ran)) result.items) }
 {
     let sweep = move || sweep_beside(rt, alloc, office, sweeps);
     let serve = move || -> Vec<WorkerPlace<J>>
         requires { (c : Command) → IsAskedOf (traffic A.gives A.takes_back A.Reader.Source A.Writer.Sink arrivals.now) c → J.asked c }
         ensures { LeavesPlaces (traffic A.gives A.takes_back A.Reader.Source A.Writer.Sink arrivals.entry.now) J.first
-            (map (λ p. p.guest) places.items) (map (λ p. (p.guest, p.totals.ran)) result.items) }
+            (map (λ p. (p.worker, p.guest)) places.items) (map (λ p. (p.guest, p.totals.ran)) result.items) }
     { serve_all(rt, alloc, office, places, arrivals, gate) };
     let (_, left) = join(rt, sweep, serve);
     left
@@ -276,11 +282,11 @@ fn know_all<J: Room, D: SectorDevice>(front: &mut Front<J, D>, places: &[WorkerP
     }
 }
 
-/// Serves the streams that arrive, by one worker a visitor, whose number is the visitor's place, until no further one comes, and then
-/// closes the office: its clerk, and what the streams came to. The calling thread is worker 0; the streams of a worker that can't be
-/// started are taken by the others.
+/// Serves the streams that arrive, by one worker a visitor, whose number is the visitor's place, each until no further one comes to it, and
+/// then closes the office: its clerk, and what the streams came to. The calling thread is worker 0; a worker whose thread can't be
+/// started begins where another has ended.
 ///
-/// What they came to is that of the streams of each worker, each of which was given by `Arrivals::next`, served, and taken back by
+/// What they came to is that of the streams of each worker, each of which was given to it by `Arrivals::next`, served, and taken back by
 /// `Arrivals::ended` as it was left: what was written to it is a talk over what was read from it, explained along one list of changes
 /// that grows, from what the visitor had heard of on, and that the commands begin with which the clerk has carried out in the end.
 /// Each command that the clerk was handed was asked for in the bytes of a stream that was given: this is what `asked` of the

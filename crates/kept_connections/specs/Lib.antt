@@ -1,3 +1,4 @@
 pub mod Answers
 pub mod Entering
 pub mod Paces
+pub mod Taking

@@ -1,5 +1,5 @@
 //! Where connections come in: a thread takes each from the socket, and holds it until a worker has it.
-ghost use Rattle.std.specs.Prelude.{◌≡◌, ◌⊎◌, ◌==◌, true, Some};
+ghost use Rattle.std.specs.Prelude.{◌≡◌, ◌⊎◌, ◌==◌, true, Some, IfOk, length};
 ghost use Rattle.kept_connections.specs.Entering.{HasBegun, HasEnded};
 
 use crate::mark::Mark;
@@ -90,7 +90,9 @@ impl Entrance {
 }
 
 /// A mark for each worker.
-fn marks_of(alloc: Global, workers: u16) -> Result<Vec<Mark>, AllocError> {
+fn marks_of(alloc: Global, workers: u16) -> Result<Vec<Mark>, AllocError>
+    ensures { IfOk result (λ marks. length marks.items ≡ workers) }
+{
     let mut marks = Vec::with_capacity(alloc, workers as usize)?;
     for _ in 0..workers {
         marks.push(Mark::new())?;
@@ -104,7 +106,9 @@ impl Door {
         listener: TcpListener,
         connections: u64,
         workers: u16,
-    ) -> Result<Door, AllocError> {
+    ) -> Result<Door, AllocError>
+        ensures { IfOk result (λ door. length door.marks.items ≡ workers) }
+    {
         let marks = marks_of(alloc, workers)?;
         Ok(Door {
             listener,

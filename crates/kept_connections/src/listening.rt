@@ -78,6 +78,7 @@ impl<'a, R: Wait + Clock + Sync> Arrivals for Listening<'a, R> {
     /// Waits for a connection.
     fn next(
         &self,
+        _worker: usize,
     ) -> Option<
         (
             KeptSource<'a, TcpStream, R>,

@@ -1,15 +1,17 @@
 //! The reader of a connection, which judges how long that is kept.
-ghost use Rattle.std.specs.Prelude.{◌≡◌, ◌⊎◌, ℕ, List, None, true, length};
+ghost use Rattle.std.specs.Prelude.{◌≡◌, ◌⊎◌, ◌/◌, ◌-◌, ◌^◌, ℕ, List, None, true, length, min};
+ghost use Rattle.std.specs.Duration.{as_nanos};
 ghost use Rattle.byte_stream.specs.Counts.{counted};
 ghost use Rattle.byte_stream.specs.Turns.{TurnConsumes, failures_after};
 ghost use Rattle.kept_connections.specs.Paces.{IsPatient, TakesInTime};
+ghost use Rattle.kept_connections.specs.Taking.{TakesBytes};
 
 use crate::door::Door;
 use crate::mark::Mark;
 use crate::pace::{Fate, Limits, Pace};
 use byte_stream::source::{Source, Turn, turn_of};
 use std::io::{ErrorKind, Read};
-use std::time::Clock;
+use std::time::{Clock, Duration};
 
 /// The reader of a connection. Its reads wait for a slice of a second each.
 #[derive(Drop)]
@@ -38,18 +40,23 @@ fn is_silence(kind: ErrorKind) -> bool
     }
 }
 
+/// A length of time in milliseconds, as far as 64 bits go.
+fn millis_in(time: Duration) -> u64
+    ensures { result ≡ min (as_nanos time / 1_000_000) (2 ^ 64 - 1) }
+{
+    u64::try_from(time.as_millis()).unwrap_or(u64::MAX)
+}
+
 /// The milliseconds that a clock shows. Where it can't be read it is as late as when the last byte came, so that no request ends by time.
 fn time_of<R: Clock>(rt: &R, last: u64) -> u64 {
     match rt.monotonic() {
-        Ok(time) => time
-            .as_secs()
-            .saturating_mul(1_000)
-            .saturating_add(time.subsec_millis() as u64),
+        Ok(time) => millis_in(time),
         Err(_) => last,
     }
 }
 
 /// Reads until bytes come, the stream ends, or the connection's time is up, which is looked at behind each slice of silence.
+#[tactic(auto, using(crate::proofs::Taken::still, crate::proofs::Taken::still_then, crate::proofs::Taken::none_taken, crate::proofs::Taken::taken_behind))]
 fn take_turn<S: Read, R: Clock>(
     rt: &R,
     door: &Door,
@@ -62,6 +69,7 @@ fn take_turn<S: Read, R: Clock>(
     ensures bytes { TurnConsumes None None result buf.new }
     ensures patient { IsPatient limits.now pace.new }
     ensures timely { TakesInTime limits.now pace.old result }
+    ensures taken { TakesBytes (S.remaining reader.old) (S.remaining reader.new) result buf.new }
 {
     match pace.fate(pace.last, door.is_over(), limits) {
         Fate::Waits => {}
@@ -100,7 +108,11 @@ impl<'a, S: Read, R: Clock> KeptSource<'a, S, R> {
         mark: &'a Mark,
         reader: S,
         limits: Limits,
-    ) -> KeptSource<'a, S, R> {
+    ) -> KeptSource<'a, S, R>
+        ensures reader { result.reader ≡ reader }
+        ensures limits { result.limits ≡ limits }
+        ensures none { (result.turns ≡ 0) × (result.failures ≡ 0) }
+    {
         KeptSource {
             rt,
             door,
@@ -131,6 +143,7 @@ impl<'a, S: Read, R: Clock> Source for KeptSource<'a, S, R> {
         ensures bytes { TurnConsumes None None result buf.new }
         ensures turns { self.new.turns ≡ counted self.old.turns 1 }
         ensures failures { self.new.failures ≡ failures_after self.old.failures result }
+        ensures taken { TakesBytes (S.remaining self.old.reader) (S.remaining self.new.reader) result buf.new }
     {
         self.turns = self.turns.saturating_add(1);
         self.pace = self.pace.at_turn(self.mark.take_answer(), buf.len());

@@ -76,7 +76,7 @@ impl<'a> Arrivals for Streams<'a> {
 
     type Writer = WriteSink<Noted<'a>>;
 
-    fn next(&self) -> Option<(ReadSource<&'static [u8]>, WriteSink<Noted<'a>>)> {
+    fn next(&self, _worker: usize) -> Option<(ReadSource<&'static [u8]>, WriteSink<Noted<'a>>)> {
         if self.taken.fetch_add(1, Ordering::SeqCst) >= self.count {
             return None;
         }

@@ -39,8 +39,8 @@ module _ {D : Type 0} {g : Ghosts D} where
     pub survives : Keeps first → is_halted first ≡ false → (disk_of last).is_honest → SurvivesSwept false start calls checked last run
 
   module _ {R W : Type 0} (s : Traffic R W) where
-    -- Streams were served at the seats of so many visitors, who had heard of nothing, by an office that began with such a clerk and this
-    -- desk. They came to this, and this clerk came back.
+    -- Streams were served by so many workers, each at the seat of a visitor of its own, who had heard of nothing, and until no further one
+    -- was given to it, by an office that began with such a clerk and this desk. They came to this, and this clerk came back.
     pub record HasTalked (workers : ℕ) (first : Desk) (begins : Beginning) (last : Clerk D g) (ran : Ran) : Type 0 where
       pub visitors : List (List Command)
       pub many : length visitors ≡ workers
@@ -54,8 +54,8 @@ module _ {D : Type 0} {g : Ghosts D} where
       pub asked : All (λ (call : Call). IsAskedOf s call.0) lasts.calls
 
     -- Commands were done one after the other from the first clerk to the last, and outlive each stop; each was asked for by one of the
-    -- streams. Along those that were acknowledged, streams were served at the seats of so many visitors, who had heard of nothing, and
-    -- came to this. Each that was acknowledged was answered once, as accepted; so many were answered as halted as were told so.
+    -- streams. Along those that were acknowledged, streams were served by so many workers, and came to this: each worker sat at the seat of
+    -- a visitor of its own, who had heard of nothing, and took streams until no further one was given to it. Each that was acknowledged was answered once, as accepted; so many were answered as halted as were told so.
     pub record ServesStreams (workers : ℕ) (first last : Clerk D g) (ran : Ran) : Type 0 where
       pub lasts : Outlasts first last
       pub asked : All (λ (call : Call). IsAskedOf s call.0) lasts.calls

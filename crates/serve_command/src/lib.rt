@@ -3,8 +3,8 @@
 //! Seen as a function to an exit status, over what opens stores and what listens. `serve`: the store is opened, the line printed, streams
 //! served, the device closed, or the first fault with what was opened and printed by then (`Serves`). `serve_clerk`: commands one after the
 //! other led from the first clerk to the last. The acknowledged ones outlive each stop, from the desk on as which the device read
-//! (`OutlastsWhatIsRead`). Along them the counted connections were answered at as many seats as workers (`ServesStreams`). When a socket's
-//! failure is asked for, no clause says. `listen_here`: the socket is asked for at 127.0.0.1.
+//! (`OutlastsWhatIsRead`). Along them connections were answered by as many workers as were asked for, each until none was given to it
+//! (`ServesStreams`). When a socket's failure is asked for, no clause says. `listen_here`: the socket is asked for at 127.0.0.1.
 //!
 //! # Notes
 //!
