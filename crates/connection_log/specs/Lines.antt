@@ -1,10 +1,14 @@
 -- The lines of a log.
 use Rattle.std.specs.Prelude.{◌≡◌, ℕ, ◌+◌, ◌/◌, ◌%◌, ◌==◌, if◌then◌else◌, List, [], ◌∷◌, ◌++◌, codes, decimal, Option, Some, None, Result, Ok, Err, ℤ, unsigned_abs}
 use Rattle.jiff_core.specs.declared.civil.datetime.DateTime.{DateTime}
+use Rattle.accepted_commands.specs.Accepting.{plan_of}
+use Rattle.accepted_commands.specs.declared.accepted.Accepted.{Accepted}
+use Rattle.accepted_commands.specs.declared.accepted.Accepted.TheVariants as accepted
 use Rattle.byte_stream.specs.Counts.{counted}
 use Rattle.byte_stream.specs.Sends.{Sends}
 use Rattle.byte_stream.specs.declared.sink.WriteFault.{WriteFault}
 use Rattle.connection_log.specs.declared.connection.Connection.{Connection}
+use Rattle.connection_log.specs.declared.line.Change.{Change}
 use Rattle.connection_log.specs.declared.line.Room.{Room}
 use Rattle.connection_log.specs.declared.line.Ending.{Ending}
 use Rattle.connection_log.specs.declared.line.LogLine.{LogLine}
@@ -38,13 +42,31 @@ end_line e =
 abbrev pub room_line : Room → List ℕ
 room_line r = stamp r.at ++ (codes "free " ++ decimal r.free_pages) ++ (codes " pages, a whole revision needs " ++ decimal r.revision_pages) ++ codes "\n"
 
+abbrev pub revision_words : (revision blocks : ℕ) → List ℕ
+revision_words revision blocks = (codes " revision " ++ decimal revision) ++ (codes " of " ++ decimal blocks) ++ codes " blocks"
+
+abbrev pub source_words : (from : List ℕ) → (revision : ℕ) → List ℕ
+source_words from revision = (codes " forked from " ++ from) ++ (codes " revision " ++ decimal revision)
+
+-- what was done to a plan
+abbrev pub deed_words : Accepted → List ℕ
+deed_words (accepted.Created plan) = codes " created"
+deed_words (accepted.Revised plan revision blocks) = revision_words revision blocks
+deed_words (accepted.Forked plan from) = source_words from.0 from.1
+deed_words (accepted.Deleted plan) = codes " deleted"
+
+abbrev pub change_line : Change → List ℕ
+change_line c = stamp c.at ++ (codes "plan " ++ plan_of c.accepted) ++ deed_words c.accepted ++ codes "\n"
+
 abbrev pub entry_line : LogLine → List ℕ
+entry_line (entry.Change c) = change_line c
 entry_line (entry.Connection c) = connection_line c
 entry_line (entry.Room r) = room_line r
 entry_line (entry.End e) = end_line e
 
 -- when it came about
 abbrev pub entry_moment : LogLine → Option DateTime
+entry_moment (entry.Change c) = c.at
 entry_moment (entry.Connection c) = c.at
 entry_moment (entry.Room r) = r.at
 entry_moment (entry.End e) = e.at

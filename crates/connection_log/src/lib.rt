@@ -1,10 +1,9 @@
-//! A log of a served desk: its free pages, a line for each connection that has ended, and one for all of them.
+//! A log of a served desk: accepted commands, its free pages, a line for each connection that has ended, and one for all of them.
 //!
-//! Seen as lines, and those that wait. `put_entry`: the line of the store's room or of a connection's numbers, behind the time.
-//! `moment_of`: the date and the time so many seconds after 1970. `tell_batch`: lines one after the other; one that fails counts as
-//! dropped, and the next says so (`TellsBatch`). `put`: into 1,024, else counted (`HasPut`); `take`: all (`HasTaken`). `counting`: bytes,
-//! answers and refusals of sends that ended well. What the threads do under the lock, and that a line is what `begin` or `hear` was
-//! given, no clause says.
+//! Seen as lines, and those that wait. `put_entry`: the line of an accepted command, the store's room or a connection, behind the time.
+//! `moment_of`: date and time by the seconds since 1970. `tell_batch`: lines in order; behind one that failed the next
+//! says so (`TellsBatch`). `put`: into 1,024, else counted (`HasPut`); `take`: all (`HasTaken`). `counting`: bytes, answers and
+//! refusals of sends that ended well. What the threads do no clause says.
 //!
 //! # Notes
 //!

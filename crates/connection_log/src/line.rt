@@ -1,9 +1,11 @@
 //! The lines of a log.
 ghost use Rattle.std.specs.Prelude.{◌≡◌, ◌+◌, ◌≤◌, ◌++◌, [], length, decimal, IfOk};
 ghost use Rattle.connection_log.specs.Lines.{connection_line, dropped_line, end_line, entry_line, entry_moment, room_line, stamp};
-ghost use Rattle.connection_log.specs.Lines.{two_digits, year_text};
+ghost use Rattle.connection_log.specs.Lines.{change_line, deed_words, revision_words, source_words, two_digits, year_text};
 
 use crate::connection::Connection;
+use accepted_commands::accepted::Accepted;
+use desk_model::name::PlanName;
 use http_arrivals::ran::Ran;
 use itoa::Buffer;
 use jiff_core::civil::DateTime;
@@ -31,9 +33,19 @@ pub struct Room {
     pub revision_pages: u64,
 }
 
+/// What an accepted command did.
+#[derive(Clone, Copy, Debug)]
+pub struct Change {
+    /// When its acknowledgement was sent, in UTC, where the clock told it.
+    pub at: Option<DateTime>,
+    pub accepted: Accepted,
+}
+
 /// What a line of a log is of.
 #[derive(Clone, Copy, Debug)]
 pub enum LogLine {
+    /// A command that was accepted.
+    Change(Change),
     /// A connection that has ended.
     Connection(Connection),
     /// How much room there is.
@@ -48,6 +60,7 @@ impl LogLine {
         ensures { result ≡ entry_moment self.now }
     {
         match self {
+            LogLine::Change(change) => change.at,
             LogLine::Connection(connection) => connection.at,
             LogLine::Room(room) => room.at,
             LogLine::End(ending) => ending.at,
@@ -206,12 +219,73 @@ impl LineText {
         self.put(b"\n");
     }
 
+    /// Puts words and a plan's name behind them.
+    fn put_name(&mut self, words: &[u8], name: &PlanName)
+        requires { length self.old + length words.now + 64 ≤ 512 }
+        ensures items { self.new ≡ self.old ++ (words.now ++ name.now) }
+        ensures short { length self.new ≤ length self.old + length words.now + 64 }
+    {
+        self.put(words);
+        self.put(name.as_slice());
+    }
+
+    /// Puts that a revision was added.
+    fn put_revision(&mut self, revision: u64, blocks: u64)
+        requires { length self.old ≤ 200 }
+        ensures items { self.new ≡ self.old ++ revision_words revision blocks }
+        ensures short { length self.new ≤ length self.old + 61 }
+    {
+        self.put_count(b" revision ", revision);
+        self.put_count(b" of ", blocks);
+        self.put(b" blocks");
+    }
+
+    /// Puts that a plan was made of another's revision.
+    fn put_source(&mut self, from: &PlanName, revision: u32)
+        requires { length self.old ≤ 200 }
+        ensures items { self.new ≡ self.old ++ source_words from.now revision }
+        ensures short { length self.new ≤ length self.old + 107 }
+    {
+        self.put_name(b" forked from ", from);
+        self.put_count(b" revision ", revision as u64);
+    }
+
+    /// Puts what an accepted command did to its plan.
+    fn put_deed(&mut self, accepted: &Accepted)
+        requires { length self.old ≤ 200 }
+        ensures items { self.new ≡ self.old ++ deed_words accepted.now }
+        ensures short { length self.new ≤ length self.old + 107 }
+    {
+        match accepted {
+            Accepted::Created { plan: _ } => self.put(b" created"),
+            Accepted::Revised {
+                plan: _,
+                revision,
+                blocks,
+            } => self.put_revision(*revision, *blocks),
+            Accepted::Forked { plan: _, from } => self.put_source(&from.0, from.1),
+            Accepted::Deleted { plan: _ } => self.put(b" deleted"),
+        }
+    }
+
+    /// Puts the line of an accepted command.
+    fn put_change(&mut self, change: &Change)
+        requires { length self.old ≤ 100 }
+        ensures { self.new ≡ self.old ++ change_line change.now }
+    {
+        self.put_moment(change.at);
+        self.put_name(b"plan ", change.accepted.plan());
+        self.put_deed(&change.accepted);
+        self.put(b"\n");
+    }
+
     /// Puts the line of an entry.
     pub fn put_entry(&mut self, entry: &LogLine)
         requires { length self.old ≤ 100 }
         ensures { self.new ≡ self.old ++ entry_line entry.now }
     {
         match entry {
+            LogLine::Change(change) => self.put_change(change),
             LogLine::Connection(connection) => self.put_connection(connection),
             LogLine::Room(room) => self.put_room(room),
             LogLine::End(ending) => self.put_end(ending),

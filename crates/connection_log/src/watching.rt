@@ -1,19 +1,22 @@
 //! Connections that are watched: each is told to a log when it ends.
 use crate::connection::connection_of;
 use crate::counting::{CountedSink, CountedSource};
-use crate::line::{LogLine, Room};
+use crate::line::{Change, LogLine, Room};
 use crate::log::Log;
 use crate::moment::moment_now;
+use accepted_commands::accepted::Accepted;
+use accepted_commands::hearing::Hears;
+use desk_model::gate::Gate;
 use http_arrivals::arrivals::Arrivals;
 use http_arrivals::listening::Listens;
 use http_arrivals::ran::Ran;
 use http_desk::serve::{Served, StreamFault};
 use std::sync::Wait;
-use std::sync::atomic::{AtomicU64, Ordering};
+use std::sync::atomic::{AtomicBool, AtomicU64, Ordering};
 use std::time::Clock;
 
-/// Where streams come from, and who hears what all of them came to.
-pub trait Watched: Listens {
+/// Where streams come from, and who hears of accepted commands, of the store's room and of what all streams came to.
+pub trait Watched: Listens + Hears {
     // What was heard of a run.
     ghost use Rattle.http_arrivals.specs.declared.ran.Ran.{Ran};
 
@@ -34,6 +37,10 @@ pub struct Watching<'r, 'a, 'l, A, R> {
     arrivals: &'a A,
     log: Option<&'l Log>,
     taken: AtomicU64,
+    /// A whole revision asks for so many free pages.
+    revision_pages: AtomicU64,
+    /// Fewer are free, as far as the log was told.
+    is_low: AtomicBool,
 }
 
 impl<'r, 'a, 'l, A: Listens, R: Wait + Clock> Watching<'r, 'a, 'l, A, R> {
@@ -43,6 +50,70 @@ impl<'r, 'a, 'l, A: Listens, R: Wait + Clock> Watching<'r, 'a, 'l, A, R> {
             arrivals,
             log,
             taken: AtomicU64::new(0),
+            revision_pages: AtomicU64::new(0),
+            is_low: AtomicBool::new(false),
+        }
+    }
+
+    /// Puts a line of the store's room into the log, where there is one.
+    fn note_room(&self, free_pages: u64, revision_pages: u64) {
+        if let Some(log) = self.log {
+            let at = moment_now(self.rt);
+            log.note(
+                self.rt,
+                LogLine::Room(Room {
+                    at,
+                    free_pages,
+                    revision_pages,
+                }),
+            );
+        }
+    }
+
+    /// Puts a line of the store's room into the log where the free pages fell below what a whole revision asks for, or rose to it: whether
+    /// they did.
+    fn note_crossing(&self, free_pages: &AtomicU64) -> bool {
+        let free = free_pages.load(Ordering::SeqCst);
+        let needed = self.revision_pages.load(Ordering::SeqCst);
+        let is_low = free < needed;
+        if self.is_low.swap(is_low, Ordering::SeqCst) == is_low {
+            return false;
+        }
+        self.note_room(free, needed);
+        true
+    }
+}
+
+impl<'r, 'a, 'l, A: Listens, R: Wait + Clock> Gate for Watching<'r, 'a, 'l, A, R> {
+    fn pass(&self, _worker: u32, _piece: u32) {}
+}
+
+impl<'r, 'a, 'l, A: Listens, R: Wait + Clock> Hears for Watching<'r, 'a, 'l, A, R> {
+    fn listens(&self) -> bool {
+        self.log.is_some()
+    }
+
+    /// Tells it to the log.
+    fn hear_change(&self, accepted: &Accepted) {
+        if let Some(log) = self.log {
+            let at = moment_now(self.rt);
+            log.note(
+                self.rt,
+                LogLine::Change(Change {
+                    at,
+                    accepted: *accepted,
+                }),
+            );
+        }
+    }
+
+    /// Tells the log each time that the free pages fall below what a whole revision asks for, or rise to it. Where several tell it at once,
+    /// the last of them looks again.
+    fn hear_room(&self, free_pages: &AtomicU64) {
+        for _ in 0..u64::MAX {
+            if !self.note_crossing(free_pages) {
+                return;
+            }
         }
     }
 }
@@ -112,17 +183,10 @@ impl<'r, 'a, 'l, A: Listens, R: Wait + Clock> Watched for Watching<'r, 'a, 'l, A
 
     /// Tells it to the log.
     fn begin(&self, free_pages: u64, revision_pages: u64) {
-        if let Some(log) = self.log {
-            let at = moment_now(self.rt);
-            log.note(
-                self.rt,
-                LogLine::Room(Room {
-                    at,
-                    free_pages,
-                    revision_pages,
-                }),
-            );
-        }
+        self.revision_pages.store(revision_pages, Ordering::SeqCst);
+        self.is_low
+            .store(free_pages < revision_pages, Ordering::SeqCst);
+        self.note_room(free_pages, revision_pages);
     }
 
     /// Tells it to the log, and waits for the last lines, for a second at most.

@@ -162,6 +162,13 @@ impl<J: Room, D: SectorDevice> Front<J, D> {
         self.clerk.halted()
     }
 
+    /// How many pages of the store are free.
+    pub fn free_pages(&self) -> u32
+        ensures { self.now.halted ≡ false → (D.disk self.now.device).is_honest → result ≡ self.now.free }
+    {
+        self.clerk.free_pages()
+    }
+
     /// Nothing that was shown is lost: what the store keeps opens to it. Only a halt leaves a change pending, one at most. Each
     /// change is of a command that was accepted after those before it.
     pub fn is_kept(&self)

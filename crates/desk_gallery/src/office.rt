@@ -14,12 +14,15 @@ use desk_store::clerk::Clerk;
 use desk_store::sweeps::SweepError;
 use sector_device::SectorDevice;
 use std::alloc::Global;
+use std::sync::atomic::{AtomicU64, Ordering};
 use std::sync::{Mutex, MutexGuard, Wait};
 
 /// The clerk and the writer, for one thread at a time.
 pub struct Office<J: Room, D: SectorDevice> {
     front: Mutex<Front<J, D>>,
     pace: Pace,
+    /// The free pages behind the last command or step of a sweep.
+    free_pages: AtomicU64,
 }
 
 impl<J: Room, D: SectorDevice> Office<J, D> {
@@ -34,6 +37,7 @@ impl<J: Room, D: SectorDevice> Office<J, D> {
         Office {
             front: Mutex::new(Front::new(clerk, shower, books)),
             pace: Pace::new(),
+            free_pages: AtomicU64::new(u64::MAX),
         }
     }
 
@@ -41,6 +45,17 @@ impl<J: Room, D: SectorDevice> Office<J, D> {
     pub fn lock<R: Wait>(&self, rt: &R) -> MutexGuard<'_, Front<J, D>> {
         self.pace.note_command();
         self.front.lock(rt)
+    }
+
+    /// Notes how many pages are free, which whoever has the front tells.
+    pub fn note_room(&self, front: &Front<J, D>) {
+        self.free_pages
+            .store(u64::from(front.free_pages()), Ordering::SeqCst);
+    }
+
+    /// How many pages were free behind the last command or step of a sweep; the greatest number before the first.
+    pub fn free_pages(&self) -> &AtomicU64 {
+        &self.free_pages
     }
 
     /// A plan was deleted: it leaves rows that a sweep takes out.
@@ -71,24 +86,24 @@ impl<J: Room, D: SectorDevice> Office<J, D> {
     fn sweep_step<R: Wait>(&self, rt: &R, alloc: Global) -> bool {
         let mut front = self.front.lock(rt);
         let swept = front.sweep_step(alloc);
+        self.note_room(&*front);
         let goes_on = self.note_step(swept);
         MutexGuard::unlock(front);
         goes_on
     }
 
-    /// Sweeps step by step, while rows are left and commands leave it time, until the sweeps are ended.
-    pub fn sweep_on<R: Wait>(&self, rt: &R, alloc: Global) {
-        let mut last = self.pace.moves();
-        for _ in rt.forever() {
-            if !self.pace.wait(rt, last) {
-                return;
-            }
-            last = self.pace.moves();
-            if !self.sweep_step(rt, alloc) {
-                return;
-            }
+    /// A step of a sweep, once rows are left and commands leave it time: how often a command had come or the sweeper was woken before it,
+    /// which is what the next step is given, or None where none follows.
+    pub fn sweep_next<R: Wait>(&self, rt: &R, alloc: Global, last: u64) -> Option<u64> {
+        if !self.pace.wait(rt, last) {
+            return None;
         }
-        unreachable!()
+        let moves = self.pace.moves();
+        if self.sweep_step(rt, alloc) {
+            Some(moves)
+        } else {
+            None
+        }
     }
 
     /// Ends the sweeps: a step that was begun is the last.
@@ -98,7 +113,11 @@ impl<J: Room, D: SectorDevice> Office<J, D> {
 
     /// The front, once nobody has it.
     pub fn into_front(self) -> Front<J, D> {
-        let Office { front, pace: _ } = self;
+        let Office {
+            front,
+            pace: _,
+            free_pages: _,
+        } = self;
         front.into_inner()
     }
 
@@ -109,7 +128,11 @@ impl<J: Room, D: SectorDevice> Office<J, D> {
         ensures ran { IsRunFrom J.first (desk_of result) }
         ensures left { IsLeftBy J.first J.begins J.asked result }
     {
-        let Office { front, pace: _ } = self;
+        let Office {
+            front,
+            pace: _,
+            free_pages: _,
+        } = self;
         front.into_inner().close(rt)
     }
 }

@@ -6,6 +6,8 @@ ghost use Rattle.http_intake.specs.Budget.{reading_left};
 ghost use Rattle.http_wire.specs.Budget.{read_failures_of, write_failures_of};
 ghost use Rattle.http_wire.specs.Front.{is_head};
 ghost use Rattle.byte_stream.specs.Counts.{counted};
+ghost use Rattle.byte_stream.specs.Sends.{failures_with};
+ghost use Rattle.accepted_commands.specs.Accepting.{done_by, heard_of};
 ghost use Rattle.desk_model.specs.declared.command.Command.{Command};
 ghost use Rattle.http_routes.specs.declared.order.Order.TheVariants.{Command as AsCommand};
 ghost use Rattle.http_intake.specs.Budget.{Spends};
@@ -14,16 +16,18 @@ ghost use Rattle.http_routes.specs.Routes.{the_routes};
 ghost use Rattle.http_desk.specs.Asking.{IsAskedIn, TakesAll};
 ghost use Rattle.http_desk.specs.Serving.{Serves, Exchanges, Closes, Leaves, Waits, NextCame, Turned, read_failures, write_failures, TakesSome};
 ghost use Rattle.http_wire.specs.Incoming.{EndsAt, TakesSome as RequestTakes};
-ghost use Rattle.http_answer.specs.Queue.{Queued};
+ghost use Rattle.http_answer.specs.Queue.{Queued, Queues};
 ghost use Rattle.http_wire.specs.Plain.{IsPlain};
 ghost use Rattle.http_desk.specs.Talk.{Handles};
 
 use crate::answer::Answer;
-use byte_stream::sink::Sink;
+use accepted_commands::accepted::{Accepted, heard};
+use accepted_commands::hearing::Hears;
+use byte_stream::sink::{Sink, WriteFault};
 use byte_stream::source::Source;
 use desk_counter::Counter;
-use desk_model::command::Query;
-use desk_model::gate::Gate;
+use desk_model::command::{Command, Query};
+use desk_model::reply::Reply;
 use http_answer::gather::GatherSink;
 use http_answer::response::Outbox;
 use http_intake::fault::WireFault;
@@ -79,13 +83,31 @@ struct Stream {
     ghost routes: { router ≡ the_routes },
 }
 
-/// Answers a request, and tells whether the connection closes after it.
+/// Has the counter answer a command, and notes what it did where it is accepted.
+fn change<C: Counter>(
+    alloc: Global,
+    counter: &mut C,
+    command: Command,
+    accepted: &mut Option<Accepted>,
+) -> Reply
+    requires { C.takes counter.old command }
+    ensures answered { C.commands counter.old command result counter.new }
+    ensures heard { accepted.new ≡ heard_of (done_by command) result }
+{
+    let done = Accepted::of(&command);
+    let reply = counter.command(alloc, command);
+    *accepted = heard(done, &reply);
+    reply
+}
+
+/// Answers a request, and tells whether the connection closes after it. What an accepted command did is noted.
 fn handle<C: Counter>(
     alloc: Global,
     router: &Router<Page>,
     counter: &mut C,
     request: Request,
     answer: &mut Answer,
+    accepted: &mut Option<Accepted>,
 ) -> bool
     requires routes { router.now ≡ the_routes }
     requires ascii { IsAscii request.target.items }
@@ -93,6 +115,7 @@ fn handle<C: Counter>(
     ensures { Handles C.commands C.asks counter.old (order_of_request request.method request.target.items request.body.items)
         request.closes (is_head request.method) answer.new result counter.new }
 {
+    *accepted = None;
     let Request {
         method,
         target,
@@ -110,7 +133,7 @@ fn handle<C: Counter>(
             return closes;
         }
         Order::Query(query) => counter.ask(alloc, query),
-        Order::Command(command) => counter.command(alloc, command),
+        Order::Command(command) => change(alloc, counter, command, accepted),
     };
     answer.tell(reply, closes, bare)
 }
@@ -131,6 +154,41 @@ fn close<W: GatherSink>(
     match outbox.flush(writer) {
         Ok(()) => Ok(Next::Last),
         Err(_) => Err(StreamFault::Write),
+    }
+}
+
+/// Puts an answer behind those that wait, or sends it and them at once.
+fn put_answer<W: GatherSink>(
+    writer: &mut W,
+    answer: &Answer,
+    outbox: &mut Outbox,
+    at_once: bool,
+) -> Result<(), WriteFault>
+    ensures bytes { Queues (W.contents writer.old) (W.contents writer.new) outbox.old outbox.new result answer.now }
+    ensures failures { W.failures writer.new ≡ failures_with (W.failures writer.old) result }
+{
+    match answer.send(writer, outbox) {
+        Ok(()) => {}
+        Err(_) => return Err(WriteFault),
+    }
+    if !at_once {
+        return Ok(());
+    }
+    match outbox.flush(writer) {
+        Ok(()) => Ok(()),
+        Err(_) => Err(WriteFault),
+    }
+}
+
+/// Whether a command was accepted that somebody hears of.
+fn is_heard<G: Hears>(gate: &G, accepted: &Option<Accepted>) -> bool {
+    accepted.is_some() && gate.listens()
+}
+
+/// Has a command heard of, where one was accepted.
+fn tell<G: Hears>(gate: &G, accepted: &Option<Accepted>) {
+    if let Some(accepted) = accepted {
+        gate.hear_change(accepted);
     }
 }
 
@@ -162,8 +220,9 @@ fn next_request<R: Source, W: Sink>(
     read_request(alloc, reader, writer, &mut stream.inbox, &mut stream.turns)
 }
 
-/// Reads one request, whatever it asks for, and answers it.
-fn exchange_any<R: Source, W: GatherSink, C: Counter, G: Gate>(
+/// Reads one request, whatever it asks for, and answers it. What an accepted command did is noted; its answer is sent at once
+/// where somebody hears of it.
+fn exchange_any<R: Source, W: GatherSink, C: Counter, G: Hears>(
     alloc: Global,
     reader: &mut R,
     writer: &mut W,
@@ -171,6 +230,7 @@ fn exchange_any<R: Source, W: GatherSink, C: Counter, G: Gate>(
     gate: &G,
     stream: &mut Stream,
     piece: u32,
+    accepted: &mut Option<Accepted>,
 ) -> Result<Next, StreamFault>
     requires { TakesAll C.takes stream.old.inbox (R.remaining reader.old) }
     ensures talks { (more : List ℕ) × (output : List ℕ) × (unsent : List ℕ) × Consumes (R.remaining reader.old) (R.remaining reader.new) more
@@ -198,10 +258,22 @@ fn exchange_any<R: Source, W: GatherSink, C: Counter, G: Gate>(
         }
         Ok(Incoming::Request(request)) => {
             gate.pass(0, piece);
-            if handle(alloc, &stream.router, counter, request, &mut stream.answer) {
+            if handle(
+                alloc,
+                &stream.router,
+                counter,
+                request,
+                &mut stream.answer,
+                accepted,
+            ) {
                 return close(writer, &stream.answer, &mut stream.outbox);
             }
-            match stream.answer.send(writer, &mut stream.outbox) {
+            match put_answer(
+                writer,
+                &stream.answer,
+                &mut stream.outbox,
+                is_heard(gate, accepted),
+            ) {
                 Ok(()) => Ok(Next::Again),
                 Err(_) => Err(StreamFault::Write),
             }
@@ -233,7 +305,7 @@ fn list<C: Counter>(alloc: Global, counter: &mut C, answer: &mut Answer, closes:
 
 /// Answers the next request, after more reading where it isn't there whole. The list of plans, which is asked for most, is answered
 /// without a copy of its request.
-fn exchange_held<R: Source, W: GatherSink, C: Counter, G: Gate>(
+fn exchange_held<R: Source, W: GatherSink, C: Counter, G: Hears>(
     alloc: Global,
     reader: &mut R,
     writer: &mut W,
@@ -254,7 +326,19 @@ fn exchange_held<R: Source, W: GatherSink, C: Counter, G: Gate>(
     ensures left { TakesSome result (reading_left stream.old.turns stream.old.inbox) (reading_left stream.new.turns stream.new.inbox) }
 {
     let Some(closes) = take_list(&mut stream.inbox, &mut stream.room) else {
-        return exchange_any(alloc, reader, writer, counter, gate, stream, piece);
+        let mut accepted = None;
+        let next = exchange_any(
+            alloc,
+            reader,
+            writer,
+            counter,
+            gate,
+            stream,
+            piece,
+            &mut accepted,
+        );
+        tell(gate, &accepted);
+        return next;
     };
     gate.pass(0, piece);
     if list(alloc, counter, &mut stream.answer, closes) {
@@ -296,7 +380,7 @@ fn take_turn<R: Source, W: Sink>(
 }
 
 /// Reads one request and answers it. Where nothing has come yet a turn of reading is taken first: most requests come whole in one.
-fn exchange<R: Source, W: GatherSink, C: Counter, G: Gate>(
+fn exchange<R: Source, W: GatherSink, C: Counter, G: Hears>(
     alloc: Global,
     reader: &mut R,
     writer: &mut W,
@@ -353,11 +437,12 @@ fn start(alloc: Global) -> Option<Stream>
 }
 
 /// Serves a stream of requests: reads each, lets the gate pass, and answers it before the next is taken. Answers wait in a
-/// buffer, and are sent before a turn of reading, before one that has no room behind them, and at the end.
+/// buffer, and are sent before a turn of reading, before one that has no room behind them, with one that acknowledges a command of which somebody hears,
+/// and at the end. The gate hears of each accepted command once its acknowledgement is sent, or couldn't be.
 ///
 /// The counter is handed those commands alone that the bytes of the reader ask for. The gate is passed as worker 0, with the number
 /// of requests that this call read before (4,294,967,295 at most).
-pub fn serve<R: Source, W: GatherSink, C: Counter, G: Gate>(
+pub fn serve<R: Source, W: GatherSink, C: Counter, G: Hears>(
     alloc: Global,
     reader: &mut R,
     writer: &mut W,

@@ -12,6 +12,8 @@ ghost use Rattle.http_seats.specs.Streams.{HasServed, HasWorked, IsAskedOf, Leav
 
 use crate::guest::Guest;
 use crate::seat::Seat;
+use accepted_commands::accepted::Accepted;
+use accepted_commands::hearing::Hears;
 use desk_gallery::book::Room;
 use desk_gallery::front::Front;
 use desk_gallery::office::Office;
@@ -26,18 +28,35 @@ use http_desk::serve::serve;
 use sector_device::SectorDevice;
 use std::alloc::{AllocError, Global};
 use std::sync::Wait;
+use std::sync::atomic::AtomicU64;
 use std::thread::{Threads, for_each_mut, join};
 
-/// A gate as one worker passes it.
+/// A gate as one worker passes it. It hears of the free pages behind each change.
 #[derive(Drop)]
-struct AtWorker<'a, G> {
+struct AtWorker<'a, J: Room, D: SectorDevice, G> {
     gate: &'a G,
     worker: u32,
+    office: &'a Office<J, D>,
 }
 
-impl<'a, G: Gate> Gate for AtWorker<'a, G> {
+impl<'a, J: Room, D: SectorDevice, G: Hears> Gate for AtWorker<'a, J, D, G> {
     fn pass(&self, _worker: u32, piece: u32) {
         self.gate.pass(self.worker, piece);
+    }
+}
+
+impl<'a, J: Room, D: SectorDevice, G: Hears> Hears for AtWorker<'a, J, D, G> {
+    fn listens(&self) -> bool {
+        self.gate.listens()
+    }
+
+    fn hear_change(&self, accepted: &Accepted) {
+        self.gate.hear_change(accepted);
+        self.gate.hear_room(self.office.free_pages());
+    }
+
+    fn hear_room(&self, free_pages: &AtomicU64) {
+        self.gate.hear_room(free_pages);
     }
 }
 
@@ -50,12 +69,12 @@ struct WorkerPlace<J: Room> {
 }
 
 /// Serves streams at one seat until no further one comes: what they came to.
-fn work<J: Room, D: SectorDevice, A: Arrivals, G: Gate, R: Wait>(
+fn work<J: Room, D: SectorDevice, A: Arrivals, G: Hears, R: Wait>(
     rt: &R,
     alloc: Global,
     seat: &mut Seat<'_, J, D, R>,
     acceptor: Acceptor<'_, A>,
-    gate: &AtWorker<'_, G>,
+    gate: &AtWorker<'_, J, D, G>,
 ) -> Totals
     requires none { acceptor.totals.ran ≡ no_streams }
     requires asked { (c : Command) → IsAskedOf (traffic A.gives A.takes_back A.Reader.Source A.Writer.Sink acceptor.arrivals.now) c → J.asked c }
@@ -74,7 +93,7 @@ fn work<J: Room, D: SectorDevice, A: Arrivals, G: Gate, R: Wait>(
 }
 
 /// Serves streams at the seat of a place, and counts them there. The guest comes back to it.
-fn work_at<J: Room, D: SectorDevice, A: Arrivals, G: Gate, R: Wait>(
+fn work_at<J: Room, D: SectorDevice, A: Arrivals, G: Hears, R: Wait>(
     rt: &R,
     alloc: Global,
     office: &Office<J, D>,
@@ -93,6 +112,7 @@ fn work_at<J: Room, D: SectorDevice, A: Arrivals, G: Gate, R: Wait>(
     let gate = AtWorker {
         gate,
         worker: u32::try_from(place.worker).unwrap_or(u32::MAX),
+        office,
     };
     place.totals = work(
         rt,
@@ -167,7 +187,7 @@ fn serve_places<
     J: Room + Send + Sync,
     D: SectorDevice + Drop + Send + Sync,
     A: Arrivals + Sync,
-    G: Gate + Sync,
+    G: Hears + Sync,
     R: Threads + Wait + Sync,
 >(
     rt: &R,
@@ -199,7 +219,7 @@ fn serve_all<
     J: Room + Send + Sync,
     D: SectorDevice + Drop + Send + Sync,
     A: Arrivals + Sync,
-    G: Gate + Sync,
+    G: Hears + Sync,
     R: Threads + Wait + Sync,
 >(
     rt: &R,
@@ -219,16 +239,27 @@ fn serve_all<
     places
 }
 
-/// Sweeps beside those that serve, if it is asked to.
-fn sweep_beside<J: Room, D: SectorDevice, R: Wait>(
+/// Sweeps beside those that serve, if it is asked to: step by step, while rows are left and commands leave it time, until the sweeps are
+/// ended. The gate hears of the free pages behind each step.
+fn sweep_beside<J: Room, D: SectorDevice, G: Hears, R: Wait>(
     rt: &R,
     alloc: Global,
     office: &Office<J, D>,
     sweeps: bool,
+    gate: &G,
 ) {
-    if sweeps {
-        office.sweep_on(rt, alloc);
+    if !sweeps {
+        return;
     }
+    let mut last = 0;
+    for _ in rt.forever() {
+        match office.sweep_next(rt, alloc, last) {
+            Some(moves) => last = moves,
+            None => return,
+        }
+        gate.hear_room(office.free_pages());
+    }
+    unreachable!()
 }
 
 /// Serves streams at each place, with a thread beside that sweeps: the places as they are left. Where that thread can't be started nothing
@@ -237,7 +268,7 @@ fn serve_beside<
     J: Room + Send + Sync,
     D: SectorDevice + Drop + Send + Sync,
     A: Arrivals + Sync,
-    G: Gate + Sync,
+    G: Hears + Sync,
     R: Threads + Wait + Sync,
 >(
     rt: &R,
@@ -252,7 +283,7 @@ fn serve_beside<
     ensures { LeavesPlaces (traffic A.gives A.takes_back A.Reader.Source A.Writer.Sink arrivals.now) J.first
         (map (λ p. (p.worker, p.guest)) places.items) (map (λ p. (p.guest, p.totals.ran)) result.items) }
 {
-    let sweep = move || sweep_beside(rt, alloc, office, sweeps);
+    let sweep = move || sweep_beside(rt, alloc, office, sweeps, gate);
     let serve = move || -> Vec<WorkerPlace<J>>
         requires { (c : Command) → IsAskedOf (traffic A.gives A.takes_back A.Reader.Source A.Writer.Sink arrivals.now) c → J.asked c }
         ensures { LeavesPlaces (traffic A.gives A.takes_back A.Reader.Source A.Writer.Sink arrivals.entry.now) J.first
@@ -291,13 +322,14 @@ fn know_all<J: Room, D: SectorDevice>(front: &mut Front<J, D>, places: &[WorkerP
 /// that grows, from what the visitor had heard of on, and that the commands begin with which the clerk has carried out in the end.
 /// Each command that the clerk was handed was asked for in the bytes of a stream that was given: this is what `asked` of the
 /// gallery's name has to say. Each that was accepted is done once: there are as many changes as answers that tell of one.
-/// With `sweeps` one more thread sweeps the store between commands, which no answer shows.
+/// With `sweeps` one more thread sweeps the store between commands, which no answer shows. The gate hears of each accepted command and of
+/// the free pages.
 /// Err where memory for the workers is refused, and then no stream was taken.
 pub fn serve_many<
     J: Room + Send + Sync,
     D: SectorDevice + Drop + Send + Sync,
     A: Arrivals + Sync,
-    G: Gate + Sync,
+    G: Hears + Sync,
     R: Threads + Wait + Sync,
 >(
     rt: &R,

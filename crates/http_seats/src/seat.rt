@@ -106,6 +106,7 @@ impl<'a, J: Room, D: SectorDevice, R: Wait> Counter for Seat<'a, J, D, R> {
     fn command(&mut self, alloc: Global, command: Command) -> Reply {
         let mut front = front_for(self.rt, self.office, &self.visitor);
         let (reply, told) = front.command(self.rt, alloc, command, &mut self.tally);
+        self.office.note_room(&*front);
         MutexGuard::unlock(front);
         note_rows(self.office, &reply);
         self.visitor.learn(told);

@@ -9,6 +9,7 @@ ghost use Rattle.office_lives.specs.Offices.{OfficeLives};
 ghost use Rattle.office_lives.specs.Inside.{IsLife};
 
 use desk_lives::restarts::Restarts;
+use desk_model::gate::NoGate;
 use desk_pages::{FormatError, format};
 use desk_runs::desk_law::one_desk_opens;
 use desk_store::clerk::Clerk;
@@ -48,7 +49,7 @@ pub fn serve_in<D: SectorDevice + Drop + Send + Sync, A: Arrivals + Sync, R: Thr
         Ok(clerk) => clerk,
         Err((e, device)) => return (Told::Unopened(e), device),
     };
-    match serve_clerk(rt, alloc, clerk, workers, true, arrivals) {
+    match serve_clerk(rt, alloc, clerk, workers, true, arrivals, &NoGate) {
         Ok((last, ran)) => (Told::Served(ran), last.into_device()),
         Err((_, last)) => (Told::Unserved, last.into_device()),
     }

@@ -1,15 +1,19 @@
-//! The gate of a served stream: passed once between the reading and the answering of each request.
+//! The gate of a served stream: passed once between the reading and the answering of each request. It hears of an accepted command behind
+//! its answer.
+use accepted_commands::accepted::Accepted;
+use accepted_commands::hearing::Hears;
 use byte_stream::sink::WriteSink;
 use byte_stream::source::ReadSource;
 use desk_counter::Counter;
 use desk_model::command::{Command, Query};
 use desk_model::gate::Gate;
 use desk_model::reply::{PlanRows, Refusal, Reply};
-use http_desk::serve::serve;
+use http_desk::serve::{StreamFault, serve};
 use std::alloc::Global;
 use std::cell::Cell;
 use std::io;
-use std::io::Read;
+use std::io::{Read, Write};
+use std::sync::atomic::AtomicU64;
 
 /// How many reads, passes and replies there were, and whether one came out of its order.
 #[derive(Drop)]
@@ -77,6 +81,19 @@ impl Gate for NotingGate<'_> {
     }
 }
 
+impl Hears for NotingGate<'_> {
+    fn listens(&self) -> bool {
+        true
+    }
+
+    /// No command is accepted.
+    fn hear_change(&self, _accepted: &Accepted) {
+        self.notes.is_wrong.set(true);
+    }
+
+    fn hear_room(&self, _free_pages: &AtomicU64) {}
+}
+
 /// Has no plan, and notes each reply.
 #[derive(Drop)]
 struct Noted<'a> {
@@ -132,4 +149,110 @@ fn a_gate_is_passed_once_a_request(rt: HostRuntime) {
     assert!(rt; matches!(served, Ok(served) if served.requests == 5));
     assert!(rt; notes.passes.get() == 5 && notes.replies.get() == 5);
     assert!(rt; !notes.is_wrong.get());
+}
+
+/// A writer that fails from some write on, and counts what is written before.
+#[derive(Drop)]
+struct Written<'a> {
+    answers: &'a Cell<u32>,
+    most: u32,
+}
+
+impl Write for Written<'_> {
+    fn write(&mut self, buf: &[u8]) -> io::Result<usize> {
+        let answers = self.answers.get();
+        if answers >= self.most {
+            return Err(io::Error::from(io::ErrorKind::BrokenPipe));
+        }
+        self.answers.set(answers.saturating_add(1));
+        Ok(buf.len())
+    }
+
+    fn flush(&mut self) -> io::Result<()> {
+        Ok(())
+    }
+}
+
+/// Hears of commands, one behind each write that ended well, and one behind the write that failed.
+#[derive(Drop)]
+struct Listener<'a> {
+    answers: &'a Cell<u32>,
+    heard: Cell<u32>,
+    is_wrong: Cell<bool>,
+}
+
+impl Gate for Listener<'_> {
+    fn pass(&self, _worker: u32, piece: u32) {
+        if self.heard.get() != piece {
+            self.is_wrong.set(true);
+        }
+    }
+}
+
+impl Hears for Listener<'_> {
+    fn listens(&self) -> bool {
+        true
+    }
+
+    fn hear_change(&self, accepted: &Accepted) {
+        let heard = self.heard.get().saturating_add(1);
+        self.heard.set(heard);
+        let is_retired =
+            matches!(accepted, Accepted::Deleted { plan } if plan.as_slice() == b"a".as_slice());
+        if !is_retired || self.answers.get() != heard.min(2) {
+            self.is_wrong.set(true);
+        }
+    }
+
+    fn hear_room(&self, _free_pages: &AtomicU64) {}
+}
+
+/// Accepts each command.
+#[derive(Drop)]
+struct Accepting;
+
+impl Counter for Accepting {
+    // What it answers is told by the test.
+    ghost commands = { λ _ _ _ _. Unit {0} };
+
+    ghost asks = { λ _ _ _ _. Unit {0} };
+
+    const ALONE: bool = true;
+
+    fn command(&mut self, _alloc: Global, command: Command) -> Reply {
+        match command {
+            Command::Retire { plan } => Reply::Retired { plan },
+            _ => Reply::Refused(Refusal::NoPlan),
+        }
+    }
+
+    fn ask(&mut self, alloc: Global, _query: Query) -> Reply {
+        Reply::Plans(PlanRows::from_vec(Vec::new(alloc)))
+    }
+}
+
+/// Four requests that come at once: each is answered by a write of its own, and heard of behind it, also where the third write fails.
+#[test]
+fn a_command_is_heard_of_behind_its_answer(rt: HostRuntime) {
+    let answers = Cell::new(0);
+    let mut text = Vec::new(rt.alloc());
+    for _ in 0..4u8 {
+        text.extend_from_slice(RETIRE).expect(&rt, "no memory");
+    }
+    let mut reader = ReadSource::new(text.as_slice());
+    let mut writer = WriteSink::new(Written {
+        answers: &answers,
+        most: 2,
+    });
+    let gate = Listener {
+        answers: &answers,
+        heard: Cell::new(0),
+        is_wrong: Cell::new(false),
+    };
+    let mut counter = Accepting;
+    let served = serve(rt.alloc(), &mut reader, &mut writer, &mut counter, &gate);
+    let _ = reader.into_inner();
+    let _ = writer.into_inner();
+    assert!(rt; matches!(served, Err(StreamFault::Write)));
+    assert!(rt; gate.heard.get() == 3 && !gate.is_wrong.get());
 }

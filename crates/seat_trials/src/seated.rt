@@ -6,6 +6,8 @@ ghost use Rattle.desk_gallery.specs.Begun.{BeginsWith};
 ghost use Rattle.http_seats.specs.Streams.{IsAskedOf, traffic};
 
 use crate::stores::sealed_device;
+use accepted_commands::accepted::Accepted;
+use accepted_commands::hearing::Hears;
 use byte_stream::sink::WriteSink;
 use byte_stream::source::ReadSource;
 use desk_catalogue::catalogue::Catalogue;
@@ -121,11 +123,21 @@ impl Gate for HoldsFirst<'_> {
     }
 }
 
+impl Hears for HoldsFirst<'_> {
+    fn listens(&self) -> bool {
+        true
+    }
+
+    fn hear_change(&self, _accepted: &Accepted) {}
+
+    fn hear_room(&self, _free_pages: &AtomicU64) {}
+}
+
 /// Serves streams at the visitors' seats: what it came to.
 fn serve_at<
     J: Room + Send + Sync,
     A: Arrivals + Sync,
-    G: Gate + Sync,
+    G: Hears + Sync,
     R: Threads + Wait + Abort + Sync,
 >(
     rt: &R,
@@ -149,7 +161,7 @@ fn serve_at<
 fn served_in<
     J: Room + Send + Sync,
     A: Arrivals + Sync,
-    G: Gate + Sync,
+    G: Hears + Sync,
     R: Threads + Wait + Abort + Sync,
 >(
     rt: &R,
@@ -185,7 +197,7 @@ fn served_in<
 }
 
 /// The same, of the sample geography.
-fn served<A: Arrivals + Sync, G: Gate + Sync, R: Threads + Wait + Abort + Sync>(
+fn served<A: Arrivals + Sync, G: Hears + Sync, R: Threads + Wait + Abort + Sync>(
     rt: &R,
     alloc: Global,
     streams: &A,

@@ -7,12 +7,12 @@ ghost use Rattle.desk_gallery.specs.Working.{IsRunFrom};
 ghost use Rattle.http_seats.specs.Streams.{IsAskedOf, traffic};
 ghost use Rattle.serve_command.specs.Lasting.{HasTalked, LastsAsked, ServesStreams, clerk_in};
 
+use accepted_commands::hearing::Hears;
 use desk_catalogue::catalogue::Catalogue;
 use desk_gallery::book::{Opened, Room};
 use desk_gallery::gallery::{Gallery, GalleryFault};
 use desk_gallery::office::Office;
 use desk_gallery::tally::Blanks;
-use desk_model::gate::NoGate;
 use desk_store::clerk::Clerk;
 use http_arrivals::arrivals::Arrivals;
 use http_arrivals::ran::Ran;
@@ -30,6 +30,7 @@ fn serve_named<
     J: Room + Send + Sync,
     D: SectorDevice + Drop + Send + Sync,
     A: Arrivals + Sync,
+    G: Hears + Sync,
     R: Threads + Wait + Sync,
 >(
     rt: &R,
@@ -41,6 +42,7 @@ fn serve_named<
     workers: u16,
     sweeps: bool,
     arrivals: &A,
+    gate: &G,
 ) -> Result<(Clerk<D>, Ran), (AllocError, Clerk<D>)>
     requires book { opened.seen.book ≡ J.book }
     requires root { opened.pen.nib.key ≡ J.root }
@@ -68,9 +70,7 @@ fn serve_named<
     };
     let (books, tallies) = blanks.open::<J>();
     let office = Office::new(clerk, shower, books);
-    let (last, ran) = serve_many(
-        rt, alloc, office, sweeps, visitors, tallies, arrivals, &NoGate,
-    );
+    let (last, ran) = serve_many(rt, alloc, office, sweeps, visitors, tallies, arrivals, gate);
     match ran {
         Ok(ran) => Ok((last, ran)),
         Err(e) => Err((e, last)),
@@ -80,11 +80,12 @@ fn serve_named<
 /// Serves what a clerk keeps by so many workers, until no further stream comes: the clerk as it then is, whose desk is what commands
 /// led to that were accepted one after the other, and what the streams came to. At whatever moment a stop comes: since a command was
 /// acknowledged, each image that the stop may leave opens to the desk after that command and all before it. Each stream was answered
-/// along these very commands, and each command was asked for in the bytes of one. With `sweeps` the store is swept between commands. Err where memory is refused, with the clerk, and
-/// then nothing was served.
+/// along these very commands, and each command was asked for in the bytes of one. With `sweeps` the store is swept between commands. The
+/// gate hears of the accepted commands and of the free pages. Err where memory is refused, with the clerk, and then nothing was served.
 pub fn serve_clerk<
     D: SectorDevice + Drop + Send + Sync,
     A: Arrivals + Sync,
+    G: Hears + Sync,
     R: Threads + Wait + Sync,
 >(
     rt: &R,
@@ -93,6 +94,7 @@ pub fn serve_clerk<
     workers: u16,
     sweeps: bool,
     arrivals: &A,
+    gate: &G,
 ) -> Result<(Clerk<D>, Ran), (AllocError, Clerk<D>)>
     requires { 1 ≤ workers }
     ensures kept { Keeps clerk → Keeps (clerk_in result) }
@@ -104,7 +106,7 @@ pub fn serve_clerk<
     let Ok(catalogue) = clerk.published() else {
         return Err((AllocError, clerk));
     };
-    serve_named::<Brand, _, _, _>(
+    serve_named::<Brand, _, _, _, _>(
         rt,
         alloc,
         Opened::new(),
@@ -114,5 +116,6 @@ pub fn serve_clerk<
         workers,
         sweeps,
         arrivals,
+        gate,
     )
 }

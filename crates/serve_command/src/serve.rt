@@ -96,7 +96,15 @@ fn serve_store<
         }
     }
     tell_room(alloc, &clerk, listening);
-    match serve_clerk(rt, alloc, clerk, serving.workers, sweeps, listening) {
+    match serve_clerk(
+        rt,
+        alloc,
+        clerk,
+        serving.workers,
+        sweeps,
+        listening,
+        listening,
+    ) {
         Ok((last, ran)) => {
             let ended = end_run(&last, listening.has_failed());
             stores.close(last.into_device());

@@ -5,8 +5,8 @@ ghost use Rattle.http_desk.specs.Serving.{read_failures, write_failures};
 ghost use Rattle.served_runs.specs.Served.{ServesDurably};
 
 use crate::law::streams_survive;
+use accepted_commands::hearing::Hears;
 use byte_stream::source::Source;
-use desk_model::gate::Gate;
 use desk_store::clerk::Clerk;
 use http_answer::gather::GatherSink;
 use http_desk::serve::{Served, StreamFault, serve};
@@ -15,7 +15,7 @@ use std::alloc::Global;
 
 /// Serves a stream at a clerk, as `serve` does. However it ends, and at whatever moment a stop comes: since a command of it was
 /// acknowledged, each image that the stop may leave opens to the desk after that command and all before it.
-pub fn serve_clerk<R: Source, W: GatherSink, D: SectorDevice, G: Gate>(
+pub fn serve_clerk<R: Source, W: GatherSink, D: SectorDevice, G: Hears>(
     alloc: Global,
     reader: &mut R,
     writer: &mut W,

@@ -7,10 +7,10 @@ ghost use Rattle.desk_lives.specs.Inside.{LivesOnce};
 ghost use Rattle.stream_lives.specs.Streams.{StreamLives};
 ghost use Rattle.stream_lives.specs.Inside.{IsLife};
 
+use accepted_commands::hearing::Hears;
 use byte_stream::source::Source;
 use desk_lives::lives::{Answer, Request, live_once};
 use desk_lives::restarts::Restarts;
-use desk_model::gate::Gate;
 use desk_pages::{FormatError, format};
 use desk_runs::desk_law::one_desk_opens;
 use desk_store::clerk::Clerk;
@@ -39,7 +39,7 @@ pub enum Told<R, W> {
 }
 
 /// A device that has started is opened as a store and serves a stream, and stops.
-fn serve_started<R: Source + Drop, W: GatherSink + Drop, D: Restarts + Drop, G: Gate>(
+fn serve_started<R: Source + Drop, W: GatherSink + Drop, D: Restarts + Drop, G: Hears>(
     alloc: Global,
     device: D,
     reader: R,
@@ -64,7 +64,7 @@ fn serve_started<R: Source + Drop, W: GatherSink + Drop, D: Restarts + Drop, G: 
 }
 
 /// One life.
-fn one_life<R: Source + Drop, W: GatherSink + Drop, D: Restarts + Drop, G: Gate>(
+fn one_life<R: Source + Drop, W: GatherSink + Drop, D: Restarts + Drop, G: Hears>(
     alloc: Global,
     off: D::Off,
     life: Life<R, W>,
@@ -90,7 +90,7 @@ fn one_life<R: Source + Drop, W: GatherSink + Drop, D: Restarts + Drop, G: Gate>
 }
 
 /// Lives of a store that holds one desk, whatever a stop leaves of it.
-pub fn live_on<R: Source + Drop, W: GatherSink + Drop, D: Restarts + Drop, G: Gate>(
+pub fn live_on<R: Source + Drop, W: GatherSink + Drop, D: Restarts + Drop, G: Hears>(
     alloc: Global,
     off: D::Off,
     lives: Vec<Life<R, W>>,
@@ -115,7 +115,7 @@ pub fn live_on<R: Source + Drop, W: GatherSink + Drop, D: Restarts + Drop, G: Ga
 }
 
 /// Makes a device a store, which stops. Then it lives on: in each life it is opened, asked or served a stream, and stopped.
-pub fn live<R: Source + Drop, W: GatherSink + Drop, D: Restarts + Drop, G: Gate>(
+pub fn live<R: Source + Drop, W: GatherSink + Drop, D: Restarts + Drop, G: Hears>(
     alloc: Global,
     device: D,
     journal_pages: u32,

@@ -75,9 +75,9 @@ returns-in-Ok-clause-talks g c =
     let goes = on g.C.Counter.commands g.C.Counter.asks c.args.counter.now c.handle.new.counter left input rest text is.head request.target.items request.body.items is.front is.cut is.alone of in (
       read.0,
       read.1 ++ text,
-      c.send.new.outbox,
+      c.put_answer.new.outbox,
       read.3,
-      queued_then _ _ _ c.args.stream.now.outbox c.next_request.new.stream.outbox c.send.new.outbox read.1 text (queued_as _ _ c.args.stream.now.outbox read.2 c.next_request.new.stream.outbox read.1 read.6 read.4) c.in-Ok.ensures.bytes,
+      queued_then _ _ _ c.args.stream.now.outbox c.next_request.new.stream.outbox c.put_answer.new.outbox read.1 text (queued_as _ _ c.args.stream.now.outbox read.2 c.next_request.new.stream.outbox read.1 read.6 read.4) c.in-Ok.ensures.bytes,
       subst (λ (t : List ℕ). Exchanges g.C.Counter.commands g.C.Counter.asks c.args.counter.now (Ok next.Again) left input rest (t ++ text) c.handle.new.counter) (sym read.5.1) goes,
       refl,
     )

@@ -4,16 +4,16 @@ use Rattle.http_desk.specs.Asking.{IsAskedBehind}
 use Rattle.http_desk.proofs.ListLemmas.{list_cut, list_ends, list_goes, told_from}
 use Rattle.http_desk.proofs.serve.exchange_held.Goals as goal
 
-pub exchange_any-requires : goal.exchange_any-requires
-exchange_any-requires g c x command asked =
+pub exchange_any-next-requires : goal.exchange_any-next-requires
+exchange_any-next-requires g c x command asked =
     c.requires x command (subst (λ (xs : List ℕ). IsAskedBehind xs (g.R.Source.remaining c.args.reader.now) command) (c.take_list.ensures.none c.in_default.is) asked)
 
 pub returns-in_default-clause-talks : goal.returns-in_default-clause-talks
 returns-in_default-clause-talks g c =
-    let new = c.exchange_any.new in
+    let new = c.exchange_any-next.new in
     let stream = c.args.stream.now in
-    told_from g.C.Counter.commands g.C.Counter.asks (g.R.Source.remaining c.args.reader.now) (g.R.Source.remaining new.reader) (g.W.Sink.contents c.args.writer.now) (g.W.Sink.contents new.writer) c.args.counter.now new.counter c.exchange_any.result
-    c.take_list.new.inbox stream.inbox new.stream.inbox stream.outbox new.stream.outbox (c.take_list.ensures.none c.in_default.is) c.exchange_any.ensures.talks
+    told_from g.C.Counter.commands g.C.Counter.asks (g.R.Source.remaining c.args.reader.now) (g.R.Source.remaining new.reader) (g.W.Sink.contents c.args.writer.now) (g.W.Sink.contents new.writer) c.args.counter.now new.counter c.exchange_any-next.result
+    c.take_list.new.inbox stream.inbox new.stream.inbox stream.outbox new.stream.outbox (c.take_list.ensures.none c.in_default.is) c.exchange_any-next.ensures.talks
 
 pub returns-then-list-clause-talks : goal.returns-then-list-clause-talks
 returns-then-list-clause-talks g c =

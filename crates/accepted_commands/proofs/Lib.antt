@@ -1,0 +1,2 @@
+mod RowLines
+mod Steps
