@@ -12,7 +12,7 @@ use Rattle.desk_lives.specs.declared.lives.Answer.{Answer}
 use Rattle.desk_lives.specs.declared.lives.Answer.TheVariants.{Said}
 use Rattle.desk_lives.specs.Lives.{Lived}
 use Rattle.desk_lives.specs.Inside.{LivedThrough, Stands}
-use Rattle.desk_lives.specs.Bridge.{asked_in, told_in}
+use Rattle.desk_lives.specs.Calls.{asked_in, told_in}
 use Rattle.desk_lives.proofs.Living.{ends, fails_no_less, goes_on}
 
 module _ {D : Type 0} {g : Ghosts D} where

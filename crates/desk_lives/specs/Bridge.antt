@@ -1,23 +1,11 @@
 -- A run of commands as a life.
-use Rattle.std.specs.Prelude.{List, [], ◌∷◌}
+use Rattle.std.specs.Prelude.{List}
 use Rattle.sector_device.specs.declared.SectorDevice.{Ghosts}
 use Rattle.desk_store.specs.declared.clerk.Clerk.{Clerk}
 use Rattle.desk_runs.specs.Runs.{Call, Run}
-use Rattle.desk_lives.specs.declared.lives.Request.{Request}
-use Rattle.desk_lives.specs.declared.lives.Request.TheVariants.{Change}
-use Rattle.desk_lives.specs.declared.lives.Answer.{Answer}
-use Rattle.desk_lives.specs.declared.lives.Answer.TheVariants.{Said}
 use Rattle.desk_lives.specs.Lives.{Lived}
 use Rattle.desk_lives.specs.Inside.{LivedThrough}
-
--- the commands as requests, and their replies as answers
-abbrev pub asked_in : List Call → List Request
-asked_in [] = []
-asked_in (call ∷ calls) = Change call.0 ∷ asked_in calls
-
-abbrev pub told_in : List Call → List Answer
-told_in [] = []
-told_in (call ∷ calls) = Said call.1 ∷ told_in calls
+use Rattle.desk_lives.specs.Calls.{asked_in, told_in}
 
 -- whatever commands were carried out by a clerk from x to y
 abbrev pub RunsAreLives : {D : Type 0} {g : Ghosts D} → Clerk D g → Type 0

@@ -1,7 +1,7 @@
 -- What is known of an office's life doesn't depend on how often the device failed before.
 use Rattle.std.proofs.Common.{◌≡◌, ◌<◌, ℕ}
 use Rattle.desk_model.specs.Desk.{Desk}
-use Rattle.desk_lives.specs.Bridge.{asked_in, told_in}
+use Rattle.desk_lives.specs.Calls.{asked_in, told_in}
 use Rattle.http_seats.specs.Streams.{Traffic}
 use Rattle.office_lives.specs.declared.lives.Told.{Told}
 use Rattle.office_lives.specs.declared.lives.Told.TheVariants.{Served, Unserved, Unopened}

@@ -1,8 +1,8 @@
 //! Lives of a store in a file: each finds there what a stop left in the life before, and what it is asked is answered by that desk.
 //!
 //! Seen as `FileLives` of the images that the file held. `make_in_file`: the first desk is empty. `live_in_file`,
-//! `serve_in_file`: whatever desk a file holds as it is opened, its life goes on from there (`LivesInFile`), asked directly or by an
-//! office. `file_lives_are_lives`, `file_offices_are_lives`: such lives are those of one desk.
+//! `serve_in_file`: whatever desk a file holds as it is opened, its life goes on from there (`LivesInFile`).
+//! `file_lives_are_lives`, `file_offices_are_lives`: such lives are those of one desk.
 //!
 //! # Notes
 //!

@@ -1,2 +1,2 @@
 mod Sweeping
-mod Served
+pub mod Served

@@ -1,18 +1,38 @@
 -- The run of an office as a life.
-use Rattle.std.proofs.Common.{◌≤◌, ℕ, false, subst, ◌∙◌}
+use Rattle.std.proofs.Common.{◌≡◌, ◌≤◌, ℕ, false, if◌then◌else◌, List, [], ◌∷◌, ◌++◌, refl, sym, subst, ◌∙◌}
 use Rattle.sector_device.specs.declared.SectorDevice.{Ghosts}
+use Rattle.desk_model.specs.declared.command.Command.{Command}
+use Rattle.desk_model.specs.declared.reply.Reply.{Reply}
+use Rattle.desk_model.specs.declared.reply.Reply.TheVariants as reply
 use Rattle.desk_model.specs.Desk.{Desk}
 use Rattle.desk_pages.specs.Desks.{OpensDesk}
 use Rattle.desk_store.specs.declared.clerk.Clerk.{Clerk}
 use Rattle.desk_store.specs.Clerks.{desk_of, disk_of}
+use Rattle.desk_runs.specs.Runs.{Call, if_accepted, acknowledged as acknowledged_calls}
+use Rattle.desk_gallery.specs.Working.{AreAccepted}
+use Rattle.desk_gallery.specs.Telling.{halts_of}
 use Rattle.desk_lives.specs.Lives.{Lived}
-use Rattle.desk_lives.specs.Bridge.{asked_in, told_in}
+use Rattle.desk_lives.specs.Calls.{asked_in, told_in, is_done, acknowledged}
 use Rattle.desk_lives.specs.Inside.{LivedThrough}
 use Rattle.http_arrivals.specs.declared.ran.Ran.{Ran}
-use Rattle.http_seats.specs.Streams.{Traffic}
+use Rattle.http_seats.specs.Streams.{Traffic, AreCounted}
 use Rattle.serve_command.specs.Lasting.{Outlasts, LastsAsked, ServesStreams}
 use Rattle.office_lives.specs.Offices.{Officed, Answered}
 use Rattle.office_lives.proofs.Sweeping.{swept_lived}
+
+-- the acknowledged commands of a run, in the words of a life
+done_is : (c : Command) (r : Reply) → if_accepted c r ≡ (if is_done r then c ∷ [] else [])
+done_is c (reply.Created name revisions) = refl
+done_is c (reply.Retired name) = refl
+done_is c (reply.Plans rows) = refl
+done_is c (reply.Blocks text) = refl
+done_is c (reply.Baf text) = refl
+done_is c (reply.Audited text) = refl
+done_is c (reply.Refused refusal) = refl
+
+told_as : (calls : List Call) → acknowledged_calls calls ≡ acknowledged calls
+told_as [] = refl
+told_as (call ∷ calls) = λ i. done_is call.0 call.1 i ++ told_as calls i
 
 module _ {D : Type 0} {g : Ghosts D} where
   -- the calls of a run from one who is like the first
@@ -52,7 +72,7 @@ module _ {D : Type 0} {g : Ghosts D} where
     office_lived first last did =
         let lasts = did.lasts in
         wider first last (λ t u d e. Called first last lasts t u d e) (λ t u d e. Officed s workers t u d e)
-        (λ t u e lived. record { calls = lasts.calls; asked = did.asked; accepted = lasts.accepted; lived = lived })
+        (λ t u e lived. record { calls = lasts.calls; asked = did.asked; accepted = subst (λ (done : List Command). AreAccepted (desk_of first) done) (told_as lasts.calls) lasts.accepted; lived = lived })
         (calls_lived first last lasts)
 
     pub streams_lived : (first last : Clerk D g) (ran : Ran) → ServesStreams s workers first last ran → LivedThrough (λ t u d e. Answered s workers t u d ran e) first last
@@ -60,10 +80,15 @@ module _ {D : Type 0} {g : Ghosts D} where
         let lasts = serves.lasts in
         wider first last (λ t u d e. Called first last lasts t u d e) (λ t u d e. Answered s workers t u d ran e)
         (λ t u e lived. record {
-          did = record { calls = lasts.calls; asked = serves.asked; accepted = lasts.accepted; lived = lived };
+          did = record {
+            calls = lasts.calls;
+            asked = serves.asked;
+            accepted = subst (λ (done : List Command). AreAccepted (desk_of first) done) (told_as lasts.calls) lasts.accepted;
+            lived = lived;
+          };
           visitors = serves.visitors;
           many = serves.many;
           fresh = serves.fresh;
-          counted = serves.counted;
+          counted = subst (λ (done : List Command). AreCounted s (desk_of first) done (halts_of lasts.calls) serves.visitors ran) (told_as lasts.calls) serves.counted;
         })
         (calls_lived first last lasts)

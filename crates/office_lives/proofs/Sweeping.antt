@@ -16,7 +16,7 @@ use Rattle.desk_lives.specs.declared.lives.Answer.{Answer}
 use Rattle.desk_lives.specs.declared.lives.Answer.TheVariants.{Said}
 use Rattle.desk_lives.specs.Lives.{Failed, Lived}
 use Rattle.desk_lives.specs.Inside.{Holds, GoingFailed, LivedThrough, Stands}
-use Rattle.desk_lives.specs.Bridge.{asked_in, told_in}
+use Rattle.desk_lives.specs.Calls.{asked_in, told_in}
 use Rattle.desk_lives.proofs.Living.{either, ends, fails_no_less, goes_on}
 
 -- a device that failed between two commands leaves the desk, and all that are asked then are told so

@@ -1,14 +1,14 @@
 -- Lives of a store that an office serves to many streams, as those see them who wrote and read these.
 use Rattle.std.specs.Prelude.{◌≡◌, ℕ, All, List, [], length}
 use Rattle.desk_model.specs.declared.command.Command.{Command}
+use Rattle.desk_model.specs.declared.reply.Reply.{Reply}
 use Rattle.desk_model.specs.Desk.{Desk}
-use Rattle.desk_runs.specs.Runs.{Call, acknowledged}
 use Rattle.desk_gallery.specs.Telling.{halts_of}
 use Rattle.desk_gallery.specs.Working.{AreAccepted}
 use Rattle.http_arrivals.specs.declared.ran.Ran.{Ran}
 use Rattle.http_seats.specs.Streams.{Traffic, IsAskedOf, AreCounted}
 use Rattle.desk_lives.specs.Lives.{Lived, IsPassing, LifeAfterLife}
-use Rattle.desk_lives.specs.Bridge.{asked_in, told_in}
+use Rattle.desk_lives.specs.Calls.{asked_in, told_in, acknowledged}
 use Rattle.office_lives.specs.declared.lives.Told.{Told}
 use Rattle.office_lives.specs.declared.lives.Told.TheVariants.{Served, Unserved, Unopened}
 
@@ -16,8 +16,8 @@ module _ {R W : Type 0} (s : Traffic R W) (workers : ℕ) where
   -- In one life commands were done one after the other from the desk d on, each of which one of the streams asked for; what a stop behind
   -- them leaves is the desk e. The acknowledged ones are each accepted after those before it.
   pub record Officed (t u : ℕ) (d : Desk) (e : Desk) : Type 0 where
-    pub calls : List Call
-    pub asked : All (λ (call : Call). IsAskedOf s call.0) calls
+    pub calls : List (Command × Reply)
+    pub asked : All (λ (call : Command × Reply). IsAskedOf s call.0) calls
     pub accepted : AreAccepted d (acknowledged calls)
     pub lived : Lived t u d (asked_in calls) (told_in calls) e
 

@@ -1,2 +1,2 @@
 mod Steps
-mod Living
+pub mod Living

@@ -30,7 +30,7 @@ use Rattle.desk_migration.specs.Openings.{IsRefused, KeepsOne, LeavesNew}
 use Rattle.desk_runs.specs.Recovery.{ImagesAreOne}
 use Rattle.desk_lives.specs.declared.lives.Answer.{Answer}
 use Rattle.desk_lives.specs.Lives.{Asked, Lived, LifeAfterLife}
-use Rattle.desk_lives.specs.Inside.{Asks, GoingOn}
+use Rattle.desk_lives.specs.Inside.{Asks, GoingOn, LivedThrough}
 use Rattle.desk_lives.proofs.Living.{further}
 use Rattle.version_lives.specs.declared.leading.Led.{Led}
 use Rattle.version_lives.specs.declared.leading.Led.TheVariants as led
@@ -179,31 +179,38 @@ stops_in life old mid new same was faults leaves once = record {
 
 -- ---- a store is asked
 module _ {D : Type 0} (g : Ghosts D) where
-  pub asked_lives : (device : D) (x y : Clerk D g) (asked : Asked) (told : Vec Answer Global) → sectors_of x ≡ (g.disk device).sectors → is_halted x ≡ false
+  -- a clerk that was opened was asked, as `life` tells it: the store may be of the new version, and is then
+  pub clerk_lives : (device : D) (x y : Clerk D g) (life : (t u : ℕ) → Desk → Desk → Type 0) → sectors_of x ≡ (g.disk device).sectors → is_halted x ≡ false
       → (AllVersions (g.disk device) → Keeps x × ((disk_of x).is_honest → IsOneOf (g.disk device) (desk_of x))) → ((disk_of x).is_honest → (g.disk device).is_honest)
-      → ((disk_of x).is_honest → (disk_of x).faults ≡ (g.disk device).faults) → Asks x asked.items told.items y → LivesIn (IsAsked asked (Ok told)) (g.disk device) (disk_of y)
-  asked_lives device x y asked told long off opened honest passed asks =
+      → ((disk_of x).is_honest → (disk_of x).faults ≡ (g.disk device).faults) → LivedThrough life x y
+      → LivesIn (λ t u s e. MayBeNew s.0 × (e.0 ≡ version_2) × life t u s.1 e.1) (g.disk device) (disk_of y)
+  clerk_lives device x y life long off opened honest passed through =
       let whole : sectors_of y ≡ (disk_of y).sectors = y.pages.journal.room.whole in
       record {
-        sectors = sym whole ∙ asks.sectors ∙ long;
-        honest = λ now. honest (asks.honest now);
-        faults = λ now all. subst (λ (t : ℕ). t ≤ (disk_of y).faults) (passed (asks.honest now)) (asks.faults (opened all).0 off now);
+        sectors = sym whole ∙ through.sectors ∙ long;
+        honest = λ now. honest (through.honest now);
+        faults = λ now all. subst (λ (t : ℕ). t ≤ (disk_of y).faults) (passed (through.honest now)) (through.faults (opened all).0 off now);
         became = λ now v all.
             (let found = opened (all_in v (g.disk device) all) in
-            let one = one_in v (g.disk device) all (true, desk_of x) (found.1 (asks.honest now)) in (
+            let one = one_in v (g.disk device) all (true, desk_of x) (found.1 (through.honest now)) in (
               version_2,
               λ c stopped.
-                  (let there = asks.lived found.0 off now c stopped in (
+                  (let there = through.lived found.0 off now c stopped in (
                     desk_of x,
                     one.1,
                     (
                       there.0,
-                      (may_be_new v one.0, refl, subst (λ (t : ℕ). Lived t (disk_of y).faults (desk_of x) asked.items told.items there.0) (passed (asks.honest now)) there.1),
+                      (may_be_new v one.0, refl, subst (λ (t : ℕ). life t (disk_of y).faults (desk_of x) there.0) (passed (through.honest now)) there.1),
                       subst (λ (n : ℕ). OpensDesk n there.0 c) long there.2,
                     ),
                   )),
             ));
       }
+
+  pub asked_lives : (device : D) (x y : Clerk D g) (asked : Asked) (told : Vec Answer Global) → sectors_of x ≡ (g.disk device).sectors → is_halted x ≡ false
+      → (AllVersions (g.disk device) → Keeps x × ((disk_of x).is_honest → IsOneOf (g.disk device) (desk_of x))) → ((disk_of x).is_honest → (g.disk device).is_honest)
+      → ((disk_of x).is_honest → (disk_of x).faults ≡ (g.disk device).faults) → Asks x asked.items told.items y → LivesIn (IsAsked asked (Ok told)) (g.disk device) (disk_of y)
+  asked_lives device x y asked told = clerk_lives device x y (λ t u d e. Lived t u d asked.items told.items e)
 
   barred : (device left : D) (v : Version) (why : OpenError) → (g.disk left).is_honest → AllIn v (g.disk device) → (why ≢ opening.DeviceFault → (g.disk left).faults ≡ (g.disk device).faults) → OpenRefused g device left why
       → MayBar (g.disk device).faults (g.disk left).faults v why
@@ -214,11 +221,11 @@ module _ {D : Type 0} (g : Ghosts D) where
   barred device left version_2 opening.OldVersion now all calm refused = absurd ((refused now).1 all)
   barred device left either opening.OldVersion now all calm refused = (tt, calm (λ is. cc))
 
-  pub refused_lives : (device left : D) (asked : Asked) (why : OpenError) → (g.disk left).sectors ≡ (g.disk device).sectors → ((g.disk left).is_honest → (g.disk device).is_honest)
+  pub refused_lives : (device left : D) (why : OpenError) → (g.disk left).sectors ≡ (g.disk device).sectors → ((g.disk left).is_honest → (g.disk device).is_honest)
       → LeavesOneAs (g.disk device) (g.disk left) → ((g.disk left).is_honest → (g.disk device).faults ≤ (g.disk left).faults)
       → ((g.disk left).is_honest → why ≢ opening.DeviceFault → (g.disk left).faults ≡ (g.disk device).faults) → OpenRefused g device left why
-      → LivesIn (IsAsked asked (Err why)) (g.disk device) (g.disk left)
-  refused_lives device left asked why same honest moments more calm refused = record {
+      → LivesIn (λ t u s e. MayBar t u s.0 why × (e ≡ s)) (g.disk device) (g.disk left)
+  refused_lives device left why same honest moments more calm refused = record {
     sectors = same;
     honest = honest;
     faults = λ now all. more now;

@@ -9,7 +9,7 @@ returns-in-Err g c =
     let stop = c.stop.ensures in
     let disk = g.D.SectorDevice.disk in
     stops_in (IsAsked c.args.asked (Err c.in-Err.e)) (disk c.args.device) (disk c.in-Err.device) (g.D.Restarts.rests c.stop.result) stop.sectors stop.honest stop.faults stop.left
-    (refused_lives g.D.SectorDevice c.args.device c.in-Err.device c.args.asked c.in-Err.e e.sectors e.honest e.any_version e.faults e.calm e.err)
+    (refused_lives g.D.SectorDevice c.args.device c.in-Err.device c.in-Err.e e.sectors e.honest e.any_version e.faults e.calm e.err)
 
 pub returns : goal.returns
 returns g c =

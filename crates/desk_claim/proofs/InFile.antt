@@ -1,0 +1,76 @@
+-- Lives in a file, by what it held.
+use Rattle.std.proofs.Common.{◌≡◌, ℕ, Bool, true, false, [], ◌∷◌, ⊎_elim, refl, sym, subst, arith}
+use Rattle.sector_device.specs.Disk.{Disk, Image, IsSynced}
+use Rattle.desk_model.specs.Desk.{Desk}
+use Rattle.desk_pages.specs.Desks.{OpensDeskOf}
+use Rattle.desk_pages.specs.Openings.{AllVersions}
+use Rattle.desk_runs.specs.Recovery.{ImagesAreOne}
+use Rattle.http_seats.specs.Streams.{Traffic}
+use Rattle.stream_lives.specs.Streams.{Ends}
+use Rattle.version_lives.specs.Versions.{Version, version_1, version_2, either}
+use Rattle.version_lives.specs.Inside.{OpensIn, HoldsIn, IsOneIn, LivesIn}
+use Rattle.version_lives.proofs.Living.{holds_read}
+use Rattle.desk_claim.specs.declared.lives.Task.{Task}
+use Rattle.desk_claim.specs.declared.lives.Done.{Done}
+use Rattle.desk_claim.specs.Sentence.{LifeMay}
+use Rattle.desk_claim.specs.Inside.{IsLife}
+use Rattle.desk_claim.specs.InFile.{OpensAs, IsStoreAs, LivesFrom, AreLives}
+
+opens_as : (v : Version) (n : ℕ) (d : Desk) (c : Image) → OpensIn v n d c → (new : Bool) × OpensDeskOf new n d c
+opens_as version_1 n d c opens = (false, opens)
+opens_as version_2 n d c opens = (true, opens)
+opens_as either n d c opens = ⊎_elim (λ is. (true, is)) (λ is. (false, is)) opens
+
+opens_in : (v : Version) (n : ℕ) (d : Desk) (c : Image) → OpensAs v n d c → OpensIn v n d c
+opens_in version_1 n d c opens = opens
+opens_in version_2 n d c opens = opens
+opens_in either n d c opens = opens
+
+told_as : (v : Version) (n : ℕ) (d : Desk) (c : Image) → OpensIn v n d c → OpensAs v n d c
+told_as version_1 n d c opens = opens
+told_as version_2 n d c opens = opens
+told_as either n d c opens = opens
+
+-- where each image opens to one desk in a version
+all_open : (v : Version) (disk : Disk) (d : Desk) → HoldsIn v disk d → AllVersions disk
+all_open v disk d holds c left = let it = opens_as v disk.sectors d c (holds c left) in ((it.0, d), it.1)
+
+only_one : ImagesAreOne → (v : Version) (disk : Disk) (d e : Desk) → HoldsIn v disk d → IsOneIn v disk e → d ≡ e
+only_one law v disk d e holds one =
+    let first = opens_as v disk.sectors d one.was (holds one.was one.left) in
+    let other = opens_as v disk.sectors e one.was one.opens in
+    let few = disk.few in
+    law first.0 other.0 disk.sectors d e one.was (omega (arith, few)) first.1 other.1
+
+module _ {R W P Q A : Type 0} (ends : R → W → Ends) (streams : A → Traffic P Q) (workers : ℕ) where
+  pub lives_from : ImagesAreOne → (task : Task R W A) (told : Done R W) (n : ℕ) (held : Image) (old new : Disk) → old.sectors ≡ n → old.reads ≡ held → IsSynced old
+      → LivesIn (IsLife ends streams workers task told) old new → new.is_honest → (left : Image) → new.leaves left → LivesFrom ends streams workers n held task told left
+  lives_from law task told n held old new count reads synced once honest left stops s opens =
+      let v = s.0 in
+      let d = s.1 in
+      let read : OpensIn v old.sectors d old.reads = subst (λ (i : Image). OpensIn v old.sectors d i) (sym reads) (subst (λ (m : ℕ). OpensIn v m d held) (sym count) (opens_in v n d held opens)) in
+      let holds : HoldsIn v old d = holds_read v old old d synced read refl (λ c left. left) in
+      let became = once.became honest v (λ c leaves. (d, holds c leaves)) in
+      let is = became.1 left stops in
+      let same : d ≡ is.0 = only_one law v old d is.0 holds is.1 in
+      record {
+        before = old.faults;
+        behind = new.faults;
+        no_fewer = once.faults honest (all_open v old d holds);
+        last = (became.0, is.2.0);
+        lived = subst (λ (x : Desk). LifeMay ends streams workers old.faults new.faults (v, x) task told (became.0, is.2.0)) (sym same) is.2.1;
+        opens = told_as became.0 n is.2.0 left (subst (λ (m : ℕ). OpensIn became.0 m is.2.0 left) count is.2.2);
+      }
+
+  pub are_lives : AreLives ends streams workers
+  are_lives sectors held left s [] [] opens is = record { last = s; lived = refl; opens = subst (λ (i : Image). IsStoreAs sectors s i) (sym is) opens }
+  are_lives sectors held left s [] (told ∷ answers) opens is = absurd is
+  are_lives sectors held left s (task ∷ lives) [] opens is = absurd is
+  are_lives sectors held left s (task ∷ lives) (told ∷ answers) opens is =
+      let first = is.1 s opens in
+      let rest = are_lives sectors is.0 left first.last lives answers first.opens is.2 in
+      record {
+        last = rest.last;
+        lived = (first.before, first.behind, first.no_fewer, first.last, first.lived, rest.lived);
+        opens = rest.opens;
+      }

@@ -1,0 +1,6 @@
+mod Requests
+mod Refused
+mod Readers
+mod Streams
+mod Sentence
+mod InFile

@@ -1,0 +1,43 @@
+use Rattle.std.proofs.Common.{sym, subst}
+use Rattle.desk_lives.specs.Inside.{LivedThrough}
+use Rattle.http_seats.specs.Streams.{traffic}
+use Rattle.stream_lives.specs.Streams.{Ends}
+use Rattle.stream_lives.proofs.Sim.{stream_lived}
+use Rattle.office_lives.proofs.Served.{office_lived, streams_lived}
+use Rattle.desk_claim.specs.declared.asking.Asking.{Asking}
+use Rattle.desk_claim.specs.declared.asking.Told.TheVariants as told
+use Rattle.desk_claim.specs.Inside.{IsAsked}
+use Rattle.desk_claim.proofs.asking.ask.Goals as goal
+
+pub returns-in-Requests : goal.returns-in-Requests
+returns-in-Requests g c =
+    let ends : g.row.R.Denot → g.row.W.Denot → Ends = λ r w. record { unread = g.R.Source.remaining r; turns = g.R.Source.turns r; failed_reads = g.R.Source.failures r; written = g.W.Sink.contents w; failed_writes = g.W.Sink.failures w } in
+    let streams = λ (a : g.row.A.Denot). traffic g.A.Arrivals.gives g.A.Arrivals.takes_back g.A.Reader.Source g.A.Writer.Sink a in
+    subst (λ (asking : Asking g.row.R.Denot g.row.W.Denot g.row.A.Denot). LivedThrough (IsAsked ends streams c.args.workers asking (told.Answers c.in_ok-told-in-Requests.told)) c.args.clerk c.answer_all.new.clerk)
+    (sym c.in-Requests.is) c.in_ok-told-in-Requests.ensures
+
+pub returns-in-Stream : goal.returns-in-Stream
+returns-in-Stream g c =
+    let ends : g.row.R.Denot → g.row.W.Denot → Ends = λ r w. record { unread = g.R.Source.remaining r; turns = g.R.Source.turns r; failed_reads = g.R.Source.failures r; written = g.W.Sink.contents w; failed_writes = g.W.Sink.failures w } in
+    let streams = λ (a : g.row.A.Denot). traffic g.A.Arrivals.gives g.A.Arrivals.takes_back g.A.Reader.Source g.A.Writer.Sink a in
+    let serve = c.serve_clerk-served in
+    subst (λ (asking : Asking g.row.R.Denot g.row.W.Denot g.row.A.Denot). LivedThrough (IsAsked ends streams c.args.workers asking (told.Served serve.result serve.new.reader serve.new.writer)) c.args.clerk serve.new.clerk)
+    (sym c.in-Stream.is)
+    (stream_lived c.args.clerk serve.new.clerk (ends c.in-Stream.reader c.in-Stream.writer) (ends serve.new.reader serve.new.writer) serve.result serve.ensures.serves
+    (record { reads = serve.ensures.read_failures; writes = serve.ensures.write_failures; turns = serve.ensures.turn_limit }))
+
+pub returns-in-Ok : goal.returns-in-Ok
+returns-in-Ok g c =
+    let ends : g.row.R.Denot → g.row.W.Denot → Ends = λ r w. record { unread = g.R.Source.remaining r; turns = g.R.Source.turns r; failed_reads = g.R.Source.failures r; written = g.W.Sink.contents w; failed_writes = g.W.Sink.failures w } in
+    let streams = λ (a : g.row.A.Denot). traffic g.A.Arrivals.gives g.A.Arrivals.takes_back g.A.Reader.Source g.A.Writer.Sink a in
+    subst (λ (asking : Asking g.row.R.Denot g.row.W.Denot g.row.A.Denot). LivedThrough (IsAsked ends streams c.args.workers asking (told.Seated c.in-Ok.ran)) c.args.clerk c.in-Ok.last)
+    (sym c.in-Office.is)
+    (streams_lived (streams c.in-Office.from) c.args.workers c.args.clerk c.in-Ok.last c.in-Ok.ran c.in-Ok.ensures.served)
+
+pub returns : goal.returns
+returns g c =
+    let ends : g.row.R.Denot → g.row.W.Denot → Ends = λ r w. record { unread = g.R.Source.remaining r; turns = g.R.Source.turns r; failed_reads = g.R.Source.failures r; written = g.W.Sink.contents w; failed_writes = g.W.Sink.failures w } in
+    let streams = λ (a : g.row.A.Denot). traffic g.A.Arrivals.gives g.A.Arrivals.takes_back g.A.Reader.Source g.A.Writer.Sink a in
+    subst (λ (asking : Asking g.row.R.Denot g.row.W.Denot g.row.A.Denot). LivedThrough (IsAsked ends streams c.args.workers asking told.Unseated) c.args.clerk c.in-Err.last)
+    (sym c.in-Office.is)
+    (office_lived (streams c.in-Office.from) c.args.workers c.args.clerk c.in-Err.last c.in-Err.ensures.lasts)

@@ -1,0 +1,23 @@
+use Rattle.std.proofs.Common.{length}
+use Rattle.desk_model.specs.Desk.{Desk}
+use Rattle.desk_lives.specs.Inside.{GoingOn}
+use Rattle.http_seats.specs.Streams.{traffic}
+use Rattle.stream_lives.specs.Streams.{Ends}
+use Rattle.version_lives.specs.Versions.{Version}
+use Rattle.version_lives.specs.Inside.{HoldsIn, Knows}
+use Rattle.desk_claim.specs.Sentence.{LifeMay}
+use Rattle.desk_claim.proofs.lives.live_on.Given as goal
+
+abbrev pub invariant-loop-alloc : goal.invariant-loop-alloc
+invariant-loop-alloc g l =
+    let ends : g.row.R.Denot → g.row.W.Denot → Ends = λ r w. record { unread = g.R.Source.remaining r; turns = g.R.Source.turns r; failed_reads = g.R.Source.failures r; written = g.W.Sink.contents w; failed_writes = g.W.Sink.failures w } in
+    let streams = λ (a : g.row.A.Denot). traffic g.A.Arrivals.gives g.A.Arrivals.takes_back g.A.Reader.Source g.A.Writer.Sink a in
+    let disk = g.D.Restarts.rests in
+    record {
+      honest : (disk l.off).is_honest → (disk l.fn.off).is_honest;
+      holds : (disk l.off).is_honest → (v : Version) (d : Desk) → HoldsIn v (disk l.fn.off) d
+          → Knows (GoingOn (LifeMay ends streams l.fn.workers) (disk l.fn.off).faults (v, d) l.fn.lives.items l.lives.items l.answers.items (disk l.off).faults) (disk l.off);
+    }
+
+abbrev pub decreases-loop-alloc : goal.decreases-loop-alloc
+decreases-loop-alloc g l = length l.lives.items

@@ -1,0 +1,18 @@
+-- What one life makes of a store.
+use Rattle.std.specs.Prelude.{ℕ}
+use Rattle.desk_model.specs.Desk.{Desk}
+use Rattle.http_seats.specs.Streams.{Traffic}
+use Rattle.stream_lives.specs.Streams.{Ends}
+use Rattle.version_lives.specs.Versions.{Store}
+use Rattle.desk_claim.specs.declared.asking.Asking.{Asking}
+use Rattle.desk_claim.specs.declared.asking.Told.{Told}
+use Rattle.desk_claim.specs.declared.lives.Task.{Task}
+use Rattle.desk_claim.specs.declared.lives.Done.{Done}
+use Rattle.desk_claim.specs.Sentence.{AskedMay, LifeMay}
+
+module _ {R W P Q A : Type 0} (ends : R → W → Ends) (streams : A → Traffic P Q) (workers : ℕ) where
+  abbrev pub IsAsked : Asking R W A → Told R W → (t u : ℕ) → Desk → Desk → Type 0
+  IsAsked asking told t u d e = AskedMay ends streams workers t u d asking told e
+
+  abbrev pub IsLife : Task R W A → Done R W → (t u : ℕ) → Store → Store → Type 0
+  IsLife task told t u s e = LifeMay ends streams workers t u s task told e

@@ -1,0 +1,3 @@
+pub mod Sentence
+pub mod Inside
+pub mod InFile

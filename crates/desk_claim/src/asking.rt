@@ -1,0 +1,85 @@
+//! What an open store is asked in a life.
+ghost use Rattle.std.specs.Prelude.{◌≤◌, IfOk};
+ghost use Rattle.desk_lives.specs.Inside.{LivedThrough};
+ghost use Rattle.http_seats.specs.Streams.{traffic};
+ghost use Rattle.desk_claim.specs.Inside.{IsAsked};
+
+use accepted_commands::hearing::Hears;
+use byte_stream::source::Source;
+use desk_lives::lives::{Answer, Request, answer_all};
+use desk_store::clerk::Clerk;
+use http_answer::gather::GatherSink;
+use http_arrivals::arrivals::Arrivals;
+use http_arrivals::ran::Ran;
+use http_desk::serve::{Served, StreamFault};
+use sector_device::SectorDevice;
+use serve_command::office;
+use served_runs::serve::serve_clerk;
+use std::alloc::{AllocError, Global};
+use std::sync::Wait;
+use std::thread::Threads;
+
+/// What comes in a life.
+#[derive(Drop)]
+pub enum Asking<R, W, A> {
+    Requests(Vec<Request>),
+    /// A stream of requests over HTTP, and where the answers to it are written.
+    Stream(R, W),
+    /// A place from which streams come, which an office serves.
+    Office(A),
+}
+
+/// What became of it.
+#[derive(Drop)]
+pub enum Told<R, W> {
+    Answers(Vec<Answer>),
+    /// The stream was served, to its end or as far as it could be. The reader and the writer come back.
+    Served(Result<Served, StreamFault>, R, W),
+    /// Streams were served until no further one came, and this they came to.
+    Seated(Ran),
+    /// Memory for the seats was refused.
+    Unseated,
+}
+
+/// An open store is asked.
+pub fn ask<
+    R: Source + Drop,
+    W: GatherSink + Drop,
+    A: Arrivals + Sync + Drop,
+    D: SectorDevice + Drop + Send + Sync,
+    G: Hears + Sync,
+    T: Threads + Wait + Sync,
+>(
+    rt: &T,
+    alloc: Global,
+    clerk: Clerk<D>,
+    workers: u16,
+    gate: &G,
+    asking: Asking<R, W, A>,
+) -> Result<(Told<R, W>, Clerk<D>), AllocError>
+    requires { 1 ≤ workers }
+    ensures { IfOk result (λ x. LivedThrough (IsAsked
+        (λ r w. record { unread = R.remaining r; turns = R.turns r; failed_reads = R.failures r; written = W.contents w; failed_writes = W.failures w })
+        (λ a. traffic A.gives A.takes_back A.Reader.Source A.Writer.Sink a) workers asking x.0) clerk x.1) }
+{
+    match asking {
+        Asking::Requests(asked) => {
+            let mut clerk = clerk;
+            let told = answer_all(alloc, &mut clerk, asked)?;
+            Ok((Told::Answers(told), clerk))
+        }
+        Asking::Stream(reader, writer) => {
+            let mut clerk = clerk;
+            let mut reader = reader;
+            let mut writer = writer;
+            let served = serve_clerk(alloc, &mut reader, &mut writer, &mut clerk, gate);
+            Ok((Told::Served(served, reader, writer), clerk))
+        }
+        Asking::Office(from) => match office::serve_clerk(
+            rt, alloc, clerk, workers, true, &from, gate,
+        ) {
+            Ok((last, ran)) => Ok((Told::Seated(ran), last)),
+            Err((_, last)) => Ok((Told::Unseated, last)),
+        },
+    }
+}

@@ -1,0 +1,59 @@
+//! A life of a store in a file.
+ghost use Rattle.std.specs.Prelude.{◌≤◌, IfOk, ℕ};
+ghost use Rattle.sector_file.specs.Device.{file_disk, first_image};
+ghost use Rattle.http_seats.specs.Streams.{traffic};
+ghost use Rattle.desk_claim.specs.InFile.{AreLives, PlanDeskInFile};
+
+use crate::lives::{Done, Task, live_in};
+use accepted_commands::hearing::Hears;
+use byte_stream::source::Source;
+use desk_runs::desk_law::one_desk_opens;
+use file_lives::Unlived;
+use http_answer::gather::GatherSink;
+use http_arrivals::arrivals::Arrivals;
+use sector_file::{Contents, FileDevice};
+use std::sync::Wait;
+use std::thread::Threads;
+
+/// Opens the store in a file of so many sectors for one life. Whatever store the file held, this is one life of it, and whatever a stop
+/// leaves of the file then holds the store with which that life ended.
+pub fn live_in_file<
+    S: Contents + Send + Sync,
+    R: Source + Drop,
+    W: GatherSink + Drop,
+    A: Arrivals + Sync + Drop,
+    G: Hears + Sync,
+    T: Threads + Wait + Sync,
+>(
+    host: &HostRuntime,
+    rt: &T,
+    path: &str,
+    sectors: u32,
+    start: S,
+    workers: u16,
+    gate: &G,
+    task: Task<R, W, A>,
+) -> Result<(Done<R, W>, FileDevice<S>), Unlived>
+    requires { 1 ≤ workers }
+    ensures { IfOk result (λ x. PlanDeskInFile
+        (λ r w. record { unread = R.remaining r; turns = R.turns r; failed_reads = R.failures r; written = W.contents w; failed_writes = W.failures w })
+        (λ a. traffic A.gives A.takes_back A.Reader.Source A.Writer.Sink a) workers
+        sectors (first_image S.Contents.sector sectors) task x.0 (file_disk x.1)) }
+{
+    one_desk_opens();
+    let device = match FileDevice::open(host, path, sectors, start) {
+        Ok(device) => device,
+        Err(e) => return Err(Unlived::File(e)),
+    };
+    match live_in(rt, host.alloc(), device, workers, gate, task) {
+        Ok(lived) => Ok(lived),
+        Err(_) => Err(Unlived::Memory),
+    }
+}
+
+/// Whatever came to a store in a file, life after life, it was one store that lives on.
+pub fn file_lives_are_one<R: Source, W: GatherSink, A: Arrivals>()
+    ensures { (workers : ℕ) → AreLives
+        (λ r w. record { unread = R.remaining r; turns = R.turns r; failed_reads = R.failures r; written = W.contents w; failed_writes = W.failures w })
+        (λ a. traffic A.gives A.takes_back A.Reader.Source A.Writer.Sink a) workers }
+{}

@@ -1,0 +1,214 @@
+//! Lives of a store of every kind.
+ghost use Rattle.std.specs.Prelude.{◌≡◌, ◌≤◌, IfOk};
+ghost use Rattle.desk_model.specs.Desk.{Desk};
+ghost use Rattle.desk_lives.specs.Lives.{new_desk};
+ghost use Rattle.http_seats.specs.Streams.{traffic};
+ghost use Rattle.version_lives.specs.Versions.{Store, Version, version_2};
+ghost use Rattle.version_lives.specs.Inside.{HoldsIn, IsLed, LivesIn};
+ghost use Rattle.desk_claim.specs.Sentence.{PlanDesk};
+ghost use Rattle.desk_claim.specs.Inside.{IsLife};
+
+use crate::asking::{Asking, Told, ask};
+use accepted_commands::hearing::Hears;
+use byte_stream::source::Source;
+use desk_lives::restarts::Restarts;
+use desk_migration::Migration;
+use desk_pages::{FormatError, format};
+use desk_runs::desk_law::one_desk_opens;
+use desk_store::clerk::Clerk;
+use desk_store::opening::OpenError;
+use http_answer::gather::GatherSink;
+use http_arrivals::arrivals::Arrivals;
+use sector_device::SectorDevice;
+use std::alloc::{AllocError, Global};
+use std::sync::Wait;
+use std::thread::Threads;
+use version_lives::leading::{Led, lead};
+
+/// What a life is for.
+#[derive(Drop)]
+pub enum Task<R, W, A> {
+    Ask(Asking<R, W, A>),
+    /// The store is led on to the new version, by so many steps at most.
+    Migrate(u32),
+}
+
+/// What came of it.
+#[derive(Drop)]
+pub enum Done<R, W> {
+    /// What was told, or why the store was not opened.
+    Told(Result<Told<R, W>, OpenError>),
+    Led(Led),
+}
+
+/// A device is opened as a store and asked, and given back as it is then.
+fn ask_in<
+    R: Source + Drop,
+    W: GatherSink + Drop,
+    A: Arrivals + Sync + Drop,
+    D: SectorDevice + Drop + Send + Sync,
+    G: Hears + Sync,
+    T: Threads + Wait + Sync,
+>(
+    rt: &T,
+    alloc: Global,
+    device: D,
+    workers: u16,
+    gate: &G,
+    asking: Asking<R, W, A>,
+) -> Result<(Done<R, W>, D), AllocError>
+    requires { 1 ≤ workers }
+    ensures { IfOk result (λ x. LivesIn (IsLife
+        (λ r w. record { unread = R.remaining r; turns = R.turns r; failed_reads = R.failures r; written = W.contents w; failed_writes = W.failures w })
+        (λ a. traffic A.gives A.takes_back A.Reader.Source A.Writer.Sink a) workers (Task.Ask asking) x.0) (D.disk device) (D.disk x.1)) }
+{
+    let clerk = match Clerk::open(alloc, device) {
+        Ok(clerk) => clerk,
+        Err((e, device)) => return Ok((Done::Told(Err(e)), device)),
+    };
+    let (told, last) = ask(rt, alloc, clerk, workers, gate, asking)?;
+    Ok((Done::Told(Ok(told)), last.into_device()))
+}
+
+/// A device is opened for a migration and led on, and given back as it is then.
+fn lead_in<D: SectorDevice + Drop>(alloc: Global, device: D, steps: u32) -> (Led, D)
+    ensures { LivesIn (IsLed result.0) (D.disk device) (D.disk result.1) }
+{
+    let mut migration = match Migration::open(alloc, device) {
+        Ok(migration) => migration,
+        Err((e, device)) => return (Led::Unopened(e), device),
+    };
+    let led = lead(alloc, &mut migration, steps);
+    (led, migration.into_device())
+}
+
+/// One life, from a device that has started to what it is before it stops.
+pub fn live_in<
+    R: Source + Drop,
+    W: GatherSink + Drop,
+    A: Arrivals + Sync + Drop,
+    D: SectorDevice + Drop + Send + Sync,
+    G: Hears + Sync,
+    T: Threads + Wait + Sync,
+>(
+    rt: &T,
+    alloc: Global,
+    device: D,
+    workers: u16,
+    gate: &G,
+    task: Task<R, W, A>,
+) -> Result<(Done<R, W>, D), AllocError>
+    requires { 1 ≤ workers }
+    ensures { IfOk result (λ x. LivesIn (IsLife
+        (λ r w. record { unread = R.remaining r; turns = R.turns r; failed_reads = R.failures r; written = W.contents w; failed_writes = W.failures w })
+        (λ a. traffic A.gives A.takes_back A.Reader.Source A.Writer.Sink a) workers task x.0) (D.disk device) (D.disk x.1)) }
+{
+    match task {
+        Task::Ask(asking) => {
+            let (done, left) = ask_in(rt, alloc, device, workers, gate, asking)?;
+            Ok((done, left))
+        }
+        Task::Migrate(steps) => {
+            let (led, left) = lead_in(alloc, device, steps);
+            Ok((Done::Led(led), left))
+        }
+    }
+}
+
+/// One life: a device starts, and stops.
+fn live_once<
+    R: Source + Drop,
+    W: GatherSink + Drop,
+    A: Arrivals + Sync + Drop,
+    D: Restarts + Drop + Send + Sync,
+    G: Hears + Sync,
+    T: Threads + Wait + Sync,
+>(
+    rt: &T,
+    alloc: Global,
+    off: D::Off,
+    workers: u16,
+    gate: &G,
+    task: Task<R, W, A>,
+) -> Result<(Done<R, W>, D::Off), AllocError>
+    requires { 1 ≤ workers }
+    ensures { IfOk result (λ x. LivesIn (IsLife
+        (λ r w. record { unread = R.remaining r; turns = R.turns r; failed_reads = R.failures r; written = W.contents w; failed_writes = W.failures w })
+        (λ a. traffic A.gives A.takes_back A.Reader.Source A.Writer.Sink a) workers task x.0) (D.rests off) (D.rests x.1)) }
+{
+    let (done, device) = live_in(rt, alloc, D::start(off), workers, gate, task)?;
+    Ok((done, device.stop()))
+}
+
+/// Lives of a store that holds one desk in a version, whatever a stop leaves of it.
+fn live_on<
+    R: Source + Drop,
+    W: GatherSink + Drop,
+    A: Arrivals + Sync + Drop,
+    D: Restarts + Drop + Send + Sync,
+    G: Hears + Sync,
+    T: Threads + Wait + Sync,
+>(
+    rt: &T,
+    alloc: Global,
+    off: D::Off,
+    workers: u16,
+    gate: &G,
+    lives: Vec<Task<R, W, A>>,
+) -> Result<(Vec<Done<R, W>>, D::Off), AllocError>
+    requires { 1 ≤ workers }
+    ensures honest { IfOk result (λ x. (D.rests x.1).is_honest → (D.rests off).is_honest) }
+    ensures lived { IfOk result (λ x. (D.rests x.1).is_honest → (v : Version) (d : Desk) → HoldsIn v (D.rests off) d → (e : Store) × PlanDesk
+        (λ r w. record { unread = R.remaining r; turns = R.turns r; failed_reads = R.failures r; written = W.contents w; failed_writes = W.failures w })
+        (λ a. traffic A.gives A.takes_back A.Reader.Source A.Writer.Sink a) workers
+        (D.rests off).faults (D.rests x.1).faults (v, d) lives.items x.0.items e) }
+{
+    one_desk_opens();
+    let mut off = off;
+    let mut lives = lives;
+    let mut answers = Vec::new(alloc);
+    while !lives.is_empty() {
+        let task = lives.remove(0);
+        let (done, left) = live_once::<R, W, A, D, G, T>(rt, alloc, off, workers, gate, task)?;
+        off = left;
+        answers.push(done)?;
+    }
+    Ok((answers, off))
+}
+
+/// Makes a device a store, which stops. Then it lives on: in each life it is opened, and asked by requests, by a stream or by those who
+/// come to an office, or led on to the new version, and it is stopped.
+pub fn live<
+    R: Source + Drop,
+    W: GatherSink + Drop,
+    A: Arrivals + Sync + Drop,
+    D: Restarts + Drop + Send + Sync,
+    G: Hears + Sync,
+    T: Threads + Wait + Sync,
+>(
+    rt: &T,
+    alloc: Global,
+    device: D,
+    journal_pages: u32,
+    workers: u16,
+    gate: &G,
+    lives: Vec<Task<R, W, A>>,
+) -> Result<(Vec<Done<R, W>>, D::Off), FormatError>
+    requires least { 256 ≤ journal_pages }
+    requires most { journal_pages ≤ 65536 }
+    requires workers { 1 ≤ workers }
+    ensures { IfOk result (λ x. (D.rests x.1).is_honest → (e : Store) × PlanDesk
+        (λ r w. record { unread = R.remaining r; turns = R.turns r; failed_reads = R.failures r; written = W.contents w; failed_writes = W.failures w })
+        (λ a. traffic A.gives A.takes_back A.Reader.Source A.Writer.Sink a) workers
+        (D.disk device).faults (D.rests x.1).faults (version_2, new_desk) lives.items x.0.items e) }
+{
+    let mut first = device;
+    match format(alloc, &mut first, journal_pages) {
+        Ok(()) => {}
+        Err(e) => return Err(e),
+    }
+    match live_on::<R, W, A, D, G, T>(rt, alloc, first.stop(), workers, gate, lives) {
+        Ok(lived) => Ok(lived),
+        Err(_) => Err(FormatError::Memory),
+    }
+}
