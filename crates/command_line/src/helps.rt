@@ -84,9 +84,9 @@ Statuses:
 To read: docs/OPERATE.md (how full a store is), docs/FAULTS.md.";
 
 pub(crate) const VERIFY_HELP: &str =
-    "It prints 'sound yes' where each row is that of a desk: counts are those of the plans that hold a chunk, chunks are as long as
-their counties, and nothing is there that no plan names. Else it tells what is wrong, and with which row: its key, two digits a byte.
-Nothing in the store changes.
+    "It prints 'sound yes' where each page is free or in the tree, and each row is that of a desk: counts are those of the plans that
+hold a chunk, chunks are as long as their counties, and nothing is there that no plan names. Else it tells what is wrong, and with
+which page, or with which row: its key, two digits a byte. Nothing in the store changes.
 
 Example, of a copy:
   ./plandesk verify state.copy

@@ -278,7 +278,7 @@ static LAST: [Subcommand; 6] = [
     },
     Subcommand {
         name: "verify",
-        about: "Reads all rows of a store, and tells whether it is one that a desk leaves",
+        about: "Reads all pages and rows of a store, and tells whether it is one that a desk leaves",
         after: VERIFY_HELP,
         entries: VERIFY,
     },

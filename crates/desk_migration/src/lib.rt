@@ -8,7 +8,7 @@
 //! # Notes
 //!
 //! A stopped migration is begun anew, and keeps the rows that are there. The store keeps its desk all along
-//! (`Rattle.desk_migration.specs.Migrating.Keeps`). Each image that a stop may leave opens to it: in version 1 up to `finish`, in either
+//! (`Keeps`). Each image that a stop may leave opens to it: in version 1 up to `finish`, in either
 //! within it, and in version 2 after it.
 //!
 //! # Example

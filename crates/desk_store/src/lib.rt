@@ -13,7 +13,7 @@
 //!
 //! A `Clerk` keeps the desk in the pages of a device and shows it from a catalogue in memory. `format` makes a device a store of version 2,
 //! which `Clerk::open` takes alone. `Clerk::begin_load`, `load_batch` and `seal` load a geography, `prepare` and `Ready::commit` do a
-//! command, and `sweep_step` takes out what is left over. `desk_of` is in `Rattle.desk_store.specs.Clerks`.
+//! command, and `sweep_step` takes out what is left over. `desk_of` is in `specs/`.
 //!
 //! # Example
 //!

@@ -84,7 +84,7 @@ is_plan_role role = bytes_eq role (codes "plan") || bytes_eq role (codes "senate
 abbrev pub is_command : List ℕ → Bool
 is_command role = bytes_eq role (codes "check") || bytes_eq role (codes "explain") || bytes_eq role (codes "format") || bytes_eq role (codes "load")
     || bytes_eq role (codes "migrate") || bytes_eq role (codes "serve") || bytes_eq role (codes "stat") || bytes_eq role (codes "sweep")
-    || bytes_eq role (codes "talk")
+    || bytes_eq role (codes "talk") || bytes_eq role (codes "verify")
 
 -- a command that makes or changes a store and then prints what it did
 abbrev pub is_store_command : List ℕ → Bool

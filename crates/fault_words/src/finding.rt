@@ -37,6 +37,7 @@ fn is_command(role: &[u8]) -> bool
         || role == b"stat".as_slice()
         || role == b"sweep".as_slice()
         || role == b"talk".as_slice()
+        || role == b"verify".as_slice()
 }
 
 /// Whether it is a command that makes or changes a store and then prints what it did.

@@ -149,7 +149,7 @@ pub(crate) static REQUESTS: [FaultRow; 17] = [
         "Full",
         "507",
         "the store has no room for the change",
-        "delete plans, stop the desk and `sweep` the store; or make a larger one, with more journal pages where a change asks for more pages than the journal has",
+        "delete plans, and ask again later: `serve` sweeps beside commands; or make a larger store, with more journal pages where a change asks for more pages than the journal has",
     ),
     (
         "Memory",

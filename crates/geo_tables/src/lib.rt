@@ -8,7 +8,7 @@
 //! # Notes
 //!
 //! A load is begun, its rows are staged by `load_batch`, and once all of them are staged it is sealed, each by a commit of its own. Until
-//! then the desk has no geography (`Rattle.geo_tables.specs.Loading.HoldsLoad`). `sealed_geography` reads what is sealed.
+//! then the desk has no geography (`HoldsLoad`). `sealed_geography` reads what is sealed.
 //!
 //! # Example
 //!

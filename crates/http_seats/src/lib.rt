@@ -4,7 +4,7 @@
 //! with all that the seat had heard of. The list is what it has heard of then, with an accepted command after it. Each call says what it
 //! counts, and in the end there are as many changes as seats told as accepted (`AreCounted`). `serve_many`: each stream that is counted was
 //! given to a worker, served at its seat along one list that grows, and taken back as it was left (`IsTalkedTo`); each worker asked until
-//! none was given to it (`HasWorked`). The office is closed in the end. Its commands are those along which streams were answered, each
+//! none was given to it (`HasWorked`). The office is closed. Its commands are those along which streams were answered, each
 //! asked for in a given stream's bytes (`HasServed`, `IsAskedOf`). No clause says that a waiting stream is taken.
 #![tactic(auto)]
 

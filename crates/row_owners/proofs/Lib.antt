@@ -1,2 +1,4 @@
 pub mod Whole
 mod KeyBytes
+mod KindBytes
+mod Belonging

@@ -1,6 +1,5 @@
 -- All rows say what they are.
-use Rattle.std.proofs.Common.{◌≡◌, ℕ, List, [], ◌∷◌, ◌++◌, Bool, true, false, cond, length, nat_eq, Some, None, refl, sym, ap, subst, ◌∙◌}
-use Rattle.std.specs.Prelude.{Option}
+use Rattle.std.proofs.Common.{◌≡◌, ℕ, List, [], ◌∷◌, ◌++◌, Bool, true, cond, length, nat_eq, Some, refl, sym, ap, subst, ◌∙◌}
 use Rattle.std.specs.List.{starts_with}
 use Rattle.std.specs.Ordering.{eq_by_cmp}
 use Rattle.std.specs.FinMap.{entries, find, get, get-entries}
@@ -14,7 +13,7 @@ use Rattle.store_rows.specs.Tidy.{Tidy}
 use Rattle.store_rows.proofs.Frames.{is_equal, same_key}
 use Rattle.store_rows.proofs.OneGeography.{no_value, value_is}
 use Rattle.store_check.proofs.Scanned.{either_way}
-use Rattle.row_owners.specs.Wholes.{AllSay, AreWhole, IsRowOf, IsWhole, SaysSo}
+use Rattle.row_owners.specs.Wholes.{AllSay, AreWhole, IsWhole, SaysSo}
 
 -- ---- rows of a tidy map say so
 says_so : (m : KeyMap) → Tidy m → (row : RowKey) (value : List ℕ) → Fits row → Has m row value → SaysSo row value
@@ -45,7 +44,7 @@ under_all : (es : List Entry) → under [] es ≡ es
 under_all [] = refl
 under_all (e ∷ es) = ap (λ (b : Bool). cond b (e ∷ under [] es) (under [] es)) (all_under e.0) ∙ ap (λ (l : List Entry). e ∷ l) (under_all es)
 
-get_is : (m : KeyMap) (key : List ℕ) → get m key ≡ find key_cmp key (under [] (entries m))
+pub get_is : (m : KeyMap) (key : List ℕ) → get m key ≡ find key_cmp key (under [] (entries m))
 get_is m key = get-entries m key ∙ sym (find_under [] key (entries m) (all_under key))
 
 -- ---- rows, one after the other

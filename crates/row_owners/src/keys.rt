@@ -17,7 +17,7 @@ pub(crate) fn eight(bytes: &[u8]) -> u64
 }
 
 /// The number of 4 bytes, the highest first.
-fn four(bytes: &[u8]) -> u32
+pub(crate) fn four(bytes: &[u8]) -> u32
     requires { length bytes.now ≡ 4 }
     ensures bytes { in_four result ≡ bytes.now }
     ensures fits { result < 2 ^ 32 }
@@ -26,7 +26,7 @@ fn four(bytes: &[u8]) -> u32
 }
 
 /// The number of 2 bytes, the highest first.
-fn two(bytes: &[u8]) -> u16
+pub(crate) fn two(bytes: &[u8]) -> u16
     requires { length bytes.now ≡ 2 }
     ensures bytes { in_two result ≡ bytes.now }
     ensures fits { result < 2 ^ 16 }

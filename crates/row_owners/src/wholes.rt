@@ -1,15 +1,21 @@
-//! Checks that each row's key is that of a row, and that parts of revisions and pieces of chunks say what they have.
+//! Checks that each row's key is that of a row, that parts of revisions and pieces of chunks say what they have, and that rows belong to
+//! their store.
 ghost use Rattle.std.specs.Prelude.{◌≡◌, ◌<◌, ◌^◌, true, false, OnOk, IfOk, IfErr};
 ghost use Rattle.page_store.specs.Transactions.{stored, disk_in, count_of, txn_pages, IsQuiet, Passed};
 ghost use Rattle.page_btree.specs.Map.{InTxn};
 ghost use Rattle.row_table.specs.Reading.{ReadErr};
 ghost use Rattle.store_rows.specs.Rows.{KeyMap};
 ghost use Rattle.store_rows.specs.Tidy.{IsPart, IsPiece};
-ghost use Rattle.row_owners.specs.Wholes.{AllSay, AreWhole, IsRowOf, IsWhole};
+ghost use Rattle.row_owners.specs.Strays.{IsChecked, IsJudged};
+ghost use Rattle.row_owners.specs.Wholes.{AllSay, IsRowOf, IsWhole};
 
+use crate::hints::Hints;
 use crate::keys::{is_piece_key, is_place};
+use crate::strays::judge;
+use crate::wrong::{Wrong, WrongRow};
 use btree_scan::{Row, Scan, row_limit};
 use command_progress::Progress;
+use desk_model::cuts::Cut;
 use page_store::{Pages, Txn};
 use row_table::TreeError;
 use sector_device::SectorDevice;
@@ -55,17 +61,56 @@ fn is_whole(row: &Row) -> bool
     }
 }
 
-/// Reads all rows: how many there are. Refuses one whose key is that of none, and a part or a piece that doesn't say what it has.
-/// `progress` hears of each row.
-pub fn check_whole<D: SectorDevice, P: Progress>(
+/// What was found of all rows: how many there are, or the first that doesn't belong to the store, with no count.
+#[derive(Drop)]
+pub struct Checked {
+    pub rows: u64,
+    pub stray: Option<WrongRow>,
+}
+
+/// What is wrong with a row, if anything is. Refuses one whose key is that of none, and a part or a piece that doesn't say what it has.
+fn check_row<D: SectorDevice>(
     txn: &Txn,
     pages: &mut Pages<D>,
-    progress: &mut P,
-) -> Result<u64, TreeError>
+    cuts: &[Cut],
+    hints: &Hints,
+    row: &Row,
+) -> Result<Option<Wrong>, TreeError>
     requires begun { txn_pages txn.now ≡ count_of pages.old }
     ensures quiet { IsQuiet pages.old pages.new }
     ensures passed { OnOk result (Passed pages.old pages.new) }
-    ensures whole { (disk_in pages.new).is_honest → (m : KeyMap) → InTxn txn.now (stored pages.old) m → IfOk result (λ rows. AreWhole rows m) }
+    ensures whole { OnOk result (IsWhole (row.now.key, row.now.value)) }
+    ensures judged { (disk_in pages.new).is_honest → (m : KeyMap) → InTxn txn.now (stored pages.old) m
+        → IfOk result (λ wrong. IsJudged wrong cuts.now (row.now.key, row.now.value) m) }
+    ensures err { IfErr result (λ e. ReadErr (λ m. IsRowOf (row.now.key, row.now.value)) txn.now pages.old pages.new e) }
+{
+    if !is_whole(row) {
+        return Err(TreeError::DeviceFault);
+    }
+    judge(
+        txn,
+        pages,
+        cuts,
+        hints,
+        row.key.as_slice(),
+        row.value.as_slice(),
+    )
+}
+
+/// Reads all rows, up to the first that doesn't belong to the store: how many there are. `cuts` are the counties. Refuses one whose key
+/// is that of none, and a part or a piece that doesn't say what it has. `progress` hears of each row.
+pub fn check_rows<D: SectorDevice, P: Progress>(
+    txn: &Txn,
+    pages: &mut Pages<D>,
+    cuts: &[Cut],
+    hints: &Hints,
+    progress: &mut P,
+) -> Result<Checked, TreeError>
+    requires begun { txn_pages txn.now ≡ count_of pages.old }
+    ensures quiet { IsQuiet pages.old pages.new }
+    ensures passed { OnOk result (Passed pages.old pages.new) }
+    ensures checked { (disk_in pages.new).is_honest → (m : KeyMap) → InTxn txn.now (stored pages.old) m
+        → IfOk result (λ checked. IsChecked checked.stray checked.rows cuts.now m) }
     ensures err { IfErr result (λ e. ReadErr AllSay txn.now pages.old pages.new e) }
 {
     let mut scan = Scan::new(&[]);
@@ -73,12 +118,26 @@ pub fn check_whole<D: SectorDevice, P: Progress>(
     for taken in 0..row_limit(txn) {
         if !scan.next(txn, pages, &mut row) {
             match scan.fault() {
-                None => return Ok(taken),
+                None => {
+                    return Ok(Checked {
+                        rows: taken,
+                        stray: None,
+                    });
+                }
                 Some(fault) => return Err(fault),
             }
         }
-        if !is_whole(&row) {
-            return Err(TreeError::DeviceFault);
+        match check_row(txn, pages, cuts, hints, &row)? {
+            None => {}
+            Some(wrong) => {
+                return Ok(Checked {
+                    rows: 0,
+                    stray: Some(WrongRow {
+                        wrong,
+                        key: row.key,
+                    }),
+                });
+            }
         }
         progress.note(taken);
     }

@@ -10,7 +10,7 @@
 //! # Notes
 //!
 //! A row is a key and a value, each a list of bytes, and a store's rows are a finite map from keys to values
-//! (`Rattle.store_rows.specs.Rows.KeyMap`). `Key` makes the keys; the calls named after a kind of row write its value and read it back.
+//! (`KeyMap`). `Key` makes the keys; the calls named after a kind of row write its value and read it back.
 //! What a map of rows says (its geography, its chunks and revisions, its desk) is defined in specs/. The laws of it are for the crates that
 //! put and remove rows.
 //!

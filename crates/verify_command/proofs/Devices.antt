@@ -1,6 +1,6 @@
 -- A device whose store is verified.
-use Rattle.std.proofs.Common.{◌≡◌, ◌⊎◌, ◌+◌, ℕ, Bool, true, false, inl, inr, refl, sym, ap, subst, ◌∙◌, arith}
-use Rattle.std.specs.Prelude.{Option, Some, None, Result, Ok, Err, IfOk, IfErr, IfSome}
+use Rattle.std.proofs.Common.{◌≡◌, ◌+◌, ℕ, Bool, true, false, refl, sym, ap, subst, ◌∙◌, arith}
+use Rattle.std.specs.Prelude.{Option, Some, None, Result, Ok, Err, IfOk, IfErr}
 use Rattle.sector_device.specs.Disk.{Disk, Image, IsSynced}
 use Rattle.sector_device.specs.Moments.{LeavesOnly}
 use Rattle.sector_device.specs.declared.SectorDevice.{Ghosts}
@@ -21,7 +21,7 @@ use Rattle.page_owners.specs.declared.error.PagesError.{PagesError}
 use Rattle.page_owners.specs.declared.error.PagesError.TheVariants as owners
 use Rattle.store_rows.specs.Rows.{KeyMap}
 use Rattle.desk_model.specs.Desk.{Desk}
-use Rattle.desk_pages.specs.Desks.{HoldsDeskOf, InPages as HoldsDesk}
+use Rattle.desk_pages.specs.Desks.{HoldsDeskOf, InPages as HoldsDesk, InTxn as ReadsIn}
 use Rattle.store_command.specs.Reading.{ReadsDesk}
 use Rattle.desk_runs.specs.Recovery.{ImagesAreOne}
 use Rattle.desk_pages.specs.Openings.{LeavesOneOf, OpensOneOf}
@@ -32,19 +32,24 @@ use Rattle.store_command.specs.declared.fault.StoreFault.{StoreFault}
 use Rattle.store_command.specs.declared.fault.StoreFault.TheVariants.{NotFound, WrongSize, Exists, TooSmall, NotAStore, OldVersion, AlreadyNew, AlreadySealed, Full, DeviceFault, Memory}
 use Rattle.verify_command.specs.declared.refusal.Refusal.{Refusal}
 use Rattle.verify_command.specs.declared.verifying.Verified.{Verified}
-use Rattle.verify_command.specs.Sound.{HasSound}
-use Rattle.verify_command.specs.Verifying.{HoldsOwned, HoldsSound, IsFoundUnowned, IsLookedAt, IsRefused, IsStray, IsUnowned, IsUnsound, StrayOr, TellsPages, Unsound, VerifiesDevice, fault_of_page}
+use Rattle.row_owners.specs.Strays.{AllBelong}
+use Rattle.row_owners.specs.declared.wrong.WrongRow.{WrongRow}
+use Rattle.desk_opening.specs.Opening.{cuts_in}
+use Rattle.verify_command.specs.Sound.{HasSound, HasStray}
+use Rattle.verify_command.specs.Verifying.{HoldsOwned, HoldsSound, HoldsStray, IsFoundWrong, IsLookedAt, IsPart, IsRefused, IsUnsound, StrayOr, TellsPages, Unsound, VerifiesDevice, fault_of_page}
 
-pub no_page : (page : Option PageFault) (P : Type 0) → page ≡ None → IfSome page (λ _. P)
-no_page page P none = subst (λ (o : Option PageFault). IfSome o (λ _. P)) (sym none) tt
+-- ---- what is told of a part of the store, or for another reason
+told_part : (is : Bool) (fault : StoreFault) (P Q : Type 0) → is ≡ true → fault ≡ NotAStore → P → StrayOr is fault P Q
+told_part true fault P Q stray told has = (told, has)
+told_part false fault P Q stray told has = absurd (let clash : false ≡ true = stray in cc)
 
-any_page : (page : Option PageFault) (P : Type 0) → P → IfSome page (λ _. P)
-any_page None P has = tt
-any_page (Some fault) P has = has
+told_other : (is : Bool) (fault : StoreFault) (P Q : Type 0) → is ≡ false → Q → StrayOr is fault P Q
+told_other true fault P Q opens why = absurd (let clash : true ≡ false = opens in cc)
+told_other false fault P Q opens why = why
 
-map_page : (page : Option PageFault) (P Q : Type 0) → (P → Q) → IfSome page (λ _. P) → IfSome page (λ _. Q)
-map_page None P Q more has = tt
-map_page (Some fault) P Q more has = more has
+map_stray : (is : Bool) (fault : StoreFault) (P Q R S : Type 0) → (P → R) → (Q → S) → StrayOr is fault P Q → StrayOr is fault R S
+map_stray true fault P Q R S part other why = (why.0, part why.1)
+map_stray false fault P Q R S part other why = other why
 
 module _ {D : Type 0} {g : Ghosts D} where
   pub holds_sound : (t : Txn) (a b : Pages D g) (found : Verified) → IsBegun a t → IsQuiet a b → found.pages ≡ txn_pages t
@@ -54,16 +59,24 @@ module _ {D : Type 0} {g : Ghosts D} where
     sound = λ honest m holds. sound honest m (begun_rows a t m begun (quiet.honest honest) (rows_before a b m quiet honest holds));
   }
 
-module _ {D : Type 0} {g : Ghosts D} where
-  by_stray : (a b : Pages D g) (is : Bool) (fault : StoreFault) → (is ≡ true → fault ≡ NotAStore) → (is ≡ false → ((fault ≡ DeviceFault) × (has_halted b ≡ true)) ⊎ (fault ≡ Memory)) → StrayOr is fault (Unsound a b fault)
-  by_stray a b true fault stray other = stray refl
-  by_stray a b false fault stray other = elim (other refl) [
-    | inl failed ↦ subst (λ (f : StoreFault). Unsound a b f) (sym failed.0) failed.1
-    | inr memory ↦ subst (λ (f : StoreFault). Unsound a b f) (sym memory) tt
-  ]
+-- ---- a row that doesn't belong
+none_some : (row : WrongRow) → ◌≡◌ {A = Option WrongRow} None (Some row) → ⊥
+none_some row same = cc
 
-  pub stray_unsound : (a b : Pages D g) (refusal : Refusal) → IsStray b refusal → IsUnsound a b refusal
-  stray_unsound a b refusal is = (by_stray a b refusal.is_stray refusal.fault is.stray is.other, no_page refusal.page ((disk_in b).is_honest → AreOwned (count_of b) (stored b) → ⊥) is.whole)
+module _ {D : Type 0} {g : Ghosts D} where
+  pub holds_stray : (t : Txn) (a b : Pages D g) (row : WrongRow) (found : Option WrongRow) → found ≡ Some row → IsBegun a t → IsQuiet a b
+      → ((disk_in b).is_honest → (m : KeyMap) → InTxn t (stored a) m → HasStray m row.key)
+      → ((disk_in b).is_honest → (d : Desk) (h : ReadsIn t (stored a) d) → AllBelong (cuts_in d.geography) h.m → found ≡ None) → HoldsStray b row
+  holds_stray t a b row found is begun quiet stray right = record {
+    stray = λ honest m holds. stray honest m (begun_rows a t m begun (quiet.honest honest) (rows_before a b m quiet honest holds));
+    unfit = λ honest d h belong. none_some row (sym (right honest d
+        (record { m = h.m; holds = begun_rows a t h.m begun (quiet.honest honest) (rows_before a b h.m quiet honest h.holds); is = h.is }) belong) ∙ is);
+  }
+
+  pub of_unsound : (a b : Pages D g) (refusal : Refusal) (fault : StoreFault) → refusal.fault ≡ fault → refusal.is_stray ≡ false → refusal.page ≡ None → Unsound a b fault → IsUnsound a b refusal
+  of_unsound a b refusal fault told opens whole why =
+      told_other refusal.is_stray refusal.fault (IsPart b refusal.page refusal.row) (Unsound a b refusal.fault × (refusal.page ≡ None)) opens
+      (subst (λ (f : StoreFault). Unsound a b f) (sym told) why, whole)
 
   -- ---- pages that were looked at before
   desk_after : (a b : Pages D g) (d : Desk) → IsQuiet a b → (disk_in b).is_honest → HoldsDesk a d → HoldsDesk b d
@@ -90,13 +103,11 @@ module _ {D : Type 0} {g : Ghosts D} where
   unsound_after a b c DeviceFault first then why = why
   unsound_after a b c Memory first then why = why
 
-  stray_after : (a b c : Pages D g) (is : Bool) (fault : StoreFault) → IsQuiet a b → IsQuiet b c → StrayOr is fault (Unsound b c fault) → StrayOr is fault (Unsound a c fault)
-  stray_after a b c true fault first then why = why
-  stray_after a b c false fault first then why = unsound_after a b c fault first then why
-
   pub then_unsound : (a b c : Pages D g) (result : Result Verified Refusal) → IsQuiet a b → IsQuiet b c → IfErr result (λ r. IsUnsound b c r) → IfErr result (λ r. IsUnsound a c r)
   then_unsound a b c (Ok v) first then why = why
-  then_unsound a b c (Err r) first then why = (stray_after a b c r.is_stray r.fault first then why.0, why.1)
+  then_unsound a b c (Err r) first then why =
+      map_stray r.is_stray r.fault (IsPart c r.page r.row) (Unsound b c r.fault × (r.page ≡ None)) (IsPart c r.page r.row) (Unsound a c r.fault × (r.page ≡ None))
+      (λ part. part) (λ other. (unsound_after a b c r.fault first then other.0, other.1)) why
 
   pub then_owned : (a b c : Pages D g) (result : Result Verified Refusal) → IsQuiet a b → IsQuiet b c → ((disk_in b).is_honest → AreOwned (count_of a) (stored a)) → IfOk result (λ v. HoldsSound c v) → IfOk result (λ v. HoldsOwned c v)
   then_owned a b c (Err r) first then owned sound = sound
@@ -105,36 +116,20 @@ module _ {D : Type 0} {g : Ghosts D} where
     owned = λ honest. owned_after a c (quiet_more a b c first then) honest (owned (then.honest honest));
   }
 
-  told_stray : (a b : Pages D g) (is : Bool) (fault : StoreFault) → is ≡ true → fault ≡ NotAStore → StrayOr is fault (Unsound a b fault)
-  told_stray a b true fault stray told = told
-  told_stray a b false fault stray told = absurd (let clash : false ≡ true = stray in cc)
-
-  told_fault : (a b : Pages D g) (is : Bool) (fault wanted : StoreFault) → is ≡ false → fault ≡ wanted → Unsound a b wanted → StrayOr is fault (Unsound a b fault)
-  told_fault a b true fault wanted opens told why = absurd (let clash : true ≡ false = opens in cc)
-  told_fault a b false fault wanted opens told why = subst (λ (f : StoreFault). Unsound a b f) (sym told) why
-
   pub pages_told : (a b : Pages D g) (e : PagesError) (refusal : Refusal) → has_halted a ≡ false → IsQuiet a b → TellsPages e refusal → CheckErr (AreOwned (count_of a) (stored a)) a b e → IsUnsound a b refusal
-  pages_told a b (owners.Unsound page) refusal working quiet told why = (
-    told_stray a b refusal.is_stray refusal.fault told.0 told.1,
-    any_page refusal.page ((disk_in b).is_honest → AreOwned (count_of b) (stored b) → ⊥) (λ honest owned. why honest (owned_before a b quiet honest owned)),
-  )
-  pages_told a b owners.DeviceFault refusal working quiet told why = (
-    told_fault a b refusal.is_stray refusal.fault DeviceFault told.0 told.1 why.halted,
-    no_page refusal.page ((disk_in b).is_honest → AreOwned (count_of b) (stored b) → ⊥) told.2,
-  )
+  pages_told a b (owners.Unsound page) refusal working quiet told why =
+      told_part refusal.is_stray refusal.fault (IsPart b refusal.page refusal.row) (Unsound a b refusal.fault × (refusal.page ≡ None)) told.0 told.1
+      (subst (λ (o : Option PageFault). IsPart b o refusal.row) (sym told.2) (λ honest owned. why honest (owned_before a b quiet honest owned)))
+  pages_told a b owners.DeviceFault refusal working quiet told why = of_unsound a b refusal DeviceFault told.1 told.0 told.2 why.halted
   pages_told a b owners.Halted refusal working quiet told why = absurd (let clash : true ≡ false = sym why ∙ working in cc)
-  pages_told a b owners.Memory refusal working quiet told why = (
-    told_fault a b refusal.is_stray refusal.fault Memory told.0 told.1 tt,
-    no_page refusal.page ((disk_in b).is_honest → AreOwned (count_of b) (stored b) → ⊥) told.2,
-  )
+  pages_told a b owners.Memory refusal working quiet told why = of_unsound a b refusal Memory told.1 told.0 told.2 tt
 
 module _ {D : Type 0} (g : Ghosts D) where
-  unstray : (device left : D) (is : Bool) (fault : StoreFault) → is ≡ false → IsRefused g device left fault → StrayOr is fault (IsRefused g device left fault)
-  unstray device left true fault opens why = let clash : true ≡ false = opens in absurd (cc)
-  unstray device left false fault opens why = why
-
-  pub unopened : (device left : D) (refusal : Refusal) (fault : StoreFault) → refusal.fault ≡ fault → refusal.is_stray ≡ false → IsRefused g device left fault → StrayOr refusal.is_stray refusal.fault (IsRefused g device left refusal.fault)
-  unopened device left refusal fault same opens why = unstray device left refusal.is_stray refusal.fault opens (subst (λ (f : StoreFault). IsRefused g device left f) (sym same) why)
+  pub unopened : (device left : D) (refusal : Refusal) (fault : StoreFault) → refusal.fault ≡ fault → refusal.is_stray ≡ false → refusal.page ≡ None → IsRefused g device left fault
+      → StrayOr refusal.is_stray refusal.fault (IsFoundWrong g device left refusal.page refusal.row) (IsRefused g device left refusal.fault × (refusal.page ≡ None))
+  unopened device left refusal fault same opens whole why =
+      told_other refusal.is_stray refusal.fault (IsFoundWrong g device left refusal.page refusal.row) (IsRefused g device left refusal.fault × (refusal.page ≡ None)) opens
+      (subst (λ (f : StoreFault). IsRefused g device left f) (sym same) why, whole)
 
 module _ {D : Type 0} (g : Ghosts D) (law : ImagesAreOne) (device : D) (synced : IsSynced (g.disk device)) where
   abbrev old : Disk
@@ -185,17 +180,13 @@ module _ {D : Type 0} (g : Ghosts D) (law : ImagesAreOne) (device : D) (synced :
     looked : IsLookedAt g device (device_in a) → LeavesOneOf old (disk_in a) → IsLookedAt g device (device_in b)
     looked first leaves = looked_at (device_in b) (same_sectors ∙ first.sectors) (λ honest. first.honest (quiet.honest honest)) (λ honest all. leaves_quiet a b quiet honest (OpensOneOf old) old (leaves (quiet.honest honest) all))
 
-    stray_or : (is : Bool) (fault : StoreFault) → StrayOr is fault (Unsound a b fault) → StrayOr is fault (IsRefused g device (device_in b) fault)
-    stray_or true fault why = why
-    stray_or false fault why = refused fault why
-
-    unowned : (refusal : Refusal) → IsUnowned b refusal → IfSome refusal.page (λ page. IsFoundUnowned g device (device_in b))
-    unowned refusal none = map_page refusal.page ((disk_in b).is_honest → AreOwned (count_of b) (stored b) → ⊥) (IsFoundUnowned g device (device_in b))
-        (λ not. record { ps = b; back = refl; found = λ honest. found_after old a b found quiet honest; unowned = not }) none
-
     told : (result : Result Verified Refusal) → IsLookedAt g device (device_in b) → IfOk result (λ v. HoldsOwned b v) → IfErr result (λ r. IsUnsound a b r) → VerifiesDevice g device result (device_in b)
     told (Ok v) look sound why = (look, record { ps = b; back = refl; found = λ honest. found_after old a b found quiet honest; sound = sound })
-    told (Err r) look sound why = (look, stray_or r.is_stray r.fault why.0, unowned r why.1)
+    told (Err r) look sound why = (
+      look,
+      map_stray r.is_stray r.fault (IsPart b r.page r.row) (Unsound a b r.fault × (r.page ≡ None)) (IsFoundWrong g device (device_in b) r.page r.row) (IsRefused g device (device_in b) r.fault × (r.page ≡ None))
+          (λ part. record { ps = b; back = refl; found = λ honest. found_after old a b found quiet honest; wrong = part }) (λ other. (refused r.fault other.0, other.1)) why,
+    )
 
     pub verified : (result : Result Verified Refusal) (left : D) → left ≡ device_in b → IsLookedAt g device (device_in a) → LeavesOneOf old (disk_in a)
         → IfOk result (λ v. HoldsOwned b v) → IfErr result (λ r. IsUnsound a b r) → VerifiesDevice g device result left

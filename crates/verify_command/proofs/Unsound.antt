@@ -1,5 +1,6 @@
 -- Why rows aren't found to be a desk's.
-use Rattle.std.proofs.Common.{◌≡◌, Bool, true, false, inl, inr, sym, ap, subst, ◌∙◌}
+use Rattle.std.proofs.Common.{◌≡◌, ℕ, List, Bool, true, false, inl, inr, refl, sym, ap, subst, ◌∙◌}
+use Rattle.std.specs.Prelude.{Option, Some, None, is_some}
 use Rattle.sector_device.specs.Disk.{Image}
 use Rattle.sector_device.specs.declared.SectorDevice.{Ghosts}
 use Rattle.gate_journal.specs.Contents.{is_halted}
@@ -11,20 +12,24 @@ use Rattle.page_btree.specs.Map.{InTxn as HasRows}
 use Rattle.page_btree.specs.declared.error.TreeError.{TreeError}
 use Rattle.page_btree.specs.declared.error.TreeError.TheVariants as tree
 use Rattle.desk_model.specs.Desk.{Desk}
-use Rattle.store_rows.specs.Keys.{in_four}
-use Rattle.store_rows.specs.Rows.{KeyMap}
+use Rattle.store_rows.specs.Keys.{in_four, version}
+use Rattle.store_rows.specs.Rows.{KeyMap, Has}
 use Rattle.store_rows.proofs.OneGeography.{no_value}
 use Rattle.row_table.specs.Reading.{ReadErr}
 use Rattle.store_holdings.specs.Checks.{IsNewTidy, CheckErr as HoldingsErr}
 use Rattle.desk_pages.specs.Desks.{InTxn}
-use Rattle.desk_opening.specs.Opening.{HasVersion, OpenErr}
+use Rattle.desk_opening.specs.Opening.{HasVersion, IsReadFrom, OpenErr, cuts_in}
 use Rattle.desk_store.proofs.Opened.{new_tells}
 use Rattle.desk_store.proofs.Prepared.{IsBegun, begun_reads}
+use Rattle.desk_model.specs.declared.cuts.Cut.{Cut}
+use Rattle.store_holdings.specs.Checks.{AreSoundHoldings}
+use Rattle.row_owners.specs.Strays.{AllBelong, IsChecked, IsStray}
+use Rattle.row_owners.specs.declared.wrong.WrongRow.{WrongRow}
 use Rattle.row_owners.specs.Wholes.{AllSay}
 use Rattle.row_owners.proofs.Whole.{all_say}
 use Rattle.store_command.specs.declared.fault.StoreFault.{StoreFault}
 use Rattle.store_command.specs.declared.fault.StoreFault.TheVariants.{NotFound, WrongSize, Exists, TooSmall, NotAStore, OldVersion, AlreadyNew, AlreadySealed, Full, DeviceFault, Memory}
-use Rattle.verify_command.specs.Sound.{CheckErr, OldIn, UnsoundIn, fault_of_tree, none_or_fault}
+use Rattle.verify_command.specs.Sound.{CheckErr, IsFoundAs, IsSoundAs, OldIn, UnsoundIn, fault_of_tree, none_or_fault}
 use Rattle.verify_command.specs.Verifying.{Unsound}
 
 module _ {D : Type 0} {g : Ghosts D} where
@@ -145,3 +150,25 @@ module _ {D : Type 0} {g : Ghosts D} where
   pages_unsound t a b c Full begun first then why = why
   pages_unsound t a b c DeviceFault begun first then why = ap (λ j. is_halted j) (then.still why) ∙ why
   pages_unsound t a b c Memory begun first then why = tt
+
+-- ---- what is found of rows beside the counties of the desk that is read
+module _ (m : KeyMap) (d : Desk) (cuts : List Cut) (same : cuts ≡ cuts_in d.geography) where
+  -- a row that doesn't belong
+  pub found_stray : (found : Option WrongRow) (rows : ℕ) → is_some found ≡ true → IsReadFrom m d → IsChecked found rows cuts m → IsFoundAs found rows m
+  found_stray None rows some read is = absurd (let clash : false ≡ true = some in cc)
+  found_stray (Some row) rows some read is = (d, read, subst (λ (l : List Cut). IsStray l m row.key) same is)
+
+  -- none
+  pub found_as : (found : Option WrongRow) (rows : ℕ) → is_some found ≡ false → IsReadFrom m d → AreSoundHoldings m → IsChecked found rows cuts m → IsFoundAs found rows m
+  found_as None rows none read holdings is = (d, record { read = read; whole = is.0; belong = subst (λ (l : List Cut). AllBelong l m) same is.1; holdings = holdings })
+  found_as (Some row) rows none read holdings is = absurd (let clash : true ≡ false = none in cc)
+
+  -- where all rows belong, none is told
+  pub not_stray : (found : Option WrongRow) (rows : ℕ) → AllBelong (cuts_in d.geography) m → IsChecked found rows cuts m → found ≡ None
+  not_stray None rows belong is = refl
+  not_stray (Some row) rows belong is = absurd (let all : AllBelong cuts m = subst (λ (l : List Cut). AllBelong l m) (sym same) belong in is.3.2 (all is.0 is.3.0 is.1 is.3.1))
+
+-- in the new version
+pub sound_as : (m : KeyMap) (found : Option WrongRow) (rows : ℕ) → Has m version (in_four 2) → IsFoundAs found rows m → IsSoundAs found rows m
+sound_as m None rows new is = (is.0, record { version = new; read = is.1.read; whole = is.1.whole; belong = is.1.belong; holdings = is.1.holdings })
+sound_as m (Some row) rows new is = is

@@ -1,5 +1,5 @@
 -- Rows that a desk leaves.
-use Rattle.std.specs.Prelude.{◌≡◌, ◌⊎◌, ℕ, Bool, true, false}
+use Rattle.std.specs.Prelude.{◌≡◌, ◌⊎◌, ℕ, Bool, true, false, List, Option, Some, None}
 use Rattle.sector_device.specs.declared.SectorDevice.{Ghosts}
 use Rattle.desk_model.specs.Desk.{Desk}
 use Rattle.page_store.specs.Transactions.{disk_in, has_halted, stored, HasFailed}
@@ -11,18 +11,22 @@ use Rattle.page_btree.specs.declared.error.TreeError.TheVariants as tree
 use Rattle.store_rows.specs.Keys.{version, in_four}
 use Rattle.store_rows.specs.Rows.{KeyMap, Has, Lacks}
 use Rattle.store_holdings.specs.Checks.{AreSoundHoldings}
-use Rattle.desk_opening.specs.Opening.{HasVersion, IsReadFrom}
+use Rattle.desk_opening.specs.Opening.{HasVersion, IsReadFrom, cuts_in}
 use Rattle.desk_pages.specs.Desks.{InTxn}
 use Rattle.store_command.specs.declared.fault.StoreFault.{StoreFault}
 use Rattle.store_command.specs.declared.fault.StoreFault.TheVariants.{NotFound, WrongSize, Exists, TooSmall, NotAStore, OldVersion, AlreadyNew, AlreadySealed, Full, DeviceFault, Memory}
 use Rattle.row_owners.specs.Wholes.{AreWhole}
+use Rattle.row_owners.specs.Strays.{AllBelong, IsStray}
+use Rattle.row_owners.specs.declared.wrong.WrongRow.{WrongRow}
 
 -- The rows tell the new version; what an opening reads of them is this desk; each key is that of a row, and each part and piece says what
--- it has; each chunk's count is that of the plans that hold it, and a plan that is there holds what it names. They are so many.
+-- it has; each row belongs to its store; each chunk's count is that of the plans that hold it, and a plan that is there holds what it
+-- names. They are so many.
 pub record IsSound (rows : ℕ) (m : KeyMap) (d : Desk) : Type 0 where
   pub version : Has m version (in_four 2)
   pub read : IsReadFrom m d
   pub whole : AreWhole rows m
+  pub belong : AllBelong (cuts_in d.geography) m
   pub holdings : AreSoundHoldings m
 
 -- and it is those of some desk
@@ -33,10 +37,22 @@ HasSound rows m = (d : Desk) × IsSound rows m d
 pub record IsFoundSo (rows : ℕ) (m : KeyMap) (d : Desk) : Type 0 where
   pub read : IsReadFrom m d
   pub whole : AreWhole rows m
+  pub belong : AllBelong (cuts_in d.geography) m
   pub holdings : AreSoundHoldings m
 
-abbrev pub HasFoundSo : ℕ → KeyMap → Type 0
-HasFoundSo rows m = (d : Desk) × IsFoundSo rows m d
+-- what is read of the rows is a desk, and the row with this key doesn't belong beside its geography
+abbrev pub HasStray : KeyMap → List ℕ → Type 0
+HasStray m key = (d : Desk) × IsReadFrom m d × IsStray (cuts_in d.geography) m key
+
+-- no row is told, and that was found; or this one is a stray
+abbrev pub IsFoundAs : Option WrongRow → ℕ → KeyMap → Type 0
+IsFoundAs None rows m = (d : Desk) × IsFoundSo rows m d
+IsFoundAs (Some row) rows m = HasStray m row.key
+
+-- the same of sound rows
+abbrev pub IsSoundAs : Option WrongRow → ℕ → KeyMap → Type 0
+IsSoundAs None rows m = HasSound rows m
+IsSoundAs (Some row) rows m = HasStray m row.key
 
 -- rows that aren't found to be a desk's are none where the device didn't fail
 abbrev pub none_or_fault : Bool → StoreFault

@@ -1,5 +1,5 @@
 -- A store that is verified.
-use Rattle.std.specs.Prelude.{◌≡◌, ◌⊎◌, ◌<◌, ℕ, Bool, true, false, List, codes, None, Result, Ok, Err, IfSome, Vec}
+use Rattle.std.specs.Prelude.{◌≡◌, ◌⊎◌, ◌<◌, ℕ, Bool, true, false, List, codes, Option, Some, None, Result, Ok, Err, Vec}
 use Rattle.std.specs.declared.alloc.Global.{Global}
 use Rattle.sector_device.specs.declared.SectorDevice.{Ghosts}
 use Rattle.gate_journal.specs.Recovery.{Found}
@@ -23,7 +23,11 @@ use Rattle.store_command.specs.declared.fault.StoreFault.{StoreFault}
 use Rattle.store_command.specs.declared.fault.StoreFault.TheVariants.{NotFound, WrongSize, Exists, TooSmall, NotAStore, OldVersion, AlreadyNew, AlreadySealed, Full, DeviceFault, Memory}
 use Rattle.verify_command.specs.declared.refusal.Refusal.{Refusal}
 use Rattle.verify_command.specs.declared.verifying.Verified.{Verified}
-use Rattle.verify_command.specs.Sound.{HasSound}
+use Rattle.page_owners.specs.declared.error.PageFault.{PageFault}
+use Rattle.row_owners.specs.declared.wrong.WrongRow.{WrongRow}
+use Rattle.row_owners.specs.Strays.{AllBelong}
+use Rattle.desk_opening.specs.Opening.{cuts_in}
+use Rattle.verify_command.specs.Sound.{HasSound, HasStray}
 use Rattle.verify_command.specs.Texts.{verified_text, TellsRefusal}
 
 module _ {D : Type 0} {g : Ghosts D} where
@@ -51,28 +55,34 @@ module _ {D : Type 0} {g : Ghosts D} where
   Unsound old new DeviceFault = has_halted new ≡ true
   Unsound old new Memory = Unit {0}
 
--- a row is wrong where the desk opens, as far as rows are read one after the other: what this finds is tried; or a page is wrong
-abbrev pub StrayOr : Bool → StoreFault → Type 0 → Type 0
-StrayOr true fault other = fault ≡ NotAStore
-StrayOr false fault other = other
-
 module _ {D : Type 0} {g : Ghosts D} where
   -- a page that is told isn't what its owners make of it, or has other owners than one
-  abbrev pub IsUnowned : Pages D g → Refusal → Type 0
-  IsUnowned ps refusal = IfSome refusal.page (λ page. (disk_in ps).is_honest → AreOwned (count_of ps) (stored ps) → ⊥)
+  abbrev pub IsUnowned : Pages D g → Type 0
+  IsUnowned ps = (disk_in ps).is_honest → AreOwned (count_of ps) (stored ps) → ⊥
 
+  -- a row that is told is one of the rows that the pages hold, and doesn't belong; they hold no desk whose rows all belong
+  pub record HoldsStray (ps : Pages D g) (row : WrongRow) : Type 0 where
+    pub stray : (disk_in ps).is_honest → (m : KeyMap) → InPages ps m → HasStray m row.key
+    pub unfit : (disk_in ps).is_honest → (d : Desk) (h : HoldsDesk ps d) → AllBelong (cuts_in d.geography) h.m → ⊥
+
+  -- such a page or row
+  abbrev pub IsPart : Pages D g → Option PageFault → Option WrongRow → Type 0
+  IsPart ps (Some page) row = IsUnowned ps
+  IsPart ps None (Some row) = HoldsStray ps row
+  IsPart ps None None = ⊥
+
+-- the store is none for what is told; else for another reason
+abbrev pub StrayOr : Bool → StoreFault → (part other : Type 0) → Type 0
+StrayOr true fault part other = (fault ≡ NotAStore) × part
+StrayOr false fault part other = other
+
+module _ {D : Type 0} {g : Ghosts D} where
   abbrev pub IsUnsound : Pages D g → Pages D g → Refusal → Type 0
-  IsUnsound old new refusal = StrayOr refusal.is_stray refusal.fault (Unsound old new refusal.fault) × IsUnowned new refusal
-
-  -- what is told behind an opening: such a row, that the device failed, or want of memory
-  pub record IsStray (new : Pages D g) (refusal : Refusal) : Type 0 where
-    pub stray : refusal.is_stray ≡ true → refusal.fault ≡ NotAStore
-    pub other : refusal.is_stray ≡ false → ((refusal.fault ≡ DeviceFault) × (has_halted new ≡ true)) ⊎ (refusal.fault ≡ Memory)
-    pub whole : refusal.page ≡ None
+  IsUnsound old new refusal = StrayOr refusal.is_stray refusal.fault (IsPart new refusal.page refusal.row) (Unsound old new refusal.fault × (refusal.page ≡ None))
 
 -- what is told of pages that aren't found to be owned
 abbrev pub TellsPages : PagesError → Refusal → Type 0
-TellsPages (owners.Unsound page) refusal = (refusal.is_stray ≡ true) × (refusal.fault ≡ NotAStore)
+TellsPages (owners.Unsound page) refusal = (refusal.is_stray ≡ true) × (refusal.fault ≡ NotAStore) × (refusal.page ≡ Some page)
 TellsPages owners.DeviceFault refusal = (refusal.is_stray ≡ false) × (refusal.fault ≡ DeviceFault) × (refusal.page ≡ None)
 TellsPages owners.Halted refusal = (refusal.is_stray ≡ false) × (refusal.fault ≡ DeviceFault) × (refusal.page ≡ None)
 TellsPages owners.Memory refusal = (refusal.is_stray ≡ false) × (refusal.fault ≡ Memory) × (refusal.page ≡ None)
@@ -114,18 +124,18 @@ module _ {D : Type 0} (g : Ghosts D) where
     pub found : (g.disk left).is_honest → Found (journal_of ps) (count_of ps) (g.disk device) (g.disk left)
     pub sound : HoldsOwned ps told
 
-  -- they were, and a page isn't what its owners make of it, or has other owners than one
-  pub record IsFoundUnowned (device left : D) : Type 0 where
+  -- they were, and a page or a row of them is wrong
+  pub record IsFoundWrong (device left : D) (page : Option PageFault) (row : Option WrongRow) : Type 0 where
     pub ps : Pages D g
     pub back : left ≡ device_in ps
     pub found : (g.disk left).is_honest → Found (journal_of ps) (count_of ps) (g.disk device) (g.disk left)
-    pub unowned : (g.disk left).is_honest → AreOwned (count_of ps) (stored ps) → ⊥
+    pub wrong : IsPart ps page row
 
   -- what came of the device
   abbrev pub VerifiesDevice : D → Result Verified Refusal → D → Type 0
   VerifiesDevice device (Ok found) left = IsLookedAt device left × IsFoundSound device found left
-  VerifiesDevice device (Err refusal) left = IsLookedAt device left × StrayOr refusal.is_stray refusal.fault (IsRefused device left refusal.fault)
-      × IfSome refusal.page (λ page. IsFoundUnowned device left)
+  VerifiesDevice device (Err refusal) left = IsLookedAt device left
+      × StrayOr refusal.is_stray refusal.fault (IsFoundWrong device left refusal.page refusal.row) (IsRefused device left refusal.fault × (refusal.page ≡ None))
 
 -- the text is printed, or nothing is, and the refusal is told
 abbrev pub EndsVerify : Result (Vec ℕ Global) Refusal → Status → (before after told_before told_after : Written) → Type 0

@@ -1,8 +1,8 @@
 //! `verify`: whether a store is one that a desk leaves.
 //!
-//! Seen as `VerifiesStore`. `verify`: at Ok each page has one owner (`AreOwned`), and the rows are those of a desk by all that an opening
-//! and a sweep look at (`IsSound`). Else it tells the first fault; a page only where pages aren't so. Nothing is written but what a stop
-//! in a commit left to be done.
+//! Seen as `VerifiesStore`. `verify`: at Ok each page has one owner (`AreOwned`), and rows are those of a desk to an opening and a sweep,
+//! and belong (`IsSound`). Else it tells the first fault; a page only where pages aren't so, a stray row only where it doesn't belong.
+//! Nothing is written but what a stopped commit left.
 #![tactic(auto)]
 
 mod refusal;

@@ -1,5 +1,6 @@
 //! Whether the pages and rows of a device's store are those that a desk leaves.
-ghost use Rattle.std.specs.Prelude.{◌≡◌, false, OnOk, IfOk, IfErr, IfSome};
+ghost use Rattle.std.specs.Prelude.{◌≡◌, Bool, false, None, OnOk, IfOk, IfErr};
+ghost use Rattle.desk_model.specs.Desk.{Desk};
 ghost use Rattle.sector_device.specs.Disk.{IsSynced};
 ghost use Rattle.page_store.specs.Transactions.{stored, disk_in, count_of, has_halted, txn_pages, IsQuiet, Passed};
 ghost use Rattle.page_btree.specs.Map.{InTxn};
@@ -8,19 +9,22 @@ ghost use Rattle.page_owners.specs.Errors.{CheckErr as OwnersErr};
 ghost use Rattle.store_rows.specs.Keys.{version, in_four};
 ghost use Rattle.store_rows.specs.Rows.{KeyMap, Has};
 ghost use Rattle.store_holdings.specs.Checks.{AreSoundHoldings, IsNewTidy, CheckErr as HoldersErr};
-ghost use Rattle.desk_opening.specs.Opening.{IsReadFrom, OpenErr};
-ghost use Rattle.verify_command.specs.Sound.{CheckErr, HasFoundSo, HasSound, OldIn, UnsoundIn, fault_of_tree};
-ghost use Rattle.verify_command.specs.Verifying.{HoldsOwned, HoldsSound, IsStray, IsUnsound, TellsPages, VerifiesDevice, fault_of_page};
+ghost use Rattle.page_btree.specs.declared.error.TreeError.TheVariants.{Memory};
+ghost use Rattle.row_owners.specs.Strays.{AllBelong};
+ghost use Rattle.desk_pages.specs.Desks.{InTxn as HoldsDesk, InTxnOf};
+ghost use Rattle.desk_opening.specs.Opening.{IsReadFrom, OpenErr, cuts_in};
+ghost use Rattle.verify_command.specs.Sound.{CheckErr, IsFoundAs, IsSoundAs, OldIn, UnsoundIn, fault_of_tree};
+ghost use Rattle.verify_command.specs.Verifying.{HoldsOwned, HoldsSound, IsUnsound, TellsPages, VerifiesDevice, fault_of_page};
 
 use crate::refusal::Refusal;
 use command_progress::Progress;
 use desk_catalogue::catalogue::Catalogue;
-use desk_model::cuts::cuts;
+use desk_model::cuts::{Cut, cuts};
 use desk_opening::{is_new, read_desk};
 use desk_runs::desk_law::one_desk_opens;
 use page_owners::{PagesError, check_pages};
 use page_store::{PageError, Pages, Txn};
-use row_owners::{WrongRow, check_whole, first_wrong};
+use row_owners::{Checked, Hints, WrongRow, check_rows, first_wrong, note_parts};
 use row_table::TreeError;
 use sealed_geography::geography;
 use sector_device::SectorDevice;
@@ -44,6 +48,8 @@ fn open_desk<D: SectorDevice>(
     requires begun { txn_pages txn.now ≡ count_of pages.old }
     ensures quiet { IsQuiet pages.old pages.new }
     ensures passed { OnOk result (Passed pages.old pages.new) }
+    ensures read { (disk_in pages.new).is_honest → (new : Bool) (d : Desk) → InTxnOf new txn.now (stored pages.old) d
+        → IfOk result (λ catalogue. catalogue ≡ d) }
     ensures found { (disk_in pages.new).is_honest → (m : KeyMap) → InTxn txn.now (stored pages.old) m → IfOk result (λ catalogue. IsReadFrom m catalogue) }
     ensures err { IfErr result (λ e. OpenErr txn.now pages.old pages.new e) }
 {
@@ -65,23 +71,46 @@ fn check_holders<D: SectorDevice>(
     check_holdings(alloc, txn, pages)
 }
 
-/// Checks that the rows that a transaction reads are those of a desk: how many there are. First that they open to a desk, then that each
-/// says what it is, and then that chunks are counted, and held by the plans that name them.
+/// The counties of a desk; none without a geography.
+fn counties(alloc: Global, catalogue: &Catalogue) -> Result<Vec<Cut>, TreeError>
+    ensures cuts { IfOk result (λ cuts. cuts.items ≡ cuts_in catalogue.now.geography) }
+    ensures err { IfErr result (λ e. e ≡ Memory) }
+{
+    match catalogue.geography() {
+        None => Ok(Vec::new(alloc)),
+        Some(geography) => match cuts(alloc, geography) {
+            Ok(all) => Ok(all),
+            Err(_) => Err(TreeError::Memory),
+        },
+    }
+}
+
+/// Checks that the rows that a transaction reads are those of a desk: how many there are, or the first that doesn't belong to its store.
+/// First that they open to a desk, then that each says what it is and belongs, and then that chunks are counted, and held by the plans
+/// that name them.
 fn check_desk<D: SectorDevice, P: Progress>(
     alloc: Global,
     txn: &Txn,
     pages: &mut Pages<D>,
+    hints: &Hints,
     progress: &mut P,
-) -> Result<u64, TreeError>
+) -> Result<Checked, TreeError>
     requires begun { txn_pages txn.now ≡ count_of pages.old }
     ensures quiet { IsQuiet pages.old pages.new }
-    ensures found { (disk_in pages.new).is_honest → (m : KeyMap) → InTxn txn.now (stored pages.old) m → IfOk result (λ rows. HasFoundSo rows m) }
+    ensures found { (disk_in pages.new).is_honest → (m : KeyMap) → InTxn txn.now (stored pages.old) m
+        → IfOk result (λ checked. IsFoundAs checked.stray checked.rows m) }
+    ensures right { (disk_in pages.new).is_honest → (d : Desk) (h : HoldsDesk txn.now (stored pages.old) d) → AllBelong (cuts_in d.geography) h.m
+        → IfOk result (λ checked. checked.stray ≡ None) }
     ensures err { IfErr result (λ e. CheckErr txn.now pages.old pages.new e) }
 {
-    let _catalogue = open_desk(alloc, txn, pages)?;
-    let rows = check_whole(txn, pages, progress)?;
+    let catalogue = open_desk(alloc, txn, pages)?;
+    let cuts = counties(alloc, &catalogue)?;
+    let checked = check_rows(txn, pages, cuts.as_slice(), hints, progress)?;
+    if checked.stray.is_some() {
+        return Ok(checked);
+    }
     check_holders(alloc, txn, pages)?;
-    Ok(rows)
+    Ok(checked)
 }
 
 /// What is told of rows that aren't found to be a desk's: where the device didn't fail, they are none.
@@ -115,22 +144,26 @@ fn refuse_old<D: SectorDevice>(txn: &Txn, pages: &mut Pages<D>) -> Result<(), St
     }
 }
 
-/// Finds the desk that a transaction reads: how many rows it has.
+/// Finds the desk that a transaction reads: how many rows it has, or the first that doesn't belong to its store.
 fn find_desk<D: SectorDevice, P: Progress>(
     alloc: Global,
     txn: &Txn,
     pages: &mut Pages<D>,
+    hints: &Hints,
     progress: &mut P,
-) -> Result<u64, StoreFault>
+) -> Result<Checked, StoreFault>
     requires working { has_halted pages.old ≡ false }
     requires begun { txn_pages txn.now ≡ count_of pages.old }
     ensures quiet { IsQuiet pages.old pages.new }
-    ensures sound { (disk_in pages.new).is_honest → (m : KeyMap) → InTxn txn.now (stored pages.old) m → IfOk result (λ rows. HasSound rows m) }
+    ensures sound { (disk_in pages.new).is_honest → (m : KeyMap) → InTxn txn.now (stored pages.old) m
+        → IfOk result (λ checked. IsSoundAs checked.stray checked.rows m) }
+    ensures right { (disk_in pages.new).is_honest → (d : Desk) (h : HoldsDesk txn.now (stored pages.old) d) → AllBelong (cuts_in d.geography) h.m
+        → IfOk result (λ checked. checked.stray ≡ None) }
     ensures err { IfErr result (λ fault. UnsoundIn txn.now pages.old pages.new fault) }
 {
     refuse_old(txn, pages)?;
-    match check_desk(alloc, txn, pages, progress) {
-        Ok(rows) => Ok(rows),
+    match check_desk(alloc, txn, pages, hints, progress) {
+        Ok(checked) => Ok(checked),
         Err(e) => Err(fault_of(e, pages.is_halted())),
     }
 }
@@ -173,33 +206,11 @@ fn row_for<D: SectorDevice>(
     }
 }
 
-/// Why a store isn't sound whose desk opens: a row that is wrong, or what kept it from being looked for. None where all rows are right.
-fn stray<D: SectorDevice>(alloc: Global, txn: &Txn, pages: &mut Pages<D>) -> Option<Refusal>
-    requires begun { txn_pages txn.now ≡ count_of pages.old }
-    ensures quiet { IsQuiet pages.old pages.new }
-    ensures told { IfSome result (λ refusal. IsStray pages.new refusal) }
-{
-    match wrong_row(alloc, txn, pages) {
-        Err(_) => Some(Refusal::of(StoreFault::Memory)),
-        Ok(Some(row)) => Some(Refusal {
-            fault: StoreFault::NotAStore,
-            is_stray: true,
-            row: Some(row),
-            page: None,
-        }),
-        Ok(None) => {
-            if pages.is_halted() {
-                return Some(Refusal::of(StoreFault::DeviceFault));
-            }
-            None
-        }
-    }
-}
-
 /// Verifies the rows that opened pages hold.
-fn verify_pages<D: SectorDevice, P: Progress>(
+fn verify_rows<D: SectorDevice, P: Progress>(
     alloc: Global,
     pages: &mut Pages<D>,
+    hints: &Hints,
     progress: &mut P,
 ) -> Result<Verified, Refusal>
     requires { has_halted pages.old ≡ false }
@@ -208,13 +219,18 @@ fn verify_pages<D: SectorDevice, P: Progress>(
     ensures err { IfErr result (λ refusal. IsUnsound pages.old pages.new refusal) }
 {
     let txn = pages.begin(alloc);
-    match find_desk(alloc, &txn, pages, progress) {
-        Ok(rows) => match stray(alloc, &txn, pages) {
+    match find_desk(alloc, &txn, pages, hints, progress) {
+        Ok(checked) => match checked.stray {
             None => Ok(Verified {
                 pages: txn.page_count(),
-                rows,
+                rows: checked.rows,
             }),
-            Some(refusal) => Err(refusal),
+            Some(row) => Err(Refusal {
+                fault: StoreFault::NotAStore,
+                is_stray: true,
+                row: Some(row),
+                page: None,
+            }),
         },
         Err(fault) => {
             let row = row_for(alloc, &txn, pages, fault);
@@ -225,6 +241,35 @@ fn verify_pages<D: SectorDevice, P: Progress>(
                 page: None,
             })
         }
+    }
+}
+
+/// Notes which parts of revisions name chunks, as far as the device gives them.
+fn find_parts<D: SectorDevice>(alloc: Global, pages: &mut Pages<D>) -> Result<Hints, TreeError>
+    ensures quiet { IsQuiet pages.old pages.new }
+{
+    let txn = pages.begin(alloc);
+    note_parts(alloc, &txn, pages)
+}
+
+/// Verifies what opened pages hold, whose pages have one owner each.
+fn verify_pages<D: SectorDevice, P: Progress>(
+    alloc: Global,
+    pages: &mut Pages<D>,
+    progress: &mut P,
+) -> Result<Verified, Refusal>
+    ensures quiet { IsQuiet pages.old pages.new }
+    ensures sound { IfOk result (λ found. HoldsSound pages.new found) }
+    ensures err { IfErr result (λ refusal. IsUnsound pages.old pages.new refusal) }
+{
+    match find_parts(alloc, pages) {
+        Ok(hints) => {
+            if pages.is_halted() {
+                return Err(Refusal::of(StoreFault::DeviceFault));
+            }
+            verify_rows(alloc, pages, &hints, progress)
+        }
+        Err(_) => Err(Refusal::of(StoreFault::Memory)),
     }
 }
 

@@ -1,7 +1,7 @@
 use Rattle.page_store.proofs.Stops.{quiet_more}
 use Rattle.row_table.proofs.Outcomes.{err_of}
 use Rattle.verify_command.specs.Sound.{UnsoundIn}
-use Rattle.verify_command.proofs.Unsound.{then_check, told_of, old_unsound, still_rows}
+use Rattle.verify_command.proofs.Unsound.{then_check, told_of, old_unsound, sound_as, still_rows}
 use Rattle.verify_command.proofs.verifying.find_desk.Goals as goal
 
 pub returns-in_err-refuse_old-clause-err : goal.returns-in_err-refuse_old-clause-err
@@ -21,8 +21,13 @@ returns-in-Err-clause-quiet g c = quiet_more c.args.pages.now c.refuse_old.new.p
 pub returns-in-Ok-clause-sound : goal.returns-in-Ok-clause-sound
 returns-in-Ok-clause-sound g c = λ honest m holds.
     let before = c.check_desk.ensures.quiet.honest honest in
-    let found = c.in-Ok.ensures.found honest m (still_rows c.args.txn.now c.args.pages.now c.refuse_old.new.pages c.check_desk.new.pages m c.in_ok-refuse_old.ensures.passed c.check_desk.ensures.quiet honest holds) in
-    (found.0, record { version = c.in_ok-refuse_old.ensures.version before m holds; read = found.1.read; whole = found.1.whole; holdings = found.1.holdings })
+    let still = still_rows c.args.txn.now c.args.pages.now c.refuse_old.new.pages c.check_desk.new.pages m c.in_ok-refuse_old.ensures.passed c.check_desk.ensures.quiet honest holds in
+    sound_as m c.in-Ok.checked.stray c.in-Ok.checked.rows (c.in_ok-refuse_old.ensures.version before m holds) (c.in-Ok.ensures.found honest m still)
+
+pub returns-in-Ok-clause-right : goal.returns-in-Ok-clause-right
+returns-in-Ok-clause-right g c = λ honest d h belong.
+    let still = still_rows c.args.txn.now c.args.pages.now c.refuse_old.new.pages c.check_desk.new.pages h.m c.in_ok-refuse_old.ensures.passed c.check_desk.ensures.quiet honest h.holds in
+    c.in-Ok.ensures.right honest d (record { m = h.m; holds = still; is = h.is }) belong
 
 pub returns-in-Err-clause-err : goal.returns-in-Err-clause-err
 returns-in-Err-clause-err g c =

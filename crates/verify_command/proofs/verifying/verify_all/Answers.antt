@@ -1,4 +1,3 @@
-use Rattle.std.proofs.Common.{◌∙◌}
 use Rattle.page_store.proofs.Stops.{quiet_more}
 use Rattle.verify_command.proofs.Devices.{pages_told, then_owned, then_unsound}
 use Rattle.verify_command.proofs.verifying.verify_all.Goals as goal

@@ -1,7 +1,7 @@
 use Rattle.std.proofs.Common.{subst, sym}
 use Rattle.store_command.specs.declared.fault.StoreFault.{StoreFault}
-use Rattle.verify_command.specs.Verifying.{IsFoundUnowned, IsRefused}
-use Rattle.verify_command.proofs.Devices.{no_page, unopened, page_refused, looked_at, opened_leaves, verified}
+use Rattle.verify_command.specs.Verifying.{IsRefused}
+use Rattle.verify_command.proofs.Devices.{unopened, page_refused, looked_at, opened_leaves, verified}
 use Rattle.verify_command.proofs.verifying.verify_device.Goals as goal
 
 pub returns-in-Err : goal.returns-in-Err
@@ -10,8 +10,7 @@ returns-in-Err g c =
     let left = c.in-Err.left in (
       looked_at d c.one_desk_opens.ensures c.args.device c.requires left c.in-Err.ensures.sectors c.in-Err.ensures.honest
           (opened_leaves d c.one_desk_opens.ensures c.args.device c.requires (d.disk left) c.in-Err.ensures.any_moment),
-      unopened d c.args.device left c.of.result c.page_fault-fault.result c.of.ensures.fault c.of.ensures.opens (subst (λ (f : StoreFault). IsRefused d c.args.device left f) (sym c.page_fault-fault.ensures) (page_refused d c.one_desk_opens.ensures c.args.device c.requires left c.in-Err.e c.in-Err.ensures.err)),
-      no_page c.of.result.page (IsFoundUnowned d c.args.device left) c.of.ensures.whole,
+      unopened d c.args.device left c.of.result c.page_fault-fault.result c.of.ensures.fault c.of.ensures.opens c.of.ensures.whole (subst (λ (f : StoreFault). IsRefused d c.args.device left f) (sym c.page_fault-fault.ensures) (page_refused d c.one_desk_opens.ensures c.args.device c.requires left c.in-Err.e c.in-Err.ensures.err)),
     )
 
 pub returns : goal.returns

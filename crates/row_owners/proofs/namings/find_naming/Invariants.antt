@@ -7,8 +7,8 @@ use Rattle.page_btree.specs.Map.{InTxn}
 use Rattle.btree_scan.specs.Scanning.{fault_in}
 use Rattle.btree_scan.specs.Taken.{HasTaken}
 use Rattle.store_rows.specs.Rows.{KeyMap}
-use Rattle.row_owners.proofs.Whole.{AllWhole}
-use Rattle.row_owners.proofs.wholes.check_whole.Given as goal
+use Rattle.row_owners.proofs.Belonging.{NoneName}
+use Rattle.row_owners.proofs.namings.find_naming.Given as goal
 
 abbrev pub invariant-loop-taken : goal.invariant-loop-taken
 invariant-loop-taken g l = record {
@@ -16,5 +16,5 @@ invariant-loop-taken g l = record {
   passed : Passed l.fn.pages l.pages;
   fault : fault_in l.scan ≡ None;
   taken : (disk_in l.pages).is_honest → (m : KeyMap) → InTxn l.txn (stored l.fn.pages) m →
-      (rows : List Entry) × (length rows ≡ l.taken) × HasTaken [] rows l.scan (entries m) × AllWhole rows;
+      (rows : List Entry) × (length rows ≡ l.taken) × HasTaken [] rows l.scan (entries m) × NoneName l.cuts l.of l.number l.piece rows;
 }

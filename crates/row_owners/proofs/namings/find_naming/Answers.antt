@@ -11,9 +11,9 @@ use Rattle.btree_scan.proofs.Taken.{taken_none, taken_more, taken_all, taken_few
 use Rattle.btree_scan.proofs.Refused.{scan_refused}
 use Rattle.row_table.proofs.Reading.{get_unread}
 use Rattle.store_check.proofs.Scanned.{row_there}
-use Rattle.row_owners.specs.Wholes.{AllSay}
-use Rattle.row_owners.proofs.Whole.{whole_more, all_whole}
-use Rattle.row_owners.proofs.wholes.check_whole.Goals as goal
+use Rattle.row_owners.specs.Strays.{IsAny, IsNaming}
+use Rattle.row_owners.proofs.Belonging.{none_more, none_named}
+use Rattle.row_owners.proofs.namings.find_naming.Goals as goal
 
 pub loop-taken-init : goal.loop-taken-init
 loop-taken-init g c = record {
@@ -29,15 +29,15 @@ returns-in-None-clause-quiet g c = quiet_more c.args.pages.now c.loop-taken.page
 pub returns-in-None-clause-passed : goal.returns-in-None-clause-passed
 returns-in-None-clause-passed g c = passed_more c.args.pages.now c.loop-taken.pages c.next.new.pages c.loop-taken.invariant.passed (c.next.ensures.passed (sym c.fault.ensures ∙ c.in-None.is))
 
-pub returns-in-None-clause-whole : goal.returns-in-None-clause-whole
-returns-in-None-clause-whole g c = λ honest m holds.
+pub returns-in-None-clause-named : goal.returns-in-None-clause-named
+returns-in-None-clause-named g c = λ honest m holds.
     let none : fault_in c.next.new.self ≡ None = sym c.fault.ensures ∙ c.in-None.is in
     let before = c.loop-taken.invariant in
     let then = c.next.ensures.quiet.honest honest in
     let t = before.taken then m holds in
     let there = subst (λ (P : Image). InTxn c.args.txn.now P m) (sym (before.passed.quiet.same then)) holds in
     let next = subst (λ b. IsNextRow b c.next.new.self c.next.new.row (entries m) t.2.rest) c.if-not-next.true (c.next.ensures.rows honest m t.2.rest there t.2.rest_are) in
-    all_whole m c.loop-taken.taken t.0 (taken_all [] t.0 c.loop-taken.scan c.next.new.self c.next.new.row (entries m) t.2 next none) t.1 t.3
+    none_named c.args.cuts.now c.args.of c.args.number c.args.piece m t.0 (taken_all [] t.0 c.loop-taken.scan c.next.new.self c.next.new.row (entries m) t.2 next none) t.3
 
 pub returns-in-Some-clause-quiet : goal.returns-in-Some-clause-quiet
 returns-in-Some-clause-quiet g c = quiet_more c.args.pages.now c.loop-taken.pages c.next.new.pages c.loop-taken.invariant.passed.quiet c.next.ensures.quiet
@@ -49,22 +49,32 @@ returns-in-Some-clause-err g c =
     let b = c.next.new.pages in
     let told : fault_in c.next.new.self ≡ Some c.in-Some.fault = sym c.fault.ensures ∙ c.in-Some.is in
     let why = subst (λ f. IfSome f (λ e. ScanErr (CanScan c.loop-taken.scan) t c.loop-taken.pages b e)) told (c.next.ensures.fault c.loop-taken.invariant.fault) in
-    get_unread AllSay t a b c.in-Some.fault
+    get_unread IsAny t a b c.in-Some.fault
     (scan_refused (CanScan c.loop-taken.scan) t a c.loop-taken.pages b c.loop-taken.invariant.passed c.next.ensures.quiet
     (λ honest m holds. let rows = c.loop-taken.invariant.taken (c.next.ensures.quiet.honest honest) m holds in (rows.2.rest, rows.2.rest_are)) c.in-Some.fault why)
 
-pub returns-then-not-is_whole-clause-quiet : goal.returns-then-not-is_whole-clause-quiet
-returns-then-not-is_whole-clause-quiet g c = quiet_more c.args.pages.now c.loop-taken.pages c.next.new.pages c.loop-taken.invariant.passed.quiet c.next.ensures.quiet
+pub returns-then-is_naming-clause-quiet : goal.returns-then-is_naming-clause-quiet
+returns-then-is_naming-clause-quiet g c = quiet_more c.args.pages.now c.loop-taken.pages c.next.new.pages c.loop-taken.invariant.passed.quiet c.next.ensures.quiet
 
-pub returns-then-not-is_whole-clause-err : goal.returns-then-not-is_whole-clause-err
-returns-then-not-is_whole-clause-err g c = inr (λ honest m holds due.
+pub returns-then-is_naming-clause-passed : goal.returns-then-is_naming-clause-passed
+returns-then-is_naming-clause-passed g c =
+    let before = c.loop-taken.invariant in
+    let going = c.next.ensures.going c.if-not-next.false in
+    passed_more c.args.pages.now c.loop-taken.pages c.next.new.pages before.passed (c.next.ensures.passed (going.1 ∙ before.fault))
+
+pub returns-then-is_naming-clause-named : goal.returns-then-is_naming-clause-named
+returns-then-is_naming-clause-named g c = λ honest m holds.
     let before = c.loop-taken.invariant in
     let then = c.next.ensures.quiet.honest honest in
     let t = before.taken then m holds in
     let there = subst (λ (P : Image). InTxn c.args.txn.now P m) (sym (before.passed.quiet.same then)) holds in
     let next = subst (λ b. IsNextRow b c.next.new.self c.next.new.row (entries m) t.2.rest) c.if-not-next.false (c.next.ensures.rows honest m t.2.rest there t.2.rest_are) in
     let e : Entry = (c.next.new.row.key, c.next.new.row.value) in
-    c.if-not-is_whole.ensures.no refl (due e.0 e.1 (row_there m t.0 e next.0 (t.2.whole ∙ ap (λ (l : List Entry). t.0 ++ l) next.1))))
+    let naming = c.is_naming.ensures.yes c.if-is_naming.true in (
+      e,
+      row_there m t.0 e next.0 (t.2.whole ∙ ap (λ (l : List Entry). t.0 ++ l) next.1),
+      subst (λ (x : Entry). IsNaming c.args.cuts.now c.args.of c.args.number c.args.piece x) (λ i. (c.as_slice.ensures.bytes i, c.as_slice-in-loop-taken.ensures.bytes i)) naming,
+    )
 
 pub loop-taken-preserved : goal.loop-taken-preserved
 loop-taken-preserved g c =
@@ -72,6 +82,10 @@ loop-taken-preserved g c =
     let b = c.next.new.pages in
     let before = c.loop-taken.invariant in
     let going = c.next.ensures.going c.if-not-next.false in
+    let cuts = c.args.cuts.now in
+    let of = c.args.of in
+    let number = c.args.number in
+    let piece = c.args.piece in
     record {
       begun = before.begun ∙ sym c.next.ensures.quiet.count;
       passed = passed_more a c.loop-taken.pages b before.passed (c.next.ensures.passed (going.1 ∙ before.fault));
@@ -81,11 +95,12 @@ loop-taken-preserved g c =
           let rows = before.taken then m holds in
           let there = subst (λ (P : Image). InTxn c.args.txn.now P m) (sym (before.passed.quiet.same then)) holds in
           let next = subst (λ e. IsNextRow e c.next.new.self c.next.new.row (entries m) rows.2.rest) c.if-not-next.false (c.next.ensures.rows honest m rows.2.rest there rows.2.rest_are) in
-          let e : Entry = (c.next.new.row.key, c.next.new.row.value) in (
+          let e : Entry = (c.next.new.row.key, c.next.new.row.value) in
+          let not = subst (λ (x : Entry). IsNaming cuts of number piece x → ⊥) (λ i. (c.as_slice.ensures.bytes i, c.as_slice-in-loop-taken.ensures.bytes i)) (c.is_naming.ensures.no c.if-is_naming.false) in (
             rows.0 ++ e ∷ [],
             length-append rows.0 (e ∷ []) ∙ ap (λ k. k + 1) rows.1,
             taken_more [] rows.0 c.loop-taken.scan c.next.new.self c.next.new.row (entries m) rows.2 next,
-            whole_more rows.0 e (c.if-not-is_whole.ensures.yes refl) rows.3,
+            none_more cuts of number piece rows.0 e not rows.3,
           );
     }
 

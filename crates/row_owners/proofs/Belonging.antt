@@ -1,0 +1,158 @@
+-- Rows that belong to a store.
+use Rattle.std.proofs.Common.{◌≡◌, ◌<◌, ◌*◌, ◌+◌, ◌^◌, ℕ, List, [], ◌∷◌, ◌++◌, Bool, cond, length, Some, None, inl, inr, refl, sym, ap, subst, ◌∙◌}
+use Rattle.std.specs.Prelude.{Option, MatchOption, IfSome, Result, Ok, Err, OnOk, IfOk, IfErr}
+use Rattle.std.specs.Ordering.{eq_by_cmp}
+use Rattle.std.specs.FinMap.{entries, find, get}
+use Rattle.sector_device.specs.Disk.{Image}
+use Rattle.sector_device.specs.declared.SectorDevice.{Ghosts}
+use Rattle.page_store.specs.Transactions.{stored, disk_in, IsQuiet, Passed}
+use Rattle.page_store.proofs.Stops.{failed_more}
+use Rattle.page_store.specs.declared.pages.Pages.{Pages}
+use Rattle.page_store.specs.declared.txn.Txn.{Txn}
+use Rattle.page_btree.specs.Map.{InTxn}
+use Rattle.page_btree.specs.declared.error.TreeError.{TreeError}
+use Rattle.page_btree.specs.declared.error.TreeError.TheVariants.{DeviceFault, Halted, NoPages, TooDeep, Memory}
+use Rattle.row_table.specs.Reading.{ReadErr}
+use Rattle.row_owners.specs.Wholes.{AllSay, IsRowOf}
+use Rattle.page_node.specs.Entries.{Entry}
+use Rattle.page_node.specs.Places.{key_cmp}
+use Rattle.btree_scan.specs.Prefixes.{under}
+use Rattle.desk_model.specs.declared.cuts.Cut.{Cut}
+use Rattle.desk_model.specs.declared.block.BlockRow.{BlockRow}
+use Rattle.store_rows.specs.Keys.{RowKey, key_of, holding, part, block, pair, chunk}
+use Rattle.store_rows.specs.Values.{block_bytes, pair_bytes}
+use Rattle.store_rows.specs.Lists.{AreChunks, chunks_bytes}
+use Rattle.store_rows.specs.Rows.{KeyMap}
+use Rattle.store_rows.proofs.Frames.{is_equal, same_key}
+use Rattle.store_rows.proofs.ListLaws.{chunks_differ}
+use Rattle.store_rows.proofs.OneGeography.{no_value, value_is}
+use Rattle.store_rows.proofs.RowLaws.{keys_differ}
+use Rattle.store_check.proofs.Scanned.{either_way}
+use Rattle.row_owners.specs.Strays.{AllBelong, Belongs, IsJudged, IsNamed, IsNaming, IsOf, IsOfKind, IsRight, IsStray, IsWrong, NamesAt}
+use Rattle.row_owners.specs.declared.kinds.Kind.TheVariants.{Mark, Holding, Part, Block, Pair, Piece, Other}
+use Rattle.row_owners.specs.declared.wrong.Wrong.{Wrong}
+use Rattle.row_owners.proofs.Whole.{get_is}
+
+-- ---- what follows of a result
+pub if_ok_then : {T E : Type 0} (r : Result T E) (P Q : T → Type 0) → ((x : T) → P x → Q x) → IfOk r P → IfOk r Q
+if_ok_then (Ok x) P Q gives is = gives x is
+if_ok_then (Err e) P Q gives is = tt
+
+pub ok_then : {T E : Type 0} (r : Result T E) (P Q : Type 0) → (P → Q) → OnOk r P → OnOk r Q
+ok_then (Ok x) P Q gives is = gives is
+ok_then (Err e) P Q gives is = tt
+
+pub any_ok : {T E : Type 0} (r : Result T E) (P : Type 0) → P → OnOk r P
+any_ok (Ok x) P is = is
+any_ok (Err e) P is = tt
+
+pub err_then : {T E : Type 0} (r : Result T E) (P Q : E → Type 0) → ((e : E) → P e → Q e) → IfErr r P → IfErr r Q
+err_then (Ok x) P Q gives is = tt
+err_then (Err e) P Q gives is = gives e is
+
+-- ---- a row with a key is one
+right_by : (cuts : List Cut) (m : KeyMap) (key value : List ℕ) (row : RowKey) → IsOf row key → Belongs cuts m row value → IsRight cuts m (key, value)
+right_by cuts m key value row of has other fits is =
+    let same : row ≡ other = keys_differ row other of.fits fits (sym of.is ∙ is) in
+    subst (λ (r : RowKey). Belongs cuts m r value) same has
+
+wrong_by : (cuts : List Cut) (m : KeyMap) (key value : List ℕ) (row : RowKey) → IsOf row key → (Belongs cuts m row value → ⊥) → IsWrong cuts m (key, value)
+wrong_by cuts m key value row of none = (row, of.fits, of.is, none)
+
+module _ (cuts : List Cut) (m : KeyMap) (key value : List ℕ) where
+  judged : (row : RowKey) → IsOf row key → (wrong : Option Wrong) → MatchOption wrong (Belongs cuts m row value) (λ _. Belongs cuts m row value → ⊥) → IsJudged wrong cuts (key, value) m
+  judged row of None is = right_by cuts m key value row of is
+  judged row of (Some wrong) none = wrong_by cuts m key value row of none
+
+  pub mark_judged : (wrong : Option Wrong) → IsOfKind Mark key → MatchOption wrong (value ≡ []) (λ _. value ≡ [] → ⊥) → IsJudged wrong cuts (key, value) m
+  mark_judged None kind is = right_by cuts m key value kind.0 kind.1 ((kind.2 cuts m value).0 is)
+  mark_judged (Some wrong) kind none = wrong_by cuts m key value kind.0 kind.1 (λ has. none ((kind.2 cuts m value).1 has))
+
+  pub holding_judged : (plan number : ℕ) (wrong : Option Wrong) → IsOfKind (Holding plan number) key → MatchOption wrong (IsNamed cuts (Some plan) number 0 m) (λ _. IsNamed cuts (Some plan) number 0 m → ⊥) → IsJudged wrong cuts (key, value) m
+  holding_judged plan number wrong kind is = judged (holding plan number) kind wrong is
+
+  pub piece_judged : (number piece : ℕ) (wrong : Option Wrong) → IsOfKind (Piece number piece) key → MatchOption wrong (IsNamed cuts None number piece m) (λ _. IsNamed cuts None number piece m → ⊥) → IsJudged wrong cuts (key, value) m
+  piece_judged number piece wrong kind is = judged (chunk number piece) kind wrong is
+
+  pub part_judged : (index : ℕ) (wrong : Option Wrong) → IsOfKind (Part index) key → MatchOption wrong (128 * index < length cuts) (λ _. 128 * index < length cuts → ⊥) → IsJudged wrong cuts (key, value) m
+  part_judged index wrong kind is = judged (part kind.0 kind.1 index) kind.2 wrong is
+
+  pub block_judged : (wrong : Option Wrong) → IsOfKind Block key → MatchOption wrong ((b : BlockRow) × (b.id < 10 ^ 15) × (block_bytes b ≡ value)) (λ _. (b : BlockRow) → b.id < 10 ^ 15 → block_bytes b ≡ value → ⊥) → IsJudged wrong cuts (key, value) m
+  block_judged None kind is = right_by cuts m key value (block kind.0 kind.1) kind.2 is
+  block_judged (Some wrong) kind none = wrong_by cuts m key value (block kind.0 kind.1) kind.2 (λ has. none has.0 has.1 has.2)
+
+  pub pair_judged : (wrong : Option Wrong) → IsOfKind Pair key → MatchOption wrong ((a : ℕ) × (b : ℕ) × (pair_bytes (a, b) ≡ value)) (λ _. (a b : ℕ) → pair_bytes (a, b) ≡ value → ⊥) → IsJudged wrong cuts (key, value) m
+  pair_judged None kind is = right_by cuts m key value (pair kind.0 kind.1) kind.2 is
+  pair_judged (Some wrong) kind none = wrong_by cuts m key value (pair kind.0 kind.1) kind.2 (λ has. none has.0 has.1 has.2)
+
+  pub other_judged : IsOfKind Other key → IsRight cuts m (key, value)
+  other_judged kind row fits is = kind row fits is cuts m value
+
+-- ---- parts that name a chunk
+module _ (cuts : List Cut) (of : Option ℕ) (number piece : ℕ) where
+  -- a part's plan, which part it is and its chunks are one
+  pub other_plan : (key value : List ℕ) (plan revision index : ℕ) → IsOf (part plan revision index) key → IsNaming cuts of number piece (key, value) → IfSome of (λ p. p ≡ plan)
+  other_plan key value plan revision index is naming =
+      let same : part plan revision index ≡ part naming.plan naming.revision naming.index = keys_differ _ _ is.fits naming.fits (sym is.is ∙ naming.key) in
+      let equal : plan ≡ naming.plan = cc in
+      subst (λ (x : ℕ). IfSome of (λ p. p ≡ x)) (sym equal) naming.told
+
+  pub naming_at : (key value : List ℕ) (plan revision index : ℕ) (numbers : List ℕ) → IsOf (part plan revision index) key → AreChunks numbers → chunks_bytes numbers ≡ value → IsNaming cuts of number piece (key, value) → NamesAt cuts numbers index number piece
+  naming_at key value plan revision index numbers is chunks bytes naming =
+      let same : part plan revision index ≡ part naming.plan naming.revision naming.index = keys_differ _ _ is.fits naming.fits (sym is.is ∙ naming.key) in
+      let equal : index ≡ naming.index = cc in
+      let all : numbers ≡ naming.numbers = chunks_differ numbers naming.numbers chunks naming.chunks (bytes ∙ naming.value) in
+      subst (λ (x : ℕ). NamesAt cuts numbers x number piece) (sym equal) (subst (λ (ns : List ℕ). NamesAt cuts ns naming.index number piece) (sym all) naming.at)
+
+  -- rows of which none does
+  abbrev pub NoneName : List Entry → Type 0
+  NoneName [] = Unit {0}
+  NoneName (e ∷ es) = (IsNaming cuts of number piece e → ⊥) × NoneName es
+
+  pub none_more : (es : List Entry) (e : Entry) → (IsNaming cuts of number piece e → ⊥) → NoneName es → NoneName (es ++ e ∷ [])
+  none_more [] e is all = (is, tt)
+  none_more (f ∷ es) e is all = (all.0, none_more es e is all.1)
+
+  none_found : (key value : List ℕ) (es : List Entry) → NoneName es → find key_cmp key es ≡ Some value → IsNaming cuts of number piece (key, value) → ⊥
+  none_found key value [] all there = absurd (no_value value (sym there))
+  none_found key value (e ∷ es) all there = either_way (eq_by_cmp key_cmp key e.0) (IsNaming cuts of number piece (key, value) → ⊥)
+      (λ same. subst (λ (x : Entry). IsNaming cuts of number piece x → ⊥) (λ i. (sym (same_key key e.0 (is_equal (key_cmp key e.0) same)) i, value_is e.1 value (sym (ap (λ (b : Bool). cond b (Some e.1) (find key_cmp key es)) same) ∙ there) i)) all.0)
+      (λ other. none_found key value es all.1 (sym (ap (λ (b : Bool). cond b (Some e.1) (find key_cmp key es)) other) ∙ there))
+
+  pub none_named : (m : KeyMap) (rows : List Entry) → under [] (entries m) ≡ rows → NoneName rows → IsNamed cuts of number piece m → ⊥
+  none_named m rows whole all is = none_found is.0.0 is.0.1 rows all (sym (get_is m is.0.0 ∙ ap (λ (es : List Entry). find key_cmp is.0.0 es) whole) ∙ is.1) is.2
+
+-- ---- rows, one after the other
+abbrev pub AllRight : List Cut → KeyMap → List Entry → Type 0
+AllRight cuts m [] = Unit {0}
+AllRight cuts m (e ∷ es) = IsRight cuts m e × AllRight cuts m es
+
+pub right_more : (cuts : List Cut) (m : KeyMap) (es : List Entry) (e : Entry) → IsRight cuts m e → AllRight cuts m es → AllRight cuts m (es ++ e ∷ [])
+right_more cuts m [] e is all = (is, tt)
+right_more cuts m (f ∷ es) e is all = (all.0, right_more cuts m es e is all.1)
+
+right_found : (cuts : List Cut) (m : KeyMap) (key value : List ℕ) (es : List Entry) → AllRight cuts m es → find key_cmp key es ≡ Some value → IsRight cuts m (key, value)
+right_found cuts m key value [] all there = absurd (no_value value (sym there))
+right_found cuts m key value (e ∷ es) all there = either_way (eq_by_cmp key_cmp key e.0) (IsRight cuts m (key, value))
+    (λ same. subst (λ (x : Entry). IsRight cuts m x) (λ i. (sym (same_key key e.0 (is_equal (key_cmp key e.0) same)) i, value_is e.1 value (sym (ap (λ (b : Bool). cond b (Some e.1) (find key_cmp key es)) same) ∙ there) i)) all.0)
+    (λ other. right_found cuts m key value es all.1 (sym (ap (λ (b : Bool). cond b (Some e.1) (find key_cmp key es)) other) ∙ there))
+
+pub all_right : (cuts : List Cut) (m : KeyMap) (rows : List Entry) → under [] (entries m) ≡ rows → AllRight cuts m rows → AllBelong cuts m
+all_right cuts m rows whole all row value fits has =
+    right_found cuts m (key_of row) value rows all (sym (get_is m (key_of row) ∙ ap (λ (es : List Entry). find key_cmp (key_of row) es) whole) ∙ has) row fits refl
+
+-- one that is wrong is a stray
+pub stray_by : (cuts : List Cut) (m : KeyMap) (e : Entry) → get m e.0 ≡ Some e.1 → IsWrong cuts m e → IsStray cuts m e.0
+stray_by cuts m e there wrong = (wrong.0, wrong.1, wrong.2, (e.1, ap (get m) (sym wrong.2) ∙ there, wrong.3))
+
+-- a row that isn't one of a map whose rows all say so
+module _ {D : Type 0} {g : Ghosts D} where
+  pub row_unread : (row : Entry) (t : Txn) (a b c : Pages D g) → Passed a b → IsQuiet b c → ((disk_in c).is_honest → (m : KeyMap) → InTxn t (stored a) m → AllSay m → IsRowOf row) → (e : TreeError) → ReadErr (λ m. IsRowOf row) t b c e → ReadErr AllSay t a c e
+  row_unread row t a b c read quiet gives DeviceFault why = elim why [
+    | inl failed ↦ inl (failed_more a b c read quiet failed)
+    | inr none ↦ inr (λ honest m holds is. none honest m (subst (λ (P : Image). InTxn t P m) (sym (read.quiet.same (quiet.honest honest))) holds) (gives honest m holds is))
+  ]
+  row_unread row t a b c read quiet gives Halted why = sym read.halted ∙ why
+  row_unread row t a b c read quiet gives NoPages why = why
+  row_unread row t a b c read quiet gives TooDeep why = why
+  row_unread row t a b c read quiet gives Memory why = why

@@ -1,0 +1,11 @@
+use Rattle.row_owners.proofs.kinds.kind_of.Goals as goal
+
+pub kind_behind-requires : goal.kind_behind-requires
+kind_behind-requires c = record {
+  marks = record {
+    no_retired = c.is_mark.ensures.retired c.if-is_mark.false;
+    no_begun = c.is_mark.ensures.begun c.if-is_mark.false;
+    no_holding = c.in-None.ensures;
+    no_part = c.in-None-part_key.ensures;
+  };
+}

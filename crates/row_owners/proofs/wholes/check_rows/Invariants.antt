@@ -1,0 +1,21 @@
+use Rattle.std.proofs.Common.{◌≡◌, List, [], length}
+use Rattle.std.specs.Prelude.{None}
+use Rattle.std.specs.FinMap.{entries}
+use Rattle.page_store.specs.Transactions.{stored, disk_in, count_of, txn_pages, Passed}
+use Rattle.page_node.specs.Entries.{Entry}
+use Rattle.page_btree.specs.Map.{InTxn}
+use Rattle.btree_scan.specs.Scanning.{fault_in}
+use Rattle.btree_scan.specs.Taken.{HasTaken}
+use Rattle.store_rows.specs.Rows.{KeyMap}
+use Rattle.row_owners.proofs.Whole.{AllWhole}
+use Rattle.row_owners.proofs.Belonging.{AllRight}
+use Rattle.row_owners.proofs.wholes.check_rows.Given as goal
+
+abbrev pub invariant-loop-taken : goal.invariant-loop-taken
+invariant-loop-taken g l = record {
+  begun : txn_pages l.txn ≡ count_of l.pages;
+  passed : Passed l.fn.pages l.pages;
+  fault : fault_in l.scan ≡ None;
+  taken : (disk_in l.pages).is_honest → (m : KeyMap) → InTxn l.txn (stored l.fn.pages) m →
+      (rows : List Entry) × (length rows ≡ l.taken) × HasTaken [] rows l.scan (entries m) × AllWhole rows × AllRight l.cuts m rows;
+}

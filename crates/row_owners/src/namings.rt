@@ -1,0 +1,202 @@
+//! Which parts of revisions name a chunk.
+ghost use Rattle.std.specs.Prelude.{◌≡◌, ◌≤◌, ◌+◌, ◌*◌, true, false, length, IfSome, IfOk, IfErr, OnOk};
+ghost use Rattle.page_store.specs.Transactions.{stored, disk_in, count_of, txn_pages, IsQuiet, Passed};
+ghost use Rattle.page_btree.specs.Map.{InTxn};
+ghost use Rattle.row_table.specs.Reading.{ReadErr};
+ghost use Rattle.store_rows.specs.Rows.{KeyMap};
+ghost use Rattle.row_owners.specs.Strays.{HasPiece, IsAny, IsNamed, IsNamedAs, IsNaming, NamesAt};
+
+use crate::kinds::part_key;
+use btree_scan::{Row, Scan, row_limit};
+use desk_model::cuts::Cut;
+use page_btree::{VALUE_LIMIT, get};
+use page_store::{Pages, Txn};
+use row_table::TreeError;
+use sector_device::SectorDevice;
+use store_rows::{Key, read_chunks};
+
+/// Whether the county at a place has blocks for a piece of a chunk.
+fn has_piece(cuts: &[Cut], county: usize, piece: u16) -> bool
+    ensures yes { result ≡ true → HasPiece cuts.now county piece }
+    ensures no { result ≡ false → HasPiece cuts.now county piece → ⊥ }
+{
+    if county >= cuts.len() {
+        return false;
+    }
+    512 * (piece as u64) < cuts[county].count as u64
+}
+
+/// Whether a chunk is this one, for a county that has the piece.
+fn is_this(there: u64, county: usize, number: u64, piece: u16, cuts: &[Cut]) -> bool
+    ensures yes { result ≡ true → (there ≡ number) × HasPiece cuts.now county piece }
+    ensures no { result ≡ false → there ≡ number → HasPiece cuts.now county piece → ⊥ }
+{
+    if there != number {
+        return false;
+    }
+    has_piece(cuts, county, piece)
+}
+
+/// Whether one of the chunks of a part is this one, for a county that has the piece.
+fn is_at(numbers: &[u64], index: u8, number: u64, piece: u16, cuts: &[Cut]) -> bool
+    requires few { length numbers.now ≤ 128 }
+    ensures yes { result ≡ true → NamesAt cuts.now numbers.now index number piece }
+    ensures no { result ≡ false → NamesAt cuts.now numbers.now index number piece → ⊥ }
+{
+    for place in 0..numbers.len() {
+        if is_this(
+            numbers[place],
+            128 * index as usize + place,
+            number,
+            piece,
+            cuts,
+        ) {
+            return true;
+        }
+    }
+    false
+}
+
+/// Whether a plan is the one that is looked for, if there is one.
+fn is_of(of: Option<u64>, plan: u64) -> bool
+    ensures yes { result ≡ true → IfSome of (λ p. p ≡ plan) }
+    ensures no { result ≡ false → IfSome of (λ p. p ≡ plan) → ⊥ }
+{
+    match of {
+        None => true,
+        Some(p) => p == plan,
+    }
+}
+
+/// Whether a row is a part of a revision of the plan, or of any where none is given, that names the chunk for a county with this piece.
+fn is_naming(
+    key: &[u8],
+    value: &[u8],
+    cuts: &[Cut],
+    of: Option<u64>,
+    number: u64,
+    piece: u16,
+) -> bool
+    ensures yes { result ≡ true → IsNaming cuts.now of number piece (key.now, value.now) }
+    ensures no { result ≡ false → IsNaming cuts.now of number piece (key.now, value.now) → ⊥ }
+{
+    let Some((plan, index)) = part_key(key) else {
+        return false;
+    };
+    if !is_of(of, plan) {
+        return false;
+    }
+    let Some(numbers) = read_chunks(value) else {
+        return false;
+    };
+    is_at(numbers.as_slice(), index, number, piece, cuts)
+}
+
+/// Whether the row under a key is such a part.
+fn is_named_there<D: SectorDevice>(
+    txn: &Txn,
+    pages: &mut Pages<D>,
+    key: &Key,
+    cuts: &[Cut],
+    of: Option<u64>,
+    number: u64,
+    piece: u16,
+) -> Result<bool, TreeError>
+    requires begun { txn_pages txn.now ≡ count_of pages.old }
+    ensures quiet { IsQuiet pages.old pages.new }
+    ensures passed { OnOk result (Passed pages.old pages.new) }
+    ensures named { (disk_in pages.new).is_honest → (m : KeyMap) → InTxn txn.now (stored pages.old) m
+        → IfOk result (λ is. is ≡ true → IsNamed cuts.now of number piece m) }
+    ensures err { IfErr result (λ e. ReadErr IsAny txn.now pages.old pages.new e) }
+{
+    let mut bytes = [0; VALUE_LIMIT];
+    match get(txn, pages, key.as_slice(), &mut bytes)? {
+        None => Ok(false),
+        Some(length) => Ok(is_naming(key.as_slice(), &bytes[..length], cuts, of, number, piece)),
+    }
+}
+
+/// Whether the row under a key, if one is given, is such a part.
+fn is_named_first<D: SectorDevice>(
+    txn: &Txn,
+    pages: &mut Pages<D>,
+    first: Option<Key>,
+    cuts: &[Cut],
+    of: Option<u64>,
+    number: u64,
+    piece: u16,
+) -> Result<bool, TreeError>
+    requires begun { txn_pages txn.now ≡ count_of pages.old }
+    ensures quiet { IsQuiet pages.old pages.new }
+    ensures passed { OnOk result (Passed pages.old pages.new) }
+    ensures named { (disk_in pages.new).is_honest → (m : KeyMap) → InTxn txn.now (stored pages.old) m
+        → IfOk result (λ is. is ≡ true → IsNamed cuts.now of number piece m) }
+    ensures err { IfErr result (λ e. ReadErr IsAny txn.now pages.old pages.new e) }
+{
+    match first {
+        None => Ok(false),
+        Some(key) => is_named_there(txn, pages, &key, cuts, of, number, piece),
+    }
+}
+
+/// Whether there is such a part: all rows are looked at.
+fn find_naming<D: SectorDevice>(
+    txn: &Txn,
+    pages: &mut Pages<D>,
+    cuts: &[Cut],
+    of: Option<u64>,
+    number: u64,
+    piece: u16,
+) -> Result<bool, TreeError>
+    requires begun { txn_pages txn.now ≡ count_of pages.old }
+    ensures quiet { IsQuiet pages.old pages.new }
+    ensures passed { OnOk result (Passed pages.old pages.new) }
+    ensures named { (disk_in pages.new).is_honest → (m : KeyMap) → InTxn txn.now (stored pages.old) m
+        → IfOk result (λ is. IsNamedAs is cuts.now of number piece m) }
+    ensures err { IfErr result (λ e. ReadErr IsAny txn.now pages.old pages.new e) }
+{
+    let mut scan = Scan::new(&[]);
+    let mut row = Row::empty();
+    for taken in 0..row_limit(txn) {
+        if !scan.next(txn, pages, &mut row) {
+            match scan.fault() {
+                None => return Ok(false),
+                Some(fault) => return Err(fault),
+            }
+        }
+        if is_naming(
+            row.key.as_slice(),
+            row.value.as_slice(),
+            cuts,
+            of,
+            number,
+            piece,
+        ) {
+            return Ok(true);
+        }
+    }
+    Err(TreeError::DeviceFault)
+}
+
+/// Whether there is such a part. The key of one that may be it is looked up first.
+pub(crate) fn is_named<D: SectorDevice>(
+    txn: &Txn,
+    pages: &mut Pages<D>,
+    first: Option<Key>,
+    cuts: &[Cut],
+    of: Option<u64>,
+    number: u64,
+    piece: u16,
+) -> Result<bool, TreeError>
+    requires begun { txn_pages txn.now ≡ count_of pages.old }
+    ensures quiet { IsQuiet pages.old pages.new }
+    ensures passed { OnOk result (Passed pages.old pages.new) }
+    ensures named { (disk_in pages.new).is_honest → (m : KeyMap) → InTxn txn.now (stored pages.old) m
+        → IfOk result (λ is. IsNamedAs is cuts.now of number piece m) }
+    ensures err { IfErr result (λ e. ReadErr IsAny txn.now pages.old pages.new e) }
+{
+    if is_named_first(txn, pages, first, cuts, of, number, piece)? {
+        return Ok(true);
+    }
+    find_naming(txn, pages, cuts, of, number, piece)
+}
