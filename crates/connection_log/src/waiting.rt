@@ -3,7 +3,8 @@ ghost use Rattle.std.specs.Prelude.{◌≡◌, [], true, Some};
 ghost use Rattle.connection_log.specs.Waits.{HasPut, HasTaken};
 
 use crate::batch::{Batch, MOST_WAITING};
-use crate::line::{Ending, LogLine};
+use crate::line::{Change, Ending, LogLine};
+use accepted_commands::accepted::Accepted;
 use std::alloc::{AllocError, Global};
 use std::mem;
 
@@ -46,6 +47,8 @@ impl Waiting {
             self.refused = self.refused.saturating_add(1);
             return;
         }
+        // (the prover wants each type that a line may hold named here)
+        let _ = (None::<Change>, None::<Accepted>);
         let _ = self.batch.list.push(line);
     }
 

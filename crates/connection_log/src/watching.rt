@@ -54,34 +54,27 @@ impl<'r, 'a, 'l, A: Listens, R: Wait + Clock> Watching<'r, 'a, 'l, A, R> {
             is_low: AtomicBool::new(false),
         }
     }
+}
 
-    /// Puts a line of the store's room into the log, where there is one.
-    fn note_room(&self, free_pages: u64, revision_pages: u64) {
-        if let Some(log) = self.log {
-            let at = moment_now(self.rt);
-            log.note(
-                self.rt,
-                LogLine::Room(Room {
-                    at,
-                    free_pages,
-                    revision_pages,
-                }),
-            );
-        }
+/// Puts a line of the store's room into a log, where there is one.
+fn note_room<R: Wait + Clock>(rt: &R, log: Option<&Log>, free_pages: u64, revision_pages: u64) {
+    if let Some(log) = log {
+        let at = moment_now(rt);
+        log.note(
+            rt,
+            LogLine::Room(Room {
+                at,
+                free_pages,
+                revision_pages,
+            }),
+        );
     }
+}
 
-    /// Puts a line of the store's room into the log where the free pages fell below what a whole revision asks for, or rose to it: whether
-    /// they did.
-    fn note_crossing(&self, free_pages: &AtomicU64) -> bool {
-        let free = free_pages.load(Ordering::SeqCst);
-        let needed = self.revision_pages.load(Ordering::SeqCst);
-        let is_low = free < needed;
-        if self.is_low.swap(is_low, Ordering::SeqCst) == is_low {
-            return false;
-        }
-        self.note_room(free, needed);
-        true
-    }
+/// Whether the free pages fell below so many, or rose to them, since it was last noted whether they are fewer.
+fn has_crossed(free_pages: u64, revision_pages: u64, is_low: &AtomicBool) -> bool {
+    let is_lower = free_pages < revision_pages;
+    is_low.swap(is_lower, Ordering::SeqCst) != is_lower
 }
 
 impl<'r, 'a, 'l, A: Listens, R: Wait + Clock> Gate for Watching<'r, 'a, 'l, A, R> {
@@ -110,10 +103,13 @@ impl<'r, 'a, 'l, A: Listens, R: Wait + Clock> Hears for Watching<'r, 'a, 'l, A, 
     /// Tells the log each time that the free pages fall below what a whole revision asks for, or rise to it. Where several tell it at once,
     /// the last of them looks again.
     fn hear_room(&self, free_pages: &AtomicU64) {
+        let needed = self.revision_pages.load(Ordering::SeqCst);
         for _ in 0..u64::MAX {
-            if !self.note_crossing(free_pages) {
+            let free = free_pages.load(Ordering::SeqCst);
+            if !has_crossed(free, needed, &self.is_low) {
                 return;
             }
+            note_room(self.rt, self.log, free, needed);
         }
     }
 }
@@ -186,7 +182,7 @@ impl<'r, 'a, 'l, A: Listens, R: Wait + Clock> Watched for Watching<'r, 'a, 'l, A
         self.revision_pages.store(revision_pages, Ordering::SeqCst);
         self.is_low
             .store(free_pages < revision_pages, Ordering::SeqCst);
-        self.note_room(free_pages, revision_pages);
+        note_room(self.rt, self.log, free_pages, revision_pages);
     }
 
     /// Tells it to the log, and waits for the last lines, for a second at most.
