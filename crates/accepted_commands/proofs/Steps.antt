@@ -9,15 +9,15 @@ use Rattle.desk_model.specs.declared.command.Command.{Command}
 use Rattle.desk_model.specs.declared.command.Command.TheVariants.{Create, Whole, Counties, Retire, Fork}
 use Rattle.desk_model.specs.declared.reply.Reply.TheVariants as reply
 use Rattle.desk_model.specs.declared.reply.Refusal.TheVariants.{Stale, Limit}
-use Rattle.desk_model.specs.Baf.{Values, Fault, body_read, fields_of}
-use Rattle.desk_model.specs.Desk.{Desk, Plan}
-use Rattle.desk_model.specs.Geography.{Ground}
-use Rattle.desk_model.specs.Outcome.{IsAcceptance}
-use Rattle.desk_model.specs.Step.{Outcome, refused, revision_limit, plan_limit, on_revisions, whole_read, patch_read, county_patched, partly_listed, create, retired, fork, fork_from, fork_of, step_at, step}
-use Rattle.desk_model.specs.Subject.{revision_at}
-use Rattle.desk_model.specs.Kind.{kind_name}
+use Rattle.desk_model.specs.claim.Baf.{Values, Fault, body_read, fields_of}
+use Rattle.desk_model.specs.claim.Desk.{Desk, Plan}
+use Rattle.desk_model.specs.claim.Geography.{Ground}
+use Rattle.desk_model.specs.claim.Outcome.{IsAcceptance}
+use Rattle.desk_model.specs.claim.Step.{Outcome, refused, revision_limit, plan_limit, on_revisions, whole_read, patch_read, county_patched, partly_listed, create, retired, fork, fork_from, fork_of, step_at, step}
+use Rattle.desk_model.specs.claim.Subject.{revision_at}
+use Rattle.desk_model.specs.claim.Kind.{kind_name}
 use Rattle.desk_model.specs.declared.kind.Kind.{Kind}
-use Rattle.field_text.specs.Fields.{fields}
+use Rattle.field_text.specs.claim.Fields.{fields}
 use Rattle.baf_text.specs.Body.{ReadIsListed, value_of, rows}
 use Rattle.accepted_commands.specs.Accepting.{done_by, rows_in}
 use Rattle.accepted_commands.specs.Laws.{IsRevised, IsDone, AcceptanceIsTold}

@@ -5,11 +5,11 @@ use Rattle.desk_model.specs.declared.command.Command.{Command}
 use Rattle.desk_model.specs.declared.command.Command.TheVariants.{Create, Whole, Counties, Retire, Fork}
 use Rattle.desk_model.specs.declared.reply.Reply.{Reply}
 use Rattle.desk_model.specs.declared.reply.Reply.TheVariants as reply
-use Rattle.desk_model.specs.Baf.{Values, body_read}
-use Rattle.desk_model.specs.Desk.{Desk, Plan}
-use Rattle.desk_model.specs.Geography.{Ground}
-use Rattle.desk_model.specs.Outcome.{IsAcceptance}
-use Rattle.desk_model.specs.Step.{step}
+use Rattle.desk_model.specs.claim.Baf.{Values, body_read}
+use Rattle.desk_model.specs.claim.Desk.{Desk, Plan}
+use Rattle.desk_model.specs.claim.Geography.{Ground}
+use Rattle.desk_model.specs.claim.Outcome.{IsAcceptance}
+use Rattle.desk_model.specs.claim.Step.{step}
 use Rattle.accepted_commands.specs.Accepting.{done_by}
 use Rattle.accepted_commands.specs.declared.accepted.Accepted.{Accepted}
 use Rattle.accepted_commands.specs.declared.accepted.Accepted.TheVariants.{Created, Revised, Forked, Deleted}

@@ -3,7 +3,7 @@ use Rattle.std.proofs.Common.{◌≡◌, ◌≢◌, ℕ, ◌+◌, ◌<◌, ◌�
 use Rattle.std.proofs.lemmas.Bool.{cases_eq, cases_lt}
 use Rattle.std.proofs.lemmas.List.Elements.{All-more, All-nil, All-weaker, Contains-get_or}
 use Rattle.desk_model.specs.declared.geography.Pair.{Pair}
-use Rattle.audit_contiguity.specs.Paths.{AreNeighbours, IsIn, AreJoined}
+use Rattle.audit_contiguity.specs.claim.Paths.{AreNeighbours, IsIn, AreJoined}
 use Rattle.audit_contiguity.specs.Forest.{PointsDown, AreAlone, IsRooting, merged, HasOneRoot, IsForest}
 use Rattle.audit_contiguity.proofs.Walks.{joined_here, joined_on, joined_back, joined_next, end_lies}
 

@@ -4,13 +4,13 @@ use Rattle.std.specs.Prelude.{MatchOption}
 use Rattle.std.proofs.lemmas.Bool.{cond-true, cond_both, and_from, lt-ltb}
 use Rattle.std.proofs.lemmas.List.{length-map, get_or-map}
 use Rattle.std.proofs.lemmas.List.Elements.{All-weaker}
-use Rattle.desk_model.specs.Geography.{Ground}
+use Rattle.desk_model.specs.claim.Geography.{Ground}
 use Rattle.audit_contiguity.specs.declared.breaks.Gap.{Gap}
 use Rattle.audit_contiguity.specs.declared.breaks.Break.{Break}
 use Rattle.desk_model.specs.declared.geography.Pair.{Pair}
-use Rattle.audit_contiguity.specs.Paths.{IsIn, AreJoined, HoldsTogether}
+use Rattle.audit_contiguity.specs.claim.Paths.{IsIn, AreJoined, HoldsTogether}
 use Rattle.audit_contiguity.specs.Forest.{IsForest}
-use Rattle.audit_contiguity.specs.Breaks.{IsApart, IsGap, IsBreak, AreBreaks}
+use Rattle.audit_contiguity.specs.claim.Breaks.{IsApart, IsGap, IsBreak, AreBreaks}
 use Rattle.audit_contiguity.specs.Parts.{is_own, kept, Shown}
 
 kept_own : (own : List Bool) (d : ℕ) → is_own own d ≡ true → kept own d ≡ d

@@ -9,11 +9,11 @@ use Rattle.std.proofs.lemmas.List.Elements.{All-contains, All-append, All-weaker
 use Rattle.std.proofs.lemmas.Map.Keys.{sorted_tail, sorted_from_strictly_increasing}
 use Rattle.std.proofs.lemmas.Map.Views.{All-after_first}
 use Rattle.std.proofs.lemmas.Map.Made.{Contains-tail}
-use Rattle.desk_model.specs.Geography.{Ground, id_at}
+use Rattle.desk_model.specs.claim.Geography.{Ground, id_at}
 use Rattle.audit_contiguity.specs.declared.breaks.Gap.{Gap}
 use Rattle.audit_contiguity.specs.declared.breaks.Break.{Break}
-use Rattle.audit_contiguity.specs.Paths.{IsIn, HoldsTogether}
-use Rattle.audit_contiguity.specs.Breaks.{IsLeast, IsApart, IsGap, IsBreak, IsBreakWithin, districts_of, AreBreaks}
+use Rattle.audit_contiguity.specs.claim.Paths.{IsIn, HoldsTogether}
+use Rattle.audit_contiguity.specs.claim.Breaks.{IsLeast, IsApart, IsGap, IsBreak, IsBreakWithin, districts_of, AreBreaks}
 
 later : (x : ℕ) (xs : List ℕ) (z : ℕ) → IsStrictlySortedBy nat_cmp (x ∷ xs) → Contains xs z → x < z
 later x xs z sorted has = ranked x z Less (sym (All-contains (λ q. nat_cmp x q ≡ Less) xs z (All-after_first nat_cmp x xs sorted) has))

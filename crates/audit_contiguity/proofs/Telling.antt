@@ -6,14 +6,14 @@ use Rattle.std.proofs.lemmas.List.{length-map, map_push, length_push, get_or_pus
 use Rattle.std.proofs.lemmas.List.Elements.{All-push, All-nil, All-contains, Contains-push, Contains-append_left}
 use Rattle.desk_model.specs.declared.block.BlockRow.{BlockRow}
 use Rattle.desk_model.specs.declared.geography.Pair.{Pair}
-use Rattle.desk_model.specs.Geography.{Ground, id_at}
+use Rattle.desk_model.specs.claim.Geography.{Ground, id_at}
 use Rattle.audit_contiguity.specs.declared.breaks.Gap.{Gap}
 use Rattle.audit_contiguity.specs.declared.breaks.Break.{Break}
 use Rattle.audit_contiguity.specs.declared.lowest.Lowest.TheVariants.{Zero, One, Two}
-use Rattle.audit_contiguity.specs.Paths.{AreNeighbours, IsIn, AreJoined, HoldsTogether}
+use Rattle.audit_contiguity.specs.claim.Paths.{AreNeighbours, IsIn, AreJoined, HoldsTogether}
 use Rattle.audit_contiguity.specs.Forest.{HasOneRoot, IsForest}
 use Rattle.audit_contiguity.specs.Lowest.{IsRoot, AreLowest}
-use Rattle.audit_contiguity.specs.Breaks.{IsLeast, IsApart, IsGap, IsBreak, IsBreakWithin, districts_of, AreBreaks}
+use Rattle.audit_contiguity.specs.claim.Breaks.{IsLeast, IsApart, IsGap, IsBreak, IsBreakWithin, districts_of, AreBreaks}
 use Rattle.audit_contiguity.proofs.Walks.{joined_on, joined_back, end_lies, same_joined}
 
 -- the root of a block of the district is one of its roots

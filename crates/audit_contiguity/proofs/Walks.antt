@@ -2,7 +2,7 @@
 use Rattle.std.proofs.Common.{◌≡◌, ℕ, inl, inr, List, [], ◌∷◌, ◌++◌, All, sym, ap, ◌∙◌, refl}
 use Rattle.std.proofs.lemmas.List.Elements.{All-cons, All-head, All-tail, All-nil, All-push}
 use Rattle.desk_model.specs.declared.geography.Pair.{Pair}
-use Rattle.audit_contiguity.specs.Paths.{AreNeighbours, IsPath, end_of, IsIn, AreJoined}
+use Rattle.audit_contiguity.specs.claim.Paths.{AreNeighbours, IsPath, end_of, IsIn, AreJoined}
 
 path_push : (pairs : List Pair) (a c : ℕ) (rest : List ℕ) → IsPath pairs a rest → AreNeighbours pairs (end_of a rest) c → IsPath pairs a (rest ++ c ∷ [])
 path_push pairs a c [] path next = (next, tt)

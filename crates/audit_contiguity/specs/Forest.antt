@@ -1,7 +1,7 @@
 -- Trees of blocks: each block points to itself or to a lower block of its tree.
 use Rattle.std.specs.Prelude.{◌≡◌, ℕ, ◌<◌, ◌≤◌, ◌==◌, if◌then◌else◌, List, length, get_or, take, All}
 use Rattle.desk_model.specs.declared.geography.Pair.{Pair}
-use Rattle.audit_contiguity.specs.Paths.{IsIn, AreJoined}
+use Rattle.audit_contiguity.specs.claim.Paths.{IsIn, AreJoined}
 
 abbrev pub PointsDown : List ℕ → Type 0
 PointsDown parents = (i : ℕ) → i < length parents → get_or parents i 0 ≤ i

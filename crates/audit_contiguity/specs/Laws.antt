@@ -1,9 +1,9 @@
 -- Laws of the breaks of a plan.
 use Rattle.std.specs.Prelude.{◌≡◌, ℕ, ◌+◌, ◌≤◌, ◌++◌, List, Contains}
 use Rattle.std.specs.List.Sorted.{IsStrictlyIncreasing}
-use Rattle.desk_model.specs.Geography.{Ground}
+use Rattle.desk_model.specs.claim.Geography.{Ground}
 use Rattle.audit_contiguity.specs.declared.breaks.Break.{Break}
-use Rattle.audit_contiguity.specs.Breaks.{AreBreaks}
+use Rattle.audit_contiguity.specs.claim.Breaks.{AreBreaks}
 
 -- a plan's breaks are one list
 abbrev pub BreaksAreOneList : Type 0

@@ -1,6 +1,5 @@
-pub mod Breaks
+pub mod claim
 pub mod Forest
 pub mod Laws
 pub mod Lowest
 pub mod Parts
-pub mod Paths

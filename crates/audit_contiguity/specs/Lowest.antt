@@ -2,7 +2,7 @@
 use Rattle.std.specs.Prelude.{◌≡◌, ℕ, ◌+◌, ◌<◌, ◌≤◌, ◌⊎◌, List, length, get_or}
 use Rattle.audit_contiguity.specs.declared.lowest.Lowest.{Lowest}
 use Rattle.audit_contiguity.specs.declared.lowest.Lowest.TheVariants.{Zero, One, Two}
-use Rattle.audit_contiguity.specs.Paths.{IsIn}
+use Rattle.audit_contiguity.specs.claim.Paths.{IsIn}
 
 -- the roots once the next is noted
 abbrev pub noted : Lowest → ℕ → Lowest

@@ -1,7 +1,7 @@
 -- Some of a plan's districts, in parts of sixteen: part k, from 0, has the districts from 16 * k + 1 to 16 * k + 16, or to the last.
 use Rattle.std.specs.Prelude.{◌≡◌, ℕ, ◌-◌, ◌/◌, ◌<◌, ◌≤◌, Bool, false, ◌&&◌, nat_lt, if◌then◌else◌, List, length, get_or, map}
 use Rattle.desk_model.specs.declared.geography.Pair.{Pair}
-use Rattle.desk_model.specs.Geography.{Ground}
+use Rattle.desk_model.specs.claim.Geography.{Ground}
 use Rattle.audit_contiguity.specs.declared.lowest.Lowest.{Lowest}
 use Rattle.audit_contiguity.specs.Forest.{IsForest}
 use Rattle.audit_contiguity.specs.Lowest.{AreAllLowest}

@@ -1,6 +1,6 @@
 //! The districts that don't hold together.
 ghost use Rattle.std.specs.Prelude.{◌≡◌, ◌+◌, ◌-◌, ◌<◌, ◌≤◌, ◌^◌, length, IfOk, Some, None};
-ghost use Rattle.audit_contiguity.specs.Breaks.{AreBreaks};
+ghost use Rattle.audit_contiguity.specs.claim.Breaks.{AreBreaks};
 ghost use Rattle.audit_contiguity.specs.Forest.{IsForest};
 ghost use Rattle.audit_contiguity.specs.Lowest.{AreAllLowest};
 

@@ -1,6 +1,6 @@
 //! The districts of a plan in parts of sixteen, of which some are judged by themselves.
 ghost use Rattle.std.specs.Prelude.{◌≡◌, ◌+◌, ◌-◌, ◌*◌, ◌<◌, ◌≤◌, length, map, min, false, get_or, IsTrue, IfOk};
-ghost use Rattle.audit_contiguity.specs.Breaks.{AreBreaks};
+ghost use Rattle.audit_contiguity.specs.claim.Breaks.{AreBreaks};
 ghost use Rattle.audit_contiguity.specs.Parts.{is_own as is_own_of, kept};
 
 use crate::breaks::{Break, tell};

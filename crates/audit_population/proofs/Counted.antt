@@ -8,7 +8,7 @@ use Rattle.std.proofs.lemmas.Bool.{cases_eq}
 use Rattle.std.proofs.lemmas.List.{same_lists}
 use Rattle.std.proofs.lemmas.Slice.Zip.{length-zip, get_or-zip}
 use Rattle.desk_model.specs.declared.block.BlockRow.{BlockRow}
-use Rattle.audit_population.specs.People.{people_in, populations_of, state_people}
+use Rattle.audit_population.specs.claim.People.{people_in, populations_of, state_people}
 
 -- a block's people, where the plan gives it to the district
 abbrev pub share : ℕ → BlockRow × ℕ → ℕ

@@ -3,8 +3,8 @@ use Rattle.std.proofs.Common.{◌≡◌, ℕ, ◌+◌, ◌-◌, ◌*◌, ◌<◌
 use Rattle.std.proofs.lemmas.List.{map-id, append-nil}
 use Rattle.std.proofs.lemmas.Bool.{lt-ltb, le-ltb}
 use Rattle.std.proofs.lemmas.List.FromFn.{filter_of_map_range_with_len_more}
-use Rattle.audit_population.specs.People.{districts}
-use Rattle.audit_population.specs.Clauses.{deviation, deviates}
+use Rattle.audit_population.specs.claim.People.{districts}
+use Rattle.audit_population.specs.claim.Clauses.{deviation, deviates}
 
 filter_more : (p : ℕ → Bool) (i : ℕ) → filter p (districts (i + 1)) ≡ filter p (districts i) ++ cond (p (i + 1)) ((i + 1) ∷ []) []
 filter_more p i =

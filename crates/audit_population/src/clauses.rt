@@ -1,8 +1,8 @@
 //! The clauses: of the mean, of the range, and of a district of the congress.
 ghost use Rattle.std.specs.Prelude.{◌≡◌, ◌<◌, ◌≤◌, ◌*◌, ◌^◌, ◌↔◌, ℕ, length, IfOk, IfSome, IfNone, IsTrue, nat_lt};
 ghost use Rattle.std.specs.List.{IsFirstBest};
-ghost use Rattle.audit_population.specs.Clauses.{deviation, MeanBreaks, IsDistrict, population_of, ExceedsByFivePercent};
-ghost use Rattle.audit_population.specs.Clauses.{IsFirstMostPopulous, IsFirstLeastPopulous, deviating_districts};
+ghost use Rattle.audit_population.specs.claim.Clauses.{deviation, MeanBreaks, IsDistrict, population_of, ExceedsByFivePercent};
+ghost use Rattle.audit_population.specs.claim.Clauses.{IsFirstMostPopulous, IsFirstLeastPopulous, deviating_districts};
 
 use std::alloc::{AllocError, Global};
 

@@ -1,7 +1,7 @@
 //! The people of districts and of the state.
 ghost use Rattle.std.specs.Prelude.{◌≡◌, ◌<◌, ◌≤◌, ◌^◌, length, replicate, IfOk};
-ghost use Rattle.desk_model.specs.Geography.{AreBlocks};
-ghost use Rattle.audit_population.specs.People.{populations_of, state_people};
+ghost use Rattle.desk_model.specs.claim.Grounds.{AreBlocks};
+ghost use Rattle.audit_population.specs.claim.People.{populations_of, state_people};
 
 use desk_model::block::BlockRow;
 use desk_model::geography::Geography;

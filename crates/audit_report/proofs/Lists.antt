@@ -4,7 +4,7 @@ use Rattle.std.proofs.lemmas.List.{map_push, map_more, take_all}
 use Rattle.serde_json.specs.Data.{Data, array}
 use Rattle.serde_json.specs.View.{view, items_of}
 use Rattle.serde_json.specs.declared.value.Value.{Value}
-use Rattle.audit_report.specs.ReportText.{list_data}
+use Rattle.audit_report.specs.claim.ReportText.{list_data}
 
 -- the values so far are those of the first items
 abbrev pub AreFirst : {X : Type 0} → (X → Data) → List X → ℕ → List Value → Type 0

@@ -6,7 +6,7 @@ use Rattle.std.proofs.lemmas.List.{append-nil, length-map, map_push, length_push
 use Rattle.std.proofs.lemmas.List.Elements.{All-push, All-nil, All-weaker, Contains-push, Contains-append_left}
 use Rattle.audit_report.specs.declared.clause.Clause.{Clause}
 use Rattle.audit_report.specs.declared.clause.Clause.TheVariants.{Complete, Mean, Range, Congress, Contiguous, Nested}
-use Rattle.audit_report.specs.Clauses.{rank, AreExactlyClauses}
+use Rattle.audit_report.specs.claim.Clauses.{rank, AreExactlyClauses}
 use Rattle.audit_report.specs.Assembled.{noted}
 
 -- the clauses of a lower rank of which this holds are named

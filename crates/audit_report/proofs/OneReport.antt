@@ -6,17 +6,17 @@ use Rattle.std.proofs.lemmas.List.Elements.{All-contains, Contains-get_or}
 use Rattle.desk_model.specs.declared.kind.Kind.{Kind}
 use Rattle.desk_model.specs.declared.kind.Kind.TheVariants as kind
 use Rattle.audit_population.specs.declared.clauses.Extremes.{Extremes}
-use Rattle.audit_population.specs.People.{populations_of}
-use Rattle.audit_population.specs.Clauses.{IsFirstMostPopulous, IsFirstLeastPopulous}
+use Rattle.audit_population.specs.claim.People.{populations_of}
+use Rattle.audit_population.specs.claim.Clauses.{IsFirstMostPopulous, IsFirstLeastPopulous}
 use Rattle.audit_contiguity.specs.Laws.{BreaksAreOneList, RisingListsAreOne}
-use Rattle.audit_splits_nesting.specs.Exactly.{AreExactly}
-use Rattle.audit_splits_nesting.specs.Divided.{IsDividedCounty, IsDividedCity, IsDividedWithinCounty}
-use Rattle.audit_splits_nesting.specs.Nested.{BreaksNesting}
+use Rattle.audit_splits_nesting.specs.claim.Exactly.{AreExactly}
+use Rattle.audit_splits_nesting.specs.claim.Divided.{IsDividedCounty, IsDividedCity, IsDividedWithinCounty}
+use Rattle.audit_splits_nesting.specs.claim.Nested.{BreaksNesting}
 use Rattle.audit_report.specs.declared.clause.Clause.{Clause}
 use Rattle.audit_report.specs.declared.clause.Clause.TheVariants.{Complete}
-use Rattle.audit_report.specs.Clauses.{rank, RangeBreaks, IsNamed, AreExactlyClauses}
+use Rattle.audit_report.specs.claim.Clauses.{rank, RangeBreaks, IsNamed, AreExactlyClauses}
 use Rattle.audit_report.specs.Laws.{ReportIsOne}
-use Rattle.audit_report.specs.Report.{AreExtremes, IsRange, IsNesting, IsDividedBy}
+use Rattle.audit_report.specs.claim.Report.{AreExtremes, IsRange, IsNesting, IsDividedBy}
 use Rattle.audit_report.proofs.Naming.{clause_at, at_rank}
 
 from_ranks : (xs : List Clause) → map clause_at (map rank xs) ≡ xs

@@ -2,7 +2,7 @@
 use Rattle.std.proofs.Common.{◌≡◌, ℕ, ◌-◌, ◌^◌, false, [], ◌++◌, length, replicate, ap, ◌∙◌, arith}
 use Rattle.std.specs.Fmt.{decimal, padded_integral, format_spec, char_count}
 use Rattle.std.proofs.lemmas.List.{append-nil}
-use Rattle.desk_model.specs.Baf.{padded_decimal}
+use Rattle.desk_model.specs.claim.Padded.{padded_decimal}
 
 pub padded_zeros : (width n : ℕ) → padded_integral (format_spec 32 0 4 width (2 ^ 64 - 1)) false [] (decimal n) ≡ padded_decimal width n
 unfolding padded_integral char_count

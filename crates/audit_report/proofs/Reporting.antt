@@ -8,21 +8,21 @@ use Rattle.std.proofs.lemmas.List.FromFn.{length-map-range_with_len}
 use Rattle.desk_model.specs.declared.kind.Kind.{Kind}
 use Rattle.desk_model.specs.declared.kind.Kind.TheVariants as kind
 use Rattle.desk_model.specs.declared.block.BlockRow.{BlockRow}
-use Rattle.desk_model.specs.Companions.{takes}
-use Rattle.desk_model.specs.Geography.{Ground}
+use Rattle.desk_model.specs.claim.Companions.{takes}
+use Rattle.desk_model.specs.claim.Geography.{Ground}
 use Rattle.audit_population.specs.declared.clauses.Extremes.{Extremes}
-use Rattle.audit_population.specs.People.{people_in, populations_of, state_people, districts}
-use Rattle.audit_population.specs.Clauses.{deviates}
+use Rattle.audit_population.specs.claim.People.{people_in, populations_of, state_people, districts}
+use Rattle.audit_population.specs.claim.Clauses.{deviates}
 use Rattle.audit_contiguity.specs.declared.breaks.Gap.{Gap}
 use Rattle.audit_contiguity.specs.declared.breaks.Break.{Break}
-use Rattle.audit_contiguity.specs.Paths.{IsIn, HoldsTogether}
-use Rattle.audit_contiguity.specs.Breaks.{IsGap, AreBreaks}
+use Rattle.audit_contiguity.specs.claim.Paths.{IsIn, HoldsTogether}
+use Rattle.audit_contiguity.specs.claim.Breaks.{IsGap, AreBreaks}
 use Rattle.audit_report.specs.declared.clause.Clause.{Clause}
 use Rattle.audit_report.specs.declared.clause.Clause.TheVariants.{Complete, Mean, Range, Congress, Contiguous, Nested}
 use Rattle.audit_report.specs.declared.pieces.Pieces.{Pieces}
-use Rattle.audit_report.specs.Clauses.{is_house, is_congress, is_legislative, RangeBreaks, CongressBreaks, ContiguityBreaks, NestingBreaks, IsNamed, AreExactlyClauses}
-use Rattle.audit_report.specs.Figures.{Figures}
-use Rattle.audit_report.specs.Report.{congress_of, AreExtremes, IsRange, IsNesting, not_asked_of}
+use Rattle.audit_report.specs.claim.Clauses.{is_house, is_congress, is_legislative, RangeBreaks, CongressBreaks, ContiguityBreaks, NestingBreaks, IsNamed, AreExactlyClauses}
+use Rattle.audit_report.specs.claim.Figures.{Figures}
+use Rattle.audit_report.specs.claim.Report.{congress_of, AreExtremes, IsRange, IsNesting, not_asked_of}
 use Rattle.audit_report.specs.Pieces.{ArePeople, ReportsPieces}
 use Rattle.audit_report.specs.Assembled.{is_listed, found_clauses}
 use Rattle.audit_report.proofs.Counting.{has_from_count, count_from_has, filter_from_district, first_filtered}

@@ -8,8 +8,8 @@ use Rattle.serde_json.specs.Written.{has_float, compact_text}
 use Rattle.audit_population.specs.declared.clauses.Extremes.{Extremes}
 use Rattle.audit_contiguity.specs.declared.breaks.Gap.{Gap}
 use Rattle.audit_contiguity.specs.declared.breaks.Break.{Break}
-use Rattle.audit_report.specs.Figures.{Figures}
-use Rattle.audit_report.specs.ReportText.{clause_data, code_data, number_data, list_data, gap_data, break_data, divided_data, range_data, report_data, report_text}
+use Rattle.audit_report.specs.claim.Figures.{Figures}
+use Rattle.audit_report.specs.claim.ReportText.{clause_data, code_data, number_data, list_data, gap_data, break_data, divided_data, range_data, report_data, report_text}
 
 list_has_no_float : {X : Type 0} (f : X → Data) → ((x : X) → has_float (f x) ≡ false) → (xs : List X) → has_float (list_data f xs) ≡ false
 list_has_no_float f none [] = refl

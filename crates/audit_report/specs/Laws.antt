@@ -2,9 +2,9 @@
 use Rattle.std.specs.Prelude.{◌≡◌, ℕ, List}
 use Rattle.desk_model.specs.declared.companions.Companions.{Companions}
 use Rattle.desk_model.specs.declared.kind.Kind.{Kind}
-use Rattle.desk_model.specs.Geography.{Ground}
-use Rattle.audit_report.specs.Figures.{Figures}
-use Rattle.audit_report.specs.Report.{IsReport}
+use Rattle.desk_model.specs.claim.Geography.{Ground}
+use Rattle.audit_report.specs.claim.Figures.{Figures}
+use Rattle.audit_report.specs.claim.Report.{IsReport}
 
 -- a plan has one report
 abbrev pub ReportIsOne : Type 0

@@ -3,19 +3,19 @@ use Rattle.std.specs.Prelude.{◌≡◌, ℕ, Bool, IsTrue, List, option_map, is
 use Rattle.desk_model.specs.declared.companions.Companions.{Companions}
 use Rattle.desk_model.specs.declared.kind.Kind.{Kind}
 use Rattle.desk_model.specs.Companions.{AreTaken}
-use Rattle.desk_model.specs.Geography.{Ground}
-use Rattle.audit_population.specs.People.{populations_of, state_people}
-use Rattle.audit_population.specs.Clauses.{MeanBreaks}
-use Rattle.audit_contiguity.specs.Breaks.{AreBreaks}
-use Rattle.audit_splits_nesting.specs.Exactly.{AreExactly}
-use Rattle.audit_splits_nesting.specs.Divided.{IsDividedCounty, IsDividedCity, IsDividedWithinCounty}
+use Rattle.desk_model.specs.claim.Geography.{Ground}
+use Rattle.audit_population.specs.claim.People.{populations_of, state_people}
+use Rattle.audit_population.specs.claim.Clauses.{MeanBreaks}
+use Rattle.audit_contiguity.specs.claim.Breaks.{AreBreaks}
+use Rattle.audit_splits_nesting.specs.claim.Exactly.{AreExactly}
+use Rattle.audit_splits_nesting.specs.claim.Divided.{IsDividedCounty, IsDividedCity, IsDividedWithinCounty}
 use Rattle.audit_report.specs.declared.pieces.People.{People}
 use Rattle.audit_report.specs.declared.pieces.Splits.{Splits}
 use Rattle.audit_report.specs.declared.pieces.Unnested.{Unnested}
 use Rattle.audit_report.specs.declared.pieces.Pieces.{Pieces}
-use Rattle.audit_report.specs.Clauses.{is_legislative}
-use Rattle.audit_report.specs.Figures.{Figures}
-use Rattle.audit_report.specs.Report.{unassigned_of, congress_of, IsRange, IsNesting, IsDividedBy, IsReport}
+use Rattle.audit_report.specs.claim.Clauses.{is_legislative}
+use Rattle.audit_report.specs.claim.Figures.{Figures}
+use Rattle.audit_report.specs.claim.Report.{unassigned_of, congress_of, IsRange, IsNesting, IsDividedBy, IsReport}
 
 -- whether the clause of the mean applies and is broken
 pub record IsMean (kind : Kind) (populations : List ℕ) (total : ℕ) (told : Bool) : Type 0 where

@@ -3,7 +3,7 @@ ghost use Rattle.std.specs.Prelude.{◌≡◌, ◌≤◌, ◌++◌, length, is_s
 ghost use Rattle.desk_model.specs.Companions.{AreLong, AreTaken, companions_at};
 ghost use Rattle.audit_report.specs.Assembled.{noted, found_clauses};
 ghost use Rattle.audit_report.specs.Pieces.{ReportsPieces};
-ghost use Rattle.audit_report.specs.Report.{not_asked_of, IsReport};
+ghost use Rattle.audit_report.specs.claim.Report.{not_asked_of, IsReport};
 
 use crate::clause::Clause;
 use crate::pieces::{People, Pieces, Splits, Unnested, find_nesting, find_people, find_splits};

@@ -1,6 +1,6 @@
 //! The clauses that an audit judges.
 ghost use Rattle.std.specs.Prelude.{◌≡◌, Some};
-ghost use Rattle.audit_report.specs.Clauses.{clause_name};
+ghost use Rattle.audit_report.specs.claim.Clauses.{clause_name};
 
 use std::fmt;
 
@@ -39,7 +39,7 @@ impl Clause {
 
 impl fmt::Display for Clause {
     ghost use Rattle.std.specs.Prelude.{Some};
-    ghost use Rattle.audit_report.specs.Clauses.{clause_name};
+    ghost use Rattle.audit_report.specs.claim.Clauses.{clause_name};
 
     ghost output = { λ c. Some (clause_name c) };
 

@@ -2,12 +2,12 @@
 ghost use Rattle.std.specs.Prelude.{◌≡◌, ◌<◌, ◌≤◌, ◌^◌, length, IfOk, IsTrue, ◌&&◌, ◌↔◌, IfSome, option_map};
 ghost use Rattle.std.specs.Option.{option_copied};
 ghost use Rattle.desk_model.specs.Companions.{AreLong, companions_copied};
-ghost use Rattle.audit_population.specs.People.{populations_of, state_people};
-ghost use Rattle.audit_population.specs.Clauses.{MeanBreaks};
-ghost use Rattle.audit_splits_nesting.specs.Exactly.{AreExactly};
-ghost use Rattle.audit_splits_nesting.specs.Divided.{IsDividedCounty, IsDividedCity, IsDividedWithinCounty};
-ghost use Rattle.audit_report.specs.Clauses.{is_legislative};
-ghost use Rattle.audit_report.specs.Report.{unassigned_of, congress_of, IsRange, IsNesting, IsDividedBy};
+ghost use Rattle.audit_population.specs.claim.People.{populations_of, state_people};
+ghost use Rattle.audit_population.specs.claim.Clauses.{MeanBreaks};
+ghost use Rattle.audit_splits_nesting.specs.claim.Exactly.{AreExactly};
+ghost use Rattle.audit_splits_nesting.specs.claim.Divided.{IsDividedCounty, IsDividedCity, IsDividedWithinCounty};
+ghost use Rattle.audit_report.specs.claim.Clauses.{is_legislative};
+ghost use Rattle.audit_report.specs.claim.Report.{unassigned_of, congress_of, IsRange, IsNesting, IsDividedBy};
 ghost use Rattle.audit_report.specs.Pieces.{IsMean, ArePeople, AreSplits, AreUnnested};
 
 use audit_contiguity::breaks::Break;

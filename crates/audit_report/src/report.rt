@@ -1,7 +1,7 @@
 //! The report of an audit.
 ghost use Rattle.std.specs.Prelude.{◌≡◌, IfOk, string_bytes};
 ghost use Rattle.serde_json.specs.View.{view, members_view};
-ghost use Rattle.audit_report.specs.ReportText.{report_data, report_text};
+ghost use Rattle.audit_report.specs.claim.ReportText.{report_data, report_text};
 ghost use Rattle.audit_report.specs.Keys.{last_members, middle_members, first_members};
 
 use crate::clause::Clause;
@@ -52,7 +52,7 @@ pub struct Report {
 
 impl Model for Report {
     ghost use Rattle.std.specs.Prelude.{option_map};
-    ghost use Rattle.audit_report.specs.Figures.{Figures};
+    ghost use Rattle.audit_report.specs.claim.Figures.{Figures};
 
     ghost Value = { Figures };
 

@@ -1,8 +1,8 @@
 //! The parts of a report as JSON.
 ghost use Rattle.std.specs.Prelude.{◌≡◌, IfOk, option_map, string_bytes};
 ghost use Rattle.serde_json.specs.View.{view};
-ghost use Rattle.desk_model.specs.Baf.{padded_decimal};
-ghost use Rattle.audit_report.specs.ReportText.{clause_data, code_data, number_data, list_data, break_data, divided_data, range_data};
+ghost use Rattle.desk_model.specs.claim.Padded.{padded_decimal};
+ghost use Rattle.audit_report.specs.claim.ReportText.{clause_data, code_data, number_data, list_data, break_data, divided_data, range_data};
 
 use crate::clause::Clause;
 use audit_contiguity::breaks::Break;

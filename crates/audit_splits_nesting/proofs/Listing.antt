@@ -4,7 +4,7 @@ use Rattle.std.specs.List.Sorted.{IsStrictlyIncreasing}
 use Rattle.std.proofs.lemmas.Bool.{cases_lt}
 use Rattle.std.proofs.lemmas.List.{length_push, get_or_push, get_or_append_left}
 use Rattle.std.proofs.lemmas.List.Elements.{All-push, All-nil, All-weaker, Contains-push, Contains-append_left}
-use Rattle.audit_splits_nesting.specs.Exactly.{AreExactly}
+use Rattle.audit_splits_nesting.specs.claim.Exactly.{AreExactly}
 
 -- the numbers below count of which this holds are listed
 pub record AreListed (Holds : ℕ → Type 0) (count : ℕ) (numbers : List ℕ) : Type 0 where

@@ -5,9 +5,9 @@ use Rattle.std.proofs.lemmas.List.{get_or_past}
 use Rattle.desk_model.specs.declared.block.BlockRow.{BlockRow}
 use Rattle.audit_splits_nesting.specs.declared.mark.GroupMark.{GroupMark}
 use Rattle.audit_splits_nesting.specs.declared.mark.GroupMark.TheVariants.{Unseen, Seen, Divided}
-use Rattle.audit_splits_nesting.specs.Divided.{county_at, IsInCounty, IsInCity, AreDivided, IsDividedCounty, IsDividedCity, IsDividedWithinCounty}
-use Rattle.audit_splits_nesting.specs.Exactly.{AreExactly}
-use Rattle.audit_splits_nesting.specs.Nested.{IsIn, IsNested, BreaksNesting}
+use Rattle.audit_splits_nesting.specs.claim.Divided.{county_at, IsInCounty, IsInCity, AreDivided, IsDividedCounty, IsDividedCity, IsDividedWithinCounty}
+use Rattle.audit_splits_nesting.specs.claim.Exactly.{AreExactly}
+use Rattle.audit_splits_nesting.specs.claim.Nested.{IsIn, IsNested, BreaksNesting}
 use Rattle.audit_splits_nesting.specs.Marks.{mark_at, value_at, one_part, IsSplit, IsMark, AreMarks, IsDividedAt, IsAsunder, IsAsunderAt}
 use Rattle.audit_splits_nesting.proofs.Listing.{exactly_same}
 use Rattle.audit_splits_nesting.proofs.Places.{county_below}

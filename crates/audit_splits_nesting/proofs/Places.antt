@@ -4,9 +4,10 @@ use Rattle.std.proofs.lemmas.Bool.{cases_lt}
 use Rattle.std.proofs.lemmas.List.{get_or-map, length-map}
 use Rattle.std.proofs.lemmas.Map.Keys.{sorted_from_strictly_increasing, below_from_sorted}
 use Rattle.desk_model.specs.declared.block.BlockRow.{BlockRow}
-use Rattle.desk_model.specs.Block.{county_of, state_of}
-use Rattle.desk_model.specs.Geography.{AreBlocks, ids_of, id_at}
-use Rattle.audit_splits_nesting.specs.Divided.{county_at, city_at, IsInCounty, IsInCity}
+use Rattle.desk_model.specs.claim.Block.{county_of, state_of}
+use Rattle.desk_model.specs.claim.Grounds.{AreBlocks}
+use Rattle.desk_model.specs.claim.Geography.{ids_of, id_at}
+use Rattle.audit_splits_nesting.specs.claim.Divided.{county_at, city_at, IsInCounty, IsInCity}
 
 pub county_here : (blocks : List BlockRow) (i : ℕ) (row : BlockRow) → i < length blocks → row ≡ get_or blocks i row → county_at blocks i ≡ county_of row.id
 county_here blocks i row within is = ap county_of (get_or-map (λ (b : BlockRow). b.id) blocks i row 0 within ∙ ap (λ (b : BlockRow). b.id) (sym is))

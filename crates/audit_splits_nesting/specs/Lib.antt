@@ -1,4 +1,2 @@
-pub mod Divided
-pub mod Exactly
+pub mod claim
 pub mod Marks
-pub mod Nested

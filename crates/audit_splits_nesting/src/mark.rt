@@ -1,6 +1,6 @@
 //! What is noted of the values of a group's blocks, block by block.
 ghost use Rattle.std.specs.Prelude.{◌≡◌, ◌≤◌, ◌^◌, length, IfOk};
-ghost use Rattle.audit_splits_nesting.specs.Exactly.{AreExactly};
+ghost use Rattle.audit_splits_nesting.specs.claim.Exactly.{AreExactly};
 ghost use Rattle.audit_splits_nesting.specs.Marks.{AreUnseen, marked, IsDividedAt};
 
 use std::alloc::{AllocError, Global};

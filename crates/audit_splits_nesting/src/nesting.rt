@@ -1,7 +1,7 @@
 //! Districts that aren't nested in a companion plan.
 ghost use Rattle.std.specs.Prelude.{◌≡◌, ◌≤◌, ◌+◌, ◌^◌, length, IfOk, IsTrue, ◌↔◌};
-ghost use Rattle.audit_splits_nesting.specs.Exactly.{AreExactly};
-ghost use Rattle.audit_splits_nesting.specs.Nested.{IsIn, BreaksNesting};
+ghost use Rattle.audit_splits_nesting.specs.claim.Exactly.{AreExactly};
+ghost use Rattle.audit_splits_nesting.specs.claim.Nested.{IsIn, BreaksNesting};
 ghost use Rattle.audit_splits_nesting.specs.Marks.{AreUnseen, AreMarks, one_part, value_at, IsAsunder, IsAsunderAt};
 
 use crate::mark::{GroupMark, unseen};

@@ -1,8 +1,8 @@
 //! Counties and cities that a plan divides.
 ghost use Rattle.std.specs.Prelude.{◌≡◌, ℕ, ◌<◌, ◌≤◌, ◌^◌, length, IfOk};
-ghost use Rattle.desk_model.specs.Geography.{AreBlocks};
-ghost use Rattle.audit_splits_nesting.specs.Exactly.{AreExactly};
-ghost use Rattle.audit_splits_nesting.specs.Divided.{county_at, IsInCounty, IsInCity, IsDividedCounty, IsDividedCity, IsDividedWithinCounty};
+ghost use Rattle.desk_model.specs.claim.Grounds.{AreBlocks};
+ghost use Rattle.audit_splits_nesting.specs.claim.Exactly.{AreExactly};
+ghost use Rattle.audit_splits_nesting.specs.claim.Divided.{county_at, IsInCounty, IsInCity, IsDividedCounty, IsDividedCity, IsDividedWithinCounty};
 ghost use Rattle.audit_splits_nesting.specs.Marks.{AreUnseen, AreMarks, one_part, value_at};
 
 use crate::mark::{GroupMark, divided_u16, divided_u32, unseen};

@@ -1,7 +1,7 @@
 //! The audit by workers.
 ghost use Rattle.std.specs.Prelude.{◌≡◌, ◌≤◌, length, IfOk};
 ghost use Rattle.desk_model.specs.Companions.{AreLong, AreTaken, companions_at};
-ghost use Rattle.audit_report.specs.Report.{IsReport};
+ghost use Rattle.audit_report.specs.claim.Report.{IsReport};
 ghost use Rattle.audit_workers.specs.Share.{IsSharedOut};
 
 use crate::crew::Crew;

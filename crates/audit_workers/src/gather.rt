@@ -1,6 +1,6 @@
 //! The pieces of an audit put together.
 ghost use Rattle.std.specs.Prelude.{◌≡◌, ◌^◌, ◌<◌, ◌≤◌, ◌/◌, ◌%◌, length, IfOk};
-ghost use Rattle.audit_contiguity.specs.Breaks.{AreBreaks};
+ghost use Rattle.audit_contiguity.specs.claim.Breaks.{AreBreaks};
 ghost use Rattle.audit_report.specs.Pieces.{ArePieces};
 ghost use Rattle.audit_workers.specs.Share.{AreNumberedBelow, AreShares, IsTaken, IsThere};
 ghost use Rattle.audit_workers.specs.Work.{ArePiecesOf};

@@ -13,12 +13,15 @@ use Rattle.std.proofs.lemmas.List.Kept.{AllPairs-from_increasing}
 use Rattle.std.proofs.lemmas.List.Elements.{All-cons, All-nil, All-append, All-head, All-tail}
 use Rattle.desk_model.specs.declared.kind.Kind.{Kind}
 use Rattle.desk_model.specs.declared.kind.Kind.TheVariants.{Congress, Senate, House}
-use Rattle.desk_model.specs.Baf.{Values, Fault, value_at, header, fields_of, padded_decimal, code_text, row_text, line_read, rows_read, body_read, printed}
-use Rattle.desk_model.specs.Geography.{Ground, ids, AreBlocks}
+use Rattle.desk_model.specs.claim.Baf.{Values, Fault, value_at, header, fields_of, line_read, rows_read, body_read}
+use Rattle.desk_model.specs.claim.Padded.{padded_decimal}
+use Rattle.desk_model.specs.claim.Printed.{code_text, row_text, printed}
+use Rattle.desk_model.specs.claim.Geography.{Ground, ids}
+use Rattle.desk_model.specs.claim.Grounds.{AreBlocks}
 use Rattle.desk_model.specs.declared.block.BlockRow.{BlockRow}
-use Rattle.field_text.specs.Fields.{fields}
+use Rattle.field_text.specs.claim.Fields.{fields}
 use Rattle.field_text.proofs.TextLemmas.{lines-cut}
-use Rattle.desk_model.specs.Kind.{most_districts}
+use Rattle.desk_model.specs.claim.Sizes.{most_districts}
 use Rattle.baf_text.specs.Laws.{IsAssignment, PrintedIsRead}
 use Rattle.baf_text.specs.Listed.{listed_of}
 use Rattle.baf_text.proofs.Taken.{header_read}

@@ -14,9 +14,11 @@ use Rattle.std.proofs.lemmas.List.Folds.{list_all-append}
 use Rattle.std.proofs.lemmas.Fmt.{length-decimal-le, digits_decimal, digits_value-decimal}
 use Rattle.desk_model.specs.declared.kind.Kind.{Kind}
 use Rattle.desk_model.specs.declared.kind.Kind.TheVariants.{Congress, Senate, House}
-use Rattle.desk_model.specs.Baf.{code_value, padded_decimal, code_text, in_range}
-use Rattle.desk_model.specs.Kind.{most_districts}
-use Rattle.field_text.specs.Digits.{number_of_digits}
+use Rattle.desk_model.specs.claim.Baf.{code_value, in_range}
+use Rattle.desk_model.specs.claim.Padded.{padded_decimal}
+use Rattle.desk_model.specs.claim.Printed.{code_text}
+use Rattle.desk_model.specs.claim.Sizes.{most_districts}
+use Rattle.field_text.specs.claim.Digits.{number_of_digits}
 use Rattle.baf_text.proofs.Printing.{length-padded}
 use Rattle.baf_text.proofs.Rows.{own}
 

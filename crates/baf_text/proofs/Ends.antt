@@ -6,7 +6,8 @@ use Rattle.std.proofs.lemmas.Bool.{cases_lt}
 use Rattle.std.proofs.lemmas.Fmt.{decimal_digit, decimal_step}
 use Rattle.desk_model.specs.declared.kind.Kind.{Kind}
 use Rattle.desk_model.specs.declared.kind.Kind.TheVariants.{Congress, House}
-use Rattle.desk_model.specs.Baf.{padded_decimal, code_text, row_text}
+use Rattle.desk_model.specs.claim.Padded.{padded_decimal}
+use Rattle.desk_model.specs.claim.Printed.{code_text, row_text}
 use Rattle.baf_text.specs.Ends.{last_four, end_text}
 
 one_zero_more : (m : ℕ) → replicate {A = ℕ} (suc m) 48 ≡ replicate {A = ℕ} m 48 ++ 48 ∷ []

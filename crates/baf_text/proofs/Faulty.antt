@@ -8,9 +8,9 @@ use Rattle.std.proofs.lemmas.Option.{same_Some}
 use Rattle.std.proofs.lemmas.Slice.Eq.{bytes_eq-Decides}
 use Rattle.desk_model.specs.declared.reply.BodyFault.{BodyFault}
 use Rattle.desk_model.specs.declared.reply.BodyFault.TheVariants.{Header}
-use Rattle.desk_model.specs.Baf.{Values, Fault, header, fields_of, line_read, at_line, rows_read, with_header}
-use Rattle.desk_model.specs.Geography.{Ground}
-use Rattle.field_text.specs.Fields.{fields}
+use Rattle.desk_model.specs.claim.Baf.{Values, Fault, header, fields_of, line_read, at_line, rows_read, with_header}
+use Rattle.desk_model.specs.claim.Geography.{Ground}
+use Rattle.field_text.specs.claim.Fields.{fields}
 use Rattle.baf_text.specs.Body.{IsBody, IsFaultyLine, HasNoHeader, FaultIsFirst}
 use Rattle.baf_text.proofs.Listing.{body_lists, body_listed, goes_on}
 

@@ -10,9 +10,9 @@ use Rattle.std.proofs.lemmas.Bool.Decides.{nat_tests}
 use Rattle.std.proofs.lemmas.Option.{cond_some}
 use Rattle.std.proofs.lemmas.List.{drop_more}
 use Rattle.std.proofs.lemmas.List.Elements.{All-cons, All-nil, All-append}
-use Rattle.desk_model.specs.Baf.{Values, are_digits, code_value, fields_of, line_read}
-use Rattle.desk_model.specs.Geography.{Ground}
-use Rattle.field_text.specs.Fields.{fields}
+use Rattle.desk_model.specs.claim.Baf.{Values, are_digits, code_value, fields_of, line_read}
+use Rattle.desk_model.specs.claim.Geography.{Ground}
+use Rattle.field_text.specs.claim.Fields.{fields}
 use Rattle.field_text.proofs.TextLemmas.{lines-cut}
 use Rattle.baf_text.specs.Front.{HasHead, HasFirst, line_parts}
 use Rattle.baf_text.specs.Listed.{line_result}

@@ -6,8 +6,10 @@ use Rattle.std.proofs.lemmas.List.{take-take, take-replicate, length-replicate, 
 use Rattle.std.proofs.lemmas.List.Concat.{flat_map-append}
 use Rattle.desk_model.specs.declared.block.BlockRow.{BlockRow}
 use Rattle.desk_model.specs.declared.kind.Kind.{Kind}
-use Rattle.desk_model.specs.Baf.{header, padded_decimal, row_text}
-use Rattle.desk_model.specs.Geography.{ids_of}
+use Rattle.desk_model.specs.claim.Baf.{header}
+use Rattle.desk_model.specs.claim.Padded.{padded_decimal}
+use Rattle.desk_model.specs.claim.Printed.{row_text}
+use Rattle.desk_model.specs.claim.Geography.{ids_of}
 
 -- zeros before a place are zeros before an earlier one
 pub zeros_below : (xs : List ℕ) (n m : ℕ) → n ≤ m → take m xs ≡ replicate m 48 → take n xs ≡ replicate n 48

@@ -4,10 +4,10 @@ use Rattle.std.specs.Prelude.{nat_eq}
 use Rattle.std.specs.Cmp.Lexicographic.{pointwise}
 use Rattle.std.specs.Str.Lines.{lines}
 use Rattle.desk_model.specs.declared.reply.BodyFault.{BodyFault}
-use Rattle.desk_model.specs.Baf.{Values, header, body_read, rows_read, line_read, at_line, fields_of}
-use Rattle.desk_model.specs.Geography.{Ground}
-use Rattle.field_text.specs.Fields.{fields}
-use Rattle.baf_text.specs.Faults.{IsFaultOf}
+use Rattle.desk_model.specs.claim.Baf.{Values, header, body_read, rows_read, line_read, at_line, fields_of}
+use Rattle.desk_model.specs.claim.Geography.{Ground}
+use Rattle.field_text.specs.claim.Fields.{fields}
+use Rattle.baf_text.specs.claim.Faults.{IsFaultOf}
 use Rattle.baf_text.specs.Listed.{listed_of, IsLineTaken}
 use Rattle.baf_text.specs.declared.reading.BafFault.{BafFault}
 use Rattle.baf_text.specs.declared.reading.BafFault.TheVariants.{Body, Memory}

@@ -6,10 +6,10 @@ use Rattle.std.proofs.lemmas.Bool.{ne_eqb, eq-eqb, cond-true, cond-false, cases_
 use Rattle.std.proofs.lemmas.List.{get_or-map, get_or_default, get_or-set_same, get_or-set_other, length-set, length-map, ext_get_or}
 use Rattle.std.proofs.lemmas.List.Folds.{list_any_none, list_any_at}
 use Rattle.std.proofs.lemmas.Map.Keys.{sorted_from_strictly_increasing, below_from_sorted}
-use Rattle.desk_model.specs.Baf.{Values, value_at, in_range, line_read}
+use Rattle.desk_model.specs.claim.Baf.{Values, value_at, in_range, line_read}
 use Rattle.desk_model.specs.declared.reply.BodyFault.TheVariants.{UnknownBlock, RepeatedBlock, OutOfRange}
 use Rattle.desk_model.specs.declared.block.BlockRow.{BlockRow}
-use Rattle.desk_model.specs.Geography.{Ground, ids, ids_of, id_at}
+use Rattle.desk_model.specs.claim.Geography.{Ground, ids, ids_of, id_at}
 use Rattle.baf_text.specs.Listed.{listed_of}
 
 -- a block that isn't there

@@ -1,8 +1,8 @@
 -- A whole assignment by its values.
 use Rattle.std.proofs.Common.{◌≡◌, ℕ, List, [], ◌∷◌, map, Option, refl, ap}
 use Rattle.std.specs.Prelude.{unwrap_or}
-use Rattle.desk_model.specs.Baf.{Values, value_at}
-use Rattle.desk_model.specs.Geography.{Ground, ids}
+use Rattle.desk_model.specs.claim.Baf.{Values, value_at}
+use Rattle.desk_model.specs.claim.Geography.{Ground, ids}
 use Rattle.baf_text.specs.Listed.{listed_of}
 
 in_turn : (values : Values) (xs : List ℕ) → map (λ (d : Option ℕ). unwrap_or d 0) (map (value_at values) xs) ≡ map (λ id. unwrap_or (value_at values id) 0) xs

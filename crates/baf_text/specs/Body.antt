@@ -5,9 +5,9 @@ use Rattle.std.specs.List.{slice_get}
 use Rattle.std.specs.Str.Lines.{lines}
 use Rattle.desk_model.specs.declared.reply.BodyFault.{BodyFault}
 use Rattle.desk_model.specs.declared.reply.BodyFault.TheVariants.{Header}
-use Rattle.desk_model.specs.Baf.{Values, header, fields_of, in_range, line_read, body_read}
-use Rattle.desk_model.specs.Geography.{Ground, ids}
-use Rattle.field_text.specs.Fields.{fields}
+use Rattle.desk_model.specs.claim.Baf.{Values, header, fields_of, in_range, line_read, body_read}
+use Rattle.desk_model.specs.claim.Geography.{Ground, ids}
+use Rattle.field_text.specs.claim.Fields.{fields}
 
 abbrev pub with_district : ℕ → Option ℕ → Option (ℕ × ℕ)
 with_district id None = None

@@ -1,7 +1,7 @@
 -- The end of a block's line: what stands behind the first 11 digits of the block's number.
 use Rattle.std.specs.Prelude.{ℕ, ◌+◌, ◌/◌, ◌%◌, List, [], ◌∷◌, ◌++◌}
 use Rattle.desk_model.specs.declared.kind.Kind.{Kind}
-use Rattle.desk_model.specs.Baf.{code_text}
+use Rattle.desk_model.specs.claim.Printed.{code_text}
 
 -- a number's last four digits
 abbrev pub last_four : ℕ → List ℕ

@@ -1,9 +1,9 @@
 -- The first line of a text, as a row.
 use Rattle.std.specs.Prelude.{◌≡◌, ◌<◌, ℕ, List, ◌∷◌, length, take, get_or, Option, Some, None, if◌then◌else◌, ◌==◌}
 use Rattle.std.specs.Str.Lines.{lines}
-use Rattle.desk_model.specs.Baf.{fields_of}
-use Rattle.field_text.specs.Digits.{number_of_digits}
-use Rattle.field_text.specs.Fields.{fields}
+use Rattle.desk_model.specs.claim.Baf.{fields_of}
+use Rattle.field_text.specs.claim.Digits.{number_of_digits}
+use Rattle.field_text.specs.claim.Fields.{fields}
 
 -- a text begins with a block's number and a bar
 pub record HasHead (text : List ℕ) (block : ℕ) : Type 0 where

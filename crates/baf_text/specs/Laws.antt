@@ -2,9 +2,11 @@
 use Rattle.std.specs.Prelude.{◌≡◌, ℕ, ◌<◌, ◌≤◌, ◌^◌, List, map, length, Some, Ok, All}
 use Rattle.std.specs.List.{zip}
 use Rattle.desk_model.specs.declared.kind.Kind.{Kind}
-use Rattle.desk_model.specs.Kind.{most_districts}
-use Rattle.desk_model.specs.Baf.{body_read, printed}
-use Rattle.desk_model.specs.Geography.{Ground, ids, AreBlocks}
+use Rattle.desk_model.specs.claim.Sizes.{most_districts}
+use Rattle.desk_model.specs.claim.Baf.{body_read}
+use Rattle.desk_model.specs.claim.Printed.{printed}
+use Rattle.desk_model.specs.claim.Geography.{Ground, ids}
+use Rattle.desk_model.specs.claim.Grounds.{AreBlocks}
 use Rattle.baf_text.specs.Listed.{listed_of}
 
 -- the district of each block, rising, 0 for none, and none above n

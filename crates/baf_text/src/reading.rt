@@ -1,10 +1,10 @@
 //! Reading a block assignment file.
 ghost use Rattle.std.specs.Prelude.{◌≡◌, ◌<◌, ◌+◌, ◌^◌, ℕ, List, map, length, None, IfOk, IfErr, OnOk, IsOkAnd};
-ghost use Rattle.desk_model.specs.Baf.{Values, body_read, fields_of, in_range};
-ghost use Rattle.field_text.specs.Fields.{fields};
+ghost use Rattle.desk_model.specs.claim.Baf.{Values, body_read, fields_of, in_range};
+ghost use Rattle.field_text.specs.claim.Fields.{fields};
 ghost use Rattle.baf_text.specs.Front.{line_parts};
 ghost use Rattle.baf_text.specs.Listed.{listed_of, IsEntry, IsLineTaken};
-ghost use Rattle.baf_text.specs.Faults.{IsFaultOf};
+ghost use Rattle.baf_text.specs.claim.Faults.{IsFaultOf};
 ghost use Rattle.baf_text.specs.declared.reading.BafFault.TheVariants.{Memory};
 
 use crate::listed::Listed;

@@ -1,9 +1,9 @@
 //! A line of a block assignment file.
 ghost use Rattle.std.specs.Prelude.{◌≡◌, ◌<◌, ℕ, [], length, MatchOption, IfSome, Some};
 ghost use Rattle.std.specs.Str.Lines.{lines};
-ghost use Rattle.desk_model.specs.Baf.{code_value, fields_of};
-ghost use Rattle.field_text.specs.Digits.{number_of_digits};
-ghost use Rattle.field_text.specs.Fields.{fields};
+ghost use Rattle.desk_model.specs.claim.Baf.{code_value, fields_of};
+ghost use Rattle.field_text.specs.claim.Digits.{number_of_digits};
+ghost use Rattle.field_text.specs.claim.Fields.{fields};
 ghost use Rattle.baf_text.specs.Front.{HasHead, HasFirst, line_parts};
 
 use desk_model::block::BlockId;

@@ -1,7 +1,8 @@
 //! Printing a block assignment file.
 ghost use Rattle.std.specs.Prelude.{◌≡◌, ℕ, ◌+◌, ◌/◌, ◌%◌, ◌<◌, ◌≤◌, ◌++◌, ◌∷◌, [], length, take, drop, replicate, OnOk, IfOk};
 ghost use Rattle.desk_model.specs.declared.kind.Kind.TheVariants.{Congress, House};
-ghost use Rattle.desk_model.specs.Baf.{padded_decimal, code_text, row_text, printed};
+ghost use Rattle.desk_model.specs.claim.Padded.{padded_decimal};
+ghost use Rattle.desk_model.specs.claim.Printed.{code_text, row_text, printed};
 ghost use Rattle.baf_text.specs.Ends.{end_text};
 
 use crate::reading::HEADER;
@@ -84,7 +85,7 @@ struct RowHead {
 
 impl Model for RowHead {
     ghost use Rattle.std.specs.Prelude.{◌≡◌, ℕ};
-    ghost use Rattle.desk_model.specs.Baf.{padded_decimal};
+    ghost use Rattle.desk_model.specs.claim.Padded.{padded_decimal};
 
     ghost Value = { ℕ };
 

@@ -4,8 +4,9 @@ use Rattle.std.proofs.lemmas.List.{length-map, map_push, get_or_append_left, get
 use Rattle.std.proofs.lemmas.Bool.{cases_lt}
 use Rattle.std.proofs.lemmas.List.Sums.{sum_by-append}
 use Rattle.desk_model.specs.declared.block.BlockRow.{BlockRow}
-use Rattle.desk_model.specs.Block.{state_of}
-use Rattle.desk_model.specs.Geography.{AreBlocks, ids_of}
+use Rattle.desk_model.specs.claim.Block.{state_of}
+use Rattle.desk_model.specs.claim.Grounds.{AreBlocks}
+use Rattle.desk_model.specs.claim.Geography.{ids_of}
 
 abbrev pub id_of : ℕ → ℕ
 id_of k = 190010000000000 + k / 1770 * 10000000000 + k

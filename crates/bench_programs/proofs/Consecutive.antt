@@ -6,8 +6,9 @@ use Rattle.std.proofs.lemmas.Bool.{cases_lt}
 use Rattle.std.proofs.lemmas.List.FromFn.{length-range_with_len, get_or-range_with_len}
 use Rattle.std.proofs.lemmas.List.Sums.{sum_by-append}
 use Rattle.desk_model.specs.declared.block.BlockRow.{BlockRow}
-use Rattle.desk_model.specs.Block.{state_of}
-use Rattle.desk_model.specs.Geography.{AreBlocks, ids_of}
+use Rattle.desk_model.specs.claim.Block.{state_of}
+use Rattle.desk_model.specs.claim.Grounds.{AreBlocks}
+use Rattle.desk_model.specs.claim.Geography.{ids_of}
 
 pub record AreMade (blocks : List BlockRow) (count : ℕ) : Type 0 where
   pub ids : ids_of blocks ≡ range_with_len 190010000000000 count

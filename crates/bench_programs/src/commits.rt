@@ -1,8 +1,8 @@
 //! Commits pages to a device in memory, over and over.
 ghost use Rattle.std.specs.Prelude.{◌≤◌, ℕ, IfOk};
 ghost use Rattle.gate_journal.specs.Store.{IsWithin};
-ghost use Rattle.gate_journal.specs.Writes.{writes_of};
-ghost use Rattle.gate_journal.specs.Contents.{page_count};
+ghost use Rattle.gate_journal.specs.claim.Writes.{writes_of};
+ghost use Rattle.gate_journal.specs.claim.Contents.{page_count};
 
 use gate_journal::{Journal, PageWrites, format};
 use sector_device::SectorDevice;

@@ -1,7 +1,8 @@
 //! A made state: blocks in rows, each beside the next and above the one in the next row; four blocks of seven share an edge with
 //! the one after that too.
 ghost use Rattle.std.specs.Prelude.{◌≡◌, ◌<◌, ◌≤◌, length, All, IfOk, OnOk};
-ghost use Rattle.desk_model.specs.Geography.{AreBlocks, AreDifferentBlocks};
+ghost use Rattle.desk_model.specs.claim.Grounds.{AreBlocks};
+ghost use Rattle.desk_model.specs.Geography.{AreDifferentBlocks};
 
 use audit_contiguity::breaks::Break;
 use desk_model::block::{BlockId, BlockRow};

@@ -1,6 +1,6 @@
 //! Posts patches of one county each to one plan of a catalogue in memory.
 ghost use Rattle.std.specs.Prelude.{◌≡◌, ◌<◌, ◌≤◌, ◌+◌, length, IfOk};
-ghost use Rattle.desk_model.specs.Geography.{AreBlocks};
+ghost use Rattle.desk_model.specs.claim.Grounds.{AreBlocks};
 
 use baf_text::reading::HEADER;
 use desk_catalogue::catalogue::Catalogue;

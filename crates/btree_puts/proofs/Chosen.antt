@@ -3,12 +3,14 @@ use Rattle.std.proofs.Common.{◌≡◌, ◌⊎◌, ◌<◌, ◌++◌, inl, inr,
 use Rattle.std.specs.Prelude.{Option, Some, is_some}
 use Rattle.std.specs.Ordering.{is_gt}
 use Rattle.std.specs.FinMap.{find}
-use Rattle.sector_device.specs.Disk.{Image}
-use Rattle.page_store.specs.Chain.{IsIn}
-use Rattle.page_node.specs.Entries.{Entry, key_at, child_bytes}
-use Rattle.page_node.specs.Places.{key_cmp, floor}
-use Rattle.page_btree.specs.Keys.{IsBetween, Parts}
-use Rattle.page_btree.specs.Tree.{Tree, Forest, one, more, page_of, first_key, links, rows, forest_rows, owns, forest_owns, IsTree, AreTrees, IsApart, AreApart}
+use Rattle.sector_device.specs.claim.Disk.{Image}
+use Rattle.page_store.specs.claim.Chain.{IsIn}
+use Rattle.page_node.specs.claim.Entries.{Entry, child_bytes}
+use Rattle.page_node.specs.Entries.{key_at}
+use Rattle.page_node.specs.claim.Places.{key_cmp}
+use Rattle.page_node.specs.Places.{floor}
+use Rattle.page_btree.specs.claim.Keys.{IsBetween, Parts}
+use Rattle.page_btree.specs.claim.Tree.{Tree, Forest, one, more, page_of, first_key, links, rows, forest_rows, owns, forest_owns, IsTree, AreTrees, IsApart, AreApart}
 use Rattle.btree_puts.specs.Putting.{IsPut, linked, behind_child}
 use Rattle.page_btree.proofs.Rows.{put_left, put_right, find_left, find_right, key_before}
 use Rattle.page_btree.proofs.MapLaws.{tree_same, trees_same}

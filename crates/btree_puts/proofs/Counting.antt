@@ -1,7 +1,7 @@
 -- Pages written and taken by calls that follow one another.
 use Rattle.std.proofs.Common.{◌≡◌, ◌<◌, ◌≤◌, ◌+◌, ◌-◌, ℕ, subst, arith}
 use Rattle.std.specs.Prelude.{Option, Some, None, Result, Ok, Err, IfOk, MatchResult}
-use Rattle.page_store.specs.Transactions.{txn_free}
+use Rattle.page_store.specs.claim.Transactions.{txn_free}
 use Rattle.page_store.specs.declared.txn.Txn.{Txn}
 use Rattle.btree_puts.specs.Putting.{AreFew}
 use Rattle.page_btree.specs.Errors.{IsNoWant}

@@ -3,15 +3,17 @@ use Rattle.std.proofs.Common.{◌≡◌, ◌≢◌, ◌<◌, ◌≤◌, ◌-◌,
 use Rattle.std.specs.Prelude.{Option, Some, None, option_map}
 use Rattle.std.specs.Ordering.{is_gt}
 use Rattle.std.specs.FinMap.{find}
-use Rattle.sector_device.specs.Disk.{Image}
-use Rattle.page_store.specs.Chain.{IsIn, AreFree}
-use Rattle.page_node.specs.Entries.{Entry, key_at, child_bytes, child_in}
-use Rattle.page_node.specs.Node.{Node, IsNode}
-use Rattle.page_node.specs.Places.{key_cmp, floor}
+use Rattle.sector_device.specs.claim.Disk.{Image}
+use Rattle.page_store.specs.claim.Chain.{IsIn, AreFree}
+use Rattle.page_node.specs.claim.Entries.{Entry, child_bytes}
+use Rattle.page_node.specs.Entries.{key_at, child_in}
+use Rattle.page_node.specs.claim.Node.{Node, IsNode}
+use Rattle.page_node.specs.claim.Places.{key_cmp}
+use Rattle.page_node.specs.Places.{floor}
 use Rattle.page_node.proofs.Laws.{child_written}
-use Rattle.page_btree.specs.Keys.{IsBetween}
-use Rattle.page_btree.specs.Tree.{Tree, Forest, leaf, inner, one, page_of, rows, links, forest_owns}
-use Rattle.page_btree.specs.Map.{IsSound}
+use Rattle.page_btree.specs.claim.Keys.{IsBetween}
+use Rattle.page_btree.specs.claim.Tree.{Tree, Forest, leaf, inner, one, page_of, rows, links, forest_owns}
+use Rattle.page_btree.specs.claim.Map.{IsSound}
 use Rattle.btree_puts.specs.Putting.{IsPut, IsWritten, IsRaised, StandsAt, CanPut, linked, behind_child}
 use Rattle.btree_puts.proofs.Chosen.{HasChild, chosen}
 use Rattle.btree_puts.proofs.Raised.{raise}

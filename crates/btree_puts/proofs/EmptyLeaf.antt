@@ -1,6 +1,6 @@
 -- Lemmas on the definitions of Fitting.
 use Rattle.std.specs.Prelude.{[]}
-use Rattle.page_node.specs.Node.{Node}
+use Rattle.page_node.specs.claim.Node.{Node}
 
 -- a leaf without rows, where a node says nothing
 abbrev pub nothing : Node

@@ -1,20 +1,21 @@
 -- A refusal below, told above.
 use Rattle.std.proofs.Common.{◌≡◌, ◌≤◌, ◌<◌, ◌+◌, ℕ, List, inl, inr, ⊎_elim, sym, subst, ◌∙◌, arith, length}
-use Rattle.sector_device.specs.Disk.{Image}
+use Rattle.sector_device.specs.claim.Disk.{Image}
 use Rattle.sector_device.specs.declared.SectorDevice.{Ghosts}
-use Rattle.page_store.specs.Chain.{AreFree}
-use Rattle.page_store.specs.Transactions.{stored, disk_in, txn_pages, txn_root, txn_free, over, free_over, IsQuiet, Passed, ReadErr, TakeErr}
+use Rattle.page_store.specs.claim.Chain.{AreFree}
+use Rattle.page_store.specs.claim.Transactions.{stored, disk_in, txn_pages, txn_root, txn_free, over, free_over, IsQuiet, Passed, ReadErr, TakeErr}
 use Rattle.page_store.proofs.Stops.{failed_more}
 use Rattle.page_store.specs.declared.error.PageError.{PageError}
 use Rattle.page_store.specs.declared.error.PageError.TheVariants as page
 use Rattle.page_store.specs.declared.pages.Pages.{Pages}
 use Rattle.page_store.specs.declared.txn.Txn.{Txn}
-use Rattle.page_node.specs.Entries.{Entry}
-use Rattle.page_node.specs.Node.{Node, IsNode}
-use Rattle.page_btree.specs.Errors.{tree_error, PutErr, IsNoWant, level_in}
+use Rattle.page_node.specs.claim.Entries.{Entry}
+use Rattle.page_node.specs.claim.Node.{Node, IsNode}
+use Rattle.page_btree.specs.Errors.{tree_error, IsNoWant}
+use Rattle.page_btree.specs.claim.Errors.{PutErr, level_in}
 use Rattle.btree_puts.specs.Errors.{StepErr, PlaceErr, RowErr, LinkErr, WriteErr, GrowErr}
-use Rattle.page_btree.specs.Keys.{KeyMap}
-use Rattle.page_btree.specs.Map.{InTxn}
+use Rattle.page_btree.specs.claim.Keys.{KeyMap}
+use Rattle.page_btree.specs.claim.Map.{InTxn}
 use Rattle.page_btree.specs.declared.error.TreeError.{TreeError}
 use Rattle.page_btree.specs.declared.error.TreeError.TheVariants.{DeviceFault, Halted, NoPages, TooDeep, Memory}
 

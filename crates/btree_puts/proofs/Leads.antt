@@ -2,17 +2,18 @@
 use Rattle.std.proofs.Common.{◌≡◌, ◌≢◌, ◌<◌, ◌≤◌, ◌-◌, ◌^◌, ℕ, zero, suc, List, [], Bool, inl, inr, ⊎_elim, refl, sym, ap, subst, ◌∙◌, arith}
 use Rattle.std.specs.Prelude.{Option, None}
 use Rattle.std.specs.FinMap.{insert, contains_key}
-use Rattle.sector_device.specs.Disk.{Image}
+use Rattle.sector_device.specs.claim.Disk.{Image}
 use Rattle.sector_device.specs.declared.SectorDevice.{Ghosts}
-use Rattle.page_store.specs.Transactions.{stored, disk_in, over, free_over}
+use Rattle.page_store.specs.claim.Transactions.{stored, disk_in, over, free_over}
 use Rattle.page_store.specs.declared.pages.Pages.{Pages}
 use Rattle.page_store.specs.declared.txn.Txn.{Txn}
-use Rattle.page_node.specs.Node.{Node, IsNode}
+use Rattle.page_node.specs.claim.Node.{Node, IsNode}
 use Rattle.page_node.proofs.Laws.{node_unique}
-use Rattle.page_btree.specs.Keys.{KeyMap}
-use Rattle.page_btree.specs.Tree.{Tree}
-use Rattle.page_btree.specs.Map.{Holds, IsRooted, InTxn}
-use Rattle.page_btree.specs.Errors.{PutErr, IsNoWant}
+use Rattle.page_btree.specs.claim.Keys.{KeyMap}
+use Rattle.page_btree.specs.claim.Tree.{Tree}
+use Rattle.page_btree.specs.claim.Map.{Holds, IsRooted, InTxn}
+use Rattle.page_btree.specs.claim.Errors.{PutErr}
+use Rattle.page_btree.specs.Errors.{IsNoWant}
 use Rattle.page_btree.specs.Getting.{CanGetAt, ReadsErr}
 use Rattle.page_btree.specs.Leading.{LeadsTo}
 use Rattle.btree_puts.specs.Putting.{IsRaised, CanPut}

@@ -5,14 +5,15 @@ use Rattle.std.specs.List.{AllByRecursion}
 use Rattle.std.specs.FinMap.{find, put}
 use Rattle.std.specs.Ordering.{is_gt}
 use Rattle.std.specs.declared.cmp.Ordering.TheVariants.{Less}
-use Rattle.sector_device.specs.Disk.{Image}
-use Rattle.page_store.specs.Chain.{IsIn, AreFree}
-use Rattle.page_node.specs.Entries.{Entry, key_at}
-use Rattle.page_node.specs.Node.{Node, IsNode}
-use Rattle.page_node.specs.Places.{key_cmp, Rises}
-use Rattle.page_btree.specs.Keys.{IsBetween, Parts}
-use Rattle.page_btree.specs.Tree.{Tree, leaf, inner, one, more, rows, IsLeaf}
-use Rattle.page_btree.specs.Map.{IsSound}
+use Rattle.sector_device.specs.claim.Disk.{Image}
+use Rattle.page_store.specs.claim.Chain.{IsIn, AreFree}
+use Rattle.page_node.specs.claim.Entries.{Entry}
+use Rattle.page_node.specs.Entries.{key_at}
+use Rattle.page_node.specs.claim.Node.{Node, IsNode}
+use Rattle.page_node.specs.claim.Places.{key_cmp, Rises}
+use Rattle.page_btree.specs.claim.Keys.{IsBetween, Parts}
+use Rattle.page_btree.specs.claim.Tree.{Tree, leaf, inner, one, more, rows, IsLeaf}
+use Rattle.page_btree.specs.claim.Map.{IsSound}
 use Rattle.btree_puts.specs.Putting.{IsTaken, IsWhole, IsCut, IsWritten, IsRaised, CanPut}
 use Rattle.page_btree.proofs.Rows.{all_front, all_rest, from_then, rises_put, rises_front, rises_rest, rises_under, rises_from, all_put, some_put}
 use Rattle.page_btree.proofs.Within.{AreBetween}

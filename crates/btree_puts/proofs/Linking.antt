@@ -1,8 +1,9 @@
 -- The place of a link behind the child of a key.
 use Rattle.std.proofs.Common.{◌≡◌, ◌<◌, ◌+◌, ◌++◌, ℕ, zero, suc, List, [], ◌∷◌, length, take, drop, insert, Bool, true, false, cond, refl, ap, ◌∙◌, arith}
 use Rattle.std.specs.Ordering.{is_gt}
-use Rattle.page_node.specs.Entries.{Entry, key_at}
-use Rattle.page_node.specs.Places.{key_cmp}
+use Rattle.page_node.specs.claim.Entries.{Entry}
+use Rattle.page_node.specs.Entries.{key_at}
+use Rattle.page_node.specs.claim.Places.{key_cmp}
 use Rattle.btree_puts.specs.Putting.{linked, behind_child}
 
 -- linked from a place on

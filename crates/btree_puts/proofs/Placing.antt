@@ -2,9 +2,11 @@
 use Rattle.std.proofs.Common.{◌≡◌, ◌<◌, ℕ, zero, suc, List, [], ◌∷◌, length, set, insert, slice_set, true, false, sym, ap, subst, ◌∙◌, arith}
 use Rattle.std.specs.Prelude.{Option, Some, None, is_some}
 use Rattle.std.specs.FinMap.{find, put}
-use Rattle.page_node.specs.Entries.{Entry, key_at, value_at, size_of}
-use Rattle.page_node.specs.Node.{Node, IsNode, Fits}
-use Rattle.page_node.specs.Places.{key_cmp, Rises, IsFound, IsGap}
+use Rattle.page_node.specs.claim.Entries.{Entry, size_of}
+use Rattle.page_node.specs.Entries.{key_at, value_at}
+use Rattle.page_node.specs.claim.Node.{Node, IsNode, Fits}
+use Rattle.page_node.specs.claim.Places.{key_cmp, Rises}
+use Rattle.page_node.specs.Places.{IsFound, IsGap}
 use Rattle.btree_puts.specs.Putting.{linked}
 use Rattle.page_node.proofs.Laws.{node_unique, found_put, gap_put, found_find, gap_find}
 

@@ -1,12 +1,12 @@
 -- A node above was written, whole or cut, after a put into its children; and a leaf was.
 use Rattle.std.proofs.Common.{◌≡◌, ◌⊎◌, ◌<◌, ◌+◌, ◌-◌, inl, inr, ⊎_elim, ℕ, List, ◌∷◌, length, Bool, refl, sym, ap, subst, ◌∙◌, arith}
 use Rattle.std.specs.Prelude.{Option, Some, None}
-use Rattle.sector_device.specs.Disk.{Image}
-use Rattle.page_store.specs.Chain.{IsIn, AreFree}
+use Rattle.sector_device.specs.claim.Disk.{Image}
+use Rattle.page_store.specs.claim.Chain.{IsIn, AreFree}
 use Rattle.page_node.specs.Entries.{key_at}
-use Rattle.page_node.specs.Node.{Node, IsNode}
-use Rattle.page_btree.specs.Tree.{Forest, inner, one, more, first_key, links, forest_rows, owns, forest_owns, forest_size, AreTrees, AreApart}
-use Rattle.page_btree.specs.Map.{IsSound}
+use Rattle.page_node.specs.claim.Node.{Node, IsNode}
+use Rattle.page_btree.specs.claim.Tree.{Forest, inner, one, more, first_key, links, forest_rows, owns, forest_owns, forest_size, AreTrees, AreApart}
+use Rattle.page_btree.specs.claim.Map.{IsSound}
 use Rattle.btree_puts.specs.Putting.{IsPut, IsTaken, IsWhole, IsCut, IsWritten, IsRaised}
 use Rattle.page_btree.proofs.MapLaws.{trees_same}
 use Rattle.btree_puts.proofs.Joined.{join, join_rows, join_size, join_owns, part_apart, part_trees, part_at, IsJoined}

@@ -1,10 +1,10 @@
 -- The keys of a node above the leaves, into which a row is put, rise behind the first.
 use Rattle.std.proofs.Common.{◌<◌, ℕ, List, sym, ap, ◌∙◌}
 use Rattle.std.specs.Prelude.{Option}
-use Rattle.sector_device.specs.Disk.{Image}
-use Rattle.page_node.specs.Node.{Node, IsNode}
+use Rattle.sector_device.specs.claim.Disk.{Image}
+use Rattle.page_node.specs.claim.Node.{Node, IsNode}
 use Rattle.page_node.specs.Searching.{RisesBehind}
-use Rattle.page_btree.specs.Tree.{Tree}
+use Rattle.page_btree.specs.claim.Tree.{Tree}
 use Rattle.btree_puts.specs.Putting.{CanPut}
 use Rattle.page_btree.proofs.Rising.{tree_rises}
 

@@ -4,14 +4,16 @@ use Rattle.std.specs.Prelude.{Option, Some, None, is_some}
 use Rattle.std.specs.Ordering.{is_gt}
 use Rattle.std.specs.Cmp.Lexicographic.{nat_list_cmp_total}
 use Rattle.std.specs.FinMap.{empty, entries, entries-insert, get-entries, get, insert, contains_key, find, put}
-use Rattle.sector_device.specs.Disk.{Image}
-use Rattle.page_store.specs.Chain.{IsIn, AreFree}
-use Rattle.page_node.specs.Entries.{Entry, key_at, child_bytes}
-use Rattle.page_node.specs.Node.{Node, IsNode}
-use Rattle.page_node.specs.Places.{key_cmp}
-use Rattle.page_btree.specs.Keys.{KeyMap, IsBetween}
-use Rattle.page_btree.specs.Tree.{Tree, Forest, leaf, inner, one, more, page_of, rows, forest_rows, links, owns, forest_owns, IsTree, AreTrees}
-use Rattle.page_btree.specs.Map.{Holds, IsBare, IsRooted, IsOnlyRow}
+use Rattle.sector_device.specs.claim.Disk.{Image}
+use Rattle.page_store.specs.claim.Chain.{IsIn, AreFree}
+use Rattle.page_node.specs.claim.Entries.{Entry, child_bytes}
+use Rattle.page_node.specs.Entries.{key_at}
+use Rattle.page_node.specs.claim.Node.{Node, IsNode}
+use Rattle.page_node.specs.claim.Places.{key_cmp}
+use Rattle.page_btree.specs.claim.Keys.{KeyMap, IsBetween}
+use Rattle.page_btree.specs.claim.Tree.{Tree, Forest, leaf, inner, one, more, page_of, rows, forest_rows, links, owns, forest_owns, IsTree, AreTrees}
+use Rattle.page_btree.specs.claim.Map.{Holds, IsBare, IsRooted}
+use Rattle.page_btree.specs.Map.{IsOnlyRow}
 use Rattle.btree_puts.specs.Putting.{IsPut, IsRaised, IsGrown, CanPut}
 use Rattle.page_btree.proofs.MapLaws.{trees_same, no_entries}
 

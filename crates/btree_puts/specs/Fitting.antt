@@ -1,13 +1,13 @@
 -- What a put needs that edits a leaf alone.
 use Rattle.std.specs.Prelude.{◌≡◌, ℕ, Bool, List, is_some}
 use Rattle.std.specs.FinMap.{find, put}
-use Rattle.sector_device.specs.Disk.{Image}
-use Rattle.page_store.specs.Transactions.{over, free_over}
-use Rattle.page_store.specs.Chain.{IsIn}
+use Rattle.sector_device.specs.claim.Disk.{Image}
+use Rattle.page_store.specs.claim.Transactions.{over, free_over}
+use Rattle.page_store.specs.claim.Chain.{IsIn}
 use Rattle.page_store.specs.declared.txn.Txn.{Txn}
-use Rattle.page_node.specs.Entries.{Entry}
-use Rattle.page_node.specs.Node.{IsNode}
-use Rattle.page_node.specs.Places.{key_cmp, Rises}
+use Rattle.page_node.specs.claim.Entries.{Entry}
+use Rattle.page_node.specs.claim.Node.{IsNode}
+use Rattle.page_node.specs.claim.Places.{key_cmp, Rises}
 use Rattle.btree_puts.specs.Putting.{IsWhole}
 
 -- a row was put into the leaf at a page, where there is one

@@ -1,18 +1,19 @@
 -- What a put leaves, where the device is honest and the pages hold what they may.
 use Rattle.std.specs.Prelude.{◌≡◌, ◌<◌, ℕ, Bool, List, [], ◌∷◌, length, Option, Some, None, is_some, Result, OnOk, IfOk, IfSome, MatchResult}
 use Rattle.std.specs.FinMap.{find, get, insert, contains_key, put as put_entry}
-use Rattle.sector_device.specs.Disk.{Image}
+use Rattle.sector_device.specs.claim.Disk.{Image}
 use Rattle.sector_device.specs.declared.SectorDevice.{Ghosts}
-use Rattle.page_store.specs.Chain.{IsIn, AreFree}
-use Rattle.page_store.specs.Transactions.{stored, disk_in, txn_pages, txn_root, txn_free, over, free_over}
+use Rattle.page_store.specs.claim.Chain.{IsIn, AreFree}
+use Rattle.page_store.specs.claim.Transactions.{stored, disk_in, txn_pages, txn_root, txn_free, over, free_over}
 use Rattle.page_store.specs.declared.pages.Pages.{Pages}
 use Rattle.page_store.specs.declared.txn.Txn.{Txn}
-use Rattle.page_node.specs.Entries.{Entry, key_at, child_bytes}
-use Rattle.page_node.specs.Node.{Node, IsNode}
-use Rattle.page_node.specs.Places.{key_cmp, Rises}
-use Rattle.page_btree.specs.Keys.{KeyMap}
-use Rattle.page_btree.specs.Tree.{Tree, rows}
-use Rattle.page_btree.specs.Map.{InTxn}
+use Rattle.page_node.specs.claim.Entries.{Entry, child_bytes}
+use Rattle.page_node.specs.Entries.{key_at}
+use Rattle.page_node.specs.claim.Node.{Node, IsNode}
+use Rattle.page_node.specs.claim.Places.{key_cmp, Rises}
+use Rattle.page_btree.specs.claim.Keys.{KeyMap}
+use Rattle.page_btree.specs.claim.Tree.{Tree, rows}
+use Rattle.page_btree.specs.claim.Map.{InTxn}
 use Rattle.page_btree.specs.Errors.{IsNoWant}
 use Rattle.btree_puts.specs.Putting.{CanPut, IsRaised, IsGrown, IsWritten, IsCut, linked}
 use Rattle.page_btree.specs.declared.error.TreeError.{TreeError}

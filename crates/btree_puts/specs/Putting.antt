@@ -2,16 +2,17 @@
 use Rattle.std.specs.Prelude.{◌≡◌, ◌≢◌, ◌⊎◌, ◌<◌, ◌≤◌, ◌+◌, ◌*◌, ℕ, Bool, List, [], ◌∷◌, ◌++◌, length, cond, Option, Some, None, is_some}
 use Rattle.std.specs.Ordering.{is_gt}
 use Rattle.std.specs.FinMap.{find, put}
-use Rattle.sector_device.specs.Disk.{Image}
-use Rattle.page_store.specs.Chain.{IsIn, AreFree}
-use Rattle.page_store.specs.Transactions.{txn_writes, txn_free}
+use Rattle.sector_device.specs.claim.Disk.{Image}
+use Rattle.page_store.specs.claim.Chain.{IsIn, AreFree}
+use Rattle.page_store.specs.claim.Transactions.{txn_writes, txn_free}
 use Rattle.page_store.specs.declared.txn.Txn.{Txn}
-use Rattle.page_node.specs.Entries.{Entry, key_at, child_bytes}
-use Rattle.page_node.specs.Node.{Node, IsNode}
-use Rattle.page_node.specs.Places.{key_cmp}
-use Rattle.page_btree.specs.Keys.{IsBetween}
-use Rattle.page_btree.specs.Tree.{Tree, Forest, one, more, IsTree, AreTrees, AreApart, page_of, forest_rows, forest_owns, forest_size}
-use Rattle.page_btree.specs.Map.{IsSound}
+use Rattle.page_node.specs.claim.Entries.{Entry, child_bytes}
+use Rattle.page_node.specs.Entries.{key_at}
+use Rattle.page_node.specs.claim.Node.{Node, IsNode}
+use Rattle.page_node.specs.claim.Places.{key_cmp}
+use Rattle.page_btree.specs.claim.Keys.{IsBetween}
+use Rattle.page_btree.specs.claim.Tree.{Tree, Forest, one, more, IsTree, AreTrees, AreApart, page_of, forest_rows, forest_owns, forest_size}
+use Rattle.page_btree.specs.claim.Map.{IsSound}
 
 -- free before, and not after
 abbrev pub IsTaken : List ℕ → List ℕ → ℕ → Type 0

@@ -1,16 +1,19 @@
 //! Puts a row, where its leaf has room by an edit of the leaf alone.
 ghost use Rattle.std.specs.Prelude.{◌≡◌, ◌≤◌, ◌<◌, ◌+◌, ◌-◌, ◌^◌, List, length, Option, None, OnOk, OnErr, IfOk, IfErr, IfSome, IfNone};
 ghost use Rattle.std.specs.Option.{option_map};
-ghost use Rattle.sector_device.specs.Disk.{Image};
-ghost use Rattle.page_store.specs.Transactions.{stored, disk_in, count_of, txn_pages, txn_root, txn_free};
-ghost use Rattle.page_store.specs.Transactions.{txn_writes, over, free_over, IsQuiet, Passed};
-ghost use Rattle.page_node.specs.Entries.{Entry, child_in};
-ghost use Rattle.page_node.specs.Node.{Node, IsNode};
-ghost use Rattle.page_node.specs.Places.{Rises, floor};
+ghost use Rattle.sector_device.specs.claim.Disk.{Image};
+ghost use Rattle.page_store.specs.claim.Transactions.{stored, disk_in, count_of, txn_pages, txn_root, txn_free};
+ghost use Rattle.page_store.specs.claim.Transactions.{txn_writes, over, free_over, IsQuiet, Passed};
+ghost use Rattle.page_node.specs.claim.Entries.{Entry};
+ghost use Rattle.page_node.specs.Entries.{child_in};
+ghost use Rattle.page_node.specs.claim.Node.{Node, IsNode};
+ghost use Rattle.page_node.specs.claim.Places.{Rises};
+ghost use Rattle.page_node.specs.Places.{floor};
 ghost use Rattle.page_node.specs.Searching.{RisesBehind};
 ghost use Rattle.page_btree.specs.Keys.{IsKey};
-ghost use Rattle.page_btree.specs.Tree.{Tree};
-ghost use Rattle.page_btree.specs.Errors.{PutErr, IsNoWant};
+ghost use Rattle.page_btree.specs.claim.Tree.{Tree};
+ghost use Rattle.page_btree.specs.claim.Errors.{PutErr};
+ghost use Rattle.page_btree.specs.Errors.{IsNoWant};
 ghost use Rattle.btree_puts.specs.Errors.{PlaceErr, StepErr};
 ghost use Rattle.btree_puts.specs.Putting.{CanPut, IsRaised};
 ghost use Rattle.page_btree.specs.Editing.{IsAlike, LeafErr};

@@ -1,8 +1,8 @@
 //! Puts a row through nodes that are read, and cut where they overflow.
 ghost use Rattle.std.specs.Prelude.{◌≡◌, ◌≤◌, ◌<◌, ◌+◌, length, OnOk, IfOk, IfErr, IfSome};
-ghost use Rattle.page_store.specs.Transactions.{count_of, txn_pages, txn_root, txn_free, txn_writes, over, free_over, IsQuiet, Passed};
+ghost use Rattle.page_store.specs.claim.Transactions.{count_of, txn_pages, txn_root, txn_free, txn_writes, over, free_over, IsQuiet, Passed};
 ghost use Rattle.page_btree.specs.Keys.{IsKey};
-ghost use Rattle.page_btree.specs.Errors.{PutErr};
+ghost use Rattle.page_btree.specs.claim.Errors.{PutErr};
 ghost use Rattle.btree_puts.specs.Errors.{PlaceErr, WriteErr, RowErr, LinkErr, GrowErr};
 ghost use Rattle.btree_puts.specs.Putting.{CanPutSome, linked, AreFew};
 ghost use Rattle.btree_puts.specs.Outcomes.{PutsRow, PutsFirstRow, PutsRowAt, PutsRowInLeaf, PutsLink};

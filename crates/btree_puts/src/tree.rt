@@ -1,14 +1,16 @@
 //! Nodes of a tree, written and cut.
 ghost use Rattle.std.specs.Prelude.{◌≡◌, ◌≤◌, ◌<◌, ◌+◌, ◌^◌, ℕ, [], ◌∷◌, length, insert, option_map};
 ghost use Rattle.std.specs.Prelude.{Option, Some, None, OnOk, IfOk, IfErr, IfSome, MatchResult};
-ghost use Rattle.sector_device.specs.Disk.{Image};
-ghost use Rattle.gate_journal.specs.Store.{put as put_page};
-ghost use Rattle.page_store.specs.Chain.{IsIn};
-ghost use Rattle.page_store.specs.Transactions.{stored, disk_in, count_of, txn_pages, txn_root, txn_free};
-ghost use Rattle.page_store.specs.Transactions.{txn_writes, over, free_over, IsQuiet, Passed};
-ghost use Rattle.page_node.specs.Entries.{Entry, size_of, child_in};
+ghost use Rattle.sector_device.specs.claim.Disk.{Image};
+ghost use Rattle.gate_journal.specs.claim.Store.{put as put_page};
+ghost use Rattle.page_store.specs.claim.Chain.{IsIn};
+ghost use Rattle.page_store.specs.claim.Transactions.{stored, disk_in, count_of, txn_pages, txn_root, txn_free};
+ghost use Rattle.page_store.specs.claim.Transactions.{txn_writes, over, free_over, IsQuiet, Passed};
+ghost use Rattle.page_node.specs.claim.Entries.{Entry, size_of};
+ghost use Rattle.page_node.specs.Entries.{child_in};
 ghost use Rattle.page_node.specs.Places.{floor};
-ghost use Rattle.page_node.specs.Node.{Node, IsNode, Fits, bytes_of};
+ghost use Rattle.page_node.specs.claim.Node.{Node, IsNode, Fits};
+ghost use Rattle.page_node.specs.Node.{bytes_of};
 ghost use Rattle.btree_puts.specs.Putting.{linked, AreFew, CanPutSome};
 ghost use Rattle.btree_puts.specs.Errors.{WriteErr, StepErr};
 ghost use Rattle.btree_puts.specs.Outcomes.{WritesNode, CutsNode};

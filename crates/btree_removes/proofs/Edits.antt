@@ -12,10 +12,12 @@ use Rattle.std.specs.FinMap as map
 use Rattle.std.specs.FinMap.Entries.{by_order, below_all, find-put}
 use Rattle.std.proofs.lemmas.Cmp.{tied_itself}
 use Rattle.std.proofs.lemmas.List.Edits.{get_or-remove_below, get_or-remove_above}
-use Rattle.page_node.specs.Entries.{Entry, key_at, value_at, size_of}
-use Rattle.page_node.specs.Places.{key_cmp, Rises, IsFound, IsGap}
+use Rattle.page_node.specs.claim.Entries.{Entry, size_of}
+use Rattle.page_node.specs.Entries.{key_at, value_at}
+use Rattle.page_node.specs.claim.Places.{key_cmp, Rises}
+use Rattle.page_node.specs.Places.{IsFound, IsGap}
 use Rattle.page_node.proofs.Laws.{gap_put, gap_find}
-use Rattle.page_btree.specs.Keys.{KeyMap}
+use Rattle.page_btree.specs.claim.Keys.{KeyMap}
 use Rattle.btree_removes.specs.Removing.{unlinked, unlinked_from}
 
 length_remove : (es : List Entry) (i : ℕ) → i < length es → length (remove es i) + 1 ≡ length es

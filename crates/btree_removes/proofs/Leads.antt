@@ -1,13 +1,13 @@
 -- A row taken out of the leaf that its key belongs to, told above.
 use Rattle.std.proofs.Common.{◌≡◌, ◌<◌, ◌≤◌, ◌-◌, ◌^◌, ℕ, zero, suc, List, Bool, inl, inr, ⊎_elim, refl, sym, ap, subst, arith}
-use Rattle.sector_device.specs.Disk.{Image}
+use Rattle.sector_device.specs.claim.Disk.{Image}
 use Rattle.sector_device.specs.declared.SectorDevice.{Ghosts}
-use Rattle.page_store.specs.Transactions.{stored, disk_in, over, free_over}
+use Rattle.page_store.specs.claim.Transactions.{stored, disk_in, over, free_over}
 use Rattle.page_store.specs.declared.pages.Pages.{Pages}
 use Rattle.page_store.specs.declared.txn.Txn.{Txn}
-use Rattle.page_btree.specs.Keys.{KeyMap}
-use Rattle.page_btree.specs.Map.{InTxn}
-use Rattle.page_btree.specs.Errors.{RemoveErr}
+use Rattle.page_btree.specs.claim.Keys.{KeyMap}
+use Rattle.page_btree.specs.claim.Map.{InTxn}
+use Rattle.page_btree.specs.claim.Errors.{RemoveErr}
 use Rattle.page_btree.specs.Getting.{ReadsErr}
 use Rattle.page_btree.specs.Leading.{LeadsTo}
 use Rattle.btree_removes.specs.Removing.{CanRemove, Removes}

@@ -3,12 +3,12 @@ use Rattle.std.proofs.Common.{◌≡◌, inl, inr, ℕ, List, [], Bool, true, fa
 use Rattle.std.specs.Prelude.{Option, Some, None, is_some, T}
 use Rattle.std.specs.FinMap.{find, put, is_sorted, get, get-entries, entries, entries_sorted, contains_key}
 use Rattle.std.specs.FinMap as map
-use Rattle.sector_device.specs.Disk.{Image}
-use Rattle.page_store.specs.Chain.{AreFree}
-use Rattle.page_node.specs.Places.{key_cmp, Rises}
-use Rattle.page_btree.specs.Keys.{KeyMap}
-use Rattle.page_btree.specs.Tree.{Tree, IsTree, rows}
-use Rattle.page_btree.specs.Map.{IsRooted, Holds}
+use Rattle.sector_device.specs.claim.Disk.{Image}
+use Rattle.page_store.specs.claim.Chain.{AreFree}
+use Rattle.page_node.specs.claim.Places.{key_cmp, Rises}
+use Rattle.page_btree.specs.claim.Keys.{KeyMap}
+use Rattle.page_btree.specs.claim.Tree.{Tree, IsTree, rows}
+use Rattle.page_btree.specs.claim.Map.{IsRooted, Holds}
 use Rattle.btree_removes.specs.Removing.{CanRemove, IsRemoved, rows_left}
 use Rattle.page_btree.proofs.Tops.{every_key, found_rows}
 use Rattle.btree_removes.proofs.Edits.{rises_unput, found_put, remove_rows, remove_none}

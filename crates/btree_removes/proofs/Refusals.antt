@@ -1,22 +1,23 @@
 -- A refusal of a remove below, told above.
 use Rattle.std.proofs.Common.{◌<◌, ℕ, List, inl, inr, ⊎_elim, sym, ◌∙◌, length}
-use Rattle.sector_device.specs.Disk.{Image}
+use Rattle.sector_device.specs.claim.Disk.{Image}
 use Rattle.sector_device.specs.declared.SectorDevice.{Ghosts}
-use Rattle.page_store.specs.Chain.{IsIn, AreFree}
-use Rattle.page_store.specs.Transactions.{stored, disk_in, txn_pages, free_over, IsQuiet, Passed, ReadErr}
+use Rattle.page_store.specs.claim.Chain.{IsIn, AreFree}
+use Rattle.page_store.specs.claim.Transactions.{stored, disk_in, txn_pages, free_over, IsQuiet, Passed, ReadErr}
 use Rattle.page_store.proofs.Stops.{failed_more}
 use Rattle.page_store.specs.declared.error.PageError.{PageError}
 use Rattle.page_store.specs.declared.error.PageError.TheVariants as page
 use Rattle.page_store.specs.declared.pages.Pages.{Pages}
 use Rattle.page_store.specs.declared.txn.Txn.{Txn}
-use Rattle.page_node.specs.Entries.{Entry}
-use Rattle.page_node.specs.Node.{Node, IsNode}
-use Rattle.page_node.specs.Places.{Rises}
-use Rattle.page_btree.specs.Errors.{tree_error, RemoveErr}
+use Rattle.page_node.specs.claim.Entries.{Entry}
+use Rattle.page_node.specs.claim.Node.{Node, IsNode}
+use Rattle.page_node.specs.claim.Places.{Rises}
+use Rattle.page_btree.specs.Errors.{tree_error}
+use Rattle.page_btree.specs.claim.Errors.{RemoveErr}
 use Rattle.page_btree.specs.Getting.{ReadsErr}
 use Rattle.btree_removes.specs.Removing.{BackErr, TakenErr, LinkErr, BelowErr}
-use Rattle.page_btree.specs.Keys.{KeyMap}
-use Rattle.page_btree.specs.Map.{InTxn}
+use Rattle.page_btree.specs.claim.Keys.{KeyMap}
+use Rattle.page_btree.specs.claim.Map.{InTxn}
 use Rattle.page_btree.specs.declared.error.TreeError.{TreeError}
 use Rattle.page_btree.specs.declared.error.TreeError.TheVariants.{DeviceFault, Halted, NoPages, TooDeep, Memory}
 

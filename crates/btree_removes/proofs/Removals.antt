@@ -5,14 +5,16 @@ use Rattle.std.specs.Prelude.{Option, Some, None, remove}
 use Rattle.std.specs.Ordering.{is_gt}
 use Rattle.std.specs.FinMap.{find, put}
 use Rattle.std.specs.declared.cmp.Ordering.TheVariants.{Less, Greater}
-use Rattle.sector_device.specs.Disk.{Image}
-use Rattle.page_store.specs.Chain.{IsIn, AreFree}
-use Rattle.page_node.specs.Entries.{Entry, value_at, child_bytes}
-use Rattle.page_node.specs.Node.{IsNode}
-use Rattle.page_node.specs.Places.{key_cmp, Rises, IsFound, floor}
+use Rattle.sector_device.specs.claim.Disk.{Image}
+use Rattle.page_store.specs.claim.Chain.{IsIn, AreFree}
+use Rattle.page_node.specs.claim.Entries.{Entry, child_bytes}
+use Rattle.page_node.specs.Entries.{value_at}
+use Rattle.page_node.specs.claim.Node.{IsNode}
+use Rattle.page_node.specs.claim.Places.{key_cmp, Rises}
+use Rattle.page_node.specs.Places.{IsFound, floor}
 use Rattle.page_node.proofs.Laws.{less_trans}
-use Rattle.page_btree.specs.Keys.{IsBetween, IsUnder, Parts}
-use Rattle.page_btree.specs.Tree.{Tree, Forest, leaf, inner, one, more, page_of, first_key, links, rows, forest_rows, owns, forest_owns, IsTree, AreTrees, IsApart, AreApart}
+use Rattle.page_btree.specs.claim.Keys.{IsBetween, IsUnder, Parts}
+use Rattle.page_btree.specs.claim.Tree.{Tree, Forest, leaf, inner, one, more, page_of, first_key, links, rows, forest_rows, owns, forest_owns, IsTree, AreTrees, IsApart, AreApart}
 use Rattle.btree_removes.specs.Removing.{IsRemoved, AreRemoved, unlinked}
 use Rattle.btree_removes.proofs.Removing.{links_left}
 use Rattle.page_btree.proofs.Rows.{Each, all_map, wider_under, put_left, put_right, find_left, find_right, key_before}

@@ -1,22 +1,23 @@
 -- A remove that edits a leaf alone, told above.
 use Rattle.std.proofs.Common.{◌≡◌, ℕ, List, Ok, Err, inl, inr, ⊎_elim, refl, sym, subst, ◌∙◌, arith}
 use Rattle.std.specs.Prelude.{Bool, true, false, Result, Option, Some, None, IfOk, IfSome, MatchOption, remove}
-use Rattle.sector_device.specs.Disk.{Image}
+use Rattle.sector_device.specs.claim.Disk.{Image}
 use Rattle.sector_device.specs.declared.SectorDevice.{Ghosts}
-use Rattle.page_store.specs.Chain.{IsIn, AreFree}
-use Rattle.page_store.specs.Transactions.{stored, disk_in, txn_list, IsWritten, over, free_over, IsQuiet, Passed}
+use Rattle.page_store.specs.claim.Chain.{IsIn, AreFree}
+use Rattle.page_store.specs.claim.Transactions.{stored, disk_in, over, free_over, IsQuiet, Passed}
+use Rattle.page_store.specs.Transactions.{txn_list, IsWritten}
 use Rattle.gate_journal.specs.Writes.{IsEdited}
 use Rattle.gate_journal.proofs.Images.{put_on, put_off}
 use Rattle.page_node.specs.Spots.{IsSpareTaken}
 use Rattle.page_store.proofs.Stops.{failed_more}
 use Rattle.page_store.specs.declared.pages.Pages.{Pages}
 use Rattle.page_store.specs.declared.txn.Txn.{Txn}
-use Rattle.page_node.specs.Entries.{Entry}
-use Rattle.page_node.specs.Node.{IsNode}
-use Rattle.page_node.specs.Places.{Rises}
-use Rattle.page_btree.specs.Tree.{Tree, leaf, inner, IsTree, page_of, rows}
-use Rattle.page_btree.specs.Map.{IsSound, InTxn}
-use Rattle.page_btree.specs.Errors.{RemoveErr}
+use Rattle.page_node.specs.claim.Entries.{Entry}
+use Rattle.page_node.specs.claim.Node.{IsNode}
+use Rattle.page_node.specs.claim.Places.{Rises}
+use Rattle.page_btree.specs.claim.Tree.{Tree, leaf, inner, IsTree, page_of, rows}
+use Rattle.page_btree.specs.claim.Map.{IsSound, InTxn}
+use Rattle.page_btree.specs.claim.Errors.{RemoveErr}
 use Rattle.btree_removes.specs.Removing.{IsRemoved, CanRemove, RemovesAt, Removes, BelowErr}
 use Rattle.page_btree.specs.Editing.{IsAlike, LeafErr}
 use Rattle.btree_removes.specs.Sparing.{TakesRow, IsLeafTaken}

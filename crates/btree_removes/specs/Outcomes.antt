@@ -2,11 +2,11 @@
 use Rattle.std.specs.Prelude.{◌≡◌, ℕ, Bool, List, Option, Result, IfOk, IfSome}
 use Rattle.std.specs.FinMap.{contains_key, remove as remove_key}
 use Rattle.sector_device.specs.declared.SectorDevice.{Ghosts}
-use Rattle.page_store.specs.Transactions.{stored, disk_in, txn_pages, over, free_over}
+use Rattle.page_store.specs.claim.Transactions.{stored, disk_in, txn_pages, over, free_over}
 use Rattle.page_store.specs.declared.pages.Pages.{Pages}
 use Rattle.page_store.specs.declared.txn.Txn.{Txn}
-use Rattle.page_btree.specs.Keys.{KeyMap}
-use Rattle.page_btree.specs.Map.{InTxn}
+use Rattle.page_btree.specs.claim.Keys.{KeyMap}
+use Rattle.page_btree.specs.claim.Map.{InTxn}
 use Rattle.btree_removes.specs.Removing.{CanRemove, Removes}
 use Rattle.page_btree.specs.declared.error.TreeError.{TreeError}
 use Rattle.btree_removes.specs.declared.removes.Removed.{Removed}

@@ -2,19 +2,20 @@
 use Rattle.std.specs.Prelude.{◌≡◌, ◌⊎◌, true, ◌<◌, ◌+◌, ℕ, List, [], ◌∷◌, length, cond, Option, Some, None, remove}
 use Rattle.std.specs.Ordering.{is_gt}
 use Rattle.std.specs.FinMap.{find, put}
-use Rattle.sector_device.specs.Disk.{Image}
-use Rattle.page_store.specs.Chain.{IsIn, AreFree}
+use Rattle.sector_device.specs.claim.Disk.{Image}
+use Rattle.page_store.specs.claim.Chain.{IsIn, AreFree}
 use Rattle.sector_device.specs.declared.SectorDevice.{Ghosts}
-use Rattle.page_store.specs.Transactions.{stored, disk_in, has_halted, HasFailed, txn_pages, over, free_over}
+use Rattle.page_store.specs.claim.Transactions.{stored, disk_in, has_halted, HasFailed, txn_pages, over, free_over}
 use Rattle.page_store.specs.declared.pages.Pages.{Pages}
 use Rattle.page_store.specs.declared.txn.Txn.{Txn}
-use Rattle.page_node.specs.Entries.{Entry}
-use Rattle.page_node.specs.Node.{Node, IsNode}
-use Rattle.page_node.specs.Places.{key_cmp, IsFound, Rises}
-use Rattle.page_btree.specs.Keys.{IsBetween, Parts}
-use Rattle.page_btree.specs.Tree.{Tree, Forest, IsTree, AreTrees, IsApart, AreApart, page_of, first_key}
-use Rattle.page_btree.specs.Tree.{rows, owns, size, forest_rows, forest_owns, forest_size}
-use Rattle.page_btree.specs.Map.{IsSound}
+use Rattle.page_node.specs.claim.Entries.{Entry}
+use Rattle.page_node.specs.claim.Node.{Node, IsNode}
+use Rattle.page_node.specs.claim.Places.{key_cmp, Rises}
+use Rattle.page_node.specs.Places.{IsFound}
+use Rattle.page_btree.specs.claim.Keys.{IsBetween, Parts}
+use Rattle.page_btree.specs.claim.Tree.{Tree, Forest, IsTree, AreTrees, IsApart, AreApart, page_of, first_key}
+use Rattle.page_btree.specs.claim.Tree.{rows, owns, size, forest_rows, forest_owns, forest_size}
+use Rattle.page_btree.specs.claim.Map.{IsSound}
 use Rattle.page_btree.specs.declared.error.TreeError.{TreeError}
 use Rattle.page_btree.specs.declared.error.TreeError.TheVariants.{DeviceFault, Halted, NoPages, TooDeep, Memory}
 use Rattle.btree_removes.specs.declared.removes.Removed.{Removed}

@@ -1,14 +1,15 @@
 //! Takes a key out, and gives back the pages that are left without entries.
 ghost use Rattle.std.specs.Prelude.{◌≡◌, ◌≢◌, ◌≤◌, ◌<◌, ◌+◌, ℕ, List, [], length, remove as without, Option, Some, None, OnOk, IfOk, IfErr};
 ghost use Rattle.std.specs.FinMap.{find};
-ghost use Rattle.sector_device.specs.Disk.{Image};
-ghost use Rattle.page_store.specs.Chain.{IsIn, AreFree};
-ghost use Rattle.page_store.specs.Transactions.{count_of, txn_pages, txn_root, txn_free, txn_writes, over, free_over, IsQuiet, Passed};
-ghost use Rattle.page_node.specs.Entries.{Entry};
-ghost use Rattle.page_node.specs.Node.{Node, IsNode, Fits};
-ghost use Rattle.page_node.specs.Places.{key_cmp, Rises, IsFound, IsGap};
+ghost use Rattle.sector_device.specs.claim.Disk.{Image};
+ghost use Rattle.page_store.specs.claim.Chain.{IsIn, AreFree};
+ghost use Rattle.page_store.specs.claim.Transactions.{count_of, txn_pages, txn_root, txn_free, txn_writes, over, free_over, IsQuiet, Passed};
+ghost use Rattle.page_node.specs.claim.Entries.{Entry};
+ghost use Rattle.page_node.specs.claim.Node.{Node, IsNode, Fits};
+ghost use Rattle.page_node.specs.claim.Places.{key_cmp, Rises};
+ghost use Rattle.page_node.specs.Places.{IsFound, IsGap};
 ghost use Rattle.page_btree.specs.Keys.{IsKey};
-ghost use Rattle.page_btree.specs.Errors.{RemoveErr};
+ghost use Rattle.page_btree.specs.claim.Errors.{RemoveErr};
 ghost use Rattle.btree_removes.specs.Removing.{CanRemove, StaysAt, IsDone, IsPutBack, unlinked, RowRemoves, BackErr, TakenErr, LinkErr, BelowErr};
 ghost use Rattle.btree_removes.specs.Outcomes.{RemovesKey, RemovesKeyAt};
 

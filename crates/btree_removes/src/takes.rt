@@ -1,13 +1,13 @@
 //! Takes a key out, where its leaf keeps other rows by an edit of the leaf alone.
 ghost use Rattle.std.specs.Prelude.{◌≡◌, ◌≤◌, ◌<◌, ◌+◌, ℕ, List, Option, Some, None, true, OnOk, OnErr, IfOk, IfErr, IfSome, IfNone};
-ghost use Rattle.sector_device.specs.Disk.{Image};
-ghost use Rattle.page_store.specs.Transactions.{stored, disk_in, count_of, txn_pages, txn_root, txn_free};
-ghost use Rattle.page_store.specs.Transactions.{txn_writes, over, free_over, IsQuiet, Passed};
-ghost use Rattle.page_node.specs.Entries.{Entry};
-ghost use Rattle.page_node.specs.Node.{Node, IsNode};
-ghost use Rattle.page_node.specs.Places.{Rises};
+ghost use Rattle.sector_device.specs.claim.Disk.{Image};
+ghost use Rattle.page_store.specs.claim.Transactions.{stored, disk_in, count_of, txn_pages, txn_root, txn_free};
+ghost use Rattle.page_store.specs.claim.Transactions.{txn_writes, over, free_over, IsQuiet, Passed};
+ghost use Rattle.page_node.specs.claim.Entries.{Entry};
+ghost use Rattle.page_node.specs.claim.Node.{Node, IsNode};
+ghost use Rattle.page_node.specs.claim.Places.{Rises};
 ghost use Rattle.page_btree.specs.Keys.{IsKey};
-ghost use Rattle.page_btree.specs.Errors.{RemoveErr};
+ghost use Rattle.page_btree.specs.claim.Errors.{RemoveErr};
 ghost use Rattle.page_btree.specs.Editing.{IsAlike, LeafErr};
 ghost use Rattle.btree_removes.specs.Sparing.{IsLeafTaken};
 ghost use Rattle.btree_removes.specs.Outcomes.{RemovesKey, RemovesSpareKey};

@@ -2,9 +2,10 @@
 use Rattle.std.proofs.Common.{◌≡◌, ◌<◌, ◌+◌, ◌-◌, ℕ, zero, suc, List, [], ◌∷◌, ◌++◌, length, drop, get_or, Bool, true, false, cond, refl, ap, subst, ◌∙◌, arith}
 use Rattle.std.specs.Prelude.{Result, Ok, Err, OnErr}
 use Rattle.std.specs.Ordering.{is_gt}
-use Rattle.page_node.specs.Entries.{Entry}
-use Rattle.page_node.specs.Node.{IsNode}
-use Rattle.page_node.specs.Places.{Rises, key_cmp, entries_from}
+use Rattle.page_node.specs.claim.Entries.{Entry}
+use Rattle.page_node.specs.claim.Node.{IsNode}
+use Rattle.page_node.specs.claim.Places.{Rises, key_cmp}
+use Rattle.page_node.specs.Places.{entries_from}
 use Rattle.page_btree.specs.Seeking.{AreLeaves}
 
 -- the first of them, and the others

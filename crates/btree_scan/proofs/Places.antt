@@ -1,7 +1,7 @@
 -- A place in a scan's leaf.
 use Rattle.std.proofs.Common.{◌≡◌, ◌<◌, ◌+◌, ℕ, List, ◌∷◌, Bool, true, false, cond, refl, sym, subst, arith}
 use Rattle.std.specs.Prelude.{Option, Some, None, IfSome, IfNone}
-use Rattle.page_node.specs.Entries.{Entry}
+use Rattle.page_node.specs.claim.Entries.{Entry}
 use Rattle.page_node.specs.Walking.{IsAhead}
 use Rattle.btree_scan.specs.Scanning.{Rest, RestWhere, IsReady, IsNextRow, IsTakenRow, is_open, FitsIn, leaf_at, moved_to, stood_at}
 use Rattle.btree_scan.specs.Parts.{page_of, row_at, row_in}

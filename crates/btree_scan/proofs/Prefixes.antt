@@ -11,8 +11,9 @@ use Rattle.std.specs.FinMap.Entries.{below_all}
 use Rattle.std.proofs.lemmas.Bool.{eqb-true}
 use Rattle.std.proofs.lemmas.List.Elements.{filter-append}
 use Rattle.std.proofs.lemmas.Bool.Decides.{nat_tests}
-use Rattle.page_node.specs.Entries.{Entry}
-use Rattle.page_node.specs.Places.{key_cmp, Rises, is_from, entries_from}
+use Rattle.page_node.specs.claim.Entries.{Entry}
+use Rattle.page_node.specs.claim.Places.{key_cmp, Rises}
+use Rattle.page_node.specs.Places.{is_from, entries_from}
 use Rattle.page_node.proofs.Laws.{is_less, same_key, flip_greater}
 use Rattle.btree_scan.specs.Prefixes.{AllFrom, AllUnder, is_under, under}
 

@@ -7,11 +7,12 @@ use Rattle.std.proofs.lemmas.List.Elements.{All-nil}
 use Rattle.sector_device.specs.declared.SectorDevice.{Ghosts}
 use Rattle.page_store.specs.declared.pages.Pages.{Pages}
 use Rattle.page_store.specs.declared.txn.Txn.{Txn}
-use Rattle.page_node.specs.Entries.{Entry, IsEntry}
-use Rattle.page_node.specs.Places.{Rises, entries_from}
+use Rattle.page_node.specs.claim.Entries.{Entry, IsEntry}
+use Rattle.page_node.specs.claim.Places.{Rises}
+use Rattle.page_node.specs.Places.{entries_from}
 use Rattle.page_node.specs.Walking.{IsAhead}
-use Rattle.page_btree.specs.Keys.{KeyMap}
-use Rattle.page_btree.specs.Errors.{GetErr}
+use Rattle.page_btree.specs.claim.Keys.{KeyMap}
+use Rattle.page_btree.specs.claim.Errors.{GetErr}
 use Rattle.page_btree.specs.Seeking.{bound_in, IsNext, IsFrom, AreLeaves}
 use Rattle.page_btree.specs.declared.seeks.Leaf.{Leaf}
 use Rattle.page_btree.specs.declared.error.TreeError.{TreeError}

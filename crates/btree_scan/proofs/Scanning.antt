@@ -1,7 +1,7 @@
 -- Lemmas on the definitions of Scanning.
 use Rattle.std.specs.Prelude.{◌≡◌, Bool, true, List, []}
 use Rattle.std.proofs.Common.{refl, sym, subst}
-use Rattle.page_node.specs.Entries.{Entry}
+use Rattle.page_node.specs.claim.Entries.{Entry}
 use Rattle.btree_scan.specs.declared.scans.Scan.{Scan}
 use Rattle.btree_scan.specs.Scanning.{Rest, RestWhere, has_ended}
 

@@ -2,8 +2,8 @@
 use Rattle.std.proofs.Common.{◌≡◌, ℕ, List, Bool, true, false, nat_eq}
 use Rattle.std.specs.List.{filter, starts_with, AllByRecursion}
 use Rattle.std.specs.Ordering.{is_gt}
-use Rattle.page_node.specs.Entries.{Entry}
-use Rattle.page_node.specs.Places.{key_cmp}
+use Rattle.page_node.specs.claim.Entries.{Entry}
+use Rattle.page_node.specs.claim.Places.{key_cmp}
 
 -- the rows whose keys begin with a prefix
 abbrev pub is_under : List ℕ → Entry → Bool

@@ -4,14 +4,14 @@ use Rattle.std.specs.Prelude.{Option, Some, None, cond, nat_eq, Result, OnOk, If
 use Rattle.std.specs.List.{starts_with}
 use Rattle.std.specs.FinMap.{entries}
 use Rattle.sector_device.specs.declared.SectorDevice.{Ghosts}
-use Rattle.page_store.specs.Transactions.{stored, disk_in, has_halted, HasFailed}
+use Rattle.page_store.specs.claim.Transactions.{stored, disk_in, has_halted, HasFailed}
 use Rattle.page_store.specs.declared.pages.Pages.{Pages}
 use Rattle.page_store.specs.declared.txn.Txn.{Txn}
-use Rattle.page_node.specs.Entries.{Entry}
-use Rattle.page_node.specs.Places.{Rises}
+use Rattle.page_node.specs.claim.Entries.{Entry}
+use Rattle.page_node.specs.claim.Places.{Rises}
 use Rattle.page_node.specs.Walking.{IsAhead}
-use Rattle.page_btree.specs.Keys.{KeyMap}
-use Rattle.page_btree.specs.Map.{InTxn}
+use Rattle.page_btree.specs.claim.Keys.{KeyMap}
+use Rattle.page_btree.specs.claim.Map.{InTxn}
 use Rattle.page_btree.specs.Seeking.{bound_in, IsNext, AreLeaves}
 use Rattle.page_btree.specs.declared.seeks.Leaf.{Leaf}
 use Rattle.page_btree.specs.declared.error.TreeError.{TreeError}

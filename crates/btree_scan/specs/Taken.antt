@@ -1,7 +1,7 @@
 -- A scan that took rows, and what they are in the end.
 use Rattle.std.proofs.Common.{◌≡◌, ◌∷◌, ℕ, List, ◌++◌, [], true, false}
 use Rattle.std.specs.Prelude.{None}
-use Rattle.page_node.specs.Entries.{Entry}
+use Rattle.page_node.specs.claim.Entries.{Entry}
 use Rattle.btree_scan.specs.Prefixes.{under}
 use Rattle.btree_scan.specs.Scanning.{Rest, IsNextRow, fault_in}
 use Rattle.btree_scan.specs.declared.scans.Scan.{Scan}

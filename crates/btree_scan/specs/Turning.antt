@@ -1,6 +1,6 @@
 -- The next of the leaves that are held.
 use Rattle.std.specs.Prelude.{◌≡◌, ◌<◌, ◌+◌, List, ◌++◌, length, drop}
-use Rattle.page_node.specs.Entries.{Entry}
+use Rattle.page_node.specs.claim.Entries.{Entry}
 use Rattle.page_node.specs.Walking.{IsAhead}
 use Rattle.page_btree.specs.Seeking.{AreLeaves}
 use Rattle.page_btree.specs.declared.seeks.Leaf.{Leaf}

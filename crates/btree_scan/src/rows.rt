@@ -1,6 +1,6 @@
 //! Takes a row out of a leaf.
 ghost use Rattle.std.specs.Prelude.{◌≡◌, ◌<◌, ◌+◌, List, ◌∷◌, OnOk, OnErr, IfOk, IfErr, IfSome, IfNone};
-ghost use Rattle.page_node.specs.Entries.{Entry};
+ghost use Rattle.page_node.specs.claim.Entries.{Entry};
 ghost use Rattle.page_node.specs.Walking.{IsAhead};
 ghost use Rattle.page_btree.specs.Seeking.{bound_in};
 ghost use Rattle.page_btree.specs.declared.error.TreeError.TheVariants.{DeviceFault};

@@ -1,11 +1,11 @@
 //! Scans the rows under a prefix.
 ghost use Rattle.std.specs.Prelude.{◌≡◌, ◌<◌, ◌≤◌, ◌+◌, ℕ, List, true, false, cond, length, Option, None, Some, OnOk, IfErr, IfSome, IfNone};
 ghost use Rattle.std.specs.FinMap.{entries};
-ghost use Rattle.page_store.specs.Transactions.{count_of, txn_pages, IsQuiet, Passed};
-ghost use Rattle.page_node.specs.Entries.{Entry};
+ghost use Rattle.page_store.specs.claim.Transactions.{count_of, txn_pages, IsQuiet, Passed};
+ghost use Rattle.page_node.specs.claim.Entries.{Entry};
 ghost use Rattle.page_node.specs.Places.{entries_from};
-ghost use Rattle.page_btree.specs.Keys.{KeyMap};
-ghost use Rattle.page_btree.specs.Errors.{GetErr};
+ghost use Rattle.page_btree.specs.claim.Keys.{KeyMap};
+ghost use Rattle.page_btree.specs.claim.Errors.{GetErr};
 ghost use Rattle.page_btree.specs.Seeking.{bound_in};
 ghost use Rattle.btree_scan.specs.Prefixes.{under};
 ghost use Rattle.btree_scan.specs.Parts.{row_in, row_of};

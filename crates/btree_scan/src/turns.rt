@@ -1,6 +1,6 @@
 //! Goes from a leaf that is held to the next one.
 ghost use Rattle.std.specs.Prelude.{◌≡◌, ◌<◌, ◌+◌, List, drop, OnOk, OnErr, IfErr};
-ghost use Rattle.page_node.specs.Entries.{Entry};
+ghost use Rattle.page_node.specs.claim.Entries.{Entry};
 ghost use Rattle.page_btree.specs.Seeking.{bound_in, AreLeaves};
 ghost use Rattle.page_btree.specs.declared.error.TreeError.TheVariants.{DeviceFault};
 ghost use Rattle.btree_scan.specs.Turning.{IsTurned};

@@ -2,11 +2,11 @@
 ghost use Rattle.std.specs.Prelude.{◌≡◌, ◌<◌, ◌≤◌, ℕ, List, [], length, true, nat_eq};
 ghost use Rattle.std.specs.List.{starts_with};
 ghost use Rattle.std.specs.FinMap.{find, entries};
-ghost use Rattle.sector_device.specs.Disk.{Image};
-ghost use Rattle.page_node.specs.Entries.{Entry};
-ghost use Rattle.page_node.specs.Places.{key_cmp, Rises};
-ghost use Rattle.page_btree.specs.Keys.{KeyMap};
-ghost use Rattle.page_btree.specs.Map.{InTxn};
+ghost use Rattle.sector_device.specs.claim.Disk.{Image};
+ghost use Rattle.page_node.specs.claim.Entries.{Entry};
+ghost use Rattle.page_node.specs.claim.Places.{key_cmp, Rises};
+ghost use Rattle.page_btree.specs.claim.Keys.{KeyMap};
+ghost use Rattle.page_btree.specs.claim.Map.{InTxn};
 ghost use Rattle.btree_scan.specs.Prefixes.{under};
 ghost use Rattle.btree_scan.specs.Scanning.{Rest};
 ghost use Rattle.btree_scan.specs.Taken.{HasTaken, TakenRowsGrow, TakenRowsAreAll};

@@ -1,3 +1,3 @@
-pub mod Counts
+pub mod claim
 pub mod Turns
 pub mod Sends

@@ -1,17 +1,6 @@
--- What a writer holds after a write, and how often it has failed.
-use Rattle.std.specs.Prelude.{◌≡◌, ℕ, Bool, true, false, List, ◌++◌, Option, Result, Ok, Err}
+-- What no promise rests on, beside claim/Sends.antt.
+use Rattle.std.specs.Prelude.{◌≡◌, ℕ, Bool, true, false, List, ◌++◌, Option}
 use Rattle.std.specs.Io.KnownBytes.{Appends}
-use Rattle.byte_stream.specs.Counts.{counted}
-
--- all bytes, or at a fault a front of them
-abbrev pub Sends : {A E : Type 0} → Option (List ℕ) → Option (List ℕ) → Result A E → List ℕ → Type 0
-Sends old new (Ok a) bytes = Appends old new bytes
-Sends old new (Err e) bytes = (front : List ℕ) × (rest : List ℕ) × (bytes ≡ front ++ rest) × Appends old new front
-
--- a fault is one failure more, and success none
-abbrev pub failures_with : {A E : Type 0} → ℕ → Result A E → ℕ
-failures_with n (Ok a) = n
-failures_with n (Err e) = counted n 1
 
 -- the same, told by a test
 abbrev pub Sent : Option (List ℕ) → Option (List ℕ) → Bool → List ℕ → Type 0

@@ -1,7 +1,7 @@
 -- What a turn of reading does.
 use Rattle.std.specs.Prelude.{◌≡◌, ℕ, ◌<◌, ◌≤◌, List, length, take, Option, Result, Ok, Err}
 use Rattle.std.specs.Io.KnownBytes.{Consumes, Keeps, IsAtEnd}
-use Rattle.byte_stream.specs.Counts.{counted}
+use Rattle.byte_stream.specs.claim.Counts.{counted}
 use Rattle.byte_stream.specs.declared.source.Turn.{Turn}
 use Rattle.byte_stream.specs.declared.source.Turn.TheVariants.{Read, Interrupted, Failed}
 

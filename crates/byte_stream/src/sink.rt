@@ -1,6 +1,7 @@
 //! A writer that tells its bytes and its failures.
 ghost use Rattle.std.specs.Prelude.{◌≡◌, ◌≢◌, ◌<◌, ◌≤◌, ℕ, List, Option, true};
-ghost use Rattle.byte_stream.specs.Sends.{Sends, Sent, failures_with};
+ghost use Rattle.byte_stream.specs.claim.Sends.{Sends, failures_with};
+ghost use Rattle.byte_stream.specs.Sends.{Sent};
 
 use std::io::{ErrorKind, Write};
 

@@ -1,6 +1,6 @@
 //! A reader that tells its bytes, its turns and its failures.
 ghost use Rattle.std.specs.Prelude.{◌≡◌, ◌≢◌, ℕ, List, Option};
-ghost use Rattle.byte_stream.specs.Counts.{counted};
+ghost use Rattle.byte_stream.specs.claim.Counts.{counted};
 ghost use Rattle.byte_stream.specs.Turns.{TurnConsumes, failures_after};
 
 use std::io::{ErrorKind, Read};

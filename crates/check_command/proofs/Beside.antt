@@ -2,7 +2,7 @@
 use Rattle.std.proofs.Common.{◌≡◌, ℕ, List, length, Option, Some, None, is_some, IfSome, Vec, Global, refl}
 use Rattle.std.specs.Option.{option_copied}
 use Rattle.std.specs.Borrow.{Bor}
-use Rattle.state_files.specs.PlanFiles.{beside}
+use Rattle.state_files.specs.claim.PlanFiles.{beside}
 
 pub copied_same : {X : Type 0} (o : Option (Bor X)) → is_some (option_copied o) ≡ is_some o
 copied_same None = refl

@@ -5,7 +5,7 @@ use Rattle.std.proofs.lemmas.List.{get_or_default, get_or-replicate, length-set,
 use Rattle.std.proofs.lemmas.List.Sums.{sum_by_more, sum_by_more_le_part, sum_by-cons}
 use Rattle.std.proofs.lemmas.List.FromFn.{get_or-map-range_with_len, length-map-range_with_len}
 use Rattle.std.proofs.lemmas.Bool.{cases_eq}
-use Rattle.desk_model.specs.Block.{county_of}
+use Rattle.desk_model.specs.claim.Block.{county_of}
 use Rattle.desk_model.specs.declared.block.BlockRow.{BlockRow}
 use Rattle.std.proofs.lemmas.List.FromFn.{filter_of_map_range_with_len_more}
 use Rattle.check_command.specs.Counts.{county_codes, county_blocks, county_people, has_county, with_people, if_there, counties_to}

@@ -15,11 +15,11 @@ use Rattle.state_files.specs.declared.fault.PlanFault.TheVariants as plan
 use Rattle.state_files.specs.declared.fault.FileFault.{FileFault}
 use Rattle.state_files.specs.declared.fault.FileFault.TheVariants.{NoHeader, Header, NoSegment, Segment, Join, NoGal, Gal, Plan}
 use Rattle.command_output.specs.declared.status.Status.{Status}
-use Rattle.command_output.specs.Faults.{status_of_open, status_of_geo, status_of_segment, status_of_join, status_of_gal, status_of_plan, status_of_fault}
-use Rattle.command_output.specs.Telling.{Tells}
-use Rattle.command_output.specs.Writing.{Written}
+use Rattle.command_output.specs.claim.Faults.{status_of_open, status_of_geo, status_of_segment, status_of_join, status_of_gal, status_of_plan, status_of_fault}
+use Rattle.command_output.specs.claim.Telling.{Tells}
+use Rattle.command_output.specs.claim.Writing.{Written}
 use Rattle.check_command.specs.declared.report.Audited.{Audited}
-use Rattle.check_command.specs.Auditing.{EndsAudit}
+use Rattle.check_command.specs.claim.Auditing.{EndsAudit}
 use Rattle.check_command.specs.Sharing.{is_of_report}
 
 of_open : (fault : OpenFault) → is_of_report (status_of_open fault) ≡ false

@@ -5,16 +5,16 @@ use Rattle.desk_model.specs.declared.block.BlockRow.{BlockRow}
 use Rattle.pl94_segment.specs.declared.join.JoinFault.TheVariants as join
 use Rattle.command_output.specs.declared.status.Status.{Status}
 use Rattle.command_output.specs.declared.status.Status.TheVariants.{Done}
-use Rattle.state_files.specs.Opening.{Census, census_of}
-use Rattle.state_files.specs.State.{Then, NoFile, ReadsState}
+use Rattle.state_files.specs.claim.Opening.{Census, census_of}
+use Rattle.state_files.specs.claim.State.{Then, NoFile, ReadsState}
 use Rattle.state_files.specs.declared.fault.FileFault.{FileFault}
 use Rattle.state_files.specs.declared.fault.FileFault.TheVariants.{Join}
 use Rattle.state_files.specs.declared.census.CensusFiles.{CensusFiles}
 use Rattle.byte_stream.specs.declared.source.Source.{Ghosts}
 use Rattle.check_command.specs.Counts.{counts_text}
-use Rattle.command_output.specs.Telling.{Tells}
-use Rattle.command_output.specs.Writing.{Written}
-use Rattle.check_command.specs.Writing.{Prints}
+use Rattle.command_output.specs.claim.Telling.{Tells}
+use Rattle.command_output.specs.claim.Writing.{Written}
+use Rattle.check_command.specs.claim.Writing.{Prints}
 
 -- the counts of the blocks
 abbrev pub PrintsCounts : Vec BlockRow Global → Result (Vec ℕ Global) FileFault → Type 0

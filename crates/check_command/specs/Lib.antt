@@ -1,5 +1,5 @@
+pub mod claim
 pub mod Auditing
 pub mod Checking
 pub mod Counts
 pub mod Sharing
-pub mod Writing

@@ -1,9 +1,10 @@
 //! `check` with a plan: the audit of a plan from files.
 ghost use Rattle.std.specs.Prelude.{◌≡◌, ◌≤◌, length, true, IfOk, IfSome, IsSome, IsTrue};
 ghost use Rattle.std.specs.Option.{option_copied};
-ghost use Rattle.desk_model.specs.Companions.{takes};
+ghost use Rattle.desk_model.specs.claim.Companions.{takes};
 ghost use Rattle.command_output.specs.Writing.{OfWriters};
-ghost use Rattle.check_command.specs.Auditing.{openings_of, AuditsState, report_status as status_of_report, EndsAudit, ReportsBesideFile, Audits};
+ghost use Rattle.check_command.specs.claim.Auditing.{openings_of, AuditsState, report_status as status_of_report, EndsAudit, Audits};
+ghost use Rattle.check_command.specs.Auditing.{ReportsBesideFile};
 ghost use Rattle.check_command.specs.Sharing.{IsDoneBy, is_of_report};
 
 use crate::printing::print;

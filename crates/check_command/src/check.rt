@@ -1,6 +1,6 @@
 //! `check`: the counts of a state's census files.
 ghost use Rattle.std.specs.Prelude.{◌≡◌};
-ghost use Rattle.state_files.specs.Opening.{census_of};
+ghost use Rattle.state_files.specs.claim.Opening.{census_of};
 ghost use Rattle.command_output.specs.Writing.{OfWriters};
 ghost use Rattle.check_command.specs.Checking.{CountsState, Ends, Counts};
 

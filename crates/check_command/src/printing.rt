@@ -1,6 +1,6 @@
 //! What is printed.
 ghost use Rattle.command_output.specs.Writing.{OfWriters};
-ghost use Rattle.check_command.specs.Writing.{Prints};
+ghost use Rattle.check_command.specs.claim.Writing.{Prints};
 
 use byte_stream::sink::Sink;
 use command_output::status::Status;

@@ -1,8 +1,8 @@
 //! The report of an audit, as it is printed.
 ghost use Rattle.std.specs.Prelude.{◌≡◌, ◌≤◌, length, IfOk};
 ghost use Rattle.desk_model.specs.Companions.{companions_copied, AreLong, AreTaken};
-ghost use Rattle.audit_report.specs.Report.{IsReport};
-ghost use Rattle.check_command.specs.Auditing.{IsAudited, Reports};
+ghost use Rattle.audit_report.specs.claim.Report.{IsReport};
+ghost use Rattle.check_command.specs.claim.Auditing.{IsAudited, Reports};
 ghost use Rattle.check_command.specs.Sharing.{IsDoneBy};
 
 use audit_report::audit::audit;

@@ -3,15 +3,15 @@ use Rattle.std.proofs.Common.{◌≡◌, ◌<◌, ◌≤◌, ◌+◌, ◌^◌, �
 use Rattle.std.specs.List.{starts_with}
 use Rattle.std.proofs.lemmas.Bool.Decides.{nat_tests}
 use Rattle.std.specs.FinMap.{entries, find, get-entries}
-use Rattle.page_node.specs.Entries.{Entry}
-use Rattle.page_node.specs.Places.{key_cmp}
+use Rattle.page_node.specs.claim.Entries.{Entry}
+use Rattle.page_node.specs.claim.Places.{key_cmp}
 use Rattle.btree_scan.specs.Prefixes.{under}
 use Rattle.btree_scan.proofs.Prefixes.{find_under}
-use Rattle.store_rows.specs.Keys.{key_of, holding, tally, holdings_prefix, in_eight}
-use Rattle.store_rows.specs.Rows.{KeyMap, row_in, Lacks}
+use Rattle.store_rows.specs.claim.Keys.{key_of, holding, tally, holdings_prefix, in_eight}
+use Rattle.store_rows.specs.claim.Rows.{KeyMap, row_in, Lacks}
 use Rattle.store_rows.proofs.Frames.{put_keeps_row}
 use Rattle.store_rows.proofs.Tallies.{too_holdings}
-use Rattle.store_rows.specs.Shares.{count_of, hold_by, hold}
+use Rattle.store_rows.specs.claim.Shares.{count_of, hold_by, hold}
 use Rattle.chunk_table.specs.Holding.{IsFreeFrom}
 
 -- ---- no row begins so

@@ -1,24 +1,25 @@
 -- A plan comes to hold a chunk by two rows, or holds it already.
 use Rattle.std.proofs.Common.{◌≡◌, ◌<◌, ◌+◌, ◌-◌, ◌^◌, ℕ, zero, suc, true, false, List, [], ◌∷◌, Option, Some, None, refl, sym, ap, subst, ◌∙◌, inl, inr, arith}
 use Rattle.std.specs.Prelude.{option_map}
-use Rattle.sector_device.specs.Disk.{Image}
+use Rattle.sector_device.specs.claim.Disk.{Image}
 use Rattle.sector_device.specs.declared.SectorDevice.{Ghosts}
 use Rattle.page_store.proofs.Stops.{passed_more, failed_more}
-use Rattle.page_store.specs.Transactions.{stored, disk_in, IsQuiet, Passed}
+use Rattle.page_store.specs.claim.Transactions.{stored, disk_in, IsQuiet, Passed}
 use Rattle.page_store.specs.declared.pages.Pages.{Pages}
 use Rattle.page_store.specs.declared.txn.Txn.{Txn}
-use Rattle.page_btree.specs.Map.{InTxn}
-use Rattle.page_btree.specs.Errors.{GetErr}
+use Rattle.page_btree.specs.claim.Map.{InTxn}
+use Rattle.page_btree.specs.claim.Errors.{GetErr}
 use Rattle.page_btree.specs.declared.error.TreeError.{TreeError}
 use Rattle.page_btree.specs.declared.error.TreeError.TheVariants.{DeviceFault, Halted, NoPages, TooDeep, Memory}
-use Rattle.store_rows.specs.Keys.{key_of, holding, tally, in_eight}
-use Rattle.store_rows.specs.Rows.{KeyMap, row_in, Lacks}
-use Rattle.store_rows.specs.Puts.{Row, put_rows}
-use Rattle.store_rows.specs.Holders.{tally_row, holding_rows}
-use Rattle.store_rows.specs.Shares.{CanHold, count_of, hold_by, hold}
+use Rattle.store_rows.specs.claim.Keys.{key_of, holding, tally, in_eight}
+use Rattle.store_rows.specs.claim.Rows.{KeyMap, row_in, Lacks}
+use Rattle.store_rows.specs.claim.Puts.{Row, put_rows}
+use Rattle.store_rows.specs.claim.Holders.{tally_row, holding_rows}
+use Rattle.store_rows.specs.Shares.{CanHold}
+use Rattle.store_rows.specs.claim.Shares.{count_of, hold_by, hold}
 use Rattle.store_rows.proofs.Tallies.{joins_holders}
 use Rattle.store_rows.proofs.Sharing.{count_back}
-use Rattle.row_table.specs.Puts.{HasPut, PutsErr}
+use Rattle.row_table.specs.claim.Puts.{HasPut, PutsErr}
 use Rattle.row_table.proofs.RowsPut.{more_put, then_not_put, front_not_put}
 use Rattle.store_rows.specs.Values.{tally_bytes}
 use Rattle.store_rows.specs.declared.value.Tally.{Tally}

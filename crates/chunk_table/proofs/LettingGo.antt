@@ -1,19 +1,21 @@
 -- A plan lets a chunk go: its row is taken out, and the count goes down by one.
 use Rattle.std.proofs.Common.{◌≡◌, ◌<◌, ◌≤◌, ◌+◌, ◌-◌, ◌^◌, ℕ, zero, suc, List, length, Some, refl, sym, ap, subst, ◌∙◌, inl, inr, arith}
 use Rattle.std.specs.FinMap.{get, insert, remove}
-use Rattle.sector_device.specs.Disk.{Image}
+use Rattle.sector_device.specs.claim.Disk.{Image}
 use Rattle.sector_device.specs.declared.SectorDevice.{Ghosts}
 use Rattle.page_store.proofs.Stops.{passed_more, failed_more}
-use Rattle.page_store.specs.Transactions.{stored, disk_in, txn_pages, txn_free, txn_writes, IsQuiet, Passed}
+use Rattle.page_store.specs.claim.Transactions.{stored, disk_in, txn_pages, txn_free, txn_writes, IsQuiet, Passed}
 use Rattle.page_store.specs.declared.pages.Pages.{Pages}
 use Rattle.page_store.specs.declared.txn.Txn.{Txn}
-use Rattle.page_btree.specs.Map.{InTxn}
-use Rattle.page_btree.specs.Errors.{PutErr, RemoveErr, IsNoWant}
+use Rattle.page_btree.specs.claim.Map.{InTxn}
+use Rattle.page_btree.specs.claim.Errors.{PutErr, RemoveErr}
+use Rattle.page_btree.specs.Errors.{IsNoWant}
 use Rattle.page_btree.specs.declared.error.TreeError.{TreeError}
 use Rattle.page_btree.specs.declared.error.TreeError.TheVariants.{DeviceFault, Halted, NoPages, TooDeep, Memory}
-use Rattle.store_rows.specs.Keys.{key_of, holding, tally, in_eight}
-use Rattle.store_rows.specs.Rows.{KeyMap, row_in}
-use Rattle.store_rows.specs.Holders.{tally_row, with_tally, released}
+use Rattle.store_rows.specs.claim.Keys.{key_of, holding, tally, in_eight}
+use Rattle.store_rows.specs.claim.Rows.{KeyMap, row_in}
+use Rattle.store_rows.specs.claim.Holders.{tally_row}
+use Rattle.store_rows.specs.Holders.{with_tally, released}
 use Rattle.store_rows.proofs.Frames.{remove_keeps_tag}
 use Rattle.row_table.specs.Reading.{ReadErr}
 use Rattle.chunk_table.specs.Holding.{HasTally}

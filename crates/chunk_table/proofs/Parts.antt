@@ -4,8 +4,8 @@ use Rattle.std.specs.Prelude.{All}
 use Rattle.std.proofs.lemmas.Bool.{cases_lt}
 use Rattle.std.proofs.lemmas.List.{append-nil, drop_at, drop-append-le, length-drop, take-append-le}
 use Rattle.std.proofs.lemmas.List.Elements.{All-append, All-nil}
-use Rattle.store_rows.specs.Keys.{RowKey}
-use Rattle.store_rows.specs.Rows.{KeyMap, row_in}
+use Rattle.store_rows.specs.claim.Keys.{RowKey}
+use Rattle.store_rows.specs.claim.Rows.{KeyMap, row_in}
 use Rattle.chunk_table.specs.Parts.{AppendsAll, AppendsFront, AppendsPart, StandsInParts}
 
 -- ---- a part of a list that goes on

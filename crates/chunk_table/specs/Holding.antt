@@ -2,17 +2,18 @@
 use Rattle.std.specs.Prelude.{◌≡◌, ◌⊎◌, ◌<◌, ◌≤◌, ◌+◌, ◌*◌, ◌^◌, ℕ, Bool, true, false, List, length}
 use Rattle.std.specs.Prelude.{Option, Some, None, Contains, Result, IfOk, MatchResult}
 use Rattle.sector_device.specs.declared.SectorDevice.{Ghosts}
-use Rattle.page_store.specs.Transactions.{stored, disk_in, has_halted, txn_pages, txn_free, txn_writes, HasFailed, Passed}
+use Rattle.page_store.specs.claim.Transactions.{stored, disk_in, has_halted, txn_pages, txn_free, txn_writes, HasFailed, Passed}
 use Rattle.page_store.specs.declared.pages.Pages.{Pages}
 use Rattle.page_store.specs.declared.txn.Txn.{Txn}
-use Rattle.page_btree.specs.Map.{InTxn}
+use Rattle.page_btree.specs.claim.Map.{InTxn}
 use Rattle.page_btree.specs.declared.error.TreeError.{TreeError}
 use Rattle.page_btree.specs.declared.error.TreeError.TheVariants.{DeviceFault, Halted, NoPages, TooDeep, Memory}
-use Rattle.store_rows.specs.Keys.{holding, tally}
-use Rattle.store_rows.specs.Rows.{KeyMap, row_in, Has, Lacks}
-use Rattle.store_rows.specs.Holders.{tally_row, holding_rows}
-use Rattle.store_rows.specs.Shares.{CanHold, hold, hold_all}
-use Rattle.row_table.specs.Puts.{HasDeepened}
+use Rattle.store_rows.specs.claim.Keys.{holding, tally}
+use Rattle.store_rows.specs.claim.Rows.{KeyMap, row_in, Has, Lacks}
+use Rattle.store_rows.specs.claim.Holders.{tally_row, holding_rows}
+use Rattle.store_rows.specs.Shares.{CanHold, hold_all}
+use Rattle.store_rows.specs.claim.Shares.{hold}
+use Rattle.row_table.specs.claim.Puts.{HasDeepened}
 use Rattle.chunk_table.specs.Changing.{ChangesMap}
 
 -- a holding row is there, or not

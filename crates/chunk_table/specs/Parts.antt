@@ -1,7 +1,7 @@
 -- A list that stands in rows part by part, as it is read.
 use Rattle.std.specs.Prelude.{◌≡◌, ◌<◌, ◌+◌, ◌-◌, ◌*◌, ℕ, List, ◌++◌, length, min, take, drop, All, Some}
-use Rattle.store_rows.specs.Keys.{RowKey}
-use Rattle.store_rows.specs.Rows.{KeyMap, row_in}
+use Rattle.store_rows.specs.claim.Keys.{RowKey}
+use Rattle.store_rows.specs.claim.Rows.{KeyMap, row_in}
 
 -- The rows of so many numbers below a limit, `size` in each but the last: the row at each place has those of its part, and of rows
 -- behind the last nothing is said.

@@ -1,6 +1,6 @@
 //! Puts the rows by which a plan holds new chunks.
 ghost use Rattle.std.specs.Prelude.{◌≡◌, ◌<◌, ◌+◌, ◌^◌};
-ghost use Rattle.page_store.specs.Transactions.{count_of, txn_pages, IsQuiet};
+ghost use Rattle.page_store.specs.claim.Transactions.{count_of, txn_pages, IsQuiet};
 ghost use Rattle.store_rows.specs.Puts.{rows_told};
 ghost use Rattle.store_rows.specs.RevisionSteps.{new_holding, new_tally, new_holding_rows};
 ghost use Rattle.row_table.specs.Outcomes.{PutsRows};

@@ -1,11 +1,11 @@
 //! Plans that come to hold chunks.
 ghost use Rattle.std.specs.Prelude.{◌≡◌, ◌<◌, ◌+◌, ◌^◌, ℕ, OnOk, IfErr};
-ghost use Rattle.page_store.specs.Transactions.{count_of, txn_pages, IsQuiet, Passed};
-ghost use Rattle.page_btree.specs.Errors.{GetErr};
-ghost use Rattle.store_rows.specs.Keys.{holding};
-ghost use Rattle.store_rows.specs.Rows.{KeyMap, Lacks};
-ghost use Rattle.store_rows.specs.Holders.{holding_rows};
-ghost use Rattle.store_rows.specs.Shares.{hold};
+ghost use Rattle.page_store.specs.claim.Transactions.{count_of, txn_pages, IsQuiet, Passed};
+ghost use Rattle.page_btree.specs.claim.Errors.{GetErr};
+ghost use Rattle.store_rows.specs.claim.Keys.{holding};
+ghost use Rattle.store_rows.specs.claim.Rows.{KeyMap, Lacks};
+ghost use Rattle.store_rows.specs.claim.Holders.{holding_rows};
+ghost use Rattle.store_rows.specs.claim.Shares.{hold};
 ghost use Rattle.row_table.specs.Outcomes.{PutsRows};
 ghost use Rattle.chunk_table.specs.Holding.{HoldsChunk, HoldsChunks, HoldsUnheld, HoldsWhere, IsFreeFrom, IsUnheld, TellsFree, TellsHeld};
 

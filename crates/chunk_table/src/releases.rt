@@ -1,6 +1,6 @@
 //! Plans that let chunks go.
 ghost use Rattle.std.specs.Prelude.{◌≡◌};
-ghost use Rattle.page_store.specs.Transactions.{count_of, txn_pages, IsQuiet};
+ghost use Rattle.page_store.specs.claim.Transactions.{count_of, txn_pages, IsQuiet};
 ghost use Rattle.chunk_table.specs.Releasing.{Releases};
 
 use crate::tallies::{lower, tally_of};

@@ -1,6 +1,6 @@
 //! How many plans hold a chunk.
 ghost use Rattle.std.specs.Prelude.{◌≡◌, ◌<◌, ◌^◌, OnOk, IfOk, IfErr};
-ghost use Rattle.page_store.specs.Transactions.{count_of, txn_pages, IsQuiet, Passed};
+ghost use Rattle.page_store.specs.claim.Transactions.{count_of, txn_pages, IsQuiet, Passed};
 ghost use Rattle.row_table.specs.Reading.{ReadErr};
 ghost use Rattle.chunk_table.specs.Holding.{HasTally, TellsTally};
 ghost use Rattle.chunk_table.specs.Releasing.{Lowers};

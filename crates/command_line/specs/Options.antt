@@ -7,8 +7,8 @@ use Rattle.std.specs.Str.Parse.{digits_value}
 use Rattle.desk_model.specs.declared.companions.Companions.{Companions}
 use Rattle.desk_model.specs.declared.kind.Kind.{Kind}
 use Rattle.desk_model.specs.declared.kind.Kind.TheVariants.{Congress, Senate}
-use Rattle.desk_model.specs.Companions.{takes}
-use Rattle.desk_model.specs.Kind.{kind_named, most_districts}
+use Rattle.desk_model.specs.claim.Companions.{takes}
+use Rattle.desk_model.specs.claim.Sizes.{kind_named, most_districts}
 use Rattle.state_files.specs.Opens.{AreAlike}
 use Rattle.command_line.specs.declared.options.Patience.{Patience}
 use Rattle.command_line.specs.Sizes.{size_reckoned}

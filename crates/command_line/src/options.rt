@@ -1,7 +1,8 @@
 //! Which options of `check` go together, and the values of those that aren't paths.
 ghost use Rattle.std.specs.Prelude.{◌≡◌, ◌≤◌, IfSome, IsSome, IsTrue, is_some};
 ghost use Rattle.std.specs.Option.{option_copied};
-ghost use Rattle.desk_model.specs.Companions.{takes, companions_copied};
+ghost use Rattle.desk_model.specs.claim.Companions.{takes};
+ghost use Rattle.desk_model.specs.Companions.{companions_copied};
 ghost use Rattle.state_files.specs.Opens.{AreAlike};
 ghost use Rattle.command_line.specs.Options.{number_to as number_in, beside_read, companions_read, terms_read, is_any, form_read, AreTerms, IsForm};
 ghost use Rattle.command_line.specs.Options.{HasCompanions, workers_read, at_least, size_read, IsSize, reckoned_read, format_read};

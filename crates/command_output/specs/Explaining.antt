@@ -5,7 +5,7 @@ use Rattle.fault_words.specs.Tables.{Words}
 use Rattle.fault_words.specs.Sentences.{sentence_of}
 use Rattle.command_output.specs.declared.status.Status.{Status}
 use Rattle.command_output.specs.declared.status.Status.TheVariants.{Done, Memory}
-use Rattle.command_output.specs.Writing.{Written, Told, Prints, write_fault_line}
+use Rattle.command_output.specs.claim.Writing.{Written, Told, Prints, write_fault_line}
 
 -- the line's words are told with the path of its file, where it has some; or memory was refused for them
 abbrev pub TellsKnown : Result (Unit {0}) AllocError → (path : Option (List ℕ)) → Option Words → (before after : Written) → Type 0

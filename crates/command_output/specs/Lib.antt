@@ -1,5 +1,4 @@
-pub mod Faults
-pub mod Telling
+pub mod claim
 pub mod Writing
 pub mod Statuses
 pub mod Explaining

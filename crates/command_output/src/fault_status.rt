@@ -1,7 +1,7 @@
 //! The exit status of a fault.
 ghost use Rattle.std.specs.Prelude.{◌≡◌};
-ghost use Rattle.command_output.specs.Faults.{status_of_open, status_of_geo, status_of_segment};
-ghost use Rattle.command_output.specs.Faults.{status_of_join, status_of_gal, status_of_plan, status_of_fault};
+ghost use Rattle.command_output.specs.claim.Faults.{status_of_open, status_of_geo, status_of_segment};
+ghost use Rattle.command_output.specs.claim.Faults.{status_of_join, status_of_gal, status_of_plan, status_of_fault};
 
 use crate::status::Status;
 use gal_text::fault::GalFault;

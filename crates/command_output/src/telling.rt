@@ -1,8 +1,9 @@
 //! What is printed, and the line that is told of a fault.
 ghost use Rattle.std.specs.Prelude.{◌≡◌, IfOk, string_bytes};
-ghost use Rattle.state_files.specs.Texts.{segment_file, plan_file};
-ghost use Rattle.command_output.specs.Telling.{memory_at, fault_line, memory_line, Tells};
-ghost use Rattle.command_output.specs.Writing.{written_of, Told, Prints, OfWriters};
+ghost use Rattle.state_files.specs.claim.Texts.{segment_file, plan_file};
+ghost use Rattle.command_output.specs.claim.Telling.{memory_at, fault_line, memory_line, Tells};
+ghost use Rattle.command_output.specs.Writing.{written_of, OfWriters};
+ghost use Rattle.command_output.specs.claim.Writing.{Told, Prints};
 
 use crate::fault_status::fault_status;
 use crate::status::Status;

@@ -4,8 +4,8 @@ use Rattle.jiff_core.specs.declared.civil.datetime.DateTime.{DateTime}
 use Rattle.accepted_commands.specs.Accepting.{plan_of}
 use Rattle.accepted_commands.specs.declared.accepted.Accepted.{Accepted}
 use Rattle.accepted_commands.specs.declared.accepted.Accepted.TheVariants as accepted
-use Rattle.byte_stream.specs.Counts.{counted}
-use Rattle.byte_stream.specs.Sends.{Sends}
+use Rattle.byte_stream.specs.claim.Counts.{counted}
+use Rattle.byte_stream.specs.claim.Sends.{Sends}
 use Rattle.byte_stream.specs.declared.sink.WriteFault.{WriteFault}
 use Rattle.connection_log.specs.declared.connection.Connection.{Connection}
 use Rattle.connection_log.specs.declared.line.Change.{Change}

@@ -1,6 +1,6 @@
 -- What waits to be written.
 use Rattle.std.specs.Prelude.{◌≡◌, ◌<◌, ◌≤◌, List, [], ◌∷◌, ◌++◌, length, None}
-use Rattle.byte_stream.specs.Counts.{counted}
+use Rattle.byte_stream.specs.claim.Counts.{counted}
 use Rattle.connection_log.specs.declared.line.LogLine.{LogLine}
 use Rattle.connection_log.specs.declared.waiting.Taken.{Taken}
 use Rattle.connection_log.specs.declared.waiting.Waiting.{Waiting}

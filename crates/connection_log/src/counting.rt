@@ -1,7 +1,7 @@
 //! A reader and a writer of which the bytes are counted.
 ghost use Rattle.std.specs.Prelude.{◌≡◌, ◌++◌, [], option_map};
-ghost use Rattle.byte_stream.specs.Counts.{counted};
-ghost use Rattle.byte_stream.specs.Sends.{Sends, failures_with};
+ghost use Rattle.byte_stream.specs.claim.Counts.{counted};
+ghost use Rattle.byte_stream.specs.claim.Sends.{Sends, failures_with};
 ghost use Rattle.byte_stream.specs.Turns.{TurnConsumes, failures_after};
 ghost use Rattle.connection_log.specs.Counts.{nothing_sent, read_with, sent_of, sent_after, with_piece};
 

@@ -11,9 +11,9 @@ use Rattle.std.proofs.lemmas.List.{get_or_past}
 use Rattle.std.proofs.lemmas.Bool.Decides.{nat_tests}
 use Rattle.desk_model.specs.declared.cuts.Cut.{Cut}
 use Rattle.desk_model.specs.declared.reply.Refusal.{Refusal}
-use Rattle.desk_model.specs.Desk.{Plan, Desk, name_cmp}
-use Rattle.desk_model.specs.Room.{last_revision}
-use Rattle.desk_model.specs.Subject.{revision_at}
+use Rattle.desk_model.specs.claim.Desk.{Plan, Desk, name_cmp}
+use Rattle.desk_model.specs.claim.Room.{last_revision}
+use Rattle.desk_model.specs.claim.Subject.{revision_at}
 use Rattle.desk_plans.specs.Rows.{Row}
 use Rattle.desk_room.specs.Cutting.{StaysOutside, changes_in}
 use Rattle.desk_catalogue.specs.Accepting.{IsRevisable}

@@ -7,11 +7,12 @@ use Rattle.std.proofs.lemmas.List.{get_or-map, get_or_past, length-map}
 use Rattle.std.proofs.lemmas.Grind.{get_or_default_zero}
 use Rattle.std.proofs.lemmas.Map.Keys.{sorted_from_strictly_increasing, below_from_sorted}
 use Rattle.std.proofs.lemmas.Bool.{cases_lt}
-use Rattle.desk_model.specs.Block.{county_of, state_of}
-use Rattle.desk_model.specs.Baf.{Values, value_at}
-use Rattle.desk_model.specs.Geography.{Ground, AreBlocks, ids, ids_of, id_at}
+use Rattle.desk_model.specs.claim.Block.{county_of, state_of}
+use Rattle.desk_model.specs.claim.Baf.{Values, value_at}
+use Rattle.desk_model.specs.claim.Geography.{Ground, ids, ids_of, id_at}
+use Rattle.desk_model.specs.claim.Grounds.{AreBlocks}
 use Rattle.desk_model.specs.Counties.{IsInPart, LeastCountyIsTold}
-use Rattle.desk_model.specs.Step.{partly_listed}
+use Rattle.desk_model.specs.claim.Step.{partly_listed}
 use Rattle.desk_model.specs.declared.block.BlockRow.{BlockRow}
 use Rattle.baf_text.specs.Listed.{listed_of, IsPart}
 use Rattle.desk_catalogue.proofs.Overlays.{before, there}

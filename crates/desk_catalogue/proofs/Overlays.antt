@@ -6,9 +6,9 @@ use Rattle.std.proofs.lemmas.Bool.{lt-ltb, le-ltb}
 use Rattle.std.proofs.lemmas.List.{get_or_past, length-map}
 use Rattle.std.proofs.lemmas.Slice.Zip.{length-zip}
 use Rattle.desk_model.specs.declared.block.BlockRow.{BlockRow}
-use Rattle.desk_model.specs.Baf.{Values, Fault, value_at}
-use Rattle.desk_model.specs.Geography.{Ground, ids, ids_of}
-use Rattle.desk_model.specs.Step.{partly_listed, patched}
+use Rattle.desk_model.specs.claim.Baf.{Values, Fault, value_at}
+use Rattle.desk_model.specs.claim.Geography.{Ground, ids, ids_of}
+use Rattle.desk_model.specs.claim.Step.{partly_listed, patched}
 use Rattle.baf_text.specs.Listed.{listed_of, part_at, IsPart}
 use Rattle.shared_districts.specs.Laid.{laid}
 use Rattle.desk_room.specs.Cutting.{StaysOutside}

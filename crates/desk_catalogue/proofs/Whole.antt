@@ -9,11 +9,11 @@ use Rattle.std.specs.Ordering.{eq_by_cmp}
 use Rattle.std.specs.Cmp.Lexicographic.{nat_list_cmp_total}
 use Rattle.std.proofs.lemmas.List.Elements.{All-append}
 use Rattle.desk_model.specs.declared.block.BlockRow.{BlockRow}
-use Rattle.desk_model.specs.Baf.{Values, Fault, value_at}
-use Rattle.desk_model.specs.Geography.{Ground, ids_of}
-use Rattle.desk_model.specs.Desk.{Plan, name_cmp}
-use Rattle.desk_model.specs.Step.{whole}
-use Rattle.desk_model.specs.Subject.{revision_at}
+use Rattle.desk_model.specs.claim.Baf.{Values, Fault, value_at}
+use Rattle.desk_model.specs.claim.Geography.{Ground, ids_of}
+use Rattle.desk_model.specs.claim.Desk.{Plan, name_cmp}
+use Rattle.desk_model.specs.claim.Baf.{whole}
+use Rattle.desk_model.specs.claim.Subject.{revision_at}
 use Rattle.baf_text.specs.Listed.{listed_of}
 use Rattle.desk_catalogue.specs.Kept.{AreWhole, IsWhole, revision_in}
 

@@ -4,8 +4,8 @@ use Rattle.std.specs.FinMap as map_of
 use Rattle.desk_model.specs.declared.command.Command.{Command}
 use Rattle.desk_model.specs.declared.command.Command.TheVariants.{Create, Whole, Counties, Retire, Fork}
 use Rattle.desk_model.specs.declared.cuts.Cut.{Cut}
-use Rattle.desk_model.specs.Geography.{Ground}
-use Rattle.desk_model.specs.Desk.{Desk}
+use Rattle.desk_model.specs.claim.Geography.{Ground}
+use Rattle.desk_model.specs.claim.Desk.{Desk}
 use Rattle.desk_room.specs.Cutting.{AreWithin, changes_in}
 use Rattle.desk_catalogue.specs.Kept.{revision_in}
 

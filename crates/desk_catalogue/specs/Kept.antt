@@ -1,10 +1,10 @@
 -- What is kept of revisions.
 use Rattle.std.specs.Prelude.{◌≡◌, ℕ, List, length, All, Option, Some, None, Result, Err, IfSome}
 use Rattle.std.specs.FinMap as map_of
-use Rattle.desk_model.specs.Desk.{Plan, name_cmp}
-use Rattle.desk_model.specs.Subject.{revision_at}
-use Rattle.desk_model.specs.Baf.{Values, Fault}
-use Rattle.desk_model.specs.Geography.{Ground}
+use Rattle.desk_model.specs.claim.Desk.{Plan, name_cmp}
+use Rattle.desk_model.specs.claim.Subject.{revision_at}
+use Rattle.desk_model.specs.claim.Baf.{Values, Fault}
+use Rattle.desk_model.specs.claim.Geography.{Ground}
 use Rattle.desk_model.specs.declared.reply.Refusal.{Refusal}
 use Rattle.desk_model.specs.declared.reply.Refusal.TheVariants.{NoPlan, NoRevision, PlanExists, Stale, BadBody, NotWholeCounty}
 use Rattle.desk_model.specs.declared.reply.Refusal.TheVariants.{BadCompanion, Limit, Full, Memory, Halted, NotSealed}

@@ -1,4 +1,4 @@
-pub mod Audits
+pub mod claim
 pub mod Accepting
 pub mod Codes
 pub mod Kept

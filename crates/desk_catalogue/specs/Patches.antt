@@ -2,10 +2,10 @@
 use Rattle.std.specs.Prelude.{◌≡◌, ℕ, List, map, unwrap_or, Option, Some, None, Result, Err, IsOkAnd, ◌++◌, ◌∷◌, []}
 use Rattle.std.specs.List.{zip}
 use Rattle.std.specs.FinMap as map_of
-use Rattle.desk_model.specs.Baf.{Values, Fault, body_read}
-use Rattle.desk_model.specs.Geography.{Ground}
-use Rattle.desk_model.specs.Step.{partly_listed, patched}
-use Rattle.desk_model.specs.Desk.{Desk}
+use Rattle.desk_model.specs.claim.Baf.{Values, Fault, body_read}
+use Rattle.desk_model.specs.claim.Geography.{Ground}
+use Rattle.desk_model.specs.claim.Step.{partly_listed, patched}
+use Rattle.desk_model.specs.claim.Desk.{Desk}
 use Rattle.desk_model.specs.declared.reply.Refusal.{Refusal}
 use Rattle.desk_model.specs.declared.reply.Refusal.TheVariants.{NoPlan, NoRevision, PlanExists, Stale, BadBody, NotWholeCounty}
 use Rattle.desk_model.specs.declared.reply.Refusal.TheVariants.{BadCompanion, Limit, Full, Memory, Halted, NotSealed}

@@ -1,6 +1,6 @@
 //! The list of a geography's blocks, as text.
 ghost use Rattle.std.specs.Prelude.{◌≡◌, ◌++◌, ◌∷◌, IfOk, OnOk};
-ghost use Rattle.desk_model.specs.Step.{place_text, block_text, blocks_text as text_of_blocks};
+ghost use Rattle.desk_model.specs.claim.Step.{place_text, block_text, blocks_text as text_of_blocks};
 
 use desk_model::block::BlockRow;
 use desk_model::decimal::push_padded;

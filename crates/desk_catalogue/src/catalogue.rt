@@ -2,13 +2,15 @@
 ghost use Rattle.std.specs.Prelude.{◌≡◌, ℕ, ◌<◌, List, [], length, IfOk, IfErr, IfSome, IsSome, IsTrue, Some, Ok, Err};
 ghost use Rattle.std.specs.Option.{option_map, option_copied};
 ghost use Rattle.std.specs.FinMap as map_of;
-ghost use Rattle.desk_model.specs.Step.{revision_limit};
-ghost use Rattle.desk_model.specs.Companions.{takes, AreTaken, companions_copied};
-ghost use Rattle.desk_model.specs.Subject.{revision_of_kind as revision_of_kind_of, companion_of, companions_of};
-ghost use Rattle.desk_model.specs.Room.{last_revision};
+ghost use Rattle.desk_model.specs.claim.Step.{revision_limit};
+ghost use Rattle.desk_model.specs.claim.Companions.{takes};
+ghost use Rattle.desk_model.specs.Companions.{AreTaken, companions_copied};
+ghost use Rattle.desk_model.specs.claim.Subject.{revision_of_kind as revision_of_kind_of, companion_of, companions_of};
+ghost use Rattle.desk_model.specs.claim.Room.{last_revision};
 ghost use Rattle.desk_room.specs.Cutting.{StaysOutside, changes_in};
-ghost use Rattle.desk_catalogue.specs.Audits.{AskMay};
-ghost use Rattle.desk_catalogue.specs.Accepting.{IsAfter, IsRevisable, StepRefuses};
+ghost use Rattle.desk_catalogue.specs.claim.Audits.{AskMay};
+ghost use Rattle.desk_catalogue.specs.claim.Accepting.{IsAfter};
+ghost use Rattle.desk_catalogue.specs.Accepting.{IsRevisable, StepRefuses};
 ghost use Rattle.desk_catalogue.specs.Drafts.{AreCounties, changes_of};
 ghost use Rattle.desk_catalogue.specs.Kept.{AreWhole, HasWhole, IsWhole, revision_in};
 ghost use Rattle.desk_catalogue.specs.Patches.{with_revision_of};
@@ -47,7 +49,7 @@ pub struct Catalogue {
 
 impl Model for Catalogue {
     ghost use Rattle.std.specs.Option.{option_map};
-    ghost use Rattle.desk_model.specs.Desk.{Desk};
+    ghost use Rattle.desk_model.specs.claim.Desk.{Desk};
     ghost use Rattle.desk_catalogue.specs.Codes.{coded_desk};
 
     ghost Value = { Desk };

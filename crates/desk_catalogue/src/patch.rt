@@ -1,8 +1,8 @@
 //! The districts that a patch by counties leaves.
 ghost use Rattle.std.specs.Prelude.{◌≡◌, ◌⊎◌, ◌<◌, ◌≤◌, ℕ, length, get_or, is_some, None, IfOk, IfErr, IfSome};
 ghost use Rattle.std.specs.Option.{option_copied};
-ghost use Rattle.desk_model.specs.Baf.{Values, body_read};
-ghost use Rattle.desk_model.specs.Step.{partly_listed};
+ghost use Rattle.desk_model.specs.claim.Baf.{Values, body_read};
+ghost use Rattle.desk_model.specs.claim.Step.{partly_listed};
 ghost use Rattle.baf_text.specs.Listed.{listed_of};
 ghost use Rattle.desk_room.specs.Cutting.{StaysOutside};
 ghost use Rattle.desk_catalogue.specs.Patches.{overlaid, IsPatchRefusal, IsPatched};

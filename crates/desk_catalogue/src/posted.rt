@@ -1,7 +1,7 @@
 //! The districts that a posted body says.
 ghost use Rattle.std.specs.Prelude.{◌≡◌, length, IfOk, IfErr, IsOkAnd};
-ghost use Rattle.desk_model.specs.Baf.{body_read};
-ghost use Rattle.desk_model.specs.Step.{whole as whole_of};
+ghost use Rattle.desk_model.specs.claim.Baf.{body_read};
+ghost use Rattle.desk_model.specs.claim.Baf.{whole as whole_of};
 ghost use Rattle.baf_text.specs.Listed.{listed_of};
 ghost use Rattle.desk_catalogue.specs.Kept.{IsRefusalOf};
 

@@ -2,7 +2,7 @@
 ghost use Rattle.std.specs.Prelude.{◌≡◌, ◌≤◌, length, IfOk};
 ghost use Rattle.std.specs.Option.{option_copied, option_map};
 ghost use Rattle.desk_model.specs.Companions.{AreLong, AreTaken, companions_copied};
-ghost use Rattle.desk_catalogue.specs.Audits.{IsReportText};
+ghost use Rattle.desk_catalogue.specs.claim.Audits.{IsReportText};
 
 use audit_report::audit::audit;
 use desk_model::companions::Companions;

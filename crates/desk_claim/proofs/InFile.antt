@@ -1,20 +1,21 @@
 -- Lives in a file, by what it held.
 use Rattle.std.proofs.Common.{◌≡◌, ℕ, Bool, true, false, [], ◌∷◌, ⊎_elim, refl, sym, subst, arith}
-use Rattle.sector_device.specs.Disk.{Disk, Image, IsSynced}
-use Rattle.desk_model.specs.Desk.{Desk}
-use Rattle.desk_pages.specs.Desks.{OpensDeskOf}
-use Rattle.desk_pages.specs.Openings.{AllVersions}
+use Rattle.sector_device.specs.claim.Disk.{Disk, Image}
+use Rattle.sector_device.specs.Disk.{IsSynced}
+use Rattle.desk_model.specs.claim.Desk.{Desk}
+use Rattle.desk_pages.specs.claim.Desks.{OpensDeskOf}
+use Rattle.desk_pages.specs.claim.Openings.{AllVersions}
 use Rattle.desk_runs.specs.Recovery.{ImagesAreOne}
-use Rattle.http_seats.specs.Streams.{Traffic}
-use Rattle.stream_lives.specs.Streams.{Ends}
-use Rattle.version_lives.specs.Versions.{Version, version_1, version_2, either}
+use Rattle.http_seats.specs.claim.Streams.{Traffic}
+use Rattle.stream_lives.specs.claim.Streams.{Ends}
+use Rattle.version_lives.specs.claim.Versions.{Version, version_1, version_2, either}
 use Rattle.version_lives.specs.Inside.{OpensIn, HoldsIn, IsOneIn, LivesIn}
 use Rattle.version_lives.proofs.Living.{holds_read}
 use Rattle.desk_claim.specs.declared.lives.Task.{Task}
 use Rattle.desk_claim.specs.declared.lives.Done.{Done}
-use Rattle.desk_claim.specs.Sentence.{LifeMay}
+use Rattle.desk_claim.specs.claim.Sentence.{LifeMay}
 use Rattle.desk_claim.specs.Inside.{IsLife}
-use Rattle.desk_claim.specs.InFile.{OpensAs, IsStoreAs, LivesFrom, AreLives}
+use Rattle.desk_claim.specs.claim.InFile.{OpensAs, IsStoreAs, LivesFrom, AreLives}
 
 opens_as : (v : Version) (n : ℕ) (d : Desk) (c : Image) → OpensIn v n d c → (new : Bool) × OpensDeskOf new n d c
 opens_as version_1 n d c opens = (false, opens)

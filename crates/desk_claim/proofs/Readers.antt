@@ -7,17 +7,17 @@ use Rattle.desk_model.specs.declared.command.Command.{Command}
 use Rattle.desk_model.specs.declared.reply.Reply.{Reply}
 use Rattle.desk_model.specs.declared.reply.Reply.TheVariants.{Refused}
 use Rattle.desk_model.specs.declared.reply.Refusal.TheVariants.{Halted}
-use Rattle.desk_model.specs.Desk.{Desk}
-use Rattle.desk_model.specs.Outcome.{CommandMay}
-use Rattle.desk_model.specs.Step.{step}
-use Rattle.desk_gallery.specs.After.{after}
+use Rattle.desk_model.specs.claim.Desk.{Desk}
+use Rattle.desk_model.specs.claim.Outcome.{CommandMay}
+use Rattle.desk_model.specs.claim.Step.{step}
+use Rattle.desk_gallery.specs.claim.After.{after}
 use Rattle.desk_lives.specs.declared.lives.Answer.TheVariants.{Said}
-use Rattle.desk_lives.specs.Lives.{Failed, Lived}
-use Rattle.desk_lives.specs.Calls.{asked_in, told_in, is_done, acknowledged}
+use Rattle.desk_lives.specs.claim.Lives.{Failed, Lived}
+use Rattle.desk_lives.specs.claim.Calls.{asked_in, told_in, is_done, acknowledged}
 use Rattle.http_arrivals.specs.declared.ran.Ran.{Ran}
-use Rattle.http_seats.specs.Streams.{Traffic, Worker}
-use Rattle.office_lives.specs.Offices.{Answered}
-use Rattle.desk_claim.specs.Sentence.{Keeps}
+use Rattle.http_seats.specs.claim.Streams.{Traffic, Worker}
+use Rattle.office_lives.specs.claim.Offices.{Answered}
+use Rattle.desk_claim.specs.claim.Sentence.{Keeps}
 use Rattle.desk_claim.proofs.Requests.{left_by}
 use Rattle.desk_claim.proofs.Refused.{said_in}
 

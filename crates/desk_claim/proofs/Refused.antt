@@ -5,16 +5,16 @@ use Rattle.desk_model.specs.declared.command.Command.{Command}
 use Rattle.desk_model.specs.declared.reply.Reply.{Reply}
 use Rattle.desk_model.specs.declared.reply.Reply.TheVariants.{Refused}
 use Rattle.desk_model.specs.declared.reply.Refusal.TheVariants.{Memory, Halted}
-use Rattle.desk_model.specs.Desk.{Desk}
-use Rattle.desk_model.specs.Outcome.{CommandMay}
+use Rattle.desk_model.specs.claim.Desk.{Desk}
+use Rattle.desk_model.specs.claim.Outcome.{CommandMay}
 use Rattle.store_sweep.specs.declared.error.SweepError.TheVariants as sweep
 use Rattle.desk_lives.specs.declared.lives.Request.{Request}
 use Rattle.desk_lives.specs.declared.lives.Request.TheVariants.{Change, Look, Load, Sweep}
 use Rattle.desk_lives.specs.declared.lives.Answer.{Answer}
 use Rattle.desk_lives.specs.declared.lives.Answer.TheVariants.{Said, Loaded, Unloaded, Swept, Unswept}
-use Rattle.desk_lives.specs.Lives.{Failed, Lived}
-use Rattle.stream_lives.specs.Streams.{State, working, failed, Takes}
-use Rattle.desk_claim.specs.Sentence.{Without, RefusedIsNotAsked}
+use Rattle.desk_lives.specs.claim.Lives.{Failed, Lived}
+use Rattle.stream_lives.specs.claim.Streams.{State, working, failed, Takes}
+use Rattle.desk_claim.specs.claim.Sentence.{Without, RefusedIsNotAsked}
 
 -- what was said, else this
 abbrev pub said_in : Answer → Reply

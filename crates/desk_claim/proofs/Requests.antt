@@ -6,18 +6,18 @@ use Rattle.desk_model.specs.declared.reply.Reply.{Reply}
 use Rattle.desk_model.specs.declared.reply.Reply.TheVariants as reply
 use Rattle.desk_model.specs.declared.reply.Refusal.{Refusal}
 use Rattle.desk_model.specs.declared.reply.Refusal.TheVariants as refusal
-use Rattle.desk_model.specs.Geography.{Ground}
-use Rattle.desk_model.specs.Desk.{Desk}
-use Rattle.desk_model.specs.Outcome.{IsAcceptance, IsStep, RefusalMay, CommandMay}
-use Rattle.desk_model.specs.Step.{step}
+use Rattle.desk_model.specs.claim.Geography.{Ground}
+use Rattle.desk_model.specs.claim.Desk.{Desk}
+use Rattle.desk_model.specs.claim.Outcome.{IsAcceptance, IsStep, RefusalMay, CommandMay}
+use Rattle.desk_model.specs.claim.Step.{step}
 use Rattle.desk_runs.proofs.Steps.{refused_same}
 use Rattle.desk_lives.specs.declared.lives.Request.{Request}
 use Rattle.desk_lives.specs.declared.lives.Request.TheVariants.{Change, Look, Load, Sweep}
 use Rattle.desk_lives.specs.declared.lives.Answer.{Answer}
 use Rattle.desk_lives.specs.declared.lives.Answer.TheVariants.{Said, Loaded, Unloaded, Swept, Unswept}
-use Rattle.desk_lives.specs.Lives.{loaded_desk, after_load, IsUnloaded, Failed, FailsAt, Lived}
-use Rattle.desk_lives.specs.Calls.{is_done}
-use Rattle.desk_claim.specs.Sentence.{made, tells_done, acknowledged_in, HoldsAcknowledged, RequestsLast}
+use Rattle.desk_lives.specs.claim.Lives.{loaded_desk, after_load, IsUnloaded, Failed, FailsAt, Lived}
+use Rattle.desk_lives.specs.claim.Calls.{is_done}
+use Rattle.desk_claim.specs.claim.Sentence.{made, tells_done, acknowledged_in, HoldsAcknowledged, RequestsLast}
 
 -- ---- what a command leaves, by its reply
 refused_step : (d : Desk) (c : Command) (r : Refusal) (next : Desk) → IsStep ⊥ d c (reply.Refused r) next → next ≡ d

@@ -1,16 +1,16 @@
 -- The sentence of any lives.
 use Rattle.std.proofs.Common.{ℕ, List, subst, ◌∙◌}
 use Rattle.desk_model.specs.declared.reply.Reply.TheVariants.{Audited}
-use Rattle.desk_model.specs.Outcome.{IsAnswer}
-use Rattle.desk_model.specs.Step.{Answer, reports}
-use Rattle.desk_catalogue.specs.Audits.{IsReportText}
-use Rattle.desk_lives.specs.Lives.{LifeAfterLife}
-use Rattle.http_seats.specs.Streams.{Traffic}
-use Rattle.stream_lives.specs.Streams.{Ends}
-use Rattle.version_lives.specs.Versions.{Store}
+use Rattle.desk_model.specs.claim.Outcome.{IsAnswer}
+use Rattle.desk_model.specs.claim.Step.{Answer, reports}
+use Rattle.desk_catalogue.specs.claim.Audits.{IsReportText}
+use Rattle.desk_lives.specs.claim.Lives.{LifeAfterLife}
+use Rattle.http_seats.specs.claim.Streams.{Traffic}
+use Rattle.stream_lives.specs.claim.Streams.{Ends}
+use Rattle.version_lives.specs.claim.Versions.{Store}
 use Rattle.desk_claim.specs.declared.lives.Task.{Task}
 use Rattle.desk_claim.specs.declared.lives.Done.{Done}
-use Rattle.desk_claim.specs.Sentence.{AuditsNameExactly, LifeMay, PlanDesk}
+use Rattle.desk_claim.specs.claim.Sentence.{AuditsNameExactly, LifeMay, PlanDesk}
 use Rattle.desk_claim.proofs.Requests.{requests_last}
 use Rattle.desk_claim.proofs.Streams.{streams_are_requests}
 use Rattle.desk_claim.proofs.Readers.{nothing_is_lost}

@@ -5,22 +5,22 @@ use Rattle.std.proofs.lemmas.List.Elements.{All-nil, All-cons, All-weaker}
 use Rattle.httparse.specs.Grammar.{RequestHead}
 use Rattle.desk_model.specs.declared.command.Command.{Command}
 use Rattle.desk_model.specs.declared.reply.Reply.{Reply}
-use Rattle.desk_model.specs.Desk.{Desk}
+use Rattle.desk_model.specs.claim.Desk.{Desk}
 use Rattle.desk_lives.specs.declared.lives.Answer.TheVariants.{Said}
-use Rattle.desk_lives.specs.Lives.{Failed, Lived}
-use Rattle.desk_lives.specs.Calls.{asked_in, told_in}
-use Rattle.http_wire.specs.Front.{HasRequest, closes_after, is_head}
+use Rattle.desk_lives.specs.claim.Lives.{Failed, Lived}
+use Rattle.desk_lives.specs.claim.Calls.{asked_in, told_in}
+use Rattle.http_wire.specs.claim.Front.{HasRequest, closes_after, is_head}
 use Rattle.http_routes.specs.declared.order.Order.{Order}
 use Rattle.http_routes.specs.declared.order.Order.TheVariants as order
-use Rattle.http_routes.specs.Orders.{order_of}
+use Rattle.http_routes.specs.claim.Orders.{order_of}
 use Rattle.http_desk.specs.declared.serve.Served.{Served}
 use Rattle.http_desk.specs.declared.serve.StreamFault.{StreamFault}
 use Rattle.http_desk.specs.declared.serve.StreamFault.TheVariants as fault
-use Rattle.http_desk.specs.Asking.{Asks}
-use Rattle.http_desk.specs.Serving.{IsFrontTalk}
-use Rattle.http_desk.specs.Talk.{Talk, MayAnswer}
-use Rattle.stream_lives.specs.Streams.{State, working, failed, left_in, Takes, Looks, ServedAs}
-use Rattle.desk_claim.specs.Sentence.{IsOfRequests, StreamsAreRequests}
+use Rattle.http_desk.specs.claim.Asking.{Asks}
+use Rattle.http_desk.specs.claim.Serving.{IsFrontTalk}
+use Rattle.http_desk.specs.claim.Talk.{Talk, MayAnswer}
+use Rattle.stream_lives.specs.claim.Streams.{State, working, failed, left_in, Takes, Looks, ServedAs}
+use Rattle.desk_claim.specs.claim.Sentence.{IsOfRequests, StreamsAreRequests}
 
 abbrev Call : Type 0
 Call = Command × Reply

@@ -1,14 +1,14 @@
 -- What one life makes of a store.
 use Rattle.std.specs.Prelude.{ℕ}
-use Rattle.desk_model.specs.Desk.{Desk}
-use Rattle.http_seats.specs.Streams.{Traffic}
-use Rattle.stream_lives.specs.Streams.{Ends}
-use Rattle.version_lives.specs.Versions.{Store}
+use Rattle.desk_model.specs.claim.Desk.{Desk}
+use Rattle.http_seats.specs.claim.Streams.{Traffic}
+use Rattle.stream_lives.specs.claim.Streams.{Ends}
+use Rattle.version_lives.specs.claim.Versions.{Store}
 use Rattle.desk_claim.specs.declared.asking.Asking.{Asking}
 use Rattle.desk_claim.specs.declared.asking.Told.{Told}
 use Rattle.desk_claim.specs.declared.lives.Task.{Task}
 use Rattle.desk_claim.specs.declared.lives.Done.{Done}
-use Rattle.desk_claim.specs.Sentence.{AskedMay, LifeMay}
+use Rattle.desk_claim.specs.claim.Sentence.{AskedMay, LifeMay}
 
 module _ {R W P Q A : Type 0} (ends : R → W → Ends) (streams : A → Traffic P Q) (workers : ℕ) where
   abbrev pub IsAsked : Asking R W A → Told R W → (t u : ℕ) → Desk → Desk → Type 0

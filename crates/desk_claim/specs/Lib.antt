@@ -1,3 +1,2 @@
-pub mod Sentence
+pub mod claim
 pub mod Inside
-pub mod InFile

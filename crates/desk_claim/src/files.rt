@@ -2,7 +2,7 @@
 ghost use Rattle.std.specs.Prelude.{◌≤◌, IfOk, ℕ};
 ghost use Rattle.sector_file.specs.Device.{file_disk, first_image};
 ghost use Rattle.http_seats.specs.Streams.{traffic};
-ghost use Rattle.desk_claim.specs.InFile.{AreLives, PlanDeskInFile};
+ghost use Rattle.desk_claim.specs.claim.InFile.{AreLives, PlanDeskInFile};
 
 use crate::lives::{Done, Task, live_in};
 use accepted_commands::hearing::Hears;

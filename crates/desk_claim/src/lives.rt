@@ -1,11 +1,11 @@
 //! Lives of a store of every kind.
 ghost use Rattle.std.specs.Prelude.{◌≡◌, ◌≤◌, IfOk};
-ghost use Rattle.desk_model.specs.Desk.{Desk};
+ghost use Rattle.desk_model.specs.claim.Desk.{Desk};
 ghost use Rattle.desk_lives.specs.Lives.{new_desk};
 ghost use Rattle.http_seats.specs.Streams.{traffic};
-ghost use Rattle.version_lives.specs.Versions.{Store, Version, version_2};
+ghost use Rattle.version_lives.specs.claim.Versions.{Store, Version, version_2};
 ghost use Rattle.version_lives.specs.Inside.{HoldsIn, IsLed, LivesIn};
-ghost use Rattle.desk_claim.specs.Sentence.{PlanDesk};
+ghost use Rattle.desk_claim.specs.claim.Sentence.{PlanDesk};
 ghost use Rattle.desk_claim.specs.Inside.{IsLife};
 
 use crate::asking::{Asking, Told, ask};

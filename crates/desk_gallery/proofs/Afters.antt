@@ -1,11 +1,11 @@
 -- The desk after one command more.
 use Rattle.std.proofs.Common.{◌≡◌, List, [], ◌∷◌, ◌++◌, refl}
 use Rattle.desk_model.specs.declared.command.Command.{Command}
-use Rattle.desk_model.specs.Desk.{Desk}
-use Rattle.desk_model.specs.Step.{step}
-use Rattle.desk_model.specs.Outcome.{IsAcceptance}
-use Rattle.desk_gallery.specs.After.{after}
-use Rattle.desk_gallery.specs.Working.{AreAccepted}
+use Rattle.desk_model.specs.claim.Desk.{Desk}
+use Rattle.desk_model.specs.claim.Step.{step}
+use Rattle.desk_model.specs.claim.Outcome.{IsAcceptance}
+use Rattle.desk_gallery.specs.claim.After.{after}
+use Rattle.desk_gallery.specs.claim.Working.{AreAccepted}
 
 pub after_more : (d : Desk) (commands : List Command) (c : Command) → after d (commands ++ c ∷ []) ≡ (step (after d commands) c).1
 after_more d [] c = refl

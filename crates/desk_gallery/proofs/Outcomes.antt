@@ -4,9 +4,9 @@ use Rattle.desk_model.specs.declared.reply.Reply.{Reply}
 use Rattle.desk_model.specs.declared.reply.Reply.TheVariants as reply
 use Rattle.desk_model.specs.declared.reply.Refusal.{Refusal}
 use Rattle.desk_model.specs.declared.reply.Refusal.TheVariants.{NoPlan, NoRevision, PlanExists, Stale, BadBody, NotWholeCounty, BadCompanion, Limit, Full, Memory, Halted, NotSealed}
-use Rattle.desk_model.specs.Desk.{Desk}
-use Rattle.desk_model.specs.Outcome.{CommandMay, RefusalMay, IsStep}
-use Rattle.desk_gallery.specs.Outcomes.{RefusalIs, OutcomeMay}
+use Rattle.desk_model.specs.claim.Desk.{Desk}
+use Rattle.desk_model.specs.claim.Outcome.{CommandMay, RefusalMay, IsStep}
+use Rattle.desk_gallery.specs.claim.Outcomes.{RefusalIs, OutcomeMay}
 
 step_of : (must : Type 0) (d : Desk) (c : Command) (r : Reply) (e : Desk) → IsStep must d c r e → IsStep ⊥ d c r e
 step_of must d c r e is = record { reply = is.reply; desk = is.desk; room = λ accepted none. none }

@@ -6,13 +6,13 @@ use Rattle.sector_device.specs.declared.SectorDevice.{Ghosts}
 use Rattle.desk_model.specs.declared.command.Command.{Command}
 use Rattle.desk_model.specs.declared.reply.Reply.{Reply}
 use Rattle.desk_model.specs.declared.reply.Reply.TheVariants as reply
-use Rattle.desk_model.specs.Outcome.{IsAcceptance}
+use Rattle.desk_model.specs.claim.Outcome.{IsAcceptance}
 use Rattle.desk_store.specs.declared.clerk.Clerk.{Clerk}
-use Rattle.desk_store.specs.Commands.{Does}
-use Rattle.desk_runs.specs.Runs.{Call, acknowledged, if_accepted}
-use Rattle.swept_runs.specs.Runs.{Tends, SweptRun}
-use Rattle.desk_gallery.specs.Begun.{Beginning, BeginsWith, HasRun}
-use Rattle.desk_gallery.specs.Telling.{accepted_in, halted_in, halts_of}
+use Rattle.desk_store.specs.claim.Commands.{Does}
+use Rattle.desk_runs.specs.claim.Runs.{Call, acknowledged, if_accepted}
+use Rattle.swept_runs.specs.claim.Runs.{Tends, SweptRun}
+use Rattle.desk_gallery.specs.claim.Begun.{Beginning, BeginsWith, HasRun}
+use Rattle.desk_gallery.specs.claim.Telling.{accepted_in, halted_in, halts_of}
 
 acknowledged_more : (calls : List Call) (c : Command) (r : Reply) → acknowledged (calls ++ (c, r) ∷ []) ≡ acknowledged calls ++ if_accepted c r
 acknowledged_more [] c r = append-nil (if_accepted c r)

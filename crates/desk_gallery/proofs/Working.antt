@@ -7,25 +7,26 @@ use Rattle.desk_model.specs.declared.reply.Reply.{Reply}
 use Rattle.desk_model.specs.declared.reply.Reply.TheVariants.{Refused}
 use Rattle.desk_model.specs.declared.reply.Refusal.{Refusal}
 use Rattle.desk_model.specs.declared.reply.Refusal.TheVariants.{Memory}
-use Rattle.desk_model.specs.Desk.{Desk}
-use Rattle.desk_model.specs.Outcome.{IsAcceptance}
-use Rattle.desk_model.specs.Step.{step}
+use Rattle.desk_model.specs.claim.Desk.{Desk}
+use Rattle.desk_model.specs.claim.Outcome.{IsAcceptance}
+use Rattle.desk_model.specs.claim.Step.{step}
 use Rattle.desk_store.specs.declared.clerk.Clerk.{Clerk}
 use Rattle.desk_store.specs.declared.ready.Ready.{Ready}
-use Rattle.desk_store.specs.Keeping.{IsLeft}
-use Rattle.desk_store.specs.Clerks.{desk_of, is_halted, sectors_of, Keeps, Reads}
-use Rattle.desk_store.specs.Commands.{command_of, after_of, MustBeFull, PrepareErr, IsReady, IsMade, IsNotMade, Commits, Does}
+use Rattle.desk_store.specs.claim.Keeping.{IsLeft}
+use Rattle.desk_store.specs.claim.Clerks.{desk_of, is_halted, sectors_of, Keeps, Reads}
+use Rattle.desk_store.specs.claim.Commands.{command_of, after_of, MustBeFull, PrepareErr, IsReady, IsMade, IsNotMade, Commits, Does}
 use Rattle.desk_store.proofs.Kept.{acceptance_is, accepted_is}
 use Rattle.desk_store.proofs.Done.{refused_does, committed_does}
-use Rattle.desk_gallery.specs.After.{after}
+use Rattle.desk_gallery.specs.claim.After.{after}
 use Rattle.store_sweep.specs.declared.error.SweepError.{SweepError}
 use Rattle.desk_gallery.specs.Fronts.{Kept, kept_of, IsClerk, Works, SweepsOn, OpensShown}
-use Rattle.desk_gallery.specs.Outcomes.{OutcomeMay}
-use Rattle.desk_gallery.specs.Working.{AreAccepted, Agree, Worked}
+use Rattle.desk_gallery.specs.claim.Outcomes.{OutcomeMay}
+use Rattle.desk_gallery.specs.claim.Working.{AreAccepted}
+use Rattle.desk_gallery.specs.Working.{Agree, Worked}
 use Rattle.desk_gallery.proofs.Afters.{after_more, accepted_more}
 use Rattle.desk_gallery.proofs.Outcomes.{outcome_is}
 use Rattle.desk_gallery.proofs.Pasts.{prefix_self}
-use Rattle.swept_runs.specs.Runs.{Tends}
+use Rattle.swept_runs.specs.claim.Runs.{Tends}
 use Rattle.swept_runs.specs.Steps.{StepMay}
 
 either : (b : Bool) → (b ≡ true) ⊎ (b ≡ false)

@@ -1,42 +1,6 @@
--- A clerk behind a front, by the clerk with whom its gallery began.
-use Rattle.std.specs.Prelude.{◌≡◌, ℕ, Bool, false, All, List}
-use Rattle.sector_device.specs.declared.SectorDevice.{Ghosts}
-use Rattle.desk_model.specs.declared.command.Command.{Command}
-use Rattle.desk_model.specs.Desk.{Desk}
-use Rattle.desk_store.specs.declared.clerk.Clerk.{Clerk}
-use Rattle.desk_runs.specs.Runs.{Call, acknowledged}
-use Rattle.swept_runs.specs.Runs.{SweptRun}
-use Rattle.desk_gallery.specs.Telling.{halts_of}
-use Rattle.desk_gallery.specs.Working.{AreAccepted}
-
--- what is known of the clerk with whom a gallery begins
-abbrev pub Beginning : Type 1
-Beginning = (D : Type 0) → (g : Ghosts D) → Clerk D g → Type 0
+-- What no promise rests on, beside claim/Begun.antt.
+use Rattle.desk_gallery.specs.claim.Begun.{Beginning}
 
 -- stands where nothing is picked
 abbrev pub nobody : Beginning
 nobody D g x = ⊥
-
-module _ {D : Type 0} {g : Ghosts D} where
-  -- this clerk is such a one
-  abbrev pub BeginsWith : Beginning → Clerk D g → Type 0
-  BeginsWith begins x = begins D g x
-
-  -- Commands were done one after the other, each of which was asked for, and steps of sweeps between them, from a clerk on of whom this is
-  -- known to this one; those that were acknowledged are what is shown, and so many were told as halted.
-  pub record HasRun (begins : Beginning) (asked : Command → Type 0) (last : Clerk D g) (shown : List Command) (halts : ℕ) : Type 0 where
-    pub first : Clerk D g
-    pub began : BeginsWith begins first
-    pub calls : List Call
-    pub checked : Bool
-    pub run : SweptRun false first calls checked last
-    pub each : All (λ call. asked call.0) calls
-    pub are_shown : acknowledged calls ≡ shown
-    pub are_halts : halts_of calls ≡ halts
-
-  -- so they were, and each of the acknowledged ones is accepted after those before it
-  pub record IsLeftBy (start : Desk) (begins : Beginning) (asked : Command → Type 0) (last : Clerk D g) : Type 0 where
-    pub commands : List Command
-    pub accepted : AreAccepted start commands
-    pub halts : ℕ
-    pub ran : HasRun begins asked last commands halts

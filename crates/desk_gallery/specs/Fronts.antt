@@ -1,19 +1,19 @@
 -- What lies under an office's lock, as the layers above see it.
 use Rattle.std.specs.Prelude.{◌≡◌, ℕ, Bool, Option, List, Result}
-use Rattle.sector_device.specs.Disk.{Image}
+use Rattle.sector_device.specs.claim.Disk.{Image}
 use Rattle.sector_device.specs.declared.SectorDevice.{Ghosts}
-use Rattle.page_store.specs.Transactions.{device_in}
+use Rattle.page_store.specs.claim.Transactions.{device_in}
 use Rattle.store_sweep.specs.declared.error.SweepError.{SweepError}
 use Rattle.desk_model.specs.declared.command.Command.{Command}
 use Rattle.desk_model.specs.declared.reply.Reply.{Reply}
-use Rattle.desk_model.specs.Desk.{Desk}
+use Rattle.desk_model.specs.claim.Desk.{Desk}
 use Rattle.desk_store.specs.declared.clerk.Clerk.{Clerk}
-use Rattle.desk_store.specs.Keeping.{IsLeft}
-use Rattle.desk_store.specs.Clerks.{desk_of, is_halted, sectors_of, room_of, free_of, pages_of}
-use Rattle.desk_store.specs.Commands.{Does}
-use Rattle.swept_runs.specs.Runs.{Tends}
+use Rattle.desk_store.specs.claim.Keeping.{IsLeft}
+use Rattle.desk_store.specs.claim.Clerks.{desk_of, is_halted, sectors_of, room_of, free_of, pages_of}
+use Rattle.desk_store.specs.claim.Commands.{Does}
+use Rattle.swept_runs.specs.claim.Runs.{Tends}
 use Rattle.swept_runs.specs.Steps.{StepMay}
-use Rattle.desk_gallery.specs.After.{after}
+use Rattle.desk_gallery.specs.claim.After.{after}
 
 -- the store's device, whether it has halted, its sizes, the changes that are shown, and these with what is pending behind them
 pub record Kept (D : Type 0) : Type 0 where

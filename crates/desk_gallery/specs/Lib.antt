@@ -1,9 +1,7 @@
-pub mod After
+pub mod claim
 pub mod Rules
 pub mod Shelves
-pub mod Outcomes
 pub mod Fronts
 pub mod Working
-pub mod Telling
 pub mod Naming
 pub mod Begun

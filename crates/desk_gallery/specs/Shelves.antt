@@ -2,10 +2,10 @@
 use Rattle.std.specs.Prelude.{◌≡◌, ℕ, List, [], ◌∷◌, length}
 use Rattle.logbook.specs.Pages.{Book}
 use Rattle.desk_model.specs.declared.command.Command.{Command}
-use Rattle.desk_model.specs.Desk.{Desk}
+use Rattle.desk_model.specs.claim.Desk.{Desk}
 use Rattle.desk_gallery.specs.declared.book.Mark.{Mark}
 use Rattle.desk_gallery.specs.declared.shelf.Shelf.{Shelf}
-use Rattle.desk_gallery.specs.After.{after}
+use Rattle.desk_gallery.specs.claim.After.{after}
 use Rattle.desk_gallery.specs.Rules.{shown_of}
 
 -- a log of this book, with the number of changes that are shown in it

@@ -1,23 +1,19 @@
--- A clerk beside a writer, before they are put behind a lock.
-use Rattle.std.specs.Prelude.{◌≡◌, ◌⊎◌, ◌≤◌, ◌+◌, false, List, [], ◌∷◌, ◌++◌, length, ⊤}
+-- What no promise rests on, beside claim/Working.antt.
+use Rattle.std.specs.Prelude.{◌≡◌, ◌⊎◌, ◌≤◌, ◌+◌, false, List, [], ◌∷◌, ◌++◌, length}
 use mathlib.Core.List.{IsPrefix}
 use Rattle.sector_device.specs.declared.SectorDevice.{Ghosts}
 use Rattle.desk_model.specs.declared.command.Command.{Command}
 use Rattle.desk_model.specs.declared.reply.Reply.{Reply}
 use Rattle.desk_model.specs.declared.reply.Reply.TheVariants.{Refused}
 use Rattle.desk_model.specs.declared.reply.Refusal.TheVariants.{Halted}
-use Rattle.desk_model.specs.Desk.{Desk}
-use Rattle.desk_model.specs.Outcome.{IsAcceptance}
-use Rattle.desk_model.specs.Step.{step}
+use Rattle.desk_model.specs.claim.Desk.{Desk}
+use Rattle.desk_model.specs.claim.Outcome.{IsAcceptance}
+use Rattle.desk_model.specs.claim.Step.{step}
 use Rattle.desk_store.specs.declared.clerk.Clerk.{Clerk}
-use Rattle.desk_store.specs.Clerks.{desk_of, is_halted}
-use Rattle.desk_store.specs.Commands.{Does}
-use Rattle.desk_gallery.specs.After.{after}
-
--- each of the commands is accepted, one after the other
-abbrev pub AreAccepted : Desk → List Command → Type 0
-AreAccepted d [] = ⊤
-AreAccepted d (c ∷ commands) = IsAcceptance (step d c).0 × AreAccepted (step d c).1 commands
+use Rattle.desk_store.specs.claim.Clerks.{desk_of, is_halted}
+use Rattle.desk_store.specs.claim.Commands.{Does}
+use Rattle.desk_gallery.specs.claim.After.{after}
+use Rattle.desk_gallery.specs.claim.Working.{AreAccepted}
 
 -- a desk after commands from this one on, each accepted after those before it
 abbrev pub IsRunFrom : Desk → Desk → Type 0

@@ -124,8 +124,8 @@ pub trait Room {
     ghost use Rattle.std.specs.Prelude.{ℕ};
     ghost use Rattle.logbook.specs.Pages.{Book};
     ghost use Rattle.desk_model.specs.declared.command.Command.{Command};
-    ghost use Rattle.desk_model.specs.Desk.{Desk};
-    ghost use Rattle.desk_gallery.specs.Begun.{Beginning};
+    ghost use Rattle.desk_model.specs.claim.Desk.{Desk};
+    ghost use Rattle.desk_gallery.specs.claim.Begun.{Beginning};
     ghost use Rattle.desk_gallery.specs.Naming.{Counts};
 
     ghost book: { Book };

@@ -1,8 +1,8 @@
 //! The clerk with the writer of the gallery.
 ghost use Rattle.std.specs.Prelude.{◌≡◌, false, true};
-ghost use Rattle.desk_store.specs.Clerks.{is_halted};
-ghost use Rattle.desk_store.specs.Commands.{IsReady, Commits};
-ghost use Rattle.desk_gallery.specs.After.{after};
+ghost use Rattle.desk_store.specs.claim.Clerks.{is_halted};
+ghost use Rattle.desk_store.specs.claim.Commands.{IsReady, Commits};
+ghost use Rattle.desk_gallery.specs.claim.After.{after};
 ghost use Rattle.desk_gallery.specs.Working.{Agree, Worked};
 
 use crate::book::Room;
@@ -82,8 +82,8 @@ pub struct Front<J: Room, D: SectorDevice> {
 
 impl<J: Room, D: SectorDevice> Model for Front<J, D> {
     ghost use Rattle.std.specs.Prelude.{◌≡◌, length};
-    ghost use Rattle.desk_store.specs.Clerks.{Keeps};
-    ghost use Rattle.desk_gallery.specs.Begun.{HasRun};
+    ghost use Rattle.desk_store.specs.claim.Clerks.{Keeps};
+    ghost use Rattle.desk_gallery.specs.claim.Begun.{HasRun};
     ghost use Rattle.desk_gallery.specs.Fronts.{Kept, kept_of};
     ghost use Rattle.desk_gallery.specs.Working.{Agree};
 
@@ -99,14 +99,15 @@ impl<J: Room, D: SectorDevice> Model for Front<J, D> {
 impl<J: Room, D: SectorDevice> Front<J, D> {
     ghost use Rattle.std.specs.Prelude.{◌≡◌, ◌≤◌, ◌+◌, ◌∷◌, ◌++◌, ℕ, [], false, length};
     ghost use mathlib.Core.List.{IsPrefix};
-    ghost use Rattle.desk_model.specs.Outcome.{IsAcceptance};
-    ghost use Rattle.desk_store.specs.Clerks.{desk_of, is_halted, Keeps};
-    ghost use Rattle.desk_gallery.specs.After.{after};
-    ghost use Rattle.desk_gallery.specs.Begun.{BeginsWith, HasRun};
+    ghost use Rattle.desk_model.specs.claim.Outcome.{IsAcceptance};
+    ghost use Rattle.desk_store.specs.claim.Clerks.{desk_of, is_halted, Keeps};
+    ghost use Rattle.desk_gallery.specs.claim.After.{after};
+    ghost use Rattle.desk_gallery.specs.claim.Begun.{BeginsWith, HasRun};
     ghost use Rattle.desk_gallery.specs.Fronts.{kept_of, IsClerk, Works, SweepsOn, OpensShown};
-    ghost use Rattle.desk_gallery.specs.Outcomes.{OutcomeMay};
-    ghost use Rattle.desk_gallery.specs.Telling.{accepted_in, halted_in};
-    ghost use Rattle.desk_gallery.specs.Working.{AreAccepted, Joins};
+    ghost use Rattle.desk_gallery.specs.claim.Outcomes.{OutcomeMay};
+    ghost use Rattle.desk_gallery.specs.claim.Telling.{accepted_in, halted_in};
+    ghost use Rattle.desk_gallery.specs.claim.Working.{AreAccepted};
+    ghost use Rattle.desk_gallery.specs.Working.{Joins};
 
     /// Of a clerk and a writer that shows its desk, to which nothing was appended, and of books in which nothing stands.
     pub fn new(clerk: Clerk<D>, shower: Shower<J>, books: Books<J>) -> Front<J, D>

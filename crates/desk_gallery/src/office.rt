@@ -1,8 +1,8 @@
 //! A front behind one lock, and who sweeps beside those that take it.
 ghost use Rattle.std.specs.Prelude.{◌≡◌, []};
-ghost use Rattle.desk_store.specs.Clerks.{desk_of, Keeps};
-ghost use Rattle.desk_gallery.specs.After.{after};
-ghost use Rattle.desk_gallery.specs.Begun.{BeginsWith, IsLeftBy};
+ghost use Rattle.desk_store.specs.claim.Clerks.{desk_of, Keeps};
+ghost use Rattle.desk_gallery.specs.claim.After.{after};
+ghost use Rattle.desk_gallery.specs.claim.Begun.{BeginsWith, IsLeftBy};
 ghost use Rattle.desk_gallery.specs.Working.{IsRunFrom};
 
 use crate::book::Room;

@@ -1,9 +1,9 @@
 //! The writer of a gallery.
 ghost use Rattle.std.specs.Prelude.{◌≡◌, List, ◌∷◌, ◌++◌, [], length, drop, IfOk, IfErr, MatchResult};
 ghost use mathlib.Core.List.{IsPrefix};
-ghost use Rattle.desk_model.specs.Step.{step};
+ghost use Rattle.desk_model.specs.claim.Step.{step};
 ghost use Rattle.desk_model.specs.declared.command.Command.{Command};
-ghost use Rattle.desk_gallery.specs.After.{after};
+ghost use Rattle.desk_gallery.specs.claim.After.{after};
 ghost use Rattle.desk_gallery.specs.Rules.{shown_of};
 ghost use Rattle.desk_gallery.specs.Shelves.{Stands, WaitsFor};
 
@@ -72,7 +72,7 @@ pub struct Shower<J: Room> {
 impl<J: Room> Model for Shower<J> {
     ghost use Rattle.std.specs.Prelude.{◌≡◌, List, [], drop, MatchOption};
     ghost use Rattle.desk_model.specs.declared.command.Command.{Command};
-    ghost use Rattle.desk_gallery.specs.After.{after};
+    ghost use Rattle.desk_gallery.specs.claim.After.{after};
     ghost use Rattle.desk_gallery.specs.Rules.{shown_of};
     ghost use Rattle.desk_gallery.specs.Shelves.{Stands};
 

@@ -1,7 +1,7 @@
 //! What the seats of an office are told, counted: two books under its lock, of the commands that are accepted and of those that are
 //! told as halted, and at each seat its share of both. They exist in proofs alone.
 ghost use Rattle.std.specs.Prelude.{◌≡◌, ◌+◌, ◌<◌};
-ghost use Rattle.desk_gallery.specs.Telling.{accepted_in, halted_in};
+ghost use Rattle.desk_gallery.specs.claim.Telling.{accepted_in, halted_in};
 
 use crate::book::Room;
 use desk_model::reply::{Refusal, Reply};

@@ -1,7 +1,7 @@
 //! Visitors of a gallery, who wait for nobody.
 ghost use Rattle.std.specs.Prelude.{◌≡◌, ◌⊎◌, ◌<◌, length, IfOk, IfSome, IsTrue, OnErr};
 ghost use mathlib.Core.List.{IsPrefix};
-ghost use Rattle.desk_gallery.specs.After.{after};
+ghost use Rattle.desk_gallery.specs.claim.After.{after};
 ghost use Rattle.desk_gallery.specs.Rules.{shown_of};
 ghost use Rattle.desk_gallery.specs.Shelves.{Stands};
 
@@ -25,7 +25,7 @@ pub struct Told<J: Room> {
 impl<J: Room> Model for Told<J> {
     ghost use Rattle.std.specs.Prelude.{◌≡◌, List, IfSome};
     ghost use Rattle.desk_model.specs.declared.command.Command.{Command};
-    ghost use Rattle.desk_gallery.specs.After.{after};
+    ghost use Rattle.desk_gallery.specs.claim.After.{after};
 
     ghost Value = { List Command };
 

@@ -2,17 +2,17 @@
 use Rattle.std.proofs.Common.{◌≡◌, ℕ, false, List, [], ◌∷◌, ◌++◌, inl, refl, sym, subst, ◌∙◌, append_assoc}
 use Rattle.std.proofs.lemmas.List.{append-nil}
 use Rattle.sector_device.specs.declared.SectorDevice.{Ghosts}
-use Rattle.desk_model.specs.Desk.{Desk}
+use Rattle.desk_model.specs.claim.Desk.{Desk}
 use Rattle.desk_store.specs.declared.clerk.Clerk.{Clerk}
-use Rattle.desk_store.specs.Clerks.{desk_of, disk_of, is_halted, sectors_of, Keeps}
-use Rattle.desk_runs.specs.Runs.{Call, Run}
+use Rattle.desk_store.specs.claim.Clerks.{desk_of, disk_of, is_halted, sectors_of, Keeps}
+use Rattle.desk_runs.specs.claim.Runs.{Call, Run}
 use Rattle.desk_lives.specs.declared.lives.Request.{Request}
 use Rattle.desk_lives.specs.declared.lives.Request.TheVariants.{Change}
 use Rattle.desk_lives.specs.declared.lives.Answer.{Answer}
 use Rattle.desk_lives.specs.declared.lives.Answer.TheVariants.{Said}
-use Rattle.desk_lives.specs.Lives.{Lived}
+use Rattle.desk_lives.specs.claim.Lives.{Lived}
 use Rattle.desk_lives.specs.Inside.{LivedThrough, Stands}
-use Rattle.desk_lives.specs.Calls.{asked_in, told_in}
+use Rattle.desk_lives.specs.claim.Calls.{asked_in, told_in}
 use Rattle.desk_lives.proofs.Living.{ends, fails_no_less, goes_on}
 
 module _ {D : Type 0} {g : Ghosts D} where

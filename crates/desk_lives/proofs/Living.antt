@@ -5,33 +5,34 @@ use Rattle.std.specs.Prelude.{⊤, None, Some}
 use Rattle.std.specs.List.{remove}
 use Rattle.std.specs.declared.alloc.Global.{Global}
 use Rattle.std.specs.declared.sync.Arc.{Arc}
-use Rattle.sector_device.specs.Disk.{Disk, Image}
-use Rattle.sector_device.specs.Moments.{LeavesOnly}
+use Rattle.sector_device.specs.claim.Disk.{Disk, Image}
+use Rattle.sector_device.specs.claim.Moments.{LeavesOnly}
 use Rattle.sector_device.proofs.Moments.{leaves_now}
 use Rattle.sector_device.specs.declared.SectorDevice.{Ghosts}
-use Rattle.page_store.specs.Transactions.{device_in, IsSame}
+use Rattle.page_store.specs.claim.Transactions.{device_in, IsSame}
 use Rattle.desk_model.specs.declared.command.Command.{Command}
 use Rattle.desk_model.specs.declared.reply.Reply.{Reply}
 use Rattle.desk_model.specs.declared.reply.Reply.TheVariants as reply
 use Rattle.desk_model.specs.declared.reply.Refusal.{Refusal}
 use Rattle.desk_model.specs.declared.reply.Refusal.TheVariants as refusal
-use Rattle.desk_model.specs.Geography.{Ground}
-use Rattle.desk_model.specs.Desk.{Desk}
+use Rattle.desk_model.specs.claim.Geography.{Ground}
+use Rattle.desk_model.specs.claim.Desk.{Desk}
 use Rattle.desk_pages.specs.Formats.{OpensNew}
 use Rattle.desk_store.specs.declared.loads.LoadError.{LoadError}
 use Rattle.desk_store.specs.declared.loads.LoadError.TheVariants as load
 use Rattle.desk_loading.specs.Loads.{Stopped, LoadRefused}
 use Rattle.desk_store.specs.Loads.{HasGeography}
-use Rattle.desk_model.specs.Outcome.{IsStep, RefusalMay, CommandMay}
-use Rattle.desk_model.specs.Step.{step}
-use Rattle.desk_pages.specs.Desks.{OpensDesk}
-use Rattle.desk_pages.specs.Openings.{AllDesks, AllVersions, IsOneOf, OpensOneOf}
+use Rattle.desk_model.specs.claim.Outcome.{IsStep, RefusalMay, CommandMay}
+use Rattle.desk_model.specs.claim.Step.{step}
+use Rattle.desk_pages.specs.claim.Desks.{OpensDesk}
+use Rattle.desk_pages.specs.Openings.{AllDesks, OpensOneOf}
+use Rattle.desk_pages.specs.claim.Openings.{AllVersions, IsOneOf}
 use Rattle.desk_store.specs.declared.clerk.Clerk.{Clerk}
 use Rattle.desk_store.specs.declared.opening.OpenError.{OpenError}
 use Rattle.desk_store.specs.declared.opening.OpenError.TheVariants as opening
-use Rattle.desk_store.specs.Clerks.{desk_of, disk_of, is_halted, pages_of, sectors_of, Keeps, Moves}
-use Rattle.desk_store.specs.Commands.{Does, MustBeFull, MayBeFull}
-use Rattle.desk_store.specs.Keeping.{IsLeft, OpensOneMore}
+use Rattle.desk_store.specs.claim.Clerks.{desk_of, disk_of, is_halted, pages_of, sectors_of, Keeps, Moves}
+use Rattle.desk_store.specs.claim.Commands.{Does, MustBeFull, MayBeFull}
+use Rattle.desk_store.specs.claim.Keeping.{IsLeft, OpensOneMore}
 use Rattle.store_sweep.specs.declared.error.SweepError.{SweepError}
 use Rattle.store_sweep.specs.declared.error.SweepError.TheVariants as sweep
 use Rattle.desk_store.specs.Sweeps.{SweepRefused}
@@ -41,7 +42,8 @@ use Rattle.desk_lives.specs.declared.lives.Request.{Request}
 use Rattle.desk_lives.specs.declared.lives.Request.TheVariants.{Change, Look, Load, Sweep}
 use Rattle.desk_lives.specs.declared.lives.Answer.{Answer}
 use Rattle.desk_lives.specs.declared.lives.Answer.TheVariants.{Said, Loaded, Unloaded, Swept, Unswept}
-use Rattle.desk_lives.specs.Lives.{new_desk, loaded_desk, after_load, MayRefuse, Failed, FailsAt, Lived, IsPassing, LifeAfterLife}
+use Rattle.desk_lives.specs.Lives.{new_desk}
+use Rattle.desk_lives.specs.claim.Lives.{loaded_desk, after_load, MayRefuse, Failed, FailsAt, Lived, IsPassing, LifeAfterLife}
 use Rattle.desk_lives.specs.Inside.{Holds, Going, GoingFailed, Stands, Loads, Sweeps, Answers, LivedThrough, LivesOnce, GoingOn}
 
 pub either : (b : Bool) → (b ≡ true) ⊎ (b ≡ false)

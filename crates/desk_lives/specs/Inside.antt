@@ -1,22 +1,23 @@
 -- What the loops know: which desks the images of a device open to.
 use Rattle.std.specs.Prelude.{◌≡◌, ◌⊎◌, ◌≤◌, ◌<◌, ◌++◌, ℕ, true, false, List, None}
-use Rattle.sector_device.specs.Disk.{Disk, Image}
+use Rattle.sector_device.specs.claim.Disk.{Disk, Image}
 use Rattle.sector_device.specs.declared.SectorDevice.{Ghosts}
 use Rattle.desk_model.specs.declared.reply.Reply.{Reply}
-use Rattle.desk_model.specs.Geography.{Ground}
-use Rattle.desk_model.specs.Desk.{Desk}
-use Rattle.desk_pages.specs.Desks.{OpensDesk}
-use Rattle.desk_pages.specs.Openings.{AllDesks, IsOneOf}
+use Rattle.desk_model.specs.claim.Geography.{Ground}
+use Rattle.desk_model.specs.claim.Desk.{Desk}
+use Rattle.desk_pages.specs.claim.Desks.{OpensDesk}
+use Rattle.desk_pages.specs.Openings.{AllDesks}
+use Rattle.desk_pages.specs.claim.Openings.{IsOneOf}
 use Rattle.desk_store.specs.declared.clerk.Clerk.{Clerk}
 use Rattle.store_sweep.specs.declared.error.SweepError.TheVariants as sweep
-use Rattle.desk_store.specs.Clerks.{desk_of, disk_of, is_halted, sectors_of, Keeps, Moves}
-use Rattle.desk_store.specs.Commands.{Does}
-use Rattle.desk_catalogue.specs.Audits.{AskMay}
+use Rattle.desk_store.specs.claim.Clerks.{desk_of, disk_of, is_halted, sectors_of, Keeps, Moves}
+use Rattle.desk_store.specs.claim.Commands.{Does}
+use Rattle.desk_catalogue.specs.claim.Audits.{AskMay}
 use Rattle.desk_lives.specs.declared.lives.Request.{Request}
 use Rattle.desk_lives.specs.declared.lives.Request.TheVariants.{Change, Look, Load, Sweep}
 use Rattle.desk_lives.specs.declared.lives.Answer.{Answer}
 use Rattle.desk_lives.specs.declared.lives.Answer.TheVariants.{Said, Loaded, Unloaded, Swept, Unswept}
-use Rattle.desk_lives.specs.Lives.{loaded_desk, MayRefuse, Asked, Told, Failed, Lived, Life, LifeAfterLife}
+use Rattle.desk_lives.specs.claim.Lives.{loaded_desk, MayRefuse, Asked, Told, Failed, Lived, Life, LifeAfterLife}
 
 -- an image of n sectors opens to one of these desks
 abbrev pub OpensTo : ℕ → (Desk → Type 0) → Image → Type 0

@@ -1,10 +1,11 @@
 //! Lives of a store.
 ghost use Rattle.std.specs.Prelude.{◌≡◌, ◌≤◌, false, IfOk};
-ghost use Rattle.desk_model.specs.Desk.{Desk};
-ghost use Rattle.desk_store.specs.Clerks.{disk_of};
+ghost use Rattle.desk_model.specs.claim.Desk.{Desk};
+ghost use Rattle.desk_store.specs.claim.Clerks.{disk_of};
 ghost use Rattle.desk_runs.specs.Recovery.{HoldsOne};
 ghost use Rattle.desk_lives.specs.Inside.{Answers, Asks, IsLife, LivesOnce};
-ghost use Rattle.desk_lives.specs.Lives.{Lives, new_desk};
+ghost use Rattle.desk_lives.specs.claim.Lives.{Lives};
+ghost use Rattle.desk_lives.specs.Lives.{new_desk};
 
 use crate::restarts::Restarts;
 use command_progress::Untold;

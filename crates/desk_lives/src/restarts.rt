@@ -1,6 +1,6 @@
 //! Devices that stop and start again.
 ghost use Rattle.std.specs.Prelude.{◌≡◌};
-ghost use Rattle.sector_device.specs.Disk.{Disk, Image};
+ghost use Rattle.sector_device.specs.claim.Disk.{Disk, Image};
 
 use sector_device::SectorDevice;
 

@@ -1,13 +1,13 @@
 -- A device that was formatted, and then opened.
 use Rattle.std.proofs.Common.{◌≡◌, ◌<◌, ◌≤◌, ◌^◌, ◌∙◌, ℕ, true, sym, arith}
 use Rattle.gate_journal.proofs.Headers.{same_journal}
-use Rattle.page_store.specs.Transactions.{count_of}
+use Rattle.page_store.specs.claim.Transactions.{count_of}
 use Rattle.sector_device.specs.declared.SectorDevice.{Ghosts}
 use Rattle.desk_pages.specs.Desks.{new_desk}
 use Rattle.desk_pages.specs.Formats.{OpensNew, HasJournal}
-use Rattle.desk_pages.specs.Openings.{AllVersions}
+use Rattle.desk_pages.specs.claim.Openings.{AllVersions}
 use Rattle.desk_store.specs.declared.clerk.Clerk.{Clerk}
-use Rattle.desk_store.specs.Clerks.{disk_of, pages_of, room_of, Keeps}
+use Rattle.desk_store.specs.claim.Clerks.{disk_of, pages_of, room_of, Keeps}
 use Rattle.desk_loading.specs.Openings.{IsOpened}
 
 module _ {D : Type 0} {g : Ghosts D} where

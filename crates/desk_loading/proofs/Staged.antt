@@ -2,16 +2,16 @@
 use Rattle.std.proofs.Common.{◌≡◌, ◌-◌, ℕ, false, Some, None, inl, inr, refl, sym, ap, subst, ◌∙◌}
 use Rattle.std.specs.Prelude.{min}
 use Rattle.sector_device.specs.declared.SectorDevice.{Ghosts}
-use Rattle.page_store.specs.Transactions.{IsQuiet}
-use Rattle.desk_model.specs.Desk.{Desk}
-use Rattle.desk_model.specs.Geography.{Ground}
-use Rattle.store_rows.specs.GeographyRows.{geography_rows}
+use Rattle.page_store.specs.claim.Transactions.{IsQuiet}
+use Rattle.desk_model.specs.claim.Desk.{Desk}
+use Rattle.desk_model.specs.claim.Geography.{Ground}
+use Rattle.store_rows.specs.claim.GeographyRows.{geography_rows}
 use Rattle.geo_tables.specs.declared.load.Load.{Load}
 use Rattle.geo_tables.specs.Loading.{IsFurther, ground_of, done_of}
 use Rattle.desk_store.specs.declared.clerk.Clerk.{Clerk}
 use Rattle.desk_store.specs.declared.loads.LoadError.{LoadError}
 use Rattle.desk_store.specs.declared.loads.LoadError.TheVariants.{AlreadySealed, Full, Memory, Halted, Ended}
-use Rattle.desk_store.specs.Clerks.{desk_of, pages_of, room_of, Keeps, Moves, MovesIf}
+use Rattle.desk_store.specs.claim.Clerks.{desk_of, pages_of, room_of, Keeps, Moves, MovesIf}
 use Rattle.desk_store.specs.Keeping.{sealed_desk}
 use Rattle.desk_store.specs.Loads.{Stages, IsLast, HasGeography, BatchRefused, SealRefused}
 use Rattle.desk_store.proofs.Moved.{unmoved}

@@ -1,15 +1,15 @@
 -- A whole load.
 use Rattle.std.specs.Prelude.{◌≡◌, ◌⊎◌, ◌-◌, ◌/◌, ℕ, min, max, false, None}
 use Rattle.sector_device.specs.declared.SectorDevice.{Ghosts}
-use Rattle.page_store.specs.Transactions.{IsQuiet}
-use Rattle.desk_model.specs.Geography.{Ground}
-use Rattle.store_rows.specs.GeographyRows.{geography_rows}
+use Rattle.page_store.specs.claim.Transactions.{IsQuiet}
+use Rattle.desk_model.specs.claim.Geography.{Ground}
+use Rattle.store_rows.specs.claim.GeographyRows.{geography_rows}
 use Rattle.geo_tables.specs.declared.load.Load.{Load}
 use Rattle.geo_tables.specs.Loading.{number_of, ground_of, done_of}
 use Rattle.desk_store.specs.declared.clerk.Clerk.{Clerk}
 use Rattle.desk_store.specs.declared.loads.LoadError.{LoadError}
 use Rattle.desk_store.specs.declared.loads.LoadError.TheVariants.{AlreadySealed, Full, Memory, Halted, Ended}
-use Rattle.desk_store.specs.Clerks.{desk_of, is_halted, pages_of, room_of, Keeps, Moves, MovesIf}
+use Rattle.desk_store.specs.claim.Clerks.{desk_of, is_halted, pages_of, room_of, Keeps, Moves, MovesIf}
 use Rattle.desk_store.specs.Keeping.{sealed_desk}
 use Rattle.desk_store.specs.Loads.{Stages, IsLast, BeginRefused, BatchRefused, SealRefused}
 

@@ -1,11 +1,12 @@
 -- What an opening of a device comes to.
 use Rattle.std.specs.Prelude.{◌≡◌, false, None}
 use Rattle.sector_device.specs.declared.SectorDevice.{Ghosts}
-use Rattle.desk_pages.specs.Openings.{AllVersions, IsOneOf, IsSpared, LeavesOneAs, LeavesOneOf}
+use Rattle.desk_pages.specs.claim.Openings.{AllVersions, IsOneOf, LeavesOneAs}
+use Rattle.desk_pages.specs.Openings.{IsSpared, LeavesOneOf}
 use Rattle.desk_store.specs.declared.clerk.Clerk.{Clerk}
 use Rattle.desk_store.specs.declared.opening.OpenError.{OpenError}
 use Rattle.desk_store.specs.declared.opening.OpenError.TheVariants.{NotAStore}
-use Rattle.desk_store.specs.Clerks.{desk_of, disk_of, is_halted, sectors_of, Keeps}
+use Rattle.desk_store.specs.claim.Clerks.{desk_of, disk_of, is_halted, sectors_of, Keeps}
 use Rattle.desk_store.specs.Openings.{IsFound, OpenRefused}
 
 module _ {D : Type 0} {g : Ghosts D} where

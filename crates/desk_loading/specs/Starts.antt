@@ -1,8 +1,8 @@
 -- A device that is made a store.
 use Rattle.std.specs.Prelude.{◌≡◌, ◌⊎◌, ◌≤◌, ◌+◌, ℕ}
 use Rattle.sector_device.specs.declared.SectorDevice.{Ghosts}
-use Rattle.gate_journal.specs.Store.{home}
-use Rattle.desk_model.specs.Geography.{Ground}
+use Rattle.gate_journal.specs.claim.Store.{home}
+use Rattle.desk_model.specs.claim.Geography.{Ground}
 use Rattle.desk_pages.specs.Formats.{OpensNew, HasJournal, FormatErr}
 use Rattle.desk_pages.specs.declared.formatting.FormatError.{FormatError}
 use Rattle.desk_pages.specs.declared.formatting.FormatError.TheVariants as format

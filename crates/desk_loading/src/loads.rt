@@ -1,8 +1,8 @@
 //! Loads a geography by as many batches as it takes.
 ghost use Rattle.std.specs.Prelude.{◌≡◌, ◌≤◌, ◌+◌, ◌-◌, ◌*◌, None, OnOk, OnErr, IfErr};
-ghost use Rattle.store_rows.specs.GeographyRows.{geography_rows};
+ghost use Rattle.store_rows.specs.claim.GeographyRows.{geography_rows};
 ghost use Rattle.geo_tables.specs.Loading.{ground_of, done_of};
-ghost use Rattle.desk_store.specs.Clerks.{desk_of, Moves, MovesIf};
+ghost use Rattle.desk_store.specs.claim.Clerks.{desk_of, Moves, MovesIf};
 ghost use Rattle.desk_store.specs.Keeping.{sealed_desk};
 ghost use Rattle.desk_store.specs.Loads.{Stages, IsLast};
 ghost use Rattle.desk_loading.specs.Loads.{batch_rows as rows_of_batch, HasStaged, StageRefused, IsLoaded, LoadRefused};

@@ -1,7 +1,7 @@
 //! Makes a device a store that holds a geography and no plan.
 ghost use Rattle.std.specs.Prelude.{◌≡◌, ◌≤◌, ◌<◌, ◌^◌, false, IfOk, IfErr};
 ghost use Rattle.desk_pages.specs.Formats.{OpensNew};
-ghost use Rattle.desk_store.specs.Clerks.{desk_of, disk_of, is_halted, room_of, sectors_of, Keeps};
+ghost use Rattle.desk_store.specs.claim.Clerks.{desk_of, disk_of, is_halted, room_of, sectors_of, Keeps};
 ghost use Rattle.desk_store.specs.Keeping.{sealed_desk};
 ghost use Rattle.desk_loading.specs.Openings.{IsOpened, IsUnopened};
 ghost use Rattle.desk_loading.specs.Starts.{start_of_format, start_of_open, start_of_load, IsFormatted, IsUnformatted, IsStarted, StartRefused};

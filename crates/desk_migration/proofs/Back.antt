@@ -5,25 +5,26 @@ use Rattle.std.specs.Ordering.{eq_by_cmp}
 use Rattle.std.specs.FinMap.{get, get-remove, remove}
 use Rattle.std.specs.Cmp.Lexicographic.{nat_list_cmp_total}
 use Rattle.std.proofs.lemmas.Bool.{eqb-true}
-use Rattle.sector_device.specs.Disk.{Image}
-use Rattle.sector_device.specs.Moments.{LeavesOnly}
+use Rattle.sector_device.specs.claim.Disk.{Image}
+use Rattle.sector_device.specs.claim.Moments.{LeavesOnly}
 use Rattle.sector_device.proofs.Moments.{leaves_wider}
 use Rattle.sector_device.specs.declared.SectorDevice.{Ghosts}
-use Rattle.gate_journal.specs.Store.{home}
-use Rattle.page_store.specs.Transactions.{stored, disk_in, count_of, journal_of, has_halted, IsQuiet, Passed}
+use Rattle.gate_journal.specs.claim.Store.{home}
+use Rattle.page_store.specs.claim.Transactions.{stored, disk_in, count_of, journal_of, has_halted, IsQuiet, Passed}
 use Rattle.page_store.specs.declared.pages.Pages.{Pages}
 use Rattle.page_btree.specs.declared.error.TreeError.{TreeError}
 use Rattle.page_store.specs.declared.txn.Txn.{Txn}
-use Rattle.page_node.specs.Places.{key_cmp}
-use Rattle.page_btree.specs.Map.{InTxn}
+use Rattle.page_node.specs.claim.Places.{key_cmp}
+use Rattle.page_btree.specs.claim.Map.{InTxn}
 use Rattle.btree_scan.specs.declared.rows.Row.{Row}
-use Rattle.desk_model.specs.Desk.{Desk}
-use Rattle.store_rows.specs.Rows.{KeyMap, SameTag}
-use Rattle.store_rows.specs.Holders.{AreTallied}
+use Rattle.desk_model.specs.claim.Desk.{Desk}
+use Rattle.store_rows.specs.claim.Rows.{KeyMap}
+use Rattle.store_rows.specs.Rows.{SameTag}
+use Rattle.store_rows.specs.claim.Holders.{AreTallied}
 use Rattle.store_rows.proofs.Frames.{desk_stays, remove_keeps_tag}
 use Rattle.store_rows.proofs.OneGeography.{no_value}
 use Rattle.store_rows.proofs.TidyParts.{AllKept, chunks_stay, kept_of, loads_stay, next_moves, plans_stay, tidy_at}
-use Rattle.desk_pages.specs.Desks.{InPages, InTxnOf, IsMapOf, OpensDesk, OpensEither}
+use Rattle.desk_pages.specs.claim.Desks.{InPages, InTxnOf, IsMapOf, OpensDesk, OpensEither}
 use Rattle.store_check.specs.Rows.{IsFirst, NoneFrom}
 use Rattle.store_check.proofs.FirstRows.{none_at_all, none_behind}
 use Rattle.store_check.proofs.Scanned.{either_way, first_so}

@@ -1,22 +1,22 @@
 -- Steps and the end at a migration.
 use Rattle.std.proofs.Common.{◌≡◌, ◌⊎◌, ◌+◌, ℕ, zero, suc, Bool, true, false, List, refl, sym, ap, subst, ◌∙◌, inl, inr, arith}
 use Rattle.std.specs.Prelude.{◌↔◌, Result, Ok, Err, OnOk, IfErr, IsErr}
-use Rattle.sector_device.specs.Disk.{Image}
-use Rattle.sector_device.specs.Moments.{LeavesOnly}
+use Rattle.sector_device.specs.claim.Disk.{Image}
+use Rattle.sector_device.specs.claim.Moments.{LeavesOnly}
 use Rattle.sector_device.proofs.Moments.{leaves_now}
 use Rattle.sector_device.specs.declared.SectorDevice.{Ghosts}
-use Rattle.gate_journal.specs.Store.{home}
-use Rattle.gate_journal.specs.Contents.{is_halted as journal_halted}
-use Rattle.page_store.specs.Transactions.{HasShape, IsQuiet, IsSame}
+use Rattle.gate_journal.specs.claim.Store.{home}
+use Rattle.gate_journal.specs.claim.Contents.{is_halted as journal_halted}
+use Rattle.page_store.specs.claim.Transactions.{HasShape, IsQuiet, IsSame}
 use Rattle.page_store.specs.declared.pages.Pages.{Pages}
-use Rattle.page_btree.specs.Map.{InPages}
-use Rattle.desk_model.specs.Desk.{Desk}
-use Rattle.store_rows.specs.Rows.{KeyMap}
-use Rattle.desk_pages.specs.Desks.{IsOldMap, InPages as HoldsDesk, OpensEither, OpensOld}
+use Rattle.page_btree.specs.claim.Map.{InPages}
+use Rattle.desk_model.specs.claim.Desk.{Desk}
+use Rattle.store_rows.specs.claim.Rows.{KeyMap}
+use Rattle.desk_pages.specs.claim.Desks.{IsOldMap, InPages as HoldsDesk, OpensEither, OpensOld}
 use Rattle.desk_pages.specs.Moments.{StopsLeave}
 use Rattle.desk_pages.proofs.Kept.{opens_now}
-use Rattle.desk_migration.specs.Holding.{AllAreHeld, AreHeldTo}
-use Rattle.desk_migration.specs.Migrating.{disk_of, has_ended, is_halted, sectors_of, Ends, Goes, HasMore, HasRows, Keeps, KeepsNew, Moves}
+use Rattle.desk_migration.specs.claim.Holding.{AllAreHeld, AreHeldTo}
+use Rattle.desk_migration.specs.claim.Migrating.{disk_of, has_ended, is_halted, sectors_of, Ends, Goes, HasMore, HasRows, Keeps, KeepsNew, Moves}
 use Rattle.desk_migration.specs.Puts.{FinishErr, HoldsAll, HoldsMore, HoldsTo, StepErr, TellsFaults}
 use Rattle.desk_migration.specs.declared.error.MigrationError.{MigrationError}
 use Rattle.desk_migration.specs.declared.error.MigrationError.TheVariants.{Full, Memory, DeviceFault, Halted}

@@ -1,30 +1,33 @@
 -- What an opening finds.
 use Rattle.std.proofs.Common.{◌≡◌, ◌≢◌, ℕ, Bool, true, false, inl, inr, refl, sym, subst, ◌∙◌, arith}
-use Rattle.sector_device.specs.Disk.{Disk, Image}
+use Rattle.sector_device.specs.claim.Disk.{Disk, Image}
 use Rattle.sector_device.specs.declared.SectorDevice.{Ghosts}
 use Rattle.sector_device.proofs.Moments.{leaves_now}
 use Rattle.page_store.proofs.Stops.{leaves_here, leaves_quiet}
 use Rattle.gate_journal.specs.Recovery.{HasRoom, Found}
-use Rattle.page_store.specs.Transactions.{stored, disk_in, count_of, journal_of, has_halted, device_in, IsQuiet, IsKept, IsUntouched, OpenErr, Passed}
+use Rattle.page_store.specs.claim.Transactions.{stored, disk_in, count_of, journal_of, has_halted, device_in, IsQuiet, IsKept, Passed}
+use Rattle.page_store.specs.Transactions.{IsUntouched, OpenErr}
 use Rattle.page_store.specs.declared.pages.Pages.{Pages}
 use Rattle.page_store.specs.declared.txn.Txn.{Txn}
 use Rattle.page_store.specs.declared.error.PageError.{PageError}
 use Rattle.page_store.specs.declared.error.PageError.TheVariants as page
 use Rattle.page_btree.specs.declared.error.TreeError.{TreeError}
 use Rattle.page_btree.specs.declared.error.TreeError.TheVariants as tree
-use Rattle.page_btree.specs.Map.{InTxn}
-use Rattle.desk_model.specs.Desk.{Desk}
-use Rattle.store_rows.specs.Keys.{parts_prefix, version}
-use Rattle.store_rows.specs.Rows.{KeyMap, row_in}
-use Rattle.store_rows.specs.Tidy.{version_row}
+use Rattle.page_btree.specs.claim.Map.{InTxn}
+use Rattle.desk_model.specs.claim.Desk.{Desk}
+use Rattle.store_rows.specs.Keys.{parts_prefix}
+use Rattle.store_rows.specs.claim.Keys.{version}
+use Rattle.store_rows.specs.claim.Rows.{KeyMap, row_in}
+use Rattle.store_rows.specs.claim.Tidy.{version_row}
 use Rattle.row_table.specs.Reading.{ReadErr}
 use Rattle.desk_opening.specs.Opening.{HasVersion, IsReadFrom, OpenErr as ReadDeskErr}
-use Rattle.desk_pages.specs.Desks.{InPagesOf, OpensDeskOf}
-use Rattle.desk_pages.specs.Openings.{AllVersions, IsSpared}
+use Rattle.desk_pages.specs.claim.Desks.{InPagesOf, OpensDeskOf}
+use Rattle.desk_pages.specs.claim.Openings.{AllVersions}
+use Rattle.desk_pages.specs.Openings.{IsSpared}
 use Rattle.desk_pages.proofs.Found.{found_after, found_desk, page_stores_of, pages_left}
 use Rattle.desk_pages.proofs.Kept.{opens_now}
-use Rattle.desk_migration.specs.Holding.{AreHeldTo}
-use Rattle.desk_migration.specs.Migrating.{disk_of, has_ended, is_halted, sectors_of}
+use Rattle.desk_migration.specs.claim.Holding.{AreHeldTo}
+use Rattle.desk_migration.specs.claim.Migrating.{disk_of, has_ended, is_halted, sectors_of}
 use Rattle.desk_migration.specs.Openings.{AreOfVersion, AreRead, IsCalm, IsFound, IsRefused, JudgeErr, KeepsOne, LeavesNew, missing, page_told, tree_told}
 use Rattle.desk_migration.specs.declared.error.MigrationOpenError.{MigrationOpenError}
 use Rattle.desk_migration.specs.declared.error.MigrationOpenError.TheVariants.{NotAStore, DeviceFault, Memory, AlreadyNew}

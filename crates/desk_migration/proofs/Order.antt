@@ -8,13 +8,14 @@ use Rattle.std.specs.Cmp.{nat_cmp_is}
 use Rattle.std.specs.Cmp.Lexicographic.{nat_list_cmp_total}
 use Rattle.std.proofs.lemmas.Cmp.{tied_itself}
 use Rattle.std.specs.FinMap.{entries, get}
-use Rattle.page_node.specs.Entries.{Entry}
-use Rattle.page_node.specs.Places.{key_cmp, entries_from}
+use Rattle.page_node.specs.claim.Entries.{Entry}
+use Rattle.page_node.specs.claim.Places.{key_cmp}
+use Rattle.page_node.specs.Places.{entries_from}
 use Rattle.page_node.proofs.Laws.{flip_less}
-use Rattle.store_rows.specs.Rows.{KeyMap}
+use Rattle.store_rows.specs.claim.Rows.{KeyMap}
 use Rattle.store_rows.proofs.Frames.{same_key}
 use Rattle.store_rows.proofs.OneGeography.{value_is}
-use Rattle.store_check.specs.Rows.{IsFrom}
+use Rattle.store_check.specs.claim.Rows.{IsFrom}
 use Rattle.store_check.proofs.FirstRows.{clash, first_is_from, first_least, first_none, first_there, from_trans, less_from}
 use Rattle.store_check.proofs.Scanned.{first_so, second_so}
 use Rattle.store_check.proofs.Behind.{few_from, fewer, from_tag}

@@ -1,30 +1,32 @@
 -- A step: a transaction that is begun, in which pairs come to be held, and that is committed then.
 use Rattle.std.proofs.Common.{◌≡◌, ◌⊎◌, ◌<◌, ◌≤◌, ◌+◌, ◌*◌, ℕ, Bool, true, false, List, length, refl, sym, ap, subst, ◌∙◌, inl, inr, ⊎_elim, arith}
-use Rattle.sector_device.specs.Disk.{Image}
-use Rattle.sector_device.specs.Moments.{LeavesOnly}
+use Rattle.sector_device.specs.claim.Disk.{Image}
+use Rattle.sector_device.specs.claim.Moments.{LeavesOnly}
 use Rattle.sector_device.proofs.Moments.{leaves_more, leaves_wider}
 use Rattle.sector_device.specs.declared.SectorDevice.{Ghosts}
-use Rattle.gate_journal.specs.Store.{home}
+use Rattle.gate_journal.specs.claim.Store.{home}
 use Rattle.page_store.proofs.Chains.{length_chain}
-use Rattle.page_store.specs.Chain.{free_in, root_in}
+use Rattle.page_store.specs.claim.Chain.{free_in, root_in}
 use Rattle.page_store.proofs.Stops.{leaves_here, leaves_quiet}
-use Rattle.page_store.specs.Transactions.{stored, disk_in, count_of, journal_of, has_halted, txn_pages, txn_root, txn_first, txn_free, txn_writes, over, free_over, HasFailed, HasShape, IsQuiet, Passed}
+use Rattle.page_store.specs.claim.Transactions.{stored, disk_in, count_of, journal_of, has_halted, txn_pages, txn_root, txn_free, txn_writes, over, free_over, HasFailed, HasShape, IsQuiet, Passed}
+use Rattle.page_store.specs.Transactions.{txn_first}
 use Rattle.page_store.specs.declared.error.PageError.{PageError}
 use Rattle.page_store.specs.declared.error.PageError.TheVariants as page
 use Rattle.page_store.specs.declared.pages.Pages.{Pages}
 use Rattle.page_store.specs.declared.txn.Txn.{Txn}
 use Rattle.page_btree.proofs.MapLaws.{begun_holds}
-use Rattle.page_btree.specs.Map.{Holds, InTxn, InPages}
+use Rattle.page_btree.specs.claim.Map.{Holds, InTxn, InPages}
 use Rattle.page_btree.specs.declared.error.TreeError.{TreeError}
 use Rattle.page_btree.specs.declared.error.TreeError.TheVariants as tree
-use Rattle.desk_model.specs.Desk.{Desk}
-use Rattle.store_rows.specs.Rows.{KeyMap}
+use Rattle.desk_model.specs.claim.Desk.{Desk}
+use Rattle.store_rows.specs.claim.Rows.{KeyMap}
 use Rattle.store_rows.specs.MigrationLaws.{NamedIsHeld}
-use Rattle.desk_pages.specs.Desks.{IsOldMap, InPagesOf, InPagesAs, InTxnOf, InTxnAs, OpensAs, OpensDeskOf, OpensOld}
+use Rattle.desk_pages.specs.claim.Desks.{IsOldMap, InPagesOf, InTxnOf, OpensAs, OpensDeskOf, OpensOld}
+use Rattle.desk_pages.specs.Desks.{InPagesAs, InTxnAs}
 use Rattle.desk_pages.specs.Commits.{TxnErr}
 use Rattle.desk_pages.specs.Moments.{StopsLeaveEither}
 use Rattle.desk_pages.proofs.Kept.{opens_now}
-use Rattle.desk_migration.specs.Holding.{AllAreHeld, AreHeldTo, IsHeldBy}
+use Rattle.desk_migration.specs.claim.Holding.{AllAreHeld, AreHeldTo, IsHeldBy}
 use Rattle.desk_migration.specs.Parts.{IsUnderWay}
 use Rattle.desk_migration.specs.Puts.{tree_told, IsHeldMap, HasHeld, HoldErr, HoldsMore, HoldsTo, StepErr, CommitErr, TellsFaults, free_of, page_told}
 use Rattle.desk_migration.specs.declared.error.MigrationError.{MigrationError}

@@ -1,26 +1,26 @@
 -- Pairs that come to be held one after the other within a transaction.
 use Rattle.std.proofs.Common.{◌≡◌, ◌<◌, ◌+◌, ◌++◌, ℕ, Bool, true, false, List, [], refl, sym, ap, subst, ◌∙◌, inl, inr, arith}
 use Rattle.std.specs.Prelude.{Option, Some, None}
-use Rattle.sector_device.specs.Disk.{Image}
+use Rattle.sector_device.specs.claim.Disk.{Image}
 use Rattle.sector_device.specs.declared.SectorDevice.{Ghosts}
-use Rattle.page_store.specs.Transactions.{stored, disk_in, txn_root, over, IsQuiet, Passed}
+use Rattle.page_store.specs.claim.Transactions.{stored, disk_in, txn_root, over, IsQuiet, Passed}
 use Rattle.page_store.proofs.Stops.{passed_none, passed_more, failed_more}
 use Rattle.page_store.specs.declared.pages.Pages.{Pages}
 use Rattle.page_store.specs.declared.txn.Txn.{Txn}
-use Rattle.page_btree.specs.Map.{InTxn}
-use Rattle.page_btree.specs.Errors.{level_in}
+use Rattle.page_btree.specs.claim.Map.{InTxn}
+use Rattle.page_btree.specs.claim.Errors.{level_in}
 use Rattle.page_btree.specs.declared.error.TreeError.{TreeError}
 use Rattle.page_btree.specs.declared.error.TreeError.TheVariants.{DeviceFault, Halted, NoPages, TooDeep, Memory}
-use Rattle.store_rows.specs.Rows.{KeyMap}
-use Rattle.store_rows.specs.Puts.{Row, put_rows}
-use Rattle.store_rows.specs.Holders.{holding_rows}
-use Rattle.store_rows.specs.Shares.{hold}
-use Rattle.store_rows.specs.Tidy.{Tidy}
+use Rattle.store_rows.specs.claim.Rows.{KeyMap}
+use Rattle.store_rows.specs.claim.Puts.{Row, put_rows}
+use Rattle.store_rows.specs.claim.Holders.{holding_rows}
+use Rattle.store_rows.specs.claim.Shares.{hold}
+use Rattle.store_rows.specs.claim.Tidy.{Tidy}
 use Rattle.store_rows.proofs.Migrating.{names_can_hold}
-use Rattle.row_table.specs.Puts.{HasDeepened}
+use Rattle.row_table.specs.claim.Puts.{HasDeepened}
 use Rattle.row_table.specs.Reading.{ReadErr}
 use Rattle.chunk_table.specs.Holding as chunk
-use Rattle.desk_migration.specs.Holding.{AreUnheld, IsHeldBy, IsUnheld, hold_pairs}
+use Rattle.desk_migration.specs.claim.Holding.{AreUnheld, IsHeldBy, IsUnheld, hold_pairs}
 use Rattle.desk_migration.specs.Walks.{IsNextPair}
 use Rattle.desk_migration.specs.declared.parts.HeldPair.{HeldPair}
 use Rattle.desk_migration.specs.Puts.{HasHeldAs, IsTurn, HoldErrOf}

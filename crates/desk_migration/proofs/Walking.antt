@@ -3,23 +3,23 @@ use Rattle.std.proofs.Common.{◌≡◌, ◌<◌, ◌^◌, ℕ, List, [], ◌∷
 use Rattle.std.specs.Prelude.{Result, IfOk, IfSome, OnOk}
 use Rattle.std.specs.FinMap.{entries, get}
 use Rattle.std.proofs.lemmas.List.Elements.{All-nil, Contains-get_or}
-use Rattle.sector_device.specs.Disk.{Image}
+use Rattle.sector_device.specs.claim.Disk.{Image}
 use Rattle.sector_device.specs.declared.SectorDevice.{Ghosts}
-use Rattle.page_store.specs.Transactions.{stored, disk_in, Passed}
+use Rattle.page_store.specs.claim.Transactions.{stored, disk_in, Passed}
 use Rattle.page_store.specs.declared.pages.Pages.{Pages}
 use Rattle.page_store.specs.declared.txn.Txn.{Txn}
 use Rattle.page_node.specs.Places.{entries_from}
-use Rattle.page_btree.specs.Map.{InTxn}
+use Rattle.page_btree.specs.claim.Map.{InTxn}
 use Rattle.page_btree.specs.declared.error.TreeError.{TreeError}
 use Rattle.btree_scan.specs.declared.rows.Row.{Row}
-use Rattle.store_rows.specs.Keys.{key_of, Fits, holding, part}
-use Rattle.store_rows.specs.Lists.{chunks_bytes}
-use Rattle.store_rows.specs.Rows.{KeyMap, Lacks}
-use Rattle.store_rows.specs.Tidy.{IsNamedBy, Tidy}
+use Rattle.store_rows.specs.claim.Keys.{key_of, Fits, holding, part}
+use Rattle.store_rows.specs.claim.Lists.{chunks_bytes}
+use Rattle.store_rows.specs.claim.Rows.{KeyMap, Lacks}
+use Rattle.store_rows.specs.claim.Tidy.{IsNamedBy, Tidy}
 use Rattle.store_check.proofs.FirstRows.{first_there}
 use Rattle.chunk_table.specs.Holding as chunk
 use Rattle.chunk_table.proofs.HeldChunks.{unheld_there}
-use Rattle.desk_migration.specs.Holding.{AreHeldTo, IsUnheld}
+use Rattle.desk_migration.specs.claim.Holding.{AreHeldTo, IsUnheld}
 use Rattle.desk_migration.specs.Outcomes.{IsReadAs}
 use Rattle.desk_migration.specs.Parts.{IsPartFrom, IsPartRow, IsUnderWay}
 use Rattle.desk_migration.specs.Walks.{behind, HoldsEach, HoldsIt, IsNextPart, IsWalking, IsWithin}

@@ -1,8 +1,7 @@
-pub mod Holding
+pub mod claim
 pub mod Parts
 pub mod Walks
 pub mod Puts
 pub mod Outcomes
-pub mod Migrating
 pub mod Openings
 pub mod TurningBack

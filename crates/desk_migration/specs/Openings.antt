@@ -1,25 +1,26 @@
--- What an opening for a migration finds, and what it leaves.
-use Rattle.std.specs.Prelude.{◌≡◌, ◌≢◌, ◌<◌, ℕ, Bool, true, false, if◌then◌else◌, Result, Ok, Err}
-use Rattle.sector_device.specs.Disk.{Disk, Image}
+-- What no promise rests on, beside claim/Openings.antt.
+use Rattle.std.specs.Prelude.{◌≡◌, ◌≢◌, ◌<◌, ℕ, Bool, true, false, if◌then◌else◌}
+use Rattle.sector_device.specs.claim.Disk.{Disk, Image}
 use Rattle.sector_device.specs.declared.SectorDevice.{Ghosts}
-use Rattle.desk_model.specs.Desk.{Desk}
-use Rattle.gate_journal.specs.Store.{pages}
+use Rattle.desk_model.specs.claim.Desk.{Desk}
+use Rattle.gate_journal.specs.claim.Store.{pages}
 use Rattle.gate_journal.specs.Recovery.{Found}
-use Rattle.page_store.specs.Chain.{root_in, free_in}
-use Rattle.page_store.specs.Transactions.{stored, disk_in, count_of, journal_of, has_halted}
+use Rattle.page_store.specs.claim.Chain.{root_in, free_in}
+use Rattle.page_store.specs.claim.Transactions.{stored, disk_in, count_of, journal_of, has_halted}
 use Rattle.page_store.specs.declared.pages.Pages.{Pages}
 use Rattle.page_store.specs.declared.error.PageError.{PageError}
 use Rattle.page_store.specs.declared.error.PageError.TheVariants as page
-use Rattle.page_btree.specs.Map.{Holds}
+use Rattle.page_btree.specs.claim.Map.{Holds}
 use Rattle.page_btree.specs.declared.error.TreeError.{TreeError}
 use Rattle.page_btree.specs.declared.error.TreeError.TheVariants as tree
-use Rattle.store_rows.specs.Keys.{version}
-use Rattle.store_rows.specs.Rows.{KeyMap, row_in}
-use Rattle.store_rows.specs.Tidy.{version_row}
+use Rattle.store_rows.specs.claim.Keys.{version}
+use Rattle.store_rows.specs.claim.Rows.{KeyMap, row_in}
+use Rattle.store_rows.specs.claim.Tidy.{version_row}
 use Rattle.desk_opening.specs.Opening.{IsReadFrom}
-use Rattle.desk_pages.specs.Desks.{InPagesOf}
-use Rattle.desk_pages.specs.Openings.{AllOld, AllVersions, HasPages, IsOneOld, OpensOneOf}
-use Rattle.desk_migration.specs.Migrating.{disk_of, Keeps}
+use Rattle.desk_pages.specs.claim.Desks.{InPagesOf}
+use Rattle.desk_pages.specs.Openings.{AllOld, HasPages, OpensOneOf}
+use Rattle.desk_pages.specs.claim.Openings.{AllVersions, IsOneOld}
+use Rattle.desk_migration.specs.claim.Migrating.{disk_of, Keeps}
 use Rattle.desk_migration.specs.declared.error.MigrationOpenError.{MigrationOpenError}
 use Rattle.desk_migration.specs.declared.error.MigrationOpenError.TheVariants.{NotAStore, DeviceFault, Memory, AlreadyNew}
 use Rattle.desk_migration.specs.declared.migration.Migration.{Migration}
@@ -53,10 +54,6 @@ KeepsOne old x = (d : Desk) × (Keeps x d × IsOneOld old d)
 -- where each image that a stop might have left opened to a desk, in either version, each now opens to one that was there in the new version
 abbrev pub LeavesNew : Disk → Disk → Type 0
 LeavesNew old new = AllVersions old → (c : Image) → new.leaves c → OpensOneOf old c
-
-abbrev pub device_after : {D : Type 0} {g : Ghosts D} → Result (Migration D g) (MigrationOpenError × D) → D
-device_after (Ok x) = x.pages.journal.device
-device_after (Err e) = e.1
 
 -- why a device is not opened, by what it is like afterwards
 abbrev pub IsRefused : Disk → Disk → MigrationOpenError → Type 0

@@ -2,20 +2,20 @@
 use Rattle.std.specs.Prelude.{◌≡◌, ◌<◌, ◌^◌, ◌↔◌, ℕ, Bool, true, false, List, length, take, drop}
 use Rattle.std.specs.Prelude.{get_or, Option, Some, None, Result, IfOk, OnOk, MatchResult}
 use Rattle.sector_device.specs.declared.SectorDevice.{Ghosts}
-use Rattle.page_store.specs.Transactions.{stored, disk_in}
+use Rattle.page_store.specs.claim.Transactions.{stored, disk_in}
 use Rattle.page_store.specs.declared.pages.Pages.{Pages}
 use Rattle.page_store.specs.declared.txn.Txn.{Txn}
-use Rattle.page_btree.specs.Map.{InPages, InTxn}
+use Rattle.page_btree.specs.claim.Map.{InPages, InTxn}
 use Rattle.page_btree.specs.declared.error.TreeError.{TreeError}
 use Rattle.btree_scan.specs.declared.rows.Row.{Row}
-use Rattle.desk_model.specs.Desk.{Desk}
-use Rattle.store_rows.specs.Keys.{in_eight}
-use Rattle.store_rows.specs.Lists.{AreChunks, chunks_bytes}
-use Rattle.store_rows.specs.Rows.{KeyMap}
-use Rattle.store_rows.specs.Tidy.{Tidy}
-use Rattle.desk_pages.specs.Desks.{IsOldMap, InTxnOf}
-use Rattle.desk_migration.specs.Holding.{AllAreHeld, AreHeldTo}
-use Rattle.desk_migration.specs.Migrating.{disk_of, HasMore, HasRows}
+use Rattle.desk_model.specs.claim.Desk.{Desk}
+use Rattle.store_rows.specs.claim.Keys.{in_eight}
+use Rattle.store_rows.specs.claim.Lists.{AreChunks, chunks_bytes}
+use Rattle.store_rows.specs.claim.Rows.{KeyMap}
+use Rattle.store_rows.specs.claim.Tidy.{Tidy}
+use Rattle.desk_pages.specs.claim.Desks.{IsOldMap, InTxnOf}
+use Rattle.desk_migration.specs.claim.Holding.{AllAreHeld, AreHeldTo}
+use Rattle.desk_migration.specs.claim.Migrating.{disk_of, HasMore, HasRows}
 use Rattle.desk_migration.specs.Parts.{IsPartFrom, IsPartRow}
 use Rattle.desk_migration.specs.Puts.{HasHeld, HasHeldAs, HoldErr, HoldErrOf, HoldsMore, IsTurn}
 use Rattle.desk_migration.specs.TurningBack.{IsTakenFirst, IsWithout}

@@ -2,12 +2,13 @@
 use Rattle.std.specs.Prelude.{◌≡◌, ℕ, Bool, true, false, List, nat_eq}
 use Rattle.std.specs.List.{starts_with}
 use Rattle.btree_scan.specs.declared.rows.Row.{Row}
-use Rattle.store_rows.specs.Keys.{key_of, Fits, part, parts_prefix}
-use Rattle.store_rows.specs.Lists.{AreChunks, chunks_bytes}
-use Rattle.store_rows.specs.Rows.{KeyMap}
-use Rattle.store_rows.specs.Tidy.{Tidy}
+use Rattle.store_rows.specs.claim.Keys.{key_of, Fits, part}
+use Rattle.store_rows.specs.Keys.{parts_prefix}
+use Rattle.store_rows.specs.claim.Lists.{AreChunks, chunks_bytes}
+use Rattle.store_rows.specs.claim.Rows.{KeyMap}
+use Rattle.store_rows.specs.claim.Tidy.{Tidy}
 use Rattle.store_check.specs.Rows.{IsFirst, NoneFrom}
-use Rattle.desk_migration.specs.Holding.{AreHeldTo}
+use Rattle.desk_migration.specs.claim.Holding.{AreHeldTo}
 
 -- a key under which parts of revisions stand
 abbrev pub IsUnderParts : List ℕ → Type 0

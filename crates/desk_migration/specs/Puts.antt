@@ -1,24 +1,24 @@
 -- Chunks that plans come to hold within a transaction, and in pages.
 use Rattle.std.specs.Prelude.{◌≡◌, ◌⊎◌, ◌≤◌, ◌<◌, ◌+◌, ◌*◌, ℕ, Bool, true, false, List, [], ◌∷◌, length}
-use Rattle.sector_device.specs.Disk.{Image}
+use Rattle.sector_device.specs.claim.Disk.{Image}
 use Rattle.sector_device.specs.declared.SectorDevice.{Ghosts}
-use Rattle.page_store.specs.Chain.{free_in}
-use Rattle.page_store.specs.Transactions.{stored, disk_in, has_halted, txn_pages, txn_free, txn_writes, HasFailed, IsQuiet, IsSame, Passed}
+use Rattle.page_store.specs.claim.Chain.{free_in}
+use Rattle.page_store.specs.claim.Transactions.{stored, disk_in, has_halted, txn_pages, txn_free, txn_writes, HasFailed, IsQuiet, IsSame, Passed}
 use Rattle.page_store.specs.declared.error.PageError.{PageError}
 use Rattle.page_store.specs.declared.error.PageError.TheVariants as page
 use Rattle.page_store.specs.declared.pages.Pages.{Pages}
 use Rattle.page_store.specs.declared.txn.Txn.{Txn}
-use Rattle.page_btree.specs.Map.{InTxn, InPages}
+use Rattle.page_btree.specs.claim.Map.{InTxn, InPages}
 use Rattle.page_btree.specs.declared.error.TreeError.{TreeError}
 use Rattle.page_btree.specs.declared.error.TreeError.TheVariants as tree
-use Rattle.desk_model.specs.Desk.{Desk}
-use Rattle.store_rows.specs.Keys.{key_of, version, in_four}
-use Rattle.store_rows.specs.Rows.{KeyMap}
-use Rattle.store_rows.specs.Puts.{Row}
-use Rattle.store_rows.specs.Holders.{holding_rows}
-use Rattle.row_table.specs.Puts.{HasDeepened}
-use Rattle.desk_pages.specs.Desks.{IsOldMap}
-use Rattle.desk_migration.specs.Holding.{AllAreHeld, AreHeldTo, AreUnheld, IsHeldBy, hold_pairs}
+use Rattle.desk_model.specs.claim.Desk.{Desk}
+use Rattle.store_rows.specs.claim.Keys.{key_of, version, in_four}
+use Rattle.store_rows.specs.claim.Rows.{KeyMap}
+use Rattle.store_rows.specs.claim.Puts.{Row}
+use Rattle.store_rows.specs.claim.Holders.{holding_rows}
+use Rattle.row_table.specs.claim.Puts.{HasDeepened}
+use Rattle.desk_pages.specs.claim.Desks.{IsOldMap}
+use Rattle.desk_migration.specs.claim.Holding.{AllAreHeld, AreHeldTo, AreUnheld, IsHeldBy, hold_pairs}
 use Rattle.desk_migration.specs.Parts.{IsUnderWay}
 use Rattle.desk_migration.specs.declared.error.MigrationError.{MigrationError}
 use Rattle.desk_migration.specs.declared.error.MigrationError.TheVariants.{Full, Memory, DeviceFault, Halted}

@@ -4,15 +4,15 @@ use Rattle.std.specs.FinMap.{entries, get}
 use Rattle.sector_device.specs.declared.SectorDevice.{Ghosts}
 use Rattle.page_store.specs.declared.pages.Pages.{Pages}
 use Rattle.page_store.specs.declared.txn.Txn.{Txn}
-use Rattle.page_node.specs.Entries.{Entry}
+use Rattle.page_node.specs.claim.Entries.{Entry}
 use Rattle.page_node.specs.Places.{entries_from}
-use Rattle.store_rows.specs.Keys.{key_of, Fits, holding, part}
-use Rattle.store_rows.specs.Lists.{AreChunks, chunks_bytes}
-use Rattle.store_rows.specs.Rows.{KeyMap}
-use Rattle.store_rows.specs.Holders.{IsHeld}
-use Rattle.store_rows.specs.Tidy.{Tidy}
+use Rattle.store_rows.specs.claim.Keys.{key_of, Fits, holding, part}
+use Rattle.store_rows.specs.claim.Lists.{AreChunks, chunks_bytes}
+use Rattle.store_rows.specs.claim.Rows.{KeyMap}
+use Rattle.store_rows.specs.claim.Holders.{IsHeld}
+use Rattle.store_rows.specs.claim.Tidy.{Tidy}
 use Rattle.chunk_table.specs.Holding as chunk
-use Rattle.desk_migration.specs.Holding.{AllAreHeld, AreHeldTo, IsUnheld}
+use Rattle.desk_migration.specs.claim.Holding.{AllAreHeld, AreHeldTo, IsUnheld}
 use Rattle.desk_migration.specs.Parts.{IsUnderParts}
 use Rattle.desk_migration.specs.declared.parts.Part.{Part}
 use Rattle.desk_migration.specs.declared.parts.PartLook.{PartLook}

@@ -1,9 +1,10 @@
 //! Commits what a migration put.
 ghost use Rattle.std.specs.Prelude.{◌≡◌, ◌≤◌, false, OnOk, IfErr};
-ghost use Rattle.page_store.specs.Transactions.{stored, disk_in, count_of, has_halted, txn_pages, txn_writes, HasShape, IsKept};
-ghost use Rattle.page_btree.specs.Map.{InTxn, InPages};
-ghost use Rattle.store_rows.specs.Rows.{KeyMap};
-ghost use Rattle.desk_pages.specs.Desks.{InTxnAs, InPagesAs, OpensAs};
+ghost use Rattle.page_store.specs.claim.Transactions.{stored, disk_in, count_of, has_halted, txn_pages, txn_writes, HasShape, IsKept};
+ghost use Rattle.page_btree.specs.claim.Map.{InTxn, InPages};
+ghost use Rattle.store_rows.specs.claim.Rows.{KeyMap};
+ghost use Rattle.desk_pages.specs.Desks.{InTxnAs, InPagesAs};
+ghost use Rattle.desk_pages.specs.claim.Desks.{OpensAs};
 ghost use Rattle.desk_pages.specs.Moments.{StopsLeaveEither};
 ghost use Rattle.desk_migration.specs.Puts.{CommitErr, page_told};
 

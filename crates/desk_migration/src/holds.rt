@@ -1,6 +1,6 @@
 //! Has plans hold the chunks that they name.
 ghost use Rattle.std.specs.Prelude.{◌≡◌, ◌≤◌, ◌<◌, IfOk, MatchResult};
-ghost use Rattle.page_store.specs.Transactions.{count_of, txn_pages, IsQuiet};
+ghost use Rattle.page_store.specs.claim.Transactions.{count_of, txn_pages, IsQuiet};
 ghost use Rattle.desk_migration.specs.Parts.{IsUnderParts};
 ghost use Rattle.desk_migration.specs.Walks.{StandsUnder};
 ghost use Rattle.desk_migration.specs.Outcomes.{HoldsAlong, HoldsNext, HoldsPairs};

@@ -25,13 +25,15 @@ pub struct Migration<D: SectorDevice> {
 
 impl<D: SectorDevice> Migration<D> {
     ghost use Rattle.std.specs.Prelude.{◌≡◌, ◌≢◌, ◌≤◌, ◌*◌, true, false, Err, OnOk, IfOk, IfErr, IsErr};
-    ghost use Rattle.desk_model.specs.Desk.{Desk};
-    ghost use Rattle.desk_pages.specs.Openings.{AllVersions, IsSpared, LeavesOneAs};
-    ghost use Rattle.desk_migration.specs.Migrating.{device_of, disk_of, free_of, has_ended, is_halted, room_of, sectors_of};
-    ghost use Rattle.desk_migration.specs.Migrating.{Ends, Keeps, KeepsNew, Moves};
+    ghost use Rattle.desk_model.specs.claim.Desk.{Desk};
+    ghost use Rattle.desk_pages.specs.claim.Openings.{AllVersions, LeavesOneAs};
+    ghost use Rattle.desk_pages.specs.Openings.{IsSpared};
+    ghost use Rattle.desk_migration.specs.claim.Migrating.{device_of, disk_of, free_of, has_ended, is_halted, room_of, sectors_of};
+    ghost use Rattle.desk_migration.specs.claim.Migrating.{Ends, Keeps, KeepsNew, Moves};
     ghost use Rattle.desk_migration.specs.Outcomes.{PutsMore, TellsEnd};
     ghost use Rattle.desk_migration.specs.Puts.{FinishErr, StepErr};
-    ghost use Rattle.desk_migration.specs.Openings.{device_after, IsFound, IsRefused, KeepsOne, LeavesNew};
+    ghost use Rattle.desk_migration.specs.claim.Openings.{device_after};
+    ghost use Rattle.desk_migration.specs.Openings.{IsFound, IsRefused, KeepsOne, LeavesNew};
 
     /// Opens the store that a device holds, whose rows are to be of the old version: a commit that a stop cut short is finished or
     /// dropped. At any moment of it a stop leaves a desk that was there at its start, in its version. With a refusal the device comes

@@ -1,9 +1,9 @@
 //! The old version of the rows: its reading, which is the one of both versions, and its writing for trials, which leads a store of the
 //! new version back. Its desk stays; no row tells then who holds a chunk.
 ghost use Rattle.std.specs.Prelude.{◌≡◌, false, OnOk};
-ghost use Rattle.page_store.specs.Transactions.{disk_in, count_of, has_halted, txn_pages, HasShape, IsQuiet, Passed};
-ghost use Rattle.desk_model.specs.Desk.{Desk};
-ghost use Rattle.desk_pages.specs.Desks.{InPages, InPagesOf, OpensEither};
+ghost use Rattle.page_store.specs.claim.Transactions.{disk_in, count_of, has_halted, txn_pages, HasShape, IsQuiet, Passed};
+ghost use Rattle.desk_model.specs.claim.Desk.{Desk};
+ghost use Rattle.desk_pages.specs.claim.Desks.{InPages, InPagesOf, OpensEither};
 ghost use Rattle.desk_pages.specs.Moments.{StopsLeave};
 ghost use Rattle.desk_migration.specs.Outcomes.{TakesAll, TakesFirst, TakesVersion};
 

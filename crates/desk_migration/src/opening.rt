@@ -1,6 +1,6 @@
 //! Opens a store for its migration.
 ghost use Rattle.std.specs.Prelude.{◌≡◌, false, OnOk, IfErr};
-ghost use Rattle.page_store.specs.Transactions.{stored, disk_in, count_of, has_halted, IsQuiet, Passed};
+ghost use Rattle.page_store.specs.claim.Transactions.{stored, disk_in, count_of, has_halted, IsQuiet, Passed};
 ghost use Rattle.desk_migration.specs.Openings.{AreOfVersion, AreRead, IsCalm, JudgeErr, page_told, tree_told};
 
 use crate::error::MigrationOpenError;

@@ -1,8 +1,8 @@
 //! Parts of revisions, and the chunks that they name.
 ghost use Rattle.std.specs.Prelude.{◌≡◌, ◌<◌, ◌≤◌, ◌^◌, ◌++◌, [], ◌∷◌, length, take, drop, true, OnOk, IfOk, IfErr};
-ghost use Rattle.page_store.specs.Transactions.{count_of, txn_pages, IsQuiet, Passed};
+ghost use Rattle.page_store.specs.claim.Transactions.{count_of, txn_pages, IsQuiet, Passed};
 ghost use Rattle.row_table.specs.Reading.{ReadErr};
-ghost use Rattle.store_rows.specs.Keys.{in_eight};
+ghost use Rattle.store_rows.specs.claim.Keys.{in_eight};
 ghost use Rattle.desk_migration.specs.Parts.{IsUnderParts};
 ghost use Rattle.desk_migration.specs.Outcomes.{FindsPart, IsNamedAt, ReadsPart};
 

@@ -1,8 +1,8 @@
 //! Writes the rows of the new version.
 ghost use Rattle.std.specs.Prelude.{◌≡◌, ◌≤◌, ◌*◌, Err, true, false, OnOk, OnErr, IfOk, IfErr};
-ghost use Rattle.page_store.specs.Transactions.{disk_in, has_halted, HasShape, IsKept, IsSame};
-ghost use Rattle.desk_model.specs.Desk.{Desk};
-ghost use Rattle.desk_pages.specs.Desks.{InPages as HoldsDesk, OpensEither, OpensOld};
+ghost use Rattle.page_store.specs.claim.Transactions.{disk_in, has_halted, HasShape, IsKept, IsSame};
+ghost use Rattle.desk_model.specs.claim.Desk.{Desk};
+ghost use Rattle.desk_pages.specs.claim.Desks.{InPages as HoldsDesk, OpensEither, OpensOld};
 ghost use Rattle.desk_pages.specs.Moments.{StopsLeave};
 ghost use Rattle.desk_migration.specs.Parts.{IsUnderParts};
 ghost use Rattle.desk_migration.specs.Outcomes.{PutsHoldings};

@@ -1,9 +1,9 @@
 //! Goes over the parts of revisions, to the next chunk that isn't held.
 ghost use Rattle.std.specs.Prelude.{◌≡◌, ◌≤◌, [], length, true, false, OnOk, IfOk, IfErr, IfSome};
-ghost use Rattle.page_store.specs.Transactions.{count_of, txn_pages, IsQuiet, Passed};
-ghost use Rattle.page_btree.specs.Errors.{GetErr};
+ghost use Rattle.page_store.specs.claim.Transactions.{count_of, txn_pages, IsQuiet, Passed};
+ghost use Rattle.page_btree.specs.claim.Errors.{GetErr};
 ghost use Rattle.row_table.specs.Reading.{ReadErr};
-ghost use Rattle.store_rows.specs.Tidy.{Tidy};
+ghost use Rattle.store_rows.specs.claim.Tidy.{Tidy};
 ghost use Rattle.chunk_table.specs.Holding.{IsUnheld};
 ghost use Rattle.desk_migration.specs.Walks.{behind, IsUnheldAt, IsUnheldIn, IsWalking, StandsUnder};
 ghost use Rattle.desk_migration.specs.Outcomes.{EntersPart, FindsNext, FindsUnheld, LooksAt, TellsAt};

@@ -2,7 +2,7 @@
 use Rattle.std.proofs.Common.{◌≡◌, ℕ, ◌-◌, ◌≤◌, List, ◌++◌, length, take, drop, replicate, sym, ◌∙◌, ap, arith, append_assoc, take-append-drop}
 use Rattle.std.specs.Fmt.{decimal}
 use Rattle.std.proofs.lemmas.List.{take-take, take-replicate, drop-replicate, drop-append-le, length-replicate}
-use Rattle.desk_model.specs.Baf.{padded_decimal}
+use Rattle.desk_model.specs.claim.Padded.{padded_decimal}
 
 -- zeros before a place are zeros before an earlier one
 pub zeros_below : (xs : List ℕ) (n m : ℕ) → n ≤ m → take m xs ≡ replicate m 48 → take n xs ≡ replicate n 48

@@ -4,7 +4,7 @@ use Rattle.std.specs.FinMap as map_of
 use Rattle.std.specs.FinMap.{get-empty, get-insert, get-remove, len-empty, len-entries, same_map, slice_cmp-IsAntisymmetric, nat_cmp-IsAntisymmetric}
 use Rattle.std.specs.Ordering.{eq_by_cmp}
 use Rattle.std.specs.Cmp.Lexicographic.{nat_list_cmp_total}
-use Rattle.desk_model.specs.Desk.{Plan, name_cmp}
+use Rattle.desk_model.specs.claim.Desk.{Plan, name_cmp}
 
 no_items : {A : Type 0} (xs : List A) → length xs ≡ 0 → xs ≡ []
 no_items [] e = refl

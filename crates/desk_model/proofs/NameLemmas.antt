@@ -6,7 +6,7 @@ use Rattle.std.proofs.lemmas.Str.Ascii.{IsAscii-from_all}
 use Rattle.std.proofs.lemmas.Bool.{and_parts}
 use Rattle.std.proofs.lemmas.List.Sums.{AllPass-from_list_all}
 use Rattle.std.proofs.lemmas.Bool.Decides.{nat_tests}
-use Rattle.desk_model.specs.Name.{is_name_byte, IsPlanName}
+use Rattle.desk_model.specs.claim.Name.{is_name_byte, IsPlanName}
 
 small : (b : ℕ) → is_name_byte b ≡ true → b < 128
 small b is = grind (arith, nat_tests)

@@ -13,7 +13,8 @@ use Rattle.std.proofs.lemmas.List.Elements.{All-from_recursion, Contains-append_
 use Rattle.std.proofs.lemmas.List.Kept.{IsStrictlySortedBy-dedup}
 use Rattle.std.proofs.lemmas.Map.Lookups.{CmpEqualImpliesEq}
 use Rattle.std.proofs.lemmas.Map.Views.{tells_apart}
-use Rattle.desk_model.specs.Geography.{AreBlocks, Ground, IsGround, IsPair, AreRising, AreTold, IsTold, is_before, id_at, ids_of, pair_ids, turned}
+use Rattle.desk_model.specs.claim.Grounds.{AreBlocks, IsGround, IsPair, AreRising, AreTold, IsTold, is_before, pair_ids, turned}
+use Rattle.desk_model.specs.claim.Geography.{Ground, id_at, ids_of}
 use Rattle.desk_model.specs.declared.block.BlockRow.{BlockRow}
 use Rattle.desk_model.specs.declared.geography.Pair.{Pair}
 use Rattle.desk_model.proofs.Places.{rises}

@@ -11,10 +11,11 @@ use Rattle.std.proofs.lemmas.Map.Keys.{sorted_from_strictly_increasing, below_fr
 use Rattle.std.proofs.lemmas.Bool.{cases_lt, and_parts}
 use Rattle.std.proofs.lemmas.Bool.Decides.{Decides-eqb}
 use Rattle.desk_model.specs.declared.block.BlockRow.{BlockRow}
-use Rattle.desk_model.specs.Block.{county_of, state_of}
-use Rattle.desk_model.specs.Baf.{Values, value_at}
-use Rattle.desk_model.specs.Geography.{Ground, AreBlocks, ids, id_at}
-use Rattle.desk_model.specs.Step.{partly_listed, is_left_out, is_county_listed}
+use Rattle.desk_model.specs.claim.Block.{county_of, state_of}
+use Rattle.desk_model.specs.claim.Baf.{Values, value_at}
+use Rattle.desk_model.specs.claim.Geography.{Ground, ids, id_at}
+use Rattle.desk_model.specs.claim.Grounds.{AreBlocks}
+use Rattle.desk_model.specs.claim.Step.{partly_listed, is_left_out, is_county_listed}
 use Rattle.desk_model.specs.Counties.{IsInPart, IsLeastInPart, IsLeastTold, LeastCountyIsTold}
 
 -- in one state counties rise with the numbers

@@ -5,7 +5,8 @@ use Rattle.std.proofs.lemmas.List.{get_or-map, length-map}
 use Rattle.std.proofs.lemmas.Grind.{get_or_default_zero}
 use Rattle.std.proofs.lemmas.Bool.{cases_lt}
 use Rattle.std.specs.List.Sorted.{IsStrictlyIncreasing}
-use Rattle.desk_model.specs.Geography.{ids_of, id_at, IsBetween}
+use Rattle.desk_model.specs.claim.Geography.{ids_of, id_at}
+use Rattle.desk_model.specs.Geography.{IsBetween}
 use Rattle.desk_model.specs.declared.block.BlockRow.{BlockRow}
 
 pub rises : (blocks : List BlockRow) → IsStrictlyIncreasing (ids_of blocks) → (i j : ℕ) → i < j → j < length blocks → id_at blocks i < id_at blocks j

@@ -6,9 +6,11 @@ use Rattle.std.proofs.lemmas.Bool.{ne_eqb, eq-eqb, cases_lt}
 use Rattle.std.proofs.Math.Seq.{take-append_seam, drop-append_seam}
 use Rattle.std.proofs.lemmas.List.Elements.{All-push}
 use Rattle.std.proofs.lemmas.List.{append-nil, take_all, get_or-map, length-map}
-use Rattle.desk_model.specs.Block.{county_of}
-use Rattle.desk_model.specs.Geography.{Ground, AreBlocks, ids}
-use Rattle.desk_model.specs.Cuts.{runs, runs_from, parts, laid, counties, sizes, cut, first_county, IsOneCounty, IsCut, AreCounties, ListsAreCut, CutsAreCounties}
+use Rattle.desk_model.specs.claim.Block.{county_of}
+use Rattle.desk_model.specs.claim.Geography.{Ground, ids}
+use Rattle.desk_model.specs.claim.Grounds.{AreBlocks}
+use Rattle.desk_model.specs.claim.Cuts.{runs, runs_from, parts, counties, sizes, cut}
+use Rattle.desk_model.specs.Cuts.{laid, first_county, IsOneCounty, IsCut, AreCounties, ListsAreCut, CutsAreCounties}
 use Rattle.desk_model.specs.declared.block.BlockRow.{BlockRow}
 use Rattle.desk_model.specs.declared.cuts.Cut.{Cut}
 use Rattle.desk_model.proofs.Parts.{climbs}

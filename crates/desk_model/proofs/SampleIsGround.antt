@@ -1,9 +1,10 @@
 -- The sample keeps the rules of a geography.
 use Rattle.std.proofs.Common.{◌≡◌, ◌<◌, zero, suc, lit<, lit≤, refl, arith, All}
 use Rattle.std.specs.List.Sorted.{IsStrictlyIncreasing}
-use Rattle.desk_model.specs.Block.{state_of}
-use Rattle.desk_model.specs.Geography.{IsPair, IsGround, AreRising, ids, id_at}
-use Rattle.desk_model.specs.Sample.{sample, pair_of}
+use Rattle.desk_model.specs.claim.Block.{state_of}
+use Rattle.desk_model.specs.claim.Grounds.{IsPair, IsGround, AreRising}
+use Rattle.desk_model.specs.claim.Geography.{ids, id_at}
+use Rattle.desk_model.specs.claim.Sample.{sample, pair_of}
 use Rattle.desk_model.specs.declared.geography.Pair.{Pair}
 
 rising : IsStrictlyIncreasing (ids sample)

@@ -1,10 +1,11 @@
 -- What a list of blocks has of a county.
 use Rattle.std.specs.Prelude.{◌≡◌, ◌↔◌, ℕ, ◌<◌, IsSome, Some, None}
 use Rattle.std.specs.List.{Any}
-use Rattle.desk_model.specs.Block.{county_of}
-use Rattle.desk_model.specs.Baf.{Values, value_at}
-use Rattle.desk_model.specs.Geography.{Ground, AreBlocks, ids}
-use Rattle.desk_model.specs.Step.{partly_listed}
+use Rattle.desk_model.specs.claim.Block.{county_of}
+use Rattle.desk_model.specs.claim.Baf.{Values, value_at}
+use Rattle.desk_model.specs.claim.Geography.{Ground, ids}
+use Rattle.desk_model.specs.claim.Grounds.{AreBlocks}
+use Rattle.desk_model.specs.claim.Step.{partly_listed}
 
 -- the county has a block that is listed, and one that isn't
 pub record IsInPart (g : Ground) (listed : Values) (county : ℕ) : Type 0 where

@@ -1,37 +1,12 @@
--- The counties of a state's blocks. Blocks rise by number, so a county's stand together, and counties rise.
-use Rattle.std.specs.Prelude.{◌≡◌, ℕ, ◌+◌, ◌<◌, ◌==◌, if◌then◌else◌, List, [], ◌∷◌, map, length, take, drop, get_or, All}
+-- What no promise rests on, beside claim/Cuts.antt.
+use Rattle.std.specs.Prelude.{◌≡◌, ℕ, ◌+◌, ◌<◌, List, [], ◌∷◌, map, length, get_or, All}
 use Rattle.std.specs.List.{concat}
 use Rattle.std.specs.List.Sorted.{IsStrictlyIncreasing}
-use Rattle.desk_model.specs.Block.{county_of}
-use Rattle.desk_model.specs.Geography.{Ground, AreBlocks, ids}
+use Rattle.desk_model.specs.claim.Block.{county_of}
+use Rattle.desk_model.specs.claim.Geography.{Ground, ids}
+use Rattle.desk_model.specs.claim.Grounds.{AreBlocks}
 use Rattle.desk_model.specs.declared.cuts.Cut.{Cut}
-
--- a run of a number has come so far: how long it gets, and how long the runs behind it are
-abbrev pub runs_from : ℕ → ℕ → List ℕ → List ℕ
-runs_from c n [] = n ∷ []
-runs_from c n (d ∷ ds) = if d == c then runs_from c (n + 1) ds else n ∷ runs_from d 1 ds
-
--- how long each run of one number is
-abbrev pub runs : List ℕ → List ℕ
-runs [] = []
-runs (c ∷ cs) = runs_from c 1 cs
-
--- the county of each block
-abbrev pub counties : Ground → List ℕ
-counties g = map county_of (ids g)
-
--- how many blocks each county has
-abbrev pub sizes : Ground → List ℕ
-sizes g = runs (counties g)
-
--- a list in parts of so many elements
-abbrev pub parts : List ℕ → List ℕ → List (List ℕ)
-parts [] xs = []
-parts (n ∷ ns) xs = take n xs ∷ parts ns (drop n xs)
-
--- a list beside the blocks, county by county
-abbrev pub cut : Ground → List ℕ → List (List ℕ)
-cut g xs = parts (sizes g) xs
+use Rattle.desk_model.specs.claim.Cuts.{cut, sizes}
 
 -- parts of these sizes one behind the other, from a place on
 abbrev pub laid : ℕ → List ℕ → List Cut

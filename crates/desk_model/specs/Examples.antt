@@ -8,12 +8,12 @@ use Rattle.desk_model.specs.declared.command.Command.TheVariants.{Create, Whole,
 use Rattle.desk_model.specs.declared.command.Query.TheVariants.{Plans, Blocks, Revision, Audit}
 use Rattle.desk_model.specs.declared.reply.Reply.TheVariants as reply
 use Rattle.desk_model.specs.declared.reply.Refusal.TheVariants.{NoPlan, NoRevision, PlanExists, Stale, NotWholeCounty, BadCompanion, NotSealed}
-use Rattle.desk_model.specs.Companions.{no_companions}
-use Rattle.desk_model.specs.Desk.{Plan, Desk}
-use Rattle.desk_model.specs.Subject.{AuditSubject}
-use Rattle.desk_model.specs.Step.{step, says, reports, answer, plan_row}
-use Rattle.desk_model.specs.Room.{need}
-use Rattle.desk_model.specs.Sample.{sample, sample_desk}
+use Rattle.desk_model.specs.claim.Companions.{no_companions}
+use Rattle.desk_model.specs.claim.Desk.{Plan, Desk}
+use Rattle.desk_model.specs.claim.Subject.{AuditSubject}
+use Rattle.desk_model.specs.claim.Step.{step, says, reports, answer, plan_row}
+use Rattle.desk_model.specs.claim.Room.{need}
+use Rattle.desk_model.specs.claim.Sample.{sample, sample_desk}
 
 abbrev pub name_a : List ℕ
 name_a = codes "a"

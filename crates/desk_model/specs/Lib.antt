@@ -1,15 +1,7 @@
-pub mod Baf
-pub mod Block
+pub mod claim
 pub mod Companions
 pub mod Counties
 pub mod Cuts
-pub mod Desk
 pub mod Examples
 pub mod Geography
-pub mod Kind
 pub mod Name
-pub mod Outcome
-pub mod Room
-pub mod Sample
-pub mod Step
-pub mod Subject

@@ -1,7 +1,7 @@
 //! Census blocks.
 ghost use Rattle.std.specs.Prelude.{◌≡◌, ◌<◌, Some, refl};
 ghost use Rattle.std.specs.Ordering.{nat_cmp};
-ghost use Rattle.desk_model.specs.Block.{county_of, state_of};
+ghost use Rattle.desk_model.specs.claim.Block.{county_of, state_of};
 
 use std::marker::Model;
 

@@ -1,6 +1,6 @@
 //! Numbers in decimal with zeros before them.
 ghost use Rattle.std.specs.Prelude.{◌≡◌, ◌≤◌, ◌++◌, length, take, drop, replicate, OnOk};
-ghost use Rattle.desk_model.specs.Baf.{padded_decimal};
+ghost use Rattle.desk_model.specs.claim.Padded.{padded_decimal};
 
 use itoa::write_digits;
 use std::alloc::AllocError;

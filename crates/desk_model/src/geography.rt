@@ -1,10 +1,12 @@
 //! A state's blocks and which of them are neighbours.
 ghost use Rattle.std.specs.Prelude.{◌≡◌, ◌≢◌, ◌⊎◌, ◌↔◌, ◌<◌, ◌≤◌, nat_lt, if◌then◌else◌, length, All, Contains, IsTrue, IfOk, IfSome, IfNone};
 ghost use Rattle.std.specs.List.Sorted.{IsStrictlyIncreasing};
-ghost use Rattle.desk_model.specs.Geography.{AreBlocks, AreDifferentBlocks, AreRising, AreTold, IsBetween, IsGround};
-ghost use Rattle.desk_model.specs.Geography.{IsPair, id_at, ids_of, is_before as is_before_of, pair_ids, turned};
+ghost use Rattle.desk_model.specs.claim.Grounds.{AreBlocks, AreRising, AreTold, IsGround};
+ghost use Rattle.desk_model.specs.Geography.{AreDifferentBlocks, IsBetween};
+ghost use Rattle.desk_model.specs.claim.Grounds.{IsPair, is_before as is_before_of, pair_ids, turned};
+ghost use Rattle.desk_model.specs.claim.Geography.{id_at, ids_of};
 ghost use Rattle.desk_model.specs.declared.geography.Pair.{Pair as Pair_};
-ghost use Rattle.desk_model.specs.Sample.{sample as sample_ground};
+ghost use Rattle.desk_model.specs.claim.Sample.{sample as sample_ground};
 
 use crate::block::{BlockId, BlockRow};
 use std::alloc::{AllocError, Global};
@@ -28,7 +30,8 @@ pub struct Geography {
 }
 
 impl Model for Geography {
-    ghost use Rattle.desk_model.specs.Geography.{Ground, IsGround};
+    ghost use Rattle.desk_model.specs.claim.Geography.{Ground};
+    ghost use Rattle.desk_model.specs.claim.Grounds.{IsGround};
 
     ghost Value = { Ground };
 

@@ -1,7 +1,8 @@
 //! The kind of a plan.
 ghost use Rattle.std.specs.Prelude.{◌≡◌, ◌≤◌};
-ghost use Rattle.desk_model.specs.Kind.{kind_name, kind_named, most_districts as most_districts_of};
-ghost use Rattle.desk_model.specs.Companions.{takes};
+ghost use Rattle.desk_model.specs.claim.Kind.{kind_name};
+ghost use Rattle.desk_model.specs.claim.Sizes.{kind_named, most_districts as most_districts_of};
+ghost use Rattle.desk_model.specs.claim.Companions.{takes};
 
 /// What a plan divides the state for (Iowa Code 42.4).
 #[derive(Clone, Copy, Debug, PartialEq, Eq)]

@@ -4,7 +4,7 @@ ghost use Rattle.std.specs.List.{list_all};
 ghost use Rattle.std.specs.Ordering.{nat_cmp};
 ghost use Rattle.std.specs.Cmp.{on_equiv, on_total, on_po, on_per, partial_equiv_from_equiv};
 ghost use Rattle.std.specs.Cmp.Lexicographic.{pointwise, slice_cmp, nat_list_eq_equiv, nat_list_cmp_total, texts_po, texts_ties};
-ghost use Rattle.desk_model.specs.Name.{IsPlanName, is_name_byte as is_name_byte_of, is_plan_name, plan_name_of};
+ghost use Rattle.desk_model.specs.claim.Name.{IsPlanName, is_name_byte as is_name_byte_of, is_plan_name, plan_name_of};
 
 use key_order::compare;
 use std::cmp::Ordering;
@@ -22,7 +22,7 @@ pub struct PlanName {
 
 impl Model for PlanName {
     ghost use Rattle.std.specs.Prelude.{List, ℕ, ◌≡◌, ◌≤◌, ◌-◌, ◌++◌, length, take, drop, replicate};
-    ghost use Rattle.desk_model.specs.Name.{IsPlanName};
+    ghost use Rattle.desk_model.specs.claim.Name.{IsPlanName};
     ghost use Rattle.desk_model.specs.Name.{padded_again, length_again};
 
     ghost Value = { List ℕ };

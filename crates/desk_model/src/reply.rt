@@ -1,6 +1,6 @@
 //! What a desk answers.
 ghost use Rattle.std.specs.Prelude.{◌≡◌};
-ghost use Rattle.desk_model.specs.Baf.{fault_code};
+ghost use Rattle.desk_model.specs.claim.Baf.{fault_code};
 
 use crate::kind::Kind;
 use crate::name::PlanName;

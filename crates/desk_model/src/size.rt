@@ -1,6 +1,6 @@
 //! The size of a plan.
 ghost use Rattle.std.specs.Prelude.{◌≡◌, ◌≤◌};
-ghost use Rattle.desk_model.specs.Kind.{most_districts, sized};
+ghost use Rattle.desk_model.specs.claim.Sizes.{most_districts, sized};
 
 use crate::kind::Kind;
 use std::marker::Model;
@@ -15,7 +15,7 @@ pub struct PlanSize {
 impl Model for PlanSize {
     ghost use Rattle.std.specs.Prelude.{ℕ, ◌≤◌};
     ghost use Rattle.desk_model.specs.declared.kind.Kind.{Kind};
-    ghost use Rattle.desk_model.specs.Kind.{most_districts};
+    ghost use Rattle.desk_model.specs.claim.Sizes.{most_districts};
 
     ghost Value = { Kind × ℕ };
 

@@ -1,10 +1,10 @@
 -- A number names one list of so many districts.
 use Rattle.std.proofs.Common.{◌≡◌, ◌<◌, ◌≤◌, ◌+◌, ◌*◌, ◌^◌, ◌++◌, ℕ, zero, suc, List, length, take, drop, take_all, Option, Some, refl, sym, ◌∙◌, arith}
-use Rattle.desk_model.specs.Room.{rows_for}
-use Rattle.store_rows.specs.Lists.{districts_bytes}
+use Rattle.desk_model.specs.claim.Room.{rows_for}
+use Rattle.store_rows.specs.claim.Lists.{districts_bytes}
 use Rattle.store_rows.proofs.ListLaws.{districts_differ}
-use Rattle.store_rows.specs.Rows.{KeyMap}
-use Rattle.store_rows.specs.RevisionRows.{HasChunk}
+use Rattle.store_rows.specs.claim.Rows.{KeyMap}
+use Rattle.store_rows.specs.claim.RevisionRows.{HasChunk}
 use Rattle.row_table.proofs.Appending.{part_there, some_of_part, most_of_part, each_of_part, parts_more}
 
 given : (a b : List ℕ) → ◌≡◌ {A = Option (List ℕ)} (Some a) (Some b) → a ≡ b

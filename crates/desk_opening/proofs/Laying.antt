@@ -6,11 +6,12 @@ use Rattle.std.proofs.lemmas.List.{append-nil, drop-append-le, drop-drop, drop_a
 use Rattle.std.proofs.lemmas.List.Elements.{All-drop, All-take}
 use Rattle.std.proofs.lemmas.List.{length-take-le, take_at, take-append-drop, take-append-le}
 use Rattle.std.specs.List.{concat}
-use Rattle.desk_model.specs.Cuts.{cut, laid, sizes, ListsAreCut}
+use Rattle.desk_model.specs.claim.Cuts.{cut, sizes}
+use Rattle.desk_model.specs.Cuts.{laid, ListsAreCut}
 use Rattle.desk_model.specs.declared.cuts.Cut.{Cut}
 use Rattle.shared_districts.specs.Laid.{with_at}
-use Rattle.store_rows.specs.Rows.{KeyMap}
-use Rattle.store_rows.specs.RevisionRows.{HasChunk}
+use Rattle.store_rows.specs.claim.Rows.{KeyMap}
+use Rattle.store_rows.specs.claim.RevisionRows.{HasChunk}
 use Rattle.std.proofs.Common.{inl, inr}
 use Rattle.std.proofs.lemmas.Bool.{cases_lt}
 use Rattle.desk_opening.specs.Reading.{AreCountiesOf, AreNamed, AreChunksRead, IsCounty, IsCountyRead, IsLaid, no_cut, part_of}

@@ -3,15 +3,15 @@ use Rattle.std.proofs.Common.{◌≡◌, ◌-◌, ℕ, Bool, true, false, cond, 
 use Rattle.std.specs.Prelude.{Option, not, nat_eq}
 use Rattle.std.specs.Cmp.Lexicographic.{pointwise, nat_list_eq_equiv}
 use Rattle.std.specs.FinMap.{FinMap, get as row_at}
-use Rattle.desk_model.specs.Geography.{Ground}
-use Rattle.desk_model.specs.Desk.{Plan, name_cmp}
-use Rattle.desk_model.specs.Name.{IsPlanName, is_plan_name, plan_name_of}
+use Rattle.desk_model.specs.claim.Geography.{Ground}
+use Rattle.desk_model.specs.claim.Desk.{Plan, name_cmp}
+use Rattle.desk_model.specs.claim.Name.{IsPlanName, is_plan_name, plan_name_of}
 use Rattle.btree_scan.specs.declared.rows.Row.{Row}
-use Rattle.store_rows.specs.Keys.{key_of, named}
-use Rattle.store_rows.specs.Values.{plan_bytes}
+use Rattle.store_rows.specs.claim.Keys.{key_of, named}
+use Rattle.store_rows.specs.claim.Values.{plan_bytes}
 use Rattle.store_rows.specs.declared.value.PlanRow.{PlanRow}
-use Rattle.store_rows.specs.Rows.{KeyMap}
-use Rattle.store_rows.specs.DeskRows.{HasPlan, IsPlanAt}
+use Rattle.store_rows.specs.claim.Rows.{KeyMap}
+use Rattle.store_rows.specs.claim.DeskRows.{HasPlan, IsPlanAt}
 use Rattle.store_rows.specs.Changes.{plan_row_of}
 use Rattle.plan_table.specs.Laws.{IsTold, PlansAreTold, RowFits}
 use Rattle.desk_opening.specs.Reading.{IsPlanRow}

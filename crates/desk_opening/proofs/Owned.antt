@@ -2,11 +2,11 @@
 use Rattle.std.proofs.Common.{◌≡◌, ◌⊎◌, inl, inr, ◌<◌, ◌≤◌, ◌^◌, ℕ, List, [], Bool, Option, Some, None, refl, sym, subst, ◌∙◌}
 use Rattle.std.specs.BTreeMap.{BTreeMap, get as count_at}
 use Rattle.std.specs.Ordering.{nat_cmp}
-use Rattle.desk_model.specs.Desk.{Desk}
-use Rattle.store_rows.specs.Keys.{Fits, part, retired}
-use Rattle.store_rows.specs.Rows.{KeyMap, Has}
+use Rattle.desk_model.specs.claim.Desk.{Desk}
+use Rattle.store_rows.specs.claim.Keys.{Fits, part, retired}
+use Rattle.store_rows.specs.claim.Rows.{KeyMap, Has}
 use Rattle.store_check.specs.Owners.{AreOwnedBy, HasOwners, IsOwnedAs}
-use Rattle.desk_pages.specs.Desks.{IsMapOf}
+use Rattle.desk_pages.specs.claim.Desks.{IsMapOf}
 use Rattle.desk_opening.specs.Opening.{AreCounts, ArePartsOwned, IsRevisionCounted}
 use Rattle.desk_opening.proofs.PlanNumbers.{some_or_none}
 

@@ -5,15 +5,15 @@ use Rattle.std.specs.Ordering.{eq_by_cmp}
 use Rattle.std.specs.Cmp.Lexicographic.{nat_list_cmp_total}
 use Rattle.std.specs.FinMap.{FinMap, empty, entries, find, get, insert, len, remove, empty_of_len, get-empty, get-entries, get-insert, get-remove, len-entries, len-insert, len-remove, same_map, slice_cmp-IsAntisymmetric, nat_cmp-IsAntisymmetric}
 use Rattle.std.specs.FinMap.Entries.{find-append}
-use Rattle.page_node.specs.Entries.{Entry}
+use Rattle.page_node.specs.claim.Entries.{Entry}
 use Rattle.btree_scan.specs.Prefixes.{under}
-use Rattle.desk_model.specs.Geography.{Ground}
-use Rattle.desk_model.specs.Desk.{Plan, name_cmp}
-use Rattle.desk_model.specs.Step.{plan_limit}
-use Rattle.store_rows.specs.Keys.{key_of, named, plans_prefix}
-use Rattle.store_rows.specs.Order.{key_cmp}
-use Rattle.store_rows.specs.Rows.{KeyMap}
-use Rattle.store_rows.specs.DeskRows.{IsDesk, IsPlanAt}
+use Rattle.desk_model.specs.claim.Geography.{Ground}
+use Rattle.desk_model.specs.claim.Desk.{Plan, name_cmp}
+use Rattle.desk_model.specs.claim.Step.{plan_limit}
+use Rattle.store_rows.specs.claim.Keys.{key_of, named, plans_prefix}
+use Rattle.store_rows.specs.claim.Order.{key_cmp}
+use Rattle.store_rows.specs.claim.Rows.{KeyMap}
+use Rattle.store_rows.specs.claim.DeskRows.{IsDesk, IsPlanAt}
 use Rattle.store_rows.specs.Changes.{desk_with}
 use Rattle.store_rows.proofs.Changes.{cases_key, other_row}
 use Rattle.store_rows.proofs.Frames.{differs, itself}

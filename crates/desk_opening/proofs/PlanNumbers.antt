@@ -13,7 +13,7 @@ use Rattle.std.specs.FinMap.{entries, find, get}
 use Rattle.sector_device.specs.declared.SectorDevice.{Ghosts}
 use Rattle.page_store.specs.declared.pages.Pages.{Pages}
 use Rattle.page_store.specs.declared.txn.Txn.{Txn}
-use Rattle.page_node.specs.Entries.{Entry}
+use Rattle.page_node.specs.claim.Entries.{Entry}
 use Rattle.page_btree.specs.declared.error.TreeError.{TreeError}
 use Rattle.page_btree.specs.declared.error.TreeError.TheVariants.{DeviceFault, Halted, NoPages, TooDeep, Memory}
 use Rattle.btree_scan.specs.Prefixes.{under}
@@ -21,17 +21,17 @@ use Rattle.btree_scan.specs.Scanning.{IsNextRow}
 use Rattle.btree_scan.specs.Taken.{HasTaken}
 use Rattle.btree_scan.specs.declared.rows.Row.{Row}
 use Rattle.btree_scan.specs.declared.scans.Scan.{Scan}
-use Rattle.desk_model.specs.Geography.{Ground}
-use Rattle.desk_model.specs.Desk.{Plan}
-use Rattle.store_rows.specs.Keys.{key_of, named, plans_prefix}
-use Rattle.store_rows.specs.Order.{key_cmp}
-use Rattle.store_rows.specs.Values.{plan_bytes}
+use Rattle.desk_model.specs.claim.Geography.{Ground}
+use Rattle.desk_model.specs.claim.Desk.{Plan}
+use Rattle.store_rows.specs.claim.Keys.{key_of, named, plans_prefix}
+use Rattle.store_rows.specs.claim.Order.{key_cmp}
+use Rattle.store_rows.specs.claim.Values.{plan_bytes}
 use Rattle.store_rows.specs.declared.value.PlanRow.{PlanRow}
-use Rattle.store_rows.specs.Rows.{KeyMap, Has}
-use Rattle.store_rows.specs.DeskRows.{IsPlanAt}
+use Rattle.store_rows.specs.claim.Rows.{KeyMap, Has}
+use Rattle.store_rows.specs.claim.DeskRows.{IsPlanAt}
 use Rattle.store_rows.specs.Changes.{plan_row_of}
 use Rattle.store_rows.proofs.Frames.{is_equal, itself, same_key}
-use Rattle.store_rows.specs.Tidy.{IsNumbered}
+use Rattle.store_rows.specs.claim.Tidy.{IsNumbered}
 use Rattle.store_rows.proofs.OneGeography.{no_value, value_is}
 use Rattle.row_table.specs.Appending.{AppendErr}
 use Rattle.desk_opening.specs.Opening.{AreCounts, ArePlans, ArePlansApart, HasNoPlans, IsFreshPlan, IsNoted, IsUnused, NoteErr}

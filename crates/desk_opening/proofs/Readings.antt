@@ -3,8 +3,8 @@ use Rattle.std.proofs.Common.{◌≡◌, ◌<◌, ◌≤◌, ◌+◌, ◌++◌, 
 use Rattle.std.proofs.lemmas.Bool.{cases_lt}
 use Rattle.std.proofs.lemmas.List.{get_or_append_left, get_or_at}
 use Rattle.desk_model.specs.declared.cuts.Cut.{Cut}
-use Rattle.desk_model.specs.Desk.{Plan}
-use Rattle.store_rows.specs.Rows.{KeyMap}
+use Rattle.desk_model.specs.claim.Desk.{Plan}
+use Rattle.store_rows.specs.claim.Rows.{KeyMap}
 use Rattle.store_rows.specs.Changes.{with_revision}
 use Rattle.desk_opening.specs.Reading.{AreChunksRead, IsLast, IsNextRead, IsRevisionShown, LastIsRead}
 use Rattle.desk_opening.proofs.Revisions.{last_is}

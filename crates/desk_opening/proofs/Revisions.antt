@@ -7,23 +7,24 @@ use Rattle.std.proofs.lemmas.Bool.Decides.{nat_tests}
 use Rattle.std.proofs.lemmas.List.Elements.{All-get_or}
 use Rattle.std.proofs.lemmas.List.{take_more, drop-drop}
 use Rattle.sector_device.specs.declared.SectorDevice.{Ghosts}
-use Rattle.desk_model.specs.Geography.{Ground}
-use Rattle.desk_model.specs.Cuts.{cut, cuts_of, laid, parts, sizes}
+use Rattle.desk_model.specs.claim.Geography.{Ground}
+use Rattle.desk_model.specs.claim.Cuts.{cut, parts, sizes}
+use Rattle.desk_model.specs.Cuts.{cuts_of, laid}
 use Rattle.desk_model.specs.declared.cuts.Cut.{Cut}
-use Rattle.desk_model.specs.Desk.{Plan}
-use Rattle.desk_model.specs.Subject.{revision_at}
-use Rattle.page_store.specs.Transactions.{stored, disk_in}
+use Rattle.desk_model.specs.claim.Desk.{Plan}
+use Rattle.desk_model.specs.claim.Subject.{revision_at}
+use Rattle.page_store.specs.claim.Transactions.{stored, disk_in}
 use Rattle.page_store.proofs.Stops.{passed_more}
 use Rattle.page_store.specs.declared.pages.Pages.{Pages}
 use Rattle.page_store.specs.declared.txn.Txn.{Txn}
-use Rattle.page_btree.specs.Map.{InTxn}
+use Rattle.page_btree.specs.claim.Map.{InTxn}
 use Rattle.store_rows.specs.declared.value.PlanRow.{PlanRow}
-use Rattle.store_rows.specs.Rows.{KeyMap}
+use Rattle.store_rows.specs.claim.Rows.{KeyMap}
 use Rattle.store_rows.specs.Changes.{with_revision}
-use Rattle.store_rows.specs.RevisionRows.{HasChunk}
+use Rattle.store_rows.specs.claim.RevisionRows.{HasChunk}
 use Rattle.row_table.specs.Appending.{HasAppended}
 use Rattle.revision_table.specs.Reading.{AreNames}
-use Rattle.desk_pages.specs.Desks.{AreWithin}
+use Rattle.desk_pages.specs.claim.Desks.{AreWithin}
 use Rattle.desk_opening.specs.Reading.{AreKnown, AreNamed, BecomesKnown, BecomesLast, HasRead}
 use Rattle.desk_opening.specs.Reading.{IsAfter, IsLast, IsNext, IsOfBlocks, IsPlanRow, NamesLast}
 

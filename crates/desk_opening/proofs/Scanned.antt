@@ -9,13 +9,13 @@ use Rattle.std.specs.FinMap.{entries, entries_sorted, find, get, get-entries, is
 use Rattle.std.specs.FinMap.Entries.{below_all}
 use Rattle.std.proofs.lemmas.Bool.{eqb-true}
 use Rattle.std.proofs.lemmas.Cmp.{tied_itself}
-use Rattle.page_node.specs.Entries.{Entry}
-use Rattle.page_node.specs.Places.{key_cmp, Rises}
+use Rattle.page_node.specs.claim.Entries.{Entry}
+use Rattle.page_node.specs.claim.Places.{key_cmp, Rises}
 use Rattle.page_node.proofs.Laws.{is_less}
 use Rattle.btree_scan.specs.Prefixes.{is_under, under}
 use Rattle.btree_scan.proofs.Prefixes.{find_under, head_rises, under_rises}
-use Rattle.store_rows.specs.Keys.{key_of, named, plans_prefix}
-use Rattle.store_rows.specs.Rows.{KeyMap}
+use Rattle.store_rows.specs.claim.Keys.{key_of, named, plans_prefix}
+use Rattle.store_rows.specs.claim.Rows.{KeyMap}
 use Rattle.store_rows.proofs.Frames.{differs, itself}
 
 -- the next row is that of a plan, stands in the map, and wasn't taken before

@@ -2,10 +2,10 @@
 use Rattle.std.proofs.Common.{◌≡◌, ◌<◌, ◌^◌, ℕ, Option, Some, None, w64, sym, ap, subst, ◌∙◌}
 use Rattle.std.specs.Int.{from_be_bytes}
 use Rattle.std.proofs.lemmas.Nat.{from_be_bytes-to_be_bytes_8}
-use Rattle.store_rows.specs.Keys.{key_of, begun, seal}
-use Rattle.store_rows.specs.Values.{seal_bytes}
+use Rattle.store_rows.specs.claim.Keys.{key_of, begun, seal}
+use Rattle.store_rows.specs.claim.Values.{seal_bytes}
 use Rattle.store_rows.specs.declared.value.SealRow.{SealRow}
-use Rattle.store_rows.specs.Rows.{KeyMap, Lacks}
+use Rattle.store_rows.specs.claim.Rows.{KeyMap, Lacks}
 use Rattle.store_rows.proofs.OneGeography.{value_is, no_value}
 use Rattle.row_table.specs.Reading.{StandsAs}
 use Rattle.store_check.specs.Numbers.{IsKept}

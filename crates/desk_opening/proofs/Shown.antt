@@ -5,18 +5,18 @@ use Rattle.std.specs.Ordering.{eq_by_cmp}
 use Rattle.std.specs.Cmp.Lexicographic.{nat_list_cmp_total}
 use Rattle.std.specs.FinMap.{empty, entries, find, get, insert, get-empty}
 use Rattle.std.specs.FinMap.Entries.{find-append}
-use Rattle.page_node.specs.Entries.{Entry}
+use Rattle.page_node.specs.claim.Entries.{Entry}
 use Rattle.btree_scan.specs.Prefixes.{under}
 use Rattle.btree_scan.specs.Scanning.{IsNextRow}
 use Rattle.btree_scan.specs.Taken.{HasTaken}
 use Rattle.btree_scan.specs.declared.rows.Row.{Row}
 use Rattle.btree_scan.specs.declared.scans.Scan.{Scan}
-use Rattle.desk_model.specs.Desk.{Desk, Plan, name_cmp}
-use Rattle.store_rows.specs.Keys.{key_of, named, plans_prefix, retired}
-use Rattle.store_rows.specs.Order.{key_cmp}
-use Rattle.store_rows.specs.Values.{plan_bytes}
+use Rattle.desk_model.specs.claim.Desk.{Desk, Plan, name_cmp}
+use Rattle.store_rows.specs.claim.Keys.{key_of, named, plans_prefix, retired}
+use Rattle.store_rows.specs.claim.Order.{key_cmp}
+use Rattle.store_rows.specs.claim.Values.{plan_bytes}
 use Rattle.store_rows.specs.declared.value.PlanRow.{PlanRow}
-use Rattle.store_rows.specs.Rows.{KeyMap, Lacks}
+use Rattle.store_rows.specs.claim.Rows.{KeyMap, Lacks}
 use Rattle.store_rows.proofs.OneGeography.{no_value}
 use Rattle.store_rows.specs.Changes.{plan_row_of}
 use Rattle.store_rows.proofs.Changes.{cases_key, other_row}

@@ -3,26 +3,27 @@ use Rattle.std.proofs.Common.{◌≡◌, List, ℕ, Bool, Some, None, Result, Ok
 use Rattle.std.specs.Prelude.{Option}
 use Rattle.std.specs.Cmp.Lexicographic.{nat_list_cmp_total}
 use Rattle.std.specs.FinMap.{empty, get, get-empty, same_map, slice_cmp-IsAntisymmetric, nat_cmp-IsAntisymmetric}
-use Rattle.sector_device.specs.Disk.{Image}
+use Rattle.sector_device.specs.claim.Disk.{Image}
 use Rattle.sector_device.specs.declared.SectorDevice.{Ghosts}
-use Rattle.page_store.specs.Transactions.{stored, disk_in, IsQuiet, Passed}
+use Rattle.page_store.specs.claim.Transactions.{stored, disk_in, IsQuiet, Passed}
 use Rattle.page_store.proofs.Stops.{failed_more}
 use Rattle.page_store.specs.declared.pages.Pages.{Pages}
 use Rattle.page_store.specs.declared.txn.Txn.{Txn}
-use Rattle.page_btree.specs.Map.{InTxn as InTree}
+use Rattle.page_btree.specs.claim.Map.{InTxn as InTree}
 use Rattle.page_btree.specs.declared.error.TreeError.{TreeError}
 use Rattle.page_btree.specs.declared.error.TreeError.TheVariants.{DeviceFault, Halted, NoPages, TooDeep, Memory}
-use Rattle.desk_model.specs.Geography.{Ground}
-use Rattle.desk_model.specs.Desk.{Desk, Plan, name_cmp}
-use Rattle.store_rows.specs.Rows.{KeyMap, Lacks}
-use Rattle.store_rows.specs.Keys.{named}
-use Rattle.store_rows.specs.GeographyRows.{IsGeography}
-use Rattle.store_rows.specs.DeskRows.{IsDesk, IsPlanAt}
+use Rattle.desk_model.specs.claim.Geography.{Ground}
+use Rattle.desk_model.specs.claim.Desk.{Desk, Plan, name_cmp}
+use Rattle.store_rows.specs.claim.Rows.{KeyMap, Lacks}
+use Rattle.store_rows.specs.claim.Keys.{named}
+use Rattle.store_rows.specs.claim.GeographyRows.{IsGeography}
+use Rattle.store_rows.specs.claim.DeskRows.{IsDesk, IsPlanAt}
 use Rattle.store_rows.specs.Changes.{desk_with}
 use Rattle.row_table.specs.Appending.{AppendErr}
 use Rattle.row_table.specs.Reading.{ReadErr}
 use Rattle.store_check.specs.Numbers.{IsKept}
-use Rattle.desk_pages.specs.Desks.{IsMapOf, IsWithinLimits, InTxnOf, new_desk}
+use Rattle.desk_pages.specs.claim.Desks.{IsMapOf, IsWithinLimits, InTxnOf}
+use Rattle.desk_pages.specs.Desks.{new_desk}
 use Rattle.desk_opening.specs.Opening.{ArePlans, HasNothing, IsMapAs, OpenErr}
 
 none_at : (m : KeyMap) (name : List ℕ) (p : Option Plan) → IsPlanAt m None name p → p ≡ None

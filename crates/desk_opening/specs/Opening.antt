@@ -4,30 +4,30 @@ use Rattle.std.specs.FinMap.{FinMap, get, insert, len, get as row_at}
 use Rattle.std.specs.BTreeMap.{BTreeMap, Updates, get as count_at}
 use Rattle.std.specs.Ordering.{nat_cmp}
 use Rattle.sector_device.specs.declared.SectorDevice.{Ghosts}
-use Rattle.desk_model.specs.Geography.{Ground}
+use Rattle.desk_model.specs.claim.Geography.{Ground}
 use Rattle.desk_model.specs.Cuts.{cuts_of}
 use Rattle.desk_model.specs.declared.cuts.Cut.{Cut}
-use Rattle.desk_model.specs.Desk.{Desk, Plan, name_cmp}
-use Rattle.desk_model.specs.Step.{plan_limit}
-use Rattle.page_store.specs.Transactions.{stored, disk_in, has_halted, HasFailed}
+use Rattle.desk_model.specs.claim.Desk.{Desk, Plan, name_cmp}
+use Rattle.desk_model.specs.claim.Step.{plan_limit}
+use Rattle.page_store.specs.claim.Transactions.{stored, disk_in, has_halted, HasFailed}
 use Rattle.page_store.specs.declared.pages.Pages.{Pages}
 use Rattle.page_store.specs.declared.txn.Txn.{Txn}
 use Rattle.page_btree.specs.declared.error.TreeError.{TreeError}
 use Rattle.page_btree.specs.declared.error.TreeError.TheVariants.{DeviceFault, Halted, NoPages, TooDeep, Memory}
 use Rattle.btree_scan.specs.declared.rows.Row.{Row}
-use Rattle.store_rows.specs.Keys.{key_of, Fits, begun, named, part, retired, seal, version}
-use Rattle.store_rows.specs.Values.{plan_bytes, seal_bytes}
+use Rattle.store_rows.specs.claim.Keys.{key_of, Fits, begun, named, part, retired, seal, version}
+use Rattle.store_rows.specs.claim.Values.{plan_bytes, seal_bytes}
 use Rattle.store_rows.specs.declared.value.PlanRow.{PlanRow}
 use Rattle.store_rows.specs.declared.value.SealRow.{SealRow}
 use Rattle.row_table.specs.Reading.{StandsAs}
-use Rattle.store_rows.specs.Rows.{KeyMap, row_in, Has, Lacks}
-use Rattle.store_rows.specs.DeskRows.{IsDesk}
-use Rattle.store_rows.specs.Tidy.{IsNumbered, Tidy, version_row}
+use Rattle.store_rows.specs.claim.Rows.{KeyMap, row_in, Has, Lacks}
+use Rattle.store_rows.specs.claim.DeskRows.{IsDesk}
+use Rattle.store_rows.specs.claim.Tidy.{IsNumbered, Tidy, version_row}
 use Rattle.store_rows.specs.Changes.{desk_with, plan_row_of}
 use Rattle.store_check.specs.Numbers.{HasNumbersBelow}
 use Rattle.sealed_geography.specs.Elements.{IsGroundRead}
 use Rattle.desk_opening.specs.Reading.{AreRevisionsShown}
-use Rattle.desk_pages.specs.Desks.{InTxnOf, IsMapOf, IsSized, IsWithinLimits}
+use Rattle.desk_pages.specs.claim.Desks.{InTxnOf, IsMapOf, IsSized, IsWithinLimits}
 
 -- the device failed, or the transaction reads no desk in either version; or a growth was refused
 abbrev pub OpenErr : {D : Type 0} {g : Ghosts D} → Txn → Pages D g → Pages D g → TreeError → Type 0

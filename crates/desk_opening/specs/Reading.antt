@@ -1,22 +1,23 @@
 -- What is read back of a desk.
 use Rattle.std.specs.Prelude.{◌≡◌, ◌⊎◌, ◌≤◌, ◌<◌, ◌+◌, ℕ, List, [], length, take, drop, get_or, All, IfSome, Result, MatchResult}
 use Rattle.sector_device.specs.declared.SectorDevice.{Ghosts}
-use Rattle.desk_model.specs.Geography.{Ground}
-use Rattle.desk_model.specs.Cuts.{cut, cuts_of}
+use Rattle.desk_model.specs.claim.Geography.{Ground}
+use Rattle.desk_model.specs.claim.Cuts.{cut}
+use Rattle.desk_model.specs.Cuts.{cuts_of}
 use Rattle.desk_model.specs.declared.cuts.Cut.{Cut}
-use Rattle.desk_model.specs.Desk.{Plan}
-use Rattle.desk_model.specs.Kind.{most_districts}
-use Rattle.desk_model.specs.Subject.{revision_at}
-use Rattle.desk_pages.specs.Desks.{AreWithin}
-use Rattle.page_store.specs.Transactions.{stored, disk_in, Passed}
+use Rattle.desk_model.specs.claim.Desk.{Plan}
+use Rattle.desk_model.specs.claim.Sizes.{most_districts}
+use Rattle.desk_model.specs.claim.Subject.{revision_at}
+use Rattle.desk_pages.specs.claim.Desks.{AreWithin}
+use Rattle.page_store.specs.claim.Transactions.{stored, disk_in, Passed}
 use Rattle.page_store.specs.declared.pages.Pages.{Pages}
 use Rattle.page_store.specs.declared.txn.Txn.{Txn}
-use Rattle.page_btree.specs.Map.{InTxn}
+use Rattle.page_btree.specs.claim.Map.{InTxn}
 use Rattle.page_btree.specs.declared.error.TreeError.{TreeError}
 use Rattle.store_rows.specs.declared.value.PlanRow.{PlanRow}
-use Rattle.store_rows.specs.Rows.{KeyMap}
-use Rattle.store_rows.specs.RevisionRows.{HasChunk, HasRevision}
-use Rattle.store_rows.specs.DeskRows.{HasPlan}
+use Rattle.store_rows.specs.claim.Rows.{KeyMap}
+use Rattle.store_rows.specs.claim.RevisionRows.{HasChunk, HasRevision}
+use Rattle.store_rows.specs.claim.DeskRows.{HasPlan}
 use Rattle.store_rows.specs.Changes.{with_revision}
 use Rattle.shared_districts.specs.Laid.{with_at}
 use Rattle.row_table.specs.Appending.{AppendErr}

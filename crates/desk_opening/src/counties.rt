@@ -1,10 +1,10 @@
 //! Lays the counties of a revision over the districts of the one before.
 ghost use Rattle.std.specs.Prelude.{◌≡◌, ◌<◌, ◌≤◌, ◌+◌, true, false, length, get_or, IfOk};
 ghost use Rattle.shared_districts.specs.Laid.{with_at};
-ghost use Rattle.page_store.specs.Transactions.{stored, disk_in, count_of, txn_pages, IsQuiet};
-ghost use Rattle.page_btree.specs.Map.{InTxn};
-ghost use Rattle.store_rows.specs.Rows.{KeyMap};
-ghost use Rattle.desk_pages.specs.Desks.{AreWithin};
+ghost use Rattle.page_store.specs.claim.Transactions.{stored, disk_in, count_of, txn_pages, IsQuiet};
+ghost use Rattle.page_btree.specs.claim.Map.{InTxn};
+ghost use Rattle.store_rows.specs.claim.Rows.{KeyMap};
+ghost use Rattle.desk_pages.specs.claim.Desks.{AreWithin};
 ghost use Rattle.desk_opening.specs.Reading.{AreCountiesOf, AreNamed, AreChunksRead, Reads};
 ghost use Rattle.desk_opening.specs.Reading.{IsChunkWithin, IsCounty, IsCountyRead, IsLaid};
 

@@ -1,11 +1,11 @@
 //! Reads the desk of a store.
 ghost use Rattle.std.specs.Prelude.{◌≡◌, Bool, OnOk, IfOk, IfErr};
 ghost use Rattle.std.specs.BTreeMap.{IsEmpty};
-ghost use Rattle.desk_model.specs.Desk.{Desk};
-ghost use Rattle.page_store.specs.Transactions.{stored, disk_in, count_of, txn_pages, IsQuiet, Passed};
-ghost use Rattle.page_btree.specs.Map.{InTxn as InTree};
-ghost use Rattle.store_rows.specs.Rows.{KeyMap};
-ghost use Rattle.desk_pages.specs.Desks.{InTxnOf};
+ghost use Rattle.desk_model.specs.claim.Desk.{Desk};
+ghost use Rattle.page_store.specs.claim.Transactions.{stored, disk_in, count_of, txn_pages, IsQuiet, Passed};
+ghost use Rattle.page_btree.specs.claim.Map.{InTxn as InTree};
+ghost use Rattle.store_rows.specs.claim.Rows.{KeyMap};
+ghost use Rattle.desk_pages.specs.claim.Desks.{InTxnOf};
 ghost use Rattle.desk_opening.specs.Opening.{AreCounts, IsReadFrom, IsShown, OpenErr};
 
 use crate::marks::check_rows;

@@ -1,13 +1,13 @@
 //! Reads plans.
 ghost use Rattle.std.specs.Prelude.{◌≡◌, ◌≤◌, ◌<◌, ◌+◌, ◌*◌, ◌^◌, length, replicate, IfOk, IfErr};
 ghost use Rattle.desk_model.specs.Cuts.{cuts_of};
-ghost use Rattle.desk_model.specs.Step.{revision_limit};
-ghost use Rattle.page_store.specs.Transactions.{stored, disk_in, count_of, txn_pages, IsQuiet};
-ghost use Rattle.page_btree.specs.Map.{InTxn};
-ghost use Rattle.store_rows.specs.Rows.{KeyMap};
+ghost use Rattle.desk_model.specs.claim.Step.{revision_limit};
+ghost use Rattle.page_store.specs.claim.Transactions.{stored, disk_in, count_of, txn_pages, IsQuiet};
+ghost use Rattle.page_btree.specs.claim.Map.{InTxn};
+ghost use Rattle.store_rows.specs.claim.Rows.{KeyMap};
 ghost use Rattle.store_rows.specs.Changes.{plan_row_of, with_revision};
 ghost use Rattle.page_btree.specs.declared.error.TreeError.TheVariants.{Memory};
-ghost use Rattle.desk_pages.specs.Desks.{AreWithin};
+ghost use Rattle.desk_pages.specs.claim.Desks.{AreWithin};
 ghost use Rattle.desk_opening.specs.Reading.{AreAllWithin, AreRevisionsShown, BecomesKnown, BecomesLast, Reads, IsAfter};
 ghost use Rattle.desk_opening.specs.Reading.{IsLast, IsNext, IsNextRead, IsPlanRow, IsRevisionRead, IsWhole};
 

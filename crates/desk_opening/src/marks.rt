@@ -1,9 +1,9 @@
 //! Marks beside which a row is no desk's.
 ghost use Rattle.std.specs.Prelude.{◌≡◌, None, OnOk, IfErr};
 ghost use Rattle.std.specs.FinMap.{get as row_at};
-ghost use Rattle.page_store.specs.Transactions.{stored, disk_in, count_of, txn_pages, IsQuiet, Passed};
-ghost use Rattle.page_btree.specs.Map.{InTxn};
-ghost use Rattle.store_rows.specs.Rows.{KeyMap};
+ghost use Rattle.page_store.specs.claim.Transactions.{stored, disk_in, count_of, txn_pages, IsQuiet, Passed};
+ghost use Rattle.page_btree.specs.claim.Map.{InTxn};
+ghost use Rattle.store_rows.specs.claim.Rows.{KeyMap};
 ghost use Rattle.row_table.specs.Reading.{ReadErr};
 ghost use Rattle.desk_opening.specs.Opening.{HasSoundNumbers, IsKeptPlan, IsNotGone, IsSealEnded, IsSealKept};
 ghost use Rattle.store_check.specs.Numbers.{IsKept};

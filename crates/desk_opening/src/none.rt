@@ -1,9 +1,9 @@
 //! Reads a store that holds nothing yet.
 ghost use Rattle.std.specs.Prelude.{◌≡◌, ℕ, List, OnOk, IfOk, IfErr};
-ghost use Rattle.page_store.specs.Transactions.{stored, disk_in, count_of, txn_pages, IsQuiet, Passed};
-ghost use Rattle.page_btree.specs.Map.{InTxn};
-ghost use Rattle.store_rows.specs.Rows.{KeyMap, Lacks};
-ghost use Rattle.store_rows.specs.Keys.{named, seal};
+ghost use Rattle.page_store.specs.claim.Transactions.{stored, disk_in, count_of, txn_pages, IsQuiet, Passed};
+ghost use Rattle.page_btree.specs.claim.Map.{InTxn};
+ghost use Rattle.store_rows.specs.claim.Rows.{KeyMap, Lacks};
+ghost use Rattle.store_rows.specs.claim.Keys.{named, seal};
 ghost use Rattle.row_table.specs.Reading.{ReadErr};
 ghost use Rattle.desk_pages.specs.Desks.{new_desk};
 ghost use Rattle.desk_opening.specs.Opening.{HasNoPlans, HasNothing};

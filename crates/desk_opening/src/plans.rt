@@ -2,11 +2,11 @@
 ghost use Rattle.std.specs.Prelude.{◌≡◌, ◌<◌, IfOk, None, Some};
 ghost use Rattle.std.specs.FinMap as map_of;
 ghost use Rattle.desk_model.specs.Cuts.{cuts_of};
-ghost use Rattle.desk_model.specs.Desk.{Plan};
-ghost use Rattle.desk_model.specs.Step.{plan_limit};
-ghost use Rattle.page_store.specs.Transactions.{stored, disk_in, count_of, txn_pages, IsQuiet};
-ghost use Rattle.page_btree.specs.Map.{InTxn};
-ghost use Rattle.store_rows.specs.Rows.{KeyMap};
+ghost use Rattle.desk_model.specs.claim.Desk.{Plan};
+ghost use Rattle.desk_model.specs.claim.Step.{plan_limit};
+ghost use Rattle.page_store.specs.claim.Transactions.{stored, disk_in, count_of, txn_pages, IsQuiet};
+ghost use Rattle.page_btree.specs.claim.Map.{InTxn};
+ghost use Rattle.store_rows.specs.claim.Rows.{KeyMap};
 ghost use Rattle.store_rows.specs.Changes.{plan_row_of};
 ghost use Rattle.desk_catalogue.specs.Kept.{AreWhole};
 ghost use Rattle.desk_opening.specs.Opening.{IsAddedAs};

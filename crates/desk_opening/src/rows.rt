@@ -3,11 +3,11 @@ ghost use Rattle.std.specs.Prelude.{◌≡◌, ◌<◌, ◌^◌, ℕ, List, Some
 ghost use Rattle.std.specs.BTreeMap.{IsEmpty};
 ghost use Rattle.std.specs.FinMap as map_of;
 ghost use Rattle.desk_model.specs.Cuts.{cuts_of};
-ghost use Rattle.desk_model.specs.Name.{IsPlanName};
-ghost use Rattle.page_store.specs.Transactions.{stored, disk_in, count_of, txn_pages, IsQuiet};
-ghost use Rattle.page_btree.specs.Map.{InTxn};
-ghost use Rattle.store_rows.specs.Rows.{KeyMap};
-ghost use Rattle.store_rows.specs.Keys.{key_of, named};
+ghost use Rattle.desk_model.specs.claim.Name.{IsPlanName};
+ghost use Rattle.page_store.specs.claim.Transactions.{stored, disk_in, count_of, txn_pages, IsQuiet};
+ghost use Rattle.page_btree.specs.claim.Map.{InTxn};
+ghost use Rattle.store_rows.specs.claim.Rows.{KeyMap};
+ghost use Rattle.store_rows.specs.claim.Keys.{key_of, named};
 ghost use Rattle.desk_catalogue.specs.Kept.{AreWhole};
 ghost use Rattle.plan_table.specs.Laws.{RowFits};
 ghost use Rattle.desk_opening.specs.Reading.{Reads};

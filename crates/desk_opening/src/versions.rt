@@ -1,11 +1,11 @@
 //! Which version the rows of a store are of.
 ghost use Rattle.std.specs.Prelude.{◌≡◌, OnOk, IfOk, IfErr};
-ghost use Rattle.page_store.specs.Transactions.{stored, disk_in, count_of, txn_pages, IsQuiet, Passed};
-ghost use Rattle.page_btree.specs.Map.{InTxn};
+ghost use Rattle.page_store.specs.claim.Transactions.{stored, disk_in, count_of, txn_pages, IsQuiet, Passed};
+ghost use Rattle.page_btree.specs.claim.Map.{InTxn};
 ghost use Rattle.row_table.specs.Reading.{ReadErr};
-ghost use Rattle.store_rows.specs.Keys.{version};
-ghost use Rattle.store_rows.specs.Rows.{KeyMap, row_in};
-ghost use Rattle.store_rows.specs.Tidy.{version_row};
+ghost use Rattle.store_rows.specs.claim.Keys.{version};
+ghost use Rattle.store_rows.specs.claim.Rows.{KeyMap, row_in};
+ghost use Rattle.store_rows.specs.claim.Tidy.{version_row};
 ghost use Rattle.desk_opening.specs.Opening.{HasVersion};
 
 use page_btree::{VALUE_LIMIT, get};

@@ -1,22 +1,25 @@
 -- What is held before and after a commit.
 use Rattle.std.proofs.Common.{◌≡◌, ◌≢◌, ◌⊎◌, ◌<◌, ◌+◌, ℕ, false, List, length, Result, Ok, Err, OnOk, inl, inr, ⊎_elim, sym, ap, subst, ◌∙◌}
 use Rattle.std.specs.Prelude.{IfOk}
-use Rattle.sector_device.specs.Disk.{Disk, Image}
-use Rattle.sector_device.specs.Moments.{LeavesOnly}
+use Rattle.sector_device.specs.claim.Disk.{Disk, Image}
+use Rattle.sector_device.specs.claim.Moments.{LeavesOnly}
 use Rattle.sector_device.proofs.Moments.{leaves_wider}
 use Rattle.sector_device.specs.declared.SectorDevice.{Ghosts}
-use Rattle.gate_journal.specs.Store.{home, IsBeforeOrAfter}
-use Rattle.page_store.specs.Chain.{AreFree, IsPages, root_in, free_in}
+use Rattle.gate_journal.specs.claim.Store.{home}
+use Rattle.gate_journal.specs.Store.{IsBeforeOrAfter}
+use Rattle.page_store.specs.claim.Chain.{AreFree, IsPages, root_in, free_in}
 use Rattle.page_store.proofs.Chains.{length_chain}
-use Rattle.page_store.specs.Transactions.{stored, disk_in, count_of, has_halted, txn_pages, txn_root, txn_first, txn_free, over, free_over, prepared_pages, prepared_writes, after, HasShape}
+use Rattle.page_store.specs.claim.Transactions.{stored, disk_in, count_of, has_halted, txn_pages, txn_root, txn_free, over, free_over, prepared_pages, prepared_writes, after, HasShape}
+use Rattle.page_store.specs.Transactions.{txn_first}
 use Rattle.page_store.specs.declared.error.PageError.{PageError}
 use Rattle.page_store.specs.declared.pages.Pages.{Pages}
 use Rattle.page_store.specs.declared.txn.Txn.{Txn}
 use Rattle.page_store.specs.declared.txn.Prepared.{Prepared}
 use Rattle.page_btree.proofs.MapLaws.{prepared_holds}
-use Rattle.page_btree.specs.Map.{Holds, InTxn, InPages}
-use Rattle.store_rows.specs.Rows.{KeyMap}
-use Rattle.desk_pages.specs.Commits.{HoldsAfter, OpensRows}
+use Rattle.page_btree.specs.claim.Map.{Holds, InTxn, InPages}
+use Rattle.store_rows.specs.claim.Rows.{KeyMap}
+use Rattle.desk_pages.specs.claim.Commits.{HoldsAfter}
+use Rattle.desk_pages.specs.Commits.{OpensRows}
 
 pub holds_after : (t : Txn) (r : Result Prepared PageError) → IfOk r (λ made. prepared_pages made ≡ txn_pages t) → IfOk r (λ made. (P : Image) (q : ℕ) → q ≢ 0 → after made P q ≡ over t P q) → IfOk r (λ made. (P : Image) → root_in (after made P) ≡ txn_root t)
     → IfOk r (λ made. (P : Image) → AreFree (txn_pages t) (free_over t P) → free_in (after made P) ≡ free_over t P) → IfOk r (λ made. (P : Image) → AreFree (txn_pages t) (free_over t P) → IsPages (txn_pages t) (after made P)) → IfOk r (λ made. (P : Image) (m : KeyMap) → InTxn t P m → HoldsAfter made P m)

@@ -1,19 +1,20 @@
 -- What keeps a desk in pages, and that pages hold one desk alone.
 use Rattle.std.specs.Prelude.{◌≡◌, ◌≢◌, ◌⊎◌, ◌≤◌, ◌+◌, ◌^◌, ℕ, Bool, List}
 use Rattle.std.proofs.Common.{inl, inr, ⊎_elim, subst}
-use Rattle.sector_device.specs.Disk.{Disk, Image}
-use Rattle.sector_device.specs.Moments.{LeavesOnly}
+use Rattle.sector_device.specs.claim.Disk.{Disk, Image}
+use Rattle.sector_device.specs.claim.Moments.{LeavesOnly}
 use Rattle.sector_device.proofs.Moments.{leaves_wider}
-use Rattle.gate_journal.specs.Store.{home, IsBeforeOrAfter, overlay}
-use Rattle.page_store.specs.Chain.{root_in, free_in, IsPages}
-use Rattle.page_store.specs.Transactions.{txn_pages, txn_root, over, free_over}
+use Rattle.gate_journal.specs.claim.Store.{home, overlay}
+use Rattle.gate_journal.specs.Store.{IsBeforeOrAfter}
+use Rattle.page_store.specs.claim.Chain.{root_in, free_in, IsPages}
+use Rattle.page_store.specs.claim.Transactions.{txn_pages, txn_root, over, free_over}
 use Rattle.page_store.specs.declared.txn.Txn.{Txn}
 use Rattle.page_btree.proofs.MapLaws.{begun_holds, prepared_holds, one_map}
-use Rattle.desk_model.specs.Desk.{Desk}
-use Rattle.store_rows.specs.Rows.{KeyMap}
-use Rattle.store_rows.specs.DeskRows.{IsDesk}
+use Rattle.desk_model.specs.claim.Desk.{Desk}
+use Rattle.store_rows.specs.claim.Rows.{KeyMap}
+use Rattle.store_rows.specs.claim.DeskRows.{IsDesk}
 use Rattle.store_rows.specs.Laws.{DeskIsOne}
-use Rattle.desk_pages.specs.Desks.{HoldsDeskOf, InTxnOf, OpensDeskOf}
+use Rattle.desk_pages.specs.claim.Desks.{HoldsDeskOf, InTxnOf, OpensDeskOf}
 
 -- a transaction that is begun reads the desk that the pages hold
 pub begun_desk : {new : Bool} (t : Txn) (P : Image) (d : Desk) → HoldsDeskOf new (txn_pages t) P (root_in P) (free_in P) d → ((q : ℕ) → over t P q ≡ P q) → txn_root t ≡ root_in P → free_over t P ≡ free_in P → InTxnOf new t P d

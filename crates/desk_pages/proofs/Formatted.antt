@@ -1,22 +1,24 @@
 -- A new store holds the desk without geography and plans, and the row of the version alone.
 use Rattle.std.proofs.Common.{◌≡◌, ℕ, List, Option, Some, None, sym, ◌∙◌, subst, arith}
 use Rattle.std.specs.FinMap.{empty, get, len, get-empty, len-empty}
-use Rattle.sector_device.specs.Disk.{Disk}
-use Rattle.gate_journal.specs.Store.{pages}
+use Rattle.sector_device.specs.claim.Disk.{Disk}
+use Rattle.gate_journal.specs.claim.Store.{pages}
 use Rattle.gate_journal.proofs.Commit.{settled_opens}
-use Rattle.page_store.specs.Chain.{free_in}
+use Rattle.page_store.specs.claim.Chain.{free_in}
 use Rattle.page_format.specs.New.{IsNewWith}
-use Rattle.page_btree.specs.Map.{Holds, IsOnlyRow}
-use Rattle.desk_model.specs.Desk.{Plan, name_cmp}
-use Rattle.store_rows.specs.Keys.{key_of, seal, named, version, in_four}
-use Rattle.store_rows.specs.Order.{key_cmp}
-use Rattle.store_rows.specs.Rows.{KeyMap}
-use Rattle.store_rows.specs.DeskRows.{IsPlanAt, IsDesk}
-use Rattle.store_rows.specs.Tidy.{AllHold}
+use Rattle.page_btree.specs.claim.Map.{Holds}
+use Rattle.page_btree.specs.Map.{IsOnlyRow}
+use Rattle.desk_model.specs.claim.Desk.{Plan, name_cmp}
+use Rattle.store_rows.specs.claim.Keys.{key_of, seal, named, version, in_four}
+use Rattle.store_rows.specs.claim.Order.{key_cmp}
+use Rattle.store_rows.specs.claim.Rows.{KeyMap}
+use Rattle.store_rows.specs.claim.DeskRows.{IsPlanAt, IsDesk}
+use Rattle.store_rows.specs.claim.Tidy.{AllHold}
 use Rattle.store_rows.specs.MigrationLaws.{as_new}
 use Rattle.store_rows.proofs.Migrating.{version_told, new_tidy}
 use Rattle.store_rows.proofs.TidyFree.{empty_tidy}
-use Rattle.desk_pages.specs.Desks.{new_desk, IsSized, IsWithinLimits}
+use Rattle.desk_pages.specs.Desks.{new_desk}
+use Rattle.desk_pages.specs.claim.Desks.{IsSized, IsWithinLimits}
 use Rattle.desk_pages.specs.Formats.{OpensNew, HasJournal}
 
 abbrev none : KeyMap

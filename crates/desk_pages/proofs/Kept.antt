@@ -1,18 +1,18 @@
 -- Pages that no fault has stopped, and what a transaction leaves of them.
 use Rattle.std.proofs.Common.{◌≡◌, ◌+◌, ℕ, Result, Ok, Err, OnOk, Bool, false}
-use Rattle.sector_device.specs.Disk.{Image}
+use Rattle.sector_device.specs.claim.Disk.{Image}
 use Rattle.sector_device.specs.declared.SectorDevice.{Ghosts}
-use Rattle.gate_journal.specs.Store.{home}
+use Rattle.gate_journal.specs.claim.Store.{home}
 use Rattle.gate_journal.proofs.Commit.{settled_opens}
-use Rattle.page_store.specs.Transactions.{stored, disk_in, count_of, journal_of, has_halted, IsKept}
+use Rattle.page_store.specs.claim.Transactions.{stored, disk_in, count_of, journal_of, has_halted, IsKept}
 use Rattle.page_store.specs.declared.pages.Pages.{Pages}
 use Rattle.page_store.specs.declared.txn.Txn.{Txn}
 use Rattle.page_store.specs.declared.txn.Prepared.{Prepared}
-use Rattle.page_btree.specs.Map.{InTxn as TxnHolds, InPages as PagesHold}
-use Rattle.desk_model.specs.Desk.{Desk}
-use Rattle.store_rows.specs.Rows.{KeyMap}
-use Rattle.desk_pages.specs.Commits.{HoldsAfter}
-use Rattle.desk_pages.specs.Desks.{InPagesOf, OpensDeskOf}
+use Rattle.page_btree.specs.claim.Map.{InTxn as TxnHolds, InPages as PagesHold}
+use Rattle.desk_model.specs.claim.Desk.{Desk}
+use Rattle.store_rows.specs.claim.Rows.{KeyMap}
+use Rattle.desk_pages.specs.claim.Commits.{HoldsAfter}
+use Rattle.desk_pages.specs.claim.Desks.{InPagesOf, OpensDeskOf}
 use Rattle.desk_pages.proofs.Committed.{pages_sound}
 
 module _ {D : Type 0} {g : Ghosts D} where

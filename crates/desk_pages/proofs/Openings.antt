@@ -1,12 +1,12 @@
 -- Lemmas on the definitions of Commits.
 use Rattle.std.specs.Prelude.{◌⊎◌, ℕ, Bool}
 use Rattle.std.proofs.Common.{inl, inr, ⊎_elim}
-use Rattle.sector_device.specs.Disk.{Disk, Image}
-use Rattle.sector_device.specs.Moments.{LeavesOnly}
+use Rattle.sector_device.specs.claim.Disk.{Disk, Image}
+use Rattle.sector_device.specs.claim.Moments.{LeavesOnly}
 use Rattle.sector_device.proofs.Moments.{leaves_wider}
-use Rattle.desk_model.specs.Desk.{Desk}
-use Rattle.store_rows.specs.Rows.{KeyMap}
-use Rattle.desk_pages.specs.Desks.{IsMapOf, OpensDeskOf}
+use Rattle.desk_model.specs.claim.Desk.{Desk}
+use Rattle.store_rows.specs.claim.Rows.{KeyMap}
+use Rattle.desk_pages.specs.claim.Desks.{IsMapOf, OpensDeskOf}
 use Rattle.desk_pages.specs.Commits.{OpensRows}
 
 -- it opens to the desk whose rows the map has

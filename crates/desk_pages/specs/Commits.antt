@@ -1,21 +1,15 @@
--- What a commit makes of the pages.
+-- What no promise rests on, beside claim/Commits.antt.
 use Rattle.std.specs.Prelude.{◌≡◌, ◌<◌, ◌+◌, ℕ, true, false}
-use Rattle.sector_device.specs.Disk.{Image}
-use Rattle.page_store.specs.Chain.{root_in, free_in, IsPages}
+use Rattle.sector_device.specs.claim.Disk.{Image}
+use Rattle.page_store.specs.claim.Chain.{IsPages}
 use Rattle.sector_device.specs.declared.SectorDevice.{Ghosts}
-use Rattle.page_store.specs.Transactions.{journal_of, has_halted, txn_writes, prepared_pages, after, HasFailed, IsSame}
+use Rattle.page_store.specs.claim.Transactions.{journal_of, has_halted, txn_writes, HasFailed, IsSame}
 use Rattle.page_store.specs.declared.error.PageError.{PageError}
 use Rattle.page_store.specs.declared.error.PageError.TheVariants.{NotAStore, DeviceFault, Halted, TooManyPages, TooSmall, NoPages, Memory}
 use Rattle.page_store.specs.declared.pages.Pages.{Pages}
 use Rattle.page_store.specs.declared.txn.Txn.{Txn}
-use Rattle.page_store.specs.declared.txn.Prepared.{Prepared}
-use Rattle.page_btree.specs.Map.{Holds, OpensMap}
-use Rattle.store_rows.specs.Rows.{KeyMap}
-
--- the pages after the commit hold the map, and a root and free pages
-pub record HoldsAfter (made : Prepared) (P : Image) (m : KeyMap) : Type 0 where
-  pub rows : Holds (prepared_pages made) (after made P) (root_in (after made P)) (free_in (after made P)) m
-  pub sound : IsPages (prepared_pages made) (after made P)
+use Rattle.page_btree.specs.Map.{OpensMap}
+use Rattle.store_rows.specs.claim.Rows.{KeyMap}
 
 -- an image opens to the map, and to pages that hold a root and free pages
 pub record OpensRows (sectors : ℕ) (m : KeyMap) (c : Image) : Type 0 where

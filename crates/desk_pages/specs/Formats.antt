@@ -1,9 +1,10 @@
 -- What a format leaves.
 use Rattle.std.specs.Prelude.{◌≡◌, ◌≤◌, ◌<◌, ◌+◌, ℕ}
-use Rattle.sector_device.specs.Disk.{Disk, Image}
+use Rattle.sector_device.specs.claim.Disk.{Disk, Image}
 use Rattle.sector_device.specs.declared.SectorDevice.{Ghosts}
-use Rattle.gate_journal.specs.Store.{home, IsStore}
-use Rattle.desk_pages.specs.Desks.{OpensDesk, new_desk}
+use Rattle.gate_journal.specs.claim.Store.{home, IsStore}
+use Rattle.desk_pages.specs.claim.Desks.{OpensDesk}
+use Rattle.desk_pages.specs.Desks.{new_desk}
 use Rattle.desk_pages.specs.declared.formatting.FormatError.{FormatError}
 use Rattle.desk_pages.specs.declared.formatting.FormatError.TheVariants.{TooSmall, Memory, DeviceFault}
 

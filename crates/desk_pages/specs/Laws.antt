@@ -1,12 +1,13 @@
 -- Laws of desks in pages, of any version.
 use Rattle.std.specs.Prelude.{◌≡◌, ◌≢◌, ◌⊎◌, ◌≤◌, ◌+◌, ◌^◌, ℕ, Bool, List}
-use Rattle.sector_device.specs.Disk.{Image}
-use Rattle.gate_journal.specs.Store.{home, IsBeforeOrAfter, overlay}
-use Rattle.page_store.specs.Chain.{root_in, free_in, IsPages}
-use Rattle.page_store.specs.Transactions.{txn_pages, txn_root, over, free_over}
+use Rattle.sector_device.specs.claim.Disk.{Image}
+use Rattle.gate_journal.specs.claim.Store.{home, overlay}
+use Rattle.gate_journal.specs.Store.{IsBeforeOrAfter}
+use Rattle.page_store.specs.claim.Chain.{root_in, free_in, IsPages}
+use Rattle.page_store.specs.claim.Transactions.{txn_pages, txn_root, over, free_over}
 use Rattle.page_store.specs.declared.txn.Txn.{Txn}
-use Rattle.desk_model.specs.Desk.{Desk}
-use Rattle.desk_pages.specs.Desks.{HoldsDeskOf, InTxnOf, OpensDeskOf}
+use Rattle.desk_model.specs.claim.Desk.{Desk}
+use Rattle.desk_pages.specs.claim.Desks.{HoldsDeskOf, InTxnOf, OpensDeskOf}
 
 -- a transaction that begins with the pages' root and free pages reads the desk that they hold
 abbrev pub ReadsWhatPagesHold : Type 0

@@ -1,3 +1,4 @@
+pub mod claim
 pub mod Desks
 pub mod Formats
 pub mod Commits

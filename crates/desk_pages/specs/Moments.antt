@@ -1,10 +1,10 @@
 -- What a stop leaves at any moment of a call that writes pages, where they had not halted and the device is honest.
 use Rattle.std.specs.Prelude.{◌≡◌, ◌⊎◌, ◌+◌, ℕ, false}
-use Rattle.sector_device.specs.Disk.{Image}
-use Rattle.sector_device.specs.Moments.{LeavesOnly}
+use Rattle.sector_device.specs.claim.Disk.{Image}
+use Rattle.sector_device.specs.claim.Moments.{LeavesOnly}
 use Rattle.sector_device.specs.declared.SectorDevice.{Ghosts}
-use Rattle.gate_journal.specs.Store.{home}
-use Rattle.page_store.specs.Transactions.{disk_in, count_of, journal_of, has_halted}
+use Rattle.gate_journal.specs.claim.Store.{home}
+use Rattle.page_store.specs.claim.Transactions.{disk_in, count_of, journal_of, has_halted}
 use Rattle.page_store.specs.declared.pages.Pages.{Pages}
 
 -- `holds` says which values (maps, desks) the pages held, `opens` to which of them an image of so many sectors opens

@@ -1,12 +1,13 @@
--- What an opening finds on a device, and what it leaves.
-use Rattle.std.specs.Prelude.{◌⊎◌, ℕ, Bool, true, false}
-use Rattle.sector_device.specs.Disk.{Disk, Image}
-use Rattle.sector_device.specs.Moments.{LeavesOnly}
-use Rattle.gate_journal.specs.Store.{Opens, pages}
+-- What no promise rests on, beside claim/Openings.antt.
+use Rattle.std.specs.Prelude.{◌⊎◌, ℕ}
+use Rattle.sector_device.specs.claim.Disk.{Disk, Image}
+use Rattle.sector_device.specs.claim.Moments.{LeavesOnly}
+use Rattle.gate_journal.specs.claim.Store.{Opens, pages}
 use Rattle.gate_journal.specs.Recovery.{Found}
 use Rattle.page_store.specs.Transactions.{IsUntouched}
-use Rattle.desk_model.specs.Desk.{Desk}
-use Rattle.desk_pages.specs.Desks.{OpensDesk, OpensOld, OpensAs}
+use Rattle.desk_model.specs.claim.Desk.{Desk}
+use Rattle.desk_pages.specs.claim.Desks.{OpensDesk, OpensOld}
+use Rattle.desk_pages.specs.claim.Openings.{IsOneOf}
 
 -- each image that a stop may leave opens to a desk in the new version
 abbrev pub AllDesks : Disk → Type 0
@@ -16,37 +17,11 @@ AllDesks disk = (c : Image) → disk.leaves c → (d : Desk) × OpensDesk disk.s
 abbrev pub AllOld : Disk → Type 0
 AllOld disk = (c : Image) → disk.leaves c → (d : Desk) × OpensOld disk.sectors d c
 
--- each does in either version
-abbrev pub AllVersions : Disk → Type 0
-AllVersions disk = (c : Image) → disk.leaves c → (x : Bool × Desk) × OpensAs disk.sectors x c
-
--- one of them opens to the desk in this version
-pub record IsOneAs (disk : Disk) (x : Bool × Desk) : Type 0 where
-  pub was : Image
-  pub left : disk.leaves was
-  pub opens : OpensAs disk.sectors x was
-
-abbrev pub IsOneOf : Disk → Desk → Type 0
-IsOneOf disk d = IsOneAs disk (true, d)
-
-abbrev pub IsOneOld : Disk → Desk → Type 0
-IsOneOld disk d = IsOneAs disk (false, d)
-
--- the image opens to one of these desks, in the version in which it was there
-pub record OpensOneAs (disk : Disk) (c : Image) : Type 0 where
-  pub x : Bool × Desk
-  pub one : IsOneAs disk x
-  pub opens : OpensAs disk.sectors x c
-
 -- it opens to one of those in the new version
 pub record OpensOneOf (disk : Disk) (c : Image) : Type 0 where
   pub desk : Desk
   pub one : IsOneOf disk desk
   pub opens : OpensDesk disk.sectors desk c
-
--- at any moment of an opening a stop leaves a desk that was there, in its version
-abbrev pub LeavesOneAs : Disk → Disk → Type 0
-LeavesOneAs old new = new.is_honest → AllVersions old → LeavesOnly (OpensOneAs old) old new
 
 -- the same where all were of the new version
 abbrev pub LeavesOneOf : Disk → Disk → Type 0

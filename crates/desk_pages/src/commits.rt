@@ -1,14 +1,16 @@
 //! Makes a transaction's rows lasting.
 ghost use Rattle.std.specs.Prelude.{◌≡◌, ◌≤◌, ◌+◌, length, true, false, Err, OnOk, IfOk, IfErr, IsErr};
-ghost use Rattle.sector_device.specs.Disk.{Image};
-ghost use Rattle.page_store.specs.Chain.{free_in};
-ghost use Rattle.page_store.specs.Transactions.{stored, disk_in, count_of, has_halted, txn_pages, txn_writes, txn_free};
-ghost use Rattle.page_store.specs.Transactions.{prepared_pages, prepared_writes, after, HasShape, IsSame, IsKept, CommitErr};
+ghost use Rattle.sector_device.specs.claim.Disk.{Image};
+ghost use Rattle.page_store.specs.claim.Chain.{free_in};
+ghost use Rattle.page_store.specs.claim.Transactions.{stored, disk_in, count_of, has_halted, txn_pages, txn_writes, txn_free};
+ghost use Rattle.page_store.specs.claim.Transactions.{prepared_pages, prepared_writes, after, HasShape, IsSame, IsKept, CommitErr};
 ghost use Rattle.page_store.specs.declared.error.PageError.TheVariants.{Memory};
-ghost use Rattle.page_btree.specs.Map.{InTxn, InPages};
-ghost use Rattle.store_rows.specs.Rows.{KeyMap};
-ghost use Rattle.desk_pages.specs.Commits.{HoldsAfter, OpensRows, TxnErr};
-ghost use Rattle.desk_pages.specs.Desks.{InTxn as DeskInTxn, InPages as DeskInPages, OpensDesk, InTxnAs, InPagesAs, OpensAs};
+ghost use Rattle.page_btree.specs.claim.Map.{InTxn, InPages};
+ghost use Rattle.store_rows.specs.claim.Rows.{KeyMap};
+ghost use Rattle.desk_pages.specs.claim.Commits.{HoldsAfter};
+ghost use Rattle.desk_pages.specs.Commits.{OpensRows, TxnErr};
+ghost use Rattle.desk_pages.specs.claim.Desks.{InTxn as DeskInTxn, InPages as DeskInPages, OpensDesk, OpensAs};
+ghost use Rattle.desk_pages.specs.Desks.{InTxnAs, InPagesAs};
 ghost use Rattle.desk_pages.specs.Moments.{StopsLeaveEither};
 
 use page_store::{PageError, Pages, Prepared, Txn};

@@ -9,7 +9,7 @@ use Rattle.std.specs.Ordering.{eq_by_cmp, is_eq}
 use Rattle.std.specs.declared.cmp.Ordering.{Ordering}
 use Rattle.std.specs.declared.cmp.Ordering.TheVariants.{Less, Equal, Greater}
 use Rattle.std.proofs.lemmas.Map.Lookups.{exact_bytes}
-use Rattle.desk_model.specs.Desk.{Plan, name_cmp}
+use Rattle.desk_model.specs.claim.Desk.{Plan, name_cmp}
 use Rattle.desk_plans.specs.Rows.{Row, StartsAbove, IsSplit, IsPut, IsRemoved, IsFound}
 use Rattle.desk_plans.proofs.Rows.{AreRows}
 use Rattle.desk_plans.proofs.Rising.{AllBelow, all_below, all_before, rising_without, rising_back, above_after, put_between, put_there, find_missing, find_there}

@@ -11,7 +11,7 @@ use Rattle.std.specs.declared.cmp.Ordering.TheVariants.{Less, Equal, Greater}
 use Rattle.std.specs.declared.sync.Arc.{Arc}
 use Rattle.std.specs.declared.alloc.Global.{Global}
 use Rattle.std.proofs.lemmas.Map.Lookups.{exact_bytes}
-use Rattle.desk_model.specs.Desk.{Plan, name_cmp}
+use Rattle.desk_model.specs.claim.Desk.{Plan, name_cmp}
 use Rattle.desk_plans.specs.Rows.{Row, IsRemoved, IsFound}
 use Rattle.desk_plans.proofs.Rows.{AreRows}
 use Rattle.desk_plans.specs.Held.{laid, AreHeld, IsSettled}

@@ -1,7 +1,7 @@
 -- Lemmas on the definitions of Rows.
 use Rattle.std.specs.Prelude.{◌≡◌, ℕ, List, length, IsTrue}
 use Rattle.std.specs.FinMap.{is_sorted}
-use Rattle.desk_model.specs.Desk.{name_cmp}
+use Rattle.desk_model.specs.claim.Desk.{name_cmp}
 use Rattle.desk_plans.specs.Rows.{Row}
 
 -- the rows rise by name, and there are so many

@@ -5,7 +5,7 @@ use Rattle.std.proofs.lemmas.List.{append_assoc}
 use Rattle.std.specs.Ordering.{is_lt, ordering_reverse}
 use Rattle.std.specs.declared.cmp.Ordering.TheVariants.{Less, Equal, Greater}
 use Rattle.std.specs.Cmp.Lexicographic.{nat_list_cmp_total}
-use Rattle.desk_model.specs.Desk.{name_cmp}
+use Rattle.desk_model.specs.claim.Desk.{name_cmp}
 use Rattle.desk_plans.specs.Rows.{Row, EndsBelow, StartsAbove, StandsAt, IsSplit, IsPut, IsRemoved, IsFound}
 use Rattle.desk_plans.proofs.Rising.{ends_below_last}
 

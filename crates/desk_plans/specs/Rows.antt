@@ -3,7 +3,7 @@ use Rattle.std.specs.Prelude.{◌≡◌, ℕ, List, [], ◌∷◌, ◌++◌, tru
 use Rattle.std.specs.Option.{option_to_list}
 use Rattle.std.specs.Ordering.{is_lt}
 use Rattle.std.specs.declared.cmp.Ordering.TheVariants.{Equal}
-use Rattle.desk_model.specs.Desk.{Plan, name_cmp}
+use Rattle.desk_model.specs.claim.Desk.{Plan, name_cmp}
 
 -- a plan under its name
 abbrev pub Row : Type 0

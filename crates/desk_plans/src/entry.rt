@@ -1,8 +1,8 @@
 //! A plan with its name and its revisions.
 ghost use Rattle.std.specs.Prelude.{◌≡◌, ◌<◌, ◌≤◌, ◌++◌, ◌∷◌, [], length, IfOk};
 ghost use Rattle.std.specs.Option.{option_copied};
-ghost use Rattle.desk_model.specs.Step.{plan_row, revision_limit};
-ghost use Rattle.desk_model.specs.Subject.{revision_at};
+ghost use Rattle.desk_model.specs.claim.Step.{plan_row, revision_limit};
+ghost use Rattle.desk_model.specs.claim.Subject.{revision_at};
 
 use desk_model::kind::Kind;
 use desk_model::name::PlanName;
@@ -26,8 +26,8 @@ pub struct Entry {
 
 impl Model for Entry {
     ghost use Rattle.std.specs.Prelude.{ℕ, List, length, ◌≤◌};
-    ghost use Rattle.desk_model.specs.Desk.{Plan};
-    ghost use Rattle.desk_model.specs.Step.{revision_limit};
+    ghost use Rattle.desk_model.specs.claim.Desk.{Plan};
+    ghost use Rattle.desk_model.specs.claim.Step.{revision_limit};
 
     ghost Value = { List ℕ × Plan };
 

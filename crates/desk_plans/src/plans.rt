@@ -2,7 +2,7 @@
 ghost use Rattle.std.specs.Prelude.{◌≡◌, ◌+◌, ◌<◌, map, IfOk, OnOk, OnErr, IfSome, IfNone, IsSome, Some, None};
 ghost use Rattle.std.specs.Option.{option_copied};
 ghost use Rattle.std.specs.FinMap as map_of;
-ghost use Rattle.desk_model.specs.Step.{plan_limit, plan_row};
+ghost use Rattle.desk_model.specs.claim.Step.{plan_limit, plan_row};
 ghost use Rattle.desk_plans.specs.Held.{IsSettled};
 ghost use Rattle.desk_plans.specs.Rows.{IsPut, IsRemoved, IsFound};
 ghost use Rattle.desk_plans.specs.Tree.{rows_of};
@@ -26,7 +26,7 @@ pub struct Plans {
 
 impl Model for Plans {
     ghost use Rattle.std.specs.FinMap as map_of;
-    ghost use Rattle.desk_model.specs.Desk.{Plan, name_cmp};
+    ghost use Rattle.desk_model.specs.claim.Desk.{Plan, name_cmp};
     ghost use Rattle.desk_plans.specs.Codes.{coded_plans};
 
     ghost Value = { map_of.FinMap name_cmp Plan };

@@ -1,8 +1,8 @@
 //! A tree of plans, in the order of their names.
 ghost use Rattle.std.specs.Prelude.{◌≡◌, ◌<◌, ◌++◌, ◌∷◌, [], length, drop, map, IfOk, OnOk, OnErr};
 ghost use Rattle.std.specs.Option.{option_copied};
-ghost use Rattle.desk_model.specs.Desk.{name_cmp};
-ghost use Rattle.desk_model.specs.Step.{plan_row};
+ghost use Rattle.desk_model.specs.claim.Desk.{name_cmp};
+ghost use Rattle.desk_model.specs.claim.Step.{plan_row};
 ghost use Rattle.desk_plans.specs.Rows.{IsPut, IsRemoved, IsFound};
 ghost use Rattle.desk_plans.specs.Tree.{rows_of};
 

@@ -6,10 +6,11 @@ use Rattle.std.proofs.lemmas.Bool.{cases_Bool}
 use Rattle.std.proofs.lemmas.List.{drop-drop, drop_all, drop_more, length-take, length-drop, length-map}
 use Rattle.std.proofs.Math.Nat.{min-le_right}
 use Rattle.std.proofs.lemmas.List.Sums.{sum_by-cons}
-use Rattle.desk_model.specs.Cuts.{parts, laid, sizes, cuts_of, ListsAreCut}
-use Rattle.desk_model.specs.Geography.{Ground, ids}
+use Rattle.desk_model.specs.claim.Cuts.{parts, sizes}
+use Rattle.desk_model.specs.Cuts.{laid, cuts_of, ListsAreCut}
+use Rattle.desk_model.specs.claim.Geography.{Ground, ids}
 use Rattle.desk_model.specs.declared.block.BlockRow.{BlockRow}
-use Rattle.desk_model.specs.Room.{rows_for, differs, changed, revision_rows}
+use Rattle.desk_model.specs.claim.Room.{rows_for, differs, changed, revision_rows}
 use Rattle.desk_model.specs.declared.cuts.Cut.{Cut}
 use Rattle.desk_room.specs.Cutting.{part, AreWithin, changes_in, cut_rows}
 use Rattle.desk_room.proofs.Cutting.{changed_rows}

@@ -4,7 +4,7 @@ use Rattle.std.specs.Prelude.{nat_eq, not}
 use Rattle.std.specs.Cmp.Lexicographic.{pointwise}
 use Rattle.std.proofs.lemmas.List.{ext_get_or, get_or-take, get_or-drop, length-take, length-drop}
 use Rattle.std.proofs.lemmas.Bool.Decides.{nat_tests}
-use Rattle.desk_model.specs.Room.{differs}
+use Rattle.desk_model.specs.claim.Room.{differs}
 use Rattle.desk_model.specs.declared.cuts.Cut.{Cut}
 use Rattle.desk_room.specs.Cutting.{StaysOutside, is_changed, part}
 

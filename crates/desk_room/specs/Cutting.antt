@@ -1,10 +1,11 @@
 -- The counties of lists beside the blocks, by their places.
 use Rattle.std.specs.Prelude.{◌≡◌, ◌⊎◌, ◌<◌, ◌≤◌, ◌+◌, ℕ, Bool, true, if◌then◌else◌, List, map}
 use Rattle.std.specs.Prelude.{get_or, take, drop, All, Option, Some, None, length, IfSome}
-use Rattle.desk_model.specs.Room.{rows_for, differs, revision_rows, fork_rows}
+use Rattle.desk_model.specs.claim.Room.{rows_for, differs, revision_rows, fork_rows}
 use Rattle.desk_model.specs.declared.cuts.Cut.{Cut}
-use Rattle.desk_model.specs.Cuts.{cuts_of, sizes}
-use Rattle.desk_model.specs.Geography.{Ground}
+use Rattle.desk_model.specs.Cuts.{cuts_of}
+use Rattle.desk_model.specs.claim.Cuts.{sizes}
+use Rattle.desk_model.specs.claim.Geography.{Ground}
 
 -- a county's part of a list beside the blocks
 abbrev pub part : Cut → List ℕ → List ℕ

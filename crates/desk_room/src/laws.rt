@@ -1,7 +1,7 @@
 //! What holds of the counties' places.
 ghost use Rattle.std.specs.Prelude.{length};
 ghost use Rattle.desk_model.specs.Cuts.{cuts_of};
-ghost use Rattle.desk_model.specs.Geography.{Ground};
+ghost use Rattle.desk_model.specs.claim.Geography.{Ground};
 ghost use Rattle.desk_room.specs.Cutting.{AreWithin};
 
 use desk_model::laws::lists_are_cut;

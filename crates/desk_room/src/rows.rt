@@ -1,6 +1,6 @@
 //! The rows that a revision writes.
 ghost use Rattle.std.specs.Prelude.{◌≡◌, ◌≤◌, ◌<◌, ◌+◌, ◌^◌, length};
-ghost use Rattle.desk_model.specs.Room.{rows_for};
+ghost use Rattle.desk_model.specs.claim.Room.{rows_for};
 ghost use Rattle.desk_room.specs.Cutting.{cut_rows, AreForkRows, AreRevisionRows};
 
 use desk_model::cuts::Cut;

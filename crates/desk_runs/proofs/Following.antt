@@ -1,25 +1,26 @@
 -- Lives of a store, by induction on them.
 use Rattle.std.proofs.Common.{◌≡◌, ◌≤◌, ℕ, Bool, true, false, inl, ⊎_elim, Result, Ok, zero, suc, List, [], ◌∷◌, ◌++◌, length, take, get_or, refl, sym, subst, ◌∙◌, arith}
 use Rattle.std.proofs.lemmas.List.Sums.{fold-append}
-use Rattle.sector_device.specs.Disk.{Disk, Image}
+use Rattle.sector_device.specs.claim.Disk.{Disk, Image}
 use Rattle.sector_device.specs.declared.SectorDevice.{Ghosts}
 use Rattle.desk_model.specs.declared.command.Command.{Command}
-use Rattle.desk_model.specs.Desk.{Desk}
-use Rattle.desk_model.specs.Step.{step}
-use Rattle.desk_pages.specs.Desks.{OpensDeskOf, OpensDesk, OpensEither}
-use Rattle.desk_pages.specs.Openings.{AllVersions}
+use Rattle.desk_model.specs.claim.Desk.{Desk}
+use Rattle.desk_model.specs.claim.Step.{step}
+use Rattle.desk_pages.specs.claim.Desks.{OpensDeskOf, OpensDesk, OpensEither}
+use Rattle.desk_pages.specs.claim.Openings.{AllVersions}
 use Rattle.desk_store.specs.declared.clerk.Clerk.{Clerk}
-use Rattle.desk_store.specs.Clerks.{desk_of, disk_of, sectors_of}
-use Rattle.desk_runs.specs.Runs.{Call, Run, after, acknowledged, acknowledged_at, in_flight, OpensAfterSome, OpenSince, SurvivesEachRun}
-use Rattle.desk_runs.specs.Recovery.{ImagesAreOne, HoldsEither}
+use Rattle.desk_store.specs.claim.Clerks.{desk_of, disk_of, sectors_of}
+use Rattle.desk_runs.specs.claim.Runs.{Call, Run, after, acknowledged, acknowledged_at, in_flight, OpensAfterSome, OpenSince, SurvivesEachRun}
+use Rattle.desk_runs.specs.Recovery.{ImagesAreOne}
+use Rattle.desk_runs.specs.claim.Recovery.{HoldsEither}
 use Rattle.desk_migration.specs.declared.error.MigrationOpenError.{MigrationOpenError}
 use Rattle.desk_migration.specs.declared.migration.Migration.{Migration}
-use Rattle.desk_migration.specs.Migrating.{disk_of as migrated_disk}
-use Rattle.desk_migration.specs.Openings.{device_after as device_left}
-use Rattle.desk_runs.specs.Migrations.{IsEntry, Migrates}
+use Rattle.desk_migration.specs.claim.Migrating.{disk_of as migrated_disk}
+use Rattle.desk_migration.specs.claim.Openings.{device_after as device_left}
+use Rattle.desk_runs.specs.claim.Migrations.{IsEntry, Migrates}
 use Rattle.desk_runs.proofs.Migrated.{honest_migration, migration_leaves}
 use Rattle.desk_runs.proofs.One.{in_either, either_as, one_opens}
-use Rattle.desk_runs.specs.Lives.{Life, found, accepted, told, left_by, IsSound, Finds, Follow, last_left, Lasted, OpensAfterLives, LivesSurvive}
+use Rattle.desk_runs.specs.claim.Lives.{Life, found, accepted, told, left_by, IsSound, Finds, Follow, last_left, Lasted, OpensAfterLives, LivesSurvive}
 
 -- an image opens to one of these desks
 record OpensTo (n : ℕ) (P : Desk → Type 0) (c : Image) : Type 0 where

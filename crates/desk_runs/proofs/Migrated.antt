@@ -1,15 +1,15 @@
 -- What a stop in the midst of a migration leaves.
 use Rattle.std.proofs.Common.{◌≡◌, ◌⊎◌, ℕ, Bool, true, false, inl, inr, refl, sym, subst}
-use Rattle.sector_device.specs.Disk.{Disk}
-use Rattle.sector_device.specs.Moments.{LeavesOnly}
+use Rattle.sector_device.specs.claim.Disk.{Disk}
+use Rattle.sector_device.specs.claim.Moments.{LeavesOnly}
 use Rattle.sector_device.proofs.Moments.{leaves_more, leaves_wider}
 use Rattle.sector_device.specs.declared.SectorDevice.{Ghosts}
 use Rattle.page_store.proofs.Stops.{leaves_here}
-use Rattle.desk_model.specs.Desk.{Desk}
-use Rattle.desk_pages.specs.Desks.{OpensOld, OpensEither}
+use Rattle.desk_model.specs.claim.Desk.{Desk}
+use Rattle.desk_pages.specs.claim.Desks.{OpensOld, OpensEither}
 use Rattle.desk_migration.specs.declared.migration.Migration.{Migration}
-use Rattle.desk_migration.specs.Migrating.{disk_of, is_halted, sectors_of, Keeps, Goes}
-use Rattle.desk_runs.specs.Migrations.{Migrates}
+use Rattle.desk_migration.specs.claim.Migrating.{disk_of, is_halted, sectors_of, Keeps, Goes}
+use Rattle.desk_runs.specs.claim.Migrations.{Migrates}
 
 halted_or_not : (b : Bool) → (b ≡ true) ⊎ (b ≡ false)
 halted_or_not true = inl refl

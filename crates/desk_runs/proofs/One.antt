@@ -1,22 +1,25 @@
 -- One image, one desk; and what an opening makes of that.
 use Rattle.std.proofs.Common.{◌≡◌, ◌≢◌, ◌≤◌, ◌^◌, ℕ, Bool, true, false, List, Result, Ok, Err, IfOk, IfErr, inl, inr, ⊎_elim, sym, subst, ◌∙◌, arith}
-use Rattle.sector_device.specs.Disk.{Disk, Image}
-use Rattle.sector_device.specs.Moments.{LeavesOnly}
+use Rattle.sector_device.specs.claim.Disk.{Disk, Image}
+use Rattle.sector_device.specs.claim.Moments.{LeavesOnly}
 use Rattle.sector_device.proofs.Moments.{leaves_wider}
 use Rattle.sector_device.specs.declared.SectorDevice.{Ghosts}
-use Rattle.gate_journal.specs.Store.{pages}
+use Rattle.gate_journal.specs.claim.Store.{pages}
 use Rattle.gate_journal.proofs.Headers.{same_journal}
-use Rattle.page_store.specs.Chain.{root_in, free_in}
-use Rattle.desk_model.specs.Desk.{Desk}
-use Rattle.desk_pages.specs.Desks.{HoldsDeskOf, OpensDeskOf, OpensDesk, OpensEither}
+use Rattle.page_store.specs.claim.Chain.{root_in, free_in}
+use Rattle.desk_model.specs.claim.Desk.{Desk}
+use Rattle.desk_pages.specs.claim.Desks.{HoldsDeskOf, OpensDeskOf, OpensDesk, OpensEither}
 use Rattle.desk_pages.specs.Laws.{HoldsOneDesk}
 use Rattle.desk_store.specs.declared.clerk.Clerk.{Clerk}
 use Rattle.desk_store.specs.declared.opening.OpenError.{OpenError}
 use Rattle.desk_store.specs.declared.opening.OpenError.TheVariants.{NotAStore, OldVersion}
-use Rattle.desk_store.specs.Clerks.{desk_of, disk_of, is_halted, sectors_of, Keeps}
-use Rattle.desk_pages.specs.Openings.{AllDesks, AllVersions, IsOneOf, OpensOneOf, OpensOneAs}
-use Rattle.desk_store.specs.Openings.{OpenRefused, device_after}
-use Rattle.desk_runs.specs.Recovery.{ImagesAreOne, HoldsOne, HoldsEither, Shows, Recovers}
+use Rattle.desk_store.specs.claim.Clerks.{desk_of, disk_of, is_halted, sectors_of, Keeps}
+use Rattle.desk_pages.specs.Openings.{AllDesks, OpensOneOf}
+use Rattle.desk_pages.specs.claim.Openings.{AllVersions, IsOneOf, OpensOneAs}
+use Rattle.desk_store.specs.Openings.{OpenRefused}
+use Rattle.desk_store.specs.claim.Openings.{device_after}
+use Rattle.desk_runs.specs.Recovery.{ImagesAreOne, HoldsOne, Shows, Recovers}
+use Rattle.desk_runs.specs.claim.Recovery.{HoldsEither}
 
 -- what pages say of their desk
 abbrev Held : Bool → ℕ → Image → Desk → Type 0

@@ -1,22 +1,22 @@
 -- Runs of a clerk, by induction on the commands.
 use Rattle.std.proofs.Common.{◌≡◌, ◌⊎◌, ℕ, suc, ◌≤◌, Bool, true, false, if◌then◌else◌, List, [], ◌∷◌, ◌++◌, inl, inr, ⊎_elim, refl, sym, subst, ◌∙◌, arith}
-use Rattle.sector_device.specs.Disk.{Disk, Image}
-use Rattle.sector_device.specs.Moments.{LeavesOnly}
+use Rattle.sector_device.specs.claim.Disk.{Disk, Image}
+use Rattle.sector_device.specs.claim.Moments.{LeavesOnly}
 use Rattle.sector_device.specs.declared.SectorDevice.{Ghosts}
 use Rattle.page_store.proofs.Stops.{leaves_here, leaves_quiet}
-use Rattle.page_store.specs.Transactions.{IsSame}
+use Rattle.page_store.specs.claim.Transactions.{IsSame}
 use Rattle.desk_model.specs.declared.command.Command.{Command}
 use Rattle.desk_model.specs.declared.reply.Reply.{Reply}
 use Rattle.desk_model.specs.declared.reply.Reply.TheVariants as reply
-use Rattle.desk_model.specs.Desk.{Desk}
-use Rattle.desk_model.specs.Outcome.{IsAcceptance, CommandMay}
-use Rattle.desk_model.specs.Step.{step}
-use Rattle.desk_pages.specs.Desks.{OpensDesk}
+use Rattle.desk_model.specs.claim.Desk.{Desk}
+use Rattle.desk_model.specs.claim.Outcome.{IsAcceptance, CommandMay}
+use Rattle.desk_model.specs.claim.Step.{step}
+use Rattle.desk_pages.specs.claim.Desks.{OpensDesk}
 use Rattle.desk_store.specs.declared.clerk.Clerk.{Clerk}
-use Rattle.desk_store.specs.Clerks.{desk_of, disk_of, pages_of, sectors_of, Keeps}
-use Rattle.desk_store.specs.Commands.{Does, MustBeFull, MayBeFull}
-use Rattle.desk_store.specs.Keeping.{IsLeft, OpensOneMore}
-use Rattle.desk_runs.specs.Runs.{Call, after, if_accepted, acknowledged, acknowledged_at, in_flight, OpensAfterSome, OpenSince, Run, SurvivesEachRun}
+use Rattle.desk_store.specs.claim.Clerks.{desk_of, disk_of, pages_of, sectors_of, Keeps}
+use Rattle.desk_store.specs.claim.Commands.{Does, MustBeFull, MayBeFull}
+use Rattle.desk_store.specs.claim.Keeping.{IsLeft, OpensOneMore}
+use Rattle.desk_runs.specs.claim.Runs.{Call, after, if_accepted, acknowledged, acknowledged_at, in_flight, OpensAfterSome, OpenSince, Run, SurvivesEachRun}
 use Rattle.desk_runs.proofs.Steps.{refused_same}
 
 either : (b : Bool) → (b ≡ true) ⊎ (b ≡ false)

@@ -7,12 +7,12 @@ use Rattle.desk_model.specs.declared.command.Command.{Command}
 use Rattle.desk_model.specs.declared.command.Command.TheVariants.{Create, Whole, Counties, Retire, Fork}
 use Rattle.desk_model.specs.declared.reply.Reply.TheVariants as reply
 use Rattle.desk_model.specs.declared.reply.Refusal.TheVariants.{Stale, Limit}
-use Rattle.desk_model.specs.Baf.{Values, Fault, body_read}
-use Rattle.desk_model.specs.Geography.{Ground}
-use Rattle.desk_model.specs.Desk.{Plan, Desk}
-use Rattle.desk_model.specs.Subject.{revision_at}
-use Rattle.desk_model.specs.Outcome.{IsAcceptance}
-use Rattle.desk_model.specs.Step.{Outcome, refused, plan_limit, create, revision_limit, on_revisions, whole_read, partly_listed, county_patched, patch_read, retired, fork_of, fork_from, fork, step_on, step_at, step}
+use Rattle.desk_model.specs.claim.Baf.{Values, Fault, body_read}
+use Rattle.desk_model.specs.claim.Geography.{Ground}
+use Rattle.desk_model.specs.claim.Desk.{Plan, Desk}
+use Rattle.desk_model.specs.claim.Subject.{revision_at}
+use Rattle.desk_model.specs.claim.Outcome.{IsAcceptance}
+use Rattle.desk_model.specs.claim.Step.{Outcome, refused, plan_limit, create, revision_limit, on_revisions, whole_read, partly_listed, county_patched, patch_read, retired, fork_of, fork_from, fork, step_on, step_at, step}
 
 -- accepted, or the desk is as it was
 abbrev Moved : Desk → Outcome → Type 0

@@ -1,15 +1,15 @@
--- What an opening makes of a device that holds one desk.
+-- What no promise rests on, beside claim/Recovery.antt.
 use Rattle.std.specs.Prelude.{◌≡◌, ◌≢◌, ◌≤◌, ◌^◌, ℕ, Bool, false, Result, IfOk, IfErr}
-use Rattle.sector_device.specs.Disk.{Disk, Image}
-use Rattle.sector_device.specs.Moments.{LeavesOnly}
+use Rattle.sector_device.specs.claim.Disk.{Disk, Image}
+use Rattle.sector_device.specs.claim.Moments.{LeavesOnly}
 use Rattle.sector_device.specs.declared.SectorDevice.{Ghosts}
-use Rattle.desk_model.specs.Desk.{Desk}
-use Rattle.desk_pages.specs.Desks.{OpensDeskOf, OpensDesk, OpensEither}
+use Rattle.desk_model.specs.claim.Desk.{Desk}
+use Rattle.desk_pages.specs.claim.Desks.{OpensDeskOf, OpensDesk, OpensEither}
 use Rattle.desk_store.specs.declared.clerk.Clerk.{Clerk}
 use Rattle.desk_store.specs.declared.opening.OpenError.{OpenError}
 use Rattle.desk_store.specs.declared.opening.OpenError.TheVariants.{NotAStore, OldVersion}
-use Rattle.desk_store.specs.Clerks.{desk_of, is_halted, sectors_of, Keeps}
-use Rattle.desk_store.specs.Openings.{device_after}
+use Rattle.desk_store.specs.claim.Clerks.{desk_of, is_halted, sectors_of, Keeps}
+use Rattle.desk_store.specs.claim.Openings.{device_after}
 
 -- an image of a store opens to one desk at most, in whatever version
 abbrev pub ImagesAreOne : Type 0
@@ -20,10 +20,6 @@ ImagesAreOne =
 -- each image that a stop may leave opens to the desk, in the new version
 abbrev pub HoldsOne : Disk → Desk → Type 0
 HoldsOne disk d = (c : Image) → disk.leaves c → OpensDesk disk.sectors d c
-
--- each does so in either version: so it is where a migration was stopped
-abbrev pub HoldsEither : Disk → Desk → Type 0
-HoldsEither disk d = (c : Image) → disk.leaves c → OpensEither disk.sectors d c
 
 -- the clerk shows the desk, its store of n sectors keeps it, and no fault came
 pub record Shows {D : Type 0} {g : Ghosts D} (n : ℕ) (d : Desk) (x : Clerk D g) : Type 0 where

@@ -1,6 +1,6 @@
 //! The law of runs.
 ghost use Rattle.desk_store.specs.declared.clerk.Clerk.{Clerk};
-ghost use Rattle.desk_runs.specs.Runs.{SurvivesEachRun};
+ghost use Rattle.desk_runs.specs.claim.Runs.{SurvivesEachRun};
 
 use desk_store::clerk::Clerk;
 use sector_device::SectorDevice;

@@ -1,5 +1,5 @@
 //! Lives of a store, one after the other, each ended by a stop.
-ghost use Rattle.desk_runs.specs.Lives.{LivesSurvive};
+ghost use Rattle.desk_runs.specs.claim.Lives.{LivesSurvive};
 
 use crate::desk_law::one_desk_opens;
 use crate::law::each_run_survives;

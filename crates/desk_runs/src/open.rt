@@ -1,9 +1,10 @@
 //! Openings of a device whose images all open to one desk.
-ghost use Rattle.desk_model.specs.Desk.{Desk};
-ghost use Rattle.desk_store.specs.Openings.{device_after};
-ghost use Rattle.desk_runs.specs.Lives.{IsOpening};
-ghost use Rattle.desk_runs.specs.Migrations.{IsEntry};
-ghost use Rattle.desk_runs.specs.Recovery.{HoldsEither, Recovers};
+ghost use Rattle.desk_model.specs.claim.Desk.{Desk};
+ghost use Rattle.desk_store.specs.claim.Openings.{device_after};
+ghost use Rattle.desk_runs.specs.claim.Lives.{IsOpening};
+ghost use Rattle.desk_runs.specs.claim.Migrations.{IsEntry};
+ghost use Rattle.desk_runs.specs.claim.Recovery.{HoldsEither};
+ghost use Rattle.desk_runs.specs.Recovery.{Recovers};
 
 use crate::desk_law::one_desk_opens;
 use desk_migration::{Migration, MigrationOpenError};

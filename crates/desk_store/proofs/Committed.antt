@@ -1,28 +1,29 @@
 -- A change that is committed.
 use Rattle.std.proofs.Common.{◌≡◌, ◌⊎◌, ◌≤◌, ◌<◌, ◌+◌, ℕ, Bool, true, false, length, inl, inr, refl, sym, subst, ◌∙◌, arith}
-use Rattle.sector_device.specs.Disk.{Image}
-use Rattle.sector_device.specs.Moments.{LeavesOnly}
+use Rattle.sector_device.specs.claim.Disk.{Image}
+use Rattle.sector_device.specs.claim.Moments.{LeavesOnly}
 use Rattle.sector_device.specs.declared.SectorDevice.{Ghosts}
-use Rattle.gate_journal.specs.Store.{home}
-use Rattle.page_store.specs.Chain.{free_in}
-use Rattle.page_store.specs.Transactions.{stored, disk_in, count_of, journal_of, has_halted, prepared_writes, after, HasShape, IsKept, CommitErr}
+use Rattle.gate_journal.specs.claim.Store.{home}
+use Rattle.page_store.specs.claim.Chain.{free_in}
+use Rattle.page_store.specs.claim.Transactions.{stored, disk_in, count_of, journal_of, has_halted, prepared_writes, after, HasShape, IsKept, CommitErr}
 use Rattle.page_store.specs.declared.error.PageError.{PageError}
 use Rattle.page_store.specs.declared.error.PageError.TheVariants.{NotAStore, DeviceFault, Halted, TooManyPages, TooSmall, NoPages, Memory}
 use Rattle.page_store.specs.declared.pages.Pages.{Pages}
-use Rattle.page_btree.specs.Map.{InPages as HoldsRows}
-use Rattle.store_rows.specs.Rows.{KeyMap}
+use Rattle.page_btree.specs.claim.Map.{InPages as HoldsRows}
+use Rattle.store_rows.specs.claim.Rows.{KeyMap}
 use Rattle.desk_model.specs.declared.reply.Reply.{Reply}
 use Rattle.desk_model.specs.declared.reply.Reply.TheVariants.{Refused}
 use Rattle.desk_model.specs.declared.reply.Refusal.TheVariants as refusal
-use Rattle.desk_model.specs.Desk.{Desk}
-use Rattle.desk_model.specs.Room.{need}
-use Rattle.desk_catalogue.specs.Accepting.{acceptance}
-use Rattle.desk_pages.specs.Commits.{HoldsAfter, OpensRows}
+use Rattle.desk_model.specs.claim.Desk.{Desk}
+use Rattle.desk_model.specs.claim.Room.{need}
+use Rattle.desk_catalogue.specs.claim.Accepting.{acceptance}
+use Rattle.desk_pages.specs.claim.Commits.{HoldsAfter}
+use Rattle.desk_pages.specs.Commits.{OpensRows}
 use Rattle.desk_pages.proofs.Openings.{leaves_desk}
-use Rattle.desk_pages.specs.Desks.{InPages, OpensDesk}
-use Rattle.desk_store.specs.Keeping.{IsLeft}
-use Rattle.desk_store.specs.Clerks.{desk_of, disk_of, pages_of, sectors_of, free_of, Keeps}
-use Rattle.desk_store.specs.Commands.{command_of, after_of, written_of, IsReady, Commits}
+use Rattle.desk_pages.specs.claim.Desks.{InPages, OpensDesk}
+use Rattle.desk_store.specs.claim.Keeping.{IsLeft}
+use Rattle.desk_store.specs.claim.Clerks.{desk_of, disk_of, pages_of, sectors_of, free_of, Keeps}
+use Rattle.desk_store.specs.claim.Commands.{command_of, after_of, written_of, IsReady, Commits}
 use Rattle.desk_store.specs.declared.clerk.Clerk.{Clerk}
 use Rattle.desk_store.specs.declared.ready.Ready.{Ready}
 use Rattle.desk_store.proofs.Kept.{accepted_is, kept_opens, left_halted}

@@ -1,29 +1,30 @@
 -- What became of a command.
 use Rattle.std.proofs.Common.{◌≡◌, ◌⊎◌, ◌+◌, ℕ, Bool, true, false, length, inl, inr, ⊎_elim, refl, sym, ap, subst, ◌∙◌, arith}
-use Rattle.sector_device.specs.Disk.{Image}
-use Rattle.sector_device.specs.Moments.{LeavesOnly}
+use Rattle.sector_device.specs.claim.Disk.{Image}
+use Rattle.sector_device.specs.claim.Moments.{LeavesOnly}
 use Rattle.sector_device.proofs.Moments.{leaves_more, leaves_now}
 use Rattle.sector_device.specs.declared.SectorDevice.{Ghosts}
-use Rattle.gate_journal.specs.Store.{home}
-use Rattle.page_store.specs.Chain.{root_in, free_in}
+use Rattle.gate_journal.specs.claim.Store.{home}
+use Rattle.page_store.specs.claim.Chain.{root_in, free_in}
 use Rattle.page_store.proofs.Stops.{leaves_here, leaves_quiet}
-use Rattle.page_store.specs.Transactions.{stored, count_of}
-use Rattle.page_btree.specs.Map.{Holds}
+use Rattle.page_store.specs.claim.Transactions.{stored, count_of}
+use Rattle.page_btree.specs.claim.Map.{Holds}
 use Rattle.desk_model.specs.declared.command.Command.{Command}
 use Rattle.desk_model.specs.declared.command.Command.TheVariants.{Create, Fork, Whole, Counties, Retire}
 use Rattle.desk_model.specs.declared.reply.Reply.{Reply}
 use Rattle.desk_model.specs.declared.reply.Reply.TheVariants.{Refused}
 use Rattle.desk_model.specs.declared.reply.Refusal.{Refusal}
-use Rattle.desk_model.specs.Desk.{Desk}
-use Rattle.desk_model.specs.Outcome.{IsAcceptance, CommandMay}
-use Rattle.desk_model.specs.Room.{need}
-use Rattle.desk_model.specs.Step.{step}
-use Rattle.desk_catalogue.specs.Accepting.{IsAfter, acceptance}
-use Rattle.desk_pages.specs.Desks.{HoldsDesk, InPages, OpensDesk}
-use Rattle.plan_revisions.specs.Rows.{HasNumbers}
-use Rattle.desk_store.specs.Keeping.{IsLeft, OpensOneMore}
-use Rattle.desk_store.specs.Clerks.{desk_of, disk_of, pages_of, sectors_of, free_of, Keeps, Reads, Moves}
-use Rattle.desk_store.specs.Commands.{command_of, after_of, IsSpent, MustBeFull, MayBeFull, PrepareErr, IsReady, Commits, Does}
+use Rattle.desk_model.specs.claim.Desk.{Desk}
+use Rattle.desk_model.specs.claim.Outcome.{IsAcceptance, CommandMay}
+use Rattle.desk_model.specs.claim.Room.{need}
+use Rattle.desk_model.specs.claim.Step.{step}
+use Rattle.desk_catalogue.specs.claim.Accepting.{IsAfter, acceptance}
+use Rattle.desk_pages.specs.Desks.{HoldsDesk}
+use Rattle.desk_pages.specs.claim.Desks.{InPages, OpensDesk}
+use Rattle.plan_revisions.specs.claim.Rows.{HasNumbers}
+use Rattle.desk_store.specs.claim.Keeping.{IsLeft, OpensOneMore}
+use Rattle.desk_store.specs.claim.Clerks.{desk_of, disk_of, pages_of, sectors_of, free_of, Keeps, Reads, Moves}
+use Rattle.desk_store.specs.claim.Commands.{command_of, after_of, IsSpent, MustBeFull, MayBeFull, PrepareErr, IsReady, Commits, Does}
 use Rattle.desk_store.specs.declared.clerk.Clerk.{Clerk}
 use Rattle.desk_store.specs.declared.ready.Ready.{Ready}
 use Rattle.desk_store.proofs.Kept.{acceptance_is}

@@ -1,21 +1,21 @@
 -- What a clerk's store keeps.
 use Rattle.std.proofs.Common.{◌≡◌, ◌⊎◌, ◌+◌, ℕ, true, false, inl, inr, ⊎_elim, refl, sym, subst}
-use Rattle.sector_device.specs.Disk.{Disk, Image}
-use Rattle.sector_device.specs.Moments.{LeavesOnly}
+use Rattle.sector_device.specs.claim.Disk.{Disk, Image}
+use Rattle.sector_device.specs.claim.Moments.{LeavesOnly}
 use Rattle.sector_device.proofs.Moments.{leaves_now}
 use Rattle.sector_device.specs.declared.SectorDevice.{Ghosts}
-use Rattle.gate_journal.specs.Store.{home}
-use Rattle.page_store.specs.Transactions.{stored, disk_in, count_of, journal_of, has_halted, IsKept}
+use Rattle.gate_journal.specs.claim.Store.{home}
+use Rattle.page_store.specs.claim.Transactions.{stored, disk_in, count_of, journal_of, has_halted, IsKept}
 use Rattle.page_store.specs.declared.pages.Pages.{Pages}
 use Rattle.desk_model.specs.declared.command.Command.{Command}
 use Rattle.desk_model.specs.declared.command.Command.TheVariants.{Create, Fork, Whole, Counties, Retire}
-use Rattle.desk_model.specs.Desk.{Desk}
-use Rattle.desk_model.specs.Outcome.{IsAcceptance}
-use Rattle.desk_model.specs.Step.{step}
-use Rattle.desk_catalogue.specs.Accepting.{IsAfter, acceptance}
-use Rattle.desk_pages.specs.Desks.{InPages, OpensDesk}
+use Rattle.desk_model.specs.claim.Desk.{Desk}
+use Rattle.desk_model.specs.claim.Outcome.{IsAcceptance}
+use Rattle.desk_model.specs.claim.Step.{step}
+use Rattle.desk_catalogue.specs.claim.Accepting.{IsAfter, acceptance}
+use Rattle.desk_pages.specs.claim.Desks.{InPages, OpensDesk}
 use Rattle.desk_pages.proofs.Committed.{pages_sound}
-use Rattle.desk_store.specs.Keeping.{IsLeft, IsOneMore}
+use Rattle.desk_store.specs.claim.Keeping.{IsLeft, IsOneMore}
 
 -- each reply to a command that is accepted is one
 pub acceptance_is : (c : Command) → IsAcceptance (acceptance c)

@@ -3,26 +3,27 @@ use Rattle.std.proofs.Common.{◌≡◌, ◌⊎◌, ◌<◌, ◌+◌, ℕ, true,
 use Rattle.std.specs.FinMap as map_of
 use Rattle.std.specs.FinMap.{get-empty, same_map, slice_cmp-IsAntisymmetric, nat_cmp-IsAntisymmetric}
 use Rattle.std.specs.Cmp.Lexicographic.{nat_list_cmp_total}
-use Rattle.sector_device.specs.Disk.{Disk}
-use Rattle.sector_device.specs.Moments.{LeavesOnly}
+use Rattle.sector_device.specs.claim.Disk.{Disk}
+use Rattle.sector_device.specs.claim.Moments.{LeavesOnly}
 use Rattle.sector_device.proofs.Moments.{leaves_wider}
 use Rattle.sector_device.specs.declared.SectorDevice.{Ghosts}
-use Rattle.gate_journal.specs.Store.{home}
-use Rattle.page_store.specs.Transactions.{disk_in, count_of, journal_of, has_halted, IsQuiet}
+use Rattle.gate_journal.specs.claim.Store.{home}
+use Rattle.page_store.specs.claim.Transactions.{disk_in, count_of, journal_of, has_halted, IsQuiet}
 use Rattle.page_store.specs.declared.pages.Pages.{Pages}
-use Rattle.desk_model.specs.Geography.{Ground}
-use Rattle.desk_model.specs.Desk.{Desk, Plan, name_cmp}
-use Rattle.store_rows.specs.Rows.{KeyMap}
-use Rattle.store_rows.specs.DeskRows.{IsDesk, IsPlanAt}
+use Rattle.desk_model.specs.claim.Geography.{Ground}
+use Rattle.desk_model.specs.claim.Desk.{Desk, Plan, name_cmp}
+use Rattle.store_rows.specs.claim.Rows.{KeyMap}
+use Rattle.store_rows.specs.claim.DeskRows.{IsDesk, IsPlanAt}
 use Rattle.store_rows.specs.Changes.{desk_with}
 use Rattle.geo_tables.specs.Loading.{HoldsLoad, ground_of}
 use Rattle.geo_tables.specs.Refusals.{BeginErr, BatchErr, SealErr}
 use Rattle.geo_tables.specs.declared.load.Load.{Load}
 use Rattle.geo_tables.specs.declared.error.LoadFault.{LoadFault}
 use Rattle.geo_tables.specs.declared.error.LoadFault.TheVariants.{AlreadySealed, Full, Memory, DeviceFault, Halted}
-use Rattle.desk_pages.specs.Desks.{InPages, OpensDesk}
-use Rattle.desk_store.specs.Keeping.{IsOneMore, sealed_desk}
-use Rattle.desk_store.specs.Clerks.{desk_of, disk_of, pages_of, sectors_of, Keeps}
+use Rattle.desk_pages.specs.claim.Desks.{InPages, OpensDesk}
+use Rattle.desk_store.specs.claim.Keeping.{IsOneMore}
+use Rattle.desk_store.specs.Keeping.{sealed_desk}
+use Rattle.desk_store.specs.claim.Clerks.{desk_of, disk_of, pages_of, sectors_of, Keeps}
 use Rattle.desk_store.specs.Loads.{Stages, BeginRefused}
 use Rattle.desk_store.specs.LoadFaults.{is_load_fault, load_error_of}
 use Rattle.desk_store.specs.declared.clerk.Clerk.{Clerk}

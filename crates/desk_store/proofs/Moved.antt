@@ -1,17 +1,17 @@
 -- Calls that commit, and calls that came to nothing.
 use Rattle.std.proofs.Common.{◌≡◌, ◌⊎◌, ◌<◌, ◌+◌, ℕ, Bool, true, false, inl, inr, ⊎_elim, refl, sym, subst, ◌∙◌}
-use Rattle.sector_device.specs.Disk.{Image}
-use Rattle.sector_device.specs.Moments.{LeavesOnly}
+use Rattle.sector_device.specs.claim.Disk.{Image}
+use Rattle.sector_device.specs.claim.Moments.{LeavesOnly}
 use Rattle.sector_device.proofs.Moments.{leaves_now}
 use Rattle.sector_device.specs.declared.SectorDevice.{Ghosts}
-use Rattle.gate_journal.specs.Store.{home}
+use Rattle.gate_journal.specs.claim.Store.{home}
 use Rattle.page_store.proofs.Stops.{quiet_none}
-use Rattle.page_store.specs.Transactions.{disk_in, HasShape, IsKept, IsQuiet}
+use Rattle.page_store.specs.claim.Transactions.{disk_in, HasShape, IsKept, IsQuiet}
 use Rattle.page_store.specs.declared.pages.Pages.{Pages}
-use Rattle.desk_model.specs.Desk.{Desk}
-use Rattle.desk_pages.specs.Desks.{InPages, OpensDesk}
-use Rattle.desk_store.specs.Keeping.{IsLeft, IsOneMore}
-use Rattle.desk_store.specs.Clerks.{desk_of, disk_of, pages_of, sectors_of, Keeps, Reads, Moves, MovesIf}
+use Rattle.desk_model.specs.claim.Desk.{Desk}
+use Rattle.desk_pages.specs.claim.Desks.{InPages, OpensDesk}
+use Rattle.desk_store.specs.claim.Keeping.{IsLeft, IsOneMore}
+use Rattle.desk_store.specs.claim.Clerks.{desk_of, disk_of, pages_of, sectors_of, Keeps, Reads, Moves, MovesIf}
 use Rattle.desk_store.specs.declared.clerk.Clerk.{Clerk}
 use Rattle.desk_store.proofs.Kept.{kept_opens}
 use Rattle.desk_store.proofs.Done.{reads_move}

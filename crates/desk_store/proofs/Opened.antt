@@ -1,31 +1,34 @@
 -- What an opening finds.
 use Rattle.std.proofs.Common.{◌≡◌, ◌≢◌, ◌<◌, ℕ, Bool, true, false, inl, inr, refl, sym, ap, subst, ◌∙◌, arith}
-use Rattle.sector_device.specs.Disk.{Disk, Image}
+use Rattle.sector_device.specs.claim.Disk.{Disk, Image}
 use Rattle.sector_device.specs.declared.SectorDevice.{Ghosts}
-use Rattle.gate_journal.specs.Store.{pages}
+use Rattle.gate_journal.specs.claim.Store.{pages}
 use Rattle.gate_journal.specs.Recovery.{HasRoom, Found}
-use Rattle.page_store.specs.Chain.{root_in, free_in}
+use Rattle.page_store.specs.claim.Chain.{root_in, free_in}
 use Rattle.page_store.proofs.Stops.{kept_quiet}
-use Rattle.page_store.specs.Transactions.{stored, disk_in, count_of, journal_of, has_halted, device_in, HasFailed, IsQuiet, IsKept, IsUntouched, OpenErr}
+use Rattle.page_store.specs.claim.Transactions.{stored, disk_in, count_of, journal_of, has_halted, device_in, HasFailed, IsQuiet, IsKept}
+use Rattle.page_store.specs.Transactions.{IsUntouched, OpenErr}
 use Rattle.page_store.specs.declared.pages.Pages.{Pages}
 use Rattle.page_store.specs.declared.error.PageError.{PageError}
 use Rattle.page_store.specs.declared.error.PageError.TheVariants as page
-use Rattle.desk_model.specs.Desk.{Desk}
+use Rattle.desk_model.specs.claim.Desk.{Desk}
 use Rattle.page_store.specs.declared.txn.Txn.{Txn}
 use Rattle.page_btree.specs.declared.error.TreeError.{TreeError}
 use Rattle.page_btree.specs.declared.error.TreeError.TheVariants as tree
-use Rattle.page_btree.specs.Map.{Holds, InPages as HasRows, InTxn as TxnHas}
-use Rattle.store_rows.specs.Keys.{version, in_four}
-use Rattle.store_rows.specs.Rows.{KeyMap, row_in, Has, Lacks}
-use Rattle.store_rows.specs.Tidy.{version_row}
+use Rattle.page_btree.specs.claim.Map.{Holds, InPages as HasRows, InTxn as TxnHas}
+use Rattle.store_rows.specs.claim.Keys.{version, in_four}
+use Rattle.store_rows.specs.claim.Rows.{KeyMap, row_in, Has, Lacks}
+use Rattle.store_rows.specs.claim.Tidy.{version_row}
 use Rattle.store_rows.proofs.OneGeography.{no_value}
 use Rattle.row_table.specs.Reading.{ReadErr as RowErr}
 use Rattle.desk_opening.specs.Opening.{HasVersion, IsReadFrom, OpenErr as ReadErr}
-use Rattle.desk_pages.specs.Desks.{HoldsDeskOf, IsMapOf, InPagesOf, InPagesAs, InTxnAs, InPages, OpensDesk, OpensDeskOf}
-use Rattle.desk_pages.specs.Openings.{AllDesks, AllVersions, IsOneOf, HasPages, IsSpared}
+use Rattle.desk_pages.specs.claim.Desks.{HoldsDeskOf, IsMapOf, InPagesOf, InPages, OpensDesk, OpensDeskOf}
+use Rattle.desk_pages.specs.Desks.{InPagesAs, InTxnAs}
+use Rattle.desk_pages.specs.Openings.{AllDesks, HasPages, IsSpared}
+use Rattle.desk_pages.specs.claim.Openings.{AllVersions, IsOneOf}
 use Rattle.desk_pages.proofs.Found.{page_stores_of, found_desk, found_after, pages_left, rows_before}
-use Rattle.desk_store.specs.Keeping.{IsLeft}
-use Rattle.desk_store.specs.Clerks.{desk_of, disk_of, pages_of, sectors_of, Keeps}
+use Rattle.desk_store.specs.claim.Keeping.{IsLeft}
+use Rattle.desk_store.specs.claim.Clerks.{desk_of, disk_of, pages_of, sectors_of, Keeps}
 use Rattle.desk_store.specs.Finding.{FindErr, IsCalm, ReadNewErr, VersionErr, find_error_of, missing, open_error_of}
 use Rattle.desk_store.specs.Openings.{IsOldStore, IsFound, OpenRefused}
 use Rattle.desk_store.specs.declared.clerk.Clerk.{Clerk}

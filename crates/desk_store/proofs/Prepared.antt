@@ -1,35 +1,37 @@
 -- A command whose pages are made ready.
 use Rattle.std.proofs.Common.{◌≡◌, ◌≤◌, ◌+◌, ℕ, Bool, true, false, List, length, inl, inr, refl, sym, ap, subst, ◌∙◌, arith}
-use Rattle.sector_device.specs.Disk.{Image}
+use Rattle.sector_device.specs.claim.Disk.{Image}
 use Rattle.sector_device.specs.declared.SectorDevice.{Ghosts}
-use Rattle.page_store.specs.Chain.{free_in, root_in}
+use Rattle.page_store.specs.claim.Chain.{free_in, root_in}
 use Rattle.page_store.proofs.Chains.{length_chain}
-use Rattle.page_store.specs.Transactions.{stored, disk_in, count_of, txn_pages, txn_writes, txn_first, txn_free, txn_root, over, free_over, prepared_pages, prepared_writes, after, IsQuiet}
+use Rattle.page_store.specs.claim.Transactions.{stored, disk_in, count_of, txn_pages, txn_writes, txn_free, txn_root, over, free_over, prepared_pages, prepared_writes, after, IsQuiet}
+use Rattle.page_store.specs.Transactions.{txn_first}
 use Rattle.page_store.specs.declared.pages.Pages.{Pages}
 use Rattle.page_store.specs.declared.txn.Txn.{Txn}
 use Rattle.page_store.specs.declared.txn.Prepared.{Prepared}
 use Rattle.page_btree.proofs.MapLaws.{begun_holds}
-use Rattle.page_btree.specs.Map.{Holds, InTxn as TxnHas, InPages as HoldsRows}
+use Rattle.page_btree.specs.claim.Map.{Holds, InTxn as TxnHas, InPages as HoldsRows}
 use Rattle.page_btree.specs.declared.error.TreeError.{TreeError}
 use Rattle.page_btree.specs.declared.error.TreeError.TheVariants.{DeviceFault, Halted, NoPages, TooDeep, Memory}
-use Rattle.store_rows.specs.Rows.{KeyMap}
+use Rattle.store_rows.specs.claim.Rows.{KeyMap}
 use Rattle.desk_model.specs.declared.command.Command.{Command}
-use Rattle.desk_model.specs.Desk.{Desk}
-use Rattle.desk_model.specs.Outcome.{IsFull, RefusalMay}
-use Rattle.desk_model.specs.Room.{need, command_rows}
-use Rattle.desk_catalogue.specs.Accepting.{IsAfter}
-use Rattle.plan_table.specs.Outcomes.{HasSpent}
+use Rattle.desk_model.specs.claim.Desk.{Desk}
+use Rattle.desk_model.specs.claim.Outcome.{IsFull, RefusalMay}
+use Rattle.desk_model.specs.claim.Room.{need, command_rows}
+use Rattle.desk_catalogue.specs.claim.Accepting.{IsAfter}
+use Rattle.plan_table.specs.claim.Outcomes.{HasSpent}
 use Rattle.plan_table.specs.declared.change.ChangeOutcome.{ChangeOutcome}
 use Rattle.plan_table.specs.declared.change.ChangeOutcome.TheVariants.{Made, Spent}
-use Rattle.plan_revisions.specs.Steps.{HasStepped, IsStepped, LeavesNumbers, StepErr}
-use Rattle.desk_pages.specs.Commits.{HoldsAfter}
-use Rattle.desk_pages.specs.Desks.{HoldsDesk, HoldsDeskOf, InPages, InPagesOf, InTxn, InTxnOf}
+use Rattle.plan_revisions.specs.claim.Steps.{HasStepped, IsStepped, LeavesNumbers, StepErr}
+use Rattle.desk_pages.specs.claim.Commits.{HoldsAfter}
+use Rattle.desk_pages.specs.Desks.{HoldsDesk}
+use Rattle.desk_pages.specs.claim.Desks.{HoldsDeskOf, InPages, InPagesOf, InTxn, InTxnOf}
 use Rattle.desk_pages.proofs.DeskLaws.{begun_desk}
-use Rattle.plan_revisions.specs.Rows.{HasNumbers}
+use Rattle.plan_revisions.specs.claim.Rows.{HasNumbers}
 use Rattle.plan_revisions.proofs.Accepted.{rows_some, ground_stays}
-use Rattle.desk_store.specs.Clerks.{desk_of, disk_of, free_of, pages_of, room_of, Keeps, Reads}
+use Rattle.desk_store.specs.claim.Clerks.{desk_of, disk_of, free_of, pages_of, room_of, Keeps, Reads}
 use Rattle.desk_store.specs.declared.ready.Ready.{Ready}
-use Rattle.desk_store.specs.Commands.{command_of, after_of, written_of, IsReady, HoldsNext, IsPut, HasRoom, IsSpent, MustBeFull, MayBeFull}
+use Rattle.desk_store.specs.claim.Commands.{command_of, after_of, written_of, IsReady, HoldsNext, IsPut, HasRoom, IsSpent, MustBeFull, MayBeFull}
 use Rattle.desk_store.specs.Faults.{is_fault, refusal_of}
 use Rattle.desk_store.specs.declared.clerk.Clerk.{Clerk}
 use Rattle.desk_store.proofs.Kept.{accepted_is}

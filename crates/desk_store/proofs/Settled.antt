@@ -3,15 +3,15 @@ use Rattle.std.proofs.Common.{◌≡◌, Bool, false, List, sym, ap, subst, ◌�
 use Rattle.std.proofs.Props.{props}
 use Rattle.std.specs.Arc.{arc_with_value}
 use Rattle.sector_device.specs.declared.SectorDevice.{Ghosts}
-use Rattle.page_store.specs.Transactions.{has_halted}
+use Rattle.page_store.specs.claim.Transactions.{has_halted}
 use Rattle.page_store.specs.declared.pages.Pages.{Pages}
-use Rattle.desk_model.specs.Desk.{Desk}
+use Rattle.desk_model.specs.claim.Desk.{Desk}
 use Rattle.desk_model.specs.declared.cuts.Cut.{Cut}
 use Rattle.desk_model.specs.declared.command.Command.{Command}
 use Rattle.desk_model.specs.declared.reply.Refusal.{Refusal}
 use Rattle.plan_revisions.specs.Rows.{cuts_in}
-use Rattle.desk_store.specs.Clerks.{pages_of}
-use Rattle.desk_store.specs.Commands.{PrepareErr}
+use Rattle.desk_store.specs.claim.Clerks.{pages_of}
+use Rattle.desk_store.specs.claim.Commands.{PrepareErr}
 use Rattle.desk_store.specs.declared.clerk.Clerk.{Clerk}
 
 -- an equation of counties has one proof at most

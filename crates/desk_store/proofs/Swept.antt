@@ -2,27 +2,28 @@
 use Rattle.std.proofs.Common.{◌≡◌, ◌⊎◌, ◌<◌, ◌+◌, ◌^◌, ℕ, zero, suc, Bool, true, false, List, [], ◌∷◌, ◌++◌, Option, Some, inl, inr, ⊎_elim, refl, sym, ap, subst, ◌∙◌, arith}
 use Rattle.std.specs.FinMap.{remove}
 use Rattle.sector_device.specs.declared.SectorDevice.{Ghosts}
-use Rattle.page_store.specs.Transactions.{disk_in, has_halted, IsQuiet}
+use Rattle.page_store.specs.claim.Transactions.{disk_in, has_halted, IsQuiet}
 use Rattle.page_store.specs.declared.pages.Pages.{Pages}
-use Rattle.page_btree.specs.Map.{InPages as HoldsRows}
-use Rattle.desk_model.specs.Geography.{Ground}
-use Rattle.desk_model.specs.Desk.{Desk}
-use Rattle.store_rows.specs.Keys.{RowKey, key_of, Fits, counters, retired, begun, holding, tally, named, part, seal, version, block, pair, chunk, in_eight}
+use Rattle.page_btree.specs.claim.Map.{InPages as HoldsRows}
+use Rattle.desk_model.specs.claim.Geography.{Ground}
+use Rattle.desk_model.specs.claim.Desk.{Desk}
+use Rattle.store_rows.specs.claim.Keys.{RowKey, key_of, Fits, counters, retired, begun, holding, tally, named, part, seal, version, block, pair, chunk, in_eight}
 use Rattle.store_rows.specs.Holders.{released}
 use Rattle.store_rows.proofs.RowLaws.{keys_differ}
 use Rattle.store_rows.proofs.Frames.{remove_keeps, put_keeps_tag, remove_keeps_tag, tag_follows}
-use Rattle.store_rows.specs.Rows.{KeyMap, row_in, SameTag}
-use Rattle.store_rows.specs.GeographyRows.{IsStaged}
+use Rattle.store_rows.specs.claim.Rows.{KeyMap, row_in}
+use Rattle.store_rows.specs.Rows.{SameTag}
+use Rattle.store_rows.specs.claim.GeographyRows.{IsStaged}
 use Rattle.store_rows.specs.TurnLaws.{Turn, goes, lets_go, IsUnneeded, CanTurn, turned, take_turns, AreTurns}
 use Rattle.geo_tables.specs.Loading.{HoldsLoad, number_of, ground_of, done_of}
 use Rattle.geo_tables.specs.declared.load.Load.{Load}
-use Rattle.desk_pages.specs.Desks.{IsDeskMap, InPages}
+use Rattle.desk_pages.specs.claim.Desks.{IsDeskMap, InPages}
 use Rattle.store_sweep.specs.Leftovers.{IsOfLoad, IsApart, AreNotSpared, IsSweptBy, IsSweptClean}
 use Rattle.store_sweep.specs.Sweeping.{HoldsSwept, SweepErr}
 use Rattle.store_sweep.specs.declared.error.SweepError.{SweepError}
 use Rattle.store_sweep.specs.declared.error.SweepError.TheVariants.{Memory, NotAStore, DeviceFault, Halted}
 use Rattle.store_sweep.proofs.Stepped.{quiet_rows}
-use Rattle.desk_store.specs.Clerks.{desk_of, disk_of, pages_of, Keeps, Reads, Moves}
+use Rattle.desk_store.specs.claim.Clerks.{desk_of, disk_of, pages_of, Keeps, Reads, Moves}
 use Rattle.desk_store.specs.Loads.{Stages, IsLast}
 use Rattle.desk_store.specs.Sweeps.{HasRows, HasSwept, SweepRefused, is_sweep_fault}
 use Rattle.desk_store.specs.declared.clerk.Clerk.{Clerk}

@@ -1,17 +1,17 @@
 -- Why no desk of the new version is found in pages.
 use Rattle.std.specs.Prelude.{◌≡◌, ◌≢◌, Bool, true, false, if◌then◌else◌}
 use Rattle.sector_device.specs.declared.SectorDevice.{Ghosts}
-use Rattle.desk_model.specs.Desk.{Desk}
-use Rattle.page_store.specs.Transactions.{stored, disk_in, has_halted}
+use Rattle.desk_model.specs.claim.Desk.{Desk}
+use Rattle.page_store.specs.claim.Transactions.{stored, disk_in, has_halted}
 use Rattle.page_store.specs.declared.pages.Pages.{Pages}
 use Rattle.page_store.specs.declared.txn.Txn.{Txn}
 use Rattle.page_store.specs.declared.error.PageError.{PageError}
 use Rattle.page_store.specs.declared.error.PageError.TheVariants as page
 use Rattle.page_btree.specs.declared.error.TreeError.{TreeError}
 use Rattle.page_btree.specs.declared.error.TreeError.TheVariants as tree
-use Rattle.page_btree.specs.Map.{InPages as HasRows, InTxn as TxnHas}
-use Rattle.store_rows.specs.Keys.{version}
-use Rattle.store_rows.specs.Rows.{KeyMap, Lacks}
+use Rattle.page_btree.specs.claim.Map.{InPages as HasRows, InTxn as TxnHas}
+use Rattle.store_rows.specs.claim.Keys.{version}
+use Rattle.store_rows.specs.claim.Rows.{KeyMap, Lacks}
 use Rattle.desk_opening.specs.Opening.{HasVersion}
 use Rattle.desk_pages.specs.Desks.{InPagesAs, InTxnAs}
 use Rattle.desk_store.specs.declared.opening.OpenError.{OpenError}

@@ -1,40 +1,8 @@
--- What a clerk's store keeps of its desk.
-use Rattle.std.specs.Prelude.{◌≡◌, ◌⊎◌, ℕ, Bool, true, Some, None}
+-- What no promise rests on, beside claim/Keeping.antt.
+use Rattle.std.specs.Prelude.{Some}
 use Rattle.std.specs.FinMap as map_of
-use Rattle.sector_device.specs.Disk.{Image}
-use Rattle.desk_model.specs.declared.command.Command.{Command}
-use Rattle.desk_model.specs.Desk.{Desk}
-use Rattle.desk_model.specs.Geography.{Ground}
-use Rattle.desk_model.specs.Outcome.{IsAcceptance}
-use Rattle.desk_model.specs.Step.{step}
-use Rattle.desk_pages.specs.Desks.{OpensDesk}
-
--- the desk after a command that is accepted
-pub record IsAccepted (d e : Desk) : Type 0 where
-  pub command : Command
-  pub accepted : IsAcceptance (step d command).0
-  pub desk : e ≡ (step d command).1
-
--- the desk after a geography was sealed
-pub record IsSealed (d e : Desk) : Type 0 where
-  pub geography : Ground
-  pub none : d.geography ≡ None
-  pub desk : e ≡ record d { geography = Some geography }
-
--- a desk after one change more
-abbrev pub IsOneMore : Desk → Desk → Type 0
-IsOneMore d e = IsAccepted d e ⊎ IsSealed d e
-
--- after a halt an image may open to such a desk
-pub record OpensOneMore (halted : Bool) (sectors : ℕ) (d : Desk) (c : Image) : Type 0 where
-  pub halt : halted ≡ true
-  pub next : Desk
-  pub is : IsOneMore d next
-  pub opens : OpensDesk sectors next c
-
--- what a stop leaves opens to the desk, or after a halt to that or to the desk after one change more
-abbrev pub IsLeft : Bool → ℕ → Desk → Image → Type 0
-IsLeft halted sectors d c = OpensDesk sectors d c ⊎ OpensOneMore halted sectors d c
+use Rattle.desk_model.specs.claim.Desk.{Desk}
+use Rattle.desk_model.specs.claim.Geography.{Ground}
 
 -- the desk with a geography and no plan
 abbrev pub sealed_desk : Ground → Desk

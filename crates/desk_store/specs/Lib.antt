@@ -1,8 +1,7 @@
+pub mod claim
 pub mod Keeping
-pub mod Clerks
 pub mod Changes
 pub mod Codes
-pub mod Commands
 pub mod Faults
 pub mod Loads
 pub mod LoadFaults

@@ -1,9 +1,9 @@
 -- Loads at a clerk.
 use Rattle.std.specs.Prelude.{◌≡◌, ℕ, Bool, true, false, Some, None}
 use Rattle.sector_device.specs.declared.SectorDevice.{Ghosts}
-use Rattle.page_store.specs.Transactions.{disk_in, IsQuiet}
+use Rattle.page_store.specs.claim.Transactions.{disk_in, IsQuiet}
 use Rattle.page_store.specs.declared.pages.Pages.{Pages}
-use Rattle.desk_model.specs.Geography.{Ground}
+use Rattle.desk_model.specs.claim.Geography.{Ground}
 use Rattle.geo_tables.specs.declared.load.Load.{Load}
 use Rattle.geo_tables.specs.declared.error.LoadFault.TheVariants as below
 use Rattle.geo_tables.specs.Loading.{HoldsLoad, number_of}
@@ -11,7 +11,7 @@ use Rattle.geo_tables.specs.Refusals.{BeginErr, BatchErr, SealErr}
 use Rattle.desk_store.specs.declared.clerk.Clerk.{Clerk}
 use Rattle.desk_store.specs.declared.loads.LoadError.{LoadError}
 use Rattle.desk_store.specs.declared.loads.LoadError.TheVariants.{AlreadySealed, Full, Memory, Halted, Ended}
-use Rattle.desk_store.specs.Clerks.{desk_of, disk_of, pages_of, Keeps}
+use Rattle.desk_store.specs.claim.Clerks.{desk_of, disk_of, pages_of, Keeps}
 
 module _ {D : Type 0} {g : Ghosts D} where
   -- the store holds what is staged of the load, beside the desk that is shown

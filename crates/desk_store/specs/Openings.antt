@@ -1,19 +1,20 @@
--- What an opening finds, and what it leaves.
-use Rattle.std.specs.Prelude.{◌≡◌, ◌<◌, ℕ, Result, Ok, Err}
-use Rattle.sector_device.specs.Disk.{Disk}
+-- What no promise rests on, beside claim/Openings.antt.
+use Rattle.std.specs.Prelude.{◌≡◌, ◌<◌, ℕ}
+use Rattle.sector_device.specs.claim.Disk.{Disk}
 use Rattle.sector_device.specs.declared.SectorDevice.{Ghosts}
-use Rattle.desk_model.specs.Desk.{Desk}
+use Rattle.desk_model.specs.claim.Desk.{Desk}
 use Rattle.gate_journal.specs.Recovery.{Found}
-use Rattle.gate_journal.specs.Store.{pages}
-use Rattle.page_store.specs.Chain.{root_in, free_in}
-use Rattle.page_store.specs.Transactions.{count_of, device_in, journal_of}
-use Rattle.page_btree.specs.Map.{Holds, InPages as HasRows}
-use Rattle.store_rows.specs.Keys.{version, in_four}
-use Rattle.store_rows.specs.Rows.{KeyMap, Has, Lacks}
+use Rattle.gate_journal.specs.claim.Store.{pages}
+use Rattle.page_store.specs.claim.Chain.{root_in, free_in}
+use Rattle.page_store.specs.claim.Transactions.{count_of, journal_of}
+use Rattle.page_btree.specs.claim.Map.{Holds, InPages as HasRows}
+use Rattle.store_rows.specs.claim.Keys.{version, in_four}
+use Rattle.store_rows.specs.claim.Rows.{KeyMap, Has, Lacks}
 use Rattle.desk_opening.specs.Opening.{IsReadFrom}
-use Rattle.desk_pages.specs.Desks.{InPages}
-use Rattle.desk_pages.specs.Openings.{AllDesks, AllVersions, HasPages}
-use Rattle.desk_store.specs.Clerks.{desk_of, disk_of, pages_of}
+use Rattle.desk_pages.specs.claim.Desks.{InPages}
+use Rattle.desk_pages.specs.Openings.{AllDesks, HasPages}
+use Rattle.desk_pages.specs.claim.Openings.{AllVersions}
+use Rattle.desk_store.specs.claim.Clerks.{desk_of, disk_of, pages_of}
 use Rattle.desk_store.specs.declared.clerk.Clerk.{Clerk}
 use Rattle.desk_store.specs.declared.opening.OpenError.{OpenError}
 use Rattle.desk_store.specs.declared.opening.OpenError.TheVariants.{NotAStore, DeviceFault, Memory, OldVersion}
@@ -32,10 +33,6 @@ pub record IsFound {D : Type 0} {g : Ghosts D} (old : Disk) (x : Clerk D g) : Ty
   pub shown : (d : Desk) → InPages (pages_of x) d → desk_of x ≡ d
   pub read : (m : KeyMap) → HasRows (pages_of x) m → IsReadFrom m (desk_of x)
   pub version : (m : KeyMap) → HasRows (pages_of x) m → Has m version (in_four 2)
-
-abbrev pub device_after : {D : Type 0} {g : Ghosts D} → Result (Clerk D g) (OpenError × D) → D
-device_after (Ok x) = device_in (pages_of x)
-device_after (Err e) = e.1
 
 -- why a device is not opened
 abbrev pub OpenRefused : {D : Type 0} (g : Ghosts D) → D → D → OpenError → Type 0

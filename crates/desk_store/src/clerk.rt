@@ -1,6 +1,6 @@
 //! The clerk, who keeps the desk in a store and shows it from memory.
 ghost use Rattle.std.specs.Prelude.{◌≡◌, false};
-ghost use Rattle.page_store.specs.Transactions.{has_halted};
+ghost use Rattle.page_store.specs.claim.Transactions.{has_halted};
 ghost use Rattle.plan_revisions.specs.Rows.{cuts_in};
 
 use desk_catalogue::catalogue::Catalogue;
@@ -29,9 +29,9 @@ pub struct Clerk<D: SectorDevice> {
 
 impl<D: SectorDevice> Clerk<D> {
     ghost use Rattle.std.specs.Prelude.{◌≡◌, false, IfOk};
-    ghost use Rattle.desk_catalogue.specs.Audits.{AskMay};
-    ghost use Rattle.desk_store.specs.Clerks.{desk_of, disk_of, free_of, is_halted, pages_of, room_of};
-    ghost use Rattle.page_store.specs.Transactions.{device_in};
+    ghost use Rattle.desk_catalogue.specs.claim.Audits.{AskMay};
+    ghost use Rattle.desk_store.specs.claim.Clerks.{desk_of, disk_of, free_of, is_halted, pages_of, room_of};
+    ghost use Rattle.page_store.specs.claim.Transactions.{device_in};
 
     /// The answer to a query, from the catalogue in memory; Memory only where memory for it was refused.
     pub fn ask(&self, alloc: Global, query: Query) -> Reply

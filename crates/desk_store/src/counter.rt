@@ -1,8 +1,8 @@
 //! The clerk as a counter, alone with the desk.
 ghost use Rattle.std.specs.Prelude.{◌≡◌};
-ghost use Rattle.desk_catalogue.specs.Audits.{AskMay};
-ghost use Rattle.desk_store.specs.Clerks.{desk_of};
-ghost use Rattle.desk_store.specs.Commands.{Does};
+ghost use Rattle.desk_catalogue.specs.claim.Audits.{AskMay};
+ghost use Rattle.desk_store.specs.claim.Clerks.{desk_of};
+ghost use Rattle.desk_store.specs.claim.Commands.{Does};
 
 use crate::clerk::Clerk;
 use desk_counter::Counter;

@@ -1,6 +1,6 @@
 //! Loads at the clerk.
 ghost use Rattle.std.specs.Prelude.{◌≡◌, ◌⊎◌, true, false};
-ghost use Rattle.page_store.specs.Transactions.{has_halted};
+ghost use Rattle.page_store.specs.claim.Transactions.{has_halted};
 ghost use Rattle.desk_store.specs.LoadFaults.{is_load_fault, load_error_of};
 
 use crate::clerk::Clerk;
@@ -56,11 +56,11 @@ fn load_error(e: LoadFault) -> LoadError
 
 impl<D: SectorDevice> Clerk<D> {
     ghost use Rattle.std.specs.Prelude.{◌≡◌, ◌≤◌, ◌+◌, false, None, OnOk, OnErr, IfOk, IfErr};
-    ghost use Rattle.store_rows.specs.GeographyRows.{geography_rows};
+    ghost use Rattle.store_rows.specs.claim.GeographyRows.{geography_rows};
     ghost use Rattle.geo_tables.specs.Loading.{IsFurther, ground_of, done_of};
-    ghost use Rattle.desk_store.specs.Clerks.{desk_of, disk_of, pages_of, Keeps, Moves, MovesIf};
+    ghost use Rattle.desk_store.specs.claim.Clerks.{desk_of, disk_of, pages_of, Keeps, Moves, MovesIf};
     ghost use Rattle.desk_store.specs.Keeping.{sealed_desk};
-    ghost use Rattle.page_store.specs.Transactions.{IsQuiet};
+    ghost use Rattle.page_store.specs.claim.Transactions.{IsQuiet};
     ghost use Rattle.desk_store.specs.Loads.{Stages, IsLast, EndRefused, BeginRefused, BatchRefused, SealRefused};
 
     /// Begins a load of a geography, in place of one that is under way. The desk stays as it is.

@@ -1,10 +1,10 @@
 //! Opens the desk of a store.
 ghost use Rattle.std.specs.Prelude.{◌≡◌, Bool, false, OnOk, IfOk, IfErr};
-ghost use Rattle.page_store.specs.Transactions.{stored, disk_in, count_of, txn_pages, has_halted, IsQuiet, Passed};
-ghost use Rattle.desk_model.specs.Desk.{Desk};
-ghost use Rattle.page_btree.specs.Map.{InPages as HasRows, InTxn as TxnHas};
-ghost use Rattle.store_rows.specs.Keys.{version, in_four};
-ghost use Rattle.store_rows.specs.Rows.{KeyMap, Has};
+ghost use Rattle.page_store.specs.claim.Transactions.{stored, disk_in, count_of, txn_pages, has_halted, IsQuiet, Passed};
+ghost use Rattle.desk_model.specs.claim.Desk.{Desk};
+ghost use Rattle.page_btree.specs.claim.Map.{InPages as HasRows, InTxn as TxnHas};
+ghost use Rattle.store_rows.specs.claim.Keys.{version, in_four};
+ghost use Rattle.store_rows.specs.claim.Rows.{KeyMap, Has};
 ghost use Rattle.desk_opening.specs.Opening.{IsReadFrom};
 ghost use Rattle.desk_pages.specs.Desks.{InPagesAs, InTxnAs};
 ghost use Rattle.desk_store.specs.Finding.{FindErr, IsCalm, ReadNewErr, VersionErr, find_error_of, open_error_of};
@@ -122,9 +122,11 @@ fn read_shown<D: SectorDevice>(alloc: Global, pages: &mut Pages<D>) -> Result<Sh
 
 impl<D: SectorDevice> Clerk<D> {
     ghost use Rattle.std.specs.Prelude.{◌≡◌, ◌≢◌, ◌≤◌, false, None, OnOk, IfOk, IfErr};
-    ghost use Rattle.desk_store.specs.Clerks.{desk_of, disk_of, is_halted, sectors_of, Keeps};
-    ghost use Rattle.desk_pages.specs.Openings.{AllVersions, IsOneOf, IsSpared, LeavesOneAs, LeavesOneOf};
-    ghost use Rattle.desk_store.specs.Openings.{IsFound, Reopens, device_after, OpenRefused};
+    ghost use Rattle.desk_store.specs.claim.Clerks.{desk_of, disk_of, is_halted, sectors_of, Keeps};
+    ghost use Rattle.desk_pages.specs.claim.Openings.{AllVersions, IsOneOf, LeavesOneAs};
+    ghost use Rattle.desk_pages.specs.Openings.{IsSpared, LeavesOneOf};
+    ghost use Rattle.desk_store.specs.Openings.{IsFound, Reopens, OpenRefused};
+    ghost use Rattle.desk_store.specs.claim.Openings.{device_after};
 
     /// Opens the desk that a device holds: a commit that a stop cut short is finished or dropped, and the desk is read back. At any
     /// moment of it a stop leaves a desk that was there at its start, in the version in which it was there. With a refusal the device

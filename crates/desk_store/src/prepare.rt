@@ -1,12 +1,12 @@
 //! Commands at the clerk.
 ghost use Rattle.std.specs.Prelude.{◌≡◌, ◌≤◌, ◌*◌, ◌⊎◌, ◌↔◌, IsTrue, false, true, IfOk, IfErr};
-ghost use Rattle.desk_model.specs.Room.{command_rows as rows_of_command};
-ghost use Rattle.desk_catalogue.specs.Accepting.{IsAfter};
+ghost use Rattle.desk_model.specs.claim.Room.{command_rows as rows_of_command};
+ghost use Rattle.desk_catalogue.specs.claim.Accepting.{IsAfter};
 ghost use Rattle.desk_catalogue.specs.Drafts.{changes_of};
 ghost use Rattle.plan_revisions.specs.Rows.{cuts_in};
 ghost use Rattle.page_btree.specs.declared.error.TreeError.TheVariants.{DeviceFault, Halted};
-ghost use Rattle.desk_store.specs.Clerks.{desk_of, disk_of, Reads};
-ghost use Rattle.desk_store.specs.Commands.{command_of, IsReady, IsPut, HasRoom, LacksRoom, MustBeFull, PrepareErr, Does};
+ghost use Rattle.desk_store.specs.claim.Clerks.{desk_of, disk_of, Reads};
+ghost use Rattle.desk_store.specs.claim.Commands.{command_of, IsReady, IsPut, HasRoom, LacksRoom, MustBeFull, PrepareErr, Does};
 ghost use Rattle.desk_store.specs.Faults.{is_fault as is_fault_of, refusal_of as refusal_of_error};
 
 use crate::clerk::Clerk;

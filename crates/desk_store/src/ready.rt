@@ -1,7 +1,7 @@
 //! Commands that are ready to be committed.
 ghost use Rattle.std.specs.Prelude.{◌≡◌, ◌≤◌};
-ghost use Rattle.desk_model.specs.Step.{revision_limit};
-ghost use Rattle.desk_catalogue.specs.Accepting.{acceptance, revisions_after};
+ghost use Rattle.desk_model.specs.claim.Step.{revision_limit};
+ghost use Rattle.desk_catalogue.specs.claim.Accepting.{acceptance, revisions_after};
 
 use crate::change::Change;
 use crate::clerk::Clerk;
@@ -47,8 +47,8 @@ fn acceptance_of(command: &Command) -> Reply
 
 impl Ready {
     ghost use Rattle.std.specs.Prelude.{◌≡◌, IfOk};
-    ghost use Rattle.desk_catalogue.specs.Accepting.{acceptance};
-    ghost use Rattle.desk_store.specs.Commands.{command_of, after_of, IsReady, Commits};
+    ghost use Rattle.desk_catalogue.specs.claim.Accepting.{acceptance};
+    ghost use Rattle.desk_store.specs.claim.Commands.{command_of, after_of, IsReady, Commits};
 
     /// What a gallery is given to show. Err where one more owner is refused.
     pub fn change(&self) -> Result<Change, AllocError>

@@ -1,6 +1,6 @@
 //! Sweeps at the clerk.
 ghost use Rattle.std.specs.Prelude.{◌≡◌, ◌⊎◌, ◌<◌, ◌^◌, ℕ, Some, true, false};
-ghost use Rattle.page_store.specs.Transactions.{has_halted};
+ghost use Rattle.page_store.specs.claim.Transactions.{has_halted};
 ghost use Rattle.desk_store.specs.Sweeps.{is_sweep_fault};
 
 use crate::clerk::Clerk;
@@ -33,12 +33,12 @@ fn in_range(number: Option<u64>) -> Option<u64>
 
 impl<D: SectorDevice> Clerk<D> {
     ghost use Rattle.std.specs.Prelude.{◌≡◌, ◌≤◌, ◌↔◌, false, OnOk, IfOk, IfErr};
-    ghost use Rattle.page_store.specs.Transactions.{IsQuiet};
-    ghost use Rattle.page_btree.specs.Map.{InPages as HoldsRows};
-    ghost use Rattle.store_rows.specs.Rows.{KeyMap};
-    ghost use Rattle.store_holdings.specs.Checks.{AreSoundHoldings};
+    ghost use Rattle.page_store.specs.claim.Transactions.{IsQuiet};
+    ghost use Rattle.page_btree.specs.claim.Map.{InPages as HoldsRows};
+    ghost use Rattle.store_rows.specs.claim.Rows.{KeyMap};
+    ghost use Rattle.store_holdings.specs.claim.Checks.{AreSoundHoldings};
     ghost use Rattle.geo_tables.specs.declared.load.Load.{Load};
-    ghost use Rattle.desk_store.specs.Clerks.{desk_of, disk_of, free_of, pages_of, Keeps, Moves};
+    ghost use Rattle.desk_store.specs.claim.Clerks.{desk_of, disk_of, free_of, pages_of, Keeps, Moves};
     ghost use Rattle.desk_store.specs.Loads.{Stages, IsLast};
     ghost use Rattle.desk_store.specs.Sweeps.{HasRows, IsClean, HasSwept, SweepRefused};
 

@@ -6,12 +6,12 @@ use Rattle.std.proofs.lemmas.Bool.{and_parts}
 use Rattle.std.proofs.lemmas.Bool.Decides.{nat_tests}
 use mathlib.Core.List.{IsPrefix}
 use Rattle.desk_model.specs.declared.command.Command.{Command}
-use Rattle.desk_model.specs.Desk.{Desk}
-use Rattle.desk_model.specs.Step.{step}
+use Rattle.desk_model.specs.claim.Desk.{Desk}
+use Rattle.desk_model.specs.claim.Step.{step}
 use Rattle.desk_theorem.specs.declared.event.Event.{Event}
 use Rattle.desk_theorem.specs.declared.event.Event.TheVariants.{Commit, Acknowledge, Show, Visit, Learn, Stop}
-use Rattle.desk_theorem.specs.World.{World, world, after, accepts, learnt, move, run, shown_list, seen_at, seen}
-use Rattle.desk_theorem.specs.Law.{IsOrdered, GoesOn, Rising, IsLawful, CoreLaw}
+use Rattle.desk_theorem.specs.claim.World.{World, world, after, accepts, learnt, move, run, shown_list, seen_at, seen}
+use Rattle.desk_theorem.specs.claim.Law.{IsOrdered, GoesOn, Rising, IsLawful, CoreLaw}
 
 -- what holds both ways holds of a choice
 either_way : (P : World → Type 0) (b : Bool) (x y : World) → (b ≡ true → P x) → P y → P (if b then x else y)

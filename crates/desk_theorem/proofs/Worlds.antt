@@ -3,12 +3,12 @@ use Rattle.std.proofs.Common.{◌≡◌, ℕ, zero, suc, ◌-◌, ◌≤◌, ◌
 use Rattle.std.proofs.lemmas.List.{take-map, length-map}
 use Rattle.std.proofs.lemmas.Simd.{splat_is_map}
 use Rattle.std.proofs.lemmas.Bool.Decides.{nat_tests}
-use Rattle.desk_model.specs.Desk.{Desk}
-use Rattle.desk_model.specs.Step.{step}
+use Rattle.desk_model.specs.claim.Desk.{Desk}
+use Rattle.desk_model.specs.claim.Step.{step}
 use Rattle.desk_theorem.specs.declared.world.WorldChange.{WorldChange}
 use Rattle.desk_theorem.specs.declared.event.Event.TheVariants.{Stop}
-use Rattle.desk_theorem.specs.World.{World, world, after, move}
-use Rattle.desk_theorem.specs.Law.{IsOrdered}
+use Rattle.desk_theorem.specs.claim.World.{World, world, after, move}
+use Rattle.desk_theorem.specs.claim.Law.{IsOrdered}
 use Rattle.desk_theorem.proofs.Core.{moved_ordered}
 use Rattle.desk_theorem.specs.Steps.{Follow}
 

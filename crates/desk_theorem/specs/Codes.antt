@@ -3,9 +3,9 @@ use Rattle.std.specs.Prelude.{ℕ, List, refl}
 use Rattle.std.specs.Coded.{Coded, code_by, coded×, coded_ℕ, coded_list}
 use Rattle.desk_model.specs.contracts.command.Command as command
 use Rattle.desk_model.specs.declared.command.Command.{Command}
-use Rattle.desk_model.specs.Desk.{Desk}
+use Rattle.desk_model.specs.claim.Desk.{Desk}
 use Rattle.desk_catalogue.specs.Codes.{coded_desk}
-use Rattle.desk_theorem.specs.World.{World}
+use Rattle.desk_theorem.specs.claim.World.{World}
 
 abbrev pub coded_world : Coded (Desk × World)
 coded_world = coded× coded_desk (code_by (List Command × (ℕ × (ℕ × List ℕ)))

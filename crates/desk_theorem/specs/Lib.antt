@@ -1,4 +1,3 @@
+pub mod claim
 pub mod Codes
-pub mod Law
 pub mod Steps
-pub mod World

@@ -5,13 +5,13 @@ use Rattle.desk_model.specs.declared.command.Query.{Query}
 use Rattle.desk_model.specs.declared.reply.Reply.{Reply}
 use Rattle.desk_model.specs.declared.reply.Reply.TheVariants as reply
 use Rattle.desk_model.specs.declared.reply.Refusal.TheVariants.{Memory}
-use Rattle.desk_model.specs.Desk.{Desk}
-use Rattle.desk_model.specs.Step.{step}
-use Rattle.desk_catalogue.specs.Audits.{AskMay}
+use Rattle.desk_model.specs.claim.Desk.{Desk}
+use Rattle.desk_model.specs.claim.Step.{step}
+use Rattle.desk_catalogue.specs.claim.Audits.{AskMay}
 use Rattle.desk_theorem.specs.declared.event.Event.{Event}
 use Rattle.desk_theorem.specs.declared.event.Event.TheVariants.{Commit, Acknowledge, Show, Visit, Learn, Stop}
 use Rattle.desk_theorem.specs.declared.world.WorldChange.{WorldChange}
-use Rattle.desk_theorem.specs.World.{World, after, move, shown_list}
+use Rattle.desk_theorem.specs.claim.World.{World, after, move, shown_list}
 
 -- each change's catalogue is the desk after its command, from this desk on
 abbrev pub Follow : Desk → List WorldChange → Type 0

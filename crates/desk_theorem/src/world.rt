@@ -1,7 +1,7 @@
 //! A desk with visitors, moved by events.
 ghost use Rattle.std.specs.Prelude.{◌≡◌, ◌≤◌, [], ◌∷◌, ◌++◌, length, take, map, replicate, IfOk, OnOk, OnErr, Some};
-ghost use Rattle.desk_model.specs.Step.{step};
-ghost use Rattle.desk_theorem.specs.World.{after, move, world};
+ghost use Rattle.desk_model.specs.claim.Step.{step};
+ghost use Rattle.desk_theorem.specs.claim.World.{after, move, world};
 ghost use Rattle.desk_theorem.specs.Steps.{StepMay};
 
 use crate::event::Event;
@@ -32,9 +32,9 @@ pub struct World {
 
 impl Model for World {
     ghost use Rattle.std.specs.Prelude.{map};
-    ghost use Rattle.desk_model.specs.Desk.{Desk};
-    ghost use Rattle.desk_theorem.specs.World.{World as Standing, world};
-    ghost use Rattle.desk_theorem.specs.Law.{IsOrdered};
+    ghost use Rattle.desk_model.specs.claim.Desk.{Desk};
+    ghost use Rattle.desk_theorem.specs.claim.World.{World as Standing, world};
+    ghost use Rattle.desk_theorem.specs.claim.Law.{IsOrdered};
     ghost use Rattle.desk_theorem.specs.Steps.{Follow};
     ghost use Rattle.desk_theorem.specs.Codes.{coded_world};
 

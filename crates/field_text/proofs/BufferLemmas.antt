@@ -5,7 +5,7 @@ use Rattle.std.specs.Str.Lines.{strip_carriage_return}
 use Rattle.std.proofs.lemmas.Slice.{between_is}
 use Rattle.std.proofs.lemmas.List.{drop-drop, take-take, take-append-le, take_at, take_all}
 use Rattle.std.proofs.Math.Seq.{take-add, drop-append-add}
-use Rattle.field_text.specs.Reading.{BeginsWithLine, NoLineFeed}
+use Rattle.field_text.specs.claim.Reading.{BeginsWithLine, NoLineFeed}
 
 front_of : (b : Bool) (l : List ℕ) → take (length (cond b (take (length l - 1) l) l)) l ≡ cond b (take (length l - 1) l) l
 front_of true l = ap (λ (k : ℕ). take k l) (omega (arith, length-take (length l - 1) l))

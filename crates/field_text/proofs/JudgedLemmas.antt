@@ -5,8 +5,9 @@ use Rattle.std.proofs.lemmas.Bool.{eqb-true}
 use Rattle.std.proofs.lemmas.List.Elements.{All-append}
 use Rattle.std.specs.Io.KnownBytes.{IsAtEnd}
 use Rattle.std.specs.Str.Lines.{lines, strip_carriage_return}
-use Rattle.field_text.specs.Reading.{NoLineFeed, IsLong, IsBroken, IsTooLong, IsLastLine, BeginsWithLine, line_limit}
-use Rattle.field_text.specs.Judged.{Judge, AreGood, IsFirstFault, ShowsFault, with_ends, AreCut, BeginsWithLines, IsCutShort}
+use Rattle.field_text.specs.claim.Reading.{NoLineFeed, IsBroken, BeginsWithLine, line_limit}
+use Rattle.field_text.specs.Reading.{IsLong, IsTooLong, IsLastLine}
+use Rattle.field_text.specs.claim.Judged.{Judge, AreGood, IsFirstFault, ShowsFault, with_ends, AreCut, BeginsWithLines, IsCutShort}
 use Rattle.field_text.proofs.TextLemmas.{lines-cut, lines-last}
 use Rattle.field_text.proofs.BufferLemmas.{strip_by_one, strip_shorter}
 

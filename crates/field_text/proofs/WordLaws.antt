@@ -5,7 +5,8 @@ use Rattle.std.specs.List.{slice_split, onto_first, filter}
 use Rattle.std.proofs.lemmas.List.{append-nil}
 use Rattle.std.proofs.lemmas.List.Elements.{All-head, All-tail}
 use Rattle.std.proofs.lemmas.List.Splits.{slice_split-cons_yes, slice_split-cons_no, slice_split_none, slice_split_at}
-use Rattle.field_text.specs.Words.{is_separator, words, has_bytes, AreSeparators, NoSeparator, IsWord}
+use Rattle.field_text.specs.claim.Words.{is_separator, words, has_bytes, AreSeparators, NoSeparator}
+use Rattle.field_text.specs.Words.{IsWord}
 
 pub words-none : words [] ≡ []
 unfolding words

@@ -4,7 +4,8 @@ use Rattle.std.specs.List.{slice_range}
 use Rattle.std.proofs.lemmas.Bool.{false≢true, cases_lt}
 use Rattle.std.proofs.lemmas.List.{take_all, drop_all, drop-drop, take-take, take-append-drop, get_or-drop}
 use Rattle.std.proofs.lemmas.Slice.{between_is}
-use Rattle.field_text.specs.Words.{is_separator, words, AreSeparators, NoSeparator, IsWord, word_limit, CutsWord, CutsPart, CutsLong}
+use Rattle.field_text.specs.claim.Words.{is_separator, words, AreSeparators, NoSeparator, word_limit}
+use Rattle.field_text.specs.Words.{IsWord, CutsWord, CutsPart, CutsLong}
 use Rattle.field_text.proofs.WordLaws.{words-none, words-separator, words-past, words-word, words-last}
 
 drop_here : (text : List ℕ) (n : ℕ) → n < length text → drop n text ≡ get_or text n 0 ∷ drop (n + 1) text

@@ -4,7 +4,8 @@ use Rattle.std.specs.Io.KnownBytes.{Consumes, IsAtEnd}
 use Rattle.std.proofs.lemmas.List.{append-nil}
 use Rattle.std.proofs.lemmas.List.Elements.{All-append}
 use Rattle.field_text.specs.Reading.{Reading}
-use Rattle.field_text.specs.Words.{is_separator, words, AreSeparators, IsWord, BeginsWithWord, BeginsWithLongWord, IsBrokenWord, GivesWord, CutsWord, CutsPart, CutsLong, TakesLastWord}
+use Rattle.field_text.specs.claim.Words.{is_separator, words, AreSeparators, IsBrokenWord}
+use Rattle.field_text.specs.Words.{IsWord, BeginsWithWord, BeginsWithLongWord, GivesWord, CutsWord, CutsPart, CutsLong, TakesLastWord}
 use Rattle.field_text.proofs.WordLaws.{words-none, words-past, words-word, words-last, words-goes_on}
 use Rattle.field_text.specs.declared.reader.WordStep.{WordStep}
 use Rattle.field_text.specs.declared.reader.WordStep.TheVariants.{Word, LastWord, End}

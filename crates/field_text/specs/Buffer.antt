@@ -2,7 +2,8 @@
 use Rattle.std.specs.Prelude.{◌+◌, ◌-◌, ◌*◌, ◌^◌, ◌≤◌, vec_len}
 use Rattle.std.specs.List.{slice_range}
 use Rattle.field_text.specs.declared.reader.LineReader.TheInside.{Inside}
-use Rattle.field_text.specs.Reading.{Reading, turn_limit}
+use Rattle.field_text.specs.Reading.{Reading}
+use Rattle.field_text.specs.claim.Reading.{turn_limit}
 
 abbrev pub reading_of : Inside → Reading
 reading_of a = record {

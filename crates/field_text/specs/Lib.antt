@@ -1,7 +1,5 @@
+pub mod claim
 pub mod Buffer
-pub mod Digits
-pub mod Fields
-pub mod Judged
 pub mod Lines
 pub mod Reading
 pub mod Words

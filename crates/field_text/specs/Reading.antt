@@ -1,14 +1,15 @@
--- What a reader of lines gives of the bytes that came.
-use Rattle.std.specs.Prelude.{◌≡◌, ℕ, ◌+◌, ◌<◌, ◌≤◌, ◌==◌, false, List, [], ◌∷◌, ◌++◌, length, All, Option, Result, Ok, Err}
+-- What no promise rests on, beside claim/Reading.antt.
+use Rattle.std.specs.Prelude.{◌≡◌, ℕ, ◌+◌, ◌<◌, List, [], ◌++◌, length, Option, Result, Ok, Err}
 use Rattle.std.specs.Io.KnownBytes.{Consumes, IsAtEnd}
 use Rattle.std.specs.Str.Lines.{strip_carriage_return}
-use Rattle.byte_stream.specs.Counts.{counted}
+use Rattle.byte_stream.specs.claim.Counts.{counted}
 use Rattle.byte_stream.specs.declared.source.Turn.{Turn}
 use Rattle.byte_stream.specs.declared.source.Turn.TheVariants as turn
 use Rattle.field_text.specs.declared.reader.Step.{Step}
 use Rattle.field_text.specs.declared.reader.Step.TheVariants as step
 use Rattle.field_text.specs.declared.reader.ReadFault.{ReadFault}
 use Rattle.field_text.specs.declared.reader.ReadFault.TheVariants as fault
+use Rattle.field_text.specs.claim.Reading.{BeginsWithLine, IsBroken, NoLineFeed, line_limit}
 
 -- the line at hand; the bytes that came and belong to no line yet; how many lines were given; how many turns were made
 pub record Reading : Type 0 where
@@ -17,41 +18,15 @@ pub record Reading : Type 0 where
   pub number : ℕ
   pub turns : ℕ
 
-abbrev pub NoLineFeed : List ℕ → Type 0
-NoLineFeed bytes = All (λ b. (b == 10) ≡ false) bytes
-
--- a line has at most this many bytes, its end not counted
-abbrev pub line_limit : ℕ
-line_limit = 65536
-
--- more turns are not made
-abbrev pub turn_limit : ℕ
-turn_limit = 4294967296
-
 -- The bytes pass the limit. A carriage return as the last of them may belong to the line's end.
 abbrev pub IsLong : List ℕ → Type 0
 IsLong bytes = line_limit < length (strip_carriage_return bytes)
-
-abbrev pub IsShort : List ℕ → Type 0
-IsShort bytes = length (strip_carriage_return bytes) ≤ line_limit
-
--- the text begins with this line and its end
-pub record BeginsWithLine (text line rest : List ℕ) : Type 0 where
-  pub raw : List ℕ
-  pub cut : text ≡ raw ++ 10 ∷ rest
-  pub one : NoLineFeed raw
-  pub stripped : line ≡ strip_carriage_return raw
 
 -- the text is this line, which lacks its end
 pub record IsLastLine (text line : List ℕ) : Type 0 where
   pub is : line ≡ text
   pub some : 0 < length text
   pub one : NoLineFeed text
-
--- the text holds no whole line and is not too long for one
-pub record IsBroken (text : List ℕ) : Type 0 where
-  pub one : NoLineFeed text
-  pub short : IsShort text
 
 -- the text begins with a line that is too long
 pub record IsTooLong (text : List ℕ) : Type 0 where

@@ -1,8 +1,7 @@
--- The words of a text, and what a reader gives of them.
-use Rattle.std.specs.Prelude.{◌≡◌, ℕ, ◌+◌, ◌<◌, ◌≤◌, ◌==◌, ◌||◌, Bool, true, false, List, [], ◌∷◌, ◌++◌, length, All, Option, Result, Ok, Err}
+-- What no promise rests on, beside claim/Words.antt.
+use Rattle.std.specs.Prelude.{◌≡◌, ℕ, ◌+◌, ◌<◌, ◌≤◌, true, List, [], ◌∷◌, ◌++◌, length, Option, Result, Ok, Err}
 use Rattle.std.specs.Io.KnownBytes.{IsAtEnd}
-use Rattle.std.specs.List.{slice_split, filter}
-use Rattle.byte_stream.specs.Counts.{counted}
+use Rattle.byte_stream.specs.claim.Counts.{counted}
 use Rattle.field_text.specs.Reading.{Reading}
 use Rattle.field_text.specs.declared.reader.AtHand.{AtHand}
 use Rattle.field_text.specs.declared.reader.AtHand.TheVariants as hand
@@ -10,28 +9,7 @@ use Rattle.field_text.specs.declared.reader.WordStep.{WordStep}
 use Rattle.field_text.specs.declared.reader.WordStep.TheVariants as step
 use Rattle.field_text.specs.declared.reader.ReadFault.{ReadFault}
 use Rattle.field_text.specs.declared.reader.ReadFault.TheVariants as fault
-
--- a space, a tab, a carriage return or a line feed
-unfoldable pub is_separator : ℕ → Bool
-is_separator b = (b == 32) || (b == 9) || (b == 13) || (b == 10)
-
-abbrev pub has_bytes : List ℕ → Bool
-has_bytes [] = false
-has_bytes (b ∷ more) = true
-
--- the parts between separators, those without bytes left out
-unfoldable pub words : List ℕ → List (List ℕ)
-words text = filter has_bytes (slice_split is_separator text)
-
--- a word that a reader gives has at most this many bytes
-abbrev pub word_limit : ℕ
-word_limit = 64
-
-abbrev pub AreSeparators : List ℕ → Type 0
-AreSeparators bytes = All (λ b. is_separator b ≡ true) bytes
-
-abbrev pub NoSeparator : List ℕ → Type 0
-NoSeparator bytes = All (λ b. is_separator b ≡ false) bytes
+use Rattle.field_text.specs.claim.Words.{AreSeparators, IsBrokenWord, NoSeparator, is_separator, word_limit, words}
 
 pub record IsWord (word : List ℕ) : Type 0 where
   pub some : 0 < length word
@@ -53,15 +31,6 @@ pub record IsOneWord (text word : List ℕ) : Type 0 where
 abbrev pub BeginsWithLongWord : List ℕ → Type 0
 BeginsWithLongWord text = (more : List ℕ) → (word : List ℕ) × (others : List (List ℕ))
     × (words (text ++ more) ≡ word ∷ others) × (word_limit < length word)
-
--- the text has separators and then a part that no separator ends, which may be empty and isn't too long for a word
-pub record IsBrokenWord (text : List ℕ) : Type 0 where
-  pub blanks : List ℕ
-  pub part : List ℕ
-  pub cut : text ≡ blanks ++ part
-  pub blank : AreSeparators blanks
-  pub one : NoSeparator part
-  pub short : length part ≤ word_limit
 
 -- What one step gives of the bytes that came, where the source has this left: a word, no word, or why there is none.
 abbrev pub GivesWord : List ℕ → Option (List ℕ) → Result WordStep ReadFault → Reading → Type 0

@@ -3,7 +3,7 @@ ghost use Rattle.std.specs.Prelude.{◌≡◌, ◌^◌, ◌<◌, ◌≤◌, true
 ghost use Rattle.std.specs.Char.{is_ascii_digit};
 ghost use Rattle.std.specs.List.{list_all};
 ghost use Rattle.std.specs.Str.Parse.{digits_value};
-ghost use Rattle.field_text.specs.Digits.{number_of, number_of_digits};
+ghost use Rattle.field_text.specs.claim.Digits.{number_of, number_of_digits};
 
 /// Whether every byte is an ASCII digit.
 fn all_digits(bytes: &[u8]) -> bool

@@ -2,7 +2,7 @@
 ghost use Rattle.std.specs.Prelude.{◌≡◌, ◌+◌, ◌∷◌, [], ◌<◌, drop, get_or, length, MatchOption};
 ghost use Rattle.std.specs.List.{slice_get};
 ghost use Rattle.std.specs.Option.{option_copied};
-ghost use Rattle.field_text.specs.Fields.{fields};
+ghost use Rattle.field_text.specs.claim.Fields.{fields};
 
 use crate::lines::cut_near;
 use crate::scan::count_bars;
@@ -24,7 +24,7 @@ pub struct Fields<'t> {
 
 impl<'t> Model for Fields<'t> {
     ghost use Rattle.std.specs.Prelude.{List, [], ℕ, if◌then◌else◌};
-    ghost use Rattle.field_text.specs.Fields.{fields};
+    ghost use Rattle.field_text.specs.claim.Fields.{fields};
 
     ghost Value = { List (List ℕ) };
 

@@ -1,12 +1,13 @@
 //! The lines of a reader, one at a time, however its bytes are cut; or the words behind them.
 ghost use Rattle.std.specs.Prelude.{◌≡◌, ◌+◌, ◌-◌, ◌<◌, ◌≤◌, ◌^◌, ◌++◌, ℕ, List, [], true, false, Ok, Err};
 ghost use Rattle.std.specs.Prelude.{IfOk, MatchBool, length, take, drop, vec_len, min, nat_lt};
-ghost use Rattle.byte_stream.specs.Counts.{counted};
+ghost use Rattle.byte_stream.specs.claim.Counts.{counted};
 ghost use Rattle.std.specs.List.{slice_range};
 ghost use Rattle.std.specs.Str.Lines.{strip_carriage_return};
 ghost use Rattle.std.specs.Io.KnownBytes.{Consumes};
 ghost use Rattle.byte_stream.specs.Turns.{TurnConsumes, failures_after};
-ghost use Rattle.field_text.specs.Reading.{NoLineFeed, BeginsWithLine, Gives, number_after, failures_after_step, CountsFrom, Fills, turn_limit};
+ghost use Rattle.field_text.specs.claim.Reading.{NoLineFeed, BeginsWithLine, turn_limit};
+ghost use Rattle.field_text.specs.Reading.{Gives, number_after, failures_after_step, CountsFrom, Fills};
 ghost use Rattle.field_text.specs.Words.{GivesWord, failures_after_word, TakesWord, TakesLastWord, number_taken, number_after_word};
 
 use crate::lines::{cut, without_return};

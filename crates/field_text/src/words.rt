@@ -1,11 +1,12 @@
 //! The words of a text, as slices of it: the parts between spaces, tabs, carriage returns and line feeds.
 ghost use Rattle.std.specs.Prelude.{◌≡◌, ◌<◌, ◌≤◌, ◌∷◌, [], true, false, length, take, slice_index, MatchOption, IfSome};
-ghost use Rattle.field_text.specs.Words.{is_separator, words, AreSeparators, NoSeparator, IsWord};
+ghost use Rattle.field_text.specs.claim.Words.{is_separator, words, AreSeparators, NoSeparator};
+ghost use Rattle.field_text.specs.Words.{IsWord};
 
 use std::marker::Model;
 
 /// Whether a byte stands between words.
-#[tactic(auto, unfolding(crate::specs::Words::is_separator))]
+#[tactic(auto, unfolding(crate::specs::claim::Words::is_separator))]
 pub fn is_separator(b: u8) -> bool
     ensures { result ≡ is_separator b }
 {
@@ -48,7 +49,7 @@ pub struct Words<'t> {
 
 impl<'t> Model for Words<'t> {
     ghost use Rattle.std.specs.Prelude.{List, ℕ};
-    ghost use Rattle.field_text.specs.Words.{words};
+    ghost use Rattle.field_text.specs.claim.Words.{words};
 
     ghost Value = { List (List ℕ) };
 

@@ -1,9 +1,9 @@
 -- Each premise is met of a device just opened.
 use Rattle.std.proofs.Common.{ℕ, Bool, true, sym, subst}
-use Rattle.sector_device.specs.Disk.{Disk, Image}
+use Rattle.sector_device.specs.claim.Disk.{Disk, Image}
 use Rattle.sector_device.specs.declared.SectorDevice.{Ghosts}
-use Rattle.desk_model.specs.Desk.{Desk}
-use Rattle.desk_pages.specs.Desks.{OpensAs, OpensDeskOf}
+use Rattle.desk_model.specs.claim.Desk.{Desk}
+use Rattle.desk_pages.specs.claim.Desks.{OpensAs, OpensDeskOf}
 use Rattle.desk_store.specs.declared.clerk.Clerk.{Clerk}
 use Rattle.store_command.specs.Reading.{ShowsWhatIsRead}
 use Rattle.store_command.proofs.Read.{all_either, all_new, all_old, in_either, left_opens}

@@ -1,14 +1,16 @@
 -- What is known of a device just opened, and that each premise of what is proved of commands is met of it.
 use Rattle.std.specs.Prelude.{◌≡◌, ℕ, Bool, true, false}
-use Rattle.sector_device.specs.Disk.{Disk, Image, IsSynced}
+use Rattle.sector_device.specs.claim.Disk.{Disk, Image}
+use Rattle.sector_device.specs.Disk.{IsSynced}
 use Rattle.sector_device.specs.declared.SectorDevice.{Ghosts}
-use Rattle.desk_model.specs.Desk.{Desk}
-use Rattle.desk_pages.specs.Desks.{OpensAs}
-use Rattle.desk_pages.specs.Openings.{AllDesks, AllOld, AllVersions}
+use Rattle.desk_model.specs.claim.Desk.{Desk}
+use Rattle.desk_pages.specs.claim.Desks.{OpensAs}
+use Rattle.desk_pages.specs.Openings.{AllDesks, AllOld}
+use Rattle.desk_pages.specs.claim.Openings.{AllVersions}
 use Rattle.desk_store.specs.declared.clerk.Clerk.{Clerk}
-use Rattle.desk_store.specs.Clerks.{desk_of, disk_of, is_halted, Keeps}
+use Rattle.desk_store.specs.claim.Clerks.{desk_of, disk_of, is_halted, Keeps}
 use Rattle.store_command.specs.Reading.{ReadsDesk, ReadsOld}
-use Rattle.desk_runs.specs.Recovery.{HoldsEither}
+use Rattle.desk_runs.specs.claim.Recovery.{HoldsEither}
 use Rattle.desk_loading.specs.Openings.{IsOpened}
 
 -- It keeps to the model of a device, a stop leaves what it reads, and it reads what the file of so many sectors held.

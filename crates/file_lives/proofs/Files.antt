@@ -1,13 +1,14 @@
 -- Lives in a file, by what it held.
 use Rattle.std.proofs.Common.{◌≡◌, ◌<◌, ◌+◌, ◌-◌, ℕ, List, [], ◌∷◌, refl, sym, subst, arith}
-use Rattle.sector_device.specs.Disk.{Disk, Image, IsSynced}
-use Rattle.desk_model.specs.Desk.{Desk}
-use Rattle.desk_pages.specs.Desks.{OpensDesk}
+use Rattle.sector_device.specs.claim.Disk.{Disk, Image}
+use Rattle.sector_device.specs.Disk.{IsSynced}
+use Rattle.desk_model.specs.claim.Desk.{Desk}
+use Rattle.desk_pages.specs.claim.Desks.{OpensDesk}
 use Rattle.desk_runs.specs.Recovery.{ImagesAreOne}
-use Rattle.desk_lives.specs.Lives.{LifeAfterLife}
+use Rattle.desk_lives.specs.claim.Lives.{LifeAfterLife}
 use Rattle.desk_lives.specs.Inside.{LivesOnce}
 use Rattle.desk_lives.proofs.Living.{known}
-use Rattle.file_lives.specs.Files.{LivesFrom, FileLives, AreLives}
+use Rattle.file_lives.specs.claim.Files.{LivesFrom, FileLives, AreLives}
 
 -- what a synced device leaves opens to the desk to which it reads
 leaves_it : (disk : Disk) → IsSynced disk → (d : Desk) → OpensDesk disk.sectors d disk.reads → (c : Image) → disk.leaves c → OpensDesk disk.sectors d c

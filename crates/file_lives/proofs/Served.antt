@@ -1,11 +1,11 @@
 -- What is known of an office's life doesn't depend on how often the device failed before.
 use Rattle.std.proofs.Common.{◌≡◌, ◌<◌, ℕ}
-use Rattle.desk_model.specs.Desk.{Desk}
-use Rattle.desk_lives.specs.Calls.{asked_in, told_in}
-use Rattle.http_seats.specs.Streams.{Traffic}
+use Rattle.desk_model.specs.claim.Desk.{Desk}
+use Rattle.desk_lives.specs.claim.Calls.{asked_in, told_in}
+use Rattle.http_seats.specs.claim.Streams.{Traffic}
 use Rattle.office_lives.specs.declared.lives.Told.{Told}
 use Rattle.office_lives.specs.declared.lives.Told.TheVariants.{Served, Unserved, Unopened}
-use Rattle.office_lives.specs.Offices.{Officed, OfficeLife}
+use Rattle.office_lives.specs.claim.Offices.{Officed, OfficeLife}
 use Rattle.file_lives.proofs.Later.{lived_later, passing_later}
 
 module _ {R W : Type 0} (s : Traffic R W) (workers : ℕ) where

@@ -1,10 +1,11 @@
 //! A life of a store in a file.
 ghost use Rattle.std.specs.Prelude.{◌≤◌, IfOk};
-ghost use Rattle.sector_device.specs.Disk.{Image};
+ghost use Rattle.sector_device.specs.claim.Disk.{Image};
 ghost use Rattle.sector_file.specs.Device.{file_disk, first_image};
-ghost use Rattle.desk_pages.specs.Desks.{OpensDesk};
-ghost use Rattle.desk_lives.specs.Lives.{new_desk, Life};
-ghost use Rattle.file_lives.specs.Files.{LivesInFile};
+ghost use Rattle.desk_pages.specs.claim.Desks.{OpensDesk};
+ghost use Rattle.desk_lives.specs.Lives.{new_desk};
+ghost use Rattle.desk_lives.specs.claim.Lives.{Life};
+ghost use Rattle.file_lives.specs.claim.Files.{LivesInFile};
 
 use desk_lives::lives::{Answer, Request, live_in};
 use desk_pages::{FormatError, format};

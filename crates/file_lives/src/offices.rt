@@ -2,8 +2,8 @@
 ghost use Rattle.std.specs.Prelude.{◌≤◌, IfOk, ℕ};
 ghost use Rattle.sector_file.specs.Device.{file_disk, first_image};
 ghost use Rattle.http_seats.specs.Streams.{traffic};
-ghost use Rattle.office_lives.specs.Offices.{LifeMay};
-ghost use Rattle.file_lives.specs.Files.{AreLives, LivesInFile};
+ghost use Rattle.office_lives.specs.claim.Offices.{LifeMay};
+ghost use Rattle.file_lives.specs.claim.Files.{AreLives, LivesInFile};
 
 use desk_runs::desk_law::one_desk_opens;
 use http_arrivals::arrivals::Arrivals;

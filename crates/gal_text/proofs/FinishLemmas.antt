@@ -6,11 +6,12 @@ use Rattle.std.proofs.lemmas.List.{length-map, get_or-map}
 use Rattle.std.proofs.lemmas.Grind.{get_or_default_zero}
 use Rattle.std.proofs.lemmas.Map.Keys.{sorted_from_strictly_increasing, below_from_sorted}
 use Rattle.std.specs.List.Sorted.{IsStrictlyIncreasing}
-use Rattle.desk_model.specs.Geography.{ids_of, id_at}
+use Rattle.desk_model.specs.claim.Geography.{ids_of, id_at}
 use Rattle.desk_model.specs.declared.block.BlockRow.{BlockRow}
 use Rattle.gal_text.proofs.RelationLemmas.{contains_from_has, not_contains}
-use Rattle.gal_text.specs.Units.{Progress, has_number, is_done}
-use Rattle.gal_text.specs.Links.{AreComplete, IsLeastMissing, IsFirstFalse, ArePaired, AreMutual, ArePairsOf, IsLeastOneWay}
+use Rattle.gal_text.specs.claim.Units.{Progress, has_number, is_done}
+use Rattle.gal_text.specs.claim.Links.{AreComplete, IsLeastMissing, AreMutual, ArePairsOf, IsLeastOneWay}
+use Rattle.gal_text.specs.Links.{IsFirstFalse, ArePaired}
 use Rattle.gal_text.specs.Holding.{Holds}
 use Rattle.gal_text.specs.Parts.{PairsUp, Finishes, pairs_told}
 use Rattle.gal_text.specs.declared.links.Unpaired.{Unpaired}

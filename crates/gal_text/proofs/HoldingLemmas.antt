@@ -8,10 +8,10 @@ use Rattle.std.proofs.Math.ListN.{drop_of_length-le}
 use Rattle.std.proofs.lemmas.List.Folds.{list_any-append, list_any_none}
 use Rattle.std.proofs.lemmas.Map.Keys.{sorted_from_strictly_increasing, below_from_sorted}
 use Rattle.std.specs.List.Sorted.{IsStrictlyIncreasing}
-use Rattle.desk_model.specs.Geography.{ids_of, id_at}
+use Rattle.desk_model.specs.claim.Geography.{ids_of, id_at}
 use Rattle.desk_model.specs.declared.block.BlockRow.{BlockRow}
 use Rattle.gal_text.proofs.RelationLemmas.{has_not}
-use Rattle.gal_text.specs.Units.{Progress, has_number, lists, known, block_of, neighbours_left, unit_read, count_read, neighbour_limit, word_awaited, word_read}
+use Rattle.gal_text.specs.claim.Units.{Progress, has_number, lists, known, block_of, neighbours_left, unit_read, count_read, neighbour_limit, word_awaited, word_read}
 use Rattle.gal_text.specs.Holding.{AreFromUnits, IsAtHand, HasUnit, Holds, Meets}
 use Rattle.gal_text.specs.declared.fault.TextFault.TheVariants.{RepeatedUnit, TooManyNeighbours, TrailingWord}
 use Rattle.gal_text.specs.declared.units.Link.{Link}

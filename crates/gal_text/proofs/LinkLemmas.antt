@@ -19,9 +19,9 @@ use Rattle.std.proofs.lemmas.List.Sorted.{searchable_from_sorted}
 use Rattle.std.proofs.lemmas.Map.Lookups.{CmpEqualImpliesEq, exact_unsigned, exact_pairs}
 use Rattle.std.proofs.lemmas.Map.Views.{tells_apart}
 use Rattle.std.proofs.lemmas.Slice.Eq.{slice_eq-Decides}
-use Rattle.gal_text.specs.Links.{Precedes, Lists, AreRising, AreMutual, ArePairsOf, IsPairOf, IsOneWay, IsLeastOneWay}
+use Rattle.gal_text.specs.claim.Links.{Precedes, Lists, AreRising, AreMutual, ArePairsOf, IsPairOf, IsOneWay, IsLeastOneWay}
 use Rattle.gal_text.specs.Pairing.{AreCut, IsPairBack, IsLeastSeen, IsLeastOrNone, is_before, upward_pair, downward_pair}
-use Rattle.gal_text.specs.Units.{link_of}
+use Rattle.gal_text.specs.claim.Units.{link_of}
 use Rattle.gal_text.specs.declared.units.Link.{Link}
 
 -- ---- the order of pairs

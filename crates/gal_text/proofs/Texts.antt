@@ -2,8 +2,8 @@
 use Rattle.std.proofs.Common.{◌≡◌, ℕ, ◌-◌, ◌^◌, List, [], ◌∷◌, ◌++◌, length, replicate, codes, false, decimal, ap, sym, ◌∙◌, append_assoc, arith}
 use Rattle.std.proofs.lemmas.List.{append-nil}
 use Rattle.std.specs.Fmt.{padded_integral, format_spec, char_count}
-use Rattle.desk_model.specs.Baf.{padded_decimal}
-use Rattle.gal_text.specs.Texts.{block_text, blocks_text}
+use Rattle.desk_model.specs.claim.Padded.{padded_decimal}
+use Rattle.gal_text.specs.claim.Texts.{block_text, blocks_text}
 
 pub padded_id : (n : ℕ) → padded_integral (format_spec 32 0 4 15 (2 ^ 64 - 1)) false [] (decimal n) ≡ padded_decimal 15 n
 unfolding padded_integral char_count

@@ -3,13 +3,14 @@ use Rattle.std.proofs.Common.{◌≡◌, ℕ, ◌<◌, List, [], ◌∷◌, leng
 use Rattle.std.specs.declared.alloc.Global.{Global}
 use Rattle.std.proofs.lemmas.List.{get_or-map, length-map}
 use Rattle.std.proofs.lemmas.List.Elements.{All-append, All-head, All-tail}
-use Rattle.desk_model.specs.Geography.{AreDifferentBlocks, ids_of}
+use Rattle.desk_model.specs.Geography.{AreDifferentBlocks}
+use Rattle.desk_model.specs.claim.Geography.{ids_of}
 use Rattle.desk_model.specs.declared.block.BlockRow.{BlockRow}
-use Rattle.field_text.specs.Words.{words}
-use Rattle.gal_text.specs.Units.{Progress, at_start, words_read, header_count, from_count, go_on, at_end, link_of}
-use Rattle.gal_text.specs.Links.{IsPairOf}
+use Rattle.field_text.specs.claim.Words.{words}
+use Rattle.gal_text.specs.claim.Units.{Progress, at_start, words_read, header_count, from_count, go_on, at_end, link_of}
+use Rattle.gal_text.specs.claim.Links.{IsPairOf}
 use Rattle.gal_text.specs.Relation.{Listing, IsListing, links_of}
-use Rattle.gal_text.specs.GalFile.{IsRead}
+use Rattle.gal_text.specs.claim.GalFile.{IsRead}
 use Rattle.gal_text.specs.declared.fault.TextFault.{TextFault}
 use Rattle.gal_text.specs.declared.fault.GalFault.{GalFault}
 use Rattle.gal_text.specs.declared.units.Link.{Link}

@@ -2,15 +2,15 @@
 use Rattle.std.specs.Prelude.{◌≡◌, ℕ, ◌+◌, ◌⊎◌, true, false, List, ◌++◌, length, Option, Result, Ok, Err, Vec, ⊤}
 use Rattle.std.specs.declared.alloc.Global.{Global}
 use Rattle.std.specs.Io.KnownBytes.{Consumes, IsAtEnd}
-use Rattle.field_text.specs.Words.{words, IsBrokenWord}
+use Rattle.field_text.specs.claim.Words.{words, IsBrokenWord}
 use Rattle.field_text.specs.declared.reader.ReadFault.{ReadFault}
 use Rattle.field_text.specs.declared.reader.ReadFault.TheVariants as read
-use Rattle.desk_model.specs.Geography.{ids_of}
+use Rattle.desk_model.specs.claim.Geography.{ids_of}
 use Rattle.desk_model.specs.declared.block.BlockRow.{BlockRow}
-use Rattle.gal_text.specs.Units.{Progress, at_start, is_done, words_read, header_count, progress_after}
-use Rattle.gal_text.specs.Links.{AreComplete, IsLeastMissing, AreMutual, IsLeastOneWay, ArePairsOf}
+use Rattle.gal_text.specs.claim.Units.{Progress, at_start, is_done, words_read, header_count, progress_after}
+use Rattle.gal_text.specs.claim.Links.{AreComplete, IsLeastMissing, AreMutual, IsLeastOneWay, ArePairsOf}
 use Rattle.gal_text.specs.Holding.{Holds}
-use Rattle.gal_text.specs.GalFile.{HasHeader, ShowsFault, IsCutShort, failures_after_file}
+use Rattle.gal_text.specs.claim.GalFile.{HasHeader, ShowsFault, IsCutShort, failures_after_file}
 use Rattle.gal_text.specs.declared.fault.TextFault.{TextFault}
 use Rattle.gal_text.specs.declared.fault.TextFault.TheVariants.{EndsEarly}
 use Rattle.gal_text.specs.declared.fault.GalFault.{GalFault}

@@ -1,7 +1,7 @@
 //! Why a neighbour file isn't read.
 ghost use Rattle.std.specs.Prelude.{◌++◌, codes};
 ghost use Rattle.std.specs.Fmt.{WritesOnOk};
-ghost use Rattle.gal_text.specs.Texts.{block_text, blocks_text};
+ghost use Rattle.gal_text.specs.claim.Texts.{block_text, blocks_text};
 
 use desk_model::block::BlockId;
 use std::fmt;
@@ -64,7 +64,7 @@ fn write_ids<W: fmt::Write>(
 
 impl fmt::Display for TextFault {
     ghost use Rattle.std.specs.Prelude.{Some};
-    ghost use Rattle.gal_text.specs.Texts.{text_fault_text};
+    ghost use Rattle.gal_text.specs.claim.Texts.{text_fault_text};
 
     ghost output = { λ fault. Some (text_fault_text fault) };
 
@@ -86,7 +86,7 @@ impl fmt::Display for TextFault {
 
 impl fmt::Display for GalFault {
     ghost use Rattle.std.specs.Prelude.{Some};
-    ghost use Rattle.gal_text.specs.Texts.{gal_fault_text};
+    ghost use Rattle.gal_text.specs.claim.Texts.{gal_fault_text};
 
     ghost output = { λ fault. Some (gal_fault_text fault) };
 

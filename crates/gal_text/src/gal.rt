@@ -1,14 +1,17 @@
 //! The pairs of neighbours that a file says.
 ghost use Rattle.std.specs.Prelude.{◌≡◌, ◌+◌, ◌-◌, ◌^◌, ◌<◌, ◌≤◌, ◌++◌, ℕ, List, [], Err, All, IfOk, min, length, vec_len};
-ghost use Rattle.byte_stream.specs.Counts.{counted};
+ghost use Rattle.byte_stream.specs.claim.Counts.{counted};
 ghost use Rattle.std.specs.Io.KnownBytes.{Consumes};
-ghost use Rattle.field_text.specs.Reading.{CountsFrom, turn_limit};
-ghost use Rattle.field_text.specs.Words.{word_limit};
-ghost use Rattle.desk_model.specs.Geography.{AreBlocks, AreDifferentBlocks, ids_of};
+ghost use Rattle.field_text.specs.Reading.{CountsFrom};
+ghost use Rattle.field_text.specs.claim.Reading.{turn_limit};
+ghost use Rattle.field_text.specs.claim.Words.{word_limit};
+ghost use Rattle.desk_model.specs.claim.Grounds.{AreBlocks};
+ghost use Rattle.desk_model.specs.Geography.{AreDifferentBlocks};
+ghost use Rattle.desk_model.specs.claim.Geography.{ids_of};
 ghost use Rattle.desk_model.specs.declared.block.BlockRow.{BlockRow as Row};
-ghost use Rattle.gal_text.specs.Units.{Progress, at_start, word_read};
+ghost use Rattle.gal_text.specs.claim.Units.{Progress, at_start, word_read};
 ghost use Rattle.gal_text.specs.Holding.{Holds, IsHeld};
-ghost use Rattle.gal_text.specs.GalFile.{IsRead, failures_after_file};
+ghost use Rattle.gal_text.specs.claim.GalFile.{IsRead, failures_after_file};
 ghost use Rattle.gal_text.specs.Parts.{refused, read_told, pairs_told, failures_after_graph, Begins, ReadsWords, ReadsGraph, PairsUp, Finishes};
 
 use crate::fault::{GalFault, TextFault};

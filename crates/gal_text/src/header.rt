@@ -1,8 +1,8 @@
 //! The header's line of a neighbour file.
 ghost use Rattle.std.specs.Prelude.{◌≡◌};
-ghost use Rattle.field_text.specs.Digits.{number_of};
-ghost use Rattle.field_text.specs.Words.{words};
-ghost use Rattle.gal_text.specs.Units.{count_of_word, count_of_words, header_count};
+ghost use Rattle.field_text.specs.claim.Digits.{number_of};
+ghost use Rattle.field_text.specs.claim.Words.{words};
+ghost use Rattle.gal_text.specs.claim.Units.{count_of_word, count_of_words, header_count};
 
 use crate::fault::TextFault;
 use field_text::digits::number;

@@ -1,6 +1,7 @@
 //! Pairs of neighbours, from what the units list.
 ghost use Rattle.std.specs.Prelude.{◌≡◌, ◌↔◌, ◌++◌, ◌∷◌, [], ℕ, List, All, Contains, IfOk, IsTrue, MatchOption, filter_map, true, if◌then◌else◌};
-ghost use Rattle.gal_text.specs.Links.{IsFirstFalse, AreRising, AreMutual, ArePaired, IsOneWay, IsLeastOneWay};
+ghost use Rattle.gal_text.specs.Links.{IsFirstFalse, ArePaired};
+ghost use Rattle.gal_text.specs.claim.Links.{AreRising, AreMutual, IsOneWay, IsLeastOneWay};
 ghost use Rattle.gal_text.specs.Pairing.{AreCut, IsLeastOrNone, is_before, upward_pair, downward_pair};
 
 use crate::units::Link;

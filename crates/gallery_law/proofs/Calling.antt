@@ -6,14 +6,14 @@ use mathlib.Core.List.{IsPrefix}
 use Rattle.desk_model.specs.declared.command.Command.{Command}
 use Rattle.desk_model.specs.declared.command.Query.{Query}
 use Rattle.desk_model.specs.declared.reply.Reply.{Reply}
-use Rattle.desk_model.specs.Desk.{Desk}
-use Rattle.desk_model.specs.Outcome.{IsAcceptance}
-use Rattle.desk_model.specs.Step.{step}
-use Rattle.desk_gallery.specs.After.{after}
+use Rattle.desk_model.specs.claim.Desk.{Desk}
+use Rattle.desk_model.specs.claim.Outcome.{IsAcceptance}
+use Rattle.desk_model.specs.claim.Step.{step}
+use Rattle.desk_gallery.specs.claim.After.{after}
 use Rattle.desk_gallery.specs.Working.{Joins}
 use Rattle.desk_theorem.specs.declared.event.Event.TheVariants.{Commit, Acknowledge, Show, Visit, Learn}
-use Rattle.desk_theorem.specs.World.{world, learnt, move, run, shown_list}
-use Rattle.gallery_law.specs.Runs.{standing}
+use Rattle.desk_theorem.specs.claim.World.{world, learnt, move, run, shown_list}
+use Rattle.gallery_law.specs.claim.Runs.{standing}
 use Rattle.gallery_law.specs.Calls.{IsMoved, CallsLaw}
 use Rattle.gallery_law.proofs.Weaving.{longer, below, commit_moves, begins_length}
 

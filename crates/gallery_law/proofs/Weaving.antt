@@ -9,15 +9,16 @@ use Rattle.desk_model.specs.declared.command.Command.{Command}
 use Rattle.desk_model.specs.declared.command.Query.{Query}
 use Rattle.desk_model.specs.declared.reply.Reply.{Reply}
 use Rattle.desk_model.specs.declared.reply.Reply.TheVariants as reply
-use Rattle.desk_model.specs.Desk.{Desk}
-use Rattle.desk_model.specs.Outcome.{IsAcceptance}
-use Rattle.desk_model.specs.Step.{step}
+use Rattle.desk_model.specs.claim.Desk.{Desk}
+use Rattle.desk_model.specs.claim.Outcome.{IsAcceptance}
+use Rattle.desk_model.specs.claim.Step.{step}
 use Rattle.desk_theorem.specs.declared.event.Event.{Event}
 use Rattle.desk_theorem.specs.declared.event.Event.TheVariants.{Commit, Acknowledge, Show, Visit, Learn, Stop}
-use Rattle.desk_theorem.specs.World.{World, world, after, accepts, learnt, move, run, shown_list, seen, seen_at}
-use Rattle.desk_theorem.specs.Law.{GoesOn, IsLawful, CoreLaw}
-use Rattle.desk_gallery.specs.Working.{AreAccepted}
-use Rattle.gallery_law.specs.Runs.{standing, beginning, Heard, list_of, Grows, heard_of, answer_of, answers, answer_at, answers_in, AreWithin, HasRunsWithin, Rises, HasRuns, IsReached, OfficeLaw}
+use Rattle.desk_theorem.specs.claim.World.{World, world, after, accepts, learnt, move, run, shown_list, seen, seen_at}
+use Rattle.desk_theorem.specs.claim.Law.{GoesOn, IsLawful, CoreLaw}
+use Rattle.desk_gallery.specs.claim.Working.{AreAccepted}
+use Rattle.gallery_law.specs.claim.Runs.{standing, beginning, Heard, list_of, heard_of, answer_of, answers, answer_at, answers_in, Rises, HasRuns}
+use Rattle.gallery_law.specs.Runs.{Grows, AreWithin, HasRunsWithin, IsReached, OfficeLaw}
 
 -- beginnings
 nil_begins : (xs : List Command) → IsPrefix [] xs

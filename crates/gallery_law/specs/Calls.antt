@@ -5,14 +5,14 @@ use mathlib.Core.List.{IsPrefix}
 use Rattle.desk_model.specs.declared.command.Command.{Command}
 use Rattle.desk_model.specs.declared.command.Query.{Query}
 use Rattle.desk_model.specs.declared.reply.Reply.{Reply}
-use Rattle.desk_model.specs.Desk.{Desk}
-use Rattle.desk_model.specs.Outcome.{IsAcceptance}
-use Rattle.desk_model.specs.Step.{step}
-use Rattle.desk_gallery.specs.After.{after}
+use Rattle.desk_model.specs.claim.Desk.{Desk}
+use Rattle.desk_model.specs.claim.Outcome.{IsAcceptance}
+use Rattle.desk_model.specs.claim.Step.{step}
+use Rattle.desk_gallery.specs.claim.After.{after}
 use Rattle.desk_gallery.specs.Working.{Joins}
 use Rattle.desk_theorem.specs.declared.event.Event.TheVariants.{Commit, Acknowledge, Show, Visit, Learn}
-use Rattle.desk_theorem.specs.World.{move, run, shown_list}
-use Rattle.gallery_law.specs.Runs.{standing}
+use Rattle.desk_theorem.specs.claim.World.{move, run, shown_list}
+use Rattle.gallery_law.specs.claim.Runs.{standing}
 
 -- A command at a front: one that is accepted is written, acknowledged and shown; one whose commit met a fault may be written; no
 -- other moves anything.

@@ -1,2 +1,3 @@
+pub mod claim
 pub mod Calls
 pub mod Runs

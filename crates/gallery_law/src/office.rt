@@ -1,8 +1,9 @@
 //! What whoever has the front of an office knows of the world that it is.
 ghost use Rattle.std.specs.Prelude.{◌≡◌, All};
 ghost use mathlib.Core.List.{IsPrefix};
-ghost use Rattle.desk_theorem.specs.Law.{IsLawful};
-ghost use Rattle.gallery_law.specs.Runs.{HasRuns, IsReached, standing};
+ghost use Rattle.desk_theorem.specs.claim.Law.{IsLawful};
+ghost use Rattle.gallery_law.specs.claim.Runs.{HasRuns, standing};
+ghost use Rattle.gallery_law.specs.Runs.{IsReached};
 
 use desk_gallery::book::Room;
 use desk_gallery::front::Front;

@@ -1,7 +1,7 @@
 -- Lemmas on the definitions of Contents.
-use Rattle.sector_device.specs.Disk.{Image}
+use Rattle.sector_device.specs.claim.Disk.{Image}
 use Rattle.sector_device.specs.declared.SectorDevice.{Ghosts}
-use Rattle.gate_journal.specs.Store.{pages, Opens}
+use Rattle.gate_journal.specs.claim.Store.{pages, Opens}
 use Rattle.gate_journal.specs.declared.journal.Journal.{Journal}
 
 module _ {D : Type 0} {g : Ghosts D} where

@@ -7,8 +7,9 @@ use Rattle.std.specs.Int.{w32, from_be_bytes}
 use Rattle.std.proofs.lemmas.Bool.{eq-eqb}
 use lib.Pointwise.{pointwise}
 use lib.Dec.{eqb}
-use Rattle.sector_device.specs.Disk.{Image}
-use Rattle.gate_journal.specs.Store.{word, put_word, header_of, IsStore, IsStoreOf}
+use Rattle.sector_device.specs.claim.Disk.{Image}
+use Rattle.gate_journal.specs.claim.Store.{word, put_word, header_of, IsStore}
+use Rattle.gate_journal.specs.Store.{IsStoreOf}
 use Rattle.gate_journal.specs.Recovery.{HasRoom}
 
 length_put : (s : List ℕ) (k n : ℕ) → length (put_word s k n) ≡ length s

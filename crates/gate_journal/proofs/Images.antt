@@ -2,9 +2,11 @@
 use Rattle.std.proofs.Common.{◌≡◌, ◌≢◌, ◌≤◌, ◌<◌, ◌+◌, ◌*◌, ◌/◌, ◌%◌, ℕ, zero, suc, Bool, true, false, List, [], ◌∷◌, length, take, inl, inr, ⊎_elim, refl, sym, subst, ap, ◌∙◌, arith, get_or, cond, nat_eq, add-one}
 use Rattle.std.proofs.lemmas.Bool.{cases_eq}
 use Rattle.std.proofs.lemmas.Bool.Decides.{nat_tests}
-use Rattle.sector_device.specs.Disk.{Disk, Image, AgreeOff, Only}
+use Rattle.sector_device.specs.claim.Disk.{Disk, Image, AgreeOff}
+use Rattle.sector_device.specs.Disk.{Only}
 use Rattle.gate_journal.specs.Steps.{Span, HasList, HasCopies, want}
-use Rattle.gate_journal.specs.Store.{word, list_word, first_copy, home, gate, copies_from, copies, put, overlay, home_pages, pages, IsValid, IsStore, IsWithin, Opens, Writes, Homes, Stages, Staging, IsBeforeOrAfter}
+use Rattle.gate_journal.specs.claim.Store.{word, list_word, first_copy, home, gate, copies_from, copies, put, overlay, home_pages, pages, IsValid, IsStore, Opens}
+use Rattle.gate_journal.specs.Store.{IsWithin, Writes, Homes, Stages, Staging, IsBeforeOrAfter}
 
 -- ---- overlays
 abbrev pub Same : Image → Image → Type 0

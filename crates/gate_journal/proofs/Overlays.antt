@@ -4,8 +4,9 @@ use Rattle.std.proofs.lemmas.Bool.{cases_eq, cases_lt}
 use Rattle.std.proofs.Math.ListN.{get_or-append}
 use Rattle.std.proofs.Math.Seq.{get_or-append_seam}
 use Rattle.std.proofs.lemmas.List.{get_or-set_same, get_or-set_other, length-set}
-use Rattle.sector_device.specs.Disk.{Image}
-use Rattle.gate_journal.specs.Store.{put, overlay, Writes, IsOnce, AreNumbers, AreApart}
+use Rattle.sector_device.specs.claim.Disk.{Image}
+use Rattle.gate_journal.specs.claim.Store.{put, overlay}
+use Rattle.gate_journal.specs.Store.{Writes, IsOnce, AreNumbers, AreApart}
 use Rattle.gate_journal.specs.Writes.{IsLast}
 use Rattle.gate_journal.proofs.Images.{overlay_off, overlay_same, put_on, put_off, writes_at}
 

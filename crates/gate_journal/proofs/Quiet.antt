@@ -1,9 +1,11 @@
 -- What an opening may leave.
 use Rattle.std.proofs.Common.{◌≡◌, ◌≤◌, ◌<◌, ℕ, Result, Ok, Err, OnOk, OnErr, IsErrOf, IfErr, IsErrAnd, inl, inr, ⊎_elim, refl, sym, subst, ap, ◌∙◌, arith}
-use Rattle.sector_device.specs.Disk.{Disk, Image, AgreeOff, Nowhere, Touches, LeavesBut, IsSynced, HasCause}
-use Rattle.sector_device.specs.Moments.{LeavesOnly}
+use Rattle.sector_device.specs.claim.Disk.{Disk, Image, AgreeOff, Nowhere, Touches, LeavesBut}
+use Rattle.sector_device.specs.Disk.{IsSynced, HasCause}
+use Rattle.sector_device.specs.claim.Moments.{LeavesOnly}
 use Rattle.sector_device.proofs.Moments.{leaves_from, leaves_more, leaves_wider, now_but, cause_after, on_ok, touches_more}
-use Rattle.gate_journal.specs.Store.{header_of, pages, IsStore, IsStoreOf, IsSettled, Opens}
+use Rattle.gate_journal.specs.claim.Store.{header_of, pages, IsStore, Opens}
+use Rattle.gate_journal.specs.Store.{IsStoreOf, IsSettled}
 use Rattle.gate_journal.specs.Recovery.{AllStores, HasRoom, HasLayout, ReadsAs, Found, Reopens, Recovers, Starts}
 use Rattle.gate_journal.specs.declared.layout.Layout.{Layout}
 use Rattle.gate_journal.proofs.Headers.{is_laid_out}

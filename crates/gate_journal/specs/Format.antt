@@ -1,8 +1,9 @@
 -- What a new store is.
 use Rattle.std.specs.Prelude.{◌≡◌, ◌≤◌, ◌<◌, ◌+◌, ℕ}
-use Rattle.sector_device.specs.Disk.{Disk}
+use Rattle.sector_device.specs.claim.Disk.{Disk}
 use Rattle.sector_device.specs.declared.SectorDevice.{Ghosts}
-use Rattle.gate_journal.specs.Store.{home, IsSettled}
+use Rattle.gate_journal.specs.claim.Store.{home}
+use Rattle.gate_journal.specs.Store.{IsSettled}
 use Rattle.gate_journal.specs.Recovery.{AllStores}
 use Rattle.gate_journal.specs.declared.layout.Layout.{Layout}
 use Rattle.gate_journal.specs.declared.error.JournalError.{JournalError}

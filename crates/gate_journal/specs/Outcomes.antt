@@ -1,12 +1,15 @@
 -- What calls on a journal leave, in one relation a clause.
 use Rattle.std.specs.Prelude.{◌≡◌, ◌≤◌, ℕ, Bool, false, IsTrue, List, length, Option, MatchOption, Result, IfOk, IsOk}
-use Rattle.sector_device.specs.Disk.{Disk, IsSynced}
-use Rattle.sector_device.specs.Moments.{LeavesOnly}
+use Rattle.sector_device.specs.claim.Disk.{Disk}
+use Rattle.sector_device.specs.Disk.{IsSynced}
+use Rattle.sector_device.specs.claim.Moments.{LeavesOnly}
 use Rattle.sector_device.specs.declared.SectorDevice.{Ghosts}
-use Rattle.gate_journal.specs.Store.{gate, list_word, IsValid, IsStore, IsStoreOf, Writes, IsBeforeOrAfter}
+use Rattle.gate_journal.specs.claim.Store.{gate, list_word, IsValid, IsStore}
+use Rattle.gate_journal.specs.Store.{IsStoreOf, Writes, IsBeforeOrAfter}
 use Rattle.gate_journal.specs.Recovery.{HasLayout, CopiesBack, NamesPages, Reopens, Recovers}
-use Rattle.gate_journal.specs.Writes.{writes_of, IsEdited}
-use Rattle.gate_journal.specs.Contents.{disk_of, content, page_count, journal_size, is_halted}
+use Rattle.gate_journal.specs.claim.Writes.{writes_of}
+use Rattle.gate_journal.specs.Writes.{IsEdited}
+use Rattle.gate_journal.specs.claim.Contents.{disk_of, content, page_count, journal_size, is_halted}
 use Rattle.gate_journal.specs.declared.layout.Layout.{Layout}
 use Rattle.gate_journal.specs.declared.error.JournalError.{JournalError}
 use Rattle.gate_journal.specs.declared.journal.Journal.{Journal}

@@ -1,8 +1,10 @@
 -- What an opening finds, and what it leaves.
 use Rattle.std.specs.Prelude.{◌≡◌, ◌≤◌, ◌<◌, ◌+◌, ℕ, List, Result, OnOk, IsErrOf, IfOk, IfErr}
-use Rattle.sector_device.specs.Disk.{Disk, Image, Touches, Nowhere, HasCause}
-use Rattle.sector_device.specs.Moments.{LeavesOnly}
-use Rattle.gate_journal.specs.Store.{home, header_of, word, list_word, copies, Homes, IsStore, IsStoreOf, Opens, pages, IsSettled}
+use Rattle.sector_device.specs.claim.Disk.{Disk, Image, Touches, Nowhere}
+use Rattle.sector_device.specs.Disk.{HasCause}
+use Rattle.sector_device.specs.claim.Moments.{LeavesOnly}
+use Rattle.gate_journal.specs.claim.Store.{home, header_of, word, list_word, copies, IsStore, Opens, pages}
+use Rattle.gate_journal.specs.Store.{Homes, IsStoreOf, IsSettled}
 use Rattle.gate_journal.specs.Steps.{HasHomes}
 use Rattle.gate_journal.specs.declared.layout.Layout.{Layout}
 use Rattle.gate_journal.specs.declared.error.JournalError.{JournalError}

@@ -1,9 +1,11 @@
 -- What each step of a commit leaves.
 use Rattle.std.specs.Prelude.{◌≡◌, ◌≤◌, ◌<◌, ◌+◌, ℕ, List, [], length, Result, OnOk}
 use Rattle.std.proofs.Common.{get_or, zero, suc}
-use Rattle.sector_device.specs.Disk.{Disk, IsSynced, HasCause}
-use Rattle.sector_device.specs.Moments.{LeavesOnly}
-use Rattle.gate_journal.specs.Store.{overlay, pages, gate, list_word, Stages, IsSettled, IsBeforeOrAfter}
+use Rattle.sector_device.specs.claim.Disk.{Disk}
+use Rattle.sector_device.specs.Disk.{IsSynced, HasCause}
+use Rattle.sector_device.specs.claim.Moments.{LeavesOnly}
+use Rattle.gate_journal.specs.claim.Store.{overlay, pages, gate, list_word}
+use Rattle.gate_journal.specs.Store.{Stages, IsSettled, IsBeforeOrAfter}
 
 -- n sectors from the first
 abbrev pub Span : ℕ → ℕ → ℕ → Type 0

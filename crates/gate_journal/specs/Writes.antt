@@ -1,12 +1,9 @@
+-- What no promise rests on, beside claim/Writes.antt.
 use Rattle.std.specs.Prelude.{◌≡◌, ◌≢◌, ◌<◌, ℕ, List, [], length, min, vec_capacity}
 use Rattle.std.proofs.Common.{get_or}
-use Rattle.sector_device.specs.Disk.{Image}
-use Rattle.gate_journal.specs.Store.{overlay, put}
+use Rattle.sector_device.specs.claim.Disk.{Image}
+use Rattle.gate_journal.specs.claim.Store.{overlay, put}
 use Rattle.gate_journal.specs.declared.writes.PageWrites.{PageWrites}
-
--- the pages to be written, each with its bytes
-abbrev pub writes_of : PageWrites → List (ℕ × List ℕ)
-writes_of w = w.list.items
 
 -- so many pages are held with no growth
 abbrev pub room_of : PageWrites → ℕ

@@ -1,9 +1,10 @@
 //! How a store is made.
 ghost use Rattle.std.specs.Prelude.{◌≡◌, ◌≤◌, ◌<◌, ◌+◌, true, false, length, OnOk, IfOk, IfErr};
-ghost use Rattle.sector_device.specs.Disk.{Disk, Touches};
-ghost use Rattle.gate_journal.specs.Store.{home, IsWithin, IsSettled};
+ghost use Rattle.sector_device.specs.claim.Disk.{Disk, Touches};
+ghost use Rattle.gate_journal.specs.claim.Store.{home};
+ghost use Rattle.gate_journal.specs.Store.{IsWithin, IsSettled};
 ghost use Rattle.gate_journal.specs.Steps.{Commits};
-ghost use Rattle.gate_journal.specs.Writes.{writes_of};
+ghost use Rattle.gate_journal.specs.claim.Writes.{writes_of};
 ghost use Rattle.gate_journal.specs.Recovery.{HasRoom};
 ghost use Rattle.gate_journal.specs.Format.{IsFormatted, Front, FormatErr};
 

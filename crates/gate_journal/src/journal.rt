@@ -1,6 +1,6 @@
 //! The journal.
 ghost use Rattle.std.specs.Prelude.{◌≡◌, ◌≤◌, false};
-ghost use Rattle.sector_device.specs.Disk.{Disk};
+ghost use Rattle.sector_device.specs.claim.Disk.{Disk};
 ghost use Rattle.gate_journal.specs.Store.{IsSettled};
 ghost use Rattle.gate_journal.specs.Recovery.{HasRoom};
 
@@ -24,13 +24,14 @@ pub struct Journal<D: SectorDevice> {
 
 impl<D: SectorDevice> Journal<D> {
     ghost use Rattle.std.specs.Prelude.{◌≡◌, ◌≤◌, ◌<◌, ◌⊎◌, true, false, length, OnOk, IfOk, IfErr};
-    ghost use Rattle.sector_device.specs.Disk.{Disk, Image, Touches, Nowhere};
-    ghost use Rattle.sector_device.specs.Moments.{LeavesOnly};
-    ghost use Rattle.gate_journal.specs.Store.{IsWithin, overlay};
+    ghost use Rattle.sector_device.specs.claim.Disk.{Disk, Image, Touches, Nowhere};
+    ghost use Rattle.sector_device.specs.claim.Moments.{LeavesOnly};
+    ghost use Rattle.gate_journal.specs.Store.{IsWithin};
+    ghost use Rattle.gate_journal.specs.claim.Store.{overlay};
     ghost use Rattle.gate_journal.specs.Recovery.{HasRoom, AllStores, ReadsAs, Found};
-    ghost use Rattle.gate_journal.specs.Writes.{writes_of};
-    ghost use Rattle.gate_journal.specs.Contents.{content, disk_of, device_of, device_after, page_count};
-    ghost use Rattle.gate_journal.specs.Contents.{journal_size, is_halted, IsKept, HasShapeOf, ReadErr, CommitErr};
+    ghost use Rattle.gate_journal.specs.claim.Writes.{writes_of};
+    ghost use Rattle.gate_journal.specs.claim.Contents.{content, disk_of, device_of, device_after, page_count};
+    ghost use Rattle.gate_journal.specs.claim.Contents.{journal_size, is_halted, IsKept, HasShapeOf, ReadErr, CommitErr};
     ghost use Rattle.gate_journal.specs.Outcomes.{LeavesAllOrNone, IsCommittedWithoutFault};
 
     /// Opens the store that a device holds. What a commit left behind an open gate is brought home first. With a refusal

@@ -1,6 +1,7 @@
 //! How a store is found again.
 ghost use Rattle.std.specs.Prelude.{◌≡◌, ◌+◌, ◌≤◌, ◌<◌, ◌⊎◌, ℕ, OnErr, IfOk, IfErr, IfSome};
-ghost use Rattle.sector_device.specs.Disk.{Disk, Touches, HasCause, Nowhere};
+ghost use Rattle.sector_device.specs.claim.Disk.{Disk, Touches, Nowhere};
+ghost use Rattle.sector_device.specs.Disk.{HasCause};
 ghost use Rattle.gate_journal.specs.Recovery.{HasRoom, Starts};
 ghost use Rattle.gate_journal.specs.Outcomes.{FindsLayout, ClosesGate};
 

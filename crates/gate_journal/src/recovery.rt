@@ -1,7 +1,8 @@
 //! What an open gate left behind is brought home.
 ghost use Rattle.std.specs.Prelude.{◌≡◌, ◌+◌, ◌*◌, ◌≤◌, ◌<◌, ◌/◌, ◌⊎◌, ℕ, length, IfOk, IfErr, IsTrue};
-ghost use Rattle.sector_device.specs.Disk.{Disk, Touches, Step, HasCause, Nowhere, Only};
-ghost use Rattle.gate_journal.specs.Store.{word, list_word, home};
+ghost use Rattle.sector_device.specs.claim.Disk.{Disk, Touches, Nowhere};
+ghost use Rattle.sector_device.specs.Disk.{Step, HasCause, Only};
+ghost use Rattle.gate_journal.specs.claim.Store.{word, list_word, home};
 ghost use Rattle.gate_journal.specs.Recovery.{Copied, SectorNames};
 ghost use Rattle.gate_journal.specs.Outcomes.{TellsWhetherNamed, CopiesListed, BringsHome};
 

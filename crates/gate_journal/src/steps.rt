@@ -1,8 +1,10 @@
 //! The steps of a commit.
 ghost use Rattle.std.specs.Prelude.{◌≡◌, ◌+◌, ◌*◌, ◌/◌, ◌<◌, ◌≤◌, ◌^◌, ℕ, length, [], slice_index_or};
-ghost use Rattle.sector_device.specs.Disk.{Disk, Only, Step};
+ghost use Rattle.sector_device.specs.claim.Disk.{Disk};
+ghost use Rattle.sector_device.specs.Disk.{Only, Step};
 ghost use Rattle.gate_journal.specs.Steps.{Span, HasCopies, HasHomes, HasList, HasGate, IsHome, IsStaged, Commits};
-ghost use Rattle.gate_journal.specs.Store.{Homes, Staging, IsSettled, IsWithin, home};
+ghost use Rattle.gate_journal.specs.Store.{Homes, Staging, IsSettled, IsWithin};
+ghost use Rattle.gate_journal.specs.claim.Store.{home};
 
 use crate::OPEN;
 use crate::layout::{Layout, copies_begin, homes_begin};

@@ -1,6 +1,6 @@
 //! Numbers in a sector.
 ghost use Rattle.std.specs.Prelude.{◌≡◌, ◌≢◌, ◌<◌, ◌≤◌, ◌+◌, ◌^◌, ℕ, length};
-ghost use Rattle.gate_journal.specs.Store.{word, put_word, header_of};
+ghost use Rattle.gate_journal.specs.claim.Store.{word, put_word, header_of};
 ghost use Rattle.gate_journal.specs.Steps.{want};
 
 use crate::layout::Layout;

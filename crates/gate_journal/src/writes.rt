@@ -44,10 +44,12 @@ fn find(numbers: &[u32], page: u32) -> Option<usize>
 
 impl PageWrites {
     ghost use Rattle.std.specs.Prelude.{◌≡◌, ◌<◌, ◌≤◌, ◌+◌, ◌++◌, ◌⊎◌, ℕ, [], ◌∷◌, length, OnOk, OnErr, IfOk, IsOk, MatchOption};
-    ghost use Rattle.sector_device.specs.Disk.{Image};
-    ghost use Rattle.gate_journal.specs.Store.{Writes, IsWithin, IsOnce, overlay, put};
+    ghost use Rattle.sector_device.specs.claim.Disk.{Image};
+    ghost use Rattle.gate_journal.specs.Store.{Writes, IsWithin, IsOnce};
+    ghost use Rattle.gate_journal.specs.claim.Store.{overlay, put};
     ghost use Rattle.std.specs.Fn.{FnOnceReturnsAtMut};
-    ghost use Rattle.gate_journal.specs.Writes.{writes_of, room_of, IsLast};
+    ghost use Rattle.gate_journal.specs.claim.Writes.{writes_of};
+    ghost use Rattle.gate_journal.specs.Writes.{room_of, IsLast};
     ghost use Rattle.gate_journal.specs.Outcomes.{EditsWrite};
 
     pub fn new(alloc: Global) -> PageWrites

@@ -2,16 +2,17 @@
 use Rattle.std.proofs.Common.{◌≡◌, ◌*◌, ◌≤◌, ◌<◌, ℕ, length, sym, subst, inl, inr, arith}
 use Rattle.std.specs.Prelude.{◌⊎◌}
 use Rattle.std.proofs.lemmas.Bool.{cases_lt}
-use Rattle.sector_device.specs.Disk.{Image}
+use Rattle.sector_device.specs.claim.Disk.{Image}
 use Rattle.sector_device.specs.declared.SectorDevice.{Ghosts}
 use Rattle.page_store.proofs.Chains.{length_chain}
-use Rattle.page_store.specs.Chain.{free_in, root_in}
-use Rattle.page_store.specs.Transactions.{stored, disk_in, count_of, journal_of, txn_pages, txn_root, txn_first, txn_free, over, free_over}
+use Rattle.page_store.specs.claim.Chain.{free_in, root_in}
+use Rattle.page_store.specs.claim.Transactions.{stored, disk_in, count_of, journal_of, txn_pages, txn_root, txn_free, over, free_over}
+use Rattle.page_store.specs.Transactions.{txn_first}
 use Rattle.page_store.specs.declared.pages.Pages.{Pages}
 use Rattle.page_store.specs.declared.txn.Txn.{Txn}
 use Rattle.page_btree.proofs.MapLaws.{begun_holds}
-use Rattle.page_btree.specs.Map.{Holds, InTxn, InPages}
-use Rattle.store_rows.specs.Rows.{KeyMap}
+use Rattle.page_btree.specs.claim.Map.{Holds, InTxn, InPages}
+use Rattle.store_rows.specs.claim.Rows.{KeyMap}
 use Rattle.geo_tables.specs.Starting.{IsStarted}
 
 pub free_count : (t : Txn) (P : Image) → length (free_over t P) ≡ txn_free t

@@ -1,20 +1,20 @@
 -- A transaction that is begun, whose rows are put, and that is committed then.
 use Rattle.std.proofs.Common.{◌≡◌, ◌+◌, ◌*◌, ◌≤◌, ℕ, length, false, sym, subst, ◌∙◌, inl, ⊎_elim, arith}
 use Rattle.std.specs.Prelude.{◌⊎◌}
-use Rattle.sector_device.specs.Disk.{Disk, Image}
-use Rattle.sector_device.specs.Moments.{LeavesOnly}
+use Rattle.sector_device.specs.claim.Disk.{Disk, Image}
+use Rattle.sector_device.specs.claim.Moments.{LeavesOnly}
 use Rattle.sector_device.proofs.Moments.{leaves_more, leaves_wider}
 use Rattle.sector_device.specs.declared.SectorDevice.{Ghosts}
-use Rattle.gate_journal.specs.Store.{home}
-use Rattle.page_store.specs.Chain.{free_in, root_in}
+use Rattle.gate_journal.specs.claim.Store.{home}
+use Rattle.page_store.specs.claim.Chain.{free_in, root_in}
 use Rattle.page_store.proofs.Stops.{leaves_here, leaves_quiet}
-use Rattle.page_store.specs.Transactions.{stored, disk_in, count_of, journal_of, has_halted, txn_free, HasFailed, HasShape, IsQuiet, Passed}
+use Rattle.page_store.specs.claim.Transactions.{stored, disk_in, count_of, journal_of, has_halted, txn_free, HasFailed, HasShape, IsQuiet, Passed}
 use Rattle.page_store.specs.declared.pages.Pages.{Pages}
 use Rattle.page_store.specs.declared.txn.Txn.{Txn}
-use Rattle.page_btree.specs.Map.{Holds, InTxn as TxnHolds, InPages as PagesHold}
-use Rattle.desk_model.specs.Desk.{Desk}
-use Rattle.store_rows.specs.Rows.{KeyMap}
-use Rattle.desk_pages.specs.Desks.{InPages, InTxn, OpensDesk}
+use Rattle.page_btree.specs.claim.Map.{Holds, InTxn as TxnHolds, InPages as PagesHold}
+use Rattle.desk_model.specs.claim.Desk.{Desk}
+use Rattle.store_rows.specs.claim.Rows.{KeyMap}
+use Rattle.desk_pages.specs.claim.Desks.{InPages, InTxn, OpensDesk}
 use Rattle.desk_pages.proofs.Kept.{opens_now}
 use Rattle.geo_tables.specs.declared.load.Load.{Load}
 use Rattle.geo_tables.specs.Loading.{HoldsLoad}

@@ -3,18 +3,20 @@ use Rattle.std.specs.Prelude.{◌≡◌, ◌<◌, ◌+◌, ◌^◌, ℕ, List, [
 use Rattle.std.proofs.Common.{zero, suc, refl, sym, ap, subst, ◌∙◌, inl, inr, arith}
 use Rattle.std.specs.FinMap.{FinMap, insert}
 use Rattle.std.proofs.lemmas.Bool.{cases_lt}
-use Rattle.desk_model.specs.Geography.{Ground, IsGround}
-use Rattle.desk_model.specs.Desk.{Desk, Plan, name_cmp}
-use Rattle.store_rows.specs.Keys.{key_of, begun, block, counters, in_eight, pair, seal}
-use Rattle.store_rows.specs.Values.{counters_bytes}
+use Rattle.desk_model.specs.claim.Geography.{Ground}
+use Rattle.desk_model.specs.claim.Grounds.{IsGround}
+use Rattle.desk_model.specs.claim.Desk.{Desk, Plan, name_cmp}
+use Rattle.store_rows.specs.claim.Keys.{key_of, begun, block, counters, in_eight, pair, seal}
+use Rattle.store_rows.specs.claim.Values.{counters_bytes}
 use Rattle.store_rows.specs.declared.value.Counters.{Counters}
-use Rattle.store_rows.specs.Rows.{KeyMap, SameTag, Has, Lacks}
-use Rattle.store_rows.specs.Puts.{Row, put_rows}
+use Rattle.store_rows.specs.claim.Rows.{KeyMap, Has, Lacks}
+use Rattle.store_rows.specs.Rows.{SameTag}
+use Rattle.store_rows.specs.claim.Puts.{Row, put_rows}
 use Rattle.store_rows.proofs.Puts.{put_rows-append, told_keep}
-use Rattle.store_rows.specs.GeographyRows.{IsSealed, IsStaged, geography_rows}
-use Rattle.store_rows.specs.DeskRows.{IsDesk}
+use Rattle.store_rows.specs.claim.GeographyRows.{IsSealed, IsStaged, geography_rows}
+use Rattle.store_rows.specs.claim.DeskRows.{IsDesk}
 use Rattle.store_rows.specs.Changes.{desk_with}
-use Rattle.store_rows.specs.Tidy.{IsNext, no_numbers}
+use Rattle.store_rows.specs.claim.Tidy.{IsNext, no_numbers}
 use Rattle.store_rows.specs.Staging.{desk_without}
 use Rattle.store_rows.proofs.Staging.{load_sealed, none_staged, staged_unseen}
 use Rattle.store_rows.proofs.Frames.{desk_stays, put_is_there, put_keeps_tag, remove_keeps_tag, removed_is_gone, staged_stays, tag_follows}

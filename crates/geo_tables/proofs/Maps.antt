@@ -1,20 +1,21 @@
 -- What the rows of a load make of a map that is a desk's.
 use Rattle.std.proofs.Common.{◌≡◌, ◌<◌, ◌≤◌, ◌+◌, ◌-◌, ◌^◌, ℕ, List, [], length, Option, Some, None, refl, sym, ap, subst, ◌∙◌, inl, inr, arith}
 use Rattle.std.proofs.lemmas.Bool.{cases_lt}
-use Rattle.desk_model.specs.Geography.{Ground, IsGround}
-use Rattle.desk_model.specs.Desk.{Desk}
-use Rattle.store_rows.specs.Keys.{begun, seal}
-use Rattle.store_rows.specs.Values.{seal_bytes}
+use Rattle.desk_model.specs.claim.Geography.{Ground}
+use Rattle.desk_model.specs.claim.Grounds.{IsGround}
+use Rattle.desk_model.specs.claim.Desk.{Desk}
+use Rattle.store_rows.specs.claim.Keys.{begun, seal}
+use Rattle.store_rows.specs.claim.Values.{seal_bytes}
 use Rattle.store_rows.specs.declared.value.Counters.{Counters}
 use Rattle.store_rows.specs.declared.value.SealRow.{SealRow}
-use Rattle.store_rows.specs.Rows.{KeyMap, Has, Lacks}
-use Rattle.store_rows.specs.Puts.{Row, put_rows}
-use Rattle.store_rows.specs.GeographyRows.{IsGeography, IsStaged, geography_rows}
-use Rattle.store_rows.specs.DeskRows.{IsDesk}
+use Rattle.store_rows.specs.claim.Rows.{KeyMap, Has, Lacks}
+use Rattle.store_rows.specs.claim.Puts.{Row, put_rows}
+use Rattle.store_rows.specs.claim.GeographyRows.{IsGeography, IsStaged, geography_rows}
+use Rattle.store_rows.specs.claim.DeskRows.{IsDesk}
 use Rattle.store_rows.specs.Changes.{desk_with}
 use Rattle.store_rows.specs.Staging.{desk_without}
 use Rattle.store_rows.specs.Steps.{IsLoadKey}
-use Rattle.store_rows.specs.Tidy.{IsNext, CountersFit, Tidy}
+use Rattle.store_rows.specs.claim.Tidy.{IsNext, CountersFit, Tidy}
 use Rattle.store_rows.proofs.TidyFree.{one_next}
 use Rattle.store_rows.proofs.TidyLoads.{begun_tidy, begun_unstaged, sealed_tidy, staged_tidy}
 use Rattle.store_rows.proofs.PutAll.{told_all}
@@ -22,7 +23,7 @@ use Rattle.geo_tables.specs.Rows.{begun_rows, staged_row, staged_rows}
 use Rattle.geo_tables.specs.Loads.{sealed_rows}
 use Rattle.geo_tables.proofs.LoadRows.{begun_desk, batch_tag, batch_unseen, sealed_desk}
 use Rattle.geo_tables.proofs.Staging.{is_block, is_pair}
-use Rattle.desk_pages.specs.Desks.{IsDeskMap}
+use Rattle.desk_pages.specs.claim.Desks.{IsDeskMap}
 
 -- ---- what a desk's map says of the seal
 sealed_or_not : (m : KeyMap) (o : Option Ground) → IsGeography m o → Lacks m seal → o ≡ None

@@ -2,34 +2,34 @@
 use Rattle.std.proofs.Common.{◌≡◌, ◌+◌, ◌*◌, ◌≤◌, ◌<◌, ◌^◌, ℕ, Bool, List, ◌∷◌, [], Option, Some, None, length, false, true, refl, sym, subst, ◌∙◌, inl, inr, arith}
 use Rattle.std.specs.FinMap.{get as row_at}
 use Rattle.std.proofs.lemmas.Bool.{cases_lt}
-use Rattle.sector_device.specs.Disk.{Image}
+use Rattle.sector_device.specs.claim.Disk.{Image}
 use Rattle.sector_device.specs.declared.SectorDevice.{Ghosts}
-use Rattle.page_store.specs.Transactions.{stored, disk_in, journal_of, has_halted, txn_free, txn_root, txn_writes, over, IsQuiet, Passed}
-use Rattle.page_store.specs.Chain.{free_in}
+use Rattle.page_store.specs.claim.Transactions.{stored, disk_in, journal_of, has_halted, txn_free, txn_root, txn_writes, over, IsQuiet, Passed}
+use Rattle.page_store.specs.claim.Chain.{free_in}
 use Rattle.page_store.proofs.Stops.{quiet_more}
 use Rattle.page_store.specs.declared.error.PageError.{PageError}
 use Rattle.page_store.specs.declared.error.PageError.TheVariants as page
 use Rattle.page_store.specs.declared.pages.Pages.{Pages}
 use Rattle.page_store.specs.declared.txn.Txn.{Txn}
-use Rattle.page_btree.specs.Errors.{level_in}
-use Rattle.page_btree.specs.Map.{InTxn as TxnHolds, InPages as HoldsRows}
+use Rattle.page_btree.specs.claim.Errors.{level_in}
+use Rattle.page_btree.specs.claim.Map.{InTxn as TxnHolds, InPages as HoldsRows}
 use Rattle.page_btree.specs.declared.error.TreeError.{TreeError}
 use Rattle.page_btree.specs.declared.error.TreeError.TheVariants as tree
-use Rattle.desk_model.specs.Geography.{Ground}
-use Rattle.desk_model.specs.Desk.{Desk}
-use Rattle.store_rows.specs.Keys.{key_of, seal}
-use Rattle.store_rows.specs.Values.{seal_bytes}
+use Rattle.desk_model.specs.claim.Geography.{Ground}
+use Rattle.desk_model.specs.claim.Desk.{Desk}
+use Rattle.store_rows.specs.claim.Keys.{key_of, seal}
+use Rattle.store_rows.specs.claim.Values.{seal_bytes}
 use Rattle.store_rows.specs.declared.value.SealRow.{SealRow}
-use Rattle.store_rows.specs.Rows.{KeyMap, Lacks}
-use Rattle.store_rows.specs.Puts.{Row, put_rows}
+use Rattle.store_rows.specs.claim.Rows.{KeyMap, Lacks}
+use Rattle.store_rows.specs.claim.Puts.{Row, put_rows}
 use Rattle.store_rows.proofs.Puts.{length-rows_told}
-use Rattle.store_rows.specs.GeographyRows.{IsGeography}
-use Rattle.row_table.specs.Puts.{PutsErr}
+use Rattle.store_rows.specs.claim.GeographyRows.{IsGeography}
+use Rattle.row_table.specs.claim.Puts.{PutsErr}
 use Rattle.row_table.specs.Reading.{HasNext, ReadErr, StandsAs}
 use Rattle.geo_tables.specs.Rows.{begun_rows, staged_row, staged_rows, seal_row}
 use Rattle.geo_tables.specs.Loads.{AreSpent, IsNotBegun, BeginErr}
 use Rattle.desk_pages.specs.Commits.{TxnErr}
-use Rattle.desk_pages.specs.Desks.{IsDeskMap, InPages}
+use Rattle.desk_pages.specs.claim.Desks.{IsDeskMap, InPages}
 use Rattle.geo_tables.specs.declared.error.LoadFault.{LoadFault}
 use Rattle.geo_tables.specs.declared.error.LoadFault.TheVariants.{AlreadySealed, Full, Memory, DeviceFault, Halted}
 use Rattle.geo_tables.specs.declared.load.Load.{Load}

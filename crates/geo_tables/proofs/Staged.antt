@@ -1,26 +1,27 @@
 -- Rows of a load that are put and committed.
 use Rattle.std.proofs.Common.{◌≡◌, ◌+◌, ◌≤◌, ◌<◌, ◌^◌, ℕ, List, [], length, sym, subst, ◌∙◌, arith}
 use Rattle.sector_device.specs.declared.SectorDevice.{Ghosts}
-use Rattle.page_store.specs.Transactions.{stored, disk_in, journal_of, txn_writes}
+use Rattle.page_store.specs.claim.Transactions.{stored, disk_in, journal_of, txn_writes}
 use Rattle.page_store.specs.declared.pages.Pages.{Pages}
 use Rattle.page_store.specs.declared.txn.Txn.{Txn}
-use Rattle.page_btree.specs.Map.{InTxn as TxnHolds, InPages as PagesHold}
-use Rattle.desk_model.specs.Geography.{Ground, IsGround}
-use Rattle.desk_model.specs.Desk.{Desk}
-use Rattle.store_rows.specs.Keys.{begun, seal}
+use Rattle.page_btree.specs.claim.Map.{InTxn as TxnHolds, InPages as PagesHold}
+use Rattle.desk_model.specs.claim.Geography.{Ground}
+use Rattle.desk_model.specs.claim.Grounds.{IsGround}
+use Rattle.desk_model.specs.claim.Desk.{Desk}
+use Rattle.store_rows.specs.claim.Keys.{begun, seal}
 use Rattle.store_rows.specs.declared.value.Counters.{Counters}
-use Rattle.store_rows.specs.Rows.{KeyMap, Has, Lacks}
-use Rattle.store_rows.specs.Puts.{Row, put_rows}
+use Rattle.store_rows.specs.claim.Rows.{KeyMap, Has, Lacks}
+use Rattle.store_rows.specs.claim.Puts.{Row, put_rows}
 use Rattle.store_rows.proofs.Puts.{length-rows_told}
 use Rattle.store_rows.specs.Changes.{desk_with}
-use Rattle.store_rows.specs.GeographyRows.{IsStaged, geography_rows}
-use Rattle.store_rows.specs.Tidy.{IsNext, CountersFit}
-use Rattle.row_table.specs.Puts.{HasPut}
+use Rattle.store_rows.specs.claim.GeographyRows.{IsStaged, geography_rows}
+use Rattle.store_rows.specs.claim.Tidy.{IsNext, CountersFit}
+use Rattle.row_table.specs.claim.Puts.{HasPut}
 use Rattle.geo_tables.specs.Rows.{begun_rows, staged_row, staged_rows}
 use Rattle.geo_tables.specs.Loads.{HasBegun, HasSealed, sealed_rows}
 use Rattle.geo_tables.proofs.LoadRows.{begun_mark, begun_unsealed}
 use Rattle.geo_tables.specs.Staging.{Stages}
-use Rattle.desk_pages.specs.Desks.{InTxn, InPages}
+use Rattle.desk_pages.specs.claim.Desks.{InTxn, InPages}
 use Rattle.geo_tables.specs.declared.load.Load.{Load}
 use Rattle.geo_tables.specs.Loading.{HoldsLoad, HoldsFurther, HoldsNew, number_of, ground_of, done_of}
 use Rattle.geo_tables.specs.Starting.{IsStarted}

@@ -7,13 +7,13 @@ use Rattle.std.proofs.lemmas.Bool.{cases_lt, lt-ltb, le-ltb}
 use Rattle.std.proofs.lemmas.Option.{slice_get_within, slice_get_read, slice_get-get_or}
 use Rattle.desk_model.specs.declared.block.BlockRow.{BlockRow}
 use Rattle.desk_model.specs.declared.geography.Pair.{Pair}
-use Rattle.desk_model.specs.Geography.{Ground}
-use Rattle.store_rows.specs.Values.{block_bytes}
-use Rattle.store_rows.specs.Keys.{key_of, block, pair}
-use Rattle.store_rows.specs.Rows.{KeyMap, element_row}
-use Rattle.store_rows.specs.Puts.{Row, put_rows}
+use Rattle.desk_model.specs.claim.Geography.{Ground}
+use Rattle.store_rows.specs.claim.Values.{block_bytes}
+use Rattle.store_rows.specs.claim.Keys.{key_of, block, pair}
+use Rattle.store_rows.specs.claim.Rows.{KeyMap, element_row}
+use Rattle.store_rows.specs.claim.Puts.{Row, put_rows}
 use Rattle.store_rows.proofs.Puts.{put_rows-append}
-use Rattle.store_rows.specs.GeographyRows.{IsBlockRow, IsStaged, geography_rows, neighbours_bytes}
+use Rattle.store_rows.specs.claim.GeographyRows.{IsBlockRow, IsStaged, geography_rows, neighbours_bytes}
 use Rattle.store_rows.proofs.Staging.{block_staged, pair_staged}
 use Rattle.geo_tables.specs.Rows.{bytes_in, block_at, pair_at, staged_row, staged_rows}
 use Rattle.geo_tables.specs.Staging.{Stages}

@@ -1,17 +1,18 @@
 -- What holds of the rows of loads.
 use Rattle.std.specs.Prelude.{◌<◌, ◌^◌, ℕ, [], length}
 use Rattle.std.specs.FinMap.{FinMap}
-use Rattle.desk_model.specs.Geography.{Ground, IsGround}
-use Rattle.desk_model.specs.Desk.{Desk, Plan, name_cmp}
-use Rattle.store_rows.specs.Keys.{begun, block, pair, seal}
+use Rattle.desk_model.specs.claim.Geography.{Ground}
+use Rattle.desk_model.specs.claim.Grounds.{IsGround}
+use Rattle.desk_model.specs.claim.Desk.{Desk, Plan, name_cmp}
+use Rattle.store_rows.specs.claim.Keys.{begun, block, pair, seal}
 use Rattle.store_rows.specs.declared.value.Counters.{Counters}
-use Rattle.store_rows.specs.Rows.{KeyMap, Has, Lacks}
-use Rattle.store_rows.specs.Puts.{put_rows}
-use Rattle.store_rows.specs.GeographyRows.{IsSealed, IsStaged, geography_rows}
-use Rattle.store_rows.specs.DeskRows.{IsDesk}
+use Rattle.store_rows.specs.claim.Rows.{KeyMap, Has, Lacks}
+use Rattle.store_rows.specs.claim.Puts.{put_rows}
+use Rattle.store_rows.specs.claim.GeographyRows.{IsSealed, IsStaged, geography_rows}
+use Rattle.store_rows.specs.claim.DeskRows.{IsDesk}
 use Rattle.store_rows.specs.Changes.{desk_with}
 use Rattle.store_rows.specs.Staging.{desk_without}
-use Rattle.store_rows.specs.Tidy.{IsNext}
+use Rattle.store_rows.specs.claim.Tidy.{IsNext}
 use Rattle.geo_tables.specs.Rows.{begun_rows, load_taken, staged_rows}
 use Rattle.geo_tables.specs.Loads.{sealed_rows}
 

@@ -1,16 +1,16 @@
 -- A load that is under way, and the pages that hold its rows.
 use Rattle.std.specs.Prelude.{◌≡◌, ◌+◌, ◌⊎◌, ℕ, []}
 use Rattle.sector_device.specs.declared.SectorDevice.{Ghosts}
-use Rattle.sector_device.specs.Disk.{Image}
+use Rattle.sector_device.specs.claim.Disk.{Image}
 use Rattle.page_store.specs.declared.pages.Pages.{Pages}
-use Rattle.page_btree.specs.Map.{InPages}
-use Rattle.desk_model.specs.Geography.{Ground}
-use Rattle.desk_model.specs.Desk.{Desk}
-use Rattle.store_rows.specs.Keys.{begun, seal}
-use Rattle.store_rows.specs.Rows.{KeyMap, Has, Lacks}
-use Rattle.store_rows.specs.GeographyRows.{IsStaged}
+use Rattle.page_btree.specs.claim.Map.{InPages}
+use Rattle.desk_model.specs.claim.Geography.{Ground}
+use Rattle.desk_model.specs.claim.Desk.{Desk}
+use Rattle.store_rows.specs.claim.Keys.{begun, seal}
+use Rattle.store_rows.specs.claim.Rows.{KeyMap, Has, Lacks}
+use Rattle.store_rows.specs.claim.GeographyRows.{IsStaged}
 use Rattle.store_rows.specs.Changes.{desk_with}
-use Rattle.desk_pages.specs.Desks.{IsDeskMap, OpensDesk}
+use Rattle.desk_pages.specs.claim.Desks.{IsDeskMap, OpensDesk}
 use Rattle.geo_tables.specs.declared.load.Load.{Load}
 
 -- its number, its geography, and how many of the geography's rows are staged

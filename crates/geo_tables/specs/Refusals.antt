@@ -1,20 +1,20 @@
 -- Why a load goes no further.
 use Rattle.std.specs.Prelude.{◌≡◌, ◌⊎◌, ◌<◌, ◌≤◌, ◌+◌, ◌*◌, ◌^◌, ℕ, List, [], ◌∷◌, length, Some, None, true}
 use Rattle.sector_device.specs.declared.SectorDevice.{Ghosts}
-use Rattle.page_store.specs.Chain.{free_in}
-use Rattle.page_store.specs.Transactions.{stored, disk_in, journal_of, has_halted, HasFailed, IsQuiet, IsSame, Passed}
+use Rattle.page_store.specs.claim.Chain.{free_in}
+use Rattle.page_store.specs.claim.Transactions.{stored, disk_in, journal_of, has_halted, HasFailed, IsQuiet, IsSame, Passed}
 use Rattle.page_store.specs.declared.pages.Pages.{Pages}
 use Rattle.page_store.specs.declared.txn.Txn.{Txn}
-use Rattle.page_btree.specs.Map.{InPages as HoldsRows}
-use Rattle.desk_model.specs.Geography.{Ground}
-use Rattle.desk_model.specs.Desk.{Desk}
+use Rattle.page_btree.specs.claim.Map.{InPages as HoldsRows}
+use Rattle.desk_model.specs.claim.Geography.{Ground}
+use Rattle.desk_model.specs.claim.Desk.{Desk}
 use Rattle.store_rows.specs.declared.value.Counters.{Counters}
-use Rattle.store_rows.specs.Rows.{KeyMap}
-use Rattle.store_rows.specs.Puts.{Row}
-use Rattle.store_rows.specs.Tidy.{IsNext}
-use Rattle.row_table.specs.Puts.{HasDeepened}
+use Rattle.store_rows.specs.claim.Rows.{KeyMap}
+use Rattle.store_rows.specs.claim.Puts.{Row}
+use Rattle.store_rows.specs.claim.Tidy.{IsNext}
+use Rattle.row_table.specs.claim.Puts.{HasDeepened}
 use Rattle.geo_tables.specs.Rows.{begun_rows, staged_rows, seal_row}
-use Rattle.desk_pages.specs.Desks.{InPages}
+use Rattle.desk_pages.specs.claim.Desks.{InPages}
 use Rattle.geo_tables.specs.declared.error.LoadFault.{LoadFault}
 use Rattle.geo_tables.specs.declared.error.LoadFault.TheVariants.{AlreadySealed, Full, Memory, DeviceFault, Halted}
 use Rattle.geo_tables.specs.declared.load.Load.{Load}

@@ -1,9 +1,9 @@
 -- Rows of a geography that are put in batches are staged.
 use Rattle.std.specs.Prelude.{◌+◌, ℕ}
-use Rattle.desk_model.specs.Geography.{Ground}
-use Rattle.store_rows.specs.Rows.{KeyMap}
-use Rattle.store_rows.specs.Puts.{put_rows}
-use Rattle.store_rows.specs.GeographyRows.{IsStaged}
+use Rattle.desk_model.specs.claim.Geography.{Ground}
+use Rattle.store_rows.specs.claim.Rows.{KeyMap}
+use Rattle.store_rows.specs.claim.Puts.{put_rows}
+use Rattle.store_rows.specs.claim.GeographyRows.{IsStaged}
 use Rattle.geo_tables.specs.Rows.{staged_rows}
 
 -- what a batch's rows do, and one row more

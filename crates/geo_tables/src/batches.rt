@@ -1,9 +1,9 @@
 //! Stages rows of a load.
 ghost use Rattle.std.specs.Prelude.{◌≡◌, ◌≤◌, ◌+◌, Err, true, false, OnOk, OnErr, IfOk, IfErr};
-ghost use Rattle.page_store.specs.Transactions.{disk_in, has_halted, HasShape, IsSame, IsKept};
-ghost use Rattle.desk_model.specs.Desk.{Desk};
-ghost use Rattle.store_rows.specs.GeographyRows.{geography_rows};
-ghost use Rattle.desk_pages.specs.Desks.{OpensDesk};
+ghost use Rattle.page_store.specs.claim.Transactions.{disk_in, has_halted, HasShape, IsSame, IsKept};
+ghost use Rattle.desk_model.specs.claim.Desk.{Desk};
+ghost use Rattle.store_rows.specs.claim.GeographyRows.{geography_rows};
+ghost use Rattle.desk_pages.specs.claim.Desks.{OpensDesk};
 ghost use Rattle.desk_pages.specs.Moments.{StopsLeave};
 ghost use Rattle.geo_tables.specs.Loading.{HoldsLoad, HoldsFurther, IsFurther, ground_of, done_of};
 ghost use Rattle.geo_tables.specs.Refusals.{HasRoom, BatchErr};

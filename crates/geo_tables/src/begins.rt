@@ -1,13 +1,13 @@
 //! Begins a load.
 ghost use Rattle.std.specs.Prelude.{◌≡◌, ◌≤◌, ◌<◌, ◌*◌, ◌^◌, ◌↔◌, length, None, Err, true, false, OnOk, IfOk, IfErr, IsTrue};
-ghost use Rattle.page_store.specs.Transactions.{stored, disk_in, journal_of, has_halted, txn_free, HasShape, IsQuiet, IsSame, IsKept, Passed};
-ghost use Rattle.page_btree.specs.Map.{InPages as HoldsRows};
-ghost use Rattle.desk_model.specs.Desk.{Desk};
-ghost use Rattle.store_rows.specs.Keys.{seal};
+ghost use Rattle.page_store.specs.claim.Transactions.{stored, disk_in, journal_of, has_halted, txn_free, HasShape, IsQuiet, IsSame, IsKept, Passed};
+ghost use Rattle.page_btree.specs.claim.Map.{InPages as HoldsRows};
+ghost use Rattle.desk_model.specs.claim.Desk.{Desk};
+ghost use Rattle.store_rows.specs.claim.Keys.{seal};
 ghost use Rattle.store_rows.specs.declared.value.Counters.{Counters};
-ghost use Rattle.store_rows.specs.Rows.{KeyMap, Lacks};
-ghost use Rattle.store_rows.specs.Tidy.{IsNext};
-ghost use Rattle.desk_pages.specs.Desks.{InPages, OpensDesk};
+ghost use Rattle.store_rows.specs.claim.Rows.{KeyMap, Lacks};
+ghost use Rattle.store_rows.specs.claim.Tidy.{IsNext};
+ghost use Rattle.desk_pages.specs.claim.Desks.{InPages, OpensDesk};
 ghost use Rattle.desk_pages.specs.Moments.{StopsLeave, StopsLeaveAtWork};
 ghost use Rattle.geo_tables.specs.Starting.{IsStarted};
 ghost use Rattle.geo_tables.specs.Loading.{HoldsLoad, HoldsNew, number_of, done_of};

@@ -1,10 +1,10 @@
 //! Begins loads and seals them.
 ghost use Rattle.std.specs.Prelude.{◌≡◌, ◌≤◌, ◌<◌, ◌+◌, ◌^◌, [], ◌∷◌, length, IfErr, IfOk, MatchOption, OnOk};
-ghost use Rattle.page_store.specs.Transactions.{stored, disk_in, count_of, txn_pages, IsQuiet, Passed};
-ghost use Rattle.page_btree.specs.Map.{InTxn};
-ghost use Rattle.store_rows.specs.Keys.{seal};
-ghost use Rattle.store_rows.specs.Rows.{KeyMap, Lacks};
-ghost use Rattle.row_table.specs.Puts.{PutsErr};
+ghost use Rattle.page_store.specs.claim.Transactions.{stored, disk_in, count_of, txn_pages, IsQuiet, Passed};
+ghost use Rattle.page_btree.specs.claim.Map.{InTxn};
+ghost use Rattle.store_rows.specs.claim.Keys.{seal};
+ghost use Rattle.store_rows.specs.claim.Rows.{KeyMap, Lacks};
+ghost use Rattle.row_table.specs.claim.Puts.{PutsErr};
 ghost use Rattle.row_table.specs.Outcomes.{PutsRows};
 ghost use Rattle.geo_tables.specs.Rows.{begun_rows, seal_row};
 ghost use Rattle.geo_tables.specs.Loads.{AreSpent, HasBegun, BeginErr, HasSealed};

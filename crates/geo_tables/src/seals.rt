@@ -1,10 +1,10 @@
 //! Seals a load.
 ghost use Rattle.std.specs.Prelude.{◌≡◌, Err, true, false, OnOk, IfErr};
-ghost use Rattle.page_store.specs.Transactions.{disk_in, has_halted, HasShape, IsSame, IsKept};
-ghost use Rattle.desk_model.specs.Desk.{Desk};
-ghost use Rattle.store_rows.specs.GeographyRows.{geography_rows};
+ghost use Rattle.page_store.specs.claim.Transactions.{disk_in, has_halted, HasShape, IsSame, IsKept};
+ghost use Rattle.desk_model.specs.claim.Desk.{Desk};
+ghost use Rattle.store_rows.specs.claim.GeographyRows.{geography_rows};
 ghost use Rattle.store_rows.specs.Changes.{desk_with};
-ghost use Rattle.desk_pages.specs.Desks.{InPages};
+ghost use Rattle.desk_pages.specs.claim.Desks.{InPages};
 ghost use Rattle.desk_pages.specs.Moments.{StopsLeave};
 ghost use Rattle.geo_tables.specs.Loading.{HoldsLoad, ground_of, done_of, OpensOrIsSealed};
 ghost use Rattle.geo_tables.specs.Refusals.{HasRoom, SealErr};

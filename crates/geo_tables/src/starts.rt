@@ -1,8 +1,8 @@
 //! Begins transactions where there is room for their rows, and commits them.
 ghost use Rattle.std.specs.Prelude.{◌≡◌, ◌≤◌, ◌+◌, ◌*◌, ◌↔◌, true, false, OnOk, IfOk, IfErr, IsTrue};
-ghost use Rattle.page_store.specs.Transactions.{stored, disk_in, count_of, journal_of, has_halted, txn_pages, txn_free, txn_writes, HasShape, IsKept};
-ghost use Rattle.page_btree.specs.Map.{InTxn, InPages};
-ghost use Rattle.store_rows.specs.Rows.{KeyMap};
+ghost use Rattle.page_store.specs.claim.Transactions.{stored, disk_in, count_of, journal_of, has_halted, txn_pages, txn_free, txn_writes, HasShape, IsKept};
+ghost use Rattle.page_btree.specs.claim.Map.{InTxn, InPages};
+ghost use Rattle.store_rows.specs.claim.Rows.{KeyMap};
 ghost use Rattle.geo_tables.specs.Errors.{page_told};
 ghost use Rattle.geo_tables.specs.Starting.{IsStarted, StartErr, Leaves, FinishErr};
 

@@ -2,8 +2,9 @@
 use Rattle.std.proofs.Common.{◌≡◌, ℕ, List, [], ◌++◌, Option, Some, None, Result, Ok, Err, codes, sym, ap, ◌∙◌, append_assoc, append-nil}
 use Rattle.std.proofs.KnownBytes.{Appends-trans, Appends-nil}
 use Rattle.std.specs.Io.KnownBytes.{Appends}
-use Rattle.byte_stream.specs.Sends.{Sends}
-use Rattle.http_answer.specs.Answer.{allow_line, behind_line, line_end}
+use Rattle.byte_stream.specs.claim.Sends.{Sends}
+use Rattle.http_answer.specs.claim.Answer.{allow_line, line_end}
+use Rattle.http_answer.specs.Answer.{behind_line}
 use Rattle.http_answer.specs.Queue.{Queued, Queues}
 
 -- a head in four pieces: what stands before the length in its line, the length, the allowed methods, and the end

@@ -1,3 +1,3 @@
-pub mod Phrases
+pub mod claim
 pub mod Answer
 pub mod Queue

@@ -2,7 +2,8 @@
 ghost use Rattle.std.specs.Prelude.{◌≡◌, ◌+◌, ◌≤◌, ◌++◌, length, drop};
 ghost use Rattle.std.specs.Io.{WritesAtMost};
 ghost use Rattle.std.specs.Io.KnownBytes.{WriteAppends};
-ghost use Rattle.byte_stream.specs.Sends.{Sends, Sent, failures_with};
+ghost use Rattle.byte_stream.specs.claim.Sends.{Sends, failures_with};
+ghost use Rattle.byte_stream.specs.Sends.{Sent};
 
 use byte_stream::sink::{Sink, WriteFault, WriteSink, is_tried_again};
 use std::io;

@@ -1,11 +1,13 @@
 //! Answers to bytes (RFC 9112, section 4).
 ghost use Rattle.std.specs.Prelude.{◌≡◌, ℕ, ◌+◌, ◌<◌, ◌≤◌, List, [], ◌++◌, length, true, Option};
 ghost use Rattle.std.specs.Prelude.{option_map, vec_len, vec_capacity, decimal, IfOk, codes};
-ghost use Rattle.byte_stream.specs.Sends.{Sends, failures_with};
+ghost use Rattle.byte_stream.specs.claim.Sends.{Sends, failures_with};
 ghost use Rattle.http_answer.specs.Queue.{Queues};
-ghost use Rattle.http_answer.specs.Phrases.{phrase_of};
-ghost use Rattle.http_answer.specs.Answer.{status_line, type_line, start_text, behind_line, close_line, line_end};
-ghost use Rattle.http_answer.specs.Answer.{head_text, response_text, sent_body, allowed, allowed_len};
+ghost use Rattle.http_answer.specs.claim.Phrases.{phrase_of};
+ghost use Rattle.http_answer.specs.claim.Answer.{status_line, type_line, close_line, line_end};
+ghost use Rattle.http_answer.specs.Answer.{start_text, behind_line};
+ghost use Rattle.http_answer.specs.claim.Answer.{head_text, sent_body};
+ghost use Rattle.http_answer.specs.Answer.{response_text, allowed, allowed_len};
 
 use crate::gather::GatherSink;
 use byte_stream::sink::{Sink, WriteFault};

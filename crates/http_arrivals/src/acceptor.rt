@@ -1,6 +1,6 @@
 //! Where one worker takes its streams, and hands each back.
 ghost use Rattle.std.specs.Prelude.{◌≡◌};
-ghost use Rattle.http_arrivals.specs.Running.{no_streams, one_more, requests_of};
+ghost use Rattle.http_arrivals.specs.claim.Running.{no_streams, one_more, requests_of};
 
 use crate::arrivals::Arrivals;
 use crate::ran::Totals;

@@ -1,6 +1,6 @@
 //! What a run over many streams came to.
 ghost use Rattle.std.specs.Prelude.{◌≡◌, ◌≤◌};
-ghost use Rattle.http_arrivals.specs.Running.{joined, no_streams, one_more, requests_of};
+ghost use Rattle.http_arrivals.specs.claim.Running.{joined, no_streams, one_more, requests_of};
 
 use http_desk::serve::{Served, StreamFault};
 

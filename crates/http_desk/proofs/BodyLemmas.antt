@@ -11,9 +11,9 @@ use Rattle.serde_json.specs.Written.{compact_text, comma_if, items_text}
 use Rattle.desk_model.specs.declared.kind.Kind.{Kind}
 use Rattle.desk_model.specs.declared.kind.Kind.TheVariants.{Congress, Senate, House}
 use Rattle.desk_model.specs.declared.reply.PlanLine.{PlanLine}
-use Rattle.desk_model.specs.Kind.{kind_name}
-use Rattle.desk_model.specs.Name.{is_name_byte, IsPlanName}
-use Rattle.http_desk.specs.Bodies.{row_data, plans_body}
+use Rattle.desk_model.specs.claim.Kind.{kind_name}
+use Rattle.desk_model.specs.claim.Name.{is_name_byte, IsPlanName}
+use Rattle.http_desk.specs.claim.Bodies.{row_data, plans_body}
 
 not_quote : (b : ℕ) → is_name_byte b ≡ true → b ≡ 34 → ⊥
 not_quote b is e = grind (arith, nat_tests)

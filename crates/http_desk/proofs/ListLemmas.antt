@@ -4,16 +4,17 @@ use Rattle.std.specs.Io.KnownBytes.{Consumes}
 use Rattle.desk_model.specs.declared.command.Command.{Command}
 use Rattle.desk_model.specs.declared.command.Query.{Query}
 use Rattle.desk_model.specs.declared.reply.Reply.{Reply}
-use Rattle.http_wire.specs.Front.{HasRequest}
+use Rattle.http_wire.specs.claim.Front.{HasRequest}
 use Rattle.http_wire.specs.Plain.{IsPlain}
 use Rattle.http_answer.specs.Queue.{Queued}
-use Rattle.http_routes.specs.Orders.{order_of}
+use Rattle.http_routes.specs.claim.Orders.{order_of}
 use Rattle.http_desk.specs.declared.serve.Next.{Next}
 use Rattle.http_desk.specs.declared.serve.Next.TheVariants as next
 use Rattle.http_desk.specs.declared.serve.StreamFault.{StreamFault}
 use Rattle.http_desk.specs.declared.serve.StreamFault.TheVariants as fault
-use Rattle.http_desk.specs.Talk.{Talk, Handles}
-use Rattle.http_desk.specs.Serving.{Closes, Exchanges, IsFrontTalk, Leaves, TakesSome}
+use Rattle.http_desk.specs.claim.Talk.{Talk, Handles}
+use Rattle.http_desk.specs.Serving.{Closes, Leaves, TakesSome}
+use Rattle.http_desk.specs.claim.Serving.{Exchanges, IsFrontTalk}
 use Rattle.http_desk.proofs.TalkLemmas.{Appends-none, HandlesHead, last, on, cut, closing}
 
 -- the request of the list, and what follows it

@@ -4,7 +4,8 @@ use Rattle.std.proofs.lemmas.List.{length-replicate}
 use Rattle.std.proofs.lemmas.Fmt.{length-decimal-le}
 use Rattle.desk_model.specs.declared.reply.BodyFault.{BodyFault}
 use Rattle.desk_model.specs.declared.reply.BodyFault.TheVariants.{Header, Shape, UnknownBlock, RepeatedBlock, OutOfRange}
-use Rattle.desk_model.specs.Baf.{fault_code, padded_decimal}
+use Rattle.desk_model.specs.claim.Baf.{fault_code}
+use Rattle.desk_model.specs.claim.Padded.{padded_decimal}
 
 pub code_short : (fault : BodyFault) → length (fault_code fault) ≤ 2
 code_short Header = omega arith

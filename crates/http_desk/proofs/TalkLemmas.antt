@@ -3,9 +3,10 @@ use Rattle.std.proofs.Common.{◌≡◌, ◌⊎◌, ℕ, suc, Bool, true, false,
 use Rattle.std.proofs.lemmas.List.{append-nil}
 use Rattle.std.specs.Io.KnownBytes.{Appends, Consumes}
 use Rattle.httparse.specs.Grammar.{RequestHead}
-use Rattle.http_wire.specs.Front.{HasRequest, IsIncomplete, IsStarved, closes_after as closes_after_head, is_head}
+use Rattle.http_wire.specs.claim.Front.{HasRequest, IsIncomplete, IsStarved, closes_after as closes_after_head, is_head}
 use Rattle.http_wire.specs.Incoming.{IsRequestOf}
-use Rattle.http_wire.specs.Interim.{Interim, IsCutShort, continue_text, asks_to_continue}
+use Rattle.http_wire.specs.claim.Interim.{Interim, continue_text, asks_to_continue}
+use Rattle.http_wire.specs.Interim.{IsCutShort}
 use Rattle.http_answer.specs.Queue.{Queued}
 use Rattle.http_wire.specs.declared.request.Request.{Request}
 use Rattle.desk_model.specs.declared.command.Command.{Command}
@@ -16,10 +17,11 @@ use Rattle.http_desk.specs.declared.serve.Next.TheVariants as next
 use Rattle.http_desk.specs.declared.serve.StreamFault.{StreamFault}
 use Rattle.http_desk.specs.declared.serve.StreamFault.TheVariants as fault
 use Rattle.http_routes.specs.declared.order.Order.TheVariants as order
-use Rattle.http_routes.specs.Orders.{order_of}
-use Rattle.http_desk.specs.Asking.{Asks, IsAskedBehind, IsAskedIn}
-use Rattle.http_desk.specs.Serving.{Closes, CutsNext, Exchanges, IsCutTalk, IsFrontTalk, IsShortTalk, GoesOn, Leaves, ServesTo}
-use Rattle.http_desk.specs.Talk.{Talk, Handles, over, ended, starved, closed, went}
+use Rattle.http_routes.specs.claim.Orders.{order_of}
+use Rattle.http_desk.specs.claim.Asking.{Asks, IsAskedBehind, IsAskedIn}
+use Rattle.http_desk.specs.Serving.{Closes, CutsNext, Leaves}
+use Rattle.http_desk.specs.claim.Serving.{Exchanges, IsCutTalk, IsFrontTalk, IsShortTalk, GoesOn, ServesTo}
+use Rattle.http_desk.specs.claim.Talk.{Talk, Handles, over, ended, starved, closed, went}
 
 pub Appends-none : (u : Option (List ℕ)) → Appends u u []
 Appends-none None = tt

@@ -9,9 +9,10 @@ use Rattle.http_desk.specs.declared.serve.Next.{Next}
 use Rattle.http_desk.specs.declared.serve.Next.TheVariants as next
 use Rattle.http_desk.specs.declared.serve.StreamFault.{StreamFault}
 use Rattle.http_desk.specs.declared.serve.StreamFault.TheVariants as fault
-use Rattle.http_desk.specs.Asking.{Asks, IsAskedBehind}
-use Rattle.http_desk.specs.Talk.{Talk, over}
-use Rattle.http_desk.specs.Serving.{Exchanges, Turned, TakesSome}
+use Rattle.http_desk.specs.claim.Asking.{Asks, IsAskedBehind}
+use Rattle.http_desk.specs.claim.Talk.{Talk, over}
+use Rattle.http_desk.specs.claim.Serving.{Exchanges}
+use Rattle.http_desk.specs.Serving.{Turned, TakesSome}
 use Rattle.http_desk.proofs.TalkLemmas.{Consumes-then, queued_then, cut_next}
 use Rattle.http_desk.proofs.ListLemmas.{Told}
 

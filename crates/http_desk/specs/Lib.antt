@@ -1,5 +1,3 @@
-pub mod Answers
+pub mod claim
 pub mod Asking
-pub mod Bodies
 pub mod Serving
-pub mod Talk

@@ -1,14 +1,14 @@
 //! The answer to a request, put together before its first byte is written.
 ghost use Rattle.std.specs.Prelude.{◌≡◌, ◌≤◌, ◌||◌, [], ℕ, length, codes, OnOk, OnErr, IfOk, Some, None, option_map, true, false, if◌then◌else◌};
-ghost use Rattle.byte_stream.specs.Sends.{failures_with};
+ghost use Rattle.byte_stream.specs.claim.Sends.{failures_with};
 ghost use Rattle.http_answer.specs.Queue.{Queues};
 ghost use Rattle.http_answer.specs.Answer.{allowed_len};
-ghost use Rattle.http_desk.specs.Bodies.{error_body};
-ghost use Rattle.http_routes.specs.Methods.{methods_text};
-ghost use Rattle.http_desk.specs.Answers.{bytes_of, saying, message_of, closes_after, error_message, error_name as error_name_of};
-ghost use Rattle.http_desk.specs.Answers.{error_status as error_status_of, error_allow as error_allow_of, fault_message};
-ghost use Rattle.http_desk.specs.Answers.{fault_name as fault_name_of, fault_status as fault_status_of, memory_text};
-ghost use Rattle.http_desk.specs.Answers.{refusal_status as refusal_status_of, refusal_closes, MayStarve, Tells};
+ghost use Rattle.http_desk.specs.claim.Bodies.{error_body};
+ghost use Rattle.http_routes.specs.claim.Methods.{methods_text};
+ghost use Rattle.http_desk.specs.claim.Answers.{bytes_of, saying, message_of, closes_after, error_message, error_name as error_name_of};
+ghost use Rattle.http_desk.specs.claim.Answers.{error_status as error_status_of, error_allow as error_allow_of, fault_message};
+ghost use Rattle.http_desk.specs.claim.Answers.{fault_name as fault_name_of, fault_status as fault_status_of, memory_text};
+ghost use Rattle.http_desk.specs.claim.Answers.{refusal_status as refusal_status_of, refusal_closes, MayStarve, Tells};
 
 use crate::body::put_plans;
 use crate::short::{SHORT, put_created, put_error, put_refusal, put_retired};
@@ -44,8 +44,8 @@ pub struct Answer {
 
 impl Model for Answer {
     ghost use Rattle.std.specs.Prelude.{List, ℕ, option_map, if◌then◌else◌, ◌≤◌, vec_capacity};
-    ghost use Rattle.http_answer.specs.Answer.{answer_text};
-    ghost use Rattle.http_routes.specs.Methods.{methods_text};
+    ghost use Rattle.http_answer.specs.claim.Answer.{answer_text};
+    ghost use Rattle.http_routes.specs.claim.Methods.{methods_text};
 
     ghost Value = { List ℕ };
 

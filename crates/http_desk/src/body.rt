@@ -1,8 +1,8 @@
 //! The list of plans, as JSON.
 ghost use Rattle.std.specs.Prelude.{◌≡◌, ◌++◌, codes, decimal, OnOk};
-ghost use Rattle.desk_model.specs.Kind.{kind_name};
+ghost use Rattle.desk_model.specs.claim.Kind.{kind_name};
 ghost use Rattle.serde_json.specs.Written.{compact_text, comma_if};
-ghost use Rattle.http_desk.specs.Bodies.{row_data, plans_body};
+ghost use Rattle.http_desk.specs.claim.Bodies.{row_data, plans_body};
 
 use desk_model::kind::Kind;
 use desk_model::reply::PlanLine;

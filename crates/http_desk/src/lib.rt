@@ -22,7 +22,7 @@
 //! 5. GET of `/plans` without a body goes a shorter way (`exchange_held`): `take_plain` takes it where it is. `list_law` of http_routes
 //!    says that its order would be that query.
 //!
-//! The theorem over all streams is `Talk`, in crates/http_desk/specs/Talk.antt, generic in what answers.
+//! The theorem over all streams is `Talk`, in crates/http_desk/specs/claim/Talk.antt, generic in what answers.
 #![tactic(auto)]
 
 pub mod answer;

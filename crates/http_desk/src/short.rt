@@ -1,7 +1,7 @@
 //! Short bodies, put together in a buffer that was made first, so that they take no memory.
 ghost use Rattle.std.specs.Prelude.{◌≡◌, ◌≤◌, ◌+◌, ◌-◌, ◌++◌, length, replicate, decimal, vec_capacity, vec_len, codes};
-ghost use Rattle.http_desk.specs.Bodies.{created_body, retired_body, error_body, refusal_body};
-ghost use Rattle.desk_model.specs.Baf.{padded_decimal};
+ghost use Rattle.http_desk.specs.claim.Bodies.{created_body, retired_body, error_body, refusal_body};
+ghost use Rattle.desk_model.specs.claim.Padded.{padded_decimal};
 ghost use Rattle.desk_model.specs.declared.reply.Refusal.TheVariants.{BadBody, Stale, NotWholeCounty};
 
 use desk_model::decimal::Padded;

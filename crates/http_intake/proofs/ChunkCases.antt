@@ -8,9 +8,10 @@ use Rattle.httparse.proofs.GrammarLemmas.{section_unique, ReadsSection-append}
 use Rattle.httparse.proofs.ChunkLemmas.{ReadsChunkLine-append}
 use Rattle.http_intake.specs.declared.chunk_fault.Fault.{Fault}
 use Rattle.http_intake.specs.declared.chunk_fault.Fault.TheVariants.{BadHead, HeadTooLarge, BodyTooLarge, BadChunk}
-use Rattle.http_intake.specs.Lines.{section_lines}
-use Rattle.http_intake.specs.Limits.{window, body_limit}
-use Rattle.http_intake.specs.Chunks.{line_window, HasLine, RefusesLine, IsOpenLine, HasTrailers, RefusesTrailers, AreOpenTrailers, HasChunk, HasChunks, HasChunkFault, LacksChunks, HasLastLine, HasDataLine, IsNoEnd, IsOpenEnd, AreNoChunks}
+use Rattle.http_intake.specs.claim.Lines.{section_lines}
+use Rattle.http_intake.specs.claim.Limits.{window, body_limit}
+use Rattle.http_intake.specs.claim.Chunks.{line_window, HasLine, RefusesLine, IsOpenLine, HasTrailers, RefusesTrailers, AreOpenTrailers, HasChunk, HasChunks, HasChunkFault, LacksChunks, HasLastLine, HasDataLine, IsNoEnd, IsOpenEnd}
+use Rattle.http_intake.specs.Chunks.{AreNoChunks}
 use Rattle.http_intake.proofs.Fronts.{window_rest, window_short, either_front}
 use Rattle.http_intake.proofs.LineLemmas.{lines_of_section, section_lines_grow}
 use Rattle.http_intake.proofs.ChunkLookLemmas.{section_overflows_at, some_line}

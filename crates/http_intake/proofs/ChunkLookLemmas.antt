@@ -8,8 +8,8 @@ use Rattle.std.specs.Prelude.{All}
 use Rattle.httparse.specs.Grammar.{LineEnd, crlf, lf, print_end, print_extension, Field, IsField, print_field, print_section, HasNoSection, ChunkLine, print_chunk_line, IsChunkLine}
 use Rattle.httparse.specs.Spans.{header_bytes, name_and_value, IsChunkLineAt, IsSectionWithin, IsSectionAt, SectionOverflows, SectionExceeds}
 use Rattle.httparse.specs.declared.spans.HeaderSpan.{HeaderSpan}
-use Rattle.http_intake.specs.Lines.{section_lines}
-use Rattle.http_intake.specs.Chunks.{HasTrailers, IsOpenEnd, line_window}
+use Rattle.http_intake.specs.claim.Lines.{section_lines}
+use Rattle.http_intake.specs.claim.Chunks.{HasTrailers, IsOpenEnd, line_window}
 use Rattle.http_intake.specs.declared.chunk_line.FoundLine.{FoundLine}
 use Rattle.http_intake.specs.ChunkParts.{IsLineAt}
 use Rattle.http_intake.proofs.Fronts.{front_of_front, take_min}

@@ -17,7 +17,7 @@ use Rattle.http_intake.specs.declared.sought.Seen.TheVariants.{Wanting}
 use Rattle.http_intake.specs.Draws.{IsPutOff}
 use Rattle.http_intake.proofs.DrawsLemmas.{not_put_off}
 use Rattle.http_intake.specs.Chunked.{ChunksCame}
-use Rattle.http_intake.specs.Chunks.{HasLine, IsOpenLine, IsOpenEnd, AreOpenTrailers, HasDataLine, HasLastLine, HasChunk, HasChunks, HasChunkFault, LacksChunks}
+use Rattle.http_intake.specs.claim.Chunks.{HasLine, IsOpenLine, IsOpenEnd, AreOpenTrailers, HasDataLine, HasLastLine, HasChunk, HasChunks, HasChunkFault, LacksChunks}
 use Rattle.http_intake.specs.ChunkParts.{IsLineAt, SeesLine, SeesEnd, SeesTrailers, EndCame, TrailersCame, HasData, LacksData, DataCame, StepCame, after_trailers, after_data}
 
 line_before : (input : List ℕ) (l : ChunkLine) (rest more : List ℕ) → HasLine input l rest → HasLine (input ++ more) l (rest ++ more)

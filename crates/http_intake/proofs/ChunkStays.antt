@@ -7,9 +7,9 @@ use Rattle.httparse.proofs.ChunkLemmas.{ReadsChunkLine-append}
 use Rattle.httparse.proofs.GrammarLemmas.{ReadsSection-append}
 use Rattle.http_intake.specs.declared.chunk_fault.Fault.{Fault}
 use Rattle.http_intake.specs.declared.chunk_fault.Fault.TheVariants.{BadHead, HeadTooLarge}
-use Rattle.http_intake.specs.Lines.{section_lines}
-use Rattle.http_intake.specs.Limits.{window}
-use Rattle.http_intake.specs.Chunks.{line_window, HasLine, HasTrailers, HasChunk, HasLastLine, HasDataLine, HasChunks, RefusesLine, RefusesTrailers, IsNoEnd, HasTooManyTrailers, AreTooLong, HasChunkFault}
+use Rattle.http_intake.specs.claim.Lines.{section_lines}
+use Rattle.http_intake.specs.claim.Limits.{window}
+use Rattle.http_intake.specs.claim.Chunks.{line_window, HasLine, HasTrailers, HasChunk, HasLastLine, HasDataLine, HasChunks, RefusesLine, RefusesTrailers, IsNoEnd, HasTooManyTrailers, AreTooLong, HasChunkFault}
 use Rattle.http_intake.proofs.LineLemmas.{section_lines_grow}
 use Rattle.http_intake.proofs.Fronts.{take_grows, window_grows, window_full}
 use Rattle.http_intake.proofs.ChunkLemmas.{trailers_are}

@@ -7,7 +7,7 @@ use Rattle.std.specs.Prelude.{All}
 use Rattle.httparse.specs.Grammar.{is_token_byte, is_uri_byte, is_value_byte, AllPass, LineEnd, crlf, lf, print_end, print_blank, print_version, Field, print_field, IsField, print_section, RequestHead, IsRequestHead, print_request}
 use Rattle.httparse.proofs.GrammarLemmas.{print_request-append}
 use Rattle.httparse.proofs.PieceLemmas.{token_is_no_newline}
-use Rattle.http_intake.specs.Lines.{IsWithinLine, is_newline, begins_empty, lines_end, section_lines, head_lines}
+use Rattle.http_intake.specs.claim.Lines.{IsWithinLine, is_newline, begins_empty, lines_end, section_lines, head_lines}
 
 -- a byte that is no LF
 other_end : (b : ℕ) (xs : List ℕ) → b ≢ 10 → lines_end (b ∷ xs) ≡ lines_end xs

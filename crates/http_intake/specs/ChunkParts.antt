@@ -11,8 +11,8 @@ use Rattle.http_intake.specs.declared.fault.WireFault.TheVariants as fault
 use Rattle.http_intake.specs.declared.sought.Seen.{Seen}
 use Rattle.http_intake.specs.declared.sought.Seen.TheVariants.{Found, Refused, Wanting}
 use Rattle.http_intake.specs.Chunked.{LacksChunksAtEnd}
-use Rattle.http_intake.specs.Chunks.{HasLine, HasChunk, HasChunks, HasChunkFault, HasTrailers, LacksChunks}
-use Rattle.http_intake.specs.Chunks.{RefusesLine, RefusesTrailers, IsNoEnd, IsOpenLine, IsOpenEnd, AreOpenTrailers}
+use Rattle.http_intake.specs.claim.Chunks.{HasLine, HasChunk, HasChunks, HasChunkFault, HasTrailers, LacksChunks}
+use Rattle.http_intake.specs.claim.Chunks.{RefusesLine, RefusesTrailers, IsNoEnd, IsOpenLine, IsOpenEnd, AreOpenTrailers}
 
 -- the line of a chunk stands at the front, and this is its length and its size
 pub record IsLineAt (bytes : List ℕ) (found : FoundLine) : Type 0 where

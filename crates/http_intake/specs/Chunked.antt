@@ -5,7 +5,7 @@ use Rattle.http_intake.specs.declared.chunks.Chunked.{Chunked}
 use Rattle.http_intake.specs.declared.chunks.Chunked.TheVariants.{Whole, Lacking, Refused}
 use Rattle.http_intake.specs.declared.fault.WireFault.{WireFault}
 use Rattle.http_intake.specs.declared.fault.WireFault.TheVariants as fault
-use Rattle.http_intake.specs.Chunks.{HasChunks, HasChunkFault, LacksChunks}
+use Rattle.http_intake.specs.claim.Chunks.{HasChunks, HasChunkFault, LacksChunks}
 
 -- behind n bytes of the body, what stands at the front of the input
 abbrev pub ChunksCame : ℕ → List ℕ → Result Chunked WireFault → List ℕ → List ℕ → Type 0

@@ -3,7 +3,7 @@ ghost use Rattle.std.specs.Prelude.{◌≡◌, ◌≢◌, ℕ, ◌+◌, ◌-◌,
 ghost use Rattle.http_intake.specs.Body.{Fills};
 ghost use Rattle.http_intake.specs.Budget.{failures_of};
 ghost use Rattle.byte_stream.specs.Turns.{TurnConsumes, failures_after};
-ghost use Rattle.byte_stream.specs.Counts.{counted};
+ghost use Rattle.byte_stream.specs.claim.Counts.{counted};
 ghost use Rattle.http_intake.specs.Budget.{Spends};
 
 use crate::fault::WireFault;

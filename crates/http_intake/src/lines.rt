@@ -1,8 +1,8 @@
 //! The lines that have come, up to the first empty one.
 ghost use Rattle.std.specs.Prelude.{◌≡◌, ◌==◌};
 ghost use Rattle.std.specs.List.{list_any};
-ghost use Rattle.http_intake.specs.Lines.{begins_empty as begins_empty_line, lines_end as lines_end_in};
-ghost use Rattle.http_intake.specs.Lines.{section_lines as section_lines_in, head_lines as head_lines_in};
+ghost use Rattle.http_intake.specs.claim.Lines.{begins_empty as begins_empty_line, lines_end as lines_end_in};
+ghost use Rattle.http_intake.specs.claim.Lines.{section_lines as section_lines_in, head_lines as head_lines_in};
 
 /// Whether the line that begins here is empty.
 fn begins_empty(bytes: &[u8]) -> bool

@@ -2,7 +2,7 @@
 ghost use Rattle.std.specs.Prelude.{◌≡◌, ◌<◌, length};
 ghost use Rattle.httparse.specs.Grammar.{HasNoSection, MayBecomeSection};
 ghost use Rattle.http_intake.specs.ChunkParts.{SeesTrailers};
-ghost use Rattle.http_intake.specs.Limits.{window};
+ghost use Rattle.http_intake.specs.claim.Limits.{window};
 
 use crate::chunk_fault::Fault;
 use crate::limits::{FIELD_LIMIT, HEAD_LIMIT};

@@ -8,7 +8,8 @@ use Rattle.matchit.specs.declared.error.InsertError.TheVariants.{Conflict, OutOf
 use Rattle.http_routes.specs.declared.route.Page.{Page}
 use Rattle.http_routes.specs.declared.route.Page.TheVariants.{Blocks, Plans, Plan, Revisions, Counties, Revision}
 use Rattle.matchit.proofs.OnLiterals.{matchit_on_literals}
-use Rattle.http_routes.specs.Routes.{with_read, with_route, DeclinesRead, Declines}
+use Rattle.http_routes.specs.claim.Routes.{with_read, with_route}
+use Rattle.http_routes.specs.Routes.{DeclinesRead, Declines}
 use Rattle.matchit.specs.Route.{parse_route}
 
 pub added : (read : Result Scan InsertError) (page : Page) (old new : RowsOf (RouteOf Page)) (r : Result (Unit {0}) InsertError) (u : Unit {0}) → r ≡ Ok u → InsertsRead read page old new r → new ≡ with_read read page old

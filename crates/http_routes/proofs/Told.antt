@@ -3,7 +3,7 @@ use Rattle.std.proofs.Common.{◌≡◌, ℕ, List, ◌∷◌, map, Option, Some
 use Rattle.std.specs.List.{fold}
 use Rattle.std.proofs.lemmas.List.Folds.{fold_stays}
 use Rattle.desk_model.specs.declared.companions.Companions.{Companions}
-use Rattle.http_routes.specs.Queries.{form_text, texts_of, more_told}
+use Rattle.http_routes.specs.claim.Queries.{form_text, texts_of, more_told}
 
 -- what the pairs that are left tell with what was told before them
 abbrev pub told_by : Companions (List ℕ × ℕ) → List (List ℕ × List ℕ) → Option (Companions (List ℕ × ℕ))

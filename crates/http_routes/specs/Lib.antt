@@ -1,5 +1,4 @@
-pub mod Methods
+pub mod claim
 pub mod Orders
 pub mod Pairs
-pub mod Queries
 pub mod Routes

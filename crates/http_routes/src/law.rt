@@ -1,7 +1,7 @@
 //! What a worked request asks for.
 ghost use Rattle.std.specs.Prelude.{◌≡◌, [], codes};
 ghost use Rattle.desk_model.specs.declared.command.Query.TheVariants.{Plans};
-ghost use Rattle.http_routes.specs.Orders.{order_of};
+ghost use Rattle.http_routes.specs.claim.Orders.{order_of};
 ghost use Rattle.http_routes.specs.declared.order.Order.TheVariants as order;
 
 /// GET of `/plans` without a body asks for the list of plans.

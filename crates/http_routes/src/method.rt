@@ -1,6 +1,6 @@
 //! The methods that pages take.
 ghost use Rattle.std.specs.Prelude.{◌≡◌, ◌≤◌, length};
-ghost use Rattle.http_routes.specs.Methods.{is_known as is_known_method, methods_of as methods_of_page, takes as takes_method, methods_text};
+ghost use Rattle.http_routes.specs.claim.Methods.{is_known as is_known_method, methods_of as methods_of_page, takes as takes_method, methods_text};
 
 use crate::route::Page;
 use http::Method;

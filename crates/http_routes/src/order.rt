@@ -1,15 +1,16 @@
 //! Requests to commands and queries.
 ghost use Rattle.std.specs.Prelude.{◌≡◌, true, ◌&&◌, Some, IfOk, OnErr};
 ghost use Rattle.std.specs.Str.{IsAscii};
-ghost use Rattle.http_routes.specs.Routes.{the_routes};
-ghost use Rattle.http_routes.specs.Orders.{order_of as order_of_request, order_at, order_on};
-ghost use Rattle.http_routes.specs.Orders.{name_in as name_in_path, create_order as create_order_of};
-ghost use Rattle.http_routes.specs.Orders.{whole_order as whole_order_of, counties_order as counties_order_of};
-ghost use Rattle.http_routes.specs.Orders.{retire_order as retire_order_of, fork_order as fork_order_of};
-ghost use Rattle.http_routes.specs.Orders.{plan_order as plan_order_of, plain_query as plain_query_of, revision_order as revision_order_of};
-ghost use Rattle.http_routes.specs.Orders.{audit_order as audit_order_of, number_in as number_in_path, is_decoded, may_decode, may_take_memory};
-ghost use Rattle.http_routes.specs.Queries.{create_query as create_query_of, after_query as after_query_of};
-ghost use Rattle.http_routes.specs.Queries.{from_query as from_query_of, companions_query as companions_query_of};
+ghost use Rattle.http_routes.specs.claim.Routes.{the_routes};
+ghost use Rattle.http_routes.specs.claim.Orders.{order_of as order_of_request, order_at, order_on};
+ghost use Rattle.http_routes.specs.claim.Orders.{name_in as name_in_path, create_order as create_order_of};
+ghost use Rattle.http_routes.specs.claim.Orders.{whole_order as whole_order_of, counties_order as counties_order_of};
+ghost use Rattle.http_routes.specs.claim.Orders.{retire_order as retire_order_of, fork_order as fork_order_of};
+ghost use Rattle.http_routes.specs.claim.Orders.{plan_order as plan_order_of, plain_query as plain_query_of, revision_order as revision_order_of};
+ghost use Rattle.http_routes.specs.claim.Orders.{audit_order as audit_order_of, number_in as number_in_path};
+ghost use Rattle.http_routes.specs.Orders.{is_decoded, may_decode, may_take_memory};
+ghost use Rattle.http_routes.specs.claim.Queries.{create_query as create_query_of, after_query as after_query_of};
+ghost use Rattle.http_routes.specs.claim.Queries.{from_query as from_query_of, companions_query as companions_query_of};
 
 use crate::method::{Methods, is_known, methods_of};
 use crate::query::{

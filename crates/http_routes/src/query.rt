@@ -3,12 +3,12 @@ ghost use Rattle.std.specs.Prelude.{◌≡◌, ℕ, List, [], ◌∷◌, length,
 ghost use Rattle.std.specs.Str.{bytes_eq};
 ghost use Rattle.std.specs.Cow.{cow_str_bytes};
 ghost use Rattle.form_urlencoded.specs.Form.{raw_pairs as raw_pairs_of, pair_text};
-ghost use Rattle.http_routes.specs.Queries.{form_text, size_of as size_of_texts, create_query as create_query_of};
-ghost use Rattle.http_routes.specs.Queries.{after_query as after_query_of, from_query as from_query_of};
-ghost use Rattle.http_routes.specs.Queries.{address_of as address_of_text, address_once as address_once_of, more_told};
-ghost use Rattle.http_routes.specs.Queries.{companions_query as companions_query_of, is_no_query as has_no_pair};
+ghost use Rattle.http_routes.specs.claim.Queries.{form_text, size_of as size_of_texts, create_query as create_query_of};
+ghost use Rattle.http_routes.specs.claim.Queries.{after_query as after_query_of, from_query as from_query_of};
+ghost use Rattle.http_routes.specs.claim.Queries.{address_of as address_of_text, address_once as address_once_of, more_told};
+ghost use Rattle.http_routes.specs.claim.Queries.{companions_query as companions_query_of, is_no_query as has_no_pair};
 ghost use Rattle.http_routes.specs.Pairs.{HasOne, HasTwo};
-ghost use Rattle.field_text.specs.Digits.{number_of};
+ghost use Rattle.field_text.specs.claim.Digits.{number_of};
 
 use crate::route::around;
 use desk_model::companions::Companions;

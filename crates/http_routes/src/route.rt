@@ -1,8 +1,9 @@
 //! The table of paths.
 ghost use Rattle.std.specs.Prelude.{◌≡◌, ◌==◌, ◌≤◌, IfOk, IfErr, OnOk, length};
 ghost use Rattle.std.specs.List.{before_first, after_first, position_or_len};
-ghost use Rattle.http_routes.specs.Routes.{the_routes, with_route, Declines, page_of as page_of_path};
-ghost use Rattle.http_routes.specs.Routes.{plan_part as plan_part_of, revision_part as revision_part_of};
+ghost use Rattle.http_routes.specs.claim.Routes.{the_routes, with_route, page_of as page_of_path};
+ghost use Rattle.http_routes.specs.Routes.{Declines};
+ghost use Rattle.http_routes.specs.claim.Routes.{plan_part as plan_part_of, revision_part as revision_part_of};
 
 use matchit::{InsertError, Router};
 use std::alloc::Global;

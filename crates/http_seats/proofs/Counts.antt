@@ -5,13 +5,15 @@ use Rattle.std.proofs.lemmas.List.Elements.{All-nil, All-cons, All-head, All-tai
 use Rattle.std.proofs.lemmas.List.Sums.{sum_by-cons}
 use mathlib.Core.List.{IsPrefix}
 use Rattle.desk_model.specs.declared.command.Command.{Command}
-use Rattle.desk_model.specs.Desk.{Desk}
+use Rattle.desk_model.specs.claim.Desk.{Desk}
 use Rattle.http_desk.specs.declared.serve.Served.{Served}
 use Rattle.http_desk.specs.declared.serve.StreamFault.{StreamFault}
 use Rattle.http_arrivals.specs.declared.ran.Ran.{Ran}
-use Rattle.http_arrivals.specs.Running.{no_streams, one_more, requests_of}
-use Rattle.http_seats.specs.Seated.{Seated, newcomer, seats_at}
-use Rattle.http_seats.specs.Streams.{Traffic, Worker, IsTalkedTo, AreServed, LeavesPlace, LeavesPlaces, EachHasWorked, places_of}
+use Rattle.http_arrivals.specs.claim.Running.{no_streams, one_more, requests_of}
+use Rattle.http_seats.specs.claim.Seated.{Seated, newcomer}
+use Rattle.http_seats.specs.Seated.{seats_at}
+use Rattle.http_seats.specs.claim.Streams.{Traffic, Worker, IsTalkedTo, AreServed, LeavesPlace, LeavesPlaces, EachHasWorked}
+use Rattle.http_seats.specs.Streams.{places_of}
 
 -- a place as its guest and what its streams came to
 abbrev pub standing : {P : Type 0} → (P → Option Seated) → (P → Ran) → P → Option Seated × Ran

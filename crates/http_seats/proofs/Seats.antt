@@ -4,7 +4,7 @@ use mathlib.Core.List.{IsPrefix}
 use Rattle.desk_model.specs.declared.command.Command.{Command}
 use Rattle.desk_model.specs.declared.reply.Reply.{Reply}
 use Rattle.desk_model.specs.declared.reply.Reply.TheVariants as reply
-use Rattle.desk_model.specs.Outcome.{IsAcceptance}
+use Rattle.desk_model.specs.claim.Outcome.{IsAcceptance}
 use Rattle.desk_gallery.proofs.Pasts.{prefix_self, prefix_trans, prefix_length, prefix_whole}
 
 accepted_or_not : (r : Reply) → IsAcceptance r ⊎ (IsAcceptance r → ⊥)

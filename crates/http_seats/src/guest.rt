@@ -1,6 +1,6 @@
 //! Who sits at a seat.
 ghost use Rattle.std.specs.Prelude.{◌≡◌};
-ghost use Rattle.http_seats.specs.Seated.{newcomer};
+ghost use Rattle.http_seats.specs.claim.Seated.{newcomer};
 
 use desk_gallery::book::Room;
 use desk_gallery::tally::Tally;
@@ -15,7 +15,7 @@ pub struct Guest<J: Room> {
 }
 
 impl<J: Room> Model for Guest<J> {
-    ghost use Rattle.http_seats.specs.Seated.{Seated};
+    ghost use Rattle.http_seats.specs.claim.Seated.{Seated};
 
     ghost Value = { Seated };
 

@@ -3,12 +3,13 @@ ghost use Rattle.std.specs.Prelude.{◌≡◌, ◌≤◌, ◌+◌, All, IfOk, If
 ghost use Rattle.std.specs.List.{sum_by};
 ghost use mathlib.Core.List.{IsPrefix};
 ghost use Rattle.desk_model.specs.declared.command.Command.{Command};
-ghost use Rattle.desk_store.specs.Clerks.{desk_of, Keeps};
-ghost use Rattle.desk_gallery.specs.Begun.{IsLeftBy};
+ghost use Rattle.desk_store.specs.claim.Clerks.{desk_of, Keeps};
+ghost use Rattle.desk_gallery.specs.claim.Begun.{IsLeftBy};
 ghost use Rattle.desk_gallery.specs.Working.{IsRunFrom};
-ghost use Rattle.http_arrivals.specs.Running.{no_streams};
+ghost use Rattle.http_arrivals.specs.claim.Running.{no_streams};
 ghost use Rattle.http_seats.specs.Seated.{accepted_at, halted_at, seats_at};
-ghost use Rattle.http_seats.specs.Streams.{HasServed, HasWorked, IsAskedOf, LeavesPlace, LeavesPlaces, WereVisitors, total_of, traffic};
+ghost use Rattle.http_seats.specs.claim.Streams.{HasServed, HasWorked, IsAskedOf, LeavesPlace, LeavesPlaces, total_of};
+ghost use Rattle.http_seats.specs.Streams.{WereVisitors, traffic};
 
 use crate::guest::Guest;
 use crate::seat::Seat;

@@ -2,9 +2,9 @@
 ghost use Rattle.std.specs.Prelude.{◌≡◌, IfOk};
 ghost use Rattle.std.specs.Sync.Mutex.{mutex_guard_value};
 ghost use mathlib.Core.List.{IsPrefix};
-ghost use Rattle.desk_model.specs.Desk.{Desk};
-ghost use Rattle.desk_catalogue.specs.Audits.{AskMay};
-ghost use Rattle.http_seats.specs.Explained.{ExplainsCommand, ExplainsQuery};
+ghost use Rattle.desk_model.specs.claim.Desk.{Desk};
+ghost use Rattle.desk_catalogue.specs.claim.Audits.{AskMay};
+ghost use Rattle.http_seats.specs.claim.Explained.{ExplainsCommand, ExplainsQuery};
 
 use crate::guest::Guest;
 use desk_catalogue::catalogue::Catalogue;
@@ -61,7 +61,7 @@ pub struct Seat<'a, J: Room, D: SectorDevice, R> {
 }
 
 impl<'a, J: Room, D: SectorDevice, R> Model for Seat<'a, J, D, R> {
-    ghost use Rattle.http_seats.specs.Seated.{Seated};
+    ghost use Rattle.http_seats.specs.claim.Seated.{Seated};
 
     ghost Value = { Seated };
 

@@ -7,10 +7,10 @@ use Rattle.http_intake.specs.declared.chunk_fault.Fault.{Fault}
 use Rattle.http_intake.specs.declared.chunk_fault.Fault.TheVariants.{BadHead, HeadTooLarge, BadTarget}
 use Rattle.http_wire.specs.declared.head.Framing.{Framing}
 use Rattle.http_wire.specs.declared.head.Framing.TheVariants.{Sized, Chunked}
-use Rattle.http_intake.specs.Lines.{head_lines}
-use Rattle.http_intake.specs.Limits.{window}
-use Rattle.http_wire.specs.Target.{target_of}
-use Rattle.http_wire.specs.Front.{HasHead, HasMessage, RefusesBytes, IsOpen, HasBody, IsFaulty, Lacks, judged_head, is_head}
+use Rattle.http_intake.specs.claim.Lines.{head_lines}
+use Rattle.http_intake.specs.claim.Limits.{window}
+use Rattle.http_wire.specs.claim.Target.{target_of}
+use Rattle.http_wire.specs.claim.Front.{HasHead, HasMessage, RefusesBytes, IsOpen, HasBody, IsFaulty, Lacks, judged_head, is_head}
 use Rattle.http_wire.specs.Law.{IsNoFront}
 use Rattle.http_intake.proofs.Fronts.{window_rest, window_short, either_front}
 use Rattle.http_intake.specs.Chunks.{ChunkLaw}

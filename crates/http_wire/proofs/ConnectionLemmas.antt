@@ -7,7 +7,7 @@ use Rattle.std.proofs.lemmas.List.{append-nil}
 use Rattle.std.proofs.lemmas.List.Splits.{slice_split_none, slice_split_first, length-slice_split}
 use Rattle.std.proofs.lemmas.Bool.Decides.{nat_tests}
 use Rattle.std.proofs.lemmas.List.Sums.{fails_before_first}
-use Rattle.http_wire.specs.Connection.{parts, ends_in}
+use Rattle.http_wire.specs.claim.Connection.{parts, ends_in}
 
 -- without a comma there is one part
 pub whole_part : (value : List ℕ) (end : ℕ) → end ≡ position_or_len (λ b. b == 44) value → end ≡ length value → parts value ≡ value ∷ []

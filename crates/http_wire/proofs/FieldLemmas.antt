@@ -5,12 +5,12 @@ use Rattle.std.proofs.lemmas.List.Elements.{filter_map-append}
 use Rattle.std.specs.List.{slice_get, cons_option, flat_map}
 use Rattle.std.specs.Prelude.{◌==◌, ◌≢◌}
 use Rattle.std.proofs.lemmas.Bool.Decides.{nat_tests}
-use Rattle.http_wire.specs.Connection.{parts}
+use Rattle.http_wire.specs.claim.Connection.{parts}
 use Rattle.http_wire.proofs.ConnectionLemmas.{some_part}
 use Rattle.httparse.specs.Spans.{header_bytes}
 use Rattle.httparse.specs.declared.spans.HeaderSpan.{HeaderSpan}
-use Rattle.http_wire.specs.Target.{is_word}
-use Rattle.http_wire.specs.Front.{values, named_value, length_of, lengths_of}
+use Rattle.http_wire.specs.claim.Target.{is_word}
+use Rattle.http_wire.specs.claim.Front.{values, named_value, length_of, lengths_of}
 
 picked : (b : Bool) (v : List ℕ) → cons_option (cond b (Some v) None) [] ≡ cond b (v ∷ []) []
 picked true v = refl

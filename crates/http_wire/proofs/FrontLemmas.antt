@@ -5,15 +5,15 @@ use Rattle.httparse.specs.Grammar.{RequestHead, ReadsRequest, MayBecomeRequest, 
 use Rattle.httparse.proofs.GrammarLemmas.{request_unique}
 use Rattle.http_intake.specs.declared.chunk_fault.Fault.{Fault}
 use Rattle.http_intake.specs.declared.chunk_fault.Fault.TheVariants.{BadHead, HeadTooLarge, BadHost, BadLength, BadCoding, BodyTooLarge, BadTarget, BadChunk}
-use Rattle.http_intake.specs.Limits.{window}
-use Rattle.http_wire.specs.Front.{HasHead, HasMessage, HasRequest, IsNoHead, IsTooLong, HasTooManyLines, RefusesBytes, RefusesHead, RefusesBody, RefusesTarget, HasFault, HasBody, Lacks, IsFaulty, IsOpen, LacksBody, IsIncomplete, judged_head, is_head}
+use Rattle.http_intake.specs.claim.Limits.{window}
+use Rattle.http_wire.specs.claim.Front.{HasHead, HasMessage, HasRequest, IsNoHead, IsTooLong, HasTooManyLines, RefusesBytes, RefusesHead, RefusesBody, RefusesTarget, HasFault, HasBody, Lacks, IsFaulty, IsOpen, LacksBody, IsIncomplete, judged_head, is_head}
 use Rattle.http_intake.specs.Chunks as chunks
 use Rattle.http_intake.specs.Chunks.{ChunkLaw}
 use Rattle.http_intake.proofs.Fronts.{window_rest, same_cut}
 use Rattle.http_wire.specs.Law.{HasTwoHeadFaults, HasTwoBodyFaults, HasTwoFaults}
 use Rattle.http_wire.specs.declared.head.Framing.{Framing}
 use Rattle.http_wire.specs.declared.head.Framing.TheVariants.{Sized, Chunked}
-use Rattle.http_wire.specs.Target.{target_of}
+use Rattle.http_wire.specs.claim.Target.{target_of}
 
 -- a head within its limit stands in the window
 pub head_in_window : (input : List ℕ) (h : RequestHead) (rest : List ℕ) → HasHead input h rest → (r : List ℕ) × ReadsRequest (window input) h r

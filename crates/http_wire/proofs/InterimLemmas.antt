@@ -8,10 +8,12 @@ use Rattle.http_wire.specs.declared.head.Framing.TheVariants.{Sized, Chunked}
 use Rattle.http_wire.specs.declared.look.Head.{Head}
 use Rattle.http_intake.specs.Chunks.{ChunkLaw}
 use Rattle.http_intake.proofs.Fronts.{same_cut}
-use Rattle.http_intake.specs.Lines.{IsWithinLine}
+use Rattle.http_intake.specs.claim.Lines.{IsWithinLine}
 use Rattle.http_intake.specs.Draws.{IsPutOff}
-use Rattle.http_wire.specs.Front.{HasHead, HasFault, Lacks, IsOpen, IsIncomplete, RefusesFront, judged_head}
-use Rattle.http_wire.specs.Interim.{Interim, IsCutInterim, IsCutShort, continue_text, asks_by, asks_to_continue, has_body}
+use Rattle.http_wire.specs.claim.Front.{HasHead, HasFault, Lacks, IsOpen, IsIncomplete, judged_head}
+use Rattle.http_wire.specs.Front.{RefusesFront}
+use Rattle.http_wire.specs.claim.Interim.{Interim, continue_text, asks_by, asks_to_continue, has_body}
+use Rattle.http_wire.specs.Interim.{IsCutInterim, IsCutShort}
 use Rattle.http_wire.specs.Look.{IsFound}
 use Rattle.http_wire.proofs.FrontLemmas.{bytes_no_head, open_no_head}
 

@@ -10,7 +10,7 @@ use Rattle.httparse.specs.Spans.{header_bytes, name_and_value, span_bytes, IsReq
 use Rattle.httparse.specs.declared.spans.Span.{Span}
 use Rattle.httparse.specs.declared.spans.HeaderSpan.{HeaderSpan}
 use Rattle.httparse.specs.declared.spans.RequestSpans.{RequestSpans}
-use Rattle.http_intake.specs.Lines.{head_lines}
+use Rattle.http_intake.specs.claim.Lines.{head_lines}
 use Rattle.http_wire.specs.Look.{IsParsed, Sees}
 use Rattle.http_wire.specs.declared.look.Head.{Head}
 use Rattle.http_wire.specs.declared.look.HeadRefusal.{HeadRefusal}

@@ -2,11 +2,11 @@
 use Rattle.std.proofs.Common.{◌≡◌, ℕ, List, [], drop, Some, Ok, refl, sym, ap, subst, ◌∙◌}
 use Rattle.httparse.specs.Spans.{span_bytes}
 use Rattle.http_intake.specs.Chunks.{ChunkLaw}
-use Rattle.http_wire.specs.Target.{target_of}
+use Rattle.http_wire.specs.claim.Target.{target_of}
 use Rattle.http_wire.specs.declared.head.Framing.TheVariants.{Sized}
 use Rattle.http_wire.specs.declared.look.Head.{Head}
-use Rattle.http_wire.specs.Front.{HasRequest, judged_head}
-use Rattle.http_wire.specs.Interim.{continue_text, asks_by, asks_to_continue}
+use Rattle.http_wire.specs.claim.Front.{HasRequest, judged_head}
+use Rattle.http_wire.specs.claim.Interim.{continue_text, asks_by, asks_to_continue}
 use Rattle.http_wire.specs.Look.{IsFound}
 use Rattle.http_wire.specs.Plain.{IsPlain}
 use Rattle.http_wire.proofs.RequestLemmas.{request_front}

@@ -14,10 +14,10 @@ use Rattle.http_intake.specs.declared.chunks.Chunked.TheVariants as chunked
 use Rattle.http_wire.specs.declared.head.Framing.{Framing}
 use Rattle.http_wire.specs.declared.head.Framing.TheVariants as framing
 use Rattle.http_intake.specs.declared.chunk_fault.Fault.{Fault}
-use Rattle.http_wire.specs.Front.{HasHead, HasMessage, HasRequest, HasBody, HasFault, Lacks, IsFaulty, IsIncomplete, IsStarved, closes_after, is_head}
+use Rattle.http_wire.specs.claim.Front.{HasHead, HasMessage, HasRequest, HasBody, HasFault, Lacks, IsFaulty, IsIncomplete, IsStarved, closes_after, is_head}
 use Rattle.http_wire.proofs.TargetTexts.{target_ascii}
 use Rattle.http_wire.specs.Incoming.{ReadsFront, IsTargetOf, finished, targeted}
-use Rattle.http_wire.specs.Interim.{Interim, continue_text, asks_to_continue}
+use Rattle.http_wire.specs.claim.Interim.{Interim, continue_text, asks_to_continue}
 use Rattle.http_wire.specs.Look.{IsFound}
 
 pub head_before : (input : List ℕ) (h : RequestHead) (rest more : List ℕ) → HasHead input h rest → HasHead (input ++ more) h (rest ++ more)

@@ -10,9 +10,9 @@ use Rattle.httparse.specs.Spans.{RequestOverflows}
 use Rattle.httparse.proofs.GrammarLemmas.{print_request-append}
 use Rattle.http_intake.specs.declared.chunk_fault.Fault.{Fault}
 use Rattle.http_intake.specs.declared.chunk_fault.Fault.TheVariants.{BadHead, HeadTooLarge}
-use Rattle.http_intake.specs.Limits.{window}
-use Rattle.http_wire.specs.Front.{HasMessage, HasRequest, IsNoHead, IsTooLong, HasTooManyLines, RefusesBytes, HasFault, HasBody, IsFaulty}
-use Rattle.http_intake.specs.Lines.{head_lines}
+use Rattle.http_intake.specs.claim.Limits.{window}
+use Rattle.http_wire.specs.claim.Front.{HasMessage, HasRequest, IsNoHead, IsTooLong, HasTooManyLines, RefusesBytes, HasFault, HasBody, IsFaulty}
+use Rattle.http_intake.specs.claim.Lines.{head_lines}
 use Rattle.http_intake.specs.Chunks.{ChunkLaw}
 use Rattle.http_wire.specs.declared.head.Framing.{Framing}
 use Rattle.http_wire.specs.declared.head.Framing.TheVariants.{Sized, Chunked}

@@ -9,9 +9,10 @@ use Rattle.http_wire.specs.declared.look.Head.{Head}
 use Rattle.http_wire.specs.declared.request.Incoming.TheVariants as came
 use Rattle.http_wire.specs.declared.request.Request.{Request}
 use Rattle.http_intake.specs.Chunks.{ChunkLaw}
-use Rattle.http_wire.specs.Front.{HasBody, RefusesFront}
+use Rattle.http_wire.specs.claim.Front.{HasBody}
+use Rattle.http_wire.specs.Front.{RefusesFront}
 use Rattle.http_wire.specs.Incoming.{Came, Taken, IsNoEnd, IsTargetOf, targeted}
-use Rattle.http_wire.specs.Interim.{continue_text, asks_to_continue}
+use Rattle.http_wire.specs.claim.Interim.{continue_text, asks_to_continue}
 use Rattle.http_wire.specs.Look.{IsFound}
 use Rattle.http_wire.proofs.InterimLemmas.{found_asks, refused_front}
 use Rattle.http_wire.proofs.RequestLemmas.{rest_reads, starved, due}

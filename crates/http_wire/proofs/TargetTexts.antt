@@ -5,7 +5,7 @@ use Rattle.std.specs.Str.{IsAscii}
 use Rattle.std.proofs.lemmas.Str.{IsAscii-drop}
 use Rattle.std.proofs.lemmas.Str.Ascii.{IsAscii-nil, IsAscii-cons}
 use Rattle.std.proofs.lemmas.Bool.Decides.{nat_tests}
-use Rattle.http_wire.specs.Target.{is_ascii, is_word, begins_with_slash, ends_authority, behind_authority, behind_scheme, with_path, without_authority, target_of}
+use Rattle.http_wire.specs.claim.Target.{is_ascii, is_word, begins_with_slash, ends_authority, behind_authority, behind_scheme, with_path, without_authority, target_of}
 
 both : (a b : Bool) → (a && b) ≡ true → (a ≡ true) × (b ≡ true)
 both true true e = (refl, refl)

@@ -7,7 +7,7 @@ use Rattle.std.specs.Str.{IsUtf8}
 use Rattle.httparse.specs.Grammar.{is_token_byte, is_uri_byte, is_value_byte, Field, IsField, crlf, RequestHead, IsRequestHead}
 use Rattle.httparse.proofs.OnLiterals.{httparse_on_literals}
 use Rattle.http_intake.specs.declared.chunk_fault.Fault.TheVariants.{BadHost, BadLength}
-use Rattle.http_wire.specs.Front.{HasRequest, RefusesHead}
+use Rattle.http_wire.specs.claim.Front.{HasRequest, RefusesHead}
 use Rattle.http_wire.specs.Law.{WorkedFronts}
 use Rattle.http_wire.specs.declared.head.Framing.TheVariants.{Sized}
 

@@ -1,6 +1,6 @@
 -- Which failures a fault of a whole request tells.
 use Rattle.std.specs.Prelude.{ℕ, Result, Ok, Err}
-use Rattle.byte_stream.specs.Counts.{counted}
+use Rattle.byte_stream.specs.claim.Counts.{counted}
 use Rattle.http_wire.specs.declared.fault.RequestFault.{RequestFault}
 use Rattle.http_wire.specs.declared.fault.RequestFault.TheVariants as request
 

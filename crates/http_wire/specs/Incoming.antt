@@ -9,11 +9,12 @@ use Rattle.http_intake.specs.declared.fault.WireFault.{WireFault}
 use Rattle.http_intake.specs.declared.fault.WireFault.TheVariants as wire
 use Rattle.http_wire.specs.declared.fault.RequestFault.{RequestFault}
 use Rattle.http_wire.specs.declared.fault.RequestFault.TheVariants as fault
-use Rattle.http_wire.specs.Interim.{Interim, IsCutInterim, IsCutShort, continue_text, asks_to_continue}
-use Rattle.http_wire.specs.Target.{target_of}
+use Rattle.http_wire.specs.claim.Interim.{Interim, continue_text, asks_to_continue}
+use Rattle.http_wire.specs.Interim.{IsCutInterim, IsCutShort}
+use Rattle.http_wire.specs.claim.Target.{target_of}
 use Rattle.http_intake.specs.declared.chunks.Chunked.{Chunked}
 use Rattle.http_intake.specs.declared.chunks.Chunked.TheVariants as chunked
-use Rattle.http_wire.specs.Front.{HasRequest, HasFault, IsStarved, IsIncomplete, closes_after}
+use Rattle.http_wire.specs.claim.Front.{HasRequest, HasFault, IsStarved, IsIncomplete, closes_after}
 use Rattle.std.specs.Str.{IsAscii}
 use Rattle.http_intake.specs.declared.intake.Intake.{Intake}
 use Rattle.http_intake.specs.Budget.{Spends}

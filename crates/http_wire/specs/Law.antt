@@ -4,7 +4,7 @@ use Rattle.httparse.specs.Grammar.{RequestHead}
 use Rattle.http_intake.specs.declared.chunk_fault.Fault.{Fault}
 use Rattle.http_intake.specs.declared.chunk_fault.Fault.TheVariants.{BadHost, BadLength}
 use Rattle.http_intake.specs.Chunks as chunks
-use Rattle.http_wire.specs.Front.{HasHead, HasRequest, HasFault, closes_after, IsIncomplete, HasTooManyLines, IsNoHead}
+use Rattle.http_wire.specs.claim.Front.{HasHead, HasRequest, HasFault, closes_after, IsIncomplete, HasTooManyLines, IsNoHead}
 
 -- more than 64 lines have come, and no head can stand, whatever follows
 pub record HasTwoHeadFaults (input : List ℕ) : Type 0 where

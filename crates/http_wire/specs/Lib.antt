@@ -1,3 +1,4 @@
+pub mod claim
 pub mod Budget
 pub mod InTarget
 pub mod Connection

@@ -8,8 +8,9 @@ use Rattle.http_wire.specs.declared.look.Head.{Head}
 use Rattle.http_wire.specs.declared.look.HeadRefusal.{HeadRefusal}
 use Rattle.http_intake.specs.declared.sought.Seen.{Seen}
 use Rattle.http_intake.specs.declared.sought.Seen.TheVariants.{Found, Refused, Wanting}
-use Rattle.http_wire.specs.Interim.{asks_by}
-use Rattle.http_wire.specs.Front.{HasHead, RefusesFront, IsOpen, judged_head, closes_after, is_head}
+use Rattle.http_wire.specs.claim.Interim.{asks_by}
+use Rattle.http_wire.specs.claim.Front.{HasHead, IsOpen, judged_head, closes_after, is_head}
+use Rattle.http_wire.specs.Front.{RefusesFront}
 
 -- the head that the parser's spans tell stands at the front of bytes, and part is as much of them as was read
 pub record IsParsed (bytes part : List ℕ) (headers : List HeaderSpan) (s : RequestSpans) : Type 0 where

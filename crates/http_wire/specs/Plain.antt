@@ -1,8 +1,8 @@
 -- A request that is answered without a copy of it.
 use Rattle.std.specs.Prelude.{◌≡◌, ℕ, Bool, List, [], ◌++◌}
 use Rattle.httparse.specs.Grammar.{RequestHead}
-use Rattle.http_wire.specs.Front.{HasRequest, closes_after}
-use Rattle.http_wire.specs.Interim.{continue_text, asks_to_continue}
+use Rattle.http_wire.specs.claim.Front.{HasRequest, closes_after}
+use Rattle.http_wire.specs.claim.Interim.{continue_text, asks_to_continue}
 
 -- a request of this method and this target, without a body, stands at the front of the input, and rest follows it; closes tells
 -- whether the connection closes after its answer

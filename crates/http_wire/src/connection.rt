@@ -1,7 +1,7 @@
 //! Whether a request asks for the end of its connection.
 ghost use Rattle.std.specs.Prelude.{◌≡◌, length, map, All};
 ghost use Rattle.httparse.specs.Spans.{header_bytes, IsHeaderWithin};
-ghost use Rattle.http_wire.specs.Connection.{asks_to_close as asks_to_close_in};
+ghost use Rattle.http_wire.specs.claim.Connection.{asks_to_close as asks_to_close_in};
 
 use crate::lists::names_close;
 use crate::word::is_named;

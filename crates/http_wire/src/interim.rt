@@ -1,8 +1,8 @@
 //! The interim answer that asks for a body (RFC 9110, section 15.2.1).
 ghost use Rattle.std.specs.Prelude.{◌≡◌, ◌≤◌, length, map, true, All, OnErr};
 ghost use Rattle.httparse.specs.Spans.{header_bytes, IsHeaderWithin};
-ghost use Rattle.byte_stream.specs.Sends.{Sends, failures_with};
-ghost use Rattle.http_wire.specs.Interim.{continue_text, has_body as has_body_by, expects_continue as expects_continue_in};
+ghost use Rattle.byte_stream.specs.claim.Sends.{Sends, failures_with};
+ghost use Rattle.http_wire.specs.claim.Interim.{continue_text, has_body as has_body_by, expects_continue as expects_continue_in};
 
 use crate::head::Framing;
 use crate::word::is_named;

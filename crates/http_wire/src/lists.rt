@@ -3,7 +3,8 @@ ghost use Rattle.std.specs.Prelude.{◌≡◌, ◌==◌, ◌≤◌, length, reve
 ghost use Rattle.std.specs.List.{position_or_len};
 ghost use Rattle.std.specs.Option.{option_copied};
 ghost use Rattle.httparse.specs.Grammar.{skip_ows, trim_ows};
-ghost use Rattle.http_wire.specs.Connection.{IsCut, parts, ends_in, names_close as names_close_in};
+ghost use Rattle.http_wire.specs.Connection.{IsCut};
+ghost use Rattle.http_wire.specs.claim.Connection.{parts, ends_in, names_close as names_close_in};
 
 use crate::word::is_named;
 use httparse::is_space_or_tab;

@@ -1,8 +1,8 @@
 //! A look at the bytes that have come, for a head.
 ghost use Rattle.std.specs.Prelude.{◌≡◌, ◌<◌, ◌≤◌, ◌+◌, length, true, false, drop};
 ghost use Rattle.httparse.specs.Grammar.{HasNoRequest, NeverHasRequest, MayBecomeRequest};
-ghost use Rattle.http_intake.specs.Limits.{window};
-ghost use Rattle.http_wire.specs.Front.{is_head as is_head_method};
+ghost use Rattle.http_intake.specs.claim.Limits.{window};
+ghost use Rattle.http_wire.specs.claim.Front.{is_head as is_head_method};
 ghost use Rattle.http_wire.specs.Look.{IsParsed, Sees};
 ghost use Rattle.http_wire.specs.InTarget.{in_method, in_blank};
 ghost use Rattle.httparse.specs.Grammar.{EndsInTarget, is_uri_byte};
@@ -176,7 +176,7 @@ pub fn look_at(bytes: &[u8], headers: &mut [HeaderSpan]) -> Seen<Head, HeadRefus
 pub struct HeadSought;
 
 impl Sought for HeadSought {
-    ghost use Rattle.http_intake.specs.Lines.{IsWithinLine};
+    ghost use Rattle.http_intake.specs.claim.Lines.{IsWithinLine};
     ghost use Rattle.http_wire.specs.Look.{Sees};
 
     type Part = Head;

@@ -1,7 +1,7 @@
 //! Requests that are answered without a copy of them.
 ghost use Rattle.std.specs.Prelude.{◌≡◌, ◌<◌, ◌≤◌, length, true, Some, None, IfSome};
 ghost use Rattle.httparse.specs.Spans.{span_bytes, IsWithin};
-ghost use Rattle.http_wire.specs.Target.{target_of};
+ghost use Rattle.http_wire.specs.claim.Target.{target_of};
 ghost use Rattle.http_wire.specs.declared.head.Framing.TheVariants.{Sized};
 ghost use Rattle.http_wire.specs.Plain.{IsPlain};
 

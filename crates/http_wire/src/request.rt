@@ -10,7 +10,7 @@ ghost use Rattle.http_wire.specs.Budget.{read_failures_of, write_failures_of};
 ghost use Rattle.http_wire.specs.Framed.{BodyRead};
 ghost use Rattle.http_wire.specs.Incoming.{ReadsFront, EndsAt, TakesSome, Taken, DrawsRequest, finished, targeted as targeted_by, IsTargetOf};
 ghost use Rattle.http_wire.specs.Look.{IsFound};
-ghost use Rattle.http_wire.specs.Target.{target_of};
+ghost use Rattle.http_wire.specs.claim.Target.{target_of};
 
 use crate::fault::RequestFault;
 use crate::head::Framing;

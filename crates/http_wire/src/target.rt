@@ -1,8 +1,9 @@
 //! The path and the query that a target asks for.
 ghost use Rattle.std.specs.Prelude.{◌≡◌, IfOk};
 ghost use Rattle.std.specs.Option.{option_map};
-ghost use Rattle.http_wire.specs.Target.{is_ascii as is_ascii_text, begins_with_slash as begins_with_slash_in};
-ghost use Rattle.http_wire.specs.Target.{behind_authority as behind_authority_of, behind_scheme as behind_scheme_of, with_slash, target_of};
+ghost use Rattle.http_wire.specs.claim.Target.{is_ascii as is_ascii_text, begins_with_slash as begins_with_slash_in};
+ghost use Rattle.http_wire.specs.claim.Target.{behind_authority as behind_authority_of, behind_scheme as behind_scheme_of, target_of};
+ghost use Rattle.http_wire.specs.Target.{with_slash};
 
 use crate::word::is_named;
 use std::alloc::{AllocError, Global};

@@ -1,6 +1,6 @@
 //! Words in any case.
 ghost use Rattle.std.specs.Prelude.{◌≡◌};
-ghost use Rattle.http_wire.specs.Target.{is_word};
+ghost use Rattle.http_wire.specs.claim.Target.{is_word};
 
 /// Whether a field's name is the word, in any case.
 pub fn is_named(word: &[u8], name: &[u8]) -> bool

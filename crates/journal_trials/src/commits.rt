@@ -1,8 +1,8 @@
 //! A commit and an opening, stopped and failing at each call.
 ghost use Rattle.std.specs.Prelude.{◌≤◌, ℕ};
-ghost use Rattle.gate_journal.specs.Contents.{page_count};
+ghost use Rattle.gate_journal.specs.claim.Contents.{page_count};
 ghost use Rattle.gate_journal.specs.Store.{IsWithin};
-ghost use Rattle.gate_journal.specs.Writes.{writes_of};
+ghost use Rattle.gate_journal.specs.claim.Writes.{writes_of};
 
 use crate::recorder::{Recorder, SYNC};
 use gate_journal::{Journal, JournalError, PageWrites, format};

@@ -1,6 +1,6 @@
 -- How long a connection is kept, in milliseconds.
 use Rattle.std.specs.Prelude.{◌≡◌, ◌<◌, ℕ, ◌+◌, ◌-◌, ◌*◌, nat_lt, nat_le, Bool, true, false, ◌||◌, if◌then◌else◌}
-use Rattle.byte_stream.specs.Counts.{counted}
+use Rattle.byte_stream.specs.claim.Counts.{counted}
 use Rattle.byte_stream.specs.declared.source.Turn.{Turn}
 use Rattle.byte_stream.specs.declared.source.Turn.TheVariants.{Read, Interrupted, Failed}
 use Rattle.kept_connections.specs.declared.pace.Fate.{Fate}

@@ -1,7 +1,7 @@
 //! The writer of a connection, which marks its answers.
 ghost use Rattle.std.specs.Prelude.{◌≡◌, ◌++◌, nat_eq, codes};
 ghost use Rattle.std.specs.List.{ends_with};
-ghost use Rattle.byte_stream.specs.Sends.{Sends, failures_with};
+ghost use Rattle.byte_stream.specs.claim.Sends.{Sends, failures_with};
 ghost use Rattle.kept_connections.specs.Answers.{is_answer as is_answer_text};
 
 use crate::door::Door;

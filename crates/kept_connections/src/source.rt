@@ -1,7 +1,7 @@
 //! The reader of a connection, which judges how long that is kept.
 ghost use Rattle.std.specs.Prelude.{◌≡◌, ◌⊎◌, ◌/◌, ◌-◌, ◌^◌, ℕ, List, None, true, length, min};
 ghost use Rattle.std.specs.Duration.{as_nanos};
-ghost use Rattle.byte_stream.specs.Counts.{counted};
+ghost use Rattle.byte_stream.specs.claim.Counts.{counted};
 ghost use Rattle.byte_stream.specs.Turns.{TurnConsumes, failures_after};
 ghost use Rattle.kept_connections.specs.Paces.{IsPatient, TakesInTime};
 ghost use Rattle.kept_connections.specs.Taking.{TakesBytes};

@@ -4,20 +4,20 @@ use Rattle.sector_device.specs.declared.SectorDevice.{Ghosts}
 use Rattle.desk_model.specs.declared.command.Command.{Command}
 use Rattle.desk_model.specs.declared.reply.Reply.{Reply}
 use Rattle.desk_model.specs.declared.reply.Reply.TheVariants as reply
-use Rattle.desk_model.specs.Desk.{Desk}
-use Rattle.desk_pages.specs.Desks.{OpensDesk}
+use Rattle.desk_model.specs.claim.Desk.{Desk}
+use Rattle.desk_pages.specs.claim.Desks.{OpensDesk}
 use Rattle.desk_store.specs.declared.clerk.Clerk.{Clerk}
-use Rattle.desk_store.specs.Clerks.{desk_of, disk_of}
-use Rattle.desk_runs.specs.Runs.{Call, if_accepted, acknowledged as acknowledged_calls}
-use Rattle.desk_gallery.specs.Working.{AreAccepted}
-use Rattle.desk_gallery.specs.Telling.{halts_of}
-use Rattle.desk_lives.specs.Lives.{Lived}
-use Rattle.desk_lives.specs.Calls.{asked_in, told_in, is_done, acknowledged}
+use Rattle.desk_store.specs.claim.Clerks.{desk_of, disk_of}
+use Rattle.desk_runs.specs.claim.Runs.{Call, if_accepted, acknowledged as acknowledged_calls}
+use Rattle.desk_gallery.specs.claim.Working.{AreAccepted}
+use Rattle.desk_gallery.specs.claim.Telling.{halts_of}
+use Rattle.desk_lives.specs.claim.Lives.{Lived}
+use Rattle.desk_lives.specs.claim.Calls.{asked_in, told_in, is_done, acknowledged}
 use Rattle.desk_lives.specs.Inside.{LivedThrough}
 use Rattle.http_arrivals.specs.declared.ran.Ran.{Ran}
-use Rattle.http_seats.specs.Streams.{Traffic, AreCounted}
-use Rattle.serve_command.specs.Lasting.{Outlasts, LastsAsked, ServesStreams}
-use Rattle.office_lives.specs.Offices.{Officed, Answered}
+use Rattle.http_seats.specs.claim.Streams.{Traffic, AreCounted}
+use Rattle.serve_command.specs.claim.Lasting.{Outlasts, LastsAsked, ServesStreams}
+use Rattle.office_lives.specs.claim.Offices.{Officed, Answered}
 use Rattle.office_lives.proofs.Sweeping.{swept_lived}
 
 -- the acknowledged commands of a run, in the words of a life

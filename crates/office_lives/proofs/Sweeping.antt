@@ -1,22 +1,22 @@
 -- A run of commands, with steps of sweeps between them, as a life of the commands alone.
 use Rattle.std.proofs.Common.{◌≡◌, ◌⊎◌, ℕ, ◌<◌, Bool, true, false, List, [], ◌∷◌, ◌++◌, inl, inr, ⊎_elim, refl, sym, subst, ◌∙◌, append_assoc}
 use Rattle.std.proofs.lemmas.List.{append-nil}
-use Rattle.sector_device.specs.Disk.{Image}
+use Rattle.sector_device.specs.claim.Disk.{Image}
 use Rattle.sector_device.proofs.Moments.{leaves_now}
 use Rattle.sector_device.specs.declared.SectorDevice.{Ghosts}
-use Rattle.desk_model.specs.Desk.{Desk}
-use Rattle.desk_pages.specs.Desks.{OpensDesk}
+use Rattle.desk_model.specs.claim.Desk.{Desk}
+use Rattle.desk_pages.specs.claim.Desks.{OpensDesk}
 use Rattle.desk_store.specs.declared.clerk.Clerk.{Clerk}
-use Rattle.desk_store.specs.Clerks.{desk_of, disk_of, is_halted, pages_of, sectors_of, Keeps}
-use Rattle.desk_runs.specs.Runs.{Call}
-use Rattle.swept_runs.specs.Runs.{Tends, SweptRun}
+use Rattle.desk_store.specs.claim.Clerks.{desk_of, disk_of, is_halted, pages_of, sectors_of, Keeps}
+use Rattle.desk_runs.specs.claim.Runs.{Call}
+use Rattle.swept_runs.specs.claim.Runs.{Tends, SweptRun}
 use Rattle.desk_lives.specs.declared.lives.Request.{Request}
 use Rattle.desk_lives.specs.declared.lives.Request.TheVariants.{Change}
 use Rattle.desk_lives.specs.declared.lives.Answer.{Answer}
 use Rattle.desk_lives.specs.declared.lives.Answer.TheVariants.{Said}
-use Rattle.desk_lives.specs.Lives.{Failed, Lived}
+use Rattle.desk_lives.specs.claim.Lives.{Failed, Lived}
 use Rattle.desk_lives.specs.Inside.{Holds, GoingFailed, LivedThrough, Stands}
-use Rattle.desk_lives.specs.Calls.{asked_in, told_in}
+use Rattle.desk_lives.specs.claim.Calls.{asked_in, told_in}
 use Rattle.desk_lives.proofs.Living.{either, ends, fails_no_less, goes_on}
 
 -- a device that failed between two commands leaves the desk, and all that are asked then are told so

@@ -1,2 +1,2 @@
-pub mod Offices
+pub mod claim
 pub mod Inside

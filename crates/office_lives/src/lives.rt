@@ -1,11 +1,11 @@
 //! Lives of a store, of each of which an office serves the streams that arrive.
 ghost use Rattle.std.specs.Prelude.{◌≡◌, ◌≤◌, IfOk};
-ghost use Rattle.desk_model.specs.Desk.{Desk};
+ghost use Rattle.desk_model.specs.claim.Desk.{Desk};
 ghost use Rattle.desk_runs.specs.Recovery.{HoldsOne};
 ghost use Rattle.desk_lives.specs.Lives.{new_desk};
 ghost use Rattle.desk_lives.specs.Inside.{LivesOnce};
 ghost use Rattle.http_seats.specs.Streams.{traffic};
-ghost use Rattle.office_lives.specs.Offices.{OfficeLives};
+ghost use Rattle.office_lives.specs.claim.Offices.{OfficeLives};
 ghost use Rattle.office_lives.specs.Inside.{IsLife};
 
 use desk_lives::restarts::Restarts;

@@ -5,13 +5,15 @@ use Rattle.std.specs.Option.{option_map}
 use Rattle.std.specs.List.{All}
 use Rattle.std.specs.Ordering.{is_gt, eq_by_cmp}
 use Rattle.std.specs.FinMap.{find}
-use Rattle.sector_device.specs.Disk.{Image}
-use Rattle.page_node.specs.Entries.{Entry, IsEntry, child_bytes, child_in}
-use Rattle.page_node.specs.Node.{Node, IsNode}
-use Rattle.page_node.specs.Places.{key_cmp, Rises, floor, ceiling}
+use Rattle.sector_device.specs.claim.Disk.{Image}
+use Rattle.page_node.specs.claim.Entries.{Entry, IsEntry, child_bytes}
+use Rattle.page_node.specs.Entries.{child_in}
+use Rattle.page_node.specs.claim.Node.{Node, IsNode}
+use Rattle.page_node.specs.claim.Places.{key_cmp, Rises}
+use Rattle.page_node.specs.Places.{floor, ceiling}
 use Rattle.page_node.proofs.Laws.{child_written, flip_less}
-use Rattle.page_btree.specs.Keys.{IsBetween}
-use Rattle.page_btree.specs.Tree.{Tree, Forest, leaf, inner, one, more, page_of, first_key, links, rows, forest_rows, owns, forest_owns, IsTree, AreTrees}
+use Rattle.page_btree.specs.claim.Keys.{IsBetween}
+use Rattle.page_btree.specs.claim.Tree.{Tree, Forest, leaf, inner, one, more, page_of, first_key, links, rows, forest_rows, owns, forest_owns, IsTree, AreTrees}
 use Rattle.page_btree.specs.Getting.{CanGet, IsLevel}
 use Rattle.page_btree.specs.Seeking.{nearer, leaf_of, forest_leaf, bound_of, forest_bound}
 use Rattle.page_btree.proofs.Rows.{find_left, find_right, key_before}

@@ -7,15 +7,17 @@ use Rattle.std.specs.FinMap.{entries}
 use Rattle.std.proofs.lemmas.List.{get_or-set_same, get_or-set_other}
 use Rattle.std.proofs.lemmas.List.Elements.{All-nil}
 use Rattle.std.proofs.lemmas.Bool.Decides.{leb_tells}
-use Rattle.sector_device.specs.Disk.{Image}
-use Rattle.page_node.specs.Entries.{Entry, IsEntry, child_in}
-use Rattle.page_node.specs.Node.{Node, IsNode}
-use Rattle.page_node.specs.Places.{key_cmp, Rises, floor, ceiling, entries_from}
+use Rattle.sector_device.specs.claim.Disk.{Image}
+use Rattle.page_node.specs.claim.Entries.{Entry, IsEntry}
+use Rattle.page_node.specs.Entries.{child_in}
+use Rattle.page_node.specs.claim.Node.{Node, IsNode}
+use Rattle.page_node.specs.claim.Places.{key_cmp, Rises}
+use Rattle.page_node.specs.Places.{floor, ceiling, entries_from}
 use Rattle.page_node.specs.Ways.{AreWays as NodeWays}
 use Rattle.page_node.specs.Walking.{IsAhead}
-use Rattle.page_btree.specs.Keys.{KeyMap, IsBetween}
-use Rattle.page_btree.specs.Map.{IsBare, IsRooted}
-use Rattle.page_btree.specs.Tree.{Tree, Forest, leaf, inner, one, more, page_of, first_key, links, rows, owns, forest_owns, IsTree, AreTrees}
+use Rattle.page_btree.specs.claim.Keys.{KeyMap, IsBetween}
+use Rattle.page_btree.specs.claim.Map.{IsBare, IsRooted}
+use Rattle.page_btree.specs.claim.Tree.{Tree, Forest, leaf, inner, one, more, page_of, first_key, links, rows, owns, forest_owns, IsTree, AreTrees}
 use Rattle.page_btree.specs.Getting.{CanGet, IsLevel}
 use Rattle.page_btree.specs.Seeking.{bound_in, nearer, leaf_of, forest_leaf, bound_of, forest_bound, AreWays, HasWays, Follows, IsRead, IsNext, AreLeaves, IsFrom}
 use Rattle.page_btree.specs.declared.seeks.Leaf.{Leaf}

@@ -2,14 +2,16 @@
 use Rattle.std.proofs.Common.{◌≡◌, ◌≢◌, ◌<◌, ◌≤◌, ◌-◌, ◌^◌, ℕ, zero, suc, List, refl, sym, subst, arith}
 use Rattle.std.specs.Prelude.{Some}
 use Rattle.std.specs.Option.{option_map}
-use Rattle.sector_device.specs.Disk.{Image}
-use Rattle.page_node.specs.Entries.{Entry, child_in}
-use Rattle.page_node.specs.Node.{Node, IsNode}
-use Rattle.page_node.specs.Places.{Rises, floor}
+use Rattle.sector_device.specs.claim.Disk.{Image}
+use Rattle.page_node.specs.claim.Entries.{Entry}
+use Rattle.page_node.specs.Entries.{child_in}
+use Rattle.page_node.specs.claim.Node.{Node, IsNode}
+use Rattle.page_node.specs.claim.Places.{Rises}
+use Rattle.page_node.specs.Places.{floor}
 use Rattle.page_node.specs.Searching.{RisesBehind}
-use Rattle.page_btree.specs.Keys.{KeyMap}
-use Rattle.page_btree.specs.Tree.{rows}
-use Rattle.page_btree.specs.Map.{Holds}
+use Rattle.page_btree.specs.claim.Keys.{KeyMap}
+use Rattle.page_btree.specs.claim.Tree.{rows}
+use Rattle.page_btree.specs.claim.Map.{Holds}
 use Rattle.page_btree.specs.Getting.{CanGet}
 use Rattle.page_btree.specs.Leading.{LeadsTo, CanLead}
 use Rattle.page_btree.proofs.Tops.{rooted, can_get, at_root}

@@ -2,20 +2,23 @@
 use Rattle.std.specs.Prelude.{◌≡◌, ◌≢◌, ◌⊎◌, ◌<◌, ◌≤◌, ◌+◌, ◌-◌, ◌*◌, ◌^◌, ◌++◌, ℕ, List, [], ◌∷◌, length, Option, Some, None}
 use Rattle.std.proofs.Common.{inl, inr, ⊎_elim, refl, sym, ap, subst, ◌∙◌, arith, length-append}
 use Rattle.std.specs.FinMap.{entries, empty, len-entries, len-empty, same_entries_map}
-use Rattle.sector_device.specs.Disk.{Disk, Image}
-use Rattle.sector_device.specs.Moments.{LeavesOnly}
+use Rattle.sector_device.specs.claim.Disk.{Disk, Image}
+use Rattle.sector_device.specs.claim.Moments.{LeavesOnly}
 use Rattle.sector_device.proofs.Moments.{leaves_wider}
-use Rattle.gate_journal.specs.Store.{home, IsBeforeOrAfter, overlay}
-use Rattle.page_store.specs.Chain.{IsPages, root_in, free_in}
-use Rattle.page_store.specs.Transactions.{txn_pages, txn_root, over, free_over}
+use Rattle.gate_journal.specs.claim.Store.{home, overlay}
+use Rattle.gate_journal.specs.Store.{IsBeforeOrAfter}
+use Rattle.page_store.specs.claim.Chain.{IsPages, root_in, free_in}
+use Rattle.page_store.specs.claim.Transactions.{txn_pages, txn_root, over, free_over}
 use Rattle.page_store.specs.declared.txn.Txn.{Txn}
-use Rattle.page_node.specs.Entries.{Entry, size_of, child_bytes, child_in}
-use Rattle.page_node.specs.Node.{Node, IsNode}
+use Rattle.page_node.specs.claim.Entries.{Entry, size_of, child_bytes}
+use Rattle.page_node.specs.Entries.{child_in}
+use Rattle.page_node.specs.claim.Node.{Node, IsNode}
 use Rattle.page_node.proofs.Laws.{node_unique, child_written}
-use Rattle.page_node.specs.Places.{key_cmp}
-use Rattle.page_btree.specs.Keys.{KeyMap}
-use Rattle.page_btree.specs.Tree.{Tree, Forest, leaf, inner, one, more, first_key, links, page_of, rows, forest_rows, owns, forest_owns, size, forest_size, IsTree, AreTrees}
-use Rattle.page_btree.specs.Map.{Holds, InTxn, OpensMap}
+use Rattle.page_node.specs.claim.Places.{key_cmp}
+use Rattle.page_btree.specs.claim.Keys.{KeyMap}
+use Rattle.page_btree.specs.claim.Tree.{Tree, Forest, leaf, inner, one, more, first_key, links, page_of, rows, forest_rows, owns, forest_owns, size, forest_size, IsTree, AreTrees}
+use Rattle.page_btree.specs.claim.Map.{Holds, InTxn}
+use Rattle.page_btree.specs.Map.{OpensMap}
 
 -- pages that agree on a tree's own hold it both
 mutual

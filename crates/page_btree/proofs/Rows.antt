@@ -9,10 +9,10 @@ use Rattle.std.specs.declared.cmp.Ordering.TheVariants.{Less, Equal, Greater}
 use Rattle.std.specs.FinMap.{find, put, is_sorted}
 use Rattle.std.specs.FinMap.Entries.{by_order, below_all, is_sorted-put}
 use Rattle.std.proofs.lemmas.Cmp.{tied_itself}
-use Rattle.page_node.specs.Entries.{Entry}
-use Rattle.page_node.specs.Places.{key_cmp, Rises}
+use Rattle.page_node.specs.claim.Entries.{Entry}
+use Rattle.page_node.specs.claim.Places.{key_cmp, Rises}
 use Rattle.page_node.proofs.Laws.{flip_less, flip_greater, less_trans, same_key}
-use Rattle.page_btree.specs.Keys.{IsUnder}
+use Rattle.page_btree.specs.claim.Keys.{IsUnder}
 
 -- each key has this order to one
 abbrev pub Each : Ordering → List ℕ → List Entry → Type 0

@@ -9,14 +9,15 @@ use Rattle.std.specs.declared.cmp.Ordering.TheVariants.{Less, Equal, Greater}
 use Rattle.std.proofs.lemmas.Cmp.{tied_itself}
 use Rattle.std.proofs.lemmas.List.{append-nil}
 use Rattle.std.proofs.lemmas.List.Elements.{filter-append}
-use Rattle.sector_device.specs.Disk.{Image}
-use Rattle.page_node.specs.Entries.{Entry}
-use Rattle.page_node.specs.Places.{key_cmp, is_from, entries_from}
+use Rattle.sector_device.specs.claim.Disk.{Image}
+use Rattle.page_node.specs.claim.Entries.{Entry}
+use Rattle.page_node.specs.claim.Places.{key_cmp}
+use Rattle.page_node.specs.Places.{is_from, entries_from}
 use Rattle.page_node.proofs.Laws.{flip_less, flip_greater, less_trans, same_key}
 use Rattle.std.specs.FinMap.{entries}
-use Rattle.page_btree.specs.Keys.{KeyMap, IsBetween, IsUnder}
-use Rattle.page_btree.specs.Map.{IsRooted}
-use Rattle.page_btree.specs.Tree.{Tree, Forest, leaf, inner, one, more, first_key, rows, forest_rows, IsTree, AreTrees}
+use Rattle.page_btree.specs.claim.Keys.{KeyMap, IsBetween, IsUnder}
+use Rattle.page_btree.specs.claim.Map.{IsRooted}
+use Rattle.page_btree.specs.claim.Tree.{Tree, Forest, leaf, inner, one, more, first_key, rows, forest_rows, IsTree, AreTrees}
 use Rattle.page_btree.specs.Seeking.{leaf_of, forest_leaf, bound_of, forest_bound, IsNext}
 use Rattle.page_btree.proofs.Tops.{every_key}
 use Rattle.page_btree.proofs.Rows.{Each, all_map, all_append, all_front, all_rest, less_from, from_then, less_is_from, key_before, wider_under}

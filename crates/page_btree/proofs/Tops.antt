@@ -2,12 +2,12 @@
 use Rattle.std.proofs.Common.{◌≡◌, ◌≢◌, ⊎_elim, ℕ, List, [], ◌∷◌, refl, sym, ap, subst, ◌∙◌, arith}
 use Rattle.std.specs.Prelude.{None}
 use Rattle.std.specs.FinMap.{find, get, get-entries}
-use Rattle.sector_device.specs.Disk.{Image}
-use Rattle.page_node.specs.Node.{Node, IsNode}
-use Rattle.page_node.specs.Places.{key_cmp}
-use Rattle.page_btree.specs.Keys.{KeyMap, IsBetween}
-use Rattle.page_btree.specs.Tree.{IsTree, page_of, rows}
-use Rattle.page_btree.specs.Map.{IsRooted, Holds}
+use Rattle.sector_device.specs.claim.Disk.{Image}
+use Rattle.page_node.specs.claim.Node.{Node, IsNode}
+use Rattle.page_node.specs.claim.Places.{key_cmp}
+use Rattle.page_btree.specs.claim.Keys.{KeyMap, IsBetween}
+use Rattle.page_btree.specs.claim.Tree.{IsTree, page_of, rows}
+use Rattle.page_btree.specs.claim.Map.{IsRooted, Holds}
 use Rattle.page_btree.specs.Getting.{CanGet, IsLevel}
 use Rattle.page_btree.proofs.Descent.{node_of, owns_page}
 

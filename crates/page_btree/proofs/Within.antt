@@ -4,11 +4,11 @@ use Rattle.std.specs.Prelude.{Option, Some}
 use Rattle.std.specs.Ordering.{is_gt}
 use Rattle.std.specs.List.{AllByRecursion}
 use Rattle.std.specs.declared.cmp.Ordering.TheVariants.{Less, Greater}
-use Rattle.sector_device.specs.Disk.{Image}
-use Rattle.page_node.specs.Entries.{Entry}
-use Rattle.page_node.specs.Places.{key_cmp}
-use Rattle.page_btree.specs.Keys.{IsBetween, IsUnder}
-use Rattle.page_btree.specs.Tree.{Tree, Forest, leaf, inner, one, more, first_key, rows, forest_rows, IsTree, AreTrees}
+use Rattle.sector_device.specs.claim.Disk.{Image}
+use Rattle.page_node.specs.claim.Entries.{Entry}
+use Rattle.page_node.specs.claim.Places.{key_cmp}
+use Rattle.page_btree.specs.claim.Keys.{IsBetween, IsUnder}
+use Rattle.page_btree.specs.claim.Tree.{Tree, Forest, leaf, inner, one, more, first_key, rows, forest_rows, IsTree, AreTrees}
 use Rattle.page_btree.proofs.Rows.{Each, all_map, all_append, wider_under, less_from, less_is_from, key_behind}
 
 abbrev pub AreBetween : List ℕ → Option (List ℕ) → List Entry → Type 0

@@ -1,13 +1,13 @@
 -- What an edit of a leaf alone leaves as it was, and why there is none.
 use Rattle.std.specs.Prelude.{◌≡◌, ◌⊎◌, ℕ, List, true}
-use Rattle.sector_device.specs.Disk.{Image}
+use Rattle.sector_device.specs.claim.Disk.{Image}
 use Rattle.sector_device.specs.declared.SectorDevice.{Ghosts}
-use Rattle.page_store.specs.Transactions.{stored, disk_in, has_halted, HasFailed, txn_pages, txn_root, txn_free, txn_writes, over, free_over}
+use Rattle.page_store.specs.claim.Transactions.{stored, disk_in, has_halted, HasFailed, txn_pages, txn_root, txn_free, txn_writes, over, free_over}
 use Rattle.page_store.specs.declared.pages.Pages.{Pages}
 use Rattle.page_store.specs.declared.txn.Txn.{Txn}
-use Rattle.page_node.specs.Entries.{Entry}
-use Rattle.page_node.specs.Node.{IsNode}
-use Rattle.page_node.specs.Places.{Rises}
+use Rattle.page_node.specs.claim.Entries.{Entry}
+use Rattle.page_node.specs.claim.Node.{IsNode}
+use Rattle.page_node.specs.claim.Places.{Rises}
 use Rattle.page_btree.specs.declared.error.TreeError.{TreeError}
 use Rattle.page_btree.specs.declared.error.TreeError.TheVariants.{DeviceFault, Halted, NoPages, TooDeep, Memory}
 

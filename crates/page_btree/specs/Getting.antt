@@ -1,13 +1,13 @@
 -- What a look-up below a page needs.
 use Rattle.std.specs.Prelude.{◌≡◌, ◌⊎◌, ◌<◌, ℕ, List, take, Option, true}
 use Rattle.std.specs.Option.{option_map}
-use Rattle.sector_device.specs.Disk.{Image}
+use Rattle.sector_device.specs.claim.Disk.{Image}
 use Rattle.sector_device.specs.declared.SectorDevice.{Ghosts}
-use Rattle.page_store.specs.Transactions.{stored, disk_in, has_halted, HasFailed}
+use Rattle.page_store.specs.claim.Transactions.{stored, disk_in, has_halted, HasFailed}
 use Rattle.page_store.specs.declared.pages.Pages.{Pages}
-use Rattle.page_node.specs.Node.{Node, IsNode}
-use Rattle.page_btree.specs.Keys.{IsBetween}
-use Rattle.page_btree.specs.Tree.{Tree, IsTree, page_of, owns}
+use Rattle.page_node.specs.claim.Node.{Node, IsNode}
+use Rattle.page_btree.specs.claim.Keys.{IsBetween}
+use Rattle.page_btree.specs.claim.Tree.{Tree, IsTree, page_of, owns}
 use Rattle.page_btree.specs.declared.error.TreeError.{TreeError}
 use Rattle.page_btree.specs.declared.error.TreeError.TheVariants.{DeviceFault, Halted, NoPages, TooDeep, Memory}
 

@@ -1,29 +1,6 @@
--- Keys between bounds, and the map that a tree stands for.
-use Rattle.std.specs.Prelude.{◌≡◌, ◌<◌, ◌≤◌, ℕ, List, length, false, Option, Some, None}
-use Rattle.std.specs.Ordering.{is_gt}
-use Rattle.std.specs.declared.cmp.Ordering.TheVariants.{Less}
-use Rattle.std.specs.FinMap as map_of
-use Rattle.page_node.specs.Places.{key_cmp}
-
--- keys to values; keys in the order of their bytes, a key before its longer continuations
-abbrev pub KeyMap : Type 0
-KeyMap = map_of.FinMap key_cmp (List ℕ)
+-- What no promise rests on, beside claim/Keys.antt.
+use Rattle.std.specs.Prelude.{◌<◌, ◌≤◌, ℕ, List, length}
 
 -- a key has 1 to 72 bytes
 abbrev pub IsKey : List ℕ → Type 0
 IsKey key = (0 < length key) × (length key ≤ 72)
-
--- below a bound, or below none
-abbrev pub IsUnder : List ℕ → Option (List ℕ) → Type 0
-IsUnder key None = Unit {0}
-IsUnder key (Some high) = key_cmp key high ≡ Less
-
--- from the lower bound on, and below the upper one
-pub record IsBetween (low : List ℕ) (high : Option (List ℕ)) (key : List ℕ) : Type 0 where
-  pub from : is_gt (key_cmp low key) ≡ false
-  pub under : IsUnder key high
-
--- the bound parts those of a range: it is above the lower one
-pub record Parts (low : List ℕ) (high : Option (List ℕ)) (bound : List ℕ) : Type 0 where
-  pub above : key_cmp low bound ≡ Less
-  pub under : IsUnder bound high

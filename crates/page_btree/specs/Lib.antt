@@ -1,5 +1,5 @@
+pub mod claim
 pub mod Keys
-pub mod Tree
 pub mod Map
 pub mod Errors
 pub mod Getting

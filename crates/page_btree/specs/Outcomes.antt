@@ -1,17 +1,19 @@
 -- What a map in pages keeps, and what is read of it where the device is honest and the pages hold what they may.
 use Rattle.std.specs.Prelude.{◌≡◌, ◌≢◌, ◌⊎◌, ◌+◌, ℕ, List, Option, None, Result, OnOk, IfOk}
 use Rattle.std.specs.FinMap.{find}
-use Rattle.sector_device.specs.Disk.{Image}
+use Rattle.sector_device.specs.claim.Disk.{Image}
 use Rattle.sector_device.specs.declared.SectorDevice.{Ghosts}
-use Rattle.gate_journal.specs.Store.{home, IsBeforeOrAfter, overlay}
-use Rattle.page_store.specs.Chain.{root_in, free_in}
-use Rattle.page_store.specs.Transactions.{stored, disk_in, txn_pages, txn_root, over, free_over}
+use Rattle.gate_journal.specs.claim.Store.{home, overlay}
+use Rattle.gate_journal.specs.Store.{IsBeforeOrAfter}
+use Rattle.page_store.specs.claim.Chain.{root_in, free_in}
+use Rattle.page_store.specs.claim.Transactions.{stored, disk_in, txn_pages, txn_root, over, free_over}
 use Rattle.page_store.specs.declared.pages.Pages.{Pages}
 use Rattle.page_store.specs.declared.txn.Txn.{Txn}
-use Rattle.page_node.specs.Places.{key_cmp}
-use Rattle.page_btree.specs.Keys.{KeyMap}
-use Rattle.page_btree.specs.Tree.{rows}
-use Rattle.page_btree.specs.Map.{Holds, InTxn, IsRooted, OpensMap}
+use Rattle.page_node.specs.claim.Places.{key_cmp}
+use Rattle.page_btree.specs.claim.Keys.{KeyMap}
+use Rattle.page_btree.specs.claim.Tree.{rows}
+use Rattle.page_btree.specs.claim.Map.{Holds, InTxn, IsRooted}
+use Rattle.page_btree.specs.Map.{OpensMap}
 use Rattle.page_btree.specs.Getting.{CanGet, CanGetAt, IsCopied}
 use Rattle.page_btree.specs.Leading.{LeadsTo}
 use Rattle.page_btree.specs.Seeking.{bound_in, IsRead}

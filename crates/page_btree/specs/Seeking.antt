@@ -3,12 +3,14 @@ use Rattle.std.specs.Prelude.{◌≡◌, ◌<◌, ℕ, List, [], ◌∷◌, ◌+
 use Rattle.std.specs.Option.{option_map}
 use Rattle.std.proofs.Common.{get_or, zero, suc}
 use Rattle.std.specs.Ordering.{is_gt}
-use Rattle.page_node.specs.Entries.{Entry, child_in}
-use Rattle.page_node.specs.Node.{IsNode}
-use Rattle.page_node.specs.Places.{key_cmp, Rises, floor, ceiling, entries_from}
+use Rattle.page_node.specs.claim.Entries.{Entry}
+use Rattle.page_node.specs.Entries.{child_in}
+use Rattle.page_node.specs.claim.Node.{IsNode}
+use Rattle.page_node.specs.claim.Places.{key_cmp, Rises}
+use Rattle.page_node.specs.Places.{floor, ceiling, entries_from}
 use Rattle.page_node.specs.Walking.{IsAhead}
-use Rattle.page_btree.specs.Keys.{IsBetween}
-use Rattle.page_btree.specs.Tree.{Tree, Forest, leaf, inner, one, more, first_key}
+use Rattle.page_btree.specs.claim.Keys.{IsBetween}
+use Rattle.page_btree.specs.claim.Tree.{Tree, Forest, leaf, inner, one, more, first_key}
 use Rattle.page_btree.specs.declared.seeks.Leaf.{Leaf}
 
 -- the key from which on the rows of the leaves behind it are, or none where it is the last

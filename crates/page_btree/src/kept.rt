@@ -1,10 +1,10 @@
 //! What keeps a map in pages.
 ghost use Rattle.std.specs.Prelude.{◌≡◌, ◌≤◌, ◌+◌, ◌*◌, ◌^◌, ℕ, List, length};
 ghost use Rattle.std.specs.FinMap.{empty, entries};
-ghost use Rattle.sector_device.specs.Disk.{Image};
-ghost use Rattle.page_store.specs.Chain.{IsPages, root_in, free_in};
-ghost use Rattle.page_btree.specs.Keys.{KeyMap};
-ghost use Rattle.page_btree.specs.Map.{Holds};
+ghost use Rattle.sector_device.specs.claim.Disk.{Image};
+ghost use Rattle.page_store.specs.claim.Chain.{IsPages, root_in, free_in};
+ghost use Rattle.page_btree.specs.claim.Keys.{KeyMap};
+ghost use Rattle.page_btree.specs.claim.Map.{Holds};
 ghost use Rattle.page_btree.specs.Outcomes.{ReadsWhatPagesHold, HoldsWhatWasPrepared, OpensOneOfTwo};
 
 /// Pages with a root and free pages hold one map at most. A new store holds the map without rows. A transaction that is begun

@@ -1,7 +1,7 @@
 //! Finds the leaf that a key belongs to.
 ghost use Rattle.std.specs.Prelude.{◌≡◌, ◌<◌, ◌≤◌, ◌^◌, OnOk, IfOk, IfErr};
-ghost use Rattle.sector_device.specs.Disk.{Image};
-ghost use Rattle.page_store.specs.Transactions.{stored, disk_in, count_of, txn_pages, over, IsQuiet, Passed};
+ghost use Rattle.sector_device.specs.claim.Disk.{Image};
+ghost use Rattle.page_store.specs.claim.Transactions.{stored, disk_in, count_of, txn_pages, over, IsQuiet, Passed};
 ghost use Rattle.page_btree.specs.Getting.{CanGetAt, ReadsErr};
 ghost use Rattle.page_btree.specs.Leading.{LeadsTo, CanLead};
 ghost use Rattle.page_btree.specs.Outcomes.{FindsLeaf};

@@ -2,10 +2,11 @@
 use Rattle.std.proofs.Common.{⊎_elim, ◌≡◌, ◌<◌, ◌≤◌, ◌+◌, ◌-◌, ℕ, zero, suc, List, ◌∷◌, length, inl, inr, refl, sym, ap, subst, ◌∙◌, arith}
 use Rattle.std.proofs.lemmas.Bool.{cases_eq, cases_lt}
 use Rattle.std.proofs.lemmas.Bool.Decides.{nat_tests}
-use Rattle.sector_device.specs.Disk.{Image}
-use Rattle.gate_journal.specs.Store.{word, put}
+use Rattle.sector_device.specs.claim.Disk.{Image}
+use Rattle.gate_journal.specs.claim.Store.{word, put}
 use Rattle.gate_journal.proofs.Images.{put_on, put_off}
-use Rattle.page_store.specs.Chain.{chain, free_in, IsIn, AreFree, IsPages, IsMeta}
+use Rattle.page_store.specs.claim.Chain.{chain, free_in, IsIn, AreFree, IsPages}
+use Rattle.page_store.specs.Chain.{IsMeta}
 use Rattle.page_store.proofs.Chains.{length_chain}
 use Rattle.page_format.specs.New.{next_of, AreLinked}
 

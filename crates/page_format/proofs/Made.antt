@@ -1,12 +1,14 @@
 -- What formatting leaves.
 use Rattle.std.proofs.Common.{Result, Ok, Err, OnOk, ◌≡◌, ◌≢◌, ◌≤◌, ◌<◌, ◌+◌, ◌-◌, ℕ, List, length, sym, ap, subst, ◌∙◌, arith}
-use Rattle.sector_device.specs.Disk.{Disk, Image}
-use Rattle.gate_journal.specs.Store.{overlay, put, word, pages, IsSettled}
+use Rattle.sector_device.specs.claim.Disk.{Disk, Image}
+use Rattle.gate_journal.specs.claim.Store.{overlay, put, word, pages}
+use Rattle.gate_journal.specs.Store.{IsSettled}
 use Rattle.gate_journal.specs.Steps.{Commits}
 use Rattle.gate_journal.specs.Recovery.{HasRoom}
 use Rattle.gate_journal.proofs.Commit.{settled_opens}
 use Rattle.gate_journal.proofs.Images.{put_off}
-use Rattle.page_store.specs.Chain.{IsIn, IsMeta, IsPages, root_in, free_in}
+use Rattle.page_store.specs.claim.Chain.{IsIn, IsPages, root_in, free_in}
+use Rattle.page_store.specs.Chain.{IsMeta}
 use Rattle.page_store.specs.Openings.{AllPageStores}
 use Rattle.page_format.specs.New.{AreLinked, IsNew, IsNewWith, IsLinked, Links}
 use Rattle.page_format.proofs.Linked.{new_pages, batch_linked}

@@ -1,10 +1,11 @@
 -- What a device is whose pages are new.
 use Rattle.std.specs.Prelude.{◌≡◌, ◌≤◌, ◌<◌, ◌+◌, ℕ, List, cond, length}
 use Rattle.std.proofs.Common.{nat_lt}
-use Rattle.sector_device.specs.Disk.{Disk, Image}
+use Rattle.sector_device.specs.claim.Disk.{Disk, Image}
 use Rattle.sector_device.specs.declared.SectorDevice.{Ghosts}
-use Rattle.gate_journal.specs.Store.{home, word, IsSettled, pages}
-use Rattle.page_store.specs.Chain.{IsIn, IsPages, root_in, free_in}
+use Rattle.gate_journal.specs.claim.Store.{home, word, pages}
+use Rattle.gate_journal.specs.Store.{IsSettled}
+use Rattle.page_store.specs.claim.Chain.{IsIn, IsPages, root_in, free_in}
 use Rattle.page_store.specs.Openings.{AllPageStores}
 use Rattle.page_store.specs.declared.error.PageError.{PageError}
 use Rattle.page_store.specs.declared.error.PageError.TheVariants.{NotAStore, DeviceFault, Halted, TooManyPages, TooSmall, NoPages, Memory}

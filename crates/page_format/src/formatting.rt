@@ -1,9 +1,11 @@
 //! How pages are made on a device.
 ghost use Rattle.std.specs.Prelude.{◌≡◌, ◌≢◌, ◌≤◌, ◌<◌, ◌+◌, ◌-◌, ℕ, length, OnOk, OnErr, IfOk, IfErr};
-ghost use Rattle.sector_device.specs.Disk.{Disk, Image};
-ghost use Rattle.gate_journal.specs.Store.{IsWithin, IsSettled, overlay, put, home};
+ghost use Rattle.sector_device.specs.claim.Disk.{Disk, Image};
+ghost use Rattle.gate_journal.specs.Store.{IsWithin, IsSettled};
+ghost use Rattle.gate_journal.specs.claim.Store.{overlay, put, home};
 ghost use Rattle.gate_journal.specs.Recovery.{HasRoom};
-ghost use Rattle.gate_journal.specs.Writes.{writes_of, room_of};
+ghost use Rattle.gate_journal.specs.claim.Writes.{writes_of};
+ghost use Rattle.gate_journal.specs.Writes.{room_of};
 ghost use Rattle.page_store.specs.Chain.{IsMeta};
 ghost use Rattle.page_format.specs.New.{AreLinked, next_of, IsNew, IsNewWith, IsLinked, Links, FormatErr};
 

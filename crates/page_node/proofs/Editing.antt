@@ -5,9 +5,9 @@ use Rattle.std.specs.List.{All, copy_within}
 use Rattle.std.proofs.lemmas.Bool.{cases_eq}
 use Rattle.std.proofs.lemmas.List.{take-take, drop-drop, length-take-le, length-drop, append-nil, set_split}
 use Rattle.std.proofs.lemmas.List.Elements.{All-nil, All-cons, All-take, All-drop}
-use Rattle.page_node.specs.Entries.{Entry, IsEntry, entry_bytes, entry_size, body_of, size_of}
+use Rattle.page_node.specs.claim.Entries.{Entry, IsEntry, entry_bytes, entry_size, body_of, size_of}
 use Rattle.page_node.proofs.EntryLists.{size-parts, size-take_more, front_at, rest_at, length-read}
-use Rattle.page_node.specs.Node.{Node}
+use Rattle.page_node.specs.claim.Node.{Node}
 use Rattle.page_node.specs.Bytes.{with_entry}
 use Rattle.page_node.proofs.Standing.{Stands, nothing, edited, edited_bytes, edited_stands, size-edited, length-edited, size-take_from, moved_is, written_is, size_is, from_held, view_of}
 use Rattle.page_node.specs.Held.{held_node, IsHeld}

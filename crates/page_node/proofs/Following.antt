@@ -8,10 +8,12 @@ use Rattle.std.specs.declared.cmp.Ordering.{Ordering}
 use Rattle.std.specs.declared.cmp.Ordering.TheVariants.{Less, Equal, Greater}
 use Rattle.std.proofs.lemmas.Bool.{cases_eq}
 use Rattle.page_node.specs.Bytes.{LiesAt}
-use Rattle.page_node.specs.Entries.{Entry, key_at, value_at, child_in, size_of}
+use Rattle.page_node.specs.claim.Entries.{Entry, size_of}
+use Rattle.page_node.specs.Entries.{key_at, value_at, child_in}
 use Rattle.page_node.proofs.Laws.{flip_less, flip_greater, floor_stop, ceiling_at}
-use Rattle.page_node.specs.Node.{Node, IsNode}
-use Rattle.page_node.specs.Places.{key_cmp, floor, ceiling}
+use Rattle.page_node.specs.claim.Node.{Node, IsNode}
+use Rattle.page_node.specs.claim.Places.{key_cmp}
+use Rattle.page_node.specs.Places.{floor, ceiling}
 use Rattle.page_node.specs.Searching.{IsTurn, RisesBehind}
 use Rattle.page_node.specs.Walking.{part_of}
 use Rattle.page_node.specs.Ways.{AreWays}

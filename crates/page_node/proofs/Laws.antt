@@ -13,11 +13,14 @@ use Rattle.std.proofs.lemmas.Bool.{cases_eq}
 use Rattle.std.proofs.lemmas.Cmp.{tied_itself}
 use Rattle.std.proofs.lemmas.List.{take_at}
 use Rattle.std.proofs.lemmas.Nat.{from_be_bytes-to_be_bytes_4}
-use Rattle.page_node.specs.Entries.{Entry, key_at, value_at, body_of, size_of, read_from, child_in, child_bytes}
+use Rattle.page_node.specs.claim.Entries.{Entry, body_of, size_of, child_bytes}
+use Rattle.page_node.specs.Entries.{key_at, value_at, read_from, child_in}
 use Rattle.page_node.proofs.EntryLists.{length-body, read_at}
-use Rattle.page_node.specs.Node.{Node, IsNode, IsShape, Fits, bytes_of, count_in}
+use Rattle.page_node.specs.claim.Node.{Node, IsNode, IsShape, Fits, count_in}
+use Rattle.page_node.specs.Node.{bytes_of}
 use Rattle.page_node.proofs.Node.{node_in}
-use Rattle.page_node.specs.Places.{key_cmp, Rises, IsFound, IsGap, floor, floor_from, ceiling, ceiling_from, is_from, entries_from}
+use Rattle.page_node.specs.claim.Places.{key_cmp, Rises}
+use Rattle.page_node.specs.Places.{IsFound, IsGap, floor, floor_from, ceiling, ceiling_from, is_from, entries_from}
 
 -- ---- nodes
 -- a page stands for one node at most

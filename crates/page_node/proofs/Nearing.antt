@@ -4,8 +4,9 @@ use Rattle.std.proofs.lemmas.Bool.{cases_eq}
 use Rattle.std.specs.Ordering.{is_gt}
 use Rattle.std.specs.declared.cmp.Ordering.{Ordering}
 use Rattle.std.specs.declared.cmp.Ordering.TheVariants.{Less, Equal, Greater}
-use Rattle.page_node.specs.Entries.{Entry, key_at, value_at}
-use Rattle.page_node.specs.Places.{key_cmp}
+use Rattle.page_node.specs.claim.Entries.{Entry}
+use Rattle.page_node.specs.Entries.{key_at, value_at}
+use Rattle.page_node.specs.claim.Places.{key_cmp}
 use Rattle.page_node.specs.Searching.{IsLast, RisesBehind}
 use Rattle.page_node.proofs.Laws.{rises_at, less_trans, same_key}
 use Rattle.page_node.specs.Bytes.{LiesAt}

@@ -7,10 +7,11 @@ use Rattle.std.proofs.lemmas.List.{length-take-le, length-drop, append-nil, drop
 use Rattle.std.proofs.lemmas.List.Elements.{All-nil}
 use Rattle.std.proofs.Math.Seq.{take-add}
 use Rattle.page_node.specs.Bytes.{with_entry}
-use Rattle.page_node.specs.Entries.{Entry, IsEntry, entry_bytes, entry_size, body_of, size_of}
+use Rattle.page_node.specs.claim.Entries.{Entry, IsEntry, entry_bytes, entry_size, body_of, size_of}
 use Rattle.page_node.proofs.EntryLists.{size-parts}
-use Rattle.page_node.specs.Node.{Node, IsNode, count_in}
-use Rattle.page_node.specs.Places.{key_cmp, IsFound, IsGap}
+use Rattle.page_node.specs.claim.Node.{Node, IsNode, count_in}
+use Rattle.page_node.specs.claim.Places.{key_cmp}
+use Rattle.page_node.specs.Places.{IsFound, IsGap}
 use Rattle.page_node.proofs.Laws.{found_put, found_find, gap_put, gap_find}
 use Rattle.page_node.specs.Spots.{IsSpot, Becomes, IsRowPut}
 use Rattle.page_node.proofs.Standing.{edited, edited_bytes, size-edited, length-edited, All-edited, size-take_from, moved_is}

@@ -5,10 +5,11 @@ use Rattle.std.proofs.lemmas.Bool.{and_parts}
 use Rattle.std.proofs.lemmas.List.{drop-drop, length-drop}
 use Rattle.std.proofs.lemmas.List.Elements.{All-drop}
 use Rattle.std.proofs.Math.Seq.{take-add}
-use Rattle.page_node.specs.Entries.{Entry, IsEntry, size_of, key_length, value_length}
+use Rattle.page_node.specs.claim.Entries.{Entry, IsEntry, size_of}
+use Rattle.page_node.specs.Entries.{key_length, value_length}
 use Rattle.page_node.proofs.EntryLists.{size-parts, size-append, rest_at}
 use Rattle.page_node.specs.Bytes.{LiesAt, LiesNot}
-use Rattle.page_node.specs.Node.{Node, IsNode}
+use Rattle.page_node.specs.claim.Node.{Node, IsNode}
 use Rattle.page_node.specs.Walking.{IsAhead, PassesTo}
 use Rattle.page_node.proofs.Walking.{ahead_lies, ahead_lengths, node_ahead_at}
 

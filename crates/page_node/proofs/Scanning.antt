@@ -5,9 +5,10 @@ use Rattle.std.proofs.lemmas.Bool.{cases_eq}
 use Rattle.std.proofs.lemmas.List.{take_all, drop-drop, take-append-le, drop-append-le, drop_more, length-take-le, length-drop, append-nil, get_or-drop, take_more, length-set}
 use Rattle.std.proofs.lemmas.List.Elements.{All-more, All-nil, All-same}
 use Rattle.std.proofs.Math.Seq.{take-add}
-use Rattle.page_node.specs.Entries.{Entry, IsEntry, key_at, value_at, entry_bytes, entry_size, body_of, size_of, first_of, behind, read_from, key_length, value_length}
+use Rattle.page_node.specs.claim.Entries.{Entry, IsEntry, entry_bytes, entry_size, body_of, size_of}
+use Rattle.page_node.specs.Entries.{key_at, value_at, first_of, behind, read_from, key_length, value_length}
 use Rattle.page_node.proofs.EntryLists.{body-append, length-body, length-read, value_length-entry, first-entry, read_at, size-take_more, drop_three}
-use Rattle.page_node.specs.Node.{Node, IsNode, count_in}
+use Rattle.page_node.specs.claim.Node.{Node, IsNode, count_in}
 use Rattle.page_node.specs.Held.{held_node, IsHeld}
 use Rattle.page_node.specs.Bytes.{LiesAt, LiesNot}
 use Rattle.std.specs.Prelude.{false, true, Result, Ok, Err, IfOk, OnErr, Some}
@@ -15,7 +16,8 @@ use Rattle.std.specs.Option.{option_map}
 use Rattle.std.specs.Ordering.{is_gt}
 use Rattle.std.specs.declared.cmp.Ordering.{Ordering}
 use Rattle.std.specs.declared.cmp.Ordering.TheVariants.{Less, Equal, Greater}
-use Rattle.page_node.specs.Places.{key_cmp, floor}
+use Rattle.page_node.specs.claim.Places.{key_cmp}
+use Rattle.page_node.specs.Places.{floor}
 use Rattle.page_node.specs.Searching.{IsLast}
 use Rattle.page_node.specs.Entries.{child_in}
 use Rattle.page_node.proofs.Standing.{Stands, nothing, entry_there, end_below, to_held, view_of}

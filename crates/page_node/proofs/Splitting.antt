@@ -3,7 +3,8 @@ use Rattle.std.proofs.Common.{◌≡◌, ℕ, ◌+◌, ◌-◌, ◌*◌, ◌<◌
 use Rattle.std.specs.List.{All}
 use Rattle.std.proofs.lemmas.List.{length-take-le, length-drop}
 use Rattle.std.proofs.lemmas.List.Elements.{All-head, All-tail}
-use Rattle.page_node.specs.Entries.{Entry, IsEntry, size_of, read_from}
+use Rattle.page_node.specs.claim.Entries.{Entry, IsEntry, size_of}
+use Rattle.page_node.specs.Entries.{read_from}
 use Rattle.page_node.proofs.EntryLists.{size-parts}
 use Rattle.page_node.proofs.Standing.{Stands, nothing, entries_are, size_is}
 use Rattle.page_node.proofs.Editing.{left_stands, right_stands, mark_step}

@@ -4,9 +4,10 @@ use Rattle.std.specs.List.{All, copy_within}
 use Rattle.std.proofs.lemmas.List.{take_at, take_all, drop_at, drop-drop, take-take, take-append-le, drop_more, length-take-le, length-drop}
 use Rattle.std.proofs.lemmas.List.Elements.{All-append, All-take, All-drop}
 use Rattle.std.proofs.Math.Seq.{take-append-add, take-add}
-use Rattle.page_node.specs.Entries.{Entry, IsEntry, key_at, value_at, entry_bytes, entry_size, body_of, size_of, first_of, read_from, key_length, value_length}
+use Rattle.page_node.specs.claim.Entries.{Entry, IsEntry, entry_bytes, entry_size, body_of, size_of}
+use Rattle.page_node.specs.Entries.{key_at, value_at, first_of, read_from, key_length, value_length}
 use Rattle.page_node.proofs.EntryLists.{body-append, size-append, length-body, length-read, value_length-entry, first-entry, read_at, size-parts, size-take_more, front_at, rest_at}
-use Rattle.page_node.specs.Node.{Node, IsShape}
+use Rattle.page_node.specs.claim.Node.{Node, IsShape}
 use Rattle.page_node.specs.Held.{held_node, IsHeld}
 use Rattle.page_node.specs.Bytes.{with_entry}
 

@@ -2,9 +2,10 @@
 use Rattle.std.proofs.Common.{◌≡◌, ℕ, ◌+◌, ◌-◌, List, [], ◌∷◌, ◌++◌, length, take, drop, sym, ap, ◌∙◌, arith, suc, append_assoc, take-append-drop}
 use Rattle.std.proofs.lemmas.List.{drop_at, drop-drop, drop-take}
 use Rattle.std.proofs.lemmas.List.Elements.{All-drop}
-use Rattle.page_node.specs.Entries.{Entry, IsEntry, entry_bytes, entry_size, body_of, size_of, first_of, key_length, value_length}
+use Rattle.page_node.specs.claim.Entries.{Entry, IsEntry, entry_bytes, entry_size, body_of, size_of}
+use Rattle.page_node.specs.Entries.{first_of, key_length, value_length}
 use Rattle.page_node.proofs.EntryLists.{length-entry, value_length-entry, first-entry, size-parts, rest_at}
-use Rattle.page_node.specs.Node.{Node, IsNode}
+use Rattle.page_node.specs.claim.Node.{Node, IsNode}
 use Rattle.page_node.specs.Bytes.{LiesAt, LiesNot}
 use Rattle.page_node.specs.Walking.{IsAhead, part_of}
 

@@ -5,7 +5,7 @@ use Rattle.std.proofs.lemmas.List.{take_at, drop_at, drop-drop, drop_all, length
 use Rattle.std.proofs.lemmas.Slice.{take-put_mid, drop-put_mid}
 use Rattle.std.proofs.lemmas.List.Edits.{sets-eq}
 use Rattle.page_node.specs.Bytes.{with_entry}
-use Rattle.page_node.specs.Entries.{Entry, size_of, body_of}
+use Rattle.page_node.specs.claim.Entries.{Entry, size_of, body_of}
 use Rattle.page_node.specs.Node.{bytes_of}
 use Rattle.page_node.proofs.Standing.{Stands, size_is}
 

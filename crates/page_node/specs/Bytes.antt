@@ -1,6 +1,7 @@
 -- Entries as they lie in bytes.
 use Rattle.std.specs.Prelude.{◌≡◌, ◌≤◌, ◌+◌, ℕ, List, ◌++◌, take, drop}
-use Rattle.page_node.specs.Entries.{Entry, IsEntry, key_length, value_length, first_of, entry_bytes, entry_size}
+use Rattle.page_node.specs.claim.Entries.{Entry, IsEntry, entry_bytes, entry_size}
+use Rattle.page_node.specs.Entries.{key_length, value_length, first_of}
 
 -- the entry at a place lies in the page: its value begins at one place and ends at another
 pub record LiesAt (page : List ℕ) (at value end : ℕ) : Type 0 where

@@ -2,8 +2,9 @@
 use Rattle.std.specs.Prelude.{◌≡◌, ◌≤◌, ◌+◌, ◌<◌, ◌*◌, ℕ, List, refl, take, drop, length}
 use Rattle.std.specs.Coded.{Coded, code_by, coded×, coded_list, coded_ℕ}
 use Rattle.std.proofs.Common.{get_or}
-use Rattle.page_node.specs.Entries.{Entry, body_of, size_of, read_from}
-use Rattle.page_node.specs.Node.{Node, IsShape}
+use Rattle.page_node.specs.claim.Entries.{Entry, body_of, size_of}
+use Rattle.page_node.specs.Entries.{read_from}
+use Rattle.page_node.specs.claim.Node.{Node, IsShape}
 
 -- a node is stored as the pair of its fields
 abbrev pub node_code : Coded Node

@@ -1,3 +1,4 @@
+pub mod claim
 pub mod Entries
 pub mod Node
 pub mod Held

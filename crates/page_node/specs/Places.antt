@@ -1,20 +1,11 @@
--- Where a key stands among entries whose keys rise.
+-- What no promise rests on, beside claim/Places.antt.
 use Rattle.std.specs.Prelude.{◌≡◌, ◌≤◌, ◌<◌, ℕ, Bool, true, false, List, [], ◌∷◌, length, Option, Some, None, cond}
 use Rattle.std.specs.List.{filter}
-use Rattle.std.specs.Ordering.{nat_cmp, is_gt}
-use Rattle.std.specs.Cmp.Lexicographic.{slice_cmp}
-use Rattle.std.specs.declared.cmp.Ordering.{Ordering}
+use Rattle.std.specs.Ordering.{is_gt}
 use Rattle.std.specs.declared.cmp.Ordering.TheVariants.{Less, Greater}
-use Rattle.std.specs.FinMap.{is_sorted}
-use Rattle.page_node.specs.Entries.{Entry, key_at}
-
--- keys in the order of their bytes, a key before its longer continuations
-abbrev pub key_cmp : List ℕ → List ℕ → Ordering
-key_cmp = slice_cmp nat_cmp
-
--- keys rise strictly
-abbrev pub Rises : List Entry → Type 0
-Rises es = is_sorted key_cmp es ≡ true
+use Rattle.page_node.specs.claim.Entries.{Entry}
+use Rattle.page_node.specs.Entries.{key_at}
+use Rattle.page_node.specs.claim.Places.{key_cmp}
 
 -- the key stands at this place
 pub record IsFound (key : List ℕ) (es : List Entry) (i : ℕ) : Type 0 where

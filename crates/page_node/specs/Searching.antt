@@ -2,8 +2,10 @@
 use Rattle.std.specs.Prelude.{◌≡◌, ◌<◌, ◌+◌, ◌-◌, ℕ, false, List, Some, length, take, drop}
 use Rattle.std.specs.Ordering.{is_gt}
 use Rattle.std.specs.declared.cmp.Ordering.TheVariants.{Less}
-use Rattle.page_node.specs.Entries.{Entry, key_at, value_at, size_of}
-use Rattle.page_node.specs.Places.{key_cmp, Rises, ceiling}
+use Rattle.page_node.specs.claim.Entries.{Entry, size_of}
+use Rattle.page_node.specs.Entries.{key_at, value_at}
+use Rattle.page_node.specs.claim.Places.{key_cmp, Rises}
+use Rattle.page_node.specs.Places.{ceiling}
 
 -- the keys rise, where the first says nothing
 abbrev pub RisesBehind : List Entry → Type 0

@@ -2,9 +2,10 @@
 use Rattle.std.specs.Prelude.{◌≡◌, ◌<◌, ◌+◌, ◌≤◌, ℕ, Bool, true, false, List, length, take, remove}
 use Rattle.std.specs.Prelude.{Option, Some, None, is_some, insert, slice_set, Result, IfOk}
 use Rattle.std.specs.FinMap.{find, put}
-use Rattle.page_node.specs.Entries.{Entry, size_of}
-use Rattle.page_node.specs.Node.{Node, IsNode, Fits}
-use Rattle.page_node.specs.Places.{key_cmp, IsFound, IsGap}
+use Rattle.page_node.specs.claim.Entries.{Entry, size_of}
+use Rattle.page_node.specs.claim.Node.{Node, IsNode, Fits}
+use Rattle.page_node.specs.claim.Places.{key_cmp}
+use Rattle.page_node.specs.Places.{IsFound, IsGap}
 use Rattle.page_node.specs.declared.scan.NotANode.{NotANode}
 
 -- the key's entry begins and ends at these places and has so many before it, or it isn't there and would begin there

@@ -2,9 +2,10 @@
 use Rattle.std.proofs.Common.{◌≡◌, ℕ, ◌+◌, ◌-◌, ◌≤◌, List, length, take, drop}
 use Rattle.std.specs.List.{All}
 use Rattle.std.specs.Prelude.{Result, IfOk}
-use Rattle.page_node.specs.Entries.{Entry, IsEntry, body_of, size_of}
-use Rattle.page_node.specs.Node.{Node, IsNode}
-use Rattle.page_node.specs.Places.{Rises, entries_from}
+use Rattle.page_node.specs.claim.Entries.{Entry, IsEntry, body_of, size_of}
+use Rattle.page_node.specs.claim.Node.{Node, IsNode}
+use Rattle.page_node.specs.claim.Places.{Rises}
+use Rattle.page_node.specs.Places.{entries_from}
 use Rattle.page_node.specs.declared.scan.NotANode.{NotANode}
 use Rattle.page_node.specs.declared.search.Place.{Place}
 

@@ -2,9 +2,10 @@
 use Rattle.std.specs.Prelude.{◌≡◌, ◌+◌, ℕ, zero, suc, true, List, Option, Some, nat_eq, get_or, drop, Result, IfOk}
 use Rattle.std.specs.Option.{option_map, option_copied}
 use Rattle.std.specs.List.{starts_with}
-use Rattle.page_node.specs.Entries.{Entry, child_in}
+use Rattle.page_node.specs.claim.Entries.{Entry}
+use Rattle.page_node.specs.Entries.{child_in}
 use Rattle.page_node.specs.Places.{floor, ceiling}
-use Rattle.page_node.specs.Node.{Node, IsNode}
+use Rattle.page_node.specs.claim.Node.{Node, IsNode}
 use Rattle.page_node.specs.Searching.{IsTurn, RisesBehind}
 use Rattle.page_node.specs.Walking.{part_of}
 use Rattle.page_node.specs.declared.scan.NotANode.{NotANode}

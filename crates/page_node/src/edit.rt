@@ -2,9 +2,10 @@
 ghost use Rattle.std.specs.Prelude.{◌≡◌, ◌≤◌, ◌<◌, ◌+◌, ◌-◌, ◌/◌, ◌%◌, ◌++◌, List, length, take, drop};
 ghost use Rattle.std.specs.Prelude.{slice_set, IfOk, OnErr, cond, true, false, Option, Some, None};
 ghost use Rattle.std.specs.List.{copy_within};
-ghost use Rattle.page_node.specs.Entries.{Entry, entry_bytes, entry_size, key_at, size_of};
-ghost use Rattle.page_node.specs.Node.{Node, IsNode};
-ghost use Rattle.page_node.specs.Places.{Rises};
+ghost use Rattle.page_node.specs.claim.Entries.{Entry, entry_bytes, entry_size, size_of};
+ghost use Rattle.page_node.specs.Entries.{key_at};
+ghost use Rattle.page_node.specs.claim.Node.{Node, IsNode};
+ghost use Rattle.page_node.specs.claim.Places.{Rises};
 ghost use Rattle.page_node.specs.Bytes.{with_entry};
 ghost use Rattle.page_node.specs.Spots.{IsRowPut, IsRowTaken, IsSpareTaken, InsertsEntry, ReplacesEntry, RemovesEntry};
 

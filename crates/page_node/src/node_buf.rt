@@ -17,7 +17,7 @@ pub struct NodeBuf {
 }
 
 impl Model for NodeBuf {
-    ghost use Rattle.page_node.specs.Node.{Node};
+    ghost use Rattle.page_node.specs.claim.Node.{Node};
     ghost use Rattle.page_node.specs.Held.{node_code, held_node, IsHeld};
 
     ghost Value = { Node };
@@ -32,10 +32,13 @@ impl Model for NodeBuf {
 impl NodeBuf {
     ghost use Rattle.std.specs.Prelude.{◌≡◌, ◌≤◌, ◌<◌, ◌+◌, ◌↔◌, ℕ, List, [], ◌++◌, length, take, insert};
     ghost use Rattle.std.specs.Prelude.{remove, slice_set, IsTrue, OnOk, OnErr, IfOk, IfErr, MatchResult};
-    ghost use Rattle.page_node.specs.Entries.{key_at, value_at, child_in, size_of};
-    ghost use Rattle.page_node.specs.Node.{Node, IsNode, IsShape, Fits, bytes_of};
+    ghost use Rattle.page_node.specs.Entries.{key_at, value_at, child_in};
+    ghost use Rattle.page_node.specs.claim.Entries.{size_of};
+    ghost use Rattle.page_node.specs.claim.Node.{Node, IsNode, IsShape, Fits};
+    ghost use Rattle.page_node.specs.Node.{bytes_of};
     ghost use Rattle.page_node.specs.Held.{IsCutAtHalf};
-    ghost use Rattle.page_node.specs.Places.{Rises, IsFound, IsGap};
+    ghost use Rattle.page_node.specs.claim.Places.{Rises};
+    ghost use Rattle.page_node.specs.Places.{IsFound, IsGap};
 
     /// A leaf without entries. It is a constant, since what a function makes is copied to where it stands.
     pub const EMPTY: NodeBuf = NodeBuf {

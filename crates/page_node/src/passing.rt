@@ -1,6 +1,7 @@
 //! Entries that are passed over: eight at once where they have the same lengths.
 ghost use Rattle.std.specs.Prelude.{◌≡◌, ◌≤◌, ◌<◌, ◌+◌, ◌*◌, ℕ, List, true, length, drop, IfSome, IfNone};
-ghost use Rattle.page_node.specs.Entries.{Entry, key_length, value_length};
+ghost use Rattle.page_node.specs.claim.Entries.{Entry};
+ghost use Rattle.page_node.specs.Entries.{key_length, value_length};
 ghost use Rattle.page_node.specs.Walking.{IsAhead, PassesTo};
 
 use crate::entry::{Lengths, bounds_in};

@@ -1,7 +1,7 @@
 //! A page's entries, read in one pass.
 ghost use Rattle.std.specs.Prelude.{◌≡◌, ◌≤◌, IfSome, IfNone};
 ghost use Rattle.std.proofs.Common.{get_or};
-ghost use Rattle.page_node.specs.Node.{Node, IsNode, count_in};
+ghost use Rattle.page_node.specs.claim.Node.{Node, IsNode, count_in};
 ghost use Rattle.page_node.specs.Held.{IsHeld};
 
 use crate::entry::{Lengths, bounds_in};

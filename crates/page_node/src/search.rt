@@ -6,8 +6,9 @@ ghost use Rattle.std.specs.Ordering.{is_gt, is_lt};
 ghost use Rattle.std.proofs.Common.{get_or};
 ghost use Rattle.page_node.specs.Bytes.{LiesAt};
 ghost use Rattle.page_node.specs.Entries.{child_in};
-ghost use Rattle.page_node.specs.Node.{Node, IsNode, count_in};
-ghost use Rattle.page_node.specs.Places.{key_cmp, Rises, floor, ceiling};
+ghost use Rattle.page_node.specs.claim.Node.{Node, IsNode, count_in};
+ghost use Rattle.page_node.specs.claim.Places.{key_cmp, Rises};
+ghost use Rattle.page_node.specs.Places.{floor, ceiling};
 ghost use Rattle.page_node.specs.Walking.{FindsPlace};
 ghost use Rattle.page_node.specs.Searching.{IsBelow, IsLast, IsTurn, RisesBehind};
 

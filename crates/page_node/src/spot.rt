@@ -1,8 +1,8 @@
 //! Where a row stands in a page's bytes, or would stand.
 ghost use Rattle.std.specs.Prelude.{◌≡◌, ◌≤◌, ◌+◌, take, length, IfOk, OnErr};
-ghost use Rattle.page_node.specs.Entries.{size_of};
-ghost use Rattle.page_node.specs.Node.{Node, IsNode};
-ghost use Rattle.page_node.specs.Places.{Rises};
+ghost use Rattle.page_node.specs.claim.Entries.{size_of};
+ghost use Rattle.page_node.specs.claim.Node.{Node, IsNode};
+ghost use Rattle.page_node.specs.claim.Places.{Rises};
 ghost use Rattle.page_node.specs.Spots.{IsSpot};
 
 use crate::entry::{Lengths, bounds_in};

@@ -2,7 +2,7 @@
 ghost use Rattle.std.specs.Prelude.{◌≡◌, ◌≤◌, ◌<◌, ◌+◌, ◌-◌, ℕ, List, true, length, take, drop, None, nat_eq, IfOk, IfSome, IsSomeAnd, OnErr};
 ghost use Rattle.std.specs.List.{starts_with};
 ghost use Rattle.page_node.specs.Bytes.{LiesAt};
-ghost use Rattle.page_node.specs.Node.{Node, IsNode};
+ghost use Rattle.page_node.specs.claim.Node.{Node, IsNode};
 ghost use Rattle.page_node.specs.Places.{floor, ceiling};
 ghost use Rattle.page_node.specs.Searching.{IsTurn, RisesBehind};
 ghost use Rattle.page_node.specs.Walking.{part_of};

@@ -2,12 +2,13 @@
 use Rattle.std.proofs.Common.{◌≡◌, ◌⊎◌, ◌<◌, ◌≤◌, ◌-◌, ◌^◌, ℕ, zero, suc, List, length, drop, inl, inr, refl, sym, ap, subst, ◌∙◌, arith}
 use Rattle.std.proofs.lemmas.Bool.{cases_lt}
 use Rattle.std.specs.Prelude.{Option, Some}
-use Rattle.sector_device.specs.Disk.{Image}
-use Rattle.page_node.specs.Entries.{Entry, child_bytes, key_at, value_at}
-use Rattle.page_node.specs.Node.{Node, IsNode}
+use Rattle.sector_device.specs.claim.Disk.{Image}
+use Rattle.page_node.specs.claim.Entries.{Entry, child_bytes}
+use Rattle.page_node.specs.Entries.{key_at, value_at}
+use Rattle.page_node.specs.claim.Node.{Node, IsNode}
 use Rattle.page_node.proofs.Laws.{node_unique}
-use Rattle.page_btree.specs.Keys.{Parts}
-use Rattle.page_btree.specs.Tree.{Tree, Forest, leaf, inner, one, more, page_of, first_key, links, owns, forest_owns, IsTree, AreTrees, IsApart, AreApart}
+use Rattle.page_btree.specs.claim.Keys.{Parts}
+use Rattle.page_btree.specs.claim.Tree.{Tree, Forest, leaf, inner, one, more, page_of, first_key, links, owns, forest_owns, IsTree, AreTrees, IsApart, AreApart}
 use Rattle.page_btree.proofs.Descent.{node_of, owns_page}
 use Rattle.page_owners.specs.Order.{lower_of, upper_of, next_key, AreRows, AreParts, IsOrdered}
 use Rattle.page_owners.specs.Owners.{IsSeen, CanName, AreNamed, HasLevel, AreWalkedFrom, CanWalk}

@@ -2,7 +2,7 @@
 use Rattle.std.proofs.Common.{Ok, Err, sym, ◌∙◌}
 use Rattle.std.specs.Prelude.{Result, OnOk}
 use Rattle.sector_device.specs.declared.SectorDevice.{Ghosts}
-use Rattle.page_store.specs.Transactions.{disk_in, IsQuiet, Passed, ReadErr}
+use Rattle.page_store.specs.claim.Transactions.{disk_in, IsQuiet, Passed, ReadErr}
 use Rattle.page_store.proofs.Stops.{failed_more}
 use Rattle.page_store.specs.declared.error.PageError.{PageError}
 use Rattle.page_store.specs.declared.error.PageError.TheVariants as page

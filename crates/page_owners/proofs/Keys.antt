@@ -6,8 +6,9 @@ use Rattle.std.specs.Ordering.{is_lt}
 use Rattle.std.specs.declared.cmp.Ordering.TheVariants.{Less}
 use Rattle.std.specs.FinMap.{is_sorted}
 use Rattle.std.specs.FinMap.Entries.{below_all}
-use Rattle.page_node.specs.Entries.{Entry, key_at}
-use Rattle.page_node.specs.Places.{key_cmp, Rises}
+use Rattle.page_node.specs.claim.Entries.{Entry}
+use Rattle.page_node.specs.Entries.{key_at}
+use Rattle.page_node.specs.claim.Places.{key_cmp, Rises}
 use Rattle.page_node.proofs.Laws.{less_trans, is_less, rises_at}
 use Rattle.page_owners.specs.Order.{lower_of, upper_of, AreRows, AreParts, IsOrdered}
 

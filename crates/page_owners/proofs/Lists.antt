@@ -1,8 +1,8 @@
 -- The list of free pages, read one after the other.
 use Rattle.std.proofs.Common.{◌≡◌, ◌⊎◌, ◌<◌, ◌+◌, ℕ, zero, suc, List, [], ◌∷◌, ◌++◌, length, inl, inr, refl, sym, ap, subst, ◌∙◌, arith, add-one}
-use Rattle.sector_device.specs.Disk.{Image}
-use Rattle.gate_journal.specs.Store.{word}
-use Rattle.page_store.specs.Chain.{chain, IsIn, AreFree}
+use Rattle.sector_device.specs.claim.Disk.{Image}
+use Rattle.gate_journal.specs.claim.Store.{word}
+use Rattle.page_store.specs.claim.Chain.{chain, IsIn, AreFree}
 use Rattle.page_store.proofs.Chains.{below_free}
 use Rattle.page_owners.specs.Owners.{behind, IsSeen, IsBlank, CanName, AreNamed, IsFreeList, CanList}
 use Rattle.page_owners.specs.declared.marks.Marks.{Marks}

@@ -1,7 +1,7 @@
 -- Pages that are named one after the other.
 use Rattle.std.proofs.Common.{◌≡◌, ◌⊎◌, ◌<◌, ◌+◌, ℕ, zero, suc, Bool, true, false, List, [], ◌∷◌, length, get_or, set, replicate, inl, inr, refl, sym, ap, subst, ◌∙◌, arith, length-set, get_or-set_same, get_or-set_other}
 use Rattle.std.proofs.lemmas.Bool.{cases_eq}
-use Rattle.page_store.specs.Chain.{IsIn}
+use Rattle.page_store.specs.claim.Chain.{IsIn}
 use Rattle.page_owners.specs.Marks.{unseen}
 use Rattle.page_owners.specs.Owners.{IsSeen, AreNamed}
 use Rattle.page_owners.specs.declared.marks.Marks.{Marks}

@@ -6,11 +6,11 @@ use Rattle.std.specs.Ordering.{is_lt, is_gt}
 use Rattle.std.specs.declared.cmp.Ordering.TheVariants.{Less}
 use Rattle.std.specs.FinMap.{is_sorted, entries, from_sorted, entries-from_sorted}
 use Rattle.std.specs.FinMap.Entries.{below_all}
-use Rattle.sector_device.specs.Disk.{Image}
-use Rattle.page_node.specs.Entries.{Entry}
-use Rattle.page_node.specs.Places.{key_cmp, Rises}
-use Rattle.page_btree.specs.Keys.{KeyMap, IsBetween}
-use Rattle.page_btree.specs.Tree.{Tree, Forest, leaf, inner, one, more, first_key, rows, forest_rows, IsTree, AreTrees}
+use Rattle.sector_device.specs.claim.Disk.{Image}
+use Rattle.page_node.specs.claim.Entries.{Entry}
+use Rattle.page_node.specs.claim.Places.{key_cmp, Rises}
+use Rattle.page_btree.specs.claim.Keys.{KeyMap, IsBetween}
+use Rattle.page_btree.specs.claim.Tree.{Tree, Forest, leaf, inner, one, more, first_key, rows, forest_rows, IsTree, AreTrees}
 use Rattle.page_btree.proofs.Rows.{all_map, less_from}
 use Rattle.page_btree.proofs.Within.{within_tree, within_trees}
 

@@ -2,12 +2,13 @@
 use Rattle.std.proofs.Common.{◌≡◌, ◌⊎◌, ◌<◌, ◌≤◌, ◌+◌, ◌-◌, ◌^◌, ℕ, zero, suc, List, [], ◌∷◌, length, drop, get_or, inl, inr, refl, sym, ap, subst, ◌∙◌, arith, add-one, length-drop}
 use Rattle.std.proofs.lemmas.List.{drop_more}
 use Rattle.std.specs.Prelude.{Option, Some}
-use Rattle.sector_device.specs.Disk.{Image}
-use Rattle.page_node.specs.Entries.{Entry, child_bytes, child_in, key_at, value_at}
-use Rattle.page_node.specs.Node.{Node, IsNode}
+use Rattle.sector_device.specs.claim.Disk.{Image}
+use Rattle.page_node.specs.claim.Entries.{Entry, child_bytes}
+use Rattle.page_node.specs.Entries.{child_in, key_at, value_at}
+use Rattle.page_node.specs.claim.Node.{Node, IsNode}
 use Rattle.page_node.proofs.Laws.{node_unique, child_written}
-use Rattle.page_btree.specs.Keys.{Parts}
-use Rattle.page_btree.specs.Tree.{Tree, Forest, leaf, inner, one, more, page_of, first_key, links, owns, forest_owns, size, forest_size, IsTree, AreTrees}
+use Rattle.page_btree.specs.claim.Keys.{Parts}
+use Rattle.page_btree.specs.claim.Tree.{Tree, Forest, leaf, inner, one, more, page_of, first_key, links, owns, forest_owns, size, forest_size, IsTree, AreTrees}
 use Rattle.page_btree.proofs.Descent.{owns_page}
 use Rattle.page_owners.specs.Order.{lower_of, upper_of, next_key, AreRows, AreParts}
 use Rattle.page_owners.specs.Owners.{AreNamed, IsWalked, AreWalked, AreWalkedFrom}

@@ -2,11 +2,11 @@
 use Rattle.std.proofs.Common.{◌≡◌, ◌<◌, ◌≤◌, ◌^◌, ℕ, [], length, inl, inr, refl, sym, ap, subst, ◌∙◌, arith}
 use Rattle.std.specs.Prelude.{None}
 use Rattle.std.specs.FinMap.{empty}
-use Rattle.sector_device.specs.Disk.{Image}
-use Rattle.gate_journal.specs.Store.{word}
-use Rattle.page_store.specs.Chain.{AreFree, root_in, free_in}
+use Rattle.sector_device.specs.claim.Disk.{Image}
+use Rattle.gate_journal.specs.claim.Store.{word}
+use Rattle.page_store.specs.claim.Chain.{AreFree, root_in, free_in}
 use Rattle.page_store.proofs.Chains.{length_chain, below_free}
-use Rattle.page_btree.specs.Tree.{page_of, owns, size}
+use Rattle.page_btree.specs.claim.Tree.{page_of, owns, size}
 use Rattle.page_btree.proofs.MapLaws.{no_entries}
 use Rattle.page_btree.proofs.Descent.{owns_page}
 use Rattle.page_owners.specs.Owners.{AreOwned, IsSeen, AreNamed, IsFreeList, CanList, IsRootWalked, CanWalkRoot}

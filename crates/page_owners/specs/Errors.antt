@@ -1,7 +1,7 @@
 -- Why pages aren't found sound.
 use Rattle.std.specs.Prelude.{◌≡◌, true}
 use Rattle.sector_device.specs.declared.SectorDevice.{Ghosts}
-use Rattle.page_store.specs.Transactions.{disk_in, has_halted, HasFailed}
+use Rattle.page_store.specs.claim.Transactions.{disk_in, has_halted, HasFailed}
 use Rattle.page_store.specs.declared.error.PageError.{PageError}
 use Rattle.page_store.specs.declared.error.PageError.TheVariants as page
 use Rattle.page_store.specs.declared.pages.Pages.{Pages}

@@ -2,9 +2,10 @@
 use Rattle.std.specs.Prelude.{◌<◌, ℕ, List, [], ◌∷◌, length, drop, Option, Some}
 use Rattle.std.proofs.Common.{zero, suc}
 use Rattle.std.specs.List.{AllByRecursion}
-use Rattle.page_node.specs.Entries.{Entry, key_at}
-use Rattle.page_node.specs.Places.{Rises}
-use Rattle.page_btree.specs.Keys.{IsBetween, Parts}
+use Rattle.page_node.specs.claim.Entries.{Entry}
+use Rattle.page_node.specs.Entries.{key_at}
+use Rattle.page_node.specs.claim.Places.{Rises}
+use Rattle.page_btree.specs.claim.Keys.{IsBetween, Parts}
 
 -- an entry's keys are from its own on, and those of the first from the node's lower bound on
 abbrev pub lower_of : List ℕ → List Entry → ℕ → List ℕ

@@ -1,14 +1,14 @@
 -- Pages of which each has one owner: page 0, the list of free pages, or the tree.
 use Rattle.std.specs.Prelude.{◌≡◌, ◌⊎◌, ◌≤◌, ◌<◌, ◌+◌, ℕ, true, false, List, [], length, drop, Option, None}
 use Rattle.std.proofs.Common.{get_or, zero, suc}
-use Rattle.sector_device.specs.Disk.{Image}
-use Rattle.gate_journal.specs.Store.{word}
-use Rattle.page_store.specs.Chain.{chain, IsIn, AreFree, root_in, free_in}
-use Rattle.page_node.specs.Entries.{Entry}
-use Rattle.page_node.specs.Node.{Node, IsNode}
-use Rattle.page_btree.specs.Keys.{KeyMap}
-use Rattle.page_btree.specs.Tree.{Tree, Forest, IsTree, AreTrees, IsApart, AreApart, page_of, links, owns, forest_owns, size, forest_size}
-use Rattle.page_btree.specs.Map.{Holds}
+use Rattle.sector_device.specs.claim.Disk.{Image}
+use Rattle.gate_journal.specs.claim.Store.{word}
+use Rattle.page_store.specs.claim.Chain.{chain, IsIn, AreFree, root_in, free_in}
+use Rattle.page_node.specs.claim.Entries.{Entry}
+use Rattle.page_node.specs.claim.Node.{Node, IsNode}
+use Rattle.page_btree.specs.claim.Keys.{KeyMap}
+use Rattle.page_btree.specs.claim.Tree.{Tree, Forest, IsTree, AreTrees, IsApart, AreApart, page_of, links, owns, forest_owns, size, forest_size}
+use Rattle.page_btree.specs.claim.Map.{Holds}
 use Rattle.page_owners.specs.Order.{lower_of}
 use Rattle.page_owners.specs.declared.marks.Marks.{Marks}
 

@@ -1,6 +1,6 @@
 //! Checks that each page of a store has one owner.
 ghost use Rattle.std.specs.Prelude.{◌≡◌, ℕ, length, OnOk, IfErr};
-ghost use Rattle.page_store.specs.Transactions.{stored, disk_in, count_of, txn_pages, over, IsQuiet, Passed};
+ghost use Rattle.page_store.specs.claim.Transactions.{stored, disk_in, count_of, txn_pages, over, IsQuiet, Passed};
 ghost use Rattle.page_owners.specs.Owners.{AreOwned, IsSeen};
 ghost use Rattle.page_owners.specs.Errors.{PagesErr, CheckErr};
 

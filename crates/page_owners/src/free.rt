@@ -1,8 +1,8 @@
 //! Checks the list of free pages.
 ghost use Rattle.std.specs.Prelude.{◌≡◌, ◌≤◌, ◌<◌, ℕ, length, true, false, OnOk, IfOk, IfErr};
-ghost use Rattle.gate_journal.specs.Store.{word};
-ghost use Rattle.page_store.specs.Chain.{chain, IsIn};
-ghost use Rattle.page_store.specs.Transactions.{stored, disk_in, count_of, txn_pages, over, IsQuiet, Passed};
+ghost use Rattle.gate_journal.specs.claim.Store.{word};
+ghost use Rattle.page_store.specs.claim.Chain.{chain, IsIn};
+ghost use Rattle.page_store.specs.claim.Transactions.{stored, disk_in, count_of, txn_pages, over, IsQuiet, Passed};
 ghost use Rattle.page_owners.specs.Owners.{AreNamed, IsSeen, IsBlank, CanName, IsFreeList, CanList};
 ghost use Rattle.page_owners.specs.Errors.{PagesErr};
 

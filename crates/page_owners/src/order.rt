@@ -3,9 +3,10 @@ ghost use Rattle.std.specs.Prelude.{◌≡◌, ◌<◌, ◌-◌, ◌^◌, length
 ghost use Rattle.std.specs.Option.{option_copied};
 ghost use Rattle.std.specs.List.{AllByRecursion};
 ghost use Rattle.std.specs.Ordering.{is_gt, is_lt};
-ghost use Rattle.page_node.specs.Entries.{child_bytes, key_at, value_at};
-ghost use Rattle.page_node.specs.Places.{key_cmp, Rises};
-ghost use Rattle.page_btree.specs.Keys.{IsBetween, IsUnder, Parts};
+ghost use Rattle.page_node.specs.claim.Entries.{child_bytes};
+ghost use Rattle.page_node.specs.Entries.{key_at, value_at};
+ghost use Rattle.page_node.specs.claim.Places.{key_cmp, Rises};
+ghost use Rattle.page_btree.specs.claim.Keys.{IsBetween, IsUnder, Parts};
 ghost use Rattle.page_owners.specs.Order.{lower_of, upper_of, AreRows, AreParts, IsOrdered};
 
 use page_node::NodeBuf;

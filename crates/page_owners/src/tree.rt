@@ -1,8 +1,8 @@
 //! Checks the tree of pages.
 ghost use Rattle.std.specs.Prelude.{◌≡◌, ◌≤◌, ◌<◌, ℕ, length, None, OnOk, IfOk, IfErr};
 ghost use Rattle.std.specs.Option.{option_copied};
-ghost use Rattle.page_store.specs.Transactions.{stored, disk_in, count_of, txn_pages, over, IsQuiet, Passed};
-ghost use Rattle.page_node.specs.Node.{IsNode};
+ghost use Rattle.page_store.specs.claim.Transactions.{stored, disk_in, count_of, txn_pages, over, IsQuiet, Passed};
+ghost use Rattle.page_node.specs.claim.Node.{IsNode};
 ghost use Rattle.page_owners.specs.Owners.{HasLevel, IsWalked, CanWalk, IsRootWalked, CanWalkRoot};
 ghost use Rattle.page_owners.specs.Errors.{PagesErr};
 

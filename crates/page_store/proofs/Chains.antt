@@ -5,12 +5,13 @@ use Rattle.std.proofs.lemmas.Bool.Decides.{nat_tests}
 use Rattle.std.proofs.lemmas.Map.Steps.{length-le_from_distinct_below}
 use Rattle.std.specs.List.{AllByRecursion, IsDistinct, list_any}
 use lib.Dec.{eqb}
-use Rattle.sector_device.specs.Disk.{Image}
-use Rattle.gate_journal.specs.Store.{word, put, overlay}
+use Rattle.sector_device.specs.claim.Disk.{Image}
+use Rattle.gate_journal.specs.claim.Store.{word, put, overlay}
 use Rattle.gate_journal.proofs.Images.{put_on, put_off}
-use Rattle.page_store.specs.Chain.{chain, free_in, IsIn, AreFree, IsPages}
+use Rattle.page_store.specs.claim.Chain.{chain, free_in, IsIn, AreFree, IsPages}
 use Rattle.std.specs.Prelude.{Option, Some, None, MatchOption}
-use Rattle.gate_journal.specs.Writes.{writes_of, IsEdited}
+use Rattle.gate_journal.specs.claim.Writes.{writes_of}
+use Rattle.gate_journal.specs.Writes.{IsEdited}
 use Rattle.gate_journal.specs.declared.writes.PageWrites.{PageWrites}
 
 pub length_chain : (P : Image) (first count : ℕ) → length (chain P first count) ≡ count

@@ -1,15 +1,15 @@
 -- What an opening finds in the pages.
 use Rattle.std.proofs.Common.{◌≡◌, ◌≢◌, ◌⊎◌, ◌<◌, ℕ, true, false, inl, inr, refl, sym, ap, subst, ◌∙◌, arith}
-use Rattle.sector_device.specs.Disk.{Disk, Image, Nowhere, Touches}
+use Rattle.sector_device.specs.claim.Disk.{Disk, Image, Nowhere, Touches}
 use Rattle.sector_device.specs.declared.SectorDevice.{Ghosts}
-use Rattle.gate_journal.specs.Store.{Opens, pages}
+use Rattle.gate_journal.specs.claim.Store.{Opens, pages}
 use Rattle.gate_journal.specs.Recovery.{HasRoom, Found}
-use Rattle.gate_journal.specs.Contents.{content, disk_of, device_of, page_count, is_halted}
+use Rattle.gate_journal.specs.claim.Contents.{content, disk_of, device_of, page_count, is_halted}
 use Rattle.gate_journal.specs.declared.journal.Journal.{Journal}
 use Rattle.gate_journal.specs.declared.error.JournalError.{JournalError}
 use Rattle.gate_journal.specs.declared.error.JournalError.TheVariants as journal
 use Rattle.gate_journal.proofs.Headers.{same_journal}
-use Rattle.page_store.specs.Chain.{IsPages}
+use Rattle.page_store.specs.claim.Chain.{IsPages}
 use Rattle.page_store.specs.Errors.{page_error}
 use Rattle.page_store.specs.Openings.{AllPageStores, MetaErr}
 use Rattle.page_store.specs.Transactions.{OpenErr, HasBadPages}

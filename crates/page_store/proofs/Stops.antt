@@ -1,13 +1,13 @@
 -- What the layers above need of a stop where a call read at most.
 use Rattle.std.specs.Prelude.{◌≡◌, ◌⊎◌, ◌<◌, ℕ, Bool, true, false}
 use Rattle.std.proofs.Common.{inl, inr, refl, sym, ap, subst, ◌∙◌, arith}
-use Rattle.sector_device.specs.Disk.{Disk, Image, Touches, Nowhere}
-use Rattle.sector_device.specs.Moments.{LeavesOnly}
+use Rattle.sector_device.specs.claim.Disk.{Disk, Image, Touches, Nowhere}
+use Rattle.sector_device.specs.claim.Moments.{LeavesOnly}
 use Rattle.sector_device.proofs.Moments.{now_but, leaves_still, touches_none, touches_more}
 use Rattle.sector_device.specs.declared.SectorDevice.{Ghosts}
-use Rattle.gate_journal.specs.Store.{Opens}
-use Rattle.gate_journal.specs.Contents.{content, page_count, journal_size, is_halted}
-use Rattle.page_store.specs.Transactions.{stored, disk_in, has_halted, IsQuiet, IsKept, HasFailed, Passed}
+use Rattle.gate_journal.specs.claim.Store.{Opens}
+use Rattle.gate_journal.specs.claim.Contents.{content, page_count, journal_size, is_halted}
+use Rattle.page_store.specs.claim.Transactions.{stored, disk_in, has_halted, IsQuiet, IsKept, HasFailed, Passed}
 use Rattle.page_store.specs.declared.pages.Pages.{Pages}
 
 -- a run that begins now has left what a stop now may leave

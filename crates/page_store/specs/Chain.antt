@@ -1,37 +1,7 @@
--- The meta page and the free pages. Page 0 begins with three words: the root, the first free page, and how many pages are
--- free. Each free page begins with the number of the next one.
-use Rattle.std.specs.Prelude.{◌≡◌, ◌⊎◌, ◌<◌, ℕ, List, [], ◌∷◌}
-use Rattle.std.proofs.Common.{zero, suc}
-use Rattle.sector_device.specs.Disk.{Image}
-use Rattle.gate_journal.specs.Store.{word}
-
--- count pages from the first one on, each linked to the next
-abbrev pub chain : Image → ℕ → ℕ → List ℕ
-chain P first zero = []
-chain P first (suc count) = first ∷ chain P (word (P first) 0) count
-
--- the root that pages name, and their free pages
-abbrev pub root_in : Image → ℕ
-root_in P = word (P 0) 0
-
-abbrev pub free_in : Image → List ℕ
-free_in P = chain P (word (P 0) 1) (word (P 0) 2)
-
-abbrev pub IsIn : ℕ → List ℕ → Type 0
-IsIn q [] = ⊥
-IsIn q (p ∷ ps) = (q ≡ p) ⊎ IsIn q ps
-
--- each is one of n pages other than page 0, and none stands twice
-abbrev pub AreFree : ℕ → List ℕ → Type 0
-AreFree n [] = Unit {0}
-AreFree n (q ∷ qs) = (0 < q) × (q < n) × (IsIn q qs → ⊥) × AreFree n qs
-
--- the pages hold a root, and free pages
-pub record IsPages (n : ℕ) (P : Image) : Type 0 where
-  pub root : root_in P < n
-  pub first : word (P 0) 1 < n
-  pub count : word (P 0) 2 < n
-  pub free : AreFree n (free_in P)
+-- What no promise rests on, beside claim/Chain.antt.
+use Rattle.std.specs.Prelude.{◌≡◌, ℕ}
+use Rattle.sector_device.specs.claim.Disk.{Image}
+use Rattle.gate_journal.specs.claim.Store.{word}
 
 -- what the meta page says
 pub record IsMeta (P : Image) (root first count : ℕ) : Type 0 where

@@ -1,3 +1,4 @@
+pub mod claim
 pub mod Errors
 pub mod Chain
 pub mod Lending

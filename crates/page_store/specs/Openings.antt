@@ -1,11 +1,11 @@
 -- What an image of a store with pages is.
 use Rattle.std.specs.Prelude.{◌≡◌, ◌+◌, ℕ, true}
-use Rattle.sector_device.specs.Disk.{Disk, Image}
+use Rattle.sector_device.specs.claim.Disk.{Disk, Image}
 use Rattle.sector_device.specs.declared.SectorDevice.{Ghosts}
-use Rattle.gate_journal.specs.Store.{home, IsStore, pages}
-use Rattle.gate_journal.specs.Contents.{content, page_count, is_halted, HasHalted}
+use Rattle.gate_journal.specs.claim.Store.{home, IsStore, pages}
+use Rattle.gate_journal.specs.claim.Contents.{content, page_count, is_halted, HasHalted}
 use Rattle.gate_journal.specs.declared.journal.Journal.{Journal}
-use Rattle.page_store.specs.Chain.{IsPages}
+use Rattle.page_store.specs.claim.Chain.{IsPages}
 use Rattle.page_store.specs.declared.error.PageError.{PageError}
 use Rattle.page_store.specs.declared.error.PageError.TheVariants.{NotAStore, DeviceFault, Halted, TooManyPages, TooSmall, NoPages, Memory}
 

@@ -1,12 +1,14 @@
 -- What calls on transactions leave, in one relation a clause.
 use Rattle.std.specs.Prelude.{◌≡◌, ◌≤◌, ◌-◌, ℕ, false, List, ◌∷◌, length, Option, MatchOption, Result, IfOk, IsOk}
-use Rattle.sector_device.specs.Moments.{LeavesOnly}
+use Rattle.sector_device.specs.claim.Moments.{LeavesOnly}
 use Rattle.sector_device.specs.declared.SectorDevice.{Ghosts}
 use Rattle.gate_journal.specs.Store.{IsBeforeOrAfter}
 use Rattle.gate_journal.specs.Writes.{IsEdited}
-use Rattle.page_store.specs.Chain.{chain}
-use Rattle.page_store.specs.Transactions.{stored, disk_in, count_of, journal_of, has_halted, txn_list}
-use Rattle.page_store.specs.Transactions.{txn_first, txn_free, IsWritten, over, free_over}
+use Rattle.page_store.specs.claim.Chain.{chain}
+use Rattle.page_store.specs.claim.Transactions.{stored, disk_in, count_of, journal_of, has_halted}
+use Rattle.page_store.specs.Transactions.{txn_list}
+use Rattle.page_store.specs.Transactions.{txn_first, IsWritten}
+use Rattle.page_store.specs.claim.Transactions.{txn_free, over, free_over}
 use Rattle.page_store.specs.declared.pages.Pages.{Pages}
 use Rattle.page_store.specs.declared.txn.Txn.{Txn}
 

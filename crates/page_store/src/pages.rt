@@ -1,7 +1,7 @@
 //! Pages on a device.
 ghost use Rattle.std.specs.Prelude.{◌≡◌, ◌<◌, false, length, OnOk, IfOk, IfErr};
-ghost use Rattle.sector_device.specs.Disk.{Touches, Nowhere};
-ghost use Rattle.gate_journal.specs.Contents.{content, disk_of, page_count, is_halted, HasShapeOf};
+ghost use Rattle.sector_device.specs.claim.Disk.{Touches, Nowhere};
+ghost use Rattle.gate_journal.specs.claim.Contents.{content, disk_of, page_count, is_halted, HasShapeOf};
 ghost use Rattle.page_store.specs.Chain.{IsMeta};
 ghost use Rattle.page_store.specs.Lending.{AreHeld};
 ghost use Rattle.page_store.specs.Openings.{MetaErr};
@@ -69,14 +69,15 @@ fn read_meta<D: SectorDevice>(journal: &mut Journal<D>) -> Result<Meta, PageErro
 
 impl<D: SectorDevice> Pages<D> {
     ghost use Rattle.std.specs.Prelude.{◌≡◌, ◌≢◌, ◌≤◌, ◌<◌, ℕ, false, length, OnOk, IfOk, IfErr};
-    ghost use Rattle.sector_device.specs.Disk.{Disk};
-    ghost use Rattle.sector_device.specs.Moments.{LeavesOnly};
+    ghost use Rattle.sector_device.specs.claim.Disk.{Disk};
+    ghost use Rattle.sector_device.specs.claim.Moments.{LeavesOnly};
     ghost use Rattle.gate_journal.specs.Recovery.{HasRoom, AllStores, ReadsAs, Found};
-    ghost use Rattle.page_store.specs.Chain.{root_in, free_in, IsPages};
+    ghost use Rattle.page_store.specs.claim.Chain.{root_in, free_in, IsPages};
     ghost use Rattle.page_store.specs.Openings.{AllPageStores};
     ghost use Rattle.page_store.specs.Lent.{held_at, lent_bytes};
-    ghost use Rattle.page_store.specs.Transactions.{stored, disk_in, device_in, count_of, journal_of, has_halted, txn_pages, txn_writes, txn_root};
-    ghost use Rattle.page_store.specs.Transactions.{over, free_over, IsQuiet, IsKept, IsUntouched, ReadErr, OpenErr, device_after};
+    ghost use Rattle.page_store.specs.claim.Transactions.{stored, disk_in, device_in, count_of, journal_of, has_halted, txn_pages, txn_writes, txn_root};
+    ghost use Rattle.page_store.specs.claim.Transactions.{over, free_over, IsQuiet, IsKept, ReadErr, device_after};
+    ghost use Rattle.page_store.specs.Transactions.{IsUntouched, OpenErr};
 
     /// Opens the pages that a device holds, as `Journal::open`. With a refusal the device comes back. `Memory`: no room for the
     /// pages that are to be held; it comes of a store alone.

@@ -1,8 +1,9 @@
 //! Transactions over pages.
 ghost use Rattle.std.specs.Prelude.{◌<◌, ◌≡◌};
-ghost use Rattle.sector_device.specs.Disk.{Image};
-ghost use Rattle.gate_journal.specs.Store.{IsWithin, overlay};
-ghost use Rattle.gate_journal.specs.Writes.{writes_of};
+ghost use Rattle.sector_device.specs.claim.Disk.{Image};
+ghost use Rattle.gate_journal.specs.Store.{IsWithin};
+ghost use Rattle.gate_journal.specs.claim.Store.{overlay};
+ghost use Rattle.gate_journal.specs.claim.Writes.{writes_of};
 ghost use Rattle.page_store.specs.Chain.{IsMeta};
 
 use crate::error::PageError;
@@ -41,13 +42,16 @@ pub struct Prepared {
 
 impl Txn {
     ghost use Rattle.std.specs.Prelude.{◌≡◌, ◌≤◌, ◌≢◌, ◌⊎◌, ◌<◌, ◌+◌, ◌∷◌, ℕ, length, OnOk, OnErr, IfOk, IfErr, MatchResult};
-    ghost use Rattle.sector_device.specs.Disk.{Image};
+    ghost use Rattle.sector_device.specs.claim.Disk.{Image};
     ghost use Rattle.std.specs.Fn.{FnOnceReturnsAtMut};
-    ghost use Rattle.gate_journal.specs.Store.{put};
-    ghost use Rattle.page_store.specs.Chain.{IsIn, AreFree, IsPages, root_in, free_in};
-    ghost use Rattle.page_store.specs.Transactions.{stored, disk_in, count_of, has_halted, txn_pages, txn_list};
-    ghost use Rattle.page_store.specs.Transactions.{txn_writes, IsWritten, txn_root, txn_first, txn_free};
-    ghost use Rattle.page_store.specs.Transactions.{over, free_over, prepared_pages, prepared_writes, after, IsQuiet, ReadErr, TakeErr, GiveErr};
+    ghost use Rattle.gate_journal.specs.claim.Store.{put};
+    ghost use Rattle.page_store.specs.claim.Chain.{IsIn, AreFree, IsPages, root_in, free_in};
+    ghost use Rattle.page_store.specs.claim.Transactions.{stored, disk_in, count_of, has_halted, txn_pages};
+    ghost use Rattle.page_store.specs.Transactions.{txn_list};
+    ghost use Rattle.page_store.specs.claim.Transactions.{txn_writes, txn_root, txn_free};
+    ghost use Rattle.page_store.specs.Transactions.{IsWritten, txn_first};
+    ghost use Rattle.page_store.specs.claim.Transactions.{over, free_over, prepared_pages, prepared_writes, after, IsQuiet, ReadErr, TakeErr};
+    ghost use Rattle.page_store.specs.Transactions.{GiveErr};
     ghost use Rattle.page_store.specs.Outcomes.{EditsPage, TellsNextFree};
     ghost use Rattle.page_store.specs.declared.error.PageError.TheVariants.{Memory};
     ghost use Rattle.page_store.specs.Lent.{lent_bytes};
@@ -283,9 +287,9 @@ impl Txn {
 
 impl Prepared {
     ghost use Rattle.std.specs.Prelude.{◌≡◌, ◌≤◌, length, true, false, Err, OnOk, IfErr};
-    ghost use Rattle.sector_device.specs.Disk.{Image};
-    ghost use Rattle.page_store.specs.Transactions.{stored, disk_in, count_of, journal_of, has_halted, prepared_pages};
-    ghost use Rattle.page_store.specs.Transactions.{prepared_writes, after, HasShape, IsSame, IsKept, CommitErr};
+    ghost use Rattle.sector_device.specs.claim.Disk.{Image};
+    ghost use Rattle.page_store.specs.claim.Transactions.{stored, disk_in, count_of, journal_of, has_halted, prepared_pages};
+    ghost use Rattle.page_store.specs.claim.Transactions.{prepared_writes, after, HasShape, IsSame, IsKept, CommitErr};
     ghost use Rattle.page_store.specs.Outcomes.{LeavesAllOrNone, IsCommittedWithoutFault};
     ghost use Rattle.page_store.specs.declared.error.PageError.TheVariants.{Halted};
 

@@ -1,6 +1,6 @@
 //! The longest rows, keys that begin one another, and a store that is full.
 ghost use Rattle.std.specs.Prelude.{◌≡◌, ◌≤◌};
-ghost use Rattle.page_store.specs.Transactions.{count_of, txn_pages};
+ghost use Rattle.page_store.specs.claim.Transactions.{count_of, txn_pages};
 
 use btree_puts::put;
 use btree_removes::remove;

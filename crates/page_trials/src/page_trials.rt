@@ -1,6 +1,6 @@
 //! Transactions over pages, in a store that is opened again.
 ghost use Rattle.std.specs.Prelude.{◌≡◌};
-ghost use Rattle.page_store.specs.Transactions.{count_of, txn_pages};
+ghost use Rattle.page_store.specs.claim.Transactions.{count_of, txn_pages};
 
 use crate::long_trials::made;
 use page_store::{PageError, Pages, Txn};

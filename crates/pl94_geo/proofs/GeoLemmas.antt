@@ -6,16 +6,19 @@ use Rattle.std.specs.Io.KnownBytes.{Consumes, IsAtEnd}
 use Rattle.std.specs.Str.Lines.{lines}
 use Rattle.std.proofs.lemmas.Bool.Decides.{nat_tests}
 use Rattle.std.proofs.lemmas.List.Elements.{All-cons, All-tail}
-use Rattle.desk_model.specs.Block.{state_of}
-use Rattle.field_text.specs.Reading.{BeginsWithLine, IsLastLine, IsTooLong, IsBroken, Gives, Reading, line_limit}
-use Rattle.field_text.specs.Judged.{AreGood, IsCutShort, BeginsWithLines}
+use Rattle.desk_model.specs.claim.Block.{state_of}
+use Rattle.field_text.specs.claim.Reading.{BeginsWithLine, IsBroken, line_limit}
+use Rattle.field_text.specs.Reading.{IsLastLine, IsTooLong, Gives, Reading}
+use Rattle.field_text.specs.claim.Judged.{AreGood, IsCutShort, BeginsWithLines}
 use Rattle.field_text.proofs.ReadingLemmas.{Consumes-nothing, Consumes-then}
 use Rattle.field_text.proofs.JudgedLemmas.{begins, begins_more, begins_line, good_none, good_more, shown_line, shown_last, shown_long, cut_short, lines-ended, lines-last_one}
-use Rattle.field_text.specs.Fields.{fields}
-use Rattle.pl94_geo.specs.Entries.{IsEntry, fields_read}
-use Rattle.pl94_geo.specs.Judging.{ids_of, blocks_of, state_record_of, other_state, entries, judge, judged}
+use Rattle.field_text.specs.claim.Fields.{fields}
+use Rattle.pl94_geo.specs.Entries.{IsEntry}
+use Rattle.pl94_geo.specs.claim.Entries.{fields_read}
+use Rattle.pl94_geo.specs.claim.Judging.{ids_of, blocks_of, state_record_of, other_state, entries, judge, judged}
 use Rattle.pl94_geo.specs.Holding.{Holds, Judges}
-use Rattle.pl94_geo.specs.GeoFile.{row_ids, AreGeoRows, IsRead, Finishes, Stands, told, refused}
+use Rattle.pl94_geo.specs.GeoFile.{row_ids, AreGeoRows, Finishes, Stands, told, refused}
+use Rattle.pl94_geo.specs.claim.GeoFile.{IsRead}
 use Rattle.field_text.specs.declared.reader.ReadFault.{ReadFault}
 use Rattle.field_text.specs.declared.reader.ReadFault.TheVariants as read
 use Rattle.pl94_geo.specs.declared.entry.GeoRecord.{GeoRecord}

@@ -8,9 +8,10 @@ use Rattle.std.proofs.lemmas.List.{map-append, append-nil}
 use Rattle.std.proofs.lemmas.List.Folds.{list_any-append}
 use Rattle.std.proofs.lemmas.List.Elements.{filter_map-append, All-push}
 use Rattle.std.proofs.lemmas.Map.Keys.{IsDistinct-push}
-use Rattle.desk_model.specs.Geography.{block_limit}
-use Rattle.pl94_geo.specs.Entries.{IsEntry, line_read}
-use Rattle.pl94_geo.specs.Judging.{states_of, numbers_of, ids_of, blocks_of, geo_block, state_record_of, other_state, repeats, conflict, entries, entry_of, taken_entry, judged}
+use Rattle.desk_model.specs.claim.Grounds.{block_limit}
+use Rattle.pl94_geo.specs.Entries.{IsEntry}
+use Rattle.pl94_geo.specs.claim.Entries.{line_read}
+use Rattle.pl94_geo.specs.claim.Judging.{states_of, numbers_of, ids_of, blocks_of, geo_block, state_record_of, other_state, repeats, conflict, entries, entry_of, taken_entry, judged}
 use Rattle.pl94_geo.specs.Holding.{Holds, Takes, Judges}
 use Rattle.pl94_geo.specs.Sets.{has}
 use Rattle.pl94_geo.specs.declared.entry.GeoRecord.{GeoRecord}

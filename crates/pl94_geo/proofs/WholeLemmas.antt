@@ -9,10 +9,10 @@ use Rattle.std.proofs.lemmas.Bool.{false≢true}
 use Rattle.std.proofs.lemmas.List.Folds.{list_any-append}
 use Rattle.std.proofs.lemmas.List.Elements.{filter_map-append, All-push}
 use Rattle.std.proofs.lemmas.Map.Keys.{IsDistinct-push, IsDistinct-head, IsDistinct-tail}
-use Rattle.desk_model.specs.Geography.{block_limit}
-use Rattle.field_text.specs.Judged.{AreGood}
-use Rattle.pl94_geo.specs.Entries.{line_read}
-use Rattle.pl94_geo.specs.Judging.{states_of, numbers_of, ids_of, state_record_of, other_state, repeats, conflict, kind_conflict, repeated_record, entries, entry_of, taken_entry, judge, judged}
+use Rattle.desk_model.specs.claim.Grounds.{block_limit}
+use Rattle.field_text.specs.claim.Judged.{AreGood}
+use Rattle.pl94_geo.specs.claim.Entries.{line_read}
+use Rattle.pl94_geo.specs.claim.Judging.{states_of, numbers_of, ids_of, state_record_of, other_state, repeats, conflict, kind_conflict, repeated_record, entries, entry_of, taken_entry, judge, judged}
 use Rattle.pl94_geo.specs.Whole.{AreHeaderLines, AreTogether}
 use Rattle.pl94_geo.specs.declared.entry.GeoRecord.{GeoRecord}
 use Rattle.pl94_geo.specs.declared.entry.HeaderLineFault.{HeaderLineFault}

@@ -1,16 +1,15 @@
--- The geographic header as a whole: which texts are headers, and what they say.
-use Rattle.std.specs.Prelude.{◌≡◌, ℕ, ◌<◌, ◌≤◌, List, [], map, length, get_or, All, nat_eq, Option, Result, Ok, Err, ⊤}
+-- What no promise rests on, beside claim/GeoFile.antt.
+use Rattle.std.specs.Prelude.{◌≡◌, ℕ, ◌<◌, ◌≤◌, List, [], map, length, get_or, All, nat_eq, Option, Result, Ok, Err}
 use Rattle.std.specs.List.{IsDistinct}
-use Rattle.std.specs.Io.KnownBytes.{Consumes, IsAtEnd}
-use Rattle.std.specs.Str.Lines.{lines}
-use Rattle.byte_stream.specs.Counts.{counted}
-use Rattle.desk_model.specs.Block.{state_of}
-use Rattle.desk_model.specs.Geography.{block_limit}
-use Rattle.field_text.specs.Judged.{AreGood, ShowsFault, IsCutShort, BeginsWithLines}
+use Rattle.std.specs.Io.KnownBytes.{Consumes}
+use Rattle.byte_stream.specs.claim.Counts.{counted}
+use Rattle.desk_model.specs.claim.Block.{state_of}
+use Rattle.desk_model.specs.claim.Grounds.{block_limit}
+use Rattle.field_text.specs.claim.Judged.{AreGood, BeginsWithLines}
 use Rattle.field_text.specs.declared.reader.ReadFault.{ReadFault}
 use Rattle.field_text.specs.declared.reader.ReadFault.TheVariants as read
 use Rattle.pl94_geo.specs.Holding.{Holds}
-use Rattle.pl94_geo.specs.Judging.{entries, blocks_of, state_record_of, ids_of, judge}
+use Rattle.pl94_geo.specs.claim.Judging.{entries, blocks_of, state_record_of, ids_of, judge}
 use Rattle.pl94_geo.specs.declared.entry.GeoRecord.{GeoRecord}
 use Rattle.pl94_geo.specs.declared.entry.HeaderLineFault.TheVariants.{Shape}
 use Rattle.pl94_geo.specs.declared.header.GeoBlock.{GeoBlock}
@@ -30,37 +29,6 @@ pub record AreGeoRows (rows : GeoRows) : Type 0 where
   pub few : length rows.blocks.items ≤ block_limit
   pub distinct : IsDistinct nat_eq (row_ids rows.blocks.items)
   pub one_state : All (λ id. state_of id ≡ state_of (get_or (row_ids rows.blocks.items) 0 0)) (row_ids rows.blocks.items)
-
--- the lines are a header, and these are its blocks and its state record
-pub record IsHeader (ls : List (List ℕ)) (rows : GeoRows) : Type 0 where
-  pub good : AreGood judge ls
-  pub some : 0 < length (ids_of (entries ls))
-  pub blocks : rows.blocks.items ≡ blocks_of (entries ls)
-  pub state_record : rows.state_record ≡ state_record_of (entries ls)
-
--- the lines are good and none of them is a block
-pub record HasNoBlock (ls : List (List ℕ)) (number : ℕ) : Type 0 where
-  pub good : AreGood judge ls
-  pub none : ids_of (entries ls) ≡ []
-  pub counted : number ≡ length ls
-
--- what the bytes that came are, where the reader has this left
-abbrev pub IsRead : List ℕ → Option (List ℕ) → Result GeoRows GeoFault → Type 0
-IsRead text left (Ok rows) = IsAtEnd left × IsHeader (lines text) rows
-IsRead text left (Err (fault.Line f number)) = ShowsFault judge text left number f
-IsRead text left (Err (fault.Read number)) = IsCutShort judge text number
-IsRead text left (Err (fault.NoBlock number)) = IsAtEnd left × HasNoBlock (lines text) number
-IsRead text left (Err (fault.TurnLimit number)) = IsCutShort judge text number
-IsRead text left (Err fault.Memory) = ⊤
-
--- one more failure, where it is the source's
-abbrev pub failures_after_file : ℕ → Result GeoRows GeoFault → ℕ
-failures_after_file before (Ok rows) = before
-failures_after_file before (Err (fault.Line f number)) = before
-failures_after_file before (Err (fault.Read number)) = counted before 1
-failures_after_file before (Err (fault.NoBlock number)) = before
-failures_after_file before (Err (fault.TurnLimit number)) = before
-failures_after_file before (Err fault.Memory) = before
 
 -- how a fault of the reader is told
 abbrev pub told : ReadFault → ℕ → GeoFault

@@ -2,9 +2,9 @@
 use Rattle.std.specs.Prelude.{◌≡◌, ℕ, ◌≤◌, true, false, not, ◌||◌, ◌==◌, nat_eq, List, [], ◌∷◌, ◌++◌, length, All, Some, None, Result, Ok, Err, ⊤}
 use Rattle.std.specs.List.{IsDistinct}
 use Rattle.std.specs.Option.{option_map_or}
-use Rattle.desk_model.specs.Geography.{block_limit}
+use Rattle.desk_model.specs.claim.Grounds.{block_limit}
 use Rattle.pl94_geo.specs.Entries.{IsEntry}
-use Rattle.pl94_geo.specs.Judging.{numbers_of, ids_of, blocks_of, state_record_of, other_state, repeats, conflict, entries, judge}
+use Rattle.pl94_geo.specs.claim.Judging.{numbers_of, ids_of, blocks_of, state_record_of, other_state, repeats, conflict, entries, judge}
 use Rattle.pl94_geo.specs.Sets.{has}
 use Rattle.pl94_geo.specs.declared.entry.GeoRecord.{GeoRecord}
 use Rattle.pl94_geo.specs.declared.entry.HeaderLineFault.{HeaderLineFault}

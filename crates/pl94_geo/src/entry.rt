@@ -1,9 +1,10 @@
 //! What is read of one line of the geographic header.
 ghost use Rattle.std.specs.Prelude.{◌≡◌, ◌+◌, ◌*◌, ◌<◌, ◌^◌, ◌==◌, length, IfSome, IfOk, Option};
-ghost use Rattle.field_text.specs.Fields.{fields};
-ghost use Rattle.pl94_geo.specs.Entries.{is_city, place_of, block_read, state_record_read, line_read, IsEntry, AreBlockFields, block_number};
-ghost use Rattle.pl94_geo.specs.Texts.{line_code};
-ghost use Rattle.desk_model.specs.Block.{state_of};
+ghost use Rattle.field_text.specs.claim.Fields.{fields};
+ghost use Rattle.pl94_geo.specs.claim.Entries.{is_city, place_of, block_read, state_record_read, line_read, block_number};
+ghost use Rattle.pl94_geo.specs.Entries.{IsEntry, AreBlockFields};
+ghost use Rattle.pl94_geo.specs.claim.Texts.{line_code};
+ghost use Rattle.desk_model.specs.claim.Block.{state_of};
 
 use desk_model::block::BlockId;
 use field_text::digits::{digits_exactly, number as record_number};

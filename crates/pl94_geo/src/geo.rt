@@ -1,10 +1,11 @@
 //! The geographic header of a whole state.
 ghost use Rattle.std.specs.Prelude.{◌≡◌, ◌+◌, ◌-◌, ◌^◌, ◌≤◌, ℕ, List, Err, Ok, IfOk, min};
-ghost use Rattle.byte_stream.specs.Counts.{counted};
+ghost use Rattle.byte_stream.specs.claim.Counts.{counted};
 ghost use Rattle.std.specs.Io.KnownBytes.{Consumes};
-ghost use Rattle.field_text.specs.Reading.{turn_limit};
+ghost use Rattle.field_text.specs.claim.Reading.{turn_limit};
 ghost use Rattle.pl94_geo.specs.Holding.{Holds};
-ghost use Rattle.pl94_geo.specs.GeoFile.{AreGeoRows, IsRead, Finishes, told, refused, failures_after_file};
+ghost use Rattle.pl94_geo.specs.GeoFile.{AreGeoRows, Finishes, told, refused};
+ghost use Rattle.pl94_geo.specs.claim.GeoFile.{IsRead, failures_after_file};
 ghost use Rattle.pl94_geo.specs.declared.entry.GeoRecord.{GeoRecord as TakenEntry};
 
 use crate::entry::HeaderLineFault;
@@ -39,7 +40,7 @@ pub enum GeoFault {
 
 impl fmt::Display for GeoFault {
     ghost use Rattle.std.specs.Prelude.{Some};
-    ghost use Rattle.pl94_geo.specs.Texts.{header_text};
+    ghost use Rattle.pl94_geo.specs.claim.Texts.{header_text};
 
     ghost output = { λ fault. Some (header_text fault) };
 

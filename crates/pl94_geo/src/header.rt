@@ -1,9 +1,9 @@
 //! The taken records of the lines so far.
 ghost use Rattle.std.specs.Prelude.{◌≡◌, [], ℕ, List, true, false, not, ◌==◌, nat_le, length, Some, None, Err, Ok};
 ghost use Rattle.std.specs.Option.{option_map_or};
-ghost use Rattle.desk_model.specs.Geography.{block_limit};
+ghost use Rattle.desk_model.specs.claim.Grounds.{block_limit};
 ghost use Rattle.pl94_geo.specs.Entries.{IsEntry};
-ghost use Rattle.pl94_geo.specs.Judging.{entries, other_state};
+ghost use Rattle.pl94_geo.specs.claim.Judging.{entries, other_state};
 ghost use Rattle.pl94_geo.specs.Holding.{Holds, Takes, Judges, Adds};
 ghost use Rattle.pl94_geo.specs.declared.entry.GeoRecord.{GeoRecord as TakenEntry};
 

@@ -11,15 +11,15 @@ use Rattle.std.proofs.lemmas.List.{map-append, append-nil, get_or_at}
 use Rattle.std.proofs.lemmas.List.Elements.{filter_map-append, All-push}
 use Rattle.std.proofs.lemmas.Map.Keys.{IsDistinct-push}
 use Rattle.desk_model.specs.declared.block.BlockRow.{BlockRow}
-use Rattle.field_text.specs.Judged.{AreGood}
-use Rattle.pl94_geo.specs.Judging.{entries, blocks_of}
+use Rattle.field_text.specs.claim.Judged.{AreGood}
+use Rattle.pl94_geo.specs.claim.Judging.{entries, blocks_of}
 use Rattle.pl94_geo.specs.declared.geo.GeoRows.{GeoRows}
 use Rattle.pl94_geo.specs.declared.header.GeoBlock.{GeoBlock}
 use Rattle.pl94_geo.proofs.WholeLemmas.{whole_from_good, before_differs}
 use Rattle.pl94_segment.specs.Files.{AreSegmentLines, taken_in, people_in, counted_block, counted_blocks, counted_people, AreCensusFiles, AreRowsOf}
-use Rattle.pl94_segment.specs.Join.{AreJoined, NoneMissing, lacking_part, taken_numbers, rows_of, total_people, people_at_number}
-use Rattle.pl94_segment.specs.Records.{line_read, record_of, records, has_number, judged, judge}
-use Rattle.pl94_segment.specs.SegFile.{people_of, IsSegment}
+use Rattle.pl94_segment.specs.claim.Join.{AreJoined, NoneMissing, lacking_part, taken_numbers, rows_of, total_people, people_at_number}
+use Rattle.pl94_segment.specs.claim.Records.{line_read, record_of, records, has_number, judged, judge}
+use Rattle.pl94_segment.specs.claim.SegFile.{people_of, IsSegment}
 use Rattle.pl94_segment.specs.declared.record.SegmentLineFault.{SegmentLineFault}
 use Rattle.pl94_segment.specs.declared.record.SegmentLineFault.TheVariants.{RepeatedRecord}
 use Rattle.pl94_segment.specs.declared.record.SegmentNumber.{SegmentNumber}

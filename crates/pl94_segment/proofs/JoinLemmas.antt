@@ -7,14 +7,16 @@ use Rattle.std.proofs.lemmas.List.{get_or-map, take_all, length-map}
 use Rattle.std.proofs.lemmas.List.Sorted.{IsPermutation-map, sum_by-IsPermutation, All-permutation, length_permutation}
 use Rattle.std.proofs.lemmas.Map.Keys.{IsDistinct-IsPermutation, IsStrictlyIncreasing-from_distinct}
 use Rattle.std.proofs.lemmas.Simd.{map-map}
-use Rattle.desk_model.specs.Block.{state_of}
-use Rattle.desk_model.specs.Geography.{AreBlocks, ids_of}
+use Rattle.desk_model.specs.claim.Block.{state_of}
+use Rattle.desk_model.specs.claim.Grounds.{AreBlocks}
+use Rattle.desk_model.specs.claim.Geography.{ids_of}
 use Rattle.desk_model.specs.declared.block.BlockRow.{BlockRow}
 use Rattle.pl94_geo.specs.GeoFile.{AreGeoRows, row_ids}
 use Rattle.pl94_geo.specs.declared.geo.GeoRows.{GeoRows}
 use Rattle.pl94_geo.specs.declared.header.GeoBlock.{GeoBlock}
 use Rattle.pl94_geo.proofs.GeoLemmas.{all_as_first}
-use Rattle.pl94_segment.specs.Join.{taken_numbers, row_of, rows_of, total_people, IsLeast}
+use Rattle.pl94_segment.specs.claim.Join.{taken_numbers, row_of, rows_of, total_people}
+use Rattle.pl94_segment.specs.Join.{IsLeast}
 use Rattle.pl94_segment.specs.declared.segment.SegRows.{SegRows}
 use Rattle.pl94_segment.specs.declared.record.SegmentNumber.{SegmentNumber}
 

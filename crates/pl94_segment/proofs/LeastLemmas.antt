@@ -2,7 +2,7 @@
 use Rattle.std.proofs.Common.{◌≡◌, ℕ, ◌<◌, ◌≤◌, List, [], ◌∷◌, ◌++◌, Some, None, IsSome, is_some, sym, ap, ◌∙◌, arith}
 use Rattle.std.proofs.lemmas.Bool.{false≢true}
 use Rattle.std.proofs.lemmas.List.Elements.{All-push, Contains-append_left, Contains-push}
-use Rattle.pl94_segment.specs.Join.{lacking_part, NoneMissing, IsLeastMissing}
+use Rattle.pl94_segment.specs.claim.Join.{lacking_part, NoneMissing, IsLeastMissing}
 use Rattle.pl94_segment.specs.declared.record.SegmentNumber.{SegmentNumber}
 use Rattle.pl94_segment.specs.declared.segment.SegRows.{SegRows}
 

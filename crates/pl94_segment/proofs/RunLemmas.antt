@@ -5,7 +5,8 @@ use Rattle.std.specs.Ordering.{nat_cmp, is_eq}
 use Rattle.std.specs.declared.cmp.Ordering.TheVariants.{Less, Equal, Greater}
 use Rattle.std.specs.declared.alloc.Global.{Global}
 use Rattle.std.proofs.lemmas.Bool.Decides.{nat_tests}
-use Rattle.pl94_segment.specs.SegFile.{in_run, or_else, people_of, Grows, Holds}
+use Rattle.pl94_segment.specs.claim.SegFile.{in_run, or_else, people_of}
+use Rattle.pl94_segment.specs.SegFile.{Grows, Holds}
 use Rattle.pl94_segment.specs.declared.record.SegRecord.{SegRecord}
 use Rattle.pl94_segment.specs.declared.segment.SegRows.{SegRows}
 

@@ -6,15 +6,17 @@ use Rattle.std.specs.Io.KnownBytes.{Consumes, IsAtEnd}
 use Rattle.std.specs.Str.Lines.{lines}
 use Rattle.std.proofs.lemmas.Bool.Decides.{nat_tests}
 use Rattle.std.proofs.lemmas.List.Elements.{filter_map-append}
-use Rattle.field_text.specs.Fields.{fields}
-use Rattle.field_text.specs.Reading.{BeginsWithLine, IsLastLine, IsTooLong, IsBroken, Gives, Reading, line_limit}
-use Rattle.field_text.specs.Judged.{AreGood, IsCutShort, BeginsWithLines}
+use Rattle.field_text.specs.claim.Fields.{fields}
+use Rattle.field_text.specs.claim.Reading.{BeginsWithLine, IsBroken, line_limit}
+use Rattle.field_text.specs.Reading.{IsLastLine, IsTooLong, Gives, Reading}
+use Rattle.field_text.specs.claim.Judged.{AreGood, IsCutShort, BeginsWithLines}
 use Rattle.field_text.specs.declared.reader.ReadFault.{ReadFault}
 use Rattle.field_text.specs.declared.reader.ReadFault.TheVariants as read
 use Rattle.field_text.proofs.ReadingLemmas.{Consumes-nothing, Consumes-then}
 use Rattle.field_text.proofs.JudgedLemmas.{begins, begins_more, begins_line, good_none, good_more, shown_line, shown_last, shown_long, cut_short, lines-ended, lines-last_one}
-use Rattle.pl94_segment.specs.Records.{field_count_of, line_read, record_read, record_of, records, people_at, has_number, judged, judge}
-use Rattle.pl94_segment.specs.SegFile.{people_of, Holds, Takes, Judges, IsSegment, IsRead, Stands, told, refused}
+use Rattle.pl94_segment.specs.claim.Records.{field_count_of, line_read, record_read, record_of, records, people_at, has_number, judged, judge}
+use Rattle.pl94_segment.specs.claim.SegFile.{people_of, IsSegment, IsRead}
+use Rattle.pl94_segment.specs.SegFile.{Holds, Takes, Judges, Stands, told, refused}
 use Rattle.pl94_segment.specs.declared.record.SegmentNumber.{SegmentNumber}
 use Rattle.pl94_segment.specs.declared.record.SegRecord.{SegRecord}
 use Rattle.pl94_segment.specs.declared.record.SegmentLineFault.{SegmentLineFault}

@@ -4,18 +4,18 @@ use Rattle.std.specs.List.{IsDistinct}
 use Rattle.std.specs.List.Sorted.{IsPermutation}
 use Rattle.std.specs.Option.{option_to_list}
 use Rattle.std.specs.Str.Lines.{lines}
-use Rattle.desk_model.specs.Geography.{AreBlocks}
+use Rattle.desk_model.specs.claim.Grounds.{AreBlocks}
 use Rattle.desk_model.specs.declared.block.BlockRow.{BlockRow}
-use Rattle.field_text.specs.Judged.{AreGood}
-use Rattle.pl94_geo.specs.GeoFile.{IsHeader}
-use Rattle.pl94_geo.specs.Judging.{entries, blocks_of, state_record_of}
+use Rattle.field_text.specs.claim.Judged.{AreGood}
+use Rattle.pl94_geo.specs.claim.GeoFile.{IsHeader}
+use Rattle.pl94_geo.specs.claim.Judging.{entries, blocks_of, state_record_of}
 use Rattle.pl94_geo.specs.Whole.{AreHeaderLines}
 use Rattle.pl94_geo.specs.declared.entry.GeoRecord.{GeoRecord}
 use Rattle.pl94_geo.specs.declared.geo.GeoRows.{GeoRows}
 use Rattle.pl94_geo.specs.declared.header.GeoBlock.{GeoBlock}
-use Rattle.pl94_segment.specs.Join.{AreJoined}
-use Rattle.pl94_segment.specs.Records.{line_read, records, people_at, judge}
-use Rattle.pl94_segment.specs.SegFile.{IsSegment}
+use Rattle.pl94_segment.specs.claim.Join.{AreJoined}
+use Rattle.pl94_segment.specs.claim.Records.{line_read, records, people_at, judge}
+use Rattle.pl94_segment.specs.claim.SegFile.{IsSegment}
 use Rattle.pl94_segment.specs.declared.record.SegmentNumber.{SegmentNumber}
 use Rattle.pl94_segment.specs.declared.record.SegmentNumber.TheVariants.{One, Two, Three}
 use Rattle.pl94_segment.specs.declared.segment.SegRows.{SegRows}

@@ -1,5 +1,4 @@
+pub mod claim
 pub mod Files
 pub mod Join
-pub mod Records
 pub mod SegFile
-pub mod Texts

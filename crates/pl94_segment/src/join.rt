@@ -1,9 +1,11 @@
 //! The blocks of a header with their people.
 ghost use Rattle.std.specs.Prelude.{◌≡◌, ◌+◌, ◌++◌, ◌∷◌, [], ◌<◌, ◌≤◌, ℕ, List, IfOk, map, length, sum_by};
 ghost use Rattle.std.specs.List.Sorted.{IsPermutation, IsNonDecreasing};
-ghost use Rattle.desk_model.specs.Geography.{block_limit, ids_of};
+ghost use Rattle.desk_model.specs.claim.Grounds.{block_limit};
+ghost use Rattle.desk_model.specs.claim.Geography.{ids_of};
 ghost use Rattle.pl94_geo.specs.GeoFile.{AreGeoRows};
-ghost use Rattle.pl94_segment.specs.Join.{lacking_part, taken_numbers, IsLeast, row_of, state_people_of, IsJoined};
+ghost use Rattle.pl94_segment.specs.claim.Join.{lacking_part, taken_numbers, row_of, state_people_of, IsJoined};
+ghost use Rattle.pl94_segment.specs.Join.{IsLeast};
 
 use crate::record::SegmentNumber;
 use crate::segment::SegRows;
@@ -27,7 +29,7 @@ pub enum JoinFault {
 
 impl fmt::Display for JoinFault {
     ghost use Rattle.std.specs.Prelude.{Some};
-    ghost use Rattle.pl94_segment.specs.Texts.{join_text};
+    ghost use Rattle.pl94_segment.specs.claim.Texts.{join_text};
 
     ghost output = { λ fault. Some (join_text fault) };
 

@@ -1,8 +1,8 @@
 //! What is read of one line of a segment.
 ghost use Rattle.std.specs.Prelude.{◌≡◌, ◌<◌, ◌≤◌, length};
-ghost use Rattle.field_text.specs.Fields.{fields};
-ghost use Rattle.pl94_segment.specs.Records.{part_number, field_count_of, people_of_field, record_read, line_read};
-ghost use Rattle.pl94_segment.specs.Texts.{line_code};
+ghost use Rattle.field_text.specs.claim.Fields.{fields};
+ghost use Rattle.pl94_segment.specs.claim.Records.{part_number, field_count_of, people_of_field, record_read, line_read};
+ghost use Rattle.pl94_segment.specs.claim.Texts.{line_code};
 
 use field_text::digits::number as record_number;
 use field_text::fields::{Fields, count_fields};

@@ -1,10 +1,11 @@
 //! A segment of a whole state.
 ghost use Rattle.std.specs.Prelude.{◌≡◌, ◌+◌, ◌-◌, ◌^◌, ◌≤◌, [], ℕ, List, None, Some, Err, Ok, true, OnOk, if◌then◌else◌, ◌==◌, get_or, min};
-ghost use Rattle.byte_stream.specs.Counts.{counted};
+ghost use Rattle.byte_stream.specs.claim.Counts.{counted};
 ghost use Rattle.std.specs.Io.KnownBytes.{Consumes};
-ghost use Rattle.field_text.specs.Reading.{turn_limit};
-ghost use Rattle.pl94_segment.specs.Records.{records};
-ghost use Rattle.pl94_segment.specs.SegFile.{in_run, people_of, Grows, Holds, Takes, Judges, IsRead, told, refused, failures_after_file};
+ghost use Rattle.field_text.specs.claim.Reading.{turn_limit};
+ghost use Rattle.pl94_segment.specs.claim.Records.{records};
+ghost use Rattle.pl94_segment.specs.claim.SegFile.{in_run, people_of, IsRead, failures_after_file};
+ghost use Rattle.pl94_segment.specs.SegFile.{Grows, Holds, Takes, Judges, told, refused};
 ghost use Rattle.pl94_segment.specs.declared.record.SegRecord.{SegRecord as SegmentRecord};
 
 use crate::record::{SegRecord, SegmentLineFault, SegmentNumber, read_line};
@@ -42,7 +43,7 @@ pub enum SegFault {
 
 impl fmt::Display for SegFault {
     ghost use Rattle.std.specs.Prelude.{Some};
-    ghost use Rattle.pl94_segment.specs.Texts.{segment_text};
+    ghost use Rattle.pl94_segment.specs.claim.Texts.{segment_text};
 
     ghost output = { λ fault. Some (segment_text fault) };
 

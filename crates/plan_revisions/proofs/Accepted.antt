@@ -8,22 +8,23 @@ use Rattle.desk_model.specs.declared.command.Command.{Command}
 use Rattle.desk_model.specs.declared.command.Command.TheVariants.{Create, Whole, Counties, Retire, Fork}
 use Rattle.desk_model.specs.declared.reply.Reply.TheVariants as reply
 use Rattle.desk_model.specs.declared.kind.Kind.{Kind}
-use Rattle.desk_model.specs.Baf.{Values, Fault, body_read}
-use Rattle.desk_model.specs.Geography.{Ground}
-use Rattle.desk_model.specs.Desk.{Plan, Desk}
-use Rattle.desk_model.specs.Step.{step, step_at, create, on_revisions, whole_read, patch_read, county_patched, partly_listed, whole, patched, refused, retired, fork, fork_from, fork_of, plan_limit, revision_limit, Outcome}
-use Rattle.desk_model.specs.Subject.{revision_at}
+use Rattle.desk_model.specs.claim.Baf.{Values, Fault, body_read}
+use Rattle.desk_model.specs.claim.Geography.{Ground}
+use Rattle.desk_model.specs.claim.Desk.{Plan, Desk}
+use Rattle.desk_model.specs.claim.Step.{step, step_at, create, on_revisions, whole_read, patch_read, county_patched, partly_listed, patched, refused, retired, fork, fork_from, fork_of, plan_limit, revision_limit, Outcome}
+use Rattle.desk_model.specs.claim.Baf.{whole}
+use Rattle.desk_model.specs.claim.Subject.{revision_at}
 use Rattle.desk_model.specs.declared.reply.Refusal.TheVariants.{Limit, Stale}
 use Rattle.std.specs.List.{slice_get}
 use Rattle.std.specs.Cmp.Lexicographic.{nat_list_cmp_total}
 use Rattle.std.specs.Prelude.{unwrap_or}
-use Rattle.desk_model.specs.Desk.{name_cmp}
-use Rattle.desk_model.specs.Room.{changed, revision_rows, added_rows, command_rows, fork_rows, forked_rows, last_revision}
-use Rattle.desk_catalogue.specs.Accepting.{IsAfter}
+use Rattle.desk_model.specs.claim.Desk.{name_cmp}
+use Rattle.desk_model.specs.claim.Room.{changed, revision_rows, added_rows, command_rows, fork_rows, forked_rows, last_revision}
+use Rattle.desk_catalogue.specs.claim.Accepting.{IsAfter}
 use Rattle.desk_catalogue.specs.Kept.{revision_in}
 use Rattle.store_rows.proofs.Frames.{itself}
 use Rattle.store_rows.specs.Changes.{with_revision}
-use Rattle.plan_revisions.specs.Rows.{added_chunks, added_by}
+use Rattle.plan_revisions.specs.claim.Rows.{added_chunks, added_by}
 use Rattle.plan_revisions.specs.Plans.{TakesPlan, with_plan, HasPlanAt, without_plan, TakesFork, with_fork}
 use Rattle.plan_revisions.specs.Accepted.{IsRevised}
 use Rattle.plan_revisions.proofs.Within.{AreSmall, body_small, patched_within, revision_within, whole_within}

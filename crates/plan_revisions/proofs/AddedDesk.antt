@@ -4,24 +4,25 @@ use Rattle.std.specs.FinMap.{get, insert}
 use Rattle.std.specs.List.{slice_get}
 use Rattle.std.proofs.lemmas.List.Elements.{All-push}
 use Rattle.std.proofs.lemmas.Option.{get_or_from_slice_get, slice_get_cases}
-use Rattle.desk_model.specs.Cuts.{cut, cuts_of, CutsAreCounties, ListsAreCut, sizes}
-use Rattle.desk_model.specs.Desk.{Plan, Desk}
-use Rattle.desk_model.specs.Geography.{Ground}
-use Rattle.desk_model.specs.Room.{changed, last_revision, revision_rows}
+use Rattle.desk_model.specs.claim.Cuts.{cut, sizes}
+use Rattle.desk_model.specs.Cuts.{cuts_of, CutsAreCounties, ListsAreCut}
+use Rattle.desk_model.specs.claim.Desk.{Plan, Desk}
+use Rattle.desk_model.specs.claim.Geography.{Ground}
+use Rattle.desk_model.specs.claim.Room.{changed, last_revision, revision_rows}
 use Rattle.store_rows.specs.declared.value.Counters.{Counters}
 use Rattle.store_rows.specs.declared.value.PlanRow.{PlanRow}
-use Rattle.store_rows.specs.Rows.{KeyMap}
-use Rattle.store_rows.specs.Puts.{Row, put_rows}
+use Rattle.store_rows.specs.claim.Rows.{KeyMap}
+use Rattle.store_rows.specs.claim.Puts.{Row, put_rows}
 use Rattle.store_rows.specs.NameRows.{name_rows}
-use Rattle.store_rows.specs.RevisionRows.{HasRevision}
-use Rattle.store_rows.specs.DeskRows.{HasPlan}
+use Rattle.store_rows.specs.claim.RevisionRows.{HasRevision}
+use Rattle.store_rows.specs.claim.DeskRows.{HasPlan}
 use Rattle.store_rows.specs.Changes.{plan_row_of, with_revision}
 use Rattle.store_rows.specs.Draws.{ChangesAreDrawn, FirstsAreDrawn, RowsAreCounted}
 use Rattle.store_rows.specs.RevisionSteps.{AreKept, IsDrawn, new_chunk_rows, new_holding_rows, rows_of_revision}
 use Rattle.store_rows.specs.TidyLaws.{ChunksAreKept, NextIsOne, RevisionsMakeDesks}
 use Rattle.plan_table.specs.PlanRows.{revised_rows}
 use Rattle.plan_table.specs.Laws.{PlansAreTold}
-use Rattle.desk_pages.specs.Desks.{AreWithin, IsDeskMap}
+use Rattle.desk_pages.specs.claim.Desks.{AreWithin, IsDeskMap}
 use Rattle.desk_room.specs.Cutting.{changes_in}
 use Rattle.plan_revisions.specs.Plans.{TakesNext, with_next, with_next_of}
 use Rattle.plan_revisions.specs.Counties.{drawn}

@@ -3,27 +3,28 @@ use Rattle.std.proofs.Common.{◌≡◌, ◌<◌, ◌≤◌, ◌-◌, ◌^◌, �
 use Rattle.std.proofs.lemmas.Grind.{get_or_default_zero}
 use Rattle.sector_device.specs.declared.SectorDevice.{Ghosts}
 use Rattle.desk_model.specs.Cuts.{cuts_of}
-use Rattle.desk_model.specs.Desk.{Desk}
-use Rattle.desk_model.specs.Geography.{AreBlocks, Ground}
-use Rattle.desk_model.specs.Room.{changed, revision_rows}
+use Rattle.desk_model.specs.claim.Desk.{Desk}
+use Rattle.desk_model.specs.claim.Grounds.{AreBlocks}
+use Rattle.desk_model.specs.claim.Geography.{Ground}
+use Rattle.desk_model.specs.claim.Room.{changed, revision_rows}
 use Rattle.page_store.proofs.Stops.{passed_more, failed_more}
-use Rattle.page_store.specs.Transactions.{stored, disk_in, IsQuiet, Passed}
+use Rattle.page_store.specs.claim.Transactions.{stored, disk_in, IsQuiet, Passed}
 use Rattle.page_store.specs.declared.pages.Pages.{Pages}
 use Rattle.page_store.specs.declared.txn.Txn.{Txn}
-use Rattle.page_btree.specs.Map.{InTxn as HasMap}
+use Rattle.page_btree.specs.claim.Map.{InTxn as HasMap}
 use Rattle.page_btree.specs.declared.error.TreeError.{TreeError}
 use Rattle.page_btree.specs.declared.error.TreeError.TheVariants.{DeviceFault, Halted, NoPages, TooDeep, Memory}
 use Rattle.store_rows.specs.declared.value.Counters.{Counters}
 use Rattle.store_rows.specs.declared.value.PlanRow.{PlanRow}
-use Rattle.store_rows.specs.Rows.{KeyMap}
-use Rattle.store_rows.specs.Puts.{Row, put_rows}
-use Rattle.store_rows.specs.Tidy.{CountersFit}
+use Rattle.store_rows.specs.claim.Rows.{KeyMap}
+use Rattle.store_rows.specs.claim.Puts.{Row, put_rows}
+use Rattle.store_rows.specs.claim.Tidy.{CountersFit}
 use Rattle.store_rows.specs.TidyLaws.{NextIsOne}
-use Rattle.row_table.specs.Puts.{HasPut, PutsErr}
-use Rattle.plan_table.specs.Outcomes.{HasSpent}
-use Rattle.plan_table.specs.PlanRows.{HasChunkNumbers}
+use Rattle.row_table.specs.claim.Puts.{HasPut, PutsErr}
+use Rattle.plan_table.specs.claim.Outcomes.{HasSpent}
+use Rattle.plan_table.specs.claim.PlanRows.{HasChunkNumbers}
 use Rattle.plan_table.specs.Laws.{RowFits}
-use Rattle.plan_revisions.specs.Steps.{HasStepped, LeavesNumbers, StepErr}
+use Rattle.plan_revisions.specs.claim.Steps.{HasStepped, LeavesNumbers, StepErr}
 use Rattle.plan_revisions.specs.Plans.{TakesNext, with_next}
 use Rattle.plan_revisions.specs.Adding.{AreRead, rows_put}
 use Rattle.plan_revisions.specs.Laws.{CanAdd, DesksAreAdded, RowsAreFew, all_rows}

@@ -2,10 +2,12 @@
 use Rattle.std.proofs.Common.{◌≡◌, ◌<◌, ◌≤◌, ◌+◌, ◌^◌, ℕ, suc, Bool, true, false, cond, List, [], ◌∷◌, length, refl, ap, arith}
 use Rattle.std.specs.Prelude.{◌==◌}
 use Rattle.std.proofs.lemmas.List.{length-map}
-use Rattle.desk_model.specs.Block.{county_of}
+use Rattle.desk_model.specs.claim.Block.{county_of}
 use Rattle.desk_model.specs.declared.block.BlockRow.{BlockRow}
-use Rattle.desk_model.specs.Cuts.{runs_from, runs, counties, sizes, laid, cuts_of}
-use Rattle.desk_model.specs.Geography.{Ground, block_limit, ids}
+use Rattle.desk_model.specs.claim.Cuts.{runs_from, runs, counties, sizes}
+use Rattle.desk_model.specs.Cuts.{laid, cuts_of}
+use Rattle.desk_model.specs.claim.Geography.{Ground, ids}
+use Rattle.desk_model.specs.claim.Grounds.{block_limit}
 
 either_few : (same : Bool) (one other : List ℕ) (n : ℕ) → length one ≤ n → length other ≤ n → length (cond same one other) ≤ n
 either_few true one other n few more = few

@@ -5,20 +5,21 @@ use Rattle.sector_device.specs.declared.SectorDevice.{Ghosts}
 use Rattle.desk_model.specs.declared.kind.Kind.{Kind}
 use Rattle.desk_model.specs.declared.command.Command.{Command}
 use Rattle.desk_model.specs.declared.command.Command.TheVariants.{Create, Whole, Counties, Retire, Fork}
-use Rattle.desk_model.specs.Desk.{Desk}
-use Rattle.desk_model.specs.Geography.{Ground}
-use Rattle.desk_model.specs.Room.{command_rows, fork_rows}
-use Rattle.desk_catalogue.specs.Accepting.{IsAfter}
+use Rattle.desk_model.specs.claim.Desk.{Desk}
+use Rattle.desk_model.specs.claim.Geography.{Ground}
+use Rattle.desk_model.specs.claim.Room.{command_rows, fork_rows}
+use Rattle.desk_catalogue.specs.claim.Accepting.{IsAfter}
 use Rattle.page_store.specs.declared.pages.Pages.{Pages}
 use Rattle.page_store.specs.declared.txn.Txn.{Txn}
 use Rattle.page_btree.specs.declared.error.TreeError.{TreeError}
 use Rattle.row_table.proofs.Outcomes.{map_both}
-use Rattle.plan_table.specs.PlanRows.{HasPlanNumber, HasChunkNumbers}
+use Rattle.plan_table.specs.claim.PlanRows.{HasPlanNumber, HasChunkNumbers}
 use Rattle.plan_table.specs.declared.change.ChangeOutcome.{ChangeOutcome}
 use Rattle.plan_table.specs.declared.change.ChangeOutcome.TheVariants.{Made}
 use Rattle.plan_revisions.specs.Plans.{TakesPlan, with_plan, HasPlanAt, without_plan, TakesFork, with_fork}
-use Rattle.plan_revisions.specs.Steps.{HasStepped, IsStepped, StepErr}
-use Rattle.plan_revisions.specs.Rows.{HasNumbers, added_by, rows_added_by}
+use Rattle.plan_revisions.specs.claim.Steps.{HasStepped, IsStepped, StepErr}
+use Rattle.plan_revisions.specs.claim.Rows.{HasNumbers, added_by}
+use Rattle.plan_revisions.specs.Rows.{rows_added_by}
 use Rattle.plan_revisions.proofs.Accepted.{created, forked, rows_forked, taken_away}
 use Rattle.plan_revisions.proofs.Counted.{same_ground}
 use Rattle.plan_revisions.proofs.Stepped.{stepped_as, change_as, err_as}

@@ -4,13 +4,13 @@ use Rattle.std.specs.Prelude.{IfSome, IsSome, is_some}
 use Rattle.std.specs.FinMap as map_of
 use Rattle.desk_model.specs.declared.cuts.Cut.{Cut}
 use Rattle.desk_model.specs.Cuts.{cuts_of}
-use Rattle.desk_model.specs.Geography.{Ground}
-use Rattle.desk_model.specs.Desk.{Desk}
+use Rattle.desk_model.specs.claim.Geography.{Ground}
+use Rattle.desk_model.specs.claim.Desk.{Desk}
 use Rattle.desk_model.specs.declared.command.Command.{Command}
 use Rattle.desk_model.specs.declared.command.Command.TheVariants.{Whole, Counties}
 use Rattle.desk_room.specs.Cutting.{changes_in}
 use Rattle.desk_catalogue.specs.Drafts.{changes_between, changes_of}
-use Rattle.desk_catalogue.specs.Accepting.{IsAfter}
+use Rattle.desk_catalogue.specs.claim.Accepting.{IsAfter}
 use Rattle.desk_catalogue.specs.Kept.{IsWhole, revision_in}
 use Rattle.plan_revisions.specs.Rows.{cuts_in}
 use Rattle.plan_revisions.specs.Accepted.{IsRevised}

@@ -4,32 +4,34 @@ use Rattle.std.specs.Prelude.{Contains}
 use Rattle.std.specs.FinMap.{FinMap, insert}
 use Rattle.std.proofs.lemmas.List.Elements.{All-cons, All-contains, All-nil}
 use Rattle.desk_model.proofs.Maps.{insert_again}
-use Rattle.desk_model.specs.Cuts.{cut, cuts_of, CutsAreCounties, ListsAreCut}
-use Rattle.desk_model.specs.Desk.{Plan, Desk, name_cmp}
-use Rattle.desk_model.specs.Geography.{Ground}
-use Rattle.desk_model.specs.Step.{fork_from, fork_of}
+use Rattle.desk_model.specs.claim.Cuts.{cut}
+use Rattle.desk_model.specs.Cuts.{cuts_of, CutsAreCounties, ListsAreCut}
+use Rattle.desk_model.specs.claim.Desk.{Plan, Desk, name_cmp}
+use Rattle.desk_model.specs.claim.Geography.{Ground}
+use Rattle.desk_model.specs.claim.Step.{fork_from, fork_of}
 use Rattle.desk_model.specs.declared.kind.Kind.{Kind}
-use Rattle.desk_model.specs.Kind.{most_districts}
-use Rattle.store_rows.specs.Keys.{key_of, counters, named}
-use Rattle.store_rows.specs.Values.{counters_bytes, plan_bytes}
+use Rattle.desk_model.specs.claim.Sizes.{most_districts}
+use Rattle.store_rows.specs.claim.Keys.{key_of, counters, named}
+use Rattle.store_rows.specs.claim.Values.{counters_bytes, plan_bytes}
 use Rattle.store_rows.specs.declared.value.Counters.{Counters}
 use Rattle.store_rows.specs.declared.value.PlanRow.{PlanRow}
-use Rattle.store_rows.specs.Rows.{KeyMap, SameTag}
+use Rattle.store_rows.specs.claim.Rows.{KeyMap}
+use Rattle.store_rows.specs.Rows.{SameTag}
 use Rattle.store_rows.proofs.Frames.{chunk_stays, other_tag, put_is_there, put_keeps}
-use Rattle.store_rows.specs.RevisionRows.{HasRevision}
-use Rattle.store_rows.specs.DeskRows.{HasPlan, IsDesk}
+use Rattle.store_rows.specs.claim.RevisionRows.{HasRevision}
+use Rattle.store_rows.specs.claim.DeskRows.{HasPlan, IsDesk}
 use Rattle.store_rows.specs.Changes.{desk_with, plan_row_of}
 use Rattle.store_rows.specs.RevisionSteps.{AreKept}
 use Rattle.store_rows.specs.Shares.{with_shared}
 use Rattle.store_rows.specs.Steps.{chunks_more, one_plan_more}
-use Rattle.store_rows.specs.Tidy.{CountersFit, IsNamedBy}
+use Rattle.store_rows.specs.claim.Tidy.{CountersFit, IsNamedBy}
 use Rattle.store_rows.specs.TidyLaws.{ChunksAreKept, MakesRevision, NextIsOne, PlansComeAndGoTidily}
 use Rattle.store_rows.specs.ForkLaws.{SharesMakeDesks}
 use Rattle.store_rows.proofs.Forked.{can_hold}
 use Rattle.plan_table.specs.PlanRows.{IsFound}
 use Rattle.plan_table.specs.Laws.{PlansAreMade, PlansAreTold, RowFits}
 use Rattle.plan_table.proofs.Made.{numbers_moved, rows_keep}
-use Rattle.desk_pages.specs.Desks.{AreWithin, IsDeskMap}
+use Rattle.desk_pages.specs.claim.Desks.{AreWithin, IsDeskMap}
 use Rattle.plan_revisions.specs.Plans.{HasRevisionAt, TakesFork, TakesPlan, with_fork, with_plan}
 use Rattle.plan_revisions.specs.Forking.{CanMake, IsSource, MakesFork, forked_map, row_like, with_made}
 use Rattle.plan_revisions.proofs.Creating.{IsSize, created_desk}

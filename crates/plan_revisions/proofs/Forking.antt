@@ -2,39 +2,40 @@
 use Rattle.std.proofs.Common.{◌≡◌, ◌≢◌, ◌+◌, ◌*◌, ◌-◌, ◌++◌, ◌^◌, ℕ, List, [], length, Some, refl, sym, ap, subst, ◌∙◌, inl, inr, arith, length-append}
 use Rattle.sector_device.specs.declared.SectorDevice.{Ghosts}
 use Rattle.desk_model.specs.Cuts.{cuts_of, ListsAreCut}
-use Rattle.desk_model.specs.Desk.{Desk}
-use Rattle.desk_model.specs.Geography.{Ground}
-use Rattle.desk_model.specs.Room.{rows_for, fork_rows}
+use Rattle.desk_model.specs.claim.Desk.{Desk}
+use Rattle.desk_model.specs.claim.Geography.{Ground}
+use Rattle.desk_model.specs.claim.Room.{rows_for, fork_rows}
 use Rattle.page_store.proofs.Stops.{passed_more, failed_more}
-use Rattle.page_store.specs.Transactions.{stored, disk_in, IsQuiet, Passed}
+use Rattle.page_store.specs.claim.Transactions.{stored, disk_in, IsQuiet, Passed}
 use Rattle.page_store.specs.declared.pages.Pages.{Pages}
 use Rattle.page_store.specs.declared.txn.Txn.{Txn}
-use Rattle.page_btree.specs.Map.{InTxn as HasMap}
+use Rattle.page_btree.specs.claim.Map.{InTxn as HasMap}
 use Rattle.page_btree.specs.declared.error.TreeError.{TreeError}
 use Rattle.page_btree.specs.declared.error.TreeError.TheVariants.{DeviceFault, Halted, NoPages, TooDeep, Memory}
 use Rattle.store_rows.specs.declared.value.Counters.{Counters}
 use Rattle.store_rows.specs.declared.value.PlanRow.{PlanRow}
-use Rattle.store_rows.specs.Rows.{KeyMap}
-use Rattle.store_rows.specs.Puts.{Row, put_rows}
+use Rattle.store_rows.specs.claim.Rows.{KeyMap}
+use Rattle.store_rows.specs.claim.Puts.{Row, put_rows}
 use Rattle.store_rows.proofs.Puts.{length-rows_told}
 use Rattle.store_rows.specs.NameRows.{name_row, name_rows}
 use Rattle.store_rows.specs.Shares.{hold_all, shared_rows}
 use Rattle.store_rows.specs.Steps.{one_plan_more}
-use Rattle.store_rows.specs.Tidy.{CountersFit}
+use Rattle.store_rows.specs.claim.Tidy.{CountersFit}
 use Rattle.store_rows.specs.TidyLaws.{NextIsOne}
 use Rattle.row_table.specs.Appending.{HasAppended, AppendErr}
 use Rattle.row_table.proofs.Appending.{then_unappended}
-use Rattle.row_table.specs.Puts.{HasPut, PutsErr}
+use Rattle.row_table.specs.claim.Puts.{HasPut, PutsErr}
 use Rattle.chunk_table.specs.Changing.{HasChanged, MapErr}
 use Rattle.chunk_table.specs.Holding.{CanHoldAll}
 use Rattle.chunk_table.proofs.Changed.{changed_as, front_unchanged, more_by_rows, more_changed, rows_by_rows, rows_changed, rows_unchanged, then_unchanged}
 use Rattle.chunk_table.proofs.HeldAll.{held_by_rows}
 use Rattle.revision_table.specs.Reading.{AreNames}
-use Rattle.plan_table.specs.PlanRows.{IsFound, HasPlanNumber, created_rows}
+use Rattle.plan_table.specs.PlanRows.{IsFound, created_rows}
+use Rattle.plan_table.specs.claim.PlanRows.{HasPlanNumber}
 use Rattle.plan_table.specs.Laws.{PlansAreTold, RowFits}
-use Rattle.plan_table.specs.Outcomes.{HasSpent}
-use Rattle.desk_pages.specs.Desks.{IsDeskMap}
-use Rattle.plan_revisions.specs.Steps.{HasStepped, LeavesNumbers, StepErr}
+use Rattle.plan_table.specs.claim.Outcomes.{HasSpent}
+use Rattle.desk_pages.specs.claim.Desks.{IsDeskMap}
+use Rattle.plan_revisions.specs.claim.Steps.{HasStepped, LeavesNumbers, StepErr}
 use Rattle.plan_revisions.specs.Plans.{TakesFork, with_fork}
 use Rattle.plan_revisions.specs.Lookups.{HasSomeRevision}
 use Rattle.plan_revisions.specs.Forking.{CanFork, CanMake, ForksAreMade, IsSource, forked_map, row_like, rows_of_fork}

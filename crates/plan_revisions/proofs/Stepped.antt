@@ -3,11 +3,11 @@ use Rattle.std.proofs.Common.{◌≡◌, ◌⊎◌, ℕ, List, length, Option, S
 use Rattle.std.specs.Prelude.{MatchResult}
 use Rattle.std.specs.FinMap as map_of
 use Rattle.sector_device.specs.declared.SectorDevice.{Ghosts}
-use Rattle.desk_model.specs.Geography.{Ground}
-use Rattle.desk_model.specs.Desk.{Plan, Desk}
-use Rattle.desk_model.specs.Room.{changed, revision_rows, last_revision}
+use Rattle.desk_model.specs.claim.Geography.{Ground}
+use Rattle.desk_model.specs.claim.Desk.{Plan, Desk}
+use Rattle.desk_model.specs.claim.Room.{changed, revision_rows, last_revision}
 use Rattle.desk_catalogue.specs.Kept.{revision_in}
-use Rattle.page_store.specs.Transactions.{stored, disk_in}
+use Rattle.page_store.specs.claim.Transactions.{stored, disk_in}
 use Rattle.page_store.specs.declared.pages.Pages.{Pages}
 use Rattle.page_store.specs.declared.txn.Txn.{Txn}
 use Rattle.page_btree.specs.declared.error.TreeError.{TreeError}
@@ -15,13 +15,14 @@ use Rattle.page_btree.specs.declared.error.TreeError.TheVariants.{DeviceFault, H
 use Rattle.store_rows.specs.declared.value.Counters.{Counters}
 use Rattle.store_rows.specs.Changes.{with_revision}
 use Rattle.row_table.proofs.Outcomes.{map_both}
-use Rattle.plan_table.specs.PlanRows.{HasChunkNumbers}
+use Rattle.plan_table.specs.claim.PlanRows.{HasChunkNumbers}
 use Rattle.plan_table.specs.declared.change.ChangeOutcome.{ChangeOutcome}
 use Rattle.plan_table.specs.declared.change.ChangeOutcome.TheVariants.{Made, Spent}
-use Rattle.desk_pages.specs.Desks.{AreWithin, InTxn}
+use Rattle.desk_pages.specs.claim.Desks.{AreWithin, InTxn}
 use Rattle.plan_revisions.specs.Plans.{TakesNext, with_next, with_next_of}
-use Rattle.plan_revisions.specs.Steps.{HasStepped, IsStepped, StepErr}
-use Rattle.plan_revisions.specs.Rows.{added_by, rows_added_by}
+use Rattle.plan_revisions.specs.claim.Steps.{HasStepped, IsStepped, StepErr}
+use Rattle.plan_revisions.specs.claim.Rows.{added_by}
+use Rattle.plan_revisions.specs.Rows.{rows_added_by}
 use Rattle.plan_revisions.specs.Accepted.{IsRevised}
 use Rattle.plan_revisions.proofs.Accepted.{last_is, rows_added, chunks_added}
 use Rattle.plan_revisions.proofs.Counted.{same_ground}

@@ -9,12 +9,13 @@ use Rattle.std.proofs.lemmas.Option.{get_or_from_slice_get, slice_get_cases}
 use Rattle.std.proofs.lemmas.List.Elements.{All-nil, All-cons, All-head, All-tail, All-push, All-map, All-get_or}
 use Rattle.desk_model.specs.declared.reply.BodyFault.{BodyFault}
 use Rattle.desk_model.specs.declared.block.BlockRow.{BlockRow}
-use Rattle.desk_model.specs.Baf.{Values, Fault, at_line, body_read, fields_of, header, in_range, line_read, placed, rows_read, value_at, with_header}
-use Rattle.desk_model.specs.Desk.{Plan}
-use Rattle.desk_model.specs.Geography.{Ground, ids}
-use Rattle.desk_model.specs.Step.{patched, whole}
-use Rattle.desk_model.specs.Subject.{revision_at}
-use Rattle.desk_pages.specs.Desks.{AreWithin}
+use Rattle.desk_model.specs.claim.Baf.{Values, Fault, at_line, body_read, fields_of, header, in_range, line_read, placed, rows_read, value_at, with_header}
+use Rattle.desk_model.specs.claim.Desk.{Plan}
+use Rattle.desk_model.specs.claim.Geography.{Ground, ids}
+use Rattle.desk_model.specs.claim.Step.{patched}
+use Rattle.desk_model.specs.claim.Baf.{whole}
+use Rattle.desk_model.specs.claim.Subject.{revision_at}
+use Rattle.desk_pages.specs.claim.Desks.{AreWithin}
 
 -- each value that is listed is n at most
 abbrev pub AreSmall : ℕ → Values → Type 0

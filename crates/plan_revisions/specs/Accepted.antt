@@ -1,11 +1,11 @@
 -- What a command that is accepted tells of the desk before it and after it.
 use Rattle.std.proofs.Common.{◌≡◌, ◌<◌, ℕ, List, length, Some}
 use Rattle.std.specs.FinMap as map_of
-use Rattle.desk_model.specs.Geography.{Ground}
-use Rattle.desk_model.specs.Desk.{Plan, Desk}
-use Rattle.desk_model.specs.Step.{revision_limit}
+use Rattle.desk_model.specs.claim.Geography.{Ground}
+use Rattle.desk_model.specs.claim.Desk.{Plan, Desk}
+use Rattle.desk_model.specs.claim.Step.{revision_limit}
 use Rattle.store_rows.specs.Changes.{with_revision}
-use Rattle.desk_pages.specs.Desks.{AreWithin, IsWithinLimits}
+use Rattle.desk_pages.specs.claim.Desks.{AreWithin, IsWithinLimits}
 
 -- a plan got a revision more
 pub record IsRevised (d : Desk) (name : List ℕ) (after : ℕ) (e : Desk) : Type 0 where

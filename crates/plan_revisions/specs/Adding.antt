@@ -1,17 +1,17 @@
 -- The rows of a revision that is added, and what is read before they are put.
 use Rattle.std.specs.Prelude.{◌<◌, ◌+◌, ◌≡◌, ℕ, List, ◌++◌, Some}
 use Rattle.sector_device.specs.declared.SectorDevice.{Ghosts}
-use Rattle.page_store.specs.Transactions.{stored, disk_in}
+use Rattle.page_store.specs.claim.Transactions.{stored, disk_in}
 use Rattle.page_store.specs.declared.pages.Pages.{Pages}
 use Rattle.page_store.specs.declared.txn.Txn.{Txn}
-use Rattle.page_btree.specs.Map.{InTxn}
+use Rattle.page_btree.specs.claim.Map.{InTxn}
 use Rattle.store_rows.specs.declared.value.Counters.{Counters}
 use Rattle.store_rows.specs.declared.value.PlanRow.{PlanRow}
-use Rattle.store_rows.specs.Rows.{KeyMap}
-use Rattle.store_rows.specs.Puts.{Row}
+use Rattle.store_rows.specs.claim.Rows.{KeyMap}
+use Rattle.store_rows.specs.claim.Puts.{Row}
 use Rattle.store_rows.specs.NameRows.{name_rows}
 use Rattle.store_rows.specs.RevisionSteps.{new_chunk_rows, new_holding_rows}
-use Rattle.store_rows.specs.Tidy.{IsNext}
+use Rattle.store_rows.specs.claim.Tidy.{IsNext}
 use Rattle.revision_table.specs.Reading.{AreNames}
 use Rattle.plan_table.specs.PlanRows.{IsFound, revised_rows}
 

@@ -1,35 +1,37 @@
 -- The rows of a fork: a plan is made, holds the chunks of another plan's revision, and gets a revision that names them.
 use Rattle.std.specs.Prelude.{◌≡◌, ◌+◌, ◌*◌, ℕ, List, length, Some, Result, IfOk, IfErr}
 use Rattle.sector_device.specs.declared.SectorDevice.{Ghosts}
-use Rattle.page_store.specs.Transactions.{stored, disk_in}
+use Rattle.page_store.specs.claim.Transactions.{stored, disk_in}
 use Rattle.page_store.specs.declared.pages.Pages.{Pages}
 use Rattle.page_store.specs.declared.txn.Txn.{Txn}
-use Rattle.page_btree.specs.Map.{InTxn as HasMap}
+use Rattle.page_btree.specs.claim.Map.{InTxn as HasMap}
 use Rattle.page_btree.specs.declared.error.TreeError.{TreeError}
 use Rattle.desk_model.specs.Cuts.{cuts_of}
-use Rattle.desk_model.specs.Desk.{Desk}
-use Rattle.desk_model.specs.Geography.{AreBlocks, Ground}
-use Rattle.desk_model.specs.Name.{IsPlanName}
-use Rattle.desk_model.specs.Room.{rows_for, fork_rows}
+use Rattle.desk_model.specs.claim.Desk.{Desk}
+use Rattle.desk_model.specs.claim.Grounds.{AreBlocks}
+use Rattle.desk_model.specs.claim.Geography.{Ground}
+use Rattle.desk_model.specs.claim.Name.{IsPlanName}
+use Rattle.desk_model.specs.claim.Room.{rows_for, fork_rows}
 use Rattle.store_rows.specs.declared.value.Counters.{Counters}
 use Rattle.store_rows.specs.declared.value.PlanRow.{PlanRow}
-use Rattle.store_rows.specs.Rows.{KeyMap}
-use Rattle.store_rows.specs.Puts.{put_rows}
+use Rattle.store_rows.specs.claim.Rows.{KeyMap}
+use Rattle.store_rows.specs.claim.Puts.{put_rows}
 use Rattle.store_rows.specs.Shares.{with_shared}
 use Rattle.store_rows.specs.Steps.{one_plan_more}
-use Rattle.store_rows.specs.Tidy.{IsNext, CountersFit}
+use Rattle.store_rows.specs.claim.Tidy.{IsNext, CountersFit}
 use Rattle.chunk_table.specs.Changing.{ChangesMap}
 use Rattle.chunk_table.specs.Holding.{CanHoldAll}
 use Rattle.revision_table.specs.Reading.{AreNames}
-use Rattle.plan_table.specs.PlanRows.{IsFound, HasPlanNumber, created_rows}
+use Rattle.plan_table.specs.PlanRows.{IsFound, created_rows}
+use Rattle.plan_table.specs.claim.PlanRows.{HasPlanNumber}
 use Rattle.plan_table.specs.Laws.{RowFits}
 use Rattle.plan_table.specs.declared.change.ChangeOutcome.{ChangeOutcome}
-use Rattle.desk_pages.specs.Desks.{IsDeskMap}
+use Rattle.desk_pages.specs.claim.Desks.{IsDeskMap}
 use Rattle.plan_revisions.specs.declared.reads.Reading.{Reading}
 use Rattle.plan_revisions.specs.Plans.{TakesFork, with_fork}
 use Rattle.plan_revisions.specs.Lookups.{HasSomeRevision}
 use Rattle.plan_revisions.specs.Outcomes.{StepsWhereLeft}
-use Rattle.plan_revisions.specs.Steps.{StepErr}
+use Rattle.plan_revisions.specs.claim.Steps.{StepErr}
 
 -- what a map says of a plan of which a revision is forked: its row, and the names of that revision's chunks, which are so many
 pub record IsSource (from : List ℕ × ℕ) (count : ℕ) (row : PlanRow) (next : Counters) (kept : List ℕ) (m : KeyMap) : Type 0 where

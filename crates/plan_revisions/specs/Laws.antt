@@ -1,16 +1,17 @@
 -- The rows of one revision more make the next desk.
 use Rattle.std.specs.Prelude.{◌≡◌, ◌<◌, ◌+◌, ◌^◌, ℕ, List, length, All, Option}
 use Rattle.desk_model.specs.Cuts.{cuts_of}
-use Rattle.desk_model.specs.Desk.{Desk}
-use Rattle.desk_model.specs.Geography.{AreBlocks, Ground}
-use Rattle.desk_model.specs.Room.{changed, revision_rows}
+use Rattle.desk_model.specs.claim.Desk.{Desk}
+use Rattle.desk_model.specs.claim.Grounds.{AreBlocks}
+use Rattle.desk_model.specs.claim.Geography.{Ground}
+use Rattle.desk_model.specs.claim.Room.{changed, revision_rows}
 use Rattle.store_rows.specs.declared.value.Counters.{Counters}
 use Rattle.store_rows.specs.declared.value.PlanRow.{PlanRow}
-use Rattle.store_rows.specs.Rows.{KeyMap}
-use Rattle.store_rows.specs.Puts.{Row, put_rows}
-use Rattle.store_rows.specs.Tidy.{CountersFit}
+use Rattle.store_rows.specs.claim.Rows.{KeyMap}
+use Rattle.store_rows.specs.claim.Puts.{Row, put_rows}
+use Rattle.store_rows.specs.claim.Tidy.{CountersFit}
 use Rattle.plan_table.specs.Laws.{RowFits}
-use Rattle.desk_pages.specs.Desks.{IsDeskMap}
+use Rattle.desk_pages.specs.claim.Desks.{IsDeskMap}
 use Rattle.desk_room.specs.Cutting.{changes_in}
 use Rattle.plan_revisions.specs.Plans.{TakesNext, with_next}
 use Rattle.plan_revisions.specs.Counties.{drawn}

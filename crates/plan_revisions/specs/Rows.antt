@@ -1,39 +1,16 @@
--- The counties and the numbers that a command asks for.
-use Rattle.std.specs.Prelude.{◌≡◌, ℕ, List, [], length, Option, Some, None, unwrap_or}
+-- What no promise rests on, beside claim/Rows.antt.
+use Rattle.std.specs.Prelude.{ℕ, List, [], Option, Some, None}
 use Rattle.std.specs.FinMap as map_of
-use Rattle.desk_model.specs.declared.command.Command.{Command}
-use Rattle.desk_model.specs.declared.command.Command.TheVariants.{Create, Whole, Counties, Retire, Fork}
 use Rattle.desk_model.specs.declared.cuts.Cut.{Cut}
 use Rattle.desk_model.specs.Cuts.{cuts_of}
-use Rattle.desk_model.specs.Geography.{Ground}
-use Rattle.desk_model.specs.Desk.{Plan, Desk}
-use Rattle.desk_model.specs.Room.{changed, last_revision, added_rows}
-use Rattle.desk_model.specs.Step.{step}
-use Rattle.store_rows.specs.declared.value.Counters.{Counters}
-use Rattle.plan_table.specs.PlanRows.{HasPlanNumber, HasChunkNumbers}
+use Rattle.desk_model.specs.claim.Geography.{Ground}
+use Rattle.desk_model.specs.claim.Desk.{Desk}
+use Rattle.desk_model.specs.claim.Room.{added_rows}
 
 -- the counties of the geography, none where there is none
 abbrev pub cuts_in : Option Ground → List Cut
 cuts_in None = []
 cuts_in (Some g) = cuts_of g
-
--- the chunks that a revision adds
-abbrev pub added_chunks : Option Ground → Option Plan → Option Plan → ℕ
-added_chunks (Some g) (Some old) (Some new) = length (changed g (last_revision old) (unwrap_or (last_revision new) []))
-added_chunks (Some g) (Some old) None = 0
-added_chunks (Some g) None new = 0
-added_chunks None old new = 0
-
-abbrev pub added_by : Desk → List ℕ → Desk → ℕ
-added_by d name e = added_chunks d.geography (map_of.get d.plans name) (map_of.get e.plans name)
-
--- so many numbers are left as a command asks for
-abbrev pub HasNumbers : Desk → Command → Counters → Type 0
-HasNumbers d (Create name size) = HasPlanNumber
-HasNumbers d (Whole name after body) = HasChunkNumbers (added_by d name (step d (Whole name after body)).1)
-HasNumbers d (Counties name after body) = HasChunkNumbers (added_by d name (step d (Counties name after body)).1)
-HasNumbers d (Retire name) = λ next. Unit {0}
-HasNumbers d (Fork name from) = HasPlanNumber
 
 -- the rows of a revision that it got
 abbrev pub rows_added_by : Desk → List ℕ → Desk → ℕ

@@ -1,7 +1,7 @@
 //! Plans that get one revision more.
 ghost use Rattle.std.specs.Prelude.{◌≡◌, length};
 ghost use Rattle.desk_model.specs.Cuts.{cuts_of};
-ghost use Rattle.page_store.specs.Transactions.{count_of, txn_pages, IsQuiet};
+ghost use Rattle.page_store.specs.claim.Transactions.{count_of, txn_pages, IsQuiet};
 ghost use Rattle.plan_revisions.specs.Outcomes.{AddsRevision};
 
 use crate::counties::{count_changes, draw};

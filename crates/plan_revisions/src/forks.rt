@@ -1,12 +1,12 @@
 //! Plans that begin with a revision of another plan.
 ghost use Rattle.std.specs.Prelude.{◌≡◌, ◌≤◌, ◌<◌, ◌*◌, ◌^◌, length, OnOk, IfOk};
 ghost use Rattle.desk_model.specs.Cuts.{cuts_of};
-ghost use Rattle.page_store.specs.Transactions.{count_of, txn_pages, IsQuiet, Passed};
-ghost use Rattle.store_rows.specs.DeskRows.{most_revisions};
+ghost use Rattle.page_store.specs.claim.Transactions.{count_of, txn_pages, IsQuiet, Passed};
+ghost use Rattle.store_rows.specs.claim.DeskRows.{most_revisions};
 ghost use Rattle.store_rows.specs.Shares.{shared_rows};
-ghost use Rattle.store_rows.specs.Tidy.{CountersFit};
+ghost use Rattle.store_rows.specs.claim.Tidy.{CountersFit};
 ghost use Rattle.row_table.specs.Outcomes.{PutsRows};
-ghost use Rattle.plan_table.specs.PlanRows.{HasChunkNumbers, HasPlanNumber};
+ghost use Rattle.plan_table.specs.claim.PlanRows.{HasChunkNumbers, HasPlanNumber};
 ghost use Rattle.plan_table.specs.Laws.{RowFits};
 ghost use Rattle.plan_revisions.specs.Forking.{Forks, PutsFork, SourceErr, TellsSource};
 

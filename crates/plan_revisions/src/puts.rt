@@ -1,14 +1,15 @@
 //! Puts the rows of a command.
 ghost use Rattle.std.specs.Prelude.{◌≡◌, ◌+◌, Some, MatchResult};
 ghost use Rattle.std.specs.FinMap as map_of;
-ghost use Rattle.desk_model.specs.Room.{added_rows, command_rows as rows_of_command};
-ghost use Rattle.desk_catalogue.specs.Accepting.{IsAfter};
+ghost use Rattle.desk_model.specs.claim.Room.{added_rows, command_rows as rows_of_command};
+ghost use Rattle.desk_catalogue.specs.claim.Accepting.{IsAfter};
 ghost use Rattle.desk_catalogue.specs.Drafts.{changes_between, changes_of};
 ghost use Rattle.desk_catalogue.specs.Kept.{revision_in};
-ghost use Rattle.page_store.specs.Transactions.{count_of, txn_pages, IsQuiet};
-ghost use Rattle.plan_table.specs.PlanRows.{HasChunkNumbers};
-ghost use Rattle.plan_revisions.specs.Steps.{IsStepped, StepErr};
-ghost use Rattle.plan_revisions.specs.Rows.{HasNumbers, added_by, cuts_in, rows_added_by};
+ghost use Rattle.page_store.specs.claim.Transactions.{count_of, txn_pages, IsQuiet};
+ghost use Rattle.plan_table.specs.claim.PlanRows.{HasChunkNumbers};
+ghost use Rattle.plan_revisions.specs.claim.Steps.{IsStepped, StepErr};
+ghost use Rattle.plan_revisions.specs.claim.Rows.{HasNumbers, added_by};
+ghost use Rattle.plan_revisions.specs.Rows.{cuts_in, rows_added_by};
 ghost use Rattle.plan_revisions.specs.Accepted.{IsRevised};
 
 use crate::rows::next_of;

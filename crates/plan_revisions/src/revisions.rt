@@ -1,8 +1,8 @@
 //! Puts the rows of a revision.
 ghost use Rattle.std.specs.Prelude.{◌≡◌, ◌≤◌, ◌<◌, ◌+◌, ◌*◌, ◌^◌, length};
-ghost use Rattle.desk_model.specs.Geography.{block_limit};
-ghost use Rattle.page_store.specs.Transactions.{count_of, txn_pages, IsQuiet};
-ghost use Rattle.store_rows.specs.DeskRows.{most_revisions};
+ghost use Rattle.desk_model.specs.claim.Grounds.{block_limit};
+ghost use Rattle.page_store.specs.claim.Transactions.{count_of, txn_pages, IsQuiet};
+ghost use Rattle.store_rows.specs.claim.DeskRows.{most_revisions};
 ghost use Rattle.desk_room.specs.Cutting.{AreWithin};
 ghost use Rattle.plan_revisions.specs.Counties.{count_new};
 ghost use Rattle.plan_revisions.specs.Outcomes.{AddsRows};

@@ -1,8 +1,8 @@
 //! How many rows a command writes.
 ghost use Rattle.std.specs.Prelude.{◌≡◌, ◌+◌, ℕ, List, Some, IsSome};
 ghost use Rattle.std.specs.FinMap as map_of;
-ghost use Rattle.desk_model.specs.Room.{added_rows, command_rows as rows_of_command};
-ghost use Rattle.desk_catalogue.specs.Accepting.{IsAfter};
+ghost use Rattle.desk_model.specs.claim.Room.{added_rows, command_rows as rows_of_command};
+ghost use Rattle.desk_catalogue.specs.claim.Accepting.{IsAfter};
 ghost use Rattle.desk_catalogue.specs.Drafts.{changes_between, changes_of};
 ghost use Rattle.desk_catalogue.specs.Kept.{revision_in, IsWhole};
 ghost use Rattle.plan_revisions.specs.Rows.{cuts_in};

@@ -2,20 +2,21 @@
 use Rattle.std.proofs.Common.{◌≡◌, ◌<◌, ◌+◌, ℕ, List, [], ◌∷◌, ◌++◌, length, Some, ap, ◌∙◌, arith, length-append}
 use Rattle.std.specs.Prelude.{Option, None, MatchOption}
 use Rattle.std.specs.FinMap.{FinMap, get, insert}
-use Rattle.desk_model.specs.Geography.{Ground}
-use Rattle.desk_model.specs.Desk.{Desk, Plan, name_cmp}
-use Rattle.store_rows.specs.Keys.{key_of, counters, named}
-use Rattle.store_rows.specs.Values.{counters_bytes, plan_bytes}
+use Rattle.desk_model.specs.claim.Geography.{Ground}
+use Rattle.desk_model.specs.claim.Desk.{Desk, Plan, name_cmp}
+use Rattle.store_rows.specs.claim.Keys.{key_of, counters, named}
+use Rattle.store_rows.specs.claim.Values.{counters_bytes, plan_bytes}
 use Rattle.store_rows.specs.declared.value.Counters.{Counters}
 use Rattle.store_rows.specs.declared.value.PlanRow.{PlanRow}
-use Rattle.store_rows.specs.Rows.{KeyMap, SameTag}
-use Rattle.store_rows.specs.Puts.{put_rows}
+use Rattle.store_rows.specs.claim.Rows.{KeyMap}
+use Rattle.store_rows.specs.Rows.{SameTag}
+use Rattle.store_rows.specs.claim.Puts.{put_rows}
 use Rattle.store_rows.proofs.Frames.{put_is_there, put_keeps, put_keeps_tag, tag_follows, desk_stays, revision_stays}
-use Rattle.store_rows.specs.DeskRows.{HasPlan, IsDesk, most_revisions}
+use Rattle.store_rows.specs.claim.DeskRows.{HasPlan, IsDesk, most_revisions}
 use Rattle.store_rows.specs.Changes.{IsRevised, desk_with, plan_row_of, with_revision}
 use Rattle.store_rows.proofs.Changes.{plan_created, plan_retired, plan_revised}
 use Rattle.store_rows.specs.Steps.{one_revision_more}
-use Rattle.store_rows.specs.Tidy.{IsNext, no_numbers}
+use Rattle.store_rows.specs.claim.Tidy.{IsNext, no_numbers}
 use Rattle.plan_table.specs.PlanRows.{plan_rows, revised_rows}
 use Rattle.plan_table.specs.Laws.{MakesAndTakes, HasRevisionRows}
 

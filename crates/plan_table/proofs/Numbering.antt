@@ -1,20 +1,20 @@
 -- The numbers are read, and then rows are put.
 use Rattle.std.proofs.Common.{◌≡◌, List, [], length, refl, inl, inr, arith}
 use Rattle.sector_device.specs.declared.SectorDevice.{Ghosts}
-use Rattle.page_store.specs.Transactions.{stored, disk_in, IsQuiet, Passed}
+use Rattle.page_store.specs.claim.Transactions.{stored, disk_in, IsQuiet, Passed}
 use Rattle.page_store.specs.declared.pages.Pages.{Pages}
 use Rattle.page_store.specs.declared.txn.Txn.{Txn}
-use Rattle.page_btree.specs.Map.{InTxn}
+use Rattle.page_btree.specs.claim.Map.{InTxn}
 use Rattle.page_btree.specs.declared.error.TreeError.{TreeError}
 use Rattle.page_btree.specs.declared.error.TreeError.TheVariants.{DeviceFault, Halted, NoPages, TooDeep, Memory}
 use Rattle.store_rows.specs.declared.value.Counters.{Counters}
-use Rattle.store_rows.specs.Rows.{KeyMap}
-use Rattle.store_rows.specs.Puts.{Row}
-use Rattle.store_rows.specs.Tidy.{IsNext, CountersFit}
-use Rattle.row_table.specs.Puts.{HasPut, PutsErr}
+use Rattle.store_rows.specs.claim.Rows.{KeyMap}
+use Rattle.store_rows.specs.claim.Puts.{Row}
+use Rattle.store_rows.specs.claim.Tidy.{IsNext, CountersFit}
+use Rattle.row_table.specs.claim.Puts.{HasPut, PutsErr}
 use Rattle.row_table.proofs.RowsPut.{more_put, then_not_put}
 use Rattle.row_table.specs.Reading.{HasNext, ReadErr}
-use Rattle.plan_table.specs.Outcomes.{AreNext, HasNumbered, ChangeErr}
+use Rattle.plan_table.specs.claim.Outcomes.{AreNext, HasNumbered, ChangeErr}
 
 module _ {D : Type 0} {g : Ghosts D} where
   nothing_put : (t : Txn) (a b : Pages D g) → Passed a b → HasPut [] t t a b

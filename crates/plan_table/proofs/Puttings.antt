@@ -1,16 +1,16 @@
 -- The two rows of a plan and its numbers, put one after the other.
 use Rattle.std.proofs.Common.{◌≡◌, List, ℕ, [], ◌∷◌, subst}
 use Rattle.sector_device.specs.declared.SectorDevice.{Ghosts}
-use Rattle.page_store.specs.Transactions.{IsQuiet}
+use Rattle.page_store.specs.claim.Transactions.{IsQuiet}
 use Rattle.page_store.specs.declared.pages.Pages.{Pages}
 use Rattle.page_store.specs.declared.txn.Txn.{Txn}
 use Rattle.page_btree.specs.declared.error.TreeError.{TreeError}
-use Rattle.store_rows.specs.Keys.{key_of, counters, named}
-use Rattle.store_rows.specs.Values.{counters_bytes, plan_bytes}
+use Rattle.store_rows.specs.claim.Keys.{key_of, counters, named}
+use Rattle.store_rows.specs.claim.Values.{counters_bytes, plan_bytes}
 use Rattle.store_rows.specs.declared.value.Counters.{Counters}
 use Rattle.store_rows.specs.declared.value.PlanRow.{PlanRow}
-use Rattle.store_rows.specs.Puts.{Row}
-use Rattle.row_table.specs.Puts.{HasPut, PutsErr}
+use Rattle.store_rows.specs.claim.Puts.{Row}
+use Rattle.row_table.specs.claim.Puts.{HasPut, PutsErr}
 use Rattle.row_table.proofs.RowsPut.{more_put, then_not_put, front_not_put}
 use Rattle.plan_table.specs.PlanRows.{plan_rows}
 

@@ -2,20 +2,20 @@
 use Rattle.std.proofs.Common.{◌≡◌, ◌≤◌, ◌+◌, ℕ, List, [], ◌∷◌, sym, subst, ◌∙◌, inl, inr, arith}
 use Rattle.std.specs.FinMap.{remove}
 use Rattle.sector_device.specs.declared.SectorDevice.{Ghosts}
-use Rattle.page_store.specs.Transactions.{stored, disk_in, txn_pages, txn_free, txn_writes, over, txn_root, IsQuiet, Passed}
+use Rattle.page_store.specs.claim.Transactions.{stored, disk_in, txn_pages, txn_free, txn_writes, over, txn_root, IsQuiet, Passed}
 use Rattle.page_store.proofs.Stops.{passed_more, failed_more}
 use Rattle.page_store.specs.declared.pages.Pages.{Pages}
 use Rattle.page_store.specs.declared.txn.Txn.{Txn}
-use Rattle.page_btree.specs.Errors.{level_in}
-use Rattle.page_btree.specs.Map.{InTxn}
+use Rattle.page_btree.specs.claim.Errors.{level_in}
+use Rattle.page_btree.specs.claim.Map.{InTxn}
 use Rattle.page_btree.specs.declared.error.TreeError.{TreeError}
 use Rattle.page_btree.specs.declared.error.TreeError.TheVariants.{DeviceFault, Halted, NoPages, TooDeep, Memory}
-use Rattle.store_rows.specs.Keys.{key_of, named, retired}
-use Rattle.store_rows.specs.Rows.{KeyMap}
-use Rattle.store_rows.specs.Puts.{Row, put_rows}
-use Rattle.row_table.specs.Puts.{HasPut, PutsErr, HasDeepened}
-use Rattle.plan_table.specs.PlanRows.{retired_rows, retired_map}
-use Rattle.plan_table.specs.Outcomes.{HasRetired, RetireErr}
+use Rattle.store_rows.specs.claim.Keys.{key_of, named, retired}
+use Rattle.store_rows.specs.claim.Rows.{KeyMap}
+use Rattle.store_rows.specs.claim.Puts.{Row, put_rows}
+use Rattle.row_table.specs.claim.Puts.{HasPut, PutsErr, HasDeepened}
+use Rattle.plan_table.specs.claim.PlanRows.{retired_rows, retired_map}
+use Rattle.plan_table.specs.claim.Outcomes.{HasRetired, RetireErr}
 
 mark_is : (l : List ℕ) (number : ℕ) → l ≡ key_of (retired number) → ◌≡◌ {A = List Row} ((l, []) ∷ []) (retired_rows number)
 mark_is l number is = λ i. (is i, []) ∷ []

@@ -6,12 +6,12 @@ use Rattle.std.specs.FinMap.{FinMap, get}
 use Rattle.std.proofs.lemmas.Nat.{from_be_bytes-to_be_bytes_2, from_be_bytes-to_be_bytes_4, from_be_bytes-to_be_bytes_8}
 use Rattle.desk_model.specs.declared.kind.Kind.{Kind}
 use Rattle.desk_model.specs.declared.kind.Kind.TheVariants.{Congress, Senate, House}
-use Rattle.desk_model.specs.Geography.{Ground}
-use Rattle.desk_model.specs.Desk.{Plan, name_cmp}
-use Rattle.store_rows.specs.Values.{plan_bytes, kind_code}
+use Rattle.desk_model.specs.claim.Geography.{Ground}
+use Rattle.desk_model.specs.claim.Desk.{Plan, name_cmp}
+use Rattle.store_rows.specs.claim.Values.{plan_bytes, kind_code}
 use Rattle.store_rows.specs.declared.value.PlanRow.{PlanRow}
-use Rattle.store_rows.specs.Rows.{KeyMap}
-use Rattle.store_rows.specs.DeskRows.{HasPlan, IsPlanAt, IsDesk}
+use Rattle.store_rows.specs.claim.Rows.{KeyMap}
+use Rattle.store_rows.specs.claim.DeskRows.{HasPlan, IsPlanAt, IsDesk}
 use Rattle.store_rows.specs.Changes.{desk_with, plan_row_of}
 use Rattle.plan_table.specs.PlanRows.{IsFound}
 use Rattle.plan_table.specs.Laws.{RowFits, IsTold}

@@ -4,9 +4,9 @@ use Rattle.sector_device.specs.declared.SectorDevice.{Ghosts}
 use Rattle.page_store.specs.declared.pages.Pages.{Pages}
 use Rattle.page_store.specs.declared.txn.Txn.{Txn}
 use Rattle.page_btree.specs.declared.error.TreeError.{TreeError}
-use Rattle.store_rows.specs.Puts.{Row}
+use Rattle.store_rows.specs.claim.Puts.{Row}
 use Rattle.store_rows.specs.declared.value.Counters.{Counters}
-use Rattle.plan_table.specs.Outcomes.{IsChanged, ChangeErr}
+use Rattle.plan_table.specs.claim.Outcomes.{IsChanged, ChangeErr}
 use Rattle.plan_table.specs.declared.change.ChangeOutcome.{ChangeOutcome}
 
 module _ {D : Type 0} {g : Ghosts D} where

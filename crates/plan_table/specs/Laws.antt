@@ -2,19 +2,21 @@
 use Rattle.std.specs.Prelude.{◌≡◌, ◌<◌, ◌+◌, ◌^◌, ℕ, List, [], length, Option, Some, None, IfSome}
 use Rattle.std.specs.FinMap.{FinMap, get, insert, remove}
 use Rattle.desk_model.specs.declared.kind.Kind.{Kind}
-use Rattle.desk_model.specs.Geography.{Ground}
-use Rattle.desk_model.specs.Cuts.{cut}
-use Rattle.desk_model.specs.Desk.{Plan, name_cmp}
-use Rattle.desk_model.specs.Name.{IsPlanName}
+use Rattle.desk_model.specs.claim.Geography.{Ground}
+use Rattle.desk_model.specs.claim.Cuts.{cut}
+use Rattle.desk_model.specs.claim.Desk.{Plan, name_cmp}
+use Rattle.desk_model.specs.claim.Name.{IsPlanName}
 use Rattle.store_rows.specs.declared.value.Counters.{Counters}
 use Rattle.store_rows.specs.declared.value.PlanRow.{PlanRow}
-use Rattle.store_rows.specs.Rows.{KeyMap, SameTag}
-use Rattle.store_rows.specs.Puts.{put_rows}
-use Rattle.store_rows.specs.RevisionRows.{HasRevision}
-use Rattle.store_rows.specs.DeskRows.{HasPlan, IsDesk, most_revisions}
+use Rattle.store_rows.specs.claim.Rows.{KeyMap}
+use Rattle.store_rows.specs.Rows.{SameTag}
+use Rattle.store_rows.specs.claim.Puts.{put_rows}
+use Rattle.store_rows.specs.claim.RevisionRows.{HasRevision}
+use Rattle.store_rows.specs.claim.DeskRows.{HasPlan, IsDesk, most_revisions}
 use Rattle.store_rows.specs.Changes.{RevisionsStay, desk_with, plan_row_of, with_revision}
-use Rattle.store_rows.specs.Tidy.{IsNext, CountersFit}
-use Rattle.plan_table.specs.PlanRows.{IsFound, plan_rows, created_rows, revised_rows, retired_map}
+use Rattle.store_rows.specs.claim.Tidy.{IsNext, CountersFit}
+use Rattle.plan_table.specs.PlanRows.{IsFound, plan_rows, created_rows, revised_rows}
+use Rattle.plan_table.specs.claim.PlanRows.{retired_map}
 
 -- ---- a plan that is found
 -- the row's numbers fit in their bytes

@@ -1,4 +1,4 @@
+pub mod claim
 pub mod PlanRows
-pub mod Outcomes
 pub mod Laws
 pub mod Changing

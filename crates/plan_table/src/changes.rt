@@ -1,11 +1,12 @@
 //! Changes of plans.
 ghost use Rattle.std.specs.Prelude.{◌≡◌, ◌<◌, ◌+◌, IfErr, MatchResult};
-ghost use Rattle.page_store.specs.Transactions.{count_of, txn_pages, txn_free, IsQuiet};
+ghost use Rattle.page_store.specs.claim.Transactions.{count_of, txn_pages, txn_free, IsQuiet};
 ghost use Rattle.page_btree.specs.declared.error.TreeError.TheVariants.{NoPages};
-ghost use Rattle.store_rows.specs.DeskRows.{most_revisions};
+ghost use Rattle.store_rows.specs.claim.DeskRows.{most_revisions};
 ghost use Rattle.row_table.specs.Outcomes.{PutsRows};
-ghost use Rattle.plan_table.specs.PlanRows.{plan_rows, created_rows, revised_rows, HasPlanNumber, HasChunkNumbers};
-ghost use Rattle.plan_table.specs.Outcomes.{HasRetired, RetireErr};
+ghost use Rattle.plan_table.specs.PlanRows.{plan_rows, created_rows, revised_rows};
+ghost use Rattle.plan_table.specs.claim.PlanRows.{HasPlanNumber, HasChunkNumbers};
+ghost use Rattle.plan_table.specs.claim.Outcomes.{HasRetired, RetireErr};
 ghost use Rattle.plan_table.specs.Changing.{Changes};
 
 use crate::change::ChangeOutcome;

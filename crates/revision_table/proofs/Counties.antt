@@ -4,8 +4,8 @@ use Rattle.std.proofs.lemmas.List.{append-nil, take_more, length-map, get_or-map
 use Rattle.std.proofs.lemmas.List.Folds.{concat-append}
 use Rattle.std.specs.List.{concat}
 use Rattle.desk_model.specs.declared.cuts.Cut.{Cut}
-use Rattle.store_rows.specs.Rows.{KeyMap}
-use Rattle.store_rows.specs.RevisionRows.{HasChunk}
+use Rattle.store_rows.specs.claim.Rows.{KeyMap}
+use Rattle.store_rows.specs.claim.RevisionRows.{HasChunk}
 use Rattle.revision_table.specs.Reading.{AreLong, AreNames, AreCounties, IsRevision}
 
 pub one_county_more : (counties : List (List ℕ)) (i : ℕ) → i < length counties → concat (take i counties) ++ get_or counties i [] ≡ concat (take (i + 1) counties)

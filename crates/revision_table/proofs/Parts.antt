@@ -1,9 +1,9 @@
 -- A part of a revision, as its row has it.
 use Rattle.std.proofs.Common.{◌≡◌, ◌<◌, ◌*◌, ◌^◌, ℕ, List, length, take, drop, Some, sym, subst, ◌∙◌, arith}
 use Rattle.std.specs.FinMap.{get}
-use Rattle.store_rows.specs.Keys.{key_of, part}
-use Rattle.store_rows.specs.Lists.{AreChunks, chunks_bytes}
-use Rattle.store_rows.specs.Rows.{KeyMap}
+use Rattle.store_rows.specs.claim.Keys.{key_of, part}
+use Rattle.store_rows.specs.claim.Lists.{AreChunks, chunks_bytes}
+use Rattle.store_rows.specs.claim.Rows.{KeyMap}
 use Rattle.row_table.proofs.Appending.{part_there, some_of_part, most_of_part, each_of_part}
 use Rattle.revision_table.specs.Reading.{AreNames}
 

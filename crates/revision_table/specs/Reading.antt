@@ -1,10 +1,10 @@
 -- What is read of a revision.
 use Rattle.std.specs.Prelude.{◌≡◌, ◌<◌, ◌*◌, ◌^◌, ℕ, List, [], length, get_or, map, take, drop}
 use Rattle.desk_model.specs.declared.cuts.Cut.{Cut}
-use Rattle.store_rows.specs.Keys.{part}
-use Rattle.store_rows.specs.Lists.{chunks_bytes}
-use Rattle.store_rows.specs.Rows.{KeyMap}
-use Rattle.store_rows.specs.RevisionRows.{HasChunk, NamesChunks, HasRevision}
+use Rattle.store_rows.specs.claim.Keys.{part}
+use Rattle.store_rows.specs.claim.Lists.{chunks_bytes}
+use Rattle.store_rows.specs.claim.Rows.{KeyMap}
+use Rattle.store_rows.specs.claim.RevisionRows.{HasChunk, NamesChunks, HasRevision}
 use Rattle.chunk_table.specs.Parts.{AppendsAll, AppendsPart, StandsInParts}
 
 -- the revision names these chunks, and they are so many

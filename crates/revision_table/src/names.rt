@@ -1,8 +1,8 @@
 //! Reads which chunks a revision names.
 ghost use Rattle.std.specs.Prelude.{◌≡◌, ◌-◌, ◌*◌, ◌<◌, ◌^◌, min, OnOk};
-ghost use Rattle.page_store.specs.Transactions.{stored, disk_in, count_of, txn_pages, IsQuiet};
-ghost use Rattle.page_btree.specs.Map.{InTxn};
-ghost use Rattle.store_rows.specs.Rows.{KeyMap};
+ghost use Rattle.page_store.specs.claim.Transactions.{stored, disk_in, count_of, txn_pages, IsQuiet};
+ghost use Rattle.page_btree.specs.claim.Map.{InTxn};
+ghost use Rattle.store_rows.specs.claim.Rows.{KeyMap};
 ghost use Rattle.row_table.specs.Appending.{Appends};
 ghost use Rattle.revision_table.specs.Reading.{AppendsNames, AppendsParts, AreNames, names_in};
 

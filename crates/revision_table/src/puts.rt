@@ -1,6 +1,6 @@
 //! Puts the rows of revisions.
 ghost use Rattle.std.specs.Prelude.{◌≡◌, ◌≤◌, ◌*◌, ◌<◌, ◌^◌, [], ◌∷◌, length};
-ghost use Rattle.page_store.specs.Transactions.{count_of, txn_pages, IsQuiet};
+ghost use Rattle.page_store.specs.claim.Transactions.{count_of, txn_pages, IsQuiet};
 ghost use Rattle.store_rows.specs.NameRows.{name_row, name_rows};
 ghost use Rattle.row_table.specs.Outcomes.{PutsRows};
 

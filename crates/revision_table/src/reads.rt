@@ -1,7 +1,7 @@
 //! Reads revisions.
 ghost use Rattle.std.specs.Prelude.{◌≡◌, ◌≤◌, ◌*◌, ◌<◌, ◌^◌, [], length, get_or};
 ghost use Rattle.std.specs.List.{concat};
-ghost use Rattle.page_store.specs.Transactions.{count_of, txn_pages, IsQuiet};
+ghost use Rattle.page_store.specs.claim.Transactions.{count_of, txn_pages, IsQuiet};
 ghost use Rattle.row_table.specs.Appending.{Appends};
 ghost use Rattle.revision_table.specs.Reading.{AreCounties, IsRevision};
 

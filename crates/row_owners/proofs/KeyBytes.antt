@@ -1,7 +1,7 @@
 -- Keys of rows behind the version's, by their bytes.
 use Rattle.std.proofs.Common.{◌≡◌, ℕ, List, [], ◌∷◌, ◌++◌, drop, get_or, inl, inr, sym, ap, ◌∙◌, arith}
-use Rattle.store_rows.specs.Keys.{RowKey, key_of, Fits, counters, retired, begun, holding, tally, named, part, seal, version, block, pair, chunk, in_two, in_four, in_eight}
-use Rattle.store_rows.specs.Tidy.{IsPiece}
+use Rattle.store_rows.specs.claim.Keys.{RowKey, key_of, Fits, counters, retired, begun, holding, tally, named, part, seal, version, block, pair, chunk, in_two, in_four, in_eight}
+use Rattle.store_rows.specs.claim.Tidy.{IsPiece}
 use Rattle.store_check.specs.Rows.{IsKind, IsRow}
 use Rattle.row_owners.specs.Wholes.{IsWhole, SaysSo}
 

@@ -1,6 +1,6 @@
 -- Which kinds keys are of.
 use Rattle.std.proofs.Common.{◌≡◌, ◌<◌, ◌^◌, ◌%◌, ℕ, List, [], ◌∷◌, ◌++◌, drop, get_or, sym, ap, ◌∙◌, arith}
-use Rattle.store_rows.specs.Keys.{RowKey, key_of, Fits, counters, retired, begun, holding, tally, named, part, seal, version, block, pair, chunk, in_two, in_four, in_eight}
+use Rattle.store_rows.specs.claim.Keys.{RowKey, key_of, Fits, counters, retired, begun, holding, tally, named, part, seal, version, block, pair, chunk, in_two, in_four, in_eight}
 use Rattle.row_owners.specs.Strays.{IsNoneOf, IsOf, IsOfKind, TakesAny}
 use Rattle.row_owners.specs.declared.kinds.Kind.TheVariants.{Mark, Other}
 

@@ -1,13 +1,13 @@
 -- Rows that belong to a store: what a row is of is there, and its value is one that such a row has.
 use Rattle.std.specs.Prelude.{◌≡◌, ◌<◌, ◌+◌, ◌*◌, ◌^◌, ℕ, Bool, true, false, List, [], length, get_or, Option, Some, None, IfSome}
 use Rattle.std.specs.FinMap.{get as row_at}
-use Rattle.page_node.specs.Entries.{Entry}
+use Rattle.page_node.specs.claim.Entries.{Entry}
 use Rattle.desk_model.specs.declared.cuts.Cut.{Cut}
 use Rattle.desk_model.specs.declared.block.BlockRow.{BlockRow}
-use Rattle.store_rows.specs.Keys.{RowKey, key_of, Fits, counters, retired, begun, holding, tally, named, part, seal, version, block, pair, chunk}
-use Rattle.store_rows.specs.Values.{block_bytes, pair_bytes}
-use Rattle.store_rows.specs.Lists.{AreChunks, chunks_bytes}
-use Rattle.store_rows.specs.Rows.{KeyMap, Has}
+use Rattle.store_rows.specs.claim.Keys.{RowKey, key_of, Fits, counters, retired, begun, holding, tally, named, part, seal, version, block, pair, chunk}
+use Rattle.store_rows.specs.claim.Values.{block_bytes, pair_bytes}
+use Rattle.store_rows.specs.claim.Lists.{AreChunks, chunks_bytes}
+use Rattle.store_rows.specs.claim.Rows.{KeyMap, Has}
 use Rattle.row_owners.specs.Wholes.{AreWhole}
 use Rattle.row_owners.specs.declared.wrong.Wrong.{Wrong}
 use Rattle.row_owners.specs.declared.wrong.WrongRow.{WrongRow}

@@ -1,6 +1,6 @@
 //! Where chunks are named: parts of revisions at which one looks first.
 ghost use Rattle.std.specs.Prelude.{◌≡◌};
-ghost use Rattle.page_store.specs.Transactions.{count_of, txn_pages, IsQuiet};
+ghost use Rattle.page_store.specs.claim.Transactions.{count_of, txn_pages, IsQuiet};
 
 use crate::facts::pair_of;
 use btree_scan::{Row, Scan, row_limit};

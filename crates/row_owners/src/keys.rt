@@ -1,6 +1,6 @@
 //! Keys of rows, and the numbers in them.
 ghost use Rattle.std.specs.Prelude.{◌≡◌, ◌<◌, ◌^◌, ◌++◌, ◌∷◌, ℕ, true, false, length, drop, get_or};
-ghost use Rattle.store_rows.specs.Keys.{Fits, block, chunk, in_two, in_four, in_eight};
+ghost use Rattle.store_rows.specs.claim.Keys.{Fits, block, chunk, in_two, in_four, in_eight};
 ghost use Rattle.store_check.specs.Rows.{IsKind};
 
 use page_node::KEY_LIMIT;

@@ -1,6 +1,6 @@
 //! What the row with a key is of.
 ghost use Rattle.std.specs.Prelude.{◌≡◌, ◌<◌, ◌^◌, ◌∷◌, ◌++◌, ℕ, true, false, drop, get_or, length, MatchOption};
-ghost use Rattle.store_rows.specs.Keys.{Fits, retired, begun, holding, part, block, chunk, key_of, in_four, in_eight};
+ghost use Rattle.store_rows.specs.claim.Keys.{Fits, retired, begun, holding, part, block, chunk, key_of, in_four, in_eight};
 ghost use Rattle.row_owners.specs.Strays.{IsNoneOf, IsOf, IsOfKind};
 ghost use Rattle.row_owners.specs.declared.kinds.Kind.TheVariants.{Mark};
 

@@ -1,6 +1,6 @@
 //! The first row that is wrong.
 ghost use Rattle.std.specs.Prelude.{◌≡◌};
-ghost use Rattle.page_store.specs.Transactions.{count_of, txn_pages, IsQuiet};
+ghost use Rattle.page_store.specs.claim.Transactions.{count_of, txn_pages, IsQuiet};
 
 use crate::seen::Seen;
 use crate::wrong::WrongRow;

@@ -1,9 +1,9 @@
 //! Which parts of revisions name a chunk.
 ghost use Rattle.std.specs.Prelude.{◌≡◌, ◌≤◌, ◌+◌, ◌*◌, true, false, length, IfSome, IfOk, IfErr, OnOk};
-ghost use Rattle.page_store.specs.Transactions.{stored, disk_in, count_of, txn_pages, IsQuiet, Passed};
-ghost use Rattle.page_btree.specs.Map.{InTxn};
+ghost use Rattle.page_store.specs.claim.Transactions.{stored, disk_in, count_of, txn_pages, IsQuiet, Passed};
+ghost use Rattle.page_btree.specs.claim.Map.{InTxn};
 ghost use Rattle.row_table.specs.Reading.{ReadErr};
-ghost use Rattle.store_rows.specs.Rows.{KeyMap};
+ghost use Rattle.store_rows.specs.claim.Rows.{KeyMap};
 ghost use Rattle.row_owners.specs.Strays.{HasPiece, IsAny, IsNamed, IsNamedAs, IsNaming, NamesAt};
 
 use crate::kinds::part_key;

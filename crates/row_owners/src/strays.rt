@@ -1,11 +1,11 @@
 //! Whether a row belongs to its store.
 ghost use Rattle.std.specs.Prelude.{◌≡◌, ◌<◌, ◌*◌, ◌^◌, ℕ, [], None, Some, length, MatchOption, IfOk, IfErr, OnOk};
 ghost use Rattle.desk_model.specs.declared.block.BlockRow.{BlockRow as BlockValue};
-ghost use Rattle.page_store.specs.Transactions.{stored, disk_in, count_of, txn_pages, IsQuiet, Passed};
-ghost use Rattle.page_btree.specs.Map.{InTxn};
+ghost use Rattle.page_store.specs.claim.Transactions.{stored, disk_in, count_of, txn_pages, IsQuiet, Passed};
+ghost use Rattle.page_btree.specs.claim.Map.{InTxn};
 ghost use Rattle.row_table.specs.Reading.{ReadErr};
-ghost use Rattle.store_rows.specs.Rows.{KeyMap};
-ghost use Rattle.store_rows.specs.Values.{block_bytes, pair_bytes};
+ghost use Rattle.store_rows.specs.claim.Rows.{KeyMap};
+ghost use Rattle.store_rows.specs.claim.Values.{block_bytes, pair_bytes};
 ghost use Rattle.row_owners.specs.Strays.{IsAny, IsJudged, IsNamed};
 
 use crate::hints::Hints;

@@ -1,11 +1,11 @@
 //! Checks that each row's key is that of a row, that parts of revisions and pieces of chunks say what they have, and that rows belong to
 //! their store.
 ghost use Rattle.std.specs.Prelude.{◌≡◌, ◌<◌, ◌^◌, true, false, OnOk, IfOk, IfErr};
-ghost use Rattle.page_store.specs.Transactions.{stored, disk_in, count_of, txn_pages, IsQuiet, Passed};
-ghost use Rattle.page_btree.specs.Map.{InTxn};
+ghost use Rattle.page_store.specs.claim.Transactions.{stored, disk_in, count_of, txn_pages, IsQuiet, Passed};
+ghost use Rattle.page_btree.specs.claim.Map.{InTxn};
 ghost use Rattle.row_table.specs.Reading.{ReadErr};
-ghost use Rattle.store_rows.specs.Rows.{KeyMap};
-ghost use Rattle.store_rows.specs.Tidy.{IsPart, IsPiece};
+ghost use Rattle.store_rows.specs.claim.Rows.{KeyMap};
+ghost use Rattle.store_rows.specs.claim.Tidy.{IsPart, IsPiece};
 ghost use Rattle.row_owners.specs.Strays.{IsChecked, IsJudged};
 ghost use Rattle.row_owners.specs.Wholes.{AllSay, IsRowOf, IsWhole};
 

@@ -3,22 +3,22 @@ use Rattle.std.specs.Prelude.{◌≡◌, ℕ, List, [], Option, Some, None, opti
 use Rattle.std.proofs.Common.{inl, inr, refl, sym, ap, subst, ◌∙◌, arith}
 use Rattle.std.specs.FinMap.{get as row_at}
 use Rattle.sector_device.specs.declared.SectorDevice.{Ghosts}
-use Rattle.page_store.specs.Transactions.{stored, disk_in, IsQuiet, Passed}
+use Rattle.page_store.specs.claim.Transactions.{stored, disk_in, IsQuiet, Passed}
 use Rattle.page_store.proofs.Stops.{failed_more}
 use Rattle.page_store.specs.declared.pages.Pages.{Pages}
 use Rattle.page_store.specs.declared.txn.Txn.{Txn}
-use Rattle.page_btree.specs.Map.{InTxn}
+use Rattle.page_btree.specs.claim.Map.{InTxn}
 use Rattle.page_btree.specs.declared.error.TreeError.{TreeError}
 use Rattle.page_btree.specs.declared.error.TreeError.TheVariants.{DeviceFault, Halted, NoPages, TooDeep, Memory}
-use Rattle.page_btree.specs.Errors.{GetErr}
-use Rattle.store_rows.specs.Keys.{key_of, counters}
-use Rattle.store_rows.specs.Values.{counters_bytes}
+use Rattle.page_btree.specs.claim.Errors.{GetErr}
+use Rattle.store_rows.specs.claim.Keys.{key_of, counters}
+use Rattle.store_rows.specs.claim.Values.{counters_bytes}
 use Rattle.store_rows.specs.declared.value.Counters.{Counters}
-use Rattle.store_rows.specs.Rows.{KeyMap}
-use Rattle.store_rows.specs.Puts.{Row}
-use Rattle.row_table.specs.Puts.{HasPut, PutsErr}
+use Rattle.store_rows.specs.claim.Rows.{KeyMap}
+use Rattle.store_rows.specs.claim.Puts.{Row}
+use Rattle.row_table.specs.claim.Puts.{HasPut, PutsErr}
 use Rattle.row_table.proofs.RowsPut.{more_put, then_not_put}
-use Rattle.store_rows.specs.Tidy.{no_numbers}
+use Rattle.store_rows.specs.claim.Tidy.{no_numbers}
 use Rattle.row_table.specs.Reading.{HasNext, ReadErr, StandsAs}
 
 -- and has one value

@@ -3,18 +3,19 @@ use Rattle.std.specs.Prelude.{◌≡◌, ◌<◌, ◌≤◌, ◌+◌, ℕ, List,
 use Rattle.std.proofs.Common.{suc, refl, sym, ap, subst, ◌∙◌, inl, inr, arith, append_assoc, length-append}
 use Rattle.std.specs.FinMap.{insert}
 use Rattle.sector_device.specs.declared.SectorDevice.{Ghosts}
-use Rattle.page_store.specs.Transactions.{stored, disk_in, txn_pages, txn_root, txn_free, txn_writes, over, IsQuiet, Passed}
+use Rattle.page_store.specs.claim.Transactions.{stored, disk_in, txn_pages, txn_root, txn_free, txn_writes, over, IsQuiet, Passed}
 use Rattle.page_store.proofs.Stops.{passed_none, passed_more, failed_more}
 use Rattle.page_store.specs.declared.pages.Pages.{Pages}
 use Rattle.page_store.specs.declared.txn.Txn.{Txn}
-use Rattle.page_btree.specs.Map.{InTxn}
-use Rattle.page_btree.specs.Errors.{PutErr, level_in}
+use Rattle.page_btree.specs.claim.Map.{InTxn}
+use Rattle.page_btree.specs.claim.Errors.{PutErr, level_in}
 use Rattle.page_btree.specs.declared.error.TreeError.{TreeError}
 use Rattle.page_btree.specs.declared.error.TreeError.TheVariants.{DeviceFault, Halted, NoPages, TooDeep, Memory}
-use Rattle.store_rows.specs.Rows.{KeyMap}
-use Rattle.store_rows.specs.Puts.{Row, put_rows, rows_told}
+use Rattle.store_rows.specs.claim.Rows.{KeyMap}
+use Rattle.store_rows.specs.claim.Puts.{Row, put_rows}
+use Rattle.store_rows.specs.Puts.{rows_told}
 use Rattle.store_rows.proofs.Puts.{put_rows-append, told_front}
-use Rattle.row_table.specs.Puts.{HasPut, PutsErr}
+use Rattle.row_table.specs.claim.Puts.{HasPut, PutsErr}
 
 module _ {D : Type 0} {g : Ghosts D} where
   pub none_put : (t : Txn) (a : Pages D g) → HasPut [] t t a a

@@ -15,7 +15,7 @@ pub trait RowValue: Drop + Sized {
 }
 
 impl RowValue for Counters {
-    ghost use Rattle.store_rows.specs.Values.{counters_bytes};
+    ghost use Rattle.store_rows.specs.claim.Values.{counters_bytes};
 
     ghost bytes_of = { counters_bytes };
 
@@ -25,7 +25,7 @@ impl RowValue for Counters {
 }
 
 impl RowValue for PlanRow {
-    ghost use Rattle.store_rows.specs.Values.{plan_bytes};
+    ghost use Rattle.store_rows.specs.claim.Values.{plan_bytes};
 
     ghost bytes_of = { plan_bytes };
 
@@ -45,7 +45,7 @@ impl RowValue for Tally {
 }
 
 impl RowValue for SealRow {
-    ghost use Rattle.store_rows.specs.Values.{seal_bytes};
+    ghost use Rattle.store_rows.specs.claim.Values.{seal_bytes};
 
     ghost bytes_of = { seal_bytes };
 

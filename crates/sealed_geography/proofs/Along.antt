@@ -14,15 +14,15 @@ use Rattle.page_store.specs.declared.txn.Txn.{Txn}
 use Rattle.page_btree.specs.declared.error.TreeError.{TreeError}
 use Rattle.page_btree.specs.declared.error.TreeError.TheVariants.{DeviceFault, Halted, NoPages, TooDeep, Memory}
 use Rattle.row_table.specs.Reading.{ReadErr}
-use Rattle.page_node.specs.Entries.{Entry}
-use Rattle.page_node.specs.Places.{key_cmp, Rises}
+use Rattle.page_node.specs.claim.Entries.{Entry}
+use Rattle.page_node.specs.claim.Places.{key_cmp, Rises}
 use Rattle.btree_scan.specs.Prefixes.{is_under, under}
 use Rattle.btree_scan.proofs.Prefixes.{head_rises}
 use Rattle.btree_scan.specs.Scanning.{Rest, IsNextRow, ScanErr, fault_in, has_ended, CanScan}
 use Rattle.btree_scan.proofs.Scanning.{none_to_come}
 use Rattle.btree_scan.specs.declared.rows.Row.{Row}
 use Rattle.btree_scan.specs.declared.scans.Scan.{Scan}
-use Rattle.store_rows.specs.Rows.{KeyMap}
+use Rattle.store_rows.specs.claim.Rows.{KeyMap}
 use Rattle.store_rows.proofs.Frames.{differs, itself}
 use Rattle.sealed_geography.specs.Following.{AreIn, IsTaken, Scans}
 

@@ -5,12 +5,12 @@ use Rattle.std.proofs.lemmas.List.{take_all}
 use Rattle.std.proofs.lemmas.Nat.{from_be_bytes-to_be_bytes_4, from_be_bytes-to_be_bytes_8}
 use Rattle.desk_model.specs.declared.block.BlockRow.{BlockRow}
 use Rattle.desk_model.specs.declared.geography.Pair.{Pair}
-use Rattle.desk_model.specs.Geography.{Ground}
-use Rattle.store_rows.specs.Keys.{key_of, seal}
-use Rattle.store_rows.specs.Values.{block_bytes, seal_bytes}
+use Rattle.desk_model.specs.claim.Geography.{Ground}
+use Rattle.store_rows.specs.claim.Keys.{key_of, seal}
+use Rattle.store_rows.specs.claim.Values.{block_bytes, seal_bytes}
 use Rattle.store_rows.specs.declared.value.SealRow.{SealRow}
-use Rattle.store_rows.specs.Rows.{KeyMap, row_in, element_row}
-use Rattle.store_rows.specs.GeographyRows.{IsBlockRow, IsSealed, IsGeography, geography_rows, neighbours_bytes}
+use Rattle.store_rows.specs.claim.Rows.{KeyMap, row_in, element_row}
+use Rattle.store_rows.specs.claim.GeographyRows.{IsBlockRow, IsSealed, IsGeography, geography_rows, neighbours_bytes}
 use Rattle.row_table.specs.Reading.{StandsAs}
 use Rattle.sealed_geography.specs.Elements.{IsSealedAs, IsSealRow}
 

@@ -2,14 +2,15 @@
 use Rattle.std.specs.Prelude.{◌≡◌, ◌<◌, ◌^◌, ℕ, List, [], ◌∷◌, ◌++◌, length, All, Option, Some, None}
 use Rattle.std.specs.FinMap.{get as row_at}
 use Rattle.desk_model.specs.declared.geography.Pair.{Pair}
-use Rattle.desk_model.specs.Geography.{Ground, IsGround}
-use Rattle.store_rows.specs.Keys.{key_of, block, pair, seal}
-use Rattle.store_rows.specs.Values.{block_bytes, seal_bytes}
+use Rattle.desk_model.specs.claim.Geography.{Ground}
+use Rattle.desk_model.specs.claim.Grounds.{IsGround}
+use Rattle.store_rows.specs.claim.Keys.{key_of, block, pair, seal}
+use Rattle.store_rows.specs.claim.Values.{block_bytes, seal_bytes}
 use Rattle.store_rows.specs.declared.value.SealRow.{SealRow}
-use Rattle.store_rows.specs.GeographyRows.{IsBlockRow, neighbours_bytes}
+use Rattle.store_rows.specs.claim.GeographyRows.{IsBlockRow, neighbours_bytes}
 use Rattle.page_btree.specs.declared.error.TreeError.{TreeError}
 use Rattle.page_btree.specs.declared.error.TreeError.TheVariants.{DeviceFault, Halted, NoPages, TooDeep, Memory}
-use Rattle.store_rows.specs.Rows.{KeyMap, Lacks, element_row}
+use Rattle.store_rows.specs.claim.Rows.{KeyMap, Lacks, element_row}
 use Rattle.row_table.specs.Reading.{StandsAs}
 
 -- the places of a pair fit in its row

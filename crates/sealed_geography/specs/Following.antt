@@ -3,15 +3,15 @@ use Rattle.std.specs.Prelude.{◌≡◌, ◌++◌, ℕ, List, [], ◌∷◌, Boo
 use Rattle.std.specs.FinMap.{entries, get as row_at}
 use Rattle.std.specs.declared.alloc.Global.{Global}
 use Rattle.sector_device.specs.declared.SectorDevice.{Ghosts}
-use Rattle.page_store.specs.Transactions.{stored, disk_in}
+use Rattle.page_store.specs.claim.Transactions.{stored, disk_in}
 use Rattle.page_store.specs.declared.pages.Pages.{Pages}
 use Rattle.page_store.specs.declared.txn.Txn.{Txn}
-use Rattle.page_node.specs.Entries.{Entry}
-use Rattle.page_btree.specs.Map.{InTxn}
+use Rattle.page_node.specs.claim.Entries.{Entry}
+use Rattle.page_btree.specs.claim.Map.{InTxn}
 use Rattle.btree_scan.specs.Scanning.{Rest}
 use Rattle.btree_scan.specs.declared.rows.Row.{Row}
 use Rattle.btree_scan.specs.declared.scans.Scan.{Scan}
-use Rattle.store_rows.specs.Rows.{KeyMap}
+use Rattle.store_rows.specs.claim.Rows.{KeyMap}
 use Rattle.row_table.specs.Appending.{TellsOfEach}
 use Rattle.sealed_geography.specs.Elements.{HoldsElement}
 

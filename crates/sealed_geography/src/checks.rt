@@ -1,8 +1,9 @@
 //! Tests what is read before it is a geography.
 ghost use Rattle.std.specs.Prelude.{◌≡◌, ◌↔◌, ◌<◌, ◌^◌, IsTrue, All, length, sum_by};
 ghost use Rattle.std.specs.List.Sorted.{IsStrictlyIncreasing};
-ghost use Rattle.desk_model.specs.Block.{state_of};
-ghost use Rattle.desk_model.specs.Geography.{AreBlocks, id_at, ids_of};
+ghost use Rattle.desk_model.specs.claim.Block.{state_of};
+ghost use Rattle.desk_model.specs.claim.Grounds.{AreBlocks};
+ghost use Rattle.desk_model.specs.claim.Geography.{id_at, ids_of};
 
 use desk_model::block::BlockRow;
 use desk_model::geography::BLOCK_LIMIT;

@@ -33,9 +33,9 @@ pub(crate) trait Element: Copy {
 }
 
 impl Element for BlockRow {
-    ghost use Rattle.store_rows.specs.Keys.{key_of, block, blocks_prefix};
-    ghost use Rattle.store_rows.specs.Values.{block_bytes};
-    ghost use Rattle.store_rows.specs.GeographyRows.{IsBlockRow};
+    ghost use Rattle.store_rows.specs.claim.Keys.{key_of, block, blocks_prefix};
+    ghost use Rattle.store_rows.specs.claim.Values.{block_bytes};
+    ghost use Rattle.store_rows.specs.claim.GeographyRows.{IsBlockRow};
 
     ghost bytes_of = { block_bytes };
 
@@ -73,8 +73,8 @@ fn pair_fits(pair: Pair)
 }
 
 impl Element for Pair {
-    ghost use Rattle.store_rows.specs.Keys.{key_of, pair, pairs_prefix};
-    ghost use Rattle.store_rows.specs.GeographyRows.{neighbours_bytes};
+    ghost use Rattle.store_rows.specs.claim.Keys.{key_of, pair, pairs_prefix};
+    ghost use Rattle.store_rows.specs.claim.GeographyRows.{neighbours_bytes};
     ghost use Rattle.sealed_geography.specs.Elements.{IsPairRow};
 
     ghost bytes_of = { neighbours_bytes };

@@ -1,11 +1,12 @@
 //! Reads the sealed geography of a store.
 ghost use Rattle.std.specs.Prelude.{◌≡◌, ◌<◌, ◌^◌, OnOk, IfOk, IfErr};
-ghost use Rattle.page_store.specs.Transactions.{stored, disk_in, count_of, txn_pages, IsQuiet, Passed};
-ghost use Rattle.page_btree.specs.Map.{InTxn};
+ghost use Rattle.page_store.specs.claim.Transactions.{stored, disk_in, count_of, txn_pages, IsQuiet, Passed};
+ghost use Rattle.page_btree.specs.claim.Map.{InTxn};
 ghost use Rattle.page_btree.specs.declared.error.TreeError.TheVariants.{DeviceFault};
-ghost use Rattle.desk_model.specs.Geography.{Ground, IsGround};
-ghost use Rattle.store_rows.specs.Rows.{KeyMap};
-ghost use Rattle.store_rows.specs.GeographyRows.{IsGeography};
+ghost use Rattle.desk_model.specs.claim.Geography.{Ground};
+ghost use Rattle.desk_model.specs.claim.Grounds.{IsGround};
+ghost use Rattle.store_rows.specs.claim.Rows.{KeyMap};
+ghost use Rattle.store_rows.specs.claim.GeographyRows.{IsGeography};
 ghost use Rattle.row_table.specs.Appending.{AppendErr, TellsOfEach};
 ghost use Rattle.sealed_geography.specs.Elements.{IsGroundRead, IsSealedAs, IsSealRead, IsSealRow};
 

@@ -1,9 +1,10 @@
 //! Two streams at the seats of one office, served by two workers at once.
 ghost use Rattle.std.specs.Prelude.{◌≡◌, ◌≤◌, length};
 ghost use Rattle.desk_model.specs.declared.command.Command.{Command};
-ghost use Rattle.desk_store.specs.Clerks.{desk_of, Keeps};
-ghost use Rattle.desk_gallery.specs.Begun.{BeginsWith};
-ghost use Rattle.http_seats.specs.Streams.{IsAskedOf, traffic};
+ghost use Rattle.desk_store.specs.claim.Clerks.{desk_of, Keeps};
+ghost use Rattle.desk_gallery.specs.claim.Begun.{BeginsWith};
+ghost use Rattle.http_seats.specs.claim.Streams.{IsAskedOf};
+ghost use Rattle.http_seats.specs.Streams.{traffic};
 
 use crate::stores::sealed_device;
 use accepted_commands::accepted::Accepted;

@@ -1,8 +1,8 @@
 //! What two visitors see of a clerk's commands.
 ghost use Rattle.std.specs.Prelude.{◌≡◌};
 ghost use Rattle.desk_model.specs.declared.command.Command.{Command};
-ghost use Rattle.desk_store.specs.Clerks.{desk_of, Keeps};
-ghost use Rattle.desk_gallery.specs.Begun.{BeginsWith};
+ghost use Rattle.desk_store.specs.claim.Clerks.{desk_of, Keeps};
+ghost use Rattle.desk_gallery.specs.claim.Begun.{BeginsWith};
 
 use crate::visitors::{clerk_failing_at, create, is_created, plans_seen};
 use desk_catalogue::catalogue::Catalogue;

@@ -3,7 +3,8 @@ use Rattle.std.specs.Prelude.{◌≡◌, ◌⊎◌, ◌≤◌, ◌<◌, ◌^◌,
 use Rattle.std.proofs.Common.{get_or, set, nat_eq, ◌≢◌, inl, inr, sym, subst, ◌∙◌, arith, get_or-set_other}
 use Rattle.std.proofs.lemmas.Bool.{cases_eq}
 use Rattle.std.proofs.lemmas.Bool.Decides.{nat_tests}
-use Rattle.sector_device.specs.Disk.{Disk, Image, AgreeOff, Only, Touches}
+use Rattle.sector_device.specs.claim.Disk.{Disk, Image, AgreeOff, Touches}
+use Rattle.sector_device.specs.Disk.{Only}
 use Rattle.sector_device.specs.Held.{Leaves, State, disk_from, refused}
 
 -- c, with the sector as it was

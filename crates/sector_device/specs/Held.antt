@@ -1,7 +1,7 @@
 -- The disk of a device that knows what it held: in memory, or behind what a file was told.
 use Rattle.std.specs.Prelude.{◌≡◌, ◌⊎◌, ◌≤◌, ◌<◌, ◌^◌, ℕ, Bool, false, List, [], ◌∷◌, length, cond, ◌+◌}
 use Rattle.std.proofs.Common.{get_or, inl, inr, refl, arith}
-use Rattle.sector_device.specs.Disk.{Disk, Image}
+use Rattle.sector_device.specs.claim.Disk.{Disk, Image}
 
 -- the sectors, for each whether it was written since the last sync, and whether the next call was refused
 abbrev pub State : Type 0

@@ -1,7 +1,8 @@
 -- What a write leaves of the disk.
 use Rattle.std.proofs.Common.{◌≡◌, ◌<◌, ◌^◌, List, ℕ, [], ◌∷◌, length, set, false, true, refl, sym, subst, IsTrue, get_or-set_other}
 use Rattle.std.proofs.lemmas.List.{length-set}
-use Rattle.sector_device.specs.Disk.{Only, Touches}
+use Rattle.sector_device.specs.Disk.{Only}
+use Rattle.sector_device.specs.claim.Disk.{Touches}
 use Rattle.sector_device.proofs.Held.{write_touches}
 use Rattle.sector_file.specs.Told.{Told, after_write, after_torn, told_disk}
 

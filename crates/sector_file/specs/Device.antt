@@ -1,6 +1,6 @@
 -- A file as a disk.
 use Rattle.std.specs.Prelude.{ℕ, List}
-use Rattle.sector_device.specs.Disk.{Disk, Image}
+use Rattle.sector_device.specs.claim.Disk.{Disk, Image}
 use Rattle.sector_device.specs.Held.{image_of}
 use Rattle.sector_file.specs.Told.{first_held, replay, told_disk}
 use Rattle.sector_file.specs.declared.contents.Contents.{Ghosts}

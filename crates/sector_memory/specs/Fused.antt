@@ -1,6 +1,6 @@
 -- Devices in memory that fail at a chosen call.
 use Rattle.std.specs.Prelude.{◌≡◌, ◌<◌, ◌-◌, ◌+◌, ℕ, Option, Some, None, Result, IsOk, IsErr}
-use Rattle.sector_device.specs.Disk.{Disk}
+use Rattle.sector_device.specs.claim.Disk.{Disk}
 use Rattle.sector_memory.specs.Device.{disk_of}
 use Rattle.sector_memory.specs.declared.memory.MemoryDevice.{MemoryDevice}
 use Rattle.sector_memory.specs.declared.fused.Fused.{Fused}

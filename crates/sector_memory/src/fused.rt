@@ -40,7 +40,8 @@ impl Fused {
 
 impl SectorDevice for Fused {
     ghost use Rattle.std.specs.Prelude.{◌≡◌, ◌<◌, ℕ, OnOk, OnErr, true, false, slice_set, slice_index_or};
-    ghost use Rattle.sector_device.specs.Disk.{Touches, Only, Nowhere, HasCause, IsSynced};
+    ghost use Rattle.sector_device.specs.claim.Disk.{Touches, Nowhere};
+    ghost use Rattle.sector_device.specs.Disk.{Only, HasCause, IsSynced};
     ghost use Rattle.sector_memory.specs.Device.{unsynced};
     ghost use Rattle.sector_memory.specs.Fused.{fused_disk, inner, calls_left, Burns};
 
@@ -161,7 +162,8 @@ fn is_due(left: &mut Option<u64>) -> bool
 
 impl SectorDevice for FailOnce {
     ghost use Rattle.std.specs.Prelude.{◌≡◌, ◌<◌, ℕ, OnOk, OnErr, true, false, slice_set, slice_index_or};
-    ghost use Rattle.sector_device.specs.Disk.{Touches, Only, Nowhere, HasCause, IsSynced};
+    ghost use Rattle.sector_device.specs.claim.Disk.{Touches, Nowhere};
+    ghost use Rattle.sector_device.specs.Disk.{Only, HasCause, IsSynced};
     ghost use Rattle.sector_memory.specs.Device.{unsynced};
     ghost use Rattle.sector_memory.specs.Fused.{once_disk, inner_once, calls_before, FailsOnce};
 

@@ -40,7 +40,8 @@ fn put_picks(sectors: &mut [Sector], unsynced: &[bool], picks: &[(u64, Sector)])
 
 impl MemoryDevice {
     ghost use Rattle.std.specs.Prelude.{◌≡◌, ◌<◌, ◌≤◌, ℕ, ◌↔◌, IfOk, true, slice_set, replicate};
-    ghost use Rattle.sector_device.specs.Disk.{Disk, Touches, Only, Nowhere, IsSynced};
+    ghost use Rattle.sector_device.specs.claim.Disk.{Disk, Touches, Nowhere};
+    ghost use Rattle.sector_device.specs.Disk.{Only, IsSynced};
     ghost use Rattle.sector_memory.specs.Device.{disk_of, unsynced};
     ghost use Rattle.sector_memory.specs.Memory.{after_stop};
 
@@ -105,7 +106,8 @@ impl MemoryDevice {
 
 impl SectorDevice for MemoryDevice {
     ghost use Rattle.std.specs.Prelude.{◌≡◌, ◌<◌, ℕ, IsOk, OnOk, true, false, slice_set, slice_index_or};
-    ghost use Rattle.sector_device.specs.Disk.{Touches, Only, Nowhere, HasCause, IsSynced};
+    ghost use Rattle.sector_device.specs.claim.Disk.{Touches, Nowhere};
+    ghost use Rattle.sector_device.specs.Disk.{Only, HasCause, IsSynced};
     ghost use Rattle.sector_memory.specs.Device.{disk_of, unsynced};
 
     ghost disk = { disk_of };

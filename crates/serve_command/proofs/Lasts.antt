@@ -3,18 +3,18 @@ use Rattle.std.proofs.Common.{◌≡◌, ℕ, Bool, false, Result, Ok, Err, IfOk
 use Rattle.std.proofs.lemmas.List.Elements.{All-nil}
 use Rattle.sector_device.specs.declared.SectorDevice.{Ghosts}
 use Rattle.desk_model.specs.declared.command.Command.{Command}
-use Rattle.desk_model.specs.Desk.{Desk}
+use Rattle.desk_model.specs.claim.Desk.{Desk}
 use Rattle.desk_store.specs.declared.clerk.Clerk.{Clerk}
-use Rattle.desk_store.specs.Clerks.{desk_of, disk_of, is_halted}
+use Rattle.desk_store.specs.claim.Clerks.{desk_of, disk_of, is_halted}
 use Rattle.store_command.specs.Reading.{ShowsWhatIsRead}
-use Rattle.desk_runs.specs.Runs.{Call}
-use Rattle.swept_runs.specs.Runs.{SweptRun, SurvivesEachSwept}
-use Rattle.desk_gallery.specs.Begun.{IsLeftBy}
-use Rattle.desk_gallery.specs.Telling.{halts_of}
-use Rattle.desk_gallery.specs.Working.{AreAccepted}
+use Rattle.desk_runs.specs.claim.Runs.{Call}
+use Rattle.swept_runs.specs.claim.Runs.{SweptRun, SurvivesEachSwept}
+use Rattle.desk_gallery.specs.claim.Begun.{IsLeftBy}
+use Rattle.desk_gallery.specs.claim.Telling.{halts_of}
+use Rattle.desk_gallery.specs.claim.Working.{AreAccepted}
 use Rattle.http_arrivals.specs.declared.ran.Ran.{Ran}
-use Rattle.http_seats.specs.Streams.{Traffic, IsAskedOf, AreCounted}
-use Rattle.serve_command.specs.Lasting.{IsLike, HasTalked, LastsAsked, Outlasts, ServesStreams}
+use Rattle.http_seats.specs.claim.Streams.{Traffic, IsAskedOf, AreCounted}
+use Rattle.serve_command.specs.claim.Lasting.{IsLike, HasTalked, LastsAsked, Outlasts, ServesStreams}
 use Rattle.serve_command.specs.Outlasting.{OutlastsWhatIsRead}
 
 honest_before : {D : Type 0} {g : Ghosts D} (a : Bool) (x : Clerk D g) (calls : List Call) (b : Bool) (z : Clerk D g) → SweptRun a x calls b z → (disk_of z).is_honest → (disk_of x).is_honest

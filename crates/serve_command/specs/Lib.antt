@@ -1,3 +1,4 @@
+pub mod claim
 pub mod Lasting
 pub mod Loopback
 pub mod Outlasting

@@ -1,12 +1,12 @@
 -- That commands outlive each stop from the desk on as which a device read when it was opened.
 use Rattle.std.specs.Prelude.{◌≡◌, false}
 use Rattle.sector_device.specs.declared.SectorDevice.{Ghosts}
-use Rattle.desk_model.specs.Desk.{Desk}
+use Rattle.desk_model.specs.claim.Desk.{Desk}
 use Rattle.desk_store.specs.declared.clerk.Clerk.{Clerk}
-use Rattle.desk_store.specs.Clerks.{desk_of, disk_of}
-use Rattle.swept_runs.specs.Runs.{SurvivesSwept}
+use Rattle.desk_store.specs.claim.Clerks.{desk_of, disk_of}
+use Rattle.swept_runs.specs.claim.Runs.{SurvivesSwept}
 use Rattle.store_command.specs.Reading.{LeavesDesk, ReadsDesk}
-use Rattle.serve_command.specs.Lasting.{Outlasts}
+use Rattle.serve_command.specs.claim.Lasting.{Outlasts}
 
 module _ {D : Type 0} {g : Ghosts D} where
   -- The device read as this desk when it was opened: the first clerk shows it, a stop in the opening left it, and the commands outlive

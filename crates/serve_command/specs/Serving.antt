@@ -3,26 +3,26 @@ use Rattle.std.specs.Prelude.{◌≡◌, ◌⊎◌, ℕ, List, ◌++◌, codes, 
 use Rattle.std.specs.Borrow.{Bor}
 use Rattle.byte_stream.specs.declared.sink.WriteFault.{WriteFault}
 use Rattle.sector_device.specs.declared.SectorDevice.{Ghosts}
-use Rattle.page_store.specs.Transactions.{device_in}
+use Rattle.page_store.specs.claim.Transactions.{device_in}
 use Rattle.command_output.specs.declared.status.Status.{Status}
 use Rattle.command_output.specs.declared.status.Status.TheVariants as status
-use Rattle.command_output.specs.Writing.{Written, Writes, Told}
-use Rattle.command_output.specs.Faults.{status_of_open}
+use Rattle.command_output.specs.claim.Writing.{Written, Writes, Told}
+use Rattle.command_output.specs.claim.Faults.{status_of_open}
 use Rattle.state_files.specs.declared.fault.OpenFault.{OpenFault}
 use Rattle.state_files.specs.declared.fault.OpenFault.TheVariants.{Unreadable, Memory as NoMemory}
-use Rattle.desk_model.specs.Desk.{Desk}
+use Rattle.desk_model.specs.claim.Desk.{Desk}
 use Rattle.desk_store.specs.declared.clerk.Clerk.{Clerk}
-use Rattle.desk_store.specs.Clerks.{desk_of, is_halted, pages_of, Keeps}
+use Rattle.desk_store.specs.claim.Clerks.{desk_of, is_halted, pages_of, Keeps}
 use Rattle.store_command.specs.Reading.{ReadsDesk, ShowsWhatIsRead}
 use Rattle.desk_gallery.specs.Working.{IsRunFrom}
 use Rattle.http_arrivals.specs.declared.ran.Ran.{Ran}
-use Rattle.http_seats.specs.Streams.{Traffic}
+use Rattle.http_seats.specs.claim.Streams.{Traffic}
 use Rattle.desk_loading.specs.Openings.{IsOpened}
 use Rattle.store_command.specs.Filling.{IsNotOpened}
 use Rattle.store_command.specs.Telling.{store_line, status_of as status_of_store}
 use Rattle.store_command.specs.declared.fault.StoreFault.{StoreFault}
 use Rattle.store_command.specs.declared.fault.StoreFault.TheVariants.{Memory, DeviceFault}
-use Rattle.serve_command.specs.Lasting.{ServesStreams}
+use Rattle.serve_command.specs.claim.Lasting.{ServesStreams}
 use Rattle.serve_command.specs.Outlasting.{OutlastsWhatIsRead}
 use Rattle.serve_command.specs.declared.fault.ServeFault.{ServeFault}
 use Rattle.serve_command.specs.declared.fault.ServeFault.TheVariants.{Store, Socket, Output}

@@ -1,6 +1,6 @@
 //! The log of a served store, where its file can't be opened.
 ghost use Rattle.std.specs.Prelude.{◌≡◌};
-ghost use Rattle.command_output.specs.Faults.{status_of_open};
+ghost use Rattle.command_output.specs.claim.Faults.{status_of_open};
 ghost use Rattle.command_output.specs.Writing.{written_of};
 ghost use Rattle.serve_command.specs.Serving.{log_line as line_of_fault, RefusesLog};
 

@@ -1,11 +1,13 @@
 //! A clerk's desk, served at the seats of an office.
 ghost use Rattle.std.specs.Prelude.{◌≡◌, ◌≤◌, IfOk};
 ghost use Rattle.desk_model.specs.declared.command.Command.{Command};
-ghost use Rattle.desk_store.specs.Clerks.{desk_of, Keeps};
-ghost use Rattle.desk_gallery.specs.Begun.{BeginsWith, IsLeftBy};
+ghost use Rattle.desk_store.specs.claim.Clerks.{desk_of, Keeps};
+ghost use Rattle.desk_gallery.specs.claim.Begun.{BeginsWith, IsLeftBy};
 ghost use Rattle.desk_gallery.specs.Working.{IsRunFrom};
-ghost use Rattle.http_seats.specs.Streams.{IsAskedOf, traffic};
-ghost use Rattle.serve_command.specs.Lasting.{HasTalked, LastsAsked, ServesStreams, clerk_in};
+ghost use Rattle.http_seats.specs.claim.Streams.{IsAskedOf};
+ghost use Rattle.http_seats.specs.Streams.{traffic};
+ghost use Rattle.serve_command.specs.claim.Lasting.{HasTalked, LastsAsked, ServesStreams};
+ghost use Rattle.serve_command.specs.Lasting.{clerk_in};
 
 use accepted_commands::hearing::Hears;
 use desk_catalogue::catalogue::Catalogue;

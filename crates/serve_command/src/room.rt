@@ -1,6 +1,6 @@
 //! How much room a store has when it begins to be served.
 ghost use Rattle.std.specs.Prelude.{◌≡◌, false, IfOk};
-ghost use Rattle.desk_store.specs.Clerks.{is_halted};
+ghost use Rattle.desk_store.specs.claim.Clerks.{is_halted};
 ghost use Rattle.serve_command.specs.Rooms.{IsRoom, capped as capped_pages};
 
 use connection_log::watching::Watched;

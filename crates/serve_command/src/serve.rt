@@ -1,6 +1,6 @@
 //! `serve`: a store is served to connections.
 ghost use Rattle.std.specs.Prelude.{◌≡◌, ◌≤◌, Some, Err};
-ghost use Rattle.desk_store.specs.Clerks.{is_halted};
+ghost use Rattle.desk_store.specs.claim.Clerks.{is_halted};
 ghost use Rattle.command_output.specs.Writing.{OfWriters, written_of};
 ghost use Rattle.http_seats.specs.Streams.{traffic};
 ghost use Rattle.store_command.specs.declared.fault.StoreFault.TheVariants.{Memory};

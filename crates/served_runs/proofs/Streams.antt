@@ -2,17 +2,17 @@
 use Rattle.std.proofs.Common.{◌≡◌, ℕ, ◌+◌, Bool, true, false, List, [], ◌++◌, Option, Result, Ok, Err, inl, inr, subst}
 use Rattle.sector_device.specs.declared.SectorDevice.{Ghosts}
 use Rattle.desk_store.specs.declared.clerk.Clerk.{Clerk}
-use Rattle.desk_runs.specs.Runs.{Call, Run, SurvivesEachRun}
+use Rattle.desk_runs.specs.claim.Runs.{Call, Run, SurvivesEachRun}
 use Rattle.http_routes.specs.declared.order.Order.{Order}
 use Rattle.http_routes.specs.declared.order.Order.TheVariants as order
-use Rattle.http_routes.specs.Orders.{order_of}
-use Rattle.http_wire.specs.Front.{closes_after, is_head}
+use Rattle.http_routes.specs.claim.Orders.{order_of}
+use Rattle.http_wire.specs.claim.Front.{closes_after, is_head}
 use Rattle.http_desk.specs.declared.serve.Served.{Served}
 use Rattle.http_desk.specs.declared.serve.StreamFault.{StreamFault}
 use Rattle.http_desk.specs.declared.serve.StreamFault.TheVariants as fault
-use Rattle.http_desk.specs.Talk.{Talk, MayAnswer}
-use Rattle.http_desk.specs.Serving.{ServesTo, IsShortTalk}
-use Rattle.served_runs.specs.Served.{DoesAtCounter, AsksAtCounter, calls_with, calls_in, short_calls, calls_served, SurvivesEachStream}
+use Rattle.http_desk.specs.claim.Talk.{Talk, MayAnswer}
+use Rattle.http_desk.specs.claim.Serving.{ServesTo, IsShortTalk}
+use Rattle.served_runs.specs.claim.Served.{DoesAtCounter, AsksAtCounter, calls_with, calls_in, short_calls, calls_served, SurvivesEachStream}
 
 module _ {D : Type 0} {g : Ghosts D} where
   same_run : (x y z : Clerk D g) (calls : List Call) → y ≡ x → Run y calls z → Run x calls z

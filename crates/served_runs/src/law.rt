@@ -1,5 +1,5 @@
 //! Whatever a stream comes to, the clerk went by a run of commands.
-ghost use Rattle.served_runs.specs.Served.{SurvivesEachStream};
+ghost use Rattle.served_runs.specs.claim.Served.{SurvivesEachStream};
 
 use desk_runs::law::runs_survive;
 use desk_store::clerk::Clerk;

@@ -1,8 +1,8 @@
 //! A stream served at a clerk, whose acknowledged commands outlive each stop.
 ghost use Rattle.std.specs.Prelude.{◌≡◌, Err};
-ghost use Rattle.byte_stream.specs.Counts.{counted};
-ghost use Rattle.http_desk.specs.Serving.{read_failures, write_failures};
-ghost use Rattle.served_runs.specs.Served.{ServesDurably};
+ghost use Rattle.byte_stream.specs.claim.Counts.{counted};
+ghost use Rattle.http_desk.specs.claim.Serving.{read_failures, write_failures};
+ghost use Rattle.served_runs.specs.claim.Served.{ServesDurably};
 
 use crate::law::streams_survive;
 use accepted_commands::hearing::Hears;

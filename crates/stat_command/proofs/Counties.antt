@@ -1,13 +1,14 @@
 -- Rows of commands, by the counties of a geography.
 use Rattle.std.proofs.Common.{◌≡◌, ◌<◌, ◌+◌, ℕ, Bool, true, false, cond, List, [], ◌∷◌, length, Option, Some, None, sym, ap, subst, ◌∙◌, refl, arith}
 use Rattle.std.specs.Prelude.{◌==◌}
-use Rattle.desk_model.specs.Cuts.{runs_from, runs, counties, sizes, cuts_of}
+use Rattle.desk_model.specs.claim.Cuts.{runs_from, runs, counties, sizes}
+use Rattle.desk_model.specs.Cuts.{cuts_of}
 use Rattle.desk_model.specs.declared.cuts.Cut.{Cut}
 use Rattle.desk_model.specs.declared.command.Command.{Command}
 use Rattle.desk_model.specs.declared.command.Command.TheVariants.{Fork}
-use Rattle.desk_model.specs.Desk.{Desk}
-use Rattle.desk_model.specs.Geography.{Ground}
-use Rattle.desk_model.specs.Room.{command_rows, fork_rows, forked_rows}
+use Rattle.desk_model.specs.claim.Desk.{Desk}
+use Rattle.desk_model.specs.claim.Geography.{Ground}
+use Rattle.desk_model.specs.claim.Room.{command_rows, fork_rows, forked_rows}
 use Rattle.desk_model.proofs.Runs.{counties_long}
 use Rattle.desk_room.specs.Cutting.{AreRevisionRows}
 use Rattle.plan_revisions.proofs.LastRevision.{cuts_long}

@@ -1,26 +1,26 @@
 -- A device that a clerk opened, and that was opened once more by its pages.
 use Rattle.std.proofs.Common.{◌≡◌, ◌⊎◌, ◌<◌, ◌≤◌, ◌^◌, ℕ, true, refl, sym, subst, ◌∙◌, inl, inr, arith}
 use Rattle.std.specs.Prelude.{Result, Ok, Err, IfOk, IfErr}
-use Rattle.sector_device.specs.Disk.{Disk, Image}
+use Rattle.sector_device.specs.claim.Disk.{Disk, Image}
 use Rattle.sector_device.proofs.Moments.{leaves_more, leaves_now, leaves_wider}
 use Rattle.sector_device.specs.declared.SectorDevice.{Ghosts}
 use Rattle.gate_journal.specs.Recovery.{Found}
-use Rattle.page_store.specs.Chain.{root_in, free_in}
-use Rattle.page_store.specs.Transactions.{stored, disk_in, device_in, count_of, journal_of, IsQuiet}
+use Rattle.page_store.specs.claim.Chain.{root_in, free_in}
+use Rattle.page_store.specs.claim.Transactions.{stored, disk_in, device_in, count_of, journal_of, IsQuiet}
 use Rattle.page_store.specs.declared.pages.Pages.{Pages}
-use Rattle.page_btree.specs.Map.{Holds, InPages}
+use Rattle.page_btree.specs.claim.Map.{Holds, InPages}
 use Rattle.desk_pages.proofs.Found.{found_after}
-use Rattle.store_rows.specs.Rows.{KeyMap}
+use Rattle.store_rows.specs.claim.Rows.{KeyMap}
 use Rattle.stat_command.specs.Rows.{AreCounted, CountsRows, IsUncounted}
 use Rattle.stat_command.specs.declared.rows.Rows.{Rows}
 use Rattle.store_command.specs.declared.fault.StoreFault.{StoreFault}
-use Rattle.desk_model.specs.Desk.{Desk}
-use Rattle.desk_pages.specs.Desks.{OpensDesk}
+use Rattle.desk_model.specs.claim.Desk.{Desk}
+use Rattle.desk_pages.specs.claim.Desks.{OpensDesk}
 use Rattle.desk_pages.specs.Openings.{AllDesks, LeavesOneOf, OpensOneOf}
 use Rattle.desk_loading.specs.Openings.{IsOpened}
 use Rattle.desk_runs.specs.Recovery.{ImagesAreOne}
 use Rattle.desk_store.specs.declared.clerk.Clerk.{Clerk}
-use Rattle.desk_store.specs.Clerks.{disk_of, pages_of}
+use Rattle.desk_store.specs.claim.Clerks.{disk_of, pages_of}
 use Rattle.desk_store.proofs.Opened.{reopened}
 use Rattle.store_command.specs.Filling.{WhereItReads}
 use Rattle.store_command.specs.Reading.{LeavesDesk, ShowsWhatIsRead}

@@ -1,16 +1,17 @@
 -- Rows that aren't read, where a device failed.
 use Rattle.std.proofs.Common.{◌≡◌, true, false, inl, inr, refl, sym, subst, ◌∙◌, arith}
 use Rattle.std.specs.Prelude.{Result, Ok, Err, OnErr, IfErr}
-use Rattle.sector_device.specs.Disk.{Image}
+use Rattle.sector_device.specs.claim.Disk.{Image}
 use Rattle.sector_device.specs.declared.SectorDevice.{Ghosts}
 use Rattle.gate_journal.specs.Recovery.{HasRoom, Found}
-use Rattle.page_store.specs.Transactions.{disk_in, device_in, count_of, journal_of, IsQuiet, Passed, OpenErr}
+use Rattle.page_store.specs.claim.Transactions.{disk_in, device_in, count_of, journal_of, IsQuiet, Passed}
+use Rattle.page_store.specs.Transactions.{OpenErr}
 use Rattle.page_store.specs.declared.pages.Pages.{Pages}
 use Rattle.page_store.specs.declared.txn.Txn.{Txn}
 use Rattle.page_store.specs.declared.error.PageError.{PageError}
 use Rattle.page_store.specs.declared.error.PageError.TheVariants as page
-use Rattle.page_btree.specs.Errors.{GetErr}
-use Rattle.page_btree.specs.Map.{InTxn}
+use Rattle.page_btree.specs.claim.Errors.{GetErr}
+use Rattle.page_btree.specs.claim.Map.{InTxn}
 use Rattle.page_btree.specs.declared.error.TreeError.{TreeError}
 use Rattle.page_btree.specs.declared.error.TreeError.TheVariants as tree
 use Rattle.desk_pages.proofs.Found.{all_versions, page_stores_of, found_desk}

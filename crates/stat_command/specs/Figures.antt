@@ -6,14 +6,14 @@ use Rattle.desk_model.specs.declared.command.Command.{Command}
 use Rattle.desk_model.specs.declared.command.Command.TheVariants.{Fork}
 use Rattle.desk_model.specs.declared.reply.PlanLine.{PlanLine}
 use Rattle.desk_model.specs.Cuts.{cuts_of}
-use Rattle.desk_model.specs.Desk.{Desk}
-use Rattle.desk_model.specs.Geography.{Ground}
-use Rattle.desk_model.specs.Room.{need}
-use Rattle.desk_model.specs.Step.{plan_row}
+use Rattle.desk_model.specs.claim.Desk.{Desk}
+use Rattle.desk_model.specs.claim.Geography.{Ground}
+use Rattle.desk_model.specs.claim.Room.{need}
+use Rattle.desk_model.specs.claim.Step.{plan_row}
 use Rattle.plan_revisions.specs.Rows.{cuts_in}
 use Rattle.desk_store.specs.declared.clerk.Clerk.{Clerk}
-use Rattle.desk_store.specs.Clerks.{desk_of, disk_of, free_of, room_of}
-use Rattle.desk_store.specs.Commands.{IsShort}
+use Rattle.desk_store.specs.claim.Clerks.{desk_of, disk_of, free_of, room_of}
+use Rattle.desk_store.specs.claim.Commands.{IsShort}
 use Rattle.stat_command.specs.declared.figures.Held.{Held}
 use Rattle.stat_command.specs.declared.needs.Need.{Need}
 use Rattle.stat_command.specs.Needs.{all_change, one_changes, IsLargest, IsNeed, IsRevision}

@@ -3,15 +3,15 @@ use Rattle.std.specs.Prelude.{◌≡◌, ◌⊎◌, ◌<◌, false, length}
 use Rattle.std.specs.FinMap.{entries}
 use Rattle.sector_device.specs.declared.SectorDevice.{Ghosts}
 use Rattle.gate_journal.specs.Recovery.{Found}
-use Rattle.page_store.specs.Transactions.{stored, disk_in, device_in, count_of, journal_of, has_halted}
+use Rattle.page_store.specs.claim.Transactions.{stored, disk_in, device_in, count_of, journal_of, has_halted}
 use Rattle.page_store.specs.declared.pages.Pages.{Pages}
 use Rattle.page_store.specs.declared.txn.Txn.{Txn}
 use Rattle.page_store.specs.declared.error.PageError.{PageError}
 use Rattle.page_store.specs.declared.error.PageError.TheVariants as page
-use Rattle.page_btree.specs.Map.{InPages, InTxn}
+use Rattle.page_btree.specs.claim.Map.{InPages, InTxn}
 use Rattle.btree_scan.specs.Prefixes.{under}
-use Rattle.store_rows.specs.Keys.{tallies_prefix, retired_prefix, begun_prefix}
-use Rattle.store_rows.specs.Rows.{KeyMap}
+use Rattle.store_rows.specs.claim.Keys.{tallies_prefix, retired_prefix, begun_prefix}
+use Rattle.store_rows.specs.claim.Rows.{KeyMap}
 use Rattle.desk_pages.specs.Openings.{AllDesks}
 use Rattle.store_command.specs.declared.fault.StoreFault.{StoreFault}
 use Rattle.store_command.specs.declared.fault.StoreFault.TheVariants.{DeviceFault, Memory}

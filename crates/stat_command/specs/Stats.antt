@@ -2,11 +2,11 @@
 use Rattle.std.specs.Prelude.{◌≡◌, ◌⊎◌, ◌<◌, ℕ, List, codes, Result, Ok, Err, Vec}
 use Rattle.std.specs.declared.alloc.Global.{Global}
 use Rattle.sector_device.specs.declared.SectorDevice.{Ghosts}
-use Rattle.page_store.specs.Transactions.{device_in}
+use Rattle.page_store.specs.claim.Transactions.{device_in}
 use Rattle.command_output.specs.declared.status.Status.{Status}
-use Rattle.command_output.specs.Writing.{Written, write_fault_line}
+use Rattle.command_output.specs.claim.Writing.{Written, write_fault_line}
 use Rattle.desk_store.specs.declared.clerk.Clerk.{Clerk}
-use Rattle.desk_store.specs.Clerks.{disk_of, pages_of}
+use Rattle.desk_store.specs.claim.Clerks.{disk_of, pages_of}
 use Rattle.desk_loading.specs.Openings.{IsOpened}
 use Rattle.store_command.specs.Filling.{IsNotOpened, WhereItReads}
 use Rattle.store_command.specs.Reading.{LeavesDesk, ShowsWhatIsRead}

@@ -1,11 +1,11 @@
 //! Counts rows of a store.
 ghost use Rattle.std.specs.Prelude.{◌≡◌, ◌≤◌, false, length, OnOk, OnErr, IfOk, IfErr};
 ghost use Rattle.std.specs.FinMap.{entries};
-ghost use Rattle.page_store.specs.Transactions.{stored, disk_in, count_of, has_halted, txn_pages, IsQuiet, Passed};
-ghost use Rattle.page_btree.specs.Errors.{GetErr};
-ghost use Rattle.page_btree.specs.Map.{InPages, InTxn};
+ghost use Rattle.page_store.specs.claim.Transactions.{stored, disk_in, count_of, has_halted, txn_pages, IsQuiet, Passed};
+ghost use Rattle.page_btree.specs.claim.Errors.{GetErr};
+ghost use Rattle.page_btree.specs.claim.Map.{InPages, InTxn};
 ghost use Rattle.btree_scan.specs.Prefixes.{under};
-ghost use Rattle.store_rows.specs.Rows.{KeyMap};
+ghost use Rattle.store_rows.specs.claim.Rows.{KeyMap};
 ghost use Rattle.desk_pages.specs.Openings.{LeavesOneOf};
 ghost use Rattle.stat_command.specs.Rows.{AreCounted, CountsRows, fault_of_page, IsUnread, AreUnread, IsUncounted};
 

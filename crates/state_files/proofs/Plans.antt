@@ -2,9 +2,9 @@
 use Rattle.std.proofs.Common.{◌≡◌, ℕ, List, [], ◌∷◌, map, Option, Result, Ok, Err, IsOkAnd, refl, ap, ◌∙◌}
 use Rattle.std.specs.Prelude.{unwrap_or}
 use Rattle.desk_model.specs.declared.block.BlockRow.{BlockRow}
-use Rattle.desk_model.specs.Baf.{Values, Fault, value_at}
-use Rattle.desk_model.specs.Geography.{Ground, ids_of}
-use Rattle.desk_model.specs.Step.{whole}
+use Rattle.desk_model.specs.claim.Baf.{Values, Fault, value_at}
+use Rattle.desk_model.specs.claim.Geography.{Ground, ids_of}
+use Rattle.desk_model.specs.claim.Baf.{whole}
 use Rattle.baf_text.specs.Listed.{listed_of}
 
 in_turn : (values : Values) (blocks : List BlockRow) → map (λ (d : Option ℕ). unwrap_or d 0) (map (value_at values) (ids_of blocks)) ≡ map (λ (b : BlockRow). unwrap_or (value_at values b.id) 0) blocks

@@ -1,7 +1,3 @@
-pub mod Grounds
-pub mod Opening
+pub mod claim
 pub mod Opens
 pub mod PlanFiles
-pub mod State
-pub mod Texts
-pub mod Whole

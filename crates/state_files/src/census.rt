@@ -1,9 +1,9 @@
 //! The census files of a state, each opened, read and judged in turn.
 ghost use Rattle.std.specs.Prelude.{◌≡◌, IfOk};
-ghost use Rattle.desk_model.specs.Geography.{AreBlocks};
+ghost use Rattle.desk_model.specs.claim.Grounds.{AreBlocks};
 ghost use Rattle.pl94_geo.specs.GeoFile.{AreGeoRows};
-ghost use Rattle.state_files.specs.State.{ReadsHeader, ReadsSegment, Joins, ReadsState};
-ghost use Rattle.state_files.specs.Opening.{opening_of, census_of};
+ghost use Rattle.state_files.specs.claim.State.{ReadsHeader, ReadsSegment, Joins, ReadsState};
+ghost use Rattle.state_files.specs.claim.Opening.{opening_of, census_of};
 
 use crate::fault::{FileFault, OpenFault};
 use byte_stream::source::Source;

@@ -1,6 +1,6 @@
 //! The first fault of a state's files.
 ghost use Rattle.std.specs.Prelude.{◌≡◌};
-ghost use Rattle.state_files.specs.Texts.{segment_file, plan_file, file_text};
+ghost use Rattle.state_files.specs.claim.Texts.{segment_file, plan_file, file_text};
 
 use desk_model::reply::BodyFault;
 use gal_text::fault::GalFault;
@@ -57,7 +57,7 @@ pub enum FileFault {
 
 impl fmt::Display for OpenFault {
     ghost use Rattle.std.specs.Prelude.{Some};
-    ghost use Rattle.state_files.specs.Texts.{open_text};
+    ghost use Rattle.state_files.specs.claim.Texts.{open_text};
 
     ghost output = { λ fault. Some (open_text fault) };
 
@@ -71,7 +71,7 @@ impl fmt::Display for OpenFault {
 
 impl fmt::Display for PlanFault {
     ghost use Rattle.std.specs.Prelude.{Some};
-    ghost use Rattle.state_files.specs.Texts.{plan_text};
+    ghost use Rattle.state_files.specs.claim.Texts.{plan_text};
 
     ghost output = { λ fault. Some (plan_text fault) };
 
@@ -124,7 +124,7 @@ impl FileFault {
 
 impl fmt::Display for FileFault {
     ghost use Rattle.std.specs.Prelude.{Some};
-    ghost use Rattle.state_files.specs.Texts.{fault_text};
+    ghost use Rattle.state_files.specs.claim.Texts.{fault_text};
 
     ghost output = { λ fault. Some (fault_text fault) };
 

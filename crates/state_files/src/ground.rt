@@ -1,8 +1,9 @@
 //! The geography of a state: its blocks, and what its neighbour file says of them.
 ghost use Rattle.std.specs.Prelude.{◌≡◌, IfOk, All};
-ghost use Rattle.desk_model.specs.Geography.{AreBlocks, AreDifferentBlocks};
-ghost use Rattle.state_files.specs.Opening.{opening_of};
-ghost use Rattle.state_files.specs.Grounds.{ReadsNeighbours, MakesGround, ReadsGround};
+ghost use Rattle.desk_model.specs.claim.Grounds.{AreBlocks};
+ghost use Rattle.desk_model.specs.Geography.{AreDifferentBlocks};
+ghost use Rattle.state_files.specs.claim.Opening.{opening_of};
+ghost use Rattle.state_files.specs.claim.Grounds.{ReadsNeighbours, MakesGround, ReadsGround};
 
 use crate::fault::{FileFault, OpenFault};
 use byte_stream::source::Source;

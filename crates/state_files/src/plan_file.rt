@@ -1,9 +1,10 @@
 //! A plan's file: opened, read whole, and judged against the blocks.
 ghost use Rattle.std.specs.Prelude.{◌≡◌, IfOk, IfSome, length, is_some};
 ghost use Rattle.std.specs.Option.{option_copied};
-ghost use Rattle.state_files.specs.Opening.{opening_of};
-ghost use Rattle.state_files.specs.PlanFiles.{plan_fault_of_open, plan_fault_of_whole, ReadsBytes, JudgesPlan};
-ghost use Rattle.state_files.specs.PlanFiles.{ReadsPlan, companion_of, ReadsCompanion, beside, ReadsPlanBeside};
+ghost use Rattle.state_files.specs.claim.Opening.{opening_of};
+ghost use Rattle.state_files.specs.claim.PlanFiles.{plan_fault_of_open, plan_fault_of_whole, ReadsBytes, JudgesPlan};
+ghost use Rattle.state_files.specs.claim.PlanFiles.{ReadsPlan, companion_of, ReadsCompanion, beside};
+ghost use Rattle.state_files.specs.PlanFiles.{ReadsPlanBeside};
 
 use crate::fault::{FileFault, OpenFault, PlanFault, PlanFile};
 use crate::whole::{WholeFault, read_whole};

@@ -1,10 +1,11 @@
 //! A plan's file, read whole.
 ghost use Rattle.std.specs.Prelude.{◌≡◌, ◌+◌, ◌-◌, ◌^◌, ◌<◌, ◌≤◌, ℕ, List, length, take, drop, vec_len, min, Err, OnOk};
-ghost use Rattle.byte_stream.specs.Counts.{counted};
+ghost use Rattle.byte_stream.specs.claim.Counts.{counted};
 ghost use Rattle.std.specs.Io.KnownBytes.{Consumes};
 ghost use Rattle.byte_stream.specs.Turns.{TurnConsumes, failures_after};
-ghost use Rattle.field_text.specs.Reading.{Fills, turn_limit};
-ghost use Rattle.state_files.specs.Whole.{IsWholeFile, failures_after_whole};
+ghost use Rattle.field_text.specs.Reading.{Fills};
+ghost use Rattle.field_text.specs.claim.Reading.{turn_limit};
+ghost use Rattle.state_files.specs.claim.Whole.{IsWholeFile, failures_after_whole};
 
 use byte_stream::source::{Source, Turn};
 use field_text::reader::TURN_LIMIT;

@@ -13,24 +13,27 @@ use Rattle.std.proofs.lemmas.Bool.Decides.{nat_tests}
 use Rattle.std.proofs.lemmas.List.{length-take}
 use Rattle.std.proofs.lemmas.Option.{slice_get_past}
 use Rattle.std.proofs.lemmas.Nat.{from_be_bytes-to_be_bytes_4, from_be_bytes-to_be_bytes_8}
-use Rattle.page_node.specs.Entries.{Entry}
-use Rattle.page_node.specs.Places.{key_cmp, entries_from}
+use Rattle.page_node.specs.claim.Entries.{Entry}
+use Rattle.page_node.specs.claim.Places.{key_cmp}
+use Rattle.page_node.specs.Places.{entries_from}
 use Rattle.page_node.proofs.Laws.{flip_less}
 use Rattle.btree_scan.proofs.Prefixes.{between_under, under_is_from}
-use Rattle.desk_model.specs.Geography.{Ground}
-use Rattle.desk_model.specs.Desk.{Desk}
-use Rattle.store_rows.specs.Keys.{RowKey, key_of, Fits, counters, retired, begun, holding, tally, named, part, seal, version, block, pair, chunk, in_two, in_four, in_eight, load_prefix, blocks_prefix, pairs_prefix, chunks_prefix, chunk_prefix}
-use Rattle.store_rows.specs.Values.{seal_bytes, block_bytes}
+use Rattle.desk_model.specs.claim.Geography.{Ground}
+use Rattle.desk_model.specs.claim.Desk.{Desk}
+use Rattle.store_rows.specs.claim.Keys.{RowKey, key_of, Fits, counters, retired, begun, holding, tally, named, part, seal, version, block, pair, chunk, in_two, in_four, in_eight, blocks_prefix, pairs_prefix, chunk_prefix}
+use Rattle.store_rows.specs.Keys.{load_prefix, chunks_prefix}
+use Rattle.store_rows.specs.claim.Values.{seal_bytes, block_bytes}
 use Rattle.store_rows.specs.declared.value.Counters.{Counters}
 use Rattle.store_rows.specs.declared.value.SealRow.{SealRow}
-use Rattle.store_rows.specs.Rows.{KeyMap, Has, element_row}
-use Rattle.store_rows.specs.GeographyRows.{IsGeography, IsSealed, geography_rows, neighbours_bytes}
-use Rattle.store_rows.specs.DeskRows.{IsDesk}
-use Rattle.store_rows.specs.Tidy.{AreOwned, AreRows, IsLoad, Tidy}
+use Rattle.store_rows.specs.claim.Rows.{KeyMap, Has, element_row}
+use Rattle.store_rows.specs.claim.GeographyRows.{IsGeography, IsSealed, geography_rows, neighbours_bytes}
+use Rattle.store_rows.specs.claim.DeskRows.{IsDesk}
+use Rattle.store_rows.specs.claim.Tidy.{AreOwned, AreRows, IsLoad, Tidy}
 use Rattle.store_rows.proofs.Numbers.{numbers_decide}
 use Rattle.store_rows.proofs.OneGeography.{no_value, seal_load, value_is}
 use Rattle.row_table.specs.Reading.{StandsAs}
-use Rattle.store_check.specs.Rows.{AreOfLoadsTo, AreSealCounted, GoesOn, HasChunksBelow, IsFrom, IsKind, IsNextLoad, IsOfLoad, IsPast, IsSealCounted, IsUnder, NoneFrom, behind_load}
+use Rattle.store_check.specs.Rows.{AreOfLoadsTo, AreSealCounted, GoesOn, HasChunksBelow, IsKind, IsNextLoad, IsOfLoad, IsPast, IsSealCounted, IsUnder, NoneFrom, behind_load}
+use Rattle.store_check.specs.claim.Rows.{IsFrom}
 use Rattle.store_rows.proofs.TidyFree.{one_next}
 use Rattle.store_check.specs.Numbers.{IsDue}
 use Rattle.store_check.proofs.FirstRows.{above_more, clash, first_is_from, first_least, first_there, from_trans, less_from, lower_tag}

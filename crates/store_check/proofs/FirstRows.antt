@@ -9,8 +9,9 @@ use Rattle.std.specs.Cmp.Lexicographic.{nat_list_cmp_total}
 use Rattle.std.specs.FinMap.{entries, find, get, get-entries}
 use Rattle.std.specs.FinMap.Entries.{below_all}
 use Rattle.std.proofs.lemmas.Cmp.{tied_itself}
-use Rattle.page_node.specs.Entries.{Entry}
-use Rattle.page_node.specs.Places.{key_cmp, Rises, entries_from}
+use Rattle.page_node.specs.claim.Entries.{Entry}
+use Rattle.page_node.specs.claim.Places.{key_cmp, Rises}
+use Rattle.page_node.specs.Places.{entries_from}
 use Rattle.page_node.proofs.Laws.{is_less, less_trans}
 use Rattle.btree_scan.specs.Prefixes.{AllFrom}
 use Rattle.btree_scan.proofs.Prefixes.{all_from_key, head_rises, none_above, rises_from_key, under_is_from}
@@ -19,8 +20,9 @@ use Rattle.btree_scan.specs.declared.rows.Row.{Row}
 use Rattle.btree_scan.specs.declared.scans.Scan.{Scan}
 use Rattle.store_rows.proofs.Frames.{differs, is_equal, itself, same_key}
 use Rattle.store_rows.proofs.OneGeography.{no_value}
-use Rattle.store_rows.specs.Rows.{KeyMap}
-use Rattle.store_check.specs.Rows.{IsFirst, IsFrom, NoneFrom}
+use Rattle.store_rows.specs.claim.Rows.{KeyMap}
+use Rattle.store_check.specs.Rows.{IsFirst, NoneFrom}
+use Rattle.store_check.specs.claim.Rows.{IsFrom}
 use Rattle.store_check.proofs.Scanned.{either_way, first_so, second_so, all_rises}
 
 -- ---- the order of keys

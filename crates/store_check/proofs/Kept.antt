@@ -4,31 +4,31 @@ use Rattle.std.specs.Int.{from_be_bytes}
 use Rattle.std.specs.FinMap.{get}
 use Rattle.std.proofs.lemmas.Nat.{from_be_bytes-to_be_bytes_8}
 use Rattle.std.proofs.lemmas.List.Elements.{All-contains, All-contains_itself}
-use Rattle.sector_device.specs.Disk.{Image}
+use Rattle.sector_device.specs.claim.Disk.{Image}
 use Rattle.sector_device.specs.declared.SectorDevice.{Ghosts}
-use Rattle.page_store.specs.Transactions.{stored, disk_in, IsQuiet, Passed}
+use Rattle.page_store.specs.claim.Transactions.{stored, disk_in, IsQuiet, Passed}
 use Rattle.page_store.proofs.Stops.{failed_more}
 use Rattle.page_store.specs.declared.pages.Pages.{Pages}
 use Rattle.page_store.specs.declared.txn.Txn.{Txn}
-use Rattle.page_btree.specs.Map.{InTxn}
+use Rattle.page_btree.specs.claim.Map.{InTxn}
 use Rattle.page_btree.specs.declared.error.TreeError.{TreeError}
 use Rattle.page_btree.specs.declared.error.TreeError.TheVariants.{DeviceFault, Halted, NoPages, TooDeep, Memory}
 use Rattle.row_table.specs.Reading.{ReadErr, StandsAs}
-use Rattle.desk_model.specs.Geography.{Ground}
-use Rattle.desk_model.specs.Desk.{Desk, Plan}
-use Rattle.store_rows.specs.Keys.{RowKey, key_of, Fits, counters, retired, begun, holding, tally, named, part, seal, version, block, pair, chunk, in_four, in_eight}
-use Rattle.store_rows.specs.Values.{plan_bytes, seal_bytes}
-use Rattle.store_rows.specs.Lists.{AreChunks, chunks_bytes}
+use Rattle.desk_model.specs.claim.Geography.{Ground}
+use Rattle.desk_model.specs.claim.Desk.{Desk, Plan}
+use Rattle.store_rows.specs.claim.Keys.{RowKey, key_of, Fits, counters, retired, begun, holding, tally, named, part, seal, version, block, pair, chunk, in_four, in_eight}
+use Rattle.store_rows.specs.claim.Values.{plan_bytes, seal_bytes}
+use Rattle.store_rows.specs.claim.Lists.{AreChunks, chunks_bytes}
 use Rattle.store_rows.proofs.ListLaws.{chunks_differ}
 use Rattle.store_rows.specs.declared.value.Counters.{Counters}
 use Rattle.store_rows.specs.declared.value.SealRow.{SealRow}
-use Rattle.store_rows.specs.Rows.{KeyMap, row_in, Has}
-use Rattle.store_rows.specs.Holders.{AreHolders, tally_row}
+use Rattle.store_rows.specs.claim.Rows.{KeyMap, row_in, Has}
+use Rattle.store_rows.specs.claim.Holders.{AreHolders, tally_row}
 use Rattle.store_rows.proofs.Counting.{few_holders}
-use Rattle.store_rows.specs.GeographyRows.{IsGeography}
-use Rattle.store_rows.specs.DeskRows.{IsPlanAt, IsDesk}
+use Rattle.store_rows.specs.claim.GeographyRows.{IsGeography}
+use Rattle.store_rows.specs.claim.DeskRows.{IsPlanAt, IsDesk}
 use Rattle.store_rows.specs.Changes.{plan_row_of}
-use Rattle.store_rows.specs.Tidy.{IsNext, CountersFit, IsNumbered, IsNamedBy, IsKnown, Tidy, version_row}
+use Rattle.store_rows.specs.claim.Tidy.{IsNext, CountersFit, IsNumbered, IsNamedBy, IsKnown, Tidy, version_row}
 use Rattle.store_rows.proofs.OneGeography.{value_is, no_value}
 use Rattle.store_rows.proofs.TidyFree.{one_next}
 use Rattle.store_check.specs.Numbers.{IsBelow, IsCount, AllBelow, NumbersFit, IsKept, IsDue, HasNumbersBelow}

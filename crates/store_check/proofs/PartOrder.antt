@@ -9,15 +9,18 @@ use Rattle.std.specs.Cmp.{nat_cmp_is}
 use Rattle.std.specs.FinMap.{entries, get}
 use Rattle.std.proofs.lemmas.Bool.{cases_lt}
 use Rattle.std.proofs.lemmas.Nat.{from_be_bytes-to_be_bytes_8}
-use Rattle.page_node.specs.Entries.{Entry}
-use Rattle.page_node.specs.Places.{key_cmp, entries_from}
+use Rattle.page_node.specs.claim.Entries.{Entry}
+use Rattle.page_node.specs.claim.Places.{key_cmp}
+use Rattle.page_node.specs.Places.{entries_from}
 use Rattle.page_node.proofs.Laws.{flip_less}
 use Rattle.btree_scan.proofs.Prefixes.{between_under, under_is_from}
-use Rattle.store_rows.specs.Keys.{RowKey, key_of, Fits, counters, retired, begun, holding, tally, named, part, seal, version, block, pair, chunk, in_one, in_four, in_eight, parts_prefix, plan_parts_prefix, revision_prefix}
-use Rattle.store_rows.specs.Rows.{KeyMap, Has}
-use Rattle.store_rows.specs.Tidy.{AreRows}
+use Rattle.store_rows.specs.claim.Keys.{RowKey, key_of, Fits, counters, retired, begun, holding, tally, named, part, seal, version, block, pair, chunk, in_one, in_four, in_eight, revision_prefix}
+use Rattle.store_rows.specs.Keys.{parts_prefix, plan_parts_prefix}
+use Rattle.store_rows.specs.claim.Rows.{KeyMap, Has}
+use Rattle.store_rows.specs.claim.Tidy.{AreRows}
 use Rattle.store_rows.proofs.Numbers.{numbers_decide}
-use Rattle.store_check.specs.Rows.{IsFrom, NoneFrom}
+use Rattle.store_check.specs.claim.Rows.{IsFrom}
+use Rattle.store_check.specs.Rows.{NoneFrom}
 use Rattle.store_check.specs.Owners.{AreOwnedBelow, AreOwnedBy, IsOwned, IsOwnedTo, IsPartKey, IsUnderParts, Passes, behind_revision}
 use Rattle.store_check.proofs.Behind.{fewer_rows, from_tag, front_same, starts_itself, starts_same}
 use Rattle.store_check.proofs.FirstRows.{clash, first_least, first_there, from_trans}

@@ -10,14 +10,14 @@ use Rattle.std.specs.Cmp.Lexicographic.{nat_list_cmp_total, slice_cmp}
 use Rattle.std.specs.FinMap.{entries, entries_sorted, find, get, get-entries, is_sorted}
 use Rattle.std.specs.FinMap.Entries.{below_all}
 use Rattle.std.proofs.lemmas.Cmp.{tied_itself}
-use Rattle.page_node.specs.Entries.{Entry}
-use Rattle.page_node.specs.Places.{key_cmp, Rises}
+use Rattle.page_node.specs.claim.Entries.{Entry}
+use Rattle.page_node.specs.claim.Places.{key_cmp, Rises}
 use Rattle.page_node.proofs.Laws.{is_less, flip_less, above_middle, find_none}
 use Rattle.btree_scan.specs.Prefixes.{under}
 use Rattle.btree_scan.proofs.Prefixes.{find_under, head_rises, under_rises}
-use Rattle.store_rows.specs.Keys.{RowKey, key_of, counters, retired, begun, holding, tally, named, part, seal, version, block, pair, chunk}
+use Rattle.store_rows.specs.claim.Keys.{RowKey, key_of, counters, retired, begun, holding, tally, named, part, seal, version, block, pair, chunk}
 use Rattle.store_rows.specs.declared.value.Counters.{Counters}
-use Rattle.store_rows.specs.Rows.{KeyMap, Has}
+use Rattle.store_rows.specs.claim.Rows.{KeyMap, Has}
 use Rattle.store_rows.proofs.Frames.{differs, is_equal, itself, same_key}
 use Rattle.store_check.specs.Numbers.{IsBelow, AllBelow, AreSoundRows, NumbersFit}
 use Rattle.store_check.specs.Rows.{IsPast, IsRow}

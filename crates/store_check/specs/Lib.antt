@@ -1,3 +1,4 @@
+pub mod claim
 pub mod Rows
 pub mod Numbers
 pub mod Owners

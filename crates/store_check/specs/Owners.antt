@@ -4,12 +4,14 @@ use Rattle.std.specs.List.{starts_with}
 use Rattle.std.specs.Ordering.{nat_cmp}
 use Rattle.std.specs.BTreeMap.{BTreeMap, get as count_at}
 use Rattle.std.specs.FinMap.{entries}
-use Rattle.page_node.specs.Entries.{Entry}
+use Rattle.page_node.specs.claim.Entries.{Entry}
 use Rattle.page_node.specs.Places.{entries_from}
-use Rattle.store_rows.specs.Keys.{key_of, Fits, part, parts_prefix, retired}
-use Rattle.store_rows.specs.Rows.{KeyMap, Has}
-use Rattle.store_rows.specs.Tidy.{AreRows}
-use Rattle.store_check.specs.Rows.{IsFrom, NoneFrom}
+use Rattle.store_rows.specs.claim.Keys.{key_of, Fits, part, retired}
+use Rattle.store_rows.specs.Keys.{parts_prefix}
+use Rattle.store_rows.specs.claim.Rows.{KeyMap, Has}
+use Rattle.store_rows.specs.claim.Tidy.{AreRows}
+use Rattle.store_check.specs.claim.Rows.{IsFrom}
+use Rattle.store_check.specs.Rows.{NoneFrom}
 
 -- the revision is one of so many; a plan of which no count is known was taken away
 abbrev pub IsOwnedAs : KeyMap → ℕ → ℕ → Option ℕ → Type 0

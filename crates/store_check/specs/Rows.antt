@@ -1,17 +1,18 @@
--- Rows that stand where a store has none.
+-- What no promise rests on, beside claim/Rows.antt.
 use Rattle.std.specs.Prelude.{◌≡◌, ◌⊎◌, ◌<◌, ◌^◌, ℕ, List, [], ◌∷◌, ◌++◌, length, Option, None, Bool, true, false, Some, nat_eq}
 use Rattle.std.specs.List.{starts_with}
-use Rattle.std.specs.Ordering.{is_gt}
 use Rattle.std.specs.FinMap.{entries, get}
-use Rattle.page_node.specs.Entries.{Entry}
-use Rattle.page_node.specs.Places.{key_cmp, entries_from}
+use Rattle.page_node.specs.claim.Entries.{Entry}
+use Rattle.page_node.specs.Places.{entries_from}
 use Rattle.btree_scan.specs.declared.rows.Row.{Row}
-use Rattle.store_rows.specs.Keys.{RowKey, key_of, Fits, seal, block, pair, load_prefix, blocks_prefix, pairs_prefix, chunks_prefix, chunk_prefix}
-use Rattle.store_rows.specs.Values.{seal_bytes}
+use Rattle.store_rows.specs.claim.Keys.{RowKey, key_of, Fits, seal, block, pair, blocks_prefix, pairs_prefix, chunk_prefix}
+use Rattle.store_rows.specs.Keys.{load_prefix, chunks_prefix}
+use Rattle.store_rows.specs.claim.Values.{seal_bytes}
 use Rattle.store_rows.specs.declared.value.SealRow.{SealRow}
-use Rattle.store_rows.specs.Rows.{KeyMap, Has}
-use Rattle.store_rows.specs.Tidy.{AreOwned, AreRows, IsLoad}
+use Rattle.store_rows.specs.claim.Rows.{KeyMap, Has}
+use Rattle.store_rows.specs.claim.Tidy.{AreOwned, AreRows, IsLoad}
 use Rattle.row_table.specs.Reading.{StandsAs}
+use Rattle.store_check.specs.claim.Rows.{IsFrom}
 
 -- a key behind those of the seal and of the version: the rows of geographies and of chunks' pieces alone stand there
 pub record IsPast (key : List ℕ) : Type 0 where
@@ -34,10 +35,6 @@ AreRowsToVersion m = (key value : List ℕ) → get m key ≡ Some value → (Is
 abbrev pub IsFirst : Bool → List ℕ → Row → KeyMap → Type 0
 IsFirst true key row m = (more : List Entry) × (entries_from key (entries m) ≡ (row.key, row.value) ∷ more)
 IsFirst false key row m = entries_from key (entries m) ≡ []
-
--- a key isn't below another one
-abbrev pub IsFrom : List ℕ → List ℕ → Type 0
-IsFrom key other = is_gt (key_cmp key other) ≡ false
 
 -- no key from one on begins with a prefix
 abbrev pub NoneFrom : List ℕ → List ℕ → KeyMap → Type 0

@@ -1,11 +1,11 @@
 //! Checks that no row stands behind those that are counted.
 ghost use Rattle.std.specs.Prelude.{◌≡◌, ◌<◌, ◌^◌, OnOk, IfErr};
-ghost use Rattle.page_store.specs.Transactions.{stored, disk_in, count_of, txn_pages, IsQuiet, Passed};
-ghost use Rattle.page_btree.specs.Map.{InTxn};
+ghost use Rattle.page_store.specs.claim.Transactions.{stored, disk_in, count_of, txn_pages, IsQuiet, Passed};
+ghost use Rattle.page_btree.specs.claim.Map.{InTxn};
 ghost use Rattle.row_table.specs.Reading.{ReadErr, StandsAs};
-ghost use Rattle.store_rows.specs.Keys.{key_of, seal};
-ghost use Rattle.store_rows.specs.Values.{seal_bytes};
-ghost use Rattle.store_rows.specs.Rows.{KeyMap};
+ghost use Rattle.store_rows.specs.claim.Keys.{key_of, seal};
+ghost use Rattle.store_rows.specs.claim.Values.{seal_bytes};
+ghost use Rattle.store_rows.specs.claim.Rows.{KeyMap};
 ghost use Rattle.store_check.specs.Rows.{AreBehindSeal, AreSealCounted, HasCountedSeal, HasChunksBelow, IsSealCounted};
 ghost use Rattle.store_check.specs.Numbers.{IsDue};
 

@@ -1,6 +1,6 @@
 //! Keys of rows.
 ghost use Rattle.std.specs.Prelude.{◌≡◌, ◌⊎◌, ◌<◌, ◌^◌, ℕ, [], ◌∷◌, ◌++◌, true, false, length, drop, MatchOption};
-ghost use Rattle.store_rows.specs.Keys.{key_of, Fits, holding, part, block, pair, in_four, in_eight};
+ghost use Rattle.store_rows.specs.claim.Keys.{key_of, Fits, holding, part, block, pair, in_four, in_eight};
 ghost use Rattle.store_check.specs.Owners.{IsPartKey};
 ghost use Rattle.store_check.specs.Rows.{IsKind, IsPast, IsRow, IsUnder};
 

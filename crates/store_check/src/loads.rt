@@ -1,13 +1,15 @@
 //! Checks that the rows of geographies are those of loads that are known.
 ghost use Rattle.std.specs.Prelude.{◌≡◌, ◌≤◌, ◌<◌, ◌^◌, true, false, length, None, OnOk, IfOk, IfErr, IfSome};
-ghost use Rattle.page_store.specs.Transactions.{stored, disk_in, count_of, txn_pages, IsQuiet, Passed};
-ghost use Rattle.page_btree.specs.Map.{InTxn};
+ghost use Rattle.page_store.specs.claim.Transactions.{stored, disk_in, count_of, txn_pages, IsQuiet, Passed};
+ghost use Rattle.page_btree.specs.claim.Map.{InTxn};
 ghost use Rattle.row_table.specs.Reading.{ReadErr, StandsAs};
-ghost use Rattle.store_rows.specs.Keys.{key_of, seal, chunks_prefix};
-ghost use Rattle.store_rows.specs.Values.{seal_bytes};
-ghost use Rattle.store_rows.specs.Rows.{KeyMap};
-ghost use Rattle.store_rows.specs.Tidy.{AreRows, IsLoad};
-ghost use Rattle.store_check.specs.Rows.{AreOfLoads, AreOfLoadsTo, GoesOn, HasKnownLoads, IsFrom, IsKnownLoad, IsNextLoad, IsPast, behind_load};
+ghost use Rattle.store_rows.specs.claim.Keys.{key_of, seal};
+ghost use Rattle.store_rows.specs.Keys.{chunks_prefix};
+ghost use Rattle.store_rows.specs.claim.Values.{seal_bytes};
+ghost use Rattle.store_rows.specs.claim.Rows.{KeyMap};
+ghost use Rattle.store_rows.specs.claim.Tidy.{AreRows, IsLoad};
+ghost use Rattle.store_check.specs.Rows.{AreOfLoads, AreOfLoadsTo, GoesOn, HasKnownLoads, IsKnownLoad, IsNextLoad, IsPast, behind_load};
+ghost use Rattle.store_check.specs.claim.Rows.{IsFrom};
 
 use crate::firsts::first_from;
 use crate::keys::load_in;

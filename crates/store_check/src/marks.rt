@@ -1,10 +1,10 @@
 //! Rows that say nothing but that they are there.
 ghost use Rattle.std.specs.Prelude.{◌≡◌, [], Some, OnOk, IfErr};
 ghost use Rattle.std.specs.FinMap.{get as row_at};
-ghost use Rattle.page_store.specs.Transactions.{stored, disk_in, count_of, txn_pages, IsQuiet, Passed};
-ghost use Rattle.page_btree.specs.Map.{InTxn};
+ghost use Rattle.page_store.specs.claim.Transactions.{stored, disk_in, count_of, txn_pages, IsQuiet, Passed};
+ghost use Rattle.page_btree.specs.claim.Map.{InTxn};
 ghost use Rattle.row_table.specs.Reading.{ReadErr};
-ghost use Rattle.store_rows.specs.Rows.{KeyMap};
+ghost use Rattle.store_rows.specs.claim.Rows.{KeyMap};
 
 use page_btree::VALUE_LIMIT;
 use page_store::{Pages, Txn};

@@ -2,9 +2,9 @@
 ghost use Rattle.std.specs.Prelude.{◌≡◌, ◌<◌, ◌^◌, ℕ, List, ◌∷◌, ◌++◌, All, true, false, length};
 ghost use Rattle.store_rows.specs.declared.value.PlanRow.{PlanRow as PlanValue};
 ghost use Rattle.store_rows.specs.declared.value.SealRow.{SealRow as SealValue};
-ghost use Rattle.store_rows.specs.Keys.{in_four, in_eight};
-ghost use Rattle.store_rows.specs.Values.{plan_bytes, seal_bytes};
-ghost use Rattle.store_rows.specs.Lists.{AreChunks, chunks_bytes};
+ghost use Rattle.store_rows.specs.claim.Keys.{in_four, in_eight};
+ghost use Rattle.store_rows.specs.claim.Values.{plan_bytes, seal_bytes};
+ghost use Rattle.store_rows.specs.claim.Lists.{AreChunks, chunks_bytes};
 ghost use Rattle.store_check.specs.Numbers.{IsCount};
 
 use store_rows::{read_chunks, read_plan, read_seal};

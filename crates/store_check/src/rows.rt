@@ -1,6 +1,6 @@
 //! Rows whose numbers are below those that come next.
 ghost use Rattle.std.specs.Prelude.{◌≡◌, ℕ, true, false};
-ghost use Rattle.store_rows.specs.Keys.{Fits, RowKey, holding, key_of};
+ghost use Rattle.store_rows.specs.claim.Keys.{Fits, RowKey, holding, key_of};
 ghost use Rattle.store_check.specs.Numbers.{IsBelow, NumbersFit};
 ghost use Rattle.store_check.specs.Rows.{IsPast, IsRow};
 

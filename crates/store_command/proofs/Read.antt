@@ -1,29 +1,31 @@
 -- A synced device, by what it reads.
 use Rattle.std.proofs.Common.{◌≡◌, ◌≤◌, ◌^◌, ℕ, Bool, true, false, inl, inr, sym, subst, ◌∙◌, arith}
-use Rattle.sector_device.specs.Disk.{Disk, Image, IsSynced}
-use Rattle.sector_device.specs.Moments.{LeavesOnly}
+use Rattle.sector_device.specs.claim.Disk.{Disk, Image}
+use Rattle.sector_device.specs.Disk.{IsSynced}
+use Rattle.sector_device.specs.claim.Moments.{LeavesOnly}
 use Rattle.sector_device.proofs.Moments.{leaves_wider}
 use Rattle.sector_device.specs.declared.SectorDevice.{Ghosts}
-use Rattle.gate_journal.specs.Store.{pages}
+use Rattle.gate_journal.specs.claim.Store.{pages}
 use Rattle.gate_journal.proofs.Headers.{same_journal}
-use Rattle.page_store.specs.Chain.{root_in, free_in}
+use Rattle.page_store.specs.claim.Chain.{root_in, free_in}
 use Rattle.page_btree.proofs.MapLaws.{one_map}
-use Rattle.desk_model.specs.Desk.{Desk}
-use Rattle.store_rows.specs.Keys.{version}
-use Rattle.store_rows.specs.Rows.{KeyMap, row_in}
-use Rattle.store_rows.specs.Tidy.{version_row}
-use Rattle.desk_pages.specs.Desks.{HoldsDeskOf, OpensDeskOf, OpensAs, OpensDesk, OpensOld, OpensEither}
-use Rattle.desk_pages.specs.Openings.{AllDesks, AllOld, AllVersions, IsOneAs, LeavesOneAs, LeavesOneOf, OpensOneAs, OpensOneOf}
+use Rattle.desk_model.specs.claim.Desk.{Desk}
+use Rattle.store_rows.specs.claim.Keys.{version}
+use Rattle.store_rows.specs.claim.Rows.{KeyMap, row_in}
+use Rattle.store_rows.specs.claim.Tidy.{version_row}
+use Rattle.desk_pages.specs.claim.Desks.{HoldsDeskOf, OpensDeskOf, OpensAs, OpensDesk, OpensOld, OpensEither}
+use Rattle.desk_pages.specs.Openings.{AllDesks, AllOld, LeavesOneOf, OpensOneOf}
+use Rattle.desk_pages.specs.claim.Openings.{AllVersions, IsOneAs, LeavesOneAs, OpensOneAs}
 use Rattle.desk_store.specs.declared.clerk.Clerk.{Clerk}
 use Rattle.desk_store.specs.declared.opening.OpenError.{OpenError}
-use Rattle.desk_store.specs.Clerks.{desk_of, disk_of, Keeps}
+use Rattle.desk_store.specs.claim.Clerks.{desk_of, disk_of, Keeps}
 use Rattle.desk_store.specs.Openings.{OpenRefused}
 use Rattle.desk_migration.specs.declared.error.MigrationOpenError.{MigrationOpenError}
 use Rattle.desk_migration.specs.declared.migration.Migration.{Migration}
-use Rattle.desk_migration.specs.Migrating.{disk_of as migrated_disk, Keeps as KeepsOld}
+use Rattle.desk_migration.specs.claim.Migrating.{disk_of as migrated_disk, Keeps as KeepsOld}
 use Rattle.desk_migration.specs.Openings.{IsRefused, KeepsOne}
 use Rattle.desk_runs.specs.Recovery.{ImagesAreOne}
-use Rattle.desk_runs.specs.Lives.{left_by}
+use Rattle.desk_runs.specs.claim.Lives.{left_by}
 use Rattle.store_command.specs.Reading.{ReadsDesk, ReadsOld, ShowsWhatIsRead, BeginsAtWhatIsRead, RefusesWhatIsRead, BarsWhatIsRead, HoldsWhatIsRead, FindsWhatIsRead}
 
 -- ---- one image, one version

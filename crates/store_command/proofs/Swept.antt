@@ -2,14 +2,14 @@
 use Rattle.std.proofs.Common.{◌≡◌, ◌≤◌, ◌+◌, ℕ, [], Option, false, inl, inr, refl, sym, subst, ◌∙◌, arith}
 use Rattle.std.specs.Prelude.{Result, Ok, Err}
 use Rattle.sector_device.specs.declared.SectorDevice.{Ghosts}
-use Rattle.page_store.specs.Transactions.{device_in, IsQuiet}
-use Rattle.page_btree.specs.Map.{InPages as HoldsRows}
-use Rattle.desk_model.specs.Desk.{Desk}
-use Rattle.store_rows.specs.Rows.{KeyMap}
+use Rattle.page_store.specs.claim.Transactions.{device_in, IsQuiet}
+use Rattle.page_btree.specs.claim.Map.{InPages as HoldsRows}
+use Rattle.desk_model.specs.claim.Desk.{Desk}
+use Rattle.store_rows.specs.claim.Rows.{KeyMap}
 use Rattle.store_sweep.specs.Leftovers.{IsSweptBy}
 use Rattle.store_sweep.proofs.Taken.{then_by}
 use Rattle.desk_store.specs.declared.clerk.Clerk.{Clerk}
-use Rattle.desk_store.specs.Clerks.{desk_of, disk_of, pages_of, Keeps, Moves}
+use Rattle.desk_store.specs.claim.Clerks.{desk_of, disk_of, pages_of, Keeps, Moves}
 use Rattle.desk_store.specs.Sweeps.{HasRows, HasSwept as HasSweptStep, SweepRefused}
 use Rattle.desk_store.proofs.Moved.{unmoved}
 use Rattle.store_command.specs.Reading.{ShowsWhatIsRead}
@@ -18,7 +18,7 @@ use Rattle.desk_loading.proofs.Moves.{then_moved}
 use Rattle.store_sweep.specs.declared.error.SweepError.{SweepError}
 use Rattle.store_command.specs.declared.fault.StoreFault.{StoreFault}
 use Rattle.store_command.specs.declared.fault.StoreFault.TheVariants.{DeviceFault}
-use Rattle.store_holdings.specs.Checks.{AreSoundHoldings}
+use Rattle.store_holdings.specs.claim.Checks.{AreSoundHoldings}
 use Rattle.store_command.specs.Sweeping.{fault_of_sweep, KeepsDesk, HasTaken, HasSweptAll, IsChecked, IsStopped, SweepsAll, SweepsSteps, HasSwept, SweepsDevice}
 use Rattle.store_command.proofs.Used.{kept_left, left_same}
 

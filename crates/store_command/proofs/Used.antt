@@ -1,17 +1,18 @@
 -- A device that was opened, used by the clerk, and given back.
 use Rattle.std.proofs.Common.{◌≡◌, ℕ, Bool, true, false, inl, inr, ⊎_elim, refl, sym, subst, ◌∙◌}
-use Rattle.sector_device.specs.Disk.{Disk, Image}
-use Rattle.sector_device.specs.Moments.{LeavesOnly}
+use Rattle.sector_device.specs.claim.Disk.{Disk, Image}
+use Rattle.sector_device.specs.claim.Moments.{LeavesOnly}
 use Rattle.sector_device.proofs.Moments.{leaves_more, leaves_wider}
 use Rattle.sector_device.specs.declared.SectorDevice.{Ghosts}
-use Rattle.page_store.specs.Transactions.{device_in}
-use Rattle.desk_model.specs.Desk.{Desk}
-use Rattle.desk_model.specs.Geography.{Ground}
-use Rattle.desk_pages.specs.Desks.{OpensDesk}
+use Rattle.page_store.specs.claim.Transactions.{device_in}
+use Rattle.desk_model.specs.claim.Desk.{Desk}
+use Rattle.desk_model.specs.claim.Geography.{Ground}
+use Rattle.desk_pages.specs.claim.Desks.{OpensDesk}
 use Rattle.desk_store.specs.declared.clerk.Clerk.{Clerk}
 use Rattle.desk_store.specs.declared.loads.LoadError.{LoadError}
-use Rattle.desk_store.specs.Clerks.{desk_of, disk_of, pages_of, sectors_of, Keeps, Moves}
-use Rattle.desk_store.specs.Keeping.{IsLeft, OpensOneMore, sealed_desk}
+use Rattle.desk_store.specs.claim.Clerks.{desk_of, disk_of, pages_of, sectors_of, Keeps, Moves}
+use Rattle.desk_store.specs.claim.Keeping.{IsLeft, OpensOneMore}
+use Rattle.desk_store.specs.Keeping.{sealed_desk}
 use Rattle.store_command.specs.Reading.{LeavesDesk, ReadsDesk, ShowsWhatIsRead}
 use Rattle.desk_loading.specs.Loads.{IsLoaded, LoadRefused}
 use Rattle.desk_loading.specs.Openings.{IsOpened}

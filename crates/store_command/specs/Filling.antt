@@ -1,16 +1,16 @@
 -- A store that is filled with a geography.
 use Rattle.std.specs.Prelude.{◌≡◌, ◌⊎◌, ℕ, false, Result, Ok, Err}
-use Rattle.sector_device.specs.Disk.{Disk, Image}
-use Rattle.sector_device.specs.Moments.{LeavesOnly}
+use Rattle.sector_device.specs.claim.Disk.{Disk, Image}
+use Rattle.sector_device.specs.claim.Moments.{LeavesOnly}
 use Rattle.sector_device.specs.declared.SectorDevice.{Ghosts}
-use Rattle.page_store.specs.Transactions.{device_in}
-use Rattle.desk_model.specs.Desk.{Desk}
-use Rattle.desk_model.specs.Geography.{Ground}
-use Rattle.desk_pages.specs.Desks.{OpensDesk}
+use Rattle.page_store.specs.claim.Transactions.{device_in}
+use Rattle.desk_model.specs.claim.Desk.{Desk}
+use Rattle.desk_model.specs.claim.Geography.{Ground}
+use Rattle.desk_pages.specs.claim.Desks.{OpensDesk}
 use Rattle.desk_store.specs.declared.clerk.Clerk.{Clerk}
 use Rattle.desk_store.specs.declared.opening.OpenError.{OpenError}
 use Rattle.desk_store.specs.declared.loads.LoadError.{LoadError}
-use Rattle.desk_store.specs.Clerks.{desk_of, is_halted, pages_of}
+use Rattle.desk_store.specs.claim.Clerks.{desk_of, is_halted, pages_of}
 use Rattle.desk_store.specs.Keeping.{sealed_desk}
 use Rattle.store_command.specs.Reading.{ReadsDesk, RefusesWhatIsRead, ShowsWhatIsRead}
 use Rattle.desk_loading.specs.Openings.{IsOpened, IsUnopened}

@@ -2,11 +2,11 @@
 use Rattle.std.specs.Prelude.{◌≡◌, ◌⊎◌, ◌≤◌, ◌<◌, ◌+◌, ◌*◌, ℕ, Bool, List, codes, Result, Ok, Err, Vec}
 use Rattle.std.specs.declared.alloc.Global.{Global}
 use Rattle.sector_device.specs.declared.SectorDevice.{Ghosts}
-use Rattle.gate_journal.specs.Store.{home}
+use Rattle.gate_journal.specs.claim.Store.{home}
 use Rattle.desk_pages.specs.Formats.{OpensNew, HasJournal, FormatErr}
 use Rattle.desk_pages.specs.declared.formatting.FormatError.{FormatError}
 use Rattle.command_output.specs.declared.status.Status.{Status}
-use Rattle.command_output.specs.Writing.{Written, Told, write_fault_line}
+use Rattle.command_output.specs.claim.Writing.{Written, Told, write_fault_line}
 use Rattle.store_command.specs.Faults.{fault_of_format}
 use Rattle.store_command.specs.Telling.{EndsStore}
 use Rattle.store_command.specs.Texts.{formatted_text, size_line}

@@ -2,14 +2,14 @@
 use Rattle.std.specs.Prelude.{◌≡◌, ◌⊎◌, ℕ, List, Option, codes, Result, Ok, Err, Vec}
 use Rattle.std.specs.declared.alloc.Global.{Global}
 use Rattle.sector_device.specs.declared.SectorDevice.{Ghosts}
-use Rattle.desk_model.specs.Geography.{Ground}
+use Rattle.desk_model.specs.claim.Geography.{Ground}
 use Rattle.command_output.specs.declared.status.Status.{Status}
-use Rattle.state_files.specs.Opening.{Opening, opening_of, Census, census_of}
-use Rattle.state_files.specs.State.{Then, ReadsState}
-use Rattle.state_files.specs.Grounds.{ReadsGround}
+use Rattle.state_files.specs.claim.Opening.{Opening, opening_of, Census, census_of}
+use Rattle.state_files.specs.claim.State.{Then, ReadsState}
+use Rattle.state_files.specs.claim.Grounds.{ReadsGround}
 use Rattle.state_files.specs.declared.fault.FileFault.{FileFault}
-use Rattle.command_output.specs.Telling.{Tells}
-use Rattle.command_output.specs.Writing.{Written, write_fault_line}
+use Rattle.command_output.specs.claim.Telling.{Tells}
+use Rattle.command_output.specs.claim.Writing.{Written, write_fault_line}
 use Rattle.store_command.specs.Filling.{FillsDevice}
 use Rattle.store_command.specs.Telling.{EndsStore}
 use Rattle.store_command.specs.Texts.{loaded_text}

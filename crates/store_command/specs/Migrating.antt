@@ -1,16 +1,17 @@
 -- A store of the old version that is led to the new one.
 use Rattle.std.specs.Prelude.{◌≡◌, ◌⊎◌, ◌≤◌, ◌+◌, ◌*◌, ◌^◌, ℕ, List, ◌++◌, codes, decimal, true, false, Result, Ok, Err, Vec}
 use Rattle.std.specs.declared.alloc.Global.{Global}
-use Rattle.sector_device.specs.Disk.{Disk, Image}
-use Rattle.sector_device.specs.Moments.{LeavesOnly}
+use Rattle.sector_device.specs.claim.Disk.{Disk, Image}
+use Rattle.sector_device.specs.claim.Moments.{LeavesOnly}
 use Rattle.sector_device.specs.declared.SectorDevice.{Ghosts}
-use Rattle.desk_model.specs.Desk.{Desk}
-use Rattle.store_rows.specs.Rows.{KeyMap}
-use Rattle.desk_pages.specs.Desks.{OpensDesk, OpensEither, OpensOld}
-use Rattle.desk_pages.specs.Openings.{AllVersions, IsOneOld, IsSpared, OpensOneAs}
+use Rattle.desk_model.specs.claim.Desk.{Desk}
+use Rattle.store_rows.specs.claim.Rows.{KeyMap}
+use Rattle.desk_pages.specs.claim.Desks.{OpensDesk, OpensEither, OpensOld}
+use Rattle.desk_pages.specs.claim.Openings.{AllVersions, IsOneOld, OpensOneAs}
+use Rattle.desk_pages.specs.Openings.{IsSpared}
 use Rattle.store_command.specs.Reading.{BarsWhatIsRead, BeginsAtWhatIsRead, ReadsOld}
-use Rattle.desk_migration.specs.Holding.{IsHeldBy}
-use Rattle.desk_migration.specs.Migrating.{device_of, disk_of, has_ended, is_halted, sectors_of, Ends, HasRows, Keeps, KeepsNew, Moves}
+use Rattle.desk_migration.specs.claim.Holding.{IsHeldBy}
+use Rattle.desk_migration.specs.claim.Migrating.{device_of, disk_of, has_ended, is_halted, sectors_of, Ends, HasRows, Keeps, KeepsNew, Moves}
 use Rattle.desk_migration.specs.Openings.{IsFound, IsRefused}
 use Rattle.desk_migration.specs.Puts.{FinishErr, StepErr}
 use Rattle.desk_migration.specs.declared.migration.Migration.{Migration}
@@ -19,7 +20,7 @@ use Rattle.desk_migration.specs.declared.error.MigrationError.TheVariants as mig
 use Rattle.desk_migration.specs.declared.error.MigrationOpenError.{MigrationOpenError}
 use Rattle.desk_migration.specs.declared.error.MigrationOpenError.TheVariants as opening
 use Rattle.command_output.specs.declared.status.Status.{Status}
-use Rattle.command_output.specs.Writing.{Written, write_fault_line}
+use Rattle.command_output.specs.claim.Writing.{Written, write_fault_line}
 use Rattle.store_command.specs.Telling.{EndsStore}
 use Rattle.store_command.specs.declared.fault.StoreFault.{StoreFault}
 use Rattle.store_command.specs.declared.fault.StoreFault.TheVariants.{NotAStore, AlreadyNew, Full, DeviceFault, Memory}

@@ -1,21 +1,22 @@
 -- What comes of a device by what it reads as. A stop leaves what a synced device reads, so nothing here is said of what else a stop
 -- may leave.
 use Rattle.std.specs.Prelude.{◌≡◌, ◌≢◌, ℕ}
-use Rattle.sector_device.specs.Disk.{Disk, IsSynced}
-use Rattle.sector_device.specs.Moments.{LeavesOnly}
+use Rattle.sector_device.specs.claim.Disk.{Disk}
+use Rattle.sector_device.specs.Disk.{IsSynced}
+use Rattle.sector_device.specs.claim.Moments.{LeavesOnly}
 use Rattle.sector_device.specs.declared.SectorDevice.{Ghosts}
-use Rattle.desk_model.specs.Desk.{Desk}
-use Rattle.desk_pages.specs.Desks.{OpensDesk, OpensOld, OpensEither}
+use Rattle.desk_model.specs.claim.Desk.{Desk}
+use Rattle.desk_pages.specs.claim.Desks.{OpensDesk, OpensOld, OpensEither}
 use Rattle.desk_store.specs.declared.clerk.Clerk.{Clerk}
 use Rattle.desk_store.specs.declared.opening.OpenError.{OpenError}
 use Rattle.desk_store.specs.declared.opening.OpenError.TheVariants.{NotAStore, OldVersion}
-use Rattle.desk_store.specs.Clerks.{desk_of, disk_of, Keeps}
+use Rattle.desk_store.specs.claim.Clerks.{desk_of, disk_of, Keeps}
 use Rattle.desk_migration.specs.declared.error.MigrationOpenError.{MigrationOpenError}
 use Rattle.desk_migration.specs.declared.error.MigrationOpenError.TheVariants as entry
 use Rattle.desk_migration.specs.declared.migration.Migration.{Migration}
-use Rattle.desk_migration.specs.Migrating.{disk_of as migrated_disk, Keeps as KeepsOld}
-use Rattle.desk_runs.specs.Recovery.{HoldsEither}
-use Rattle.desk_runs.specs.Lives.{Life, left_by, Finds}
+use Rattle.desk_migration.specs.claim.Migrating.{disk_of as migrated_disk, Keeps as KeepsOld}
+use Rattle.desk_runs.specs.claim.Recovery.{HoldsEither}
+use Rattle.desk_runs.specs.claim.Lives.{Life, left_by, Finds}
 
 -- what the device reads opens to the desk, in the new version or in the old one
 abbrev pub ReadsDesk : Disk → Desk → Type 0

@@ -2,20 +2,20 @@
 use Rattle.std.specs.Prelude.{◌≡◌, ◌⊎◌, ◌≤◌, ◌^◌, ℕ, List, ◌++◌, codes, decimal, false, Result, Ok, Err, Vec}
 use Rattle.std.specs.declared.alloc.Global.{Global}
 use Rattle.sector_device.specs.declared.SectorDevice.{Ghosts}
-use Rattle.page_store.specs.Transactions.{device_in, IsQuiet}
-use Rattle.page_btree.specs.Map.{InPages as HoldsRows}
+use Rattle.page_store.specs.claim.Transactions.{device_in, IsQuiet}
+use Rattle.page_btree.specs.claim.Map.{InPages as HoldsRows}
 use Rattle.command_output.specs.declared.status.Status.{Status}
-use Rattle.store_rows.specs.Rows.{KeyMap}
-use Rattle.store_holdings.specs.Checks.{AreSoundHoldings}
+use Rattle.store_rows.specs.claim.Rows.{KeyMap}
+use Rattle.store_holdings.specs.claim.Checks.{AreSoundHoldings}
 use Rattle.store_sweep.specs.Leftovers.{IsSweptBy}
 use Rattle.store_sweep.specs.declared.error.SweepError.{SweepError}
 use Rattle.store_sweep.specs.declared.error.SweepError.TheVariants as sweep
 use Rattle.desk_store.specs.declared.clerk.Clerk.{Clerk}
-use Rattle.desk_store.specs.Clerks.{desk_of, disk_of, is_halted, pages_of, Moves}
+use Rattle.desk_store.specs.claim.Clerks.{desk_of, disk_of, is_halted, pages_of, Moves}
 use Rattle.store_command.specs.Reading.{LeavesDesk, ShowsWhatIsRead}
 use Rattle.desk_store.specs.Sweeps.{HasRows, IsClean, SweepRefused}
 use Rattle.desk_loading.specs.Openings.{IsOpened}
-use Rattle.command_output.specs.Writing.{Written, write_fault_line}
+use Rattle.command_output.specs.claim.Writing.{Written, write_fault_line}
 use Rattle.store_command.specs.Filling.{HasDesk, IsNotOpened, WhereItReads}
 use Rattle.store_command.specs.Telling.{EndsStore}
 use Rattle.store_command.specs.declared.fault.StoreFault.{StoreFault}

@@ -3,7 +3,7 @@ use Rattle.std.specs.Prelude.{◌≡◌, ℕ, List, ◌++◌, codes, Result, Ok,
 use Rattle.std.specs.declared.alloc.Global.{Global}
 use Rattle.command_output.specs.declared.status.Status.{Status}
 use Rattle.command_output.specs.declared.status.Status.TheVariants as status
-use Rattle.command_output.specs.Writing.{Written, Told, Prints}
+use Rattle.command_output.specs.claim.Writing.{Written, Told, Prints}
 use Rattle.store_command.specs.declared.fault.StoreFault.{StoreFault}
 use Rattle.store_command.specs.declared.fault.StoreFault.TheVariants.{NotFound, WrongSize, Exists, TooSmall, NotAStore, OldVersion}
 use Rattle.store_command.specs.declared.fault.StoreFault.TheVariants.{AlreadyNew, AlreadySealed, Full, DeviceFault, Memory}

@@ -1,7 +1,7 @@
 //! Leads a store of the old version to the new one by as many steps as it takes.
 ghost use Rattle.std.specs.Prelude.{◌≡◌, ◌≤◌, ◌^◌, false, IfOk, IfErr};
 ghost use Rattle.sector_device.specs.Disk.{IsSynced};
-ghost use Rattle.desk_migration.specs.Migrating.{is_halted, Moves};
+ghost use Rattle.desk_migration.specs.claim.Migrating.{is_halted, Moves};
 ghost use Rattle.store_command.specs.Reading.{BeginsAtWhatIsRead};
 ghost use Rattle.store_command.specs.Migrating.{fault_of_begin, fault_of_migration, IsBegun, IsNotBegun, PutsAll, MigratesAll};
 

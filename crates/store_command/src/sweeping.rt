@@ -1,6 +1,6 @@
 //! Sweeps a store by as many steps as it takes.
 ghost use Rattle.std.specs.Prelude.{◌≡◌, false};
-ghost use Rattle.desk_store.specs.Clerks.{is_halted};
+ghost use Rattle.desk_store.specs.claim.Clerks.{is_halted};
 ghost use Rattle.store_command.specs.Sweeping.{fault_of_sweep, KeepsDesk, SweepsAll, SweepsSteps};
 
 use crate::fault::StoreFault;

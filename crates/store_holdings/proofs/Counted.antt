@@ -7,13 +7,13 @@ use Rattle.std.specs.BTreeMap.{BTreeMap, IsEmpty, is_at, get as count_at}
 use Rattle.std.specs.Map.{lookup}
 use Rattle.std.specs.Ordering.{nat_cmp, eq_by_cmp}
 use Rattle.std.specs.FinMap.{empty, entries, find, get, get-empty, insert}
-use Rattle.page_node.specs.Entries.{Entry}
+use Rattle.page_node.specs.claim.Entries.{Entry}
 use Rattle.btree_scan.specs.Prefixes.{under}
 use Rattle.btree_scan.specs.declared.rows.Row.{Row}
-use Rattle.store_rows.specs.Keys.{key_of, holding, in_eight}
-use Rattle.store_rows.specs.Order.{key_cmp}
-use Rattle.store_rows.specs.Rows.{KeyMap, Lacks}
-use Rattle.store_rows.specs.Holders.{AreHolders}
+use Rattle.store_rows.specs.claim.Keys.{key_of, holding, in_eight}
+use Rattle.store_rows.specs.claim.Order.{key_cmp}
+use Rattle.store_rows.specs.claim.Rows.{KeyMap, Lacks}
+use Rattle.store_rows.specs.claim.Holders.{AreHolders}
 use Rattle.store_rows.specs.TurnLaws.{IsShared}
 use Rattle.store_rows.proofs.Frames.{put_is_there, put_keeps, put_keeps_row, same_key, is_equal, itself}
 use Rattle.store_rows.proofs.OneGeography.{no_value}

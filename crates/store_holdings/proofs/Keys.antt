@@ -1,7 +1,7 @@
 -- Which rows a key with a tag can be of.
 use Rattle.std.proofs.Common.{◌≡◌, ℕ, true, false, nat_eq, [], ◌∷◌, refl}
 use Rattle.std.specs.List.{starts_with}
-use Rattle.store_rows.specs.Keys.{RowKey, key_of, counters, retired, begun, holding, tally, named, part, seal, version, block, pair, chunk}
+use Rattle.store_rows.specs.claim.Keys.{RowKey, key_of, counters, retired, begun, holding, tally, named, part, seal, version, block, pair, chunk}
 
 clash : {X : Type 0} → false ≡ true → X
 clash is = absurd (cc)

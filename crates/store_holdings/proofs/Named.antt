@@ -5,19 +5,20 @@ use Rattle.std.proofs.lemmas.List.Elements.{All-contains, Contains-get_or}
 use Rattle.std.specs.Ordering.{eq_by_cmp}
 use Rattle.std.specs.List.{starts_with}
 use Rattle.std.specs.FinMap.{entries, find, get}
-use Rattle.page_node.specs.Entries.{Entry}
+use Rattle.page_node.specs.claim.Entries.{Entry}
 use Rattle.btree_scan.specs.Prefixes.{under}
 use Rattle.btree_scan.specs.declared.rows.Row.{Row}
-use Rattle.store_rows.specs.Keys.{key_of, Fits, holding, tally, part, in_eight}
-use Rattle.store_rows.specs.Lists.{AreChunks, chunks_bytes}
-use Rattle.store_rows.specs.Order.{key_cmp}
-use Rattle.store_rows.specs.Rows.{KeyMap, Has}
-use Rattle.store_rows.specs.Tidy.{IsNamedBy}
+use Rattle.store_rows.specs.claim.Keys.{key_of, Fits, holding, tally, part, in_eight}
+use Rattle.store_rows.specs.claim.Lists.{AreChunks, chunks_bytes}
+use Rattle.store_rows.specs.claim.Order.{key_cmp}
+use Rattle.store_rows.specs.claim.Rows.{KeyMap, Has}
+use Rattle.store_rows.specs.claim.Tidy.{IsNamedBy}
 use Rattle.store_rows.proofs.Frames.{is_equal, same_key}
 use Rattle.store_rows.proofs.ListLaws.{chunks_differ}
 use Rattle.store_rows.proofs.OneGeography.{no_value, value_is}
 use Rattle.store_rows.proofs.Tallies.{eight_says, held_tallied}
-use Rattle.store_holdings.specs.Checks.{AreNamesHeld, IsEntryNamed, IsHeldOrGone, IsHoldingRow, IsNewTidy, IsPartRow}
+use Rattle.store_holdings.specs.claim.Checks.{AreNamesHeld, IsHeldOrGone}
+use Rattle.store_holdings.specs.Checks.{IsEntryNamed, IsHoldingRow, IsNewTidy, IsPartRow}
 use Rattle.store_holdings.proofs.Keys.{holding_is, part_is, starts_part}
 use Rattle.store_holdings.proofs.Scanned.{IsNextUnder, either_way, found_among}
 

@@ -1,17 +1,17 @@
 -- Why what a map is to have isn't found.
 use Rattle.std.proofs.Common.{◌≡◌, inl, inr, sym, subst, ◌∙◌, Ok, Err}
 use Rattle.std.specs.Prelude.{Result, OnOk, IfErr}
-use Rattle.sector_device.specs.Disk.{Image}
+use Rattle.sector_device.specs.claim.Disk.{Image}
 use Rattle.sector_device.specs.declared.SectorDevice.{Ghosts}
-use Rattle.page_store.specs.Transactions.{stored, disk_in, IsQuiet, Passed}
+use Rattle.page_store.specs.claim.Transactions.{stored, disk_in, IsQuiet, Passed}
 use Rattle.page_store.proofs.Stops.{failed_more}
 use Rattle.page_store.specs.declared.pages.Pages.{Pages}
 use Rattle.page_store.specs.declared.txn.Txn.{Txn}
-use Rattle.page_btree.specs.Map.{InTxn}
-use Rattle.page_btree.specs.Errors.{GetErr}
+use Rattle.page_btree.specs.claim.Map.{InTxn}
+use Rattle.page_btree.specs.claim.Errors.{GetErr}
 use Rattle.page_btree.specs.declared.error.TreeError.{TreeError}
 use Rattle.page_btree.specs.declared.error.TreeError.TheVariants.{DeviceFault, Halted, NoPages, TooDeep, Memory}
-use Rattle.store_rows.specs.Rows.{KeyMap}
+use Rattle.store_rows.specs.claim.Rows.{KeyMap}
 use Rattle.store_holdings.specs.Checks.{CheckErr}
 
 -- what follows of a result

@@ -5,12 +5,12 @@ use Rattle.std.specs.BTreeMap.{BTreeMap, get as count_at}
 use Rattle.std.specs.Ordering.{nat_cmp, eq_by_cmp}
 use Rattle.std.specs.List.{starts_with}
 use Rattle.std.specs.FinMap.{entries, find, get}
-use Rattle.page_node.specs.Entries.{Entry}
+use Rattle.page_node.specs.claim.Entries.{Entry}
 use Rattle.btree_scan.specs.Prefixes.{under}
-use Rattle.store_rows.specs.Keys.{key_of, Fits, tally, in_eight}
-use Rattle.store_rows.specs.Order.{key_cmp}
-use Rattle.store_rows.specs.Rows.{KeyMap, row_in, Has}
-use Rattle.store_rows.specs.Holders.{AreHolders, IsTallied, AreTallied, tally_row}
+use Rattle.store_rows.specs.claim.Keys.{key_of, Fits, tally, in_eight}
+use Rattle.store_rows.specs.claim.Order.{key_cmp}
+use Rattle.store_rows.specs.claim.Rows.{KeyMap, row_in, Has}
+use Rattle.store_rows.specs.claim.Holders.{AreHolders, IsTallied, AreTallied, tally_row}
 use Rattle.store_rows.proofs.Frames.{is_equal, same_key}
 use Rattle.store_rows.proofs.OneGeography.{no_value, value_is}
 use Rattle.store_rows.proofs.Tallies.{eight_says}

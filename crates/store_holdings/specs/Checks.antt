@@ -1,35 +1,24 @@
--- Whether chunks are counted, and held by the plans that name them.
+-- What no promise rests on, beside claim/Checks.antt.
 use Rattle.std.specs.Prelude.{◌≡◌, ◌⊎◌, ◌<◌, ◌+◌, ◌^◌, ℕ, zero, suc, Bool, true, false, List, [], ◌++◌, drop, length, Option, Some, None, Contains}
 use Rattle.std.specs.FinMap.{get as row_at}
 use Rattle.std.specs.BTreeMap.{BTreeMap, Updates, get as count_at}
 use Rattle.std.specs.Ordering.{nat_cmp}
 use Rattle.sector_device.specs.declared.SectorDevice.{Ghosts}
-use Rattle.page_store.specs.Transactions.{stored, disk_in, has_halted, HasFailed}
+use Rattle.page_store.specs.claim.Transactions.{stored, disk_in, has_halted, HasFailed}
 use Rattle.page_store.specs.declared.pages.Pages.{Pages}
 use Rattle.page_store.specs.declared.txn.Txn.{Txn}
-use Rattle.page_node.specs.Entries.{Entry}
-use Rattle.page_btree.specs.Map.{InTxn}
+use Rattle.page_node.specs.claim.Entries.{Entry}
+use Rattle.page_btree.specs.claim.Map.{InTxn}
 use Rattle.page_btree.specs.declared.error.TreeError.{TreeError}
 use Rattle.page_btree.specs.declared.error.TreeError.TheVariants.{DeviceFault, Halted, NoPages, TooDeep, Memory}
 use Rattle.btree_scan.specs.declared.rows.Row.{Row}
-use Rattle.store_rows.specs.Keys.{key_of, Fits, holding, retired, tally, part, in_eight}
-use Rattle.store_rows.specs.Lists.{AreChunks, chunks_bytes}
-use Rattle.store_rows.specs.Rows.{KeyMap, Has}
-use Rattle.store_rows.specs.Holders.{IsHeld, AreHolders, AreTallied}
+use Rattle.store_rows.specs.claim.Keys.{key_of, Fits, holding, tally, part, in_eight}
+use Rattle.store_rows.specs.claim.Lists.{AreChunks, chunks_bytes}
+use Rattle.store_rows.specs.claim.Rows.{KeyMap, Has}
+use Rattle.store_rows.specs.claim.Holders.{AreHolders}
 use Rattle.store_rows.specs.TurnLaws.{IsShared}
-use Rattle.store_rows.specs.Tidy.{IsNamedBy, Tidy}
-
--- the plan holds the chunk, or it was taken away
-abbrev pub IsHeldOrGone : KeyMap → ℕ → ℕ → Type 0
-IsHeldOrGone m plan number = IsHeld m plan number ⊎ Has m (retired plan) []
-
-abbrev pub AreNamesHeld : KeyMap → Type 0
-AreNamesHeld m = (plan number : ℕ) → IsNamedBy m plan number → IsHeldOrGone m plan number
-
--- The count of each chunk is that of the plans that hold it, and a plan that wasn't taken away holds each chunk that a part of it names.
-pub record AreSoundHoldings (m : KeyMap) : Type 0 where
-  pub tallied : AreTallied m
-  pub named : AreNamesHeld m
+use Rattle.store_rows.specs.claim.Tidy.{Tidy}
+use Rattle.store_holdings.specs.claim.Checks.{IsHeldOrGone}
 
 -- the rows are tidy, in the new version
 pub record IsNewTidy (m : KeyMap) : Type 0 where

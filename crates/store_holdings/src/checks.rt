@@ -1,9 +1,10 @@
 //! Checks which plans hold chunks.
 ghost use Rattle.std.specs.Prelude.{◌≡◌, OnOk, IfErr};
-ghost use Rattle.page_store.specs.Transactions.{stored, disk_in, count_of, txn_pages, IsQuiet, Passed};
-ghost use Rattle.page_btree.specs.Map.{InTxn};
-ghost use Rattle.store_rows.specs.Rows.{KeyMap};
-ghost use Rattle.store_holdings.specs.Checks.{AreSoundHoldings, CheckErr, IsNewTidy};
+ghost use Rattle.page_store.specs.claim.Transactions.{stored, disk_in, count_of, txn_pages, IsQuiet, Passed};
+ghost use Rattle.page_btree.specs.claim.Map.{InTxn};
+ghost use Rattle.store_rows.specs.claim.Rows.{KeyMap};
+ghost use Rattle.store_holdings.specs.claim.Checks.{AreSoundHoldings};
+ghost use Rattle.store_holdings.specs.Checks.{CheckErr, IsNewTidy};
 
 use crate::counts::{check_counts, count_holders};
 use crate::names::check_names;

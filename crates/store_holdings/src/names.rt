@@ -1,9 +1,10 @@
 //! Checks that plans hold the chunks that they name.
 ghost use Rattle.std.specs.Prelude.{◌≡◌, ◌<◌, ◌^◌, All, OnOk, IfErr};
-ghost use Rattle.page_store.specs.Transactions.{stored, disk_in, count_of, txn_pages, IsQuiet, Passed};
-ghost use Rattle.page_btree.specs.Map.{InTxn};
-ghost use Rattle.store_rows.specs.Rows.{KeyMap};
-ghost use Rattle.store_holdings.specs.Checks.{AreNamesHeld, CheckErr, IsEntryNamed, IsHeldOrGone, IsNewTidy, IsPartRow};
+ghost use Rattle.page_store.specs.claim.Transactions.{stored, disk_in, count_of, txn_pages, IsQuiet, Passed};
+ghost use Rattle.page_btree.specs.claim.Map.{InTxn};
+ghost use Rattle.store_rows.specs.claim.Rows.{KeyMap};
+ghost use Rattle.store_holdings.specs.claim.Checks.{AreNamesHeld, IsHeldOrGone};
+ghost use Rattle.store_holdings.specs.Checks.{CheckErr, IsEntryNamed, IsNewTidy, IsPartRow};
 
 use crate::rows::{is_marked, plan_in};
 use btree_scan::{Row, Scan, row_limit};

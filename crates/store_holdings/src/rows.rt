@@ -1,11 +1,11 @@
 //! Rows by their keys.
 ghost use Rattle.std.specs.Prelude.{◌≡◌, ◌<◌, ◌^◌, ℕ, List, [], ◌++◌, true, false, None, length, take, drop, MatchOption, OnOk, IfOk, IfErr};
 ghost use Rattle.std.specs.FinMap.{get as row_at};
-ghost use Rattle.page_store.specs.Transactions.{stored, disk_in, count_of, txn_pages, IsQuiet, Passed};
-ghost use Rattle.page_btree.specs.Map.{InTxn};
-ghost use Rattle.page_btree.specs.Errors.{GetErr};
-ghost use Rattle.store_rows.specs.Keys.{in_eight};
-ghost use Rattle.store_rows.specs.Rows.{KeyMap};
+ghost use Rattle.page_store.specs.claim.Transactions.{stored, disk_in, count_of, txn_pages, IsQuiet, Passed};
+ghost use Rattle.page_btree.specs.claim.Map.{InTxn};
+ghost use Rattle.page_btree.specs.claim.Errors.{GetErr};
+ghost use Rattle.store_rows.specs.claim.Keys.{in_eight};
+ghost use Rattle.store_rows.specs.claim.Rows.{KeyMap};
 ghost use Rattle.store_holdings.specs.Checks.{IsMarkedAs, IsThere};
 
 use btree_scan::Row;

@@ -7,16 +7,17 @@ use Rattle.std.proofs.lemmas.Bool.{cases_Bool, cases_lt, both_ways}
 use Rattle.std.proofs.Math.ListN.{get_or-append}
 use Rattle.std.proofs.Math.Seq.{get_or-append_seam}
 use Rattle.desk_model.specs.declared.kind.Kind.{Kind}
-use Rattle.desk_model.specs.Geography.{Ground}
-use Rattle.desk_model.specs.Cuts.{cut}
-use Rattle.desk_model.specs.Desk.{Plan, name_cmp}
-use Rattle.desk_model.specs.Name.{IsPlanName}
-use Rattle.store_rows.specs.Keys.{key_of, named, retired}
-use Rattle.store_rows.specs.Order.{key_cmp}
-use Rattle.store_rows.specs.Values.{plan_bytes}
-use Rattle.store_rows.specs.Rows.{KeyMap, row_in, SameTag}
-use Rattle.store_rows.specs.RevisionRows.{HasRevision}
-use Rattle.store_rows.specs.DeskRows.{HasPlan, IsPlanAt, IsDesk, most_revisions}
+use Rattle.desk_model.specs.claim.Geography.{Ground}
+use Rattle.desk_model.specs.claim.Cuts.{cut}
+use Rattle.desk_model.specs.claim.Desk.{Plan, name_cmp}
+use Rattle.desk_model.specs.claim.Name.{IsPlanName}
+use Rattle.store_rows.specs.claim.Keys.{key_of, named, retired}
+use Rattle.store_rows.specs.claim.Order.{key_cmp}
+use Rattle.store_rows.specs.claim.Values.{plan_bytes}
+use Rattle.store_rows.specs.claim.Rows.{KeyMap, row_in}
+use Rattle.store_rows.specs.Rows.{SameTag}
+use Rattle.store_rows.specs.claim.RevisionRows.{HasRevision}
+use Rattle.store_rows.specs.claim.DeskRows.{HasPlan, IsPlanAt, IsDesk, most_revisions}
 use Rattle.store_rows.proofs.Frames.{same_key, is_equal, differs, itself, put_is_there, put_keeps, removed_is_gone, remove_keeps, put_keeps_tag, remove_keeps_tag, tag_follows, geography_stays, revision_stays}
 use Rattle.store_rows.specs.Changes.{IsRevised, RevisionsStay, desk_with, plan_row_of, with_revision}
 

@@ -1,13 +1,13 @@
 -- Lemmas on the definitions of ChunkRows.
 use Rattle.std.proofs.Common.{◌≡◌, ◌<◌, ◌≤◌, ◌*◌, ◌^◌, ℕ, cond, List, length, take, drop, All, Some, None, sym, ap, ◌∙◌, inl, inr, arith}
 use Rattle.std.proofs.lemmas.Bool.{cases_lt, lt-ltb, le-ltb}
-use Rattle.desk_model.specs.Room.{rows_for}
-use Rattle.store_rows.specs.Keys.{RowKey, key_of, counters, retired, begun, holding, tally, named, part, seal, version, block, pair, chunk}
-use Rattle.store_rows.specs.Lists.{districts_bytes}
+use Rattle.desk_model.specs.claim.Room.{rows_for}
+use Rattle.store_rows.specs.claim.Keys.{RowKey, key_of, counters, retired, begun, holding, tally, named, part, seal, version, block, pair, chunk}
+use Rattle.store_rows.specs.claim.Lists.{districts_bytes}
 use Rattle.store_rows.proofs.RowLaws.{keys_differ}
-use Rattle.store_rows.specs.Rows.{KeyMap}
-use Rattle.store_rows.specs.RevisionRows.{HasChunk}
-use Rattle.store_rows.specs.Puts.{put_rows}
+use Rattle.store_rows.specs.claim.Rows.{KeyMap}
+use Rattle.store_rows.specs.claim.RevisionRows.{HasChunk}
+use Rattle.store_rows.specs.claim.Puts.{put_rows}
 use Rattle.store_rows.proofs.Puts.{told_keep, told_are}
 use Rattle.store_rows.specs.ChunkRows.{IsFreeChunk, chunk_rows, piece_row}
 

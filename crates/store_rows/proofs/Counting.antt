@@ -1,9 +1,9 @@
 -- Plans that hold a chunk are counted off, one more or one fewer.
 use Rattle.std.proofs.Common.{◌≡◌, ◌⊎◌, ◌<◌, ◌≤◌, ◌^◌, ℕ, zero, suc, Bool, true, false, cond, eqb, ltb, refl, sym, ap, subst, ◌∙◌, inl, inr, arith}
 use Rattle.std.proofs.lemmas.Bool.{cases_eq, cases_lt, lt-ltb, le-ltb, eq-eqb, ne_eqb, eqb-true, eqb-false}
-use Rattle.store_rows.specs.Keys.{holding}
-use Rattle.store_rows.specs.Rows.{KeyMap, row_in}
-use Rattle.store_rows.specs.Holders.{IsHeld, AreHolders}
+use Rattle.store_rows.specs.claim.Keys.{holding}
+use Rattle.store_rows.specs.claim.Rows.{KeyMap, row_in}
+use Rattle.store_rows.specs.claim.Holders.{IsHeld, AreHolders}
 
 -- ---- numbers below a limit, each once, are no more than it
 abbrev avoiding : (ℕ → ℕ) → ℕ → ℕ → ℕ → ℕ

@@ -6,15 +6,16 @@ use Rattle.std.specs.Cmp.Lexicographic.{pointwise, same_text}
 use Rattle.std.proofs.lemmas.Bool.{cases_Bool, not-false}
 use Rattle.std.proofs.lemmas.List.Elements.{All-nil, All-cons}
 use Rattle.std.proofs.lemmas.List.Sums.{sum_by-cons}
-use Rattle.desk_model.specs.Geography.{Ground}
-use Rattle.desk_model.specs.Cuts.{sizes}
-use Rattle.desk_model.specs.Room.{rows_for, differs, changed, revision_rows}
-use Rattle.store_rows.specs.Keys.{key_of, counters, named}
-use Rattle.store_rows.specs.Values.{plan_bytes, counters_bytes}
+use Rattle.desk_model.specs.claim.Geography.{Ground}
+use Rattle.desk_model.specs.claim.Cuts.{sizes}
+use Rattle.desk_model.specs.claim.Room.{rows_for, differs, changed, revision_rows}
+use Rattle.store_rows.specs.claim.Keys.{key_of, counters, named}
+use Rattle.store_rows.specs.claim.Values.{plan_bytes, counters_bytes}
 use Rattle.store_rows.specs.declared.value.Counters.{Counters}
 use Rattle.store_rows.specs.declared.value.PlanRow.{PlanRow}
-use Rattle.store_rows.specs.Rows.{KeyMap}
-use Rattle.store_rows.specs.Puts.{Row, rows_told}
+use Rattle.store_rows.specs.claim.Rows.{KeyMap}
+use Rattle.store_rows.specs.claim.Puts.{Row}
+use Rattle.store_rows.specs.Puts.{rows_told}
 use Rattle.store_rows.proofs.Puts.{length-rows_told}
 use Rattle.store_rows.specs.ChunkRows.{piece_row, chunk_rows}
 use Rattle.store_rows.specs.NameRows.{name_row, name_rows}

@@ -4,27 +4,28 @@ use Rattle.std.specs.Prelude.{Contains}
 use Rattle.std.specs.FinMap.{FinMap, get, insert}
 use Rattle.std.proofs.lemmas.Bool.{cases_eq, cases_lt, le-ltb}
 use Rattle.std.proofs.lemmas.List.Elements.{All-nil}
-use Rattle.desk_model.specs.Geography.{Ground}
-use Rattle.desk_model.specs.Cuts.{cut}
-use Rattle.desk_model.specs.Desk.{Plan, name_cmp}
-use Rattle.desk_model.specs.Room.{rows_for}
-use Rattle.store_rows.specs.Keys.{RowKey, key_of, Fits, counters, holding, named, part}
-use Rattle.store_rows.specs.Values.{plan_bytes, counters_bytes}
-use Rattle.store_rows.specs.Lists.{chunks_bytes}
+use Rattle.desk_model.specs.claim.Geography.{Ground}
+use Rattle.desk_model.specs.claim.Cuts.{cut}
+use Rattle.desk_model.specs.claim.Desk.{Plan, name_cmp}
+use Rattle.desk_model.specs.claim.Room.{rows_for}
+use Rattle.store_rows.specs.claim.Keys.{RowKey, key_of, Fits, counters, holding, named, part}
+use Rattle.store_rows.specs.claim.Values.{plan_bytes, counters_bytes}
+use Rattle.store_rows.specs.claim.Lists.{chunks_bytes}
 use Rattle.store_rows.proofs.RowLaws.{keys_differ}
 use Rattle.store_rows.specs.declared.value.PlanRow.{PlanRow}
-use Rattle.store_rows.specs.Rows.{KeyMap, row_in, Has, SameTag, part_row}
+use Rattle.store_rows.specs.claim.Rows.{KeyMap, row_in, Has, part_row}
+use Rattle.store_rows.specs.Rows.{SameTag}
 use Rattle.store_rows.proofs.Frames.{put_is_there, put_keeps, put_keeps_tag, other_tag, tag_follows}
-use Rattle.store_rows.specs.Puts.{Row, put_rows}
+use Rattle.store_rows.specs.claim.Puts.{Row, put_rows}
 use Rattle.store_rows.proofs.Puts.{put_rows-append, told_are, told_keep}
 use Rattle.store_rows.specs.NameRows.{name_row, name_rows}
 use Rattle.store_rows.proofs.NameRows.{names_keep_tag}
-use Rattle.store_rows.specs.DeskRows.{HasPlan, IsDesk, most_revisions}
+use Rattle.store_rows.specs.claim.DeskRows.{HasPlan, IsDesk, most_revisions}
 use Rattle.store_rows.specs.Changes.{desk_with, plan_row_of}
 use Rattle.store_rows.proofs.Changes.{other_row}
 use Rattle.store_rows.specs.Steps.{chunks_more, one_revision_more}
 use Rattle.store_rows.specs.RevisionSteps.{IsChunkList, AreItsChunks, AddsRevision, AreKept, IsDrawn}
-use Rattle.store_rows.specs.Tidy.{Tidy}
+use Rattle.store_rows.specs.claim.Tidy.{Tidy}
 use Rattle.store_rows.specs.TidyLaws.{MakesRevision}
 use Rattle.store_rows.specs.Shares.{CanHold, Holds, hold_all, with_shared}
 use Rattle.store_rows.proofs.PartNumbers.{part_there}

@@ -4,8 +4,8 @@ use Rattle.std.specs.List.{slice_range, flat_map}
 use Rattle.std.proofs.lemmas.List.{append-nil}
 use Rattle.std.proofs.lemmas.Grind.{flat_map-append}
 use Rattle.std.proofs.Math.Seq.{take-add}
-use Rattle.store_rows.specs.Keys.{in_two, in_eight}
-use Rattle.store_rows.specs.Lists.{chunks_bytes, districts_bytes}
+use Rattle.store_rows.specs.claim.Keys.{in_two, in_eight}
+use Rattle.store_rows.specs.claim.Lists.{chunks_bytes, districts_bytes}
 
 pub length-chunks : (numbers : List ℕ) → length (chunks_bytes numbers) ≡ 8 * length numbers
 length-chunks [] = refl

@@ -3,14 +3,17 @@ use Rattle.std.proofs.Common.{true, ◌≡◌, ◌<◌, ◌^◌, ℕ, List, [], 
 use Rattle.std.specs.Prelude.{Contains}
 use Rattle.std.specs.FinMap.{empty, get-empty}
 use Rattle.std.proofs.lemmas.Bool.{cases_eq}
-use Rattle.store_rows.specs.Keys.{key_of, Fits, holding, part, version, in_four}
-use Rattle.store_rows.specs.Order.{key_cmp}
-use Rattle.store_rows.specs.Lists.{chunks_bytes}
-use Rattle.store_rows.specs.Rows.{KeyMap, Has, SameTag}
+use Rattle.store_rows.specs.claim.Keys.{key_of, Fits, holding, part, version, in_four}
+use Rattle.store_rows.specs.claim.Order.{key_cmp}
+use Rattle.store_rows.specs.claim.Lists.{chunks_bytes}
+use Rattle.store_rows.specs.claim.Rows.{KeyMap, Has}
+use Rattle.store_rows.specs.Rows.{SameTag}
 use Rattle.store_rows.proofs.Frames.{put_is_there, put_keeps_tag, desk_stays}
-use Rattle.store_rows.specs.Holders.{IsHeld}
-use Rattle.store_rows.specs.Tidy.{no_numbers, IsNumbered, IsNamedBy, AllHold, AreHoldings, Tidy, TidyWith}
-use Rattle.store_rows.specs.Shares.{CanHold, Holds, hold}
+use Rattle.store_rows.specs.claim.Holders.{IsHeld}
+use Rattle.store_rows.specs.claim.Tidy.{no_numbers, IsNumbered, IsNamedBy, AllHold, AreHoldings, Tidy}
+use Rattle.store_rows.specs.Tidy.{TidyWith}
+use Rattle.store_rows.specs.Shares.{CanHold, Holds}
+use Rattle.store_rows.specs.claim.Shares.{hold}
 use Rattle.store_rows.specs.MigrationLaws.{as_new, IsMigrated, HoldsNamed}
 use Rattle.store_rows.proofs.OneGeography.{no_value}
 use Rattle.store_rows.proofs.TidyParts.{AllKept, kept_of, tidy_at, next_moves, numbered_moves, naming_moves, plans_stay, chunks_stay, loads_stay, rows_put}

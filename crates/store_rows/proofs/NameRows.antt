@@ -1,13 +1,15 @@
 -- Lemmas on the definitions of NameRows.
 use Rattle.std.proofs.Common.{◌≡◌, ◌<◌, ◌≤◌, ◌*◌, ◌^◌, ℕ, cond, List, ◌∷◌, length, take, drop, All, Some, None, refl, sym, ap, ◌∙◌, inl, inr, arith}
 use Rattle.std.proofs.lemmas.Bool.{cases_lt, lt-ltb, le-ltb}
-use Rattle.desk_model.specs.Room.{rows_for}
-use Rattle.store_rows.specs.Keys.{key_of, part, chunk}
-use Rattle.store_rows.specs.Lists.{chunks_bytes}
+use Rattle.desk_model.specs.claim.Room.{rows_for}
+use Rattle.store_rows.specs.claim.Keys.{key_of, part, chunk}
+use Rattle.store_rows.specs.claim.Lists.{chunks_bytes}
 use Rattle.store_rows.proofs.RowLaws.{keys_differ}
-use Rattle.store_rows.specs.Rows.{KeyMap, SameTag}
-use Rattle.store_rows.specs.RevisionRows.{NamesChunks, HasRevision}
-use Rattle.store_rows.specs.Puts.{Row, put_rows, rows_told}
+use Rattle.store_rows.specs.claim.Rows.{KeyMap}
+use Rattle.store_rows.specs.Rows.{SameTag}
+use Rattle.store_rows.specs.claim.RevisionRows.{NamesChunks, HasRevision}
+use Rattle.store_rows.specs.claim.Puts.{Row, put_rows}
+use Rattle.store_rows.specs.Puts.{rows_told}
 use Rattle.store_rows.proofs.Puts.{told_keep, told_are}
 use Rattle.store_rows.specs.ChunkRows.{chunk_rows, piece_row}
 use Rattle.store_rows.proofs.Frames.{chunk_stays}

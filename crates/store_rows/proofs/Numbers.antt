@@ -7,7 +7,8 @@ use Rattle.std.proofs.lemmas.Bool.Decides.{nat_tests}
 use Rattle.std.specs.Int.{byte_at, bytes_high_first}
 use Rattle.std.specs.Ordering.{nat_cmp, ordering_then}
 use Rattle.std.specs.declared.cmp.Ordering.TheVariants.{Less, Equal, Greater}
-use Rattle.store_rows.specs.Order.{key_cmp, NumbersDecide}
+use Rattle.store_rows.specs.claim.Order.{key_cmp}
+use Rattle.store_rows.specs.Order.{NumbersDecide}
 
 nat_cmp_same : (n : ℕ) → nat_cmp n n ≡ Equal
 nat_cmp_same n = grind (arith, nat_tests)

@@ -3,24 +3,24 @@ use Rattle.std.proofs.Common.{All, ◌≡◌, ◌<◌, ◌≤◌, ◌+◌, ◌-�
 use Rattle.std.specs.FinMap.{FinMap, get}
 use Rattle.std.proofs.lemmas.Bool.{lt-ltb}
 use Rattle.std.proofs.lemmas.List.{get_or_default}
-use Rattle.desk_model.specs.Geography.{Ground}
-use Rattle.desk_model.specs.Cuts.{cut}
-use Rattle.desk_model.specs.Desk.{Plan, name_cmp}
-use Rattle.store_rows.specs.Keys.{Fits, named}
-use Rattle.store_rows.specs.Values.{plan_bytes}
-use Rattle.store_rows.specs.Lists.{districts_bytes}
+use Rattle.desk_model.specs.claim.Geography.{Ground}
+use Rattle.desk_model.specs.claim.Cuts.{cut}
+use Rattle.desk_model.specs.claim.Desk.{Plan, name_cmp}
+use Rattle.store_rows.specs.claim.Keys.{Fits, named}
+use Rattle.store_rows.specs.claim.Values.{plan_bytes}
+use Rattle.store_rows.specs.claim.Lists.{districts_bytes}
 use Rattle.store_rows.specs.declared.value.Counters.{Counters}
 use Rattle.store_rows.specs.declared.value.PlanRow.{PlanRow}
-use Rattle.store_rows.specs.Rows.{KeyMap, Has}
-use Rattle.store_rows.specs.RevisionRows.{HasChunk, NamesChunks, HasRevision}
-use Rattle.store_rows.specs.Puts.{put_rows}
-use Rattle.store_rows.specs.DeskRows.{HasPlan, IsDesk, most_revisions}
+use Rattle.store_rows.specs.claim.Rows.{KeyMap, Has}
+use Rattle.store_rows.specs.claim.RevisionRows.{HasChunk, NamesChunks, HasRevision}
+use Rattle.store_rows.specs.claim.Puts.{put_rows}
+use Rattle.store_rows.specs.claim.DeskRows.{HasPlan, IsDesk, most_revisions}
 use Rattle.store_rows.specs.Changes.{IsRevised, RevisionsStay, desk_with, plan_row_of, with_revision}
 use Rattle.store_rows.proofs.Changes.{plan_revised}
 use Rattle.store_rows.proofs.Frames.{chunk_stays}
 use Rattle.store_rows.specs.Steps.{chunks_more}
 use Rattle.store_rows.specs.RevisionSteps.{IsGiven, AreItsChunks, AddsRevision, IsChunkList, AreKept, IsDrawn, new_chunk_rows, rows_of_revision}
-use Rattle.store_rows.specs.Tidy.{IsNumbered, IsNamedBy, Tidy}
+use Rattle.store_rows.specs.claim.Tidy.{IsNumbered, IsNamedBy, Tidy}
 use Rattle.store_rows.specs.TidyLaws.{MakesRevision}
 use Rattle.store_rows.proofs.OneChunk.{one_naming}
 use Rattle.store_rows.proofs.SweepPlans.{numbers_named}

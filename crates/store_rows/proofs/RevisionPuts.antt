@@ -3,23 +3,25 @@ use Rattle.std.proofs.Common.{Bool, true, false, ◌≡◌, ◌<◌, ◌≤◌, 
 use Rattle.std.proofs.lemmas.Bool.{cases_eq, cases_lt, le-ltb}
 use Rattle.std.proofs.lemmas.List.Elements.{All-cons, All-nil, All-append}
 use Rattle.std.specs.FinMap.{get, insert}
-use Rattle.desk_model.specs.Room.{rows_for}
-use Rattle.store_rows.specs.Keys.{RowKey, key_of, Fits, counters, retired, begun, holding, tally, named, part, seal, version, block, pair, chunk, in_eight}
-use Rattle.store_rows.specs.Values.{plan_bytes, counters_bytes}
-use Rattle.store_rows.specs.Lists.{chunks_bytes}
+use Rattle.desk_model.specs.claim.Room.{rows_for}
+use Rattle.store_rows.specs.claim.Keys.{RowKey, key_of, Fits, counters, retired, begun, holding, tally, named, part, seal, version, block, pair, chunk, in_eight}
+use Rattle.store_rows.specs.claim.Values.{plan_bytes, counters_bytes}
+use Rattle.store_rows.specs.claim.Lists.{chunks_bytes}
 use Rattle.store_rows.proofs.RowLaws.{keys_differ}
 use Rattle.store_rows.specs.declared.value.Counters.{Counters}
 use Rattle.store_rows.specs.declared.value.PlanRow.{PlanRow}
-use Rattle.store_rows.specs.Rows.{KeyMap, row_in, Has, SameTag, part_row}
+use Rattle.store_rows.specs.claim.Rows.{KeyMap, row_in, Has, part_row}
+use Rattle.store_rows.specs.Rows.{SameTag}
 use Rattle.store_rows.proofs.Frames.{put_is_there, put_keeps, other_tag}
-use Rattle.store_rows.specs.Puts.{Row, put_rows, rows_told}
+use Rattle.store_rows.specs.claim.Puts.{Row, put_rows}
+use Rattle.store_rows.specs.Puts.{rows_told}
 use Rattle.store_rows.proofs.Puts.{put_rows-append, told_are, told_keep}
 use Rattle.store_rows.specs.ChunkRows.{piece_row, chunk_rows}
 use Rattle.store_rows.specs.NameRows.{name_row, name_rows}
 use Rattle.store_rows.specs.Steps.{chunks_more, one_revision_more}
 use Rattle.store_rows.specs.RevisionSteps.{IsGiven, AreItsChunks, AddsRevision, IsChunkList, new_chunk_rows, new_holding, new_tally, told_held, rows_of_revision}
-use Rattle.store_rows.specs.Holders.{IsHeld, AreTallied}
-use Rattle.store_rows.specs.Tidy.{IsPiece, IsNamedBy, Tidy}
+use Rattle.store_rows.specs.claim.Holders.{IsHeld, AreTallied}
+use Rattle.store_rows.specs.claim.Tidy.{IsPiece, IsNamedBy, Tidy}
 use Rattle.store_rows.proofs.OneGeography.{value_is, no_value}
 use Rattle.store_rows.proofs.NewChunks.{pieces_are}
 use Rattle.store_rows.proofs.PartNumbers.{part_there}

@@ -2,7 +2,7 @@
 use Rattle.std.proofs.Common.{◌≡◌, ◌%◌, ℕ, List, [], ◌∷◌, drop, get_or, if◌then◌else◌, nat_eq, refl, sym, ap, ◌∙◌, w16, w32, w64, arith}
 use Rattle.std.specs.Int.{from_be_bytes}
 use Rattle.std.proofs.lemmas.Nat.{from_be_bytes-to_be_bytes_2, from_be_bytes-to_be_bytes_4, from_be_bytes-to_be_bytes_8}
-use Rattle.store_rows.specs.Keys.{RowKey, counters, retired, begun, holding, tally, named, part, seal, version, block, pair, chunk, key_of, Fits}
+use Rattle.store_rows.specs.claim.Keys.{RowKey, counters, retired, begun, holding, tally, named, part, seal, version, block, pair, chunk, key_of, Fits}
 
 load_row : ℕ → ℕ → ℕ → RowKey
 load_row load kind place = if nat_eq kind 98 then block load place else pair load place

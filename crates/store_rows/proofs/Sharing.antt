@@ -4,12 +4,15 @@ use Rattle.std.specs.Prelude.{Contains}
 use Rattle.std.proofs.lemmas.Bool.{cases_eq}
 use Rattle.std.proofs.lemmas.Nat.{from_be_bytes-to_be_bytes_8}
 use Rattle.std.specs.FinMap.{insert}
-use Rattle.store_rows.specs.Keys.{key_of, Fits, holding, tally, in_eight}
-use Rattle.store_rows.specs.Rows.{KeyMap, row_in, Has, SameTag}
+use Rattle.store_rows.specs.claim.Keys.{key_of, Fits, holding, tally, in_eight}
+use Rattle.store_rows.specs.claim.Rows.{KeyMap, row_in, Has}
+use Rattle.store_rows.specs.Rows.{SameTag}
 use Rattle.store_rows.proofs.Frames.{put_keeps_tag, put_keeps_row, tag_follows}
-use Rattle.store_rows.specs.Holders.{IsHeld, IsTallied, AreHoldersBelow, tally_row}
+use Rattle.store_rows.specs.claim.Holders.{IsHeld, IsTallied, tally_row}
+use Rattle.store_rows.specs.Holders.{AreHoldersBelow}
 use Rattle.store_rows.specs.HolderLaws.{JoinsHolders}
-use Rattle.store_rows.specs.Shares.{count_of, hold_by, hold, hold_all, AreEmpty, CanHold, Holds}
+use Rattle.store_rows.specs.claim.Shares.{count_of, hold_by, hold}
+use Rattle.store_rows.specs.Shares.{hold_all, AreEmpty, CanHold, Holds}
 use Rattle.store_rows.proofs.OneGeography.{value_is}
 use Rattle.store_rows.proofs.TidyParts.{rows_put}
 use Rattle.store_rows.proofs.Tallies.{joins_holders, held_too, too_holdings, too_held}

@@ -9,13 +9,15 @@ use Rattle.std.proofs.lemmas.List.Elements.{All-push}
 use Rattle.std.proofs.lemmas.Option.{get_or_from_slice_get, slice_get_within}
 use Rattle.desk_model.specs.declared.block.BlockRow.{BlockRow}
 use Rattle.desk_model.specs.declared.geography.Pair.{Pair}
-use Rattle.desk_model.specs.Geography.{Ground, IsGround}
-use Rattle.desk_model.specs.Desk.{Plan, name_cmp}
-use Rattle.store_rows.specs.Keys.{key_of, block, pair, seal, named}
-use Rattle.store_rows.specs.Values.{block_bytes, seal_bytes}
-use Rattle.store_rows.specs.Rows.{KeyMap, row_in, SameTag, element_row}
-use Rattle.store_rows.specs.GeographyRows.{IsBlockRow, IsStaged, geography_rows, neighbours_bytes}
-use Rattle.store_rows.specs.DeskRows.{IsPlanAt, IsDesk}
+use Rattle.desk_model.specs.claim.Geography.{Ground}
+use Rattle.desk_model.specs.claim.Grounds.{IsGround}
+use Rattle.desk_model.specs.claim.Desk.{Plan, name_cmp}
+use Rattle.store_rows.specs.claim.Keys.{key_of, block, pair, seal, named}
+use Rattle.store_rows.specs.claim.Values.{block_bytes, seal_bytes}
+use Rattle.store_rows.specs.claim.Rows.{KeyMap, row_in, element_row}
+use Rattle.store_rows.specs.Rows.{SameTag}
+use Rattle.store_rows.specs.claim.GeographyRows.{IsBlockRow, IsStaged, geography_rows, neighbours_bytes}
+use Rattle.store_rows.specs.claim.DeskRows.{IsPlanAt, IsDesk}
 use Rattle.store_rows.specs.Changes.{desk_with}
 use Rattle.store_rows.proofs.Frames.{put_is_there, put_keeps_row, put_keeps_tag, staged_stays}
 use Rattle.store_rows.specs.Staging.{desk_without}

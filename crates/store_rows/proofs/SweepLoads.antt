@@ -2,14 +2,15 @@
 use Rattle.std.proofs.Common.{◌≡◌, ◌<◌, ◌^◌, ℕ, List, [], ◌∷◌, ◌++◌, length, Option, Some, None, refl, sym, ap, subst, ◌∙◌, inl, inr, arith}
 use Rattle.std.specs.FinMap as map_of
 use Rattle.std.specs.FinMap.{get, remove}
-use Rattle.desk_model.specs.Geography.{Ground}
-use Rattle.desk_model.specs.Desk.{Desk}
-use Rattle.store_rows.specs.Keys.{RowKey, key_of, Fits, begun, block, pair, in_eight, in_four}
-use Rattle.store_rows.specs.Rows.{KeyMap, row_in, Has, Lacks, SameTag}
-use Rattle.store_rows.specs.GeographyRows.{IsSealed, IsGeography}
-use Rattle.store_rows.specs.DeskRows.{IsDesk}
+use Rattle.desk_model.specs.claim.Geography.{Ground}
+use Rattle.desk_model.specs.claim.Desk.{Desk}
+use Rattle.store_rows.specs.claim.Keys.{RowKey, key_of, Fits, begun, block, pair, in_eight, in_four}
+use Rattle.store_rows.specs.claim.Rows.{KeyMap, row_in, Has, Lacks}
+use Rattle.store_rows.specs.Rows.{SameTag}
+use Rattle.store_rows.specs.claim.GeographyRows.{IsSealed, IsGeography}
+use Rattle.store_rows.specs.claim.DeskRows.{IsDesk}
 use Rattle.store_rows.proofs.Frames.{remove_keeps_row, remove_keeps_tag, plan_at_stays, desk_stays}
-use Rattle.store_rows.specs.Tidy.{IsLoad, Tidy}
+use Rattle.store_rows.specs.claim.Tidy.{IsLoad, Tidy}
 use Rattle.store_rows.specs.SweepLaws.{IsSwept}
 use Rattle.store_rows.proofs.OneGeography.{no_value}
 use Rattle.store_rows.proofs.TidyParts.{load_moves, AllKept, kept_of, stays_tidy, plans_stay, chunks_stay, holders_stay, rows_removed}

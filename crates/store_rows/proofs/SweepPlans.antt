@@ -3,17 +3,18 @@ use Rattle.std.proofs.Common.{◌≡◌, ◌<◌, ◌^◌, ℕ, List, [], length
 use Rattle.std.specs.Prelude.{Contains}
 use Rattle.std.specs.FinMap as map_of
 use Rattle.std.specs.FinMap.{get, remove}
-use Rattle.desk_model.specs.Geography.{Ground}
-use Rattle.desk_model.specs.Desk.{Desk, Plan}
-use Rattle.store_rows.specs.Keys.{key_of, Fits, retired, named, part, chunk, in_eight}
-use Rattle.store_rows.specs.Values.{plan_bytes}
-use Rattle.store_rows.specs.Rows.{KeyMap, row_in, Has, Lacks, SameTag}
-use Rattle.store_rows.specs.RevisionRows.{NamesChunks}
-use Rattle.store_rows.specs.DeskRows.{HasPlan, IsPlanAt, IsDesk}
+use Rattle.desk_model.specs.claim.Geography.{Ground}
+use Rattle.desk_model.specs.claim.Desk.{Desk, Plan}
+use Rattle.store_rows.specs.claim.Keys.{key_of, Fits, retired, named, part, chunk, in_eight}
+use Rattle.store_rows.specs.claim.Values.{plan_bytes}
+use Rattle.store_rows.specs.claim.Rows.{KeyMap, row_in, Has, Lacks}
+use Rattle.store_rows.specs.Rows.{SameTag}
+use Rattle.store_rows.specs.claim.RevisionRows.{NamesChunks}
+use Rattle.store_rows.specs.claim.DeskRows.{HasPlan, IsPlanAt, IsDesk}
 use Rattle.store_rows.specs.Changes.{plan_row_of, RevisionsStay}
 use Rattle.store_rows.proofs.Changes.{cases_key, plan_at_moves}
 use Rattle.store_rows.proofs.Frames.{removed_is_gone, remove_keeps, remove_keeps_row, remove_keeps_tag, geography_stays, desk_stays}
-use Rattle.store_rows.specs.Tidy.{IsNumbered, IsNamedBy, IsKnown, Tidy}
+use Rattle.store_rows.specs.claim.Tidy.{IsNumbered, IsNamedBy, IsKnown, Tidy}
 use Rattle.store_rows.specs.SweepLaws.{IsSwept}
 use Rattle.store_rows.proofs.OneGeography.{no_value}
 use Rattle.store_rows.proofs.PartNumbers.{part_at, part_there, part_chunks, among_part}

@@ -4,12 +4,14 @@ use Rattle.std.specs.Int.{from_be_bytes}
 use Rattle.std.specs.FinMap.{get, empty, insert, remove, get-empty}
 use Rattle.std.proofs.lemmas.Bool.{cases_eq}
 use Rattle.std.proofs.lemmas.Nat.{from_be_bytes-to_be_bytes_8}
-use Rattle.store_rows.specs.Keys.{key_of, holding, tally, in_eight}
-use Rattle.store_rows.specs.Order.{key_cmp}
-use Rattle.store_rows.specs.Rows.{KeyMap, row_in, Has, Lacks, SameTag}
-use Rattle.store_rows.specs.Puts.{put_rows}
+use Rattle.store_rows.specs.claim.Keys.{key_of, holding, tally, in_eight}
+use Rattle.store_rows.specs.claim.Order.{key_cmp}
+use Rattle.store_rows.specs.claim.Rows.{KeyMap, row_in, Has, Lacks}
+use Rattle.store_rows.specs.Rows.{SameTag}
+use Rattle.store_rows.specs.claim.Puts.{put_rows}
 use Rattle.store_rows.proofs.Frames.{put_is_there, put_keeps_row, put_keeps_tag, removed_is_gone, remove_keeps_row, remove_keeps_tag}
-use Rattle.store_rows.specs.Holders.{IsHeld, AreHolders, IsTallied, AreTallied, AreHoldersBelow, tally_row, holding_rows, with_tally, released}
+use Rattle.store_rows.specs.claim.Holders.{IsHeld, AreHolders, IsTallied, AreTallied, tally_row, holding_rows}
+use Rattle.store_rows.specs.Holders.{AreHoldersBelow, with_tally, released}
 use Rattle.store_rows.specs.HolderLaws.{JoinsHolders, IsHeldByAnother}
 use Rattle.store_rows.proofs.OneGeography.{value_is, no_value}
 use Rattle.store_rows.proofs.Counting.{OthersHold, few_holders, holders_moved, no_holders, holders_joined, holders_left}

@@ -4,15 +4,16 @@ use Rattle.std.specs.Int.{from_be_bytes}
 use Rattle.std.specs.Prelude.{MatchOption}
 use Rattle.std.specs.FinMap.{get, empty, get-empty}
 use Rattle.std.proofs.lemmas.Nat.{from_be_bytes-to_be_bytes_8}
-use Rattle.store_rows.specs.Keys.{key_of, Fits, counters, retired, begun, holding, tally, named, part, version, block, pair, chunk}
-use Rattle.store_rows.specs.Values.{plan_bytes, counters_bytes}
+use Rattle.store_rows.specs.claim.Keys.{key_of, Fits, counters, retired, begun, holding, tally, named, part, version, block, pair, chunk}
+use Rattle.store_rows.specs.claim.Values.{plan_bytes, counters_bytes}
 use Rattle.store_rows.specs.declared.value.Counters.{Counters}
 use Rattle.store_rows.specs.declared.value.PlanRow.{PlanRow}
-use Rattle.store_rows.specs.Order.{key_cmp}
-use Rattle.store_rows.specs.Lists.{chunks_bytes}
-use Rattle.store_rows.specs.Rows.{KeyMap, row_in, Has, Lacks}
+use Rattle.store_rows.specs.claim.Order.{key_cmp}
+use Rattle.store_rows.specs.claim.Lists.{chunks_bytes}
+use Rattle.store_rows.specs.claim.Rows.{KeyMap, row_in, Has, Lacks}
 use Rattle.store_rows.specs.ChunkRows.{IsFreeChunk}
-use Rattle.store_rows.specs.Tidy.{no_numbers, IsNext, CountersFit, IsKnown, IsLoad, Tidy, TidyWith}
+use Rattle.store_rows.specs.claim.Tidy.{no_numbers, IsNext, CountersFit, IsKnown, IsLoad, Tidy}
+use Rattle.store_rows.specs.Tidy.{TidyWith}
 use Rattle.store_rows.proofs.OneGeography.{no_value}
 use Rattle.store_rows.proofs.Tallies.{nothing_tallied, some_holder}
 use Rattle.store_rows.proofs.TidyParts.{some_or_none, AllKept, tidy_at}

@@ -2,19 +2,21 @@
 use Rattle.std.proofs.Common.{◌≡◌, ◌<◌, ◌+◌, ◌^◌, ℕ, suc, List, [], ◌∷◌, ◌++◌, All, None, refl, sym, ap, subst, ◌∙◌, inl, inr, arith}
 use Rattle.std.proofs.lemmas.Bool.{cases_eq}
 use Rattle.std.specs.FinMap.{insert, remove}
-use Rattle.desk_model.specs.Geography.{Ground}
-use Rattle.store_rows.specs.Keys.{RowKey, key_of, Fits, counters, begun, seal, block, pair, in_eight, in_four}
-use Rattle.store_rows.specs.Values.{seal_bytes, counters_bytes}
+use Rattle.desk_model.specs.claim.Geography.{Ground}
+use Rattle.store_rows.specs.claim.Keys.{RowKey, key_of, Fits, counters, begun, seal, block, pair, in_eight, in_four}
+use Rattle.store_rows.specs.claim.Values.{seal_bytes, counters_bytes}
 use Rattle.store_rows.proofs.RowLaws.{keys_differ}
 use Rattle.store_rows.specs.declared.value.SealRow.{SealRow}
-use Rattle.store_rows.specs.Rows.{KeyMap, row_in, Has, Lacks, SameTag}
+use Rattle.store_rows.specs.claim.Rows.{KeyMap, row_in, Has, Lacks}
+use Rattle.store_rows.specs.Rows.{SameTag}
 use Rattle.store_rows.proofs.Changes.{cases_key}
 use Rattle.store_rows.proofs.Frames.{put_is_there, put_keeps, put_keeps_tag, put_keeps_row, removed_is_gone, remove_keeps_row, remove_keeps_tag, tag_follows}
-use Rattle.store_rows.specs.Puts.{Row, put_rows}
+use Rattle.store_rows.specs.claim.Puts.{Row, put_rows}
 use Rattle.store_rows.specs.Steps.{one_load_more, IsLoadKey}
-use Rattle.store_rows.specs.GeographyRows.{IsStaged}
+use Rattle.store_rows.specs.claim.GeographyRows.{IsStaged}
 use Rattle.store_rows.proofs.Staging.{none_staged}
-use Rattle.store_rows.specs.Tidy.{IsLoad, Tidy, TidyWith}
+use Rattle.store_rows.specs.claim.Tidy.{IsLoad, Tidy}
+use Rattle.store_rows.specs.Tidy.{TidyWith}
 use Rattle.store_rows.proofs.OneGeography.{value_is, no_value, seal_load}
 use Rattle.store_rows.proofs.TidyFree.{free_block, free_pair}
 use Rattle.store_rows.proofs.TidyParts.{load_moves, LoadsKept, AllKept, kept_of, plans_stay, chunks_stay, holders_stay, rows_put, rows_removed, counters_put, stays_tidy}

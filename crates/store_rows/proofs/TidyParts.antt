@@ -1,15 +1,17 @@
 -- What is kept of plans, of chunks and of loads, each by itself: a change of rows mostly reaches one of the three.
 use Rattle.std.proofs.Common.{Bool, ◌≡◌, ◌<◌, ◌≤◌, ◌^◌, ℕ, List, [], drop, Option, Some, None, sym, ap, subst, ◌∙◌, inl, inr, arith}
 use Rattle.std.specs.FinMap.{get, insert, remove}
-use Rattle.store_rows.specs.Keys.{RowKey, key_of, Fits, counters, retired, begun, holding, tally, named, part, seal, version, block, pair, chunk}
-use Rattle.store_rows.specs.Values.{counters_bytes, plan_bytes, seal_bytes}
+use Rattle.store_rows.specs.claim.Keys.{RowKey, key_of, Fits, counters, retired, begun, holding, tally, named, part, seal, version, block, pair, chunk}
+use Rattle.store_rows.specs.claim.Values.{counters_bytes, plan_bytes, seal_bytes}
 use Rattle.store_rows.specs.declared.value.Counters.{Counters}
 use Rattle.store_rows.specs.declared.value.PlanRow.{PlanRow}
 use Rattle.store_rows.specs.declared.value.SealRow.{SealRow}
-use Rattle.store_rows.specs.Rows.{KeyMap, row_in, Has, SameTag}
+use Rattle.store_rows.specs.claim.Rows.{KeyMap, row_in, Has}
+use Rattle.store_rows.specs.Rows.{SameTag}
 use Rattle.store_rows.proofs.Changes.{cases_key}
 use Rattle.store_rows.proofs.Frames.{put_is_there, put_keeps, put_keeps_tag, removed_is_gone, remove_keeps, other_tag}
-use Rattle.store_rows.specs.Tidy.{IsNext, CountersFit, IsNumbered, IsNamedBy, IsPart, IsPiece, AreRows, IsKnown, IsLoad, AreHoldings, Tidy, TidyWith}
+use Rattle.store_rows.specs.claim.Tidy.{IsNext, CountersFit, IsNumbered, IsNamedBy, IsPart, IsPiece, AreRows, IsKnown, IsLoad, AreHoldings, Tidy}
+use Rattle.store_rows.specs.Tidy.{TidyWith}
 use Rattle.store_rows.proofs.OneGeography.{no_value}
 use Rattle.store_rows.proofs.Tallies.{tallies_stay}
 

@@ -2,15 +2,17 @@
 use Rattle.std.proofs.Common.{Bool, ◌≡◌, ◌⊎◌, ◌<◌, ◌+◌, ◌^◌, ℕ, List, [], None, sym, ap, subst, ◌∙◌, inl, inr, arith}
 use Rattle.std.proofs.lemmas.Bool.{cases_eq}
 use Rattle.std.specs.FinMap.{insert, remove}
-use Rattle.store_rows.specs.Keys.{key_of, Fits, counters, retired, named}
-use Rattle.store_rows.specs.Values.{plan_bytes, counters_bytes}
-use Rattle.store_rows.specs.Lists.{chunks_bytes}
+use Rattle.store_rows.specs.claim.Keys.{key_of, Fits, counters, retired, named}
+use Rattle.store_rows.specs.claim.Values.{plan_bytes, counters_bytes}
+use Rattle.store_rows.specs.claim.Lists.{chunks_bytes}
 use Rattle.store_rows.specs.declared.value.PlanRow.{PlanRow}
-use Rattle.store_rows.specs.Rows.{KeyMap, row_in, Has, Lacks, SameTag}
+use Rattle.store_rows.specs.claim.Rows.{KeyMap, row_in, Has, Lacks}
+use Rattle.store_rows.specs.Rows.{SameTag}
 use Rattle.store_rows.proofs.Changes.{cases_key, other_row}
 use Rattle.store_rows.proofs.Frames.{put_is_there, put_keeps, put_keeps_tag, put_keeps_row, removed_is_gone, remove_keeps, remove_keeps_tag, tag_follows}
 use Rattle.store_rows.specs.Steps.{one_plan_more}
-use Rattle.store_rows.specs.Tidy.{IsNumbered, IsNamedBy, IsKnown, AreHoldings, Tidy, TidyWith}
+use Rattle.store_rows.specs.claim.Tidy.{IsNumbered, IsNamedBy, IsKnown, AreHoldings, Tidy}
+use Rattle.store_rows.specs.Tidy.{TidyWith}
 use Rattle.store_rows.proofs.OneGeography.{value_is, no_value}
 use Rattle.store_rows.proofs.OneDesk.{row_number}
 use Rattle.store_rows.proofs.Tallies.{tallies_stay}

@@ -3,18 +3,19 @@ use Rattle.std.proofs.Common.{Bool, true, ◌≡◌, ◌⊎◌, ◌<◌, ◌≤�
 use Rattle.std.specs.Prelude.{Contains}
 use Rattle.std.proofs.lemmas.Bool.{cases_eq, cases_lt}
 use Rattle.std.proofs.lemmas.List.{get_or_default}
-use Rattle.store_rows.specs.Keys.{Fits, counters, holding, named, part, chunk}
-use Rattle.store_rows.specs.Values.{plan_bytes, counters_bytes}
-use Rattle.store_rows.specs.Lists.{chunks_bytes}
+use Rattle.store_rows.specs.claim.Keys.{Fits, counters, holding, named, part, chunk}
+use Rattle.store_rows.specs.claim.Values.{plan_bytes, counters_bytes}
+use Rattle.store_rows.specs.claim.Lists.{chunks_bytes}
 use Rattle.store_rows.proofs.ListLaws.{chunks_differ}
 use Rattle.store_rows.specs.declared.value.Counters.{Counters}
 use Rattle.store_rows.specs.declared.value.PlanRow.{PlanRow}
-use Rattle.store_rows.specs.Rows.{KeyMap, row_in, Has, part_row}
+use Rattle.store_rows.specs.claim.Rows.{KeyMap, row_in, Has, part_row}
 use Rattle.store_rows.proofs.Changes.{cases_key}
 use Rattle.store_rows.specs.Steps.{chunks_more, one_revision_more}
 use Rattle.store_rows.specs.RevisionSteps.{IsGiven, AreItsChunks, AddsRevision}
-use Rattle.store_rows.specs.Tidy.{IsNext, IsNumbered, IsNamedBy, IsPart, IsPiece, IsKnown, AreHoldings, Tidy, TidyWith}
-use Rattle.store_rows.specs.Holders.{IsHeld}
+use Rattle.store_rows.specs.claim.Tidy.{IsNext, IsNumbered, IsNamedBy, IsPart, IsPiece, IsKnown, AreHoldings, Tidy}
+use Rattle.store_rows.specs.Tidy.{TidyWith}
+use Rattle.store_rows.specs.claim.Holders.{IsHeld}
 use Rattle.store_rows.proofs.OneDesk.{row_number, row_revisions}
 use Rattle.store_rows.proofs.PartNumbers.{part_at, part_there, part_within, part_says, part_chunks, part_among, among_part}
 use Rattle.store_rows.proofs.TidyParts.{PlansKept, ChunksKept, kept_of, tidy_at, numbered_moves, loads_stay}

@@ -1,13 +1,14 @@
 -- A plan that was taken away lets a chunk go.
 use Rattle.std.proofs.Common.{true, ◌≡◌, ◌<◌, ◌+◌, ◌^◌, ℕ, zero, suc, [], ◌++◌, sym, ◌∙◌, arith}
 use Rattle.std.specs.FinMap.{remove}
-use Rattle.desk_model.specs.Desk.{Desk}
-use Rattle.store_rows.specs.Keys.{key_of, holding, tally, in_eight}
-use Rattle.store_rows.specs.Rows.{KeyMap, SameTag}
-use Rattle.store_rows.specs.DeskRows.{IsDesk}
+use Rattle.desk_model.specs.claim.Desk.{Desk}
+use Rattle.store_rows.specs.claim.Keys.{key_of, holding, tally, in_eight}
+use Rattle.store_rows.specs.claim.Rows.{KeyMap}
+use Rattle.store_rows.specs.Rows.{SameTag}
+use Rattle.store_rows.specs.claim.DeskRows.{IsDesk}
 use Rattle.store_rows.proofs.Frames.{put_keeps_tag, remove_keeps_tag, remove_keeps_row, tag_follows, desk_stays}
 use Rattle.store_rows.specs.Holders.{with_tally, released}
-use Rattle.store_rows.specs.Tidy.{IsNumbered, IsNamedBy, AreRows, AreHoldings, Tidy}
+use Rattle.store_rows.specs.claim.Tidy.{IsNumbered, IsNamedBy, AreRows, AreHoldings, Tidy}
 use Rattle.store_rows.specs.SweepLaws.{IsSwept}
 use Rattle.store_rows.specs.TurnLaws.{IsUnneededHolding}
 use Rattle.store_rows.proofs.Tallies.{holders_leave}

@@ -3,21 +3,22 @@ use Rattle.std.proofs.Common.{true, ◌≡◌, ◌⊎◌, ◌<◌, ◌^◌, ℕ,
 use Rattle.std.specs.Prelude.{Contains}
 use Rattle.std.specs.FinMap.{get, remove}
 use Rattle.std.proofs.lemmas.List.{get_or_default}
-use Rattle.desk_model.specs.Desk.{Desk}
-use Rattle.store_rows.specs.Keys.{key_of, Fits, retired, holding, tally, named, part, chunk, in_eight, in_four, in_one, in_two}
-use Rattle.store_rows.specs.Values.{plan_bytes}
-use Rattle.store_rows.specs.Lists.{chunks_bytes, AreChunks}
+use Rattle.desk_model.specs.claim.Desk.{Desk}
+use Rattle.store_rows.specs.claim.Keys.{key_of, Fits, retired, holding, tally, named, part, chunk, in_eight, in_four, in_one, in_two}
+use Rattle.store_rows.specs.claim.Values.{plan_bytes}
+use Rattle.store_rows.specs.claim.Lists.{chunks_bytes, AreChunks}
 use Rattle.store_rows.proofs.ListLaws.{chunks_differ}
 use Rattle.store_rows.proofs.RowLaws.{keys_differ}
-use Rattle.store_rows.specs.Rows.{KeyMap, row_in, Has, Lacks, SameTag}
-use Rattle.store_rows.specs.RevisionRows.{HasChunk}
+use Rattle.store_rows.specs.claim.Rows.{KeyMap, row_in, Has, Lacks}
+use Rattle.store_rows.specs.Rows.{SameTag}
+use Rattle.store_rows.specs.claim.RevisionRows.{HasChunk}
 use Rattle.store_rows.specs.ChunkRows.{IsFreeChunk}
-use Rattle.store_rows.specs.DeskRows.{IsDesk}
+use Rattle.store_rows.specs.claim.DeskRows.{IsDesk}
 use Rattle.store_rows.specs.Changes.{RevisionsStay}
 use Rattle.store_rows.proofs.Changes.{cases_key}
 use Rattle.store_rows.proofs.Frames.{remove_keeps, remove_keeps_row, remove_keeps_tag, names_stay, chunk_stays}
-use Rattle.store_rows.specs.Tidy.{IsNumbered, IsNamedBy, IsKnown, AreHoldings, Tidy}
-use Rattle.store_rows.specs.Holders.{IsHeld}
+use Rattle.store_rows.specs.claim.Tidy.{IsNumbered, IsNamedBy, IsKnown, AreHoldings, Tidy}
+use Rattle.store_rows.specs.claim.Holders.{IsHeld}
 use Rattle.store_rows.specs.SweepLaws.{IsSwept}
 use Rattle.store_rows.specs.TurnLaws.{IsShared}
 use Rattle.store_rows.proofs.OneGeography.{value_is, no_value}

@@ -1,11 +1,11 @@
 -- Turns of a sweep are taken, one after the other.
 use Rattle.std.proofs.Common.{true, ◌≡◌, List, [], ◌∷◌, refl, ◌∙◌}
 use Rattle.std.specs.FinMap.{remove}
-use Rattle.desk_model.specs.Desk.{Desk}
-use Rattle.store_rows.specs.Keys.{RowKey, key_of, Fits, counters, retired, begun, holding, tally, named, part, seal, version, block, pair, chunk}
-use Rattle.store_rows.specs.Rows.{KeyMap}
-use Rattle.store_rows.specs.DeskRows.{IsDesk}
-use Rattle.store_rows.specs.Tidy.{Tidy}
+use Rattle.desk_model.specs.claim.Desk.{Desk}
+use Rattle.store_rows.specs.claim.Keys.{RowKey, key_of, Fits, counters, retired, begun, holding, tally, named, part, seal, version, block, pair, chunk}
+use Rattle.store_rows.specs.claim.Rows.{KeyMap}
+use Rattle.store_rows.specs.claim.DeskRows.{IsDesk}
+use Rattle.store_rows.specs.claim.Tidy.{Tidy}
 use Rattle.store_rows.specs.SweepLaws.{IsSwept}
 use Rattle.store_rows.specs.TurnLaws.{IsUnneeded, CanTurn, Turn, goes, lets_go, turned, take_turns, AreTurns}
 use Rattle.store_rows.proofs.SweepPlans.{mark_swept}

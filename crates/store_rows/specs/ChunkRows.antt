@@ -1,10 +1,11 @@
 -- The rows of a chunk, and what they say once they are put.
 use Rattle.std.proofs.Common.{◌<◌, ◌*◌, ◌^◌, ℕ, List, length, take, drop}
-use Rattle.desk_model.specs.Room.{rows_for}
-use Rattle.store_rows.specs.Keys.{key_of, chunk}
-use Rattle.store_rows.specs.Lists.{districts_bytes}
-use Rattle.store_rows.specs.Rows.{KeyMap, Lacks}
-use Rattle.store_rows.specs.Puts.{Row, rows_told}
+use Rattle.desk_model.specs.claim.Room.{rows_for}
+use Rattle.store_rows.specs.claim.Keys.{key_of, chunk}
+use Rattle.store_rows.specs.claim.Lists.{districts_bytes}
+use Rattle.store_rows.specs.claim.Rows.{KeyMap, Lacks}
+use Rattle.store_rows.specs.claim.Puts.{Row}
+use Rattle.store_rows.specs.Puts.{rows_told}
 
 -- a piece of a chunk, from 0
 abbrev pub piece_row : ℕ → List ℕ → ℕ → Row

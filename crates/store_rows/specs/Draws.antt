@@ -1,12 +1,12 @@
 -- Which chunks a new revision names: a county that is as before keeps its chunk, each other one gets the next number.
 use Rattle.std.specs.Prelude.{true, ◌≡◌, ◌≤◌, ◌+◌, ◌*◌, ◌^◌, ℕ, if◌then◌else◌, List, [], ◌∷◌, map, filter, length, Option, All}
 use Rattle.std.specs.List.{zip}
-use Rattle.desk_model.specs.Geography.{Ground}
-use Rattle.desk_model.specs.Cuts.{sizes}
-use Rattle.desk_model.specs.Room.{differs, changed, revision_rows}
+use Rattle.desk_model.specs.claim.Geography.{Ground}
+use Rattle.desk_model.specs.claim.Cuts.{sizes}
+use Rattle.desk_model.specs.claim.Room.{differs, changed, revision_rows}
 use Rattle.store_rows.specs.declared.value.Counters.{Counters}
 use Rattle.store_rows.specs.declared.value.PlanRow.{PlanRow}
-use Rattle.store_rows.specs.Rows.{KeyMap}
+use Rattle.store_rows.specs.claim.Rows.{KeyMap}
 use Rattle.store_rows.specs.RevisionSteps.{IsChunkList, AreKept, IsDrawn, rows_of_revision}
 
 -- the chunks of a later revision, from those of the one before

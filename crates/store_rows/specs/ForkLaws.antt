@@ -1,15 +1,15 @@
 -- A plan gets a revision with the chunks of another plan's, as a fork does.
 use Rattle.std.specs.Prelude.{true, ◌≡◌, ◌<◌, ◌≤◌, ◌*◌, ◌^◌, ℕ, List, length, Some, Contains}
 use Rattle.std.specs.FinMap.{FinMap, get}
-use Rattle.desk_model.specs.Geography.{Ground}
-use Rattle.desk_model.specs.Cuts.{cut}
-use Rattle.desk_model.specs.Desk.{Plan, name_cmp}
-use Rattle.store_rows.specs.Rows.{KeyMap}
-use Rattle.store_rows.specs.DeskRows.{HasPlan, IsDesk, most_revisions}
+use Rattle.desk_model.specs.claim.Geography.{Ground}
+use Rattle.desk_model.specs.claim.Cuts.{cut}
+use Rattle.desk_model.specs.claim.Desk.{Plan, name_cmp}
+use Rattle.store_rows.specs.claim.Rows.{KeyMap}
+use Rattle.store_rows.specs.claim.DeskRows.{HasPlan, IsDesk, most_revisions}
 use Rattle.store_rows.specs.Changes.{desk_with, plan_row_of}
 use Rattle.store_rows.specs.Steps.{chunks_more}
 use Rattle.store_rows.specs.RevisionSteps.{AreKept}
-use Rattle.store_rows.specs.Tidy.{Tidy}
+use Rattle.store_rows.specs.claim.Tidy.{Tidy}
 use Rattle.store_rows.specs.TidyLaws.{MakesRevision}
 use Rattle.store_rows.specs.Shares.{CanHold, Holds, hold_all, with_shared}
 

@@ -1,10 +1,12 @@
 -- What keeps the plans that hold a chunk counted.
 use Rattle.std.specs.Prelude.{◌≡◌, ◌<◌, ◌+◌, ◌^◌, ℕ, suc, List}
 use Rattle.std.specs.FinMap.{empty}
-use Rattle.store_rows.specs.Keys.{holding, tally, in_eight}
-use Rattle.store_rows.specs.Rows.{KeyMap, row_in, Has, Lacks, SameTag}
-use Rattle.store_rows.specs.Puts.{put_rows}
-use Rattle.store_rows.specs.Holders.{IsHeld, AreTallied, AreHoldersBelow, tally_row, holding_rows, released}
+use Rattle.store_rows.specs.claim.Keys.{holding, tally, in_eight}
+use Rattle.store_rows.specs.claim.Rows.{KeyMap, row_in, Has, Lacks}
+use Rattle.store_rows.specs.Rows.{SameTag}
+use Rattle.store_rows.specs.claim.Puts.{put_rows}
+use Rattle.store_rows.specs.claim.Holders.{IsHeld, AreTallied, tally_row, holding_rows}
+use Rattle.store_rows.specs.Holders.{AreHoldersBelow, released}
 
 -- in a map without rows each chunk is held by none
 abbrev pub NothingIsTallied : Type 0

@@ -1,11 +1,9 @@
+pub mod claim
 pub mod Keys
 pub mod Values
 pub mod Lists
 pub mod Order
 pub mod Rows
-pub mod GeographyRows
-pub mod RevisionRows
-pub mod DeskRows
 pub mod Tidy
 pub mod Steps
 pub mod Puts

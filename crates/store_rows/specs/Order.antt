@@ -1,13 +1,8 @@
--- Keys in the order of their bytes.
+-- What no promise rests on, beside claim/Order.antt.
 use Rattle.std.specs.Prelude.{◌≡◌, ◌<◌, ◌^◌, ℕ, List, ◌++◌}
 use Rattle.std.specs.Ordering.{nat_cmp}
-use Rattle.std.specs.Cmp.Lexicographic.{slice_cmp}
-use Rattle.std.specs.declared.cmp.Ordering.{Ordering}
-use Rattle.store_rows.specs.Keys.{RowKey, key_of, Fits, in_two, in_four, in_eight}
-
--- keys by their bytes
-abbrev pub key_cmp : List ℕ → List ℕ → Ordering
-key_cmp = slice_cmp nat_cmp
+use Rattle.store_rows.specs.claim.Keys.{RowKey, key_of, Fits, in_two, in_four, in_eight}
+use Rattle.store_rows.specs.claim.Order.{key_cmp}
 
 -- different rows have different keys
 abbrev pub KeysDiffer : Type 0

@@ -1,18 +1,20 @@
 -- The rows that change as one revision of a plan is added.
 use Rattle.std.specs.Prelude.{Bool, true, false, ◌≡◌, ◌⊎◌, ◌<◌, ◌≤◌, ◌+◌, ◌*◌, ◌^◌, ℕ, List, [], ◌∷◌, ◌++◌, length, get_or, All, Contains}
-use Rattle.store_rows.specs.Keys.{key_of, Fits, counters, holding, tally, named, part, version, chunk, in_eight}
-use Rattle.store_rows.specs.Values.{counters_bytes, plan_bytes}
-use Rattle.store_rows.specs.Lists.{chunks_bytes}
+use Rattle.store_rows.specs.claim.Keys.{key_of, Fits, counters, holding, tally, named, part, version, chunk, in_eight}
+use Rattle.store_rows.specs.claim.Values.{counters_bytes, plan_bytes}
+use Rattle.store_rows.specs.claim.Lists.{chunks_bytes}
 use Rattle.store_rows.specs.declared.value.Counters.{Counters}
 use Rattle.store_rows.specs.declared.value.PlanRow.{PlanRow}
-use Rattle.store_rows.specs.Rows.{KeyMap, row_in, Has, SameTag, part_row}
-use Rattle.store_rows.specs.RevisionRows.{HasChunk}
-use Rattle.store_rows.specs.Puts.{Row, rows_told}
-use Rattle.store_rows.specs.Holders.{IsHeld, AreTallied}
+use Rattle.store_rows.specs.claim.Rows.{KeyMap, row_in, Has, part_row}
+use Rattle.store_rows.specs.Rows.{SameTag}
+use Rattle.store_rows.specs.claim.RevisionRows.{HasChunk}
+use Rattle.store_rows.specs.claim.Puts.{Row}
+use Rattle.store_rows.specs.Puts.{rows_told}
+use Rattle.store_rows.specs.claim.Holders.{IsHeld, AreTallied}
 use Rattle.store_rows.specs.ChunkRows.{chunk_rows}
 use Rattle.store_rows.specs.NameRows.{name_rows}
 use Rattle.store_rows.specs.Steps.{chunks_more, one_revision_more}
-use Rattle.store_rows.specs.Tidy.{IsNamedBy, IsPiece, AreRows}
+use Rattle.store_rows.specs.claim.Tidy.{IsNamedBy, IsPiece, AreRows}
 
 -- so many numbers from the counter on are given to new chunks
 abbrev pub IsGiven : Counters → ℕ → ℕ → Type 0

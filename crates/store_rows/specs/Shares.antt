@@ -1,30 +1,18 @@
--- A plan comes to hold chunks of another plan.
-use Rattle.std.proofs.Common.{w64}
-use Rattle.std.specs.Prelude.{◌≡◌, ◌<◌, ◌+◌, ◌^◌, ℕ, List, [], ◌∷◌, ◌++◌, Option, Some, None, Contains}
-use Rattle.std.specs.Int.{from_be_bytes}
-use Rattle.store_rows.specs.Keys.{key_of, Fits, counters, holding, tally, named}
-use Rattle.store_rows.specs.Values.{counters_bytes, plan_bytes}
+-- What no promise rests on, beside claim/Shares.antt.
+use Rattle.std.specs.Prelude.{◌≡◌, ◌<◌, ◌+◌, ◌^◌, ℕ, List, [], ◌∷◌, ◌++◌, Contains}
+use Rattle.store_rows.specs.claim.Keys.{key_of, Fits, counters, holding, named}
+use Rattle.store_rows.specs.claim.Values.{counters_bytes, plan_bytes}
 use Rattle.store_rows.specs.declared.value.Counters.{Counters}
 use Rattle.store_rows.specs.declared.value.PlanRow.{PlanRow}
-use Rattle.store_rows.specs.Rows.{KeyMap, row_in, Has, SameTag}
-use Rattle.store_rows.specs.Puts.{Row, put_rows}
+use Rattle.store_rows.specs.claim.Rows.{KeyMap, row_in, Has}
+use Rattle.store_rows.specs.Rows.{SameTag}
+use Rattle.store_rows.specs.claim.Puts.{Row, put_rows}
 use Rattle.store_rows.specs.NameRows.{name_rows}
 use Rattle.store_rows.specs.Steps.{chunks_more, one_revision_more}
-use Rattle.store_rows.specs.Holders.{IsHeld, AreTallied, AreHoldersBelow, holding_rows}
-use Rattle.store_rows.specs.Tidy.{AreRows}
-
--- how many plans the row of a count tells
-abbrev pub count_of : Option (List ℕ) → ℕ
-count_of None = 0
-count_of (Some value) = from_be_bytes w64 value
-
--- The map in which a plan holds a chunk: two rows more or changed, or none where the plan holds it already.
-abbrev pub hold_by : Option (List ℕ) → KeyMap → ℕ → ℕ → KeyMap
-hold_by (Some value) m plan number = m
-hold_by None m plan number = put_rows m (holding_rows plan number (count_of (row_in m (tally number))))
-
-abbrev pub hold : KeyMap → ℕ → ℕ → KeyMap
-hold m plan number = hold_by (row_in m (holding plan number)) m plan number
+use Rattle.store_rows.specs.claim.Holders.{IsHeld, AreTallied}
+use Rattle.store_rows.specs.Holders.{AreHoldersBelow}
+use Rattle.store_rows.specs.claim.Tidy.{AreRows}
+use Rattle.store_rows.specs.claim.Shares.{hold}
 
 abbrev pub hold_all : KeyMap → ℕ → List ℕ → KeyMap
 hold_all m plan [] = m

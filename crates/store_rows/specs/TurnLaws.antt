@@ -2,14 +2,15 @@
 -- the rows tidy.
 use Rattle.std.specs.Prelude.{true, ◌≡◌, ◌⊎◌, ◌<◌, ◌+◌, ◌^◌, ℕ, suc, List, [], ◌∷◌, Contains}
 use Rattle.std.specs.FinMap.{remove}
-use Rattle.desk_model.specs.Desk.{Desk}
-use Rattle.store_rows.specs.Keys.{RowKey, key_of, Fits, counters, retired, begun, holding, tally, named, part, seal, version, block, pair, chunk}
-use Rattle.store_rows.specs.Lists.{chunks_bytes, AreChunks}
-use Rattle.store_rows.specs.Rows.{KeyMap, row_in, Has, Lacks}
+use Rattle.desk_model.specs.claim.Desk.{Desk}
+use Rattle.store_rows.specs.claim.Keys.{RowKey, key_of, Fits, counters, retired, begun, holding, tally, named, part, seal, version, block, pair, chunk}
+use Rattle.store_rows.specs.claim.Lists.{chunks_bytes, AreChunks}
+use Rattle.store_rows.specs.claim.Rows.{KeyMap, row_in, Has, Lacks}
 use Rattle.store_rows.specs.ChunkRows.{IsFreeChunk}
-use Rattle.store_rows.specs.DeskRows.{IsDesk}
-use Rattle.store_rows.specs.Holders.{IsHeld, tally_row, released}
-use Rattle.store_rows.specs.Tidy.{IsNamedBy, Tidy}
+use Rattle.store_rows.specs.claim.DeskRows.{IsDesk}
+use Rattle.store_rows.specs.claim.Holders.{IsHeld, tally_row}
+use Rattle.store_rows.specs.Holders.{released}
+use Rattle.store_rows.specs.claim.Tidy.{IsNamedBy, Tidy}
 use Rattle.store_rows.specs.SweepLaws.{IsSwept}
 
 -- some plan holds the chunk

@@ -1,9 +1,11 @@
 //! Keys of rows.
 ghost use Rattle.std.specs.Prelude.{◌≡◌, ◌≤◌, ◌<◌, ◌+◌, ◌++◌, [], ◌∷◌, length, vec_len};
-ghost use Rattle.store_rows.specs.Keys.{RowKey, key_of, counters, retired, begun, holding, tally, named, part, seal, version, block};
-ghost use Rattle.store_rows.specs.Keys.{pair, chunk, in_one, in_two, in_four, in_eight, plans_prefix, retired_prefix};
-ghost use Rattle.store_rows.specs.Keys.{begun_prefix, holdings_prefix, parts_prefix, plan_parts_prefix, revision_prefix};
-ghost use Rattle.store_rows.specs.Keys.{load_prefix, blocks_prefix, pairs_prefix, chunks_prefix, chunk_prefix};
+ghost use Rattle.store_rows.specs.claim.Keys.{RowKey, key_of, counters, retired, begun, holding, tally, named, part, seal, version, block};
+ghost use Rattle.store_rows.specs.claim.Keys.{pair, chunk, in_one, in_two, in_four, in_eight, plans_prefix, retired_prefix};
+ghost use Rattle.store_rows.specs.claim.Keys.{begun_prefix, holdings_prefix, revision_prefix};
+ghost use Rattle.store_rows.specs.Keys.{parts_prefix, plan_parts_prefix};
+ghost use Rattle.store_rows.specs.Keys.{load_prefix, chunks_prefix};
+ghost use Rattle.store_rows.specs.claim.Keys.{blocks_prefix, pairs_prefix, chunk_prefix};
 
 use arrayvec::ArrayVec;
 use desk_model::name::PlanName;

@@ -1,8 +1,8 @@
 //! Values of rows that hold lists of numbers.
 ghost use Rattle.std.specs.Prelude.{◌≡◌, ◌<◌, ◌≤◌, ◌+◌, ◌*◌, ◌^◌, ◌++◌, [], ℕ, List, length, All, MatchOption};
 ghost use Rattle.arrayvec.specs.ArrayVec.{array_vec_len};
-ghost use Rattle.store_rows.specs.Keys.{in_two, in_eight};
-ghost use Rattle.store_rows.specs.Lists.{AreChunks, chunks_bytes, AreDistricts, districts_bytes};
+ghost use Rattle.store_rows.specs.claim.Keys.{in_two, in_eight};
+ghost use Rattle.store_rows.specs.claim.Lists.{AreChunks, chunks_bytes, AreDistricts, districts_bytes};
 
 use crate::value::{eight, two};
 use arrayvec::ArrayVec;

@@ -6,8 +6,9 @@ ghost use Rattle.store_rows.specs.declared.value.SealRow.{SealRow as SealValue};
 ghost use Rattle.store_rows.specs.declared.value.Tally.{Tally as TallyValue};
 ghost use Rattle.desk_model.specs.declared.kind.Kind.{Kind as KindValue};
 ghost use Rattle.desk_model.specs.declared.block.BlockRow.{BlockRow as BlockValue};
-ghost use Rattle.store_rows.specs.Keys.{in_two, in_four, in_eight};
-ghost use Rattle.store_rows.specs.Values.{counters_bytes, plan_bytes, tally_bytes, seal_bytes, block_bytes, pair_bytes, kind_code, city_bytes};
+ghost use Rattle.store_rows.specs.claim.Keys.{in_two, in_four, in_eight};
+ghost use Rattle.store_rows.specs.claim.Values.{counters_bytes, plan_bytes, seal_bytes, block_bytes, pair_bytes, kind_code, city_bytes};
+ghost use Rattle.store_rows.specs.Values.{tally_bytes};
 
 use byteorder::{BigEndian, ByteOrder};
 use desk_model::block::{BlockId, BlockRow};

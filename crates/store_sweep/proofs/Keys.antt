@@ -3,7 +3,8 @@ use Rattle.std.proofs.Common.{◌≡◌, ◌<◌, ◌≤◌, ◌^◌, ◌+◌, �
 use Rattle.std.specs.List.{starts_with}
 use Rattle.std.proofs.lemmas.Bool.{eqb-true}
 use Rattle.std.proofs.lemmas.Bool.Decides.{nat_tests}
-use Rattle.store_rows.specs.Keys.{RowKey, key_of, Fits, counters, retired, begun, holding, tally, named, part, seal, version, block, pair, chunk, in_one, in_two, in_four, in_eight, retired_prefix, begun_prefix, holdings_prefix, plan_parts_prefix, load_prefix, chunk_prefix}
+use Rattle.store_rows.specs.claim.Keys.{RowKey, key_of, Fits, counters, retired, begun, holding, tally, named, part, seal, version, block, pair, chunk, in_one, in_two, in_four, in_eight, retired_prefix, begun_prefix, holdings_prefix, chunk_prefix}
+use Rattle.store_rows.specs.Keys.{plan_parts_prefix, load_prefix}
 use Rattle.store_rows.proofs.RowLaws.{keys_differ}
 
 first_so : (b c : Bool) → (b && c) ≡ true → b ≡ true

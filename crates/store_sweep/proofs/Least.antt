@@ -11,10 +11,11 @@ use Rattle.std.specs.FinMap.{entries, entries_sorted, find, get, get-entries, is
 use Rattle.std.specs.FinMap.Entries.{below_all}
 use Rattle.std.proofs.lemmas.Cmp.{tied_itself}
 use Rattle.std.proofs.lemmas.Bool.Decides.{nat_tests}
-use Rattle.page_node.specs.Entries.{Entry}
-use Rattle.page_node.specs.Places.{key_cmp, Rises, entries_from}
+use Rattle.page_node.specs.claim.Entries.{Entry}
+use Rattle.page_node.specs.claim.Places.{key_cmp, Rises}
+use Rattle.page_node.specs.Places.{entries_from}
 use Rattle.page_node.proofs.Laws.{is_less}
-use Rattle.page_node.specs.Node.{IsNode}
+use Rattle.page_node.specs.claim.Node.{IsNode}
 use Rattle.page_node.specs.Walking.{IsAhead}
 use Rattle.page_node.proofs.Walking.{node_ahead}
 use Rattle.page_btree.specs.Seeking.{AreLeaves, IsFrom}
@@ -23,11 +24,11 @@ use Rattle.page_btree.specs.declared.error.TreeError.{TreeError}
 use Rattle.page_btree.specs.declared.error.TreeError.TheVariants.{DeviceFault}
 use Rattle.btree_scan.specs.Prefixes.{AllFrom}
 use Rattle.btree_scan.proofs.Prefixes.{all_from_key, head_rises, rises_from_key, under_is_from}
-use Rattle.store_rows.specs.Keys.{RowKey, key_of, Fits, counters, retired, begun, holding, tally, named, part, seal, version, block, pair, chunk, in_two, in_eight, chunk_prefix}
+use Rattle.store_rows.specs.claim.Keys.{RowKey, key_of, Fits, counters, retired, begun, holding, tally, named, part, seal, version, block, pair, chunk, in_two, in_eight, chunk_prefix}
 use Rattle.store_rows.proofs.Numbers.{numbers_decide}
-use Rattle.store_rows.specs.Rows.{KeyMap, Lacks}
+use Rattle.store_rows.specs.claim.Rows.{KeyMap, Lacks}
 use Rattle.store_rows.proofs.Frames.{is_equal, itself, same_key}
-use Rattle.store_rows.specs.Tidy.{AreRows}
+use Rattle.store_rows.specs.claim.Tidy.{AreRows}
 use Rattle.store_sweep.specs.Finding.{IsLeast, IsFirstFrom, IsPieceKey, IsNextChunk, IsPieceOf}
 use Rattle.store_sweep.proofs.Keys.{piece_is, starts_piece, eights_same}
 use Rattle.store_sweep.proofs.Scanned.{first_so, second_so, either_way, true_is}

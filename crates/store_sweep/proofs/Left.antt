@@ -4,11 +4,12 @@ use Rattle.std.specs.Prelude.{Contains, Option}
 use Rattle.std.specs.List.{starts_with}
 use Rattle.std.specs.FinMap.{get}
 use Rattle.btree_scan.specs.declared.rows.Row.{Row}
-use Rattle.store_rows.specs.Keys.{RowKey, key_of, Fits, counters, retired, begun, holding, tally, named, part, seal, version, block, pair, chunk, in_eight, retired_prefix, begun_prefix, holdings_prefix, plan_parts_prefix, load_prefix}
-use Rattle.store_rows.specs.Lists.{AreChunks, chunks_bytes}
+use Rattle.store_rows.specs.claim.Keys.{RowKey, key_of, Fits, counters, retired, begun, holding, tally, named, part, seal, version, block, pair, chunk, in_eight, retired_prefix, begun_prefix, holdings_prefix}
+use Rattle.store_rows.specs.Keys.{plan_parts_prefix, load_prefix}
+use Rattle.store_rows.specs.claim.Lists.{AreChunks, chunks_bytes}
 use Rattle.store_rows.proofs.RowLaws.{keys_differ}
-use Rattle.store_rows.specs.Rows.{KeyMap, Has}
-use Rattle.store_rows.specs.Tidy.{AreRows, Tidy}
+use Rattle.store_rows.specs.claim.Rows.{KeyMap, Has}
+use Rattle.store_rows.specs.claim.Tidy.{AreRows, Tidy}
 use Rattle.store_sweep.specs.Leftovers.{IsOfLoad, IsSpared}
 use Rattle.store_sweep.specs.Finding.{IsUnder, IsMark, IsPieceOf, IsDone, IsLeftKey, IsLeftHolding, HasPlanMark, HasLoadMark, HoldsNone, spared_key}
 use Rattle.store_sweep.proofs.Keys.{eights_same, retired_is, begun_is, holding_is, part_is, staged_is, IsStagedRow, of_block, of_pair, starts_retired, starts_begun, starts_holding, starts_part, starts_block, starts_pair, tag_number}

@@ -1,32 +1,34 @@
 -- A sweep: a transaction that is begun, out of which rows are taken, and that is committed then.
 use Rattle.std.proofs.Common.{◌≡◌, ◌<◌, ◌≤◌, ◌+◌, ℕ, Bool, List, [], ◌∷◌, length, Option, Some, None, true, false, refl, sym, ap, subst, ◌∙◌, inl, inr, ⊎_elim, arith}
 use Rattle.std.specs.Prelude.{◌⊎◌, ◌↔◌}
-use Rattle.sector_device.specs.Disk.{Disk, Image}
-use Rattle.sector_device.specs.Moments.{LeavesOnly}
+use Rattle.sector_device.specs.claim.Disk.{Disk, Image}
+use Rattle.sector_device.specs.claim.Moments.{LeavesOnly}
 use Rattle.sector_device.proofs.Moments.{leaves_more, leaves_wider}
 use Rattle.sector_device.specs.declared.SectorDevice.{Ghosts}
-use Rattle.gate_journal.specs.Store.{home}
+use Rattle.gate_journal.specs.claim.Store.{home}
 use Rattle.page_store.proofs.Chains.{length_chain}
-use Rattle.page_store.specs.Chain.{free_in, root_in}
+use Rattle.page_store.specs.claim.Chain.{free_in, root_in}
 use Rattle.page_store.proofs.Stops.{leaves_here, leaves_quiet}
-use Rattle.page_store.specs.Transactions.{stored, disk_in, count_of, journal_of, has_halted, txn_pages, txn_root, txn_first, txn_free, txn_writes, over, free_over, HasFailed, HasShape, IsQuiet, Passed}
+use Rattle.page_store.specs.claim.Transactions.{stored, disk_in, count_of, journal_of, has_halted, txn_pages, txn_root, txn_free, txn_writes, over, free_over, HasFailed, HasShape, IsQuiet, Passed}
+use Rattle.page_store.specs.Transactions.{txn_first}
 use Rattle.page_store.specs.declared.pages.Pages.{Pages}
 use Rattle.page_store.specs.declared.txn.Txn.{Txn}
 use Rattle.page_btree.proofs.MapLaws.{begun_holds}
-use Rattle.page_btree.specs.Map.{Holds, InTxn, InPages}
+use Rattle.page_btree.specs.claim.Map.{Holds, InTxn, InPages}
 use Rattle.page_btree.specs.declared.error.TreeError.{TreeError}
 use Rattle.page_btree.specs.declared.error.TreeError.TheVariants as tree
-use Rattle.desk_model.specs.Desk.{Desk}
-use Rattle.store_rows.specs.Keys.{RowKey, Fits, counters, retired, begun, holding, tally, named, part, seal, version, block, pair, chunk}
-use Rattle.store_rows.specs.Rows.{KeyMap}
+use Rattle.desk_model.specs.claim.Desk.{Desk}
+use Rattle.store_rows.specs.claim.Keys.{RowKey, Fits, counters, retired, begun, holding, tally, named, part, seal, version, block, pair, chunk}
+use Rattle.store_rows.specs.claim.Rows.{KeyMap}
 use Rattle.store_rows.specs.TurnLaws.{IsUnneeded, CanTurn, Turn, goes, lets_go, rows_in, take_turns, AreTurns}
-use Rattle.store_rows.specs.Tidy.{Tidy}
-use Rattle.desk_pages.specs.Desks.{IsDeskMap, InTxn as DeskInTxn, InPages as DeskInPages, OpensDesk}
+use Rattle.store_rows.specs.claim.Tidy.{Tidy}
+use Rattle.desk_pages.specs.claim.Desks.{IsDeskMap, InTxn as DeskInTxn, InPages as DeskInPages, OpensDesk}
 use Rattle.desk_pages.proofs.Kept.{opens_now}
 use Rattle.store_sweep.specs.declared.error.SweepError.{SweepError}
 use Rattle.store_sweep.specs.declared.error.SweepError.TheVariants.{Memory, NotAStore, DeviceFault, Halted}
 use Rattle.store_sweep.specs.Errors.{tree_told, fault_told}
-use Rattle.store_holdings.specs.Checks.{CheckErr, IsNewTidy, AreSoundHoldings}
+use Rattle.store_holdings.specs.Checks.{CheckErr, IsNewTidy}
+use Rattle.store_holdings.specs.claim.Checks.{AreSoundHoldings}
 use Rattle.store_sweep.specs.Leftovers.{IsSpared, IsApart, AreNotSpared, rows_of, IsSweptClean}
 use Rattle.store_sweep.specs.Sweeping.{IsSweptMap, HasSwept, HasDesk, TakeErr, HoldsSwept, SweepErr, Leaves, FinishErr}
 

@@ -2,26 +2,26 @@
 use Rattle.std.proofs.Common.{◌≡◌, ◌<◌, ◌≤◌, ◌+◌, ◌-◌, ◌++◌, ℕ, zero, suc, List, [], ◌∷◌, length, refl, sym, ap, subst, ◌∙◌, inl, inr, arith}
 use Rattle.std.specs.Prelude.{Option}
 use Rattle.std.specs.FinMap.{remove}
-use Rattle.sector_device.specs.Disk.{Image}
+use Rattle.sector_device.specs.claim.Disk.{Image}
 use Rattle.sector_device.specs.declared.SectorDevice.{Ghosts}
-use Rattle.page_store.specs.Transactions.{stored, disk_in, txn_pages, txn_free, txn_writes, IsQuiet, Passed}
+use Rattle.page_store.specs.claim.Transactions.{stored, disk_in, txn_pages, txn_free, txn_writes, IsQuiet, Passed}
 use Rattle.page_store.proofs.Stops.{passed_none, passed_more, failed_more}
 use Rattle.page_store.specs.declared.pages.Pages.{Pages}
 use Rattle.page_store.specs.declared.txn.Txn.{Txn}
-use Rattle.page_btree.specs.Map.{InTxn}
-use Rattle.page_btree.specs.Errors.{RemoveErr}
+use Rattle.page_btree.specs.claim.Map.{InTxn}
+use Rattle.page_btree.specs.claim.Errors.{RemoveErr}
 use Rattle.page_btree.specs.declared.error.TreeError.{TreeError}
 use Rattle.page_btree.specs.declared.error.TreeError.TheVariants.{DeviceFault, Halted, NoPages, TooDeep, Memory}
-use Rattle.desk_model.specs.Desk.{Desk}
-use Rattle.store_rows.specs.Keys.{RowKey, key_of}
-use Rattle.store_rows.specs.Rows.{KeyMap}
+use Rattle.desk_model.specs.claim.Desk.{Desk}
+use Rattle.store_rows.specs.claim.Keys.{RowKey, key_of}
+use Rattle.store_rows.specs.claim.Rows.{KeyMap}
 use Rattle.store_rows.specs.TurnLaws.{Turn, goes, lets_go, rows_in, CanTurn, turned, take_turns, AreTurns, TurnsAreSwept}
 use Rattle.store_rows.specs.Holders.{released}
 use Rattle.store_rows.specs.HolderLaws.{HeldIsTallied}
-use Rattle.store_rows.specs.Tidy.{Tidy}
+use Rattle.store_rows.specs.claim.Tidy.{Tidy}
 use Rattle.row_table.specs.Reading.{ReadErr}
 use Rattle.chunk_table.specs.Releasing.{HasReleased, ReleaseErr}
-use Rattle.desk_pages.specs.Desks.{IsDeskMap}
+use Rattle.desk_pages.specs.claim.Desks.{IsDeskMap}
 use Rattle.store_sweep.specs.Leftovers.{IsSpared, IsApart, AreNotSpared, rows_of, IsSweptBy, IsSweptClean}
 use Rattle.store_sweep.specs.Finding.{IsLeftKey, IsLeftHolding}
 use Rattle.store_sweep.specs.Sweeping.{IsSweptMap, HasSwept, IsTurn, TakeErr, HasDesk}

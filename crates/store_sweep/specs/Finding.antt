@@ -3,14 +3,14 @@ use Rattle.std.specs.Prelude.{◌≡◌, ◌⊎◌, ◌<◌, ◌≤◌, ◌^◌,
 use Rattle.std.specs.List.{starts_with}
 use Rattle.std.specs.FinMap.{get}
 use Rattle.std.specs.Ordering.{is_gt}
-use Rattle.page_node.specs.Places.{key_cmp}
+use Rattle.page_node.specs.claim.Places.{key_cmp}
 use Rattle.btree_scan.specs.declared.rows.Row.{Row}
-use Rattle.store_rows.specs.Keys.{RowKey, key_of, Fits, counters, retired, begun, holding, tally, chunk}
-use Rattle.store_rows.specs.Rows.{KeyMap, Has, Lacks}
+use Rattle.store_rows.specs.claim.Keys.{RowKey, key_of, Fits, counters, retired, begun, holding, tally, chunk}
+use Rattle.store_rows.specs.claim.Rows.{KeyMap, Has, Lacks}
 use Rattle.store_rows.specs.ChunkRows.{IsFreeChunk}
-use Rattle.store_rows.specs.Holders.{IsHeld}
+use Rattle.store_rows.specs.claim.Holders.{IsHeld}
 use Rattle.store_rows.specs.TurnLaws.{IsShared, IsUnneeded}
-use Rattle.store_rows.specs.Tidy.{Tidy}
+use Rattle.store_rows.specs.claim.Tidy.{Tidy}
 use Rattle.store_sweep.specs.Leftovers.{IsSpared, IsOfLoad, IsSweptClean}
 use Rattle.store_sweep.specs.declared.leftovers.Left.{Left}
 use Rattle.store_sweep.specs.declared.leftovers.Left.TheVariants as left

@@ -1,7 +1,7 @@
 -- Which turns a sweep takes, and what is left once they are taken.
 use Rattle.std.specs.Prelude.{◌≡◌, ◌<◌, ◌+◌, ◌^◌, ℕ, List, [], ◌∷◌, Option, Some, None}
-use Rattle.store_rows.specs.Keys.{RowKey, counters, retired, begun, holding, tally, named, part, seal, version, block, pair, chunk}
-use Rattle.store_rows.specs.Rows.{KeyMap, Has}
+use Rattle.store_rows.specs.claim.Keys.{RowKey, counters, retired, begun, holding, tally, named, part, seal, version, block, pair, chunk}
+use Rattle.store_rows.specs.claim.Rows.{KeyMap, Has}
 use Rattle.store_rows.specs.TurnLaws.{Turn, goes, lets_go, rows_in, take_turns, AreTurns}
 
 -- a row that a load staged, or its mark

@@ -1,12 +1,12 @@
 -- Rows that are looked for in a transaction, at a device that is honest.
 use Rattle.std.specs.Prelude.{ℕ, Bool, List, Result, OnOk, IfOk}
 use Rattle.sector_device.specs.declared.SectorDevice.{Ghosts}
-use Rattle.page_store.specs.Transactions.{stored, disk_in}
+use Rattle.page_store.specs.claim.Transactions.{stored, disk_in}
 use Rattle.page_store.specs.declared.pages.Pages.{Pages}
 use Rattle.page_store.specs.declared.txn.Txn.{Txn}
-use Rattle.page_btree.specs.Map.{InTxn}
-use Rattle.store_rows.specs.Rows.{KeyMap}
-use Rattle.store_rows.specs.Tidy.{AreRows}
+use Rattle.page_btree.specs.claim.Map.{InTxn}
+use Rattle.store_rows.specs.claim.Rows.{KeyMap}
+use Rattle.store_rows.specs.claim.Tidy.{AreRows}
 use Rattle.store_sweep.specs.Leftovers.{IsOfLoad}
 use Rattle.store_sweep.specs.Finding.{HasPlanMark, HoldsNone, IsLeftKey, IsLeft, IsGap, IsSought, IsSoughtLeft}
 use Rattle.store_sweep.specs.declared.leftovers.Left.{Left}

@@ -1,9 +1,9 @@
 //! Commits a sweep.
 ghost use Rattle.std.specs.Prelude.{◌≡◌, ◌≤◌, ◌+◌, false, OnOk, IfErr, length};
-ghost use Rattle.page_store.specs.Chain.{free_in};
-ghost use Rattle.page_store.specs.Transactions.{stored, disk_in, count_of, has_halted, txn_pages, txn_free, txn_writes, HasShape, IsKept};
-ghost use Rattle.page_btree.specs.Map.{InTxn, InPages};
-ghost use Rattle.store_rows.specs.Rows.{KeyMap};
+ghost use Rattle.page_store.specs.claim.Chain.{free_in};
+ghost use Rattle.page_store.specs.claim.Transactions.{stored, disk_in, count_of, has_halted, txn_pages, txn_free, txn_writes, HasShape, IsKept};
+ghost use Rattle.page_btree.specs.claim.Map.{InTxn, InPages};
+ghost use Rattle.store_rows.specs.claim.Rows.{KeyMap};
 ghost use Rattle.store_sweep.specs.Errors.{page_told};
 ghost use Rattle.store_sweep.specs.Sweeping.{Leaves, FinishErr};
 

@@ -1,6 +1,6 @@
 //! Why nothing is swept.
 ghost use Rattle.std.specs.Prelude.{◌≡◌};
-ghost use Rattle.page_store.specs.Transactions.{has_halted};
+ghost use Rattle.page_store.specs.claim.Transactions.{has_halted};
 ghost use Rattle.store_sweep.specs.Errors.{tree_told};
 
 use page_store::Pages;

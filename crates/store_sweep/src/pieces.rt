@@ -1,15 +1,15 @@
 //! Finds a piece that is left of some chunks.
 ghost use Rattle.std.specs.Prelude.{◌≡◌, ◌<◌, ◌^◌, List, ◌∷◌, length, true, OnOk, OnErr, IfOk, IfErr};
-ghost use Rattle.page_store.specs.Transactions.{stored, disk_in, count_of, txn_pages, IsQuiet, Passed};
-ghost use Rattle.page_node.specs.Entries.{Entry};
+ghost use Rattle.page_store.specs.claim.Transactions.{stored, disk_in, count_of, txn_pages, IsQuiet, Passed};
+ghost use Rattle.page_node.specs.claim.Entries.{Entry};
 ghost use Rattle.page_node.specs.Walking.{IsAhead};
-ghost use Rattle.page_btree.specs.Map.{InTxn};
-ghost use Rattle.page_btree.specs.Errors.{GetErr};
+ghost use Rattle.page_btree.specs.claim.Map.{InTxn};
+ghost use Rattle.page_btree.specs.claim.Errors.{GetErr};
 ghost use Rattle.page_btree.specs.declared.error.TreeError.TheVariants.{DeviceFault};
 ghost use Rattle.row_table.specs.Reading.{ReadErr};
-ghost use Rattle.store_rows.specs.Keys.{in_eight};
-ghost use Rattle.store_rows.specs.Rows.{KeyMap};
-ghost use Rattle.store_rows.specs.Tidy.{AreRows};
+ghost use Rattle.store_rows.specs.claim.Keys.{in_eight};
+ghost use Rattle.store_rows.specs.claim.Rows.{KeyMap};
+ghost use Rattle.store_rows.specs.claim.Tidy.{AreRows};
 ghost use Rattle.store_sweep.specs.Finding.{IsFirstFrom, IsNextChunk, IsToldShared, IsFirstPiece};
 ghost use Rattle.store_sweep.specs.Sought.{SeeksPiece, SeeksLeft};
 

@@ -1,10 +1,10 @@
 //! Takes turns of a sweep.
 ghost use Rattle.std.specs.Prelude.{◌≡◌, ◌<◌, ◌≤◌, IfOk, MatchResult, true, false};
-ghost use Rattle.page_store.specs.Transactions.{stored, disk_in, count_of, txn_pages, IsQuiet};
+ghost use Rattle.page_store.specs.claim.Transactions.{stored, disk_in, count_of, txn_pages, IsQuiet};
 ghost use Rattle.page_btree.specs.Keys.{IsKey};
-ghost use Rattle.page_btree.specs.Map.{InTxn};
-ghost use Rattle.store_rows.specs.Rows.{KeyMap};
-ghost use Rattle.store_rows.specs.Tidy.{Tidy};
+ghost use Rattle.page_btree.specs.claim.Map.{InTxn};
+ghost use Rattle.store_rows.specs.claim.Rows.{KeyMap};
+ghost use Rattle.store_rows.specs.claim.Tidy.{Tidy};
 ghost use Rattle.store_sweep.specs.Leftovers.{IsSweptClean};
 ghost use Rattle.store_sweep.specs.Sweeping.{HasSwept, HasDesk, TakeErr, IsTurn};
 

@@ -1,13 +1,13 @@
 //! Sweeps a store, a few rows in each commit.
 ghost use Rattle.std.specs.Prelude.{◌≡◌, ◌≤◌, ◌<◌, ◌↔◌, Err, true, false, Option, OnOk, IfOk, IfErr, length};
-ghost use Rattle.page_store.specs.Chain.{free_in};
-ghost use Rattle.page_store.specs.Transactions.{stored, disk_in, has_halted, HasShape, IsSame, IsKept, IsQuiet, Passed};
-ghost use Rattle.page_btree.specs.Map.{InPages};
-ghost use Rattle.desk_model.specs.Desk.{Desk};
-ghost use Rattle.store_rows.specs.Rows.{KeyMap};
-ghost use Rattle.desk_pages.specs.Desks.{IsDeskMap, InPages as DeskInPages, OpensDesk};
+ghost use Rattle.page_store.specs.claim.Chain.{free_in};
+ghost use Rattle.page_store.specs.claim.Transactions.{stored, disk_in, has_halted, HasShape, IsSame, IsKept, IsQuiet, Passed};
+ghost use Rattle.page_btree.specs.claim.Map.{InPages};
+ghost use Rattle.desk_model.specs.claim.Desk.{Desk};
+ghost use Rattle.store_rows.specs.claim.Rows.{KeyMap};
+ghost use Rattle.desk_pages.specs.claim.Desks.{IsDeskMap, InPages as DeskInPages, OpensDesk};
 ghost use Rattle.desk_pages.specs.Moments.{StopsLeave};
-ghost use Rattle.store_holdings.specs.Checks.{AreSoundHoldings};
+ghost use Rattle.store_holdings.specs.claim.Checks.{AreSoundHoldings};
 ghost use Rattle.store_sweep.specs.Leftovers.{IsSweptClean};
 ghost use Rattle.store_sweep.specs.Sweeping.{HoldsSwept, SweepErr};
 

@@ -2,32 +2,32 @@
 use Rattle.std.specs.Prelude.{⊤}
 use Rattle.std.proofs.Common.{◌≡◌, ◌⊎◌, ◌≤◌, ◌<◌, ℕ, Bool, true, false, List, [], ◌∷◌, ◌++◌, Option, Result, Ok, Err, ◌+◌, inl, inr, ⊎_elim, refl, sym, subst, ◌∙◌, arith}
 use Rattle.std.proofs.lemmas.List.{append-nil}
-use Rattle.sector_device.specs.Disk.{Image}
+use Rattle.sector_device.specs.claim.Disk.{Image}
 use Rattle.sector_device.proofs.Moments.{leaves_now}
 use Rattle.sector_device.specs.declared.SectorDevice.{Ghosts}
 use Rattle.desk_model.specs.declared.command.Command.{Command}
 use Rattle.desk_model.specs.declared.reply.Reply.{Reply}
-use Rattle.desk_model.specs.Desk.{Desk}
-use Rattle.desk_model.specs.Outcome.{CommandMay}
-use Rattle.desk_model.specs.Step.{step}
-use Rattle.desk_catalogue.specs.Audits.{AskMay}
-use Rattle.desk_pages.specs.Desks.{OpensDesk}
+use Rattle.desk_model.specs.claim.Desk.{Desk}
+use Rattle.desk_model.specs.claim.Outcome.{CommandMay}
+use Rattle.desk_model.specs.claim.Step.{step}
+use Rattle.desk_catalogue.specs.claim.Audits.{AskMay}
+use Rattle.desk_pages.specs.claim.Desks.{OpensDesk}
 use Rattle.desk_store.specs.declared.clerk.Clerk.{Clerk}
-use Rattle.desk_store.specs.Clerks.{desk_of, disk_of, is_halted, pages_of, sectors_of, Keeps}
-use Rattle.desk_store.specs.Commands.{Does, MustBeFull, MayBeFull}
+use Rattle.desk_store.specs.claim.Clerks.{desk_of, disk_of, is_halted, pages_of, sectors_of, Keeps}
+use Rattle.desk_store.specs.claim.Commands.{Does, MustBeFull, MayBeFull}
 use Rattle.http_routes.specs.declared.order.Order.{Order}
 use Rattle.http_routes.specs.declared.order.Order.TheVariants as order
-use Rattle.http_routes.specs.Orders.{order_of}
-use Rattle.http_wire.specs.Front.{closes_after, is_head}
+use Rattle.http_routes.specs.claim.Orders.{order_of}
+use Rattle.http_wire.specs.claim.Front.{closes_after, is_head}
 use Rattle.http_desk.specs.declared.serve.Served.{Served}
 use Rattle.http_desk.specs.declared.serve.StreamFault.{StreamFault}
 use Rattle.http_desk.specs.declared.serve.StreamFault.TheVariants as fault
-use Rattle.http_desk.specs.Serving.{ServesTo, IsShortTalk, IsFrontTalk}
-use Rattle.http_desk.specs.Talk.{Talk, MayAnswer}
-use Rattle.served_runs.specs.Served.{DoesAtCounter, AsksAtCounter, ServesDurably}
+use Rattle.http_desk.specs.claim.Serving.{ServesTo, IsShortTalk, IsFrontTalk}
+use Rattle.http_desk.specs.claim.Talk.{Talk, MayAnswer}
+use Rattle.served_runs.specs.claim.Served.{DoesAtCounter, AsksAtCounter, ServesDurably}
 use Rattle.desk_lives.specs.Inside.{LivedThrough}
 use Rattle.desk_lives.proofs.Living.{either, calm, halt, clash_of, left_working}
-use Rattle.stream_lives.specs.Streams.{State, working, failed, shown_in, left_in, Takes, Looks, Ends, HasCause, ServedAs, Streamed}
+use Rattle.stream_lives.specs.claim.Streams.{State, working, failed, shown_in, left_in, Takes, Looks, Ends, HasCause, ServedAs, Streamed}
 
 -- ---- what is known of the end is known before
 module _ {D : Type 0} {g : Ghosts D} where

@@ -1,10 +1,10 @@
 //! Lives of a store, of which each has a stream or requests.
 ghost use Rattle.std.specs.Prelude.{◌≡◌, ◌≤◌, IfOk};
-ghost use Rattle.desk_model.specs.Desk.{Desk};
+ghost use Rattle.desk_model.specs.claim.Desk.{Desk};
 ghost use Rattle.desk_runs.specs.Recovery.{HoldsOne};
 ghost use Rattle.desk_lives.specs.Lives.{new_desk};
 ghost use Rattle.desk_lives.specs.Inside.{LivesOnce};
-ghost use Rattle.stream_lives.specs.Streams.{StreamLives};
+ghost use Rattle.stream_lives.specs.claim.Streams.{StreamLives};
 ghost use Rattle.stream_lives.specs.Inside.{IsLife};
 
 use accepted_commands::hearing::Hears;

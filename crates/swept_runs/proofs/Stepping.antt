@@ -1,15 +1,15 @@
 -- A step of a sweep, by what the clerk says of it.
 use Rattle.std.proofs.Common.{◌≡◌, ◌≤◌, ◌↔◌, ℕ, Bool, true, false, Option, Some, None, Result, Ok, Err, sym, ◌∙◌, refl, subst}
 use Rattle.sector_device.specs.declared.SectorDevice.{Ghosts}
-use Rattle.page_store.specs.Transactions.{IsQuiet}
-use Rattle.page_btree.specs.Map.{InPages as HoldsRows}
-use Rattle.store_rows.specs.Rows.{KeyMap}
-use Rattle.store_holdings.specs.Checks.{AreSoundHoldings}
+use Rattle.page_store.specs.claim.Transactions.{IsQuiet}
+use Rattle.page_btree.specs.claim.Map.{InPages as HoldsRows}
+use Rattle.store_rows.specs.claim.Rows.{KeyMap}
+use Rattle.store_holdings.specs.claim.Checks.{AreSoundHoldings}
 use Rattle.store_sweep.specs.declared.error.SweepError.{SweepError}
 use Rattle.desk_store.specs.declared.clerk.Clerk.{Clerk}
-use Rattle.desk_store.specs.Clerks.{desk_of, disk_of, free_of, is_halted, pages_of, Keeps, Moves}
+use Rattle.desk_store.specs.claim.Clerks.{desk_of, disk_of, free_of, is_halted, pages_of, Keeps, Moves}
 use Rattle.desk_store.specs.Sweeps.{HasRows, IsClean, SweepRefused}
-use Rattle.swept_runs.specs.Runs.{Tends}
+use Rattle.swept_runs.specs.claim.Runs.{Tends}
 use Rattle.swept_runs.specs.Steps.{StepMay}
 
 module _ {D : Type 0} {g : Ghosts D} where

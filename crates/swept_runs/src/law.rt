@@ -1,6 +1,6 @@
 //! The law of runs with steps of sweeps in them.
 ghost use Rattle.desk_store.specs.declared.clerk.Clerk.{Clerk};
-ghost use Rattle.swept_runs.specs.Runs.{SurvivesEachSwept};
+ghost use Rattle.swept_runs.specs.claim.Runs.{SurvivesEachSwept};
 
 use sector_device::SectorDevice;
 

@@ -1,6 +1,6 @@
 //! Steps of a sweep at a clerk, behind a check.
 ghost use Rattle.std.specs.Prelude.{true, false};
-ghost use Rattle.swept_runs.specs.Runs.{Tends};
+ghost use Rattle.swept_runs.specs.claim.Runs.{Tends};
 ghost use Rattle.swept_runs.specs.Steps.{StepMay};
 
 use desk_store::clerk::Clerk;

@@ -9,19 +9,19 @@ use Rattle.desk_model.specs.declared.reply.Reply.{Reply}
 use Rattle.desk_model.specs.declared.reply.Reply.TheVariants as reply
 use Rattle.desk_model.specs.declared.reply.Refusal.{Refusal}
 use Rattle.desk_model.specs.declared.reply.Refusal.TheVariants.{NoPlan, NoRevision, PlanExists, Stale, BadBody, NotWholeCounty, BadCompanion, Limit, Full, Memory, Halted, NotSealed}
-use Rattle.desk_model.specs.Desk.{Desk}
-use Rattle.desk_model.specs.Outcome.{CommandMay, RefusalMay, IsStep}
-use Rattle.desk_model.specs.Sample.{sample_desk}
-use Rattle.desk_catalogue.specs.Audits.{AskMay}
+use Rattle.desk_model.specs.claim.Desk.{Desk}
+use Rattle.desk_model.specs.claim.Outcome.{CommandMay, RefusalMay, IsStep}
+use Rattle.desk_model.specs.claim.Sample.{sample_desk}
+use Rattle.desk_catalogue.specs.claim.Audits.{AskMay}
 use Rattle.desk_store.specs.declared.clerk.Clerk.{Clerk}
-use Rattle.desk_store.specs.Clerks.{desk_of}
-use Rattle.desk_store.specs.Commands.{Does}
-use Rattle.http_desk.specs.Talk.{Talk}
-use Rattle.http_desk.specs.Serving.{ServesTo, IsCutTalk, IsFrontTalk, IsCutInHead, IsShortTalk}
+use Rattle.desk_store.specs.claim.Clerks.{desk_of}
+use Rattle.desk_store.specs.claim.Commands.{Does}
+use Rattle.http_desk.specs.claim.Talk.{Talk}
+use Rattle.http_desk.specs.claim.Serving.{ServesTo, IsCutTalk, IsFrontTalk, IsCutInHead, IsShortTalk}
 use Rattle.http_desk.specs.declared.serve.Served.{Served}
 use Rattle.http_desk.specs.declared.serve.StreamFault.{StreamFault}
 use Rattle.http_desk.specs.declared.serve.StreamFault.TheVariants as fault
-use Rattle.talk_command.specs.Talking.{clerk_commands, clerk_asks, ServesSample, ServesClerk, IsUnserved}
+use Rattle.talk_command.specs.claim.Talking.{clerk_commands, clerk_asks, ServesSample, ServesClerk, IsUnserved}
 use Rattle.talk_command.specs.Desks.{desk_commands, desk_asks, DeskTalk, IsTalkToHead, IsTalkSoFar, DeskServesTo, ServesDesk}
 use Rattle.talk_command.proofs.Seen.{talk_seen}
 

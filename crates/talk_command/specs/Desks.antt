@@ -6,18 +6,18 @@ use Rattle.desk_model.specs.declared.command.Query.{Query}
 use Rattle.desk_model.specs.declared.reply.Reply.{Reply}
 use Rattle.desk_model.specs.declared.reply.Reply.TheVariants.{Refused}
 use Rattle.desk_model.specs.declared.reply.Refusal.TheVariants.{Halted}
-use Rattle.desk_model.specs.Desk.{Desk}
-use Rattle.desk_model.specs.Outcome.{CommandMay}
-use Rattle.desk_model.specs.Sample.{sample_desk}
-use Rattle.desk_catalogue.specs.Audits.{AskMay}
-use Rattle.http_wire.specs.Interim.{IsCutHead}
-use Rattle.http_desk.specs.Talk.{Talk}
-use Rattle.http_desk.specs.Serving.{IsCutTalk}
+use Rattle.desk_model.specs.claim.Desk.{Desk}
+use Rattle.desk_model.specs.claim.Outcome.{CommandMay}
+use Rattle.desk_model.specs.claim.Sample.{sample_desk}
+use Rattle.desk_catalogue.specs.claim.Audits.{AskMay}
+use Rattle.http_wire.specs.claim.Interim.{IsCutHead}
+use Rattle.http_desk.specs.claim.Talk.{Talk}
+use Rattle.http_desk.specs.claim.Serving.{IsCutTalk}
 use Rattle.http_desk.specs.declared.serve.Served.{Served}
 use Rattle.http_desk.specs.declared.serve.StreamFault.{StreamFault}
 use Rattle.http_desk.specs.declared.serve.StreamFault.TheVariants as fault
 use Rattle.sector_device.specs.declared.SectorDevice.{Ghosts}
-use Rattle.talk_command.specs.Talking.{ServesSample}
+use Rattle.talk_command.specs.claim.Talking.{ServesSample}
 
 -- A command has the desk's step, or it is refused for want of room or of memory, or since the device failed, and the desk is as it was.
 abbrev pub desk_commands : Desk → Command → Reply → Desk → Type 0

@@ -1,2 +1,2 @@
-pub mod Talking
+pub mod claim
 pub mod Desks

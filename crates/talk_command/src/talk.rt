@@ -1,12 +1,12 @@
 //! `talk`: serves standard input to standard output, with a clerk alone over the sample geography.
 ghost use Rattle.std.specs.Prelude.{◌≡◌, ◌+◌, ◌≤◌, false, Err, IfSome};
-ghost use Rattle.byte_stream.specs.Counts.{counted};
-ghost use Rattle.http_desk.specs.Serving.{read_failures, write_failures};
-ghost use Rattle.desk_model.specs.Sample.{sample_desk};
-ghost use Rattle.desk_store.specs.Clerks.{desk_of, is_halted, room_of, sectors_of, Keeps};
+ghost use Rattle.byte_stream.specs.claim.Counts.{counted};
+ghost use Rattle.http_desk.specs.claim.Serving.{read_failures, write_failures};
+ghost use Rattle.desk_model.specs.claim.Sample.{sample_desk};
+ghost use Rattle.desk_store.specs.claim.Clerks.{desk_of, is_halted, room_of, sectors_of, Keeps};
 ghost use Rattle.desk_store.specs.Keeping.{sealed_desk};
 ghost use Rattle.sector_memory.specs.Device.{disk_of};
-ghost use Rattle.talk_command.specs.Talking.{Talks, ServesSample, status_of as status_of_served};
+ghost use Rattle.talk_command.specs.claim.Talking.{Talks, ServesSample, status_of as status_of_served};
 
 use byte_stream::source::Source;
 use command_output::status::Status;

@@ -1,27 +1,29 @@
 -- A device whose store is verified.
 use Rattle.std.proofs.Common.{◌≡◌, ◌+◌, ℕ, Bool, true, false, refl, sym, ap, subst, ◌∙◌, arith}
 use Rattle.std.specs.Prelude.{Option, Some, None, Result, Ok, Err, IfOk, IfErr}
-use Rattle.sector_device.specs.Disk.{Disk, Image, IsSynced}
-use Rattle.sector_device.specs.Moments.{LeavesOnly}
+use Rattle.sector_device.specs.claim.Disk.{Disk, Image}
+use Rattle.sector_device.specs.Disk.{IsSynced}
+use Rattle.sector_device.specs.claim.Moments.{LeavesOnly}
 use Rattle.sector_device.specs.declared.SectorDevice.{Ghosts}
-use Rattle.gate_journal.specs.Store.{home}
+use Rattle.gate_journal.specs.claim.Store.{home}
 use Rattle.gate_journal.specs.Recovery.{HasRoom, AllStores, ReadsAs, Found}
-use Rattle.page_store.specs.Chain.{root_in, free_in}
+use Rattle.page_store.specs.claim.Chain.{root_in, free_in}
 use Rattle.page_store.proofs.Stops.{leaves_quiet, quiet_more}
-use Rattle.page_store.specs.Transactions.{stored, disk_in, device_in, count_of, journal_of, has_halted, txn_pages, IsQuiet, OpenErr}
+use Rattle.page_store.specs.claim.Transactions.{stored, disk_in, device_in, count_of, journal_of, has_halted, txn_pages, IsQuiet}
+use Rattle.page_store.specs.Transactions.{OpenErr}
 use Rattle.page_store.specs.declared.pages.Pages.{Pages}
 use Rattle.page_store.specs.declared.txn.Txn.{Txn}
 use Rattle.page_store.specs.declared.error.PageError.{PageError}
 use Rattle.page_store.specs.declared.error.PageError.TheVariants as page
-use Rattle.page_btree.specs.Map.{InTxn}
+use Rattle.page_btree.specs.claim.Map.{InTxn}
 use Rattle.page_owners.specs.Errors.{CheckErr}
 use Rattle.page_owners.specs.Owners.{AreOwned}
 use Rattle.page_owners.specs.declared.error.PageFault.{PageFault}
 use Rattle.page_owners.specs.declared.error.PagesError.{PagesError}
 use Rattle.page_owners.specs.declared.error.PagesError.TheVariants as owners
-use Rattle.store_rows.specs.Rows.{KeyMap}
-use Rattle.desk_model.specs.Desk.{Desk}
-use Rattle.desk_pages.specs.Desks.{HoldsDeskOf, InPages as HoldsDesk, InTxn as ReadsIn}
+use Rattle.store_rows.specs.claim.Rows.{KeyMap}
+use Rattle.desk_model.specs.claim.Desk.{Desk}
+use Rattle.desk_pages.specs.claim.Desks.{HoldsDeskOf, InPages as HoldsDesk, InTxn as ReadsIn}
 use Rattle.store_command.specs.Reading.{ReadsDesk}
 use Rattle.desk_runs.specs.Recovery.{ImagesAreOne}
 use Rattle.desk_pages.specs.Openings.{LeavesOneOf, OpensOneOf}

@@ -1,28 +1,28 @@
 -- Why rows aren't found to be a desk's.
 use Rattle.std.proofs.Common.{◌≡◌, ℕ, List, Bool, true, false, inl, inr, refl, sym, ap, subst, ◌∙◌}
 use Rattle.std.specs.Prelude.{Option, Some, None, is_some}
-use Rattle.sector_device.specs.Disk.{Image}
+use Rattle.sector_device.specs.claim.Disk.{Image}
 use Rattle.sector_device.specs.declared.SectorDevice.{Ghosts}
-use Rattle.gate_journal.specs.Contents.{is_halted}
-use Rattle.page_store.specs.Transactions.{stored, disk_in, has_halted, HasFailed, IsQuiet, Passed}
+use Rattle.gate_journal.specs.claim.Contents.{is_halted}
+use Rattle.page_store.specs.claim.Transactions.{stored, disk_in, has_halted, HasFailed, IsQuiet, Passed}
 use Rattle.page_store.proofs.Stops.{failed_more}
 use Rattle.page_store.specs.declared.pages.Pages.{Pages}
 use Rattle.page_store.specs.declared.txn.Txn.{Txn}
-use Rattle.page_btree.specs.Map.{InTxn as HasRows}
+use Rattle.page_btree.specs.claim.Map.{InTxn as HasRows}
 use Rattle.page_btree.specs.declared.error.TreeError.{TreeError}
 use Rattle.page_btree.specs.declared.error.TreeError.TheVariants as tree
-use Rattle.desk_model.specs.Desk.{Desk}
-use Rattle.store_rows.specs.Keys.{in_four, version}
-use Rattle.store_rows.specs.Rows.{KeyMap, Has}
+use Rattle.desk_model.specs.claim.Desk.{Desk}
+use Rattle.store_rows.specs.claim.Keys.{in_four, version}
+use Rattle.store_rows.specs.claim.Rows.{KeyMap, Has}
 use Rattle.store_rows.proofs.OneGeography.{no_value}
 use Rattle.row_table.specs.Reading.{ReadErr}
 use Rattle.store_holdings.specs.Checks.{IsNewTidy, CheckErr as HoldingsErr}
-use Rattle.desk_pages.specs.Desks.{InTxn}
+use Rattle.desk_pages.specs.claim.Desks.{InTxn}
 use Rattle.desk_opening.specs.Opening.{HasVersion, IsReadFrom, OpenErr, cuts_in}
 use Rattle.desk_store.proofs.Opened.{new_tells}
 use Rattle.desk_store.proofs.Prepared.{IsBegun, begun_reads}
 use Rattle.desk_model.specs.declared.cuts.Cut.{Cut}
-use Rattle.store_holdings.specs.Checks.{AreSoundHoldings}
+use Rattle.store_holdings.specs.claim.Checks.{AreSoundHoldings}
 use Rattle.row_owners.specs.Strays.{AllBelong, IsChecked, IsStray}
 use Rattle.row_owners.specs.declared.wrong.WrongRow.{WrongRow}
 use Rattle.row_owners.specs.Wholes.{AllSay}

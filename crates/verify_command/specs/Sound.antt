@@ -1,18 +1,18 @@
 -- Rows that a desk leaves.
 use Rattle.std.specs.Prelude.{◌≡◌, ◌⊎◌, ℕ, Bool, true, false, List, Option, Some, None}
 use Rattle.sector_device.specs.declared.SectorDevice.{Ghosts}
-use Rattle.desk_model.specs.Desk.{Desk}
-use Rattle.page_store.specs.Transactions.{disk_in, has_halted, stored, HasFailed}
+use Rattle.desk_model.specs.claim.Desk.{Desk}
+use Rattle.page_store.specs.claim.Transactions.{disk_in, has_halted, stored, HasFailed}
 use Rattle.page_store.specs.declared.pages.Pages.{Pages}
 use Rattle.page_store.specs.declared.txn.Txn.{Txn}
-use Rattle.page_btree.specs.Map.{InTxn as HasRows}
+use Rattle.page_btree.specs.claim.Map.{InTxn as HasRows}
 use Rattle.page_btree.specs.declared.error.TreeError.{TreeError}
 use Rattle.page_btree.specs.declared.error.TreeError.TheVariants as tree
-use Rattle.store_rows.specs.Keys.{version, in_four}
-use Rattle.store_rows.specs.Rows.{KeyMap, Has, Lacks}
-use Rattle.store_holdings.specs.Checks.{AreSoundHoldings}
+use Rattle.store_rows.specs.claim.Keys.{version, in_four}
+use Rattle.store_rows.specs.claim.Rows.{KeyMap, Has, Lacks}
+use Rattle.store_holdings.specs.claim.Checks.{AreSoundHoldings}
 use Rattle.desk_opening.specs.Opening.{HasVersion, IsReadFrom, cuts_in}
-use Rattle.desk_pages.specs.Desks.{InTxn}
+use Rattle.desk_pages.specs.claim.Desks.{InTxn}
 use Rattle.store_command.specs.declared.fault.StoreFault.{StoreFault}
 use Rattle.store_command.specs.declared.fault.StoreFault.TheVariants.{NotFound, WrongSize, Exists, TooSmall, NotAStore, OldVersion, AlreadyNew, AlreadySealed, Full, DeviceFault, Memory}
 use Rattle.row_owners.specs.Wholes.{AreWhole}

@@ -1,7 +1,7 @@
 -- What is printed of a store that is sound, and told of one that isn't.
 use Rattle.std.specs.Prelude.{◌≡◌, ◌⊎◌, ℕ, List, ◌++◌, codes, decimal}
 use Rattle.command_output.specs.declared.status.Status.{Status}
-use Rattle.command_output.specs.Writing.{Written, Told}
+use Rattle.command_output.specs.claim.Writing.{Written, Told}
 use Rattle.store_command.specs.declared.fault.StoreFault.{StoreFault}
 use Rattle.store_command.specs.declared.fault.StoreFault.TheVariants.{NotAStore}
 use Rattle.store_command.specs.Telling.{status_of, store_line}

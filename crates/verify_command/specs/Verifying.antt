@@ -3,20 +3,20 @@ use Rattle.std.specs.Prelude.{◌≡◌, ◌⊎◌, ◌<◌, ℕ, Bool, true, fa
 use Rattle.std.specs.declared.alloc.Global.{Global}
 use Rattle.sector_device.specs.declared.SectorDevice.{Ghosts}
 use Rattle.gate_journal.specs.Recovery.{Found}
-use Rattle.page_store.specs.Transactions.{stored, disk_in, device_in, count_of, journal_of, has_halted}
+use Rattle.page_store.specs.claim.Transactions.{stored, disk_in, device_in, count_of, journal_of, has_halted}
 use Rattle.page_store.specs.declared.pages.Pages.{Pages}
 use Rattle.page_store.specs.declared.error.PageError.{PageError}
 use Rattle.page_store.specs.declared.error.PageError.TheVariants as page
-use Rattle.page_btree.specs.Map.{InPages}
+use Rattle.page_btree.specs.claim.Map.{InPages}
 use Rattle.page_owners.specs.Owners.{AreOwned}
 use Rattle.page_owners.specs.declared.error.PagesError.{PagesError}
 use Rattle.page_owners.specs.declared.error.PagesError.TheVariants as owners
-use Rattle.desk_model.specs.Desk.{Desk}
-use Rattle.store_rows.specs.Rows.{KeyMap}
-use Rattle.desk_pages.specs.Desks.{InPages as HoldsDesk}
+use Rattle.desk_model.specs.claim.Desk.{Desk}
+use Rattle.store_rows.specs.claim.Rows.{KeyMap}
+use Rattle.desk_pages.specs.claim.Desks.{InPages as HoldsDesk}
 use Rattle.command_output.specs.declared.status.Status.{Status}
 use Rattle.command_output.specs.declared.status.Status.TheVariants.{Done}
-use Rattle.command_output.specs.Writing.{Written, Prints, write_fault_line}
+use Rattle.command_output.specs.claim.Writing.{Written, Prints, write_fault_line}
 use Rattle.store_command.specs.Filling.{WhereItReads}
 use Rattle.store_command.specs.Reading.{LeavesDesk}
 use Rattle.store_command.specs.declared.fault.StoreFault.{StoreFault}

@@ -1,17 +1,18 @@
 //! Whether the pages and rows of a device's store are those that a desk leaves.
 ghost use Rattle.std.specs.Prelude.{◌≡◌, Bool, false, None, OnOk, IfOk, IfErr};
-ghost use Rattle.desk_model.specs.Desk.{Desk};
+ghost use Rattle.desk_model.specs.claim.Desk.{Desk};
 ghost use Rattle.sector_device.specs.Disk.{IsSynced};
-ghost use Rattle.page_store.specs.Transactions.{stored, disk_in, count_of, has_halted, txn_pages, IsQuiet, Passed};
-ghost use Rattle.page_btree.specs.Map.{InTxn};
+ghost use Rattle.page_store.specs.claim.Transactions.{stored, disk_in, count_of, has_halted, txn_pages, IsQuiet, Passed};
+ghost use Rattle.page_btree.specs.claim.Map.{InTxn};
 ghost use Rattle.page_owners.specs.Owners.{AreOwned};
 ghost use Rattle.page_owners.specs.Errors.{CheckErr as OwnersErr};
-ghost use Rattle.store_rows.specs.Keys.{version, in_four};
-ghost use Rattle.store_rows.specs.Rows.{KeyMap, Has};
-ghost use Rattle.store_holdings.specs.Checks.{AreSoundHoldings, IsNewTidy, CheckErr as HoldersErr};
+ghost use Rattle.store_rows.specs.claim.Keys.{version, in_four};
+ghost use Rattle.store_rows.specs.claim.Rows.{KeyMap, Has};
+ghost use Rattle.store_holdings.specs.claim.Checks.{AreSoundHoldings};
+ghost use Rattle.store_holdings.specs.Checks.{IsNewTidy, CheckErr as HoldersErr};
 ghost use Rattle.page_btree.specs.declared.error.TreeError.TheVariants.{Memory};
 ghost use Rattle.row_owners.specs.Strays.{AllBelong};
-ghost use Rattle.desk_pages.specs.Desks.{InTxn as HoldsDesk, InTxnOf};
+ghost use Rattle.desk_pages.specs.claim.Desks.{InTxn as HoldsDesk, InTxnOf};
 ghost use Rattle.desk_opening.specs.Opening.{IsReadFrom, OpenErr, cuts_in};
 ghost use Rattle.verify_command.specs.Sound.{CheckErr, IsFoundAs, IsSoundAs, OldIn, UnsoundIn, fault_of_tree};
 ghost use Rattle.verify_command.specs.Verifying.{HoldsOwned, HoldsSound, IsUnsound, TellsPages, VerifiesDevice, fault_of_page};

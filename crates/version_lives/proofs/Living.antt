@@ -3,38 +3,39 @@ use Rattle.std.proofs.Common.{◌≡◌, ◌≢◌, ◌≤◌, ◌^◌, ℕ, Boo
 use Rattle.std.specs.Prelude.{⊤, Vec}
 use Rattle.std.specs.declared.alloc.Global.{Global}
 use Rattle.std.proofs.lemmas.List.{append-nil}
-use Rattle.sector_device.specs.Disk.{Disk, Image, IsSynced}
+use Rattle.sector_device.specs.claim.Disk.{Disk, Image}
+use Rattle.sector_device.specs.Disk.{IsSynced}
 use Rattle.sector_device.specs.declared.SectorDevice.{Ghosts}
 use Rattle.sector_device.proofs.Moments.{leaves_now}
-use Rattle.gate_journal.specs.Store.{pages}
+use Rattle.gate_journal.specs.claim.Store.{pages}
 use Rattle.gate_journal.proofs.Headers.{same_journal}
-use Rattle.page_store.specs.Chain.{root_in, free_in}
+use Rattle.page_store.specs.claim.Chain.{root_in, free_in}
 use Rattle.page_btree.proofs.MapLaws.{one_map}
-use Rattle.desk_model.specs.Desk.{Desk}
-use Rattle.store_rows.specs.Keys.{version}
-use Rattle.store_rows.specs.Rows.{KeyMap, row_in}
-use Rattle.store_rows.specs.Tidy.{version_row}
-use Rattle.desk_pages.specs.Desks.{HoldsDeskOf, OpensDeskOf, OpensDesk, OpensOld, OpensEither}
-use Rattle.desk_pages.specs.Openings.{AllVersions, IsOneAs, IsOneOf, LeavesOneAs, OpensOneAs}
+use Rattle.desk_model.specs.claim.Desk.{Desk}
+use Rattle.store_rows.specs.claim.Keys.{version}
+use Rattle.store_rows.specs.claim.Rows.{KeyMap, row_in}
+use Rattle.store_rows.specs.claim.Tidy.{version_row}
+use Rattle.desk_pages.specs.claim.Desks.{HoldsDeskOf, OpensDeskOf, OpensDesk, OpensOld, OpensEither}
+use Rattle.desk_pages.specs.claim.Openings.{AllVersions, IsOneAs, IsOneOf, LeavesOneAs, OpensOneAs}
 use Rattle.desk_store.specs.declared.clerk.Clerk.{Clerk}
 use Rattle.desk_store.specs.declared.opening.OpenError.{OpenError}
 use Rattle.desk_store.specs.declared.opening.OpenError.TheVariants as opening
-use Rattle.desk_store.specs.Clerks.{desk_of, disk_of, is_halted, sectors_of, Keeps}
+use Rattle.desk_store.specs.claim.Clerks.{desk_of, disk_of, is_halted, sectors_of, Keeps}
 use Rattle.desk_store.specs.Openings.{OpenRefused}
 use Rattle.desk_migration.specs.declared.migration.Migration.{Migration}
 use Rattle.desk_migration.specs.declared.error.MigrationError.TheVariants as step
 use Rattle.desk_migration.specs.declared.error.MigrationOpenError.{MigrationOpenError}
 use Rattle.desk_migration.specs.declared.error.MigrationOpenError.TheVariants as entry
-use Rattle.desk_migration.specs.Migrating.{disk_of as migrated_disk, sectors_of as migrated_sectors}
+use Rattle.desk_migration.specs.claim.Migrating.{disk_of as migrated_disk, sectors_of as migrated_sectors}
 use Rattle.desk_migration.specs.Openings.{IsRefused, KeepsOne, LeavesNew}
 use Rattle.desk_runs.specs.Recovery.{ImagesAreOne}
 use Rattle.desk_lives.specs.declared.lives.Answer.{Answer}
-use Rattle.desk_lives.specs.Lives.{Asked, Lived, LifeAfterLife}
+use Rattle.desk_lives.specs.claim.Lives.{Asked, Lived, LifeAfterLife}
 use Rattle.desk_lives.specs.Inside.{Asks, GoingOn, LivedThrough}
 use Rattle.desk_lives.proofs.Living.{further}
 use Rattle.version_lives.specs.declared.leading.Led.{Led}
 use Rattle.version_lives.specs.declared.leading.Led.TheVariants as led
-use Rattle.version_lives.specs.Versions.{Version, version_1, version_2, either, MayBeOld, MayBeNew, Store, MayBar, Leads}
+use Rattle.version_lives.specs.claim.Versions.{Version, version_1, version_2, either, MayBeOld, MayBeNew, Store, MayBar, Leads}
 use Rattle.version_lives.specs.Inside.{OpensIn, HoldsIn, AllIn, IsOneIn, Knows, Becomes, LivesIn, IsAsked, IsLed, LedTo, LeadsOn}
 
 -- ---- one image, one version

@@ -1,16 +1,16 @@
 -- Steps of a migration, and what stops them.
 use Rattle.std.proofs.Common.{◌≡◌, ◌⊎◌, ◌≤◌, ◌<◌, ℕ, Bool, true, false, inl, inr, ⊎_elim, refl, sym, subst, ◌∙◌, arith}
-use Rattle.sector_device.specs.Disk.{Image}
+use Rattle.sector_device.specs.claim.Disk.{Image}
 use Rattle.sector_device.specs.declared.SectorDevice.{Ghosts}
 use Rattle.sector_device.proofs.Moments.{leaves_now}
 use Rattle.page_store.proofs.Stops.{leaves_here, leaves_quiet}
-use Rattle.page_store.specs.Transactions.{IsQuiet}
-use Rattle.desk_model.specs.Desk.{Desk}
-use Rattle.desk_pages.specs.Desks.{OpensDesk, OpensOld}
+use Rattle.page_store.specs.claim.Transactions.{IsQuiet}
+use Rattle.desk_model.specs.claim.Desk.{Desk}
+use Rattle.desk_pages.specs.claim.Desks.{OpensDesk, OpensOld}
 use Rattle.desk_migration.specs.declared.migration.Migration.{Migration}
 use Rattle.desk_migration.specs.declared.error.MigrationError.{MigrationError}
 use Rattle.desk_migration.specs.declared.error.MigrationError.TheVariants as step
-use Rattle.desk_migration.specs.Migrating.{disk_of, has_ended, is_halted, sectors_of, Ends, Goes, Keeps, KeepsNew, Moves}
+use Rattle.desk_migration.specs.claim.Migrating.{disk_of, has_ended, is_halted, sectors_of, Ends, Goes, Keeps, KeepsNew, Moves}
 use Rattle.desk_migration.specs.Puts.{FinishErr, HoldsAll, HoldsTo, StepErr}
 use Rattle.version_lives.specs.declared.leading.Led.{Led}
 use Rattle.version_lives.specs.declared.leading.Led.TheVariants as led

@@ -1,19 +1,19 @@
 -- What is known of the device of a store that may be of either version.
 use Rattle.std.specs.Prelude.{◌≡◌, ◌≤◌, ◌<◌, ℕ, false}
-use Rattle.sector_device.specs.Disk.{Disk, Image}
+use Rattle.sector_device.specs.claim.Disk.{Disk, Image}
 use Rattle.sector_device.specs.declared.SectorDevice.{Ghosts}
-use Rattle.desk_model.specs.Desk.{Desk}
-use Rattle.desk_pages.specs.Desks.{OpensDesk, OpensOld, OpensEither}
-use Rattle.desk_pages.specs.Openings.{AllVersions}
+use Rattle.desk_model.specs.claim.Desk.{Desk}
+use Rattle.desk_pages.specs.claim.Desks.{OpensDesk, OpensOld, OpensEither}
+use Rattle.desk_pages.specs.claim.Openings.{AllVersions}
 use Rattle.desk_migration.specs.declared.migration.Migration.{Migration}
 use Rattle.desk_migration.specs.declared.error.MigrationError.TheVariants as step
-use Rattle.desk_migration.specs.Migrating.{disk_of, is_halted, sectors_of, Keeps}
-use Rattle.desk_lives.specs.Lives.{Asked, Told}
+use Rattle.desk_migration.specs.claim.Migrating.{disk_of, is_halted, sectors_of, Keeps}
+use Rattle.desk_lives.specs.claim.Lives.{Asked, Told}
 use Rattle.version_lives.specs.declared.leading.Led.{Led}
 use Rattle.version_lives.specs.declared.leading.Led.TheVariants as led
 use Rattle.version_lives.specs.declared.versions.Task.{Task}
 use Rattle.version_lives.specs.declared.versions.Done.{Done}
-use Rattle.version_lives.specs.Versions.{Version, version_1, version_2, either, Store, AskedLife, Leads, StoreLife}
+use Rattle.version_lives.specs.claim.Versions.{Version, version_1, version_2, either, Store, AskedLife, Leads, StoreLife}
 
 -- an image of n sectors opens to the desk, in a version that the store may be of
 abbrev pub OpensIn : Version → ℕ → Desk → Image → Type 0

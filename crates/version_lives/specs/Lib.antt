@@ -1,2 +1,2 @@
-pub mod Versions
+pub mod claim
 pub mod Inside

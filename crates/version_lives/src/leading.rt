@@ -1,6 +1,6 @@
 //! A migration of a store by so many steps at most.
 ghost use Rattle.std.specs.Prelude.{◌≡◌, true, false};
-ghost use Rattle.desk_migration.specs.Migrating.{has_ended, is_halted};
+ghost use Rattle.desk_migration.specs.claim.Migrating.{has_ended, is_halted};
 ghost use Rattle.version_lives.specs.Inside.{LeadsOn};
 
 use desk_migration::{Migration, MigrationError, MigrationOpenError};

@@ -1,6 +1,6 @@
 use Rattle.std.proofs.Common.{◌≡◌, filter}
-use Rattle.audit_population.specs.People.{districts}
-use Rattle.audit_population.specs.Clauses.{deviates}
+use Rattle.audit_population.specs.claim.People.{districts}
+use Rattle.audit_population.specs.claim.Clauses.{deviates}
 use Rattle.audit_population.proofs.clauses.congress_breaks.Given as goal
 
 abbrev pub invariant-loop-i : goal.invariant-loop-i

@@ -1,5 +1,5 @@
 use Rattle.std.proofs.Common.{◌≡◌, ◌≤◌, ◌*◌, ◌^◌, take, length, sum_by}
-use Rattle.audit_population.specs.Clauses.{deviation}
+use Rattle.audit_population.specs.claim.Clauses.{deviation}
 use Rattle.audit_population.proofs.clauses.mean_breaks.Given as goal
 
 abbrev pub invariant-loop-people : goal.invariant-loop-people

@@ -1,4 +1,4 @@
-use Rattle.audit_report.specs.ReportText.{break_data}
+use Rattle.audit_report.specs.claim.ReportText.{break_data}
 use Rattle.audit_report.proofs.Lists.{AreFirst}
 use Rattle.audit_report.proofs.values.breaks_value.Given as goal
 

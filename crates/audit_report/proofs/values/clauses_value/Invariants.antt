@@ -1,4 +1,4 @@
-use Rattle.audit_report.specs.ReportText.{clause_data}
+use Rattle.audit_report.specs.claim.ReportText.{clause_data}
 use Rattle.audit_report.proofs.Lists.{AreFirst}
 use Rattle.audit_report.proofs.values.clauses_value.Given as goal
 

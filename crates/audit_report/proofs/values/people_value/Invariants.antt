@@ -1,4 +1,4 @@
-use Rattle.audit_report.specs.ReportText.{number_data}
+use Rattle.audit_report.specs.claim.ReportText.{number_data}
 use Rattle.audit_report.proofs.Lists.{AreFirst}
 use Rattle.audit_report.proofs.values.people_value.Given as goal
 

@@ -1,5 +1,5 @@
 use Rattle.std.proofs.Common.{length}
-use Rattle.audit_splits_nesting.specs.Nested.{IsIn}
+use Rattle.audit_splits_nesting.specs.claim.Nested.{IsIn}
 use Rattle.audit_splits_nesting.specs.Marks.{AreMarks, one_part, value_at}
 use Rattle.audit_splits_nesting.proofs.nesting.mark_districts.Given as goal
 

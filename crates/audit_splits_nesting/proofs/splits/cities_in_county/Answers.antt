@@ -2,8 +2,8 @@ use Rattle.std.proofs.Common.{◌≡◌, ℕ, ◌<◌, List, length, arith, ap, 
 use Rattle.std.proofs.lemmas.List.{take_at}
 use Rattle.std.proofs.lemmas.Result.{IfOk-weaker}
 use Rattle.desk_model.specs.declared.block.BlockRow.{BlockRow}
-use Rattle.audit_splits_nesting.specs.Exactly.{AreExactly}
-use Rattle.audit_splits_nesting.specs.Divided.{IsInCity, IsDividedWithinCounty}
+use Rattle.audit_splits_nesting.specs.claim.Exactly.{AreExactly}
+use Rattle.audit_splits_nesting.specs.claim.Divided.{IsInCity, IsDividedWithinCounty}
 use Rattle.audit_splits_nesting.proofs.Meaning.{cities_within_are}
 use Rattle.audit_splits_nesting.proofs.splits.cities_in_county.Goals as goal
 

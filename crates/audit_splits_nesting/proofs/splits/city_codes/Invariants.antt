@@ -1,5 +1,5 @@
 use Rattle.std.proofs.Common.{ℕ, ◌<◌, ◌≤◌, ◌^◌}
-use Rattle.audit_splits_nesting.specs.Divided.{IsInCity}
+use Rattle.audit_splits_nesting.specs.claim.Divided.{IsInCity}
 use Rattle.audit_splits_nesting.proofs.splits.city_codes.Given as goal
 
 abbrev pub invariant-loop-block : goal.invariant-loop-block

@@ -1,5 +1,5 @@
 use Rattle.std.proofs.Common.{length, arith}
-use Rattle.audit_splits_nesting.specs.Divided.{IsInCity}
+use Rattle.audit_splits_nesting.specs.claim.Divided.{IsInCity}
 use Rattle.audit_splits_nesting.specs.Marks.{one_part, value_at}
 use Rattle.audit_splits_nesting.proofs.Marking.{marks_take, marks_pass}
 use Rattle.audit_splits_nesting.proofs.Places.{in_city, in_no_city, one_city}

@@ -1,5 +1,5 @@
 use Rattle.std.proofs.Common.{length}
-use Rattle.audit_splits_nesting.specs.Divided.{IsInCity}
+use Rattle.audit_splits_nesting.specs.claim.Divided.{IsInCity}
 use Rattle.audit_splits_nesting.specs.Marks.{AreMarks, one_part, value_at}
 use Rattle.audit_splits_nesting.proofs.splits.mark_cities.Given as goal
 

@@ -1,5 +1,5 @@
 use Rattle.std.proofs.Common.{length, arith}
-use Rattle.audit_splits_nesting.specs.Divided.{county_at, IsInCity}
+use Rattle.audit_splits_nesting.specs.claim.Divided.{county_at, IsInCity}
 use Rattle.audit_splits_nesting.specs.Marks.{value_at}
 use Rattle.audit_splits_nesting.proofs.Marking.{marks_take, marks_pass}
 use Rattle.audit_splits_nesting.proofs.Places.{in_city, in_no_city, one_city, in_county, counties_rise}

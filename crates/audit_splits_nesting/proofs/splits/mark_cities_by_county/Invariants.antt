@@ -1,5 +1,5 @@
 use Rattle.std.proofs.Common.{length}
-use Rattle.audit_splits_nesting.specs.Divided.{county_at, IsInCity}
+use Rattle.audit_splits_nesting.specs.claim.Divided.{county_at, IsInCity}
 use Rattle.audit_splits_nesting.specs.Marks.{AreMarks, value_at}
 use Rattle.audit_splits_nesting.proofs.splits.mark_cities_by_county.Given as goal
 

@@ -1,5 +1,5 @@
 use Rattle.std.proofs.Common.{arith, sym, ◌∙◌}
-use Rattle.audit_splits_nesting.specs.Divided.{IsInCounty}
+use Rattle.audit_splits_nesting.specs.claim.Divided.{IsInCounty}
 use Rattle.audit_splits_nesting.specs.Marks.{one_part, value_at}
 use Rattle.audit_splits_nesting.proofs.Marking.{marks_take}
 use Rattle.audit_splits_nesting.proofs.Places.{in_county, county_below}

@@ -1,4 +1,4 @@
-use Rattle.audit_splits_nesting.specs.Divided.{IsInCounty}
+use Rattle.audit_splits_nesting.specs.claim.Divided.{IsInCounty}
 use Rattle.audit_splits_nesting.specs.Marks.{AreMarks, one_part, value_at}
 use Rattle.audit_splits_nesting.proofs.splits.mark_counties.Given as goal
 

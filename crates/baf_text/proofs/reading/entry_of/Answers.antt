@@ -1,7 +1,7 @@
 use Rattle.std.proofs.Common.{◌≡◌, ◌<◌, length, ap, sym, ◌∙◌}
 use Rattle.std.specs.Prelude.{is_some}
-use Rattle.desk_model.specs.Geography.{id_at}
-use Rattle.desk_model.specs.Baf.{line_read}
+use Rattle.desk_model.specs.claim.Geography.{id_at}
+use Rattle.desk_model.specs.claim.Baf.{line_read}
 use Rattle.baf_text.proofs.Values.{line_unknown, line_entered}
 use Rattle.baf_text.proofs.reading.entry_of.Goals as goal
 

@@ -1,6 +1,6 @@
 use Rattle.std.proofs.Common.{◌/◌, ◌<◌, ◌^◌, ◌++◌, ℕ, List, ap, arith, append_assoc, ◌∙◌}
 use Rattle.desk_model.specs.declared.kind.Kind.TheVariants.{Congress}
-use Rattle.desk_model.specs.Baf.{padded_decimal}
+use Rattle.desk_model.specs.claim.Padded.{padded_decimal}
 use Rattle.baf_text.specs.Ends.{end_text}
 use Rattle.baf_text.proofs.Ends.{row_cut}
 use Rattle.baf_text.proofs.writing.push_two.Goals as goal

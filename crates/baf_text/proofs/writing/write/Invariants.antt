@@ -1,7 +1,8 @@
 use Rattle.std.proofs.Common.{◌≡◌, ◌++◌, ◌∷◌, take}
 use Rattle.std.specs.List.{flat_map, zip}
-use Rattle.desk_model.specs.Baf.{header, row_text}
-use Rattle.desk_model.specs.Geography.{ids_of}
+use Rattle.desk_model.specs.claim.Baf.{header}
+use Rattle.desk_model.specs.claim.Printed.{row_text}
+use Rattle.desk_model.specs.claim.Geography.{ids_of}
 use Rattle.baf_text.proofs.writing.write.Given as goal
 
 abbrev pub invariant-loop-place : goal.invariant-loop-place

@@ -1,6 +1,6 @@
 use Rattle.gate_journal.specs.Store.{IsWithin}
-use Rattle.gate_journal.specs.Writes.{writes_of}
-use Rattle.gate_journal.specs.Contents.{page_count}
+use Rattle.gate_journal.specs.claim.Writes.{writes_of}
+use Rattle.gate_journal.specs.claim.Contents.{page_count}
 use Rattle.bench_programs.proofs.commits.commit_often.Given as goal
 
 abbrev pub invariant-loop : goal.invariant-loop

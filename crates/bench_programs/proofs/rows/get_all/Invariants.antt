@@ -1,5 +1,5 @@
 use Rattle.std.proofs.Common.{◌≡◌}
-use Rattle.page_store.specs.Transactions.{txn_pages, count_of}
+use Rattle.page_store.specs.claim.Transactions.{txn_pages, count_of}
 use Rattle.bench_programs.proofs.rows.get_all.Given as goal
 
 abbrev pub invariant-loop-i : goal.invariant-loop-i

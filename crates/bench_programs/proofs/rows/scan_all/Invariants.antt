@@ -1,5 +1,5 @@
 use Rattle.std.proofs.Common.{◌≡◌}
-use Rattle.page_store.specs.Transactions.{txn_pages, count_of}
+use Rattle.page_store.specs.claim.Transactions.{txn_pages, count_of}
 use Rattle.bench_programs.proofs.rows.scan_all.Given as goal
 
 abbrev pub invariant-loop : goal.invariant-loop

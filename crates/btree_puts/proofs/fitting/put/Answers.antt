@@ -1,11 +1,12 @@
 use Rattle.std.proofs.Common.{◌≡◌, ◌≤◌, ◌+◌, sym, subst, ◌∙◌, arith}
 use Rattle.std.specs.Prelude.{IfOk, IfSome}
 use Rattle.std.specs.FinMap.{insert, contains_key}
-use Rattle.sector_device.specs.Disk.{Image}
-use Rattle.page_store.specs.Transactions.{stored, txn_free, txn_writes, Passed}
+use Rattle.sector_device.specs.claim.Disk.{Image}
+use Rattle.page_store.specs.claim.Transactions.{stored, txn_free, txn_writes, Passed}
 use Rattle.page_store.proofs.Stops.{quiet_more, passed_more}
-use Rattle.page_btree.specs.Map.{InTxn}
-use Rattle.page_btree.specs.Errors.{PutErr, IsNoWant}
+use Rattle.page_btree.specs.claim.Map.{InTxn}
+use Rattle.page_btree.specs.claim.Errors.{PutErr}
+use Rattle.page_btree.specs.Errors.{IsNoWant}
 use Rattle.page_btree.specs.declared.error.TreeError.TheVariants.{TooDeep}
 use Rattle.page_btree.proofs.Outcomes.{map_ok, map_err, map_both}
 use Rattle.page_btree.proofs.Editing.{still_in}

@@ -1,15 +1,16 @@
 use Rattle.std.proofs.Common.{◌≡◌, ◌≤◌, ℕ, List, sym, subst, ◌∙◌, lit≤}
 use Rattle.std.specs.Prelude.{IfOk, IfSome}
 use Rattle.std.specs.FinMap.{insert, contains_key}
-use Rattle.sector_device.specs.Disk.{Image}
-use Rattle.page_store.specs.Transactions.{stored, txn_pages, txn_root, over, free_over, disk_in, Passed}
+use Rattle.sector_device.specs.claim.Disk.{Image}
+use Rattle.page_store.specs.claim.Transactions.{stored, txn_pages, txn_root, over, free_over, disk_in, Passed}
 use Rattle.page_store.proofs.Stops.{quiet_more, passed_more}
-use Rattle.page_node.specs.Entries.{Entry}
-use Rattle.page_node.specs.Node.{IsNode}
-use Rattle.page_node.specs.Places.{Rises}
-use Rattle.page_btree.specs.Keys.{KeyMap}
-use Rattle.page_btree.specs.Map.{Holds, InTxn}
-use Rattle.page_btree.specs.Errors.{PutErr, IsNoWant}
+use Rattle.page_node.specs.claim.Entries.{Entry}
+use Rattle.page_node.specs.claim.Node.{IsNode}
+use Rattle.page_node.specs.claim.Places.{Rises}
+use Rattle.page_btree.specs.claim.Keys.{KeyMap}
+use Rattle.page_btree.specs.claim.Map.{Holds, InTxn}
+use Rattle.page_btree.specs.claim.Errors.{PutErr}
+use Rattle.page_btree.specs.Errors.{IsNoWant}
 use Rattle.btree_puts.specs.Fitting.{IsLeafPut}
 use Rattle.page_btree.specs.Editing.{LeafErr}
 use Rattle.page_btree.specs.Leading.{CanLead}

@@ -1,7 +1,7 @@
 use Rattle.std.proofs.Common.{subst}
 use Rattle.std.specs.Prelude.{IfOk, IfSome}
-use Rattle.sector_device.specs.Disk.{Image}
-use Rattle.page_store.specs.Transactions.{stored}
+use Rattle.sector_device.specs.claim.Disk.{Image}
+use Rattle.page_store.specs.claim.Transactions.{stored}
 use Rattle.btree_puts.specs.Fitting.{IsLeafPut}
 use Rattle.page_btree.proofs.Editing.{some_of}
 use Rattle.btree_puts.proofs.fitting.put_leaf.Goals as goal

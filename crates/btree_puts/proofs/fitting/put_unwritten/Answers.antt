@@ -1,8 +1,8 @@
 use Rattle.std.proofs.Common.{◌≡◌, ◌∙◌, sym, subst}
 use Rattle.std.specs.FinMap.{put as put_entry}
-use Rattle.page_store.specs.Transactions.{stored, over}
-use Rattle.page_node.specs.Node.{IsNode}
-use Rattle.page_node.specs.Places.{key_cmp}
+use Rattle.page_store.specs.claim.Transactions.{stored, over}
+use Rattle.page_node.specs.claim.Node.{IsNode}
+use Rattle.page_node.specs.claim.Places.{key_cmp}
 use Rattle.page_node.specs.Spots.{IsRowPut}
 use Rattle.btree_puts.proofs.Images.{put_here, put_elsewhere}
 use Rattle.btree_puts.proofs.fitting.put_unwritten.Goals as goal

@@ -1,8 +1,9 @@
 use Rattle.std.proofs.Common.{◌≡◌, ◌∙◌, ◌∷◌, ◌+◌, ℕ, [], sym, ap, subst}
-use Rattle.page_store.specs.Chain.{AreFree}
-use Rattle.page_store.specs.Transactions.{stored, txn_pages, over, free_over}
-use Rattle.page_node.specs.Entries.{Entry, key_at, child_bytes}
-use Rattle.page_node.specs.Node.{IsNode}
+use Rattle.page_store.specs.claim.Chain.{AreFree}
+use Rattle.page_store.specs.claim.Transactions.{stored, txn_pages, over, free_over}
+use Rattle.page_node.specs.claim.Entries.{Entry, child_bytes}
+use Rattle.page_node.specs.Entries.{key_at}
+use Rattle.page_node.specs.claim.Node.{IsNode}
 use Rattle.btree_puts.specs.Putting.{IsGrown}
 use Rattle.btree_puts.proofs.Images.{put_here, put_elsewhere}
 use Rattle.btree_puts.proofs.Placing.{second_node}

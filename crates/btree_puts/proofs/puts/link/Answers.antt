@@ -1,10 +1,11 @@
 use Rattle.std.proofs.Common.{◌≡◌, sym, subst, inr}
 use Rattle.std.specs.Prelude.{IfOk}
-use Rattle.page_store.specs.Chain.{IsIn, AreFree}
-use Rattle.page_store.specs.Transactions.{stored, txn_pages, over, free_over, Passed}
+use Rattle.page_store.specs.claim.Chain.{IsIn, AreFree}
+use Rattle.page_store.specs.claim.Transactions.{stored, txn_pages, over, free_over, Passed}
 use Rattle.page_store.proofs.Stops.{quiet_more, passed_more}
-use Rattle.page_node.specs.Entries.{Entry, key_at, child_bytes}
-use Rattle.page_node.specs.Node.{IsNode}
+use Rattle.page_node.specs.claim.Entries.{Entry, child_bytes}
+use Rattle.page_node.specs.Entries.{key_at}
+use Rattle.page_node.specs.claim.Node.{IsNode}
 use Rattle.page_node.proofs.Laws.{node_unique}
 use Rattle.btree_puts.specs.Putting.{IsWritten}
 use Rattle.page_btree.proofs.Outcomes.{map_ok, err_of, map_err}

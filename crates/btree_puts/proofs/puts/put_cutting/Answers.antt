@@ -1,14 +1,15 @@
 use Rattle.std.proofs.Common.{◌≡◌, [], ℕ, List, None, inr, sym, ap, subst, ◌∙◌, arith, get_or}
 use Rattle.std.specs.Prelude.{is_some}
 use Rattle.std.specs.FinMap.{insert}
-use Rattle.sector_device.specs.Disk.{Image}
-use Rattle.page_store.specs.Chain.{AreFree}
-use Rattle.page_store.specs.Transactions.{stored, txn_pages, txn_root, txn_free, over, free_over, Passed, disk_in}
+use Rattle.sector_device.specs.claim.Disk.{Image}
+use Rattle.page_store.specs.claim.Chain.{AreFree}
+use Rattle.page_store.specs.claim.Transactions.{stored, txn_pages, txn_root, txn_free, over, free_over, Passed, disk_in}
 use Rattle.page_store.proofs.Stops.{quiet_more, passed_more}
 use Rattle.page_node.specs.Entries.{key_at}
-use Rattle.page_btree.specs.Keys.{KeyMap}
-use Rattle.page_btree.specs.Map.{Holds, InTxn}
-use Rattle.page_btree.specs.Errors.{PutErr, IsNoWant, tree_error, level_in}
+use Rattle.page_btree.specs.claim.Keys.{KeyMap}
+use Rattle.page_btree.specs.claim.Map.{Holds, InTxn}
+use Rattle.page_btree.specs.claim.Errors.{PutErr, level_in}
+use Rattle.page_btree.specs.Errors.{IsNoWant, tree_error}
 use Rattle.btree_puts.specs.Putting.{CanPut, CanPutSome, IsRaised, IsGrown}
 use Rattle.page_btree.proofs.Outcomes.{err_of, match_of}
 use Rattle.btree_puts.proofs.Failing.{first_failed, root_read_failed, place_failed, grow_failed}

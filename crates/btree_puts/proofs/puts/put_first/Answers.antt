@@ -1,9 +1,9 @@
 use Rattle.std.proofs.Common.{◌≡◌, ◌∙◌, ◌∷◌, [], sym, ap, subst}
 use Rattle.std.specs.FinMap.{insert}
-use Rattle.page_store.specs.Chain.{AreFree}
-use Rattle.page_store.specs.Transactions.{stored, txn_pages, txn_root, over, free_over}
-use Rattle.page_node.specs.Node.{IsNode}
-use Rattle.page_btree.specs.Map.{Holds}
+use Rattle.page_store.specs.claim.Chain.{AreFree}
+use Rattle.page_store.specs.claim.Transactions.{stored, txn_pages, txn_root, over, free_over}
+use Rattle.page_node.specs.claim.Node.{IsNode}
+use Rattle.page_btree.specs.claim.Map.{Holds}
 use Rattle.btree_puts.proofs.Roots.{first_holds}
 use Rattle.btree_puts.proofs.Images.{put_here}
 use Rattle.btree_puts.proofs.Placing.{first_node}

@@ -1,5 +1,5 @@
 use Rattle.std.proofs.Common.{◌≡◌, sym, subst, inr}
-use Rattle.page_store.specs.Transactions.{stored, over, free_over}
+use Rattle.page_store.specs.claim.Transactions.{stored, over, free_over}
 use Rattle.btree_puts.specs.Putting.{IsWritten}
 use Rattle.btree_puts.specs.Errors.{RowErr}
 use Rattle.page_btree.specs.Errors.{IsNoWant}

@@ -1,7 +1,7 @@
 use Rattle.std.proofs.Common.{◌≡◌, ◌∷◌, inl, inr, sym, ap, subst, ◌∙◌}
-use Rattle.page_store.specs.Chain.{IsIn, AreFree}
-use Rattle.page_store.specs.Transactions.{stored, txn_pages, over, free_over}
-use Rattle.page_node.specs.Node.{IsNode}
+use Rattle.page_store.specs.claim.Chain.{IsIn, AreFree}
+use Rattle.page_store.specs.claim.Transactions.{stored, txn_pages, over, free_over}
+use Rattle.page_node.specs.claim.Node.{IsNode}
 use Rattle.btree_puts.proofs.Images.{put_here, put_elsewhere}
 use Rattle.btree_puts.proofs.Failing.{take_failed}
 use Rattle.btree_puts.specs.Errors.{WriteErr}

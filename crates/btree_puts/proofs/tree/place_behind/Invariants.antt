@@ -1,5 +1,5 @@
 use Rattle.std.proofs.Common.{◌≡◌, ◌≤◌, ◌∷◌, [], length}
-use Rattle.page_node.specs.Entries.{Entry}
+use Rattle.page_node.specs.claim.Entries.{Entry}
 use Rattle.btree_puts.specs.Putting.{linked}
 use Rattle.btree_puts.proofs.Linking.{linked_at}
 use Rattle.btree_puts.proofs.tree.place_behind.Given as goal

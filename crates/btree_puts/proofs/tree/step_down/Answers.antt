@@ -1,5 +1,5 @@
 use Rattle.std.proofs.Common.{◌≢◌, ◌≤◌, ◌^◌, [], inr, arith}
-use Rattle.page_store.specs.Transactions.{stored, txn_pages, over, free_over}
+use Rattle.page_store.specs.claim.Transactions.{stored, txn_pages, over, free_over}
 use Rattle.btree_puts.specs.Errors.{StepErr}
 use Rattle.btree_puts.specs.Putting.{CanPutSome}
 use Rattle.page_btree.specs.declared.error.TreeError.TheVariants.{DeviceFault}

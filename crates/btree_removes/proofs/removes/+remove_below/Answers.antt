@@ -1,10 +1,10 @@
 use Rattle.std.proofs.Common.{◌≡◌, ◌-◌, ◌<◌, inr, sym, subst, arith, ℕ}
-use Rattle.sector_device.specs.Disk.{Image}
-use Rattle.page_store.specs.Transactions.{stored, txn_pages, over, free_over, Passed}
-use Rattle.page_store.specs.Chain.{AreFree}
+use Rattle.sector_device.specs.claim.Disk.{Image}
+use Rattle.page_store.specs.claim.Transactions.{stored, txn_pages, over, free_over, Passed}
+use Rattle.page_store.specs.claim.Chain.{AreFree}
 use Rattle.page_store.proofs.Stops.{quiet_more, passed_more}
-use Rattle.page_node.specs.Node.{Node, IsNode}
-use Rattle.page_btree.specs.Tree.{rows}
+use Rattle.page_node.specs.claim.Node.{Node, IsNode}
+use Rattle.page_btree.specs.claim.Tree.{rows}
 use Rattle.page_btree.specs.Getting.{IsLevel}
 use Rattle.btree_removes.specs.Removing.{CanRemove, Removes, RowRemoves, IsPutBack, IsDone, StaysAt, TakenErr, LinkErr, BelowErr, unlinked}
 use Rattle.page_btree.specs.declared.error.TreeError.TheVariants.{DeviceFault}

@@ -2,7 +2,7 @@ use Rattle.std.proofs.Common.{◌≡◌, ◌+◌, ◌-◌, ◌<◌, ◌≤◌, t
 use Rattle.std.proofs.lemmas.Bool.Decides.{leb_tells}
 use Rattle.std.specs.Ordering.{is_gt}
 use Rattle.page_node.specs.Entries.{key_at}
-use Rattle.page_node.specs.Places.{key_cmp}
+use Rattle.page_node.specs.claim.Places.{key_cmp}
 use Rattle.btree_removes.proofs.Edits.{unlinked_at}
 use Rattle.btree_removes.proofs.removes.link_of.Goals as goal
 

@@ -1,6 +1,6 @@
 use Rattle.std.proofs.Common.{◌≡◌, ◌≤◌, sym, ap, subst, ◌∙◌, arith, List}
-use Rattle.page_node.specs.Node.{Node, Fits}
-use Rattle.page_node.specs.Entries.{Entry, size_of}
+use Rattle.page_node.specs.claim.Node.{Node, Fits}
+use Rattle.page_node.specs.claim.Entries.{Entry, size_of}
 use Rattle.page_node.proofs.Laws.{node_unique}
 use Rattle.btree_removes.specs.Removing.{IsPutBack, unlinked}
 use Rattle.btree_removes.proofs.Edits.{size_remove}

@@ -1,12 +1,12 @@
 use Rattle.std.proofs.Common.{◌≡◌, ◌≢◌, refl, sym, ap, subst, ◌∙◌}
 use Rattle.std.specs.Prelude.{Some, None}
 use Rattle.std.specs.FinMap.{remove as remove_key}
-use Rattle.sector_device.specs.Disk.{Image}
-use Rattle.page_store.specs.Transactions.{stored, txn_pages, txn_root, over, free_over}
+use Rattle.sector_device.specs.claim.Disk.{Image}
+use Rattle.page_store.specs.claim.Transactions.{stored, txn_pages, txn_root, over, free_over}
 use Rattle.page_store.proofs.Stops.{quiet_more, passed_more}
 use Rattle.page_store.specs.declared.txn.Txn.{Txn}
-use Rattle.page_btree.specs.Map.{InTxn}
-use Rattle.page_btree.specs.Errors.{RemoveErr}
+use Rattle.page_btree.specs.claim.Map.{InTxn}
+use Rattle.page_btree.specs.claim.Errors.{RemoveErr}
 use Rattle.btree_removes.specs.Removing.{CanRemove, Removes, StaysAt}
 use Rattle.page_btree.proofs.Outcomes.{err_of}
 use Rattle.btree_removes.proofs.Refusals.{remove_fails}

@@ -1,11 +1,11 @@
 use Rattle.std.proofs.Common.{◌≡◌, ◌≤◌, ◌+◌, sym, subst, arith}
 use Rattle.std.specs.Prelude.{IfOk, IfSome}
 use Rattle.std.specs.FinMap.{contains_key, remove as remove_key}
-use Rattle.sector_device.specs.Disk.{Image}
-use Rattle.page_store.specs.Transactions.{stored, txn_free, txn_writes, Passed}
+use Rattle.sector_device.specs.claim.Disk.{Image}
+use Rattle.page_store.specs.claim.Transactions.{stored, txn_free, txn_writes, Passed}
 use Rattle.page_store.proofs.Stops.{quiet_more, passed_more}
-use Rattle.page_btree.specs.Map.{InTxn}
-use Rattle.page_btree.specs.Errors.{RemoveErr}
+use Rattle.page_btree.specs.claim.Map.{InTxn}
+use Rattle.page_btree.specs.claim.Errors.{RemoveErr}
 use Rattle.page_btree.proofs.Outcomes.{map_ok, map_err}
 use Rattle.page_btree.proofs.Editing.{still_in}
 use Rattle.btree_removes.proofs.Spares.{remove_failed_more}

@@ -1,7 +1,7 @@
 use Rattle.std.proofs.Common.{subst}
 use Rattle.std.specs.Prelude.{IfOk, IfSome}
-use Rattle.sector_device.specs.Disk.{Image}
-use Rattle.page_store.specs.Transactions.{stored}
+use Rattle.sector_device.specs.claim.Disk.{Image}
+use Rattle.page_store.specs.claim.Transactions.{stored}
 use Rattle.btree_removes.specs.Sparing.{IsLeafTaken}
 use Rattle.page_btree.proofs.Editing.{some_of}
 use Rattle.btree_removes.proofs.takes.take_leaf.Goals as goal

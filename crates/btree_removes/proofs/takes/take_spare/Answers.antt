@@ -1,14 +1,14 @@
 use Rattle.std.proofs.Common.{◌≡◌, ℕ, List, refl, sym, subst, ◌∙◌}
 use Rattle.std.specs.Prelude.{IfOk, IfSome, Some, true, false}
 use Rattle.std.specs.FinMap.{contains_key, remove as remove_key}
-use Rattle.sector_device.specs.Disk.{Image}
-use Rattle.page_store.specs.Transactions.{stored, txn_pages, txn_root, over, free_over, Passed}
+use Rattle.sector_device.specs.claim.Disk.{Image}
+use Rattle.page_store.specs.claim.Transactions.{stored, txn_pages, txn_root, over, free_over, Passed}
 use Rattle.page_store.proofs.Stops.{quiet_more, passed_more}
-use Rattle.page_node.specs.Entries.{Entry}
-use Rattle.page_node.specs.Node.{IsNode}
-use Rattle.page_node.specs.Places.{Rises}
-use Rattle.page_btree.specs.Map.{Holds, InTxn}
-use Rattle.page_btree.specs.Errors.{RemoveErr}
+use Rattle.page_node.specs.claim.Entries.{Entry}
+use Rattle.page_node.specs.claim.Node.{IsNode}
+use Rattle.page_node.specs.claim.Places.{Rises}
+use Rattle.page_btree.specs.claim.Map.{Holds, InTxn}
+use Rattle.page_btree.specs.claim.Errors.{RemoveErr}
 use Rattle.page_btree.specs.Editing.{IsAlike, LeafErr}
 use Rattle.btree_removes.specs.Sparing.{IsLeafTaken}
 use Rattle.page_btree.specs.Leading.{CanLead}

@@ -1,8 +1,8 @@
 use Rattle.std.proofs.Common.{◌≡◌, ◌∙◌, Some, refl, sym, ap, subst}
 use Rattle.std.specs.Prelude.{remove}
 use Rattle.gate_journal.proofs.Images.{put_on, put_off}
-use Rattle.page_store.specs.Transactions.{stored, over}
-use Rattle.page_node.specs.Node.{IsNode}
+use Rattle.page_store.specs.claim.Transactions.{stored, over}
+use Rattle.page_node.specs.claim.Node.{IsNode}
 use Rattle.page_node.specs.Spots.{IsSpareTaken}
 use Rattle.btree_removes.proofs.takes.take_unwritten.Goals as goal
 

@@ -1,6 +1,6 @@
 use Rattle.std.proofs.Common.{List, ℕ, ◌+◌, length, sym, ap, subst, ◌∙◌}
-use Rattle.page_node.specs.Entries.{Entry}
-use Rattle.page_node.specs.Node.{IsNode}
+use Rattle.page_node.specs.claim.Entries.{Entry}
+use Rattle.page_node.specs.claim.Node.{IsNode}
 use Rattle.page_node.specs.Walking.{IsAhead}
 use Rattle.btree_scan.proofs.Leaves.{next_leaf, from_empty, where_err}
 use Rattle.btree_scan.proofs.turns.turn.Goals as goal

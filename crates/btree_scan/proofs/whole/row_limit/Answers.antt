@@ -1,5 +1,5 @@
 use Rattle.std.proofs.Common.{arith}
-use Rattle.page_store.specs.Transactions.{txn_pages, over, txn_root, free_over}
+use Rattle.page_store.specs.claim.Transactions.{txn_pages, over, txn_root, free_over}
 use Rattle.page_btree.proofs.MapLaws.{few_rows}
 use Rattle.btree_scan.proofs.whole.row_limit.Goals as goal
 

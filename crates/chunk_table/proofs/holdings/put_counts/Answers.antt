@@ -1,10 +1,10 @@
 use Rattle.std.proofs.Common.{[], ◌∷◌, subst}
-use Rattle.store_rows.specs.Puts.{Row}
+use Rattle.store_rows.specs.claim.Puts.{Row}
 use Rattle.page_store.proofs.Stops.{quiet_more}
 use Rattle.store_rows.specs.Puts.{rows_told}
 use Rattle.store_rows.specs.RevisionSteps.{new_tally}
 use Rattle.row_table.proofs.Outcomes.{match_of}
-use Rattle.row_table.specs.Puts.{HasPut, PutsErr}
+use Rattle.row_table.specs.claim.Puts.{HasPut, PutsErr}
 use Rattle.row_table.proofs.RowsPut.{told_more, told_not_put}
 use Rattle.chunk_table.proofs.holdings.put_counts.Goals as goal
 

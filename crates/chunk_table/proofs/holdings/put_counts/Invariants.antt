@@ -1,8 +1,8 @@
 use Rattle.std.proofs.Common.{◌≡◌}
-use Rattle.page_store.specs.Transactions.{count_of, txn_pages}
+use Rattle.page_store.specs.claim.Transactions.{count_of, txn_pages}
 use Rattle.store_rows.specs.Puts.{rows_told}
 use Rattle.store_rows.specs.RevisionSteps.{new_tally}
-use Rattle.row_table.specs.Puts.{HasPut}
+use Rattle.row_table.specs.claim.Puts.{HasPut}
 use Rattle.chunk_table.proofs.holdings.put_counts.Given as goal
 
 abbrev pub invariant-loop-k : goal.invariant-loop-k

@@ -2,7 +2,7 @@ use Rattle.std.proofs.Common.{◌≡◌, List, [], ℕ, Bool, Some, true, false,
 use Rattle.std.specs.Prelude.{IfSome}
 use Rattle.std.specs.FinMap.{entries}
 use Rattle.page_store.proofs.Stops.{passed_none}
-use Rattle.store_rows.specs.Keys.{holdings_prefix}
+use Rattle.store_rows.specs.claim.Keys.{holdings_prefix}
 use Rattle.btree_scan.specs.Parts.{row_of}
 use Rattle.btree_scan.specs.Prefixes.{under}
 use Rattle.btree_scan.specs.Scanning.{fault_in, CanScan, IsNextRow, ScanErr}

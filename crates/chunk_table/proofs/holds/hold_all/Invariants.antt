@@ -1,5 +1,5 @@
 use Rattle.std.proofs.Common.{◌≡◌, drop}
-use Rattle.page_store.specs.Transactions.{count_of, txn_pages}
+use Rattle.page_store.specs.claim.Transactions.{count_of, txn_pages}
 use Rattle.chunk_table.proofs.HeldAll.{HasHeldTo}
 use Rattle.chunk_table.proofs.holds.hold_all.Given as goal
 

@@ -1,9 +1,9 @@
 use Rattle.page_store.proofs.Stops.{quiet_more}
 use Rattle.row_table.proofs.Outcomes.{map_both, match_of}
-use Rattle.row_table.specs.Puts.{HasPut, PutsErr}
-use Rattle.store_rows.specs.Holders.{holding_rows}
-use Rattle.store_rows.specs.Keys.{holding}
-use Rattle.store_rows.specs.Rows.{KeyMap, Lacks}
+use Rattle.row_table.specs.claim.Puts.{HasPut, PutsErr}
+use Rattle.store_rows.specs.claim.Holders.{holding_rows}
+use Rattle.store_rows.specs.claim.Keys.{holding}
+use Rattle.store_rows.specs.claim.Rows.{KeyMap, Lacks}
 use Rattle.chunk_table.specs.Holding.{HasHeldWhere, HoldWhereErr}
 use Rattle.chunk_table.proofs.HeldChunks.{held_then, too_many, holding_not_put, not_held_of_all, not_told}
 use Rattle.chunk_table.proofs.holds.hold_lacking.Goals as goal

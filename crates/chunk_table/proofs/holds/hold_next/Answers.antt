@@ -1,7 +1,7 @@
 use Rattle.std.proofs.Common.{◌<◌, ◌^◌, ℕ, Option, subst, arith}
 use Rattle.row_table.proofs.Outcomes.{map_both}
-use Rattle.store_rows.specs.Keys.{holding}
-use Rattle.store_rows.specs.Rows.{KeyMap, Lacks}
+use Rattle.store_rows.specs.claim.Keys.{holding}
+use Rattle.store_rows.specs.claim.Rows.{KeyMap, Lacks}
 use Rattle.chunk_table.specs.Holding.{HasHeldWhere, HoldWhereErr, IsFreeFrom}
 use Rattle.chunk_table.proofs.HeldAll.{either_held}
 use Rattle.chunk_table.proofs.HeldChunks.{held_of_all, held_of_fewer, not_held_of_all, not_held_of_fewer}

@@ -1,6 +1,6 @@
 use Rattle.row_table.proofs.Outcomes.{map_both}
-use Rattle.store_rows.specs.Keys.{holding}
-use Rattle.store_rows.specs.Rows.{KeyMap, Lacks}
+use Rattle.store_rows.specs.claim.Keys.{holding}
+use Rattle.store_rows.specs.claim.Rows.{KeyMap, Lacks}
 use Rattle.chunk_table.specs.Holding.{HasHeld, HasHeldWhere, HoldErr, HoldWhereErr}
 use Rattle.chunk_table.proofs.HeldChunks.{held_unheld, not_held_unheld}
 use Rattle.chunk_table.proofs.holds.hold_unheld.Goals as goal

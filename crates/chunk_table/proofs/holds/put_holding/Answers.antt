@@ -1,8 +1,8 @@
 use Rattle.std.proofs.Common.{[], ◌∷◌, refl}
 use Rattle.page_store.proofs.Stops.{quiet_more}
-use Rattle.store_rows.specs.Holders.{holding_rows}
+use Rattle.store_rows.specs.claim.Holders.{holding_rows}
 use Rattle.row_table.proofs.Outcomes.{map_both, match_of}
-use Rattle.row_table.specs.Puts.{HasPut, PutsErr}
+use Rattle.row_table.specs.claim.Puts.{HasPut, PutsErr}
 use Rattle.chunk_table.proofs.HeldChunks.{both_put, first_not_put, second_not_put}
 use Rattle.chunk_table.proofs.holds.put_holding.Goals as goal
 

@@ -1,7 +1,7 @@
 use Rattle.std.proofs.Common.{Option, sym, subst}
 use Rattle.store_rows.specs.Values.{tally_bytes}
 use Rattle.store_rows.specs.declared.value.Tally.{Tally}
-use Rattle.store_rows.specs.Rows.{KeyMap}
+use Rattle.store_rows.specs.claim.Rows.{KeyMap}
 use Rattle.row_table.specs.Reading.{ReadErr, StandsAs}
 use Rattle.row_table.proofs.Reading.{less_unread}
 use Rattle.row_table.proofs.Outcomes.{err_of}

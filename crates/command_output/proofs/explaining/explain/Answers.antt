@@ -1,5 +1,6 @@
 use Rattle.std.proofs.Common.{ℕ, List, codes, ◌∙◌, inl, subst}
-use Rattle.command_output.specs.Writing.{Prints, written_of, write_fault_line}
+use Rattle.command_output.specs.claim.Writing.{Prints, write_fault_line}
+use Rattle.command_output.specs.Writing.{written_of}
 use Rattle.command_output.specs.declared.status.Status.TheVariants.{Done}
 use Rattle.command_output.proofs.explaining.explain.Goals as goal
 

@@ -2,7 +2,8 @@ use Rattle.std.proofs.Common.{ℕ, List, Option, Ok, ◌∙◌, subst, map}
 use Rattle.fault_words.specs.Tables.{Words, told}
 use Rattle.fault_words.specs.Lines.{line_path, named}
 use Rattle.fault_words.specs.Sentences.{sentence_of}
-use Rattle.command_output.specs.Writing.{Told, written_of}
+use Rattle.command_output.specs.claim.Writing.{Told}
+use Rattle.command_output.specs.Writing.{written_of}
 use Rattle.command_output.specs.Explaining.{TellsKnown}
 use Rattle.command_output.proofs.explaining.tell_known.Goals as goal
 

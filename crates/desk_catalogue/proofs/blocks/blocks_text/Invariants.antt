@@ -1,6 +1,6 @@
 use Rattle.std.proofs.Common.{◌≡◌, ◌++◌, take, codes}
 use Rattle.std.specs.List.{flat_map}
-use Rattle.desk_model.specs.Step.{block_text}
+use Rattle.desk_model.specs.claim.Step.{block_text}
 use Rattle.desk_catalogue.proofs.blocks.blocks_text.Given as goal
 
 abbrev pub invariant-loop-block : goal.invariant-loop-block

@@ -1,7 +1,7 @@
 use Rattle.std.proofs.Common.{sym, subst}
 use Rattle.desk_lives.specs.Inside.{LivedThrough}
 use Rattle.http_seats.specs.Streams.{traffic}
-use Rattle.stream_lives.specs.Streams.{Ends}
+use Rattle.stream_lives.specs.claim.Streams.{Ends}
 use Rattle.stream_lives.proofs.Sim.{stream_lived}
 use Rattle.office_lives.proofs.Served.{office_lived, streams_lived}
 use Rattle.desk_claim.specs.declared.asking.Asking.{Asking}

@@ -1,6 +1,6 @@
 use Rattle.std.proofs.Common.{Ok, Err, sym, subst}
 use Rattle.http_seats.specs.Streams.{traffic}
-use Rattle.stream_lives.specs.Streams.{Ends}
+use Rattle.stream_lives.specs.claim.Streams.{Ends}
 use Rattle.version_lives.specs.Inside.{LivesIn}
 use Rattle.version_lives.proofs.Living.{clerk_lives, refused_lives}
 use Rattle.desk_claim.specs.declared.lives.Task.TheVariants as task

@@ -1,6 +1,6 @@
 use Rattle.std.proofs.Common.{sym, subst}
 use Rattle.http_seats.specs.Streams.{traffic}
-use Rattle.stream_lives.specs.Streams.{Ends}
+use Rattle.stream_lives.specs.claim.Streams.{Ends}
 use Rattle.version_lives.specs.Inside.{LivesIn}
 use Rattle.desk_claim.specs.declared.lives.Task.{Task}
 use Rattle.desk_claim.specs.declared.lives.Done.TheVariants as done

@@ -4,12 +4,12 @@ use Rattle.std.proofs.lemmas.List.{nil_from_length}
 use Rattle.desk_lives.specs.Inside.{GoingOn}
 use Rattle.desk_lives.proofs.Living.{popped}
 use Rattle.http_seats.specs.Streams.{traffic}
-use Rattle.stream_lives.specs.Streams.{Ends}
+use Rattle.stream_lives.specs.claim.Streams.{Ends}
 use Rattle.version_lives.specs.Inside.{Knows}
 use Rattle.version_lives.proofs.Living.{begun, lives_on, all_lived}
 use Rattle.desk_claim.specs.declared.lives.Task.{Task}
 use Rattle.desk_claim.specs.declared.lives.Done.{Done}
-use Rattle.desk_claim.specs.Sentence.{LifeMay}
+use Rattle.desk_claim.specs.claim.Sentence.{LifeMay}
 use Rattle.desk_claim.proofs.Sentence.{desk_of_lives}
 use Rattle.desk_claim.proofs.lives.live_on.Goals as goal
 

@@ -1,11 +1,11 @@
 use Rattle.std.proofs.Common.{length}
-use Rattle.desk_model.specs.Desk.{Desk}
+use Rattle.desk_model.specs.claim.Desk.{Desk}
 use Rattle.desk_lives.specs.Inside.{GoingOn}
 use Rattle.http_seats.specs.Streams.{traffic}
-use Rattle.stream_lives.specs.Streams.{Ends}
-use Rattle.version_lives.specs.Versions.{Version}
+use Rattle.stream_lives.specs.claim.Streams.{Ends}
+use Rattle.version_lives.specs.claim.Versions.{Version}
 use Rattle.version_lives.specs.Inside.{HoldsIn, Knows}
-use Rattle.desk_claim.specs.Sentence.{LifeMay}
+use Rattle.desk_claim.specs.claim.Sentence.{LifeMay}
 use Rattle.desk_claim.proofs.lives.live_on.Given as goal
 
 abbrev pub invariant-loop-alloc : goal.invariant-loop-alloc

@@ -2,7 +2,7 @@ use Rattle.std.proofs.Common.{◌≡◌, ◌<◌, false, length, List, [], sym, 
 use Rattle.std.proofs.lemmas.Bool.Decides.{nat_tests}
 use Rattle.std.proofs.lemmas.List.{nil_from_length}
 use Rattle.desk_lives.specs.declared.lives.Answer.{Answer}
-use Rattle.desk_store.specs.Clerks.{desk_of, disk_of, is_halted, sectors_of, Keeps}
+use Rattle.desk_store.specs.claim.Clerks.{desk_of, disk_of, is_halted, sectors_of, Keeps}
 use Rattle.desk_lives.specs.declared.lives.Request.{Request}
 use Rattle.desk_lives.specs.Inside.{Stands}
 use Rattle.desk_lives.proofs.Living.{popped, same_sectors, was_honest, goes_on, ends, fails_no_less}

@@ -1,5 +1,6 @@
 use Rattle.std.proofs.Common.{◌≡◌, ℕ, subst, ◌∙◌}
-use Rattle.desk_lives.specs.Lives.{new_desk, Lives}
+use Rattle.desk_lives.specs.Lives.{new_desk}
+use Rattle.desk_lives.specs.claim.Lives.{Lives}
 use Rattle.desk_lives.proofs.Living.{first_life}
 use Rattle.desk_lives.proofs.lives.live.Goals as goal
 

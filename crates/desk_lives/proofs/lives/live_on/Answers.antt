@@ -1,7 +1,7 @@
 use Rattle.std.proofs.Common.{◌≡◌, ◌<◌, length, List, [], ◌∷◌, ◌++◌, sym, subst, arith}
 use Rattle.std.proofs.lemmas.Bool.Decides.{nat_tests}
 use Rattle.std.proofs.lemmas.List.{nil_from_length}
-use Rattle.desk_lives.specs.Lives.{Asked, Told, Life}
+use Rattle.desk_lives.specs.claim.Lives.{Asked, Told, Life}
 use Rattle.desk_lives.specs.Inside.{Holds, GoingOn}
 use Rattle.desk_lives.proofs.Living.{popped, begun, lives_on, all_lived}
 use Rattle.desk_lives.proofs.lives.live_on.Goals as goal

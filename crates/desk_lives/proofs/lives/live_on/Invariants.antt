@@ -1,7 +1,7 @@
 use Rattle.std.proofs.Common.{◌≡◌, length}
-use Rattle.desk_model.specs.Desk.{Desk}
+use Rattle.desk_model.specs.claim.Desk.{Desk}
 use Rattle.desk_runs.specs.Recovery.{HoldsOne}
-use Rattle.desk_lives.specs.Lives.{Life}
+use Rattle.desk_lives.specs.claim.Lives.{Life}
 use Rattle.desk_lives.specs.Inside.{Holds, GoingOn}
 use Rattle.desk_lives.proofs.lives.live_on.Given as goal
 

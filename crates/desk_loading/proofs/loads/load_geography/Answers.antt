@@ -1,8 +1,8 @@
 use Rattle.std.proofs.Common.{◌≡◌, ◌-◌, ℕ, ap, subst, arith}
-use Rattle.store_rows.specs.GeographyRows.{geography_rows}
+use Rattle.store_rows.specs.claim.GeographyRows.{geography_rows}
 use Rattle.geo_tables.specs.Loading.{ground_of, done_of}
 use Rattle.desk_store.specs.Keeping.{sealed_desk}
-use Rattle.desk_store.specs.Clerks.{Keeps}
+use Rattle.desk_store.specs.claim.Clerks.{Keeps}
 use Rattle.desk_store.specs.Loads.{Stages}
 use Rattle.desk_loading.proofs.Moves.{may_move}
 use Rattle.desk_loading.proofs.Staged.{begun_moved, begin_refused, staging_refused, load_moved, load_sealed, seal_refused}

@@ -1,5 +1,5 @@
 use Rattle.std.proofs.Common.{◌≡◌}
-use Rattle.page_store.specs.Transactions.{count_of, txn_pages}
+use Rattle.page_store.specs.claim.Transactions.{count_of, txn_pages}
 use Rattle.desk_migration.specs.Puts.{HasHeldAs}
 use Rattle.desk_migration.specs.Walks.{IsWalking, StandsUnder}
 use Rattle.desk_migration.proofs.holds.hold_along.Given as goal

@@ -1,7 +1,7 @@
 use Rattle.std.proofs.Common.{◌≡◌, ◌<◌, List, ℕ, true, false, sym, subst, ◌∙◌}
 use Rattle.row_table.proofs.Outcomes.{match_of}
-use Rattle.store_rows.specs.Rows.{KeyMap}
-use Rattle.desk_migration.specs.Holding.{AreHeldTo}
+use Rattle.store_rows.specs.claim.Rows.{KeyMap}
+use Rattle.desk_migration.specs.claim.Holding.{AreHeldTo}
 use Rattle.desk_migration.specs.Parts.{IsUnderParts, IsUnderWay}
 use Rattle.desk_migration.specs.Puts.{HasHeld, HoldErr}
 use Rattle.desk_migration.specs.Walks.{IsWalking}

@@ -1,8 +1,8 @@
 use Rattle.std.proofs.Common.{Bool, sym, subst}
-use Rattle.sector_device.specs.Disk.{Image}
+use Rattle.sector_device.specs.claim.Disk.{Image}
 use Rattle.page_store.proofs.Stops.{quiet_more, passed_more, passed_none}
-use Rattle.page_store.specs.Transactions.{stored}
-use Rattle.page_btree.specs.Map.{InTxn}
+use Rattle.page_store.specs.claim.Transactions.{stored}
+use Rattle.page_btree.specs.claim.Map.{InTxn}
 use Rattle.desk_migration.specs.TurningBack.{IsTakenFirst}
 use Rattle.desk_migration.proofs.Back.{more_less, none_less}
 use Rattle.desk_migration.proofs.old.take_all.Goals as goal

@@ -1,7 +1,7 @@
 use Rattle.std.proofs.Common.{◌≡◌}
-use Rattle.page_store.specs.Transactions.{stored, disk_in, count_of, txn_pages, Passed}
-use Rattle.page_btree.specs.Map.{InTxn}
-use Rattle.store_rows.specs.Rows.{KeyMap}
+use Rattle.page_store.specs.claim.Transactions.{stored, disk_in, count_of, txn_pages, Passed}
+use Rattle.page_btree.specs.claim.Map.{InTxn}
+use Rattle.store_rows.specs.claim.Rows.{KeyMap}
 use Rattle.desk_migration.specs.TurningBack.{IsLess}
 use Rattle.desk_migration.proofs.old.take_all.Given as goal
 

@@ -1,9 +1,9 @@
 use Rattle.std.proofs.Common.{◌≡◌, ◌∷◌, [], Bool, List, ℕ, nat_eq, sym, ap, subst, ◌∙◌}
 use Rattle.std.specs.List.{starts_with}
 use Rattle.std.specs.FinMap.{remove as without}
-use Rattle.sector_device.specs.Disk.{Image}
+use Rattle.sector_device.specs.claim.Disk.{Image}
 use Rattle.page_store.proofs.Stops.{passed_more, quiet_more}
-use Rattle.page_btree.specs.Map.{InTxn}
+use Rattle.page_btree.specs.claim.Map.{InTxn}
 use Rattle.store_check.specs.Rows.{IsFirst}
 use Rattle.desk_migration.proofs.Back.{none_found, none_later, one_less}
 use Rattle.desk_migration.proofs.old.take_first.Goals as goal

@@ -1,6 +1,6 @@
 use Rattle.std.proofs.Common.{true, false, sym, ap, subst, ◌∙◌}
 use Rattle.page_store.proofs.Stops.{quiet_more, passed_more}
-use Rattle.store_rows.specs.Tidy.{version_row}
+use Rattle.store_rows.specs.claim.Tidy.{version_row}
 use Rattle.desk_migration.specs.Openings.{IsCalm, JudgeErr}
 use Rattle.desk_migration.specs.declared.error.MigrationOpenError.{MigrationOpenError}
 use Rattle.desk_migration.proofs.Opened.{calm_told, not_read, of_version, read_from, version_not_read}

@@ -1,8 +1,8 @@
 use Rattle.std.proofs.Common.{◌≡◌, take}
-use Rattle.page_store.specs.Transactions.{stored, disk_in, count_of, txn_pages, Passed}
-use Rattle.page_btree.specs.Map.{InTxn}
-use Rattle.store_rows.specs.Rows.{KeyMap}
-use Rattle.store_rows.specs.Tidy.{Tidy}
+use Rattle.page_store.specs.claim.Transactions.{stored, disk_in, count_of, txn_pages, Passed}
+use Rattle.page_btree.specs.claim.Map.{InTxn}
+use Rattle.store_rows.specs.claim.Rows.{KeyMap}
+use Rattle.store_rows.specs.claim.Tidy.{Tidy}
 use Rattle.desk_migration.specs.Walks.{HoldsEach}
 use Rattle.desk_migration.proofs.walks.first_unheld.Given as goal
 

@@ -1,14 +1,14 @@
 use Rattle.std.proofs.Common.{◌≡◌, ◌<◌, ℕ, List, length, get_or, Bool, true, false, sym, ap, subst, arith}
 use Rattle.std.specs.Prelude.{Option, Some, None}
-use Rattle.sector_device.specs.Disk.{Image}
+use Rattle.sector_device.specs.claim.Disk.{Image}
 use Rattle.page_store.proofs.Stops.{quiet_more, passed_more}
-use Rattle.page_btree.specs.Map.{InTxn}
-use Rattle.store_rows.specs.Tidy.{Tidy}
+use Rattle.page_btree.specs.claim.Map.{InTxn}
+use Rattle.store_rows.specs.claim.Tidy.{Tidy}
 use Rattle.row_table.proofs.Outcomes.{err_of}
 use Rattle.row_table.specs.Reading.{ReadErr}
 use Rattle.row_table.proofs.Reading.{get_unread}
 use Rattle.chunk_table.specs.Holding as chunk
-use Rattle.desk_migration.specs.Holding.{IsUnheld}
+use Rattle.desk_migration.specs.claim.Holding.{IsUnheld}
 use Rattle.desk_migration.specs.Walks.{Enters, IsHeldTo, IsNextPart, IsUnheldAt}
 use Rattle.desk_migration.proofs.Unread.{not_got_after}
 use Rattle.desk_migration.proofs.Walking.{passes, reaches, some_of}

@@ -1,11 +1,11 @@
 use Rattle.std.proofs.Common.{ℕ, List, inr, sym, subst, ◌∙◌, arith}
 use Rattle.std.specs.Prelude.{Option}
 use Rattle.std.specs.FinMap.{entries}
-use Rattle.sector_device.specs.Disk.{Image}
+use Rattle.sector_device.specs.claim.Disk.{Image}
 use Rattle.page_store.proofs.Stops.{quiet_more, passed_more, passed_none}
-use Rattle.page_store.specs.Transactions.{stored}
-use Rattle.page_btree.specs.Map.{InTxn}
-use Rattle.store_rows.specs.Tidy.{Tidy}
+use Rattle.page_store.specs.claim.Transactions.{stored}
+use Rattle.page_btree.specs.claim.Map.{InTxn}
+use Rattle.store_rows.specs.claim.Tidy.{Tidy}
 use Rattle.row_table.proofs.Outcomes.{err_of}
 use Rattle.row_table.specs.Reading.{ReadErr}
 use Rattle.store_check.proofs.Behind.{all_left}

@@ -1,6 +1,6 @@
 use Rattle.std.proofs.Common.{◌≡◌, ◌<◌, ◌+◌, length, get_or, arith, sym, ◌∙◌, ap, subst}
-use Rattle.desk_model.specs.Block.{county_of}
-use Rattle.desk_model.specs.Cuts.{counties}
+use Rattle.desk_model.specs.claim.Block.{county_of}
+use Rattle.desk_model.specs.claim.Cuts.{counties}
 use Rattle.desk_model.specs.declared.block.BlockRow.{BlockRow}
 use Rattle.desk_model.proofs.Runs.{IsCutTo, cut_start, cut_same, cut_more, cut_end, county_there, counties_long}
 use Rattle.desk_model.proofs.cuts.cuts.Goals as goal

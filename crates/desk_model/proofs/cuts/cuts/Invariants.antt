@@ -1,5 +1,5 @@
-use Rattle.desk_model.specs.Geography.{ids}
-use Rattle.desk_model.specs.Cuts.{counties}
+use Rattle.desk_model.specs.claim.Geography.{ids}
+use Rattle.desk_model.specs.claim.Cuts.{counties}
 use Rattle.desk_model.proofs.Runs.{IsCutTo}
 use Rattle.desk_model.proofs.cuts.cuts.Given as goal
 

@@ -2,8 +2,8 @@ use Rattle.std.proofs.Common.{ap, map, refl, []}
 use Rattle.std.specs.FinMap as map_of
 use Rattle.std.specs.FinMap.{get-empty, get-insert, len-empty, entries-insert}
 use Rattle.std.specs.Cmp.Lexicographic.{nat_list_cmp_total}
-use Rattle.desk_model.specs.Desk.{Plan, name_cmp}
-use Rattle.desk_model.specs.Step.{says, plan_row}
+use Rattle.desk_model.specs.claim.Desk.{Plan, name_cmp}
+use Rattle.desk_model.specs.claim.Step.{says, plan_row}
 use Rattle.desk_model.specs.Examples.{name_a, plan_of}
 use Rattle.desk_model.specs.declared.reply.Reply.TheVariants as reply
 use Rattle.desk_model.proofs.Maps.{entries-empty}

@@ -1,8 +1,8 @@
 use Rattle.std.proofs.Common.{[], ◌∷◌, ap}
 use Rattle.std.specs.FinMap.{get-insert, get-empty}
 use Rattle.std.specs.Cmp.Lexicographic.{nat_list_cmp_total}
-use Rattle.desk_model.specs.Desk.{Plan, name_cmp}
-use Rattle.desk_model.specs.Sample.{sample_desk}
+use Rattle.desk_model.specs.claim.Desk.{Plan, name_cmp}
+use Rattle.desk_model.specs.claim.Sample.{sample_desk}
 use Rattle.desk_model.specs.Examples.{name_a, plan_of}
 use Rattle.desk_model.specs.declared.reply.Reply.TheVariants as reply
 use Rattle.desk_model.proofs.Maps.{remove_only}

@@ -3,10 +3,10 @@ use Rattle.std.specs.Fmt.{digits}
 use Rattle.std.specs.FinMap as map_of
 use Rattle.std.specs.FinMap.{get-insert}
 use Rattle.std.specs.Cmp.Lexicographic.{nat_list_cmp_total}
-use Rattle.desk_model.specs.Desk.{Plan}
-use Rattle.desk_model.specs.Baf.{printed}
-use Rattle.desk_model.specs.Sample.{sample}
-use Rattle.desk_model.specs.Step.{says, blocks_text}
+use Rattle.desk_model.specs.claim.Desk.{Plan}
+use Rattle.desk_model.specs.claim.Printed.{printed}
+use Rattle.desk_model.specs.claim.Sample.{sample}
+use Rattle.desk_model.specs.claim.Step.{says, blocks_text}
 use Rattle.desk_model.specs.Examples.{name_a, county_text, sample_text, plan_of, desk_of}
 use Rattle.desk_model.specs.declared.kind.Kind.TheVariants.{Congress}
 use Rattle.desk_model.specs.declared.reply.Reply.TheVariants as reply

@@ -1,8 +1,8 @@
 use Rattle.std.proofs.Common.{◌≡◌, length}
-use Rattle.page_store.specs.Transactions.{count_of, disk_in, stored, txn_pages}
-use Rattle.page_btree.specs.Map.{InTxn}
-use Rattle.store_rows.specs.Rows.{KeyMap}
-use Rattle.desk_pages.specs.Desks.{AreWithin}
+use Rattle.page_store.specs.claim.Transactions.{count_of, disk_in, stored, txn_pages}
+use Rattle.page_btree.specs.claim.Map.{InTxn}
+use Rattle.store_rows.specs.claim.Rows.{KeyMap}
+use Rattle.desk_pages.specs.claim.Desks.{AreWithin}
 use Rattle.desk_opening.specs.Reading.{AreNamed, HasRead}
 use Rattle.desk_opening.proofs.Laying.{LaidTo, so_far}
 use Rattle.desk_opening.proofs.counties.lay_counties.Given as goal

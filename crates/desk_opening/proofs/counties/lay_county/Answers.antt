@@ -3,7 +3,7 @@ use Rattle.row_table.proofs.Outcomes.{match_of}
 use Rattle.page_store.proofs.Stops.{passed_none}
 use Rattle.row_table.specs.Appending.{AppendErr}
 use Rattle.row_table.proofs.Appending.{then_unappended}
-use Rattle.desk_pages.specs.Desks.{AreWithin}
+use Rattle.desk_pages.specs.claim.Desks.{AreWithin}
 use Rattle.chunk_table.specs.Reading.{IsChunk}
 use Rattle.shared_districts.specs.Laid.{with_at}
 use Rattle.desk_opening.specs.Reading.{HasRead, IsChunkWithin}

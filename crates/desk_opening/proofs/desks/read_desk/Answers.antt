@@ -1,7 +1,7 @@
 use Rattle.std.proofs.Common.{sym, subst}
-use Rattle.sector_device.specs.Disk.{Image}
+use Rattle.sector_device.specs.claim.Disk.{Image}
 use Rattle.page_store.proofs.Stops.{quiet_more, passed_more}
-use Rattle.page_btree.specs.Map.{InTxn as InTree}
+use Rattle.page_btree.specs.claim.Map.{InTxn as InTree}
 use Rattle.row_table.proofs.Outcomes.{err_of}
 use Rattle.store_check.specs.Owners.{HasOwners}
 use Rattle.desk_opening.specs.Opening.{OpenErr}

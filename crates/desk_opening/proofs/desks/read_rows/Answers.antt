@@ -1,12 +1,12 @@
 use Rattle.std.proofs.Common.{◌≡◌, length, Option, Some, None, sym, ap, subst, ◌∙◌}
-use Rattle.sector_device.specs.Disk.{Image}
+use Rattle.sector_device.specs.claim.Disk.{Image}
 use Rattle.page_store.proofs.Stops.{quiet_more, passed_more, passed_none}
-use Rattle.page_btree.specs.Map.{InTxn}
-use Rattle.store_rows.specs.GeographyRows.{IsGeography}
-use Rattle.page_store.specs.Transactions.{Passed}
-use Rattle.desk_model.specs.Geography.{Ground}
+use Rattle.page_btree.specs.claim.Map.{InTxn}
+use Rattle.store_rows.specs.claim.GeographyRows.{IsGeography}
+use Rattle.page_store.specs.claim.Transactions.{Passed}
+use Rattle.desk_model.specs.claim.Geography.{Ground}
 use Rattle.desk_model.specs.Cuts.{cuts_of}
-use Rattle.desk_model.specs.Desk.{Desk}
+use Rattle.desk_model.specs.claim.Desk.{Desk}
 use Rattle.sealed_geography.specs.Elements.{IsGroundRead}
 use Rattle.row_table.specs.Reading.{ReadErr}
 use Rattle.row_table.proofs.Outcomes.{err_of}

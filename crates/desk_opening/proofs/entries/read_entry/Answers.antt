@@ -1,11 +1,11 @@
 use Rattle.std.proofs.Common.{◌≡◌, ◌<◌, ◌≤◌, ◌+◌, List, ℕ, [], length, get_or, inl, inr, sym, ap, subst, ◌∙◌, take_all, arith}
-use Rattle.desk_model.specs.Desk.{Plan}
+use Rattle.desk_model.specs.claim.Desk.{Plan}
 use Rattle.page_store.proofs.Stops.{quiet_more, passed_more}
-use Rattle.page_btree.specs.Map.{InTxn}
+use Rattle.page_btree.specs.claim.Map.{InTxn}
 use Rattle.row_table.proofs.Outcomes.{match_of}
 use Rattle.row_table.specs.Appending.{AppendErr}
 use Rattle.row_table.proofs.Appending.{then_unappended}
-use Rattle.desk_pages.specs.Desks.{AreWithin}
+use Rattle.desk_pages.specs.claim.Desks.{AreWithin}
 use Rattle.desk_opening.specs.Reading.{HasRead, IsAfter, IsPlanRow}
 use Rattle.desk_opening.proofs.Readings.{none_so_far, one_more_read}
 use Rattle.desk_opening.proofs.Shown.{row_is}

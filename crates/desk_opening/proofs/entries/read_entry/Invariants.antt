@@ -1,8 +1,8 @@
 use Rattle.std.proofs.Common.{◌≡◌, length, take}
-use Rattle.desk_model.specs.Desk.{Plan}
-use Rattle.page_store.specs.Transactions.{count_of, disk_in, stored, txn_pages}
-use Rattle.page_btree.specs.Map.{InTxn}
-use Rattle.store_rows.specs.Rows.{KeyMap}
+use Rattle.desk_model.specs.claim.Desk.{Plan}
+use Rattle.page_store.specs.claim.Transactions.{count_of, disk_in, stored, txn_pages}
+use Rattle.page_btree.specs.claim.Map.{InTxn}
+use Rattle.store_rows.specs.claim.Rows.{KeyMap}
 use Rattle.desk_opening.specs.Reading.{AreAllWithin, HasRead, IsPlanRow, IsWhole, NamesLast}
 use Rattle.desk_opening.proofs.Readings.{ReadSoFar}
 use Rattle.desk_opening.proofs.entries.read_entry.Given as goal

@@ -6,8 +6,8 @@ use Rattle.row_table.proofs.Appending.{then_unappended}
 use Rattle.revision_table.specs.Reading.{AreNames, HasParts}
 use Rattle.desk_opening.specs.Reading.{AreNamed, AreChunksRead, HasRead, IsNext}
 use Rattle.desk_opening.proofs.Revisions.{names_of, so_many, are_named, next_read, next_known}
-use Rattle.sector_device.specs.Disk.{Image}
-use Rattle.page_btree.specs.Map.{InTxn}
+use Rattle.sector_device.specs.claim.Disk.{Image}
+use Rattle.page_btree.specs.claim.Map.{InTxn}
 use Rattle.desk_opening.proofs.entries.read_next.Goals as goal
 
 pub returns-in_err-append_names-clause-read : goal.returns-in_err-append_names-clause-read

@@ -1,11 +1,11 @@
 use Rattle.std.proofs.Common.{◌≡◌, ℕ, List, Option, None, sym, ap, subst, ◌∙◌}
 use Rattle.std.specs.FinMap.{get as row_at}
-use Rattle.sector_device.specs.Disk.{Image}
+use Rattle.sector_device.specs.claim.Disk.{Image}
 use Rattle.page_store.proofs.Stops.{quiet_more, passed_more}
-use Rattle.page_store.specs.Transactions.{Passed}
-use Rattle.page_btree.specs.Map.{InTxn}
-use Rattle.store_rows.specs.Keys.{key_of, seal}
-use Rattle.store_rows.specs.Values.{seal_bytes}
+use Rattle.page_store.specs.claim.Transactions.{Passed}
+use Rattle.page_btree.specs.claim.Map.{InTxn}
+use Rattle.store_rows.specs.claim.Keys.{key_of, seal}
+use Rattle.store_rows.specs.claim.Values.{seal_bytes}
 use Rattle.store_rows.specs.declared.value.SealRow.{SealRow}
 use Rattle.row_table.proofs.Outcomes.{err_of}
 use Rattle.row_table.specs.Reading.{ReadErr, StandsAs}

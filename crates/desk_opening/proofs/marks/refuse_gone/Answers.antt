@@ -1,7 +1,7 @@
 use Rattle.std.proofs.Common.{◌≡◌, None, inr, sym, ap, subst, ◌∙◌}
 use Rattle.std.specs.FinMap.{get as row_at}
-use Rattle.store_rows.specs.Keys.{retired}
-use Rattle.store_rows.specs.Rows.{Lacks}
+use Rattle.store_rows.specs.claim.Keys.{retired}
+use Rattle.store_rows.specs.claim.Rows.{Lacks}
 use Rattle.store_rows.proofs.OneDesk.{row_number}
 use Rattle.row_table.specs.Reading.{ReadErr}
 use Rattle.row_table.proofs.Reading.{less_unread}

@@ -3,8 +3,8 @@ use Rattle.row_table.proofs.Outcomes.{err_of}
 use Rattle.row_table.specs.Reading.{ReadErr}
 use Rattle.row_table.proofs.Reading.{less_unread, not_read_after}
 use Rattle.desk_opening.specs.Opening.{HasNoPlans, HasNothing}
-use Rattle.store_rows.specs.Rows.{Lacks}
-use Rattle.store_rows.specs.Keys.{seal}
+use Rattle.store_rows.specs.claim.Rows.{Lacks}
+use Rattle.store_rows.specs.claim.Keys.{seal}
 use Rattle.desk_opening.proofs.none.read_none.Goals as goal
 
 pub returns-in_err-refuse_seal-clause-err : goal.returns-in_err-refuse_seal-clause-err

@@ -2,11 +2,11 @@ use Rattle.std.proofs.Common.{◌≡◌, ◌∷◌, ℕ, List, [], inr, sym, ap,
 use Rattle.std.specs.Prelude.{Some, None, IfSome}
 use Rattle.std.specs.FinMap.{entries, get}
 use Rattle.page_store.proofs.Stops.{passed_none}
-use Rattle.page_node.specs.Entries.{Entry}
+use Rattle.page_node.specs.claim.Entries.{Entry}
 use Rattle.btree_scan.specs.Prefixes.{under}
 use Rattle.btree_scan.specs.Scanning.{IsNextRow, fault_in, CanScan, ScanErr}
 use Rattle.btree_scan.proofs.Refused.{scan_refused}
-use Rattle.store_rows.specs.Keys.{plans_prefix}
+use Rattle.store_rows.specs.claim.Keys.{plans_prefix}
 use Rattle.row_table.proofs.Reading.{get_unread}
 use Rattle.desk_opening.specs.Opening.{HasNoPlans}
 use Rattle.desk_opening.proofs.Scanned.{found_among, next_plan}

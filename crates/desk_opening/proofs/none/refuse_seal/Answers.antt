@@ -1,7 +1,7 @@
 use Rattle.std.proofs.Common.{None, sym, ap, ◌∙◌}
 use Rattle.std.specs.FinMap.{get}
-use Rattle.store_rows.specs.Rows.{Lacks}
-use Rattle.store_rows.specs.Keys.{seal}
+use Rattle.store_rows.specs.claim.Rows.{Lacks}
+use Rattle.store_rows.specs.claim.Keys.{seal}
 use Rattle.row_table.proofs.Outcomes.{err_of}
 use Rattle.row_table.specs.Reading.{ReadErr}
 use Rattle.row_table.proofs.Reading.{less_unread}

@@ -1,6 +1,6 @@
 use Rattle.std.proofs.Common.{List, ℕ, Some, sym, ap, subst, ◌∙◌}
 use Rattle.std.specs.FinMap.{FinMap, insert}
-use Rattle.desk_model.specs.Desk.{Plan, name_cmp}
+use Rattle.desk_model.specs.claim.Desk.{Plan, name_cmp}
 use Rattle.desk_catalogue.specs.Kept.{AreWhole}
 use Rattle.desk_opening.proofs.Wholes.{more_whole}
 use Rattle.desk_opening.proofs.plans.add_plan.Goals as goal

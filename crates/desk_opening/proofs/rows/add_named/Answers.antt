@@ -1,10 +1,10 @@
 use Rattle.std.proofs.Common.{◌≡◌, List, ℕ, inr, sym, ap, subst, ◌∙◌}
 use Rattle.std.specs.FinMap.{FinMap, insert}
 use Rattle.desk_model.specs.Cuts.{cuts_of}
-use Rattle.desk_model.specs.Desk.{Plan, name_cmp}
+use Rattle.desk_model.specs.claim.Desk.{Plan, name_cmp}
 use Rattle.page_store.proofs.Stops.{passed_none}
-use Rattle.store_rows.specs.Keys.{key_of, named}
-use Rattle.store_rows.specs.Values.{plan_bytes}
+use Rattle.store_rows.specs.claim.Keys.{key_of, named}
+use Rattle.store_rows.specs.claim.Values.{plan_bytes}
 use Rattle.row_table.proofs.Outcomes.{map_both}
 use Rattle.row_table.specs.Appending.{AppendErr}
 use Rattle.row_table.proofs.Appending.{then_unappended}

@@ -1,9 +1,9 @@
 use Rattle.std.proofs.Common.{List, ℕ, sym, subst}
 use Rattle.std.specs.FinMap.{FinMap, insert}
-use Rattle.sector_device.specs.Disk.{Image}
-use Rattle.desk_model.specs.Desk.{Plan, name_cmp}
+use Rattle.sector_device.specs.claim.Disk.{Image}
+use Rattle.desk_model.specs.claim.Desk.{Plan, name_cmp}
 use Rattle.page_store.proofs.Stops.{quiet_more, passed_more}
-use Rattle.page_btree.specs.Map.{InTxn}
+use Rattle.page_btree.specs.claim.Map.{InTxn}
 use Rattle.row_table.proofs.Outcomes.{map_both, match_of}
 use Rattle.row_table.specs.Appending.{AppendErr}
 use Rattle.row_table.proofs.Appending.{then_unappended, unread_unappended}

@@ -1,19 +1,19 @@
 use Rattle.std.proofs.Common.{◌≡◌, ◌++◌, ◌+◌, List, ℕ, [], ◌∷◌, length, refl, inr, sym, ap, subst, ◌∙◌, arith, length-append}
 use Rattle.std.specs.Prelude.{Some, None, IfSome}
 use Rattle.std.specs.FinMap.{entries}
-use Rattle.sector_device.specs.Disk.{Image}
-use Rattle.page_store.specs.Transactions.{stored}
+use Rattle.sector_device.specs.claim.Disk.{Image}
+use Rattle.page_store.specs.claim.Transactions.{stored}
 use Rattle.page_store.proofs.Stops.{quiet_more, passed_more, passed_none}
-use Rattle.page_node.specs.Entries.{Entry}
-use Rattle.page_btree.specs.Map.{InTxn}
+use Rattle.page_node.specs.claim.Entries.{Entry}
+use Rattle.page_btree.specs.claim.Map.{InTxn}
 use Rattle.btree_scan.specs.Prefixes.{under}
 use Rattle.btree_scan.specs.Scanning.{Rest, IsNextRow, fault_in, CanScan, ScanErr}
 use Rattle.btree_scan.proofs.Taken.{taken_none, taken_more, taken_all, taken_few}
 use Rattle.btree_scan.proofs.Refused.{scan_refused}
 use Rattle.desk_model.specs.Cuts.{cuts_of}
 use Rattle.desk_catalogue.specs.Kept.{AreWhole}
-use Rattle.store_rows.specs.Keys.{plans_prefix}
-use Rattle.store_rows.specs.Rows.{KeyMap}
+use Rattle.store_rows.specs.claim.Keys.{plans_prefix}
+use Rattle.store_rows.specs.claim.Rows.{KeyMap}
 use Rattle.row_table.proofs.Outcomes.{match_of}
 use Rattle.row_table.proofs.Reading.{get_unread}
 use Rattle.row_table.specs.Appending.{AppendErr}

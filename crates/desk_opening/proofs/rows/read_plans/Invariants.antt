@@ -1,15 +1,15 @@
 use Rattle.std.proofs.Common.{◌≡◌, List, length, Some}
 use Rattle.std.specs.Prelude.{None}
 use Rattle.std.specs.FinMap.{entries}
-use Rattle.page_store.specs.Transactions.{stored, disk_in, count_of, txn_pages, Passed}
-use Rattle.page_node.specs.Entries.{Entry}
-use Rattle.page_btree.specs.Map.{InTxn}
+use Rattle.page_store.specs.claim.Transactions.{stored, disk_in, count_of, txn_pages, Passed}
+use Rattle.page_node.specs.claim.Entries.{Entry}
+use Rattle.page_btree.specs.claim.Map.{InTxn}
 use Rattle.btree_scan.specs.Scanning.{fault_in}
 use Rattle.btree_scan.specs.Taken.{HasTaken}
 use Rattle.desk_model.specs.Cuts.{cuts_of}
 use Rattle.desk_catalogue.specs.Kept.{AreWhole}
-use Rattle.store_rows.specs.Keys.{plans_prefix}
-use Rattle.store_rows.specs.Rows.{KeyMap}
+use Rattle.store_rows.specs.claim.Keys.{plans_prefix}
+use Rattle.store_rows.specs.claim.Rows.{KeyMap}
 use Rattle.desk_opening.specs.Opening.{ArePlans}
 use Rattle.desk_opening.proofs.Parts.{Plans, AreRead}
 use Rattle.desk_opening.proofs.Shown.{AreShown}

@@ -1,9 +1,9 @@
 use Rattle.std.proofs.Common.{inl}
 use Rattle.std.specs.Prelude.{◌⊎◌}
 use Rattle.page_store.proofs.Stops.{leaves_here}
-use Rattle.page_store.specs.Transactions.{stored, disk_in}
+use Rattle.page_store.specs.claim.Transactions.{stored, disk_in}
 use Rattle.desk_pages.proofs.Openings.{leaves_desk}
-use Rattle.desk_pages.specs.Desks.{OpensDesk, OpensAs}
+use Rattle.desk_pages.specs.claim.Desks.{OpensDesk, OpensAs}
 use Rattle.desk_pages.proofs.Kept.{opens_now, rows_after}
 use Rattle.desk_pages.proofs.commits.commit_txn.Goals as goal
 

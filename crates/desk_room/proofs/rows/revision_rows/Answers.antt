@@ -1,5 +1,5 @@
 use Rattle.std.proofs.Common.{◌≡◌, ◌<◌, ◌+◌, Bool, List, false, length, drop, get_or, ap, sym, subst, ◌∙◌, arith}
-use Rattle.desk_model.specs.Room.{rows_for}
+use Rattle.desk_model.specs.claim.Room.{rows_for}
 use Rattle.desk_model.specs.declared.cuts.Cut.{Cut}
 use Rattle.desk_model.proofs.Runs.{lists_cut}
 use Rattle.desk_room.specs.Cutting.{changes_in, cut_rows}

@@ -1,5 +1,5 @@
 use Rattle.std.proofs.Common.{◌≡◌, ◌+◌, ◌*◌, ◌≤◌, ◌^◌, drop, length}
-use Rattle.desk_model.specs.Room.{rows_for}
+use Rattle.desk_model.specs.claim.Room.{rows_for}
 use Rattle.desk_room.proofs.Cutting.{changed_rows}
 use Rattle.desk_room.proofs.rows.revision_rows.Given as goal
 

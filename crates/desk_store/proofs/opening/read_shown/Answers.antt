@@ -1,5 +1,5 @@
 use Rattle.std.proofs.Common.{sym, subst, ◌∙◌}
-use Rattle.desk_model.specs.Desk.{Desk}
+use Rattle.desk_model.specs.claim.Desk.{Desk}
 use Rattle.desk_opening.specs.Opening.{IsReadFrom}
 use Rattle.desk_store.proofs.Prepared.{IsBegun}
 use Rattle.desk_store.proofs.Opened.{read_of, none_found, rows_begun}

@@ -1,6 +1,6 @@
 use Rattle.std.proofs.Common.{◌≡◌, false, sym, ◌∙◌, arith}
 use Rattle.std.proofs.lemmas.List.Elements.{All-more}
-use Rattle.field_text.specs.Words.{is_separator}
+use Rattle.field_text.specs.claim.Words.{is_separator}
 use Rattle.field_text.proofs.words.bytes_before.Goals as goal
 
 pub loop-i-preserved : goal.loop-i-preserved

@@ -1,5 +1,5 @@
 use Rattle.std.proofs.Common.{take}
-use Rattle.field_text.specs.Words.{NoSeparator}
+use Rattle.field_text.specs.claim.Words.{NoSeparator}
 use Rattle.field_text.proofs.words.bytes_before.Given as goal
 
 abbrev pub invariant-loop-i : goal.invariant-loop-i

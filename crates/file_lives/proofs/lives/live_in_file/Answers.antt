@@ -1,5 +1,5 @@
 use Rattle.sector_file.specs.Device.{file_disk, first_image}
-use Rattle.desk_lives.specs.Lives.{Life}
+use Rattle.desk_lives.specs.claim.Lives.{Life}
 use Rattle.file_lives.proofs.Files.{lives_from}
 use Rattle.file_lives.proofs.lives.live_in_file.Goals as goal
 

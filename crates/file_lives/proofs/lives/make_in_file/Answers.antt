@@ -1,5 +1,5 @@
 use Rattle.std.proofs.Common.{ℕ, subst, ◌∙◌}
-use Rattle.desk_pages.specs.Desks.{OpensDesk}
+use Rattle.desk_pages.specs.claim.Desks.{OpensDesk}
 use Rattle.desk_lives.specs.Lives.{new_desk}
 use Rattle.file_lives.proofs.lives.make_in_file.Goals as goal
 

@@ -1,5 +1,5 @@
 use Rattle.http_seats.specs.Streams.{traffic}
-use Rattle.office_lives.specs.Offices.{LifeMay}
+use Rattle.office_lives.specs.claim.Offices.{LifeMay}
 use Rattle.file_lives.proofs.Files.{are_lives}
 use Rattle.file_lives.proofs.Served.{office_later}
 use Rattle.file_lives.proofs.offices.file_offices_are_lives.Goals as goal

@@ -1,7 +1,7 @@
 use denote.Param.Send.{sendable}
 use Rattle.std.proofs.Crossing.{crosses}
 use Rattle.http_seats.specs.Streams.{traffic}
-use Rattle.office_lives.specs.Offices.{LifeMay}
+use Rattle.office_lives.specs.claim.Offices.{LifeMay}
 use Rattle.sector_file.specs.Device.{file_disk, first_image}
 use Rattle.file_lives.proofs.Files.{lives_from}
 use Rattle.sector_file.proofs.Sending.{record_send, record_sync}

@@ -1,7 +1,7 @@
 use Rattle.std.proofs.Common.{◌≡◌, ◌∙◌}
 use Rattle.std.proofs.Output.{has_written_of_eq}
 use Rattle.std.specs.Fmt.{styled_decimal}
-use Rattle.desk_model.specs.Baf.{padded_decimal}
+use Rattle.desk_model.specs.claim.Padded.{padded_decimal}
 use Rattle.gal_text.proofs.Texts.{padded_id, blocks_shown}
 use Rattle.gal_text.proofs.fault.write_ids.Goals as goal
 

@@ -1,5 +1,5 @@
 use Rattle.std.proofs.Common.{Some, ap, ◌∙◌}
-use Rattle.desk_model.specs.Geography.{ids_of}
+use Rattle.desk_model.specs.claim.Geography.{ids_of}
 use Rattle.gal_text.proofs.HoldingLemmas.{unknown}
 use Rattle.gal_text.proofs.units.block_of.Goals as goal
 

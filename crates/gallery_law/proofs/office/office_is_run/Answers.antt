@@ -1,6 +1,6 @@
 use Rattle.std.proofs.Common.{sym, subst}
 use Rattle.desk_gallery.specs.Fronts.{Kept}
-use Rattle.gallery_law.specs.Runs.{HasRuns}
+use Rattle.gallery_law.specs.claim.Runs.{HasRuns}
 use Rattle.gallery_law.proofs.Weaving.{AllBegin, runs_of, runs_for}
 use Rattle.gallery_law.proofs.office.office_is_run.Goals as goal
 

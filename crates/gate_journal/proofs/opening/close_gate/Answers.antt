@@ -1,7 +1,7 @@
 use Rattle.std.proofs.Common.{◌≡◌, ◌∙◌, ℕ, List, get_or, sym, ap, subst, refl, arith, rules}
-use Rattle.sector_device.specs.Disk.{Nowhere, Image}
+use Rattle.sector_device.specs.claim.Disk.{Nowhere, Image}
 use Rattle.sector_device.proofs.Moments.{touches_more, synced_still}
-use Rattle.gate_journal.specs.Store.{IsStore, gate, list_word}
+use Rattle.gate_journal.specs.claim.Store.{IsStore, gate, list_word}
 use Rattle.gate_journal.specs.Recovery.{NamesPages}
 use Rattle.gate_journal.proofs.Lists.{not_true}
 use Rattle.gate_journal.proofs.Quiet.{same_reads, quiet_recovers, fault_recovers, back_recovers}

@@ -1,7 +1,7 @@
 use Rattle.std.proofs.Common.{◌≡◌, ◌-◌, ◌∙◌, ℕ, List, true, false, sym, subst, arith}
 use lib.Pointwise.{pointwise}
 use lib.Dec.{eqb}
-use Rattle.gate_journal.specs.Store.{home, header_of}
+use Rattle.gate_journal.specs.claim.Store.{home, header_of}
 use Rattle.gate_journal.proofs.Headers.{journal_is, same_bytes}
 use Rattle.gate_journal.proofs.opening.find_layout.Goals as goal
 

@@ -1,5 +1,5 @@
 use Rattle.std.proofs.Common.{◌∙◌, sym, subst, arith, ℕ, rules}
-use Rattle.sector_device.specs.Disk.{Nowhere}
+use Rattle.sector_device.specs.claim.Disk.{Nowhere}
 use Rattle.sector_device.proofs.Moments.{touches_more, synced_still}
 use Rattle.gate_journal.specs.Recovery.{HasRoom}
 use Rattle.gate_journal.proofs.Quiet.{quiet_reads, reads_store, fault_starts, starts_ok, starts_err}

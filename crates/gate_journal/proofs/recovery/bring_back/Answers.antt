@@ -1,8 +1,9 @@
 use Rattle.std.proofs.Common.{◌≡◌, ◌∙◌, ◌+◌, rules}
-use Rattle.sector_device.specs.Disk.{Nowhere}
-use Rattle.sector_device.specs.Moments.{LeavesOnly}
+use Rattle.sector_device.specs.claim.Disk.{Nowhere}
+use Rattle.sector_device.specs.claim.Moments.{LeavesOnly}
 use Rattle.sector_device.proofs.Moments.{touches_more}
-use Rattle.gate_journal.specs.Store.{Opens, pages, Homes, home, copies}
+use Rattle.gate_journal.specs.claim.Store.{Opens, pages, home, copies}
+use Rattle.gate_journal.specs.Store.{Homes}
 use Rattle.gate_journal.specs.Steps.{HasHomes}
 use Rattle.gate_journal.proofs.Commit.{back_leaves, shut_leaves, reopened, reshut}
 use Rattle.gate_journal.proofs.recovery.bring_back.Goals as goal

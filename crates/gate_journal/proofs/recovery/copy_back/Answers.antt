@@ -1,9 +1,10 @@
 use Rattle.std.proofs.Common.{◌≡◌, ◌+◌, ◌∙◌, take, subst, rules, arith}
 use Rattle.std.proofs.lemmas.List.{take_all}
 use Rattle.gate_journal.specs.Steps.{HasHomes}
-use Rattle.sector_device.specs.Disk.{Nowhere}
+use Rattle.sector_device.specs.claim.Disk.{Nowhere}
 use Rattle.sector_device.proofs.Moments.{touches_more}
-use Rattle.gate_journal.specs.Store.{Homes, home, copies}
+use Rattle.gate_journal.specs.Store.{Homes}
+use Rattle.gate_journal.specs.claim.Store.{home, copies}
 use Rattle.gate_journal.proofs.Commit.{back_more, back_touches, entry_same, count_is}
 use Rattle.gate_journal.proofs.recovery.copy_back.Goals as goal
 

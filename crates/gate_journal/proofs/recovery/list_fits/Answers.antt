@@ -1,5 +1,5 @@
 use Rattle.std.proofs.Common.{◌∙◌, ◌+◌, refl, rules}
-use Rattle.sector_device.specs.Disk.{Nowhere}
+use Rattle.sector_device.specs.claim.Disk.{Nowhere}
 use Rattle.sector_device.proofs.Moments.{touches_more}
 use Rattle.gate_journal.proofs.Lists.{names_more, names_of, not_true}
 use Rattle.gate_journal.proofs.recovery.list_fits.Goals as goal

@@ -1,8 +1,9 @@
 use Rattle.std.proofs.Common.{◌≡◌, ◌+◌, ◌/◌, ◌∙◌, length, rules, arith}
-use Rattle.sector_device.specs.Disk.{Nowhere}
+use Rattle.sector_device.specs.claim.Disk.{Nowhere}
 use Rattle.sector_device.proofs.Moments.{touches_more, touches_wider, then_sync}
 use Rattle.gate_journal.specs.Steps.{Span, IsStaged}
-use Rattle.gate_journal.specs.Store.{Staging, first_copy}
+use Rattle.gate_journal.specs.Store.{Staging}
+use Rattle.gate_journal.specs.claim.Store.{first_copy}
 use Rattle.gate_journal.proofs.Images.{stages_same, staged_by}
 use Rattle.gate_journal.proofs.steps.stage.Goals as goal
 

@@ -1,7 +1,7 @@
 use Rattle.std.proofs.Common.{◌+◌, ◌/◌, ◌∙◌, ap, length, rules, arith}
 use Rattle.sector_device.proofs.Moments.{touches_more}
 use Rattle.gate_journal.specs.Steps.{Span}
-use Rattle.gate_journal.specs.Store.{word}
+use Rattle.gate_journal.specs.claim.Store.{word}
 use Rattle.gate_journal.proofs.Images.{list_more}
 use Rattle.gate_journal.proofs.steps.write_list.Goals as goal
 

@@ -1,7 +1,8 @@
 use Rattle.std.proofs.Common.{◌≡◌, ◌∙◌, rules, arith}
-use Rattle.sector_device.specs.Moments.{LeavesOnly}
+use Rattle.sector_device.specs.claim.Moments.{LeavesOnly}
 use Rattle.sector_device.proofs.Moments.{cause_after, on_ok}
-use Rattle.gate_journal.specs.Store.{pages, IsSettled, IsBeforeOrAfter}
+use Rattle.gate_journal.specs.claim.Store.{pages}
+use Rattle.gate_journal.specs.Store.{IsSettled, IsBeforeOrAfter}
 use Rattle.gate_journal.proofs.Commit.{shut_pages, after_stage, after_gate, after_home, after_close, committed, resettled}
 use Rattle.gate_journal.proofs.steps.write_through.Goals as goal
 

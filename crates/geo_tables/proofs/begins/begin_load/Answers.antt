@@ -2,12 +2,12 @@ use Rattle.std.proofs.Common.{◌≡◌, ◌∙◌, ◌<◌, ◌≤◌, ◌*◌,
 use Rattle.std.specs.Prelude.{IsTrue}
 use Rattle.sector_device.proofs.Moments.{leaves_more}
 use Rattle.sector_device.specs.declared.SectorDevice.{Ghosts}
-use Rattle.page_store.specs.Transactions.{disk_in, journal_of, txn_free}
+use Rattle.page_store.specs.claim.Transactions.{disk_in, journal_of, txn_free}
 use Rattle.page_store.specs.declared.pages.Pages.{Pages}
 use Rattle.page_store.specs.declared.txn.Txn.{Txn}
-use Rattle.desk_model.specs.Geography.{Ground}
+use Rattle.desk_model.specs.claim.Geography.{Ground}
 use Rattle.row_table.proofs.Outcomes.{err_of}
-use Rattle.desk_pages.specs.Desks.{OpensDesk}
+use Rattle.desk_pages.specs.claim.Desks.{OpensDesk}
 use Rattle.geo_tables.specs.Refusals.{BeginErr}
 use Rattle.geo_tables.proofs.Joins.{quiet_leaves, quiet_desk, quiet_rows, started_then, whole_then}
 use Rattle.geo_tables.proofs.Refused.{begin_after, begin_full, desk_unsealed, room_after, sealed_refused}

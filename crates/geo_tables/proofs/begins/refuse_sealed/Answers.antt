@@ -1,5 +1,5 @@
 use Rattle.std.proofs.Common.{Option, subst}
-use Rattle.store_rows.specs.Values.{seal_bytes}
+use Rattle.store_rows.specs.claim.Values.{seal_bytes}
 use Rattle.store_rows.specs.declared.value.SealRow.{SealRow}
 use Rattle.row_table.specs.Reading.{StandsAs}
 use Rattle.geo_tables.proofs.Refused.{seal_unread, seal_seen}

@@ -1,10 +1,10 @@
 use Rattle.std.proofs.Common.{List, ℕ, [], ◌∷◌, subst}
 use Rattle.std.specs.Prelude.{MatchResult}
 use Rattle.page_store.proofs.Stops.{quiet_more}
-use Rattle.store_rows.specs.Keys.{key_of, begun, counters}
-use Rattle.store_rows.specs.Values.{counters_bytes}
-use Rattle.store_rows.specs.Puts.{Row}
-use Rattle.row_table.specs.Puts.{HasPut, PutsErr}
+use Rattle.store_rows.specs.claim.Keys.{key_of, begun, counters}
+use Rattle.store_rows.specs.claim.Values.{counters_bytes}
+use Rattle.store_rows.specs.claim.Puts.{Row}
+use Rattle.row_table.specs.claim.Puts.{HasPut, PutsErr}
 use Rattle.row_table.proofs.RowsPut.{front_not_put}
 use Rattle.geo_tables.specs.Rows.{begun_rows, load_taken}
 use Rattle.row_table.proofs.Outcomes.{match_of}

@@ -1,7 +1,7 @@
 use Rattle.std.proofs.Common.{◌≡◌, ◌+◌, ℕ, subst, arith}
-use Rattle.store_rows.specs.Puts.{Row}
+use Rattle.store_rows.specs.claim.Puts.{Row}
 use Rattle.page_store.proofs.Stops.{quiet_more}
-use Rattle.row_table.specs.Puts.{HasPut, PutsErr}
+use Rattle.row_table.specs.claim.Puts.{HasPut, PutsErr}
 use Rattle.row_table.proofs.RowsPut.{told_more, told_not_put}
 use Rattle.geo_tables.specs.Rows.{staged_row, staged_rows}
 use Rattle.geo_tables.specs.Staging.{Stages}

@@ -1,7 +1,7 @@
 use Rattle.std.proofs.Common.{[], ◌∷◌, subst}
 use Rattle.std.specs.Prelude.{MatchResult}
-use Rattle.row_table.specs.Puts.{HasPut, PutsErr}
-use Rattle.store_rows.specs.Puts.{Row}
+use Rattle.row_table.specs.claim.Puts.{HasPut, PutsErr}
+use Rattle.store_rows.specs.claim.Puts.{Row}
 use Rattle.geo_tables.proofs.puts.put_pair.Goals as goal
 
 pub returns-clause-put : goal.returns-clause-put

@@ -1,8 +1,8 @@
 use Rattle.std.proofs.Common.{[], ◌∷◌, ◌≡◌, ◌<◌, ◌≤◌, ◌-◌, ◌+◌, length, get_or, subst, ap, arith}
 use Rattle.std.specs.Prelude.{MatchResult}
 use Rattle.desk_model.specs.declared.geography.Pair.{Pair}
-use Rattle.store_rows.specs.Puts.{Row}
-use Rattle.row_table.specs.Puts.{HasPut, PutsErr}
+use Rattle.store_rows.specs.claim.Puts.{Row}
+use Rattle.row_table.specs.claim.Puts.{HasPut, PutsErr}
 use Rattle.geo_tables.proofs.Staging.{read_at, had_at, row_more, block_is, pair_is, fits_here, no_block}
 use Rattle.geo_tables.proofs.puts.put_place.Goals as goal
 

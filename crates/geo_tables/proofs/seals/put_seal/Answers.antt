@@ -3,16 +3,16 @@ use Rattle.std.specs.Prelude.{◌⊎◌}
 use Rattle.sector_device.proofs.Moments.{leaves_wider}
 use Rattle.sector_device.specs.declared.SectorDevice.{Ghosts}
 use Rattle.page_store.proofs.Stops.{leaves_here}
-use Rattle.page_store.specs.Transactions.{disk_in, has_halted}
+use Rattle.page_store.specs.claim.Transactions.{disk_in, has_halted}
 use Rattle.page_store.specs.declared.pages.Pages.{Pages}
 use Rattle.page_store.specs.declared.txn.Txn.{Txn}
-use Rattle.desk_model.specs.Geography.{Ground}
+use Rattle.desk_model.specs.claim.Geography.{Ground}
 use Rattle.store_rows.specs.Changes.{desk_with}
 use Rattle.row_table.proofs.Outcomes.{err_of}
-use Rattle.row_table.specs.Puts.{PutsErr}
+use Rattle.row_table.specs.claim.Puts.{PutsErr}
 use Rattle.geo_tables.specs.Rows.{seal_row}
 use Rattle.geo_tables.specs.Loads.{HasSealed}
-use Rattle.desk_pages.specs.Desks.{InPages, OpensDesk}
+use Rattle.desk_pages.specs.claim.Desks.{InPages, OpensDesk}
 use Rattle.desk_pages.proofs.Kept.{opens_now}
 use Rattle.geo_tables.specs.declared.load.Load.{Load}
 use Rattle.geo_tables.specs.Errors.{tree_told}

@@ -1,5 +1,5 @@
 use Rattle.std.proofs.Common.{[], ◌∙◌}
-use Rattle.sector_device.specs.Disk.{Image}
+use Rattle.sector_device.specs.claim.Disk.{Image}
 use Rattle.geo_tables.proofs.Begun.{free_count}
 use Rattle.geo_tables.proofs.starts.free_pages.Goals as goal
 

@@ -1,5 +1,6 @@
 use Rattle.std.specs.Prelude.{codes, decimal, length}
-use Rattle.http_answer.specs.Answer.{status_line, type_line, close_line, allowed}
+use Rattle.http_answer.specs.claim.Answer.{status_line, type_line, close_line}
+use Rattle.http_answer.specs.Answer.{allowed}
 use Rattle.http_answer.proofs.QueueLemmas.{head_built}
 use Rattle.http_answer.proofs.response.put_head.Goals as goal
 

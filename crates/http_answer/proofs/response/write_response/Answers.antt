@@ -1,6 +1,7 @@
 use Rattle.std.proofs.Common.{List, ℕ, ◌++◌, length, ap, ◌∙◌, subst}
 use Rattle.http_answer.proofs.QueueLemmas.{waits, sent_waits, sent_cut, sent_both}
-use Rattle.http_answer.specs.Answer.{head_text, allowed}
+use Rattle.http_answer.specs.claim.Answer.{head_text}
+use Rattle.http_answer.specs.Answer.{allowed}
 use Rattle.http_answer.specs.Queue.{Queues}
 use Rattle.http_answer.specs.declared.response.Response.{Response}
 use Rattle.http_answer.proofs.response.write_response.Goals as goal

@@ -1,6 +1,6 @@
 use Rattle.std.proofs.Common.{List, ℕ, ◌++◌, true, false, refl, sym, subst}
-use Rattle.http_desk.specs.Talk.{Talk, ended, starved, refused}
-use Rattle.http_desk.specs.Serving.{Exchanges, IsFrontTalk}
+use Rattle.http_desk.specs.claim.Talk.{Talk, ended, starved, refused}
+use Rattle.http_desk.specs.claim.Serving.{Exchanges, IsFrontTalk}
 use Rattle.http_desk.specs.declared.serve.Next.TheVariants as next
 use Rattle.std.proofs.Common.{Ok}
 use Rattle.http_desk.proofs.TalkLemmas.{asked_here, of_head, last, on, cut, cut_next, cut_short, closing, queued_then, queued_as}

@@ -1,6 +1,6 @@
 use Rattle.std.proofs.Common.{List, ℕ, subst}
 use Rattle.std.proofs.KnownBytes.{Consumes-nil}
-use Rattle.http_desk.specs.Asking.{IsAskedBehind}
+use Rattle.http_desk.specs.claim.Asking.{IsAskedBehind}
 use Rattle.http_desk.proofs.ListLemmas.{list_cut, list_ends, list_goes, told_from}
 use Rattle.http_desk.proofs.serve.exchange_held.Goals as goal
 

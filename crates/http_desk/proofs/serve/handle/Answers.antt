@@ -1,5 +1,5 @@
 use Rattle.std.proofs.Common.{◌∙◌, ℕ, List, ap, sym}
-use Rattle.http_routes.specs.Orders.{order_of}
+use Rattle.http_routes.specs.claim.Orders.{order_of}
 use Rattle.http_desk.proofs.serve.handle.Goals as goal
 
 pub change-reply-requires : goal.change-reply-requires

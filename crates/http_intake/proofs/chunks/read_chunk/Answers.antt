@@ -1,5 +1,5 @@
 use Rattle.std.proofs.Common.{List, ℕ, length, Err, subst, sym}
-use Rattle.http_intake.specs.Chunks.{HasChunkFault, LacksChunks}
+use Rattle.http_intake.specs.claim.Chunks.{HasChunkFault, LacksChunks}
 use Rattle.http_intake.specs.ChunkParts.{StepCame}
 use Rattle.http_intake.proofs.ChunkReadLemmas.{line_failed}
 use Rattle.http_intake.proofs.DrawsLemmas.{goes_on}

@@ -1,5 +1,5 @@
 use Rattle.std.proofs.Common.{◌≡◌, drop}
-use Rattle.http_intake.specs.Lines.{head_lines}
+use Rattle.http_intake.specs.claim.Lines.{head_lines}
 use Rattle.http_intake.proofs.lines.head_lines.Given as goal
 
 abbrev pub invariant-loop-i : goal.invariant-loop-i

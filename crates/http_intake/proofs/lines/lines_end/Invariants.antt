@@ -1,5 +1,5 @@
 use Rattle.std.proofs.Common.{◌≡◌, ◌+◌, ◌≤◌, drop}
-use Rattle.http_intake.specs.Lines.{lines_end}
+use Rattle.http_intake.specs.claim.Lines.{lines_end}
 use Rattle.http_intake.proofs.lines.lines_end.Given as goal
 
 abbrev pub invariant-loop-i : goal.invariant-loop-i

@@ -1,7 +1,7 @@
 use Rattle.std.proofs.Common.{◌≤◌, inl, inr, subst, arith}
 use Rattle.httparse.specs.Grammar.{HasNoSection, MayBecomeSection}
 use Rattle.httparse.specs.Spans.{SectionOverflows}
-use Rattle.http_intake.specs.Lines.{section_lines}
+use Rattle.http_intake.specs.claim.Lines.{section_lines}
 use Rattle.http_intake.proofs.ChunkLookLemmas.{section_overflows_at}
 use Rattle.http_intake.proofs.trailers.unfinished.Goals as goal
 

@@ -2,7 +2,8 @@ use Rattle.std.proofs.Common.{◌≡◌, ◌∙◌, ◌+◌, All, IfSome, refl, 
 use mathlib.Core.List.{IsPrefix}
 use Rattle.desk_gallery.proofs.Running.{has_run_as}
 use Rattle.http_seats.specs.Seated.{seats_at, accepted_at, halted_at}
-use Rattle.http_seats.specs.Streams.{IsAskedOf, traffic, total_of}
+use Rattle.http_seats.specs.claim.Streams.{IsAskedOf, total_of}
+use Rattle.http_seats.specs.Streams.{traffic}
 use Rattle.http_seats.proofs.Counts.{arrived, workers_of, rans_of, heard_of, sum_of, all_back, as_many, reversed_many}
 use Rattle.http_seats.proofs.many.serve_many.Goals as goal
 

@@ -1,6 +1,6 @@
 use Rattle.std.proofs.Common.{◌≡◌, map, drop, fold}
-use Rattle.http_arrivals.specs.Running.{joined}
-use Rattle.http_seats.specs.Streams.{total_of}
+use Rattle.http_arrivals.specs.claim.Running.{joined}
+use Rattle.http_seats.specs.claim.Streams.{total_of}
 use Rattle.http_seats.proofs.many.together.Given as goal
 
 abbrev pub invariant-loop-place : goal.invariant-loop-place

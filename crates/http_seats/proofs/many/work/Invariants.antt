@@ -1,5 +1,6 @@
 use Rattle.std.proofs.Common.{◌≡◌}
-use Rattle.http_seats.specs.Streams.{AreServed, traffic}
+use Rattle.http_seats.specs.claim.Streams.{AreServed}
+use Rattle.http_seats.specs.Streams.{traffic}
 use Rattle.http_seats.proofs.many.work.Given as goal
 
 abbrev pub invariant-loop : goal.invariant-loop

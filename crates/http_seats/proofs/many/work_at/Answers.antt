@@ -1,5 +1,6 @@
 use Rattle.std.proofs.Common.{subst}
-use Rattle.http_seats.specs.Streams.{IsAskedOf, traffic}
+use Rattle.http_seats.specs.claim.Streams.{IsAskedOf}
+use Rattle.http_seats.specs.Streams.{traffic}
 use Rattle.http_seats.proofs.many.work_at.Goals as goal
 
 pub work-place-requires-clause-asked : goal.work-place-requires-clause-asked

@@ -2,9 +2,9 @@ use Rattle.std.proofs.Common.{List, ℕ, map, take, sym, ap, ◌∙◌}
 use Rattle.std.specs.Prelude.{codes}
 use Rattle.std.specs.List.{flat_map}
 use Rattle.httparse.specs.Spans.{header_bytes}
-use Rattle.http_wire.specs.Connection.{parts, ends_in}
-use Rattle.http_wire.specs.Front.{values}
-use Rattle.http_wire.specs.Target.{is_word}
+use Rattle.http_wire.specs.claim.Connection.{parts, ends_in}
+use Rattle.http_wire.specs.claim.Front.{values}
+use Rattle.http_wire.specs.claim.Target.{is_word}
 use Rattle.http_wire.proofs.ConnectionLemmas.{ends_last}
 use Rattle.http_wire.proofs.FieldLemmas.{values-more, with_value, without_value}
 use Rattle.http_wire.proofs.head.ends_chunked.Goals.{then-is_named, else-is_named}

@@ -1,5 +1,5 @@
 use Rattle.std.proofs.Common.{ℕ, List, sym, ap, ◌∙◌, arith, length-append}
-use Rattle.http_wire.specs.Target.{is_word}
+use Rattle.http_wire.specs.claim.Target.{is_word}
 use Rattle.http_wire.proofs.FieldLemmas.{values-more, with_value, without_value, first_stays, first_comes}
 use Rattle.http_wire.proofs.head.find_value.Goals.{then-is_named, then-count-eq0, else-count-eq0, else-is_named}
 use Rattle.http_wire.proofs.head.find_value.Goals as goal

@@ -1,6 +1,6 @@
 use Rattle.std.proofs.Common.{◌≡◌, ◌+◌, ◌<◌, ℕ, List, ◌∷◌, length, take, sym, subst, arith}
 use Rattle.std.proofs.lemmas.List.{take_rest}
-use Rattle.http_wire.specs.Connection.{parts}
+use Rattle.http_wire.specs.claim.Connection.{parts}
 use Rattle.http_wire.proofs.ConnectionLemmas.{whole_part, first_part}
 use Rattle.http_wire.proofs.lists.cut.Goals as goal
 

@@ -1,6 +1,6 @@
 use Rattle.std.proofs.Common.{◌∙◌, sym, ap}
 use Rattle.std.specs.Prelude.{codes}
-use Rattle.http_wire.specs.Connection.{parts, ends_in}
+use Rattle.http_wire.specs.claim.Connection.{parts, ends_in}
 use Rattle.http_wire.proofs.ConnectionLemmas.{some_part, ends_behind}
 use Rattle.http_wire.proofs.lists.ends_in_chunked.Goals as goal
 

@@ -1,6 +1,6 @@
 use Rattle.std.proofs.Common.{◌≡◌, length}
 use Rattle.std.specs.Prelude.{codes}
-use Rattle.http_wire.specs.Connection.{parts, ends_in}
+use Rattle.http_wire.specs.claim.Connection.{parts, ends_in}
 use Rattle.http_wire.proofs.lists.ends_in_chunked.Given as goal
 
 abbrev pub invariant-loop-next : goal.invariant-loop-next

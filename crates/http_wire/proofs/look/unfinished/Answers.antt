@@ -1,7 +1,7 @@
 use Rattle.std.proofs.Common.{◌≤◌, inl, inr, subst, refl, arith}
 use Rattle.httparse.specs.Grammar.{HasNoRequest, MayBecomeRequest}
 use Rattle.httparse.specs.Spans.{RequestOverflows}
-use Rattle.http_intake.specs.Lines.{head_lines}
+use Rattle.http_intake.specs.claim.Lines.{head_lines}
 use Rattle.http_wire.proofs.LookLemmas.{overflows_at}
 use Rattle.http_wire.proofs.look.unfinished.Goals as goal
 

@@ -2,7 +2,7 @@ use Rattle.std.proofs.Common.{List, [], ℕ, ◌++◌, ◌∙◌, ap, sym, subst
 use Rattle.httparse.specs.Spans.{span_bytes}
 use Rattle.http_wire.specs.Framed.{BodyRead}
 use Rattle.http_wire.specs.Incoming.{ReadsFront, IsTargetOf}
-use Rattle.http_wire.specs.Interim.{continue_text}
+use Rattle.http_wire.specs.claim.Interim.{continue_text}
 use Rattle.std.proofs.KnownBytes.{Consumes-nil}
 use Rattle.http_wire.proofs.InterimLemmas.{found_asks, found_cut}
 use Rattle.http_wire.proofs.RequestLemmas.{rest_reads, starved, due}

@@ -1,5 +1,5 @@
 use Rattle.std.proofs.Common.{◌≡◌, drop}
-use Rattle.http_wire.specs.Target.{behind_authority}
+use Rattle.http_wire.specs.claim.Target.{behind_authority}
 use Rattle.http_wire.proofs.target.behind_authority.Given as goal
 
 abbrev pub invariant-loop-i : goal.invariant-loop-i

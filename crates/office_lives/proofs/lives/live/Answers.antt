@@ -1,8 +1,9 @@
 use Rattle.std.proofs.Common.{ℕ, subst, ◌∙◌}
 use Rattle.http_seats.specs.Streams.{traffic}
-use Rattle.desk_lives.specs.Lives.{LifeAfterLife, new_desk}
+use Rattle.desk_lives.specs.claim.Lives.{LifeAfterLife}
+use Rattle.desk_lives.specs.Lives.{new_desk}
 use Rattle.desk_lives.proofs.Living.{first_life}
-use Rattle.office_lives.specs.Offices.{LifeMay}
+use Rattle.office_lives.specs.claim.Offices.{LifeMay}
 use Rattle.office_lives.proofs.lives.live.Goals as goal
 
 pub returns-in-Ok-serve_on : goal.returns-in-Ok-serve_on

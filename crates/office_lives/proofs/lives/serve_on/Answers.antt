@@ -5,7 +5,7 @@ use Rattle.http_seats.specs.Streams.{traffic}
 use Rattle.desk_lives.specs.Inside.{Holds, GoingOn}
 use Rattle.desk_lives.proofs.Living.{popped, begun, lives_on, all_lived}
 use Rattle.office_lives.specs.declared.lives.Told.{Told}
-use Rattle.office_lives.specs.Offices.{LifeMay}
+use Rattle.office_lives.specs.claim.Offices.{LifeMay}
 use Rattle.office_lives.proofs.lives.serve_on.Goals as goal
 
 pub loop-alloc-init : goal.loop-alloc-init

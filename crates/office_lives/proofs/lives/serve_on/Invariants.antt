@@ -1,9 +1,9 @@
 use Rattle.std.proofs.Common.{length}
-use Rattle.desk_model.specs.Desk.{Desk}
+use Rattle.desk_model.specs.claim.Desk.{Desk}
 use Rattle.http_seats.specs.Streams.{traffic}
 use Rattle.desk_runs.specs.Recovery.{HoldsOne}
 use Rattle.desk_lives.specs.Inside.{Holds, GoingOn}
-use Rattle.office_lives.specs.Offices.{LifeMay}
+use Rattle.office_lives.specs.claim.Offices.{LifeMay}
 use Rattle.office_lives.proofs.lives.serve_on.Given as goal
 
 abbrev pub invariant-loop-alloc : goal.invariant-loop-alloc

@@ -1,13 +1,13 @@
 use Rattle.std.proofs.Common.{◌≡◌, ◌≢◌, sym, ap, subst, ◌∙◌}
 use Rattle.std.specs.Prelude.{IfOk}
 use Rattle.std.specs.FinMap.{find, get as row_at}
-use Rattle.sector_device.specs.Disk.{Image}
-use Rattle.page_store.specs.Transactions.{stored, txn_pages, txn_root, over, Passed}
+use Rattle.sector_device.specs.claim.Disk.{Image}
+use Rattle.page_store.specs.claim.Transactions.{stored, txn_pages, txn_root, over, Passed}
 use Rattle.page_store.proofs.Stops.{quiet_more, passed_more}
-use Rattle.page_node.specs.Places.{key_cmp}
-use Rattle.page_btree.specs.Tree.{rows}
+use Rattle.page_node.specs.claim.Places.{key_cmp}
+use Rattle.page_btree.specs.claim.Tree.{rows}
 use Rattle.page_btree.specs.Getting.{CanGet, CanGetAt, IsCopied, IsLevel, ReadsErr}
-use Rattle.page_btree.specs.Errors.{GetErr}
+use Rattle.page_btree.specs.claim.Errors.{GetErr}
 use Rattle.page_btree.proofs.Outcomes.{map_ok, map_err}
 use Rattle.page_btree.proofs.Refusals.{get_fails}
 use Rattle.page_btree.proofs.Tops.{rooted, no_root, level_there, can_get, found_rows, at_root}

@@ -1,14 +1,14 @@
 use Rattle.std.proofs.Common.{◌≡◌, ◌-◌, ◌<◌, ℕ, List, [], length, get_or, slice_set, inr, refl, sym, ap, subst, ◌∙◌, arith}
 use Rattle.std.specs.Prelude.{OnOk, IfErr}
 use Rattle.std.proofs.lemmas.List.{get_or-set_same}
-use Rattle.sector_device.specs.Disk.{Image}
-use Rattle.page_store.specs.Transactions.{stored, txn_pages, over, Passed}
+use Rattle.sector_device.specs.claim.Disk.{Image}
+use Rattle.page_store.specs.claim.Transactions.{stored, txn_pages, over, Passed}
 use Rattle.page_store.proofs.Stops.{quiet_more, passed_more}
-use Rattle.page_node.specs.Node.{Node, IsNode}
-use Rattle.page_node.specs.Entries.{Entry}
+use Rattle.page_node.specs.claim.Node.{Node, IsNode}
+use Rattle.page_node.specs.claim.Entries.{Entry}
 use Rattle.page_node.specs.Places.{ceiling, entries_from}
 use Rattle.page_node.specs.Walking.{IsAhead}
-use Rattle.page_btree.specs.Tree.{rows}
+use Rattle.page_btree.specs.claim.Tree.{rows}
 use Rattle.page_btree.specs.Getting.{CanGet, CanGetAt, IsLevel, ReadsErr}
 use Rattle.page_btree.specs.Seeking.{bound_in, nearer, leaf_of, bound_of, IsRead}
 use Rattle.page_btree.proofs.Descent.{leaf_page, goes_on, some_child}

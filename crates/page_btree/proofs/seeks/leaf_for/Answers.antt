@@ -1,11 +1,11 @@
 use Rattle.std.proofs.Common.{◌≡◌, ◌≢◌, sym, ap, subst, ◌∙◌, arith}
 use Rattle.std.specs.Prelude.{None, OnOk}
-use Rattle.sector_device.specs.Disk.{Image}
-use Rattle.page_store.specs.Transactions.{stored, txn_pages, txn_root, over, Passed}
+use Rattle.sector_device.specs.claim.Disk.{Image}
+use Rattle.page_store.specs.claim.Transactions.{stored, txn_pages, txn_root, over, Passed}
 use Rattle.page_store.proofs.Stops.{quiet_more, passed_more}
-use Rattle.page_btree.specs.Tree.{page_of}
+use Rattle.page_btree.specs.claim.Tree.{page_of}
 use Rattle.page_btree.specs.Getting.{CanGet, CanGetAt, IsLevel, ReadsErr}
-use Rattle.page_btree.specs.Errors.{GetErr}
+use Rattle.page_btree.specs.claim.Errors.{GetErr}
 use Rattle.page_btree.specs.Seeking.{IsRead}
 use Rattle.page_btree.proofs.Descent.{owns_page}
 use Rattle.page_btree.proofs.Outcomes.{map_ok, map_err}

@@ -1,11 +1,11 @@
 use Rattle.std.proofs.Common.{◌≡◌, ◌<◌, ℕ, List, inr, ⊎_elim, cond, sym, ap, subst, ◌∙◌, arith}
 use Rattle.std.specs.Prelude.{Some, None}
-use Rattle.sector_device.specs.Disk.{Image}
-use Rattle.page_store.specs.Transactions.{txn_pages, txn_root, over, free_over}
+use Rattle.sector_device.specs.claim.Disk.{Image}
+use Rattle.page_store.specs.claim.Transactions.{txn_pages, txn_root, over, free_over}
 use Rattle.page_store.proofs.Stops.{quiet_more, passed_more}
-use Rattle.page_btree.specs.Map.{IsRooted}
-use Rattle.page_btree.specs.Errors.{GetErr}
-use Rattle.page_btree.specs.Keys.{KeyMap}
+use Rattle.page_btree.specs.claim.Map.{IsRooted}
+use Rattle.page_btree.specs.claim.Errors.{GetErr}
+use Rattle.page_btree.specs.claim.Keys.{KeyMap}
 use Rattle.page_btree.specs.Seeking.{bound_in, IsRead}
 use Rattle.page_btree.proofs.Outcomes.{err_of}
 use Rattle.page_btree.proofs.Refusals.{get_more}

@@ -1,8 +1,8 @@
 use Rattle.std.proofs.Common.{◌≡◌, ◌≤◌, ℕ, get_or, inr, ap, sym, subst, ◌∙◌, arith}
-use Rattle.sector_device.specs.Disk.{Image}
-use Rattle.page_store.specs.Transactions.{stored, txn_pages, over, Passed}
+use Rattle.sector_device.specs.claim.Disk.{Image}
+use Rattle.page_store.specs.claim.Transactions.{stored, txn_pages, over, Passed}
 use Rattle.page_store.proofs.Stops.{quiet_more, passed_more}
-use Rattle.page_node.specs.Node.{Node, IsNode}
+use Rattle.page_node.specs.claim.Node.{Node, IsNode}
 use Rattle.page_btree.specs.Getting.{CanGetAt, IsLevel, ReadsErr}
 use Rattle.page_btree.specs.Seeking.{bound_in, leaf_of}
 use Rattle.page_btree.proofs.Descent.{some_child}

@@ -1,9 +1,9 @@
 use Rattle.std.proofs.Common.{◌≡◌, ◌-◌, ◌<◌, ◌≤◌, ◌^◌, inr, refl, sym, subst, ◌∙◌, arith}
 use Rattle.std.specs.Prelude.{IfOk}
-use Rattle.sector_device.specs.Disk.{Image}
-use Rattle.page_store.specs.Transactions.{stored, txn_pages, over, Passed}
+use Rattle.sector_device.specs.claim.Disk.{Image}
+use Rattle.page_store.specs.claim.Transactions.{stored, txn_pages, over, Passed}
 use Rattle.page_store.proofs.Stops.{quiet_more, passed_more}
-use Rattle.page_node.specs.Node.{IsNode}
+use Rattle.page_node.specs.claim.Node.{IsNode}
 use Rattle.page_btree.specs.Getting.{CanGetAt, ReadsErr}
 use Rattle.page_btree.specs.Leading.{LeadsTo, CanLead}
 use Rattle.page_btree.specs.declared.error.TreeError.TheVariants.{DeviceFault}

@@ -1,6 +1,6 @@
 use Rattle.std.proofs.Common.{◌∙◌, ℕ, sym, subst}
 use Rattle.gate_journal.specs.Recovery.{HasRoom}
-use Rattle.gate_journal.specs.Writes.{writes_of}
+use Rattle.gate_journal.specs.claim.Writes.{writes_of}
 use Rattle.page_format.specs.New.{IsNew}
 use Rattle.page_format.proofs.Made.{new_store}
 use Rattle.page_format.proofs.formatting.format.Goals as goal

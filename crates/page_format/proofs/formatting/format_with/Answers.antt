@@ -1,7 +1,7 @@
 use Rattle.std.proofs.Common.{◌≡◌, ◌-◌, ◌∙◌, ℕ, refl, sym, subst, arith}
 use Rattle.gate_journal.specs.Recovery.{HasRoom}
-use Rattle.gate_journal.specs.Store.{overlay, pages}
-use Rattle.gate_journal.specs.Writes.{writes_of}
+use Rattle.gate_journal.specs.claim.Store.{overlay, pages}
+use Rattle.gate_journal.specs.claim.Writes.{writes_of}
 use Rattle.gate_journal.proofs.Images.{put_on, put_off}
 use Rattle.page_format.specs.New.{IsNewWith}
 use Rattle.page_format.proofs.Made.{new_store_with, meta_under}

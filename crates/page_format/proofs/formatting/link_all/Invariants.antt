@@ -1,5 +1,6 @@
 use Rattle.std.proofs.Common.{◌≡◌, ◌≤◌, ◌*◌, ◌+◌}
-use Rattle.gate_journal.specs.Store.{IsSettled, pages}
+use Rattle.gate_journal.specs.Store.{IsSettled}
+use Rattle.gate_journal.specs.claim.Store.{pages}
 use Rattle.gate_journal.specs.Writes.{room_of}
 use Rattle.page_format.specs.New.{AreLinked}
 use Rattle.page_format.proofs.formatting.link_all.Given as goal

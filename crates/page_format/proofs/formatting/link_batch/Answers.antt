@@ -1,5 +1,5 @@
-use Rattle.gate_journal.specs.Store.{pages}
-use Rattle.gate_journal.specs.Writes.{writes_of}
+use Rattle.gate_journal.specs.claim.Store.{pages}
+use Rattle.gate_journal.specs.claim.Writes.{writes_of}
 use Rattle.page_format.proofs.Made.{linked_batch}
 use Rattle.page_format.proofs.formatting.link_batch.Goals as goal
 

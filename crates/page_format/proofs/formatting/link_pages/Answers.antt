@@ -1,6 +1,7 @@
 use Rattle.std.proofs.Common.{◌∙◌, ◌≤◌, ℕ, arith}
-use Rattle.gate_journal.specs.Store.{overlay}
-use Rattle.gate_journal.specs.Writes.{writes_of, room_of}
+use Rattle.gate_journal.specs.claim.Store.{overlay}
+use Rattle.gate_journal.specs.claim.Writes.{writes_of}
+use Rattle.gate_journal.specs.Writes.{room_of}
 use Rattle.gate_journal.proofs.Images.{put_off}
 use Rattle.page_format.proofs.Linked.{linked_more}
 use Rattle.page_format.proofs.formatting.link_pages.Goals as goal

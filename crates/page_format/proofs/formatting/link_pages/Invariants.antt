@@ -1,7 +1,9 @@
 use Rattle.std.proofs.Common.{◌≡◌, ◌≤◌, ◌<◌, ◌+◌, ℕ, length}
-use Rattle.sector_device.specs.Disk.{Image}
-use Rattle.gate_journal.specs.Store.{IsWithin, overlay}
-use Rattle.gate_journal.specs.Writes.{writes_of, room_of}
+use Rattle.sector_device.specs.claim.Disk.{Image}
+use Rattle.gate_journal.specs.Store.{IsWithin}
+use Rattle.gate_journal.specs.claim.Store.{overlay}
+use Rattle.gate_journal.specs.claim.Writes.{writes_of}
+use Rattle.gate_journal.specs.Writes.{room_of}
 use Rattle.page_format.specs.New.{AreLinked}
 use Rattle.page_format.proofs.formatting.link_pages.Given as goal
 

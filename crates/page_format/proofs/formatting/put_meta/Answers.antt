@@ -1,6 +1,6 @@
 use Rattle.std.proofs.Common.{◌≡◌, ◌∙◌, List, ℕ, refl, ap, arith}
-use Rattle.gate_journal.specs.Store.{overlay, word}
-use Rattle.gate_journal.specs.Writes.{writes_of}
+use Rattle.gate_journal.specs.claim.Store.{overlay, word}
+use Rattle.gate_journal.specs.claim.Writes.{writes_of}
 use Rattle.gate_journal.proofs.Images.{put_on}
 use Rattle.page_format.proofs.formatting.put_meta.Goals as goal
 

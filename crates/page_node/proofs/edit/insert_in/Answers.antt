@@ -1,6 +1,6 @@
 use Rattle.std.proofs.Common.{refl, sym, subst, arith}
 use Rattle.std.specs.Prelude.{insert}
-use Rattle.page_node.specs.Node.{IsNode}
+use Rattle.page_node.specs.claim.Node.{IsNode}
 use Rattle.page_node.proofs.Editing.{count_small}
 use Rattle.page_node.proofs.PageEdits.{inserted_node, inserted_size}
 use Rattle.page_node.proofs.edit.insert_in.Goals as goal

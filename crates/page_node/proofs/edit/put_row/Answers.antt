@@ -1,7 +1,7 @@
 use Rattle.std.proofs.Common.{List, subst, arith}
-use Rattle.page_node.specs.Entries.{Entry}
-use Rattle.page_node.specs.Node.{IsNode}
-use Rattle.page_node.specs.Places.{Rises}
+use Rattle.page_node.specs.claim.Entries.{Entry}
+use Rattle.page_node.specs.claim.Node.{IsNode}
+use Rattle.page_node.specs.claim.Places.{Rises}
 use Rattle.page_node.specs.Spots.{IsSpot}
 use Rattle.page_node.proofs.PageEdits.{refused, none_told, put_found, put_gap}
 use Rattle.page_node.proofs.edit.put_row.Goals as goal

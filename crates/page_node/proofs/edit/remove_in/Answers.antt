@@ -1,7 +1,7 @@
 use Rattle.std.proofs.Common.{◌+◌, refl, sym, subst, arith}
 use Rattle.std.specs.Prelude.{remove}
-use Rattle.page_node.specs.Entries.{size_of}
-use Rattle.page_node.specs.Node.{IsNode}
+use Rattle.page_node.specs.claim.Entries.{size_of}
+use Rattle.page_node.specs.claim.Node.{IsNode}
 use Rattle.page_node.proofs.PageEdits.{removed_node}
 use Rattle.page_node.proofs.edit.remove_in.Goals as goal
 

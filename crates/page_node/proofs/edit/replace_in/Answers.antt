@@ -1,6 +1,6 @@
 use Rattle.std.proofs.Common.{◌+◌, refl, arith}
 use Rattle.page_node.proofs.PageEdits.{replaced_here, replaced_node, replaced_size}
-use Rattle.page_node.specs.Entries.{size_of}
+use Rattle.page_node.specs.claim.Entries.{size_of}
 use Rattle.page_node.proofs.edit.replace_in.Goals as goal
 
 pub returns-then-at-key-clause-replaced : goal.returns-then-at-key-clause-replaced

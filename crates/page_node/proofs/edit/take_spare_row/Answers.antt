@@ -1,8 +1,8 @@
 use Rattle.std.proofs.Common.{List, refl, subst, arith}
-use Rattle.page_node.specs.Entries.{Entry}
+use Rattle.page_node.specs.claim.Entries.{Entry}
 use Rattle.page_node.proofs.Laws.{gap_find}
-use Rattle.page_node.specs.Node.{IsNode}
-use Rattle.page_node.specs.Places.{Rises}
+use Rattle.page_node.specs.claim.Node.{IsNode}
+use Rattle.page_node.specs.claim.Places.{Rises}
 use Rattle.page_node.specs.Spots.{IsSpot}
 use Rattle.page_node.proofs.PageEdits.{refused, some_left}
 use Rattle.page_node.proofs.edit.take_spare_row.Goals as goal

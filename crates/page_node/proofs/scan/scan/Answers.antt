@@ -1,6 +1,6 @@
 use Rattle.std.proofs.Common.{ℕ, Option, arith, refl, sym, subst, inl, inr}
 use Rattle.std.specs.Option.{IfNone}
-use Rattle.page_node.specs.Node.{Node, IsNode}
+use Rattle.page_node.specs.claim.Node.{Node, IsNode}
 use Rattle.page_node.proofs.Editing.{count_small}
 use Rattle.page_node.proofs.Scanning.{scanned_not, scanned_no_child, scanned_next, scanned_end}
 use Rattle.page_node.proofs.scan.scan.Goals as goal

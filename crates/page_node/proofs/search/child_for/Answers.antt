@@ -1,7 +1,7 @@
 use Rattle.std.proofs.Common.{◌≡◌, ◌+◌, ◌-◌, true, arith, sym, ap, ◌∙◌}
 use Rattle.std.specs.Ordering.{is_gt}
 use Rattle.page_node.specs.Entries.{key_at}
-use Rattle.page_node.specs.Places.{key_cmp}
+use Rattle.page_node.specs.claim.Places.{key_cmp}
 use Rattle.page_node.proofs.Laws.{floor_stop}
 use Rattle.page_node.proofs.Scanning.{lies_there, entry_of, key_part, last_next, child_ok}
 use Rattle.page_node.proofs.search.child_for.Goals as goal

@@ -1,5 +1,5 @@
 use Rattle.std.proofs.Common.{◌≤◌}
-use Rattle.page_node.specs.Node.{Node, IsNode}
+use Rattle.page_node.specs.claim.Node.{Node, IsNode}
 use Rattle.page_node.specs.Searching.{IsLast}
 use Rattle.page_node.proofs.search.child_for.Given as goal
 

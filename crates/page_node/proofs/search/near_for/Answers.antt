@@ -1,7 +1,8 @@
 use Rattle.std.proofs.Common.{◌≡◌, ℕ, ◌+◌, take, false, arith, sym, ap, ◌∙◌, subst}
 use Rattle.std.specs.Ordering.{is_gt}
-use Rattle.page_node.specs.Entries.{key_at, size_of}
-use Rattle.page_node.specs.Places.{key_cmp}
+use Rattle.page_node.specs.Entries.{key_at}
+use Rattle.page_node.specs.claim.Entries.{size_of}
+use Rattle.page_node.specs.claim.Places.{key_cmp}
 use Rattle.page_node.specs.Searching.{IsLast}
 use Rattle.page_node.proofs.Scanning.{lies_there, entry_of, end_there, key_part}
 use Rattle.page_node.proofs.Nearing.{last_behind}

@@ -1,6 +1,6 @@
 use Rattle.std.proofs.Common.{◌≡◌, ◌+◌, ◌-◌, ◌≤◌, take}
-use Rattle.page_node.specs.Entries.{size_of}
-use Rattle.page_node.specs.Node.{Node, IsNode}
+use Rattle.page_node.specs.claim.Entries.{size_of}
+use Rattle.page_node.specs.claim.Node.{Node, IsNode}
 use Rattle.page_node.specs.Searching.{IsLast, RisesBehind}
 use Rattle.page_node.proofs.search.near_for.Given as goal
 

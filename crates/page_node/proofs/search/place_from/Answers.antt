@@ -2,9 +2,11 @@ use Rattle.std.proofs.Common.{◌≡◌, ℕ, ◌+◌, ◌-◌, ◌<◌, ◌≤�
 use Rattle.std.specs.Ordering.{is_gt, is_lt}
 use Rattle.std.specs.declared.cmp.Ordering.TheVariants.{Less}
 use Rattle.std.proofs.lemmas.List.{length-drop}
-use Rattle.page_node.specs.Entries.{Entry, key_at, size_of}
-use Rattle.page_node.specs.Node.{Node, IsNode}
-use Rattle.page_node.specs.Places.{key_cmp, entries_from}
+use Rattle.page_node.specs.claim.Entries.{Entry, size_of}
+use Rattle.page_node.specs.Entries.{key_at}
+use Rattle.page_node.specs.claim.Node.{Node, IsNode}
+use Rattle.page_node.specs.claim.Places.{key_cmp}
+use Rattle.page_node.specs.Places.{entries_from}
 use Rattle.page_node.specs.Walking.{IsAhead}
 use Rattle.page_node.proofs.Walking.{node_ahead_at}
 use Rattle.page_node.proofs.Laws.{entries_from_at, from_middle, not_below, is_less}

@@ -1,7 +1,8 @@
 use Rattle.std.proofs.Common.{◌≡◌, ℕ, ◌+◌, take, true, arith, sym, ap, ◌∙◌, subst}
 use Rattle.std.specs.Ordering.{is_lt}
-use Rattle.page_node.specs.Entries.{key_at, size_of}
-use Rattle.page_node.specs.Places.{key_cmp}
+use Rattle.page_node.specs.Entries.{key_at}
+use Rattle.page_node.specs.claim.Entries.{size_of}
+use Rattle.page_node.specs.claim.Places.{key_cmp}
 use Rattle.page_node.proofs.Laws.{below_middle, is_less}
 use Rattle.page_node.proofs.Scanning.{lies_there, entry_of, end_there, key_part}
 use Rattle.page_node.proofs.Passed.{node_passed, node_passed_not}

@@ -2,7 +2,7 @@ use Rattle.std.proofs.Common.{◌≡◌, ◌≤◌, ◌+◌, ◌-◌, ℕ, true,
 use Rattle.std.specs.Prelude.{Ok}
 use Rattle.std.specs.Ordering.{is_gt}
 use Rattle.page_node.specs.Entries.{key_at}
-use Rattle.page_node.specs.Places.{key_cmp}
+use Rattle.page_node.specs.claim.Places.{key_cmp}
 use Rattle.page_node.proofs.Laws.{floor_stop, ceiling_at, ceiling_none}
 use Rattle.page_node.proofs.Scanning.{lies_there, entry_of, key_part, last_next, child_ok}
 use Rattle.page_node.proofs.search.turn_for.Goals as goal

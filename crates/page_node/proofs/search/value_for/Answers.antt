@@ -2,7 +2,7 @@ use Rattle.std.proofs.Common.{◌≡◌, ◌≤◌, arith, sym, ap, ◌∙◌, b
 use Rattle.std.specs.Prelude.{Some}
 use Rattle.std.specs.declared.cmp.Ordering.TheVariants.{Less, Greater}
 use Rattle.page_node.specs.Entries.{key_at}
-use Rattle.page_node.specs.Places.{key_cmp}
+use Rattle.page_node.specs.claim.Places.{key_cmp}
 use Rattle.page_node.proofs.Laws.{find_none, find_at, above_middle, same_key}
 use Rattle.page_node.proofs.Scanning.{lies_there, entry_of, end_there, key_part, value_part}
 use Rattle.page_node.proofs.search.value_for.Goals as goal

@@ -1,7 +1,7 @@
 use Rattle.std.proofs.Common.{◌≡◌, ◌≤◌, false, arith, sym, ap, subst, ◌∙◌, below_more}
 use Rattle.std.specs.declared.cmp.Ordering.TheVariants.{Less, Greater}
 use Rattle.page_node.specs.Entries.{key_at}
-use Rattle.page_node.specs.Places.{key_cmp}
+use Rattle.page_node.specs.claim.Places.{key_cmp}
 use Rattle.page_node.specs.Spots.{IsSpot}
 use Rattle.page_node.proofs.Laws.{found_here, above_middle, same_key}
 use Rattle.page_node.proofs.Scanning.{lies_there, entry_of, end_there, key_part}

@@ -4,7 +4,7 @@ use Rattle.std.specs.List.{starts_with}
 use Rattle.std.specs.Option.{option_map}
 use Rattle.page_node.specs.Bytes.{LiesAt}
 use Rattle.page_node.specs.Entries.{key_at, child_in}
-use Rattle.page_node.specs.Node.{Node, IsNode}
+use Rattle.page_node.specs.claim.Node.{Node, IsNode}
 use Rattle.page_node.specs.Places.{floor}
 use Rattle.page_node.specs.Searching.{IsTurn, RisesBehind}
 use Rattle.page_node.specs.Walking.{part_of}

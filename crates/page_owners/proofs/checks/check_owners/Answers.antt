@@ -1,8 +1,8 @@
 use Rattle.std.proofs.Common.{ℕ, List, refl, sym, ap, ◌∙◌, arith}
-use Rattle.gate_journal.specs.Store.{word}
-use Rattle.sector_device.specs.Disk.{Image}
-use Rattle.page_store.specs.Chain.{root_in}
-use Rattle.page_store.specs.Transactions.{stored, txn_pages, over, Passed}
+use Rattle.gate_journal.specs.claim.Store.{word}
+use Rattle.sector_device.specs.claim.Disk.{Image}
+use Rattle.page_store.specs.claim.Chain.{root_in}
+use Rattle.page_store.specs.claim.Transactions.{stored, txn_pages, over, Passed}
 use Rattle.page_store.proofs.Stops.{quiet_none, quiet_more, passed_more}
 use Rattle.page_btree.proofs.Outcomes.{err_of}
 use Rattle.page_owners.specs.declared.error.PagesError.TheVariants.{Unsound}

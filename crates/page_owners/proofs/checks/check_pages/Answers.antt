@@ -1,6 +1,6 @@
 use Rattle.std.proofs.Common.{◌≡◌, ℕ, sym, subst}
-use Rattle.sector_device.specs.Disk.{Image}
-use Rattle.page_store.specs.Transactions.{stored, count_of, txn_pages, over}
+use Rattle.sector_device.specs.claim.Disk.{Image}
+use Rattle.page_store.specs.claim.Transactions.{stored, count_of, txn_pages, over}
 use Rattle.page_store.proofs.Stops.{quiet_none}
 use Rattle.page_btree.proofs.Outcomes.{map_err}
 use Rattle.page_owners.specs.Owners.{AreOwned}

@@ -1,7 +1,7 @@
 use Rattle.std.proofs.Common.{sym, ap, subst, ◌∙◌, arith}
-use Rattle.gate_journal.specs.Store.{word}
-use Rattle.sector_device.specs.Disk.{Image}
-use Rattle.page_store.specs.Transactions.{stored, over}
+use Rattle.gate_journal.specs.claim.Store.{word}
+use Rattle.sector_device.specs.claim.Disk.{Image}
+use Rattle.page_store.specs.claim.Transactions.{stored, over}
 use Rattle.page_store.proofs.Stops.{quiet_more, passed_none, passed_more}
 use Rattle.page_btree.proofs.Outcomes.{err_of}
 use Rattle.page_owners.specs.Owners.{IsBlank, CanName, CanList}

@@ -1,5 +1,5 @@
 use Rattle.std.proofs.Common.{◌≡◌, length}
-use Rattle.page_store.specs.Transactions.{stored, disk_in, count_of, txn_pages, over, Passed}
+use Rattle.page_store.specs.claim.Transactions.{stored, disk_in, count_of, txn_pages, over, Passed}
 use Rattle.page_owners.proofs.Lists.{AreListed}
 use Rattle.page_owners.proofs.free.check_free.Given as goal
 

@@ -1,6 +1,6 @@
 use Rattle.std.proofs.Common.{List, ℕ, refl, sym, ap, subst, ◌∙◌, arith}
-use Rattle.gate_journal.specs.Store.{word}
-use Rattle.page_store.specs.Transactions.{stored, over}
+use Rattle.gate_journal.specs.claim.Store.{word}
+use Rattle.page_store.specs.claim.Transactions.{stored, over}
 use Rattle.page_store.proofs.Stops.{quiet_none}
 use Rattle.page_btree.proofs.Outcomes.{err_of}
 use Rattle.page_owners.specs.declared.error.PagesError.TheVariants.{Unsound}

@@ -1,5 +1,5 @@
 use Rattle.std.proofs.Common.{◌≡◌, ◌<◌, ℕ}
-use Rattle.gate_journal.specs.Store.{word}
+use Rattle.gate_journal.specs.claim.Store.{word}
 use Rattle.page_owners.proofs.free.is_blank.Given as goal
 
 abbrev pub invariant-loop-k : goal.invariant-loop-k

@@ -2,7 +2,7 @@ use Rattle.std.proofs.Common.{◌≡◌, inl, inr, sym, subst, arith}
 use Rattle.std.proofs.lemmas.Bool.{cases_lt}
 use Rattle.std.specs.Option.{option_copied}
 use Rattle.page_node.specs.Entries.{key_at}
-use Rattle.page_btree.specs.Keys.{IsBetween}
+use Rattle.page_btree.specs.claim.Keys.{IsBetween}
 use Rattle.page_owners.proofs.Keys.{all_from, all_at}
 use Rattle.page_owners.proofs.order.are_between.Goals as goal
 

@@ -1,7 +1,7 @@
 use Rattle.std.proofs.Common.{◌<◌, ℕ}
 use Rattle.std.specs.Option.{option_copied}
 use Rattle.page_node.specs.Entries.{key_at}
-use Rattle.page_btree.specs.Keys.{IsBetween}
+use Rattle.page_btree.specs.claim.Keys.{IsBetween}
 use Rattle.page_owners.proofs.order.are_between.Given as goal
 
 abbrev pub invariant-loop-k : goal.invariant-loop-k

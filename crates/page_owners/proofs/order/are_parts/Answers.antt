@@ -2,7 +2,7 @@ use Rattle.std.proofs.Common.{◌≡◌, ◌-◌, suc, inl, inr, subst, arith}
 use Rattle.std.proofs.lemmas.Bool.{cases_lt}
 use Rattle.std.specs.Option.{option_copied}
 use Rattle.page_node.specs.Entries.{key_at}
-use Rattle.page_btree.specs.Keys.{Parts}
+use Rattle.page_btree.specs.claim.Keys.{Parts}
 use Rattle.page_owners.specs.Order.{lower_of}
 use Rattle.page_owners.proofs.order.are_parts.Goals as goal
 

@@ -1,7 +1,7 @@
 use Rattle.std.proofs.Common.{◌<◌, ℕ, suc}
 use Rattle.std.specs.Option.{option_copied}
 use Rattle.page_node.specs.Entries.{key_at}
-use Rattle.page_btree.specs.Keys.{Parts}
+use Rattle.page_btree.specs.claim.Keys.{Parts}
 use Rattle.page_owners.specs.Order.{lower_of}
 use Rattle.page_owners.proofs.order.are_parts.Given as goal
 

@@ -2,7 +2,7 @@ use Rattle.std.proofs.Common.{◌≡◌, ◌-◌, suc, true, false, inl, inr, sy
 use Rattle.std.proofs.lemmas.Bool.{cases_lt}
 use Rattle.std.specs.Ordering.{is_lt}
 use Rattle.page_node.specs.Entries.{key_at}
-use Rattle.page_node.specs.Places.{key_cmp}
+use Rattle.page_node.specs.claim.Places.{key_cmp}
 use Rattle.page_node.proofs.Laws.{rises_at}
 use Rattle.page_owners.proofs.Keys.{rises_from}
 use Rattle.page_owners.proofs.order.do_rise.Goals as goal

@@ -2,9 +2,9 @@ use Rattle.std.proofs.Common.{◌≡◌, ◌-◌, true, false, List, ℕ, sym, a
 use Rattle.std.specs.Option.{option_copied}
 use Rattle.std.specs.Ordering.{is_lt}
 use Rattle.page_node.specs.Entries.{key_at}
-use Rattle.page_node.specs.Places.{key_cmp}
+use Rattle.page_node.specs.claim.Places.{key_cmp}
 use Rattle.page_node.proofs.Laws.{is_less}
-use Rattle.page_btree.specs.Keys.{IsUnder}
+use Rattle.page_btree.specs.claim.Keys.{IsUnder}
 use Rattle.page_owners.specs.Order.{lower_of}
 use Rattle.page_owners.proofs.order.is_part.Goals as goal
 

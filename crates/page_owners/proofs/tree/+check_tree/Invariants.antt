@@ -1,7 +1,7 @@
 use Rattle.std.proofs.Common.{◌≡◌, ◌≤◌, length}
 use Rattle.std.specs.Option.{option_copied}
-use Rattle.page_store.specs.Transactions.{stored, disk_in, count_of, txn_pages, over, Passed}
-use Rattle.page_node.specs.Node.{IsNode}
+use Rattle.page_store.specs.claim.Transactions.{stored, disk_in, count_of, txn_pages, over, Passed}
+use Rattle.page_node.specs.claim.Node.{IsNode}
 use Rattle.page_owners.proofs.Trees.{AreBelow}
 use Rattle.page_owners.proofs.tree.+check_tree.Given as goal
 

@@ -1,9 +1,9 @@
 use Rattle.std.proofs.Common.{◌≡◌, ◌≤◌, ℕ, List, [], inl, inr, refl, sym, subst, ◌∙◌, arith}
 use Rattle.std.specs.Prelude.{None}
-use Rattle.sector_device.specs.Disk.{Image}
-use Rattle.page_store.specs.Transactions.{stored, over, Passed}
+use Rattle.sector_device.specs.claim.Disk.{Image}
+use Rattle.page_store.specs.claim.Transactions.{stored, over, Passed}
 use Rattle.page_store.proofs.Stops.{quiet_none, quiet_more, passed_none, passed_more}
-use Rattle.page_node.specs.Node.{IsNode}
+use Rattle.page_node.specs.claim.Node.{IsNode}
 use Rattle.page_btree.proofs.Outcomes.{err_of, map_err}
 use Rattle.page_owners.specs.Owners.{IsWalked, CanWalk, IsRootWalked, CanWalkRoot}
 use Rattle.page_owners.specs.Errors.{PagesErr, pages_error}

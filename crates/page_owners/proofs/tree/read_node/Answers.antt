@@ -1,7 +1,7 @@
 use Rattle.std.proofs.Common.{◌≡◌, ℕ, List, sym, ap, subst, ◌∙◌}
-use Rattle.page_store.specs.Transactions.{stored, over}
+use Rattle.page_store.specs.claim.Transactions.{stored, over}
 use Rattle.page_btree.proofs.Outcomes.{err_of}
-use Rattle.page_node.specs.Node.{Node, IsNode}
+use Rattle.page_node.specs.claim.Node.{Node, IsNode}
 use Rattle.page_node.proofs.Laws.{node_unique}
 use Rattle.page_owners.specs.Owners.{HasLevel}
 use Rattle.page_owners.specs.Errors.{PagesErr, pages_error}

@@ -1,4 +1,4 @@
-use Rattle.field_text.specs.Fields.{fields}
+use Rattle.field_text.specs.claim.Fields.{fields}
 use Rattle.pl94_geo.proofs.FieldLemmas.{field_at, left_after}
 use Rattle.pl94_geo.proofs.entry.block_fields.Goals as goal
 

@@ -1,7 +1,7 @@
 use Rattle.std.proofs.Common.{◌≡◌, ◌<◌, refl, ap, arith, length}
 use Rattle.std.proofs.lemmas.Bool.Decides.{nat_tests}
 use Rattle.std.proofs.lemmas.List.{nil_from_length}
-use Rattle.pl94_geo.specs.Judging.{ids_of, blocks_of}
+use Rattle.pl94_geo.specs.claim.Judging.{ids_of, blocks_of}
 use Rattle.pl94_geo.proofs.HoldingLemmas.{length-blocks_of}
 use Rattle.pl94_geo.proofs.GeoLemmas.{rows_from}
 use Rattle.pl94_geo.proofs.geo.finish.Goals as goal

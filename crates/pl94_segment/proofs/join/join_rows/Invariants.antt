@@ -1,5 +1,5 @@
 use Rattle.std.proofs.Common.{◌≡◌, take, map}
-use Rattle.pl94_segment.specs.Join.{row_of}
+use Rattle.pl94_segment.specs.claim.Join.{row_of}
 use Rattle.pl94_segment.proofs.join.join_rows.Given as goal
 
 abbrev pub invariant-loop-block : goal.invariant-loop-block

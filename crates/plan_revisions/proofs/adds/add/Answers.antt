@@ -1,19 +1,19 @@
 use Rattle.std.proofs.Common.{◌≡◌, ◌<◌, ◌≤◌, ◌-◌, ◌^◌, ℕ, List, length, get_or, ap, subst, ◌∙◌, arith}
 use Rattle.desk_model.specs.declared.cuts.Cut.{Cut}
 use Rattle.desk_model.specs.Cuts.{cuts_of}
-use Rattle.desk_model.specs.Room.{changed, revision_rows}
+use Rattle.desk_model.specs.claim.Room.{changed, revision_rows}
 use Rattle.page_store.proofs.Stops.{quiet_more}
-use Rattle.page_store.specs.Transactions.{stored, disk_in}
-use Rattle.page_btree.specs.Map.{InTxn as HasMap}
+use Rattle.page_store.specs.claim.Transactions.{stored, disk_in}
+use Rattle.page_btree.specs.claim.Map.{InTxn as HasMap}
 use Rattle.store_rows.specs.declared.value.Counters.{Counters}
 use Rattle.store_rows.specs.declared.value.PlanRow.{PlanRow}
-use Rattle.store_rows.specs.Puts.{Row}
-use Rattle.store_rows.specs.Rows.{KeyMap}
+use Rattle.store_rows.specs.claim.Puts.{Row}
+use Rattle.store_rows.specs.claim.Rows.{KeyMap}
 use Rattle.row_table.proofs.Outcomes.{match_of}
-use Rattle.row_table.specs.Puts.{HasPut, PutsErr}
-use Rattle.plan_table.specs.PlanRows.{HasChunkNumbers}
+use Rattle.row_table.specs.claim.Puts.{HasPut, PutsErr}
+use Rattle.plan_table.specs.claim.PlanRows.{HasChunkNumbers}
 use Rattle.desk_room.specs.Cutting.{changes_in}
-use Rattle.plan_revisions.specs.Steps.{IsStepped, StepErr}
+use Rattle.plan_revisions.specs.claim.Steps.{IsStepped, StepErr}
 use Rattle.plan_revisions.specs.Plans.{TakesNext, TakesRevision, with_next}
 use Rattle.plan_revisions.specs.Counties.{drawn, new_lists}
 use Rattle.plan_revisions.specs.Adding.{AreRead}

@@ -1,17 +1,17 @@
 use Rattle.std.proofs.Common.{◌≡◌, ◌∙◌, ℕ, List, length, ap, subst, arith}
 use Rattle.desk_model.specs.declared.cuts.Cut.{Cut}
 use Rattle.desk_model.specs.Cuts.{cuts_of}
-use Rattle.desk_model.specs.Room.{fork_rows}
+use Rattle.desk_model.specs.claim.Room.{fork_rows}
 use Rattle.page_store.proofs.Stops.{quiet_more}
-use Rattle.page_store.specs.Transactions.{stored, disk_in}
-use Rattle.page_btree.specs.Map.{InTxn as HasMap}
+use Rattle.page_store.specs.claim.Transactions.{stored, disk_in}
+use Rattle.page_btree.specs.claim.Map.{InTxn as HasMap}
 use Rattle.store_rows.specs.declared.value.Counters.{Counters}
 use Rattle.store_rows.specs.declared.value.PlanRow.{PlanRow}
-use Rattle.store_rows.specs.Rows.{KeyMap}
+use Rattle.store_rows.specs.claim.Rows.{KeyMap}
 use Rattle.row_table.proofs.Outcomes.{match_of}
-use Rattle.plan_table.specs.PlanRows.{HasPlanNumber}
+use Rattle.plan_table.specs.claim.PlanRows.{HasPlanNumber}
 use Rattle.chunk_table.specs.Changing.{HasChanged, MapErr}
-use Rattle.plan_revisions.specs.Steps.{IsStepped, StepErr}
+use Rattle.plan_revisions.specs.claim.Steps.{IsStepped, StepErr}
 use Rattle.plan_revisions.specs.Plans.{TakesFork, with_fork}
 use Rattle.plan_revisions.specs.Lookups.{HasSomeRevision}
 use Rattle.plan_revisions.specs.Forking.{CanFork, CanMake, IsSource, forked_map, rows_of_fork}

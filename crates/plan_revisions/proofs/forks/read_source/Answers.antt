@@ -1,16 +1,16 @@
 use Rattle.std.proofs.Common.{◌≡◌, ◌≢◌, ◌∙◌, ◌++◌, List, ℕ, [], length, Option, rules, sym, ap, subst}
 use Rattle.page_store.proofs.Stops.{quiet_more, passed_more}
-use Rattle.page_store.specs.Transactions.{stored, disk_in}
-use Rattle.page_btree.specs.Map.{InTxn as HasMap}
+use Rattle.page_store.specs.claim.Transactions.{stored, disk_in}
+use Rattle.page_btree.specs.claim.Map.{InTxn as HasMap}
 use Rattle.store_rows.specs.declared.value.PlanRow.{PlanRow}
-use Rattle.store_rows.specs.Rows.{KeyMap}
-use Rattle.store_rows.specs.Tidy.{IsNext}
+use Rattle.store_rows.specs.claim.Rows.{KeyMap}
+use Rattle.store_rows.specs.claim.Tidy.{IsNext}
 use Rattle.row_table.proofs.Outcomes.{err_of}
 use Rattle.row_table.specs.Reading.{HasNext}
 use Rattle.row_table.proofs.Reading.{not_read_after, read_after}
 use Rattle.plan_table.specs.Laws.{RowFits}
 use Rattle.plan_table.specs.PlanRows.{IsFound}
-use Rattle.plan_revisions.specs.Steps.{StepErr}
+use Rattle.plan_revisions.specs.claim.Steps.{StepErr}
 use Rattle.plan_revisions.specs.Lookups.{HasSomeRevision}
 use Rattle.plan_revisions.proofs.Retiring.{not_found}
 use Rattle.plan_revisions.proofs.LastRevision.{no_numbers_said}

@@ -2,7 +2,7 @@ use Rattle.std.proofs.Common.{◌≡◌, ◌∙◌, List, length, Some, rules, s
 use Rattle.desk_model.specs.Cuts.{cuts_of}
 use Rattle.desk_model.specs.declared.cuts.Cut.{Cut}
 use Rattle.desk_model.specs.declared.command.Command.{Command}
-use Rattle.desk_model.specs.Room.{command_rows as rows_of_command}
+use Rattle.desk_model.specs.claim.Room.{command_rows as rows_of_command}
 use Rattle.plan_revisions.proofs.Accepted.{rows_forked}
 use Rattle.plan_revisions.proofs.CommandCounties.{few_cuts}
 use Rattle.plan_revisions.proofs.Counted.{changes_by, cuts_are, revised_by}

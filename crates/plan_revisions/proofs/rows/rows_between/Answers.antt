@@ -3,9 +3,9 @@ use Rattle.std.specs.FinMap as map_of
 use Rattle.std.proofs.lemmas.List.{length-map}
 use Rattle.desk_model.specs.Cuts.{cuts_of}
 use Rattle.desk_model.specs.declared.cuts.Cut.{Cut}
-use Rattle.desk_model.specs.Geography.{Ground}
-use Rattle.desk_model.specs.Desk.{Desk}
-use Rattle.desk_model.specs.Room.{revision_rows}
+use Rattle.desk_model.specs.claim.Geography.{Ground}
+use Rattle.desk_model.specs.claim.Desk.{Desk}
+use Rattle.desk_model.specs.claim.Room.{revision_rows}
 use Rattle.desk_room.specs.Cutting.{is_changed}
 use Rattle.desk_catalogue.specs.Kept.{revision_in}
 use Rattle.plan_revisions.proofs.Accepted.{next_is, rows_added}

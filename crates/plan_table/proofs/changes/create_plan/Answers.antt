@@ -1,9 +1,10 @@
 use Rattle.std.proofs.Common.{rules, refl, arith}
 use Rattle.page_store.proofs.Stops.{quiet_more}
 use Rattle.store_rows.specs.declared.value.Counters.{Counters}
-use Rattle.store_rows.specs.Tidy.{CountersFit}
-use Rattle.plan_table.specs.PlanRows.{HasPlanNumber, created_rows}
-use Rattle.plan_table.specs.Outcomes.{IsChanged, ChangeErr}
+use Rattle.store_rows.specs.claim.Tidy.{CountersFit}
+use Rattle.plan_table.specs.claim.PlanRows.{HasPlanNumber}
+use Rattle.plan_table.specs.PlanRows.{created_rows}
+use Rattle.plan_table.specs.claim.Outcomes.{IsChanged, ChangeErr}
 use Rattle.plan_table.proofs.Results.{match_of}
 use Rattle.plan_table.proofs.Numbering.{numbered_put, numbers_not_read, numbered_not_put}
 use Rattle.plan_table.proofs.changes.create_plan.Goals as goal

@@ -1,12 +1,12 @@
 use Rattle.std.proofs.Common.{◌≡◌, ℕ, List, [], ◌∷◌, subst, ◌∙◌}
 use Rattle.std.specs.FinMap.{remove}
 use Rattle.page_store.proofs.Stops.{quiet_more}
-use Rattle.page_store.specs.Transactions.{stored, disk_in}
-use Rattle.page_btree.specs.Map.{InTxn}
-use Rattle.store_rows.specs.Keys.{key_of, named}
-use Rattle.store_rows.specs.Rows.{KeyMap}
-use Rattle.row_table.specs.Puts.{HasPut, PutsErr}
-use Rattle.plan_table.specs.Outcomes.{HasRetired, RetireErr}
+use Rattle.page_store.specs.claim.Transactions.{stored, disk_in}
+use Rattle.page_btree.specs.claim.Map.{InTxn}
+use Rattle.store_rows.specs.claim.Keys.{key_of, named}
+use Rattle.store_rows.specs.claim.Rows.{KeyMap}
+use Rattle.row_table.specs.claim.Puts.{HasPut, PutsErr}
+use Rattle.plan_table.specs.claim.Outcomes.{HasRetired, RetireErr}
 use Rattle.plan_table.proofs.Results.{map_both}
 use Rattle.plan_table.proofs.Retiring.{plan_gone, plan_not_gone}
 use Rattle.plan_table.proofs.changes.retire_plan.Goals as goal

@@ -1,8 +1,8 @@
 use Rattle.std.proofs.Common.{sym, subst}
 use Rattle.std.specs.Prelude.{Option}
-use Rattle.store_rows.specs.Values.{plan_bytes}
+use Rattle.store_rows.specs.claim.Values.{plan_bytes}
 use Rattle.store_rows.specs.declared.value.PlanRow.{PlanRow}
-use Rattle.store_rows.specs.Rows.{KeyMap}
+use Rattle.store_rows.specs.claim.Rows.{KeyMap}
 use Rattle.row_table.specs.Reading.{StandsAs, ReadErr}
 use Rattle.row_table.proofs.Reading.{less_unread}
 use Rattle.plan_table.specs.PlanRows.{HasRow}

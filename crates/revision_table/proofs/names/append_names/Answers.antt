@@ -1,9 +1,9 @@
 use Rattle.std.proofs.Common.{◌≡◌, ◌<◌, ◌≤◌, ◌*◌, ◌^◌, ◌++◌, ◌+◌, List, ℕ, length, take, drop, inl, inr, sym, ap, subst, ◌∙◌, take_all, arith}
 use Rattle.std.proofs.lemmas.List.{append-nil}
 use Rattle.page_store.proofs.Stops.{passed_none, quiet_more}
-use Rattle.page_btree.specs.Map.{InTxn}
-use Rattle.store_rows.specs.Keys.{part}
-use Rattle.store_rows.specs.Lists.{chunks_bytes}
+use Rattle.page_btree.specs.claim.Map.{InTxn}
+use Rattle.store_rows.specs.claim.Keys.{part}
+use Rattle.store_rows.specs.claim.Lists.{chunks_bytes}
 use Rattle.row_table.proofs.Outcomes.{match_of}
 use Rattle.row_table.specs.Appending.{HasAppended, AppendErr}
 use Rattle.row_table.proofs.Appending.{more_appended, then_unappended, parts_more}

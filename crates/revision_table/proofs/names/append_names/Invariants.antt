@@ -1,9 +1,9 @@
 use Rattle.std.proofs.Common.{◌≡◌, ◌*◌, ◌^◌, ℕ, take}
-use Rattle.page_store.specs.Transactions.{count_of, disk_in, stored, txn_pages}
-use Rattle.page_btree.specs.Map.{InTxn}
-use Rattle.store_rows.specs.Keys.{part}
-use Rattle.store_rows.specs.Lists.{chunks_bytes}
-use Rattle.store_rows.specs.Rows.{KeyMap}
+use Rattle.page_store.specs.claim.Transactions.{count_of, disk_in, stored, txn_pages}
+use Rattle.page_btree.specs.claim.Map.{InTxn}
+use Rattle.store_rows.specs.claim.Keys.{part}
+use Rattle.store_rows.specs.claim.Lists.{chunks_bytes}
+use Rattle.store_rows.specs.claim.Rows.{KeyMap}
 use Rattle.row_table.specs.Appending.{HasAppended}
 use Rattle.chunk_table.specs.Parts.{AppendsFront}
 use Rattle.revision_table.specs.Reading.{AreNames}

@@ -1,6 +1,6 @@
 use Rattle.std.proofs.Common.{◌≡◌, ◌-◌, ◌*◌, ◌++◌, List, ℕ, Some, length, length-drop, length-take, min, take, drop, inr, ap, sym, subst, ◌∙◌, arith}
 use Rattle.std.specs.FinMap.{get}
-use Rattle.store_rows.specs.Lists.{chunks_bytes}
+use Rattle.store_rows.specs.claim.Lists.{chunks_bytes}
 use Rattle.store_rows.proofs.ListLaws.{chunks_differ}
 use Rattle.row_table.proofs.Outcomes.{match_of}
 use Rattle.row_table.specs.Reading.{HasRow}

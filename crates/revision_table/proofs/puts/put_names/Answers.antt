@@ -1,7 +1,7 @@
 use Rattle.page_store.proofs.Stops.{quiet_more}
 use Rattle.store_rows.specs.NameRows.{name_row, name_rows}
 use Rattle.row_table.proofs.Outcomes.{match_of}
-use Rattle.row_table.specs.Puts.{HasPut, PutsErr}
+use Rattle.row_table.specs.claim.Puts.{HasPut, PutsErr}
 use Rattle.row_table.proofs.RowsPut.{told_more, told_not_put}
 use Rattle.revision_table.proofs.puts.put_names.Goals as goal
 

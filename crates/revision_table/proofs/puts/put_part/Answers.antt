@@ -1,8 +1,8 @@
 use Rattle.std.proofs.Common.{◌≡◌, ◌∷◌, [], MatchResult, ap, subst, ◌∙◌}
-use Rattle.store_rows.specs.Lists.{chunks_bytes}
-use Rattle.store_rows.specs.Puts.{Row}
+use Rattle.store_rows.specs.claim.Lists.{chunks_bytes}
+use Rattle.store_rows.specs.claim.Puts.{Row}
 use Rattle.store_rows.specs.NameRows.{name_row}
-use Rattle.row_table.specs.Puts.{HasPut, PutsErr}
+use Rattle.row_table.specs.claim.Puts.{HasPut, PutsErr}
 use Rattle.revision_table.proofs.puts.put_part.Goals as goal
 
 pub returns-clause-put : goal.returns-clause-put

@@ -1,6 +1,6 @@
 use Rattle.std.proofs.Common.{◌≡◌, take}
 use Rattle.std.specs.List.{concat}
-use Rattle.page_store.specs.Transactions.{count_of, txn_pages}
+use Rattle.page_store.specs.claim.Transactions.{count_of, txn_pages}
 use Rattle.row_table.specs.Appending.{HasAppended}
 use Rattle.revision_table.specs.Reading.{AreCounties}
 use Rattle.revision_table.proofs.reads.append_counties.Given as goal

@@ -1,5 +1,5 @@
 use Rattle.std.proofs.Common.{ℕ, ap, ◌∙◌, ◌++◌, ◌∷◌}
-use Rattle.store_rows.specs.Keys.{in_four, in_eight}
+use Rattle.store_rows.specs.claim.Keys.{in_four, in_eight}
 use Rattle.row_owners.proofs.KindBytes.{block_of, pair_of, other_of}
 use Rattle.row_owners.proofs.kinds.kind_behind.Goals as goal
 

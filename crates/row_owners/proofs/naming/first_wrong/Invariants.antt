@@ -1,5 +1,5 @@
 use Rattle.std.proofs.Common.{◌≡◌}
-use Rattle.page_store.specs.Transactions.{count_of, txn_pages, IsQuiet}
+use Rattle.page_store.specs.claim.Transactions.{count_of, txn_pages, IsQuiet}
 use Rattle.row_owners.proofs.naming.first_wrong.Given as goal
 
 abbrev pub invariant-loop-taken : goal.invariant-loop-taken

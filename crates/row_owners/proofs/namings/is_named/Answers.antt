@@ -1,4 +1,4 @@
-use Rattle.page_store.specs.Transactions.{Passed}
+use Rattle.page_store.specs.claim.Transactions.{Passed}
 use Rattle.page_store.proofs.Stops.{quiet_more, passed_more}
 use Rattle.row_table.proofs.Reading.{not_read_after}
 use Rattle.row_table.specs.Reading.{ReadErr}

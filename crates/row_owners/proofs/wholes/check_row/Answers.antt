@@ -1,8 +1,8 @@
 use Rattle.std.proofs.Common.{inr, subst}
 use Rattle.row_table.specs.Reading.{ReadErr}
 use Rattle.row_table.proofs.Reading.{less_unread}
-use Rattle.page_node.specs.Entries.{Entry}
-use Rattle.store_rows.specs.Rows.{KeyMap}
+use Rattle.page_node.specs.claim.Entries.{Entry}
+use Rattle.store_rows.specs.claim.Rows.{KeyMap}
 use Rattle.row_owners.specs.Strays.{IsAny, IsJudged}
 use Rattle.row_owners.specs.Wholes.{IsRowOf, IsWhole}
 use Rattle.row_owners.proofs.Belonging.{any_ok, err_then, if_ok_then}

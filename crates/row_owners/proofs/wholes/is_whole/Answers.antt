@@ -1,5 +1,5 @@
 use Rattle.std.proofs.Common.{ℕ, List, refl, subst}
-use Rattle.store_rows.specs.Tidy.{IsPiece}
+use Rattle.store_rows.specs.claim.Tidy.{IsPiece}
 use Rattle.row_owners.specs.Wholes.{IsWhole}
 use Rattle.row_owners.proofs.KeyBytes.{place_row, piece_row, whole_place, whole_piece}
 use Rattle.row_owners.proofs.wholes.is_whole.Goals as goal

@@ -1,7 +1,7 @@
 use Rattle.std.proofs.Common.{◌≡◌, ◌∙◌, ◌<◌, ℕ, refl, sym, ap, subst, inl, inr, arith}
 use Rattle.std.proofs.lemmas.Bool.{cases_eq}
-use Rattle.desk_model.specs.Block.{state_of}
-use Rattle.desk_model.specs.Geography.{id_at, ids_of}
+use Rattle.desk_model.specs.claim.Block.{state_of}
+use Rattle.desk_model.specs.claim.Geography.{id_at, ids_of}
 use Rattle.sealed_geography.proofs.Ids.{any_default, id_there, length-ids}
 use Rattle.sealed_geography.proofs.checks.are_of_one_state.Goals as goal
 

@@ -1,6 +1,6 @@
 use Rattle.std.proofs.Common.{◌≡◌, ◌∙◌, ◌<◌, ◌+◌, ◌-◌, ℕ, sym, subst, inl, inr, arith}
 use Rattle.std.proofs.lemmas.Bool.{cases_eq}
-use Rattle.desk_model.specs.Geography.{id_at}
+use Rattle.desk_model.specs.claim.Geography.{id_at}
 use Rattle.sealed_geography.proofs.Ids.{id_there, length-ids}
 use Rattle.sealed_geography.proofs.checks.are_rising.Goals as goal
 

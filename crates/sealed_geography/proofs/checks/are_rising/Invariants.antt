@@ -1,5 +1,5 @@
 use Rattle.std.proofs.Common.{ℕ, ◌+◌, ◌<◌}
-use Rattle.desk_model.specs.Geography.{id_at}
+use Rattle.desk_model.specs.claim.Geography.{id_at}
 use Rattle.sealed_geography.proofs.checks.are_rising.Given as goal
 
 abbrev pub invariant-loop-k : goal.invariant-loop-k

@@ -1,6 +1,6 @@
 use Rattle.std.proofs.Common.{◌≡◌, List, ℕ, Some, take, sym, subst}
 use Rattle.std.specs.FinMap.{get as row_at}
-use Rattle.store_rows.specs.Rows.{KeyMap}
+use Rattle.store_rows.specs.claim.Rows.{KeyMap}
 use Rattle.row_table.proofs.Outcomes.{err_of}
 use Rattle.row_table.specs.Reading.{HasRow}
 use Rattle.row_table.proofs.Reading.{one_value}

@@ -1,4 +1,4 @@
-use Rattle.store_rows.specs.Rows.{KeyMap}
+use Rattle.store_rows.specs.claim.Rows.{KeyMap}
 use Rattle.sealed_geography.specs.Elements.{HoldsElement}
 use Rattle.sealed_geography.specs.Following.{HoldsBeside}
 use Rattle.sealed_geography.proofs.OneMore.{less_unappended}

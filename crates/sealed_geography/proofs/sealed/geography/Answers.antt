@@ -1,12 +1,12 @@
 use Rattle.std.proofs.Common.{List, ℕ, None, Option, Some, ap, sym, subst, ◌∙◌}
-use Rattle.sector_device.specs.Disk.{Image}
+use Rattle.sector_device.specs.claim.Disk.{Image}
 use Rattle.page_store.proofs.Stops.{quiet_more, passed_more}
-use Rattle.page_btree.specs.Map.{InTxn}
-use Rattle.desk_model.specs.Geography.{Ground}
+use Rattle.page_btree.specs.claim.Map.{InTxn}
+use Rattle.desk_model.specs.claim.Geography.{Ground}
 use Rattle.store_rows.specs.declared.value.SealRow.{SealRow}
-use Rattle.store_rows.specs.Values.{seal_bytes}
-use Rattle.store_rows.specs.Rows.{KeyMap}
-use Rattle.store_rows.specs.GeographyRows.{IsGeography}
+use Rattle.store_rows.specs.claim.Values.{seal_bytes}
+use Rattle.store_rows.specs.claim.Rows.{KeyMap}
+use Rattle.store_rows.specs.claim.GeographyRows.{IsGeography}
 use Rattle.row_table.proofs.Outcomes.{err_of}
 use Rattle.row_table.specs.Reading.{StandsAs}
 use Rattle.row_table.specs.Appending.{AppendErr}

@@ -1,15 +1,15 @@
 use Rattle.std.proofs.Common.{List, sym, subst}
-use Rattle.sector_device.specs.Disk.{Image}
-use Rattle.page_btree.specs.Map.{InTxn}
+use Rattle.sector_device.specs.claim.Disk.{Image}
+use Rattle.page_btree.specs.claim.Map.{InTxn}
 use Rattle.page_store.proofs.Stops.{quiet_more, passed_more, passed_none}
-use Rattle.page_store.specs.Transactions.{Passed}
+use Rattle.page_store.specs.claim.Transactions.{Passed}
 use Rattle.desk_model.specs.declared.block.BlockRow.{BlockRow}
 use Rattle.desk_model.specs.declared.geography.Pair.{Pair}
-use Rattle.desk_model.specs.Geography.{Ground}
-use Rattle.store_rows.specs.Keys.{key_of, block, pair}
-use Rattle.store_rows.specs.Values.{block_bytes}
-use Rattle.store_rows.specs.Rows.{KeyMap}
-use Rattle.store_rows.specs.GeographyRows.{IsBlockRow, neighbours_bytes}
+use Rattle.desk_model.specs.claim.Geography.{Ground}
+use Rattle.store_rows.specs.claim.Keys.{key_of, block, pair}
+use Rattle.store_rows.specs.claim.Values.{block_bytes}
+use Rattle.store_rows.specs.claim.Rows.{KeyMap}
+use Rattle.store_rows.specs.claim.GeographyRows.{IsBlockRow, neighbours_bytes}
 use Rattle.row_table.proofs.Outcomes.{err_of}
 use Rattle.row_table.specs.Appending.{AppendErr}
 use Rattle.row_table.proofs.Appending.{then_unappended}

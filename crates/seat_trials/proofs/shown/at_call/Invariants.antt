@@ -1,4 +1,4 @@
-use Rattle.desk_store.specs.Clerks.{Keeps}
+use Rattle.desk_store.specs.claim.Clerks.{Keeps}
 use Rattle.seat_trials.proofs.shown.at_call.Given as goal
 
 -- the gallery that is opened

@@ -1,4 +1,4 @@
-use Rattle.desk_store.specs.Clerks.{Keeps}
+use Rattle.desk_store.specs.claim.Clerks.{Keeps}
 use Rattle.seat_trials.proofs.visits.visitors_see_what_was_committed.Given as goal
 
 -- the gallery that is opened

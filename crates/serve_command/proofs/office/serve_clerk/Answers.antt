@@ -1,6 +1,6 @@
 use Rattle.std.proofs.Common.{subst}
-use Rattle.desk_model.specs.Desk.{Desk}
-use Rattle.desk_store.specs.Clerks.{desk_of}
+use Rattle.desk_model.specs.claim.Desk.{Desk}
+use Rattle.desk_store.specs.claim.Clerks.{desk_of}
 use Rattle.desk_gallery.specs.Working.{IsRunFrom}
 use Rattle.http_seats.specs.Streams.{traffic}
 use Rattle.serve_command.specs.Lasting.{clerk_in}

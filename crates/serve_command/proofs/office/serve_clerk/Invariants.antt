@@ -1,6 +1,7 @@
-use Rattle.desk_store.specs.Clerks.{Keeps}
-use Rattle.http_seats.specs.Streams.{IsAskedOf, traffic}
-use Rattle.serve_command.specs.Lasting.{IsLike}
+use Rattle.desk_store.specs.claim.Clerks.{Keeps}
+use Rattle.http_seats.specs.claim.Streams.{IsAskedOf}
+use Rattle.http_seats.specs.Streams.{traffic}
+use Rattle.serve_command.specs.claim.Lasting.{IsLike}
 use Rattle.serve_command.proofs.office.serve_clerk.Given as goal
 
 -- the gallery that is opened

@@ -1,5 +1,6 @@
 use Rattle.std.proofs.Common.{◌≡◌, ℕ, List, Some, Result, Ok, Err, ◌∙◌, inl, inr, refl, sym, subst}
-use Rattle.command_output.specs.Writing.{Writes, written_of}
+use Rattle.command_output.specs.claim.Writing.{Writes}
+use Rattle.command_output.specs.Writing.{written_of}
 use Rattle.http_seats.specs.Streams.{traffic}
 use Rattle.serve_command.specs.declared.fault.ServeFault.{ServeFault}
 use Rattle.serve_command.specs.Serving.{listening_text, HasAnnounced, Announces}

@@ -2,7 +2,7 @@ use Rattle.std.proofs.Common.{◌≡◌, ◌<◌, ◌^◌, List, length, sym, �
 use Rattle.std.specs.Prelude.{Option, Some}
 use Rattle.std.specs.Option.{option_copied}
 use Rattle.desk_model.specs.Cuts.{cuts_of}
-use Rattle.desk_model.specs.Geography.{Ground}
+use Rattle.desk_model.specs.claim.Geography.{Ground}
 use Rattle.desk_model.specs.declared.cuts.Cut.{Cut}
 use Rattle.plan_revisions.proofs.CommandCounties.{few_cuts}
 use Rattle.stat_command.specs.Needs.{AreNeeded}

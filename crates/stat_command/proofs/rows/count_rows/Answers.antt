@@ -1,7 +1,7 @@
 use Rattle.std.proofs.Common.{sym, subst}
-use Rattle.sector_device.specs.Disk.{Image}
+use Rattle.sector_device.specs.claim.Disk.{Image}
 use Rattle.page_store.proofs.Stops.{quiet_more, passed_more}
-use Rattle.page_btree.specs.Map.{InTxn}
+use Rattle.page_btree.specs.claim.Map.{InTxn}
 use Rattle.stat_command.proofs.Unread.{unread, then_unread, on_any}
 use Rattle.stat_command.proofs.rows.count_rows.Goals as goal
 

@@ -1,7 +1,7 @@
 use Rattle.std.proofs.Common.{sym, subst}
-use Rattle.sector_device.specs.Moments.{LeavesOnly}
+use Rattle.sector_device.specs.claim.Moments.{LeavesOnly}
 use Rattle.page_store.proofs.Stops.{leaves_quiet}
-use Rattle.page_store.specs.Transactions.{disk_in}
+use Rattle.page_store.specs.claim.Transactions.{disk_in}
 use Rattle.desk_pages.specs.Openings.{AllDesks, OpensOneOf}
 use Rattle.desk_pages.proofs.Found.{all_versions, stores_of, open_leaves}
 use Rattle.store_command.specs.declared.fault.StoreFault.{StoreFault}

@@ -1,7 +1,8 @@
 use Rattle.std.proofs.Common.{◌≡◌, ◌+◌, ◌-◌, ◌≤◌, vec_len}
 use Rattle.std.specs.Io.KnownBytes.{Consumes}
-use Rattle.field_text.specs.Reading.{CountsFrom, turn_limit}
-use Rattle.state_files.specs.Whole.{plan_limit}
+use Rattle.field_text.specs.Reading.{CountsFrom}
+use Rattle.field_text.specs.claim.Reading.{turn_limit}
+use Rattle.state_files.specs.claim.Whole.{plan_limit}
 use Rattle.state_files.proofs.whole.read_whole.Given as goal
 
 abbrev pub invariant-loop-text : goal.invariant-loop-text

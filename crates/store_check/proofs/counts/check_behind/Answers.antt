@@ -1,14 +1,14 @@
 use Rattle.std.proofs.Common.{ℕ, List, [], sym, ap, subst, ◌∙◌, refl}
 use Rattle.std.specs.FinMap.{get}
-use Rattle.sector_device.specs.Disk.{Image}
+use Rattle.sector_device.specs.claim.Disk.{Image}
 use Rattle.page_store.proofs.Stops.{quiet_more, passed_more}
-use Rattle.page_store.specs.Transactions.{Passed}
-use Rattle.page_btree.specs.Map.{InTxn}
+use Rattle.page_store.specs.claim.Transactions.{Passed}
+use Rattle.page_btree.specs.claim.Map.{InTxn}
 use Rattle.row_table.proofs.Outcomes.{err_of}
 use Rattle.row_table.specs.Reading.{ReadErr, StandsAs}
 use Rattle.row_table.proofs.Reading.{less_unread, not_read_after}
-use Rattle.store_rows.specs.Keys.{chunk_prefix}
-use Rattle.store_rows.specs.Values.{seal_bytes}
+use Rattle.store_rows.specs.claim.Keys.{chunk_prefix}
+use Rattle.store_rows.specs.claim.Values.{seal_bytes}
 use Rattle.store_check.specs.Numbers.{IsDue}
 use Rattle.store_check.specs.Rows.{AreBehindSeal, HasCountedSeal, HasKnownLoads, NoneFrom}
 use Rattle.store_check.proofs.Kept.{ok_then, err_then, seal_of, then_unread}

@@ -2,10 +2,10 @@ use Rattle.std.proofs.Common.{sym, subst}
 use Rattle.std.specs.Prelude.{Option}
 use Rattle.row_table.specs.Reading.{ReadErr, StandsAs}
 use Rattle.row_table.proofs.Reading.{less_unread}
-use Rattle.store_rows.specs.Keys.{key_of, seal}
-use Rattle.store_rows.specs.Values.{seal_bytes}
+use Rattle.store_rows.specs.claim.Keys.{key_of, seal}
+use Rattle.store_rows.specs.claim.Values.{seal_bytes}
 use Rattle.store_rows.specs.declared.value.SealRow.{SealRow}
-use Rattle.store_rows.specs.Rows.{KeyMap}
+use Rattle.store_rows.specs.claim.Rows.{KeyMap}
 use Rattle.store_check.specs.Rows.{AreSealCounted, HasCountedSeal, IsSealCounted}
 use Rattle.store_check.proofs.Kept.{ok_then, err_then}
 use Rattle.store_check.proofs.Behind.{one_counted}

@@ -1,13 +1,13 @@
 use Rattle.std.proofs.Common.{sym, subst, ◌∙◌}
-use Rattle.sector_device.specs.Disk.{Image}
+use Rattle.sector_device.specs.claim.Disk.{Image}
 use Rattle.page_store.proofs.Stops.{quiet_more, passed_more}
-use Rattle.page_store.specs.Transactions.{Passed}
-use Rattle.page_btree.specs.Map.{InTxn}
+use Rattle.page_store.specs.claim.Transactions.{Passed}
+use Rattle.page_btree.specs.claim.Map.{InTxn}
 use Rattle.row_table.proofs.Outcomes.{err_of}
 use Rattle.row_table.specs.Reading.{ReadErr}
 use Rattle.row_table.proofs.Reading.{less_unread, not_read_after}
-use Rattle.store_rows.specs.Keys.{block, pair, key_of, blocks_prefix, pairs_prefix}
-use Rattle.store_rows.specs.Rows.{KeyMap}
+use Rattle.store_rows.specs.claim.Keys.{block, pair, key_of, blocks_prefix, pairs_prefix}
+use Rattle.store_rows.specs.claim.Rows.{KeyMap}
 use Rattle.store_check.specs.Rows.{IsSealCounted, NoneFrom}
 use Rattle.store_check.proofs.Kept.{ok_then, err_then}
 use Rattle.store_check.proofs.Behind.{none_moved}

@@ -1,9 +1,9 @@
 use Rattle.std.proofs.Common.{ℕ, List, Bool, inr, sym, subst, ◌∙◌, arith}
 use Rattle.std.specs.FinMap.{entries}
-use Rattle.sector_device.specs.Disk.{Image}
+use Rattle.sector_device.specs.claim.Disk.{Image}
 use Rattle.page_store.proofs.Stops.{quiet_more, passed_more, passed_none}
-use Rattle.page_store.specs.Transactions.{stored}
-use Rattle.page_btree.specs.Map.{InTxn}
+use Rattle.page_store.specs.claim.Transactions.{stored}
+use Rattle.page_btree.specs.claim.Map.{InTxn}
 use Rattle.row_table.proofs.Outcomes.{err_of}
 use Rattle.row_table.specs.Reading.{ReadErr}
 use Rattle.row_table.proofs.Reading.{not_read_after}

@@ -1,11 +1,13 @@
 use Rattle.std.proofs.Common.{◌≡◌, ◌⊎◌, ℕ, List, Bool, inr, refl, sym, subst}
-use Rattle.page_node.specs.Entries.{Entry}
+use Rattle.page_node.specs.claim.Entries.{Entry}
 use Rattle.row_table.proofs.Outcomes.{err_of}
 use Rattle.row_table.specs.Reading.{ReadErr}
 use Rattle.row_table.proofs.Reading.{less_unread}
-use Rattle.store_rows.specs.Keys.{block, chunks_prefix, key_of, pair}
-use Rattle.store_rows.specs.Tidy.{AreRows}
-use Rattle.store_check.specs.Rows.{IsFirst, IsFrom, IsUnder}
+use Rattle.store_rows.specs.claim.Keys.{block, key_of, pair}
+use Rattle.store_rows.specs.Keys.{chunks_prefix}
+use Rattle.store_rows.specs.claim.Tidy.{AreRows}
+use Rattle.store_check.specs.Rows.{IsFirst, IsUnder}
+use Rattle.store_check.specs.claim.Rows.{IsFrom}
 use Rattle.store_check.proofs.Behind.{no_load}
 use Rattle.store_check.proofs.FirstRows.{first_least, first_none, from_trans}
 use Rattle.store_check.proofs.loads.load_from.Goals as goal

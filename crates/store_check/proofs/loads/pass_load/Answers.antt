@@ -1,12 +1,12 @@
 use Rattle.std.proofs.Common.{ℕ, List, true, sym, subst, ◌∙◌}
 use Rattle.std.specs.Prelude.{Option, Some, None}
-use Rattle.sector_device.specs.Disk.{Image}
+use Rattle.sector_device.specs.claim.Disk.{Image}
 use Rattle.page_store.proofs.Stops.{quiet_more, passed_more}
-use Rattle.page_btree.specs.Map.{InTxn}
+use Rattle.page_btree.specs.claim.Map.{InTxn}
 use Rattle.row_table.proofs.Outcomes.{err_of}
 use Rattle.row_table.specs.Reading.{ReadErr}
 use Rattle.row_table.proofs.Reading.{less_unread}
-use Rattle.store_rows.specs.Tidy.{AreRows}
+use Rattle.store_rows.specs.claim.Tidy.{AreRows}
 use Rattle.store_check.proofs.Kept.{then_unread}
 use Rattle.store_check.specs.Rows.{GoesOn, HasKnownLoads, IsKnownLoad, IsNextLoad}
 use Rattle.store_check.proofs.FirstRows.{first_there}

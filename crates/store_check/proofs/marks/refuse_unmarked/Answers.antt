@@ -1,7 +1,7 @@
 use Rattle.std.proofs.Common.{◌≡◌, ℕ, List, [], length, take, Some, inr, sym, ap, ◌∙◌, arith}
 use Rattle.std.specs.FinMap.{get as row_at}
 use Rattle.std.proofs.lemmas.List.{length-take}
-use Rattle.store_rows.specs.Rows.{KeyMap}
+use Rattle.store_rows.specs.claim.Rows.{KeyMap}
 use Rattle.store_rows.proofs.OneGeography.{value_is}
 use Rattle.row_table.proofs.Outcomes.{err_of}
 use Rattle.row_table.specs.Reading.{ReadErr, HasRow}

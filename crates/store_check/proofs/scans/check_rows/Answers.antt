@@ -1,11 +1,11 @@
 use Rattle.std.proofs.Common.{◌≡◌, ◌++◌, ◌+◌, List, [], ◌∷◌, refl, inr, sym, ap, subst, ◌∙◌, arith, length-append}
 use Rattle.std.specs.Prelude.{Some, None, IfSome}
 use Rattle.std.specs.FinMap.{entries}
-use Rattle.sector_device.specs.Disk.{Image}
-use Rattle.page_store.specs.Transactions.{stored}
+use Rattle.sector_device.specs.claim.Disk.{Image}
+use Rattle.page_store.specs.claim.Transactions.{stored}
 use Rattle.page_store.proofs.Stops.{quiet_more, passed_more, passed_none}
-use Rattle.page_node.specs.Entries.{Entry}
-use Rattle.page_btree.specs.Map.{InTxn}
+use Rattle.page_node.specs.claim.Entries.{Entry}
+use Rattle.page_btree.specs.claim.Map.{InTxn}
 use Rattle.btree_scan.specs.Scanning.{IsNextRow, fault_in, CanScan, ScanErr}
 use Rattle.btree_scan.proofs.Taken.{taken_none, taken_more, taken_all, taken_few}
 use Rattle.btree_scan.proofs.Refused.{scan_refused}

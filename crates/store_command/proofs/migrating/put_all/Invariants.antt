@@ -1,7 +1,7 @@
 use Rattle.std.proofs.Common.{◌≡◌, ◌≤◌, ◌*◌, false}
-use Rattle.desk_model.specs.Desk.{Desk}
-use Rattle.store_rows.specs.Rows.{KeyMap}
-use Rattle.desk_migration.specs.Migrating.{disk_of, is_halted, HasRows, Moves}
+use Rattle.desk_model.specs.claim.Desk.{Desk}
+use Rattle.store_rows.specs.claim.Rows.{KeyMap}
+use Rattle.desk_migration.specs.claim.Migrating.{disk_of, is_halted, HasRows, Moves}
 use Rattle.store_command.specs.Migrating.{HasPut}
 use Rattle.store_command.proofs.migrating.put_all.Given as goal
 

@@ -1,6 +1,6 @@
 use Rattle.std.proofs.Common.{◌≡◌, ◌≤◌, ◌*◌, false}
-use Rattle.store_rows.specs.Rows.{KeyMap}
-use Rattle.desk_store.specs.Clerks.{disk_of, is_halted}
+use Rattle.store_rows.specs.claim.Rows.{KeyMap}
+use Rattle.desk_store.specs.claim.Clerks.{disk_of, is_halted}
 use Rattle.desk_store.specs.Sweeps.{HasRows}
 use Rattle.store_command.specs.Sweeping.{KeepsDesk, HasTaken}
 use Rattle.store_command.proofs.sweeping.sweep_steps.Given as goal

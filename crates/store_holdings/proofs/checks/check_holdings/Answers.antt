@@ -1,10 +1,11 @@
 use Rattle.std.proofs.Common.{sym, subst}
-use Rattle.sector_device.specs.Disk.{Image}
-use Rattle.page_store.specs.Transactions.{Passed}
+use Rattle.sector_device.specs.claim.Disk.{Image}
+use Rattle.page_store.specs.claim.Transactions.{Passed}
 use Rattle.page_store.proofs.Stops.{quiet_more, passed_more}
-use Rattle.page_btree.specs.Map.{InTxn}
+use Rattle.page_btree.specs.claim.Map.{InTxn}
 use Rattle.row_table.proofs.Outcomes.{err_of}
-use Rattle.store_holdings.specs.Checks.{AreNamesHeld, AreSoundHoldings, CheckErr, HasCounts, IsNewTidy}
+use Rattle.store_holdings.specs.claim.Checks.{AreNamesHeld, AreSoundHoldings}
+use Rattle.store_holdings.specs.Checks.{CheckErr, HasCounts, IsNewTidy}
 use Rattle.store_holdings.proofs.Told.{tallied_by}
 use Rattle.store_holdings.proofs.Refused.{err_then, ok_then, unfound}
 use Rattle.store_holdings.proofs.checks.check_holdings.Goals as goal

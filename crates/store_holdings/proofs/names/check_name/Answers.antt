@@ -1,11 +1,12 @@
 use Rattle.std.proofs.Common.{Bool, inl, inr, sym, ap, subst, ◌∙◌}
 use Rattle.std.specs.FinMap.{get}
-use Rattle.sector_device.specs.Disk.{Image}
+use Rattle.sector_device.specs.claim.Disk.{Image}
 use Rattle.page_store.proofs.Stops.{quiet_more, passed_more}
-use Rattle.page_btree.specs.Map.{InTxn}
-use Rattle.store_rows.specs.Rows.{KeyMap}
+use Rattle.page_btree.specs.claim.Map.{InTxn}
+use Rattle.store_rows.specs.claim.Rows.{KeyMap}
 use Rattle.row_table.proofs.Outcomes.{err_of}
-use Rattle.store_holdings.specs.Checks.{CheckErr, IsHeldOrGone, IsMarkedAs}
+use Rattle.store_holdings.specs.Checks.{CheckErr, IsMarkedAs}
+use Rattle.store_holdings.specs.claim.Checks.{IsHeldOrGone}
 use Rattle.store_holdings.proofs.Refused.{unread, unfound}
 use Rattle.store_holdings.proofs.names.check_name.Goals as goal
 

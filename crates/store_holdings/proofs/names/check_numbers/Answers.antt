@@ -2,11 +2,12 @@ use Rattle.std.proofs.Common.{take, sym, subst, ◌∙◌, take_all}
 use Rattle.std.specs.Prelude.{All, get_or}
 use Rattle.std.proofs.lemmas.List.{take_more}
 use Rattle.std.proofs.lemmas.List.Elements.{All-push}
-use Rattle.sector_device.specs.Disk.{Image}
+use Rattle.sector_device.specs.claim.Disk.{Image}
 use Rattle.page_store.proofs.Stops.{quiet_more, passed_more}
-use Rattle.page_btree.specs.Map.{InTxn}
+use Rattle.page_btree.specs.claim.Map.{InTxn}
 use Rattle.row_table.proofs.Outcomes.{err_of}
-use Rattle.store_holdings.specs.Checks.{CheckErr, IsHeldOrGone}
+use Rattle.store_holdings.specs.Checks.{CheckErr}
+use Rattle.store_holdings.specs.claim.Checks.{IsHeldOrGone}
 use Rattle.store_holdings.proofs.Refused.{unfound}
 use Rattle.store_holdings.proofs.names.check_numbers.Goals as goal
 

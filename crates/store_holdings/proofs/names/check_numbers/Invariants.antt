@@ -1,9 +1,9 @@
 use Rattle.std.proofs.Common.{◌≡◌, take}
 use Rattle.std.specs.Prelude.{All}
-use Rattle.page_store.specs.Transactions.{stored, disk_in, count_of, txn_pages, Passed}
-use Rattle.page_btree.specs.Map.{InTxn}
-use Rattle.store_rows.specs.Rows.{KeyMap}
-use Rattle.store_holdings.specs.Checks.{IsHeldOrGone}
+use Rattle.page_store.specs.claim.Transactions.{stored, disk_in, count_of, txn_pages, Passed}
+use Rattle.page_btree.specs.claim.Map.{InTxn}
+use Rattle.store_rows.specs.claim.Rows.{KeyMap}
+use Rattle.store_holdings.specs.claim.Checks.{IsHeldOrGone}
 use Rattle.store_holdings.proofs.names.check_numbers.Given as goal
 
 abbrev pub invariant-loop-number : goal.invariant-loop-number

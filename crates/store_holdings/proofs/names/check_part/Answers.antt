@@ -1,7 +1,8 @@
 use Rattle.std.proofs.Common.{ℕ, List, take, drop, sym, ap, subst, ◌∙◌}
 use Rattle.std.specs.Prelude.{All}
 use Rattle.page_store.proofs.Stops.{passed_none}
-use Rattle.store_holdings.specs.Checks.{CheckErr, IsEntryNamed, IsHeldOrGone, IsPartRow}
+use Rattle.store_holdings.specs.Checks.{CheckErr, IsEntryNamed, IsPartRow}
+use Rattle.store_holdings.specs.claim.Checks.{IsHeldOrGone}
 use Rattle.store_holdings.proofs.Named.{entry_named, part_all}
 use Rattle.store_holdings.proofs.Refused.{ok_then, err_then, unfound}
 use Rattle.store_holdings.proofs.names.check_part.Goals as goal

@@ -1,6 +1,6 @@
 use Rattle.std.proofs.Common.{◌≡◌, ◌*◌, ◌<◌, ◌^◌, ℕ, List, All, length, sym, ap, subst, ◌∙◌, arith}
 use Rattle.std.proofs.lemmas.List.Elements.{All-push}
-use Rattle.store_rows.specs.Lists.{chunks_bytes}
+use Rattle.store_rows.specs.claim.Lists.{chunks_bytes}
 use Rattle.store_rows.proofs.ListValues.{length-chunks, one_chunk_more}
 use Rattle.store_rows.proofs.list.read_chunks.Goals as goal
 use Rattle.store_rows.proofs.list.read_chunks.Goals.{then-count-eq0-via-then-count-eq0, then-count-eq0-via-else-count-eq0+then-count-gt-PART_CHUNKS, then-count-eq0-via-else-count-eq0+else-count-gt-PART_CHUNKS+then-bytes-count}

@@ -1,6 +1,6 @@
 use Rattle.std.proofs.Common.{◌≡◌, ◌*◌, ◌<◌, ◌^◌, ℕ, List, All, length, sym, ap, subst, ◌∙◌, arith}
 use Rattle.std.proofs.lemmas.List.Elements.{All-push}
-use Rattle.store_rows.specs.Lists.{districts_bytes}
+use Rattle.store_rows.specs.claim.Lists.{districts_bytes}
 use Rattle.store_rows.proofs.ListValues.{length-districts, one_district_more}
 use Rattle.store_rows.proofs.list.read_districts.Goals as goal
 use Rattle.store_rows.proofs.list.read_districts.Goals.{then-count-eq0-via-then-count-eq0, then-count-eq0-via-else-count-eq0+then-count-gt-PIECE_DISTRICTS, then-count-eq0-via-else-count-eq0+else-count-gt-PIECE_DISTRICTS+then-bytes-count}

@@ -1,4 +1,4 @@
-use Rattle.store_rows.specs.Values.{plan_bytes}
+use Rattle.store_rows.specs.claim.Values.{plan_bytes}
 use Rattle.store_rows.proofs.RevisionPuts.{revision_put}
 use Rattle.store_rows.proofs.TidyParts.{name_fits}
 use Rattle.store_rows.proofs.TidyRevisions.{revised_tidy}

@@ -1,7 +1,7 @@
 use Rattle.std.proofs.Common.{◌<◌, ◌+◌, ◌^◌, arith, length}
-use Rattle.desk_model.specs.Cuts.{cut}
+use Rattle.desk_model.specs.claim.Cuts.{cut}
 use Rattle.store_rows.specs.Changes.{plan_row_of}
-use Rattle.store_rows.specs.Puts.{put_rows}
+use Rattle.store_rows.specs.claim.Puts.{put_rows}
 use Rattle.store_rows.specs.RevisionSteps.{AreItsChunks, rows_of_revision}
 use Rattle.store_rows.proofs.RevisionDesk.{its_chunks, revision_made, rows_add, rows_make}
 use Rattle.store_rows.proofs.upkeep.revisions_make_desks.Goals as goal

@@ -1,5 +1,6 @@
 use Rattle.std.proofs.Common.{◌≡◌, ℕ, List, sym, subst, ◌∙◌, true, false, Bool, arith}
-use Rattle.store_rows.specs.Keys.{load_prefix, key_of, begun}
+use Rattle.store_rows.specs.Keys.{load_prefix}
+use Rattle.store_rows.specs.claim.Keys.{key_of, begun}
 use Rattle.row_table.proofs.Outcomes.{err_of}
 use Rattle.row_table.specs.Reading.{ReadErr}
 use Rattle.row_table.proofs.Reading.{get_unread}

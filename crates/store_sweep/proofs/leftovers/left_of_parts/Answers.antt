@@ -1,10 +1,11 @@
 use Rattle.std.proofs.Common.{◌≡◌, ℕ, List, Bool, true, false, inr, sym, subst, ◌∙◌, arith}
-use Rattle.sector_device.specs.Disk.{Image}
+use Rattle.sector_device.specs.claim.Disk.{Image}
 use Rattle.page_store.proofs.Stops.{quiet_more, passed_more}
-use Rattle.page_btree.specs.Map.{InTxn}
-use Rattle.store_rows.specs.Keys.{plan_parts_prefix, key_of, retired}
-use Rattle.store_rows.specs.Lists.{AreChunks, chunks_bytes}
-use Rattle.store_rows.specs.Tidy.{AreRows}
+use Rattle.page_btree.specs.claim.Map.{InTxn}
+use Rattle.store_rows.specs.Keys.{plan_parts_prefix}
+use Rattle.store_rows.specs.claim.Keys.{key_of, retired}
+use Rattle.store_rows.specs.claim.Lists.{AreChunks, chunks_bytes}
+use Rattle.store_rows.specs.claim.Tidy.{AreRows}
 use Rattle.row_table.proofs.Outcomes.{err_of}
 use Rattle.row_table.specs.Reading.{ReadErr}
 use Rattle.row_table.proofs.Reading.{get_unread, less_unread, not_read_after}

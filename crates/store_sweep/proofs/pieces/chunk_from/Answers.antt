@@ -1,7 +1,7 @@
 use Rattle.std.proofs.Common.{◌≡◌, ℕ, List, Bool, true, false, inr, length, take, drop, ap, sym, subst, ◌∙◌, nat_eq, arith}
 use Rattle.std.specs.List.{starts_with}
-use Rattle.store_rows.specs.Keys.{chunk_prefix, in_eight}
-use Rattle.store_rows.specs.Tidy.{AreRows}
+use Rattle.store_rows.specs.claim.Keys.{chunk_prefix, in_eight}
+use Rattle.store_rows.specs.claim.Tidy.{AreRows}
 use Rattle.row_table.proofs.Outcomes.{err_of}
 use Rattle.row_table.specs.Reading.{ReadErr}
 use Rattle.row_table.proofs.Reading.{get_unread}

@@ -1,9 +1,9 @@
 use Rattle.std.proofs.Common.{◌≡◌, take}
 use Rattle.std.specs.Prelude.{All}
-use Rattle.page_store.specs.Transactions.{stored, disk_in, count_of, txn_pages, Passed}
-use Rattle.page_btree.specs.Map.{InTxn}
-use Rattle.store_rows.specs.Rows.{KeyMap}
-use Rattle.store_rows.specs.Tidy.{AreRows}
+use Rattle.page_store.specs.claim.Transactions.{stored, disk_in, count_of, txn_pages, Passed}
+use Rattle.page_btree.specs.claim.Map.{InTxn}
+use Rattle.store_rows.specs.claim.Rows.{KeyMap}
+use Rattle.store_rows.specs.claim.Tidy.{AreRows}
 use Rattle.store_sweep.specs.Finding.{IsDone, IsGap}
 use Rattle.store_sweep.proofs.pieces.first_piece.Given as goal
 

@@ -1,6 +1,6 @@
 use Rattle.std.proofs.Common.{[], inr, arith}
 use Rattle.std.specs.FinMap.{entries}
-use Rattle.page_btree.specs.Errors.{GetErr}
+use Rattle.page_btree.specs.claim.Errors.{GetErr}
 use Rattle.store_sweep.proofs.Least.{none_found, leaf_none, leaf_some, leaf_next, found_at, fault_at}
 use Rattle.store_sweep.proofs.pieces.key_from.Goals as goal
 

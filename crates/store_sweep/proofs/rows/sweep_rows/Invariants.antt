@@ -1,5 +1,5 @@
 use Rattle.std.proofs.Common.{◌≡◌, ◌≤◌, ◌-◌}
-use Rattle.page_store.specs.Transactions.{count_of, txn_pages}
+use Rattle.page_store.specs.claim.Transactions.{count_of, txn_pages}
 use Rattle.store_sweep.specs.Sweeping.{HasSwept}
 use Rattle.store_sweep.proofs.rows.sweep_rows.Given as goal
 

@@ -1,5 +1,5 @@
 use Rattle.std.proofs.Common.{refl, sym, ◌∙◌}
-use Rattle.page_store.specs.Transactions.{has_halted}
+use Rattle.page_store.specs.claim.Transactions.{has_halted}
 use Rattle.store_sweep.specs.Errors.{tree_told}
 use Rattle.store_sweep.proofs.Stepped.{both, begun_now, not_checked, told_err}
 use Rattle.store_sweep.proofs.sweeps.check_holders.Goals as goal

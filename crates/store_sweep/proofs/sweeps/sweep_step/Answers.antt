@@ -1,5 +1,5 @@
 use Rattle.std.proofs.Common.{refl, sym, ◌∙◌}
-use Rattle.page_store.specs.Transactions.{has_halted}
+use Rattle.page_store.specs.claim.Transactions.{has_halted}
 use Rattle.row_table.proofs.Outcomes.{err_of}
 use Rattle.desk_pages.proofs.Kept.{kept_working}
 use Rattle.store_sweep.specs.Errors.{tree_told}

@@ -1,11 +1,11 @@
 use Rattle.std.proofs.Common.{◌≡◌, sym, subst}
-use Rattle.desk_lives.specs.Lives.{Told as Answered}
+use Rattle.desk_lives.specs.claim.Lives.{Told as Answered}
 use Rattle.desk_lives.specs.Inside.{LivesOnce, IsLife as IsAnswered}
 use Rattle.desk_lives.proofs.Living.{starts_life}
 use Rattle.stream_lives.specs.declared.lives.Life.{Life}
 use Rattle.stream_lives.specs.declared.lives.Life.TheVariants as life
 use Rattle.stream_lives.specs.declared.lives.Told.TheVariants as told
-use Rattle.stream_lives.specs.Streams.{Ends}
+use Rattle.stream_lives.specs.claim.Streams.{Ends}
 use Rattle.stream_lives.specs.Inside.{IsLife}
 use Rattle.stream_lives.proofs.lives.one_life.Goals as goal
 

@@ -2,7 +2,7 @@ use Rattle.std.proofs.Common.{refl}
 use Rattle.desk_lives.proofs.Living.{opened_life, refused_life}
 use Rattle.stream_lives.specs.declared.lives.Life.TheVariants as life
 use Rattle.stream_lives.specs.declared.lives.Told.TheVariants as told
-use Rattle.stream_lives.specs.Streams.{Ends}
+use Rattle.stream_lives.specs.claim.Streams.{Ends}
 use Rattle.stream_lives.specs.Inside.{IsLife}
 use Rattle.stream_lives.proofs.Sim.{stream_lived}
 use Rattle.stream_lives.proofs.lives.serve_started.Goals as goal

@@ -1,6 +1,6 @@
 use Rattle.std.proofs.Common.{◌≡◌, true, sym, ap, subst, ◌∙◌}
 use Rattle.page_store.proofs.Stops.{quiet_more, passed_more}
-use Rattle.desk_model.specs.Desk.{Desk}
+use Rattle.desk_model.specs.claim.Desk.{Desk}
 use Rattle.row_table.proofs.Outcomes.{err_of}
 use Rattle.desk_opening.specs.Opening.{cuts_in}
 use Rattle.verify_command.specs.Sound.{CheckErr}

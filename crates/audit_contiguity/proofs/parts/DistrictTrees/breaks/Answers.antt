@@ -1,6 +1,6 @@
 use Rattle.std.proofs.Common.{arith, length, get_or, false, min, ◌+◌, ◌*◌, IsTrue, subst, sym}
 use Rattle.std.proofs.lemmas.Result.{IfOk-weaker}
-use Rattle.audit_contiguity.specs.Breaks.{AreBreaks}
+use Rattle.audit_contiguity.specs.claim.Breaks.{AreBreaks}
 use Rattle.audit_contiguity.specs.Parts.{Shown}
 use Rattle.audit_contiguity.proofs.Keeping.{forest_within, own_breaks}
 use Rattle.audit_contiguity.proofs.parts.DistrictTrees.breaks.Goals as goal

@@ -1,5 +1,5 @@
 use Rattle.std.proofs.Common.{rules, ◌≡◌, length, Some}
-use Rattle.desk_model.specs.Room.{last_revision}
+use Rattle.desk_model.specs.claim.Room.{last_revision}
 use Rattle.desk_catalogue.proofs.Drafted.{all_stay, drafted}
 use Rattle.desk_catalogue.proofs.catalogue.Catalogue.with_whole.Goals as goal
 

@@ -1,8 +1,8 @@
 use Rattle.std.proofs.Common.{◌≡◌, ◌∙◌, ℕ, List, length, sym, subst}
 use Rattle.desk_model.specs.declared.command.Command.{Command}
-use Rattle.desk_gallery.specs.Begun.{HasRun}
+use Rattle.desk_gallery.specs.claim.Begun.{HasRun}
 use Rattle.desk_gallery.specs.Fronts.{Kept}
-use Rattle.desk_gallery.specs.Working.{AreAccepted}
+use Rattle.desk_gallery.specs.claim.Working.{AreAccepted}
 use Rattle.desk_gallery.proofs.Afters.{accepted_first}
 use Rattle.desk_gallery.proofs.front.Front.close_counted.Goals as goal
 

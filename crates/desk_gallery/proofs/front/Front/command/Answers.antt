@@ -1,7 +1,7 @@
 use Rattle.std.proofs.Common.{◌∙◌, subst}
-use Rattle.desk_gallery.specs.After.{after}
+use Rattle.desk_gallery.specs.claim.After.{after}
 use Rattle.desk_gallery.specs.Fronts.{Kept}
-use Rattle.desk_gallery.specs.Outcomes.{OutcomeMay}
+use Rattle.desk_gallery.specs.claim.Outcomes.{OutcomeMay}
 use Rattle.desk_gallery.specs.Working.{Joins}
 use Rattle.desk_gallery.proofs.Running.{counted_by, has_run_more}
 use Rattle.desk_gallery.proofs.Working.{works_of, outcome_of}

@@ -1,6 +1,6 @@
 use Rattle.std.proofs.Common.{◌≡◌, ◌≤◌, ◌+◌, false, length, subst}
 use mathlib.Core.List.{IsPrefix}
-use Rattle.desk_gallery.specs.Working.{AreAccepted}
+use Rattle.desk_gallery.specs.claim.Working.{AreAccepted}
 use Rattle.desk_gallery.specs.Fronts.{Kept, OpensShown}
 use Rattle.desk_gallery.proofs.Working.{opens_shown}
 use Rattle.desk_gallery.proofs.front.Front.is_kept.Goals as goal

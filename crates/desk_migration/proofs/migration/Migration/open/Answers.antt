@@ -1,8 +1,9 @@
 use Rattle.std.proofs.Common.{◌≡◌, ◌≢◌, ◌≤◌, ℕ, inr, refl, sym, subst, ◌∙◌}
-use Rattle.sector_device.specs.Moments.{LeavesOnly}
+use Rattle.sector_device.specs.claim.Moments.{LeavesOnly}
 use Rattle.page_store.proofs.Stops.{leaves_quiet}
-use Rattle.page_store.specs.Transactions.{disk_in}
-use Rattle.desk_pages.specs.Openings.{AllVersions, OpensOneAs, IsSpared}
+use Rattle.page_store.specs.claim.Transactions.{disk_in}
+use Rattle.desk_pages.specs.claim.Openings.{AllVersions, OpensOneAs}
+use Rattle.desk_pages.specs.Openings.{IsSpared}
 use Rattle.desk_pages.proofs.Found.{open_versions, pages_stand, stores_of}
 use Rattle.desk_migration.specs.Openings.{IsRefused, LeavesNew}
 use Rattle.desk_migration.specs.declared.error.MigrationOpenError.{MigrationOpenError}

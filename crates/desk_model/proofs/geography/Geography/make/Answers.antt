@@ -1,5 +1,5 @@
 use Rattle.std.proofs.Common.{subst}
-use Rattle.desk_model.specs.Geography.{AreTold}
+use Rattle.desk_model.specs.claim.Grounds.{AreTold}
 use Rattle.desk_model.proofs.Pairs.{told_sorted, ground_made}
 use Rattle.desk_model.proofs.geography.Geography.make.Goals as goal
 

@@ -1,5 +1,5 @@
 use Rattle.std.proofs.Common.{◌≤◌, arith}
-use Rattle.desk_model.specs.Kind.{most_districts}
+use Rattle.desk_model.specs.claim.Sizes.{most_districts}
 use Rattle.desk_model.specs.declared.kind.Kind.{Kind}
 use Rattle.desk_model.specs.declared.kind.Kind.TheVariants.{Congress, Senate, House}
 use Rattle.desk_model.proofs.size.PlanSize.n.Goals as goal

@@ -3,7 +3,7 @@ use Rattle.desk_plans.specs.Tree.{rows_of}
 use Rattle.desk_plans.proofs.Held.{AreMap, settled_map}
 use Rattle.desk_plans.proofs.plans.Plans.rows.Goals as goal
 use Rattle.std.specs.FinMap.{entries}
-use Rattle.desk_model.specs.Step.{plan_row}
+use Rattle.desk_model.specs.claim.Step.{plan_row}
 use Rattle.desk_plans.proofs.AsMap.{entries_of}
 
 pub returns : goal.returns

@@ -1,6 +1,6 @@
 use Rattle.std.proofs.Common.{refl, inl}
 use Rattle.page_store.proofs.Stops.{quiet_none}
-use Rattle.desk_store.specs.Clerks.{desk_of, pages_of, Keeps}
+use Rattle.desk_store.specs.claim.Clerks.{desk_of, pages_of, Keeps}
 use Rattle.desk_store.specs.Loads.{BeginRefused}
 use Rattle.desk_store.proofs.Moved.{worked, faulted, quieted, unmoved}
 use Rattle.desk_store.proofs.Loaded.{begin_left, begin_rose, begin_quiet, begin_refused, begin_holds, begin_stages}

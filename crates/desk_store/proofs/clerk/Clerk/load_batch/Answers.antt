@@ -1,6 +1,6 @@
 use Rattle.std.proofs.Common.{refl, inl}
 use Rattle.page_store.proofs.Stops.{quiet_none}
-use Rattle.desk_store.specs.Clerks.{desk_of, pages_of}
+use Rattle.desk_store.specs.claim.Clerks.{desk_of, pages_of}
 use Rattle.desk_store.specs.Loads.{Stages}
 use Rattle.desk_store.proofs.Moved.{worked, faulted, quieted, unmoved}
 use Rattle.desk_store.proofs.Loaded.{batch_left, batch_rose, batch_quiet, batch_holds, batch_stages}

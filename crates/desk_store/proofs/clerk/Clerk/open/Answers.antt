@@ -1,8 +1,9 @@
 use Rattle.std.proofs.Common.{◌≡◌, ◌≢◌, ◌≤◌, ℕ, inr, refl, sym, subst}
-use Rattle.sector_device.specs.Moments.{LeavesOnly}
+use Rattle.sector_device.specs.claim.Moments.{LeavesOnly}
 use Rattle.page_store.proofs.Stops.{leaves_quiet}
-use Rattle.page_store.specs.Transactions.{disk_in}
-use Rattle.desk_pages.specs.Openings.{AllDesks, AllVersions, OpensOneOf, OpensOneAs, IsSpared}
+use Rattle.page_store.specs.claim.Transactions.{disk_in}
+use Rattle.desk_pages.specs.Openings.{AllDesks, OpensOneOf, IsSpared}
+use Rattle.desk_pages.specs.claim.Openings.{AllVersions, OpensOneAs}
 use Rattle.desk_pages.proofs.Found.{all_versions, stores_of, open_leaves, open_versions, pages_stand}
 use Rattle.desk_store.specs.Openings.{OpenRefused}
 use Rattle.desk_store.specs.declared.opening.OpenError.{OpenError}

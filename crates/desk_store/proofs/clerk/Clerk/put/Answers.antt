@@ -1,8 +1,8 @@
 use Rattle.std.proofs.Common.{◌≡◌, true, refl, sym, subst, ◌∙◌}
 use Rattle.desk_model.specs.declared.reply.Refusal.{Refusal}
-use Rattle.desk_model.specs.Outcome.{RefusalMay}
-use Rattle.desk_store.specs.Clerks.{desk_of, pages_of}
-use Rattle.desk_store.specs.Commands.{MustBeFull, MayBeFull}
+use Rattle.desk_model.specs.claim.Outcome.{RefusalMay}
+use Rattle.desk_store.specs.claim.Clerks.{desk_of, pages_of}
+use Rattle.desk_store.specs.claim.Commands.{MustBeFull, MayBeFull}
 use Rattle.desk_store.proofs.Prepared.{IsBegun, put_made, spent_full, not_put, made_of, spent_of, error_of}
 use Rattle.desk_store.proofs.clerk.Clerk.put.Goals as goal
 

@@ -1,6 +1,6 @@
 use Rattle.std.proofs.Common.{refl, ◌∙◌}
 use Rattle.page_store.proofs.Stops.{quiet_none}
-use Rattle.desk_store.specs.Clerks.{pages_of}
+use Rattle.desk_store.specs.claim.Clerks.{pages_of}
 use Rattle.desk_store.specs.Keeping.{sealed_desk}
 use Rattle.desk_store.specs.Loads.{Stages}
 use Rattle.geo_tables.specs.Loading.{ground_of}

@@ -2,7 +2,7 @@ use Rattle.std.proofs.Common.{◌≡◌, ℕ, Option, refl, inl, subst}
 use Rattle.std.specs.Prelude.{◌↔◌}
 use Rattle.store_sweep.specs.Leftovers.{IsSweptClean}
 use Rattle.geo_tables.specs.Loading.{number_of}
-use Rattle.desk_store.specs.Clerks.{desk_of, pages_of, Keeps}
+use Rattle.desk_store.specs.claim.Clerks.{desk_of, pages_of, Keeps}
 use Rattle.desk_store.proofs.Moved.{worked, faulted, quieted}
 use Rattle.desk_store.proofs.Loaded.{begin_left}
 use Rattle.desk_store.proofs.Swept.{as_loading, swept_holds, swept_stages, swept_told, sweep_rose, sweep_quiet, refused_so, still_stages, halted_stages}

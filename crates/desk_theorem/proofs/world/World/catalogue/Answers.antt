@@ -1,5 +1,5 @@
 use Rattle.std.proofs.Common.{◌≡◌, ◌∙◌, ◌≤◌, ap, sym, subst, length, take}
-use Rattle.desk_theorem.specs.World.{after}
+use Rattle.desk_theorem.specs.claim.World.{after}
 use Rattle.desk_theorem.proofs.Worlds.{catalogued}
 use Rattle.desk_theorem.proofs.world.World.catalogue.Goals as goal
 

@@ -1,7 +1,7 @@
 use Rattle.std.proofs.Common.{◌≡◌, sym, subst}
 use Rattle.std.specs.Result.{is_ok}
-use Rattle.desk_model.specs.Step.{step}
-use Rattle.desk_theorem.specs.World.{after}
+use Rattle.desk_model.specs.claim.Step.{step}
+use Rattle.desk_theorem.specs.claim.World.{after}
 use Rattle.desk_theorem.proofs.Worlds.{joined}
 use Rattle.desk_theorem.proofs.world.World.join.Goals as goal
 

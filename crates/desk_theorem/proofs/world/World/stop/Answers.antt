@@ -1,8 +1,8 @@
 use Rattle.std.proofs.Common.{◌≡◌, ◌∙◌, ◌≤◌, ap, map, replicate, vec_len, sym, subst, refl, arith, length}
 use Rattle.std.proofs.lemmas.List.{length-map}
-use Rattle.desk_theorem.specs.Law.{IsOrdered}
+use Rattle.desk_theorem.specs.claim.Law.{IsOrdered}
 use Rattle.desk_theorem.specs.Steps.{Follow}
-use Rattle.desk_theorem.specs.World.{world, move}
+use Rattle.desk_theorem.specs.claim.World.{world, move}
 use Rattle.desk_theorem.specs.declared.event.Event.TheVariants.{Stop}
 use Rattle.desk_theorem.proofs.Worlds.{stop_moves, stop_ordered, stopped, follow_front}
 use Rattle.desk_theorem.proofs.world.World.stop.Goals as goal

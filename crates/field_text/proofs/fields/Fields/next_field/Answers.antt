@@ -1,5 +1,5 @@
 use Rattle.std.proofs.Common.{sym, ◌∙◌, ap}
-use Rattle.field_text.specs.Fields.{fields}
+use Rattle.field_text.specs.claim.Fields.{fields}
 use Rattle.field_text.proofs.TextLemmas.{fields-cut, fields-last}
 use Rattle.field_text.proofs.fields.Fields.next_field.Goals as goal
 

@@ -1,6 +1,7 @@
 use Rattle.std.proofs.Common.{◌≡◌, ℕ, ◌-◌, List, ◌++◌}
 use Rattle.std.specs.Io.KnownBytes.{Consumes}
-use Rattle.field_text.specs.Reading.{CountsFrom, turn_limit}
+use Rattle.field_text.specs.Reading.{CountsFrom}
+use Rattle.field_text.specs.claim.Reading.{turn_limit}
 use Rattle.field_text.proofs.reader.LineReader.advance.Given as goal
 
 abbrev pub invariant-loop-self : goal.invariant-loop-self

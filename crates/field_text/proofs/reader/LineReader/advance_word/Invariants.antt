@@ -1,5 +1,6 @@
 use Rattle.std.proofs.Common.{◌≡◌, ℕ, ◌-◌}
-use Rattle.field_text.specs.Reading.{CountsFrom, turn_limit}
+use Rattle.field_text.specs.Reading.{CountsFrom}
+use Rattle.field_text.specs.claim.Reading.{turn_limit}
 use Rattle.field_text.proofs.WordSteps.{ReadsPast}
 use Rattle.field_text.proofs.reader.LineReader.advance_word.Given as goal
 

@@ -1,7 +1,7 @@
 use Rattle.std.proofs.Common.{List, ℕ, ◌∷◌, length, take, sym, ap, ◌∙◌, arith, length-take}
 use Rattle.std.specs.List.{slice_range}
 use Rattle.std.proofs.lemmas.Slice.{between_to_end}
-use Rattle.field_text.specs.Words.{words}
+use Rattle.field_text.specs.claim.Words.{words}
 use Rattle.field_text.proofs.WordLemmas.{next_is, next_none}
 use Rattle.field_text.proofs.words.Words.next_word.Goals as goal
 

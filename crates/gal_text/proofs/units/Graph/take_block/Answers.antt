@@ -1,6 +1,6 @@
 use Rattle.std.proofs.Common.{sym, subst, ◌∙◌, Result}
-use Rattle.desk_model.specs.Geography.{ids_of}
-use Rattle.gal_text.specs.Units.{Progress}
+use Rattle.desk_model.specs.claim.Geography.{ids_of}
+use Rattle.gal_text.specs.claim.Units.{Progress}
 use Rattle.gal_text.specs.Holding.{Meets}
 use Rattle.gal_text.specs.declared.fault.TextFault.{TextFault}
 use Rattle.gal_text.proofs.HoldingLemmas.{block_said}

@@ -1,4 +1,4 @@
-use Rattle.gate_journal.specs.Writes.{writes_of}
+use Rattle.gate_journal.specs.claim.Writes.{writes_of}
 use Rattle.gate_journal.proofs.Commit.{at_rest}
 use Rattle.gate_journal.proofs.journal.Journal.commit.Goals as goal
 

@@ -1,4 +1,4 @@
-use Rattle.gate_journal.specs.Writes.{writes_of}
+use Rattle.gate_journal.specs.claim.Writes.{writes_of}
 use Rattle.gate_journal.proofs.Overlays.{is_once}
 use Rattle.gate_journal.proofs.writes.PageWrites.len.Goals as goal
 

@@ -1,6 +1,6 @@
 use Rattle.std.proofs.Common.{◌≡◌, ◌∙◌, ◌++◌, ◌∷◌, [], ℕ, List, IsOk, subst, sym, arith, rules}
 use Rattle.gate_journal.specs.Store.{AreNumbers, AreApart}
-use Rattle.gate_journal.specs.Writes.{writes_of}
+use Rattle.gate_journal.specs.claim.Writes.{writes_of}
 use Rattle.gate_journal.proofs.Overlays.{beside_push, apart_push}
 use Rattle.gate_journal.proofs.writes.PageWrites.push.Goals as goal
 

@@ -1,9 +1,11 @@
 use Rattle.std.proofs.Common.{◌≡◌, ◌∙◌, ◌++◌, ◌∷◌, ◌⊎◌, [], ℕ, List, ⊎_elim, set, ap, sym, subst}
 use Rattle.std.proofs.lemmas.List.{get_or_default}
-use Rattle.sector_device.specs.Disk.{Image}
+use Rattle.sector_device.specs.claim.Disk.{Image}
 use Rattle.sector_device.proofs.Moments.{on_ok}
-use Rattle.gate_journal.specs.Store.{overlay, put, Writes}
-use Rattle.gate_journal.specs.Writes.{writes_of, IsLast}
+use Rattle.gate_journal.specs.claim.Store.{overlay, put}
+use Rattle.gate_journal.specs.Store.{Writes}
+use Rattle.gate_journal.specs.claim.Writes.{writes_of}
+use Rattle.gate_journal.specs.Writes.{IsLast}
 use Rattle.gate_journal.proofs.Images.{writes_at}
 use Rattle.gate_journal.proofs.Overlays.{overlay_set, overlay_push, beside_set, writes_set, writes_push}
 use Rattle.gate_journal.proofs.writes.PageWrites.put.Goals as goal

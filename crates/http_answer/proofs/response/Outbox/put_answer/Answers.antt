@@ -1,5 +1,6 @@
 use Rattle.std.proofs.Common.{ℕ, List, ◌++◌, length, ap, ◌∙◌}
-use Rattle.http_answer.specs.Answer.{head_text, allowed}
+use Rattle.http_answer.specs.claim.Answer.{head_text}
+use Rattle.http_answer.specs.Answer.{allowed}
 use Rattle.http_answer.specs.declared.response.Response.{Response}
 use Rattle.http_answer.proofs.QueueLemmas.{put_both}
 use Rattle.http_answer.proofs.response.Outbox.put_answer.Goals as goal

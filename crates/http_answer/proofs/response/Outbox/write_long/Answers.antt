@@ -1,6 +1,7 @@
 use Rattle.std.proofs.Common.{ℕ, List, ◌++◌, length, ap, subst, ◌∙◌}
-use Rattle.byte_stream.specs.Sends.{Sends}
-use Rattle.http_answer.specs.Answer.{head_text, allowed}
+use Rattle.byte_stream.specs.claim.Sends.{Sends}
+use Rattle.http_answer.specs.claim.Answer.{head_text}
+use Rattle.http_answer.specs.Answer.{allowed}
 use Rattle.http_answer.specs.declared.response.Response.{Response}
 use Rattle.http_answer.proofs.response.Outbox.write_long.Goals as goal
 

@@ -3,10 +3,10 @@ use Rattle.std.specs.Option.{option_map}
 use Rattle.desk_model.specs.declared.reply.Reply.{Reply}
 use Rattle.desk_model.specs.declared.reply.Reply.TheVariants as reply
 use Rattle.http_answer.specs.declared.response.ContentType.TheVariants.{Json, PlainText}
-use Rattle.http_answer.specs.Answer.{answer_text}
-use Rattle.http_routes.specs.Methods.{methods_text}
+use Rattle.http_answer.specs.claim.Answer.{answer_text}
+use Rattle.http_routes.specs.claim.Methods.{methods_text}
 use Rattle.http_desk.specs.declared.answer.AnswerHead.{AnswerHead}
-use Rattle.http_desk.specs.Answers.{bytes_of, saying, message_of, closes_after}
+use Rattle.http_desk.specs.claim.Answers.{bytes_of, saying, message_of, closes_after}
 use Rattle.http_desk.proofs.answer.Answer.put_reply.Goals as goal
 
 file_text : (r : Reply) (text : List ℕ) (closing bare : Bool) → (r ≡ reply.Blocks text) ⊎ (r ≡ reply.Baf text)

@@ -1,6 +1,6 @@
 use Rattle.std.proofs.Common.{subst, ap}
 use mathlib.Core.List.{IsPrefix}
-use Rattle.http_seats.specs.Seated.{Seated}
+use Rattle.http_seats.specs.claim.Seated.{Seated}
 use Rattle.http_seats.proofs.seat.SeatCounter.ask.Goals as goal
 
 pub returns : goal.returns

@@ -1,10 +1,10 @@
 use Rattle.std.proofs.Common.{◌≡◌, ◌+◌, ◌∙◌, inl, inr, ⊎_elim, ap, sym, subst, List}
 use mathlib.Core.List.{IsPrefix}
 use Rattle.desk_model.specs.declared.command.Command.{Command}
-use Rattle.desk_gallery.specs.After.{after}
-use Rattle.desk_gallery.specs.Outcomes.{OutcomeMay}
-use Rattle.desk_gallery.specs.Telling.{accepted_in, halted_in}
-use Rattle.http_seats.specs.Seated.{Seated}
+use Rattle.desk_gallery.specs.claim.After.{after}
+use Rattle.desk_gallery.specs.claim.Outcomes.{OutcomeMay}
+use Rattle.desk_gallery.specs.claim.Telling.{accepted_in, halted_in}
+use Rattle.http_seats.specs.claim.Seated.{Seated}
 use Rattle.http_seats.proofs.Seats.{shown_grows, heard_is_told}
 use Rattle.http_seats.proofs.seat.SeatCounter.command.Goals as goal
 

@@ -2,7 +2,7 @@ use Rattle.std.specs.Prelude.{insert}
 use Rattle.std.specs.List.{copy_within}
 use Rattle.std.proofs.Common.{◌≡◌, ◌+◌, ◌≤◌, length, get_or, arith, ap, ◌∙◌}
 use Rattle.std.proofs.lemmas.List.Edits.{length-insert}
-use Rattle.page_node.specs.Entries.{size_of}
+use Rattle.page_node.specs.claim.Entries.{size_of}
 use Rattle.page_node.proofs.Standing.{Stands, to_held}
 use Rattle.page_node.proofs.Editing.{opened, closed, bounds_of, mark_most, insert_stands}
 use Rattle.page_node.proofs.node_buf.NodeBuf.insert.Goals as goal

@@ -1,7 +1,7 @@
 use Rattle.std.specs.List.{copy_within}
 use Rattle.std.proofs.Common.{◌≡◌, ◌+◌, ◌≤◌, length, get_or, set, arith, ap, ◌∙◌}
 use Rattle.std.proofs.lemmas.List.{length-set}
-use Rattle.page_node.specs.Entries.{size_of}
+use Rattle.page_node.specs.claim.Entries.{size_of}
 use Rattle.page_node.proofs.Standing.{Stands, to_held}
 use Rattle.page_node.proofs.Editing.{opened, closed, bounds_of, marks_rise, mark_most, set_stands}
 use Rattle.page_node.proofs.node_buf.NodeBuf.set_entry.Goals as goal

@@ -1,5 +1,5 @@
 use Rattle.std.proofs.Common.{◌≡◌, ◌+◌, get_or, arith, ap, ◌∙◌}
-use Rattle.page_node.specs.Entries.{size_of}
+use Rattle.page_node.specs.claim.Entries.{size_of}
 use Rattle.page_node.proofs.Standing.{from_held, count_is, size_is}
 use Rattle.page_node.proofs.node_buf.NodeBuf.size.Goals as goal
 

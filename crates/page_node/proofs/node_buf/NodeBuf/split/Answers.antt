@@ -1,5 +1,5 @@
 use Rattle.std.proofs.Common.{◌+◌, ◌-◌, ◌*◌, ◌<◌, ◌≤◌, List, ◌++◌, length, take, drop, arith, sym, ap, subst, ◌∙◌, take-append-drop}
-use Rattle.page_node.specs.Entries.{Entry, size_of}
+use Rattle.page_node.specs.claim.Entries.{Entry, size_of}
 use Rattle.page_node.proofs.EntryLists.{length-read}
 use Rattle.page_node.proofs.Standing.{to_held}
 use Rattle.page_node.proofs.Editing.{opened, bounds_of, marks_rise}

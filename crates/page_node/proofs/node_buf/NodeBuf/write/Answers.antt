@@ -1,6 +1,7 @@
 use Rattle.std.proofs.Common.{◌≡◌, ℕ, ◌≤◌, List, length, arith, sym, subst, ◌∙◌}
-use Rattle.page_node.specs.Entries.{size_of}
-use Rattle.page_node.specs.Node.{IsNode, IsShape, bytes_of}
+use Rattle.page_node.specs.claim.Entries.{size_of}
+use Rattle.page_node.specs.claim.Node.{IsNode, IsShape}
+use Rattle.page_node.specs.Node.{bytes_of}
 use Rattle.page_node.proofs.Laws.{node_written}
 use Rattle.page_node.proofs.Editing.{opened, bounds_of}
 use Rattle.page_node.proofs.Writing.{page_written}

@@ -1,10 +1,10 @@
 use Rattle.std.proofs.Common.{◌≡◌, ℕ, inr, sym, subst}
-use Rattle.sector_device.specs.Moments.{LeavesOnly}
+use Rattle.sector_device.specs.claim.Moments.{LeavesOnly}
 use Rattle.sector_device.proofs.Moments.{leaves_still}
-use Rattle.gate_journal.specs.Contents.{disk_of, content, page_count}
+use Rattle.gate_journal.specs.claim.Contents.{disk_of, content, page_count}
 use Rattle.gate_journal.specs.Recovery.{AllStores, ReadsAs}
-use Rattle.sector_device.specs.Disk.{Image}
-use Rattle.page_store.specs.Chain.{IsPages}
+use Rattle.sector_device.specs.claim.Disk.{Image}
+use Rattle.page_store.specs.claim.Chain.{IsPages}
 use Rattle.page_store.specs.Openings.{MetaErr}
 use Rattle.page_store.specs.Transactions.{IsUntouched}
 use Rattle.page_store.specs.declared.error.PageError.{PageError}

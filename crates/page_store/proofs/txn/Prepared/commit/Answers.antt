@@ -1,8 +1,8 @@
 use Rattle.std.proofs.Common.{◌≡◌, ◌<◌, ℕ, inl, inr, sym, subst, arith, get_or, replicate}
 use Rattle.std.proofs.lemmas.Bool.{cases_lt}
 use Rattle.std.proofs.lemmas.List.{get_or-replicate, get_or_past, length-replicate}
-use Rattle.sector_device.specs.Disk.{Image}
-use Rattle.gate_journal.specs.Contents.{content}
+use Rattle.sector_device.specs.claim.Disk.{Image}
+use Rattle.gate_journal.specs.claim.Contents.{content}
 use Rattle.page_store.specs.Chain.{IsMeta}
 use Rattle.page_store.proofs.txn.Prepared.commit.Goals as goal
 

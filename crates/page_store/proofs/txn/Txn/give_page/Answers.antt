@@ -1,5 +1,5 @@
 use Rattle.std.proofs.Common.{arith}
-use Rattle.page_store.specs.Transactions.{over, free_over}
+use Rattle.page_store.specs.claim.Transactions.{over, free_over}
 use Rattle.page_store.proofs.Chains.{length_chain, chain_push, room_left}
 use Rattle.page_store.proofs.txn.Txn.give_page.Goals as goal
 

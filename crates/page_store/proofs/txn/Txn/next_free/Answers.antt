@@ -1,6 +1,6 @@
 use Rattle.std.proofs.Common.{◌≡◌, ◌∙◌, List, ℕ, inr, ap, arith}
-use Rattle.gate_journal.specs.Store.{word}
-use Rattle.page_store.specs.Transactions.{over, stored}
+use Rattle.gate_journal.specs.claim.Store.{word}
+use Rattle.page_store.specs.claim.Transactions.{over, stored}
 use Rattle.page_store.proofs.Chains.{chain_pop, second_below}
 use Rattle.page_store.proofs.txn.Txn.next_free.Goals as goal
 

@@ -1,7 +1,7 @@
 use Rattle.std.proofs.Common.{◌≡◌, rules}
-use Rattle.gate_journal.specs.Writes.{writes_of}
+use Rattle.gate_journal.specs.claim.Writes.{writes_of}
 use Rattle.gate_journal.proofs.Images.{overlay_off}
-use Rattle.page_store.specs.Transactions.{over, stored}
+use Rattle.page_store.specs.claim.Transactions.{over, stored}
 use Rattle.page_store.proofs.txn.Txn.read.Goals as goal
 
 pub returns-clause-reads : goal.returns-clause-reads

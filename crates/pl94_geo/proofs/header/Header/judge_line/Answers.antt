@@ -1,6 +1,6 @@
 use Rattle.std.proofs.Common.{◌≡◌, sym, ap, subst, Ok, None}
-use Rattle.pl94_geo.specs.Judging.{judged, entries}
-use Rattle.pl94_geo.specs.Entries.{line_read}
+use Rattle.pl94_geo.specs.claim.Judging.{judged, entries}
+use Rattle.pl94_geo.specs.claim.Entries.{line_read}
 use Rattle.pl94_geo.specs.Holding.{Holds}
 use Rattle.pl94_geo.proofs.HoldingLemmas.{judges, entries_passed}
 use Rattle.pl94_geo.proofs.header.Header.judge_line.Goals as goal

@@ -1,5 +1,5 @@
 use Rattle.std.proofs.Common.{sym}
-use Rattle.pl94_segment.specs.Records.{records}
+use Rattle.pl94_segment.specs.claim.Records.{records}
 use Rattle.pl94_segment.proofs.SegLemmas.{judges}
 use Rattle.pl94_segment.proofs.segment.SegRows.judge_line.Goals as goal
 

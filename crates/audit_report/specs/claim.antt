@@ -1,0 +1,5 @@
+-- What has to be read to believe a promise.
+pub mod Clauses
+pub mod Figures
+pub mod Report
+pub mod ReportText

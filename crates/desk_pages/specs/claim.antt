@@ -1,0 +1,4 @@
+-- What has to be read to believe a promise.
+pub mod Commits
+pub mod Desks
+pub mod Openings

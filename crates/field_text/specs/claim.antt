@@ -1,0 +1,6 @@
+-- What has to be read to believe a promise.
+pub mod Digits
+pub mod Fields
+pub mod Judged
+pub mod Reading
+pub mod Words

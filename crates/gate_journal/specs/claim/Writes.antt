@@ -1,0 +1,6 @@
+use Rattle.std.specs.Prelude.{ℕ, List}
+use Rattle.gate_journal.specs.declared.writes.PageWrites.{PageWrites}
+
+-- the pages to be written, each with its bytes
+abbrev pub writes_of : PageWrites → List (ℕ × List ℕ)
+writes_of w = w.list.items

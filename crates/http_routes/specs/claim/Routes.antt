@@ -1,0 +1,49 @@
+-- The table of paths, and which of them a path is.
+use Rattle.std.specs.Prelude.{ℕ, ◌==◌, List, [], Option, option_map, Result, Ok, Err, codes}
+use Rattle.std.specs.List.{before_first, after_first}
+use Rattle.matchit.specs.Rows.{RowsOf}
+use Rattle.matchit.specs.Route.{Scan, parse_route}
+use Rattle.matchit.specs.Order.{placed}
+use Rattle.matchit.specs.Router.{RouteOf, route_from}
+use Rattle.matchit.specs.Seek.{first}
+use Rattle.matchit.specs.declared.InsertError.{InsertError}
+use Rattle.http_routes.specs.declared.route.Page.{Page}
+use Rattle.http_routes.specs.declared.route.Page.TheVariants.{Blocks, Plans, Plan, Revisions, Counties, Revision, Audit}
+
+-- the rows with one more route
+abbrev pub with_read : Result Scan InsertError → Page → RowsOf (RouteOf Page) → RowsOf (RouteOf Page)
+with_read (Ok s) page rows = placed ((route_from s page).pattern, route_from s page) rows
+with_read (Err e) page rows = rows
+
+abbrev pub with_route : List ℕ → Page → RowsOf (RouteOf Page) → RowsOf (RouteOf Page)
+with_route text page rows = with_read (parse_route text) page rows
+
+-- the table of paths; a name in braces stands for one part of at least one byte
+abbrev pub the_routes : RowsOf (RouteOf Page)
+the_routes =
+    with_route (codes "/plans/{p}/revisions/{k}/audit") Audit
+    (with_route (codes "/plans/{p}/revisions/{k}") Revision
+    (with_route (codes "/plans/{p}/counties") Counties
+    (with_route (codes "/plans/{p}/revisions") Revisions
+    (with_route (codes "/plans/{p}") Plan
+    (with_route (codes "/plans") Plans
+    (with_route (codes "/blocks") Blocks []))))))
+
+-- which of them the path is
+abbrev pub page_of : List ℕ → Option Page
+page_of path = option_map (λ route. route.value) (first the_routes path)
+
+-- what stands behind the first slash
+abbrev pub behind_slash : List ℕ → List ℕ
+behind_slash path = after_first (λ b. b == 47) path
+
+abbrev pub up_to_slash : List ℕ → List ℕ
+up_to_slash path = before_first (λ b. b == 47) path
+
+-- the part {p} of a path: what stands between the second slash and the third, or behind the second
+abbrev pub plan_part : List ℕ → List ℕ
+plan_part path = up_to_slash (behind_slash (behind_slash path))
+
+-- the part {k} of a path: what stands between the fourth slash and the fifth, or behind the fourth
+abbrev pub revision_part : List ℕ → List ℕ
+revision_part path = up_to_slash (behind_slash (behind_slash (behind_slash (behind_slash path))))

@@ -1,0 +1,4 @@
+-- What has to be read to believe a promise.
+pub mod Explained
+pub mod Seated
+pub mod Streams

@@ -1,0 +1,5 @@
+-- What has to be read to believe a promise.
+pub mod Connection
+pub mod Front
+pub mod Interim
+pub mod Target

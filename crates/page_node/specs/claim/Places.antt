@@ -1,0 +1,15 @@
+-- Where a key stands among entries whose keys rise.
+use Rattle.std.specs.Prelude.{◌≡◌, ℕ, true, List}
+use Rattle.std.specs.Ordering.{nat_cmp}
+use Rattle.std.specs.Cmp.Lexicographic.{slice_cmp}
+use Rattle.std.specs.declared.cmp.Ordering.{Ordering}
+use Rattle.std.specs.FinMap.{is_sorted}
+use Rattle.page_node.specs.claim.Entries.{Entry}
+
+-- keys in the order of their bytes, a key before its longer continuations
+abbrev pub key_cmp : List ℕ → List ℕ → Ordering
+key_cmp = slice_cmp nat_cmp
+
+-- keys rise strictly
+abbrev pub Rises : List Entry → Type 0
+Rises es = is_sorted key_cmp es ≡ true

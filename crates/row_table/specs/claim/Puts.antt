@@ -1,0 +1,38 @@
+-- Rows that are put one after the other in a transaction.
+use Rattle.std.specs.Prelude.{◌≡◌, ◌<◌, ◌≤◌, ◌+◌, ◌*◌, List, ◌++◌, length, true}
+use Rattle.sector_device.specs.declared.SectorDevice.{Ghosts}
+use Rattle.page_store.specs.claim.Transactions.{stored, disk_in, has_halted, txn_pages, txn_root, txn_free, txn_writes, over, Passed}
+use Rattle.page_store.specs.declared.pages.Pages.{Pages}
+use Rattle.page_store.specs.declared.txn.Txn.{Txn}
+use Rattle.page_btree.specs.claim.Map.{InTxn}
+use Rattle.page_btree.specs.claim.Errors.{IsFault, level_in}
+use Rattle.page_btree.specs.declared.error.TreeError.{TreeError}
+use Rattle.page_btree.specs.declared.error.TreeError.TheVariants.{DeviceFault, Halted, NoPages, TooDeep, Memory}
+use Rattle.store_rows.specs.claim.Rows.{KeyMap}
+use Rattle.store_rows.specs.claim.Puts.{Row, put_rows}
+
+module _ {D : Type 0} {g : Ghosts D} where
+  -- the rows were put: a row writes 11 pages at most, and takes 6
+  pub record HasPut (rows : List Row) (t u : Txn) (old new : Pages D g) : Type 0 where
+    pub passed : Passed old new
+    pub pages : txn_pages u ≡ txn_pages t
+    pub put : (disk_in new).is_honest → (m : KeyMap) → InTxn t (stored old) m → InTxn u (stored old) (put_rows m rows)
+    pub writes : txn_writes u ≤ txn_writes t + 11 * length rows
+    pub taken : txn_free t ≤ txn_free u + 6 * length rows
+
+  -- the tree had six levels after some of the rows
+  pub record HasDeepened (rows : List Row) (t : Txn) (old : Pages D g) (m : KeyMap) : Type 0 where
+    pub front : List Row
+    pub rest : List Row
+    pub are : front ++ rest ≡ rows
+    pub txn : Txn
+    pub holds : InTxn txn (stored old) (put_rows m front)
+    pub deep : level_in (over txn (stored old)) (txn_root txn) ≡ 5
+
+  -- why they are not all put
+  abbrev pub PutsErr : List Row → Txn → Pages D g → Pages D g → TreeError → Type 0
+  PutsErr rows t old new DeviceFault = IsFault t old new
+  PutsErr rows t old new Halted = has_halted old ≡ true
+  PutsErr rows t old new NoPages = txn_free t < 6 * length rows
+  PutsErr rows t old new TooDeep = (disk_in new).is_honest → (m : KeyMap) → InTxn t (stored old) m → HasDeepened rows t old m
+  PutsErr rows t old new Memory = Unit {0}

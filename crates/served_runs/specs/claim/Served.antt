@@ -1,0 +1,85 @@
+-- What a stop at any moment of a served stream leaves.
+use Rattle.std.specs.Prelude.{◌≡◌, ℕ, ◌+◌, Bool, true, false, List, [], ◌∷◌, ◌++◌, Option, Result, Ok, Err}
+use Rattle.std.proofs.Common.{inl, inr}
+use Rattle.std.specs.Io.KnownBytes.{Appends, Consumes}
+use Rattle.sector_device.specs.declared.SectorDevice.{Ghosts}
+use Rattle.desk_catalogue.specs.claim.Audits.{AskMay}
+use Rattle.desk_model.specs.declared.command.Command.{Command}
+use Rattle.desk_model.specs.declared.command.Query.{Query}
+use Rattle.desk_model.specs.declared.reply.Reply.{Reply}
+use Rattle.desk_store.specs.declared.clerk.Clerk.{Clerk}
+use Rattle.desk_store.specs.claim.Clerks.{desk_of, disk_of, Keeps}
+use Rattle.desk_store.specs.claim.Commands.{Does}
+use Rattle.desk_runs.specs.claim.Runs.{Call, Run, Survives}
+use Rattle.http_routes.specs.declared.order.Order.{Order}
+use Rattle.http_routes.specs.declared.order.Order.TheVariants as order
+use Rattle.http_routes.specs.claim.Orders.{order_of}
+use Rattle.http_wire.specs.claim.Front.{closes_after, is_head}
+use Rattle.http_desk.specs.declared.serve.Served.{Served}
+use Rattle.http_desk.specs.declared.serve.StreamFault.{StreamFault}
+use Rattle.http_desk.specs.declared.serve.StreamFault.TheVariants as fault
+use Rattle.http_desk.specs.claim.Talk.{Talk, MayAnswer}
+use Rattle.http_desk.specs.claim.Serving.{ServesTo, IsShortTalk}
+
+module _ {D : Type 0} {g : Ghosts D} where
+  -- what a clerk is at a counter: commands are done, and a query changes nothing
+  abbrev pub DoesAtCounter : Clerk D g → Command → Reply → Clerk D g → Type 0
+  DoesAtCounter x c r y = Does x c r y
+
+  abbrev pub AsksAtCounter : Clerk D g → Query → Reply → Clerk D g → Type 0
+  AsksAtCounter x q r y = AskMay (desk_of x) q r × (y ≡ x)
+
+  -- the command that was answered, if the order is one, and the calls behind it
+  abbrev pub calls_with : (x : Clerk D g) (o : Order) (closing bare : Bool) (text : List ℕ) (shut : Bool) (y : Clerk D g)
+      → MayAnswer DoesAtCounter AsksAtCounter x o closing bare text shut y → List Call → List Call
+  calls_with x (order.Command c) closing bare text shut y may calls = (c, may.0) ∷ calls
+  calls_with x (order.Query q) closing bare text shut y may calls = calls
+  calls_with x (order.Refused e) closing bare text shut y may calls = calls
+
+  -- the commands of a talk, each with the reply that is told in it
+  abbrev pub calls_in : (x : Clerk D g) (input output : List ℕ) (n : ℕ) (shut : Bool) (y : Clerk D g)
+      → Talk DoesAtCounter AsksAtCounter x input output n shut y → List Call
+  calls_in x _ _ _ _ _ (Talk.over _) = []
+  calls_in x _ _ _ _ _ (Talk.ended _ input interim cut line) = []
+  calls_in x _ _ _ _ _ (Talk.starved _ input interim bare starved line) = []
+  calls_in x _ _ _ _ _ (Talk.refused _ input interim f bare has line) = []
+  calls_in x _ _ _ _ _ (Talk.closed _ input h target body rest text y has may) =
+      calls_with x (order_of h.method target body) (closes_after h) (is_head h.method) text true y may []
+  calls_in x _ _ _ _ _ (Talk.went _ input h target body rest text y output n shut z has may talk) =
+      calls_with x (order_of h.method target body) (closes_after h) (is_head h.method) text false y may (calls_in y rest output n shut z talk)
+
+  abbrev pub short_calls : (x : Clerk D g) (input answers : List ℕ) (y : Clerk D g)
+      → IsShortTalk DoesAtCounter AsksAtCounter x input answers y → List Call
+  short_calls x input answers y (inl talk) = calls_in x input answers talk.0 false y talk.1
+  short_calls x input answers y (inr cut) = calls_in x (cut.taken ++ [])
+      (answers ++ []) (cut.count + 0) false y (cut.on [] [] 0 false y (Talk.over y))
+
+  -- the commands of a served stream; where the writer failed, of all that was answered
+  abbrev pub calls_served : (x : Clerk D g) (result : Result Served StreamFault) (left : Option (List ℕ)) (input output : List ℕ) (y : Clerk D g)
+      → ServesTo DoesAtCounter AsksAtCounter x result left input output y → List Call
+  calls_served x (Ok s) left input output y serves = calls_in x input output s.requests serves.0 y serves.1
+  calls_served x (Err fault.Read) left input output y serves = short_calls x input output y serves
+  calls_served x (Err fault.TurnLimit) left input output y serves = short_calls x input output y serves
+  calls_served x (Err fault.Write) left input output y serves =
+      calls_in x serves.over_front.front serves.answers serves.over_front.count serves.over_front.shut y serves.over_front.talk
+  calls_served x (Err fault.Memory) left input output y serves = []
+
+  -- these commands were a run that survives each stop
+  pub record StreamSurvives (x : Clerk D g) (calls : List Call) (y : Clerk D g) : Type 0 where
+    pub run : Run x calls y
+    pub survives : Keeps x → x.halted ≡ false → (disk_of y).is_honest → Survives x calls y run
+
+  abbrev pub SurvivesEachStream : Clerk D g → Type 0
+  SurvivesEachStream x = (result : Result Served StreamFault) (left : Option (List ℕ)) (input output : List ℕ) (y : Clerk D g)
+      (serves : ServesTo DoesAtCounter AsksAtCounter x result left input output y)
+      → StreamSurvives x (calls_served x result left input output y serves) y
+
+  -- a served stream, and what a stop at any moment of it leaves
+  pub record ServesDurably (x : Clerk D g) (result : Result Served StreamFault)
+      (y : Clerk D g) (unread left before after : Option (List ℕ)) : Type 0 where
+    pub input : List ℕ
+    pub output : List ℕ
+    pub reads : Consumes unread left input
+    pub writes : Appends before after output
+    pub serves : ServesTo DoesAtCounter AsksAtCounter x result left input output y
+    pub survives : StreamSurvives x (calls_served x result left input output y serves) y

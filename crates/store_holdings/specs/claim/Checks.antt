@@ -1,0 +1,18 @@
+-- Whether chunks are counted, and held by the plans that name them.
+use Rattle.std.specs.Prelude.{◌⊎◌, ℕ, []}
+use Rattle.store_rows.specs.claim.Keys.{retired}
+use Rattle.store_rows.specs.claim.Rows.{KeyMap, Has}
+use Rattle.store_rows.specs.claim.Holders.{IsHeld, AreTallied}
+use Rattle.store_rows.specs.claim.Tidy.{IsNamedBy}
+
+-- the plan holds the chunk, or it was taken away
+abbrev pub IsHeldOrGone : KeyMap → ℕ → ℕ → Type 0
+IsHeldOrGone m plan number = IsHeld m plan number ⊎ Has m (retired plan) []
+
+abbrev pub AreNamesHeld : KeyMap → Type 0
+AreNamesHeld m = (plan number : ℕ) → IsNamedBy m plan number → IsHeldOrGone m plan number
+
+-- The count of each chunk is that of the plans that hold it, and a plan that wasn't taken away holds each chunk that a part of it names.
+pub record AreSoundHoldings (m : KeyMap) : Type 0 where
+  pub tallied : AreTallied m
+  pub named : AreNamesHeld m

@@ -1,0 +1,67 @@
+-- What `talk` comes to.
+use Rattle.std.specs.Prelude.{◌≡◌, ◌⊎◌, ℕ, false, List, [], Option, Result, Ok, Err}
+use Rattle.std.specs.Io.KnownBytes.{Appends, Consumes}
+use Rattle.sector_device.specs.declared.SectorDevice.{Ghosts}
+use Rattle.desk_model.specs.declared.command.Command.{Command}
+use Rattle.desk_model.specs.declared.command.Query.{Query}
+use Rattle.desk_model.specs.declared.reply.Reply.{Reply}
+use Rattle.desk_model.specs.claim.Sample.{sample_desk}
+use Rattle.desk_catalogue.specs.claim.Audits.{AskMay}
+use Rattle.desk_store.specs.declared.clerk.Clerk.{Clerk}
+use Rattle.desk_store.specs.claim.Clerks.{desk_of, disk_of, is_halted, room_of, sectors_of, Keeps}
+use Rattle.desk_store.specs.claim.Commands.{Does}
+use Rattle.byte_stream.specs.claim.Counts.{counted}
+use Rattle.http_desk.specs.claim.Serving.{read_failures, write_failures}
+use Rattle.http_desk.specs.declared.serve.Served.{Served}
+use Rattle.http_desk.specs.declared.serve.StreamFault.{StreamFault}
+use Rattle.http_desk.specs.declared.serve.StreamFault.TheVariants as fault
+use Rattle.served_runs.specs.claim.Served.{ServesDurably}
+use Rattle.command_output.specs.declared.status.Status.{Status}
+use Rattle.command_output.specs.declared.status.Status.TheVariants.{Done, Memory, Stream}
+
+abbrev pub status_of : Result Served StreamFault → Status
+status_of (Ok served) = Done
+status_of (Err fault.Read) = Stream
+status_of (Err fault.Write) = Stream
+status_of (Err fault.Memory) = Memory
+status_of (Err fault.TurnLimit) = Stream
+
+-- no clerk could be made, and nothing was read or written
+pub record IsUnserved (served : Result Served StreamFault) (unread left before after : Option (List ℕ)) : Type 0 where
+  pub memory : served ≡ Err fault.Memory
+  pub reads : Consumes unread left []
+  pub writes : Appends before after []
+
+module _ {D : Type 0} (g : Ghosts D) where
+  -- what the clerk does with a command, and answers a query
+  abbrev pub clerk_commands : Clerk D g → Command → Reply → Clerk D g → Type 0
+  clerk_commands x command reply y = Does x command reply y
+
+  abbrev pub clerk_asks : Clerk D g → Query → Reply → Clerk D g → Type 0
+  clerk_asks x query reply y = AskMay (desk_of x) query reply × (y ≡ x)
+
+  -- What was written is a talk over what was read, of a clerk whose store keeps the sample desk in 2,000 sectors with 256 journal pages, and
+  -- whose device has not failed; and since each acknowledgement what a stop leaves opens to a desk that has it.
+  pub record ServesClerk (served : Result Served StreamFault) (unread left before after : Option (List ℕ)) : Type 0 where
+    pub clerk : Clerk D g
+    pub keeps : Keeps clerk
+    pub desk : desk_of clerk ≡ sample_desk
+    pub working : is_halted clerk ≡ false
+    pub honest : (disk_of clerk).is_honest
+    pub size : sectors_of clerk ≡ 2000
+    pub journal : room_of clerk ≡ 256
+    pub last : Clerk D g
+    pub stays_honest : (disk_of last).is_honest
+    pub serves : ServesDurably clerk served last unread left before after
+
+  abbrev pub ServesSample : Result Served StreamFault → (unread left before after : Option (List ℕ)) → Type 0
+  ServesSample served unread left before after = ServesClerk served unread left before after ⊎ IsUnserved served unread left before after
+
+  -- The same, and the status tells how it ended: a read fault or a write fault only where the reader or the writer failed, and the turn
+  -- limit only where all its turns were made.
+  abbrev pub Talks : Status → (unread left before after : Option (List ℕ))
+      → (reads_failed reads_fail writes_failed writes_fail turned turns : ℕ) → Type 0
+  Talks status unread left before after reads_failed reads_fail writes_failed writes_fail turned turns =
+      (served : Result Served StreamFault) × (status ≡ status_of served)
+      × ServesSample served unread left before after × (reads_fail ≡ read_failures reads_failed served)
+      × (writes_fail ≡ write_failures writes_failed served) × (served ≡ Err fault.TurnLimit → turns ≡ counted turned 4294967296)
